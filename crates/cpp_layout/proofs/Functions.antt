@@ -14,7 +14,6 @@ use Rattle.std.proofs.lemmas.Bool.{true≢false}
 use Rattle.cpp_tree.specs.Nodes.{tree_of, is_again}
 use Rattle.cpp_tree.specs.declared.node.Node.{Node}
 use Rattle.cpp_tree.specs.declared.node.Mark.{Mark}
-use Rattle.cpp_tree.specs.declared.node.Qualifiers.{Qualifiers}
 use Rattle.cpp_tree.specs.declared.node.Thunk.{Thunk}
 use Rattle.cpp_layout.specs.Texts.{fixed_text, suffix_of}
 use Rattle.cpp_layout.specs.declared.texts.TheConstants.{BLANK, BLANK_LEFT, CLONE, OTHER_CLONE, COMMA, DOTS, LEFT, RIGHT}

@@ -1,7 +1,7 @@
 -- The operations of code are those of the table.
-use Rattle.std.proofs.Common.{◌≡◌, refl, sym, ap, ◌∙◌, subst, arith, append-nil, append_assoc, ℕ, ◌+◌, ◌*◌, ◌<◌, ◌≤◌, List, [], ◌∷◌, ◌++◌, length, Bool, true, false, nat_eq, ◌||◌, Option, Some, None, inl, inr}
-use Rattle.std.proofs.lemmas.Bool.{true≢false, le-leb, lt-leb}
-use Rattle.std.proofs.lemmas.Bool.Decides.{eqb_tells}
+use Rattle.std.proofs.Common.{◌≡◌, refl, sym, ap, ◌∙◌, subst, arith, append-nil, append_assoc, ℕ, ◌+◌, ◌*◌, ◌<◌, List, [], ◌∷◌, ◌++◌, length, Bool, true, false, nat_eq, ◌||◌, Option, Some, None}
+use Rattle.std.specs.Prelude.{nat_le}
+use Rattle.std.proofs.lemmas.Bool.{true≢false, eq-eqb, or_parts}
 use Rattle.cpp_grammar.specs.Texts.{same_bytes}
 use Rattle.cpp_grammar.specs.Operations as table
 use Rattle.cpp_grammar.specs.Operations.{operations, operation_of_code, from_precedence}
@@ -10,7 +10,6 @@ use Rattle.cpp_grammar.specs.Parts.{printed, no_operation}
 use Rattle.cpp_layout.specs.declared.operation_rows.Operation.{Operation}
 use Rattle.cpp_layout.specs.Operations.{IsOperation, operand_of}
 use Rattle.cpp_layout.proofs.Coding.{same_bytes_sound}
-use Rattle.cpp_layout.proofs.Functions.{part-none}
 use Rattle.sym_print.specs.Unfold.{PartOf}
 use Rattle.cpp_term.specs.Items as items
 use Rattle.cpp_term.specs.Term.{Term, operation}
@@ -19,11 +18,10 @@ use Rattle.cpp_term.specs.Parts.{text_part, as_item, says, precedence_of, operan
 use Rattle.cpp_tree.specs.declared.node.Node.{Node}
 use Rattle.cpp_tree.specs.declared.node.Thunk.{Thunk}
 use Rattle.cpp_tree.specs.Nodes.{trees, tree_if_there, tree_of, is_again}
-use Rattle.sym_print.specs.Held.{Held}
-use Rattle.sym_print.specs.declared.detail.Detail.{Detail}
 use Rattle.cpp_layout.specs.declared.context.Context.{Context}
 use Rattle.cpp_layout.specs.Texts.{fixed_text}
-use Rattle.cpp_layout.specs.Layout.{ReadSymbol, Shows, table_of, tree_shown, node_shown}
+use Rattle.cpp_layout.specs.declared.texts.TheConstants.{LEFT, RIGHT}
+use Rattle.cpp_layout.specs.Layout.{ReadSymbol, table_of, text_if, tree_shown, node_shown}
 
 -- of the same two letters
 pub printed-by : (a b c d : ℕ) (r : Operation) → b < 256 → d < 256 → a * 256 + b ≡ c * 256 + d → IsOperation r (printed c d) → IsOperation r (printed a b)
@@ -41,26 +39,15 @@ abbrev pub any_number : List table.Operation → ℕ → Bool
 any_number [] n = false
 any_number (o ∷ os) n = nat_eq n (number_of o.code) || any_number os n
 
-or-left : (a b : Bool) → a || b ≡ false → a ≡ false
-or-left false b e = refl
-or-left true b e = cc e
-
-or-right : (a b : Bool) → a || b ≡ false → b ≡ false
-or-right false b e = e
-or-right true b e = cc e
-
-same-number : (n : ℕ) → nat_eq n n ≡ true
-same-number n = elim (eqb_tells n n) [ inl x ↦ x.0 | inr x ↦ absurd (x.1 refl) ]
-
 apart : (a b : ℕ) (o : table.Operation) → nat_eq (a * 256 + b) (number_of o.code) ≡ false → same_bytes (a ∷ b ∷ []) o.code ≡ true → ⊥
-apart a b o off is =
-    let here : nat_eq (a * 256 + b) (a * 256 + b) ≡ false = subst (λ x. nat_eq (a * 256 + b) (number_of x) ≡ false) (sym (same_bytes_sound (a ∷ b ∷ []) o.code is)) off in
-    true≢false (sym (same-number (a * 256 + b)) ∙ here)
+apart a b o off is = true≢false (sym (eq-eqb (a * 256 + b) (number_of o.code) (ap number_of (same_bytes_sound (a ∷ b ∷ []) o.code is))) ∙ off)
 
 none-of : (a b : ℕ) (os : List table.Operation) → any_number os (a * 256 + b) ≡ false → operation_of_code (a ∷ b ∷ []) os ≡ None
 unfolding operation_of_code
 none-of a b [] e = refl
-none-of a b (o ∷ os) e = go (none-of a b os (or-right (nat_eq (a * 256 + b) (number_of o.code)) (any_number os (a * 256 + b)) e)) (same_bytes (a ∷ b ∷ []) o.code) (λ is. apart a b o (or-left (nat_eq (a * 256 + b) (number_of o.code)) (any_number os (a * 256 + b)) e) is)
+none-of a b (o ∷ os) e =
+    let others = or_parts (nat_eq (a * 256 + b) (number_of o.code)) (any_number os (a * 256 + b)) e in
+    go (none-of a b os others.1) (same_bytes (a ∷ b ∷ []) o.code) (apart a b o others.0)
   where
     go : operation_of_code (a ∷ b ∷ []) os ≡ None → (s : Bool) → (s ≡ true → ⊥) → elim s as (λ _. Option table.Operation) [ true ↦ Some o | false ↦ operation_of_code (a ∷ b ∷ []) os ] ≡ None
     go rest false not = rest
@@ -85,9 +72,6 @@ precedence-none s us ts (Node.AddressOf e) flat h1 h2 = absurd (h2 e refl)
 precedence-none s us ts (Node.Reargued x z) flat h1 h2 = absurd (true≢false flat)
 precedence-none s us ts _ flat h1 h2 = refl
 
-pub as-none : (y : ReadSymbol) (d : Detail) (below held : Held Context) (b : List ℕ) (others : List (PartOf items.Item)) → b ≡ [] → Shows y d below held others → Shows y d below held (text_part b ++ others)
-as-none y d below held b others is shows = subst (λ ps. Shows y d below held ps) (part-none b others is) shows
-
 -- ## Operands
 
 -- what is asked of an operand is read from its own tree, not through a parameter's argument
@@ -106,13 +90,17 @@ asked-of y place ctx at node n p moved stored flat own =
 from_parts : items.Context → Term → Bool → List (PartOf items.Item)
 from_parts c t enclosed = elim enclosed [ true ↦ says "(" ∷ as_item heads.left c t ∷ says ")" ∷ [] | false ↦ as_item heads.left c t ∷ [] ]
 
-pub closed-from : (c : items.Context) (least : ℕ) (t : Term) → least ≤ precedence_of t → operand_parts c (from_precedence least) t ≡ says "(" ∷ as_item heads.left c t ∷ says ")" ∷ []
+-- by its precedence
+pub enclosed-by : (c : items.Context) (least p : ℕ) (t : Term) (others : List (PartOf items.Item)) → precedence_of t ≡ p
+    → text_if (nat_le least p) (fixed_text LEFT) (as_item heads.left c t ∷ text_if (nat_le least p) (fixed_text RIGHT) others) ≡ operand_parts c (from_precedence least) t ++ others
 unfolding operand_parts from_parts
-closed-from c least t asked = ap (from_parts c t) (le-leb least (precedence_of t) asked)
-
-pub open-from : (c : items.Context) (least : ℕ) (t : Term) → precedence_of t < least → operand_parts c (from_precedence least) t ≡ as_item heads.left c t ∷ []
-unfolding operand_parts from_parts
-open-from c least t free = ap (from_parts c t) (lt-leb least (precedence_of t) free)
+enclosed-by c least p t others asked =
+    subst (λ q. text_if (nat_le least q) (fixed_text LEFT) (as_item heads.left c t ∷ text_if (nat_le least q) (fixed_text RIGHT) others) ≡ operand_parts c (from_precedence least) t ++ others)
+    asked (by (nat_le least (precedence_of t)))
+  where
+    by : (b : Bool) → text_if b (fixed_text LEFT) (as_item heads.left c t ∷ text_if b (fixed_text RIGHT) others) ≡ from_parts c t b ++ others
+    by true = refl
+    by false = refl
 
 -- ## An operation's parts one after the other
 

@@ -53,13 +53,10 @@ impl Symbol {
         ensures room { S.room parts.old ≤ S.room parts.new + 3 }
     {
         let place = self.place(node, ctx);
-        if precedence_of(self.stored(place.node, place.ctx)) < least {
-            self.push_item(parts, node, form::LEFT, 0, ctx);
-            return;
-        }
-        self.push_text(parts, texts::RIGHT);
+        let enclosed = least <= precedence_of(self.stored(place.node, place.ctx));
+        self.push_text_if(parts, enclosed, texts::RIGHT);
         self.push_item(parts, node, form::LEFT, 0, ctx);
-        self.push_text(parts, texts::LEFT);
+        self.push_text_if(parts, enclosed, texts::LEFT);
     }
 
     /// The parts of an operand.

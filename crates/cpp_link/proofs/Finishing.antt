@@ -1,13 +1,17 @@
 -- A rule closes as the reading says.
-use Rattle.std.proofs.Common.{◌≡◌, refl, sym, ◌∙◌, ap, subst, arith, ℕ, ◌+◌, ◌-◌, ◌≤◌, drop, length-drop, List, [], ◌∷◌, ◌++◌, length, Option, Ok}
-use Rattle.std.specs.Prelude.{slice_index}
+use Rattle.std.proofs.Common.{◌≡◌, refl, sym, ◌∙◌, ap, subst, arith, ℕ, ◌+◌, ◌-◌, ◌<◌, ◌≤◌, ◌⊎◌, inr, drop, take, length-drop, List, [], ◌∷◌, ◌++◌, length, Option, Result, Ok, Err}
+use Rattle.std.proofs.lemmas.Result.{err_from_is_err_and}
+use Rattle.std.specs.Prelude.{slice_index, Vec, vec_capacity, IfErr, IsErrAnd, OnOk, OnErr}
+use Rattle.std.specs.Global.{Global}
 use Rattle.sym_core.specs.declared.refusal.Refusal.{Refusal}
+use Rattle.sym_core.specs.declared.refusal.Refusal.TheVariants.{Memory}
+use Rattle.sym_link.proofs.Lists.{rest_all}
 use Rattle.sym_link.specs.declared.language.Frame.{Frame}
 use Rattle.sym_link.specs.Reading.{Open}
 use Rattle.sym_link.specs.Unfold.{found}
 use Rattle.sym_link.specs.Driving.{Fails}
-use Rattle.sym_link.specs.Linking.{Puts, AddsFew, owed_behind}
-use Rattle.sym_link.specs.Threads.{IsAt}
+use Rattle.sym_link.specs.Linking.{View, Puts, AddsFew, owed_behind}
+use Rattle.sym_link.specs.Threads.{IsAt, ClosesAll}
 use Rattle.cpp_grammar.specs.declared.production.Production.{Production}
 use Rattle.cpp_grammar.specs.Unfolding.{production_at}
 use Rattle.cpp_term.specs.Values as values
@@ -19,11 +23,14 @@ use Rattle.cpp_link.specs.Owed.{owes}
 use Rattle.cpp_link.specs.Closes.{closes_of, closes, ends_of}
 use Rattle.cpp_link.specs.ClosesLaws.{ends_closes}
 use Rattle.cpp_link.specs.ViewLaws.{cpp_laws}
+use Rattle.cpp_link.specs.Progress.{Finishes}
 use Rattle.cpp_link.specs.LinkReading.{link_close, linked}
 use Rattle.cpp_link.specs.Making.{state_of}
 use Rattle.cpp_link.specs.Parts.{trees_in, value_in, values_in, packs_of, around_of, IsThere}
-use Rattle.cpp_link.specs.View.{IsWhole, cpp_view}
+use Rattle.cpp_link.specs.Room.{KeepsRoom, LacksRoom}
+use Rattle.cpp_link.specs.View.{GoesOn, IsPaid, IsWhole, cpp_view}
 use Rattle.cpp_link.proofs.Bytes.{byte_serves}
+use Rattle.cpp_link.proofs.Rooms.{roomy_ok, roomy_refused}
 use Rattle.cpp_link.proofs.Viewing.{parts_are}
 
 same_close : (s : List ℕ) (m n q p : ℕ) (code around : Around) (began : State) (us vs : List Value) (cs : List values.Candidate) (packs : Option ℕ) (state : State)
@@ -80,7 +87,7 @@ refused_right s old frame own given p e rule known state is production same refu
 -- ## How many nodes are made
 
 -- they are no more than the rule may add after its parts
-pub ends_few : (s : List ℕ) (old new : Linked) (frame : Frame Surroundings) (parts own : List Part) (p : Production) → p ≡ production_at frame.rule → own ≡ drop frame.base parts → 4 ≤ length old.nodes.nodes
+ends_few : (s : List ℕ) (old new : Linked) (frame : Frame Surroundings) (parts own : List Part) (p : Production) → p ≡ production_at frame.rule → own ≡ drop frame.base parts → 4 ≤ length old.nodes.nodes
     → length new.nodes.nodes ≤ length old.nodes.nodes + ends_of p own → AddsFew (cpp_view s) old new frame parts
 unfolding closes
 ends_few s old new frame parts own p numbered same begun few =
@@ -91,8 +98,58 @@ ends_few s old new frame parts own p numbered same begun few =
     sizes : (m n ends closes : ℕ) → 4 ≤ m → n ≤ m + ends → ends ≤ closes → n - 4 ≤ m - 4 + closes
     sizes m n ends closes begun few le = omega (arith, begun, few, le)
 
-pub few_adds : (s : List ℕ) (old new : Linked) (frame : Frame Surroundings) (parts : List Part) → AddsFew (cpp_view s) old new frame parts
+few_adds : (s : List ℕ) (old new : Linked) (frame : Frame Surroundings) (parts : List Part) → AddsFew (cpp_view s) old new frame parts
     → length new.nodes.nodes - 4 + 0 ≤ length old.nodes.nodes - 4 + owed_behind (cpp_view s) frame parts
 few_adds s old new frame parts few =
     let held : owes frame.rule (length (drop frame.base parts)) ≡ owes frame.rule (length parts - frame.base) = ap (λ n. owes frame.rule n) (length-drop frame.base parts) in
     omega (arith, few, (cpp_laws s).closing frame.rule (drop frame.base parts), held)
+
+-- so many are made of these parts, and so of the rule's
+made_where_closed : (made : Production → List Value → ℕ) (s : List ℕ) (old new : Linked) (frame : Frame Surroundings) (parts own : List Part) (p : Production) → own ≡ drop frame.base parts → p ≡ production_at frame.rule
+    → length new.nodes.nodes ≡ length old.nodes.nodes + made p (values_in s old.nodes own)
+    → length new.nodes.nodes ≡ length old.nodes.nodes + made (production_at frame.rule) (values_in s old.nodes (drop frame.base parts))
+made_where_closed made s old new frame parts own p same numbered is = rw (← same, ← numbered) is
+
+-- ## What is left
+
+-- The frame's rule is of this production, and of its own parts, those from its base on, a call made nodes: no more than it may, in the room that there is.
+module _ (view : View Linked Part Surroundings Value State Around) (made : Production → List Value → ℕ) (s : List ℕ) (old new : Linked) (frame : Frame Surroundings) (parts new_parts : Vec Part Global) (given : List Part) (p : Production)
+    (value : given ≡ parts.items) (numbered : p ≡ production_at frame.rule) (begun : 4 ≤ length old.nodes.nodes)
+    (few : length new.nodes.nodes ≤ length old.nodes.nodes + ends_of p (take (length given - frame.base) (drop frame.base given))) (keeps : KeepsRoom old new) (capacity : vec_capacity parts ≤ vec_capacity new_parts) where
+  own_parts : take (length given - frame.base) (drop frame.base given) ≡ drop frame.base parts.items
+  own_parts = rest_all given frame.base ∙ ap (λ ps. drop frame.base ps) value
+
+  adds_few : AddsFew (cpp_view s) old new frame parts.items
+  adds_few = ends_few s old new frame parts.items _ p numbered own_parts begun few
+
+  -- a refusal is passed on
+  pub refused_finishes : (result : Result (Unit {0}) Refusal) (e : Refusal) → IsErrAnd result (λ y. y ≡ e) → ClosesAll view s old new frame parts.items new_parts.items (Err e)
+      → (e ≡ Memory → LacksRoom old new ⊎ (vec_capacity parts < length new_parts.items + 1)) → Finishes view made s old new frame parts new_parts result
+  refused_finishes result e is closes full =
+      let p = err_from_is_err_and result is in
+      let passed : result ≡ Err e = p.1 ∙ ap (λ y. Err y) p.2 in
+      let refused : Finishes view made s old new frame parts new_parts (Err e) =
+      record { closes = closes; adds = tt; few = adds_few; makes = tt; pays = tt; roomy = roomy_refused old new parts new_parts (Err e) e refl keeps capacity full } in
+      subst (λ r. Finishes view made s old new frame parts new_parts r) (sym passed) refused
+
+  -- there was no memory, and the rule isn't closed whatever is read
+  pub lacking_finishes : (result : Result (Unit {0}) Refusal) (e : Refusal) → IsErrAnd result (λ y. y ≡ e) → e ≡ Memory → LacksRoom old new ⊎ (vec_capacity parts < length new_parts.items + 1)
+      → Finishes view made s old new frame parts new_parts result
+  lacking_finishes result e is memory lacks =
+      refused_finishes result e is (subst (λ x. ClosesAll view s old new frame parts.items new_parts.items (Err x)) (sym memory) (λ rule known state at. tt)) (λ same. lacks)
+
+  -- what the rule stands for is put in the place of its parts
+  pub put_finishes : (result : Result (Unit {0}) Refusal) (part : Part) → OnOk result (new_parts.items ≡ take frame.base parts.items ++ part ∷ []) → IfErr result (λ e. e ≡ Memory)
+      → OnErr result (length new_parts.items ≡ frame.base) → OnErr result (vec_capacity parts < frame.base + 1)
+      → ((done : Unit {0}) → new_parts.items ≡ take frame.base parts.items ++ part ∷ [] → ClosesAll view s old new frame parts.items new_parts.items (Ok done)) → GoesOn s old new
+      → length new.nodes.nodes ≡ length old.nodes.nodes + made p (values_in s old.nodes (take (length given - frame.base) (drop frame.base given))) → IsPaid new
+      → Finishes view made s old new frame parts new_parts result
+  put_finishes (Ok done) part items memory rest full closes grows makes paid = record {
+    closes = closes done items;
+    adds = (grows, few_adds s old new frame parts.items adds_few);
+    few = adds_few;
+    makes = made_where_closed made s old new frame parts.items _ p own_parts numbered makes;
+    pays = λ at was. paid;
+    roomy = roomy_ok old new parts new_parts (Ok done) done refl keeps capacity;
+  }
+  put_finishes (Err e) part items memory rest full closes grows makes paid = lacking_finishes (Err e) e refl memory (inr (omega (arith, full, rest)))

@@ -1,11 +1,16 @@
 -- The next part of a rule is gone on to as the reading says.
-use Rattle.std.proofs.Common.{subst, ◌≡◌, refl, sym, ◌∙◌, ap, arith, ℕ, suc, ◌+◌, ◌-◌, ◌<◌, ◌≤◌, List, [], ◌∷◌, ◌++◌, length, drop, Option, Result, Ok, Err}
+use Rattle.std.proofs.Common.{subst, ◌≡◌, refl, sym, ◌∙◌, ap, arith, ℕ, suc, ◌+◌, ◌-◌, ◌<◌, ◌≤◌, inl, List, [], ◌∷◌, ◌++◌, length, take, drop, Option, Result, Ok, Err}
 use Rattle.std.proofs.lemmas.List.{length-drop, take-append-drop}
+use Rattle.std.proofs.lemmas.Result.{err_from_is_err_and}
+use Rattle.std.specs.Prelude.{Vec, vec_capacity, IsErrAnd}
+use Rattle.std.specs.Global.{Global}
 use Rattle.sym_core.specs.declared.refusal.Refusal.{Refusal}
+use Rattle.sym_core.specs.declared.refusal.Refusal.TheVariants.{Memory}
+use Rattle.sym_link.proofs.Lists.{rest_all}
 use Rattle.sym_link.specs.declared.language.Frame.{Frame}
 use Rattle.sym_link.specs.Reading.{Open}
 use Rattle.sym_link.specs.Driving.{Fails}
-use Rattle.sym_link.specs.Linking.{Adds, AddsFew, owed_behind, owed_next}
+use Rattle.sym_link.specs.Linking.{View, Adds, AddsFew, owed_behind, owed_next}
 use Rattle.sym_link.specs.Threads.{IsAt, GoesOn}
 use Rattle.cpp_grammar.specs.declared.production.Production.{Production}
 use Rattle.cpp_grammar.specs.Unfolding.{production_at}
@@ -25,12 +30,16 @@ use Rattle.cpp_link.proofs.Scopes.{between_closed}
 use Rattle.cpp_link.specs.Reads.{goes_on}
 use Rattle.cpp_link.specs.Closes.{closes_of, closes}
 use Rattle.cpp_link.specs.ClosesLaws.{quiet_owed, closes_pushed}
+use Rattle.cpp_link.specs.NodeCount.{makes_before}
+use Rattle.cpp_link.specs.Progress.{Advances}
+use Rattle.cpp_link.specs.Room.{KeepsRoom, LacksRoom}
 use Rattle.cpp_link.specs.Stepping.{IsStepOf, Takes, CountsStep, nodes_of_step}
 use Rattle.cpp_link.specs.Tables.{quiet_parts}
 use Rattle.cpp_link.specs.View.{IsPaid, Surrounds, cpp_view}
 use Rattle.cpp_link.proofs.Stepping.{step_owed}
 use Rattle.cpp_link.proofs.Places.{values_length}
 use Rattle.cpp_link.proofs.RowNodes.{quiet_part}
+use Rattle.cpp_link.proofs.Rooms.{roomy_ok, roomy_refused}
 use Rattle.cpp_link.proofs.Viewing.{parts_are, parts_all}
 
 same_between : (m n q p : ℕ) (code around : Around) (us vs : List Value) (cs : List values.Candidate) (packs : Option ℕ) (state : State)
@@ -165,3 +174,43 @@ refused_few s old new frame parts paid few = sizes (length old.nodes.nodes) (len
   where
     sizes : (m n before : ℕ) → 4 ≤ m → n ≤ m + before → n - 4 ≤ m - 4 + before
     sizes m n before begun few = omega (arith, begun, few)
+
+-- a step of the parts' production, of a slice from the base on, is one of the rule's
+pub step_of_rule : (frame : Frame Surroundings) (parts given : List Part) (p : Production) (step : Step) → given ≡ parts → p ≡ production_at frame.rule
+    → IsStepOf p (length (take (length given - frame.base) (drop frame.base given))) step → IsStepOf (production_at frame.rule) (length (drop frame.base parts)) step
+step_of_rule frame parts given p step value numbered of =
+    subst (λ q. IsStepOf q (length (drop frame.base parts)) step) numbered (subst (λ ps. IsStepOf p (length ps) step) (rest_all given frame.base ∙ ap (λ ps. drop frame.base ps) value) of)
+
+-- ## What is left
+
+module _ (view : View Linked Part Surroundings Value State Around) (s : List ℕ) (old new : Linked) (frame : Frame Surroundings) (parts new_parts : Vec Part Global) (keeps : KeepsRoom old new) (capacity : vec_capacity parts ≤ vec_capacity new_parts) where
+  -- a refusal is passed on
+  pub refused_advances : (result : Result Surroundings Refusal) (e : Refusal) → IsErrAnd result (λ y. y ≡ e) → GoesOn view s (Surrounds s) old new frame parts.items new_parts.items (Err e)
+      → AddsFew (cpp_view s) old new frame parts.items → (e ≡ Memory → LacksRoom old new) → Advances view s old new frame parts new_parts result
+  refused_advances result e is goes few full =
+      let p = err_from_is_err_and result is in
+      let passed : result ≡ Err e = p.1 ∙ ap (λ y. Err y) p.2 in
+      let refused : Advances view s old new frame parts new_parts (Err e) =
+      record { goes = goes; adds = tt; few = few; makes = tt; pays = tt; count = tt; roomy = roomy_refused old new parts new_parts (Err e) e refl keeps capacity (λ memory. inl (full memory)) } in
+      subst (λ r. Advances view s old new frame parts new_parts r) (sym passed) refused
+
+  -- there was no memory, and the rule isn't gone on with whatever is read
+  pub lacking_advances : (result : Result Surroundings Refusal) (e : Refusal) → IsErrAnd result (λ y. y ≡ e) → e ≡ Memory → AddsFew (cpp_view s) old new frame parts.items → LacksRoom old new
+      → Advances view s old new frame parts new_parts result
+  lacking_advances result e is memory few lacks =
+      refused_advances result e is (subst (λ x. GoesOn view s (Surrounds s) old new frame parts.items new_parts.items (Err x)) (sym memory) (λ rule known state at. tt)) few (λ same. lacks)
+
+  -- a step was taken
+  pub taken_advances : (step : Step) (then : Surroundings) → IsStepOf (production_at frame.rule) (length (drop frame.base parts.items)) step → IsPaid old → Takes s old new frame.kept frame.base parts.items new_parts.items step then
+      → (let taken : Result Surroundings Refusal = Ok then in CountsStep (production_at frame.rule) old new (drop frame.base parts.items) (drop frame.base new_parts.items) taken)
+      → length new.nodes.nodes ≡ length old.nodes.nodes + nodes_of_step step → nodes_of_step step ≡ makes_before (production_at frame.rule) (values_in s old.nodes (drop frame.base parts.items))
+      → GoesOn view s (Surrounds s) old new frame parts.items new_parts.items (Ok then) → Advances view s old new frame parts new_parts (Ok then)
+  taken_advances step then of paid takes few more makes goes = record {
+    goes = goes;
+    adds = adds_right s old new frame parts.items new_parts.items (drop frame.base parts.items) (production_at frame.rule) step then refl refl paid of takes;
+    few = steps_few s old new frame parts.items new_parts.items then paid takes.grows.least few;
+    makes = omega (arith, more, makes);
+    pays = λ at was. record { begun = omega (arith, was.begun, takes.grows.least); thunks = omega (arith, was.thunks, takes.grows.least, ap (λ xs. length xs) takes.thunks) };
+    count = takes.count;
+    roomy = roomy_ok old new parts new_parts (Ok then) then refl keeps capacity;
+  }

@@ -211,11 +211,6 @@ inheriting_put_right s old new frame parts new_parts own made byte done same inh
   ),
 )
 
--- it is refused for want of memory alone
-pub inheriting_refused : (s : List ℕ) (old new : Linked) (frame : Frame Surroundings) (parts new_parts : List Part) (e : Refusal) → e ≡ Memory → ClosesAll (wide_view s) s old new frame parts new_parts (Err e)
-inheriting_refused s old new frame parts new_parts e memory =
-    subst (λ x. ClosesAll (wide_view s) s old new frame parts new_parts (Err x)) (sym memory) (λ rule known state is. tt)
-
 -- the ABI's reading refuses it
 pub inheriting_unread : (s : List ℕ) (old new : Linked) (frame : Frame Surroundings) (parts new_parts : List Part) → production_at frame.rule ≡ Production.Inheriting
     → ClosesAll (cpp_view s) s old new frame parts new_parts (Err (BadReference frame.place))
@@ -223,7 +218,7 @@ unfolding link_close close
 inheriting_unread s old new frame parts new_parts inheriting rule known state is =
     refused_right s old frame (drop frame.base parts) (drop frame.base parts) Production.Inheriting (BadReference frame.place) rule known state is (sym inheriting) refl (λ began. refl)
 
--- so is what is done before the arguments
+-- what is done before the arguments is refused for want of memory alone
 pub own_arguments_refused : (s : List ℕ) (old new : Linked) (frame : Frame Surroundings) (parts : List Part) (e : Refusal) → e ≡ Memory → GoesOn (wide_view s) s (Surrounds s) old new frame parts parts (Err e)
 own_arguments_refused s old new frame parts e memory =
     subst (λ x. GoesOn (wide_view s) s (Surrounds s) old new frame parts parts (Err x)) (sym memory) (λ rule known state is. tt)

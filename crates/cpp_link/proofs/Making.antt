@@ -1,5 +1,6 @@
 -- What comes after a rule, in terms of the nodes that are there once its own is made.
 use Rattle.std.proofs.Common.{◌≡◌, refl, sym, ◌∙◌, ap, subst, ℕ, ◌-◌, ◌<◌, ◌≤◌, List, [], ◌∷◌, length, Option, Result, Ok, Err}
+use Rattle.std.proofs.lemmas.Result.{IfOk-weaker, IfErr-weaker}
 use Rattle.std.specs.Prelude.{slice_get, IfOk, IfErr, OnOk}
 use Rattle.sym_core.specs.Value.{counted_value}
 use Rattle.sym_core.specs.declared.NumberKind.TheVariants.{Seq36}
@@ -134,6 +135,14 @@ other_close s Production.Substitution byte around place began vs state other own
 other_close s Production.Inheriting byte around place began vs state other own = absurd (own refl)
 other_close s _ byte around place began vs state other own = refl
 
+-- it closes to what it stands for
+pub stands_closes : (s : List ℕ) (p : Production) (byte : ℕ) (around : Around) (place : ℕ) (vs : List Value) (state then : State) (packs : Option ℕ) (v : Value) → (p ≡ Production.Substitution → ⊥) → (p ≡ Production.Inheriting → ⊥)
+    → v ≡ link_meaning s p byte place around vs → ((began : State) → began.packs ≡ packs → behind p byte around began vs state ≡ then)
+    → (began : State) → began.packs ≡ packs → link_close s p byte around place began vs state ≡ Ok (found v then)
+stands_closes s p byte around place vs state then packs v other own is comes began same =
+    other_close s p byte around place began vs state other own
+    ∙ ap (λ v. Ok (found v (behind p byte around began vs state))) (sym is) ∙ ap (λ t. Ok (found v t)) (comes began same)
+
 module _ (s : List ℕ) (p : Production) (byte : ℕ) (around : Around) (place : ℕ) (vs : List Value) (state then : State) (packs : Option ℕ) (value : Part → Value) (result : Result Part Refusal) where
   abbrev named : Result (Found Value State) Refusal
   named = substituted around (place - 1) (slice_get state.candidates (counted_value Seq36 (text_of (part vs 0)))) state
@@ -141,20 +150,13 @@ module _ (s : List ℕ) (p : Production) (byte : ℕ) (around : Around) (place :
   pub substitution_closes : p ≡ Production.Substitution → IfOk result (λ made. named ≡ Ok (found (value made) then))
       → IfOk result (λ made. (began : State) → began.packs ≡ packs → link_close s p byte around place began vs state ≡ Ok (found (value made) then))
   unfolding link_close close
-  substitution_closes is = go result
-    where
-      go : (r : Result Part Refusal) → IfOk r (λ made. named ≡ Ok (found (value made) then))
-          → IfOk r (λ made. (began : State) → began.packs ≡ packs → link_close s p byte around place began vs state ≡ Ok (found (value made) then))
-      go (Ok made) closes = λ began same. ap (λ q. link_close s q byte around place began vs state) is ∙ closes
-      go (Err e) closes = tt
+  substitution_closes is = IfOk-weaker result (λ made. named ≡ Ok (found (value made) then)) (λ made. (began : State) → began.packs ≡ packs → link_close s p byte around place began vs state ≡ Ok (found (value made) then))
+      (λ made closes began same. ap (λ q. link_close s q byte around place began vs state) is ∙ closes)
 
   pub substitution_refused : p ≡ Production.Substitution → IfErr result (λ e. Fails e named) → IfErr result (λ e. (began : State) → Fails e (link_close s p byte around place began vs state))
   unfolding link_close close
-  substitution_refused is = go result
-    where
-      go : (r : Result Part Refusal) → IfErr r (λ e. Fails e named) → IfErr r (λ e. (began : State) → Fails e (link_close s p byte around place began vs state))
-      go (Ok made) refused = tt
-      go (Err e) refused = λ began. subst (λ q. Fails e (link_close s q byte around place began vs state)) (sym is) refused
+  substitution_refused is = IfErr-weaker result (λ e. Fails e named) (λ e. (began : State) → Fails e (link_close s p byte around place began vs state))
+      (λ e refused began. subst (λ q. Fails e (link_close s q byte around place began vs state)) (sym is) refused)
 
   pub other_closes : (p ≡ Production.Substitution → ⊥) → (p ≡ Production.Inheriting → ⊥) → IfOk result (λ made. value made ≡ link_meaning s p byte place around vs)
       → OnOk result ((began : State) → began.packs ≡ packs → behind p byte around began vs state ≡ then)
@@ -164,7 +166,5 @@ module _ (s : List ℕ) (p : Production) (byte : ℕ) (around : Around) (place :
       go : (r : Result Part Refusal) → IfOk r (λ made. value made ≡ link_meaning s p byte place around vs)
           → OnOk r ((began : State) → began.packs ≡ packs → behind p byte around began vs state ≡ then)
           → IfOk r (λ made. (began : State) → began.packs ≡ packs → link_close s p byte around place began vs state ≡ Ok (found (value made) then))
-      go (Ok made) is comes = λ began same.
-          other_close s p byte around place began vs state other own
-          ∙ ap (λ v. Ok (found v (behind p byte around began vs state))) (sym is) ∙ ap (λ t. Ok (found (value made) t)) (comes began same)
+      go (Ok made) is comes = stands_closes s p byte around place vs state then packs (value made) other own is comes
       go (Err e) is comes = tt

@@ -39,11 +39,6 @@ made_before_part s old frame parts own p made same numbered is = rw (← same, �
 
 -- ## Where a rule closes
 
-pub made_where_closed : (s : List ℕ) (old new : Linked) (frame : Frame Surroundings) (parts own : List Part) (p : Production) → own ≡ drop frame.base parts → p ≡ production_at frame.rule
-    → length new.nodes.nodes ≡ length old.nodes.nodes + makes_at_end p (values_in s old.nodes own)
-    → length new.nodes.nodes ≡ length old.nodes.nodes + makes_at_end (production_at frame.rule) (values_in s old.nodes (drop frame.base parts))
-made_where_closed s old new frame parts own p same numbered is = rw (← same, ← numbered) is
-
 -- a substitution makes nothing
 pub none_substituted : (old new : Linked) (result : Result Part Refusal) (p : Production) (known : List Value) → p ≡ Production.Substitution → new.nodes ≡ old.nodes
     → OnOk result (length new.nodes.nodes ≡ length old.nodes.nodes + makes_at_end p known)

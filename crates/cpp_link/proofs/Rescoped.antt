@@ -4,7 +4,6 @@ use Rattle.std.specs.Prelude.{Result, OnOk}
 use Rattle.std.proofs.lemmas.List.{length-drop, take-append-drop}
 use Rattle.std.proofs.lemmas.Bool.{true≢false, false≢true}
 use Rattle.sym_core.specs.declared.refusal.Refusal.{Refusal}
-use Rattle.sym_core.specs.declared.refusal.Refusal.TheVariants.{Memory}
 use Rattle.sym_link.specs.declared.language.Frame.{Frame}
 use Rattle.sym_link.specs.Reading.{Open, Found}
 use Rattle.sym_link.specs.Driving.{Fails}
@@ -232,37 +231,25 @@ lambda_is s old frame own rule known state is lambda byte =
 -- a part was put that stands for what a lambda is
 pub lambda_put_right : (s : List ℕ) (old new : Linked) (frame : Frame Surroundings) (parts new_parts own : List Part) (made owned : Part) (byte : ℕ) (done : Unit {0}) → own ≡ drop frame.base parts
     → production_at frame.rule ≡ Production.Lambda
-    → ((began : State) → began.packs ≡ packs_of frame.kept → link_close s Production.Lambda byte (around_of (trees_in s old.nodes) frame.kept) frame.place began (values_in s old.nodes own) (state_of s old) ≡ Ok (found (value_in s new.nodes made) (state_of s new)))
+    → value_in s new.nodes made ≡ link_meaning s Production.Lambda byte frame.place (around_of (trees_in s old.nodes) frame.kept) (values_in s old.nodes own)
+    → ((began : State) → began.packs ≡ packs_of frame.kept → behind Production.Lambda byte (around_of (trees_in s old.nodes) frame.kept) began (values_in s old.nodes own) (state_of s old) ≡ state_of s new)
     → value_in s new.nodes owned ≡ as_generic_lambda (value_in s new.nodes made)
     → IsThere s (length new.nodes.nodes) owned → IsWhole s new → new_parts ≡ take frame.base parts ++ owned ∷ []
     → ClosesAll (wide_view s) s old new frame parts new_parts (Ok done)
-unfolding link_close behind
-lambda_put_right s old new frame parts new_parts own made owned byte done same lambda closes value there whole items rule known state is =
-    let read = closes rule.before (sym is.kept.packs) in
-    let same_found = ok_same _ _ read in (
-      owned,
-      items,
-      (
-        value_in s new.nodes owned,
-        state_of s new,
-        lambda_is s old frame (drop frame.base parts) rule known state is lambda byte
-            ∙ ap (λ ps. Ok (found (as_generic_lambda (link_meaning s Production.Lambda byte frame.place (around_of (trees_in s old.nodes) frame.kept) (values_in s old.nodes ps))) (state_of s old))) (sym same)
-            ∙ both (λ v x. Ok (found v x)) (ap (λ f. as_generic_lambda f.value) same_found ∙ sym value) (ap (λ f. f.state) same_found),
-        record { there = there; is = refl },
-        record { table = whole.table; there = whole.there; candidates = refl; packs = refl },
-      ),
-    )
-  where
-    ok_same : (f g : Found Value State) → ◌≡◌ {A = Result (Found Value State) Refusal} (Ok f) (Ok g) → f ≡ g
-    ok_same f g e = cc
-
--- a lambda is refused as in the other reading: never but for want of memory
-pub lambda_refused_as : (s : List ℕ) (old new : Linked) (frame : Frame Surroundings) (parts new_parts own : List Part) (e : Refusal) (byte : ℕ) → own ≡ drop frame.base parts → production_at frame.rule ≡ Production.Lambda
-    → ((began : State) → Fails e (link_close s Production.Lambda byte (around_of (trees_in s old.nodes) frame.kept) frame.place began (values_in s old.nodes own) (state_of s old)))
-    → ClosesAll (wide_view s) s old new frame parts new_parts (Err e)
-unfolding link_close
-lambda_refused_as s old new frame parts new_parts own Memory byte same lambda refused rule known state is = tt
-lambda_refused_as s old new frame parts new_parts own e byte same lambda refused rule known state is = let clash = refused rule.before in absurd cc
+unfolding behind
+lambda_put_right s old new frame parts new_parts own made owned byte done same lambda meant left value there whole items rule known state is = (
+  owned,
+  items,
+  (
+    value_in s new.nodes owned,
+    state_of s new,
+    lambda_is s old frame (drop frame.base parts) rule known state is lambda byte
+        ∙ ap (λ ps. Ok (found (as_generic_lambda (link_meaning s Production.Lambda byte frame.place (around_of (trees_in s old.nodes) frame.kept) (values_in s old.nodes ps))) (state_of s old))) (sym same)
+        ∙ both (λ v x. Ok (found v x)) (ap as_generic_lambda (sym meant) ∙ sym value) (left rule.before (sym is.kept.packs)),
+    record { there = there; is = refl },
+    record { table = whole.table; there = whole.there; candidates = refl; packs = refl },
+  ),
+)
 
 -- ## How many nodes are made
 

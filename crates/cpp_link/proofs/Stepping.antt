@@ -27,34 +27,12 @@ use Rattle.cpp_link.proofs.Making.{parts_more}
 
 -- ## Nodes that steps make
 
--- a parameter makes its node after its digits
-pub parameter_steps : (result : Result Step Refusal) → IfOk result (λ step. IsStepOf Production.Parameter 1 step)
-unfolding made_before
-parameter_steps (Err e) = tt
-parameter_steps (Ok (Step.Go candidate then packs)) = tt
-parameter_steps (Ok (Step.Named node listed is_name)) = omega arith
-parameter_steps (Ok (Step.Made node listed is_name is_candidate packs)) = (omega arith, refl)
-
-pub nest_parameter_steps : (result : Result Step Refusal) → IfOk result (λ step. IsStepOf Production.NestParameter 1 step)
-unfolding made_before
-nest_parameter_steps (Err e) = tt
-nest_parameter_steps (Ok (Step.Go candidate then packs)) = tt
-nest_parameter_steps (Ok (Step.Named node listed is_name)) = omega arith
-nest_parameter_steps (Ok (Step.Made node listed is_name is_candidate packs)) = (omega arith, refl)
-
-pub argument_steps : (result : Result Step Refusal) → IfOk result (λ step. IsStepOf Production.ParameterArgument 1 step)
-unfolding made_before
-argument_steps (Err e) = tt
-argument_steps (Ok (Step.Go candidate then packs)) = tt
-argument_steps (Ok (Step.Named node listed is_name)) = omega arith
-argument_steps (Ok (Step.Made node listed is_name is_candidate packs)) = (omega arith, refl)
-
-pub expression_steps : (result : Result Step Refusal) → IfOk result (λ step. IsStepOf Production.ParameterExpression 1 step)
-unfolding made_before
-expression_steps (Err e) = tt
-expression_steps (Ok (Step.Go candidate then packs)) = tt
-expression_steps (Ok (Step.Named node listed is_name)) = omega arith
-expression_steps (Ok (Step.Made node listed is_name is_candidate packs)) = (omega arith, refl)
+-- where a production makes a node after its first part, any step is one of it there
+pub first_steps : (p : Production) (result : Result Step Refusal) → get_or (made_before p) 1 0 ≡ 1 → IfOk result (λ step. IsStepOf p 1 step)
+first_steps p (Err e) one = tt
+first_steps p (Ok (Step.Go candidate then packs)) one = tt
+first_steps p (Ok (Step.Named node listed is_name)) one = omega arith
+first_steps p (Ok (Step.Made node listed is_name is_candidate packs)) one = (omega arith, one)
 
 -- what a production owes pays for the nodes of a step
 pub step_owed : (p : Production) (held : ℕ) (step : Step) → IsStepOf p held step → nodes_of_step step + owes_of p (suc held) ≤ owes_of p held

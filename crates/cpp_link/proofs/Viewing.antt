@@ -1,5 +1,6 @@
 -- Parts that stand for values are there, and stand for the values that they have.
-use Rattle.std.proofs.Common.{◌≡◌, refl, sym, subst, ℕ, List, [], ◌∷◌, length, drop}
+use Rattle.std.proofs.Common.{◌≡◌, refl, sym, ◌∙◌, ap, subst, ℕ, ◌-◌, List, [], ◌∷◌, length, take, drop}
+use Rattle.sym_link.proofs.Lists.{rest_all}
 use Rattle.sym_link.specs.declared.language.Frame.{Frame}
 use Rattle.sym_link.specs.Driving.{AreAll}
 use Rattle.sym_link.specs.Threads.{IsOpenAt}
@@ -7,8 +8,8 @@ use Rattle.cpp_term.specs.Values.{Value, Around}
 use Rattle.cpp_references.specs.declared.around.Surroundings.{Surroundings}
 use Rattle.cpp_link.specs.declared.part.Part.{Part}
 use Rattle.cpp_link.specs.declared.linked.Linked.{Linked}
-use Rattle.cpp_link.specs.Parts.{trees_in, values_of, values_in, around_of, IsClosed, AreThere}
-use Rattle.cpp_link.specs.View.{IsPart, Surrounds, cpp_view}
+use Rattle.cpp_link.specs.Parts.{trees_in, values_of, values_in, around_of, IsClosed, AreThere, IsKeptThere}
+use Rattle.cpp_link.specs.View.{IsPart, IsWhole, Surrounds, cpp_view}
 
 pub parts_are : (s : List ℕ) (l : Linked) (own : List Part) (known : List Value) → AreAll (IsPart s l) own known
     → AreThere s (length l.nodes.nodes) own × (values_in s l.nodes own ≡ known)
@@ -23,6 +24,18 @@ pub open_there : (s : List ℕ) (l : Linked) (frame : Frame Surroundings) (parts
     → AreThere s (length l.nodes.nodes) own
 open_there s l frame parts own o same =
     subst (λ ps. AreThere s (length l.nodes.nodes) ps) (sym same) (parts_are s l (drop frame.base parts) o.known o.at.parts).0
+
+-- and those of a slice from its base on
+pub own_there : (s : List ℕ) (l : Linked) (frame : Frame Surroundings) (parts given : List Part) → IsOpenAt (cpp_view s) s l frame parts → given ≡ parts
+    → AreThere s (length l.nodes.nodes) (take (length given - frame.base) (drop frame.base given))
+own_there s l frame parts given o same = open_there s l frame parts _ o (rest_all given frame.base ∙ ap (λ ps. drop frame.base ps) same)
+
+-- where a rule is open the nodes are a table
+pub open_whole : (s : List ℕ) (l : Linked) (frame : Frame Surroundings) (parts : List Part) → IsOpenAt (cpp_view s) s l frame parts → IsWhole s l
+open_whole s l frame parts o = record { table = o.at.holds.table; there = o.at.holds.there }
+
+pub open_kept : (s : List ℕ) (l : Linked) (frame : Frame Surroundings) (parts : List Part) → IsOpenAt (cpp_view s) s l frame parts → IsKeptThere (length l.nodes.nodes) frame.kept
+open_kept s l frame parts o = o.at.kept.surrounds.there
 
 pub parts_all : (s : List ℕ) (l : Linked) (own : List Part) → AreThere s (length l.nodes.nodes) own → AreAll (IsPart s l) own (values_in s l.nodes own)
 unfolding values_of

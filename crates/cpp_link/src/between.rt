@@ -13,6 +13,7 @@ ghost use Rattle.cpp_link.specs.Grows.{Grows, HasPlace};
 ghost use Rattle.cpp_link.specs.Making.{state_of};
 ghost use Rattle.cpp_link.specs.NodeCount.{makes_before};
 ghost use Rattle.cpp_link.specs.Parts.{trees_in, values_in, tree_of_node, around_of, candidates_of, AreThere, IsKeptThere, AreCandidatesThere, IsStepThere};
+ghost use Rattle.cpp_link.specs.Progress.{Advances};
 ghost use Rattle.cpp_link.specs.Reads.{with_candidate, named_if, appended_if};
 ghost use Rattle.cpp_link.specs.Stepping.{IsStepOf, Takes, CountsStep, nodes_of_step};
 ghost use Rattle.cpp_link.specs.Tables.{quiet_parts};
@@ -205,6 +206,7 @@ impl Linked {
     /// # Errors
     ///
     /// Those of `before_part`.
+    #[tactic(auto, using(crate::proofs::Viewing::own_there, crate::proofs::Viewing::open_kept))]
     #[inline(always)]
     fn before_as(
         &mut self,
@@ -217,13 +219,7 @@ impl Linked {
         requires room { HasRoom (cpp_view symbol.now) symbol.now self.old (owed_behind (cpp_view symbol.now) frame.now parts.old.items) }
         requires open { IsOpenAt (cpp_view symbol.now) symbol.now self.old frame.now parts.old.items }
         requires base { frame.now.base ≤ length parts.old.items }
-        ensures goes { GoesOn (cpp_view symbol.now) symbol.now (Surrounds symbol.now) self.old self.new frame.now parts.old.items parts.new.items result }
-        ensures adds { OnOk result (Adds (cpp_view symbol.now) self.old self.new (owed_behind (cpp_view symbol.now) frame.now parts.old.items) (owed_next (cpp_view symbol.now) frame.now parts.new.items)) }
-        ensures few { AddsBefore (cpp_view symbol.now) self.old self.new frame.now parts.old.items (drop frame.now.base parts.new.items ++ variants.Nothing ∷ []) result }
-        ensures makes { OnOk result (length self.new.nodes.nodes ≡ length self.old.nodes.nodes + makes_before (production_at frame.now.rule) (values_in symbol.now self.old.nodes (drop frame.now.base parts.old.items))) }
-        ensures pays { OnOk result ((at : ℕ) → Pays (cpp_view symbol.now) self.old self.new at at) }
-        ensures count { OnOk result (length parts.new.items ≡ length parts.old.items) }
-        ensures roomy { IsRoomy self.old self.new parts.old parts.new result }
+        ensures { Advances (cpp_view symbol.now) symbol.now self.old self.new frame.now parts.old parts.new result }
     {
         let own = &parts[frame.base..];
         let step = self.step(symbol, production, frame.place, frame.kept, own)?;
@@ -249,13 +245,7 @@ impl Linked {
         requires room { HasRoom (cpp_view symbol.now) symbol.now self.old (owed_behind (cpp_view symbol.now) frame.now parts.old.items) }
         requires open { IsOpenAt (cpp_view symbol.now) symbol.now self.old frame.now parts.old.items }
         requires base { frame.now.base ≤ length parts.old.items }
-        ensures goes { GoesOn (cpp_view symbol.now) symbol.now (Surrounds symbol.now) self.old self.new frame.now parts.old.items parts.new.items result }
-        ensures adds { OnOk result (Adds (cpp_view symbol.now) self.old self.new (owed_behind (cpp_view symbol.now) frame.now parts.old.items) (owed_next (cpp_view symbol.now) frame.now parts.new.items)) }
-        ensures few { AddsBefore (cpp_view symbol.now) self.old self.new frame.now parts.old.items (drop frame.now.base parts.new.items ++ variants.Nothing ∷ []) result }
-        ensures makes { OnOk result (length self.new.nodes.nodes ≡ length self.old.nodes.nodes + makes_before (production_at frame.now.rule) (values_in symbol.now self.old.nodes (drop frame.now.base parts.old.items))) }
-        ensures pays { OnOk result ((at : ℕ) → Pays (cpp_view symbol.now) self.old self.new at at) }
-        ensures count { OnOk result (length parts.new.items ≡ length parts.old.items) }
-        ensures roomy { IsRoomy self.old self.new parts.old parts.new result }
+        ensures { Advances (cpp_view symbol.now) symbol.now self.old self.new frame.now parts.old parts.new result }
     {
         self.before_as(symbol, production, frame, parts)
     }
@@ -275,13 +265,7 @@ impl Linked {
         requires room { HasRoom (cpp_view symbol.now) symbol.now self.old (owed_behind (cpp_view symbol.now) frame.now parts.old.items) }
         requires open { IsOpenAt (cpp_view symbol.now) symbol.now self.old frame.now parts.old.items }
         requires base { frame.now.base ≤ length parts.old.items }
-        ensures goes { GoesOn (cpp_view symbol.now) symbol.now (Surrounds symbol.now) self.old self.new frame.now parts.old.items parts.new.items result }
-        ensures adds { OnOk result (Adds (cpp_view symbol.now) self.old self.new (owed_behind (cpp_view symbol.now) frame.now parts.old.items) (owed_next (cpp_view symbol.now) frame.now parts.new.items)) }
-        ensures few { AddsBefore (cpp_view symbol.now) self.old self.new frame.now parts.old.items (drop frame.now.base parts.new.items ++ variants.Nothing ∷ []) result }
-        ensures makes { OnOk result (length self.new.nodes.nodes ≡ length self.old.nodes.nodes + makes_before (production_at frame.now.rule) (values_in symbol.now self.old.nodes (drop frame.now.base parts.old.items))) }
-        ensures pays { OnOk result ((at : ℕ) → Pays (cpp_view symbol.now) self.old self.new at at) }
-        ensures count { OnOk result (length parts.new.items ≡ length parts.old.items) }
-        ensures roomy { IsRoomy self.old self.new parts.old parts.new result }
+        ensures { Advances (cpp_view symbol.now) symbol.now self.old self.new frame.now parts.old parts.new result }
     {
         let production = production_of(frame.rule);
         match production {

@@ -15,6 +15,7 @@ ghost use Rattle.cpp_term.specs.Unfolding as unfolding_;
 ghost use Rattle.cpp_tree.specs.Nodes.{bytes_at, IsWithin};
 ghost use Rattle.cpp_grammar.specs.declared.production.Production.TheVariants as productions;
 ghost use Rattle.cpp_grammar.specs.Unfolding.{production_at};
+ghost use Rattle.cpp_link.specs.Progress.{Finishes};
 ghost use Rattle.cpp_link.specs.Grows.{HasPlace};
 ghost use Rattle.cpp_link.specs.LinkReading.{link_meaning, link_close};
 ghost use Rattle.cpp_link.specs.Room.{KeepsRoom, LacksRoom, IsRoomy};
@@ -127,45 +128,6 @@ impl Linked {
         Ok(made)
     }
 
-    /// A rule closes, of a production that is common and no substitution.
-    ///
-    /// # Errors
-    ///
-    /// `Memory` where a list couldn't grow.
-    #[inline(always)]
-    fn make(
-        &mut self,
-        symbol: &[u8],
-        production: Production,
-        place: u32,
-        kept: Surroundings,
-        parts: &[Part],
-    ) -> Result<Part, Refusal>
-        requires common { IsCommon production }
-        requires fits { FitsSymbol symbol.now }
-        requires place { place < length symbol.now }
-        requires room { HasPlace symbol.now self.old.nodes 2 }
-        requires paid { IsPaid self.old }
-        requires whole { IsWhole symbol.now self.old }
-        requires there { AreThere symbol.now (length self.old.nodes.nodes) parts.now }
-        requires kept { IsKeptThere (length self.old.nodes.nodes) kept }
-        ensures value { IfOk result (λ made. value_in symbol.now self.new.nodes made ≡ link_meaning symbol.now production (slice_index symbol.now place) place (around_of (trees_in symbol.now self.old.nodes) kept) (values_in symbol.now self.old.nodes parts.now)) }
-        ensures state { OnOk result ((began : State) → began.packs ≡ packs_of kept
-            → unfolding_.behind production (slice_index symbol.now place) (around_of (trees_in symbol.now self.old.nodes) kept) began (values_in symbol.now self.old.nodes parts.now) (state_of symbol.now self.old) ≡ state_of symbol.now self.new) }
-        ensures there { IfOk result (λ made. IsThere symbol.now (length self.new.nodes.nodes) made) }
-        ensures grows { OnOk result (GoesOn symbol.now self.old self.new) }
-        ensures few { length self.new.nodes.nodes ≤ length self.old.nodes.nodes + ends_of production parts.now }
-        ensures makes { OnOk result (length self.new.nodes.nodes ≡ length self.old.nodes.nodes + makes_at_end production (values_in symbol.now self.old.nodes parts.now)) }
-        ensures paid { OnOk result (IsPaid self.new) }
-        ensures whole { OnOk result (IsWhole symbol.now self.new) }
-        ensures memory { IfErr result (λ e. e ≡ refusals.Memory) }
-        ensures keeps { KeepsRoom self.old self.new }
-        ensures full { OnErr result (LacksRoom self.old self.new) }
-    {
-        let outcome = self.outcome(symbol, production, place, kept, parts);
-        self.add_node_and_candidate(symbol, production, place, kept, parts, outcome)
-    }
-
     /// What a common production that begins at a place closes to, with these parts.
     ///
     /// # Errors
@@ -203,7 +165,10 @@ impl Linked {
     {
         match production {
             Production::Substitution => self.substitute(symbol, place, kept, parts),
-            _ => self.make(symbol, production, place, kept, parts),
+            _ => {
+                let outcome = self.outcome(symbol, production, place, kept, parts);
+                self.add_node_and_candidate(symbol, production, place, kept, parts, outcome)
+            }
         }
     }
 
@@ -246,50 +211,12 @@ impl Linked {
         self.add_node_and_candidate(symbol, production, place, kept, parts, outcome)
     }
 
-    /// What a rare production that begins at a place closes to, with these parts, where the ABI's grammar has it.
-    ///
-    /// # Errors
-    ///
-    /// `Memory` where a list couldn't grow.
-    #[inline(always)]
-    pub(crate) fn close_rare(
-        &mut self,
-        symbol: &[u8],
-        production: Production,
-        place: u32,
-        kept: Surroundings,
-        parts: &[Part],
-    ) -> Result<Part, Refusal>
-        requires rare { IsRare production }
-        requires read { production ≡ productions.Inheriting → ⊥ }
-        requires fits { FitsSymbol symbol.now }
-        requires place { place < length symbol.now }
-        requires room { HasPlace symbol.now self.old.nodes 2 }
-        requires paid { IsPaid self.old }
-        requires whole { IsWhole symbol.now self.old }
-        requires there { AreThere symbol.now (length self.old.nodes.nodes) parts.now }
-        requires kept { IsKeptThere (length self.old.nodes.nodes) kept }
-        ensures is { IfOk result (λ made. (began : State) → began.packs ≡ packs_of kept
-            → link_close symbol.now production (slice_index symbol.now place) (around_of (trees_in symbol.now self.old.nodes) kept) place began (values_in symbol.now self.old.nodes parts.now) (state_of symbol.now self.old) ≡ Ok (found (value_in symbol.now self.new.nodes made) (state_of symbol.now self.new))) }
-        ensures refused { IfErr result (λ e. (began : State)
-            → Fails e (link_close symbol.now production (slice_index symbol.now place) (around_of (trees_in symbol.now self.old.nodes) kept) place began (values_in symbol.now self.old.nodes parts.now) (state_of symbol.now self.old))) }
-        ensures there { IfOk result (λ made. IsThere symbol.now (length self.new.nodes.nodes) made) }
-        ensures grows { OnOk result (GoesOn symbol.now self.old self.new) }
-        ensures few { length self.new.nodes.nodes ≤ length self.old.nodes.nodes + ends_of production parts.now }
-        ensures makes { OnOk result (length self.new.nodes.nodes ≡ length self.old.nodes.nodes + makes_at_end production (values_in symbol.now self.old.nodes parts.now)) }
-        ensures paid { OnOk result (IsPaid self.new) }
-        ensures whole { OnOk result (IsWhole symbol.now self.new) }
-        ensures keeps { KeepsRoom self.old self.new }
-        ensures full { IfErr result (λ e. e ≡ refusals.Memory → LacksRoom self.old self.new) }
-    {
-        self.make_rare(symbol, production, place, kept, parts)
-    }
-
     /// The frame's rule closes, of this production, over all its parts: what it means takes their place.
     ///
     /// # Errors
     ///
     /// `BadReference` at a substitution that names no candidate that it may name, `Memory` where a list couldn't grow.
+    #[tactic(auto, using(crate::proofs::Viewing::own_there, crate::proofs::Viewing::open_whole, crate::proofs::Viewing::open_kept))]
     #[inline(always)]
     fn finish_as(
         &mut self,
@@ -304,12 +231,7 @@ impl Linked {
         requires open { IsOpenAt (cpp_view symbol.now) symbol.now self.old frame.now parts.old.items }
         requires base { frame.now.base ≤ length parts.old.items }
         requires place { frame.now.place < length symbol.now }
-        ensures closes { ClosesAll (cpp_view symbol.now) symbol.now self.old self.new frame.now parts.old.items parts.new.items result }
-        ensures adds { OnOk result (Adds (cpp_view symbol.now) self.old self.new (owed_behind (cpp_view symbol.now) frame.now parts.old.items) 0) }
-        ensures few { AddsFew (cpp_view symbol.now) self.old self.new frame.now parts.old.items }
-        ensures makes { OnOk result (length self.new.nodes.nodes ≡ length self.old.nodes.nodes + makes_at_end (production_at frame.now.rule) (values_in symbol.now self.old.nodes (drop frame.now.base parts.old.items))) }
-        ensures pays { OnOk result ((at : ℕ) → Pays (cpp_view symbol.now) self.old self.new at at) }
-        ensures roomy { IsRoomy self.old self.new parts.old parts.new result }
+        ensures { Finishes (cpp_view symbol.now) makes_at_end symbol.now self.old self.new frame.now parts.old parts.new result }
     {
         let made = self.close_production(
             symbol,
@@ -318,8 +240,7 @@ impl Linked {
             frame.kept,
             &parts[frame.base..],
         )?;
-        put(parts, frame.base, made)?;
-        Ok(())
+        put(parts, frame.base, made)
     }
 
     /// The same for rare productions: one body serves all of them, and zeroes the room for the nodes of each on
@@ -328,6 +249,7 @@ impl Linked {
     /// # Errors
     ///
     /// `Memory` where a list couldn't grow.
+    #[tactic(auto, using(crate::proofs::Viewing::own_there, crate::proofs::Viewing::open_whole, crate::proofs::Viewing::open_kept))]
     #[inline(never)]
     fn finish_rare(
         &mut self,
@@ -343,22 +265,16 @@ impl Linked {
         requires open { IsOpenAt (cpp_view symbol.now) symbol.now self.old frame.now parts.old.items }
         requires base { frame.now.base ≤ length parts.old.items }
         requires place { frame.now.place < length symbol.now }
-        ensures closes { ClosesAll (cpp_view symbol.now) symbol.now self.old self.new frame.now parts.old.items parts.new.items result }
-        ensures adds { OnOk result (Adds (cpp_view symbol.now) self.old self.new (owed_behind (cpp_view symbol.now) frame.now parts.old.items) 0) }
-        ensures few { AddsFew (cpp_view symbol.now) self.old self.new frame.now parts.old.items }
-        ensures makes { OnOk result (length self.new.nodes.nodes ≡ length self.old.nodes.nodes + makes_at_end (production_at frame.now.rule) (values_in symbol.now self.old.nodes (drop frame.now.base parts.old.items))) }
-        ensures pays { OnOk result ((at : ℕ) → Pays (cpp_view symbol.now) self.old self.new at at) }
-        ensures roomy { IsRoomy self.old self.new parts.old parts.new result }
+        ensures { Finishes (cpp_view symbol.now) makes_at_end symbol.now self.old self.new frame.now parts.old parts.new result }
     {
-        let made = self.close_rare(
+        let made = self.make_rare(
             symbol,
             production,
             frame.place,
             frame.kept,
             &parts[frame.base..],
         )?;
-        put(parts, frame.base, made)?;
-        Ok(())
+        put(parts, frame.base, made)
     }
 
     /// The frame's rule closes over all its parts: what it means takes their place. The productions that are common

@@ -261,6 +261,7 @@ impl Linked {
     /// # Errors
     ///
     /// `Memory` where a list couldn't grow.
+    #[tactic(auto, using(crate::proofs::Viewing::own_there, crate::proofs::Viewing::open_whole, crate::proofs::Viewing::open_kept))]
     pub fn finish_inheriting(
         &mut self,
         symbol: &[u8],
@@ -280,8 +281,7 @@ impl Linked {
         ensures roomy { IsRoomy self.old self.new parts.old parts.new result }
     {
         let made = self.close_inheriting(symbol, frame.place, frame.kept, &parts[frame.base..])?;
-        put(parts, frame.base, made)?;
-        Ok(())
+        put(parts, frame.base, made)
     }
 
     /// What is done before what a name with its `M` holds, and what surrounds that: the name becomes a candidate again with its `M`.

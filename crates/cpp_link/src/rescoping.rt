@@ -269,6 +269,7 @@ impl Linked {
     /// # Errors
     ///
     /// Those of `substitute_counted`, and `Memory` where the list of parts couldn't grow.
+    #[tactic(auto, using(crate::proofs::Viewing::own_there))]
     pub fn finish_substitution(
         &mut self,
         symbol: &[u8],
@@ -287,8 +288,7 @@ impl Linked {
         ensures roomy { IsRoomy self.old self.new parts.old parts.new result }
     {
         let made = self.substitute_counted(symbol, frame.place, frame.kept, &parts[frame.base..])?;
-        put(parts, frame.base, made)?;
-        Ok(())
+        put(parts, frame.base, made)
     }
 
     /// The piece itself, but for a lambda in whose signature parameters are free: that has parameters of its own (ABI 5.1.8).
@@ -330,6 +330,7 @@ impl Linked {
     /// # Errors
     ///
     /// `Memory` where a list couldn't grow.
+    #[tactic(auto, using(crate::proofs::Viewing::own_there, crate::proofs::Viewing::open_whole, crate::proofs::Viewing::open_kept))]
     pub fn finish_lambda(
         &mut self,
         symbol: &[u8],
@@ -348,14 +349,13 @@ impl Linked {
         ensures pays { OnOk result ((at : ℕ) → Pays (cpp_view symbol.now) self.old self.new at at) }
         ensures roomy { IsRoomy self.old self.new parts.old parts.new result }
     {
-        let made = self.close_rare(
+        let made = self.make_rare(
             symbol,
             Production::Lambda,
             frame.place,
             frame.kept,
             &parts[frame.base..],
         )?;
-        put(parts, frame.base, self.as_generic_lambda(symbol, made))?;
-        Ok(())
+        put(parts, frame.base, self.as_generic_lambda(symbol, made))
     }
 }

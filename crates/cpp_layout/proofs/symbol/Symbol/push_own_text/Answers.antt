@@ -1,8 +1,9 @@
 use Rattle.std.proofs.Common.{ap, arith, ◌≡◌}
 use Rattle.std.proofs.lemmas.Bool.{ne_eqb}
 use Rattle.cpp_layout.proofs.Coding.{some_text}
-use Rattle.cpp_layout.proofs.Growing.{part-text}
-use Rattle.cpp_layout.proofs.Operating.{one-part, as-none}
+use Rattle.cpp_layout.proofs.Functions.{part-none}
+use Rattle.cpp_layout.proofs.Growing.{fills, part-text}
+use Rattle.cpp_layout.proofs.Operating.{one-part}
 use Rattle.cpp_layout.specs.Texts.{fixed_text}
 use Rattle.cpp_layout.specs.declared.texts.TheConstants.{NONE}
 use Rattle.cpp_layout.proofs.symbol.Symbol.push_own_text.Goals as goal
@@ -20,4 +21,4 @@ pub returns-then-number-ne-NONE-clause-room : goal.returns-then-number-ne-NONE-c
 returns-then-number-ne-NONE-clause-room g c = omega (arith, c.push_text.ensures.room, one-part (fixed_text c.args.number) (some_text c.args.number c.requires.few (ne_eqb c.args.number NONE (omega (arith, c.if-number-ne-NONE.true)))))
 
 pub returns-else-number-ne-NONE-clause-shows : goal.returns-else-number-ne-NONE-clause-shows
-returns-else-number-ne-NONE-clause-shows g c d below others shows = as-none c.args.self.now d below _ (fixed_text c.args.number) others (ap fixed_text (let e : c.args.number ≡ NONE = omega (arith, c.if-number-ne-NONE.false) in e)) shows
+returns-else-number-ne-NONE-clause-shows g c d below others shows = fills c.args.self.now d _ _ _ shows (part-none (fixed_text c.args.number) others (ap fixed_text (let e : c.args.number ≡ NONE = omega (arith, c.if-number-ne-NONE.false) in e)))

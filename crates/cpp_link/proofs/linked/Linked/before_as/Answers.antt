@@ -1,118 +1,67 @@
-use Rattle.std.proofs.Common.{◌≡◌, refl, sym, ◌∙◌, inl, ap, subst, arith, ◌-◌, List, [], ◌∷◌, length, take, drop}
-use Rattle.std.proofs.lemmas.Result.{err_from_is_err_and}
+use Rattle.std.proofs.Common.{◌≡◌, refl, ◌∙◌, ap, arith, ◌-◌, List, length, take, drop}
 use Rattle.sym_link.proofs.Lists.{rest_all}
-use Rattle.cpp_grammar.specs.declared.production.Production.{Production}
 use Rattle.cpp_grammar.specs.Unfolding.{production_at}
 use Rattle.cpp_link.specs.declared.part.Part.{Part}
-use Rattle.cpp_link.specs.Stepping.{IsStepOf, nodes_of_step}
+use Rattle.cpp_link.specs.Stepping.{nodes_of_step}
+use Rattle.cpp_link.specs.View.{cpp_view}
 use Rattle.cpp_link.proofs.NodeCount.{made_before_part}
-use Rattle.cpp_link.proofs.GoingOn.{goes_right, refused_right, adds_right, steps_few, refused_few}
-use Rattle.cpp_link.proofs.Rooms.{same_room, roomy_ok, roomy_refused}
+use Rattle.cpp_link.proofs.GoingOn.{goes_right, refused_right, refused_few, step_of_rule, refused_advances, lacking_advances, taken_advances}
+use Rattle.cpp_link.proofs.Rooms.{same_room}
 use Rattle.cpp_link.proofs.Viewing.{open_there, kept_closed}
 use Rattle.cpp_link.proofs.linked.Linked.before_as.Goals as goal
 
 pub step-requires-clause-table : goal.step-requires-clause-table
 step-requires-clause-table c = c.requires.open.at.holds.table
 
-pub step-requires-clause-kept : goal.step-requires-clause-kept
-step-requires-clause-kept c = c.requires.open.at.kept.surrounds.there
-
 pub step-requires-clause-closed : goal.step-requires-clause-closed
 step-requires-clause-closed c = kept_closed c.args.symbol.now c.args.self.now c.args.frame.now.kept _ c.requires.open.at.kept.surrounds
 
-pub step-requires-clause-there : goal.step-requires-clause-there
-step-requires-clause-there c =
-    let own : List Part = take (length c.deref.result.now - c.args.frame.now.base) (drop c.args.frame.now.base c.deref.result.now) in
-    let same : own ≡ drop c.args.frame.now.base c.args.parts.now.items = rest_all c.deref.result.now c.args.frame.now.base ∙ ap (λ ps. drop c.args.frame.now.base ps) c.deref.ensures.value in
-    open_there c.args.symbol.now c.args.self.now c.args.frame.now c.args.parts.now.items own c.requires.open same
-
-pub returns-in_err-step-clause-goes : goal.returns-in_err-step-clause-goes
-returns-in_err-step-clause-goes c rule known state is =
-    let p = err_from_is_err_and c.from_residual.result c.from_residual.ensures.1 in
-    let own : List Part = take (length c.deref.result.now - c.args.frame.now.base) (drop c.args.frame.now.base c.deref.result.now) in
-    let same : own ≡ drop c.args.frame.now.base c.args.parts.now.items = rest_all c.deref.result.now c.args.frame.now.base ∙ ap (λ ps. drop c.args.frame.now.base ps) c.deref.ensures.value in
-    rw (p.1, p.2)
-    (refused_right c.args.symbol.now c.args.self.now c.args.self.now c.args.frame.now c.args.parts.now.items c.args.parts.now.items own c.args.production c.in_err-step.field-0.0
-    same c.requires.numbered c.in_err-step.ensures.refused rule known state is)
+pub returns-in_err-step : goal.returns-in_err-step
+returns-in_err-step c =
+    let s = c.args.symbol.now in
+    let old = c.args.self.now in
+    let frame = c.args.frame.now in
+    let parts = c.args.parts.now.items in
+    let e = c.in_err-step.field-0.0 in
+    refused_advances (cpp_view s) s old old frame c.args.parts.now c.args.parts.now (same_room old old refl refl) (omega arith) c.from_residual.result e c.from_residual.ensures.1
+    (refused_right s old old frame parts parts _ c.args.production e (rw c.deref.ensures.value (rest_all parts frame.base)) c.requires.numbered c.in_err-step.ensures.refused)
+    (omega arith) (λ memory. absurd (c.in_err-step.ensures.bad memory))
 
 pub take_step-requires-clause-there : goal.take_step-requires-clause-there
 take_step-requires-clause-there c = c.requires.open.at.holds.there
 
-pub take_step-requires-clause-kept : goal.take_step-requires-clause-kept
-take_step-requires-clause-kept c = c.requires.open.at.kept.surrounds.there
-
 pub take_step-requires-clause-of : goal.take_step-requires-clause-of
 take_step-requires-clause-of c =
-    let own : List Part = take (length c.deref.result.now - c.args.frame.now.base) (drop c.args.frame.now.base c.deref.result.now) in
-    let same : own ≡ drop c.args.frame.now.base c.args.parts.now.items = rest_all c.deref.result.now c.args.frame.now.base ∙ ap (λ ps. drop c.args.frame.now.base ps) c.deref.ensures.value in
-    (c.args.production, subst (λ ps. IsStepOf c.args.production (length ps) c.in_ok-step.step) same c.in_ok-step.ensures.of)
+    (production_at c.args.frame.now.rule, step_of_rule c.args.frame.now c.args.parts.now.items c.deref.result.now c.args.production c.in_ok-step.step c.deref.ensures.value c.requires.numbered c.in_ok-step.ensures.of)
 
 pub take_step-requires-clause-parts : goal.take_step-requires-clause-parts
 take_step-requires-clause-parts c = open_there c.args.symbol.now c.args.self.now c.args.frame.now c.args.parts.now.items (drop c.args.frame.now.base c.args.parts.now.items) c.requires.open refl
 
-pub returns-clause-goes : goal.returns-clause-goes
-returns-clause-goes c rule known state is =
-    let own : List Part = take (length c.deref.result.now - c.args.frame.now.base) (drop c.args.frame.now.base c.deref.result.now) in
-    let same : own ≡ drop c.args.frame.now.base c.args.parts.now.items = rest_all c.deref.result.now c.args.frame.now.base ∙ ap (λ ps. drop c.args.frame.now.base ps) c.deref.ensures.value in
-    goes_right c.args.symbol.now c.args.self.now c.take_step.new.self c.args.frame.now c.args.parts.now.items c.take_step.new.parts.items own c.args.production c.in_ok-step.step c.in_ok-then.then
-    same c.requires.numbered c.in_ok-step.ensures.is c.in_ok-then.ensures.takes rule known state is
+pub returns-in_err-then : goal.returns-in_err-then
+returns-in_err-then c =
+    let s = c.args.symbol.now in
+    let old = c.args.self.now in
+    let new = c.take_step.new.self in
+    let frame = c.args.frame.now in
+    let parts = c.args.parts.now.items in
+    let of = step_of_rule frame parts c.deref.result.now c.args.production c.in_ok-step.step c.deref.ensures.value c.requires.numbered c.in_ok-step.ensures.of in
+    lacking_advances (cpp_view s) s old new frame c.args.parts.now c.take_step.new.parts c.take_step.ensures.keeps c.take_step.ensures.capacity c.from_residual-in_err-then.result _ c.from_residual-in_err-then.ensures.1
+    c.in_err-then.ensures.memory
+    (refused_few s old new frame parts c.requires.room.paid (c.in_err-then.ensures.few (production_at frame.rule) of
+    (λ is none. c.in_ok-step.ensures.pack (c.requires.numbered ∙ is) (rest_all c.deref.result.now frame.base ∙ ap (λ ps. drop frame.base ps) c.deref.ensures.value ∙ none))))
+    c.in_err-then.ensures.full
 
-pub returns-clause-adds : goal.returns-clause-adds
-returns-clause-adds c =
-    let own : List Part = take (length c.deref.result.now - c.args.frame.now.base) (drop c.args.frame.now.base c.deref.result.now) in
-    let same : own ≡ drop c.args.frame.now.base c.args.parts.now.items = rest_all c.deref.result.now c.args.frame.now.base ∙ ap (λ ps. drop c.args.frame.now.base ps) c.deref.ensures.value in
-    adds_right c.args.symbol.now c.args.self.now c.take_step.new.self c.args.frame.now c.args.parts.now.items c.take_step.new.parts.items own c.args.production c.in_ok-step.step c.in_ok-then.then
-    same c.requires.numbered c.requires.room.paid c.in_ok-step.ensures.of c.in_ok-then.ensures.takes
-
-pub returns-in_err-step-clause-few : goal.returns-in_err-step-clause-few
-returns-in_err-step-clause-few c =
-    let p = err_from_is_err_and c.from_residual.result c.from_residual.ensures.1 in
-    rw p.1 (omega arith)
-
-pub returns-in_err-then-clause-few : goal.returns-in_err-then-clause-few
-returns-in_err-then-clause-few c =
-    let p = err_from_is_err_and c.from_residual-in_err-then.result c.from_residual-in_err-then.ensures.1 in
-    let own : List Part = take (length c.deref.result.now - c.args.frame.now.base) (drop c.args.frame.now.base c.deref.result.now) in
-    let same : own ≡ drop c.args.frame.now.base c.args.parts.now.items = rest_all c.deref.result.now c.args.frame.now.base ∙ ap (λ ps. drop c.args.frame.now.base ps) c.deref.ensures.value in
-    let numbered = c.requires.numbered in
-    let of : IsStepOf (production_at c.args.frame.now.rule) (length (drop c.args.frame.now.base c.args.parts.now.items)) c.in_ok-step.step =
-    subst (λ p. IsStepOf p (length (drop c.args.frame.now.base c.args.parts.now.items)) c.in_ok-step.step) numbered (subst (λ ps. IsStepOf c.args.production (length ps) c.in_ok-step.step) same c.in_ok-step.ensures.of) in
-    let pack : production_at c.args.frame.now.rule ≡ Production.PackArgument → drop c.args.frame.now.base c.args.parts.now.items ≡ Part.Nothing ∷ [] → nodes_of_step c.in_ok-step.step ≡ 0 =
-    λ is none. c.in_ok-step.ensures.pack (numbered ∙ is) (same ∙ none) in
-    rw p.1 (refused_few c.args.symbol.now c.args.self.now c.take_step.new.self c.args.frame.now c.args.parts.now.items c.requires.room.paid (c.in_err-then.ensures.few (production_at c.args.frame.now.rule) of pack))
-
-pub returns-clause-few : goal.returns-clause-few
-returns-clause-few c =
-    let own : List Part = take (length c.deref.result.now - c.args.frame.now.base) (drop c.args.frame.now.base c.deref.result.now) in
-    let same : own ≡ drop c.args.frame.now.base c.args.parts.now.items = rest_all c.deref.result.now c.args.frame.now.base ∙ ap (λ ps. drop c.args.frame.now.base ps) c.deref.ensures.value in
-    let numbered = c.requires.numbered in
-    let of : IsStepOf (production_at c.args.frame.now.rule) (length (drop c.args.frame.now.base c.args.parts.now.items)) c.in_ok-step.step =
-    subst (λ p. IsStepOf p (length (drop c.args.frame.now.base c.args.parts.now.items)) c.in_ok-step.step) numbered (subst (λ ps. IsStepOf c.args.production (length ps) c.in_ok-step.step) same c.in_ok-step.ensures.of) in
-    let pack : production_at c.args.frame.now.rule ≡ Production.PackArgument → drop c.args.frame.now.base c.args.parts.now.items ≡ Part.Nothing ∷ [] → nodes_of_step c.in_ok-step.step ≡ 0 =
-    λ is none. c.in_ok-step.ensures.pack (numbered ∙ is) (same ∙ none) in
-    steps_few c.args.symbol.now c.args.self.now c.take_step.new.self c.args.frame.now c.args.parts.now.items c.take_step.new.parts.items c.in_ok-then.then c.requires.room.paid
-    c.in_ok-then.ensures.takes.grows.least (c.in_ok-then.ensures.few (production_at c.args.frame.now.rule) of pack)
-
-pub returns-clause-makes : goal.returns-clause-makes
-returns-clause-makes c =
-    let own : List Part = take (length c.deref.result.now - c.args.frame.now.base) (drop c.args.frame.now.base c.deref.result.now) in
-    let same : own ≡ drop c.args.frame.now.base c.args.parts.now.items = rest_all c.deref.result.now c.args.frame.now.base ∙ ap (λ ps. drop c.args.frame.now.base ps) c.deref.ensures.value in
-    omega (
-      arith,
-      c.in_ok-then.ensures.more,
-      made_before_part c.args.symbol.now c.args.self.now c.args.frame.now c.args.parts.now.items own c.args.production (nodes_of_step c.in_ok-step.step)
-          same c.requires.numbered c.in_ok-step.ensures.makes,
-    )
-
-pub returns-in_err-step-clause-roomy : goal.returns-in_err-step-clause-roomy
-returns-in_err-step-clause-roomy c =
-    let p = err_from_is_err_and c.from_residual.result c.from_residual.ensures.1 in
-    roomy_refused _ _ _ _ _ p.0 p.1 (same_room c.args.self.now c.args.self.now refl refl) (omega arith) (λ memory. absurd (c.in_err-step.ensures.bad (sym p.2 ∙ memory)))
-
-pub returns-in_err-then-clause-roomy : goal.returns-in_err-then-clause-roomy
-returns-in_err-then-clause-roomy c =
-    let p = err_from_is_err_and c.from_residual-in_err-then.result c.from_residual-in_err-then.ensures.1 in
-    roomy_refused _ _ _ _ _ p.0 p.1 c.take_step.ensures.keeps c.take_step.ensures.capacity (λ memory. inl c.in_err-then.ensures.full)
-
-pub returns-clause-roomy : goal.returns-clause-roomy
-returns-clause-roomy c = roomy_ok _ _ _ _ _ _ refl c.take_step.ensures.keeps c.take_step.ensures.capacity
+pub returns : goal.returns
+returns c =
+    let s = c.args.symbol.now in
+    let old = c.args.self.now in
+    let new = c.take_step.new.self in
+    let frame = c.args.frame.now in
+    let parts = c.args.parts.now.items in
+    let own : List Part = take (length c.deref.result.now - frame.base) (drop frame.base c.deref.result.now) in
+    let same : own ≡ drop frame.base parts = rest_all c.deref.result.now frame.base ∙ ap (λ ps. drop frame.base ps) c.deref.ensures.value in
+    let of = step_of_rule frame parts c.deref.result.now c.args.production c.in_ok-step.step c.deref.ensures.value c.requires.numbered c.in_ok-step.ensures.of in
+    taken_advances (cpp_view s) s old new frame c.args.parts.now c.take_step.new.parts c.take_step.ensures.keeps c.take_step.ensures.capacity c.in_ok-step.step c.in_ok-then.then of c.requires.room.paid c.in_ok-then.ensures.takes
+    (c.in_ok-then.ensures.few (production_at frame.rule) of (λ is none. c.in_ok-step.ensures.pack (c.requires.numbered ∙ is) (same ∙ none))) c.in_ok-then.ensures.more
+    (made_before_part s old frame parts own c.args.production (nodes_of_step c.in_ok-step.step) same c.requires.numbered c.in_ok-step.ensures.makes)
+    (goes_right s old new frame parts c.take_step.new.parts.items own c.args.production c.in_ok-step.step c.in_ok-then.then same c.requires.numbered c.in_ok-step.ensures.is c.in_ok-then.ensures.takes)

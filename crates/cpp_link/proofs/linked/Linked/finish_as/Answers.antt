@@ -1,71 +1,33 @@
-use Rattle.std.proofs.Common.{refl, sym, ◌∙◌, inl, inr, arith, drop, take}
-use Rattle.std.proofs.lemmas.Result.{err_from_is_err_and}
+use Rattle.std.proofs.Common.{inl, arith, drop, take}
 use Rattle.sym_link.proofs.Lists.{rest_all}
-use Rattle.cpp_link.proofs.NodeCount.{made_where_closed}
-use Rattle.cpp_link.proofs.Finishing.{put_right, refused_right, ends_few, few_adds}
-use Rattle.cpp_link.proofs.Rooms.{roomy_ok, roomy_refused}
-use Rattle.cpp_link.proofs.Viewing.{open_there}
+use Rattle.cpp_link.specs.NodeCount.{makes_at_end}
+use Rattle.cpp_link.specs.View.{cpp_view}
+use Rattle.cpp_link.proofs.Finishing.{put_right, refused_right, refused_finishes, put_finishes}
 use Rattle.cpp_link.proofs.linked.Linked.finish_as.Goals as goal
 
-pub close_production-requires-clause-there : goal.close_production-requires-clause-there
-close_production-requires-clause-there c =
-    open_there c.args.symbol.now c.args.self.now c.args.frame.now c.args.parts.now.items _ c.requires.open (rw c.deref.ensures.value (rest_all c.args.parts.now.items c.args.frame.now.base))
+pub returns-in_err-made : goal.returns-in_err-made
+returns-in_err-made c =
+    let s = c.args.symbol.now in
+    let old = c.args.self.now in
+    let new = c.close_production.new.self in
+    let frame = c.args.frame.now in
+    let parts = c.args.parts.now.items in
+    let e = c.in_err-made.field-0.0 in
+    refused_finishes (cpp_view s) makes_at_end s old new frame c.args.parts.now c.args.parts.now c.deref.result.now c.args.production
+    c.deref.ensures.value c.requires.numbered c.requires.room.paid.begun c.in_err-made.ensures.few c.close_production.ensures.keeps (omega arith) c.from_residual.result e c.from_residual.ensures.1
+    (λ rule known state is. refused_right s old frame (drop frame.base parts) _ c.args.production e rule known state is c.requires.numbered (rw c.deref.ensures.value (rest_all c.args.parts.now.items c.args.frame.now.base)) c.in_err-made.ensures.refused)
+    (λ memory. inl (c.in_err-made.ensures.full memory))
 
-pub close_production-requires-clause-whole : goal.close_production-requires-clause-whole
-close_production-requires-clause-whole c = record { table = c.requires.open.at.holds.table; there = c.requires.open.at.holds.there }
-
-pub close_production-requires-clause-kept : goal.close_production-requires-clause-kept
-close_production-requires-clause-kept c = c.requires.open.at.kept.surrounds.there
-
-pub returns-in_err-made-clause-closes : goal.returns-in_err-made-clause-closes
-returns-in_err-made-clause-closes c rule known state is =
-    let p = err_from_is_err_and c.from_residual.result c.from_residual.ensures.1 in
-    rw (p.1, p.2) (refused_right c.args.symbol.now c.args.self.now c.args.frame.now (drop c.args.frame.now.base c.args.parts.now.items) _ c.args.production c.in_err-made.field-0.0 rule known state is
-    c.requires.numbered (rw c.deref.ensures.value (rest_all c.args.parts.now.items c.args.frame.now.base)) c.in_err-made.ensures.refused)
-
-pub returns-clause-closes : goal.returns-clause-closes
-returns-clause-closes c rule known state is =
-    put_right c.args.symbol.now c.args.self.now c.close_production.new.self c.args.frame.now (drop c.args.frame.now.base c.args.parts.now.items) _ (take c.args.frame.now.base c.args.parts.now.items) c.put.new.parts.items
-    c.args.production c.in_ok-made.made c.in_ok-put.field-0 rule known state is
-    c.requires.numbered (rw c.deref.ensures.value (rest_all c.args.parts.now.items c.args.frame.now.base)) c.in_ok-made.ensures.is c.in_ok-made.ensures.there c.in_ok-made.ensures.whole c.in_ok-put.ensures.items
-
-pub returns-in_err-made-clause-few : goal.returns-in_err-made-clause-few
-returns-in_err-made-clause-few c =
-    ends_few c.args.symbol.now c.args.self.now c.close_production.new.self c.args.frame.now c.args.parts.now.items _ c.args.production
-    c.requires.numbered (rw c.deref.ensures.value (rest_all c.args.parts.now.items c.args.frame.now.base)) c.requires.room.paid.begun c.in_err-made.ensures.few
-
-pub returns-in_err-put-clause-few : goal.returns-in_err-put-clause-few
-returns-in_err-put-clause-few c =
-    ends_few c.args.symbol.now c.args.self.now c.close_production.new.self c.args.frame.now c.args.parts.now.items _ c.args.production
-    c.requires.numbered (rw c.deref.ensures.value (rest_all c.args.parts.now.items c.args.frame.now.base)) c.requires.room.paid.begun c.in_ok-made.ensures.few
-
-pub returns-clause-few : goal.returns-clause-few
-returns-clause-few c =
-    ends_few c.args.symbol.now c.args.self.now c.close_production.new.self c.args.frame.now c.args.parts.now.items _ c.args.production
-    c.requires.numbered (rw c.deref.ensures.value (rest_all c.args.parts.now.items c.args.frame.now.base)) c.requires.room.paid.begun c.in_ok-made.ensures.few
-
-pub returns-clause-adds : goal.returns-clause-adds
-returns-clause-adds c = (
-  c.in_ok-made.ensures.grows,
-  few_adds c.args.symbol.now c.args.self.now c.close_production.new.self c.args.frame.now c.args.parts.now.items
-      (ends_few c.args.symbol.now c.args.self.now c.close_production.new.self c.args.frame.now c.args.parts.now.items _ c.args.production
-      c.requires.numbered (rw c.deref.ensures.value (rest_all c.args.parts.now.items c.args.frame.now.base)) c.requires.room.paid.begun c.in_ok-made.ensures.few),
-)
-
-pub returns-clause-makes : goal.returns-clause-makes
-returns-clause-makes c =
-    made_where_closed c.args.symbol.now c.args.self.now c.close_production.new.self c.args.frame.now c.args.parts.now.items _ c.args.production
-    (rw c.deref.ensures.value (rest_all c.args.parts.now.items c.args.frame.now.base)) c.requires.numbered c.in_ok-made.ensures.makes
-
-pub returns-in_err-made-clause-roomy : goal.returns-in_err-made-clause-roomy
-returns-in_err-made-clause-roomy c =
-    let p = err_from_is_err_and c.from_residual.result c.from_residual.ensures.1 in
-    roomy_refused _ _ _ _ _ p.0 p.1 c.close_production.ensures.keeps (omega arith) (λ memory. inl (c.in_err-made.ensures.full (sym p.2 ∙ memory)))
-
-pub returns-in_err-put-clause-roomy : goal.returns-in_err-put-clause-roomy
-returns-in_err-put-clause-roomy c =
-    let p = err_from_is_err_and c.from_residual-in_err-put.result c.from_residual-in_err-put.ensures.1 in
-    roomy_refused _ _ _ _ _ p.0 p.1 c.close_production.ensures.keeps c.put.ensures.keeps (λ memory. inr (omega (arith, c.in_err-put.ensures.full, c.in_err-put.ensures.rest)))
-
-pub returns-clause-roomy : goal.returns-clause-roomy
-returns-clause-roomy c = roomy_ok _ _ _ _ _ _ refl c.close_production.ensures.keeps c.put.ensures.keeps
+pub returns : goal.returns
+returns c =
+    let s = c.args.symbol.now in
+    let old = c.args.self.now in
+    let new = c.close_production.new.self in
+    let frame = c.args.frame.now in
+    let parts = c.args.parts.now.items in
+    put_finishes (cpp_view s) makes_at_end s old new frame c.args.parts.now c.put.new.parts c.deref.result.now c.args.production
+    c.deref.ensures.value c.requires.numbered c.requires.room.paid.begun c.in_ok-made.ensures.few c.close_production.ensures.keeps c.put.ensures.keeps
+    c.put.result c.in_ok-made.made c.put.ensures.items c.put.ensures.memory c.put.ensures.rest c.put.ensures.full
+    (λ done items rule known state is. put_right s old new frame (drop frame.base parts) _ (take frame.base parts) c.put.new.parts.items c.args.production c.in_ok-made.made done rule known state is c.requires.numbered (rw c.deref.ensures.value (rest_all c.args.parts.now.items c.args.frame.now.base))
+    c.in_ok-made.ensures.is c.in_ok-made.ensures.there c.in_ok-made.ensures.whole items)
+    c.in_ok-made.ensures.grows c.in_ok-made.ensures.makes c.in_ok-made.ensures.paid

@@ -25,127 +25,97 @@ Goes s l p place kept vs step =
 abbrev Refuses : List ℕ → Linked → Production → (place : ℕ) → Surroundings → List Value → Refusal → Type 0
 Refuses s l p place kept vs e = (cs : List values.Candidate) → Fails e (between p (around_of (trees_in s l.nodes) kept) place vs (record { candidates = cs; packs = l.packs }))
 
-pub returns-then-is_empty-clause-is : goal.returns-then-is_empty-clause-is
-returns-then-is_empty-clause-is c =
-    let vs = values_in c.args.symbol.now c.args.self.now.nodes c.args.parts.now in
-    let none : vs ≡ [] = none_are vs (values_length _ _ c.args.parts.now ∙ empty_length c.args.parts.now (sym c.is_empty.ensures ∙ c.if-is_empty.true)) in
-    subst (λ xs. IfOk c.step_begin.result (λ step. Goes c.args.symbol.now c.args.self.now c.args.production c.args.place c.args.kept xs step)) (sym none) c.step_begin.ensures.is
+pub returns-then-is_empty : goal.returns-then-is_empty
+returns-then-is_empty c =
+    let s = c.args.symbol.now in
+    let l = c.args.self.now in
+    let p = c.args.production in
+    let empty = empty_length c.args.parts.now (sym c.is_empty.ensures ∙ c.if-is_empty.true) in
+    let none = none_are (values_in s l.nodes c.args.parts.now) (values_length _ _ c.args.parts.now ∙ empty) in
+    let had = c.step_begin.ensures in
+    record {
+      is = subst (λ vs. IfOk c.step_begin.result (λ step. Goes s l p c.args.place c.args.kept vs step)) (sym none) had.is;
+      refused = subst (λ vs. IfErr c.step_begin.result (λ e. Refuses s l p c.args.place c.args.kept vs e)) (sym none) had.refused;
+      there = had.there;
+      of = had.of (length c.args.parts.now);
+      makes = subst (λ vs. IfOk c.step_begin.result (λ step. nodes_of_step step ≡ makes_before p vs)) (sym none) had.makes;
+      pack = λ is one. absurd (omega (arith, empty, ap (λ ps. length ps) one));
+      bad = had.bad;
+    }
 
-pub returns-then-is_empty-clause-refused : goal.returns-then-is_empty-clause-refused
-returns-then-is_empty-clause-refused c =
-    let vs = values_in c.args.symbol.now c.args.self.now.nodes c.args.parts.now in
-    let none : vs ≡ [] = none_are vs (values_length _ _ c.args.parts.now ∙ empty_length c.args.parts.now (sym c.is_empty.ensures ∙ c.if-is_empty.true)) in
-    subst (λ xs. IfErr c.step_begin.result (λ e. Refuses c.args.symbol.now c.args.self.now c.args.production c.args.place c.args.kept xs e)) (sym none) c.step_begin.ensures.refused
+pub returns-then-parts-eq1 : goal.returns-then-parts-eq1
+returns-then-parts-eq1 c =
+    let s = c.args.symbol.now in
+    let l = c.args.self.now in
+    let p = c.args.production in
+    let one = one_is (values_in s l.nodes c.args.parts.now) (values_length _ _ c.args.parts.now ∙ c.if-parts-eq1.true) ∙ ap (λ v. v ∷ []) (sym c.given-first.ensures.is) in
+    let had = c.step_behind_first.ensures in
+    record {
+      is = subst (λ vs. IfOk c.step_behind_first.result (λ step. Goes s l p c.args.place c.args.kept vs step)) (sym one) had.is;
+      refused = subst (λ vs. IfErr c.step_behind_first.result (λ e. Refuses s l p c.args.place c.args.kept vs e)) (sym one) had.refused;
+      there = had.there;
+      of = subst (λ held. IfOk c.step_behind_first.result (λ step. IsStepOf p held step)) (sym c.if-parts-eq1.true) had.of;
+      makes = subst (λ vs. IfOk c.step_behind_first.result (λ step. nodes_of_step step ≡ makes_before p vs)) (sym one) had.makes;
+      pack = λ is alone. none_made c.step_behind_first.result c.given-first.result (c.given-first.ensures.at ∙ ap (λ ps. get_or ps 0 Part.Nothing) alone) (had.pack is);
+      bad = had.bad;
+    }
 
-pub returns-then-parts-eq1-clause-is : goal.returns-then-parts-eq1-clause-is
-returns-then-parts-eq1-clause-is c =
-    let vs = values_in c.args.symbol.now c.args.self.now.nodes c.args.parts.now in
-    let one : vs ≡ value_in c.args.symbol.now c.args.self.now.nodes c.given-first.result ∷ [] =
-    one_is vs (values_length _ _ c.args.parts.now ∙ c.if-parts-eq1.true) ∙ ap (λ v. v ∷ []) (sym c.given-first.ensures.is) in
-    subst (λ xs. IfOk c.step_behind_first.result (λ step. Goes c.args.symbol.now c.args.self.now c.args.production c.args.place c.args.kept xs step)) (sym one) c.step_behind_first.ensures.is
+pub returns-then-parts-eq2 : goal.returns-then-parts-eq2
+returns-then-parts-eq2 c =
+    let s = c.args.symbol.now in
+    let l = c.args.self.now in
+    let p = c.args.production in
+    let vs = values_in s l.nodes c.args.parts.now in
+    let two = two_are vs (values_length _ _ c.args.parts.now ∙ c.if-parts-eq2.true) ∙ ap (λ v. v ∷ part vs 1 ∷ []) (sym c.given-first.ensures.is)
+    ∙ ap (λ v. value_in s l.nodes c.given-first.result ∷ v ∷ []) (sym c.given-second.ensures.is) in
+    let had = c.step_third.ensures in
+    record {
+      is = subst (λ vs. Goes s l p c.args.place c.args.kept vs c.step_third.result) (sym two) had.is;
+      refused = tt;
+      there = had.there;
+      of = subst (λ held. IsStepOf p held c.step_third.result) (sym c.if-parts-eq2.true) had.of;
+      makes = subst (λ vs. nodes_of_step c.step_third.result ≡ makes_before p vs) (sym two) had.makes;
+      pack = λ is alone. absurd (c.if-parts-eq1.false (ap (λ ps. length ps) alone));
+      bad = tt;
+    }
 
-pub returns-then-parts-eq1-clause-refused : goal.returns-then-parts-eq1-clause-refused
-returns-then-parts-eq1-clause-refused c =
-    let vs = values_in c.args.symbol.now c.args.self.now.nodes c.args.parts.now in
-    let one : vs ≡ value_in c.args.symbol.now c.args.self.now.nodes c.given-first.result ∷ [] =
-    one_is vs (values_length _ _ c.args.parts.now ∙ c.if-parts-eq1.true) ∙ ap (λ v. v ∷ []) (sym c.given-first.ensures.is) in
-    subst (λ xs. IfErr c.step_behind_first.result (λ e. Refuses c.args.symbol.now c.args.self.now c.args.production c.args.place c.args.kept xs e)) (sym one) c.step_behind_first.ensures.refused
-
-pub returns-then-parts-eq2-clause-is : goal.returns-then-parts-eq2-clause-is
-returns-then-parts-eq2-clause-is c =
-    let vs = values_in c.args.symbol.now c.args.self.now.nodes c.args.parts.now in
-    let two : vs ≡ value_in c.args.symbol.now c.args.self.now.nodes c.given-first.result ∷ value_in c.args.symbol.now c.args.self.now.nodes c.given-second.result ∷ [] =
-    two_are vs (values_length _ _ c.args.parts.now ∙ c.if-parts-eq2.true) ∙ ap (λ v. v ∷ part vs 1 ∷ []) (sym c.given-first.ensures.is)
-    ∙ ap (λ v. value_in c.args.symbol.now c.args.self.now.nodes c.given-first.result ∷ v ∷ []) (sym c.given-second.ensures.is) in
-    subst (λ xs. Goes c.args.symbol.now c.args.self.now c.args.production c.args.place c.args.kept xs c.step_third.result) (sym two) c.step_third.ensures.is
-
-pub returns-then-parts-eq3-clause-is : goal.returns-then-parts-eq3-clause-is
-returns-then-parts-eq3-clause-is c =
-    let vs = values_in c.args.symbol.now c.args.self.now.nodes c.args.parts.now in
-    let first : Value = value_in c.args.symbol.now c.args.self.now.nodes c.given-first.result in
-    let second : Value = value_in c.args.symbol.now c.args.self.now.nodes c.given-second.result in
-    let three : vs ≡ first ∷ second ∷ value_in c.args.symbol.now c.args.self.now.nodes c.given-third.result ∷ [] =
-    three_are vs (values_length _ _ c.args.parts.now ∙ c.if-parts-eq3.true) ∙ ap (λ v. v ∷ part vs 1 ∷ part vs 2 ∷ []) (sym c.given-first.ensures.is)
+pub returns-then-parts-eq3 : goal.returns-then-parts-eq3
+returns-then-parts-eq3 c =
+    let s = c.args.symbol.now in
+    let l = c.args.self.now in
+    let p = c.args.production in
+    let vs = values_in s l.nodes c.args.parts.now in
+    let first : Value = value_in s l.nodes c.given-first.result in
+    let second : Value = value_in s l.nodes c.given-second.result in
+    let three = three_are vs (values_length _ _ c.args.parts.now ∙ c.if-parts-eq3.true) ∙ ap (λ v. v ∷ part vs 1 ∷ part vs 2 ∷ []) (sym c.given-first.ensures.is)
     ∙ ap (λ v. first ∷ v ∷ part vs 2 ∷ []) (sym c.given-second.ensures.is) ∙ ap (λ v. first ∷ second ∷ v ∷ []) (sym c.given-third.ensures.is) in
-    subst (λ xs. Goes c.args.symbol.now c.args.self.now c.args.production c.args.place c.args.kept xs c.step_fourth.result) (sym three) c.step_fourth.ensures.is
+    let had = c.step_fourth.ensures in
+    record {
+      is = subst (λ vs. Goes s l p c.args.place c.args.kept vs c.step_fourth.result) (sym three) had.is;
+      refused = tt;
+      there = had.there;
+      of = had.of (length c.args.parts.now);
+      makes = subst (λ vs. nodes_of_step c.step_fourth.result ≡ makes_before p vs) (sym three) had.makes;
+      pack = λ is alone. absurd (c.if-parts-eq1.false (ap (λ ps. length ps) alone));
+      bad = tt;
+    }
 
-pub returns-clause-is : goal.returns-clause-is
-returns-clause-is c =
-    let vs = values_in c.args.symbol.now c.args.self.now.nodes c.args.parts.now in
-    let size = values_length c.args.symbol.now (trees_in c.args.symbol.now c.args.self.now.nodes) c.args.parts.now in
+pub returns : goal.returns
+returns c =
+    let s = c.args.symbol.now in
+    let l = c.args.self.now in
+    let p = c.args.production in
+    let vs = values_in s l.nodes c.args.parts.now in
+    let size = values_length s (trees_in s l.nodes) c.args.parts.now in
     let later = later_are vs (subst (λ n. 3 < n) (sym size) (many_more _ (sym c.is_empty.ensures ∙ c.if-is_empty.false) c.if-parts-eq1.false c.if-parts-eq2.false c.if-parts-eq3.false)) in
-    let are : vs ≡ value_in c.args.symbol.now c.args.self.now.nodes c.given-first.result ∷ later.second ∷ later.third ∷ later.fourth ∷ later.rest =
-    later.are ∙ ap (λ v. v ∷ later.second ∷ later.third ∷ later.fourth ∷ later.rest) (sym c.given-first.ensures.is) in
-    subst (λ xs. Goes c.args.symbol.now c.args.self.now c.args.production c.args.place c.args.kept xs c.step_later.result) (sym are)
-    (c.step_later.ensures.is later.second later.third later.fourth later.rest)
-
-pub returns-then-is_empty-clause-of : goal.returns-then-is_empty-clause-of
-returns-then-is_empty-clause-of c = c.step_begin.ensures.of (length c.args.parts.now)
-
-pub returns-then-parts-eq1-clause-of : goal.returns-then-parts-eq1-clause-of
-returns-then-parts-eq1-clause-of c = subst (λ held. IfOk c.step_behind_first.result (λ step. IsStepOf c.args.production held step)) (sym c.if-parts-eq1.true) c.step_behind_first.ensures.of
-
-pub returns-then-parts-eq2-clause-of : goal.returns-then-parts-eq2-clause-of
-returns-then-parts-eq2-clause-of c = subst (λ held. IsStepOf c.args.production held c.step_third.result) (sym c.if-parts-eq2.true) c.step_third.ensures.of
-
-pub returns-then-parts-eq3-clause-of : goal.returns-then-parts-eq3-clause-of
-returns-then-parts-eq3-clause-of c = c.step_fourth.ensures.of (length c.args.parts.now)
-
-pub returns-clause-of : goal.returns-clause-of
-returns-clause-of c = c.step_later.ensures.of (length c.args.parts.now)
-
-pub returns-then-is_empty-clause-pack : goal.returns-then-is_empty-clause-pack
-returns-then-is_empty-clause-pack c is one = absurd (omega (arith, empty_length c.args.parts.now (sym c.is_empty.ensures ∙ c.if-is_empty.true), ap (λ ps. length ps) one))
-
-pub returns-then-parts-eq1-clause-pack : goal.returns-then-parts-eq1-clause-pack
-returns-then-parts-eq1-clause-pack c is one =
-    none_made c.step_behind_first.result c.given-first.result (c.given-first.ensures.at ∙ ap (λ ps. get_or ps 0 Part.Nothing) one) (c.step_behind_first.ensures.pack is)
-
-pub returns-then-parts-eq2-clause-pack : goal.returns-then-parts-eq2-clause-pack
-returns-then-parts-eq2-clause-pack c is one = absurd (c.if-parts-eq1.false (ap (λ ps. length ps) one))
-
-pub returns-then-parts-eq3-clause-pack : goal.returns-then-parts-eq3-clause-pack
-returns-then-parts-eq3-clause-pack c is one = absurd (c.if-parts-eq1.false (ap (λ ps. length ps) one))
-
-pub returns-clause-pack : goal.returns-clause-pack
-returns-clause-pack c is one = absurd (c.if-parts-eq1.false (ap (λ ps. length ps) one))
-
-pub returns-then-is_empty-clause-makes : goal.returns-then-is_empty-clause-makes
-returns-then-is_empty-clause-makes c =
-    let vs = values_in c.args.symbol.now c.args.self.now.nodes c.args.parts.now in
-    let none : vs ≡ [] = none_are vs (values_length _ _ c.args.parts.now ∙ empty_length c.args.parts.now (sym c.is_empty.ensures ∙ c.if-is_empty.true)) in
-    subst (λ xs. IfOk c.step_begin.result (λ step. nodes_of_step step ≡ makes_before c.args.production xs)) (sym none) c.step_begin.ensures.makes
-
-pub returns-then-parts-eq1-clause-makes : goal.returns-then-parts-eq1-clause-makes
-returns-then-parts-eq1-clause-makes c =
-    let vs = values_in c.args.symbol.now c.args.self.now.nodes c.args.parts.now in
-    let one : vs ≡ value_in c.args.symbol.now c.args.self.now.nodes c.given-first.result ∷ [] =
-    one_is vs (values_length _ _ c.args.parts.now ∙ c.if-parts-eq1.true) ∙ ap (λ v. v ∷ []) (sym c.given-first.ensures.is) in
-    subst (λ xs. IfOk c.step_behind_first.result (λ step. nodes_of_step step ≡ makes_before c.args.production xs)) (sym one) c.step_behind_first.ensures.makes
-
-pub returns-then-parts-eq2-clause-makes : goal.returns-then-parts-eq2-clause-makes
-returns-then-parts-eq2-clause-makes c =
-    let vs = values_in c.args.symbol.now c.args.self.now.nodes c.args.parts.now in
-    let two : vs ≡ value_in c.args.symbol.now c.args.self.now.nodes c.given-first.result ∷ value_in c.args.symbol.now c.args.self.now.nodes c.given-second.result ∷ [] =
-    two_are vs (values_length _ _ c.args.parts.now ∙ c.if-parts-eq2.true) ∙ ap (λ v. v ∷ part vs 1 ∷ []) (sym c.given-first.ensures.is)
-    ∙ ap (λ v. value_in c.args.symbol.now c.args.self.now.nodes c.given-first.result ∷ v ∷ []) (sym c.given-second.ensures.is) in
-    subst (λ xs. nodes_of_step c.step_third.result ≡ makes_before c.args.production xs) (sym two) c.step_third.ensures.makes
-
-pub returns-then-parts-eq3-clause-makes : goal.returns-then-parts-eq3-clause-makes
-returns-then-parts-eq3-clause-makes c =
-    let vs = values_in c.args.symbol.now c.args.self.now.nodes c.args.parts.now in
-    let first : Value = value_in c.args.symbol.now c.args.self.now.nodes c.given-first.result in
-    let second : Value = value_in c.args.symbol.now c.args.self.now.nodes c.given-second.result in
-    let three : vs ≡ first ∷ second ∷ value_in c.args.symbol.now c.args.self.now.nodes c.given-third.result ∷ [] =
-    three_are vs (values_length _ _ c.args.parts.now ∙ c.if-parts-eq3.true) ∙ ap (λ v. v ∷ part vs 1 ∷ part vs 2 ∷ []) (sym c.given-first.ensures.is)
-    ∙ ap (λ v. first ∷ v ∷ part vs 2 ∷ []) (sym c.given-second.ensures.is) ∙ ap (λ v. first ∷ second ∷ v ∷ []) (sym c.given-third.ensures.is) in
-    subst (λ xs. nodes_of_step c.step_fourth.result ≡ makes_before c.args.production xs) (sym three) c.step_fourth.ensures.makes
-
-pub returns-clause-makes : goal.returns-clause-makes
-returns-clause-makes c =
-    let vs = values_in c.args.symbol.now c.args.self.now.nodes c.args.parts.now in
-    let size = values_length c.args.symbol.now (trees_in c.args.symbol.now c.args.self.now.nodes) c.args.parts.now in
-    let later = later_are vs (subst (λ n. 3 < n) (sym size) (many_more _ (sym c.is_empty.ensures ∙ c.if-is_empty.false) c.if-parts-eq1.false c.if-parts-eq2.false c.if-parts-eq3.false)) in
-    let are : vs ≡ value_in c.args.symbol.now c.args.self.now.nodes c.given-first.result ∷ later.second ∷ later.third ∷ later.fourth ∷ later.rest =
-    later.are ∙ ap (λ v. v ∷ later.second ∷ later.third ∷ later.fourth ∷ later.rest) (sym c.given-first.ensures.is) in
-    subst (λ xs. nodes_of_step c.step_later.result ≡ makes_before c.args.production xs) (sym are) (c.step_later.ensures.makes later.second later.third later.fourth later.rest)
+    let are = later.are ∙ ap (λ v. v ∷ later.second ∷ later.third ∷ later.fourth ∷ later.rest) (sym c.given-first.ensures.is) in
+    let had = c.step_later.ensures in
+    record {
+      is = subst (λ vs. Goes s l p c.args.place c.args.kept vs c.step_later.result) (sym are) (had.is later.second later.third later.fourth later.rest);
+      refused = tt;
+      there = had.there;
+      of = had.of (length c.args.parts.now);
+      makes = subst (λ vs. nodes_of_step c.step_later.result ≡ makes_before p vs) (sym are) (had.makes later.second later.third later.fourth later.rest);
+      pack = λ is alone. absurd (c.if-parts-eq1.false (ap (λ ps. length ps) alone));
+      bad = tt;
+    }

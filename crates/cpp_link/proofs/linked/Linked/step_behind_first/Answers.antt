@@ -1,4 +1,4 @@
-use Rattle.std.proofs.Common.{◌≡◌, sym, ◌∙◌, subst, [], ◌∷◌}
+use Rattle.std.proofs.Common.{◌≡◌, sym, ◌∙◌, ap, subst, [], ◌∷◌, get_or}
 use Rattle.std.specs.Prelude.{IfOk}
 use Rattle.cpp_grammar.specs.declared.production.Production.{Production}
 use Rattle.cpp_term.specs.Between.{between}
@@ -6,32 +6,24 @@ use Rattle.cpp_link.specs.Parts.{value_in}
 use Rattle.cpp_link.specs.Owed.{made_before}
 use Rattle.cpp_link.specs.NodeCount.{makes_before}
 use Rattle.cpp_link.specs.Stepping.{IsStepOf, nodes_of_step}
-use Rattle.cpp_link.proofs.Stepping.{parameter_steps, nest_parameter_steps, argument_steps, expression_steps}
+use Rattle.cpp_link.proofs.Stepping.{first_steps}
 use Rattle.cpp_link.proofs.linked.Linked.step_behind_first.Goals as goal
 
 pub returns-in-Parameter-clause-of : goal.returns-in-Parameter-clause-of
-returns-in-Parameter-clause-of c = subst (λ p. IfOk c.parameter.result (λ step. IsStepOf p 1 step)) (sym c.in-Parameter.is) (parameter_steps c.parameter.result)
+unfolding made_before
+returns-in-Parameter-clause-of c = first_steps c.args.production c.parameter.result (ap (λ p. get_or (made_before p) 1 0) c.in-Parameter.is)
 
 pub returns-in-NestParameter-clause-of : goal.returns-in-NestParameter-clause-of
-returns-in-NestParameter-clause-of c = subst (λ p. IfOk c.parameter-in-NestParameter.result (λ step. IsStepOf p 1 step)) (sym c.in-NestParameter.is) (nest_parameter_steps c.parameter-in-NestParameter.result)
+unfolding made_before
+returns-in-NestParameter-clause-of c = first_steps c.args.production c.parameter-in-NestParameter.result (ap (λ p. get_or (made_before p) 1 0) c.in-NestParameter.is)
 
 pub returns-in-ParameterArgument-clause-of : goal.returns-in-ParameterArgument-clause-of
-returns-in-ParameterArgument-clause-of c = subst (λ p. IfOk c.parameter-in-ParameterArgument.result (λ step. IsStepOf p 1 step)) (sym c.in-ParameterArgument.is) (argument_steps c.parameter-in-ParameterArgument.result)
+unfolding made_before
+returns-in-ParameterArgument-clause-of c = first_steps c.args.production c.parameter-in-ParameterArgument.result (ap (λ p. get_or (made_before p) 1 0) c.in-ParameterArgument.is)
 
 pub returns-in-ParameterExpression-clause-of : goal.returns-in-ParameterExpression-clause-of
-returns-in-ParameterExpression-clause-of c = subst (λ p. IfOk c.parameter_argument.result (λ step. IsStepOf p 1 step)) (sym c.in-ParameterExpression.is) (expression_steps c.parameter_argument.result)
-
-parameter_is_no_pack : Production.Parameter ≡ Production.PackArgument → ⊥
-parameter_is_no_pack h = cc
-
-nest_is_no_pack : Production.NestParameter ≡ Production.PackArgument → ⊥
-nest_is_no_pack h = cc
-
-argument_is_no_pack : Production.ParameterArgument ≡ Production.PackArgument → ⊥
-argument_is_no_pack h = cc
-
-expression_is_no_pack : Production.ParameterExpression ≡ Production.PackArgument → ⊥
-expression_is_no_pack h = cc
+unfolding made_before
+returns-in-ParameterExpression-clause-of c = first_steps c.args.production c.parameter_argument.result (ap (λ p. get_or (made_before p) 1 0) c.in-ParameterExpression.is)
 
 pub returns-in-PackArgument-clause-is : goal.returns-in-PackArgument-clause-is
 unfolding between
@@ -41,16 +33,16 @@ pub returns-in-PackArgument-clause-of : goal.returns-in-PackArgument-clause-of
 returns-in-PackArgument-clause-of c = subst (λ p. IsStepOf p 1 c.pack.result) (sym c.in-PackArgument.is) c.pack.ensures.of
 
 pub returns-in-Parameter-clause-pack : goal.returns-in-Parameter-clause-pack
-returns-in-Parameter-clause-pack c is = absurd (parameter_is_no_pack (sym c.in-Parameter.is ∙ is))
+returns-in-Parameter-clause-pack c is = let clash : Production.Parameter ≡ Production.PackArgument = sym c.in-Parameter.is ∙ is in absurd cc
 
 pub returns-in-NestParameter-clause-pack : goal.returns-in-NestParameter-clause-pack
-returns-in-NestParameter-clause-pack c is = absurd (nest_is_no_pack (sym c.in-NestParameter.is ∙ is))
+returns-in-NestParameter-clause-pack c is = let clash : Production.NestParameter ≡ Production.PackArgument = sym c.in-NestParameter.is ∙ is in absurd cc
 
 pub returns-in-ParameterArgument-clause-pack : goal.returns-in-ParameterArgument-clause-pack
-returns-in-ParameterArgument-clause-pack c is = absurd (argument_is_no_pack (sym c.in-ParameterArgument.is ∙ is))
+returns-in-ParameterArgument-clause-pack c is = let clash : Production.ParameterArgument ≡ Production.PackArgument = sym c.in-ParameterArgument.is ∙ is in absurd cc
 
 pub returns-in-ParameterExpression-clause-pack : goal.returns-in-ParameterExpression-clause-pack
-returns-in-ParameterExpression-clause-pack c is = absurd (expression_is_no_pack (sym c.in-ParameterExpression.is ∙ is))
+returns-in-ParameterExpression-clause-pack c is = let clash : Production.ParameterExpression ≡ Production.PackArgument = sym c.in-ParameterExpression.is ∙ is in absurd cc
 
 pub returns-in-PackArgument-clause-pack : goal.returns-in-PackArgument-clause-pack
 returns-in-PackArgument-clause-pack c is = c.pack.ensures.made

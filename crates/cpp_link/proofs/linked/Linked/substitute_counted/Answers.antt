@@ -14,8 +14,8 @@ use Rattle.cpp_references.proofs.Named.{fails_is}
 use Rattle.cpp_link.proofs.Held.{numbered_alike, numbered_apart}
 use Rattle.cpp_link.proofs.linked.Linked.substitute_counted.Goals as goal
 
-pub returns-then-is_counted_alike-clause-is : goal.returns-then-is_counted_alike-clause-is
-returns-then-is_counted_alike-clause-is c =
+pub returns-then-is_counted_alike : goal.returns-then-is_counted_alike
+returns-then-is_counted_alike c =
     let s = c.args.symbol.now in
     let ts = trees_in s c.args.self.now.nodes in
     let around : Around = around_of ts c.args.kept in
@@ -23,19 +23,20 @@ returns-then-is_counted_alike-clause-is c =
     let cs = candidates_of ts c.args.self.now.candidates.items in
     let known = values_in s c.args.self.now.nodes c.args.parts.now in
     let counted = ap (λ bytes. is_counted_alike cs (counted_value Seq36 bytes)) (sym c.text-digits.ensures.is) ∙ sym c.is_counted_alike.ensures ∙ c.if-is_counted_alike.true in
-    subst (λ x. IfOk c.substitute_rescoped.result (λ made. x ≡ Ok (found (value_in s c.substitute_rescoped.new.self.nodes made) (state_of s c.substitute_rescoped.new.self))))
-    (sym (numbered_alike around (c.args.place - 1) (number_in known) st counted)) c.substitute_rescoped.ensures.is
-
-pub returns-then-is_counted_alike-clause-refused : goal.returns-then-is_counted_alike-clause-refused
-returns-then-is_counted_alike-clause-refused c =
-    let s = c.args.symbol.now in
-    let ts = trees_in s c.args.self.now.nodes in
-    let around : Around = around_of ts c.args.kept in
-    let st = state_of s c.args.self.now in
-    let cs = candidates_of ts c.args.self.now.candidates.items in
-    let known = values_in s c.args.self.now.nodes c.args.parts.now in
-    let counted = ap (λ bytes. is_counted_alike cs (counted_value Seq36 bytes)) (sym c.text-digits.ensures.is) ∙ sym c.is_counted_alike.ensures ∙ c.if-is_counted_alike.true in
-    subst (λ x. IfErr c.substitute_rescoped.result (λ e. Fails e x)) (sym (numbered_alike around (c.args.place - 1) (number_in known) st counted)) c.substitute_rescoped.ensures.refused
+    let same = sym (numbered_alike around (c.args.place - 1) (number_in known) st counted) in
+    let had = c.substitute_rescoped.ensures in
+    record {
+      is = subst (λ x. IfOk c.substitute_rescoped.result (λ made. x ≡ Ok (found (value_in s c.substitute_rescoped.new.self.nodes made) (state_of s c.substitute_rescoped.new.self)))) same had.is;
+      refused = subst (λ x. IfErr c.substitute_rescoped.result (λ e. Fails e x)) same had.refused;
+      there = had.there;
+      grows = had.grows;
+      few = had.few;
+      makes = had.makes;
+      paid = had.paid;
+      whole = had.whole;
+      keeps = had.keeps;
+      full = had.full;
+    }
 
 pub returns-clause-refused : goal.returns-clause-refused
 returns-clause-refused c =

@@ -28,45 +28,32 @@ returns-in_default-clause-refused c =
     fails_is _ (substituted_wide around (c.args.place - 1) (named_by st (values_in s c.args.self.now.nodes c.args.parts.now)) st)
     (ap (λ o. substituted_wide around (c.args.place - 1) o st) named ∙ named_nothing around (c.args.place - 1) st ∙ ap (λ n. Err (BadReference n)) (sym c.saturating_sub-at.ensures))
 
-pub returns-then-is_foreign-clause-is : goal.returns-then-is_foreign-clause-is
+pub returns-then-is_foreign : goal.returns-then-is_foreign
 unfolding maybe_candidate
-returns-then-is_foreign-clause-is c =
+returns-then-is_foreign c =
     let s = c.args.symbol.now in
     let ts = trees_in s c.args.self.now.nodes in
     let around : Around = around_of ts c.args.kept in
     let st = state_of s c.args.self.now in
     let cs = candidates_of ts c.args.self.now.candidates.items in
     let named = sym (c.candidate.ensures.is ∙ ap (λ bytes. slice_get cs (counted_value Seq36 bytes)) c.text.ensures.is) ∙ ap (λ o. maybe_candidate ts o) c.in-Some.is in
-    let same = ap (λ o. substituted_wide around (c.args.place - 1) o st) named
-    ∙ named_foreign around (c.args.place - 1) (candidate_of ts c.in-Some.candidate) st (sym c.is_foreign.ensures ∙ c.if-is_foreign.true)
+    let foreign = sym c.is_foreign.ensures ∙ c.if-is_foreign.true in
+    let same = ap (λ o. substituted_wide around (c.args.place - 1) o st) named ∙ named_foreign around (c.args.place - 1) (candidate_of ts c.in-Some.candidate) st foreign
     ∙ ap (λ n. restated around n (tree_at ts c.in-Some.candidate.node) st) (sym c.saturating_sub-at.ensures) in
-    subst (λ x. IfOk c.restate.result (λ made. x ≡ Ok (found (value_in s c.restate.new.self.nodes made) (state_of s c.restate.new.self)))) (sym same) c.restate.ensures.is
-
-pub returns-then-is_foreign-clause-refused : goal.returns-then-is_foreign-clause-refused
-unfolding maybe_candidate
-returns-then-is_foreign-clause-refused c =
-    let s = c.args.symbol.now in
-    let ts = trees_in s c.args.self.now.nodes in
-    let around : Around = around_of ts c.args.kept in
-    let st = state_of s c.args.self.now in
-    let cs = candidates_of ts c.args.self.now.candidates.items in
-    let named = sym (c.candidate.ensures.is ∙ ap (λ bytes. slice_get cs (counted_value Seq36 bytes)) c.text.ensures.is) ∙ ap (λ o. maybe_candidate ts o) c.in-Some.is in
-    let same = ap (λ o. substituted_wide around (c.args.place - 1) o st) named
-    ∙ named_foreign around (c.args.place - 1) (candidate_of ts c.in-Some.candidate) st (sym c.is_foreign.ensures ∙ c.if-is_foreign.true)
-    ∙ ap (λ n. restated around n (tree_at ts c.in-Some.candidate.node) st) (sym c.saturating_sub-at.ensures) in
-    subst (λ x. IfErr c.restate.result (λ e. Fails e x)) (sym same) c.restate.ensures.refused
-
-pub returns-then-is_foreign-clause-makes : goal.returns-then-is_foreign-clause-makes
-unfolding maybe_candidate
-returns-then-is_foreign-clause-makes c =
-    let s = c.args.symbol.now in
-    let ts = trees_in s c.args.self.now.nodes in
-    let around : Around = around_of ts c.args.kept in
-    let cs = candidates_of ts c.args.self.now.candidates.items in
-    let named = sym (c.candidate.ensures.is ∙ ap (λ bytes. slice_get cs (counted_value Seq36 bytes)) c.text.ensures.is) ∙ ap (λ o. maybe_candidate ts o) c.in-Some.is in
-    let same = ap (λ o. substituted_nodes around o) named
-    ∙ foreign_nodes around (c.args.place - 1) (candidate_of ts c.in-Some.candidate) (state_of s c.args.self.now) (sym c.is_foreign.ensures ∙ c.if-is_foreign.true) in
-    subst (λ n. OnOk c.restate.result (length c.restate.new.self.nodes.nodes ≡ length c.args.self.now.nodes.nodes + n)) (sym same) c.restate.ensures.makes
+    let counted = ap (λ o. substituted_nodes around o) named ∙ foreign_nodes around (c.args.place - 1) (candidate_of ts c.in-Some.candidate) st foreign in
+    let had = c.restate.ensures in
+    record {
+      is = subst (λ x. IfOk c.restate.result (λ made. x ≡ Ok (found (value_in s c.restate.new.self.nodes made) (state_of s c.restate.new.self)))) (sym same) had.is;
+      refused = subst (λ x. IfErr c.restate.result (λ e. Fails e x)) (sym same) had.refused;
+      there = had.there;
+      grows = had.grows;
+      few = had.few;
+      makes = subst (λ n. OnOk c.restate.result (length c.restate.new.self.nodes.nodes ≡ length c.args.self.now.nodes.nodes + n)) (sym counted) had.makes;
+      paid = had.paid;
+      whole = had.whole;
+      keeps = had.keeps;
+      full = had.full;
+    }
 
 pub returns-in-Ok-clause-is : goal.returns-in-Ok-clause-is
 unfolding maybe_candidate node_read value_of

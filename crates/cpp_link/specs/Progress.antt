@@ -1,0 +1,37 @@
+-- What a call leaves that goes on to the next part of a frame's rule, or closes it.
+use Rattle.std.specs.Prelude.{◌≡◌, ℕ, ◌+◌, List, [], ◌∷◌, ◌++◌, length, drop, Vec, Result, OnOk}
+use Rattle.std.specs.Global.{Global}
+use Rattle.sym_core.specs.declared.refusal.Refusal.{Refusal}
+use Rattle.sym_link.specs.declared.language.Frame.{Frame}
+use Rattle.sym_link.specs.Linking.{View, Adds, AddsFew, Pays, owed_behind, owed_next}
+use Rattle.sym_link.specs.Threads.{GoesOn, ClosesAll, AddsBefore}
+use Rattle.cpp_grammar.specs.declared.production.Production.{Production}
+use Rattle.cpp_grammar.specs.Unfolding.{production_at}
+use Rattle.cpp_term.specs.Values.{State, Value, Around}
+use Rattle.cpp_references.specs.declared.around.Surroundings.{Surroundings}
+use Rattle.cpp_link.specs.declared.linked.Linked.{Linked}
+use Rattle.cpp_link.specs.declared.part.Part.{Part}
+use Rattle.cpp_link.specs.NodeCount.{makes_before}
+use Rattle.cpp_link.specs.Parts.{values_in}
+use Rattle.cpp_link.specs.Room.{IsRoomy}
+use Rattle.cpp_link.specs.View.{Surrounds, cpp_view}
+
+-- What is done before the next part is what the view's reading says, and that part is surrounded then as it says.
+pub record Advances (view : View Linked Part Surroundings Value State Around) (s : List ℕ) (old new : Linked) (frame : Frame Surroundings) (parts new_parts : Vec Part Global) (result : Result Surroundings Refusal) : Type 0 where
+  pub goes : GoesOn view s (Surrounds s) old new frame parts.items new_parts.items result
+  pub adds : OnOk result (Adds (cpp_view s) old new (owed_behind (cpp_view s) frame parts.items) (owed_next (cpp_view s) frame new_parts.items))
+  pub few : AddsBefore (cpp_view s) old new frame parts.items (drop frame.base new_parts.items ++ Part.Nothing ∷ []) result
+  pub makes : OnOk result (length new.nodes.nodes ≡ length old.nodes.nodes + makes_before (production_at frame.rule) (values_in s old.nodes (drop frame.base parts.items)))
+  pub pays : OnOk result ((at : ℕ) → Pays (cpp_view s) old new at at)
+  pub count : OnOk result (length new_parts.items ≡ length parts.items)
+  pub roomy : IsRoomy old new parts new_parts result
+
+-- The rule closes over all its parts as the view's reading says, and so many nodes are made as its production makes with what they stand for.
+pub record Finishes (view : View Linked Part Surroundings Value State Around) (made : Production → List Value → ℕ) (s : List ℕ) (old new : Linked) (frame : Frame Surroundings)
+    (parts new_parts : Vec Part Global) (result : Result (Unit {0}) Refusal) : Type 0 where
+  pub closes : ClosesAll view s old new frame parts.items new_parts.items result
+  pub adds : OnOk result (Adds (cpp_view s) old new (owed_behind (cpp_view s) frame parts.items) 0)
+  pub few : AddsFew (cpp_view s) old new frame parts.items
+  pub makes : OnOk result (length new.nodes.nodes ≡ length old.nodes.nodes + made (production_at frame.rule) (values_in s old.nodes (drop frame.base parts.items)))
+  pub pays : OnOk result ((at : ℕ) → Pays (cpp_view s) old new at at)
+  pub roomy : IsRoomy old new parts new_parts result
