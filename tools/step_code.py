@@ -47,17 +47,17 @@ def made_step(made, listed, is_name, is_candidate):
     if m := re.fullmatch(r"of new_(lvalue|rvalue) \(tree_at (\d) ∷ \[\]\)", made): new = Call(f"Node::{m[1].capitalize()}", node(m[2]))
     else: new = Fields("Node::Instance", template=TEMPLATE, arguments=list_of(re.fullmatch(r"of new_instance \(the_name ∷ list_at (\d) ∷ \[\]\)", made)[1]))
     if is_name == "true" and listed == "false": return Call(named, new)
-    return Fields("Step::Made", node=new, listed=listed, is_name=is_name, is_candidate=is_candidate, packs="self.packs")
+    return Fields("Step::Made", node=new, listed=listed, is_name=is_name, is_candidate=is_candidate, is_held="false", packs="self.packs")
 
 def code(step):
     """what is done, in code"""
     if m := re.fullmatch(r"becomes \((.*)\) (true|false) (true|false) (true|false)", step): return made_step(*m.groups())
     if step == "goes nothing in_its_types": return ITS_TYPES
-    if step == "goes nothing under_it": return Fields(GO, candidate=NOTHING, then=around("under_it"), packs=NOTHING)
+    if step == "goes nothing under_it": return Fields(GO, candidate=NOTHING, held=NOTHING, then=around("under_it"), packs=NOTHING)
     if m := re.fullmatch(r"goes nothing \(?(.*?)\)?", step): return Call("self.go", around(m[1] + (")" if "(" in m[1] else "")))
-    if m := re.fullmatch(r"goes the_prefix \(?(.*?)\)?", step): return Fields(GO, candidate=Call("self.prefix_candidate", "symbol", "kept"), then=around(m[1]), packs="self.packs")
+    if m := re.fullmatch(r"goes the_prefix \(?(.*?)\)?", step): return Fields(GO, candidate=Call("self.prefix_candidate", "symbol", "kept"), held=NOTHING, then=around(m[1]), packs="self.packs")
     part_, place = re.fullmatch(r"goes \(type_of (\d)\) \(?(.*?)\)?", step).groups()
-    return Fields(GO, candidate=Call("self.type_candidate", "symbol", "kept", PARTS[int(part_)]), then=around(place), packs="self.packs")
+    return Fields(GO, candidate=Call("self.type_candidate", "symbol", "kept", PARTS[int(part_)]), held=NOTHING, then=around(place), packs="self.packs")
 
 # what code by hand does: tests, packs, an M, and what the ABI's grammar doesn't have
 def is_by_hand(step): return step.split()[0] in ("tests", "holds", "unread", "quiet") or "packing" in step

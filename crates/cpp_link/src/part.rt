@@ -90,9 +90,10 @@ pub enum Outcome {
 /// What is done before the next part of a rule: the state and what surrounds the part.
 #[derive(Clone, Copy)]
 pub enum Step {
-    /// A tree becomes a candidate or none does, and this surrounds the part.
+    /// A tree becomes a candidate or none does, one is there as a mark or none is, and this surrounds the part.
     Go {
         candidate: Option<u32>,
+        held: Option<u32>,
         then: Surroundings,
         packs: Option<u32>,
     },
@@ -102,12 +103,14 @@ pub enum Step {
         listed: bool,
         is_name: bool,
     },
-    /// A node is made, which the first part is now. It may come before the next part as the name so far, and become a candidate.
+    /// A node is made, which the first part is now. It may come before the next part as the name so far, and become a candidate or a
+    /// mark among these.
     Made {
         node: Node,
         listed: bool,
         is_name: bool,
         is_candidate: bool,
+        is_held: bool,
         packs: Option<u32>,
     },
 }

@@ -45,34 +45,40 @@ impl Linked {
             Production::Encoding => self.go(self.in_encoding(kept, place, None)),
             Production::NestArguments => Step::Go {
                 candidate: self.prefix_candidate(symbol, kept),
+                held: None,
                 then: self.inside(kept),
                 packs: self.packs,
             },
             Production::NestNext => Step::Go {
                 candidate: self.prefix_candidate(symbol, kept),
+                held: None,
                 then: self.behind_name(kept, self.prefix_node(symbol, kept), true),
                 packs: self.packs,
             },
             Production::Lambda => self.go(self.in_signature(kept)),
             Production::Expansion => Step::Go {
                 candidate: None,
+                held: None,
                 then: self.under_expansion(kept),
                 packs: None,
             },
             Production::Constraint => self.go(self.in_signature(kept)),
             Production::Arguments => Step::Go {
                 candidate: self.prefix_candidate(symbol, kept),
+                held: None,
                 then: self.inside(kept),
                 packs: self.packs,
             },
             Production::NestInstance => Step::Go {
                 candidate: self.prefix_candidate(symbol, kept),
+                held: None,
                 then: self.inside(kept),
                 packs: self.packs,
             },
             Production::Conversion => self.go(self.inside(kept)),
             Production::BaseArguments => Step::Go {
                 candidate: self.prefix_candidate(symbol, kept),
+                held: None,
                 then: self.inside(kept),
                 packs: self.packs,
             },
@@ -80,16 +86,19 @@ impl Linked {
             Production::OfConcept => self.go(self.in_signature(kept)),
             Production::ExpandExpression => Step::Go {
                 candidate: None,
+                held: None,
                 then: self.under_expansion(kept),
                 packs: None,
             },
             Production::PackSize => Step::Go {
                 candidate: None,
+                held: None,
                 then: self.under_expansion(kept),
                 packs: None,
             },
             Production::FoldPack => Step::Go {
                 candidate: None,
+                held: None,
                 then: self.under_expansion(kept),
                 packs: None,
             },
@@ -368,6 +377,7 @@ impl Linked {
             Production::Lambda => self.go(self.in_signature(kept)),
             Production::Expansion => Step::Go {
                 candidate: None,
+                held: None,
                 then: self.under_expansion(kept),
                 packs: None,
             },
@@ -384,6 +394,7 @@ impl Linked {
                 listed: true,
                 is_name: false,
                 is_candidate: true,
+                is_held: false,
                 packs: self.packs,
             },
             Production::RvalueItem => Step::Made {
@@ -391,11 +402,13 @@ impl Linked {
                 listed: true,
                 is_name: false,
                 is_candidate: true,
+                is_held: false,
                 packs: self.packs,
             },
             Production::Constraint => self.go(self.in_signature(kept)),
             Production::IntegerLiteral => Step::Go {
                 candidate: self.type_candidate(symbol, kept, first),
+                held: None,
                 then: kept,
                 packs: self.packs,
             },
@@ -412,6 +425,7 @@ impl Linked {
             Production::OfConcept => self.go(self.in_signature(kept)),
             Production::UnresolvedInType => Step::Go {
                 candidate: self.type_candidate(symbol, kept, first),
+                held: None,
                 then: kept,
                 packs: self.packs,
             },
@@ -459,11 +473,13 @@ impl Linked {
                 listed: true,
                 is_name: true,
                 is_candidate: true,
+                is_held: false,
                 packs: self.packs,
             },
             Production::Lambda => self.go(self.in_signature(kept)),
             Production::Expansion => Step::Go {
                 candidate: None,
+                held: None,
                 then: self.under_expansion(kept),
                 packs: None,
             },
@@ -524,6 +540,7 @@ impl Linked {
             Production::Lambda => self.go(self.in_signature(kept)),
             Production::Expansion => Step::Go {
                 candidate: None,
+                held: None,
                 then: self.under_expansion(kept),
                 packs: None,
             },
@@ -569,6 +586,7 @@ impl Linked {
             Production::Lambda => self.go(self.in_signature(kept)),
             Production::Expansion => Step::Go {
                 candidate: None,
+                held: None,
                 then: self.under_expansion(kept),
                 packs: None,
             },
