@@ -561,21 +561,14 @@ def slack():
 
 # ## What rows make
 
-def built_none():
-    lines = []
-    for tree in makers(grammar.rows()):
-        facts = [f"(all {i})" for i, (name, sort) in enumerate(tree[1:]) if sort in SCOPED]
-        lines.append(f"built_none new_{tree[0]} xs all = " + (facts[0][1:-1] if len(facts) == 1 else applied("or_no _ _", facts) if facts else "refl"))
-    return lines
-
 def built_good():
     lines = []
     for tree in makers(grammar.rows()):
         scoped = [f"(all {i}).closed" for i, (name, sort) in enumerate(tree[1:]) if sort in SCOPED]
-        scopes = [f"(all {i}).scopes" for i, (name, sort) in enumerate(tree[1:]) if sort in SUBTREES]
+        scopes = [f"(all {i}).scopes n" for i, (name, sort) in enumerate(tree[1:]) if sort in SUBTREES]
         closed = "λ h. refl" if not scoped else scoped[0] if len(scoped) == 1 else f"λ h. {applied('or_no _ _', [f'({fact} h)' for fact in scoped])}"
         joined = "tt" if not scopes else scopes[0] if len(scopes) == 1 else f"({', '.join(scopes)})"
-        lines.append(f"built_good s new_{tree[0]} xs all = record {{ closed = {closed}; scopes = {joined} }}")
+        lines.append(f"built_good s new_{tree[0]} xs all = record {{ closed = {closed}; scopes = λ n. {joined} }}")
     return lines
 
 # what reads an argument of a sort, annotated
@@ -754,7 +747,6 @@ def declarations(crates):
     yield "cpp_term/specs/Annotated.antt", "annotate", rebuilt("annotate", ["s"], ["nowhere"], False, {"function": ANNOTATED_FUNCTION, "parameter": "term_.parameter k (argument_in s k)",
         "generic_lambda": "term_.generic_lambda (annotate in_own parameters) number"})
     yield "cpp_term/proofs/Erasing.antt", "erased", erased()
-    yield "cpp_grammar/proofs/NoneFree.antt", "built_none", built_none()
     yield "cpp_grammar/proofs/ClosedValues.antt", "built_good", built_good()
     yield "cpp_term/proofs/MeaningNoted.antt", "takes_encodings", takes_encodings()
     yield "cpp_term/proofs/MeaningNoted.antt", "AreShut", are_shut()

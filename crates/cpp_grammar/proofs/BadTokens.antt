@@ -2,15 +2,14 @@
 use Rattle.std.proofs.Common.{ℕ, ◌+◌, ◌-◌, ◌^◌, List, [], ◌∷◌, ◌++◌, length, Bool, true, false, not, ◌||◌, ◌&&◌, cond, nat_eq, nat_lt, slice_get, Option, Some, None, Result, Ok, Err}
 use Rattle.std.specs.Result.{IfErr}
 use Rattle.sym_core.specs.declared.refusal.Refusal.{Refusal}
-use Rattle.sym_core.specs.declared.refusal.Refusal.TheVariants.{BadReference, BadValue}
 use Rattle.sym_core.specs.declared.NumberKind.TheVariants.{Seq36}
 use Rattle.sym_core.specs.Value.{counted_value}
 use Rattle.sym_shape.specs.Tree.{Tree, Forest, branch, empty, token, fixed, nothing, grown, spell}
-use Rattle.sym_link.specs.Reading.{Found, Next, Open, ◌>>=◌}
+use Rattle.sym_link.specs.Reading.{Open, ◌>>=◌}
 use Rattle.sym_link.specs.Unfold.{found, alone, standing, unfold_tree, unfold_forest}
 use Rattle.sym_demangle.specs.Mangled.{IsBadToken}
 use Rattle.cpp_grammar.specs.declared.production.Production.{Production}
-use Rattle.cpp_grammar.specs.Term.{Term, holder, parameter}
+use Rattle.cpp_grammar.specs.Term.{Term, parameter}
 use Rattle.cpp_grammar.specs.Scope.{count, element, is_list, has_pack, length_if_pack, is_open, pack_length, Free, none_free, one_free, several_free, free_in}
 use Rattle.cpp_grammar.specs.Values.{Candidate, State, Around, prefix_tree, Value, tree, text_of, part, local_number}
 use Rattle.cpp_grammar.specs.References.{appended, with_packs, packs_in, substituted, parameter_named}
@@ -18,7 +17,8 @@ use Rattle.cpp_grammar.specs.Between.{listed_so_far, parameter_so_far, index_of,
 use Rattle.cpp_grammar.specs.Row.{Before, quiet, goes, becomes, tests, holds, unread, before_part}
 use Rattle.cpp_grammar.specs.Meant.{tested as tested_, done}
 use Rattle.cpp_grammar.specs.Rows.{row_of}
-use Rattle.cpp_grammar.specs.Rescoping.{generic_so_far, parameter_here, is_foreign, in_scope, under_scope, with_free, restated, substituted_wide, numbered, is_counted_alike, with_holder, is_instance, holder_so_far, between_wide, close_wide, cpp_wide, unfold_wide, argument_here, generic_number}
+use Rattle.cpp_grammar.specs.Rescoping.{generic_so_far, parameter_here, is_foreign, in_scope, under_scope, with_free, restated, substituted_wide, numbered, is_counted_alike, is_instance, holder_so_far, between_wide, close_wide, cpp_wide, unfold_wide, argument_here}
+use Rattle.cpp_grammar.proofs.Chosen.{either, if_there}
 use Rattle.cpp_grammar.proofs.Ways.{Way, reading_by, abi_way, wide_way}
 use Rattle.cpp_grammar.specs.Unfolding.{last_token, number_tested, opening, close, production_at, byte_of, cpp, first_around, first_state, first_tree, unfold_cpp}
 
@@ -34,49 +34,23 @@ packs_bad : (place : ℕ) (inside : Bool) (o : Option ℕ) (state : State) → I
 unfolding with_packs
 packs_bad place inside None state = tt
 packs_bad place false (Some m) state = tt
-packs_bad place true (Some m) state = go state.packs
-  where
-    tested : (b : Bool) → IsBad {A = State} (elim b [ true ↦ Ok state | false ↦ Err (BadReference place) ])
-    tested true = tt
-    tested false = tt
-
-    go : (o : Option ℕ) → IsBad {A = State} (elim o [
-      | None ↦ Ok (record state { packs = Some m })
-      | Some n ↦ elim (nat_eq m n) [ true ↦ Ok state | false ↦ Err (BadReference place) ]
-    ])
-    go None = tt
-    go (Some n) = tested (nat_eq m n)
+packs_bad place true (Some m) state = if_there IsBad state.packs _ _ tt (λ n is. either IsBad (nat_eq m n) _ _ (λ h. tt) (λ h. tt))
 
 substituted_bad : (around : Around) (place : ℕ) (o : Option Candidate) (state : State) → IsBad (substituted around place o state)
 unfolding substituted
 substituted_bad around place None state = tt
-substituted_bad around place (Some c) state = go (is_open c.tree && (around.in_lambda || not (nat_eq c.encoding around.encoding)))
-  where
-    named : Result (Found Value State) Refusal
-    named = with_packs place around.in_expansion (packs_in around.scope c.tree) state >>= λ s. Ok (found (tree c.tree true) s)
-
-    go : (b : Bool) → IsBad {A = Found Value State} (elim b [ true ↦ Err (BadReference place) | false ↦ named ])
-    go true = tt
-    go false = bad_bind (with_packs place around.in_expansion (packs_in around.scope c.tree) state) (λ s. Ok (found (tree c.tree true) s))
-        (packs_bad place around.in_expansion (packs_in around.scope c.tree) state) (λ s. tt)
+substituted_bad around place (Some c) state =
+    either IsBad (is_open c.tree && (around.in_lambda || not (nat_eq c.encoding around.encoding))) _ _ (λ h. tt)
+    (λ h. bad_bind (with_packs place around.in_expansion (packs_in around.scope c.tree) state) (λ s. Ok (found (tree c.tree true) s))
+    (packs_bad place around.in_expansion (packs_in around.scope c.tree) state) (λ s. tt))
 
 named_bad : (around : Around) (place k : ℕ) (state : State) → IsBad (parameter_named around place k state)
 unfolding parameter_named
-named_bad around place k state = go around.scope
-  where
-    packs : Term → Result State Refusal
-    packs arguments = with_packs place around.in_expansion (length_if_pack (element arguments k)) state
-
-    tested : (arguments : Term) (b : Bool) → IsBad {A = State} (elim b [ false ↦ Err (BadReference place) | true ↦ packs arguments >>= λ s. Ok (appended around (parameter k) s) ])
-    tested arguments false = tt
-    tested arguments true = bad_bind (packs arguments) (λ s. Ok (appended around (parameter k) s)) (packs_bad place around.in_expansion (length_if_pack (element arguments k)) state) (λ s. tt)
-
-    go : (o : Option Term) → IsBad {A = State} (elim o [
-      | None ↦ Err (BadReference place)
-      | Some arguments ↦ elim (nat_lt k (count arguments)) [ false ↦ Err (BadReference place) | true ↦ packs arguments >>= λ s. Ok (appended around (parameter k) s) ]
-    ])
-    go None = tt
-    go (Some arguments) = tested arguments (nat_lt k (count arguments))
+named_bad around place k state =
+    if_there IsBad around.scope _ _ tt (λ arguments is. either IsBad (nat_lt k (count arguments)) _ _
+    (λ h. bad_bind (with_packs place around.in_expansion (length_if_pack (element arguments k)) state) (λ s. Ok (appended around (parameter k) s))
+    (packs_bad place around.in_expansion (length_if_pack (element arguments k)) state) (λ s. tt))
+    (λ h. tt))
 
 parameter_bad : (around : Around) (place k : ℕ) (vs : List Value) (state : State) → IsBad (parameter_so_far around place k vs state)
 unfolding parameter_so_far listed_so_far
@@ -89,11 +63,7 @@ argument_bad around place k state =
 
 number_bad : (place : ℕ) (digits : List ℕ) (state : State) → IsBad (number_tested place digits state)
 unfolding number_tested
-number_bad place digits state = go (nat_lt (local_number digits) (2 ^ 64))
-  where
-    go : (b : Bool) → IsBad {A = State} (elim b [ true ↦ Ok state | false ↦ Err (BadValue place) ])
-    go true = tt
-    go false = tt
+number_bad place digits state = either IsBad (nat_lt (local_number digits) (2 ^ 64)) _ _ (λ h. tt) (λ h. tt)
 
 opening_bad : (p : Production) (parts : Forest) (place : ℕ) (state : State) → IsBad (opening p parts place state)
 unfolding opening
@@ -127,58 +97,22 @@ close_bad _ byte around place began vs state = tt
 
 here_bad : (around : Around) (place k : ℕ) (state : State) → IsBad (parameter_here around place k [] state)
 unfolding parameter_here generic_so_far listed_so_far
-here_bad around place k state = go around.in_lambda
-  where
-    go : (b : Bool) → IsBad {A = Next Value State Around} (elim b [ true ↦ generic_so_far around k [] state | false ↦ parameter_so_far around place k [] state ])
-    go true = tt
-    go false = parameter_bad around place k [] state
+here_bad around place k state = either IsBad around.in_lambda _ _ (λ h. tt) (λ h. parameter_bad around place k [] state)
 
 argument_here_bad : (around : Around) (place k : ℕ) (state : State) → IsBad (argument_here around place k state)
 unfolding argument_here
-argument_here_bad around place k state = go around.in_lambda
-  where
-    go : (b : Bool) → IsBad {A = Next Value State Around} (elim b [ true ↦ next (tree (parameter (generic_number k)) true ∷ []) around state | false ↦ argument_so_far around place k state ])
-    go true = tt
-    go false = argument_bad around place k state
+argument_here_bad around place k state = either IsBad around.in_lambda _ _ (λ h. tt) (λ h. argument_bad around place k state)
 
 scope_bad : (around : Around) (place : ℕ) (t : Term) (k : ℕ) (state : State) → IsBad (in_scope around place t k state)
 unfolding in_scope
-scope_bad around place t k state = go around.scope
-  where
-    packs : Term → Result State Refusal
-    packs arguments = with_packs place around.in_expansion (pack_length arguments t) state
-
-    tested : (arguments : Term) (b : Bool) → IsBad {A = Found Value State} (elim b [
-      | false ↦ Err (BadReference place)
-      | true ↦ packs arguments >>= λ s. Ok (found (tree t true) s)
-    ])
-    tested arguments false = tt
-    tested arguments true = bad_bind (packs arguments) (λ s. Ok (found (tree t true) s)) (packs_bad place around.in_expansion (pack_length arguments t) state) (λ s. tt)
-
-    go : (o : Option Term) → IsBad {A = Found Value State} (elim o [
-      | None ↦ Err (BadReference place)
-      | Some arguments ↦ elim (nat_lt k (count arguments) && not (is_list (element arguments k))) [
-        | false ↦ Err (BadReference place)
-        | true ↦ packs arguments >>= λ s. Ok (found (tree t true) s)
-      ]
-    ])
-    go None = tt
-    go (Some arguments) = tested arguments (nat_lt k (count arguments) && not (is_list (element arguments k)))
+scope_bad around place t k state =
+    if_there IsBad around.scope _ _ tt (λ arguments is. either IsBad (nat_lt k (count arguments) && not (is_list (element arguments k))) _ _
+    (λ h. bad_bind (with_packs place around.in_expansion (pack_length arguments t) state) (λ s. Ok (found (tree t true) s)) (packs_bad place around.in_expansion (pack_length arguments t) state)
+    (λ s. tt)) (λ h. tt))
 
 under_bad : (around : Around) (place : ℕ) (t : Term) (m : ℕ) (state : State) → IsBad (under_scope around place t m state)
 unfolding under_scope
-under_bad around place t m state = go around.scope
-  where
-    tested : (b : Bool) → IsBad {A = Found Value State} (elim b [ false ↦ Err (BadReference place) | true ↦ Ok (found (tree t true) state) ])
-    tested false = tt
-    tested true = tt
-
-    go : (o : Option Term) → IsBad {A = Found Value State} (elim o [
-      | None ↦ Err (BadReference place)
-      | Some arguments ↦ elim (nat_lt m (count arguments) && not (has_pack arguments)) [ false ↦ Err (BadReference place) | true ↦ Ok (found (tree t true) state) ]
-    ])
-    go None = tt
-    go (Some arguments) = tested (nat_lt m (count arguments) && not (has_pack arguments))
+under_bad around place t m state = if_there IsBad around.scope _ _ tt (λ arguments is. either IsBad (nat_lt m (count arguments) && not (has_pack arguments)) _ _ (λ h. tt) (λ h. tt))
 
 free_bad : (free : Free) (around : Around) (place : ℕ) (t : Term) (state : State) → IsBad (with_free free around place t state)
 unfolding with_free
@@ -188,42 +122,20 @@ free_bad (several_free m) around place t state = under_bad around place t m stat
 
 restated_bad : (around : Around) (place : ℕ) (t : Term) (state : State) → IsBad (restated around place t state)
 unfolding restated
-restated_bad around place t state = go around.in_lambda
-  where
-    go : (b : Bool) → IsBad {A = Found Value State} (elim b [ true ↦ Ok (found (tree t true) state) | false ↦ with_free (free_in t) around place t state ])
-    go true = tt
-    go false = free_bad (free_in t) around place t state
+restated_bad around place t state = either IsBad around.in_lambda _ _ (λ h. tt) (λ h. free_bad (free_in t) around place t state)
 
 wide_substituted_bad : (around : Around) (place : ℕ) (o : Option Candidate) (state : State) → IsBad (substituted_wide around place o state)
 unfolding substituted_wide
 wide_substituted_bad around place None state = tt
-wide_substituted_bad around place (Some c) state = go (is_foreign around c)
-  where
-    go : (b : Bool) → IsBad {A = Found Value State} (elim b [ true ↦ restated around place c.tree state | false ↦ substituted around place (Some c) state ])
-    go true = restated_bad around place c.tree state
-    go false = substituted_bad around place (Some c) state
+wide_substituted_bad around place (Some c) state = either IsBad (is_foreign around c) _ _ (λ h. restated_bad around place c.tree state) (λ h. substituted_bad around place (Some c) state)
 
 numbered_bad : (around : Around) (place number : ℕ) (state : State) → IsBad (numbered around place number state)
 unfolding numbered
-numbered_bad around place number state = go (is_counted_alike state.candidates number)
-  where
-    go : (b : Bool) → IsBad {A = Found Value State} (elim b [
-      | true ↦ substituted_wide around place (slice_get state.candidates number) state
-      | false ↦ Err (BadReference place)
-    ])
-    go true = wide_substituted_bad around place (slice_get state.candidates number) state
-    go false = tt
+numbered_bad around place number state = either IsBad (is_counted_alike state.candidates number) _ _ (λ h. wide_substituted_bad around place (slice_get state.candidates number) state) (λ h. tt)
 
 holder_bad : (around : Around) (place : ℕ) (state : State) → IsBad (holder_so_far around place state)
 unfolding holder_so_far listed_so_far
-holder_bad around place state = go (is_instance (prefix_tree around.prefix))
-  where
-    go : (b : Bool) → IsBad {A = Next Value State Around} (elim b [
-      | true ↦ Err (BadReference place)
-      | false ↦ listed_so_far around (holder (prefix_tree around.prefix)) [] (with_holder around (holder (prefix_tree around.prefix)) state)
-    ])
-    go true = tt
-    go false = tt
+holder_bad around place state = either IsBad (is_instance (prefix_tree around.prefix)) _ _ (λ h. tt) (λ h. tt)
 
 wide_between_bad : (p : Production) (around : Around) (place : ℕ) (vs : List Value) (state : State) → IsBad (between_wide p around place vs state)
 unfolding between_wide

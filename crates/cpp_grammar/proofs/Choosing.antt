@@ -1,17 +1,21 @@
 -- The rule that the table has is that of the production that a kind takes.
-use Rattle.std.proofs.Common.{◌≡◌, ◌≢◌, ℕ, zero, suc, ◌+◌, ◌<◌, ◌≤◌, List, [], ◌∷◌, ◌++◌, length, map, get_or, slice_get, Bool, true, cond, ◌&&◌, ◌||◌, leb, nat_eq, nat_le, Some, None, inl, inr, refl, ap, sym, ◌∙◌, arith}
+use Rattle.std.proofs.Common.{◌≡◌, ◌≢◌, ℕ, zero, suc, ◌+◌, ◌<◌, ◌≤◌, List, [], ◌∷◌, ◌++◌, length, map, get_or, slice_get, Bool, true, false, not, cond, Option, ◌&&◌, ◌||◌, leb, nat_eq, nat_le, Some, None, inl, inr, refl, ap, sym, ◌∙◌, arith}
 use Rattle.std.specs.Option.{option_map}
 use Rattle.std.proofs.lemmas.List.{take_all}
 use Rattle.std.proofs.lemmas.List.Folds.{list_any-append}
 use Rattle.std.proofs.lemmas.Option.{slice_get-map, get_or_from_slice_get, slice_get_cases}
-use Rattle.std.proofs.lemmas.Bool.{le-leb, lt-leb, eqb-true, and_parts, cases_Bool, cases_order}
+use Rattle.std.proofs.lemmas.Bool.{true≢false, le-leb, lt-leb, eqb-true, and_parts, cases_Bool, cases_order}
 use Rattle.std.proofs.lemmas.Bool.Decides.{leb_tells, eqb_tells}
+use Rattle.sym_shape.specs.declared.rule.Rule.{Rule}
+use Rattle.sym_shape.specs.Tree.{TakesRule}
 use Rattle.sym_shape.specs.Sheet.{range, in_range, classes_of, choice_at}
 use Rattle.sym_shape.specs.Sheet as sheets
 use Rattle.cpp_grammar.specs.declared.kind.Kind.{Kind}
+use Rattle.cpp_grammar.specs.declared.production.Production.{Production}
 use Rattle.cpp_grammar.specs.Grammar.{Alternative, in_ranges, among, is_in, pick, alternatives, choose, kinds, number_of_kind, may_be_empty}
 use Rattle.cpp_grammar.specs.Wide.{wide_alternatives, wide_choose}
 use Rattle.cpp_grammar.specs.Table.{rule_of, rule_taken, ranges_of, class_of, choice_of, sheet_with, blank, sheet, abi, wide_sheet, wide}
+use Rattle.cpp_grammar.proofs.Chosen.{either_cond}
 
 is_above : (c byte : ℕ) → c ≤ byte → byte ≢ c → c < byte
 is_above c byte le other = elim (cases_order byte c) [ inl same ↦ absurd (other same) | inr apart ↦ elim apart [ inl below ↦ absurd (omega (arith, le, below)) | inr above ↦ above ] ]
@@ -116,3 +120,50 @@ is_wide_kind k lt none = elim (slice_get_cases kinds k).1 [
   | inl there ↦ (let clash : None ≡ Some there.0 = sym none ∙ there.2 in absurd cc)
   | inr past ↦ absurd (omega (arith, past.0, lt, wide_count))
 ]
+
+-- ## The production of a tree
+
+-- what passes for each of these productions
+unfoldable pub each_passes : (Production → Bool) → List Alternative → Bool
+each_passes passes [] = true
+each_passes passes (a ∷ rest) = passes a.production && each_passes passes rest
+
+picked_passes : (passes : Production → Bool) (all : List Alternative) (byte : ℕ) (p : Production) → each_passes passes all ≡ true → pick all byte ≡ Some p → passes p ≡ true
+unfolding pick each_passes
+picked_passes passes [] byte p h e = absurd cc
+picked_passes passes (a ∷ rest) byte p h e =
+    let both = and_parts (passes a.production) (each_passes passes rest) h in
+    either_cond (λ x. x ≡ Some p → passes p ≡ true) (is_in a byte) (Some a.production) (pick rest byte) (λ is i. let same : a.production ≡ p = cc in sym (ap passes same) ∙ both.0)
+    (λ is i. picked_passes passes rest byte p both.1 i) e
+
+-- a kind of this number takes this rule, at some byte
+pub record Chosen (k : ℕ) (rule : Rule) : Type 0 where
+  pub kind : Kind
+  pub number : k ≡ number_of_kind kind
+  pub production : Production
+  pub is : rule ≡ rule_of production
+  pub byte : ℕ
+  pub chosen : wide_choose kind byte ≡ Some production
+
+pub chosen_rule : (k : ℕ) (rule : Rule) (taken : List ℕ) → k < wide.kinds → TakesRule wide k rule taken → Chosen k rule
+unfolding rule_taken
+chosen_rule k rule taken lt takes = go (slice_get kinds k) refl
+  where
+    by : (kind : Kind) → slice_get kinds k ≡ Some kind → (o : Option Production) → wide_choose kind takes.byte ≡ o → rule_taken o ≡ Some rule → Chosen k rule
+    by kind at None is h = let clash : ◌≡◌ {A = Option Rule} None (Some rule) = h in absurd cc
+    by kind at (Some p) is h = record { kind = kind; number = omega (arith, number_at 0 kinds k kind kinds_numbered at); production = p; is = cc; byte = takes.byte; chosen = is }
+
+    go : (o : Option Kind) → slice_get kinds k ≡ o → Chosen k rule
+    go None none = absurd (is_wide_kind k lt none)
+    go (Some kind) at = by kind at (wide_choose kind takes.byte) refl (sym (wide_rule_at k kind takes.byte at) ∙ takes.found)
+
+-- what passes for each production that a kind has passes for that of its trees
+pub taken_passes : (passes : ℕ → Production → Bool) → ((kind : Kind) → each_passes (passes (number_of_kind kind)) (wide_alternatives kind) ≡ true) → (k : ℕ) (rule : Rule) (c : Chosen k rule) →
+    passes k c.production ≡ true
+unfolding wide_choose
+taken_passes passes each k rule c =
+    ap (λ n. passes n c.production) c.number ∙ picked_passes (passes (number_of_kind c.kind)) (wide_alternatives c.kind) c.byte c.production (each c.kind) c.chosen
+
+pub implied : (a b : Bool) → not a || b ≡ true → a ≡ true → b ≡ true
+implied true b h k = h
+implied false b h k = absurd (true≢false (sym k))

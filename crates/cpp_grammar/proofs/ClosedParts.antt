@@ -14,6 +14,7 @@ use Rattle.cpp_grammar.specs.Row.{Where, as_before, in_its_name, in_its_types, i
 use Rattle.cpp_grammar.specs.Meant.{made, is_listing, around_part, packs_within, gained, replaced, tested, done}
 use Rattle.cpp_grammar.specs.Rows.{row_of}
 use Rattle.cpp_grammar.proofs.Ways.{has_signature}
+use Rattle.cpp_grammar.proofs.Chosen.{either}
 use Rattle.cpp_grammar.proofs.Steps.{all_pass, step_passes, is_here, goes_here}
 use Rattle.cpp_grammar.proofs.ClosedValues.{all_where, Good, AllGood, GoodPrefix, held, good_nothing, good_part, good_prefix, made_tree_good}
 use Rattle.cpp_grammar.proofs.ClosedStates.{Bare, Within, Grows, grows_same, grows_one, grows_held, grows_packs, base_grows, gained_grows, parameter_good, parameter_grows, ok_same, behind_bind}
@@ -142,39 +143,31 @@ done_goes own (tests after_t is_name) around place vs state n at here pre all e 
 done_goes own holds around place vs state n at here pre all e = let clash : ◌≡◌ {A = Going} (Err (BadReference place)) (Ok n) = e in absurd cc
 done_goes own unread around place vs state n at here pre all e = let clash : ◌≡◌ {A = Going} (Err (BadReference place)) (Ok n) = e in absurd cc
 
-between_goes : (own : Bool) (production : Production) (around : Around) (place : ℕ) (vs : List Value) (state : State) (n : Next Value State Around) (at : ℕ) → StaysInside production → has_signature production ≡ false →
-    GoodPrefix (Bare own around) around.prefix → AllGood (Bare own around) vs → between production around place vs state ≡ Ok n → GoesOn own around at state n
-unfolding has_signature between all_pass goes_here is_here
-between_goes own Production.Encoding around place vs state n at stays apart pre all e = absurd stays
-between_goes own Production.Special around place vs state n at stays apart pre all e = absurd stays
-between_goes own Production.OtherSpecial around place vs state n at stays apart pre all e = absurd stays
-between_goes own Production.Lambda around place vs state n at stays apart pre all e = absurd (true≢false apart)
-between_goes own Production.ValueOf around place vs state n at stays apart pre all e = absurd (true≢false apart)
-between_goes own Production.OfConcept around place vs state n at stays apart pre all e = absurd (true≢false apart)
-between_goes own Production.Constraint around place vs state n at stays apart pre all e = absurd (true≢false apart)
-between_goes own p around place vs state n at stays apart pre all e = done_goes own (before_part (row_of p) (length vs)) around place vs state n at (step_passes goes_here (row_of p) refl (length vs)) pre all e
-
 within : (own : Bool) (p : Production) (around : Around) (at : ℕ) (state : State) (n : Next Value State Around) → GoesOn own around at state n → Goes own (Within own p around) around at state n
 within own p around at state n g = record { values = all_where (Bare own around) (Within own p around) n.values (λ w. w.0) g.values; grows = g.grows; fits = g.fits; bare = λ w. g.bare w.0 }
+
+-- in a signature nothing is named but what is its own
+signature_goes : (own : Bool) (p : Production) (around : Around) (at : ℕ) (vs : List Value) (state : State) (n : Next Value State Around) → has_signature p ≡ true → AllGood (Within own p around) vs →
+    ◌≡◌ {A = Going} (next vs (in_signature around) state) (Ok n) → Goes own (Within own p around) around at state n
+unfolding in_signature
+signature_goes own p around at vs state n is all e =
+    goes_by own (Within own p around) around at state vs (in_signature around) state n all (grows_same own around at state state refl) (fits_signature own around)
+    (λ within. (refl, λ o. absurd (true≢false (sym is ∙ within.1 o)))) e
 
 -- with the values of any production
 pub goes_within : (own : Bool) (production : Production) (around : Around) (place : ℕ) (vs : List Value) (state : State) (n : Next Value State Around) (at : ℕ) → StaysInside production →
     GoodPrefix (Bare own around) around.prefix → AllGood (Within own production around) vs → between production around place vs state ≡ Ok n → Goes own (Within own production around) around at state n
-unfolding between has_signature in_signature
-goes_within own Production.Lambda around place vs state n at stays pre all e =
-    goes_by own (Within own Production.Lambda around) around at state vs (in_signature around) state n all (grows_same own around at state state refl) (fits_signature own around)
-    (λ within. (refl, λ o. absurd (true≢false (within.1 o)))) e
-goes_within own Production.ValueOf around place vs state n at stays pre all e =
-    goes_by own (Within own Production.ValueOf around) around at state vs (in_signature around) state n all (grows_same own around at state state refl) (fits_signature own around)
-    (λ within. (refl, λ o. absurd (true≢false (within.1 o)))) e
-goes_within own Production.OfConcept around place vs state n at stays pre all e =
-    goes_by own (Within own Production.OfConcept around) around at state vs (in_signature around) state n all (grows_same own around at state state refl) (fits_signature own around)
-    (λ within. (refl, λ o. absurd (true≢false (within.1 o)))) e
-goes_within own Production.Constraint around place vs state n at stays pre all e =
-    goes_by own (Within own Production.Constraint around) around at state vs (in_signature around) state n all (grows_same own around at state state refl) (fits_signature own around)
-    (λ within. (refl, λ o. absurd (true≢false (within.1 o)))) e
+unfolding between has_signature in_signature all_pass goes_here is_here
+goes_within own Production.Encoding around place vs state n at stays pre all e = absurd stays
+goes_within own Production.Special around place vs state n at stays pre all e = absurd stays
+goes_within own Production.OtherSpecial around place vs state n at stays pre all e = absurd stays
+goes_within own Production.Lambda around place vs state n at stays pre all e = signature_goes own Production.Lambda around at vs state n refl all e
+goes_within own Production.ValueOf around place vs state n at stays pre all e = signature_goes own Production.ValueOf around at vs state n refl all e
+goes_within own Production.OfConcept around place vs state n at stays pre all e = signature_goes own Production.OfConcept around at vs state n refl all e
+goes_within own Production.Constraint around place vs state n at stays pre all e = signature_goes own Production.Constraint around at vs state n refl all e
 goes_within own p around place vs state n at stays pre all e =
-    within own p around at state n (between_goes own p around place vs state n at stays refl pre (all_where (Within own p around) (Bare own around) vs (λ bare. (bare, λ o. refl)) all) e)
+    within own p around at state n (done_goes own (before_part (row_of p) (length vs)) around place vs state n at (step_passes goes_here (row_of p) refl (length vs)) pre
+    (all_where (Within own p around) (Bare own around) vs (λ bare. (bare, λ o. refl)) all) e)
 
 -- ## The reading of the wide grammar
 
@@ -187,16 +180,14 @@ generic_goes : (around : Around) (at : ℕ) (state : State) (k : ℕ) (n : Next 
 unfolding generic_so_far
 generic_goes around at state k n is e =
     let t = parameter (generic_number k) in
-    let good : Good (Bare true around) t = record { closed = λ bare. absurd (true≢false (sym is ∙ bare.1 refl)); scopes = tt } in
+    let good : Good (Bare true around) t = record { closed = λ bare. absurd (true≢false (sym is ∙ bare.1 refl)); scopes = λ n. tt } in
     named_goes around at state (appended around t state) t n good (grows_one true around at t state good) e
 
 here_goes : (around : Around) (place at : ℕ) (state : State) (k : ℕ) (n : Next Value State Around) → GoodPrefix (Bare true around) around.prefix → parameter_here around place k [] state ≡ Ok n → GoesOn true around at state n
 unfolding parameter_here parameter_so_far listed_so_far tested replaced held
-here_goes around place at state k n pre e = go around.in_lambda refl e
-  where
-    go : (b : Bool) → around.in_lambda ≡ b → ◌≡◌ {A = Going} (elim b [ true ↦ generic_so_far around k [] state | false ↦ parameter_so_far around place k [] state ]) (Ok n) → GoesOn true around at state n
-    go true is h = generic_goes around at state k n is h
-    go false is h = tests_goes true around place at state k true (nothing_there ∷ []) n pre (good_nothing (Bare true around), tt) h
+here_goes around place at state k n pre e =
+    either (λ x. x ≡ Ok n → GoesOn true around at state n) around.in_lambda _ _ (λ is h. generic_goes around at state k n is h)
+    (λ is h. tests_goes true around place at state k true (nothing_there ∷ []) n pre (good_nothing (Bare true around), tt) h) e
 
 here_within : (p : Production) (around : Around) (place at : ℕ) (state : State) (k : ℕ) (n : Next Value State Around) → GoodPrefix (Bare true around) around.prefix → parameter_here around place k [] state ≡ Ok n →
     Goes true (Within true p around) around at state n
@@ -205,31 +196,22 @@ here_within p around place at state k n pre e = within true p around at state n 
 argument_here_goes : (around : Around) (place at : ℕ) (state : State) (k : ℕ) (n : Next Value State Around) → GoodPrefix (Bare true around) around.prefix → argument_here around place k state ≡ Ok n →
     GoesOn true around at state n
 unfolding argument_here argument_so_far tested replaced held
-argument_here_goes around place at state k n pre e = go around.in_lambda refl e
-  where
-    named : Term
-    named = parameter (generic_number k)
-
-    go : (b : Bool) → around.in_lambda ≡ b → ◌≡◌ {A = Going} (elim b [ true ↦ next (tree (parameter (generic_number k)) true ∷ []) around state | false ↦ argument_so_far around place k state ]) (Ok n) →
-        GoesOn true around at state n
-    go true is h =
-        let good : Good (Bare true around) named = record { closed = λ bare. absurd (true≢false (sym is ∙ bare.1 refl)); scopes = tt } in
-        goes_to true around at state (tree named true ∷ []) around state n (good, tt) (grows_same true around at state state refl) (fits_same true around pre) h
-    go false is h = tests_goes true around place at state k false (nothing_there ∷ []) n pre (good_nothing (Bare true around), tt) h
+argument_here_goes around place at state k n pre e =
+    let named : Term = parameter (generic_number k) in
+    either (λ x. x ≡ Ok n → GoesOn true around at state n) around.in_lambda _ _
+    (λ is h.
+    let good : Good (Bare true around) named = record { closed = λ bare. absurd (true≢false (sym is ∙ bare.1 refl)); scopes = λ n. tt } in
+    goes_to true around at state (tree named true ∷ []) around state n (good, tt) (grows_same true around at state state refl) (fits_same true around pre) h)
+    (λ is h. tests_goes true around place at state k false (nothing_there ∷ []) n pre (good_nothing (Bare true around), tt) h) e
 
 holder_goes : (around : Around) (place at : ℕ) (state : State) (n : Next Value State Around) → GoodPrefix (Bare true around) around.prefix → holder_so_far around place state ≡ Ok n → GoesOn true around at state n
 unfolding holder_so_far is_open
-holder_goes around place at state n pre e = go (is_instance (prefix_tree around.prefix)) e
-  where
-    named : Term
-    named = holder (prefix_tree around.prefix)
-
-    go : (b : Bool) → ◌≡◌ {A = Going} (elim b [ true ↦ Err (BadReference place) | false ↦ listed_so_far around named [] (with_holder around named state) ]) (Ok n) → GoesOn true around at state n
-    go true h = let clash : ◌≡◌ {A = Going} (Err (BadReference place)) (Ok n) = h in absurd cc
-    go false h =
-        let g = good_prefix (Bare true around) around.prefix pre in
-        let good : Good (Bare true around) named = record { closed = g.closed; scopes = g.scopes } in
-        named_goes around at state (with_holder around named state) named n good (grows_held true around at named state good) h
+holder_goes around place at state n pre e =
+    let named : Term = holder (prefix_tree around.prefix) in
+    let g = good_prefix (Bare true around) around.prefix pre in
+    let good : Good (Bare true around) named = record { closed = g.closed; scopes = g.scopes } in
+    either (λ x. x ≡ Ok n → GoesOn true around at state n) (is_instance (prefix_tree around.prefix)) _ _ (λ is h. absurd cc)
+    (λ is h. named_goes around at state (with_holder around named state) named n good (grows_held true around at named state good) h) e
 
 base_goes : (around : Around) (at : ℕ) (state : State) (n : Next Value State Around) → GoodPrefix (Bare true around) around.prefix →
     ◌≡◌ {A = Going} (next [] (inside around) (with_base around (prefix_tree around.prefix) state)) (Ok n) → GoesOn true around at state n

@@ -1,5 +1,5 @@
 -- The candidates that a part appends are closed where no parameters are named around it.
-use Rattle.std.proofs.Common.{◌≡◌, refl, ap, sym, ◌∙◌, subst, ℕ, zero, suc, ◌-◌, ◌<◌, ◌≤◌, List, [], ◌∷◌, ◌++◌, Bool, true, false, not, ◌||◌, ◌&&◌, cond, nat_eq, nat_lt, slice_get, Option, Some, None, Result, Ok, Err, ◌⊎◌, inl, inr, arith}
+use Rattle.std.proofs.Common.{◌≡◌, refl, ap, sym, ◌∙◌, subst, ℕ, zero, suc, ◌-◌, ◌<◌, ◌≤◌, List, [], ◌∷◌, ◌++◌, Bool, true, false, not, ◌||◌, ◌&&◌, nat_eq, nat_lt, slice_get, Option, Some, None, Result, Ok, Err, ◌⊎◌, inl, inr, arith}
 use Rattle.std.proofs.lemmas.Bool.{eqb-true, true≢false, false≢true}
 use Rattle.std.proofs.lemmas.List.{append_assoc, append-nil}
 use Rattle.sym_core.specs.declared.refusal.Refusal.{Refusal}
@@ -23,7 +23,8 @@ use Rattle.cpp_grammar.specs.Row.{Gain, nothing, the_prefix, type_of, unqualifie
 use Rattle.cpp_grammar.specs.Meant.{gained}
 use Rattle.cpp_grammar.specs.Rows.{row_of}
 use Rattle.cpp_grammar.proofs.Ways.{has_signature}
-use Rattle.cpp_grammar.proofs.ClosedValues.{all_where, prefix_where, Good, AllGood, GoodPrefix, HasClosedName, held, good_tree, good_held, good_part, good_prefix, meaning_good}
+use Rattle.cpp_grammar.proofs.Chosen.{either, either_cond, if_there}
+use Rattle.cpp_grammar.proofs.ClosedValues.{all_where, prefix_where, Good, AllGood, GoodPrefix, HasClosedName, held, good_nothing, good_tree, good_held, good_part, good_prefix, meaning_good}
 
 -- No parameters are named here. Where those in a lambda's signature are its own, they are named in none.
 abbrev pub Bare : (own : Bool) → Around → Type 0
@@ -89,7 +90,7 @@ unfolding appended
 grows_one own around end t state good = record {
   more = record { tree = t; encoding = around.encoding; in_lambda = around.in_lambda; is_held = false } ∷ [];
   is = refl;
-  each = (record { scopes = good.scopes; place = inl (refl, λ none outside. good.closed (none, outside)) }, tt);
+  each = (record { scopes = good.scopes tt; place = inl (refl, λ none outside. good.closed (none, outside)) }, tt);
 }
 
 pub grows_held : (own : Bool) (around : Around) (end : ℕ) (t : Term) (state : State) → Good (Bare own around) t → Grows own around end state (with_holder around t state)
@@ -97,7 +98,7 @@ unfolding with_holder
 grows_held own around end t state good = record {
   more = record { tree = t; encoding = around.encoding; in_lambda = around.in_lambda; is_held = true } ∷ [];
   is = refl;
-  each = (record { scopes = good.scopes; place = inl (refl, λ none outside. good.closed (none, outside)) }, tt);
+  each = (record { scopes = good.scopes tt; place = inl (refl, λ none outside. good.closed (none, outside)) }, tt);
 }
 
 pub grows_then : (own : Bool) (around : Around) (a b : ℕ) (x y z : State) → a ≤ b → Grows own around a x y → Grows own around b y z → Grows own around b x z
@@ -135,19 +136,13 @@ old_grows own around a b old new le known grows =
 
 pub with_type_grows : (own : Bool) (around : Around) (end : ℕ) (v : Value) (state : State) → Good (Bare own around) (tree_of v) → Grows own around end state (with_type around v state)
 unfolding with_type
-with_type_grows own around end v state good = go (is_listed v)
-  where
-    go : (b : Bool) → Grows own around end state (elim b [ true ↦ state | false ↦ appended around (tree_of v) state ])
-    go true = grows_same own around end state state refl
-    go false = grows_one own around end (tree_of v) state good
+with_type_grows own around end v state good =
+    either (Grows own around end state) (is_listed v) _ _ (λ h. grows_same own around end state state refl) (λ h. grows_one own around end (tree_of v) state good)
 
 with_unqualified_grows : (own : Bool) (around : Around) (end : ℕ) (v : Value) (state : State) → Good (Bare own around) (tree_of v) → Grows own around end state (with_unqualified around v state)
 unfolding with_unqualified
-with_unqualified_grows own around end v state good = go (is_function_type (tree_of v))
-  where
-    go : (b : Bool) → Grows own around end state (elim b [ true ↦ state | false ↦ with_type around v state ])
-    go true = grows_same own around end state state refl
-    go false = with_type_grows own around end v state good
+with_unqualified_grows own around end v state good =
+    either (Grows own around end state) (is_function_type (tree_of v)) _ _ (λ h. grows_same own around end state state refl) (λ h. with_type_grows own around end v state good)
 
 -- ## References
 
@@ -172,18 +167,10 @@ packs_keep : (place : ℕ) (b : Bool) (o : Option ℕ) (state new : State) → w
 unfolding with_packs
 packs_keep place b None state new e = ap (λ s. s.candidates) (sym (ok_same state new e))
 packs_keep place false (Some m) state new e = absurd cc
-packs_keep place true (Some m) state new e = go state.packs e
-  where
-    tested : (b : Bool) → ◌≡◌ {A = Result State Refusal} (elim b [ true ↦ Ok state | false ↦ Err (BadReference place) ]) (Ok new) → new.candidates ≡ state.candidates
-    tested true h = ap (λ s. s.candidates) (sym (ok_same state new h))
-    tested false h = absurd cc
-
-    go : (o : Option ℕ) → ◌≡◌ {A = Result State Refusal} (elim o [
-      | None ↦ Ok (record state { packs = Some m })
-      | Some n ↦ elim (nat_eq m n) [ true ↦ Ok state | false ↦ Err (BadReference place) ]
-    ]) (Ok new) → new.candidates ≡ state.candidates
-    go None h = ap (λ s. s.candidates) (sym (ok_same (record state { packs = Some m }) new h))
-    go (Some n) h = tested (nat_eq m n) h
+packs_keep place true (Some m) state new e =
+    let kept : Result State Refusal → Type 0 = λ x. x ≡ Ok new → new.candidates ≡ state.candidates in
+    if_there kept state.packs _ _ (λ h. ap (λ s. s.candidates) (sym (ok_same (record state { packs = Some m }) new h)))
+    (λ n is. either kept (nat_eq m n) _ _ (λ same h. ap (λ s. s.candidates) (sym (ok_same state new h))) (λ other h. absurd cc)) e
 
 old_get : (own : Bool) (around : Around) (at : ℕ) (cs : List Candidate) (n : ℕ) (c : Candidate) → AllOld own around at cs → slice_get cs n ≡ Some c → IsOld own around at c
 old_get own around at [] n c all e = absurd cc
@@ -201,7 +188,7 @@ named_good own around place at c state r old outside e = go (is_open c.tree) aro
         let b = behind_bind (with_packs place around.in_expansion (packs_in around.scope c.tree) state) (λ s. Ok (found (tree c.tree true) s)) r h in
         let same : found (tree c.tree true) b.value ≡ r = ok_same (found (tree c.tree true) b.value) r b.next in
         subst (λ x. Good (Bare own around) (held x.value) × (x.state.candidates ≡ state.candidates)) same
-        (record { closed = closed; scopes = old.scopes }, packs_keep place around.in_expansion (packs_in around.scope c.tree) state b.value b.is)
+        (record { closed = closed; scopes = λ n. old.scopes }, packs_keep place around.in_expansion (packs_in around.scope c.tree) state b.value b.is)
 
     go : (open_ lambda_ same : Bool) → is_open c.tree ≡ open_ → around.in_lambda ≡ lambda_ → nat_eq c.encoding around.encoding ≡ same →
         ◌≡◌ {A = Result (Found Value State) Refusal} (elim (open_ && (lambda_ || not same)) [
@@ -223,7 +210,7 @@ substituted_good around place at n state r all e = go (slice_get state.candidate
     go (Some c) is h = named_good false around place at c state r (old_get false around at state.candidates n c all is) (λ opens none. absurd (false≢true none)) h
 
 pub parameter_good : (own : Bool) (around : Around) (k : ℕ) → (Bare own around → ⊥) → Good (Bare own around) (parameter k)
-parameter_good own around k named = record { closed = λ bare. absurd (named bare); scopes = tt }
+parameter_good own around k named = record { closed = λ bare. absurd (named bare); scopes = λ n. tt }
 
 -- a parameter that wasn't refused was named in a scope, and is a candidate
 pub record Named (own : Bool) (around : Around) (k end : ℕ) (old new : State) : Type 0 where
@@ -232,45 +219,30 @@ pub record Named (own : Bool) (around : Around) (k end : ℕ) (old new : State) 
 
 pub parameter_grows : (own : Bool) (around : Around) (place k end : ℕ) (state new : State) → parameter_named around place k state ≡ Ok new → Named own around k end state new
 unfolding parameter_named
-parameter_grows own around place k end state new e = go around.scope refl e
-  where
-    tested : (arguments : Term) (b : Bool) → around.scope ≡ Some arguments → ◌≡◌ {A = Result State Refusal} (elim b [
-      | false ↦ Err (BadReference place)
-      | true ↦ with_packs place around.in_expansion (length_if_pack (element arguments k)) state >>= λ s. Ok (appended around (parameter k) s)
-    ]) (Ok new) → Named own around k end state new
-    tested arguments false is h = absurd cc
-    tested arguments true is h =
-        let packs = with_packs place around.in_expansion (length_if_pack (element arguments k)) state in
-        let b = behind_bind packs (λ s. Ok (appended around (parameter k) s)) new h in
-        let same : appended around (parameter k) b.value ≡ new = ok_same (appended around (parameter k) b.value) new b.next in
-        let scoped : Bare own around → ⊥ = λ bare. (let clash : None ≡ Some arguments = sym bare.0 ∙ is in cc) in
-        let one = grows_one own around end (parameter k) b.value (parameter_good own around k scoped) in
-        record {
-          scoped = scoped;
-          grows = subst (λ s. Grows own around end state s) same
-              (grows_then own around end end state b.value (appended around (parameter k) b.value) (omega arith)
-              (grows_same own around end state b.value (packs_keep place around.in_expansion (length_if_pack (element arguments k)) state b.value b.is)) one);
-        }
-
-    go : (o : Option Term) → around.scope ≡ o → ◌≡◌ {A = Result State Refusal} (elim o [
-      | None ↦ Err (BadReference place)
-      | Some arguments ↦ elim (nat_lt k (count arguments)) [
-        | false ↦ Err (BadReference place)
-        | true ↦ with_packs place around.in_expansion (length_if_pack (element arguments k)) state >>= λ s. Ok (appended around (parameter k) s)
-      ]
-    ]) (Ok new) → Named own around k end state new
-    go None is h = absurd cc
-    go (Some arguments) is h = tested arguments (nat_lt k (count arguments)) is h
+parameter_grows own around place k end state new e =
+    let named : Result State Refusal → Type 0 = λ x. x ≡ Ok new → Named own around k end state new in
+    if_there named around.scope _ _ (λ h. absurd cc)
+    (λ arguments is. either named (nat_lt k (count arguments)) _ _
+    (λ there h.
+    let packs = with_packs place around.in_expansion (length_if_pack (element arguments k)) state in
+    let b = behind_bind packs (λ s. Ok (appended around (parameter k) s)) new h in
+    let same : appended around (parameter k) b.value ≡ new = ok_same (appended around (parameter k) b.value) new b.next in
+    let scoped : Bare own around → ⊥ = λ bare. (let clash : None ≡ Some arguments = sym bare.0 ∙ is in cc) in
+    let one = grows_one own around end (parameter k) b.value (parameter_good own around k scoped) in
+    record {
+      scoped = scoped;
+      grows = subst (λ s. Grows own around end state s) same
+          (grows_then own around end end state b.value (appended around (parameter k) b.value) (omega arith)
+          (grows_same own around end state b.value (packs_keep place around.in_expansion (length_if_pack (element arguments k)) state b.value b.is)) one);
+    }) (λ missing h. absurd cc)) e
 
 -- ## After the parts of a production
 
 pub with_prefix_grows : (own : Bool) (around : Around) (end : ℕ) (state : State) → GoodPrefix (Bare own around) around.prefix → Grows own around end state (with_prefix around state)
 unfolding with_prefix
-with_prefix_grows own around end state good = go (prefix_listed around.prefix)
-  where
-    go : (listed : Bool) → Grows own around end state (elim listed [ true ↦ state | false ↦ appended around (prefix_tree around.prefix) state ])
-    go true = grows_same own around end state state refl
-    go false = grows_one own around end (prefix_tree around.prefix) state (good_prefix (Bare own around) around.prefix good)
+with_prefix_grows own around end state good =
+    either (Grows own around end state) (prefix_listed around.prefix) _ _ (λ h. grows_same own around end state state refl)
+    (λ h. grows_one own around end (prefix_tree around.prefix) state (good_prefix (Bare own around) around.prefix good))
 
 pub gained_grows : (own : Bool) (gain : Gain) (around : Around) (vs : List Value) (v : Value) (state : State) (end : ℕ) →
     GoodPrefix (Bare own around) around.prefix → AllGood (Bare own around) vs → Good (Bare own around) (tree_of v) → Grows own around end state (gained gain around vs v state)
@@ -288,29 +260,28 @@ grows_packs own around end old new packs grows = record { more = grows.more; is 
 behind_grows : (own : Bool) (production : Production) (byte : ℕ) (around : Around) (began : State) (vs : List Value) (state : State) (end : ℕ) → GoodPrefix (Bare own around) around.prefix → AllGood (Bare own around) vs →
     HasClosedName production vs → Grows own around end state (unfolding_.behind production byte around began vs state)
 unfolding unfolding_.behind
-behind_grows own production byte around began vs state end pre all name = go (row_of production).restores_packs
-  where
-    v : Value
-    v = meaning production byte around vs
-
-    gains : Grows own around end state (gained (row_of production).gain around vs v state)
-    gains = gained_grows own (row_of production).gain around vs v state end pre all (good_tree (Bare own around) v (meaning_good (Bare own around) production byte around vs pre all name))
-
-    go : (b : Bool) → Grows own around end state (cond b (record (gained (row_of production).gain around vs v state) { packs = began.packs }) (gained (row_of production).gain around vs v state))
-    go true = grows_packs own around end state (gained (row_of production).gain around vs v state) began.packs gains
-    go false = gains
+behind_grows own production byte around began vs state end pre all name =
+    let v = meaning production byte around vs in
+    let new = gained (row_of production).gain around vs v state in
+    let gains : Grows own around end state new =
+    gained_grows own (row_of production).gain around vs v state end pre all (good_tree (Bare own around) v (meaning_good (Bare own around) production byte around vs pre all (λ n. name))) in
+    either_cond (Grows own around end state) (row_of production).restores_packs (record new { packs = began.packs }) new (λ h. grows_packs own around end state new began.packs gains) (λ h. gains)
 
 -- what a part comes to is good, and the candidates grow
 pub record Comes (own : Bool) (around : Around) (end : ℕ) (old : State) (r : Found Value State) : Type 0 where
   pub good : Good (Bare own around) (held r.value)
   pub grows : Grows own around end old r.state
 
+comes_by : (own : Bool) (around : Around) (end : ℕ) (state new : State) (v : Value) (r : Found Value State) → Good (Bare own around) (held v) → Grows own around end state new →
+    ◌≡◌ {A = Result (Found Value State) Refusal} (Ok (found v new)) (Ok r) → Comes own around end state r
+comes_by own around end state new v r good grows e = subst (λ x. Comes own around end state x) (ok_same (found v new) r e) (record { good = good; grows = grows })
+
 made_good : (own : Bool) (production : Production) (byte : ℕ) (around : Around) (began : State) (vs : List Value) (state : State) (r : Found Value State) (end : ℕ) →
     GoodPrefix (Bare own around) around.prefix → AllGood (Bare own around) vs → HasClosedName production vs →
     ◌≡◌ {A = Result (Found Value State) Refusal} (Ok (found (meaning production byte around vs) (unfolding_.behind production byte around began vs state))) (Ok r) → Comes own around end state r
 made_good own production byte around began vs state r end pre all name e =
-    subst (λ x. Comes own around end state x) (ok_same (found (meaning production byte around vs) (unfolding_.behind production byte around began vs state)) r e)
-    (record { good = meaning_good (Bare own around) production byte around vs pre all name; grows = behind_grows own production byte around began vs state end pre all name })
+    comes_by own around end state (unfolding_.behind production byte around began vs state) (meaning production byte around vs) r
+    (meaning_good (Bare own around) production byte around vs pre all (λ n. name)) (behind_grows own production byte around began vs state end pre all name) e
 
 pub close_good : (production : Production) (byte : ℕ) (around : Around) (place : ℕ) (began : State) (vs : List Value) (state : State) (r : Found Value State) (end : ℕ) →
     AllOld false around end state.candidates → GoodPrefix (Bare false around) around.prefix → AllGood (Within false production around) vs → HasClosedName production vs →
@@ -330,51 +301,28 @@ close_good production byte around place began vs state r end old pre all name e 
 abbrev IsNamed : Around → State → Found Value State → Type 0
 IsNamed around state r = Good (Bare true around) (held r.value) × (r.state.candidates ≡ state.candidates)
 
+-- under a scope parameters name arguments
+in_scope_good : (around : Around) (t arguments : Term) → around.scope ≡ Some arguments → ScopesAreClosed t → Good (Bare true around) t
+in_scope_good around t arguments is scopes = record { closed = λ bare. (let clash : None ≡ Some arguments = sym bare.0 ∙ is in absurd cc); scopes = λ n. scopes }
+
 scope_good : (around : Around) (place : ℕ) (t : Term) (k : ℕ) (state : State) (r : Found Value State) → ScopesAreClosed t → in_scope around place t k state ≡ Ok r → IsNamed around state r
 unfolding in_scope held
-scope_good around place t k state r scopes e = go around.scope refl e
-  where
-    tested : (arguments : Term) (b : Bool) → around.scope ≡ Some arguments → ◌≡◌ {A = Result (Found Value State) Refusal} (elim b [
-      | false ↦ Err (BadReference place)
-      | true ↦ with_packs place around.in_expansion (pack_length arguments t) state >>= λ s. Ok (found (tree t true) s)
-    ]) (Ok r) → IsNamed around state r
-    tested arguments false is h = absurd cc
-    tested arguments true is h =
-        let b = behind_bind (with_packs place around.in_expansion (pack_length arguments t) state) (λ s. Ok (found (tree t true) s)) r h in
-        let scoped : Bare true around → ⊥ = λ bare. (let clash : None ≡ Some arguments = sym bare.0 ∙ is in cc) in
-        subst (λ x. IsNamed around state x) (ok_same (found (tree t true) b.value) r b.next)
-        (record { closed = λ bare. absurd (scoped bare); scopes = scopes }, packs_keep place around.in_expansion (pack_length arguments t) state b.value b.is)
-
-    go : (o : Option Term) → around.scope ≡ o → ◌≡◌ {A = Result (Found Value State) Refusal} (elim o [
-      | None ↦ Err (BadReference place)
-      | Some arguments ↦ elim (nat_lt k (count arguments) && not (is_list (element arguments k))) [
-        | false ↦ Err (BadReference place)
-        | true ↦ with_packs place around.in_expansion (pack_length arguments t) state >>= λ s. Ok (found (tree t true) s)
-      ]
-    ]) (Ok r) → IsNamed around state r
-    go None is h = absurd cc
-    go (Some arguments) is h = tested arguments (nat_lt k (count arguments) && not (is_list (element arguments k))) is h
+scope_good around place t k state r scopes e =
+    let named : Result (Found Value State) Refusal → Type 0 = λ x. x ≡ Ok r → IsNamed around state r in
+    if_there named around.scope _ _ (λ h. absurd cc)
+    (λ arguments is. either named (nat_lt k (count arguments) && not (is_list (element arguments k))) _ _
+    (λ there h.
+    let b = behind_bind (with_packs place around.in_expansion (pack_length arguments t) state) (λ s. Ok (found (tree t true) s)) r h in
+    subst (λ x. IsNamed around state x) (ok_same (found (tree t true) b.value) r b.next)
+    (in_scope_good around t arguments is scopes, packs_keep place around.in_expansion (pack_length arguments t) state b.value b.is)) (λ missing h. absurd cc)) e
 
 under_good : (around : Around) (place : ℕ) (t : Term) (m : ℕ) (state : State) (r : Found Value State) → ScopesAreClosed t → under_scope around place t m state ≡ Ok r → IsNamed around state r
 unfolding under_scope held
-under_good around place t m state r scopes e = go around.scope refl e
-  where
-    tested : (arguments : Term) (b : Bool) → around.scope ≡ Some arguments → ◌≡◌ {A = Result (Found Value State) Refusal} (elim b [
-      | false ↦ Err (BadReference place)
-      | true ↦ Ok (found (tree t true) state)
-    ]) (Ok r) → IsNamed around state r
-    tested arguments false is h = absurd cc
-    tested arguments true is h =
-        let scoped : Bare true around → ⊥ = λ bare. (let clash : None ≡ Some arguments = sym bare.0 ∙ is in cc) in
-        subst (λ x. IsNamed around state x) (ok_same (found (tree t true) state) r h)
-        (record { closed = λ bare. absurd (scoped bare); scopes = scopes }, refl)
-
-    go : (o : Option Term) → around.scope ≡ o → ◌≡◌ {A = Result (Found Value State) Refusal} (elim o [
-      | None ↦ Err (BadReference place)
-      | Some arguments ↦ elim (nat_lt m (count arguments) && not (has_pack arguments)) [ false ↦ Err (BadReference place) | true ↦ Ok (found (tree t true) state) ]
-    ]) (Ok r) → IsNamed around state r
-    go None is h = absurd cc
-    go (Some arguments) is h = tested arguments (nat_lt m (count arguments) && not (has_pack arguments)) is h
+under_good around place t m state r scopes e =
+    let named : Result (Found Value State) Refusal → Type 0 = λ x. x ≡ Ok r → IsNamed around state r in
+    if_there named around.scope _ _ (λ h. absurd cc)
+    (λ arguments is. either named (nat_lt m (count arguments) && not (has_pack arguments)) _ _
+    (λ there h. subst (λ x. IsNamed around state x) (ok_same (found (tree t true) state) r h) (in_scope_good around t arguments is scopes, refl)) (λ missing h. absurd cc)) e
 
 free_good : (free : Free) (around : Around) (place : ℕ) (t : Term) (state : State) (r : Found Value State) → ScopesAreClosed t → with_free free around place t state ≡ Ok r → IsNamed around state r
 unfolding with_free
@@ -384,20 +332,17 @@ free_good (several_free m) around place t state r scopes e = under_good around p
 
 restated_good : (around : Around) (place : ℕ) (t : Term) (state : State) (r : Found Value State) → ScopesAreClosed t → restated around place t state ≡ Ok r → IsNamed around state r
 unfolding restated held
-restated_good around place t state r scopes e = go around.in_lambda refl e
-  where
-    go : (b : Bool) → around.in_lambda ≡ b → ◌≡◌ {A = Result (Found Value State) Refusal} (elim b [
-      | true ↦ Ok (found (tree t true) state)
-      | false ↦ with_free (free_in t) around place t state
-    ]) (Ok r) → IsNamed around state r
-    go true is h =
-        subst (λ x. IsNamed around state x) (ok_same (found (tree t true) state) r h)
-        (record { closed = λ bare. absurd (true≢false (sym is ∙ bare.1 refl)); scopes = scopes }, refl)
-    go false is h = free_good (free_in t) around place t state r scopes h
+restated_good around place t state r scopes e =
+    either (λ x. x ≡ Ok r → IsNamed around state r) around.in_lambda _ _
+    (λ is h. subst (λ x. IsNamed around state x) (ok_same (found (tree t true) state) r h) (record { closed = λ bare. absurd (true≢false (sym is ∙ bare.1 refl)); scopes = λ n. scopes }, refl))
+    (λ is h. free_good (free_in t) around place t state r scopes h) e
 
 wide_named_good : (around : Around) (place at : ℕ) (c : Candidate) (state : State) (r : Found Value State) → IsOld true around at c → substituted_wide around place (Some c) state ≡ Ok r → IsNamed around state r
 unfolding substituted_wide is_foreign
-wide_named_good around place at c state r old e = go (is_open c.tree && (around.in_lambda || (c.in_lambda || not (nat_eq c.encoding around.encoding)))) refl e
+wide_named_good around place at c state r old e =
+    either (λ x. x ≡ Ok r → IsNamed around state r) (is_open c.tree && (around.in_lambda || (c.in_lambda || not (nat_eq c.encoding around.encoding)))) _ _
+    (λ is h. restated_good around place c.tree state r old.scopes h)
+    (λ is h. named_good true around place at c state r old (λ opens own. outside (is_open c.tree) c.in_lambda (not (nat_eq c.encoding around.encoding)) is opens) h) e
   where
     outside : (open_ first second : Bool) → (open_ && (around.in_lambda || (first || second))) ≡ false → open_ ≡ true → first ≡ false
     outside open_ first second none opens = go_ around.in_lambda first (sym (ap (λ o. o && (around.in_lambda || (first || second))) opens) ∙ none)
@@ -406,14 +351,6 @@ wide_named_good around place at c state r old e = go (is_open c.tree && (around.
         go_ true first_ h = absurd (true≢false h)
         go_ false true h = absurd (true≢false h)
         go_ false false h = refl
-
-    go : (b : Bool) → (is_open c.tree && (around.in_lambda || (c.in_lambda || not (nat_eq c.encoding around.encoding)))) ≡ b → ◌≡◌ {A = Result (Found Value State) Refusal} (elim b [
-      | true ↦ restated around place c.tree state
-      | false ↦ substituted around place (Some c) state
-    ]) (Ok r) → IsNamed around state r
-    go true is h = restated_good around place c.tree state r old.scopes h
-    go false is h =
-        named_good true around place at c state r old (λ opens own. outside (is_open c.tree) c.in_lambda (not (nat_eq c.encoding around.encoding)) is opens) h
 
 wide_substituted_good : (around : Around) (place at n : ℕ) (state : State) (r : Found Value State) → AllOld true around at state.candidates →
     substituted_wide around place (slice_get state.candidates n) state ≡ Ok r → IsNamed around state r
@@ -426,23 +363,19 @@ wide_substituted_good around place at n state r all e = go (slice_get state.cand
 
 numbered_good : (around : Around) (place at n : ℕ) (state : State) (r : Found Value State) → AllOld true around at state.candidates → numbered around place n state ≡ Ok r → IsNamed around state r
 unfolding numbered
-numbered_good around place at n state r all e = go (is_counted_alike state.candidates n) e
-  where
-    go : (b : Bool) → ◌≡◌ {A = Result (Found Value State) Refusal} (elim b [
-      | true ↦ substituted_wide around place (slice_get state.candidates n) state
-      | false ↦ Err (BadReference place)
-    ]) (Ok r) → IsNamed around state r
-    go true h = wide_substituted_good around place at n state r all h
-    go false h = let clash : ◌≡◌ {A = Result (Found Value State) Refusal} (Err (BadReference place)) (Ok r) = h in absurd cc
+numbered_good around place at n state r all e =
+    either (λ x. x ≡ Ok r → IsNamed around state r) (is_counted_alike state.candidates n) _ _ (λ is h. wide_substituted_good around place at n state r all h) (λ is h. absurd cc) e
 
 -- a lambda has no free parameters: it is told apart by whether its signature has some
 lambda_good : (s : Type 0) (t : Term) (number : ℕ) → ScopesAreClosed t → Good s (lambda_with t number)
 unfolding lambda_with is_open
-lambda_good s t number scopes = go (is_open t) refl
-  where
-    go : (b : Bool) → is_open t ≡ b → Good s (elim b [ true ↦ generic_lambda t number | false ↦ lambda t number ])
-    go true is = record { closed = λ h. refl; scopes = scopes }
-    go false is = record { closed = λ h. is; scopes = scopes }
+lambda_good s t number scopes =
+    either (Good s) (is_open t) (generic_lambda t number) (lambda t number) (λ is. record { closed = λ h. refl; scopes = λ n. scopes }) (λ is. record { closed = λ h. is; scopes = λ n. scopes })
+
+-- what is found, and no candidate
+found_comes : (around : Around) (state : State) (v : Value) (r : Found Value State) (end : ℕ) → Good (Bare true around) (held v) →
+    ◌≡◌ {A = Result (Found Value State) Refusal} (Ok (found v state)) (Ok r) → Comes true around end state r
+found_comes around state v r end good e = comes_by true around end state state v r good (grows_same true around end state state refl) e
 
 lambda_comes : (byte : ℕ) (around : Around) (vs : List Value) (state : State) (r : Found Value State) (end : ℕ) → GoodPrefix (Bare true around) around.prefix → AllGood (Within true Production.Lambda around) vs →
     ◌≡◌ {A = Result (Found Value State) Refusal} (Ok (found (as_generic_lambda (meaning Production.Lambda byte around vs)) state)) (Ok r) → Comes true around end state r
@@ -451,21 +384,8 @@ lambda_comes byte around vs state r end pre all e =
     let s = Within true Production.Lambda around in
     let t = parameters (list (tree_of (part vs 0)) (no_items (part vs 1))) in
     let number = local_number (text_of (part vs 3)) in
-    let good = meaning_good s Production.Lambda byte around vs (prefix_where (Bare true around) s around.prefix (λ within. within.0) pre) all tt in
-    subst (λ x. Comes true around end state x) (ok_same (found (piece (lambda_with t number)) state) r e)
-    (record { good = lambda_good (Bare true around) t number good.scopes; grows = grows_same true around end state state refl })
-
--- what is declared of an argument is no tree
-letter_comes : (byte : ℕ) (around : Around) (state : State) (r : Found Value State) (end : ℕ) → ◌≡◌ {A = Result (Found Value State) Refusal} (Ok (found (letter byte) state)) (Ok r) → Comes true around end state r
-unfolding held is_open
-letter_comes byte around state r end e =
-    subst (λ x. Comes true around end state x) (ok_same (found (letter byte) state) r e) (record { good = record { closed = λ h. refl; scopes = tt }; grows = grows_same true around end state state refl })
-
--- what is asked of arguments stands for nothing
-nothing_comes : (around : Around) (state : State) (r : Found Value State) (end : ℕ) → ◌≡◌ {A = Result (Found Value State) Refusal} (Ok (found nothing_there state)) (Ok r) → Comes true around end state r
-unfolding held is_open
-nothing_comes around state r end e =
-    subst (λ x. Comes true around end state x) (ok_same (found nothing_there state) r e) (record { good = record { closed = λ h. refl; scopes = tt }; grows = grows_same true around end state state refl })
+    let good = meaning_good s Production.Lambda byte around vs (prefix_where (Bare true around) s around.prefix (λ within. within.0) pre) all (λ n. tt) in
+    found_comes around state (piece (lambda_with t number)) r end (lambda_good (Bare true around) t number (good.scopes tt)) e
 
 -- a base class is counted
 pub base_grows : (around : Around) (end : ℕ) (t : Term) (state : State) → Good (Bare true around) t → Grows true around end state (with_base around t state)
@@ -477,30 +397,25 @@ base_grows around end t state good =
 counted_grows : (around : Around) (end : ℕ) (base : Value) (state : State) → Good (Bare true around) (held base) → Grows true around end state (counted_base around base state)
 unfolding counted_base
 counted_grows around end (pair second base own) state good = grows_same true around end state state refl
-counted_grows around end base state good = go (is_listed base)
-  where
-    go : (b : Bool) → Grows true around end state (elim b as (λ _. State) [ true ↦ state | false ↦ with_base around (tree_of base) state ])
-    go true = grows_same true around end state state refl
-    go false = base_grows around end (tree_of base) state (good_tree (Bare true around) base good)
-
-inheriting_comes : (byte : ℕ) (around : Around) (vs : List Value) (state : State) (r : Found Value State) (end : ℕ) → GoodPrefix (Bare true around) around.prefix → AllGood (Bare true around) vs →
-    ◌≡◌ {A = Result (Found Value State) Refusal} (Ok (found (meaning Production.Inheriting byte around vs) (counted_base around (part vs 1) state))) (Ok r) → Comes true around end state r
-inheriting_comes byte around vs state r end pre all e =
-    subst (λ x. Comes true around end state x) (ok_same (found (meaning Production.Inheriting byte around vs) (counted_base around (part vs 1) state)) r e)
-    (record { good = meaning_good (Bare true around) Production.Inheriting byte around vs pre all tt; grows = counted_grows around end (part vs 1) state (good_held (Bare true around) vs 1 all) })
+counted_grows around end base state good =
+    either (Grows true around end state) (is_listed base) _ _ (λ h. grows_same true around end state state refl)
+    (λ h. base_grows around end (tree_of base) state (good_tree (Bare true around) base good))
 
 pub wide_close_good : (production : Production) (byte : ℕ) (around : Around) (place : ℕ) (began : State) (vs : List Value) (state : State) (r : Found Value State) (end : ℕ) →
     AllOld true around end state.candidates → GoodPrefix (Bare true around) around.prefix → AllGood (Within true production around) vs → HasClosedName production vs →
     close_wide production byte around place began vs state ≡ Ok r → Comes true around end state r
-unfolding close close_wide unfolding_.behind meaning has_signature
+unfolding close close_wide unfolding_.behind meaning has_signature held
 wide_close_good Production.Substitution byte around place began vs state r end old pre all name e =
     let both = numbered_good around (place - 1) end (counted_value Seq36 (text_of (part vs 0))) state r old e in
     record { good = both.0; grows = grows_same true around end state r.state both.1 }
 wide_close_good Production.Lambda byte around place began vs state r end old pre all name e = lambda_comes byte around vs state r end pre all e
 wide_close_good Production.Inheriting byte around place began vs state r end old pre all name e =
-    inheriting_comes byte around vs state r end pre (all_where (Within true Production.Inheriting around) (Bare true around) vs (λ bare. (bare, λ own. refl)) all) e
-wide_close_good Production.ValueOf byte around place began vs state r end old pre all name e = letter_comes byte around state r end e
-wide_close_good Production.OfConcept byte around place began vs state r end old pre all name e = letter_comes byte around state r end e
-wide_close_good Production.Constraint byte around place began vs state r end old pre all name e = nothing_comes around state r end e
+    let inside = all_where (Within true Production.Inheriting around) (Bare true around) vs (λ bare. (bare, λ own. refl)) all in
+    comes_by true around end state (counted_base around (part vs 1) state) (meaning Production.Inheriting byte around vs) r
+    (meaning_good (Bare true around) Production.Inheriting byte around vs pre inside (λ n. tt))
+    (counted_grows around end (part vs 1) state (good_held (Bare true around) vs 1 inside)) e
+wide_close_good Production.ValueOf byte around place began vs state r end old pre all name e = found_comes around state (letter byte) r end (good_nothing (Bare true around)) e
+wide_close_good Production.OfConcept byte around place began vs state r end old pre all name e = found_comes around state (letter byte) r end (good_nothing (Bare true around)) e
+wide_close_good Production.Constraint byte around place began vs state r end old pre all name e = found_comes around state nothing_there r end (good_nothing (Bare true around)) e
 wide_close_good production byte around place began vs state r end old pre all name e =
     made_good true production byte around began vs state r end pre (all_where (Within true production around) (Bare true around) vs (λ bare. (bare, λ own. refl)) all) name e

@@ -1,5 +1,5 @@
 -- In the tree of a symbol the arguments that are a scope have no free parameters.
-use Rattle.std.proofs.Common.{◌≡◌, refl, ap, sym, ◌∙◌, subst, ℕ, suc, ◌+◌, ◌-◌, ◌<◌, ◌≤◌, List, [], ◌∷◌, ◌++◌, length, Bool, true, false, not, ◌&&◌, ◌||◌, cond, ◌^◌, nat_eq, nat_lt, slice_get, Option, Some, None, Result, Ok, Err, inl, inr, lit≤, arith}
+use Rattle.std.proofs.Common.{◌≡◌, refl, ap, sym, ◌∙◌, subst, ℕ, suc, ◌+◌, ◌-◌, ◌<◌, ◌≤◌, List, [], ◌∷◌, ◌++◌, length, Bool, true, false, not, ◌&&◌, ◌||◌, ◌^◌, nat_eq, nat_lt, Option, Some, Result, Ok, Err, inl, inr, lit≤, arith}
 use Rattle.std.proofs.lemmas.Bool.{true≢false, false≢true, cases_Bool}
 use Rattle.std.proofs.lemmas.List.{length-append}
 use Rattle.sym_core.specs.declared.refusal.Refusal.{Refusal}
@@ -16,9 +16,9 @@ use Rattle.sym_link.specs.Unfold.{found, alone, standing, unfold_tree, unfold_fo
 use Rattle.cpp_grammar.specs.declared.kind.Kind.{Kind}
 use Rattle.cpp_grammar.specs.declared.production.Production.{Production}
 use Rattle.cpp_grammar.specs.KindNumbers.{KIND_COUNT, SYMBOL, SPECIAL, SPECIAL_MARK, SPECIAL_AFTER_G, COMPLETE_NAME, ITEMS}
-use Rattle.cpp_grammar.specs.Grammar.{Alternative, is_in, pick, kinds, productions, number_of, number_of_kind, parts_of, is_chain}
-use Rattle.cpp_grammar.specs.Wide.{wide_alternatives, wide_choose}
-use Rattle.cpp_grammar.specs.Table.{wide, wide_sheet, rule_of, rule_taken, padded}
+use Rattle.cpp_grammar.specs.Grammar.{kinds, productions, number_of, number_of_kind, parts_of, is_chain}
+use Rattle.cpp_grammar.specs.Wide.{wide_alternatives}
+use Rattle.cpp_grammar.specs.Table.{wide, wide_sheet, rule_of, padded}
 use Rattle.cpp_grammar.specs.TableLaws.{wide_sound}
 use Rattle.cpp_grammar.specs.Term.{Term}
 use Rattle.cpp_grammar.specs.Scope.{is_open}
@@ -28,7 +28,7 @@ use Rattle.cpp_grammar.specs.Between.{in_name, in_types, no_items, between}
 use Rattle.cpp_grammar.specs.Meaning.{meaning}
 use Rattle.cpp_grammar.specs.Unfolding as unfolding_
 use Rattle.cpp_grammar.specs.Unfolding.{last_token, number_tested, opening, close, production_at, byte_of, cpp, first_around, first_state, first_tree, unfold_cpp}
-use Rattle.cpp_grammar.proofs.Choosing.{kinds_numbered, number_at, wide_rule_at, is_wide_kind}
+use Rattle.cpp_grammar.proofs.Choosing.{each_passes, chosen_rule, taken_passes, implied}
 use Rattle.cpp_grammar.proofs.ClosedValues.{good_where, Good, AllGood, GoodPrefix, HasClosedName, held, good_tree, good_encoding, good_no_items}
 use Rattle.cpp_grammar.proofs.ClosedStates.{Bare, Within, AllOld, AllNew, Grows, old_later, grows_same, grows_then, old_grows, ok_same, behind_bind, Comes, close_good, wide_close_good}
 use Rattle.cpp_grammar.proofs.ClosedParts.{Fits, Goes, StaysInside, goes_within, wide_goes}
@@ -79,36 +79,14 @@ unfolding is_chain parts_of has_encoding is_encoding number_of_kind
 behind_a_byte Production.Mark = refl
 behind_a_byte _ = refl
 
-unfoldable may_open : List Alternative → Bool
-may_open [] = false
-may_open (a ∷ rest) = opens a.production || may_open rest
-
-only_encodings : (kind : Kind) → nat_eq (number_of_kind kind) 4 || not (may_open (wide_alternatives kind)) ≡ true
-unfolding number_of_kind wide_alternatives may_open opens
+only_encodings : (kind : Kind) → each_passes (λ p. not (opens p) || nat_eq (number_of_kind kind) 4) (wide_alternatives kind) ≡ true
+unfolding number_of_kind wide_alternatives each_passes opens
 only_encodings Kind.Symbol = refl
 only_encodings _ = refl
 
 pub or_true : (x y : Bool) → y ≡ true → x || y ≡ true
 or_true true y k = refl
 or_true false y k = k
-
-picked_opens : (all : List Alternative) (byte : ℕ) (p : Production) → pick all byte ≡ Some p → opens p ≡ true → may_open all ≡ true
-unfolding pick may_open
-picked_opens [] byte p e h = absurd cc
-picked_opens (a ∷ rest) byte p e h = go (is_in a byte) e (λ i. picked_opens rest byte p i h)
-  where
-    go : (b : Bool) → cond b (Some a.production) (pick rest byte) ≡ Some p → (pick rest byte ≡ Some p → may_open rest ≡ true) → opens a.production || may_open rest ≡ true
-    go true i later = let same : a.production ≡ p = cc in ap (λ q. opens q || may_open rest) same ∙ ap (λ b. b || may_open rest) h
-    go false i later = or_true (opens a.production) (may_open rest) (later i)
-
-opens_in : (kind : Kind) (byte : ℕ) (p : Production) → wide_choose kind byte ≡ Some p → opens p ≡ true → nat_eq (number_of_kind kind) 4 ≡ true
-unfolding wide_choose
-opens_in kind byte p e h = go (nat_eq (number_of_kind kind) 4) (may_open (wide_alternatives kind)) (picked_opens (wide_alternatives kind) byte p e h) (only_encodings kind)
-  where
-    go : (a b : Bool) → b ≡ true → a || not b ≡ true → a ≡ true
-    go true b h k = refl
-    go false true h k = k
-    go false false h k = absurd (false≢true h)
 
 -- what is known of the rule of a tree
 pub record Taken (k : ℕ) (rule : Rule) : Type 0 where
@@ -120,22 +98,9 @@ pub same_rule : (p : Production) (rule : Rule) → ◌≡◌ {A = Option Rule} (
 same_rule p rule h = cc
 
 pub taken_rule : (k : ℕ) (rule : Rule) (taken : List ℕ) → k < wide.kinds → TakesRule wide k rule taken → Taken k rule
-unfolding rule_taken
-taken_rule k rule taken lt takes = go (slice_get kinds k) refl
-  where
-    chosen : (kind : Kind) → slice_get kinds k ≡ Some kind → (o : Option Production) → wide_choose kind takes.byte ≡ o → rule_taken o ≡ Some rule → Taken k rule
-    chosen kind at None is h = let clash : ◌≡◌ {A = Option Rule} None (Some rule) = h in absurd cc
-    chosen kind at (Some p) is h = record {
-      production = p;
-      is = sym (same_rule p rule h);
-      encoding = λ o. (
-          let number : k ≡ number_of_kind kind = omega (arith, number_at 0 kinds k kind kinds_numbered at) in
-          ap (λ n. nat_eq n 4) number ∙ opens_in kind takes.byte p is o);
-    }
-
-    go : (o : Option Kind) → slice_get kinds k ≡ o → Taken k rule
-    go None none = absurd (is_wide_kind k lt none)
-    go (Some kind) at = chosen kind at (wide_choose kind takes.byte) refl (sym (wide_rule_at k kind takes.byte at) ∙ takes.found)
+taken_rule k rule taken lt takes =
+    let c = chosen_rule k rule taken lt takes in
+    record { production = c.production; is = c.is; encoding = implied (opens c.production) (nat_eq k 4) (taken_passes (λ n p. not (opens p) || nat_eq n 4) only_encodings k rule c) }
 
 -- ## What a part comes to
 
@@ -255,15 +220,7 @@ pub record KeepsClosed (w : Way) : Type 0 where
 pub opens_apart : (p : Production) → opens p ≡ true → differs p ≡ false
 unfolding opens differs
 opens_apart Production.Parameter o = absurd (false≢true o)
-opens_apart Production.NestParameter o = absurd (false≢true o)
-opens_apart Production.Substitution o = absurd (false≢true o)
-opens_apart Production.Lambda o = absurd (false≢true o)
-opens_apart Production.ParameterArgument o = absurd (false≢true o)
-opens_apart Production.ParameterExpression o = absurd (false≢true o)
-opens_apart Production.OwnArguments o = absurd (false≢true o)
-opens_apart Production.Inheriting o = absurd (false≢true o)
-opens_apart Production.Holder o = absurd (false≢true o)
-opens_apart _ o = refl
+opens_apart _ o = cc
 
 -- ## Encodings
 
@@ -331,11 +288,11 @@ Whole rule taken at around state = standing rule taken at around state
 
 nothing_good : (own : Bool) (around : Around) → Good (Bare own around) (held nothing_there)
 unfolding held is_open
-nothing_good own around = record { closed = λ h. refl; scopes = tt }
+nothing_good own around = record { closed = λ h. refl; scopes = λ n. tt }
 
 text_good : (own : Bool) (around : Around) (bytes : List ℕ) → Good (Bare own around) (held (text bytes))
 unfolding held is_open
-text_good own around bytes = record { closed = λ h. refl; scopes = tt }
+text_good own around bytes = record { closed = λ h. refl; scopes = λ n. tt }
 
 first_good : (v : Value) (vs : List Value) → vs ≡ v ∷ [] → ScopesAreClosed (tree_of v) → ScopesAreClosed (first_tree vs)
 unfolding first_tree
@@ -482,7 +439,7 @@ module _ (w : Way) (keeps : KeepsClosed w) where
       let end = from + length (spell t ++ (spell u ++ [])) in
       subst (λ x. InnerComes w.own Production.Encoding around end state x) same
       (record {
-        means = λ byte. good_encoding (Bare w.own around) c.value (no_items d.value) (named.closed (refl, λ o. refl)) named.scopes
+        means = λ byte. good_encoding (Bare w.own around) c.value (no_items d.value) (λ n. named.closed (refl, λ o. refl)) named.scopes
             (good_no_items (Bare w.own (in_types at name)) d.value (good_tree (Bare w.own (in_types at name)) d.value d.good)).scopes;
         grows = grows_then w.own around end end state first.part.state second.part.state (omega arith)
             (grows_inner w.own around (in_name at) at end state first.part.state refl lt more
@@ -581,7 +538,7 @@ module _ (w : Way) (keeps : KeepsClosed w) where
       let whole = behind_bind (unfold_tree (reading_by w) first_around 0 shape first_state) (λ whole. Ok (first_tree whole.value)) t e in
       let comes = tree_good_by shape (OfKind SYMBOL) first_around 0 first_state whole.value (known 0 (lit≤ tt)) is (omega arith) (λ opening. absurd (false≢true opening)) tt tt whole.is in
       let same : first_tree whole.value.value ≡ t = ok_same (first_tree whole.value.value) t whole.next in
-      subst (λ x. ScopesAreClosed x) same (first_good comes.value whole.value.value comes.is (good_tree (Bare w.own first_around) comes.value comes.good).scopes)
+      subst (λ x. ScopesAreClosed x) same (first_good comes.value whole.value.value comes.is ((good_tree (Bare w.own first_around) comes.value comes.good).scopes tt))
 
 -- ## Each reading
 

@@ -1,5 +1,5 @@
 -- What productions stand for is closed where the values of their parts are.
-use Rattle.std.proofs.Common.{◌≡◌, refl, ℕ, zero, suc, List, [], ◌∷◌, Bool, true, false, ◌||◌, ◌&&◌, cond, nat_eq}
+use Rattle.std.proofs.Common.{◌≡◌, refl, ℕ, zero, suc, List, [], ◌∷◌, Bool, true, false, ◌||◌, ◌&&◌, nat_eq}
 use Rattle.std.proofs.lemmas.Bool.{true≢false}
 use Rattle.cpp_grammar.specs.declared.production.Production.{Production}
 use Rattle.cpp_grammar.specs.Term.{RefQualifier, lvalue_only, rvalue_only, Term, symbol, function, within, instance, local, of_default, inheriting, lvalue, rvalue, encoding_literal, operation, nil, list, absent}
@@ -14,11 +14,12 @@ use Rattle.cpp_grammar.specs.Row.{Source, tree_at, list_at, parameters_at, piece
 use Rattle.cpp_grammar.specs.Own.{own_meaning}
 use Rattle.cpp_grammar.specs.Meant.{all_given, given, made, meant}
 use Rattle.cpp_grammar.specs.Rows.{row_of}
+use Rattle.cpp_grammar.proofs.Chosen as chosen
 
--- the tree is closed under a condition, and so are the scopes in it
-pub record Good (s : Type 0) (t : Term) : Type 0 where
+-- the tree is closed under one condition, and under another one so are the scopes in it
+pub record GoodIf (q s : Type 0) (t : Term) : Type 0 where
   pub closed : s → is_open t ≡ false
-  pub scopes : ScopesAreClosed t
+  pub scopes : q → ScopesAreClosed t
 
 -- the tree or the piece of a name that a value is
 unfoldable pub held : Value → Term
@@ -30,17 +31,23 @@ held (signature t ref) = t
 held (pair second left right) = list left right
 held _ = absent
 
+abbrev pub AllIf : (q s : Type 0) → List Value → Type 0
+AllIf q s [] = Unit {0}
+AllIf q s (v ∷ vs) = GoodIf q s (held v) × AllIf q s vs
+
+abbrev pub PrefixIf : (q s : Type 0) → Prefix → Type 0
+PrefixIf q s outermost = Unit {0}
+PrefixIf q s (behind t listed) = GoodIf q s t
+
+-- where the scopes are closed anyway
+abbrev pub Good : Type 0 → Term → Type 0
+Good s t = GoodIf (Unit {0}) s t
+
 abbrev pub AllGood : Type 0 → List Value → Type 0
-AllGood s [] = Unit {0}
-AllGood s (v ∷ vs) = Good s (held v) × AllGood s vs
+AllGood s vs = AllIf (Unit {0}) s vs
 
--- what is good where something holds is good where more holds
-pub good_where : (s u : Type 0) (t : Term) → (u → s) → Good s t → Good u t
-good_where s u t less good = record { closed = λ h. good.closed (less h); scopes = good.scopes }
-
-pub all_where : (s u : Type 0) (vs : List Value) → (u → s) → AllGood s vs → AllGood u vs
-all_where s u [] less all = tt
-all_where s u (v ∷ vs) less all = (good_where s u (held v) less all.0, all_where s u vs less all.1)
+abbrev pub GoodPrefix : Type 0 → Prefix → Type 0
+GoodPrefix s prefix = PrefixIf (Unit {0}) s prefix
 
 pub or_no : (a b : Bool) → a ≡ false → b ≡ false → (a || b) ≡ false
 or_no false b e f = f
@@ -54,167 +61,6 @@ pub or_right_no : (a b : Bool) → (a || b) ≡ false → b ≡ false
 or_right_no false b e = e
 or_right_no true b e = absurd (true≢false e)
 
-pub good_nothing : (s : Type 0) → Good s absent
-unfolding is_open
-good_nothing s = record { closed = λ h. refl; scopes = tt }
-
-good_first : (s : Type 0) (a b : Term) → Good s (list a b) → Good s a
-unfolding is_open
-good_first s a b g = record { closed = λ h. or_left_no (is_open a) (is_open b) (g.closed h); scopes = g.scopes.0 }
-
-good_second : (s : Type 0) (a b : Term) → Good s (list a b) → Good s b
-unfolding is_open
-good_second s a b g = record { closed = λ h. or_right_no (is_open a) (is_open b) (g.closed h); scopes = g.scopes.1 }
-
-pub good_tree : (s : Type 0) (v : Value) → Good s (held v) → Good s (tree_of v)
-unfolding held tree_of
-good_tree s nothing_there g = g
-good_tree s (piece p) g = good_nothing s
-good_tree s (pair second left right) g = good_first s left right g
-good_tree s v g = g
-
-pub good_piece : (s : Type 0) (v : Value) → Good s (held v) → Good s (piece_of v)
-unfolding held piece_of
-good_piece s (piece p) g = g
-good_piece s nothing_there g = good_nothing s
-good_piece s v g = good_nothing s
-
-pub good_held : (s : Type 0) (vs : List Value) (k : ℕ) → AllGood s vs → Good s (held (part vs k))
-unfolding part held
-good_held s [] k all = good_nothing s
-good_held s (v ∷ vs) zero all = all.0
-good_held s (v ∷ vs) (suc k) all = good_held s vs k all.1
-
-pub good_part : (s : Type 0) (vs : List Value) (k : ℕ) → AllGood s vs → Good s (tree_of (part vs k))
-good_part s vs k all = good_tree s (part vs k) (good_held s vs k all)
-
--- ## Terms
-
-pub good_list : (s : Type 0) (a b : Term) → Good s a → Good s b → Good s (list a b)
-unfolding is_open
-good_list s a b g h = record { closed = λ c. or_no _ _ (g.closed c) (h.closed c); scopes = (g.scopes, h.scopes) }
-
-pub good_instance : (s : Type 0) (a b : Term) → Good s a → Good s b → Good s (instance a b)
-unfolding is_open
-good_instance s a b g h = record { closed = λ c. or_no _ _ (g.closed c) (h.closed c); scopes = (g.scopes, h.scopes) }
-
-good_within : (s : Type 0) (a b : Term) → Good s a → Good s b → Good s (within a b)
-unfolding is_open
-good_within s a b g h = record { closed = λ c. or_no _ _ (g.closed c) (h.closed c); scopes = (g.scopes, h.scopes) }
-
-good_nil : (s : Type 0) → Good s nil
-unfolding is_open
-good_nil s = record { closed = λ h. refl; scopes = tt }
-
-pub good_no_items : (s : Type 0) (v : Value) → Good s (tree_of v) → Good s (no_items v)
-unfolding no_items tree_of is_open
-good_no_items s nothing_there g = good_nil s
-good_no_items s (letter b) g = g
-good_no_items s v g = g
-
-pub good_applied : (s : Type 0) (t : Term) (v : Value) → Good s t → Good s (tree_of v) → Good s (applied t v)
-unfolding applied is_there tree_of
-good_applied s t nothing_there g h = g
-good_applied s t (letter b) g h = good_instance s t absent g h
-good_applied s t (named u qualifiers ref) g h = h
-good_applied s t v g h = good_instance s t (tree_of v) g h
-
-good_parameters : (s : Type 0) (t : Term) → Good s t → Good s (parameters t)
-unfolding parameters is_open
-good_parameters s (list a b) g = go (is_void a && is_nil b)
-  where
-    go : (c : Bool) → Good s (elim c [ true ↦ nil | false ↦ list a b ])
-    go true = good_nil s
-    go false = g
-good_parameters s (symbol e suffix) g = g
-good_parameters s t g = g
-
-abbrev pub GoodPrefix : Type 0 → Prefix → Type 0
-GoodPrefix s outermost = Unit {0}
-GoodPrefix s (behind t listed) = Good s t
-
-pub prefix_where : (s u : Type 0) (prefix : Prefix) → (u → s) → GoodPrefix s prefix → GoodPrefix u prefix
-prefix_where s u outermost less good = tt
-prefix_where s u (behind t listed) less good = good_where s u t less good
-
-pub good_extended : (s : Type 0) (prefix : Prefix) (p : Term) → GoodPrefix s prefix → Good s p → Good s (extended prefix p)
-unfolding extended is_open
-good_extended s outermost p g h = record { closed = h.closed; scopes = h.scopes }
-good_extended s (behind t listed) p g h = good_within s t p g h
-
-pub good_prefix : (s : Type 0) (prefix : Prefix) → GoodPrefix s prefix → Good s (prefix_tree prefix)
-unfolding prefix_tree
-good_prefix s outermost g = good_nothing s
-good_prefix s (behind t listed) g = g
-
-good_reference : (s : Type 0) (byte : ℕ) (v : Value) → Good s (tree_of v) → Good s (tree_of (reference_to byte v))
-unfolding reference_to tree_of is_open
-good_reference s byte v g = go (nat_eq byte 82)
-  where
-    go : (b : Bool) → Good s (cond b (lvalue (tree_of v)) (rvalue (tree_of v)))
-    go true = record { closed = g.closed; scopes = g.scopes }
-    go false = record { closed = g.closed; scopes = g.scopes }
-
-good_signature_or : (s : Type 0) (ref : RefQualifier) (v : Value) → Good s (held v) → Good s (held (signature_or ref v))
-unfolding signature_or held
-good_signature_or s ref nothing_there g = good_nil s
-good_signature_or s ref (letter b) g = g
-good_signature_or s ref v g = g
-
-good_operator : (s : Type 0) (first : ℕ) (v : Value) → Good s (held v) → Good s (held (operator_or_literal first v))
-unfolding operator_or_literal held is_open
-good_operator s first (letter second) g = record { closed = λ h. refl; scopes = tt }
-good_operator s first nothing_there g = g
-good_operator s first v g = g
-
--- the name of a constructor that is inherited
-good_inherited : (s : Type 0) (prefix : Prefix) (digit : ℕ) (v : Value) → GoodPrefix s prefix → Good s (held v) → Good s (held (inherited prefix digit v))
-unfolding inherited held is_open
-good_inherited s prefix digit (pair second base arguments) pre g =
-    let b = good_first s base arguments g in
-    good_instance s _ arguments (good_extended s prefix (inheriting digit base) pre (record { closed = b.closed; scopes = b.scopes })) (good_second s base arguments g)
-good_inherited s prefix digit v pre g =
-    let b = good_tree s v g in
-    good_extended s prefix (inheriting digit (tree_of v)) pre (record { closed = b.closed; scopes = b.scopes })
-
--- operations
-good_operation : (s : Type 0) (first second : ℕ) (left right : Term) → Good s (list left right) → Good s (operation first second left right)
-unfolding is_open
-good_operation s first second left right g = record { closed = g.closed; scopes = g.scopes }
-
-good_address : (s : Type 0) (b : Bool) (first second : ℕ) (left right : Term) → Good s (list left right) → Good s (operation_or_address b first second left right)
-unfolding operation_or_address is_open
-good_address s false first second left right g = good_operation s first second left right g
-good_address s true first second (encoding_literal e) right g = record { closed = λ h. refl; scopes = g.scopes.0 }
-good_address s true first second (symbol e suffix) right g = good_operation s first second (symbol e suffix) right g
-good_address s true first second left right g = good_operation s first second left right g
-
-good_by : (s : Type 0) (first : ℕ) (v : Value) → Good s (held v) → Good s (held (operation_by first v))
-unfolding operation_by held
-good_by s first (pair second left right) g = good_address s (is_code 97 100 first second) first second left right g
-good_by s first nothing_there g = g
-good_by s first v g = g
-
-good_in_parentheses : (s : Type 0) (t : Term) → Good s t → Good s (in_parentheses t)
-unfolding in_parentheses is_open
-good_in_parentheses s t g = record { closed = λ h. or_no _ _ (g.closed h) refl; scopes = (g.scopes, tt) }
-
-good_argument : (s : Type 0) (v : Value) → Good s (held v) → Good s (held (enclosed_argument v))
-unfolding enclosed_argument held in_parentheses tree_of
-good_argument s v g = go (ends_arguments (tree_of v))
-  where
-    go : (b : Bool) → Good s (held (elim b as (λ _. Value) [ true ↦ tree (in_parentheses (tree_of v)) true | false ↦ v ]))
-    go true = good_in_parentheses s (tree_of v) (good_tree s v g)
-    go false = g
-
-good_element : (s : Type 0) (t : Term) → Good s t → Good s (enclosed_element t)
-unfolding enclosed_element
-good_element s t g = go (is_comma t)
-  where
-    go : (b : Bool) → Good s (elim b [ true ↦ in_parentheses t | false ↦ t ])
-    go true = good_in_parentheses s t g
-    go false = g
-
 none_free : (t : Term) → is_open t ≡ false → HasNoneFree (arguments_of t)
 unfolding arguments_of is_open
 none_free (instance template arguments) h = or_right_no (is_open template) (is_open arguments) h
@@ -223,158 +69,305 @@ none_free (of_default digits entity) h = none_free entity h
 none_free (symbol e suffix) h = tt
 none_free _ h = tt
 
-pub good_encoding : (s : Type 0) (v : Value) (items : Term) → is_open (tree_of v) ≡ false → ScopesAreClosed (tree_of v) → ScopesAreClosed items → Good s (encoding_of v items)
-unfolding encoding_of is_open
-good_encoding s v (list a b) name scopes items = go (has_return_type (tree_of v))
-  where
-    left_good : Good ⊥ a
-    left_good = record { closed = λ h. absurd h; scopes = items.0 }
-
-    rest_good : Good ⊥ (parameters b)
-    rest_good = good_parameters ⊥ b (record { closed = λ h. absurd h; scopes = items.1 })
-
-    all_good : Good ⊥ (parameters (list a b))
-    all_good = good_parameters ⊥ (list a b) (record { closed = λ h. absurd h; scopes = items })
-
-    go : (r : Bool) → Good s (elim r [
-      | true ↦ function (tree_of v) (qualifiers_of v) (ref_of v) a (parameters b)
-      | false ↦ function (tree_of v) (qualifiers_of v) (ref_of v) absent (parameters (list a b))
-    ])
-    go true = record { closed = λ h. refl; scopes = (none_free (tree_of v) name, scopes, left_good.scopes, rest_good.scopes) }
-    go false = record { closed = λ h. refl; scopes = (none_free (tree_of v) name, scopes, tt, all_good.scopes) }
-good_encoding s v (symbol e suffix) name scopes items = record { closed = λ h. refl; scopes = scopes }
-good_encoding s v _ name scopes items = record { closed = λ h. refl; scopes = scopes }
-
--- ## Productions
-
 -- what an encoding's name is known to be
 abbrev pub HasClosedName : Production → List Value → Type 0
 HasClosedName Production.Encoding vs = is_open (tree_of (part vs 0)) ≡ false
 HasClosedName _ vs = Unit {0}
-
-good_pair : (s : Type 0) (vs : List Value) (j k : ℕ) → AllGood s vs → Good s (list (tree_of (part vs j)) (no_items (part vs k)))
-good_pair s vs j k all = good_list s _ _ (good_part s vs j all) (good_no_items s (part vs k) (good_part s vs k all))
-
--- ## Rows
-
--- Generated by tools/trees.py. What a maker makes of good arguments is good
-built_good : (s : Type 0) (m : Maker) (xs : List Argument) → ((k : ℕ) → Good s (tree_in (argument xs k))) → Good s (built m xs)
-unfolding built is_open
-built_good s new_symbol xs all = record { closed = λ h. refl; scopes = (all 0).scopes }
-built_good s new_special xs all = record { closed = λ h. refl; scopes = (all 1).scopes }
-built_good s new_of_name xs all = record { closed = λ h. refl; scopes = (all 1).scopes }
-built_good s new_construction xs all = record { closed = λ h. refl; scopes = ((all 0).scopes, (all 2).scopes) }
-built_good s new_clone xs all = record { closed = λ h. refl; scopes = (all 1).scopes }
-built_good s new_in_std xs all = record { closed = (all 0).closed; scopes = (all 0).scopes }
-built_good s new_instance xs all = record { closed = λ h. or_no _ _ ((all 0).closed h) ((all 1).closed h); scopes = ((all 0).scopes, (all 1).scopes) }
-built_good s new_local xs all = record { closed = (all 1).closed; scopes = ((all 0).scopes, (all 1).scopes) }
-built_good s new_abbreviation xs all = record { closed = λ h. refl; scopes = tt }
-built_good s new_source xs all = record { closed = λ h. refl; scopes = tt }
-built_good s new_operator xs all = record { closed = λ h. refl; scopes = tt }
-built_good s new_literal_operator xs all = record { closed = λ h. refl; scopes = tt }
-built_good s new_constructor xs all = record { closed = λ h. refl; scopes = tt }
-built_good s new_destructor xs all = record { closed = λ h. refl; scopes = tt }
-built_good s new_unnamed xs all = record { closed = λ h. refl; scopes = tt }
-built_good s new_string_literal xs all = record { closed = λ h. refl; scopes = tt }
-built_good s new_conversion xs all = record { closed = (all 0).closed; scopes = (all 0).scopes }
-built_good s new_builtin xs all = record { closed = λ h. refl; scopes = tt }
-built_good s new_sized_float xs all = record { closed = λ h. refl; scopes = tt }
-built_good s new_constrained xs all = record { closed = (all 1).closed; scopes = (all 1).scopes }
-built_good s new_vendor xs all = record { closed = λ h. refl; scopes = tt }
-built_good s new_pointer xs all = record { closed = (all 0).closed; scopes = (all 0).scopes }
-built_good s new_lvalue xs all = record { closed = (all 0).closed; scopes = (all 0).scopes }
-built_good s new_rvalue xs all = record { closed = (all 0).closed; scopes = (all 0).scopes }
-built_good s new_array xs all = record { closed = (all 1).closed; scopes = (all 1).scopes }
-built_good s new_bounded xs all = record { closed = λ h. or_no _ _ ((all 0).closed h) ((all 1).closed h); scopes = ((all 0).scopes, (all 1).scopes) }
-built_good s new_member_pointer xs all = record { closed = λ h. or_no _ _ ((all 0).closed h) ((all 1).closed h); scopes = ((all 0).scopes, (all 1).scopes) }
-built_good s new_function_type xs all = record { closed = λ h. or_no _ _ ((all 3).closed h) ((all 4).closed h); scopes = ((all 3).scopes, (all 4).scopes) }
-built_good s new_qualified xs all = record { closed = (all 1).closed; scopes = (all 1).scopes }
-built_good s new_vector xs all = record { closed = (all 1).closed; scopes = (all 1).scopes }
-built_good s new_complex xs all = record { closed = (all 0).closed; scopes = (all 0).scopes }
-built_good s new_decltype xs all = record { closed = (all 0).closed; scopes = (all 0).scopes }
-built_good s new_expansion xs all = record { closed = (all 0).closed; scopes = (all 0).scopes }
-built_good s new_integer xs all = record { closed = (all 0).closed; scopes = (all 0).scopes }
-built_good s new_boolean xs all = record { closed = λ h. refl; scopes = tt }
-built_good s new_null_pointer xs all = record { closed = λ h. refl; scopes = tt }
-built_good s new_encoding_literal xs all = record { closed = λ h. refl; scopes = (all 0).scopes }
-built_good s new_operation xs all = record { closed = λ h. or_no _ _ ((all 2).closed h) ((all 3).closed h); scopes = ((all 2).scopes, (all 3).scopes) }
-built_good s new_function_parameter xs all = record { closed = λ h. refl; scopes = tt }
-built_good s new_pack xs all = record { closed = (all 0).closed; scopes = (all 0).scopes }
-
-given_good : (s : Type 0) (byte : ℕ) (around : Around) (vs : List Value) (source : Source) → GoodPrefix s around.prefix → AllGood s vs → Good s (tree_in (given byte around vs source))
-unfolding given tree_in
-given_good s byte around vs (tree_at k) pre all = good_part s vs k all
-given_good s byte around vs (list_at k) pre all = good_no_items s (part vs k) (good_part s vs k all)
-given_good s byte around vs (parameters_at k) pre all = good_parameters s (tree_of (part vs k)) (good_part s vs k all)
-given_good s byte around vs (piece_at k) pre all = good_piece s (part vs k) (good_held s vs k all)
-given_good s byte around vs the_name pre all = good_prefix s around.prefix pre
-given_good s byte around vs (qualified_by r v c) pre all = good_nothing s
-given_good s byte around vs _ pre all = good_nothing s
-
-all_given_good : (s : Type 0) (byte : ℕ) (around : Around) (vs : List Value) (ss : List Source) → GoodPrefix s around.prefix → AllGood s vs → (k : ℕ) → Good s (tree_in (argument (all_given byte around vs ss) k))
-unfolding all_given argument tree_in
-all_given_good s byte around vs [] pre all k = good_nothing s
-all_given_good s byte around vs (source ∷ ss) pre all zero = given_good s byte around vs source pre all
-all_given_good s byte around vs (source ∷ ss) pre all (suc k) = all_given_good s byte around vs ss pre all k
-
-pub made_tree_good : (s : Type 0) (byte : ℕ) (around : Around) (vs : List Value) (m : Made) → GoodPrefix s around.prefix → AllGood s vs → Good s (made byte around vs m)
-unfolding made with_tag is_open
-made_tree_good s byte around vs (of maker sources) pre all = built_good s maker _ (all_given_good s byte around vs sources pre all)
-made_tree_good s byte around vs (only source) pre all = given_good s byte around vs source pre all
-made_tree_good s byte around vs (extending m) pre all = good_extended s around.prefix _ pre (made_tree_good s byte around vs m pre all)
-made_tree_good s byte around vs (tagging k) pre all = let g = good_prefix s around.prefix pre in record { closed = g.closed; scopes = g.scopes }
-made_tree_good s byte around vs (applying m k) pre all = good_applied s _ (part vs k) (made_tree_good s byte around vs m pre all) (good_part s vs k all)
-made_tree_good s byte around vs (packing k) pre all = let g = good_no_items s (part vs k) (good_part s vs k all) in record { closed = g.closed; scopes = g.scopes }
 
 -- all but an encoding, whose name is known to be closed
 abbrev IsOther : Form → Type 0
 IsOther (own encoding most) = ⊥
 IsOther _ = Unit {0}
 
-own_good : (s : Type 0) (o : Own) (most byte : ℕ) (around : Around) (vs : List Value) → IsOther (own o most) → GoodPrefix s around.prefix → AllGood s vs → Good s (held (own_meaning o byte around vs))
-unfolding own_meaning held is_open default_entity listed_value
-own_good s encoding most byte around vs other pre all = absurd other
-own_good s non_virtual_thunk most byte around vs other pre all = let g = good_part s vs 2 all in record { closed = λ h. refl; scopes = g.scopes }
-own_good s virtual_thunk most byte around vs other pre all = let g = good_part s vs 4 all in record { closed = λ h. refl; scopes = g.scopes }
-own_good s covariant_thunk most byte around vs other pre all = let g = good_part s vs 2 all in record { closed = λ h. refl; scopes = g.scopes }
-own_good s nested_name most byte around vs other pre all = good_part s vs 4 all
-own_good s local_name most byte around vs other pre all =
-    let e = good_part s vs 0 all in let g = good_part s vs 2 all in record { closed = g.closed; scopes = (e.scopes, g.scopes) }
-own_good s in_default most byte around vs other pre all = let g = good_part s vs 1 all in record { closed = g.closed; scopes = g.scopes }
-own_good s nest_end most byte around vs other pre all = good_prefix s around.prefix pre
-own_good s closure most byte around vs other pre all = let g = good_parameters s _ (good_pair s vs 0 1 all) in record { closed = g.closed; scopes = g.scopes }
-own_good s inheriting_ most byte around vs other pre all = good_inherited s around.prefix (letter_of (part vs 0)) (part vs 1) pre (good_held s vs 1 all)
-own_good s by_letters most byte around vs other pre all = good_by s byte (part vs 0) (good_held s vs 0 all)
-own_good s enclosed most byte around vs other pre all = good_argument s (part vs 0) (good_held s vs 0 all)
-own_good s elements most byte around vs other pre all = good_list s _ _ (good_element s (tree_of (part vs 0)) (good_part s vs 0 all)) (good_no_items s (part vs 1) (good_part s vs 1 all))
-own_good s first_of_operator most byte around vs other pre all = good_operator s byte (part vs 0) (good_held s vs 0 all)
-own_good s reference most byte around vs other pre all = good_reference s byte (part vs 0) (good_part s vs 0 all)
-own_good s lvalue_signature most byte around vs other pre all = good_signature_or s lvalue_only (part vs 0) (good_held s vs 0 all)
-own_good s rvalue_signature most byte around vs other pre all = good_signature_or s rvalue_only (part vs 0) (good_held s vs 0 all)
-own_good s _ most byte around vs other pre all = record { closed = λ h. refl; scopes = tt }
+module _ {q : Type 0} where
+  -- what is good where something holds is good where more holds
+  pub good_where : (s u : Type 0) (t : Term) → (u → s) → GoodIf q s t → GoodIf q u t
+  good_where s u t less good = record { closed = λ h. good.closed (less h); scopes = good.scopes }
 
-meant_good : (s : Type 0) (f : Form) (byte : ℕ) (around : Around) (vs : List Value) → IsOther f → GoodPrefix s around.prefix → AllGood s vs → Good s (held (meant f byte around vs))
-unfolding meant held is_open listed_value with_item
-meant_good s (handed k) byte around vs other pre all = good_held s vs k all
-meant_good s (finished k) byte around vs other pre all = good_part s vs k all
-meant_good s (either k n) byte around vs other pre all = go (is_there (part vs k))
-  where
-    go : (b : Bool) → Good s (held (elim b as (λ _. Value) [ true ↦ part vs k | false ↦ part vs n ]))
-    go true = good_held s vs k all
-    go false = good_held s vs n all
-meant_good s the_byte byte around vs other pre all = good_nothing s
-meant_good s (makes m listing) byte around vs other pre all = made_tree_good s byte around vs m pre all
-meant_good s (a_piece m) byte around vs other pre all = made_tree_good s byte around vs m pre all
-meant_good s (a_pair second m n) byte around vs other pre all = good_list s _ _ (made_tree_good s byte around vs m pre all) (made_tree_good s byte around vs n pre all)
-meant_good s (cell first rest) byte around vs other pre all = good_pair s vs first rest all
-meant_good s (item first rest) byte around vs other pre all = good_list s _ _ (good_part s vs first all) (good_part s vs rest all)
-meant_good s (a_name listing) byte around vs other pre all = good_applied s _ (part vs 1) (good_part s vs 0 all) (good_part s vs 1 all)
-meant_good s in_place byte around vs other pre all = good_applied s _ (part vs 1) (good_part s vs 0 all) (good_part s vs 1 all)
-meant_good s (own o most) byte around vs other pre all = own_good s o most byte around vs other pre all
+  pub good_nothing : (s : Type 0) → GoodIf q s absent
+  unfolding is_open
+  good_nothing s = record { closed = λ h. refl; scopes = λ n. tt }
 
-pub meaning_good : (s : Type 0) (production : Production) (byte : ℕ) (around : Around) (vs : List Value) → GoodPrefix s around.prefix → AllGood s vs → HasClosedName production vs →
-    Good s (held (meaning production byte around vs))
-unfolding meaning held
-meaning_good s Production.Encoding byte around vs pre all name =
-    good_encoding s (part vs 0) (no_items (part vs 1)) name (good_part s vs 0 all).scopes (good_no_items s (part vs 1) (good_part s vs 1 all)).scopes
-meaning_good s production byte around vs pre all name = meant_good s (row_of production).form byte around vs tt pre all
+  good_first : (s : Type 0) (a b : Term) → GoodIf q s (list a b) → GoodIf q s a
+  unfolding is_open
+  good_first s a b g = record { closed = λ h. or_left_no (is_open a) (is_open b) (g.closed h); scopes = λ n. (g.scopes n).0 }
+
+  good_second : (s : Type 0) (a b : Term) → GoodIf q s (list a b) → GoodIf q s b
+  unfolding is_open
+  good_second s a b g = record { closed = λ h. or_right_no (is_open a) (is_open b) (g.closed h); scopes = λ n. (g.scopes n).1 }
+
+  pub good_tree : (s : Type 0) (v : Value) → GoodIf q s (held v) → GoodIf q s (tree_of v)
+  unfolding held tree_of
+  good_tree s nothing_there g = g
+  good_tree s (piece p) g = good_nothing s
+  good_tree s (pair second left right) g = good_first s left right g
+  good_tree s v g = g
+
+  pub good_piece : (s : Type 0) (v : Value) → GoodIf q s (held v) → GoodIf q s (piece_of v)
+  unfolding held piece_of
+  good_piece s (piece p) g = g
+  good_piece s nothing_there g = good_nothing s
+  good_piece s v g = good_nothing s
+
+  pub good_held : (s : Type 0) (vs : List Value) (k : ℕ) → AllIf q s vs → GoodIf q s (held (part vs k))
+  unfolding part held
+  good_held s [] k all = good_nothing s
+  good_held s (v ∷ vs) zero all = all.0
+  good_held s (v ∷ vs) (suc k) all = good_held s vs k all.1
+
+  pub good_part : (s : Type 0) (vs : List Value) (k : ℕ) → AllIf q s vs → GoodIf q s (tree_of (part vs k))
+  good_part s vs k all = good_tree s (part vs k) (good_held s vs k all)
+
+  -- ## Terms
+
+  pub good_list : (s : Type 0) (a b : Term) → GoodIf q s a → GoodIf q s b → GoodIf q s (list a b)
+  unfolding is_open
+  good_list s a b g h = record { closed = λ c. or_no _ _ (g.closed c) (h.closed c); scopes = λ n. (g.scopes n, h.scopes n) }
+
+  pub good_instance : (s : Type 0) (a b : Term) → GoodIf q s a → GoodIf q s b → GoodIf q s (instance a b)
+  unfolding is_open
+  good_instance s a b g h = record { closed = λ c. or_no _ _ (g.closed c) (h.closed c); scopes = λ n. (g.scopes n, h.scopes n) }
+
+  good_within : (s : Type 0) (a b : Term) → GoodIf q s a → GoodIf q s b → GoodIf q s (within a b)
+  unfolding is_open
+  good_within s a b g h = record { closed = λ c. or_no _ _ (g.closed c) (h.closed c); scopes = λ n. (g.scopes n, h.scopes n) }
+
+  good_nil : (s : Type 0) → GoodIf q s nil
+  unfolding is_open
+  good_nil s = record { closed = λ h. refl; scopes = λ n. tt }
+
+  pub good_no_items : (s : Type 0) (v : Value) → GoodIf q s (tree_of v) → GoodIf q s (no_items v)
+  unfolding no_items tree_of is_open
+  good_no_items s nothing_there g = good_nil s
+  good_no_items s (letter b) g = g
+  good_no_items s v g = g
+
+  pub good_applied : (s : Type 0) (t : Term) (v : Value) → GoodIf q s t → GoodIf q s (tree_of v) → GoodIf q s (applied t v)
+  unfolding applied is_there tree_of
+  good_applied s t nothing_there g h = g
+  good_applied s t (letter b) g h = good_instance s t absent g h
+  good_applied s t (named u qualifiers ref) g h = h
+  good_applied s t v g h = good_instance s t (tree_of v) g h
+
+  pub good_parameters : (s : Type 0) (t : Term) → GoodIf q s t → GoodIf q s (parameters t)
+  unfolding parameters is_open
+  good_parameters s (list a b) g = chosen.either (GoodIf q s) (is_void a && is_nil b) nil (list a b) (λ h. good_nil s) (λ h. g)
+  good_parameters s (symbol e suffix) g = g
+  good_parameters s t g = g
+
+  pub good_extended : (s : Type 0) (prefix : Prefix) (p : Term) → PrefixIf q s prefix → GoodIf q s p → GoodIf q s (extended prefix p)
+  unfolding extended is_open
+  good_extended s outermost p g h = record { closed = h.closed; scopes = h.scopes }
+  good_extended s (behind t listed) p g h = good_within s t p g h
+
+  pub good_prefix : (s : Type 0) (prefix : Prefix) → PrefixIf q s prefix → GoodIf q s (prefix_tree prefix)
+  unfolding prefix_tree
+  good_prefix s outermost g = good_nothing s
+  good_prefix s (behind t listed) g = g
+
+  good_reference : (s : Type 0) (byte : ℕ) (v : Value) → GoodIf q s (tree_of v) → GoodIf q s (tree_of (reference_to byte v))
+  unfolding reference_to tree_of is_open
+  good_reference s byte v g =
+      chosen.either_cond (GoodIf q s) (nat_eq byte 82) (lvalue (tree_of v)) (rvalue (tree_of v)) (λ h. record { closed = g.closed; scopes = g.scopes })
+      (λ h. record { closed = g.closed; scopes = g.scopes })
+
+  good_signature_or : (s : Type 0) (ref : RefQualifier) (v : Value) → GoodIf q s (held v) → GoodIf q s (held (signature_or ref v))
+  unfolding signature_or held
+  good_signature_or s ref nothing_there g = good_nil s
+  good_signature_or s ref (letter b) g = g
+  good_signature_or s ref v g = g
+
+  good_operator : (s : Type 0) (first : ℕ) (v : Value) → GoodIf q s (held v) → GoodIf q s (held (operator_or_literal first v))
+  unfolding operator_or_literal held is_open
+  good_operator s first (letter second) g = record { closed = λ h. refl; scopes = λ n. tt }
+  good_operator s first nothing_there g = g
+  good_operator s first v g = g
+
+  -- the name of a constructor that is inherited
+  good_inherited : (s : Type 0) (prefix : Prefix) (digit : ℕ) (v : Value) → PrefixIf q s prefix → GoodIf q s (held v) → GoodIf q s (held (inherited prefix digit v))
+  unfolding inherited held is_open
+  good_inherited s prefix digit (pair second base arguments) pre g =
+      let b = good_first s base arguments g in
+      good_instance s _ arguments (good_extended s prefix (inheriting digit base) pre (record { closed = b.closed; scopes = b.scopes })) (good_second s base arguments g)
+  good_inherited s prefix digit v pre g =
+      let b = good_tree s v g in
+      good_extended s prefix (inheriting digit (tree_of v)) pre (record { closed = b.closed; scopes = b.scopes })
+
+  -- operations
+  good_operation : (s : Type 0) (first second : ℕ) (left right : Term) → GoodIf q s (list left right) → GoodIf q s (operation first second left right)
+  unfolding is_open
+  good_operation s first second left right g = record { closed = g.closed; scopes = g.scopes }
+
+  good_address : (s : Type 0) (b : Bool) (first second : ℕ) (left right : Term) → GoodIf q s (list left right) → GoodIf q s (operation_or_address b first second left right)
+  unfolding operation_or_address is_open
+  good_address s false first second left right g = good_operation s first second left right g
+  good_address s true first second (encoding_literal e) right g = record { closed = λ h. refl; scopes = λ n. (g.scopes n).0 }
+  good_address s true first second (symbol e suffix) right g = good_operation s first second (symbol e suffix) right g
+  good_address s true first second left right g = good_operation s first second left right g
+
+  good_by : (s : Type 0) (first : ℕ) (v : Value) → GoodIf q s (held v) → GoodIf q s (held (operation_by first v))
+  unfolding operation_by held
+  good_by s first (pair second left right) g = good_address s (is_code 97 100 first second) first second left right g
+  good_by s first nothing_there g = g
+  good_by s first v g = g
+
+  good_in_parentheses : (s : Type 0) (t : Term) → GoodIf q s t → GoodIf q s (in_parentheses t)
+  unfolding in_parentheses is_open
+  good_in_parentheses s t g = record { closed = λ h. or_no _ _ (g.closed h) refl; scopes = λ n. (g.scopes n, tt) }
+
+  good_argument : (s : Type 0) (v : Value) → GoodIf q s (held v) → GoodIf q s (held (enclosed_argument v))
+  unfolding enclosed_argument held in_parentheses tree_of
+  good_argument s v g =
+      chosen.either (λ w. GoodIf q s (held w)) (ends_arguments (tree_of v)) (tree (in_parentheses (tree_of v)) true) v (λ h. good_in_parentheses s (tree_of v) (good_tree s v g)) (λ h. g)
+
+  good_element : (s : Type 0) (t : Term) → GoodIf q s t → GoodIf q s (enclosed_element t)
+  unfolding enclosed_element
+  good_element s t g = chosen.either (GoodIf q s) (is_comma t) (in_parentheses t) t (λ h. good_in_parentheses s t g) (λ h. g)
+
+  pub good_encoding : (s : Type 0) (v : Value) (items : Term) → (q → is_open (tree_of v) ≡ false) → (q → ScopesAreClosed (tree_of v)) → (q → ScopesAreClosed items) → GoodIf q s (encoding_of v items)
+  unfolding encoding_of is_open
+  good_encoding s v (list a b) name scopes items =
+      chosen.either (GoodIf q s) (has_return_type (tree_of v)) (function (tree_of v) (qualifiers_of v) (ref_of v) a (parameters b))
+      (function (tree_of v) (qualifiers_of v) (ref_of v) absent (parameters (list a b)))
+      (λ h. record { closed = λ c. refl; scopes = λ n. (none_free (tree_of v) (name n), scopes n, (items n).0, rest_good.scopes n) })
+      (λ h. record { closed = λ c. refl; scopes = λ n. (none_free (tree_of v) (name n), scopes n, tt, all_good.scopes n) })
+    where
+      rest_good : GoodIf q ⊥ (parameters b)
+      rest_good = good_parameters ⊥ b (record { closed = λ h. absurd h; scopes = λ n. (items n).1 })
+
+      all_good : GoodIf q ⊥ (parameters (list a b))
+      all_good = good_parameters ⊥ (list a b) (record { closed = λ h. absurd h; scopes = items })
+  good_encoding s v (symbol e suffix) name scopes items = record { closed = λ h. refl; scopes = scopes }
+  good_encoding s v _ name scopes items = record { closed = λ h. refl; scopes = scopes }
+
+  -- ## Productions
+
+  pub good_pair : (s : Type 0) (vs : List Value) (j k : ℕ) → AllIf q s vs → GoodIf q s (list (tree_of (part vs j)) (no_items (part vs k)))
+  good_pair s vs j k all = good_list s _ _ (good_part s vs j all) (good_no_items s (part vs k) (good_part s vs k all))
+
+  -- ## Rows
+
+  -- Generated by tools/trees.py. What a maker makes of good arguments is good
+  built_good : (s : Type 0) (m : Maker) (xs : List Argument) → ((k : ℕ) → GoodIf q s (tree_in (argument xs k))) → GoodIf q s (built m xs)
+  unfolding built is_open
+  built_good s new_symbol xs all = record { closed = λ h. refl; scopes = λ n. (all 0).scopes n }
+  built_good s new_special xs all = record { closed = λ h. refl; scopes = λ n. (all 1).scopes n }
+  built_good s new_of_name xs all = record { closed = λ h. refl; scopes = λ n. (all 1).scopes n }
+  built_good s new_construction xs all = record { closed = λ h. refl; scopes = λ n. ((all 0).scopes n, (all 2).scopes n) }
+  built_good s new_clone xs all = record { closed = λ h. refl; scopes = λ n. (all 1).scopes n }
+  built_good s new_in_std xs all = record { closed = (all 0).closed; scopes = λ n. (all 0).scopes n }
+  built_good s new_instance xs all = record { closed = λ h. or_no _ _ ((all 0).closed h) ((all 1).closed h); scopes = λ n. ((all 0).scopes n, (all 1).scopes n) }
+  built_good s new_local xs all = record { closed = (all 1).closed; scopes = λ n. ((all 0).scopes n, (all 1).scopes n) }
+  built_good s new_abbreviation xs all = record { closed = λ h. refl; scopes = λ n. tt }
+  built_good s new_source xs all = record { closed = λ h. refl; scopes = λ n. tt }
+  built_good s new_operator xs all = record { closed = λ h. refl; scopes = λ n. tt }
+  built_good s new_literal_operator xs all = record { closed = λ h. refl; scopes = λ n. tt }
+  built_good s new_constructor xs all = record { closed = λ h. refl; scopes = λ n. tt }
+  built_good s new_destructor xs all = record { closed = λ h. refl; scopes = λ n. tt }
+  built_good s new_unnamed xs all = record { closed = λ h. refl; scopes = λ n. tt }
+  built_good s new_string_literal xs all = record { closed = λ h. refl; scopes = λ n. tt }
+  built_good s new_conversion xs all = record { closed = (all 0).closed; scopes = λ n. (all 0).scopes n }
+  built_good s new_builtin xs all = record { closed = λ h. refl; scopes = λ n. tt }
+  built_good s new_sized_float xs all = record { closed = λ h. refl; scopes = λ n. tt }
+  built_good s new_constrained xs all = record { closed = (all 1).closed; scopes = λ n. (all 1).scopes n }
+  built_good s new_vendor xs all = record { closed = λ h. refl; scopes = λ n. tt }
+  built_good s new_pointer xs all = record { closed = (all 0).closed; scopes = λ n. (all 0).scopes n }
+  built_good s new_lvalue xs all = record { closed = (all 0).closed; scopes = λ n. (all 0).scopes n }
+  built_good s new_rvalue xs all = record { closed = (all 0).closed; scopes = λ n. (all 0).scopes n }
+  built_good s new_array xs all = record { closed = (all 1).closed; scopes = λ n. (all 1).scopes n }
+  built_good s new_bounded xs all = record { closed = λ h. or_no _ _ ((all 0).closed h) ((all 1).closed h); scopes = λ n. ((all 0).scopes n, (all 1).scopes n) }
+  built_good s new_member_pointer xs all = record { closed = λ h. or_no _ _ ((all 0).closed h) ((all 1).closed h); scopes = λ n. ((all 0).scopes n, (all 1).scopes n) }
+  built_good s new_function_type xs all = record { closed = λ h. or_no _ _ ((all 3).closed h) ((all 4).closed h); scopes = λ n. ((all 3).scopes n, (all 4).scopes n) }
+  built_good s new_qualified xs all = record { closed = (all 1).closed; scopes = λ n. (all 1).scopes n }
+  built_good s new_vector xs all = record { closed = (all 1).closed; scopes = λ n. (all 1).scopes n }
+  built_good s new_complex xs all = record { closed = (all 0).closed; scopes = λ n. (all 0).scopes n }
+  built_good s new_decltype xs all = record { closed = (all 0).closed; scopes = λ n. (all 0).scopes n }
+  built_good s new_expansion xs all = record { closed = (all 0).closed; scopes = λ n. (all 0).scopes n }
+  built_good s new_integer xs all = record { closed = (all 0).closed; scopes = λ n. (all 0).scopes n }
+  built_good s new_boolean xs all = record { closed = λ h. refl; scopes = λ n. tt }
+  built_good s new_null_pointer xs all = record { closed = λ h. refl; scopes = λ n. tt }
+  built_good s new_encoding_literal xs all = record { closed = λ h. refl; scopes = λ n. (all 0).scopes n }
+  built_good s new_operation xs all = record { closed = λ h. or_no _ _ ((all 2).closed h) ((all 3).closed h); scopes = λ n. ((all 2).scopes n, (all 3).scopes n) }
+  built_good s new_function_parameter xs all = record { closed = λ h. refl; scopes = λ n. tt }
+  built_good s new_pack xs all = record { closed = (all 0).closed; scopes = λ n. (all 0).scopes n }
+
+  given_good : (s : Type 0) (byte : ℕ) (around : Around) (vs : List Value) (source : Source) → PrefixIf q s around.prefix → AllIf q s vs → GoodIf q s (tree_in (given byte around vs source))
+  unfolding given tree_in
+  given_good s byte around vs (tree_at k) pre all = good_part s vs k all
+  given_good s byte around vs (list_at k) pre all = good_no_items s (part vs k) (good_part s vs k all)
+  given_good s byte around vs (parameters_at k) pre all = good_parameters s (tree_of (part vs k)) (good_part s vs k all)
+  given_good s byte around vs (piece_at k) pre all = good_piece s (part vs k) (good_held s vs k all)
+  given_good s byte around vs the_name pre all = good_prefix s around.prefix pre
+  given_good s byte around vs (qualified_by r v c) pre all = good_nothing s
+  given_good s byte around vs _ pre all = good_nothing s
+
+  all_given_good : (s : Type 0) (byte : ℕ) (around : Around) (vs : List Value) (ss : List Source) → PrefixIf q s around.prefix → AllIf q s vs → (k : ℕ) →
+      GoodIf q s (tree_in (argument (all_given byte around vs ss) k))
+  unfolding all_given argument tree_in
+  all_given_good s byte around vs [] pre all k = good_nothing s
+  all_given_good s byte around vs (source ∷ ss) pre all zero = given_good s byte around vs source pre all
+  all_given_good s byte around vs (source ∷ ss) pre all (suc k) = all_given_good s byte around vs ss pre all k
+
+  pub made_tree_good : (s : Type 0) (byte : ℕ) (around : Around) (vs : List Value) (m : Made) → PrefixIf q s around.prefix → AllIf q s vs → GoodIf q s (made byte around vs m)
+  unfolding made with_tag is_open
+  made_tree_good s byte around vs (of maker sources) pre all = built_good s maker _ (all_given_good s byte around vs sources pre all)
+  made_tree_good s byte around vs (only source) pre all = given_good s byte around vs source pre all
+  made_tree_good s byte around vs (extending m) pre all = good_extended s around.prefix _ pre (made_tree_good s byte around vs m pre all)
+  made_tree_good s byte around vs (tagging k) pre all = let g = good_prefix s around.prefix pre in record { closed = g.closed; scopes = g.scopes }
+  made_tree_good s byte around vs (applying m k) pre all = good_applied s _ (part vs k) (made_tree_good s byte around vs m pre all) (good_part s vs k all)
+  made_tree_good s byte around vs (packing k) pre all = let g = good_no_items s (part vs k) (good_part s vs k all) in record { closed = g.closed; scopes = g.scopes }
+
+  own_good : (s : Type 0) (o : Own) (most byte : ℕ) (around : Around) (vs : List Value) → IsOther (own o most) → PrefixIf q s around.prefix → AllIf q s vs →
+      GoodIf q s (held (own_meaning o byte around vs))
+  unfolding own_meaning held is_open default_entity listed_value
+  own_good s encoding most byte around vs other pre all = absurd other
+  own_good s non_virtual_thunk most byte around vs other pre all = let g = good_part s vs 2 all in record { closed = λ h. refl; scopes = g.scopes }
+  own_good s virtual_thunk most byte around vs other pre all = let g = good_part s vs 4 all in record { closed = λ h. refl; scopes = g.scopes }
+  own_good s covariant_thunk most byte around vs other pre all = let g = good_part s vs 2 all in record { closed = λ h. refl; scopes = g.scopes }
+  own_good s nested_name most byte around vs other pre all = good_part s vs 4 all
+  own_good s local_name most byte around vs other pre all =
+      let e = good_part s vs 0 all in let g = good_part s vs 2 all in record { closed = g.closed; scopes = λ n. (e.scopes n, g.scopes n) }
+  own_good s in_default most byte around vs other pre all = let g = good_part s vs 1 all in record { closed = g.closed; scopes = g.scopes }
+  own_good s nest_end most byte around vs other pre all = good_prefix s around.prefix pre
+  own_good s closure most byte around vs other pre all = let g = good_parameters s _ (good_pair s vs 0 1 all) in record { closed = g.closed; scopes = g.scopes }
+  own_good s inheriting_ most byte around vs other pre all = good_inherited s around.prefix (letter_of (part vs 0)) (part vs 1) pre (good_held s vs 1 all)
+  own_good s by_letters most byte around vs other pre all = good_by s byte (part vs 0) (good_held s vs 0 all)
+  own_good s enclosed most byte around vs other pre all = good_argument s (part vs 0) (good_held s vs 0 all)
+  own_good s elements most byte around vs other pre all = good_list s _ _ (good_element s (tree_of (part vs 0)) (good_part s vs 0 all)) (good_no_items s (part vs 1) (good_part s vs 1 all))
+  own_good s first_of_operator most byte around vs other pre all = good_operator s byte (part vs 0) (good_held s vs 0 all)
+  own_good s reference most byte around vs other pre all = good_reference s byte (part vs 0) (good_part s vs 0 all)
+  own_good s lvalue_signature most byte around vs other pre all = good_signature_or s lvalue_only (part vs 0) (good_held s vs 0 all)
+  own_good s rvalue_signature most byte around vs other pre all = good_signature_or s rvalue_only (part vs 0) (good_held s vs 0 all)
+  own_good s _ most byte around vs other pre all = record { closed = λ h. refl; scopes = λ n. tt }
+
+  meant_good : (s : Type 0) (f : Form) (byte : ℕ) (around : Around) (vs : List Value) → IsOther f → PrefixIf q s around.prefix → AllIf q s vs → GoodIf q s (held (meant f byte around vs))
+  unfolding meant held is_open listed_value with_item
+  meant_good s (handed k) byte around vs other pre all = good_held s vs k all
+  meant_good s (finished k) byte around vs other pre all = good_part s vs k all
+  meant_good s (either k n) byte around vs other pre all =
+      chosen.either (λ v. GoodIf q s (held v)) (is_there (part vs k)) (part vs k) (part vs n) (λ h. good_held s vs k all) (λ h. good_held s vs n all)
+  meant_good s the_byte byte around vs other pre all = good_nothing s
+  meant_good s (makes m listing) byte around vs other pre all = made_tree_good s byte around vs m pre all
+  meant_good s (a_piece m) byte around vs other pre all = made_tree_good s byte around vs m pre all
+  meant_good s (a_pair second m n) byte around vs other pre all = good_list s _ _ (made_tree_good s byte around vs m pre all) (made_tree_good s byte around vs n pre all)
+  meant_good s (cell first rest) byte around vs other pre all = good_pair s vs first rest all
+  meant_good s (item first rest) byte around vs other pre all = good_list s _ _ (good_part s vs first all) (good_part s vs rest all)
+  meant_good s (a_name listing) byte around vs other pre all = good_applied s _ (part vs 1) (good_part s vs 0 all) (good_part s vs 1 all)
+  meant_good s in_place byte around vs other pre all = good_applied s _ (part vs 1) (good_part s vs 0 all) (good_part s vs 1 all)
+  meant_good s (own o most) byte around vs other pre all = own_good s o most byte around vs other pre all
+
+  pub meaning_good : (s : Type 0) (production : Production) (byte : ℕ) (around : Around) (vs : List Value) → PrefixIf q s around.prefix → AllIf q s vs → (q → HasClosedName production vs) →
+      GoodIf q s (held (meaning production byte around vs))
+  unfolding meaning held
+  meaning_good s Production.Encoding byte around vs pre all name =
+      good_encoding s (part vs 0) (no_items (part vs 1)) name (good_part s vs 0 all).scopes (good_no_items s (part vs 1) (good_part s vs 1 all)).scopes
+  meaning_good s production byte around vs pre all name = meant_good s (row_of production).form byte around vs tt pre all
+
+-- so are values, and a prefix
+pub all_where : (s u : Type 0) (vs : List Value) → (u → s) → AllGood s vs → AllGood u vs
+all_where s u [] less all = tt
+all_where s u (v ∷ vs) less all = (good_where s u (held v) less all.0, all_where s u vs less all.1)
+
+pub prefix_where : (s u : Type 0) (prefix : Prefix) → (u → s) → GoodPrefix s prefix → GoodPrefix u prefix
+prefix_where s u outermost less good = tt
+prefix_where s u (behind t listed) less good = good_where s u t less good

@@ -13,6 +13,7 @@ use Rattle.cpp_grammar.specs.Scope.{without_tags}
 use Rattle.std.proofs.lemmas.Bool.{leb-true}
 use Rattle.cpp_grammar.specs.Operations.{Operand, not_printed, as_it_is, as_type, as_list, from_precedence, Operation, operations, operation_of_code}
 use Rattle.cpp_grammar.specs.Texts.{look_up, same_bytes, literal_endings}
+use Rattle.cpp_grammar.proofs.Chosen.{either, either_cond}
 use Rattle.cpp_grammar.proofs.Steps.{first_of_both, second_of_both}
 
 -- at most so many parts
@@ -36,16 +37,11 @@ list_few form c (list e rest) = omega arith
 list_few form c _ = omega arith
 
 choice_few : (n : ℕ) (b : Bool) (xs ys : List (PartOf Item)) → HasFew n xs → HasFew n ys → HasFew n (elim b [ true ↦ xs | false ↦ ys ])
-choice_few n true xs ys f g = f
-choice_few n false xs ys f g = g
+choice_few n b xs ys f g = either (HasFew n) b xs ys (λ is. f) (λ is. g)
 
 sign_few : (n : Signed) → HasFew 1 (sign_part n)
 unfolding sign_part
-sign_few n = go n.negative
-  where
-    go : (b : Bool) → HasFew 1 (cond b (says "-" ∷ []) [])
-    go true = omega arith
-    go false = omega arith
+sign_few n = either_cond (HasFew 1) n.negative (says "-" ∷ []) [] (λ h. omega arith) (λ h. omega arith)
 
 comma_few : (i : ℕ) → HasFew 1 (comma_before i)
 unfolding comma_before
@@ -143,11 +139,9 @@ rows_few = refl
 row_few : (code : List ℕ) (os : List Operation) → all_few os ≡ true → most_of (elim (operation_of_code code os) [ Some o ↦ o | None ↦ no_operation ]) ≤ 7
 unfolding all_few operation_of_code most_of most_parts text_part
 row_few code [] h = omega arith
-row_few code (o ∷ os) h = go (row_few code os (second_of_both (nat_le (most_of o) 7) (all_few os) h)) (same_bytes code o.code)
-  where
-    go : most_of (elim (operation_of_code code os) [ Some p ↦ p | None ↦ no_operation ]) ≤ 7 → (b : Bool) → most_of (elim (elim b as (λ _. Option Operation) [ true ↦ Some o | false ↦ operation_of_code code os ]) [ Some p ↦ p | None ↦ no_operation ]) ≤ 7
-    go rest true = leb-true (most_of o) 7 (first_of_both (nat_le (most_of o) 7) (all_few os) h)
-    go rest false = rest
+row_few code (o ∷ os) h =
+    either (λ found. most_of (elim found [ Some p ↦ p | None ↦ no_operation ]) ≤ 7) (same_bytes code o.code) (Some o) (operation_of_code code os)
+    (λ is. leb-true (most_of o) 7 (first_of_both (nat_le (most_of o) 7) (all_few os) h)) (λ is. row_few code os (second_of_both (nat_le (most_of o) 7) (all_few os) h))
 
 operation_few : (c : Context) (o : Operation) (x y : Term) → most_of o ≤ 7 → HasFew 7 (operation_parts c o x y)
 unfolding operation_parts most_of
@@ -156,12 +150,7 @@ operation_few c o x y h =
     let b = operand_parts c o.left x in
     let d = text_part o.between in
     let e = operand_parts c o.right y in
-    let f = text_part o.back in
-    let ab = append_few (length a) (most_parts o.left) a b (omega arith) (operand_few c o.left x) in
-    let abd = append_few (length a + most_parts o.left) (length d) (a ++ b) d ab (omega arith) in
-    let abde = append_few (length a + most_parts o.left + length d) (most_parts o.right) (a ++ b ++ d) e abd (operand_few c o.right y) in
-    let all = append_few (length a + most_parts o.left + length d + most_parts o.right) (length f) (a ++ b ++ d ++ e) f abde (omega arith) in
-    omega (arith, h, all)
+    omega (arith, h, length-append a b, length-append (a ++ b) d, length-append (a ++ b ++ d) e, length-append (a ++ b ++ d ++ e) (text_part o.back), operand_few c o.left x, operand_few c o.right y)
 
 left_few : (d : Detail) (c : Context) (t : Term) → HasFew 7 (left_parts d c t)
 unfolding left_parts printed

@@ -1,4 +1,5 @@
 pub mod Choosing
+pub mod Chosen
 pub mod Alone
 pub mod Letters
 pub mod WideLetters

@@ -1,6 +1,6 @@
 -- What the reading of the ABI's grammar doesn't refuse is the same in that of the wide grammar: no parameters are free in what it reads in
 -- a lambda's signature.
-use Rattle.std.proofs.Common.{◌≡◌, refl, ap, sym, ◌∙◌, subst, ℕ, zero, suc, ◌+◌, ◌-◌, List, [], ◌∷◌, ◌++◌, length, Bool, true, false, not, ◌||◌, ◌&&◌, cond, nat_eq, nat_lt, ◌<◌, slice_get, Option, Some, None, Result, Ok, Err, lit≤, arith}
+use Rattle.std.proofs.Common.{◌≡◌, refl, ap, sym, ◌∙◌, subst, ℕ, zero, suc, ◌+◌, ◌-◌, List, [], ◌∷◌, ◌++◌, length, Bool, true, false, not, ◌||◌, ◌&&◌, cond, nat_eq, nat_lt, ◌<◌, slice_get, Option, Some, None, Result, Ok, Err, lit≤}
 use Rattle.std.proofs.lemmas.Bool.{true≢false, false≢true}
 use Rattle.std.specs.Result.{IfOk}
 use Rattle.sym_core.specs.declared.refusal.Refusal.{Refusal}
@@ -18,9 +18,9 @@ use Rattle.sym_link.specs.Unfold.{found, alone, standing, unfold_tree, unfold_fo
 use Rattle.cpp_grammar.specs.declared.kind.Kind.{Kind}
 use Rattle.cpp_grammar.specs.declared.production.Production.{Production}
 use Rattle.cpp_grammar.specs.KindNumbers.{SYMBOL, SPECIAL, SPECIAL_MARK, SPECIAL_AFTER_G}
-use Rattle.cpp_grammar.specs.Grammar.{Alternative, is_in, pick, kinds, number_of_kind, parts_of}
-use Rattle.cpp_grammar.specs.Wide.{wide_alternatives, wide_choose}
-use Rattle.cpp_grammar.specs.Table.{wide, rule_of, rule_taken}
+use Rattle.cpp_grammar.specs.Grammar.{is_in, number_of_kind, parts_of}
+use Rattle.cpp_grammar.specs.Wide.{wide_alternatives}
+use Rattle.cpp_grammar.specs.Table.{wide}
 use Rattle.cpp_grammar.specs.Term.{Term, parameter, lambda, generic_lambda, list}
 use Rattle.cpp_grammar.specs.Scope.{count, element, is_open, length_if_pack}
 use Rattle.cpp_grammar.specs.Values.{Candidate, State, Around, prefix_tree, prefix_listed, Value, nothing_there, text, tree, piece, tree_of, is_listed, text_of, local_number, part}
@@ -34,10 +34,11 @@ use Rattle.cpp_grammar.specs.Unfolding as unfolding_
 use Rattle.cpp_grammar.specs.Unfolding.{opening, close, production_at, byte_of, cpp, first_around, first_state, first_tree, unfold_cpp}
 use Rattle.cpp_grammar.specs.Rescoping.{generic_so_far, parameter_here, lambda_with, as_generic_lambda, has_held, is_counted_alike, is_foreign, restated, substituted_wide, numbered, between_wide, close_wide, cpp_wide, unfold_wide, argument_here, generic_number}
 use Rattle.cpp_grammar.specs.TableLaws.{wide_sound}
-use Rattle.cpp_grammar.proofs.Choosing.{kinds_numbered, number_at, wide_rule_at, is_wide_kind}
+use Rattle.cpp_grammar.proofs.Choosing.{each_passes, chosen_rule, taken_passes, implied}
+use Rattle.cpp_grammar.proofs.Chosen.{either, if_there}
 use Rattle.cpp_grammar.proofs.ClosedValues.{held}
 use Rattle.cpp_grammar.proofs.ClosedStates.{ok_same, behind_bind}
-use Rattle.cpp_grammar.proofs.ClosedTrees.{opens, at_number, its_symbols, taken_rule, same_rule, opening_keeps, known}
+use Rattle.cpp_grammar.proofs.ClosedTrees.{opens, at_number, its_symbols, taken_rule, opening_keeps, known}
 use Rattle.cpp_grammar.proofs.NoneFree.{HasNone, AllNone, none_tree, none_part, PrefixHasNone, none_prefix, none_encoding, none_signature, made_none, meaning_none}
 use Rattle.cpp_grammar.proofs.Steps.{first_of_both, second_of_both, all_pass, step_passes, is_here, goes_here}
 
@@ -101,44 +102,25 @@ appended_none around t state g all = one_more state.candidates (record { tree = 
 
 prefixed_none : (around : Around) (state : State) → Settled around → AllHaveNone state.candidates → AllHaveNone (with_prefix around state).candidates
 unfolding with_prefix
-prefixed_none around state settled all = go (prefix_listed around.prefix)
-  where
-    go : (b : Bool) → AllHaveNone (elim b as (λ _. State) [ true ↦ state | false ↦ appended around (prefix_tree around.prefix) state ]).candidates
-    go true = all
-    go false = appended_none around (prefix_tree around.prefix) state (λ l. none_prefix around.prefix (settled.prefix l)) all
+prefixed_none around state settled all =
+    either (λ s. AllHaveNone s.candidates) (prefix_listed around.prefix) state (appended around (prefix_tree around.prefix) state) (λ h. all)
+    (λ h. appended_none around (prefix_tree around.prefix) state (λ l. none_prefix around.prefix (settled.prefix l)) all)
 
 typed_none : (around : Around) (v : Value) (state : State) → (around.in_lambda ≡ true → HasNone (tree_of v)) → AllHaveNone state.candidates → AllHaveNone (with_type around v state).candidates
 unfolding with_type
-typed_none around v state g all = go (is_listed v)
-  where
-    go : (b : Bool) → AllHaveNone (elim b as (λ _. State) [ true ↦ state | false ↦ appended around (tree_of v) state ]).candidates
-    go true = all
-    go false = appended_none around (tree_of v) state g all
+typed_none around v state g all = either (λ s. AllHaveNone s.candidates) (is_listed v) state (appended around (tree_of v) state) (λ h. all) (λ h. appended_none around (tree_of v) state g all)
 
 unqualified_none : (around : Around) (v : Value) (state : State) → (around.in_lambda ≡ true → HasNone (tree_of v)) → AllHaveNone state.candidates → AllHaveNone (with_unqualified around v state).candidates
 unfolding with_unqualified
-unqualified_none around v state g all = go (is_function_type (tree_of v))
-  where
-    go : (b : Bool) → AllHaveNone (elim b as (λ _. State) [ true ↦ state | false ↦ with_type around v state ]).candidates
-    go true = all
-    go false = typed_none around v state g all
+unqualified_none around v state g all = either (λ s. AllHaveNone s.candidates) (is_function_type (tree_of v)) state (with_type around v state) (λ h. all) (λ h. typed_none around v state g all)
 
 packs_none : (place : ℕ) (b : Bool) (o : Option ℕ) (state : State) → IfOk (with_packs place b o state) (λ s. s.candidates ≡ state.candidates)
 unfolding with_packs
 packs_none place b None state = refl
 packs_none place false (Some m) state = tt
-packs_none place true (Some m) state = go state.packs
-  where
-    tested : (b : Bool) → IfOk {T = State} (elim b [ true ↦ Ok state | false ↦ Err (BadReference place) ]) (λ s. s.candidates ≡ state.candidates)
-    tested true = refl
-    tested false = tt
-
-    go : (o : Option ℕ) → IfOk {T = State} (elim o [
-      | None ↦ Ok (record state { packs = Some m })
-      | Some n ↦ elim (nat_eq m n) [ true ↦ Ok state | false ↦ Err (BadReference place) ]
-    ]) (λ s. s.candidates ≡ state.candidates)
-    go None = refl
-    go (Some n) = tested (nat_eq m n)
+packs_none place true (Some m) state =
+    let kept : Result State Refusal → Type 0 = λ x. IfOk x (λ s. s.candidates ≡ state.candidates) in
+    if_there kept state.packs _ _ refl (λ n is. either kept (nat_eq m n) _ _ (λ h. refl) (λ h. tt))
 
 -- ## Between the parts of a production
 
@@ -207,7 +189,11 @@ candidate_none false around t state none cs = cs
 tests_none : (is_name : Bool) (around : Around) (place k : ℕ) (vs : List Value) (state : State) → Settled around → (around.in_lambda ≡ true → AllNone vs) → AllHaveNone state.candidates →
     IfOk (parameter_named around place k state >>= λ s. tested_ is_name around (parameter k) vs s state) (NextHasNone around.in_lambda false)
 unfolding parameter_named tested_
-tests_none is_name around place k vs state settled all cs = go around.scope refl
+tests_none is_name around place k vs state settled all cs =
+    let passes : Result State Refusal → Type 0 = λ m. IfOk (m >>= λ s. tested_ is_name around (parameter k) vs s state) (NextHasNone around.in_lambda false) in
+    let packs : Term → Result State Refusal = λ arguments. with_packs place around.in_expansion (length_if_pack (element arguments k)) state in
+    if_there passes around.scope _ _ tt (λ arguments is. either passes (nat_lt k (count arguments)) _ _
+    (λ h. packed arguments is (packs arguments) (packs_none place around.in_expansion (length_if_pack (element arguments k)) state)) (λ h. tt))
   where
     -- arguments are named in no signature
     never : (arguments : Term) → around.scope ≡ Some arguments → around.in_lambda ≡ true → HasNone (parameter k)
@@ -226,23 +212,6 @@ tests_none is_name around place k vs state settled all cs = go around.scope refl
         becomes_none around (parameter k) true is_name vs (cond is_name now (record now { candidates = state.candidates })) settled none all
         (kept is_name now (appended_none around (parameter k) s none (subst AllHaveNone (sym same) cs)))
     packed arguments is (Err e) same = tt
-
-    in_range : (arguments : Term) → around.scope ≡ Some arguments → (b : Bool) → IfOk ((elim b as (λ _. Result State Refusal) [
-      | false ↦ Err (BadReference place)
-      | true ↦ with_packs place around.in_expansion (length_if_pack (element arguments k)) state >>= λ s. Ok (appended around (parameter k) s)
-    ]) >>= λ s. tested_ is_name around (parameter k) vs s state) (NextHasNone around.in_lambda false)
-    in_range arguments is false = tt
-    in_range arguments is true = packed arguments is (with_packs place around.in_expansion (length_if_pack (element arguments k)) state) (packs_none place around.in_expansion (length_if_pack (element arguments k)) state)
-
-    go : (o : Option Term) → around.scope ≡ o → IfOk ((elim o as (λ _. Result State Refusal) [
-      | None ↦ Err (BadReference place)
-      | Some arguments ↦ elim (nat_lt k (count arguments)) [
-        | false ↦ Err (BadReference place)
-        | true ↦ with_packs place around.in_expansion (length_if_pack (element arguments k)) state >>= λ s. Ok (appended around (parameter k) s)
-      ]
-    ]) >>= λ s. tested_ is_name around (parameter k) vs s state) (NextHasNone around.in_lambda false)
-    go None is = tt
-    go (Some arguments) is = in_range arguments is (nat_lt k (count arguments))
 
 done_none : (b : Before) (around : Around) (place : ℕ) (vs : List Value) (state : State) → goes_here b ≡ true → Settled around → (around.in_lambda ≡ true → AllNone vs) → AllHaveNone state.candidates →
     IfOk (done b around place vs state) (NextHasNone around.in_lambda false)
@@ -293,41 +262,24 @@ behind_none p byte around began vs state settled all cs =
 
 -- ## References
 
-here_stays : (around : Around) (place k : ℕ) (state : State) (n : Next Value State Around) → Settled around → parameter_so_far around place k [] state ≡ Ok n → parameter_here around place k [] state ≡ Ok n
-unfolding parameter_here parameter_so_far parameter_named
-here_stays around place k state n settled e = go around.in_lambda refl
-  where
-    nowhere : (o : Option Term) → o ≡ None → ((elim o as (λ _. Result State Refusal) [
-      | None ↦ Err (BadReference place)
-      | Some arguments ↦ elim (nat_lt k (count arguments)) [
-        | false ↦ Err (BadReference place)
-        | true ↦ with_packs place around.in_expansion (length_if_pack (element arguments k)) state >>= λ s. Ok (appended around (parameter k) s)
-      ]
-    ]) >>= λ s. listed_so_far around (parameter k) [] s) ≡ Ok n → ⊥
-    nowhere None is h = let clash : ◌≡◌ {A = Going} (Err (BadReference place)) (Ok n) = h in cc
-    nowhere (Some arguments) is h = cc
+-- where an argument is named there is a scope, and so no signature
+named_here : (around : Around) (place k : ℕ) (state : State) (f : State → Going) (own : Going) (n : Next Value State Around) → Settled around → (parameter_named around place k state >>= f) ≡ Ok n →
+    ◌≡◌ {A = Going} (elim around.in_lambda [ true ↦ own | false ↦ parameter_named around place k state >>= f ]) (Ok n)
+unfolding parameter_named
+named_here around place k state f own n settled e =
+    either (λ x. ◌≡◌ {A = Going} x (Ok n)) around.in_lambda own (parameter_named around place k state >>= f)
+    (λ is. absurd (if_there (λ m. (m >>= f) ≡ Ok n → ⊥) around.scope _ _ (λ h. let clash : ◌≡◌ {A = Going} (Err (BadReference place)) (Ok n) = h in cc)
+    (λ arguments there h. let clash : ◌≡◌ {A = Option Term} None (Some arguments) = sym (settled.bare is) ∙ there in cc) e)) (λ is. e)
 
-    go : (b : Bool) → around.in_lambda ≡ b → ◌≡◌ {A = Going} (elim b [ true ↦ generic_so_far around k [] state | false ↦ parameter_so_far around place k [] state ]) (Ok n)
-    go true is = absurd (nowhere around.scope (settled.bare is) e)
-    go false is = e
+here_stays : (around : Around) (place k : ℕ) (state : State) (n : Next Value State Around) → Settled around → parameter_so_far around place k [] state ≡ Ok n → parameter_here around place k [] state ≡ Ok n
+unfolding parameter_here parameter_so_far
+here_stays around place k state n settled e = named_here around place k state (λ s. listed_so_far around (parameter k) [] s) (generic_so_far around k [] state) n settled e
 
 argument_stays : (around : Around) (place k : ℕ) (state : State) (n : Next Value State Around) → Settled around → argument_so_far around place k state ≡ Ok n → argument_here around place k state ≡ Ok n
-unfolding argument_here argument_so_far parameter_named
-argument_stays around place k state n settled e = go around.in_lambda refl
-  where
-    nowhere : (o : Option Term) → o ≡ None → ((elim o as (λ _. Result State Refusal) [
-      | None ↦ Err (BadReference place)
-      | Some arguments ↦ elim (nat_lt k (count arguments)) [
-        | false ↦ Err (BadReference place)
-        | true ↦ with_packs place around.in_expansion (length_if_pack (element arguments k)) state >>= λ s. Ok (appended around (parameter k) s)
-      ]
-    ]) >>= λ s. next (tree (parameter k) true ∷ []) around (record s { candidates = state.candidates })) ≡ Ok n → ⊥
-    nowhere None is h = let clash : ◌≡◌ {A = Going} (Err (BadReference place)) (Ok n) = h in cc
-    nowhere (Some arguments) is h = cc
-
-    go : (b : Bool) → around.in_lambda ≡ b → ◌≡◌ {A = Going} (elim b [ true ↦ next (tree (parameter (generic_number k)) true ∷ []) around state | false ↦ argument_so_far around place k state ]) (Ok n)
-    go true is = absurd (nowhere around.scope (settled.bare is) e)
-    go false is = e
+unfolding argument_here argument_so_far
+argument_stays around place k state n settled e =
+    named_here around place k state (λ s. next (tree (parameter k) true ∷ []) around (record s { candidates = state.candidates }))
+    (next (tree (parameter (generic_number k)) true ∷ []) around state) n settled e
 
 between_stays : (p : Production) (around : Around) (place : ℕ) (vs : List Value) (state : State) (n : Next Value State Around) → Settled around → between p around place vs state ≡ Ok n → between_wide p around place vs state ≡ Ok n
 unfolding between between_wide parameter_so_far parameter_named listed_so_far argument_so_far
@@ -390,13 +342,10 @@ record Closes (around : Around) (wide : Result (Found Value State) Refusal) (r :
 substituted_stays : (around : Around) (place n : ℕ) (state : State) (r : Found Value State) → AllHaveNone state.candidates → substituted around place (slice_get state.candidates n) state ≡ Ok r →
     Closes around (numbered around place n state) r
 unfolding substituted substituted_wide numbered is_counted_alike
-substituted_stays around place n state r cs e = counted (has_held state.candidates (n + 2)) (none_held state.candidates (n + 2) cs) (go (slice_get state.candidates n) refl e)
+substituted_stays around place n state r cs e =
+    either (λ x. Closes around x r) (not (has_held state.candidates (n + 2))) _ _ (λ is. go (slice_get state.candidates n) refl e)
+    (λ is. absurd (true≢false (sym (ap not (none_held state.candidates (n + 2) cs)) ∙ is)))
   where
-    counted : (b : Bool) → b ≡ false → Closes around (substituted_wide around place (slice_get state.candidates n) state) r
-        → Closes around (elim (not b) [ true ↦ substituted_wide around place (slice_get state.candidates n) state | false ↦ Err (BadReference place) ]) r
-    counted true h closes = absurd (true≢false h)
-    counted false h closes = closes
-
     go : (o : Option Candidate) → slice_get state.candidates n ≡ o → substituted around place o state ≡ Ok r → Closes around (substituted_wide around place o state) r
     go None is h = let clash : ◌≡◌ {A = Result (Found Value State) Refusal} (Err (BadReference place)) (Ok r) = h in absurd cc
     go (Some c) is h =
@@ -406,14 +355,10 @@ substituted_stays around place n state r cs e = counted (has_held state.candidat
 -- a lambda whose signature is closed has no parameters of its own
 lambda_stays : (around : Around) (byte : ℕ) (vs : List Value) → AllNone vs → as_generic_lambda (meaning Production.Lambda byte around vs) ≡ meaning Production.Lambda byte around vs
 unfolding as_generic_lambda meaning lambda_with held is_open
-lambda_stays around byte vs all = go (is_open (parameters (list (tree_of (part vs 0)) (no_items (part vs 1))))) (none_signature vs all)
-  where
-    go : (b : Bool) → b ≡ false → piece (elim b [
-      | true ↦ generic_lambda (parameters (list (tree_of (part vs 0)) (no_items (part vs 1)))) (local_number (text_of (part vs 3)))
-      | false ↦ lambda (parameters (list (tree_of (part vs 0)) (no_items (part vs 1)))) (local_number (text_of (part vs 3)))
-    ]) ≡ piece (lambda (parameters (list (tree_of (part vs 0)) (no_items (part vs 1)))) (local_number (text_of (part vs 3))))
-    go true h = absurd (true≢false h)
-    go false h = refl
+lambda_stays around byte vs all =
+    let t = parameters (list (tree_of (part vs 0)) (no_items (part vs 1))) in
+    let number = local_number (text_of (part vs 3)) in
+    either (λ x. piece x ≡ piece (lambda t number)) (is_open t) (generic_lambda t number) (lambda t number) (λ is. absurd (true≢false (sym is ∙ none_signature vs all))) (λ is. refl)
 
 closed_stays : (p : Production) (byte : ℕ) (around : Around) (began : State) (vs : List Value) (state : State) (r : Found Value State) → Settled around → (are_closed p around ≡ true → AllNone vs) → AllHaveNone state.candidates →
     ◌≡◌ {A = Result (Found Value State) Refusal} (Ok (found (meaning p byte around vs) (unfolding_.behind p byte around began vs state))) (Ok r) → (read : Result (Found Value State) Refusal) → read ≡ Ok r → Closes around read r
@@ -459,12 +404,8 @@ makes_special Production.Clone = true
 makes_special Production.Mark = true
 makes_special _ = false
 
-unfoldable make_special : List Alternative → Bool
-make_special [] = true
-make_special (a ∷ rest) = makes_special a.production && make_special rest
-
-only_special : (kind : Kind) → not (is_special (OfKind (number_of_kind kind))) || make_special (wide_alternatives kind) ≡ true
-unfolding is_special number_of_kind wide_alternatives make_special makes_special
+only_special : (kind : Kind) → each_passes (λ p. not (is_special (OfKind (number_of_kind kind))) || makes_special p) (wide_alternatives kind) ≡ true
+unfolding is_special number_of_kind wide_alternatives each_passes makes_special
 only_special Kind.Symbol = refl
 only_special _ = refl
 
@@ -482,35 +423,12 @@ special_or p true l f h = refl
 special_or true false l f h = absurd (false≢true (f refl))
 special_or false false l f h = h
 
-picked_special : (all : List Alternative) (byte : ℕ) (p : Production) → make_special all ≡ true → pick all byte ≡ Some p → makes_special p ≡ true
-unfolding pick make_special
-picked_special [] byte p h e = absurd cc
-picked_special (a ∷ rest) byte p h e = go (λ i. picked_special rest byte p (second_of_both (makes_special a.production) (make_special rest) h) i) (is_in a byte) e
-  where
-    go : (pick rest byte ≡ Some p → makes_special p ≡ true) → (b : Bool) → cond b (Some a.production) (pick rest byte) ≡ Some p → makes_special p ≡ true
-    go later true i = let same : a.production ≡ p = cc in sym (ap makes_special same) ∙ first_of_both (makes_special a.production) (make_special rest) h
-    go later false i = later i
-
-implied : (a b : Bool) → not a || b ≡ true → a ≡ true → b ≡ true
-implied true b h k = h
-implied false b h k = absurd (false≢true k)
-
 -- the production of a tree of such a kind
 special_taken : (k : ℕ) (rule : Rule) (taken : List ℕ) → k < wide.kinds → TakesRule wide k rule taken → is_special (OfKind k) ≡ true → makes_special (production_at rule.number) ≡ true
-unfolding rule_taken wide_choose
-special_taken k rule taken lt takes special = go (slice_get kinds k) refl
-  where
-    chosen : (kind : Kind) → slice_get kinds k ≡ Some kind → (o : Option Production) → wide_choose kind takes.byte ≡ o → rule_taken o ≡ Some rule → makes_special (production_at rule.number) ≡ true
-    chosen kind at None is h = let clash : ◌≡◌ {A = Option Rule} None (Some rule) = h in absurd cc
-    chosen kind at (Some p) is h =
-        let number : k ≡ number_of_kind kind = omega (arith, number_at 0 kinds k kind kinds_numbered at) in
-        let made = picked_special (wide_alternatives kind) takes.byte p (implied (is_special (OfKind (number_of_kind kind))) (make_special (wide_alternatives kind)) (only_special kind) (sym (ap (λ n. is_special (OfKind n)) number) ∙ special)) is in
-        let same : rule_of p ≡ rule = same_rule p rule h in
-        ap makes_special (sym (ap (λ x. production_at x.number) same) ∙ at_number p) ∙ made
-
-    go : (o : Option Kind) → slice_get kinds k ≡ o → makes_special (production_at rule.number) ≡ true
-    go None none = absurd (is_wide_kind k lt none)
-    go (Some kind) at = chosen kind at (wide_choose kind takes.byte) refl (sym (wide_rule_at k kind takes.byte at) ∙ takes.found)
+special_taken k rule taken lt takes special =
+    let c = chosen_rule k rule taken lt takes in
+    ap makes_special (ap (λ x. production_at x.number) c.is ∙ at_number c.production)
+    ∙ implied (is_special (OfKind k)) (makes_special c.production) (taken_passes (λ n p. not (is_special (OfKind n)) || makes_special p) only_special k rule c) special
 
 special_closes : (p : Production) (byte : ℕ) (around : Around) (place : ℕ) (began : State) (vs : List Value) (state : State) (one : Found Value State) → makes_special p ≡ true →
     close p byte around place began vs state ≡ Ok one → HasNone (held one.value)

@@ -10,7 +10,7 @@ use Rattle.sym_core.specs.Value.{counted_value}
 use Rattle.cpp_grammar.specs.declared.production.Production.{Production}
 use Rattle.cpp_grammar.specs.Rescoping.{generic_number, generic_so_far, parameter_here, argument_here, lambda_with, as_generic_lambda, with_holder, is_instance, holder_so_far, numbered, with_base, counted_base, between_wide, close_wide}
 use Rattle.cpp_grammar.specs.Scope.{count, element, is_open, length_if_pack}
-use Rattle.cpp_grammar.specs.Term.{Term, lambda, generic_lambda, list, instance, holder, parameter}
+use Rattle.cpp_grammar.specs.Term.{Term, list, instance, holder, parameter}
 use Rattle.cpp_grammar.specs.Values as leaf_
 use Rattle.cpp_grammar.specs.Values.{Around, prefix_tree, Value, State, Candidate, local_number, tree_of, text_of, is_listed, part}
 use Rattle.cpp_grammar.specs.References.{appended, with_type, with_unqualified, with_packs, substituted, parameter_named}
@@ -35,7 +35,7 @@ use Rattle.cpp_term.specs.Meant as meant_
 use Rattle.cpp_term.specs.Unfolding as unfolded_
 use Rattle.cpp_term.specs.Rescoping as wide_
 use Rattle.cpp_term.specs.Annotated.{Place, around_place, place_in, in_own, argument_in, annotate, noted_scope, noted_value, noted_values, noted_prefix, noted_around}
-use Rattle.cpp_term.proofs.Notes.{both, open_noted, closed_noted}
+use Rattle.cpp_term.proofs.Notes.{both, choose, choose_cond, open_noted, closed_noted}
 use Rattle.cpp_term.proofs.MeaningNoted.{part_noted, tree_part, tree_noted, text_noted, text_part, prefix_tree_noted, Inside, lambda_noted, takes_encodings, is_of_none, made_inside, made_noted, listing_noted, listed_noted, meaning_noted}
 use Rattle.cpp_term.proofs.StatesNoted.{IsOutside, Settled, own_place, Alike, alike_bind, Same, Moves, moves_none, moves_then, one_moves, type_moves, unqualified_moves, prefix_moves, Comes, get_noted, substituted_noted, wide_numbered_noted, held_moves, parameter_noted}
 
@@ -238,26 +238,16 @@ behind_noted : (own : Bool) (production : Production) (byte : ℕ) (around : Aro
     y.packs ≡ x.packs → first.packs ≡ began.packs →
     Moves own around x y (unfolding_.behind production byte around began vs x) (unfolded_.behind production byte (noted_around own around) first (noted_values (around_place own around) vs) y)
 unfolding unfolding_.behind unfolded_.behind
-behind_noted own production byte around began first vs x y h packs e = go (row_of production).restores_packs
-  where
-    v : Value
-    v = meaning production byte around vs
-
-    w : value_.Value
-    w = noted_.meaning production byte (noted_around own around) (noted_values (around_place own around) vs)
-
-    new : State
-    new = gained (row_of production).gain around vs v x
-
-    other : value_.State
-    other = meant_.gained (row_of production).gain (noted_around own around) (noted_values (around_place own around) vs) w y
-
-    moves_ : Moves own around x y new other
-    moves_ = gained_moves own (row_of production).gain around vs v w x y (ap value_.tree_of (meaning_noted own production byte around vs h) ∙ tree_noted (around_place own around) v) packs
-
-    go : (b : Bool) → Moves own around x y (cond b (record new { packs = began.packs }) new) (cond b (record other { packs = first.packs }) other)
-    go true = packs_move own around x new y other began.packs first.packs e moves_
-    go false = moves_
+behind_noted own production byte around began first vs x y h packs e =
+    let s = around_place own around in
+    let gain = (row_of production).gain in
+    let v = meaning production byte around vs in
+    let w = noted_.meaning production byte (noted_around own around) (noted_values s vs) in
+    let new = gained gain around vs v x in
+    let other = meant_.gained gain (noted_around own around) (noted_values s vs) w y in
+    let moves_ : Moves own around x y new other = gained_moves own gain around vs v w x y (ap value_.tree_of (meaning_noted own production byte around vs h) ∙ tree_noted s v) packs in
+    choose_cond (Moves own around x y) (row_of production).restores_packs (record new { packs = began.packs }) new (record other { packs = first.packs }) other
+    (packs_move own around x new y other began.packs first.packs e moves_) moves_
 
 -- what a production comes to, both ways
 made_close : (own : Bool) (production : Production) (byte : ℕ) (around : Around) (began : State) (first : value_.State) (vs : List Value) (x : State) (y : value_.State) → Inside production vs → Same own around x y → first.packs ≡ began.packs →
@@ -296,16 +286,12 @@ generic_goes around x y k is settled packs =
 here_goes : (around : Around) (x : State) (y : value_.State) (place : ℕ) (v : Value) → Settled around → y.packs ≡ x.packs →
     Alike (Goes true (around_place true around) around x y) (parameter_here around place (index_of v) [] x) (wide_.parameter_here (noted_around true around) place (between_.index_of (noted_value (around_place true around) v)) [] y)
 unfolding parameter_here wide_.parameter_here parameter_so_far between_.parameter_so_far listed_so_far between_.listed_so_far done meant_.done tested meant_.tested replaced meant_.replaced part value_.part noted_values is_plain noted_around
-here_goes around x y place v settled packs = go around.in_lambda refl
-  where
-    s : Place
-    s = around_place true around
-
-    go : (b : Bool) → around.in_lambda ≡ b → Alike (Goes true s around x y)
-        (elim b [ true ↦ generic_so_far around (index_of v) [] x | false ↦ parameter_so_far around place (index_of v) [] x ])
-        (elim b [ true ↦ wide_.generic_so_far (noted_around true around) (between_.index_of (noted_value s v)) [] y | false ↦ between_.parameter_so_far (noted_around true around) place (between_.index_of (noted_value s v)) [] y ])
-    go true is = subst (λ k. Alike (Goes true s around x y) (generic_so_far around (index_of v) [] x) (wide_.generic_so_far (noted_around true around) k [] y)) (sym (index_noted s v)) (generic_goes around x y (index_of v) is settled packs)
-    go false is = done_noted true (tests false true) around place (v ∷ []) x y refl packs
+here_goes around x y place v settled packs =
+    let s = around_place true around in
+    choose (Alike (Goes true s around x y)) around.in_lambda around.in_lambda _ _ _ _ refl
+    (λ is. subst (λ k. Alike (Goes true s around x y) (generic_so_far around (index_of v) [] x) (wide_.generic_so_far (noted_around true around) k [] y)) (sym (index_noted s v))
+    (generic_goes around x y (index_of v) is settled packs))
+    (λ is. done_noted true (tests false true) around place (v ∷ []) x y refl packs)
 
 own_argument_goes : (around : Around) (x : State) (y : value_.State) (k : ℕ) → around.in_lambda ≡ true → Settled around → y.packs ≡ x.packs →
     Alike (Goes true (around_place true around) around x y) (next (leaf_.tree (parameter (generic_number k)) true ∷ []) around x)
@@ -320,19 +306,13 @@ own_argument_goes around x y k is settled packs =
 argument_here_goes : (around : Around) (x : State) (y : value_.State) (place : ℕ) (v : Value) → Settled around → y.packs ≡ x.packs →
     Alike (Goes true (around_place true around) around x y) (argument_here around place (index_of v) x) (wide_.argument_here (noted_around true around) place (between_.index_of (noted_value (around_place true around) v)) y)
 unfolding argument_here wide_.argument_here argument_so_far between_.argument_so_far done meant_.done tested meant_.tested replaced meant_.replaced part value_.part noted_values is_plain noted_around
-argument_here_goes around x y place v settled packs = go around.in_lambda refl
-  where
-    s : Place
-    s = around_place true around
-
-    named : ℕ → between_.Going
-    named k = between_.next (value_.tree (term_.parameter (generic_number k) item_.auto) true ∷ []) (noted_around true around) y
-
-    go : (b : Bool) → around.in_lambda ≡ b → Alike (Goes true s around x y)
-        (elim b [ true ↦ next (leaf_.tree (parameter (generic_number (index_of v))) true ∷ []) around x | false ↦ argument_so_far around place (index_of v) x ])
-        (elim b [ true ↦ named (between_.index_of (noted_value s v)) | false ↦ between_.argument_so_far (noted_around true around) place (between_.index_of (noted_value s v)) y ])
-    go true is = subst (λ k. Alike (Goes true s around x y) (next (leaf_.tree (parameter (generic_number (index_of v))) true ∷ []) around x) (named k)) (sym (index_noted s v)) (own_argument_goes around x y (index_of v) is settled packs)
-    go false is = done_noted true (tests false false) around place (v ∷ []) x y refl packs
+argument_here_goes around x y place v settled packs =
+    let s = around_place true around in
+    choose (Alike (Goes true s around x y)) around.in_lambda around.in_lambda _ _ _ _ refl
+    (λ is. subst (λ k. Alike (Goes true s around x y) (next (leaf_.tree (parameter (generic_number (index_of v))) true ∷ []) around x)
+    (between_.next (value_.tree (term_.parameter (generic_number k) item_.auto) true ∷ []) (noted_around true around) y))
+    (sym (index_noted s v)) (own_argument_goes around x y (index_of v) is settled packs))
+    (λ is. done_noted true (tests false false) around place (v ∷ []) x y refl packs)
 
 instance_noted : (s : Place) (t : Term) → wide_.is_instance (annotate s t) ≡ is_instance t
 unfolding is_instance wide_.is_instance annotate
@@ -343,26 +323,13 @@ holder_goes : (around : Around) (x : State) (y : value_.State) (place : ℕ) →
     Alike (Goes true (around_place true around) around x y) (holder_so_far around place x) (wide_.holder_so_far (noted_around true around) place y)
 unfolding holder_so_far wide_.holder_so_far listed_so_far between_.listed_so_far noted_around noted_values annotate
 holder_goes around x y place packs =
-    go (is_instance (prefix_tree around.prefix)) (wide_.is_instance (value_.prefix_tree (noted_prefix s around.prefix))) (ap wide_.is_instance (prefix_tree_noted s around.prefix) ∙ instance_noted s (prefix_tree around.prefix))
-  where
-    s : Place
-    s = around_place true around
-
-    t : Term
-    t = holder (prefix_tree around.prefix)
-
-    u : term_.Term
-    u = term_.holder (value_.prefix_tree (noted_prefix s around.prefix))
-
-    go : (b e : Bool) → e ≡ b → Alike (Goes true s around x y)
-        (elim b [ true ↦ Err (BadReference place) | false ↦ listed_so_far around t [] (with_holder around t x) ])
-        (elim e [ true ↦ Err (BadReference place) | false ↦ between_.listed_so_far (noted_around true around) u [] (wide_.with_holder (noted_around true around) u y) ])
-    go true true f = refl
-    go false false f =
-        let same = ap term_.holder (prefix_tree_noted s around.prefix) in
-        named_goes true around x (with_holder around t x) y (wide_.with_holder (noted_around true around) u y) t u true [] [] same refl (held_moves true around t u x y packs same)
-    go true false f = absurd cc
-    go false true f = absurd cc
+    let s = around_place true around in
+    let t = holder (prefix_tree around.prefix) in
+    let u = term_.holder (value_.prefix_tree (noted_prefix s around.prefix)) in
+    let same = ap term_.holder (prefix_tree_noted s around.prefix) in
+    choose (Alike (Goes true s around x y)) (is_instance (prefix_tree around.prefix)) (wide_.is_instance (value_.prefix_tree (noted_prefix s around.prefix))) _ _ _ _
+    (ap wide_.is_instance (prefix_tree_noted s around.prefix) ∙ instance_noted s (prefix_tree around.prefix)) (λ h. refl)
+    (λ h. named_goes true around x (with_holder around t x) y (wide_.with_holder (noted_around true around) u y) t u true [] [] same refl (held_moves true around t u x y packs same))
 
 base_moves : (around : Around) (t : Term) (u : term_.Term) (x : State) (y : value_.State) → y.packs ≡ x.packs → u ≡ annotate (around_place true around) t → Moves true around x y (with_base around t x) (wide_.with_base (noted_around true around) u y)
 unfolding with_base wide_.with_base
@@ -384,36 +351,19 @@ pub wide_between_noted : (production : Production) (around : Around) (place : �
     Alike (Goes true (parts_place true production around) around x y) (between_wide production around place vs x)
     (wide_.between_wide production (noted_around true around) place (noted_values (parts_place true production around) vs) y)
 unfolding between_wide wide_.between_wide noted_values parts_place has_signature noted_around noted_prefix
-wide_between_noted Production.Parameter around place [] x y stays settled packs = between_noted true Production.Parameter around place [] x y stays packs
 wide_between_noted Production.Parameter around place (v ∷ []) x y stays settled packs = here_goes around x y place v settled packs
-wide_between_noted Production.Parameter around place (v ∷ w ∷ vs) x y stays settled packs = between_noted true Production.Parameter around place (v ∷ w ∷ vs) x y stays packs
-wide_between_noted Production.NestParameter around place [] x y stays settled packs = between_noted true Production.NestParameter around place [] x y stays packs
 wide_between_noted Production.NestParameter around place (v ∷ []) x y stays settled packs = here_goes around x y place v settled packs
-wide_between_noted Production.NestParameter around place (v ∷ w ∷ vs) x y stays settled packs = between_noted true Production.NestParameter around place (v ∷ w ∷ vs) x y stays packs
-wide_between_noted Production.ParameterArgument around place [] x y stays settled packs = between_noted true Production.ParameterArgument around place [] x y stays packs
 wide_between_noted Production.ParameterArgument around place (v ∷ []) x y stays settled packs = here_goes around x y (place - 1) v settled packs
-wide_between_noted Production.ParameterArgument around place (v ∷ w ∷ vs) x y stays settled packs = between_noted true Production.ParameterArgument around place (v ∷ w ∷ vs) x y stays packs
-wide_between_noted Production.ParameterExpression around place [] x y stays settled packs = between_noted true Production.ParameterExpression around place [] x y stays packs
 wide_between_noted Production.ParameterExpression around place (v ∷ []) x y stays settled packs = argument_here_goes around x y place v settled packs
-wide_between_noted Production.ParameterExpression around place (v ∷ w ∷ vs) x y stays settled packs = between_noted true Production.ParameterExpression around place (v ∷ w ∷ vs) x y stays packs
 wide_between_noted Production.OwnArguments around place [] x y stays settled packs = base_goes around x y packs
-wide_between_noted Production.OwnArguments around place (v ∷ vs) x y stays settled packs = between_noted true Production.OwnArguments around place (v ∷ vs) x y stays packs
-wide_between_noted Production.Holder around place [] x y stays settled packs = between_noted true Production.Holder around place [] x y stays packs
 wide_between_noted Production.Holder around place (v ∷ []) x y stays settled packs = holder_goes around x y place packs
-wide_between_noted Production.Holder around place (v ∷ w ∷ vs) x y stays settled packs = between_noted true Production.Holder around place (v ∷ w ∷ vs) x y stays packs
 wide_between_noted p around place vs x y stays settled packs = between_noted true p around place vs x y stays packs
 
 -- a lambda is told apart alike, and what is in its signature is under its own parameters
 lambda_with_noted : (s : Place) (t : Term) (number : ℕ) → wide_.lambda_with (annotate in_own t) number ≡ annotate s (lambda_with t number)
 unfolding lambda_with wide_.lambda_with annotate
-lambda_with_noted s t number = go (is_open t) (scope_.is_open (annotate in_own t)) (open_noted in_own t) refl
-  where
-    go : (b e : Bool) → e ≡ b → is_open t ≡ b → (elim e as (λ _. term_.Term) [ true ↦ term_.generic_lambda (annotate in_own t) number | false ↦ term_.lambda (annotate in_own t) number ]) ≡
-        annotate s (elim b [ true ↦ generic_lambda t number | false ↦ lambda t number ])
-    go true true f is = refl
-    go false false f is = ap (λ u. term_.lambda u number) (closed_noted in_own s t is)
-    go true false f is = absurd cc
-    go false true f is = absurd cc
+lambda_with_noted s t number =
+    choose (λ a b. b ≡ annotate s a) (is_open t) (scope_.is_open (annotate in_own t)) _ _ _ _ (open_noted in_own t) (λ is. refl) (λ is. ap (λ u. term_.lambda u number) (closed_noted in_own s t is))
 
 -- `meaning_noted` says it of the place of the values
 own_lambda : (s : Place) (byte : ℕ) (around : Around) (other : value_.Around) (vs : List Value) →
@@ -426,17 +376,10 @@ own_lambda s byte around other vs =
 counted_moves : (around : Around) (v : Value) (x : State) (y : value_.State) → y.packs ≡ x.packs → Moves true around x y (counted_base around v x) (wide_.counted_base (noted_around true around) (noted_value (around_place true around) v) y)
 unfolding counted_base wide_.counted_base noted_value
 counted_moves around (leaf_.pair second base own) x y packs = moves_none true around x x y y refl refl packs
-counted_moves around v x y packs = go (is_listed v) (value_.is_listed (noted_value s v)) (listed_noted s v)
-  where
-    s : Place
-    s = around_place true around
-
-    go : (b c : Bool) → c ≡ b → Moves true around x y (elim b as (λ _. State) [ true ↦ x | false ↦ with_base around (tree_of v) x ])
-        (elim c as (λ _. value_.State) [ true ↦ y | false ↦ wide_.with_base (noted_around true around) (value_.tree_of (noted_value s v)) y ])
-    go true true e = moves_none true around x x y y refl refl packs
-    go false false e = base_moves around (tree_of v) (value_.tree_of (noted_value s v)) x y packs (tree_noted s v)
-    go true false e = absurd cc
-    go false true e = absurd cc
+counted_moves around v x y packs =
+    let s = around_place true around in
+    choose (Moves true around x y) (is_listed v) (value_.is_listed (noted_value s v)) _ _ _ _ (listed_noted s v)
+    (λ h. moves_none true around x x y y refl refl packs) (λ h. base_moves around (tree_of v) (value_.tree_of (noted_value s v)) x y packs (tree_noted s v))
 
 pub wide_close_noted : (production : Production) (byte : ℕ) (around : Around) (place : ℕ) (began : State) (first : value_.State) (vs : List Value) (x : State) (y : value_.State) → Inside production vs →
     Settled around → Same true around x y → first.packs ≡ began.packs →

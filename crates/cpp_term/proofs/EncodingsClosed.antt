@@ -1,6 +1,6 @@
 -- In a run without arguments, the parts of a production that are encodings have no free parameters, and neither has what a special name is of.
-use Rattle.std.proofs.Common.{◌≡◌, refl, ap, sym, ◌∙◌, subst, ℕ, zero, suc, ◌+◌, ◌<◌, ◌≤◌, List, [], ◌∷◌, ◌++◌, length, Bool, true, false, not, ◌||◌, cond, nat_eq, slice_get, Option, Some, None, Result, Ok, lit≤, arith}
-use Rattle.std.proofs.lemmas.Bool.{false≢true, eqb-true, and_parts}
+use Rattle.std.proofs.Common.{◌≡◌, refl, ap, sym, ◌∙◌, subst, ℕ, zero, suc, ◌+◌, ◌<◌, ◌≤◌, List, [], ◌∷◌, ◌++◌, length, Bool, true, false, not, ◌||◌, nat_eq, Result, Ok, lit≤, arith}
+use Rattle.std.proofs.lemmas.Bool.{false≢true, eqb-true}
 use Rattle.std.proofs.lemmas.List.{append-nil, append_assoc}
 use Rattle.sym_core.specs.declared.refusal.Refusal.{Refusal}
 use Rattle.sym_shape.specs.declared.rule.Rule.{Rule}
@@ -11,86 +11,25 @@ use Rattle.sym_shape.specs.Law.{AreSymbols}
 use Rattle.sym_shape.specs.Tree.{Tree, Forest, branch, empty, nothing, grown, spell, TakesRule, IsTree, AreTrees}
 use Rattle.sym_link.specs.Reading.{Found, Open, Next, ◌>>=◌}
 use Rattle.sym_link.specs.Unfold.{found, alone, unfold_tree, unfold_forest}
-use Rattle.cpp_grammar.specs.declared.kind.Kind.{Kind}
 use Rattle.cpp_grammar.specs.declared.production.Production.{Production}
 use Rattle.cpp_grammar.specs.KindNumbers.{ENCODING, SPECIAL, SPECIAL_MARK, SPECIAL_AFTER_G}
-use Rattle.cpp_grammar.specs.Grammar.{Alternative, is_in, pick, kinds, number_of_kind, parts_of}
-use Rattle.cpp_grammar.specs.Wide.{wide_alternatives, wide_choose}
-use Rattle.cpp_grammar.specs.Table.{wide, rule_of, rule_taken}
+use Rattle.cpp_grammar.specs.Grammar.{number_of_kind, parts_of}
+use Rattle.cpp_grammar.specs.Table.{wide, rule_of}
 use Rattle.cpp_grammar.specs.TableLaws.{wide_sound}
-use Rattle.cpp_grammar.specs.Term.{Term, function, list, absent}
-use Rattle.cpp_grammar.specs.Scope.{is_open, has_return_type}
-use Rattle.cpp_grammar.specs.Values.{State, Around, Value, nothing_there, tree_of, part, qualifiers_of, ref_of}
+use Rattle.cpp_grammar.specs.Scope.{is_open}
+use Rattle.cpp_grammar.specs.Values.{State, Around, Value, nothing_there, tree_of, part}
 use Rattle.cpp_grammar.specs.Between.{in_name, no_items, between}
-use Rattle.cpp_grammar.specs.Meaning.{meaning, encoding_of, parameters}
+use Rattle.cpp_grammar.specs.Meaning.{meaning}
 use Rattle.cpp_grammar.specs.Unfolding.{opening, close, production_at, byte_of}
-use Rattle.cpp_grammar.proofs.Choosing.{kinds_numbered, number_at, wide_rule_at, is_wide_kind}
+use Rattle.cpp_grammar.proofs.Choosing.{chosen_rule, taken_passes, implied}
 use Rattle.cpp_grammar.proofs.ClosedValues.{good_where, AllGood, GoodPrefix, held, good_tree, good_part}
+use Rattle.cpp_grammar.proofs.NoneFree.{none_encoding}
 use Rattle.cpp_grammar.proofs.ClosedStates.{Bare, Within, AllOld, old_later, old_grows, ok_same, behind_bind}
 use Rattle.cpp_grammar.proofs.ClosedParts.{StaysInside}
 use Rattle.cpp_grammar.proofs.Ways.{has_signature, Way, reading_by, abi_way, differs}
-use Rattle.cpp_grammar.proofs.ClosedTrees.{is_encoding, has_encoding, opens, or_true, at_number, its_symbols, stays, takes_byte, Whole, same_rule, opening_keeps, all_append, old_fits, grows_fits, old_inner, one_good, known, name_comes, same_found, stepped, inner_closes, KeepsClosed, opens_apart, forest_good, tree_good_by, trees_good_by}
-use Rattle.cpp_term.proofs.KindsNoted.{all_open, is_special_kind, in_special, may_be_special, encodings_open, special_types}
+use Rattle.cpp_grammar.proofs.ClosedTrees.{is_encoding, has_encoding, opens, or_true, at_number, its_symbols, stays, takes_byte, Whole, opening_keeps, all_append, old_fits, grows_fits, old_inner, one_good, known, name_comes, same_found, stepped, inner_closes, KeepsClosed, opens_apart, forest_good, tree_good_by, trees_good_by}
+use Rattle.cpp_term.proofs.KindsNoted.{is_special_kind, in_special, encodings_open, special_types}
 use Rattle.cpp_term.proofs.MeaningNoted.{Inside}
-
--- ## What is chosen in a kind
-
-pub record Chosen (k : ℕ) (rule : Rule) : Type 0 where
-  pub kind : Kind
-  pub number : k ≡ number_of_kind kind
-  pub production : Production
-  pub is : rule ≡ rule_of production
-  pub byte : ℕ
-  pub chosen : wide_choose kind byte ≡ Some production
-
-pub chosen_rule : (k : ℕ) (rule : Rule) (taken : List ℕ) → k < wide.kinds → TakesRule wide k rule taken → Chosen k rule
-unfolding rule_taken
-chosen_rule k rule taken lt takes = go (slice_get kinds k) refl
-  where
-    by : (kind : Kind) → slice_get kinds k ≡ Some kind → (o : Option Production) → wide_choose kind takes.byte ≡ o → rule_taken o ≡ Some rule → Chosen k rule
-    by kind at None is h = let clash : ◌≡◌ {A = Option Rule} None (Some rule) = h in absurd cc
-    by kind at (Some p) is h = record { kind = kind; number = omega (arith, number_at 0 kinds k kind kinds_numbered at); production = p; is = sym (same_rule p rule h); byte = takes.byte; chosen = is }
-
-    go : (o : Option Kind) → slice_get kinds k ≡ o → Chosen k rule
-    go None none = absurd (is_wide_kind k lt none)
-    go (Some kind) at = by kind at (wide_choose kind takes.byte) refl (sym (wide_rule_at k kind takes.byte at) ∙ takes.found)
-
-picked_opens : (all : List Alternative) (byte : ℕ) (p : Production) → all_open all ≡ true → pick all byte ≡ Some p → opens p ≡ true
-unfolding pick all_open
-picked_opens [] byte p h e = absurd cc
-picked_opens (a ∷ rest) byte p h e =
-    let both = and_parts (opens a.production) (all_open rest) h in
-    go (is_in a byte) e both.0 (λ i. picked_opens rest byte p both.1 i)
-  where
-    go : (b : Bool) → cond b (Some a.production) (pick rest byte) ≡ Some p → opens a.production ≡ true → (pick rest byte ≡ Some p → opens p ≡ true) → opens p ≡ true
-    go true i o later = let same : a.production ≡ p = cc in sym (ap opens same) ∙ o
-    go false i o later = later i
-
-picked_special : (all : List Alternative) (byte : ℕ) (p : Production) → pick all byte ≡ Some p → in_special p ≡ true → may_be_special all ≡ true
-unfolding pick may_be_special
-picked_special [] byte p e h = absurd cc
-picked_special (a ∷ rest) byte p e h = go (is_in a byte) e (λ i. picked_special rest byte p i h)
-  where
-    go : (b : Bool) → cond b (Some a.production) (pick rest byte) ≡ Some p → (pick rest byte ≡ Some p → may_be_special rest ≡ true) → in_special a.production || may_be_special rest ≡ true
-    go true i later = let same : a.production ≡ p = cc in ap (λ q. in_special q || may_be_special rest) same ∙ ap (λ b. b || may_be_special rest) h
-    go false i later = or_true (in_special a.production) (may_be_special rest) (later i)
-
-opens_in_encodings : (kind : Kind) (byte : ℕ) (p : Production) → nat_eq (number_of_kind kind) 4 ≡ true → wide_choose kind byte ≡ Some p → opens p ≡ true
-unfolding wide_choose
-opens_in_encodings kind byte p four e = picked_opens (wide_alternatives kind) byte p (go (nat_eq (number_of_kind kind) 4) (all_open (wide_alternatives kind)) four (encodings_open kind)) e
-  where
-    go : (a b : Bool) → a ≡ true → not a || b ≡ true → b ≡ true
-    go true b h k = k
-    go false b h k = absurd (false≢true h)
-
-special_in : (kind : Kind) (byte : ℕ) (p : Production) → wide_choose kind byte ≡ Some p → in_special p ≡ true → is_special_kind (number_of_kind kind) ≡ true
-unfolding wide_choose
-special_in kind byte p e h = go (is_special_kind (number_of_kind kind)) (may_be_special (wide_alternatives kind)) (picked_special (wide_alternatives kind) byte p e h) (special_types kind)
-  where
-    go : (a b : Bool) → b ≡ true → a || not b ≡ true → a ≡ true
-    go true b h k = refl
-    go false true h k = k
-    go false false h k = absurd (false≢true h)
 
 one_production : (p q : Production) (rule : Rule) → rule ≡ rule_of p → rule ≡ rule_of q → q ≡ p
 one_production p q rule is so = sym (at_number q) ∙ ap (λ x. production_at x.number) (sym so ∙ is) ∙ at_number p
@@ -98,21 +37,10 @@ one_production p q rule is so = sym (at_number q) ∙ ap (λ x. production_at x.
 special_kind : (p : Production) (k : ℕ) (rule : Rule) (taken : List ℕ) → rule ≡ rule_of p → k < wide.kinds → TakesRule wide k rule taken → in_special p ≡ true → is_special_kind k ≡ true
 special_kind p k rule taken is lt takes h =
     let c = chosen_rule k rule taken lt takes in
-    ap (λ n. is_special_kind n) c.number ∙ special_in c.kind c.byte c.production c.chosen (ap in_special (one_production p c.production rule is c.is) ∙ h)
+    implied (in_special c.production) (is_special_kind k) (taken_passes (λ n q. not (in_special q) || is_special_kind n) special_types k rule c)
+    (ap in_special (one_production p c.production rule is c.is) ∙ h)
 
 -- ## Encodings
-
-closed_encoding : (v : Value) (items : Term) → is_open (encoding_of v items) ≡ false
-unfolding encoding_of is_open
-closed_encoding v (list a b) = go (has_return_type (tree_of v))
-  where
-    go : (r : Bool) → is_open (elim r [
-      | true ↦ function (tree_of v) (qualifiers_of v) (ref_of v) a (parameters b)
-      | false ↦ function (tree_of v) (qualifiers_of v) (ref_of v) absent (parameters (list a b))
-    ]) ≡ false
-    go true = refl
-    go false = refl
-closed_encoding v _ = refl
 
 -- what goes into a part in which nothing is named
 nameless_ : (at : ℕ) → List Value → State → Next Value State Around
@@ -145,23 +73,12 @@ plain_keeps _ h around place vs state n e = absurd (false≢true h)
 encodings_apart : (p : Production) → has_encoding (parts_of p) ≡ true → differs p ≡ false
 unfolding has_encoding is_encoding parts_of number_of_kind differs
 encodings_apart Production.Parameter h = absurd (false≢true h)
-encodings_apart Production.NestParameter h = absurd (false≢true h)
-encodings_apart Production.Lambda h = absurd (false≢true h)
-encodings_apart Production.Substitution h = absurd (false≢true h)
-encodings_apart Production.ParameterArgument h = absurd (false≢true h)
-encodings_apart Production.ParameterExpression h = absurd (false≢true h)
-encodings_apart Production.OwnArguments h = absurd (false≢true h)
-encodings_apart Production.Inheriting h = absurd (false≢true h)
-encodings_apart Production.Holder h = absurd (false≢true h)
-encodings_apart _ h = refl
+encodings_apart _ h = cc
 
 special_apart : (p : Production) → in_special p ≡ true → has_signature p ≡ false
 unfolding in_special has_signature
 special_apart Production.Lambda h = absurd (false≢true h)
-special_apart Production.ValueOf h = absurd (false≢true h)
-special_apart Production.OfConcept h = absurd (false≢true h)
-special_apart Production.Constraint h = absurd (false≢true h)
-special_apart _ h = refl
+special_apart _ h = cc
 
 abbrev Encodings : List Sym → List Value → Type 0
 Encodings [] vs = Unit {0}
@@ -248,7 +165,7 @@ module _ (way : Way) (keeps : KeepsClosed way) where
       rule.context.encoding < rule.place → rule.place ≤ from → AllOld way.own rule.context rule.place state.candidates → unfold_forest (reading_by way) rule [] from f state ≡ Ok r →
       (byte : ℕ) (around : Around) → is_open (tree_of (meaning p byte around r.value)) ≡ false
   unfolding opens meaning tree_of is_open
-  inner_closed Production.Encoding o f rule from state r is trees lt le old e byte around = closed_encoding (part r.value 0) (no_items (part r.value 1))
+  inner_closed Production.Encoding o f rule from state r is trees lt le old e byte around = none_encoding (part r.value 0) (no_items (part r.value 1))
   inner_closed Production.Special o f rule from state r is trees lt le old e byte around = special_closed f rule from state r is trees lt le old e
   inner_closed Production.OtherSpecial o f rule from state r is trees lt le old e byte around = other_special_closed f rule from state r is trees lt le old e
   inner_closed Production.Mark o f rule from state r is trees lt le old e byte around = absurd (false≢true o)
@@ -261,7 +178,7 @@ module _ (way : Way) (keeps : KeepsClosed way) where
       let whole = Whole rule taken at around state in
       let c = chosen_rule ENCODING rule taken (known 4 (lit≤ tt)) tree.0 in
       let p = c.production in
-      let opening_ = opens_in_encodings c.kind c.byte p (sym (ap (λ n. nat_eq n 4) c.number)) c.chosen in
+      let opening_ = implied (nat_eq ENCODING 4) (opens p) (taken_passes (λ n q. not (nat_eq n 4) || opens q) encodings_open ENCODING rule c) refl in
       let byte = byte_of taken in
       let from = at + length taken in
       let begun = behind_bind (opening (production_at rule.number) parts at state)

@@ -1,8 +1,8 @@
 -- What productions stand for, annotated.
 use Rattle.std.proofs.Common.{◌≡◌, refl, ap, sym, ◌∙◌, ℕ, zero, suc, List, [], ◌∷◌, Bool, true, false, not, ◌&&◌, cond, nat_eq, Option, Some, None}
-use Rattle.std.proofs.lemmas.Bool.{true≢false, false≢true}
+use Rattle.std.proofs.lemmas.Bool.{true≢false, false≢true, and_parts}
 use Rattle.cpp_grammar.specs.declared.production.Production.{Production}
-use Rattle.cpp_grammar.specs.Term.{RefQualifier, any_value, lvalue_only, rvalue_only, non_virtual, by_table, adjusting, covariant, Term, function, within, instance, local, tagged, of_default, constructor, destructor, inheriting, operator, builtin, lvalue, rvalue, encoding_literal, operation, nil, list, absent, lambda}
+use Rattle.cpp_grammar.specs.Term.{RefQualifier, any_value, lvalue_only, rvalue_only, non_virtual, by_table, adjusting, covariant, Term, within, instance, local, tagged, of_default, constructor, destructor, inheriting, operator, builtin, lvalue, rvalue, encoding_literal, operation, nil, list, lambda}
 use Rattle.cpp_grammar.specs.Scope.{arguments_of, before_arguments, is_structor, has_return_type, is_open}
 use Rattle.cpp_grammar.specs.Values as leaf_
 use Rattle.cpp_grammar.specs.Values.{Around, Prefix, prefix_tree, prefix_listed, Value, unqualified, tree_of, piece_of, is_listed, qualifiers_of, ref_of, letter_of, is_there, mark_of, text_of, signed_of, adjustment_of, normal, signed_digits, local_number, part}
@@ -25,7 +25,7 @@ use Rattle.cpp_term.specs.Builders as builder_
 use Rattle.cpp_term.specs.Own as code_
 use Rattle.cpp_term.specs.Meant as meant_
 use Rattle.cpp_term.specs.Annotated.{Place, nowhere, around_place, place_of, place_in, annotate, noted_value, noted_values, noted_prefix, noted_around}
-use Rattle.cpp_term.proofs.Notes.{both, arguments_noted, noted_in, types_place, closed_noted}
+use Rattle.cpp_term.proofs.Notes.{both, choose, choose_cond, arguments_noted, noted_in, types_place, closed_noted}
 
 pub three : {A B C D : Type 0} (f : A → B → C → D) {a b : A} {c d : B} {x y : C} → a ≡ b → c ≡ d → x ≡ y → f a c x ≡ f b d y
 three f {a} {b} {c} {d} {x} {y} e g h = ap (λ z. f z c x) e ∙ both (f b) g h
@@ -200,13 +200,9 @@ nil_noted s _ = refl
 
 pub parameters_noted : (s : Place) (t : Term) → noted_.parameters (annotate s t) ≡ annotate s (meaning_.parameters t)
 unfolding noted_.parameters meaning_.parameters annotate
-parameters_noted s (list e rest) = go (meaning_.is_void e && meaning_.is_nil rest) (noted_.is_void (annotate s e) && noted_.is_nil (annotate s rest)) (both (λ x y. x && y) (void_noted s e) (nil_noted s rest))
-  where
-    go : (b c : Bool) → c ≡ b → elim c [ true ↦ term_.nil | false ↦ term_.list (annotate s e) (annotate s rest) ] ≡ annotate s (elim b [ true ↦ nil | false ↦ list e rest ])
-    go true true e = refl
-    go false false e = refl
-    go true false e = absurd cc
-    go false true e = absurd cc
+parameters_noted s (list e rest) =
+    choose (λ t u. u ≡ annotate s t) (meaning_.is_void e && meaning_.is_nil rest) (noted_.is_void (annotate s e) && noted_.is_nil (annotate s rest)) _ _ _ _
+    (both (λ x y. x && y) (void_noted s e) (nil_noted s rest)) (λ h. refl) (λ h. refl)
 parameters_noted s _ = refl
 
 parameters_part : (s : Place) (vs : List Value) (k : ℕ) → noted_.parameters (value_.tree_of (value_.part (noted_values s vs) k)) ≡ annotate s (meaning_.parameters (tree_of (part vs k)))
@@ -218,11 +214,9 @@ listed_value_noted s v = ap (λ t. value_.tree t true) (tree_noted s v)
 
 pub reference_to_noted : (s : Place) (byte : ℕ) (v : Value) → noted_.reference_to byte (noted_value s v) ≡ noted_value s (meaning_.reference_to byte v)
 unfolding noted_.reference_to meaning_.reference_to noted_value annotate
-reference_to_noted s byte v = ap (λ t. value_.tree (cond (nat_eq byte 82) (term_.lvalue t) (term_.rvalue t)) false) (tree_noted s v) ∙ go (nat_eq byte 82)
-  where
-    go : (b : Bool) → value_.tree (cond b (term_.lvalue (annotate s (tree_of v))) (term_.rvalue (annotate s (tree_of v)))) false ≡ value_.tree (annotate s (cond b (lvalue (tree_of v)) (rvalue (tree_of v)))) false
-    go true = refl
-    go false = refl
+reference_to_noted s byte v =
+    ap (λ t. value_.tree (cond (nat_eq byte 82) (term_.lvalue t) (term_.rvalue t)) false) (tree_noted s v)
+    ∙ ap (λ t. value_.tree t false) (choose_cond (λ t u. u ≡ annotate s t) (nat_eq byte 82) (lvalue (tree_of v)) (rvalue (tree_of v)) (term_.lvalue (annotate s (tree_of v))) (term_.rvalue (annotate s (tree_of v))) refl refl)
 
 signature_or_noted : (s : Place) (ref : RefQualifier) (v : Value) → noted_.signature_or ref (noted_value s v) ≡ noted_value s (meaning_.signature_or ref v)
 unfolding noted_.signature_or meaning_.signature_or noted_value annotate
@@ -280,24 +274,13 @@ ends_noted s _ = refl
 
 argument_enclosed : (s : Place) (v : Value) → noted_.enclosed_argument (noted_value s v) ≡ noted_value s (meaning_.enclosed_argument v)
 unfolding noted_.enclosed_argument meaning_.enclosed_argument noted_.in_parentheses meaning_.in_parentheses noted_value annotate
-argument_enclosed s v = go (noted_.ends_arguments (value_.tree_of (noted_value s v))) (meaning_.ends_arguments (tree_of v)) (ap noted_.ends_arguments (tree_noted s v) ∙ ends_noted s (tree_of v))
-  where
-    go : (c b : Bool) → c ≡ b → (elim c as (λ _. value_.Value) [ true ↦ value_.tree (noted_.in_parentheses (value_.tree_of (noted_value s v))) true | false ↦ noted_value s v ])
-        ≡ noted_value s (elim b as (λ _. Value) [ true ↦ leaf_.tree (meaning_.in_parentheses (tree_of v)) true | false ↦ v ])
-    go true true e = ap (λ t. value_.tree (noted_.in_parentheses t) true) (tree_noted s v)
-    go false false e = refl
-    go true false e = absurd cc
-    go false true e = absurd cc
+argument_enclosed s v =
+    choose (λ a b. b ≡ noted_value s a) (meaning_.ends_arguments (tree_of v)) (noted_.ends_arguments (value_.tree_of (noted_value s v))) _ _ _ _
+    (ap noted_.ends_arguments (tree_noted s v) ∙ ends_noted s (tree_of v)) (λ h. ap (λ t. value_.tree (noted_.in_parentheses t) true) (tree_noted s v)) (λ h. refl)
 
 element_enclosed : (s : Place) (t : Term) → noted_.enclosed_element (annotate s t) ≡ annotate s (meaning_.enclosed_element t)
 unfolding noted_.enclosed_element meaning_.enclosed_element noted_.in_parentheses meaning_.in_parentheses annotate
-element_enclosed s t = go (noted_.is_comma (annotate s t)) (meaning_.is_comma t) (comma_noted s t)
-  where
-    go : (c b : Bool) → c ≡ b → (elim c as (λ _. term_.Term) [ true ↦ noted_.in_parentheses (annotate s t) | false ↦ annotate s t ]) ≡ annotate s (elim b as (λ _. Term) [ true ↦ meaning_.in_parentheses t | false ↦ t ])
-    go true true e = refl
-    go false false e = refl
-    go true false e = absurd cc
-    go false true e = absurd cc
+element_enclosed s t = choose (λ u w. w ≡ annotate s u) (meaning_.is_comma t) (noted_.is_comma (annotate s t)) _ _ _ _ (comma_noted s t) (λ h. refl) (λ h. refl)
 
 -- ## Encodings
 
@@ -339,25 +322,17 @@ return_noted s t = go (scope_.arguments_of (annotate s t)) (arguments_of t) (arg
 pub encoding_noted : (s : Place) (name : Value) (items : Term) →
     noted_.encoding_of (noted_value nowhere name) (annotate (place_in (arguments_of (tree_of name)) false) items) ≡ annotate s (meaning_.encoding_of name items)
 unfolding noted_.encoding_of meaning_.encoding_of annotate
-encoding_noted s name (list e rest) = go (scope_.has_return_type (value_.tree_of (noted_value nowhere name))) (has_return_type (tree_of name)) (ap scope_.has_return_type (tree_noted nowhere name) ∙ return_noted nowhere (tree_of name))
+encoding_noted s name (list e rest) =
+    choose (λ t u. u ≡ annotate s t) (has_return_type (tree_of name)) (scope_.has_return_type (value_.tree_of (noted_value nowhere name))) _ _ _ _
+    (ap scope_.has_return_type (tree_noted nowhere name) ∙ return_noted nowhere (tree_of name))
+    (λ h. five term_.function (tree_noted nowhere name) (qualifiers_noted nowhere name) (ref_noted nowhere name) (moved e) (parameters_noted r rest ∙ moved (meaning_.parameters rest)))
+    (λ h. five term_.function (tree_noted nowhere name) (qualifiers_noted nowhere name) (ref_noted nowhere name) refl (parameters_noted r (list e rest) ∙ moved (meaning_.parameters (list e rest))))
   where
     r : Place
     r = place_in (arguments_of (tree_of name)) false
 
     moved : (t : Term) → annotate r t ≡ annotate (place_of (scope_.arguments_of (annotate nowhere (tree_of name)))) t
     moved t = ap (λ o. annotate o t) (sym (types_place (tree_of name)))
-
-    go : (c b : Bool) → c ≡ b → ◌≡◌ {A = term_.Term} (elim c [
-      | true ↦ term_.function (value_.tree_of (noted_value nowhere name)) (value_.qualifiers_of (noted_value nowhere name)) (value_.ref_of (noted_value nowhere name)) (annotate r e) (noted_.parameters (annotate r rest))
-      | false ↦ term_.function (value_.tree_of (noted_value nowhere name)) (value_.qualifiers_of (noted_value nowhere name)) (value_.ref_of (noted_value nowhere name)) term_.absent (noted_.parameters (term_.list (annotate r e) (annotate r rest)))
-    ]) (annotate s (elim b [
-      | true ↦ function (tree_of name) (qualifiers_of name) (ref_of name) e (meaning_.parameters rest)
-      | false ↦ function (tree_of name) (qualifiers_of name) (ref_of name) absent (meaning_.parameters (list e rest))
-    ]))
-    go true true same = five term_.function (tree_noted nowhere name) (qualifiers_noted nowhere name) (ref_noted nowhere name) (moved e) (parameters_noted r rest ∙ moved (meaning_.parameters rest))
-    go false false same = five term_.function (tree_noted nowhere name) (qualifiers_noted nowhere name) (ref_noted nowhere name) refl (parameters_noted r (list e rest) ∙ moved (meaning_.parameters (list e rest)))
-    go true false same = absurd cc
-    go false true same = absurd cc
 encoding_noted s name _ = three term_.object (tree_noted nowhere name) (qualifiers_noted nowhere name) (ref_noted nowhere name)
 
 -- ## Meanings
@@ -714,24 +689,17 @@ own_noted own row_.positive byte around vs h = ap (λ x. value_.signed (signed_d
 own_noted own row_.one_digit byte around vs h = refl
 own_noted own row_.many_digits byte around vs h = ap (λ x. value_.text (normal x)) (text_part (around_place own around) vs 0)
 
--- the trees of a pair are made of no encodings
-abbrev OfNone : Bool → Type 0
-OfNone true = Unit {0}
-OfNone false = ⊥
-
-both_inside : (byte : ℕ) (around : Around) (vs : List Value) (left right : Made) → OfNone (is_of_none left && is_of_none right) → MadeInside byte around vs left × MadeInside byte around vs right
-both_inside byte around vs left right h = go (is_of_none left) (is_of_none right) refl refl h
-  where
-    go : (a b : Bool) → is_of_none left ≡ a → is_of_none right ≡ b → OfNone (a && b) → MadeInside byte around vs left × MadeInside byte around vs right
-    go true true e f k = (made_inside byte around vs left e, made_inside byte around vs right f)
-    go true false e f k = absurd k
-    go false b e f k = absurd k
+both_inside : (byte : ℕ) (around : Around) (vs : List Value) (left right : Made) → (is_of_none left && is_of_none right) ≡ true → MadeInside byte around vs left × MadeInside byte around vs right
+both_inside byte around vs left right h =
+    let both_ = and_parts (is_of_none left) (is_of_none right) h in
+    (made_inside byte around vs left both_.0, made_inside byte around vs right both_.1)
 
 abbrev FormInside : Form → (byte : ℕ) → Around → List Value → Type 0
 FormInside (row_.makes m listing) byte around vs = MadeInside byte around vs m
 FormInside (row_.a_piece m) byte around vs = MadeInside byte around vs m
 FormInside (row_.own o most) byte around vs = OwnInside o vs
-FormInside (row_.a_pair letter left right) byte around vs = OfNone (is_of_none left && is_of_none right)
+-- the trees of a pair are made of no encodings
+FormInside (row_.a_pair letter left right) byte around vs = (is_of_none left && is_of_none right) ≡ true
 FormInside _ byte around vs = Unit {0}
 
 meant_noted : (own : Bool) (form : Form) (byte : ℕ) (around : Around) (vs : List Value) → FormInside form byte around vs →
@@ -739,16 +707,9 @@ meant_noted : (own : Bool) (form : Form) (byte : ℕ) (around : Around) (vs : Li
 unfolding meant_.meant meant noted_.with_item meaning_.with_item noted_value annotate
 meant_noted own (row_.handed k) byte around vs h = part_noted (around_place own around) vs k
 meant_noted own (row_.finished k) byte around vs h = listed_whole (around_place own around) vs k
-meant_noted own (row_.either k n) byte around vs h = go (value_.is_there (value_.part (noted_values (around_place own around) vs) k)) (is_there (part vs k)) (there_part (around_place own around) vs k)
-  where
-    s : Place
-    s = around_place own around
-
-    go : (c b : Bool) → c ≡ b → (elim c as (λ _. value_.Value) [ true ↦ value_.part (noted_values s vs) k | false ↦ value_.part (noted_values s vs) n ]) ≡ noted_value s (elim b as (λ _. Value) [ true ↦ part vs k | false ↦ part vs n ])
-    go true true e = part_noted s vs k
-    go false false e = part_noted s vs n
-    go true false e = absurd cc
-    go false true e = absurd cc
+meant_noted own (row_.either k n) byte around vs h =
+    let s = around_place own around in
+    choose (λ a b. b ≡ noted_value s a) (is_there (part vs k)) (value_.is_there (value_.part (noted_values s vs) k)) _ _ _ _ (there_part s vs k) (λ h. part_noted s vs k) (λ h. part_noted s vs n)
 meant_noted own row_.the_byte byte around vs h = refl
 meant_noted own (row_.makes m listing) byte around vs h = both value_.tree (made_noted own byte around vs m h) (listing_noted (around_place own around) vs listing)
 meant_noted own (row_.a_piece m) byte around vs h = ap value_.piece (made_noted own byte around vs m h)
@@ -765,4 +726,4 @@ pub meaning_noted : (own : Bool) (production : Production) (byte : ℕ) (around 
     noted_.meaning production byte (noted_around own around) (noted_values (around_place own around) vs) ≡ noted_value (around_place own around) (meaning production byte around vs)
 unfolding noted_.meaning meaning all_given given argument tree_in is_of_none takes_encodings
 meaning_noted own Production.Encoding byte around vs h = absurd h
-meaning_noted own production byte around vs h = meant_noted own (row_of production).form byte around vs h
+meaning_noted own production byte around vs h = meant_noted own (row_of production).form byte around vs (first_of (assumption h, cc))

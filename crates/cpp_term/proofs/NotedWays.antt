@@ -63,20 +63,13 @@ abi_is_noted = record {
 plain_between : (p : Production) → differs p ≡ false → (around : Around) (place : ℕ) (vs : List Value) (state : State) → between_wide p around place vs state ≡ between p around place vs state
 unfolding differs between_wide
 plain_between Production.Parameter apart around place vs state = absurd (true≢false apart)
-plain_between Production.NestParameter apart around place vs state = absurd (true≢false apart)
-plain_between Production.ParameterArgument apart around place vs state = absurd (true≢false apart)
-plain_between Production.ParameterExpression apart around place vs state = absurd (true≢false apart)
-plain_between Production.OwnArguments apart around place vs state = absurd (true≢false apart)
-plain_between Production.Holder apart around place vs state = absurd (true≢false apart)
-plain_between _ apart around place vs state = refl
+plain_between _ apart around place vs state = cc
 
 plain_close : (p : Production) → differs p ≡ false → (byte : ℕ) (around : Around) (place : ℕ) (began : State) (vs : List Value) (state : State) →
     close_wide p byte around place began vs state ≡ close p byte around place began vs state
 unfolding differs close_wide
 plain_close Production.Substitution apart byte around place began vs state = absurd (true≢false apart)
-plain_close Production.Lambda apart byte around place began vs state = absurd (true≢false apart)
-plain_close Production.Inheriting apart byte around place began vs state = absurd (true≢false apart)
-plain_close _ apart byte around place began vs state = refl
+plain_close _ apart byte around place began vs state = cc
 
 pub wide_is_noted : IsNotedBy wide_way wide_noted
 unfolding wide_way wide_noted

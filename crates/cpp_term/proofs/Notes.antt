@@ -1,5 +1,5 @@
 -- What annotating keeps.
-use Rattle.std.proofs.Common.{◌≡◌, refl, ap, sym, ◌∙◌, subst, nat_eq, max, not, ℕ, zero, suc, Bool, true, false, ◌||◌, ◌&&◌, Option, Some, None}
+use Rattle.std.proofs.Common.{◌≡◌, refl, ap, sym, ◌∙◌, subst, nat_eq, max, not, cond, ℕ, zero, suc, Bool, true, false, ◌||◌, ◌&&◌, Option, Some, None}
 use Rattle.std.proofs.lemmas.Bool.{true≢false, eqb-true}
 use Rattle.cpp_grammar.specs.Term.{Term, alone, in_std, within, instance, local, holder, tagged, of_default, parameter, lambda, conversion, pointer, lvalue, rvalue, array, constrained, bounded, member_pointer, function_type, qualified, vector, complex, expansion, integer, pack, list, absent, decltype, inheriting, operation}
 use Rattle.cpp_grammar.specs.Scope.{count, element, is_list, is_alone, has_pack, arguments_of, is_open, Free, none_free, one_free, several_free, both_free, free_in, first_of, length_if_pack, pack_length}
@@ -13,6 +13,18 @@ use Rattle.cpp_term.specs.Annotated.{Place, nowhere, in_arguments, in_own, place
 
 pub both : {A B C : Type 0} (f : A → B → C) {a b : A} {c d : B} → a ≡ b → c ≡ d → f a c ≡ f b d
 both f {a} {b} {c} {d} e g = ap (λ x. f x c) e ∙ ap (f b) g
+
+-- what two choices come to that are made alike
+pub choose : {A B : Type 0} (R : A → B → Type 0) (b c : Bool) (x z : A) (y w : B) → c ≡ b → (b ≡ true → R x y) → (b ≡ false → R z w) →
+    R (elim b [ true ↦ x | false ↦ z ]) (elim c [ true ↦ y | false ↦ w ])
+choose R true true x z y w e f g = f refl
+choose R false false x z y w e f g = g refl
+choose R true false x z y w e f g = absurd cc
+choose R false true x z y w e f g = absurd cc
+
+pub choose_cond : {A B : Type 0} (R : A → B → Type 0) (b : Bool) (x z : A) (y w : B) → R x y → R z w → R (cond b x z) (cond b y w)
+choose_cond R true x z y w e f = e
+choose_cond R false x z y w e f = f
 
 -- ## Lists of arguments
 

@@ -15,7 +15,7 @@ use Rattle.cpp_term.specs.Items as item_
 use Rattle.cpp_term.specs.Scope as scope_
 use Rattle.cpp_term.specs.Parts as part_
 use Rattle.cpp_term.specs.Annotated.{Place, nowhere, place_of, place_in, context_place, argument_in, annotate, noted_scope, noted_context, noted_item, noted_part, noted_parts}
-use Rattle.cpp_term.proofs.Notes.{both, types_place, argument_noted, packs_of_noted, head_noted, empty_noted}
+use Rattle.cpp_term.proofs.Notes.{both, choose, choose_cond, types_place, argument_noted, packs_of_noted, head_noted, empty_noted}
 
 noted_append : (xs ys : List (PartOf Item)) → noted_parts (xs ++ ys) ≡ noted_parts xs ++ noted_parts ys
 unfolding noted_parts
@@ -33,10 +33,7 @@ text_noted (b ∷ bs) = refl
 
 choice : (b c : Bool) (xs ys : List (PartOf Item)) (us ws : List (PartOf item_.Item)) → c ≡ b → us ≡ noted_parts xs → ws ≡ noted_parts ys →
     ◌≡◌ {A = List (PartOf item_.Item)} (elim c [ true ↦ us | false ↦ ws ]) (noted_parts (elim b [ true ↦ xs | false ↦ ys ]))
-choice true true xs ys us ws e f g = f
-choice false false xs ys us ws e f g = g
-choice true false xs ys us ws e f g = absurd cc
-choice false true xs ys us ws e f g = absurd cc
+choice b c xs ys us ws e f g = choose (λ ps qs. qs ≡ noted_parts ps) b c xs ys us ws e (λ h. f) (λ h. g)
 
 -- the scope of a context, annotated
 abbrev at : Context → Place
@@ -114,11 +111,7 @@ expansion_noted c t (Some (suc m)) = refl
 
 sign_noted : (n : Signed) → part_.sign_part n ≡ noted_parts (leaf_.sign_part n)
 unfolding part_.sign_part leaf_.sign_part noted_parts noted_part
-sign_noted n = go n.negative
-  where
-    go : (b : Bool) → cond b (part_.says "-" ∷ []) [] ≡ noted_parts (cond b (leaf_.says "-" ∷ []) [])
-    go true = refl
-    go false = refl
+sign_noted n = choose_cond (λ ps qs. qs ≡ noted_parts ps) n.negative (leaf_.says "-" ∷ []) [] (part_.says "-" ∷ []) [] refl refl
 
 plain_noted : (s : Place) (t : Term) → part_.is_plain_integer (annotate s t) ≡ leaf_.is_plain_integer t
 unfolding part_.is_plain_integer leaf_.is_plain_integer annotate
@@ -159,13 +152,8 @@ named_noted c form k = ap (λ t. part_.as_item form item_.closed t ∷ []) (argu
 
 float_noted : (digits : List ℕ) (end : ℕ) → part_.float_parts digits end ≡ noted_parts (leaf_.float_parts digits end)
 unfolding part_.float_parts leaf_.float_parts noted_parts noted_part
-float_noted digits end = go (nat_eq end 98) (nat_eq end 120)
-  where
-    go : (b x : Bool) → elim b [ true ↦ part_.says "std::bfloat16_t" ∷ [] | false ↦ elim x [ true ↦ part_.says "_Float" ∷ text digits ∷ part_.says "x" ∷ [] | false ↦ part_.says "_Float" ∷ text digits ∷ [] ] ]
-        ≡ noted_parts (elim b [ true ↦ leaf_.says "std::bfloat16_t" ∷ [] | false ↦ elim x [ true ↦ leaf_.says "_Float" ∷ text digits ∷ leaf_.says "x" ∷ [] | false ↦ leaf_.says "_Float" ∷ text digits ∷ [] ] ])
-    go true x = refl
-    go false true = refl
-    go false false = refl
+float_noted digits end =
+    choice (nat_eq end 98) (nat_eq end 98) _ _ _ _ refl refl (choice (nat_eq end 120) (nat_eq end 120) _ _ _ _ refl refl refl)
 
 precedence_noted : (s : Place) (t : Term) → part_.precedence_of (annotate s t) ≡ leaf_.precedence_of t
 unfolding part_.precedence_of leaf_.precedence_of annotate

@@ -21,7 +21,7 @@ use Rattle.cpp_term.specs.Items as item_
 use Rattle.cpp_term.specs.Reargued.{reargued, given_for}
 use Rattle.cpp_term.specs.Annotated.{Place, nowhere, around_place, place_in, in_own, in_arguments, argument_in, annotate, noted_scope, noted_value, noted_prefix, noted_around}
 use Rattle.cpp_term.proofs.Reargued.{given_same, given_element}
-use Rattle.cpp_term.proofs.Notes.{both, count_noted, element_noted, list_noted, pack_noted, open_noted, closed_noted, length_noted, packs_noted, NameThis, renoted, free_noted}
+use Rattle.cpp_term.proofs.Notes.{both, choose, count_noted, element_noted, list_noted, pack_noted, open_noted, closed_noted, length_noted, packs_noted, NameThis, renoted, free_noted}
 use Rattle.cpp_term.proofs.MeaningNoted.{three, tree_noted, listed_noted, prefix_tree_noted, prefix_listed_noted}
 
 -- ## Results
@@ -127,31 +127,22 @@ unfolding noted_.is_function_type is_function_type annotate
 function_type_noted s (function_type c_linkage noexcept ref returned parameters) = refl
 function_type_noted s _ = refl
 
-moves_choice : (own : Bool) (around : Around) (x a c : State) (y b d : value_.State) (p q : Bool) → q ≡ p → Moves own around x y a b → Moves own around x y c d →
-    Moves own around x y (elim p [ true ↦ a | false ↦ c ]) (elim q [ true ↦ b | false ↦ d ])
-moves_choice own around x a c y b d true true e m n = m
-moves_choice own around x a c y b d false false e m n = n
-moves_choice own around x a c y b d true false e m n = absurd cc
-moves_choice own around x a c y b d false true e m n = absurd cc
-
 pub type_moves : (own : Bool) (around : Around) (v : Value) (x : State) (y : value_.State) → y.packs ≡ x.packs →
     Moves own around x y (with_type around v x) (noted_.with_type (noted_around own around) (noted_value (around_place own around) v) y)
 unfolding with_type noted_.with_type
 type_moves own around v x y packs =
     let s = around_place own around in
-    moves_choice own around x x (appended around (tree_of v) x) y y (noted_.appended (noted_around own around) (value_.tree_of (noted_value s v)) y)
-    (is_listed v) (value_.is_listed (noted_value s v)) (listed_noted s v)
-    (moves_none own around x x y y refl refl packs) (one_moves own around (tree_of v) (value_.tree_of (noted_value s v)) x y packs (tree_noted s v))
+    choose (Moves own around x y) (is_listed v) (value_.is_listed (noted_value s v)) _ _ _ _ (listed_noted s v)
+    (λ h. moves_none own around x x y y refl refl packs) (λ h. one_moves own around (tree_of v) (value_.tree_of (noted_value s v)) x y packs (tree_noted s v))
 
 pub unqualified_moves : (own : Bool) (around : Around) (v : Value) (x : State) (y : value_.State) → y.packs ≡ x.packs →
     Moves own around x y (with_unqualified around v x) (noted_.with_unqualified (noted_around own around) (noted_value (around_place own around) v) y)
 unfolding with_unqualified noted_.with_unqualified
 unqualified_moves own around v x y packs =
     let s = around_place own around in
-    moves_choice own around x x (with_type around v x) y y (noted_.with_type (noted_around own around) (noted_value s v) y)
-    (is_function_type (tree_of v)) (noted_.is_function_type (value_.tree_of (noted_value s v)))
+    choose (Moves own around x y) (is_function_type (tree_of v)) (noted_.is_function_type (value_.tree_of (noted_value s v))) _ _ _ _
     (ap noted_.is_function_type (tree_noted s v) ∙ function_type_noted s (tree_of v))
-    (moves_none own around x x y y refl refl packs) (type_moves own around v x y packs)
+    (λ h. moves_none own around x x y y refl refl packs) (λ h. type_moves own around v x y packs)
 
 pub prefix_moves : (own : Bool) (around : Around) (x : State) (y : value_.State) → y.packs ≡ x.packs → Moves own around x y (with_prefix around x) (noted_.with_prefix (noted_around own around) y)
 unfolding with_prefix noted_.with_prefix noted_around
@@ -159,9 +150,8 @@ prefix_moves own around x y packs =
     let s = around_place own around in
     let p = around.prefix in
     let t = value_.prefix_tree (noted_prefix s p) in
-    moves_choice own around x x (appended around (prefix_tree p) x) y y (noted_.appended (noted_around own around) t y)
-    (prefix_listed p) (value_.prefix_listed (noted_prefix s p)) (prefix_listed_noted s p)
-    (moves_none own around x x y y refl refl packs) (one_moves own around (prefix_tree p) t x y packs (prefix_tree_noted s p))
+    choose (Moves own around x y) (prefix_listed p) (value_.prefix_listed (noted_prefix s p)) _ _ _ _ (prefix_listed_noted s p)
+    (λ h. moves_none own around x x y y refl refl packs) (λ h. one_moves own around (prefix_tree p) t x y packs (prefix_tree_noted s p))
 
 -- ## References
 
@@ -177,17 +167,13 @@ packs_kept place inside None x y e = record { is = refl; so = refl; packs = e }
 packs_kept place false (Some m) x y e = refl
 packs_kept place true (Some m) x y e = go y.packs x.packs e
   where
-    tested : (b c : Bool) → c ≡ b → Alike (Kept x y) (elim b [ true ↦ Ok x | false ↦ Err (BadReference place) ]) (elim c [ true ↦ Ok y | false ↦ Err (BadReference place) ])
-    tested true true f = record { is = refl; so = refl; packs = e }
-    tested false false f = refl
-    tested true false f = absurd cc
-    tested false true f = absurd cc
-
     go : (q p : Option ℕ) → q ≡ p → Alike (Kept x y)
         (elim p [ None ↦ Ok (record x { packs = Some m }) | Some n ↦ elim (nat_eq m n) [ true ↦ Ok x | false ↦ Err (BadReference place) ] ])
         (elim q [ None ↦ Ok (record y { packs = Some m }) | Some n ↦ elim (nat_eq m n) [ true ↦ Ok y | false ↦ Err (BadReference place) ] ])
     go None None f = record { is = refl; so = refl; packs = refl }
-    go (Some n) (Some k) f = let same : n ≡ k = cc in tested (nat_eq m k) (nat_eq m n) (ap (nat_eq m) same)
+    go (Some n) (Some k) f =
+        let same : n ≡ k = cc in
+        choose (Alike (Kept x y)) (nat_eq m k) (nat_eq m n) _ _ _ _ (ap (nat_eq m) same) (λ h. record { is = refl; so = refl; packs = e }) (λ h. refl)
     go None (Some k) f = absurd cc
     go (Some n) None f = absurd cc
 
@@ -224,6 +210,25 @@ noted_here own around c d n outside e = go (is_open c.tree) around.in_lambda (na
     go true false false is-open is-lambda is-same h = absurd cc
     go true false true is-open is-lambda is-same h = n.here (eqb-true c.encoding around.encoding is-same) is-lambda (outside is-open)
 
+-- a tree that is found, once its packs are as long as the others
+found_noted : (own : Bool) (around : Around) (place : ℕ) (t : Term) (u : term_.Term) (m n : Option ℕ) (x : State) (y : value_.State) → u ≡ annotate (around_place own around) t → n ≡ m →
+    y.packs ≡ x.packs → Alike (Comes own around x y)
+    (with_packs place around.in_expansion m x >>= λ z. Ok (found (leaf_.tree t true) z)) (noted_.with_packs place around.in_expansion n y >>= λ z. Ok (found (value_.tree u true) z))
+unfolding noted_value
+found_noted own around place t u m n x y is e packs = subst (λ n. Alike (Comes own around x y)
+    (with_packs place around.in_expansion m x >>= λ z. Ok (found (leaf_.tree t true) z)) (noted_.with_packs place around.in_expansion n y >>= λ z. Ok (found (value_.tree u true) z))) (sym e)
+    (alike_bind (Kept x y) (Comes own around x y) (with_packs place around.in_expansion m x) (noted_.with_packs place around.in_expansion m y) (λ z. Ok (found (leaf_.tree t true) z))
+    (λ z. Ok (found (value_.tree u true) z))
+    (packs_kept place around.in_expansion m x y packs) (λ a b h kept. record { value = ap (λ v. value_.tree v true) is; moves = moves_none own around x a y b kept.is kept.so kept.packs }))
+
+-- what is done with the arguments of the scope, where there are some
+with_arguments : {A B : Type 0} (R : A → B → Type 0) (place : ℕ) (o : Option Term) (f : Term → Result A Refusal) (g : term_.Term → Result B Refusal) →
+    ((arguments : Term) → o ≡ Some arguments → Alike R (f arguments) (g (annotate nowhere arguments))) →
+    Alike R (elim o [ None ↦ Err (BadReference place) | Some arguments ↦ f arguments ]) (elim (noted_scope o) [ None ↦ Err (BadReference place) | Some arguments ↦ g arguments ])
+unfolding noted_scope
+with_arguments R place None f g each = refl
+with_arguments R place (Some arguments) f g each = each arguments refl
+
 pub substituted_noted : (own : Bool) (around : Around) (place : ℕ) (o : Option Candidate) (p : Option value_.Candidate) (x : State) (y : value_.State) → y.packs ≡ x.packs → AreNoted own around o p → IsOutside own o →
     Alike (Comes own around x y) (substituted around place o x) (noted_.substituted (noted_around own around) place p y)
 unfolding substituted noted_.substituted noted_around noted_value
@@ -231,26 +236,13 @@ substituted_noted own around place None None x y packs n outside = refl
 substituted_noted own around place None (Some d) x y packs n outside = absurd n
 substituted_noted own around place (Some c) None x y packs n outside = absurd n
 substituted_noted own around place (Some c) (Some d) x y packs n outside =
-    go (is_open c.tree && (around.in_lambda || not (nat_eq c.encoding around.encoding))) (scope_.is_open d.tree && (around.in_lambda || not (nat_eq d.encoding around.encoding)))
-    (both (λ a k. a && (around.in_lambda || not (nat_eq k around.encoding))) (ap scope_.is_open n.like ∙ open_noted n.by c.tree) n.encoding) refl
-  where
-    s : Place
-    s = around_place own around
-
-    onward : (m k : Option ℕ) → k ≡ m → d.tree ≡ annotate s c.tree → Alike (Comes own around x y)
-        (with_packs place around.in_expansion m x >>= λ z. Ok (found (leaf_.tree c.tree true) z)) (noted_.with_packs place around.in_expansion k y >>= λ z. Ok (found (value_.tree d.tree true) z))
-    onward m k e is = subst (λ k. Alike (Comes own around x y)
-        (with_packs place around.in_expansion m x >>= λ z. Ok (found (leaf_.tree c.tree true) z)) (noted_.with_packs place around.in_expansion k y >>= λ z. Ok (found (value_.tree d.tree true) z))) (sym e)
-        (alike_bind (Kept x y) (Comes own around x y) (with_packs place around.in_expansion m x) (noted_.with_packs place around.in_expansion m y) (λ z. Ok (found (leaf_.tree c.tree true) z)) (λ z. Ok (found (value_.tree d.tree true) z))
-        (packs_kept place around.in_expansion m x y packs) (λ a b h k. record { value = ap (λ t. value_.tree t true) is; moves = moves_none own around x a y b k.is k.so k.packs }))
-
-    go : (b e : Bool) → e ≡ b → (is_open c.tree && (around.in_lambda || not (nat_eq c.encoding around.encoding))) ≡ b → Alike (Comes own around x y)
-        (elim b [ true ↦ Err (BadReference place) | false ↦ with_packs place around.in_expansion (packs_in around.scope c.tree) x >>= λ z. Ok (found (leaf_.tree c.tree true) z) ])
-        (elim e [ true ↦ Err (BadReference place) | false ↦ noted_.with_packs place around.in_expansion (scope_.pack_length d.tree) y >>= λ z. Ok (found (value_.tree d.tree true) z) ])
-    go true true f h = refl
-    go false false f h = let is = noted_here own around c d n outside h in onward (packs_in around.scope c.tree) (scope_.pack_length d.tree) (ap scope_.pack_length is ∙ packs_noted around.scope (own && around.in_lambda) c.tree) is
-    go true false f h = absurd cc
-    go false true f h = absurd cc
+    choose (Alike (Comes own around x y)) (is_open c.tree && (around.in_lambda || not (nat_eq c.encoding around.encoding)))
+    (scope_.is_open d.tree && (around.in_lambda || not (nat_eq d.encoding around.encoding))) _ _ _ _
+    (both (λ a k. a && (around.in_lambda || not (nat_eq k around.encoding))) (ap scope_.is_open n.like ∙ open_noted n.by c.tree) n.encoding) (λ h. refl)
+    (λ h.
+    let is = noted_here own around c d n outside h in
+    found_noted own around place c.tree d.tree (packs_in around.scope c.tree) (scope_.pack_length d.tree) x y is
+    (ap scope_.pack_length is ∙ packs_noted around.scope (own && around.in_lambda) c.tree) packs)
 
 pub named_here : (own : Bool) (around : Around) (k : ℕ) (arguments : Term) → around.scope ≡ Some arguments → term_.parameter k (scope_.element (annotate nowhere arguments) k) ≡ annotate (around_place own around) (parameter k)
 unfolding annotate argument_in place_in
@@ -260,44 +252,20 @@ named_here own around k arguments scope = ap (λ o. annotate (place_in o (own &&
 pub parameter_noted : (own : Bool) (around : Around) (place k : ℕ) (x : State) (y : value_.State) → y.packs ≡ x.packs →
     Alike (Moves own around x y) (parameter_named around place k x) (noted_.parameter_named (noted_around own around) place k y)
 unfolding parameter_named noted_.parameter_named noted_around noted_scope
-parameter_noted own around place k x y packs = go around.scope refl
+parameter_noted own around place k x y packs =
+    with_arguments (Moves own around x y) place around.scope _ _ (λ arguments scope.
+    choose (Alike (Moves own around x y)) (nat_lt k (count arguments)) (nat_lt k (scope_.count (annotate nowhere arguments))) _ _ _ _ (ap (nat_lt k) (count_noted nowhere arguments))
+    (λ h. onward (length_if_pack (element arguments k)) (scope_.length_if_pack (scope_.element (annotate nowhere arguments) k))
+    (ap scope_.length_if_pack (element_noted nowhere arguments k) ∙ length_noted nowhere (element arguments k)) (term_.parameter k (scope_.element (annotate nowhere arguments) k))
+    (named_here own around k arguments scope)) (λ h. refl))
   where
-    onward : (arguments : Term) → around.scope ≡ Some arguments → (m n : Option ℕ) → n ≡ m → (u : term_.Term) → u ≡ annotate (around_place own around) (parameter k) → Alike (Moves own around x y)
+    onward : (m n : Option ℕ) → n ≡ m → (u : term_.Term) → u ≡ annotate (around_place own around) (parameter k) → Alike (Moves own around x y)
         (with_packs place around.in_expansion m x >>= λ z. Ok (appended around (parameter k) z)) (noted_.with_packs place around.in_expansion n y >>= λ z. Ok (noted_.appended (noted_around own around) u z))
-    onward arguments scope m n e u is = subst (λ n. Alike (Moves own around x y)
+    onward m n e u is = subst (λ n. Alike (Moves own around x y)
         (with_packs place around.in_expansion m x >>= λ z. Ok (appended around (parameter k) z)) (noted_.with_packs place around.in_expansion n y >>= λ z. Ok (noted_.appended (noted_around own around) u z))) (sym e)
         (alike_bind (Kept x y) (Moves own around x y) (with_packs place around.in_expansion m x) (noted_.with_packs place around.in_expansion m y) (λ z. Ok (appended around (parameter k) z)) (λ z. Ok (noted_.appended (noted_around own around) u z))
         (packs_kept place around.in_expansion m x y packs)
         (λ a b h kept. moves_then own around x a (appended around (parameter k) a) y b (noted_.appended (noted_around own around) u b) (moves_none own around x a y b kept.is kept.so kept.packs) (one_moves own around (parameter k) u a b kept.packs is)))
-
-    tested : (arguments : Term) → around.scope ≡ Some arguments → (b c : Bool) → c ≡ b → Alike (Moves own around x y)
-        (elim b [ false ↦ Err (BadReference place) | true ↦ with_packs place around.in_expansion (length_if_pack (element arguments k)) x >>= λ z. Ok (appended around (parameter k) z) ])
-        (elim c [
-          | false ↦ Err (BadReference place)
-          | true ↦ noted_.with_packs place around.in_expansion (scope_.length_if_pack (scope_.element (annotate nowhere arguments) k)) y
-              >>= λ z. Ok (noted_.appended (noted_around own around) (term_.parameter k (scope_.element (annotate nowhere arguments) k)) z)
-        ])
-    tested arguments scope false false f = refl
-    tested arguments scope true true f = onward arguments scope (length_if_pack (element arguments k)) (scope_.length_if_pack (scope_.element (annotate nowhere arguments) k))
-        (ap scope_.length_if_pack (element_noted nowhere arguments k) ∙ length_noted nowhere (element arguments k)) (term_.parameter k (scope_.element (annotate nowhere arguments) k)) (named_here own around k arguments scope)
-    tested arguments scope true false f = absurd cc
-    tested arguments scope false true f = absurd cc
-
-    go : (o : Option Term) → around.scope ≡ o → Alike (Moves own around x y)
-        (elim o [
-          | None ↦ Err (BadReference place)
-          | Some arguments ↦ elim (nat_lt k (count arguments)) [ false ↦ Err (BadReference place) | true ↦ with_packs place around.in_expansion (length_if_pack (element arguments k)) x >>= λ z. Ok (appended around (parameter k) z) ]
-        ])
-        (elim (noted_scope o) [
-          | None ↦ Err (BadReference place)
-          | Some arguments ↦ elim (nat_lt k (scope_.count arguments)) [
-            | false ↦ Err (BadReference place)
-            | true ↦ noted_.with_packs place around.in_expansion (scope_.length_if_pack (scope_.element arguments k)) y
-                >>= λ z. Ok (noted_.appended (noted_around own around) (term_.parameter k (scope_.element arguments k)) z)
-          ]
-        ])
-    go None scope = refl
-    go (Some arguments) scope = tested arguments scope (nat_lt k (count arguments)) (nat_lt k (scope_.count (annotate nowhere arguments))) (ap (nat_lt k) (count_noted nowhere arguments))
 
 -- ## The reading of the wide grammar
 
@@ -340,86 +308,33 @@ own_place around none inside_ = both place_in none inside_
 in_scope_noted : (around : Around) (place : ℕ) (by : Place) (t : Term) (k : ℕ) (x : State) (y : value_.State) → free_in t ≡ one_free k → y.packs ≡ x.packs →
     Alike (Comes true around x y) (in_scope around place t k x) (wide_.in_scope (noted_around true around) place (annotate by t) k y)
 unfolding in_scope wide_.in_scope noted_around noted_scope noted_value packs_in
-in_scope_noted around place by t k x y one packs = go around.scope refl
-  where
-    onward : (arguments : Term) → around.scope ≡ Some arguments → (m n : Option ℕ) → n ≡ m → (u : term_.Term) → u ≡ annotate (around_place true around) t → Alike (Comes true around x y)
-        (with_packs place around.in_expansion m x >>= λ z. Ok (found (leaf_.tree t true) z)) (noted_.with_packs place around.in_expansion n y >>= λ z. Ok (found (value_.tree u true) z))
-    onward arguments scope m n e u is = subst (λ n. Alike (Comes true around x y)
-        (with_packs place around.in_expansion m x >>= λ z. Ok (found (leaf_.tree t true) z)) (noted_.with_packs place around.in_expansion n y >>= λ z. Ok (found (value_.tree u true) z))) (sym e)
-        (alike_bind (Kept x y) (Comes true around x y) (with_packs place around.in_expansion m x) (noted_.with_packs place around.in_expansion m y) (λ z. Ok (found (leaf_.tree t true) z)) (λ z. Ok (found (value_.tree u true) z))
-        (packs_kept place around.in_expansion m x y packs) (λ a b h kept. record { value = ap (λ v. value_.tree v true) is; moves = moves_none true around x a y b kept.is kept.so kept.packs }))
-
-    argument_ : Term → term_.Term
-    argument_ arguments = scope_.element (annotate nowhere arguments) k
-
-    here : (arguments : Term) → around.scope ≡ Some arguments → scope_.is_list (argument_ arguments) ≡ false → reargued (Some (argument_ arguments)) (annotate by t) ≡ annotate (around_place true around) t
-    here arguments scope alone = meant_by around by t k one arguments alone ∙ ap (λ s. annotate s t) (scope_place around arguments scope)
-
-    tested : (arguments : Term) → around.scope ≡ Some arguments → (b c : Bool) → c ≡ b → (nat_lt k (scope_.count (annotate nowhere arguments)) && not (scope_.is_list (argument_ arguments))) ≡ c → Alike (Comes true around x y)
-        (elim b [ false ↦ Err (BadReference place) | true ↦ with_packs place around.in_expansion (pack_length arguments t) x >>= λ z. Ok (found (leaf_.tree t true) z) ])
-        (elim c [
-          | false ↦ Err (BadReference place)
-          | true ↦ noted_.with_packs place around.in_expansion (scope_.pack_length (reargued (Some (argument_ arguments)) (annotate by t))) y
-              >>= λ z. Ok (found (value_.tree (reargued (Some (argument_ arguments)) (annotate by t)) true) z)
-        ])
-    tested arguments scope false false f h = refl
-    tested arguments scope true true f h =
-        let alone = not_no (scope_.is_list (argument_ arguments)) (and_parts (nat_lt k (scope_.count (annotate nowhere arguments))) (not (scope_.is_list (argument_ arguments))) h).1 in
-        onward arguments scope (pack_length arguments t) (scope_.pack_length (reargued (Some (argument_ arguments)) (annotate by t)))
-        (ap scope_.pack_length (meant_by around by t k one arguments alone) ∙ packs_noted (Some arguments) false t) (reargued (Some (argument_ arguments)) (annotate by t)) (here arguments scope alone)
-    tested arguments scope true false f h = absurd cc
-    tested arguments scope false true f h = absurd cc
-
-    go : (o : Option Term) → around.scope ≡ o → Alike (Comes true around x y)
-        (elim o [
-          | None ↦ Err (BadReference place)
-          | Some arguments ↦ elim (nat_lt k (count arguments) && not (is_list (element arguments k))) [ false ↦ Err (BadReference place) | true ↦ with_packs place around.in_expansion (pack_length arguments t) x >>= λ z. Ok (found (leaf_.tree t true) z) ]
-        ])
-        (elim (noted_scope o) [
-          | None ↦ Err (BadReference place)
-          | Some arguments ↦ elim (nat_lt k (scope_.count arguments) && not (scope_.is_list (scope_.element arguments k))) [
-            | false ↦ Err (BadReference place)
-            | true ↦ noted_.with_packs place around.in_expansion (scope_.pack_length (reargued (Some (scope_.element arguments k)) (annotate by t))) y
-                >>= λ z. Ok (found (value_.tree (reargued (Some (scope_.element arguments k)) (annotate by t)) true) z)
-          ]
-        ])
-    go None scope = refl
-    go (Some arguments) scope = tested arguments scope (nat_lt k (count arguments) && not (is_list (element arguments k))) (nat_lt k (scope_.count (annotate nowhere arguments)) && not (scope_.is_list (argument_ arguments)))
-        (both (λ n b. nat_lt k n && not b) (count_noted nowhere arguments) (ap scope_.is_list (element_noted nowhere arguments k) ∙ list_noted nowhere (element arguments k))) refl
+in_scope_noted around place by t k x y one packs =
+    with_arguments (Comes true around x y) place around.scope _ _ (λ arguments scope.
+    let a : term_.Term = scope_.element (annotate nowhere arguments) k in
+    let same : (nat_lt k (scope_.count (annotate nowhere arguments)) && not (scope_.is_list a)) ≡ (nat_lt k (count arguments) && not (is_list (element arguments k))) =
+    both (λ n b. nat_lt k n && not b) (count_noted nowhere arguments) (ap scope_.is_list (element_noted nowhere arguments k) ∙ list_noted nowhere (element arguments k)) in
+    choose (Alike (Comes true around x y)) (nat_lt k (count arguments) && not (is_list (element arguments k)))
+    (nat_lt k (scope_.count (annotate nowhere arguments)) && not (scope_.is_list a)) _ _ _ _ same
+    (λ h.
+    let is = meant_by around by t k one arguments (not_no (scope_.is_list a) (and_parts (nat_lt k (scope_.count (annotate nowhere arguments))) (not (scope_.is_list a)) (same ∙ h)).1) in
+    found_noted true around place t (reargued (Some a) (annotate by t)) (pack_length arguments t) (scope_.pack_length (reargued (Some a) (annotate by t))) x y
+    (is ∙ ap (λ s. annotate s t) (scope_place around arguments scope)) (ap scope_.pack_length is ∙ packs_noted (Some arguments) false t) packs) (λ h. refl))
 
 under_scope_noted : (around : Around) (place : ℕ) (by : Place) (t : Term) (m : ℕ) (x : State) (y : value_.State) → free_in t ≡ several_free m → y.packs ≡ x.packs →
     Alike (Comes true around x y) (under_scope around place t m x) (wide_.under_scope (noted_around true around) place (annotate by t) m y)
 unfolding under_scope wide_.under_scope noted_around noted_scope noted_value
-under_scope_noted around place by t m x y several packs = go around.scope refl
-  where
-    tested : (arguments : Term) → around.scope ≡ Some arguments → (b c : Bool) → c ≡ b → (nat_lt m (scope_.count (annotate nowhere arguments)) && not (scope_.has_pack (annotate nowhere arguments))) ≡ c → Alike (Comes true around x y)
-        (elim b [ false ↦ Err (BadReference place) | true ↦ Ok (found (leaf_.tree t true) x) ])
-        (elim c [ false ↦ Err (BadReference place) | true ↦ Ok (found (value_.tree (reargued (Some (annotate nowhere arguments)) (annotate by t)) true) y) ])
-    tested arguments scope false false f h = refl
-    tested arguments scope true true f h =
-        let parts = and_parts (nat_lt m (scope_.count (annotate nowhere arguments))) (not (scope_.has_pack (annotate nowhere arguments))) h in
-        record {
-          value = ap (λ u. value_.tree u true) (meant_under by t m several arguments parts.0 (not_no (scope_.has_pack (annotate nowhere arguments)) parts.1) ∙ ap (λ s. annotate s t) (scope_place around arguments scope));
-          moves = moves_none true around x x y y refl refl packs;
-        }
-    tested arguments scope true false f h = absurd cc
-    tested arguments scope false true f h = absurd cc
-
-    go : (o : Option Term) → around.scope ≡ o → Alike (Comes true around x y)
-        (elim o [
-          | None ↦ Err (BadReference place)
-          | Some arguments ↦ elim (nat_lt m (count arguments) && not (has_pack arguments)) [ false ↦ Err (BadReference place) | true ↦ Ok (found (leaf_.tree t true) x) ]
-        ])
-        (elim (noted_scope o) [
-          | None ↦ Err (BadReference place)
-          | Some arguments ↦ elim (nat_lt m (scope_.count arguments) && not (scope_.has_pack arguments)) [
-            | false ↦ Err (BadReference place)
-            | true ↦ Ok (found (value_.tree (reargued (Some arguments) (annotate by t)) true) y)
-          ]
-        ])
-    go None scope = refl
-    go (Some arguments) scope = tested arguments scope (nat_lt m (count arguments) && not (has_pack arguments)) (nat_lt m (scope_.count (annotate nowhere arguments)) && not (scope_.has_pack (annotate nowhere arguments)))
-        (both (λ n b. nat_lt m n && not b) (count_noted nowhere arguments) (pack_noted nowhere arguments)) refl
+under_scope_noted around place by t m x y several packs =
+    with_arguments (Comes true around x y) place around.scope _ _ (λ arguments scope.
+    let given : term_.Term = annotate nowhere arguments in
+    let same : (nat_lt m (scope_.count given) && not (scope_.has_pack given)) ≡ (nat_lt m (count arguments) && not (has_pack arguments)) =
+    both (λ n b. nat_lt m n && not b) (count_noted nowhere arguments) (pack_noted nowhere arguments) in
+    choose (Alike (Comes true around x y)) (nat_lt m (count arguments) && not (has_pack arguments)) (nat_lt m (scope_.count given) && not (scope_.has_pack given)) _ _ _ _ same
+    (λ h.
+    let parts = and_parts (nat_lt m (scope_.count given)) (not (scope_.has_pack given)) (same ∙ h) in
+    record {
+      value = ap (λ u. value_.tree u true) (meant_under by t m several arguments parts.0 (not_no (scope_.has_pack given) parts.1) ∙ ap (λ s. annotate s t) (scope_place around arguments scope));
+      moves = moves_none true around x x y y refl refl packs;
+    }) (λ h. refl))
 
 own_names : (f : Free) → NameThis in_own item_.auto f
 unfolding argument_in given_for
@@ -437,17 +352,13 @@ free_noted_bad (several_free m) around place by t x y e packs = under_scope_note
 restated_noted : (around : Around) (place : ℕ) (by : Place) (t : Term) (x : State) (y : value_.State) → Settled around → y.packs ≡ x.packs →
     Alike (Comes true around x y) (restated around place t x) (wide_.restated (noted_around true around) place (annotate by t) y)
 unfolding restated wide_.restated noted_around noted_value
-restated_noted around place by t x y settled packs = go around.in_lambda refl
+restated_noted around place by t x y settled packs =
+    choose (Alike (Comes true around x y)) around.in_lambda around.in_lambda _ _ _ _ refl (λ is. record { value = ap (λ u. value_.tree u true) (inside_ is); moves = moves_none true around x x y y refl refl packs })
+    (λ is. subst (λ f. Alike (Comes true around x y) (with_free (free_in t) around place t x) (wide_.with_free f (noted_around true around) place (annotate by t) y)) (sym (free_noted by t))
+    (free_noted_bad (free_in t) around place by t x y refl packs))
   where
     inside_ : around.in_lambda ≡ true → reargued (Some item_.auto) (annotate by t) ≡ annotate (around_place true around) t
     inside_ l = renoted in_own by item_.auto t (own_names (free_in t)) ∙ ap (λ s. annotate s t) (sym (own_place around (settled l) l))
-
-    go : (b : Bool) → around.in_lambda ≡ b → Alike (Comes true around x y)
-        (elim b [ true ↦ Ok (found (leaf_.tree t true) x) | false ↦ with_free (free_in t) around place t x ])
-        (elim b [ true ↦ Ok (found (value_.tree (reargued (Some item_.auto) (annotate by t)) true) y) | false ↦ wide_.with_free (scope_.free_in (annotate by t)) (noted_around true around) place (annotate by t) y ])
-    go true is = record { value = ap (λ u. value_.tree u true) (inside_ is); moves = moves_none true around x x y y refl refl packs }
-    go false is = subst (λ f. Alike (Comes true around x y) (with_free (free_in t) around place t x) (wide_.with_free f (noted_around true around) place (annotate by t) y)) (sym (free_noted by t))
-        (free_noted_bad (free_in t) around place by t x y refl packs)
 
 wide_substituted_noted : (around : Around) (place : ℕ) (o : Option Candidate) (p : Option value_.Candidate) (x : State) (y : value_.State) → Settled around → y.packs ≡ x.packs → AreNoted true around o p →
     Alike (Comes true around x y) (substituted_wide around place o x) (wide_.substituted_wide (noted_around true around) place p y)
@@ -455,21 +366,17 @@ unfolding substituted_wide wide_.substituted_wide is_foreign
 wide_substituted_noted around place None None x y settled packs n = refl
 wide_substituted_noted around place None (Some d) x y settled packs n = absurd n
 wide_substituted_noted around place (Some c) None x y settled packs n = absurd n
-wide_substituted_noted around place (Some c) (Some d) x y settled packs n = go (is_foreign around c) (wide_.is_foreign (noted_around true around) d) (foreign_noted around c d n) refl
+wide_substituted_noted around place (Some c) (Some d) x y settled packs n =
+    choose (Alike (Comes true around x y)) (is_foreign around c) (wide_.is_foreign (noted_around true around) d) _ _ _ _ (foreign_noted around c d n)
+    (λ is. subst (λ u. Alike (Comes true around x y) (restated around place c.tree x) (wide_.restated (noted_around true around) place u y)) (sym n.like)
+    (restated_noted around place n.by c.tree x y settled packs))
+    (λ is. substituted_noted true around place (Some c) (Some d) x y packs n (λ opens o. outside (is_open c.tree) around.in_lambda c.in_lambda (not (nat_eq c.encoding around.encoding)) is opens))
   where
     outside : (o l m other : Bool) → (o && (l || (m || other))) ≡ false → o ≡ true → m ≡ false
     outside true false false other h opens = refl
     outside true false true other h opens = absurd (true≢false h)
     outside true true m other h opens = absurd (true≢false h)
     outside false l m other h opens = absurd (false≢true opens)
-
-    go : (b e : Bool) → e ≡ b → is_foreign around c ≡ b → Alike (Comes true around x y)
-        (elim b [ true ↦ restated around place c.tree x | false ↦ substituted around place (Some c) x ])
-        (elim e [ true ↦ wide_.restated (noted_around true around) place d.tree y | false ↦ noted_.substituted (noted_around true around) place (Some d) y ])
-    go true true f is = subst (λ u. Alike (Comes true around x y) (restated around place c.tree x) (wide_.restated (noted_around true around) place u y)) (sym n.like) (restated_noted around place n.by c.tree x y settled packs)
-    go false false f is = substituted_noted true around place (Some c) (Some d) x y packs n (λ opens o. outside (is_open c.tree) around.in_lambda c.in_lambda (not (nat_eq c.encoding around.encoding)) is opens)
-    go true false f is = absurd cc
-    go false true f is = absurd cc
 
 held_noted : (own : Bool) (around : Around) (cs : List Candidate) (ds : List value_.Candidate) (count : ℕ) → AllNoted own around cs ds → wide_.has_held ds count ≡ has_held cs count
 unfolding has_held wide_.has_held
@@ -484,13 +391,7 @@ pub wide_numbered_noted : (around : Around) (place number : ℕ) (x : State) (y 
     Alike (Comes true around x y) (numbered around place number x) (wide_.numbered (noted_around true around) place number y)
 unfolding numbered wide_.numbered is_counted_alike wide_.is_counted_alike
 wide_numbered_noted around place number x y settled same =
-    go (has_held x.candidates (number + 2)) (wide_.has_held y.candidates (number + 2)) (held_noted true around x.candidates y.candidates (number + 2) same.all)
-  where
-    go : (b e : Bool) → e ≡ b → Alike (Comes true around x y)
-        (elim (not b) [ true ↦ substituted_wide around place (slice_get x.candidates number) x | false ↦ Err (BadReference place) ])
-        (elim (not e) [ true ↦ wide_.substituted_wide (noted_around true around) place (slice_get y.candidates number) y | false ↦ Err (BadReference place) ])
-    go true true f = refl
-    go false false f =
-        wide_substituted_noted around place (slice_get x.candidates number) (slice_get y.candidates number) x y settled same.packs (get_noted true around x.candidates y.candidates number same.all)
-    go true false f = absurd cc
-    go false true f = absurd cc
+    choose (Alike (Comes true around x y)) (not (has_held x.candidates (number + 2))) (not (wide_.has_held y.candidates (number + 2))) _ _ _ _
+    (ap not (held_noted true around x.candidates y.candidates (number + 2) same.all))
+    (λ h. wide_substituted_noted around place (slice_get x.candidates number) (slice_get y.candidates number) x y settled same.packs (get_noted true around x.candidates y.candidates number same.all))
+    (λ h. refl)

@@ -25,7 +25,7 @@ use Rattle.cpp_term.specs.Meaning.{meaning}
 use Rattle.cpp_term.specs.Unfolding.{opening, behind, close, cpp, first_around, first_state, first_tree, unfold_cpp}
 use Rattle.cpp_term.specs.Rescoping.{cpp_wide}
 use Rattle.cpp_term.specs.ReadAs.{IsReadAs}
-use Rattle.cpp_term.proofs.EncodingsClosed.{chosen_rule}
+use Rattle.cpp_grammar.proofs.Choosing.{chosen_rule}
 use Rattle.cpp_term.proofs.NotedWays.{NotedWay, reading_noted_by, abi_noted, wide_noted, IsPlainNoted, abi_is_noted, wide_is_noted}
 use Rattle.cpp_term.proofs.Erasing.{IsSymbolTree, reading_stands, wide_reading_stands}
 

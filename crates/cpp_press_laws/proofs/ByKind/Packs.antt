@@ -25,6 +25,7 @@ use Rattle.cpp_grammar.specs.Unfolding.{opening, close, production_at, byte_of, 
 use Rattle.cpp_grammar.proofs.ClosedStates.{ok_same, behind_bind}
 use Rattle.cpp_grammar.proofs.ClosedTrees.{opening_keeps}
 use Rattle.cpp_grammar.proofs.Steps.{all_pass, step_passes}
+use Rattle.cpp_grammar.proofs.Chosen.{either, either_cond}
 use Rattle.cpp_press_laws.proofs.ByKind.Rules.{AllOf, every-shape}
 
 -- ## States
@@ -36,27 +37,20 @@ packs-kept place (Some m) state new e = absurd cc
 
 type-kept : (around : Around) (v : Value) (state : State) → (with_type around v state).packs ≡ state.packs
 unfolding with_type appended
-type-kept around v state = go (is_listed v)
-  where
-    go : (b : Bool) → (elim b as (λ _. State) [ true ↦ state | false ↦ appended around (tree_of v) state ]).packs ≡ state.packs
-    go true = refl
-    go false = refl
+type-kept around v state =
+    either (λ s. s.packs ≡ state.packs) (is_listed v) state (appended around (tree_of v) state) (λ h. refl) (λ h. refl)
 
 unqualified-kept : (around : Around) (v : Value) (state : State) → (with_unqualified around v state).packs ≡ state.packs
 unfolding with_unqualified
-unqualified-kept around v state = go (is_function_type (tree_of v))
-  where
-    go : (b : Bool) → (elim b as (λ _. State) [ true ↦ state | false ↦ with_type around v state ]).packs ≡ state.packs
-    go true = refl
-    go false = type-kept around v state
+unqualified-kept around v state =
+    either (λ s. s.packs ≡ state.packs) (is_function_type (tree_of v)) state (with_type around v state) (λ h. refl)
+    (λ h. type-kept around v state)
 
 prefix-kept : (around : Around) (state : State) → (with_prefix around state).packs ≡ state.packs
 unfolding with_prefix appended
-prefix-kept around state = go (prefix_listed around.prefix)
-  where
-    go : (b : Bool) → (elim b as (λ _. State) [ true ↦ state | false ↦ appended around (prefix_tree around.prefix) state ]).packs ≡ state.packs
-    go true = refl
-    go false = refl
+prefix-kept around state =
+    either (λ s. s.packs ≡ state.packs) (prefix_listed around.prefix) state (appended around (prefix_tree around.prefix) state) (λ h. refl)
+    (λ h. refl)
 
 -- ## References
 
@@ -71,16 +65,12 @@ substituted-kept : (around : Around) (place : ℕ) (o : Option Candidate) (state
     → substituted around place o state ≡ Ok r → r.state.packs ≡ state.packs
 unfolding substituted
 substituted-kept around place None state r outside e = absurd cc
-substituted-kept around place (Some c) state r outside e = go (is_open c.tree && (around.in_lambda || not (nat_eq c.encoding around.encoding))) e
-  where
-    go : (b : Bool) → ◌≡◌ {A = Result (Found Value State) Refusal} (elim b [
-      | true ↦ Err (BadReference place)
-      | false ↦ with_packs place around.in_expansion (packs_in around.scope c.tree) state >>= λ s. Ok (found (tree c.tree true) s)
-    ]) (Ok r) → r.state.packs ≡ state.packs
-    go true h = absurd cc
-    go false h =
-        bound-kept place around.in_expansion (packs_in around.scope c.tree) state (λ s. Ok (found (tree c.tree true) s)) r (λ x. x.state.packs) outside
-        (λ s x is. ap (λ y. y.state.packs) (sym (ok_same (found (tree c.tree true) s) x is))) h
+substituted-kept around place (Some c) state r outside e =
+    either (λ x. x ≡ Ok r → r.state.packs ≡ state.packs)
+    (is_open c.tree && (around.in_lambda || not (nat_eq c.encoding around.encoding))) _ _ (λ is h. absurd cc)
+    (λ is h. bound-kept place around.in_expansion (packs_in around.scope c.tree) state (λ s. Ok (found (tree c.tree true) s)) r
+    (λ x. x.state.packs) outside
+    (λ s x is. ap (λ y. y.state.packs) (sym (ok_same (found (tree c.tree true) s) x is))) h) e
 
 parameter-kept : (around : Around) (place k : ℕ) (state new : State) → around.in_expansion ≡ false → parameter_named around place k state ≡ Ok new
     → new.packs ≡ state.packs
@@ -211,12 +201,10 @@ substitution-plain = refl
 after-kept : (does : Row) (around : Around) (began : State) (v : Value) (vs : List Value) (state : State)
     → (does.restores_packs ≡ false → state.packs ≡ began.packs) → (state_after does around began v vs state).packs ≡ began.packs
 unfolding state_after
-after-kept does around began v vs state same = go does.restores_packs same
-  where
-    go : (b : Bool) → (b ≡ false → state.packs ≡ began.packs)
-        → (cond b (record (gained does.gain around vs v state) { packs = began.packs }) (gained does.gain around vs v state)).packs ≡ began.packs
-    go true h = refl
-    go false h = gained-kept does.gain around vs v state ∙ h refl
+after-kept does around began v vs state same =
+    either_cond (λ s. s.packs ≡ began.packs) does.restores_packs (record (gained does.gain around vs v state) { packs = began.packs })
+    (gained does.gain around vs v state)
+    (λ h. refl) (λ h. gained-kept does.gain around vs v state ∙ same h)
 
 close-kept : (p : Production) (byte : ℕ) (around : Around) (place : ℕ) (began : State) (vs : List Value) (state : State) (r : Found Value State)
     → around.in_expansion ≡ false → (NoExpansion p → state.packs ≡ began.packs) → close p byte around place began vs state ≡ Ok r

@@ -1,8 +1,7 @@
 -- The pieces of names that were read, as it is known of their kinds.
-use Rattle.std.proofs.Common.{◌≡◌, ℕ, ◌+◌, ◌-◌, ◌<◌, inl, inr, length, List, [], ◌∷◌, Bool, true, false, slice_get, Some, Result, Ok, Err, refl, ap, arith, lit≤, sym, subst, ◌∙◌}
+use Rattle.std.proofs.Common.{◌≡◌, ℕ, ◌+◌, ◌-◌, ◌<◌, inl, inr, length, List, [], ◌∷◌, Bool, true, false, slice_get, Some, Ok, Err, refl, ap, arith, lit≤, sym, subst, ◌∙◌}
 use Rattle.std.specs.Prelude.{nat_lt, ◌^◌}
 use Rattle.std.proofs.lemmas.Bool.{false≢true}
-use Rattle.sym_core.specs.declared.refusal.Refusal.{Refusal}
 use Rattle.sym_core.specs.declared.refusal.Refusal.TheVariants.{BadValue}
 use Rattle.sym_core.specs.declared.NumberKind.TheVariants.{Decimal}
 use Rattle.sym_shape.specs.declared.rule.Sym.{Sym}
@@ -21,6 +20,7 @@ use Rattle.cpp_grammar.specs.Meaning.{meaning, parameters, operator_or_literal}
 use Rattle.cpp_grammar.specs.Unfolding as unfolding_
 use Rattle.cpp_grammar.specs.Unfolding.{last_token, number_tested, opening, close, byte_of, cpp}
 use Rattle.cpp_grammar.proofs.ClosedStates.{AllNew, grows_then, ok_same}
+use Rattle.cpp_grammar.proofs.Chosen.{either}
 use Rattle.cpp_press_laws.proofs.ByKind.AbiTrees.{known, tree_good}
 use Rattle.cpp_press_laws.specs.Fits.{item_type, begins_name, names_type, names_function, IsLocalNumber}
 use Rattle.cpp_press_laws.specs.Spellable.{IsOperator}
@@ -228,13 +228,11 @@ c-operator-fits around second old small marked =
 tested-number : (place : ℕ) (digits : List ℕ) (state : State) → number_tested place digits state ≡ Ok state
     → IsLocalNumber (local_number digits)
 unfolding number_tested local_number
-tested-number place digits state e = (omega arith, go (nat_lt (local_number digits) (2 ^ 64)) refl e)
-  where
-    go : (b : Bool) → nat_lt (local_number digits) (2 ^ 64) ≡ b
-        → elim b as (λ _. Result State Refusal) [ true ↦ Ok state | false ↦ Err (BadValue place) ] ≡ Ok state
-        → nat_lt (local_number digits) (2 ^ 64) ≡ true
-    go true is h = is
-    go false is h = absurd cc
+tested-number place digits state e = (
+  omega arith,
+  either (λ x. x ≡ Ok state → nat_lt (local_number digits) (2 ^ 64) ≡ true) (nat_lt (local_number digits) (2 ^ 64))
+      (Ok state) (Err (BadValue place)) (λ is h. is) (λ is h. absurd cc) e,
+)
 
 -- it is that of the last token
 last-digits : (t : Shape) (f : Forest) (around : Around) (at : ℕ) (state : State) (v : Value) (new : State) → IsTree abi (Number Decimal) t

@@ -5,19 +5,16 @@ use Rattle.sym_core.specs.declared.NameClass.TheVariants.{Cpp}
 use Rattle.sym_core.specs.Token.{IsSeparator}
 use Rattle.sym_spell.specs.Digits.{digits_in, decimal_digit}
 use Rattle.cpp_grammar.specs.Term.{Qualifiers}
+use Rattle.cpp_grammar.proofs.Chosen.{either}
 use Rattle.cpp_press_laws.specs.Texts.{decimal, counted, ordinal, qualifier_letters}
 use Rattle.cpp_press_laws.specs.Spellable.{IsSpellableName}
 use Rattle.cpp_press_laws.specs.Fits.{Slot, literal_type, IsBuiltin, has_letters}
 
 digits-long : (most n : ℕ) → 0 < length (digits_in 10 decimal_digit (suc most) n)
-digits-long most n = go (nat_lt n 10)
-  where
-    go : (b : Bool) → 0 < length (elim b as (λ _. List ℕ) [
-      | true ↦ decimal_digit n ∷ []
-      | false ↦ digits_in 10 decimal_digit most (n / 10) ++ decimal_digit (n % 10) ∷ []
-    ])
-    go true = omega arith
-    go false = omega (arith, length-append (digits_in 10 decimal_digit most (n / 10)) (decimal_digit (n % 10) ∷ []))
+digits-long most n =
+    either (λ ds. 0 < length ds) (nat_lt n 10) (decimal_digit n ∷ [])
+    (digits_in 10 decimal_digit most (n / 10) ++ decimal_digit (n % 10) ∷ []) (λ h. omega arith)
+    (λ h. omega (arith, length-append (digits_in 10 decimal_digit most (n / 10)) (decimal_digit (n % 10) ∷ [])))
 
 pub counted-long : (name : List ℕ) → 0 < length (counted name)
 unfolding counted decimal

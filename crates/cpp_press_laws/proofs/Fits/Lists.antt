@@ -8,6 +8,7 @@ use Rattle.cpp_grammar.specs.Scope.{is_open, pack_length}
 use Rattle.cpp_grammar.specs.Values.{State, Around, tree, tree_of, is_listed}
 use Rattle.cpp_grammar.specs.References.{appended, is_function_type, with_type, with_unqualified}
 use Rattle.cpp_grammar.specs.Meaning.{is_void, is_nil, parameters}
+use Rattle.cpp_grammar.proofs.Chosen.{either}
 use Rattle.cpp_press_laws.specs.Texts.{mark_letter}
 use Rattle.cpp_press_laws.specs.Components.{Component, Spelling, component}
 use Rattle.cpp_press_laws.specs.Pressing.{type_ways, no_ways, function_text, ways_of}
@@ -86,13 +87,11 @@ unfolding fits_of fits_nowhere ways_of no_ways parameters
 parameters-fit around slot nil old new is one =
     no-parameters-fit around slot nil (λ n. (ways_of n nil).as_more_parameters) ((fits_of nil).as_more_parameters slot)
     old new (λ n place cs. refl) one
-parameters-fit around slot (list a b) old new is one = go (is_void a && is_nil b) refl
-  where
-    go : (c : Bool) → is_void a && is_nil b ≡ c → ParametersFit around slot (elim c as (λ _. Term) [ true ↦ nil | false ↦ list a b ]) old new
-    go true void =
-        no-parameters-fit around slot (list a b) (λ n. (ways_of n (list a b)).as_more_parameters)
-        ((fits_of (list a b)).as_more_parameters slot) old new (void-adds-none a b void) one
-    go false others = refitted one (λ n allowed place cs fits. (others, fits))
+parameters-fit around slot (list a b) old new is one =
+    either (λ t. ParametersFit around slot t old new) (is_void a && is_nil b) nil (list a b)
+    (λ void. no-parameters-fit around slot (list a b) (λ n. (ways_of n (list a b)).as_more_parameters)
+    ((fits_of (list a b)).as_more_parameters slot) old new (void-adds-none a b void) one)
+    (λ others. refitted one (λ n allowed place cs fits. (others, fits)))
 parameters-fit around slot (symbol e suffix) old new is one = absurd is
 parameters-fit around slot _ old new is one = absurd is
 

@@ -1,7 +1,6 @@
 -- A name between N and E that was read fits in each of its ways: as a type, as an encoding's own name, as an entity and as a prefix.
 use Rattle.std.proofs.Common.{◌≡◌, ℕ, ◌+◌, inl, inr, length, List, [], ◌∷◌, ◌++◌, Option, Bool, true, false, refl, ap, sym, subst, arith}
 use Rattle.std.specs.Prelude.{codes}
-use Rattle.sym_spell.specs.Pressing.{◌and◌}
 use Rattle.cpp_grammar.specs.Term.{Qualifiers, RefQualifier, Term, in_std, within, instance}
 use Rattle.cpp_grammar.specs.Values.{State, Around}
 use Rattle.cpp_grammar.specs.References.{appended, is_function_type}

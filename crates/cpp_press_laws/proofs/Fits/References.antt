@@ -11,6 +11,7 @@ use Rattle.cpp_grammar.specs.Scope.{is_open}
 use Rattle.cpp_grammar.specs.Values.{Candidate, State, Around, Value, tree, tree_of, is_listed}
 use Rattle.cpp_grammar.specs.References.{is_function_type, with_type, with_unqualified, with_packs, packs_in, substituted}
 use Rattle.cpp_grammar.proofs.ClosedStates.{ok_same, behind_bind}
+use Rattle.cpp_grammar.proofs.Chosen.{either}
 use Rattle.cpp_press_laws.specs.Components.{Component, Spelling, first_equal, reference, spelled_out, referred, component}
 use Rattle.cpp_press_laws.specs.Pressing.{ways_of, type_ways, name_ways, no_ways, template_before}
 use Rattle.cpp_press_laws.proofs.Components.Parts.{IsComponent, Whole, Unqualified, Has, stands-found}
@@ -123,11 +124,7 @@ referred-fitted {k} around F s old new c P r adding again none = record {
 
 pub unlisted : (around : Around) (t : Term) (state : State) → with_unqualified around (tree t true) state ≡ state
 unfolding with_unqualified with_type tree_of is_listed
-unlisted around t state = go (is_function_type t)
-  where
-    go : (b : Bool) → elim b as (λ _. State) [ true ↦ state | false ↦ state ] ≡ state
-    go true = refl
-    go false = refl
+unlisted around t state = either (λ s. s ≡ state) (is_function_type t) state state (λ h. refl) (λ h. refl)
 
 -- a type that was named by a reference
 pub referred-solid : (takes : Slot → Bool) (around : Around) (old new : State) (c : Candidate) → Referred around old new c

@@ -1,6 +1,6 @@
 -- What the values of types are like by their kinds, and that each production of types keeps to that.
 use Rattle.std.proofs.Common.{◌≡◌, ℕ, ◌⊎◌, List, [], ◌∷◌, Bool, true, false, refl}
-use Rattle.std.specs.Prelude.{cond, nat_eq}
+use Rattle.std.specs.Prelude.{nat_eq}
 use Rattle.cpp_grammar.specs.declared.kind.Kind.{Kind}
 use Rattle.cpp_grammar.specs.declared.production.Production.{Production}
 use Rattle.cpp_grammar.specs.Term.{lvalue_only, rvalue_only, Term, abbreviation, lvalue, rvalue, encoding_literal, address_of, absent}
@@ -9,6 +9,7 @@ use Rattle.cpp_grammar.specs.References.{with_type, with_prefix, appended, is_fu
 use Rattle.cpp_grammar.specs.Between.{after, no_items}
 use Rattle.cpp_grammar.specs.Meaning.{signature_or, meaning, listed_value, reference_to}
 use Rattle.cpp_grammar.specs.Unfolding as unfolding_
+use Rattle.cpp_grammar.proofs.Chosen.{either_cond}
 use Rattle.cpp_press_laws.specs.Fits.{Slot, any_type, item_type, parameter_type, literal_type, takes_all, takes_expansions, IsAbbreviation}
 use Rattle.cpp_press_laws.proofs.Slots.{each-slot}
 use Rattle.cpp_press_laws.proofs.Fits.Types.{TypeFits, BareFits, SolidFits, lvalue-fits, rvalue-fits}
@@ -106,23 +107,20 @@ item-is-type around byte began v old new one = fewer-slots takes_all takes_expan
 pub reference-solid : (around : Around) (byte : ℕ) (v : Value) (old new : State) → KindFits Kind.Type around v old new
     → SolidFits takes_all around (reference_to byte v) old new
 unfolding reference_to
-reference-solid around byte v old new one = go (nat_eq byte 82)
-  where
-    go : (b : Bool) → SolidFits takes_all around (tree (cond b (lvalue (tree_of v)) (rvalue (tree_of v))) false) old new
-    go true = lvalue-fits around (tree_of v) old new one
-    go false = rvalue-fits around (tree_of v) old new one
+reference-solid around byte v old new one =
+    either_cond (λ t. SolidFits takes_all around (tree t false) old new) (nat_eq byte 82) (lvalue (tree_of v)) (rvalue (tree_of v))
+    (λ h. lvalue-fits around (tree_of v) old new one)
+    (λ h. rvalue-fits around (tree_of v) old new one)
 
 -- a reference right under qualifiers
 pub reference-plain : (around : Around) (byte : ℕ) (began : State) (v : Value) (old new : State) → KindFits Kind.Type around v old new
     → KindFits Kind.Plain around (Meant Production.ReferenceType byte around (v ∷ [])) old
     (Later Production.ReferenceType byte around began (v ∷ []) new)
 unfolding meaning listed_value reference_to tree_of is_listed part unfolding_.behind with_type with_unqualified is_function_type takes_all
-reference-plain around byte began v old new one = go (nat_eq byte 82)
-  where
-    go : (b : Bool) → BareFits around (cond b (lvalue (tree_of v)) (rvalue (tree_of v))) old
-        (appended around (cond b (lvalue (tree_of v)) (rvalue (tree_of v))) new)
-    go true = (lvalue-fits around (tree_of v) old new one).bare refl
-    go false = (rvalue-fits around (tree_of v) old new one).bare refl
+reference-plain around byte began v old new one =
+    either_cond (λ t. BareFits around t old (appended around t new)) (nat_eq byte 82) (lvalue (tree_of v)) (rvalue (tree_of v))
+    (λ h. (lvalue-fits around (tree_of v) old new one).bare refl)
+    (λ h. (rvalue-fits around (tree_of v) old new one).bare refl)
 
 -- ## Types of types
 

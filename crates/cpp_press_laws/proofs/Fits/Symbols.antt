@@ -1,5 +1,5 @@
 -- Encodings of each sort that were read fit, from their names and their types.
-use Rattle.std.proofs.Common.{◌≡◌, ℕ, ◌+◌, ◌<◌, length, List, [], ◌∷◌, ◌++◌, Option, Some, Bool, true, false, refl, ap, sym, subst, ◌∙◌, arith}
+use Rattle.std.proofs.Common.{◌≡◌, ℕ, ◌+◌, ◌<◌, length, List, [], ◌∷◌, ◌++◌, Option, Some, true, false, refl, ap, sym, subst, ◌∙◌, arith}
 use Rattle.std.specs.Prelude.{◌&&◌, codes}
 use Rattle.sym_spell.specs.Pressing as spell
 use Rattle.sym_spell.specs.Pressing.{◌and◌, text}
@@ -12,6 +12,7 @@ use Rattle.cpp_grammar.specs.Values.{Candidate, State, Around}
 use Rattle.cpp_grammar.specs.Between.{in_name, in_types}
 use Rattle.cpp_grammar.specs.Meaning.{is_void, is_nil, parameters}
 use Rattle.cpp_grammar.specs.Texts.{special_front}
+use Rattle.cpp_grammar.proofs.Chosen as chosen
 use Rattle.cpp_press_laws.specs.Texts.{name_letters, thunk_text}
 use Rattle.cpp_press_laws.specs.Components.{Component, Spelling}
 use Rattle.cpp_press_laws.specs.Pressing.{no_ways, type_ways, name_ways, encoding_ways, piece_ways, argument_ways, begun, ways_of}
@@ -86,12 +87,9 @@ parameters-standing : (slot : Slot) (t : Term) (around : Around) (allowed : Opti
     → (fits_of t).as_more_parameters slot around allowed place cs → (fits_of (parameters t)).as_parameters slot around allowed place cs
 unfolding fits_of type_fits piece_fits argument_fits encoding_fits fits_nowhere parameters
 parameters-standing slot nil around allowed place cs fits = tt
-parameters-standing slot (list a b) around allowed place cs fits = go (is_void a && is_nil b) refl
-  where
-    go : (c : Bool) → is_void a && is_nil b ≡ c
-        → (fits_of (elim c as (λ _. Term) [ true ↦ nil | false ↦ list a b ])).as_parameters slot around allowed place cs
-    go true void = tt
-    go false others = (others, fits)
+parameters-standing slot (list a b) around allowed place cs fits =
+    chosen.either (λ t. (fits_of t).as_parameters slot around allowed place cs) (is_void a && is_nil b) nil (list a b) (λ void. tt)
+    (λ others. (others, fits))
 parameters-standing slot (symbol e suffix) around allowed place cs fits = absurd fits
 parameters-standing slot _ around allowed place cs fits = absurd fits
 
@@ -99,12 +97,10 @@ parameters-components : (t : Term) (n place : ℕ) (cs : List Component)
     → ((ways_of n t).as_more_parameters place cs).components ≡ ((ways_of n (parameters t)).as_parameters place cs).components
 unfolding ways_of type_ways name_ways encoding_ways piece_ways argument_ways no_ways parameters
 parameters-components nil n place cs = refl
-parameters-components (list a b) n place cs = go (is_void a && is_nil b) refl
-  where
-    go : (c : Bool) → is_void a && is_nil b ≡ c → ((ways_of n (list a b)).as_more_parameters place cs).components
-        ≡ ((ways_of n (elim c as (λ _. Term) [ true ↦ nil | false ↦ list a b ])).as_parameters place cs).components
-    go true void = void-adds-none a b void n place cs
-    go false others = refl
+parameters-components (list a b) n place cs =
+    chosen.either (λ t. ((ways_of n (list a b)).as_more_parameters place cs).components ≡ ((ways_of n t).as_parameters place cs).components)
+    (is_void a && is_nil b) nil (list a b)
+    (λ void. void-adds-none a b void n place cs) (λ others. refl)
 parameters-components (symbol e suffix) n place cs = refl
 parameters-components _ n place cs = refl
 

@@ -17,6 +17,7 @@ use Rattle.cpp_grammar.specs.Between.{in_name, in_types, in_signature, inside, n
 use Rattle.cpp_grammar.specs.Meaning.{parameters, encoding_of, discriminator_of, with_item, signature_or, operator_or_literal, meaning}
 use Rattle.cpp_grammar.specs.Unfolding as unfolding_
 use Rattle.cpp_grammar.specs.Unfolding.{close}
+use Rattle.cpp_grammar.proofs.Chosen.{either, either_cond}
 use Rattle.cpp_press_laws.specs.Texts.{ordinal, signed_text, name_letters, offset_text, thunk_text, discriminator_text}
 use Rattle.cpp_press_laws.specs.Pressing.{is_component, is_encoding}
 use Rattle.cpp_press_laws.proofs.Short.Size.{part_of, front_of, lettered, size, over, size-some, part-some}
@@ -37,11 +38,9 @@ back-one n = omega arith
 
 signed-short : (negative : Bool) (ds : List ℕ) → length (signed_text (signed_digits negative ds)) ≤ 1 + length ds
 unfolding signed_text signed_digits
-signed-short negative ds = go (negative && not (is_zero (normal ds)))
-  where
-    go : (b : Bool) → length (cond b (codes "n") [] ++ normal ds) ≤ 1 + length ds
-    go true = omega (arith, normal-short ds)
-    go false = omega (arith, normal-short ds)
+signed-short negative ds =
+    either_cond (λ front. length (front ++ normal ds) ≤ 1 + length ds) (negative && not (is_zero (normal ds))) (codes "n") []
+    (λ h. omega (arith, normal-short ds)) (λ h. omega (arith, normal-short ds))
 
 plain-offset : (n : Signed) → length (offset_text (non_virtual n)) ≡ 2 + length (signed_text n)
 unfolding offset_text
@@ -282,18 +281,14 @@ given-gains around at old v new b ready small all o =
 -- an encoding is paid by its name and its items
 encoding-most : (v : Value) (t : Term) → size (encoding_of v t) + front (encoding_of v t) ≤ size (tree_of v) + letters_in v + 9 + (size t - 1)
 unfolding encoding_of size front_of is_encoding letters_in part_of is_component
-encoding-most v (list first others) = go (has_return_type (tree_of v))
-  where
-    go : (b : Bool)
-        → size (elim b as (λ _. Term) [
-          | true ↦ function (tree_of v) (qualifiers_of v) (ref_of v) first (parameters others)
-          | false ↦ function (tree_of v) (qualifiers_of v) (ref_of v) absent (parameters (list first others))
-        ]) + front (elim b as (λ _. Term) [
-          | true ↦ function (tree_of v) (qualifiers_of v) (ref_of v) first (parameters others)
-          | false ↦ function (tree_of v) (qualifiers_of v) (ref_of v) absent (parameters (list first others))
-        ]) ≤ size (tree_of v) + lettered (name_letters (qualifiers_of v) (ref_of v)) + 9 + (cond (is_component first) 8 (size first) + size others - 1)
-    go true = omega (arith, parameters-most others, size-some others)
-    go false = omega (arith, parameters-most (list first others), size-some others)
+encoding-most v (list first others) =
+    either (λ t. size t + front t
+    ≤ size (tree_of v) + lettered (name_letters (qualifiers_of v) (ref_of v)) + 9 + (cond (is_component first) 8 (size first) + size others - 1))
+    (has_return_type (tree_of v))
+    (function (tree_of v) (qualifiers_of v) (ref_of v) first (parameters others))
+    (function (tree_of v) (qualifiers_of v) (ref_of v) absent (parameters (list first others)))
+    (λ h. omega (arith, parameters-most others, size-some others))
+    (λ h. omega (arith, parameters-most (list first others), size-some others))
 encoding-most v nil = omega arith
 encoding-most v (symbol e suffix) = omega arith
 encoding-most v t = omega arith

@@ -26,6 +26,7 @@ use Rattle.cpp_grammar.specs.Values.{State, Around, Value, nothing_there, text, 
 use Rattle.cpp_grammar.specs.Between.{Going, between}
 use Rattle.cpp_grammar.specs.Unfolding.{opening, production_at, cpp, close, byte_of}
 use Rattle.cpp_grammar.proofs.ClosedStates.{ok_same, behind_bind}
+use Rattle.cpp_grammar.proofs.Chosen.{either}
 use Rattle.cpp_press_laws.specs.Texts.{decimal, counted, ordinal}
 use Rattle.cpp_grammar.proofs.Choosing.{rule_at_kind}
 use Rattle.cpp_grammar.proofs.ClosedTrees.{at_number, its_symbols, same_rule, opening_keeps}
@@ -45,16 +46,16 @@ above n h = grind (arith, nat_tests)
 
 digits-few : (fuel n : ℕ) → length (digits_in 10 decimal_digit fuel n) ≤ n + 1
 digits-few zero n = omega arith
-digits-few (suc fuel) n = go (nat_lt n 10) refl (digits-few fuel (n / 10))
-  where
-    go : (b : Bool) → nat_lt n 10 ≡ b → length (digits_in 10 decimal_digit fuel (n / 10)) ≤ n / 10 + 1
-        → length {A = ℕ} (elim b as (λ _. List ℕ) [
-          | true ↦ decimal_digit n ∷ []
-          | false ↦ digits_in 10 decimal_digit fuel (n / 10) ++ decimal_digit (n % 10) ∷ []
-        ]) ≤ n + 1
-    go true below few = omega arith
-    go false over few =
-        omega (arith, few, above n over, length-append (digits_in 10 decimal_digit fuel (n / 10)) (decimal_digit (n % 10) ∷ []))
+digits-few (suc fuel) n =
+    either (λ ds. length ds ≤ n + 1) (nat_lt n 10) (decimal_digit n ∷ [])
+    (digits_in 10 decimal_digit fuel (n / 10) ++ decimal_digit (n % 10) ∷ []) (λ below. omega arith)
+    (λ over. omega (
+      arith,
+      digits-few fuel (n / 10),
+      above n over,
+      length-append (digits_in 10 decimal_digit fuel (n / 10))
+          (decimal_digit (n % 10) ∷ []),
+    ))
 
 lone-separator : (separator own : List ℕ) → IsSeparator Cpp separator own → IsSeparator Cpp [] own
 lone-separator [] own is = is

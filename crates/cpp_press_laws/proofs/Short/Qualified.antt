@@ -17,6 +17,7 @@ use Rattle.cpp_grammar.specs.Between.{after, applied, named_so_far, listed_so_fa
 use Rattle.cpp_grammar.specs.Meaning.{parameters, listed_value, reference_to, meaning}
 use Rattle.cpp_grammar.specs.Unfolding as unfolding_
 use Rattle.cpp_grammar.specs.Unfolding.{close}
+use Rattle.cpp_grammar.proofs.Chosen.{either_cond}
 use Rattle.cpp_press_laws.specs.Texts.{qualifier_letters}
 use Rattle.cpp_press_laws.specs.Components.{components_of, Component}
 use Rattle.cpp_press_laws.specs.Pressing.{is_component, is_encoding}
@@ -128,11 +129,8 @@ as-bare {around} {v} {old} {new} other g = record {
 
 reference-other : (b : ℕ) (v : Value) → is_function_type (tree_of (listed_value (reference_to b v))) ≡ false
 unfolding listed_value reference_to tree_of is_function_type
-reference-other b v = go (nat_eq b 82)
-  where
-    go : (l : Bool) → is_function_type (cond l (lvalue (tree_of v)) (rvalue (tree_of v))) ≡ false
-    go true = refl
-    go false = refl
+reference-other b v =
+    either_cond (λ t. is_function_type t ≡ false) (nat_eq b 82) (lvalue (tree_of v)) (rvalue (tree_of v)) (λ h. refl) (λ h. refl)
 
 pub bare-reference-gains : Idle Production.ReferenceType bare
 unfolding parts_of between is_chain close unfolding_.behind meaning values.part class_of grant Gained Ready ready_for need typed loan returned IsKnown IsKept

@@ -1,9 +1,10 @@
 -- How many bytes a tree takes where it is spelled out, if each component in it is a reference of eight bytes.
-use Rattle.std.proofs.Common.{ℕ, ◌+◌, ◌-◌, ◌≤◌, length, List, [], ◌∷◌, Bool, true, false, arith}
+use Rattle.std.proofs.Common.{ℕ, ◌+◌, ◌-◌, ◌≤◌, length, List, [], ◌∷◌, arith}
 use Rattle.std.specs.Prelude.{cond}
 use Rattle.cpp_grammar.specs.Term.{Term, symbol, function, object, special, thunk, of_name, construction, clone, alone, in_std, within, instance, local, holder, tagged, abbreviation, parameter, source, operator, literal_operator, constructor, destructor, lambda, unnamed, string_literal, conversion, builtin, sized_float, vendor, pointer, lvalue, rvalue, array, member_pointer, function_type, qualified, vector, complex, expansion, integer, boolean, null_pointer, encoding_literal, address_of, pack, list}
 use Rattle.cpp_grammar.specs.References.{is_function_type}
 use Rattle.cpp_grammar.specs.Meaning.{is_nil}
+use Rattle.cpp_grammar.proofs.Chosen.{either_cond}
 use Rattle.cpp_press_laws.specs.Texts.{counted, ordinal, signed_text, qualifier_letters, name_letters, thunk_text, discriminator_text}
 use Rattle.cpp_press_laws.specs.Pressing.{is_component, is_name, is_encoding}
 
@@ -96,19 +97,11 @@ over-most n = omega arith
 
 pub front-part : (t : Term) (own : ℕ) → front_of t own ≤ part_of t own
 unfolding front_of
-front-part t own = go (is_encoding t)
-  where
-    go : (b : Bool) → cond b 0 (part_of t own) ≤ part_of t own
-    go true = omega arith
-    go false = omega arith
+front-part t own = either_cond (λ n. n ≤ part_of t own) (is_encoding t) 0 (part_of t own) (λ h. omega arith) (λ h. omega arith)
 
 pub name-own : (t : Term) (own : ℕ) → name_of t own ≤ own
 unfolding name_of
-name-own t own = go (is_name t)
-  where
-    go : (b : Bool) → cond b own 0 ≤ own
-    go true = omega arith
-    go false = omega arith
+name-own t own = either_cond (λ n. n ≤ own) (is_name t) own 0 (λ h. omega arith) (λ h. omega arith)
 
 -- a name that is spelled out becomes a component
 pub name-part : (t : Term) (own : ℕ) → name_of t own ≤ part_of t own + over (name_of t own)
@@ -118,12 +111,9 @@ name-part _ own = omega arith
 
 bare-some : (t : Term) (own : ℕ) → 1 ≤ own → 1 ≤ bare_of t own
 unfolding bare_of part_of
-bare-some t own some = go (is_function_type t) (is_component t)
-  where
-    go : (f c : Bool) → 1 ≤ cond f own (cond c 8 own)
-    go true c = some
-    go false true = omega arith
-    go false false = some
+bare-some t own some =
+    either_cond (λ n. 1 ≤ n) (is_function_type t) own (cond (is_component t) 8 own) (λ h. some)
+    (λ h. either_cond (λ n. 1 ≤ n) (is_component t) 8 own (λ h. omega arith) (λ h. some))
 
 pub size-some : (t : Term) → 1 ≤ size t
 unfolding size
@@ -137,8 +127,4 @@ size-some _ = omega arith
 
 pub part-some : (t : Term) → 1 ≤ part t
 unfolding part_of
-part-some t = go (is_component t)
-  where
-    go : (c : Bool) → 1 ≤ cond c 8 (size t)
-    go true = omega arith
-    go false = size-some t
+part-some t = either_cond (λ n. 1 ≤ n) (is_component t) 8 (size t) (λ h. omega arith) (λ h. size-some t)

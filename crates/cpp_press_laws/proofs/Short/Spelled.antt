@@ -8,6 +8,7 @@ use Rattle.sym_spell.proofs.DigitValues.{Divides, digits-count}
 use Rattle.cpp_grammar.specs.Term.{RefQualifier, any_value, lvalue_only, rvalue_only, Term, symbol, function, object, special, thunk, of_name, construction, clone, alone, in_std, within, instance, local, holder, tagged, of_default, abbreviation, parameter, source, operator, literal_operator, constructor, destructor, inheriting, lambda, generic_lambda, unnamed, string_literal, conversion, builtin, sized_float, constrained, vendor, pointer, lvalue, rvalue, array, bounded, member_pointer, function_type, qualified, vector, complex, decltype, expansion, integer, boolean, null_pointer, encoding_literal, address_of, operation, function_parameter, pack, nil, list, absent}
 use Rattle.cpp_grammar.specs.References.{is_function_type}
 use Rattle.cpp_grammar.specs.Meaning.{is_nil}
+use Rattle.cpp_grammar.proofs.Chosen.{either}
 use Rattle.cpp_press_laws.specs.Texts.{counted, ordinal, signed_text, qualifier_letters, mark_letter, name_letters, special_code, thunk_text, discriminator_text}
 use Rattle.cpp_press_laws.specs.Components.{Component, first_equal, is_same, seq_id}
 use Rattle.cpp_press_laws.specs.Pressing.{is_component, is_name, is_operator, is_one_piece, is_encoding}
@@ -297,11 +298,10 @@ named-all n t type own prefix between before is bare front name typed owned pref
 entity-short : (k : ℕ) (entity : Term) (letters : List ℕ) (between : Spelling) → Short k between
     → Short (2 + length letters + k) (entity_text entity letters between)
 unfolding entity_text
-entity-short k entity letters between one = go (is_one_piece entity)
-  where
-    go : (b : Bool) → Short (2 + length letters + k) (elim b as (λ _. Spelling) [ true ↦ between | false ↦ in_N_and_E letters between ])
-    go true = less k (2 + length letters + k) between (omega arith) one
-    go false = nested-short k (2 + length letters + k) letters between (omega arith) one
+entity-short k entity letters between one =
+    either (Short (2 + length letters + k)) (is_one_piece entity) between (in_N_and_E letters between)
+    (λ h. less k (2 + length letters + k) between (omega arith) one)
+    (λ h. nested-short k (2 + length letters + k) letters between (omega arith) one)
 
 local-short : (a b c : ℕ) (around : Spelling) (entity : Term) (between : Spelling) (discriminator : Option (List ℕ)) (letters : List ℕ)
     → 4 + length letters + a + b + length (discriminator_text discriminator) ≤ c → Short a around → Short b between
@@ -387,16 +387,9 @@ std-all n p one =
     let most : Short (4 + size p) s = less (2 + size p) (4 + size p) s (omega arith) spelled in
     named-all n (in_std p) (elim (is_operator p) as (λ _. Spelling) [ true ↦ in_N_and_E [] s | false ↦ s ]) s s s
     (λ in_type arguments. template_before n (in_std p) (in_type && is_operator p) s arguments) refl refl refl refl
-    (go (is_operator p) spelled) most most most
+    (either (Short (4 + size p)) (is_operator p) (in_N_and_E [] s) s
+    (λ h. nested-short (2 + size p) (4 + size p) [] s (omega arith) spelled) (λ h. most)) most most most
     (λ in_type arguments k two. template-short n k (in_std p) (in_type && is_operator p) s arguments most two)
-  where
-    go : (b : Bool) → Short (2 + size p) (text (codes "St") and (ways_of n p).as_piece)
-        → Short (4 + size p) (elim b as (λ _. Spelling) [
-          | true ↦ in_N_and_E [] (text (codes "St") and (ways_of n p).as_piece)
-          | false ↦ (text (codes "St") and (ways_of n p).as_piece)
-        ])
-    go true spelled = nested-short (2 + size p) (4 + size p) [] _ (omega arith) spelled
-    go false spelled = less (2 + size p) (4 + size p) _ (omega arith) spelled
 
 within-all : (n : ℕ) (prefix p : Term) → AllShort prefix (ways_of n prefix) → AllShort p (ways_of n p)
     → AllShort (within prefix p) (ways_of n (within prefix p))

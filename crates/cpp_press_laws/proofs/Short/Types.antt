@@ -14,6 +14,7 @@ use Rattle.cpp_grammar.specs.Between.{under_expansion, between}
 use Rattle.cpp_grammar.specs.Meaning.{is_void, is_nil, parameters, listed_value, reference_to, is_code, operation_or_address, operation_by, ends_arguments, in_parentheses, enclosed_argument, meaning}
 use Rattle.cpp_grammar.specs.Unfolding as unfolding_
 use Rattle.cpp_grammar.specs.Unfolding.{close}
+use Rattle.cpp_grammar.proofs.Chosen.{either}
 use Rattle.cpp_press_laws.specs.Texts.{signed_text}
 use Rattle.cpp_press_laws.specs.Components.{components_of}
 use Rattle.cpp_press_laws.specs.Pressing.{is_component, is_encoding}
@@ -60,22 +61,16 @@ pub normal-short : (ds : List ℕ) → length (normal ds) ≤ length ds
 unfolding normal
 normal-short [] = omega arith
 normal-short (d ∷ []) = omega arith
-normal-short (d ∷ e ∷ ds) = go (nat_eq d 48) (normal-short (e ∷ ds))
-  where
-    go : (z : Bool) → length (normal (e ∷ ds)) ≤ suc (length ds)
-        → length {A = ℕ} (elim z as (λ _. List ℕ) [ true ↦ normal (e ∷ ds) | false ↦ d ∷ e ∷ ds ]) ≤ suc (suc (length ds))
-    go true h = omega (arith, h)
-    go false h = omega arith
+normal-short (d ∷ e ∷ ds) =
+    either (λ x. length x ≤ suc (suc (length ds))) (nat_eq d 48) (normal (e ∷ ds)) (d ∷ e ∷ ds) (λ h. omega (arith, normal-short (e ∷ ds)))
+    (λ h. omega arith)
 
 -- a lone void is no parameters
 pub parameters-most : (t : Term) → with_void (parameters t) (size (parameters t)) ≤ size t
 unfolding parameters with_void is_nil size
-parameters-most (list first others) = go (is_void first && is_nil others)
-  where
-    go : (z : Bool) → cond (is_nil (elim z as (λ _. Term) [ true ↦ nil | false ↦ list first others ])) 1
-        (size (elim z as (λ _. Term) [ true ↦ nil | false ↦ list first others ])) ≤ part_of first (size first) + size others
-    go true = omega (arith, size-some others)
-    go false = omega arith
+parameters-most (list first others) =
+    either (λ t. cond (is_nil t) 1 (size t) ≤ part_of first (size first) + size others) (is_void first && is_nil others) nil
+    (list first others) (λ h. omega (arith, size-some others)) (λ h. omega arith)
 parameters-most nil = omega arith
 parameters-most (symbol e suffix) = omega arith
 parameters-most t = omega arith
@@ -115,12 +110,10 @@ operation-listed around first v s old b known all few =
 enclosed-listed : (around : Around) (v : Value) (s old : State) (b : ℕ) → AllSmall s.candidates → IsKnown type around v s
     → wealth s + typed v ≤ wealth old + 8 * b → Gains type 0 around (enclosed_argument v) old s b
 unfolding enclosed_argument in_parentheses need typed loan returned IsKept size part_of is_component is_function_type is_encoding
-enclosed-listed around v s old b all known few = go (ends_arguments (tree_of v))
-  where
-    go : (ends : Bool)
-        → Gains type 0 around (elim ends as (λ _. Value) [ true ↦ tree (in_parentheses (tree_of v)) true | false ↦ v ]) old s b
-    go true = listed around (in_parentheses (tree_of v)) s old b refl refl all (omega (arith, few, part-some (tree_of v)))
-    go false = record { few = omega (arith, few); known = known; kept = tt; small = all }
+enclosed-listed around v s old b all known few =
+    either (λ w. Gains type 0 around w old s b) (ends_arguments (tree_of v)) (tree (in_parentheses (tree_of v)) true) v
+    (λ h. listed around (in_parentheses (tree_of v)) s old b refl refl all (omega (arith, few, part-some (tree_of v))))
+    (λ h. record { few = omega (arith, few); known = known; kept = tt; small = all })
 
 -- what an E ends is known of the state before it
 pub addressed-gains : Idle Production.AddressedLiteral type

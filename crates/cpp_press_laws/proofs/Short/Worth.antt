@@ -5,6 +5,7 @@ use Rattle.std.proofs.Common.{◌≡◌, ℕ, ◌+◌, ◌≤◌, ◌⊎◌, inl
 use Rattle.std.specs.Prelude.{cond, ◌&&◌, ◌||◌}
 use Rattle.cpp_grammar.specs.Term.{Term, qualified}
 use Rattle.cpp_grammar.specs.References.{is_function_type}
+use Rattle.cpp_grammar.proofs.Chosen.{either_cond}
 use Rattle.cpp_press_laws.specs.Components.{Component, is_same}
 use Rattle.cpp_press_laws.specs.Fits.{has_letters}
 use Rattle.cpp_press_laws.proofs.Components.Parts.{Has}
@@ -51,35 +52,21 @@ worths before (c ∷ cs) = worth before c.encoding c.tree + worths (before ++ c 
 
 pub full-some : (t : Term) → 1 ≤ full t
 unfolding full
-full-some t = go (is_function_type t)
-  where
-    go : (b : Bool) → 1 ≤ cond b (1 + size t) (1 + over (size t))
-    go true = omega arith
-    go false = omega arith
+full-some t = either_cond (λ n. 1 ≤ n) (is_function_type t) (1 + size t) (1 + over (size t)) (λ h. omega arith) (λ h. omega arith)
 
 pub full-most : (t : Term) → full t ≤ 1 + size t
 unfolding full
-full-most t = go (is_function_type t)
-  where
-    go : (b : Bool) → cond b (1 + size t) (1 + over (size t)) ≤ 1 + size t
-    go true = omega arith
-    go false = omega (arith, over-most (size t))
+full-most t =
+    either_cond (λ n. n ≤ 1 + size t) (is_function_type t) (1 + size t) (1 + over (size t)) (λ h. omega arith)
+    (λ h. omega (arith, over-most (size t)))
 
 pub worth-full : (before : List Component) (n : ℕ) (t : Term) → worth before n t ≤ full t
 unfolding worth
-worth-full before n t = go (is_again before n t)
-  where
-    go : (b : Bool) → cond b 1 (full t) ≤ full t
-    go true = full-some t
-    go false = omega arith
+worth-full before n t = either_cond (λ m. m ≤ full t) (is_again before n t) 1 (full t) (λ h. full-some t) (λ h. omega arith)
 
 pub worth-some : (before : List Component) (n : ℕ) (t : Term) → 1 ≤ worth before n t
 unfolding worth
-worth-some before n t = go (is_again before n t)
-  where
-    go : (b : Bool) → 1 ≤ cond b 1 (full t)
-    go true = omega arith
-    go false = full-some t
+worth-some before n t = either_cond (λ m. 1 ≤ m) (is_again before n t) 1 (full t) (λ h. omega arith) (λ h. full-some t)
 
 pub worths-count : (before cs : List Component) → length cs ≤ worths before cs
 unfolding worths
