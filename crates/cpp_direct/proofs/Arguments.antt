@@ -6,7 +6,7 @@ use Rattle.std.proofs.lemmas.List.{length-append}
 use Rattle.cpp_grammar.specs.declared.kind.Kind.{Kind}
 use Rattle.cpp_grammar.specs.Grammar.{may_be_empty}
 use Rattle.cpp_grammar.specs.Term.{Term, nil, instance, list, pack}
-use Rattle.cpp_grammar.specs.Values.{nothing_there, tree_of}
+use Rattle.cpp_grammar.specs.Values.{Around, State, nothing_there}
 use Rattle.cpp_grammar.specs.Between.{no_items}
 use Rattle.cpp_direct.specs.WrittenParts.{opening_bracket}
 use Rattle.cpp_direct.specs.Symbol.{detail_of, Symbol}
@@ -14,16 +14,16 @@ use Rattle.cpp_direct.specs.declared.open.Argument.{Argument}
 use Rattle.cpp_direct.specs.declared.open.Arguments.{Arguments}
 use Rattle.cpp_direct.specs.declared.open.Open.{Open}
 use Rattle.cpp_direct.specs.declared.direct.Direct.{Direct}
-use Rattle.cpp_direct.specs.Holes.{Expects, StandsAt}
-use Rattle.cpp_direct.specs.Prints.{Prints, IsElementAs, PrintEachBy, PrintAllBy, joined, list_of}
-use Rattle.cpp_direct.specs.WriterInvariant.{below, scoped_in, is_noted, may_name, AreAmong, ArgumentsGoOn, Belongs, EndsNamed, GoesOn, IsAmong, IsKnown, IsScoped, IsTemplate, IsWriting, Listing, of_template, of_pack, Owns, Stands, extra_of, in_front_of_next, led_by, list_with, nowhere, place_of, Closes}
-use Rattle.cpp_direct.specs.MidStep.{AreKnown, AwaitsKnownArgument, IsArgumentRead, IsListEnded, KnowsMore, IsPackElementRead, AwaitsPackElement}
+use Rattle.cpp_direct.specs.Holes.{Opened, Expects, StandsAt}
+use Rattle.cpp_direct.specs.Prints.{Names, Prints, PrintAll, PrintAllAs, IsElementAs, PrintEachBy, PrintAllBy, joined, list_of}
+use Rattle.cpp_direct.specs.WriterInvariant.{AwaitsArgument, Keeps, Scope, arguments_or_pack, element_kind, below, scoped_in, is_noted, may_name, AreAmong, ArgumentsGoOn, Belongs, EndsNamed, GoesOn, IsAmong, IsKnown, IsScoped, IsTemplate, IsWriting, Listing, of_template, of_pack, Owns, Stands, extra_of, in_front_of_next, led_by, list_with, nowhere, place_of, Closes}
+use Rattle.cpp_direct.specs.MidStep.{AreKnown, AwaitsKnownArgument, IsArgumentRead, IsListEnded, IsLiteralRead, KnowsMore, argument_around, argument_entry}
 use Rattle.cpp_direct.specs.Written.{Writes}
 use Rattle.cpp_direct.proofs.Ending.{next-written}
-use Rattle.cpp_direct.proofs.Kept.{keeps-same, keeps-written, stands-same, reverse-last, template-stays}
-use Rattle.cpp_direct.proofs.Listed.{last-found, element-goes-on, some-elements}
+use Rattle.cpp_direct.proofs.Kept.{keeps-same, keeps-written, reverse-last, template-stays, type-comes, keeps-read}
+use Rattle.cpp_direct.proofs.Listed.{last-found, element-goes-on, list-kind, pack-goes-on, some-elements}
 use Rattle.cpp_direct.proofs.Moves.{expects-empty}
-use Rattle.cpp_direct.proofs.MovesOfLists.{element-awaits, pack-opens}
+use Rattle.cpp_direct.proofs.MovesOfLists.{element-awaits}
 use Rattle.cpp_direct.proofs.PrintedLists.{all-as, element-as, next-prints, none-print, none-print-as, type-element, pack-element, list-with-none}
 use Rattle.cpp_direct.proofs.Scopes.{among-stay, none-known, none-scoped, elements-there}
 use Rattle.cpp_direct.specs.declared.open.Open.TheVariants as opens
@@ -37,77 +37,154 @@ none-text by l all = go all.0 all.1 all.2
     go [] each is = sym is
     go (b ∷ bs) each is = absurd each
 
--- the first argument comes next
-pub argument-begins : (s : Symbol) (old new : Direct) (from : ℕ) → IsWriting s old (steps.List true)
-    → EndsNamed (reverse old.waiting.list.items) → from ≡ length old.text.list.items
-    → new.waiting.list.items ≡ old.waiting.list.items ++ opens.Argument from 0 nowhere ∷ [] → new.text ≡ old.text → new.candidates ≡ old.candidates → new.has_scope ≡ old.has_scope → new.at ≡ old.at
-    → IsWriting s new steps.Type
-argument-begins s old new from p named from_is waits text candidates scope_same at = go p.is_before.0.listing refl
+-- ## What comes next
+
+-- nothing is read yet of the arguments of a name
+record HasNoArgument (s : Symbol) (w : Direct) : Type 0 where
+  pub state : State
+  pub scope : Scope
+  pub keeps : Keeps s scope w state.candidates
+  pub owner : Open
+  pub rest : List Open
+  pub open_is : reverse w.waiting.list.items ≡ owner ∷ rest
+  pub front : List ℕ
+  pub template : Term
+  pub name : List ℕ
+  pub is_template : IsTemplate (detail_of s) scope.names owner front template name w.text.list.items
+  pub written : w.text.list.items ≡ front ++ name ++ opening_bracket (detail_of s) ++ []
+  pub goes : ArgumentsGoOn s owner (below s scope rest) front template [] w.at state
+
+none-read : (s : Symbol) (w : Direct) → IsWriting s w (steps.List true) → EndsNamed (reverse w.waiting.list.items) → HasNoArgument s w
+none-read s w p named = go p.is_before.0.listing refl
   where
-    go : (l : Listing) → p.is_before.0.listing ≡ l → IsWriting s new steps.Type
+    go : (l : Listing) → p.is_before.0.listing ≡ l → HasNoArgument s w
     go (of_pack before written) is =
         absurd (subst (λ ws. EndsNamed ws)
-        (subst (λ l. Belongs (detail_of s) p.scope.names l (reverse old.waiting.list.items) p.is_before.0.owner p.is_before.0.rest) is p.is_before.0.belongs).0 named)
+        (subst (λ l. Belongs (detail_of s) p.scope.names l (reverse w.waiting.list.items) p.is_before.0.owner p.is_before.0.rest) is p.is_before.0.belongs).0 named)
     go of_template is =
         let place = p.is_before.0 in
         let o = place.owner in
         let ts_is : p.is_before.1 ≡ [] = p.is_before.5 refl in
-        let goes : ArgumentsGoOn s o (below s p.scope place.rest) place.front place.template [] old.at p.state =
-        subst (λ ts. ArgumentsGoOn s o (below s p.scope place.rest) place.front place.template ts old.at p.state) ts_is
-        (subst (λ l. GoesOn s l o (below s p.scope place.rest) place.front place.template p.is_before.1 old.at p.state) is p.is_before.7) in
         let by : Term → List ℕ → Type 0 = IsElementAs (detail_of s) p.scope.names (may_name place.listing o) (extra_of place.listing) in
         let all : PrintAllBy by [] p.is_before.2 = subst (λ ts. PrintAllBy by ts p.is_before.2) ts_is p.is_before.3 in
-        let texts_is : p.is_before.2 ≡ [] = none-text by p.is_before.2 all in
-        let written : old.text.list.items ≡ place.front ++ place.name ++ opening_bracket (detail_of s) ++ [] =
-        subst (λ l. old.text.list.items ≡ led_by (detail_of s) l place.front place.name ++ p.is_before.2) is p.is_before.4
-        ∙ ap (λ l. place.front ++ place.name ++ opening_bracket (detail_of s) ++ l) texts_is in
-        let element = element-awaits s Kind.ArgumentList goes.1 goes.0 old.at p.state tt goes.4 in
-        let belongs : reverse old.waiting.list.items ≡ o ∷ place.rest =
-        subst (λ l. Belongs (detail_of s) p.scope.names l (reverse old.waiting.list.items) o place.rest) is place.belongs in
-        let opened : reverse new.waiting.list.items ≡ opens.Argument from 0 nowhere ∷ o ∷ place.rest =
-        ap reverse waits ∙ reverse-last old.waiting.list.items (opens.Argument from 0 nowhere) ∙ ap (λ ws. opens.Argument from 0 nowhere ∷ ws) belongs in
-        let stands : Stands s p.scope (opens.Argument from 0 nowhere ∷ o ∷ place.rest) element.inner old.text.list.items = (
-          place.front,
-          place.template,
-          place.name,
-          [],
-          [],
-          place.is_template,
-          none-print (detail_of s) 3,
-          written,
-          from_is,
-          refl,
-          (λ k known. absurd (none-known k known)),
-          λ t here now comes. element-goes-on s Kind.ArgumentList (scoped_in o (below s p.scope place.rest))
-              (λ l there later. Owns s o (below s p.scope place.rest) place.front (instance place.template l) there later)
-              [] t old.at here p.state now goes (element.onward t here now comes),
-        ) in
         record {
           state = p.state;
           scope = p.scope;
-          keeps = keeps-same s old new p.state.candidates text candidates scope_same p.keeps;
-          is_before = (
-            element.inner,
-            goes.0,
-            goes.2,
-            inr (inl (subst (λ n. Expects s Kind.Item goes.0 element.inner n p.state) (sym at) element.awaits)),
-            stands-same s p.scope old new element.inner text opened stands,
-            subst (λ ws. IsScoped p.scope goes.0 ws) (sym opened) (none-scoped p.scope goes.0 (opens.Argument from 0 nowhere ∷ o ∷ place.rest) refl),
-          );
+          keeps = p.keeps;
+          owner = o;
+          rest = place.rest;
+          open_is = subst (λ l. Belongs (detail_of s) p.scope.names l (reverse w.waiting.list.items) o place.rest) is place.belongs;
+          front = place.front;
+          template = place.template;
+          name = place.name;
+          is_template = place.is_template;
+          written = subst (λ l. w.text.list.items ≡ led_by (detail_of s) l place.front place.name ++ p.is_before.2) is p.is_before.4
+              ∙ ap (λ l. place.front ++ place.name ++ opening_bracket (detail_of s) ++ l) (none-text by p.is_before.2 all);
+          goes = subst (λ ts. ArgumentsGoOn s o (below s p.scope place.rest) place.front place.template ts w.at p.state) ts_is
+              (subst (λ l. GoesOn s l o (below s p.scope place.rest) place.front place.template p.is_before.1 w.at p.state) is p.is_before.7);
         }
 
--- it was read
-pub value-argument : (s : Symbol) (w : Direct) (is_reference : Bool) (from number : ℕ) (known : Arguments) → IsWriting s w (steps.Value is_reference false)
-    → slice_get w.waiting.list.items (length w.waiting.list.items - 1) ≡ Some (opens.Argument from number known)
-    → IsArgumentRead s w from number known is_reference
-value-argument s w is_reference from number known p found =
-    let last = last-found w.waiting.list.items (opens.Argument from number known) found in
-    go last.0 last.1 (subst (λ ws. Stands s p.scope ws p.is_before.0 p.is_before.2) last.1 p.is_before.8)
+argument-stands : (s : Symbol) (scope : Scope) (is_pack : Bool) (from number : ℕ) (known : Arguments) (owner : Open) (rest : List Open) (os : List Opened) (text : List ℕ)
+    → AwaitsArgument s scope.names is_pack from number known owner (below s scope rest) os text
+    → Stands s scope (argument_entry is_pack from number known ∷ argument_around is_pack owner rest) os text
+argument-stands s scope false from number known owner rest os text p = p
+argument-stands s scope true from number known owner rest os text p = p
+
+argument-scoped : (scope : Scope) (around : Around) (is_pack : Bool) (from number : ℕ) (known : Arguments) (opened : List Open)
+    → IsScoped scope around (argument_entry is_pack from number known ∷ opened)
+argument-scoped scope around false from number known opened = none-scoped scope around (opens.Argument from number known ∷ opened) refl
+argument-scoped scope around true from number known opened = none-scoped scope around (opens.Element from number known ∷ opened) refl
+
+-- an argument comes next after these, or an element of the pack, and what is before it is written
+argument-next : (s : Symbol) {scope : Scope} (old new : Direct) (is_pack : Bool) (from number place : ℕ) (known : Arguments) (st : State) (owner : Open) (rest : List Open)
+    (front : List ℕ) (template : Term) (name : List ℕ) (ts : List Term) (texts : List ℕ) → Keeps s scope old st.candidates
+    → IsTemplate (detail_of s) scope.names owner front template name old.text.list.items → PrintAll (detail_of s) (extra_of (arguments_or_pack is_pack)) ts texts
+    → old.text.list.items ≡ front ++ name ++ opening_bracket (detail_of s) ++ in_front_of_next ts texts → from ≡ length old.text.list.items → number ≡ length ts
+    → AreAmong (detail_of s) old.text.list.items is_pack known ts
+    → GoesOn s (arguments_or_pack is_pack) owner (below s scope rest) front template ts place st
+    → reverse new.waiting.list.items ≡ argument_entry is_pack from number known ∷ argument_around is_pack owner rest → new.text ≡ old.text
+    → new.candidates ≡ old.candidates → new.has_scope ≡ old.has_scope → new.at ≡ place → IsWriting s new steps.Type
+argument-next s {scope = scope} old new is_pack from number place known st owner rest front template name ts texts keeps is_template elements written from_is number_is
+    among goes opened text candidates scope_same at =
+    let listing = arguments_or_pack is_pack in
+    let element = element-awaits s (element_kind listing) goes.1 goes.0 place st (list-kind listing) goes.4 in
+    let stands = argument-stands s scope is_pack from number known owner rest element.inner old.text.list.items (
+      front,
+      template,
+      name,
+      ts,
+      texts,
+      is_template,
+      elements,
+      written,
+      from_is,
+      number_is,
+      among,
+      λ t here now comes. element-goes-on s (element_kind listing) (scoped_in owner (below s scope rest))
+          (λ l there later. Closes s listing owner (below s scope rest) front template l there later)
+          ts t place here st now goes (element.onward t here now comes),
+    ) in
+    type-comes s old new st goes.0 element.inner keeps text candidates scope_same opened goes.2
+    (inr (inl (subst (λ n. Expects s Kind.Item goes.0 element.inner n st) (sym at) element.awaits))) stands
+    (argument-scoped scope goes.0 is_pack from number known (argument_around is_pack owner rest))
+
+-- the first argument does
+pub argument-begins : (s : Symbol) (old new : Direct) (from : ℕ) → IsWriting s old (steps.List true)
+    → EndsNamed (reverse old.waiting.list.items) → from ≡ length old.text.list.items
+    → new.waiting.list.items ≡ old.waiting.list.items ++ opens.Argument from 0 nowhere ∷ [] → new.text ≡ old.text → new.candidates ≡ old.candidates → new.has_scope ≡ old.has_scope → new.at ≡ old.at
+    → IsWriting s new steps.Type
+argument-begins s old new from p named from_is waits text candidates scope_same at =
+    let b = none-read s old p named in
+    let entry = opens.Argument from 0 nowhere in
+    argument-next s old new false from 0 old.at nowhere b.state b.owner b.rest b.front b.template b.name [] [] b.keeps b.is_template (none-print (detail_of s) 3) b.written
+    from_is refl (λ k known. absurd (none-known k known)) b.goes
+    (ap reverse waits ∙ reverse-last old.waiting.list.items entry ∙ ap (λ ws. entry ∷ ws) b.open_is) text candidates scope_same at
+
+-- or the first element of the pack
+pub element-begins : (s : Symbol) (old new : Direct) (from : ℕ) → IsWriting s old (steps.List true)
+    → EndsNamed (reverse old.waiting.list.items) → StandsAt s.bytes old.at (74 ∷ []) → from ≡ length old.text.list.items
+    → new.waiting.list.items ≡ (old.waiting.list.items ++ opens.Pack ∷ []) ++ opens.Element from 0 nowhere ∷ [] → new.text ≡ old.text
+    → new.candidates ≡ old.candidates → new.has_scope ≡ old.has_scope → new.at ≡ old.at + 1 → IsWriting s new steps.Type
+element-begins s old new from p named letter from_is waits text candidates scope_same at =
+    let b = none-read s old p named in
+    let entry = opens.Element from 0 nowhere in
+    argument-next s old new true from 0 (old.at + 1) nowhere b.state b.owner b.rest b.front b.template b.name [] [] b.keeps b.is_template (none-print (detail_of s) 0)
+    b.written from_is refl (λ k known. absurd (none-known k known))
+    (pack-goes-on s b.owner (below s b.scope b.rest) b.front b.template [] [] old.at b.state b.goes letter)
+    (ap reverse waits ∙ reverse-last (old.waiting.list.items ++ opens.Pack ∷ []) entry
+    ∙ ap (λ ws. entry ∷ ws) (reverse-last old.waiting.list.items opens.Pack ∙ ap (λ ws. opens.Pack ∷ ws) b.open_is)) text candidates scope_same at
+
+-- or another one
+pub next-argument-begins : (s : Symbol) (old mid new : Direct) (is_pack : Bool) (before from number : ℕ) (known : Arguments) → AwaitsKnownArgument s old is_pack before known
+    → Writes old mid (codes ", ") → from ≡ length mid.text.list.items → number ≡ before + 1
+    → new.waiting.list.items ≡ mid.waiting.list.items ++ argument_entry is_pack from number known ∷ [] → new.text ≡ mid.text → new.candidates ≡ mid.candidates
+    → new.has_scope ≡ mid.has_scope → new.at ≡ mid.at → IsWriting s new steps.Type
+next-argument-begins s old mid new is_pack before from number known p writes from_is number_is waits text candidates scope_same at =
+    let entry = argument_entry is_pack from number known in
+    argument-next s mid new is_pack from number old.at known p.state p.owner p.rest p.front p.template p.name p.ts p.texts
+    (keeps-written s old mid (codes ", ") p.state.candidates writes p.keeps)
+    (subst (λ l. IsTemplate (detail_of s) p.scope.names p.owner p.front p.template p.name l) (sym writes.text)
+    (template-stays (detail_of s) p.scope.names p.owner p.front p.template p.name old.text.list.items (codes ", ") p.is_template)) p.elements
+    (writes.text ∙ ap (λ l. l ++ codes ", ") p.written ∙ append_assoc (p.front ++ p.name ++ opening_bracket (detail_of s)) p.texts (codes ", ")
+    ∙ ap (λ l. p.front ++ p.name ++ opening_bracket (detail_of s) ++ l) (sym (next-written p.ts p.texts p.some))) from_is (number_is ∙ p.number_is)
+    (subst (λ l. AreAmong (detail_of s) l is_pack known p.ts) (sym writes.text) (among-stay old.text.list.items (codes ", ") is_pack known p.ts p.among)) p.goes
+    (ap reverse waits ∙ reverse-last mid.waiting.list.items entry
+    ∙ ap (λ ws. entry ∷ ws) (ap (λ v. reverse v.list.items) writes.waiting ∙ p.open_is)) text candidates scope_same (at ∙ writes.at)
+
+-- ## What was read
+
+-- an argument, or an element of the pack
+pub value-argument : (s : Symbol) (w : Direct) (is_pack is_reference : Bool) (from number : ℕ) (known : Arguments) → IsWriting s w (steps.Value is_reference false)
+    → slice_get w.waiting.list.items (length w.waiting.list.items - 1) ≡ Some (argument_entry is_pack from number known)
+    → IsArgumentRead s w is_pack from number known is_reference
+value-argument s w is_pack is_reference from number known p found =
+    let last = last-found w.waiting.list.items (argument_entry is_pack from number known) found in
+    go is_pack last.0 last.1 (subst (λ ws. Stands s p.scope ws p.is_before.0 p.is_before.2) last.1 p.is_before.8)
   where
-    go : (rest : List Open) → reverse w.waiting.list.items ≡ opens.Argument from number known ∷ rest
-        → Stands s p.scope (opens.Argument from number known ∷ rest) p.is_before.0 p.is_before.2 → IsArgumentRead s w from number known is_reference
-    go [] is waits = absurd waits
-    go (owner ∷ rest) is waits =
+    read : (b : Bool) (owner : Open) (rest : List Open) → reverse w.waiting.list.items ≡ argument_entry b from number known ∷ argument_around b owner rest
+        → AwaitsArgument s p.scope.names b from number known owner (below s p.scope rest) p.is_before.0 p.is_before.2
+        → IsArgumentRead s w b from number known is_reference
+    read b owner rest is waits =
         let bytes = p.is_before.3 in
         record {
           state = p.state;
@@ -129,17 +206,93 @@ value-argument s w is_reference from number known p found =
           written = p.is_before.4 ∙ ap (λ l. l ++ bytes) waits.7;
           from_is = waits.8 ∙ ap length waits.7;
           number_is = waits.9;
-          among = subst (λ l. AreAmong (detail_of s) l false known waits.3) (sym p.is_before.4) (among-stay p.is_before.2 bytes false known waits.3 waits.10);
+          among = subst (λ l. AreAmong (detail_of s) l b known waits.3) (sym p.is_before.4) (among-stay p.is_before.2 bytes b known waits.3 waits.10);
           prints = p.is_before.5;
           goes = waits.11 p.is_before.1 w.at p.state p.is_before.7;
         }
 
--- others may follow
-pub argument-passes : (s : Symbol) (old new : Direct) (from number : ℕ) (known : Arguments) (is_reference : Bool)
-    (p : IsArgumentRead s old from number known is_reference)
-    → reverse new.waiting.list.items ≡ p.owner ∷ p.rest → new.text ≡ old.text → new.candidates ≡ old.candidates → new.has_scope ≡ old.has_scope → new.at ≡ old.at
+    go : (b : Bool) (rest : List Open) → reverse w.waiting.list.items ≡ argument_entry b from number known ∷ rest
+        → Stands s p.scope (argument_entry b from number known ∷ rest) p.is_before.0 p.is_before.2 → IsArgumentRead s w b from number known is_reference
+    go false [] is waits = absurd waits
+    go false (owner ∷ rest) is waits = read false owner rest is waits
+    go true (opens.Pack ∷ owner ∷ rest) is waits = read true owner rest is waits
+    go true _ is waits = absurd waits
+
+-- or a literal that is the first argument
+pub literal-argument : (s : Symbol) (old begun new : Direct) (from : ℕ) → IsWriting s old (steps.List true) → EndsNamed (reverse old.waiting.list.items)
+    → from ≡ length old.text.list.items → begun.waiting.list.items ≡ old.waiting.list.items ++ opens.Argument from 0 nowhere ∷ [] → begun.text ≡ old.text
+    → begun.candidates ≡ old.candidates → begun.has_scope ≡ old.has_scope → begun.at ≡ old.at → IsLiteralRead s begun new
+    → IsArgumentRead s new false from 0 nowhere false
+literal-argument s old begun new from p named from_is waits text candidates scope_same at l =
+    let b = none-read s old p named in
+    let entry = opens.Argument from 0 nowhere in
+    let outer = below s b.scope b.rest in
+    let grown : new.text.list.items ≡ old.text.list.items ++ l.bytes = l.reads.text ∙ ap (λ v. v.list.items ++ l.bytes) text in
+    record {
+      state = b.state;
+      scope = b.scope;
+      keeps = keeps-read s begun new l.bytes b.state.candidates l.reads (keeps-same s old begun b.state.candidates text candidates scope_same b.keeps);
+      owner = b.owner;
+      rest = b.rest;
+      open_is = ap (λ v. reverse v.list.items) l.reads.waiting ∙ ap reverse waits ∙ reverse-last old.waiting.list.items entry ∙ ap (λ ws. entry ∷ ws) b.open_is;
+      front = b.front;
+      template = b.template;
+      name = b.name;
+      ts = [];
+      texts = [];
+      t = l.own;
+      bytes = l.bytes;
+      is_template = subst (λ t. IsTemplate (detail_of s) b.scope.names b.owner b.front b.template b.name t) (sym grown)
+          (template-stays (detail_of s) b.scope.names b.owner b.front b.template b.name old.text.list.items l.bytes b.is_template);
+      elements = none-print (detail_of s) 3;
+      written = grown ∙ ap (λ t. t ++ l.bytes) b.written;
+      from_is = from_is ∙ ap length b.written;
+      number_is = refl;
+      among = λ k known. absurd (none-known k known);
+      prints = l.prints;
+      goes = element-goes-on s Kind.ArgumentList (scoped_in b.owner outer) (λ u now then. Closes s of_template b.owner outer b.front b.template u now then)
+          [] l.own old.at new.at b.state b.state b.goes (l.goes_on Kind.ArgumentList b.goes.0 b.goes.1 b.state tt
+          (subst (λ n. Expects s Kind.ArgumentList b.goes.0 b.goes.1 n b.state) (sym at) b.goes.4));
+    }
+
+-- with it all print
+read-prints : (s : Symbol) (w : Direct) (is_pack : Bool) (from number : ℕ) (known : Arguments) (is_reference : Bool)
+    (p : IsArgumentRead s w is_pack from number known is_reference)
+    → PrintAll (detail_of s) (extra_of (arguments_or_pack is_pack)) (p.ts ++ p.t ∷ []) (in_front_of_next p.ts p.texts ++ p.bytes)
+read-prints s w is_pack from number known is_reference p =
+    let extra = extra_of (arguments_or_pack is_pack) in
+    next-prints extra p.ts p.texts p.t p.bytes p.elements (type-element extra p.t p.bytes is_reference p.prints)
+
+-- this is the text
+read-written : (s : Symbol) (old new : Direct) (is_pack : Bool) (from number : ℕ) (known : Arguments) (is_reference : Bool)
+    (p : IsArgumentRead s old is_pack from number known is_reference) → new.text ≡ old.text
+    → new.text.list.items ≡ p.front ++ p.name ++ opening_bracket (detail_of s) ++ (in_front_of_next p.ts p.texts ++ p.bytes)
+read-written s old new is_pack from number known is_reference p text =
+    ap (λ v. v.list.items) text ∙ p.written ∙ append_assoc (p.front ++ p.name ++ opening_bracket (detail_of s)) (in_front_of_next p.ts p.texts) p.bytes
+
+-- and after it is the template that was there before
+read-template : (s : Symbol) (old new : Direct) (is_pack : Bool) (from number : ℕ) (known : Arguments) (is_reference : Bool)
+    (p : IsArgumentRead s old is_pack from number known is_reference) → new.text ≡ old.text
+    → IsTemplate (detail_of s) p.scope.names p.owner p.front p.template p.name new.text.list.items
+read-template s old new is_pack from number known is_reference p text =
+    subst (λ v. IsTemplate (detail_of s) p.scope.names p.owner p.front p.template p.name v.list.items) (sym text) p.is_template
+
+argument-belongs : (detail : Detail) (names : Names) (is_pack : Bool) (opened : List Open) (owner : Open) (rest : List Open)
+    → opened ≡ argument_around is_pack owner rest → Belongs detail names (arguments_or_pack is_pack) opened owner rest
+argument-belongs detail names false opened owner rest is = is
+argument-belongs detail names true opened owner rest is = (is, none-print-as detail names (is_noted owner) 3)
+
+led-alone : (detail : Detail) (is_pack : Bool) (front name : List ℕ) → led_by detail (arguments_or_pack is_pack) front name ≡ front ++ name ++ opening_bracket detail
+led-alone detail false front name = refl
+led-alone detail true front name = append-nil (front ++ name ++ opening_bracket detail)
+
+-- others may follow, of which nothing is known
+pub argument-passes : (s : Symbol) (old new : Direct) (is_pack : Bool) (from number : ℕ) (known : Arguments) (is_reference : Bool)
+    (p : IsArgumentRead s old is_pack from number known is_reference)
+    → reverse new.waiting.list.items ≡ argument_around is_pack p.owner p.rest → new.text ≡ old.text → new.candidates ≡ old.candidates → new.has_scope ≡ old.has_scope → new.at ≡ old.at
     → IsWriting s new (steps.List false)
-argument-passes s old new from number known is_reference p waits text candidates scope_same at =
+argument-passes s old new is_pack from number known is_reference p waits text candidates scope_same at =
+    let listing = arguments_or_pack is_pack in
     let ts = p.ts ++ p.t ∷ [] in
     let texts = in_front_of_next p.ts p.texts ++ p.bytes in
     record {
@@ -148,24 +301,22 @@ argument-passes s old new from number known is_reference p waits text candidates
       keeps = keeps-same s old new p.state.candidates text candidates scope_same p.keeps;
       is_before = (
         record {
-          listing = of_template;
+          listing = listing;
           owner = p.owner;
           rest = p.rest;
-          belongs = waits;
+          belongs = argument-belongs (detail_of s) p.scope.names is_pack (reverse new.waiting.list.items) p.owner p.rest waits;
           front = p.front;
           template = p.template;
           name = p.name;
-          is_template = subst (λ v. IsTemplate (detail_of s) p.scope.names p.owner p.front p.template p.name v.list.items) (sym text) p.is_template;
+          is_template = read-template s old new is_pack from number known is_reference p text;
         },
         ts,
         texts,
-        all-as (detail_of s) p.scope.names (is_noted p.owner) 3 (p.ts ++ p.t ∷ []) texts
-            (next-prints 3 p.ts p.texts p.t p.bytes p.elements (type-element 3 p.t p.bytes is_reference p.prints)),
-        ap (λ v. v.list.items) text ∙ p.written
-            ∙ append_assoc (p.front ++ p.name ++ opening_bracket (detail_of s)) (in_front_of_next p.ts p.texts) p.bytes,
+        all-as (detail_of s) p.scope.names (may_name listing p.owner) (extra_of listing) ts texts (read-prints s old is_pack from number known is_reference p),
+        read-written s old new is_pack from number known is_reference p text ∙ ap (λ l. l ++ texts) (sym (led-alone (detail_of s) is_pack p.front p.name)),
         λ e. absurd (false≢true e),
         λ e. some-elements p.ts p.t,
-        subst (λ n. ArgumentsGoOn s p.owner (below s p.scope p.rest) p.front p.template ts n p.state) (sym at) p.goes,
+        subst (λ n. GoesOn s listing p.owner (below s p.scope p.rest) p.front p.template ts n p.state) (sym at) p.goes,
       );
     }
 
@@ -226,370 +377,90 @@ known-more {detail} text is_pack from to number is_reference place known more ts
     )
 
 -- the one that was read is known
-argument-known : (s : Symbol) (old : Direct) (from to number : ℕ) (place : Argument) (known more : Arguments) (is_reference : Bool)
-    (p : IsArgumentRead s old from number known is_reference) → to ≡ length old.text.list.items
-    → (IsKnown place → place ≡ record { from = from; to = to; is_pack = false; is_reference = is_reference }) → KnowsMore known more number place
-    → AreAmong (detail_of s) old.text.list.items false more (p.ts ++ p.t ∷ [])
-argument-known s old from to number place known more is_reference p to_is place_is knows =
-    known-more old.text.list.items false from to number is_reference place known more p.ts p.t
+argument-known : (s : Symbol) (old : Direct) (is_pack : Bool) (from to number : ℕ) (place : Argument) (known more : Arguments) (is_reference : Bool)
+    (p : IsArgumentRead s old is_pack from number known is_reference) → to ≡ length old.text.list.items
+    → (IsKnown place → place ≡ record { from = from; to = to; is_pack = is_pack; is_reference = is_reference }) → KnowsMore known more number place
+    → AreAmong (detail_of s) old.text.list.items is_pack more (p.ts ++ p.t ∷ [])
+argument-known s old is_pack from to number place known more is_reference p to_is place_is knows =
+    known-more old.text.list.items is_pack from to number is_reference place known more p.ts p.t
     (p.front ++ p.name ++ opening_bracket (detail_of s) ++ in_front_of_next p.ts p.texts) p.bytes p.written p.from_is to_is p.number_is p.prints place_is knows p.among
 
--- the end of the arguments follows
+-- another one may follow
+pub argument-awaits : (s : Symbol) (old new : Direct) (is_pack : Bool) (from to number : ℕ) (place : Argument) (known more : Arguments) (is_reference : Bool)
+    (p : IsArgumentRead s old is_pack from number known is_reference) → reverse new.waiting.list.items ≡ argument_around is_pack p.owner p.rest
+    → new.text ≡ old.text → new.candidates ≡ old.candidates → new.has_scope ≡ old.has_scope → new.at ≡ old.at → to ≡ length old.text.list.items
+    → (IsKnown place → place ≡ record { from = from; to = to; is_pack = is_pack; is_reference = is_reference }) → KnowsMore known more number place
+    → AwaitsKnownArgument s new is_pack number more
+argument-awaits s old new is_pack from to number place known more is_reference p waits text candidates scope_same at to_is place_is knows =
+    let ts = p.ts ++ p.t ∷ [] in
+    record {
+      state = p.state;
+      scope = p.scope;
+      keeps = keeps-same s old new p.state.candidates text candidates scope_same p.keeps;
+      owner = p.owner;
+      rest = p.rest;
+      open_is = waits;
+      front = p.front;
+      template = p.template;
+      name = p.name;
+      ts = ts;
+      texts = in_front_of_next p.ts p.texts ++ p.bytes;
+      is_template = read-template s old new is_pack from number known is_reference p text;
+      elements = read-prints s old is_pack from number known is_reference p;
+      some = some-elements p.ts p.t;
+      written = read-written s old new is_pack from number known is_reference p text;
+      number_is = omega (arith, p.number_is, length-append p.ts (p.t ∷ []));
+      among = subst (λ v. AreAmong (detail_of s) v.list.items is_pack more ts) (sym text)
+          (argument-known s old is_pack from to number place known more is_reference p to_is place_is knows);
+      goes = subst (λ n. GoesOn s (arguments_or_pack is_pack) p.owner (below s p.scope p.rest) p.front p.template ts n p.state) (sym at) p.goes;
+    }
+
+-- or it was the last one, and the arguments are these
+arguments-end : (s : Symbol) (old new : Direct) (is_pack : Bool) (from number : ℕ) (known more : Arguments) (is_reference : Bool)
+    (p : IsArgumentRead s old is_pack from number known is_reference) (ts : List Term) → reverse new.waiting.list.items ≡ p.owner ∷ p.rest
+    → new.text ≡ old.text → new.candidates ≡ old.candidates → new.has_scope ≡ old.has_scope
+    → PrintAllAs (detail_of s) p.scope.names (is_noted p.owner) 3 ts (in_front_of_next p.ts p.texts ++ p.bytes)
+    → Owns s p.owner (below s p.scope p.rest) p.front (instance p.template (list_with ts nil)) new.at p.state
+    → AreKnown (detail_of s) old.text.list.items more ts nil → IsListEnded s new more
+arguments-end s old new is_pack from number known more is_reference p ts waits text candidates scope_same elements owns is_known = record {
+  state = p.state;
+  scope = p.scope;
+  keeps = keeps-same s old new p.state.candidates text candidates scope_same p.keeps;
+  owner = p.owner;
+  rest = p.rest;
+  open_is = waits;
+  front = p.front;
+  template = p.template;
+  name = p.name;
+  ts = ts;
+  tail = nil;
+  is_tail = inl refl;
+  arguments = in_front_of_next p.ts p.texts ++ p.bytes;
+  is_template = read-template s old new is_pack from number known is_reference p text;
+  elements = elements;
+  written = read-written s old new is_pack from number known is_reference p text;
+  owns = owns;
+  known = subst (λ v. AreKnown (detail_of s) v.list.items more ts nil) (sym text) is_known;
+}
+
 pub argument-closes : (s : Symbol) (old new : Direct) (from to number : ℕ) (place : Argument) (known more : Arguments) (is_reference : Bool)
-    (p : IsArgumentRead s old from number known is_reference) → StandsAt s.bytes old.at (69 ∷ []) → reverse new.waiting.list.items ≡ p.owner ∷ p.rest
+    (p : IsArgumentRead s old false from number known is_reference) → StandsAt s.bytes old.at (69 ∷ []) → reverse new.waiting.list.items ≡ p.owner ∷ p.rest
     → new.text ≡ old.text → new.candidates ≡ old.candidates → new.has_scope ≡ old.has_scope → new.at ≡ old.at + 1 → to ≡ length old.text.list.items
     → (IsKnown place → place ≡ record { from = from; to = to; is_pack = false; is_reference = is_reference }) → KnowsMore known more number place
     → IsListEnded s new more
 unfolding no_items may_be_empty
 argument-closes s old new from to number place known more is_reference p stands waits text candidates scope_same at to_is place_is knows =
     let ts = p.ts ++ p.t ∷ [] in
-    let among = argument-known s old from to number place known more is_reference p to_is place_is knows in
-    record {
-      state = p.state;
-      scope = p.scope;
-      keeps = keeps-same s old new p.state.candidates text candidates scope_same p.keeps;
-      owner = p.owner;
-      rest = p.rest;
-      open_is = waits;
-      front = p.front;
-      template = p.template;
-      name = p.name;
-      ts = ts;
-      tail = nil;
-      is_tail = inl refl;
-      arguments = in_front_of_next p.ts p.texts ++ p.bytes;
-      is_template = subst (λ v. IsTemplate (detail_of s) p.scope.names p.owner p.front p.template p.name v.list.items) (sym text) p.is_template;
-      elements = all-as (detail_of s) p.scope.names (is_noted p.owner) 3 ts (in_front_of_next p.ts p.texts ++ p.bytes)
-          (next-prints 3 p.ts p.texts p.t p.bytes p.elements (type-element 3 p.t p.bytes is_reference p.prints));
-      written = ap (λ v. v.list.items) text ∙ p.written
-          ∙ append_assoc (p.front ++ p.name ++ opening_bracket (detail_of s)) (in_front_of_next p.ts p.texts) p.bytes;
-      owns = subst (λ n. Owns s p.owner (below s p.scope p.rest) p.front (instance p.template (list_with ts nil)) n p.state) (sym at)
-          (p.goes.5 nothing_there old.at p.state (expects-empty s Kind.ArgumentList p.goes.0 p.goes.1 old.at p.state p.goes.4 refl) stands);
-      known = subst (λ v. AreKnown (detail_of s) v.list.items more ts nil) (sym text)
-          (λ k o. let h = among k o in inl (h.1, h.0));
-    }
+    let among = argument-known s old false from to number place known more is_reference p to_is place_is knows in
+    arguments-end s old new false from number known more is_reference p ts waits text candidates scope_same
+    (all-as (detail_of s) p.scope.names (is_noted p.owner) 3 ts (in_front_of_next p.ts p.texts ++ p.bytes) (read-prints s old false from number known is_reference p))
+    (subst (λ n. Owns s p.owner (below s p.scope p.rest) p.front (instance p.template (list_with ts nil)) n p.state) (sym at)
+    (p.goes.5 nothing_there old.at p.state (expects-empty s Kind.ArgumentList p.goes.0 p.goes.1 old.at p.state p.goes.4 refl) stands))
+    (λ k o. let h = among k o in inl (h.1, h.0))
 
--- or another one
-pub argument-awaits : (s : Symbol) (old new : Direct) (from to number : ℕ) (place : Argument) (known more : Arguments) (is_reference : Bool)
-    (p : IsArgumentRead s old from number known is_reference) → reverse new.waiting.list.items ≡ p.owner ∷ p.rest
-    → new.text ≡ old.text → new.candidates ≡ old.candidates → new.has_scope ≡ old.has_scope → new.at ≡ old.at → to ≡ length old.text.list.items
-    → (IsKnown place → place ≡ record { from = from; to = to; is_pack = false; is_reference = is_reference }) → KnowsMore known more number place
-    → AwaitsKnownArgument s new number more
-argument-awaits s old new from to number place known more is_reference p waits text candidates scope_same at to_is place_is knows =
-    let ts = p.ts ++ p.t ∷ [] in
-    record {
-      state = p.state;
-      scope = p.scope;
-      keeps = keeps-same s old new p.state.candidates text candidates scope_same p.keeps;
-      owner = p.owner;
-      rest = p.rest;
-      open_is = waits;
-      front = p.front;
-      template = p.template;
-      name = p.name;
-      ts = ts;
-      texts = in_front_of_next p.ts p.texts ++ p.bytes;
-      is_template = subst (λ v. IsTemplate (detail_of s) p.scope.names p.owner p.front p.template p.name v.list.items) (sym text) p.is_template;
-      elements = next-prints 3 p.ts p.texts p.t p.bytes p.elements (type-element 3 p.t p.bytes is_reference p.prints);
-      some = some-elements p.ts p.t;
-      written = ap (λ v. v.list.items) text ∙ p.written
-          ∙ append_assoc (p.front ++ p.name ++ opening_bracket (detail_of s)) (in_front_of_next p.ts p.texts) p.bytes;
-      number_is = omega (arith, p.number_is, length-append p.ts (p.t ∷ []));
-      among = subst (λ v. AreAmong (detail_of s) v.list.items false more ts) (sym text)
-          (argument-known s old from to number place known more is_reference p to_is place_is knows);
-      goes = subst (λ n. ArgumentsGoOn s p.owner (below s p.scope p.rest) p.front p.template ts n p.state) (sym at) p.goes;
-    }
-
--- which comes next
-pub next-argument-begins : (s : Symbol) (old mid new : Direct) (before from number : ℕ) (known : Arguments) → AwaitsKnownArgument s old before known
-    → Writes old mid (codes ", ") → from ≡ length mid.text.list.items → number ≡ before + 1
-    → new.waiting.list.items ≡ mid.waiting.list.items ++ opens.Argument from number known ∷ [] → new.text ≡ mid.text → new.candidates ≡ mid.candidates
-    → new.has_scope ≡ mid.has_scope → new.at ≡ mid.at → IsWriting s new steps.Type
-next-argument-begins s old mid new before from number known p writes from_is number_is waits text candidates scope_same at =
-    let o = p.owner in
-    let entry = opens.Argument from number known in
-    let goes = p.goes in
-    let element = element-awaits s Kind.ArgumentList goes.1 goes.0 old.at p.state tt goes.4 in
-    let written : mid.text.list.items ≡ p.front ++ p.name ++ opening_bracket (detail_of s) ++ in_front_of_next p.ts p.texts =
-    writes.text ∙ ap (λ l. l ++ codes ", ") p.written ∙ append_assoc (p.front ++ p.name ++ opening_bracket (detail_of s)) p.texts (codes ", ")
-    ∙ ap (λ l. p.front ++ p.name ++ opening_bracket (detail_of s) ++ l) (sym (next-written p.ts p.texts p.some)) in
-    let opened : reverse new.waiting.list.items ≡ entry ∷ o ∷ p.rest =
-    ap reverse waits ∙ reverse-last mid.waiting.list.items entry
-    ∙ ap (λ ws. entry ∷ ws) (ap (λ v. reverse v.list.items) writes.waiting ∙ p.open_is) in
-    let stands : Stands s p.scope (entry ∷ o ∷ p.rest) element.inner mid.text.list.items = (
-      p.front,
-      p.template,
-      p.name,
-      p.ts,
-      p.texts,
-      subst (λ l. IsTemplate (detail_of s) p.scope.names o p.front p.template p.name l) (sym writes.text)
-          (template-stays (detail_of s) p.scope.names o p.front p.template p.name old.text.list.items (codes ", ") p.is_template),
-      p.elements,
-      written,
-      from_is,
-      number_is ∙ p.number_is,
-      subst (λ l. AreAmong (detail_of s) l false known p.ts) (sym writes.text) (among-stay old.text.list.items (codes ", ") false known p.ts p.among),
-      λ t here now comes. element-goes-on s Kind.ArgumentList (scoped_in o (below s p.scope p.rest))
-          (λ l there later. Owns s o (below s p.scope p.rest) p.front (instance p.template l) there later)
-          p.ts t old.at here p.state now goes (element.onward t here now comes),
-    ) in
-    record {
-      state = p.state;
-      scope = p.scope;
-      keeps = keeps-same s mid new p.state.candidates text candidates scope_same (keeps-written s old mid (codes ", ") p.state.candidates writes p.keeps);
-      is_before = (
-        element.inner,
-        goes.0,
-        goes.2,
-        inr (inl (subst (λ n. Expects s Kind.Item goes.0 element.inner n p.state) (sym (at ∙ writes.at)) element.awaits)),
-        stands-same s p.scope mid new element.inner text opened stands,
-        subst (λ ws. IsScoped p.scope goes.0 ws) (sym opened) (none-scoped p.scope goes.0 (entry ∷ o ∷ p.rest) refl),
-      );
-    }
-
--- ## Packs
-
--- the first element of such a pack comes next
-pub element-begins : (s : Symbol) (old new : Direct) (from : ℕ) → IsWriting s old (steps.List true)
-    → EndsNamed (reverse old.waiting.list.items) → StandsAt s.bytes old.at (74 ∷ []) → from ≡ length old.text.list.items
-    → new.waiting.list.items ≡ (old.waiting.list.items ++ opens.Pack ∷ []) ++ opens.Element from 0 nowhere ∷ [] → new.text ≡ old.text
-    → new.candidates ≡ old.candidates → new.has_scope ≡ old.has_scope → new.at ≡ old.at + 1 → IsWriting s new steps.Type
-unfolding no_items tree_of
-element-begins s old new from p named letter from_is waits text candidates scope_same at = go p.is_before.0.listing refl
-  where
-    go : (l : Listing) → p.is_before.0.listing ≡ l → IsWriting s new steps.Type
-    go (of_pack before written) is =
-        absurd (subst (λ ws. EndsNamed ws)
-        (subst (λ l. Belongs (detail_of s) p.scope.names l (reverse old.waiting.list.items) p.is_before.0.owner p.is_before.0.rest) is p.is_before.0.belongs).0 named)
-    go of_template is =
-        let place = p.is_before.0 in
-        let o = place.owner in
-        let rest = place.rest in
-        let ts_is : p.is_before.1 ≡ [] = p.is_before.5 refl in
-        let goes : ArgumentsGoOn s o (below s p.scope rest) place.front place.template [] old.at p.state =
-        subst (λ ts. ArgumentsGoOn s o (below s p.scope rest) place.front place.template ts old.at p.state) ts_is
-        (subst (λ l. GoesOn s l o (below s p.scope rest) place.front place.template p.is_before.1 old.at p.state) is p.is_before.7) in
-        let by : Term → List ℕ → Type 0 = IsElementAs (detail_of s) p.scope.names (may_name place.listing o) (extra_of place.listing) in
-        let all : PrintAllBy by [] p.is_before.2 = subst (λ ts. PrintAllBy by ts p.is_before.2) ts_is p.is_before.3 in
-        let texts_is : p.is_before.2 ≡ [] = none-text by p.is_before.2 all in
-        let written : old.text.list.items ≡ place.front ++ place.name ++ opening_bracket (detail_of s) ++ [] =
-        subst (λ l. old.text.list.items ≡ led_by (detail_of s) l place.front place.name ++ p.is_before.2) is p.is_before.4
-        ∙ ap (λ l. place.front ++ place.name ++ opening_bracket (detail_of s) ++ l) texts_is in
-        let opened = pack-opens s goes.1 goes.0 old.at p.state goes.4 letter in
-        let in_pack : GoesOn s (of_pack [] []) o (below s p.scope rest) place.front place.template [] (old.at + 1) p.state = (
-          goes.0,
-          opened.inner,
-          goes.2,
-          goes.3,
-          opened.awaits,
-          λ l here now comes ended.
-              element-goes-on s Kind.ArgumentList (scoped_in o (below s p.scope rest)) (λ u there later. Owns s o (below s p.scope rest) place.front (instance place.template u) there later)
-              [] (pack (no_items l)) old.at (here + 1) p.state now goes (opened.onward l here now comes ended),
-        ) in
-        let element = element-awaits s Kind.PackList opened.inner goes.0 (old.at + 1) p.state tt opened.awaits in
-        let belongs : reverse old.waiting.list.items ≡ o ∷ rest =
-        subst (λ l. Belongs (detail_of s) p.scope.names l (reverse old.waiting.list.items) o rest) is place.belongs in
-        let entry = opens.Element from 0 nowhere in
-        let waiting_ : reverse new.waiting.list.items ≡ entry ∷ opens.Pack ∷ o ∷ rest =
-        ap reverse waits ∙ reverse-last (old.waiting.list.items ++ opens.Pack ∷ []) entry
-        ∙ ap (λ ws. entry ∷ ws) (reverse-last old.waiting.list.items opens.Pack ∙ ap (λ ws. opens.Pack ∷ ws) belongs) in
-        let stands : Stands s p.scope (entry ∷ opens.Pack ∷ o ∷ rest) element.inner old.text.list.items = (
-          place.front,
-          place.template,
-          place.name,
-          [],
-          [],
-          place.is_template,
-          none-print (detail_of s) 0,
-          written,
-          from_is,
-          refl,
-          (λ k known. absurd (none-known k known)),
-          λ t here now comes. element-goes-on s Kind.PackList (scoped_in o (below s p.scope rest))
-              (λ l there later. Closes s (of_pack [] []) o (below s p.scope rest) place.front place.template l there later)
-              [] t (old.at + 1) here p.state now in_pack (element.onward t here now comes),
-        ) in
-        record {
-          state = p.state;
-          scope = p.scope;
-          keeps = keeps-same s old new p.state.candidates text candidates scope_same p.keeps;
-          is_before = (
-            element.inner,
-            goes.0,
-            goes.2,
-            inr (inl (subst (λ n. Expects s Kind.Item goes.0 element.inner n p.state) (sym at) element.awaits)),
-            stands-same s p.scope old new element.inner text waiting_ stands,
-            subst (λ ws. IsScoped p.scope goes.0 ws) (sym waiting_) (none-scoped p.scope goes.0 (entry ∷ opens.Pack ∷ o ∷ rest) refl),
-          );
-        }
-
--- it was read
-pub value-in-pack : (s : Symbol) (w : Direct) (is_reference : Bool) (from number : ℕ) (known : Arguments) → IsWriting s w (steps.Value is_reference false)
-    → slice_get w.waiting.list.items (length w.waiting.list.items - 1) ≡ Some (opens.Element from number known)
-    → IsPackElementRead s w from number known is_reference
-value-in-pack s w is_reference from number known p found =
-    let last = last-found w.waiting.list.items (opens.Element from number known) found in
-    go last.0 last.1 (subst (λ ws. Stands s p.scope ws p.is_before.0 p.is_before.2) last.1 p.is_before.8)
-  where
-    read : (owner : Open) (rest : List Open) → reverse w.waiting.list.items ≡ opens.Element from number known ∷ opens.Pack ∷ owner ∷ rest
-        → Stands s p.scope (opens.Element from number known ∷ opens.Pack ∷ owner ∷ rest) p.is_before.0 p.is_before.2
-        → IsPackElementRead s w from number known is_reference
-    read owner rest is waits =
-        let bytes = p.is_before.3 in
-        record {
-          state = p.state;
-          scope = p.scope;
-          keeps = p.keeps;
-          owner = owner;
-          rest = rest;
-          open_is = is;
-          front = waits.0;
-          template = waits.1;
-          name = waits.2;
-          ts = waits.3;
-          texts = waits.4;
-          t = p.is_before.1;
-          bytes = bytes;
-          is_template = subst (λ l. IsTemplate (detail_of s) p.scope.names owner waits.0 waits.1 waits.2 l) (sym p.is_before.4)
-              (template-stays (detail_of s) p.scope.names owner waits.0 waits.1 waits.2 p.is_before.2 bytes waits.5);
-          elements = waits.6;
-          written = p.is_before.4 ∙ ap (λ l. l ++ bytes) waits.7;
-          from_is = waits.8 ∙ ap length waits.7;
-          number_is = waits.9;
-          among = subst (λ l. AreAmong (detail_of s) l true known waits.3) (sym p.is_before.4) (among-stay p.is_before.2 bytes true known waits.3 waits.10);
-          prints = p.is_before.5;
-          goes = waits.11 p.is_before.1 w.at p.state p.is_before.7;
-        }
-
-    go : (rest : List Open) → reverse w.waiting.list.items ≡ opens.Element from number known ∷ rest
-        → Stands s p.scope (opens.Element from number known ∷ rest) p.is_before.0 p.is_before.2 → IsPackElementRead s w from number known is_reference
-    go (opens.Pack ∷ owner ∷ rest) is waits = read owner rest is waits
-    go _ is waits = absurd waits
-
--- others may follow
-pub element-passes : (s : Symbol) (old new : Direct) (from number : ℕ) (known : Arguments) (is_reference : Bool)
-    (p : IsPackElementRead s old from number known is_reference)
-    → reverse new.waiting.list.items ≡ opens.Pack ∷ p.owner ∷ p.rest → new.text ≡ old.text → new.candidates ≡ old.candidates → new.has_scope ≡ old.has_scope → new.at ≡ old.at
-    → IsWriting s new (steps.List false)
-element-passes s old new from number known is_reference p waits text candidates scope_same at =
-    let ts = p.ts ++ p.t ∷ [] in
-    let led = p.front ++ p.name ++ opening_bracket (detail_of s) in
-    let texts = in_front_of_next p.ts p.texts ++ p.bytes in
-    record {
-      state = p.state;
-      scope = p.scope;
-      keeps = keeps-same s old new p.state.candidates text candidates scope_same p.keeps;
-      is_before = (
-        record {
-          listing = of_pack [] [];
-          owner = p.owner;
-          rest = p.rest;
-          belongs = (waits, none-print-as (detail_of s) p.scope.names (is_noted p.owner) 3);
-          front = p.front;
-          template = p.template;
-          name = p.name;
-          is_template = subst (λ v. IsTemplate (detail_of s) p.scope.names p.owner p.front p.template p.name v.list.items) (sym text) p.is_template;
-        },
-        ts,
-        texts,
-        next-prints 0 p.ts p.texts p.t p.bytes p.elements (type-element 0 p.t p.bytes is_reference p.prints),
-        ap (λ v. v.list.items) text ∙ p.written ∙ append_assoc led (in_front_of_next p.ts p.texts) p.bytes ∙ ap (λ l. l ++ texts) (sym (append-nil led)),
-        λ e. absurd (false≢true e),
-        λ e. some-elements p.ts p.t,
-        subst (λ n. GoesOn s (of_pack [] []) p.owner (below s p.scope p.rest) p.front p.template ts n p.state) (sym at) p.goes,
-      );
-    }
-
--- the one that was read is known
-element-known : (s : Symbol) (old : Direct) (from to number : ℕ) (place : Argument) (known more : Arguments) (is_reference : Bool)
-    (p : IsPackElementRead s old from number known is_reference) → to ≡ length old.text.list.items
-    → (IsKnown place → place ≡ record { from = from; to = to; is_pack = true; is_reference = is_reference }) → KnowsMore known more number place
-    → AreAmong (detail_of s) old.text.list.items true more (p.ts ++ p.t ∷ [])
-element-known s old from to number place known more is_reference p to_is place_is knows =
-    known-more old.text.list.items true from to number is_reference place known more p.ts p.t
-    (p.front ++ p.name ++ opening_bracket (detail_of s) ++ in_front_of_next p.ts p.texts) p.bytes p.written p.from_is to_is p.number_is p.prints place_is knows p.among
-
--- another one may follow
-pub pack-element-awaits : (s : Symbol) (old new : Direct) (from to number : ℕ) (place : Argument) (known more : Arguments) (is_reference : Bool)
-    (p : IsPackElementRead s old from number known is_reference) → reverse new.waiting.list.items ≡ opens.Pack ∷ p.owner ∷ p.rest
-    → new.text ≡ old.text → new.candidates ≡ old.candidates → new.has_scope ≡ old.has_scope → new.at ≡ old.at → to ≡ length old.text.list.items
-    → (IsKnown place → place ≡ record { from = from; to = to; is_pack = true; is_reference = is_reference }) → KnowsMore known more number place
-    → AwaitsPackElement s new number more
-pack-element-awaits s old new from to number place known more is_reference p waits text candidates scope_same at to_is place_is knows =
-    let ts = p.ts ++ p.t ∷ [] in
-    record {
-      state = p.state;
-      scope = p.scope;
-      keeps = keeps-same s old new p.state.candidates text candidates scope_same p.keeps;
-      owner = p.owner;
-      rest = p.rest;
-      open_is = waits;
-      front = p.front;
-      template = p.template;
-      name = p.name;
-      ts = ts;
-      texts = in_front_of_next p.ts p.texts ++ p.bytes;
-      is_template = subst (λ v. IsTemplate (detail_of s) p.scope.names p.owner p.front p.template p.name v.list.items) (sym text) p.is_template;
-      elements = next-prints 0 p.ts p.texts p.t p.bytes p.elements (type-element 0 p.t p.bytes is_reference p.prints);
-      some = some-elements p.ts p.t;
-      written = ap (λ v. v.list.items) text ∙ p.written
-          ∙ append_assoc (p.front ++ p.name ++ opening_bracket (detail_of s)) (in_front_of_next p.ts p.texts) p.bytes;
-      number_is = omega (arith, p.number_is, length-append p.ts (p.t ∷ []));
-      among = subst (λ v. AreAmong (detail_of s) v.list.items true more ts) (sym text)
-          (element-known s old from to number place known more is_reference p to_is place_is knows);
-      goes = subst (λ n. GoesOn s (of_pack [] []) p.owner (below s p.scope p.rest) p.front p.template ts n p.state) (sym at) p.goes;
-    }
-
--- which comes next
-pub next-element-begins : (s : Symbol) (old mid new : Direct) (before from number : ℕ) (known : Arguments) → AwaitsPackElement s old before known
-    → Writes old mid (codes ", ") → from ≡ length mid.text.list.items → number ≡ before + 1
-    → new.waiting.list.items ≡ mid.waiting.list.items ++ opens.Element from number known ∷ [] → new.text ≡ mid.text → new.candidates ≡ mid.candidates
-    → new.has_scope ≡ mid.has_scope → new.at ≡ mid.at → IsWriting s new steps.Type
-next-element-begins s old mid new before from number known p writes from_is number_is waits text candidates scope_same at =
-    let o = p.owner in
-    let entry = opens.Element from number known in
-    let goes = p.goes in
-    let element = element-awaits s Kind.PackList goes.1 goes.0 old.at p.state tt goes.4 in
-    let written : mid.text.list.items ≡ p.front ++ p.name ++ opening_bracket (detail_of s) ++ in_front_of_next p.ts p.texts =
-    writes.text ∙ ap (λ l. l ++ codes ", ") p.written ∙ append_assoc (p.front ++ p.name ++ opening_bracket (detail_of s)) p.texts (codes ", ")
-    ∙ ap (λ l. p.front ++ p.name ++ opening_bracket (detail_of s) ++ l) (sym (next-written p.ts p.texts p.some)) in
-    let opened : reverse new.waiting.list.items ≡ entry ∷ opens.Pack ∷ o ∷ p.rest =
-    ap reverse waits ∙ reverse-last mid.waiting.list.items entry
-    ∙ ap (λ ws. entry ∷ ws) (ap (λ v. reverse v.list.items) writes.waiting ∙ p.open_is) in
-    let stands : Stands s p.scope (entry ∷ opens.Pack ∷ o ∷ p.rest) element.inner mid.text.list.items = (
-      p.front,
-      p.template,
-      p.name,
-      p.ts,
-      p.texts,
-      subst (λ l. IsTemplate (detail_of s) p.scope.names o p.front p.template p.name l) (sym writes.text)
-          (template-stays (detail_of s) p.scope.names o p.front p.template p.name old.text.list.items (codes ", ") p.is_template),
-      p.elements,
-      written,
-      from_is,
-      number_is ∙ p.number_is,
-      subst (λ l. AreAmong (detail_of s) l true known p.ts) (sym writes.text) (among-stay old.text.list.items (codes ", ") true known p.ts p.among),
-      λ t here now comes. element-goes-on s Kind.PackList (scoped_in o (below s p.scope p.rest))
-          (λ l there later. Closes s (of_pack [] []) o (below s p.scope p.rest) p.front p.template l there later)
-          p.ts t old.at here p.state now goes (element.onward t here now comes),
-    ) in
-    record {
-      state = p.state;
-      scope = p.scope;
-      keeps = keeps-same s mid new p.state.candidates text candidates scope_same (keeps-written s old mid (codes ", ") p.state.candidates writes p.keeps);
-      is_before = (
-        element.inner,
-        goes.0,
-        goes.2,
-        inr (inl (subst (λ n. Expects s Kind.Item goes.0 element.inner n p.state) (sym (at ∙ writes.at)) element.awaits)),
-        stands-same s p.scope mid new element.inner text opened stands,
-        subst (λ ws. IsScoped p.scope goes.0 ws) (sym opened) (none-scoped p.scope goes.0 (entry ∷ opens.Pack ∷ o ∷ p.rest) refl),
-      );
-    }
-
--- or the end of the pack and that of the arguments: it is the only one
+-- after an element of the pack they end with it
 pub pack-closes : (s : Symbol) (old new : Direct) (from to number size : ℕ) (place : Argument) (known more : Arguments) (is_reference : Bool)
-    (p : IsPackElementRead s old from number known is_reference)
+    (p : IsArgumentRead s old true from number known is_reference)
     → StandsAt s.bytes old.at (69 ∷ []) → StandsAt s.bytes (old.at + 1) (69 ∷ []) → reverse new.waiting.list.items ≡ p.owner ∷ p.rest → new.text ≡ old.text
     → new.candidates ≡ old.candidates → new.has_scope ≡ old.has_scope → new.at ≡ old.at + 1 + 1 → to ≡ length old.text.list.items
     → (IsKnown place → place ≡ record { from = from; to = to; is_pack = true; is_reference = is_reference }) → KnowsMore known more number place
@@ -599,47 +470,28 @@ pack-closes s old new from to number size place known more is_reference p ends s
     let es = p.ts ++ p.t ∷ [] in
     let own = pack (list_of es) in
     let texts = in_front_of_next p.ts p.texts ++ p.bytes in
-    let among = element-known s old from to number place known more is_reference p to_is place_is knows in
+    let among = argument-known s old true from to number place known more is_reference p to_is place_is knows in
     let goes = p.goes.5 nothing_there old.at p.state (expects-empty s Kind.PackList p.goes.0 p.goes.1 old.at p.state p.goes.4 refl) ends in
     let here = goes.5 nothing_there (old.at + 1) p.state (expects-empty s Kind.ArgumentList goes.0 goes.1 (old.at + 1) p.state goes.4 refl) stands in
     let owns : Owns s p.owner (below s p.scope p.rest) p.front (instance p.template (list own nil)) (old.at + 1 + 1) p.state =
     subst (λ l. Owns s p.owner (below s p.scope p.rest) p.front (instance p.template (list (pack l) nil)) (old.at + 1 + 1) p.state) (list-with-none es) here in
-    record {
-      state = p.state;
-      scope = p.scope;
-      keeps = keeps-same s old new p.state.candidates text candidates scope_same p.keeps;
-      owner = p.owner;
-      rest = p.rest;
-      open_is = waits;
-      front = p.front;
-      template = p.template;
-      name = p.name;
-      ts = own ∷ [];
-      tail = nil;
-      is_tail = inl refl;
-      arguments = texts;
-      is_template = subst (λ v. IsTemplate (detail_of s) p.scope.names p.owner p.front p.template p.name v.list.items) (sym text) p.is_template;
-      elements = (
-        texts ∷ [],
-        (
-          element-as (detail_of s) p.scope.names (is_noted p.owner) 3 own texts (pack-element es texts (some-elements p.ts p.t)
-              (next-prints 0 p.ts p.texts p.t p.bytes p.elements (type-element 0 p.t p.bytes is_reference p.prints))),
-          tt,
-        ),
-        refl,
-      );
-      written = ap (λ v. v.list.items) text ∙ p.written
-          ∙ append_assoc (p.front ++ p.name ++ opening_bracket (detail_of s)) (in_front_of_next p.ts p.texts) p.bytes;
-      owns = subst (λ n. Owns s p.owner (below s p.scope p.rest) p.front (instance p.template (list own nil)) n p.state) (sym at) owns;
-      known = λ k o.
-          let there = elements-there size more k in
-          let h = among k (subst IsKnown there o) in
-          inr (
-            ap (λ (q : Argument). q.is_pack) there ∙ h.1,
-            es,
-            refl,
-            omega (arith, p.number_is, size_is, length-append p.ts (p.t ∷ [])),
-            subst (λ l. IsAmong (detail_of s) l (place_of (record more { elements = size }) k) k es) (sym (ap (λ v. v.list.items) text))
-                (subst (λ (q : Argument). IsAmong (detail_of s) old.text.list.items q k es) (sym there) h.0),
-          );
-    }
+    arguments-end s old new true from number known (record more { elements = size }) is_reference p (own ∷ []) waits text candidates scope_same (
+      texts ∷ [],
+      (
+        element-as (detail_of s) p.scope.names (is_noted p.owner) 3 own texts (pack-element es texts (some-elements p.ts p.t)
+            (read-prints s old true from number known is_reference p)),
+        tt,
+      ),
+      refl,
+    )
+    (subst (λ n. Owns s p.owner (below s p.scope p.rest) p.front (instance p.template (list own nil)) n p.state) (sym at) owns)
+    (λ k o.
+    let there = elements-there size more k in
+    let h = among k (subst IsKnown there o) in
+    inr (
+      ap (λ (q : Argument). q.is_pack) there ∙ h.1,
+      es,
+      refl,
+      omega (arith, p.number_is, size_is, length-append p.ts (p.t ∷ [])),
+      subst (λ (q : Argument). IsAmong (detail_of s) old.text.list.items q k es) (sym there) h.0,
+    ))

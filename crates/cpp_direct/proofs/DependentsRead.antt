@@ -3,27 +3,27 @@ use Rattle.sym_print.specs.declared.detail.Detail.{Detail}
 use Rattle.cpp_grammar.specs.Unfolding.{byte_of, close}
 use Rattle.cpp_grammar.specs.Meaning.{meaning, listed_value}
 use Rattle.cpp_direct.specs.Symbol.{detail_of, Symbol}
-use Rattle.cpp_direct.proofs.Kept.{candidate-found, keeps-as, keeps-grown, keeps-same, keeps-with, keeps-written, made-here, piece-found, placed-stays}
+use Rattle.cpp_direct.proofs.Kept.{candidate-found, keeps-as, keeps-grown, keeps-same, keeps-with, keeps-written, made-here, piece-found, placed-stays, value-added, value-comes}
 use Rattle.cpp_direct.proofs.Listed.{some-elements}
 use Rattle.cpp_direct.proofs.Moves.{hole, eats, byte-opens, next-part, closes, none-fills, number-fills, is_eaten, stands-join, stands-split, expects-empty, open_at, fill, filled-at}
-use Rattle.cpp_direct.proofs.MovesOfTypes.{open-substitution-opens, solid-opens, rvalue-opens}
-use Rattle.cpp_direct.proofs.PrintedTypes.{parameter-given, expansion-element}
+use Rattle.cpp_direct.proofs.MovesOfTypes.{substitution-opens, solid-opens, rvalue-opens}
+use Rattle.cpp_direct.proofs.NamedArguments.{again-substituted, named-here}
+use Rattle.cpp_direct.proofs.PrintedTypes.{parameter-given, rvalue-given, expansion-element}
 use Rattle.cpp_direct.specs.declared.open.Mark.{Mark}
-use Rattle.cpp_direct.specs.Holes.{Opened, StandsAt, Comes, candidate, with_candidate, Expects, IsTyped}
-use Rattle.cpp_direct.specs.Prints.{AreSingle, PrintsAs, PrintsGiven, forwarded, PrintAllBy, list_of}
-use Rattle.cpp_direct.specs.WriterInvariant.{AreCandidates, EncodedBehind, HasArguments, IsAmong, IsKnown, IsNaming, IsPlaced, IsPlain, IsScope, IsScopeOf, IsScoped, IsWriting, Keeps, ParametersGoOn, Scope, Stands, argument_of, in_front_of_next, place_of}
+use Rattle.cpp_direct.specs.Holes.{Opened, StandsAt, Comes, candidate, with_candidate, Expects, IsReferable, IsTyped}
+use Rattle.cpp_direct.specs.Prints.{PrintsAs, PrintsGiven, forwarded, PrintAllBy, list_of}
+use Rattle.cpp_direct.specs.WriterInvariant.{AreCandidates, EncodedBehind, HasArguments, IsAmong, IsKnown, IsPlaced, IsScope, IsSingle, IsWriting, Keeps, ParametersGoOn, argument_of, in_front_of_next, place_of}
 use Rattle.cpp_direct.specs.MidStep.{AwaitsType, IsNamedAgain, IsParameterEnded, parameter_digits, AwaitsNextParameter, AreForwarded, IsPackOf, PrintsForwarded, comma_text}
 use Rattle.cpp_direct.specs.Written.{Writes, added, hidden}
 use Rattle.cpp_direct.specs.declared.direct.Direct.{Direct}
-use Rattle.cpp_direct.specs.declared.open.Open.{Open}
 use Rattle.cpp_direct.specs.declared.open.Argument.{Argument}
 use Rattle.cpp_direct.specs.declared.open.Candidate.{Candidate}
 use Rattle.cpp_direct.specs.declared.open.Arguments.{Arguments}
 use Rattle.cpp_grammar.specs.Between.{Going, between, after, applied, listed_so_far, parameter_so_far, index_of, under_expansion}
 use Rattle.cpp_grammar.specs.Grammar.{may_be_empty, number_of_kind, parts_of}
 use Rattle.cpp_grammar.specs.Parts.{types_of}
-use Rattle.cpp_grammar.specs.References.{appended, is_function_type, packs_in, with_packs, parameter_named, with_type}
-use Rattle.cpp_grammar.specs.Scope.{arguments_of, element, count, length_if_pack, pack_length}
+use Rattle.cpp_grammar.specs.References.{appended, is_function_type, with_packs, parameter_named, with_type}
+use Rattle.cpp_grammar.specs.Scope.{arguments_of, element, count, length_if_pack}
 use Rattle.cpp_grammar.specs.Term.{Term, parameter, expansion, rvalue, list, nil, pack}
 use Rattle.cpp_grammar.specs.Values.{tree, State, Around, text_of, is_there, letter_of, part, piece_of, tree_of, is_listed}
 use Rattle.cpp_grammar.specs.declared.kind.Kind.{Kind}
@@ -109,88 +109,113 @@ digit-stands s at k digit is first line =
 
 -- ## The argument
 
--- types may name the arguments of the symbol's own name here
-named-here : (s : Symbol) {scope : Scope} (w : Direct) (cs : List values.Candidate) (around : Around) (all : Arguments) → Keeps s scope w cs
-    → IsScoped scope around (reverse w.waiting.list.items) → argument_of (reverse w.waiting.list.items) ≡ Some all → all.encoding ≢ 0
-    → IsNaming s scope (reverse w.waiting.list.items)
-named-here s {scope = scope} w cs around all keeps scoped found real =
-    let same : scope.arguments ≡ all = (scoped all found).0 in
-    (found ∙ ap (λ (a : Arguments). Some a) (sym same), keeps.own.encoded (λ none. real (ap (λ (a : Arguments). a.encoding) (sym same) ∙ none)))
-
 -- the argument that a parameter names is at its place
 named-placed : (s : Symbol) (w : Direct) (all : Arguments) (k : ℕ) (p : Argument) (a : AwaitsType s w) → argument_of (reverse w.waiting.list.items) ≡ Some all
-    → p ≡ place_of all k → IsPlain p → (bytes : List ℕ) × (a.scope.names k ≡ Some bytes) × IsPlaced w.text.list.items p bytes
-named-placed s w all k p a found is plain =
+    → p ≡ place_of all k → IsSingle p
+    → (bytes : List ℕ) × (a.scope.names k ≡ Some (record { bytes = bytes; reference = p.is_reference })) × IsPlaced w.text.list.items p bytes
+named-placed s w all k p a found is single =
     let same : p ≡ place_of a.scope.arguments k = is ∙ ap (λ (q : Arguments). place_of q k) (sym (a.scoped all found).0) in
-    let h = a.keeps.named k (subst (λ (q : Argument). IsPlain q) same plain) in
-    (h.0, h.1, subst (λ (q : Argument). IsPlaced w.text.list.items q h.0) (sym same) h.2)
+    let h = a.keeps.named k (subst (λ (q : Argument). IsSingle q) same single) in (
+      h.0,
+      subst (λ (q : Argument). a.scope.names k ≡ Some (record { bytes = h.0; reference = q.is_reference })) (sym same) h.1,
+      subst (λ (q : Argument). IsPlaced w.text.list.items q h.0) (sym same) h.2,
+    )
 
 -- so it can be written once more
 pub argument-inside : (s : Symbol) (w : Direct) (all : Arguments) (k : ℕ) (p : Argument) → AwaitsType s w
-    → argument_of (reverse w.waiting.list.items) ≡ Some all → p ≡ place_of all k → IsPlain p → p.to ≤ length w.text.list.items
-argument-inside s w all k p a found is plain =
-    let h = named-placed s w all k p a found is plain in
+    → argument_of (reverse w.waiting.list.items) ≡ Some all → p ≡ place_of all k → IsSingle p → p.to ≤ length w.text.list.items
+argument-inside s w all k p a found is single =
+    let h = named-placed s w all k p a found is single in
     (piece-found w.text.list.items h.2.front h.0 h.2.back p.from p.to h.2.written h.2.from_is h.2.to_is).1
+
+-- a parameter may name it
+scope-named : (s : Symbol) (w : Direct) (all : Arguments) (k : ℕ) (p : Argument) (a : AwaitsType s w) → argument_of (reverse w.waiting.list.items) ≡ Some all
+    → p ≡ place_of all k → IsSingle p → IsScope k false a.around
+scope-named s w all k p a found is single =
+    subst (λ j. IsScope k j a.around) (ap (λ (q : Argument). q.is_pack) (sym is) ∙ single.1)
+    ((a.scoped all found).1.1 k (subst (λ (q : Argument). IsKnown q) is single.0))
 
 -- ## Parameters
 
 -- the parameter is read, and its argument is written once more
 pub parameter-done : (s : Symbol) (old mid new : Direct) (all : Arguments) (k : ℕ) (p : Argument) (n from : ℕ) → AwaitsType s old → k ≤ 3
     → StandsAt s.bytes old.at (84 ∷ []) → StandsAt s.bytes (old.at + 1) (parameter_digits k ++ 95 ∷ [])
-    → argument_of (reverse old.waiting.list.items) ≡ Some all → p ≡ place_of all k → IsPlain p → all.encoding ≢ 0 → from ≡ length old.text.list.items
+    → argument_of (reverse old.waiting.list.items) ≡ Some all → p ≡ place_of all k → IsSingle p → all.encoding ≢ 0 → from ≡ length old.text.list.items
     → Writes (record old { at = n }) mid (take (p.to - p.from) (drop p.from old.text.list.items)) → n ≡ old.at + 1 + length (parameter_digits k ++ 95 ∷ [])
-    → new.candidates.list.items ≡ added mid from false true → new.text ≡ mid.text → new.waiting ≡ mid.waiting → new.has_scope ≡ mid.has_scope
-    → new.at ≡ mid.at → IsWriting s new (steps.Value false true)
-parameter-done s old mid new all k p n from a few letter line found is plain real from_is writes at more same_text same_waits same_scope same_at =
+    → new.candidates.list.items ≡ added mid from p.is_reference true → new.text ≡ mid.text → new.waiting ≡ mid.waiting → new.has_scope ≡ mid.has_scope
+    → new.at ≡ mid.at → IsWriting s new (steps.Value p.is_reference true)
+parameter-done s old mid new all k p n from a few letter line found is single real from_is writes at more same_text same_waits same_scope same_at =
     let text = old.text.list.items in
-    let h = named-placed s old all k p a found is plain in
+    let h = named-placed s old all k p a found is single in
     let bytes = h.0 in
     let grown : mid.text.list.items ≡ text ++ bytes =
     writes.text ∙ ap (λ l. text ++ l) (piece-found text h.2.front bytes h.2.back p.from p.to h.2.written h.2.from_is h.2.to_is).2 in
-    let prints = parameter-given a.scope.names k bytes h.1 in
+    let prints = parameter-given a.scope.names k (record { bytes = bytes; reference = p.is_reference }) h.1 in
     let naming = named-here s old a.state.candidates a.around all a.keeps a.scoped found real in
     let open_is : new.waiting ≡ old.waiting = same_waits ∙ writes.waiting in
-    let known : IsKnown (place_of all k) = subst (λ (q : Argument). IsKnown q) is plain.0 in
-    let single : (place_of all k).is_pack ≡ false = ap (λ (q : Argument). q.is_pack) (sym is) ∙ plain.1 in
     let later = with_candidate a.around (parameter k) a.state in
-    record {
-      state = later;
-      scope = a.scope;
-      keeps = keeps-with s mid new a.state text bytes from (parameter k) a.around false true
-          (keeps-grown s old mid bytes a.state.candidates grown writes.candidates writes.scope a.keeps) grown from_is
-          prints (λ e. made-here s a.scope a.around (reverse old.waiting.list.items) a.scoped naming) same_text more same_scope;
-      is_before = (
-        a.os,
-        parameter k,
-        text,
-        bytes,
-        ap (λ v. v.list.items) same_text ∙ grown,
-        prints,
-        λ e. subst (λ v. IsNaming s a.scope (reverse v.list.items)) (sym open_is) naming,
-        subst (λ n. Comes s a.os (tree (parameter k) true) n later) (sym (same_at ∙ writes.at ∙ at))
-            (parameter-comes s a.kind a.around a.os k old.at a.state a.typed few
-            (subst (λ j. IsScope k j a.around) single ((a.scoped all found).1.1 k known)) a.awaits
-            (stands-join s.bytes old.at (84 ∷ []) (parameter_digits k ++ 95 ∷ []) letter line)),
-        subst (λ v. Stands s a.scope (reverse v.list.items) a.os text) (sym open_is) a.stands,
-      );
-    }
+    value-added s mid new a.state a.os a.around (parameter k) text bytes from p.is_reference true
+    (keeps-grown s old mid bytes a.state.candidates grown writes.candidates writes.scope a.keeps) grown from_is
+    prints (λ e. made-here s a.scope a.around (reverse old.waiting.list.items) a.scoped naming) same_text more same_scope (ap (λ v. reverse v.list.items) open_is)
+    (λ e. naming)
+    (subst (λ n. Comes s a.os (tree (parameter k) true) n later) (sym (same_at ∙ writes.at ∙ at))
+    (parameter-comes s a.kind a.around a.os k old.at a.state a.typed few (scope-named s old all k p a found is single) a.awaits
+    (stands-join s.bytes old.at (84 ∷ []) (parameter_digits k ++ 95 ∷ []) letter line))) a.stands
+
+-- what is written from a place on became a candidate, which is a reference and names arguments
+pub record IsListed (old new : Direct) (from : ℕ) : Type 0 where
+  pub more : new.candidates.list.items ≡ added old from true true
+  pub text : new.text ≡ old.text
+  pub waits : new.waiting ≡ old.waiting
+  pub scope : new.has_scope ≡ old.has_scope
+  pub at : new.at ≡ old.at
+
+forwarded-there : (s : Symbol) (old mid one new : Direct) (all : Arguments) (k : ℕ) (p : Argument) (n from : ℕ) (a : AwaitsType s old) → k ≤ 3 → IsReferable a.kind
+    → StandsAt s.bytes old.at (79 ∷ []) → StandsAt s.bytes (old.at + 1) (84 ∷ []) → StandsAt s.bytes (old.at + 1 + 1) (parameter_digits k ++ 95 ∷ [])
+    → argument_of (reverse old.waiting.list.items) ≡ Some all → p ≡ place_of all k → IsSingle p → all.encoding ≢ 0 → p.is_reference ≡ true
+    → from ≡ length old.text.list.items → Writes (record old { at = n }) mid (take (p.to - p.from) (drop p.from old.text.list.items))
+    → n ≡ old.at + 1 + 1 + length (parameter_digits k ++ 95 ∷ []) → IsListed mid one from → IsListed one new from
+    → IsWriting s new (steps.Value true true)
+forwarded-there s old mid one new all k p n from a few referable mark letter line found is single real refers from_is writes at first second =
+    let text = old.text.list.items in
+    let h = named-placed s old all k p a found is single in
+    let bytes = h.0 in
+    let named : a.scope.names k ≡ Some (record { bytes = bytes; reference = true })
+    = subst (λ r. a.scope.names k ≡ Some (record { bytes = bytes; reference = r })) refers h.1 in
+    let grown : mid.text.list.items ≡ text ++ bytes =
+    writes.text ∙ ap (λ l. text ++ l) (piece-found text h.2.front bytes h.2.back p.from p.to h.2.written h.2.from_is h.2.to_is).2 in
+    let listed : one.text.list.items ≡ text ++ bytes = ap (λ v. v.list.items) first.text ∙ grown in
+    let naming = named-here s old a.state.candidates a.around all a.keeps a.scoped found real in
+    let here = made-here s a.scope a.around (reverse old.waiting.list.items) a.scoped naming in
+    let open_is : new.waiting ≡ old.waiting = second.waits ∙ first.waits ∙ writes.waiting in
+    let own = with_candidate a.around (parameter k) a.state in
+    let later = with_candidate a.around (rvalue (parameter k)) own in
+    let reference = rvalue-opens s a.kind a.around a.os old.at a.state referable a.awaits mark in
+    let prints = rvalue-given a.scope.names k bytes named in
+    value-added s one new own a.os a.around (rvalue (parameter k)) text bytes from true true
+    (keeps-with s mid one a.state text bytes from (parameter k) a.around true true
+    (keeps-grown s old mid bytes a.state.candidates grown writes.candidates writes.scope a.keeps) grown from_is
+    (parameter-given a.scope.names k (record { bytes = bytes; reference = true }) named) (λ e. here) first.text first.more first.scope)
+    listed from_is prints (λ e. here) second.text second.more second.scope (ap (λ v. reverse v.list.items) open_is) (λ e. naming)
+    (subst (λ n. Comes s a.os (tree (rvalue (parameter k)) true) n later) (sym (second.at ∙ first.at ∙ writes.at ∙ at))
+    (reference.passes (parameter k) (old.at + 1 + 1 + length (parameter_digits k ++ 95 ∷ [])) own
+    (parameter-comes s Kind.Type a.around reference.inner k (old.at + 1) a.state tt few (scope-named s old all k p a found is single) reference.awaits
+    (stands-join s.bytes (old.at + 1) (84 ∷ []) (parameter_digits k ++ 95 ∷ []) letter line)))) a.stands
+
+-- An rvalue reference to it is read, which is this argument itself where that is a reference.
+pub forwarded-done : (s : Symbol) (old mid one new : Direct) (all : Arguments) (k : ℕ) (p : Argument) (n from : ℕ) (a : AwaitsType s old) → k ≤ 3
+    → StandsAt s.bytes old.at (79 ∷ []) → StandsAt s.bytes (old.at + 1) (84 ∷ []) → StandsAt s.bytes (old.at + 1 + 1) (parameter_digits k ++ 95 ∷ [])
+    → argument_of (reverse old.waiting.list.items) ≡ Some all → p ≡ place_of all k → IsSingle p → all.encoding ≢ 0 → p.is_reference ≡ true
+    → from ≡ length old.text.list.items → Writes (record old { at = n }) mid (take (p.to - p.from) (drop p.from old.text.list.items))
+    → n ≡ old.at + 1 + 1 + length (parameter_digits k ++ 95 ∷ []) → IsListed mid one from → IsListed one new from
+    → IsWriting s new (steps.Value true true)
+forwarded-done s old mid one new all k p n from a few mark letter line found is single real refers from_is writes at first second =
+    elim a.referable [
+      | inl referable ↦ forwarded-there s old mid one new all k p n from a few referable mark letter line found is single real refers from_is writes at first second
+      | inr none ↦ absurd (none.1 mark)
+    ]
 
 -- ## The same once more
-
--- those that may be named are no packs
-named-single : (s : Symbol) (scope : Scope) (around : Around) (open_ : List Open) (arguments : Term) → IsScopeOf s scope → IsScoped scope around open_
-    → argument_of open_ ≡ Some scope.arguments → around.scope ≡ Some arguments → AreSingle scope.names arguments
-named-single s scope around open_ arguments own scoped found is k bytes e =
-    let plain = own.plain k bytes e in
-    let here = (scoped scope.arguments found).1.1 k plain.0 in
-    let same : here.all ≡ arguments = cc (sym here.scope_is ∙ is) in
-    subst (λ l. length_if_pack (element l k) ≡ None) same (ap length_if_pack (here.there plain.1).0 ∙ here.no_pack)
-
--- so a type that names them names no pack
-no-pack-named : (scope : Option Term) (t : Term) → ((arguments : Term) → scope ≡ Some arguments → pack_length arguments t ≡ None) → packs_in scope t ≡ None
-unfolding packs_in
-no-pack-named None t none = refl
-no-pack-named (Some arguments) t none = none arguments refl
 
 -- it is written once more
 pub again-inside : (s : Symbol) (w : Direct) (k : Candidate) → IsNamedAgain s w k → (k.from ≤ k.to) × (k.to ≤ length w.text.list.items)
@@ -217,29 +242,12 @@ dependent-again s w new k all p found real writes =
     let open_ = reverse w.waiting.list.items in
     let keeps = keeps-same s (record w { at = p.before }) w a.state.candidates refl refl refl a.keeps in
     let naming = named-here s w a.state.candidates a.around all keeps a.scoped found real in
-    let made_here = made-here s a.scope a.around open_ a.scoped naming in
-    let none = no-pack-named a.around.scope t
-    (λ arguments is. prints.packless arguments (named-single s a.scope a.around open_ arguments a.keeps.own a.scoped naming.0 is)) in
-    let named = open-substitution-opens s a.kind a.around a.os p.before a.state p.digits w.at c.0 a.is_named c.1 (c.2.made_in p.is ∙ sym made_here)
-    ((a.scoped all found).1.0 real).1 none a.begins p.letter p.number in
+    let named = substitution-opens s a.kind a.around a.os p.before a.state p.digits w.at c.0 a.is_named c.1
+    (again-substituted s a.around open_ c.0 a.state bytes k.is_reference a.keeps.own a.scoped naming (c.2.made_in p.is) prints) a.begins p.letter p.number in
     let comes : Comes s a.os (tree t true) w.at a.state = named.bare w.at a.state prints.no_function
     (expects-empty s Kind.ArgumentsAlone (after t true a.around) named.inner w.at a.state named.awaits refl) in
-    record {
-      state = a.state;
-      scope = a.scope;
-      keeps = keeps-written s w new _ a.state.candidates writes keeps;
-      is_before = (
-        a.os,
-        t,
-        text,
-        bytes,
-        written,
-        prints,
-        λ e. subst (λ v. IsNaming s a.scope (reverse v.list.items)) (sym writes.waiting) naming,
-        subst (λ n. Comes s a.os (tree t true) n a.state) (sym writes.at) comes,
-        subst (λ v. Stands s a.scope (reverse v.list.items) a.os text) (sym writes.waiting) a.stands,
-      );
-    }
+    value-comes s new a.state a.os t text bytes k.is_reference true (keeps-written s w new _ a.state.candidates writes keeps) written prints
+    (ap (λ v. reverse v.list.items) writes.waiting) (λ e. naming) (subst (λ n. Comes s a.os (tree t true) n a.state) (sym writes.at) comes) a.stands
 
 -- ## A reference to each type of a pack
 

@@ -12,18 +12,18 @@ use Rattle.cpp_grammar.specs.Parts.{is_plain_integer}
 use Rattle.cpp_grammar.specs.Term.{Term, builtin, boolean, integer, Signed}
 use Rattle.cpp_grammar.specs.Texts.{look_up, builtin_texts, literal_endings}
 use Rattle.cpp_grammar.specs.Grammar.{among}
-use Rattle.cpp_grammar.specs.Values.{normal, signed_digits, is_zero}
+use Rattle.cpp_grammar.specs.Values.{normal, signed_digits, is_zero, State}
 use Rattle.cpp_direct.specs.declared.direct.Direct.{Direct}
 use Rattle.cpp_direct.specs.Holes.{StandsAt, ListGoesOn}
 use Rattle.cpp_direct.specs.HolesOfLists.{IsDigitsAt, minus_sign, IsOffsetAt}
 use Rattle.cpp_direct.specs.ItemBytes.{is_integer_letter}
-use Rattle.cpp_direct.specs.Prints.{Prints, sign_text, EndsAsInteger}
-use Rattle.cpp_direct.specs.WriterInvariant.{below, scoped_in, may_name, Belongs, Closes, GoesOn, IsTemplate, IsWriting, Stands, element_kind, extra_of, led_by, in_front_of_next, IsScoped}
-use Rattle.cpp_direct.specs.MidStep.{AwaitsNextArgument, truth_text, number_text, integer_text, AwaitsNumber, AwaitsNamedType}
+use Rattle.cpp_direct.specs.Prints.{Prints, sign_text, EndsAsInteger, IsElement, PrintAllAs}
+use Rattle.cpp_direct.specs.WriterInvariant.{below, scoped_in, may_name, Closes, GoesOn, IsWriting, Stands, element_kind, extra_of, led_by, in_front_of_next, IsScoped, IsListing, Keeps, Scope}
+use Rattle.cpp_direct.specs.MidStep.{AwaitsNextArgument, IsLiteralRead, truth_text, number_text, integer_text, AwaitsNumber, AwaitsNamedType}
 use Rattle.cpp_direct.specs.Written.{Reads, Writes}
 use Rattle.cpp_direct.proofs.Scopes.{none-scoped}
-use Rattle.cpp_direct.proofs.Kept.{keeps-grown, keeps-read, template-stays, reverse-last}
-use Rattle.cpp_direct.proofs.Listed.{element-kind, element-goes-on, enumerator-stands, listing-at, some-elements}
+use Rattle.cpp_direct.proofs.Kept.{keeps-grown, keeps-read, reverse-last}
+use Rattle.cpp_direct.proofs.Listed.{element-kind, element-goes-on, enumerator-stands, some-elements, listing-stays}
 use Rattle.cpp_direct.proofs.Moves.{stands-join}
 use Rattle.cpp_direct.proofs.MovesOfLists.{bool-element, integer-element, enumerator-opens}
 use Rattle.cpp_direct.proofs.LettersTested.{integer-there}
@@ -33,6 +33,7 @@ use Rattle.cpp_direct.proofs.Unmarked.{digits-unmarked}
 use Rattle.cpp_direct.proofs.PrintedNames.{boolean-prints, plain-integer-prints, cast-integer-prints, normal-filled, enumerator-prints, not-integer, normal-unmarked}
 use Rattle.cpp_direct.proofs.NamePlaces.{reads-then}
 use Rattle.std.proofs.lemmas.List.{length-drop, drop_more}
+use Rattle.cpp_direct.specs.declared.open.Open.{Open}
 use Rattle.cpp_direct.specs.declared.open.Open.TheVariants as opens
 use Rattle.cpp_direct.specs.declared.open.Step.TheVariants as steps
 
@@ -194,33 +195,42 @@ cast-integer-read s old middle new letter first is cast next begun read =
 
 -- ## Elements
 
--- an element was read and written that is no type
-pub element-read : (s : Symbol) (old new : Direct) (t : Term) (bytes : List ℕ) (a : AwaitsNextArgument s old) → Prints (detail_of s) t bytes false
-    → Reads old new bytes → ListGoesOn s (element_kind a.place.listing) a.goes.1 a.goes.0 t new.at a.state → IsWriting s new (steps.List false)
-element-read s old new t bytes a prints reads g =
-    let p = a.place in
+-- one more was read and written
+pub element-added : (s : Symbol) {scope : Scope} (w : Direct) (st : State) {opened : List Open} {text : List ℕ} (p : IsListing (detail_of s) scope.names opened text)
+    (more : List ℕ) (ts : List Term) (texts : List ℕ) (t : Term) (bytes : List ℕ) → Keeps s scope w st.candidates
+    → PrintAllAs (detail_of s) scope.names (may_name p.listing p.owner) (extra_of p.listing) ts texts → IsElement (detail_of s) (extra_of p.listing) t bytes
+    → reverse w.waiting.list.items ≡ opened → w.text.list.items ≡ text ++ more
+    → text ++ more ≡ led_by (detail_of s) p.listing p.front p.name ++ (in_front_of_next ts texts ++ bytes)
+    → GoesOn s p.listing p.owner (below s scope p.rest) p.front p.template (ts ++ t ∷ []) w.at st → IsWriting s w (steps.List false)
+element-added s {scope = scope} w st p more ts texts t bytes keeps elements element open_is is written goes =
     let extra = extra_of p.listing in
     let noted = may_name p.listing p.owner in
     record {
-      state = a.state;
-      scope = a.scope;
-      keeps = keeps-read s old new bytes a.state.candidates reads a.keeps;
+      state = st;
+      scope = scope;
+      keeps = keeps;
       is_before = (
-        listing-at (reverse old.waiting.list.items) old.text.list.items (reverse new.waiting.list.items) new.text.list.items p
-            (subst (λ v. Belongs (detail_of s) a.scope.names p.listing (reverse v.list.items) p.owner p.rest) (sym reads.waiting) p.belongs)
-            (subst (λ l. IsTemplate (detail_of s) a.scope.names p.owner p.front p.template p.name l) (sym reads.text)
-            (template-stays (detail_of s) a.scope.names p.owner p.front p.template p.name old.text.list.items bytes p.is_template)),
-        a.ts ++ t ∷ [],
-        in_front_of_next a.ts a.texts ++ bytes,
-        next-prints-as (detail_of s) a.scope.names noted extra a.ts a.texts t bytes a.elements
-            (element-as (detail_of s) a.scope.names noted extra t bytes (type-element extra t bytes false prints)),
-        reads.text ∙ ap (λ l. l ++ bytes) a.written ∙ append_assoc (led_by (detail_of s) p.listing p.front p.name) (in_front_of_next a.ts a.texts) bytes,
+        listing-stays (reverse w.waiting.list.items) more w.text.list.items p open_is is,
+        ts ++ t ∷ [],
+        in_front_of_next ts texts ++ bytes,
+        next-prints-as (detail_of s) scope.names noted extra ts texts t bytes elements (element-as (detail_of s) scope.names noted extra t bytes element),
+        is ∙ written,
         λ first. absurd (false≢true first),
-        λ further. some-elements a.ts t,
-        element-goes-on s (element_kind p.listing) (scoped_in p.owner (below s a.scope p.rest))
-            (λ l now then. Closes s p.listing p.owner (below s a.scope p.rest) p.front p.template l now then) a.ts t old.at new.at a.state a.state a.goes g,
+        λ further. some-elements ts t,
+        goes,
       );
     }
+
+-- one that is a literal
+pub literal-added : (s : Symbol) (old new : Direct) → AwaitsNextArgument s old → IsLiteralRead s old new → IsWriting s new (steps.List false)
+literal-added s old new a l =
+    let p = a.place in
+    element-added s new a.state p l.bytes a.ts a.texts l.own l.bytes (keeps-read s old new l.bytes a.state.candidates l.reads a.keeps) a.elements
+    (type-element (extra_of p.listing) l.own l.bytes false l.prints) (ap (λ v. reverse v.list.items) l.reads.waiting) l.reads.text
+    (ap (λ t. t ++ l.bytes) a.written ∙ append_assoc (led_by (detail_of s) p.listing p.front p.name) (in_front_of_next a.ts a.texts) l.bytes)
+    (element-goes-on s (element_kind p.listing) (scoped_in p.owner (below s a.scope p.rest))
+    (λ u now then. Closes s p.listing p.owner (below s a.scope p.rest) p.front p.template u now then) a.ts l.own old.at new.at a.state a.state a.goes
+    (l.goes_on (element_kind p.listing) a.goes.0 a.goes.1 a.state (element-kind p.listing) a.goes.4))
 
 -- ## Literals
 
@@ -229,14 +239,11 @@ truth-is true = refl
 truth-is false = refl
 
 -- a truth value was read, and an E
-pub boolean-element-read : (s : Symbol) (old begun middle new : Direct) (a : AwaitsNextArgument s old) → StandsAt s.bytes old.at (76 ∷ [])
-    → begun.at ≡ old.at + 1
-    → Reads old begun []
+pub boolean-literal-read : (s : Symbol) (old begun middle new : Direct) → StandsAt s.bytes old.at (76 ∷ []) → begun.at ≡ old.at + 1 → Reads old begun []
     → (read : (digit : ℕ) × ((digit ≡ 48) ⊎ (digit ≡ 49)) × StandsAt s.bytes begun.at (98 ∷ digit ∷ []) × (middle.at ≡ begun.at + 2)
     × Reads begun middle (truth_text (nat_eq digit 49)))
-    → StandsAt s.bytes middle.at (69 ∷ []) × (new.at ≡ middle.at + 1) × Reads middle new []
-    → IsWriting s new (steps.List false)
-boolean-element-read s old begun middle new a first next nothing read ended =
+    → StandsAt s.bytes middle.at (69 ∷ []) × (new.at ≡ middle.at + 1) × Reads middle new [] → IsLiteralRead s old new
+boolean-literal-read s old begun middle new first next nothing read ended =
     let d = read.0 in
     let written = truth_text (nat_eq d 49) in
     let second = subst (λ n. StandsAt s.bytes n (98 ∷ d ∷ [])) next read.2 in
@@ -244,11 +251,14 @@ boolean-element-read s old begun middle new a first next nothing read ended =
     let last = subst (λ n. StandsAt s.bytes n (69 ∷ [])) third ended.0 in
     let whole = stands-join s.bytes old.at (76 ∷ 98 ∷ d ∷ []) (69 ∷ []) (stands-join s.bytes old.at (76 ∷ []) (98 ∷ d ∷ []) first second) last in
     let behind : old.at + 4 ≡ new.at = omega (arith, next, read.3, ended.1) in
-    element-read s old new (boolean (nat_eq d 49)) (written ++ []) a
-    (subst (λ l. Prints (detail_of s) (boolean (nat_eq d 49)) l false) (truth-is (nat_eq d 49) ∙ sym (append-nil written)) (boolean-prints (nat_eq d 49)))
-    (reads-then old middle new written [] (reads-then old begun middle [] written nothing read.4) ended.2)
-    (subst (λ n. ListGoesOn s (element_kind a.place.listing) a.goes.1 a.goes.0 (boolean (nat_eq d 49)) n a.state) behind
-    (bool-element s (element_kind a.place.listing) a.goes.1 a.goes.0 d old.at a.state (element-kind a.place.listing) read.1 a.goes.4 whole))
+    record {
+      own = boolean (nat_eq d 49);
+      bytes = written ++ [];
+      prints = subst (λ l. Prints (detail_of s) (boolean (nat_eq d 49)) l false) (truth-is (nat_eq d 49) ∙ sym (append-nil written)) (boolean-prints (nat_eq d 49));
+      reads = reads-then old middle new written [] (reads-then old begun middle [] written nothing read.4) ended.2;
+      goes_on = λ kind around os st is expects. subst (λ n. ListGoesOn s kind os around (boolean (nat_eq d 49)) n st) behind
+          (bool-element s kind os around d old.at st is read.1 expects whole);
+    }
 
 number-unmarked : (s : List ℕ) (at : ℕ) (digits : List ℕ) (end : ℕ) → IsDigitsAt s at digits end → IsUnmarked digits
 number-unmarked s at digits end is = subst IsUnmarked is.own (digits-unmarked is.token.own is.is_number.digits.0)
@@ -269,11 +279,10 @@ integer-prints {detail} letter n ds is filled plain = go (is_plain_integer (buil
         (cast-integer-prints letter e (integer-there letter is) (signed_digits n ds) (normal-filled ds filled) (normal-unmarked ds plain))
 
 -- an integer was read, and an E
-pub integer-element-read : (s : Symbol) (old begun middle new : Direct) (a : AwaitsNextArgument s old) → StandsAt s.bytes old.at (76 ∷ [])
-    → begun.at ≡ old.at + 1
-    → Reads old begun [] → (read : IsIntegerRead s.bytes begun middle) → StandsAt s.bytes middle.at (69 ∷ []) × (new.at ≡ middle.at + 1) × Reads middle new []
-    → IsWriting s new (steps.List false)
-integer-element-read s old begun middle new a first next nothing read ended =
+pub integer-literal-read : (s : Symbol) (old begun middle new : Direct) → StandsAt s.bytes old.at (76 ∷ []) → begun.at ≡ old.at + 1 → Reads old begun []
+    → (read : IsIntegerRead s.bytes begun middle) → StandsAt s.bytes middle.at (69 ∷ []) × (new.at ≡ middle.at + 1) × Reads middle new []
+    → IsLiteralRead s old new
+integer-literal-read s old begun middle new first next nothing read ended =
     let letter = read.0 in
     let negative = read.1 in
     let ds = read.2 in
@@ -283,12 +292,15 @@ integer-element-read s old begun middle new a first next nothing read ended =
     let whole = stands-join s.bytes old.at (76 ∷ []) (letter ∷ minus_sign negative) first second in
     let there : begun.at + 1 + length (minus_sign negative) ≡ old.at + length (76 ∷ letter ∷ minus_sign negative) = omega (arith, next) in
     let filled : ds ≢ [] = λ none. absurd (omega (arith, read.5.is_number.digits.1, ap length read.5.own, ap (λ (l : List ℕ). length l) none)) in
-    element-read s old new t (written ++ []) a
-    (subst (λ l. Prints (detail_of s) t l false) (sym (append-nil written)) (integer-prints letter negative ds read.3 filled (number-unmarked s.bytes _ ds _ read.5)))
-    (reads-then old middle new written [] (reads-then old begun middle [] written nothing read.6) ended.2)
-    (subst (λ n. ListGoesOn s (element_kind a.place.listing) a.goes.1 a.goes.0 t n a.state) (sym ended.1)
-    (integer-element s (element_kind a.place.listing) a.goes.1 a.goes.0 letter negative ds old.at middle.at a.state (element-kind a.place.listing) read.3 a.goes.4 whole
-    (subst (λ n. IsDigitsAt s.bytes n ds middle.at) there read.5) ended.0))
+    record {
+      own = t;
+      bytes = written ++ [];
+      prints = subst (λ l. Prints (detail_of s) t l false) (sym (append-nil written)) (integer-prints letter negative ds read.3 filled (number-unmarked s.bytes _ ds _ read.5));
+      reads = reads-then old middle new written [] (reads-then old begun middle [] written nothing read.6) ended.2;
+      goes_on = λ kind around os st is expects. subst (λ n. ListGoesOn s kind os around t n st) (sym ended.1)
+          (integer-element s kind os around letter negative ds old.at middle.at st is read.3 expects whole
+          (subst (λ n. IsDigitsAt s.bytes n ds middle.at) there read.5) ended.0);
+    }
 
 -- ## Enumerators
 
@@ -318,9 +330,7 @@ enumerator-expected s old begun pushed new a stands next nothing writes text can
       stands = subst (λ ws. Stands s a.scope ws e.inner new.text.list.items)
           (sym (ap reverse waiting ∙ reverse-last old.waiting.list.items opens.Enumerator))
           (enumerator-stands s a.scope (reverse old.waiting.list.items) new.text.list.items e.inner
-          (listing-at (reverse old.waiting.list.items) old.text.list.items (reverse old.waiting.list.items) new.text.list.items p p.belongs
-          (subst (λ l. IsTemplate (detail_of s) a.scope.names p.owner p.front p.template p.name l) (sym written)
-          (template-stays (detail_of s) a.scope.names p.owner p.front p.template p.name old.text.list.items (codes "(") p.is_template)))
+          (listing-stays (reverse old.waiting.list.items) (codes "(") new.text.list.items p refl written)
           a.ts a.texts a.elements (written ∙ ap (λ l. l ++ codes "(") a.written)
           (λ t here now comes negative digits end minus digits_there ended.
           element-goes-on s (element_kind p.listing) (scoped_in p.owner (below s a.scope p.rest))
@@ -375,8 +385,6 @@ enumerator-read s old begun pushed middle new a other text candidates scope_same
     let t = integer a.type n in
     let here : pushed.at ≡ old.at = writes.at ∙ at in
     let p = a.place in
-    let extra = extra_of p.listing in
-    let noted = may_name p.listing p.owner in
     let front = led_by (detail_of s) p.listing p.front p.name in
     let before = in_front_of_next a.ts a.texts in
     let more = codes ")" ++ number_text n in
@@ -387,29 +395,14 @@ enumerator-read s old begun pushed middle new a other text candidates scope_same
     let filled : ds ≢ [] = λ none. absurd (omega (arith, read.3.is_number.digits.1, ap length read.3.own, ap (λ (l : List ℕ). length l) none)) in
     let prints = enumerator-prints a.type a.bytes a.is_reference a.prints (not-integer a.type a.bytes a.is_reference a.prints
     (no-integer-type old.text.list.items (front ++ before) a.bytes a.written other)) n (normal-filled ds filled) (normal-unmarked ds (number-unmarked s.bytes _ ds _ read.3)) in
-    record {
-      state = a.state;
-      scope = a.scope;
-      keeps = keeps-grown s old new more a.state.candidates wrote (ended.2.candidates ∙ read.4.candidates ∙ writes.candidates ∙ candidates)
-          (ended.2.scope ∙ read.4.scope ∙ writes.scope ∙ scope_same) a.keeps;
-      is_before = (
-        listing-at a.opened old.text.list.items (reverse new.waiting.list.items) new.text.list.items p
-            (subst (λ ws. Belongs (detail_of s) a.scope.names p.listing ws p.owner p.rest)
-            (sym (ap (λ v. reverse v.list.items) (ended.2.waiting ∙ read.4.waiting ∙ writes.waiting) ∙ waits)) p.belongs)
-            (subst (λ l. IsTemplate (detail_of s) a.scope.names p.owner p.front p.template p.name l) (sym wrote)
-            (template-stays (detail_of s) a.scope.names p.owner p.front p.template p.name old.text.list.items more p.is_template)),
-        a.ts ++ t ∷ [],
-        before ++ own,
-        next-prints-as (detail_of s) a.scope.names noted extra a.ts a.texts t own a.elements
-            (element-as (detail_of s) a.scope.names noted extra t own (type-element extra t own false prints)),
-        wrote ∙ ap (λ l. l ++ more) a.written ∙ rejoined front before a.bytes (sign_text n) n.digits,
-        λ first. absurd (false≢true first),
-        λ further. some-elements a.ts t,
-        subst (λ k. GoesOn s p.listing p.owner (below s a.scope p.rest) p.front p.template (a.ts ++ t ∷ []) k a.state) (sym ended.1)
-            (a.goes negative ds middle.at (subst (λ k. StandsAt s.bytes k (minus_sign negative)) here read.2)
-            (subst (λ k. IsDigitsAt s.bytes (k + length (minus_sign negative)) ds middle.at) here read.3) ended.0),
-      );
-    }
+    element-added s new a.state p more a.ts a.texts t own
+    (keeps-grown s old new more a.state.candidates wrote (ended.2.candidates ∙ read.4.candidates ∙ writes.candidates ∙ candidates)
+    (ended.2.scope ∙ read.4.scope ∙ writes.scope ∙ scope_same) a.keeps) a.elements (type-element (extra_of p.listing) t own false prints)
+    (ap (λ v. reverse v.list.items) (ended.2.waiting ∙ read.4.waiting ∙ writes.waiting) ∙ waits) wrote
+    (ap (λ l. l ++ more) a.written ∙ rejoined front before a.bytes (sign_text n) n.digits)
+    (subst (λ k. GoesOn s p.listing p.owner (below s a.scope p.rest) p.front p.template (a.ts ++ t ∷ []) k a.state) (sym ended.1)
+    (a.goes negative ds middle.at (subst (λ k. StandsAt s.bytes k (minus_sign negative)) here read.2)
+    (subst (λ k. IsDigitsAt s.bytes (k + length (minus_sign negative)) ds middle.at) here read.3) ended.0))
   where
     rejoined : (f b t s d : List ℕ)
         → (f ++ b ++ codes "(" ++ t) ++ (codes ")" ++ (s ++ d)) ≡ f ++ (b ++ (codes "(" ++ t ++ codes ")" ++ s ++ d))

@@ -1,5 +1,5 @@
 -- Types that are in functions, from their Z to their end.
-use Rattle.std.proofs.Common.{◌≡◌, ◌≢◌, refl, ap, sym, ◌∙◌, subst, inl, inr, ℕ, ◌+◌, List, [], ◌∷◌, ◌++◌, length, reverse, take, ◌≤◌, true, false, Option, None, Some, arith, codes, length-append, append-nil, append_assoc}
+use Rattle.std.proofs.Common.{◌≡◌, ◌≢◌, refl, ap, sym, ◌∙◌, subst, inl, inr, ℕ, ◌+◌, List, [], ◌∷◌, ◌++◌, length, reverse, take, ◌≤◌, true, false, Option, None, Some, arith, codes, length-append, append-nil, append_assoc, Bool}
 use Rattle.std.specs.Prelude.{decimal}
 use Rattle.std.proofs.lemmas.Bool.{false≢true}
 use Rattle.std.proofs.Math.Seq.{take-append_seam}
@@ -12,7 +12,7 @@ use Rattle.cpp_grammar.specs.Parts.{source_text, types_of}
 use Rattle.cpp_grammar.specs.Texts.{builtin_texts, look_up}
 use Rattle.cpp_grammar.specs.Scope.{has_return_type, arguments_of}
 use Rattle.cpp_grammar.specs.References.{is_function_type}
-use Rattle.cpp_grammar.specs.Values.{State, Value, local_number, nothing_there, tree, named, tree_of, qualifiers_of, ref_of}
+use Rattle.cpp_grammar.specs.Values.{State, Value, local_number, nothing_there, tree, named, tree_of}
 use Rattle.cpp_grammar.specs.Between.{after, in_name, in_types, no_items}
 use Rattle.cpp_grammar.specs.Meaning.{encoding_of, is_nil, is_void, parameters}
 use Rattle.cpp_direct.specs.declared.marks.MarkPlace.{MarkPlace}
@@ -29,30 +29,30 @@ use Rattle.cpp_direct.specs.HolesOfLists.{mark_letters, nest_marks}
 use Rattle.cpp_direct.specs.HolesOfLocals.{Discriminator, IsDiscriminatorAt, IsLambdaDigit, IsPieceAt, lambda_digits, lambda_ending, lambda_number, lambda_with, local_in}
 use Rattle.cpp_direct.specs.Bytes.{short_numbers}
 use Rattle.cpp_direct.specs.Marks.{IsMarkPlace, has_const, called_on, mark_text}
-use Rattle.cpp_direct.specs.Prints.{Prints, PrintsAs, PrintsName, PrintsPiece, Shows, Encloses, list_of}
-use Rattle.cpp_direct.specs.WriterInvariant.{AreCandidates, AreNamed, Below, IsEnclosing, IsNesting, IsOwn, IsScoped, IsWriting, ItemsGoOn, Keeps, LambdaWithin, Scope, Serves, Stands, TypeWithin, below, in_front_of_next, no_scope, nowhere, qualifiers}
+use Rattle.cpp_direct.specs.Prints.{Prints, PrintsName, PrintsPiece, Shows, Encloses, list_of}
+use Rattle.cpp_direct.specs.WriterInvariant.{AreCandidates, AreNamed, Below, IsEnclosing, IsNesting, IsOwn, IsWriting, ItemsGoOn, Keeps, LambdaWithin, Scope, Serves, Stands, TypeWithin, below, in_front_of_next, no_scope, nowhere, qualifiers}
 use Rattle.cpp_direct.specs.MidStep.{AwaitsNamedType, AwaitsNest, IsElementRead}
-use Rattle.cpp_direct.specs.MidStepOfLocals.{AwaitsEnclosingParameters, AwaitsTypeName, IsEnclosingInstance, IsEnclosingNamed, IsEnclosingParameterRead, IsEnclosingRead, IsLambdaParameterRead}
+use Rattle.cpp_direct.specs.MidStepOfLocals.{AwaitsEnclosingParameters, AwaitsTypeName, IsEnclosingNamed, IsEnclosingParameterRead, IsEnclosingRead, IsLambdaParameterRead}
 use Rattle.cpp_direct.specs.Written.{AreKeptTo, Writes, Reads, added}
 use Rattle.cpp_direct.proofs.Ending.{behind-two, behind-three, behind-five, next-written, parameter-goes_on, plain-text, qualifiers-text, void-read}
 use Rattle.cpp_direct.proofs.NamePlaces.{reads-of, reads-then}
-use Rattle.cpp_direct.proofs.Kept.{candidates-kept, keeps-grown, keeps-read, keeps-same, keeps-with, keeps-written, none-named, reverse-last}
+use Rattle.cpp_direct.proofs.Kept.{candidates-kept, keeps-grown, keeps-read, keeps-same, keeps-written, none-named, reverse-last, type-comes, value-added}
 use Rattle.cpp_direct.proofs.Listed.{some-elements}
 use Rattle.cpp_direct.proofs.Moves.{expects-empty, stands-join}
 use Rattle.cpp_direct.proofs.MovesOfEncodings.{encoding-opens, name-nested, name-source}
 use Rattle.cpp_direct.proofs.MovesOfLists.{element-awaits}
 use Rattle.cpp_direct.proofs.MovesOfLocals.{lambda-opens, lambda-piece, lambda_bytes, local-type-opens, nowhere-scoped, number-is}
-use Rattle.cpp_direct.proofs.Nesting.{nest-comes}
+use Rattle.cpp_direct.proofs.Nesting.{nest-comes, closed-prints}
 use Rattle.cpp_direct.proofs.PrintedLists.{list-with-none, all-in, element-in, next-prints, next-prints-in, none-print, none-print-in}
 use Rattle.cpp_direct.proofs.PrintedParts.{has-none, has-parameters}
 use Rattle.cpp_direct.proofs.PrintedLocals.{function-encloses, name-encloses, object-enclosing, returned-enclosing, lambda-prints, lambda-list-prints, local-prints}
 use Rattle.cpp_direct.proofs.PrintedNames.{as-name, source-prints}
 use Rattle.cpp_direct.proofs.PrintedSymbols.{encoding-plain, function-shows, encoding-returned, object-encoded, parameters-kept, void-shows}
+use Rattle.cpp_direct.proofs.Scopes.{member-named, none-scoped, plain-named}
 use Rattle.cpp_direct.specs.WrittenParts.{IsUnmarked}
 use Rattle.cpp_direct.proofs.Unmarked.{name-unmarked, is-no-mark, more-unmarked}
 use Rattle.cpp_direct.proofs.TypesRead.{builtin-listed, no-builtin}
 use Rattle.cpp_direct.proofs.MovesOfTypes.{builtin-comes}
-use Rattle.cpp_direct.proofs.Scopes.{none-scoped}
 
 -- ## Names
 
@@ -130,8 +130,8 @@ nest-within s old first second place a letter next nested then_ is =
 pub source-within : (s : Symbol) (old start new : Direct) (name : List ℕ) (from : ℕ) → AwaitsNamedType s old → StandsAt s.bytes old.at (90 ∷ [])
     → start.text ≡ old.text → start.candidates ≡ old.candidates → start.waiting ≡ old.waiting → start.has_scope ≡ old.has_scope
     → start.at ≡ old.at + 1 → IsNameAt s.bytes start.at name new.at → name ≢ [] → Reads start new (source_text name) → from ≡ length start.text.list.items
-    → IsEnclosingNamed s new marks.Plain from
-unfolding may_be_empty tree_of qualifiers_of ref_of has_return_type arguments_of in_name
+    → IsEnclosingNamed s new marks.Plain false from
+unfolding may_be_empty has_return_type arguments_of in_name
 source-within s old start new name from a letter same_text same_candidates same_waiting same_scope at_is is filled reads from_is =
     let own = alone (source false name) in
     let e = name-opens s old a letter in
@@ -145,34 +145,24 @@ source-within s old start new name from a letter same_text same_candidates same_
           (keeps-same s old start a.state.candidates same_text same_candidates same_scope a.keeps);
       own = own;
       v = tree own false;
-      tree_is = refl;
-      qualifiers_are = refl;
-      mark_is = refl;
+      named_so = plain-named own;
       front = front;
       name = source_text name;
       written = reads.text ∙ ap (λ v. v.list.items ++ source_text name) same_text;
       from_is = from_is ∙ ap (λ v. length v.list.items) same_text;
       prints = as-name own (source_text name) false (source-prints false name filled (name-unmarked s.bytes start.at name new.at is));
-      no_return = refl;
+      returns = refl;
       goes = subst (λ v. ItemsGoOn s nowhere (TypeWithin s (below s a.scope (reverse v.list.items)) front) (λ l. encoding_of (tree own false) l) [] new.at a.state)
           (sym (reads.waiting ∙ same_waiting))
           (e.onward (tree own false) new.at a.state
           (named_.bare new.at a.state (expects-empty s Kind.MaybeArguments (after own false here) named_.inner new.at a.state named_.awaits refl)));
     }
 
--- a nested one names no arguments
-enclosing-closed : (s : Symbol) (scope : Scope) (w : Direct) (st : State) (t : Term) (mark : Mark) (n : IsNesting s scope Kind.NestTail w t st)
-    → w.nest.purpose ≡ purposes.Enclosing mark → Prints (detail_of s) t n.bytes false
-enclosing-closed s scope w st t mark n is_name =
-    let own : IsOwn w.nest.purpose = subst (λ p. IsOwn p) (sym is_name) tt in
-    subst (λ d. PrintsAs (detail_of s) scope.names d t n.bytes false) (n.is_nest.closed own) n.is_nest.prints
-
 -- a nested one is read
-pub name-within : (s : Symbol) {scope : Scope} (old : Direct) (st : State) (t : Term) (mark : Mark)
-    → Keeps s scope old st.candidates → IsNesting s scope Kind.NestTail old t st → has_return_type t ≡ false → StandsAt s.bytes old.at (69 ∷ [])
-    → old.nest.purpose ≡ purposes.Enclosing mark → IsEnclosingNamed s (record old { at = old.at + 1 }) mark old.nest.from
-unfolding tree_of qualifiers_of ref_of
-name-within s {scope = scope} old st t mark keeps n no_return here is_name =
+pub name-within : (s : Symbol) {scope : Scope} (old : Direct) (st : State) (t : Term) (mark : Mark) (is_instance : Bool)
+    → Keeps s scope old st.candidates → IsNesting s scope Kind.NestTail old t st → has_return_type t ≡ is_instance → StandsAt s.bytes old.at (69 ∷ [])
+    → old.nest.purpose ≡ purposes.Enclosing mark → IsEnclosingNamed s (record old { at = old.at + 1 }) mark is_instance old.nest.from
+name-within s {scope = scope} old st t mark is_instance keeps n returns here is_name =
     let serves = subst (λ p. Serves s p (below s scope (reverse old.waiting.list.items)) n.outer n.front) is_name n.serves in
     record {
       state = st;
@@ -180,39 +170,12 @@ name-within s {scope = scope} old st t mark keeps n no_return here is_name =
       keeps = keeps-same s old (record old { at = old.at + 1 }) st.candidates refl refl refl keeps;
       own = t;
       v = named t (qualifiers (has_const mark)) (called_on mark);
-      tree_is = refl;
-      qualifiers_are = refl;
-      mark_is = refl;
+      named_so = member-named t mark;
       front = n.front;
       name = n.bytes;
       written = n.written;
       from_is = n.is_nest.from_is;
-      prints = as-name t n.bytes false (enclosing-closed s scope old st t mark n is_name);
-      no_return = no_return;
-      goes = serves t old.nest.is_listed (old.at + 1) st (nest-comes s old st t n here);
-    }
-
--- an instance is read, whose return type is expected
-pub instance-within : (s : Symbol) {scope : Scope} (old : Direct) (st : State) (t : Term) (mark : Mark)
-    → Keeps s scope old st.candidates → IsNesting s scope Kind.NestTail old t st → has_return_type t ≡ true → StandsAt s.bytes old.at (69 ∷ [])
-    → old.nest.purpose ≡ purposes.Enclosing mark → IsEnclosingInstance s (record old { at = old.at + 1 }) mark old.nest.from
-unfolding tree_of qualifiers_of ref_of
-instance-within s {scope = scope} old st t mark keeps n returns here is_name =
-    let serves = subst (λ p. Serves s p (below s scope (reverse old.waiting.list.items)) n.outer n.front) is_name n.serves in
-    record {
-      state = st;
-      scope = scope;
-      keeps = keeps-same s old (record old { at = old.at + 1 }) st.candidates refl refl refl keeps;
-      own = t;
-      v = named t (qualifiers (has_const mark)) (called_on mark);
-      tree_is = refl;
-      qualifiers_are = refl;
-      mark_is = refl;
-      front = n.front;
-      name = n.bytes;
-      written = n.written;
-      from_is = n.is_nest.from_is;
-      prints = as-name t n.bytes false (enclosing-closed s scope old st t mark n is_name);
+      prints = as-name t n.bytes false (closed-prints scope.names (n.is_nest.closed (subst IsOwn (sym is_name) tt)) n.is_nest.prints);
       returns = returns;
       goes = serves t old.nest.is_listed (old.at + 1) st (nest-comes s old st t n here);
     }
@@ -220,7 +183,7 @@ instance-within s {scope = scope} old st t mark keeps n returns here is_name =
 -- ## Parameters
 
 -- a function without a return type awaits its parameters
-pub plain-awaits : (s : Symbol) (w : Direct) (mark : Mark) (from : ℕ) → IsEnclosingNamed s w mark from → AwaitsEnclosingParameters s w mark from
+pub plain-awaits : (s : Symbol) (w : Direct) (mark : Mark) (from : ℕ) → IsEnclosingNamed s w mark false from → AwaitsEnclosingParameters s w mark from
 plain-awaits s w mark from p = record {
   state = p.state;
   scope = p.scope;
@@ -231,7 +194,7 @@ plain-awaits s w mark from p = record {
   is_enclosing = record {
     own = p.own;
     returned = absent;
-    makes = encoding-plain p.v mark p.own p.tree_is p.qualifiers_are p.mark_is p.no_return;
+    makes = encoding-plain p.v mark p.own p.named_so p.returns;
     prints = p.prints;
     elements = none-print-in (detail_of s) (types_of p.own) 6;
   };
@@ -241,7 +204,7 @@ plain-awaits s w mark from p = record {
 }
 
 -- and so does one after its return type, which is a builtin one
-pub returned-awaits : (s : Symbol) (w : Direct) (n : ℕ) (mark : Mark) (from letter : ℕ) → IsEnclosingInstance s w mark from
+pub returned-awaits : (s : Symbol) (w : Direct) (n : ℕ) (mark : Mark) (from letter : ℕ) → IsEnclosingNamed s w mark true from
     → look_up (letter ∷ []) builtin_texts ≢ [] → (letter ≢ 0 → StandsAt s.bytes w.at (letter ∷ [])) → n ≡ w.at + 1
     → AwaitsEnclosingParameters s (record w { at = n }) mark from
 returned-awaits s w n mark from letter p has stands at_is =
@@ -263,7 +226,7 @@ returned-awaits s w n mark from letter p has stands at_is =
       is_enclosing = record {
         own = p.own;
         returned = r;
-        makes = λ t rest. encoding-returned p.v mark p.own p.tree_is p.qualifiers_are p.mark_is p.returns r (list t rest);
+        makes = λ t rest. encoding-returned p.v mark p.own p.named_so p.returns r (list t rest);
         prints = p.prints;
         elements = none-print-in (detail_of s) (types_of p.own) 6;
       };
@@ -295,19 +258,8 @@ parameter-expected s scope w st mark from to rest front make ts name texts keeps
           parameter-goes_on s nowhere (TypeWithin s (below s scope rest) front) make ts w.at st p t here now (element.onward t here now comes),
       to_is,
     ) in
-    record {
-      state = st;
-      scope = scope;
-      keeps = keeps;
-      is_before = (
-        element.inner,
-        p.around,
-        p.outside,
-        inr (inl element.awaits),
-        subst (λ os. Stands s scope os element.inner w.text.list.items) (sym open_is) stands,
-        subst (λ os. IsScoped scope p.around os) (sym open_is) (none-scoped scope p.around (opens.Enclosing mark from to ∷ rest) refl),
-      );
-    }
+    type-comes s w w st p.around element.inner keeps refl refl refl open_is p.outside (inr (inl element.awaits)) stands
+    (none-scoped scope p.around (opens.Enclosing mark from to ∷ rest) refl)
 
 -- the first one comes next
 pub first-within : (s : Symbol) (w first last : Direct) (mark : Mark) (from to : ℕ) → AwaitsEnclosingParameters s w mark from
@@ -374,14 +326,14 @@ parameter-read-within s w mark from to p =
 -- ## Ends
 
 -- a name without items is read
-pub object-within : (s : Symbol) (w : Direct) (mark : Mark) (from : ℕ) → IsEnclosingNamed s w mark from → IsEnclosingRead s w mark from
+pub object-within : (s : Symbol) (w : Direct) (mark : Mark) (from : ℕ) → IsEnclosingNamed s w mark false from → IsEnclosingRead s w mark from
 unfolding no_items may_be_empty
 object-within s w mark from p =
     let b = p.name in
     let q = mark_text mark in
     let shows : Shows (detail_of s) (encoding_of p.v nil) (b ++ q) =
-    subst (λ l. Shows (detail_of s) (encoding_of p.v nil) (b ++ l)) (qualifiers-text p.v mark p.qualifiers_are p.mark_is)
-    (object-encoded p.v b (subst (λ t. PrintsName (detail_of s) t b) (sym p.tree_is) p.prints)) in
+    subst (λ l. Shows (detail_of s) (encoding_of p.v nil) (b ++ l)) (qualifiers-text p.v mark p.own p.named_so)
+    (object-encoded p.v b (subst (λ t. PrintsName (detail_of s) t b) (sym p.named_so.tree_is) p.prints)) in
     record {
       state = p.state;
       scope = p.scope;
@@ -652,20 +604,10 @@ lambda-begun s old new from a short stands text candidates scope at waiting =
             );
           },
     ) in
-    record {
-      state = r.state;
-      scope = r.scope;
-      keeps = keeps-grown s old new lambda_front r.state.candidates text candidates scope
-          (keeps-same s (record old { at = a.before }) old r.state.candidates refl refl refl r.keeps);
-      is_before = (
-        first.inner,
-        first.around,
-        first.outside,
-        inr (inl (subst (λ k. Expects s Kind.Item first.around first.inner k r.state) (omega (arith, at, a.at_is)) first.awaits)),
-        subst (λ ws. Stands s r.scope ws first.inner new.text.list.items) (sym opened_) stands_,
-        subst (λ ws. IsScoped r.scope first.around ws) (sym opened_) (none-scoped r.scope first.around (opens.Lambda from ∷ rest) refl),
-      );
-    }
+    type-comes s new new r.state first.around first.inner (keeps-grown s old new lambda_front r.state.candidates text candidates scope
+    (keeps-same s (record old { at = a.before }) old r.state.candidates refl refl refl r.keeps)) refl refl refl opened_ first.outside
+    (inr (inl (subst (λ k. Expects s Kind.Item first.around first.inner k r.state) (omega (arith, at, a.at_is)) first.awaits))) stands_
+    (none-scoped r.scope first.around (opens.Lambda from ∷ rest) refl)
 
 -- a parameter of one is read
 pub lambda-parameter-read : (s : Symbol) (w : Direct) (from : ℕ) → IsElementRead s w (opens.Lambda from) → IsLambdaParameterRead s w from
@@ -712,19 +654,8 @@ lambda-next s w last from p one =
       one.text ∙ ap (λ l. l ++ codes ", ") p.written ∙ append_assoc led p.texts (codes ", ") ∙ ap (λ l. led ++ l) (sym (next-written p.ts p.texts p.some)),
       λ t here now comes. parameter-goes_on s nowhere (LambdaWithin s below_ p.front p.e) (λ l. l) p.ts last.at p.state goes t here now (element.onward t here now comes),
     ) in
-    record {
-      state = p.state;
-      scope = p.scope;
-      keeps = keeps-written s w last (codes ", ") p.state.candidates one p.keeps;
-      is_before = (
-        element.inner,
-        goes.around,
-        goes.outside,
-        inr (inl element.awaits),
-        subst (λ ws. Stands s p.scope ws element.inner last.text.list.items) (sym opened_) stands_,
-        subst (λ ws. IsScoped p.scope goes.around ws) (sym opened_) (none-scoped p.scope goes.around (opens.Lambda from ∷ p.rest) refl),
-      );
-    }
+    type-comes s last last p.state goes.around element.inner (keeps-written s w last (codes ", ") p.state.candidates one p.keeps) refl refl refl opened_ goes.outside
+    (inr (inl element.awaits)) stands_ (none-scoped p.scope goes.around (opens.Lambda from ∷ p.rest) refl)
 
 whole-text : (f b l n : List ℕ) → ((f ++ (b ++ lambda_front)) ++ l) ++ codes ")#" ++ (n ++ codes "}")
     ≡ f ++ (b ++ codes "::" ++ (codes "{lambda(" ++ l ++ codes ")#" ++ n ++ codes "}"))
@@ -774,27 +705,14 @@ lambda-done s w begun pushed numbered popped_ last new from p apart ends same_te
     three.text ∙ append-nil popped_.text.list.items ∙ ap (λ v. v.list.items) popped_text ∙ two.text
     ∙ ap (λ l. l ++ (num ++ codes "}")) (one.text ∙ ap (λ v. v.list.items ++ codes ")#") same_text ∙ ap (λ l. l ++ codes ")#") p.written)
     ∙ whole-text p.front p.bytes p.texts num in
-    let st = with_candidate ends_with.1 own p.state in
     let begun_ = keeps-same s w begun p.state.candidates same_text same_candidates same_scope p.keeps in
     let numbered_ = keeps-read s pushed numbered (num ++ codes "}") p.state.candidates two (keeps-written s begun pushed (codes ")#") p.state.candidates one begun_) in
     let read = keeps-read s popped_ last [] p.state.candidates three
     (keeps-same s numbered popped_ p.state.candidates popped_text popped_candidates popped_scope numbered_) in
-    record {
-      state = st;
-      scope = p.scope;
-      keeps = keeps-with s last new p.state p.front bytes from own ends_with.1 false false read written p.from_is shown (λ e. absurd (false≢true e)) text candidates scope;
-      is_before = (
-        ends_with.0,
-        own,
-        p.front,
-        bytes,
-        ap (λ v. v.list.items) text ∙ written,
-        shown,
-        (λ e. absurd (false≢true e)),
-        subst (λ k. Comes s ends_with.0 (tree own true) k st) (sym here) (ends_with.2 number popped_.at digit last.at is ending middle told),
-        subst (λ ws. Stands s p.scope ws ends_with.0 p.front) (sym (ap (λ v. reverse v.list.items) (waiting ∙ three.waiting) ∙ waits)) ends_with.3,
-      );
-    }
+    value-added s last new p.state ends_with.0 ends_with.1 own p.front bytes from false false read written p.from_is shown (λ e. absurd (false≢true e)) text candidates
+    scope (ap (λ v. reverse v.list.items) (waiting ∙ three.waiting) ∙ waits) (λ e. absurd (false≢true e))
+    (subst (λ k. Comes s ends_with.0 (tree own true) k (with_candidate ends_with.1 own p.state)) (sym here)
+    (ends_with.2 number popped_.at digit last.at is ending middle told)) ends_with.3
 
 -- ## The type
 
@@ -815,25 +733,11 @@ type-within s old pushed read last new from awaits one p n is prints two digit t
     let written : last.text.list.items ≡ a.front ++ bytes =
     whole.text ∙ ap (λ l. old.text.list.items ++ l) (append-nil (codes "::" ++ n)) ∙ sym (append_assoc old.text.list.items (codes "::") n)
     ∙ ap (λ l. l ++ codes "::" ++ n) old_written ∙ behind-three a.front a.bytes (codes "::") n in
-    let st = with_candidate w.1 t a.state in
     let shown = local-prints a.e a.bytes a.encloses p n prints digit in
     let kept = keeps-read s old last (codes "::" ++ n ++ []) a.state.candidates whole
     (keeps-same s (record old { at = awaits.before }) old a.state.candidates refl refl refl a.keeps) in
     let named_ = subst (λ k. IsPieceAt s k p read.at) (one.at ∙ awaits.at_is) is in
-    record {
-      state = st;
-      scope = a.scope;
-      keeps = keeps-with s last new a.state a.front bytes from t w.1 false false kept written a.from_is shown (λ e. absurd (false≢true e)) text candidates scope;
-      is_before = (
-        w.0,
-        t,
-        a.front,
-        bytes,
-        ap (λ v. v.list.items) text ∙ written,
-        shown,
-        (λ e. absurd (false≢true e)),
-        subst (λ k. Comes s w.0 (tree t true) k st) (sym here)
-            (entity.onward p read.at a.state (named_ entity.inner entity.around a.e a.state entity.awaits) digit last.at told),
-        subst (λ v. Stands s a.scope (reverse v.list.items) w.0 a.front) (sym (waiting ∙ whole.waiting)) w.3,
-      );
-    }
+    value-added s last new a.state w.0 w.1 t a.front bytes from false false kept written a.from_is shown (λ e. absurd (false≢true e)) text candidates scope
+    (ap (λ v. reverse v.list.items) (waiting ∙ whole.waiting)) (λ e. absurd (false≢true e))
+    (subst (λ k. Comes s w.0 (tree t true) k (with_candidate w.1 t a.state)) (sym here)
+    (entity.onward p read.at a.state (named_ entity.inner entity.around a.e a.state entity.awaits) digit last.at told)) w.3

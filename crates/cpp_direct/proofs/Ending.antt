@@ -1,5 +1,4 @@
 -- How a symbol ends: its encoding's name, its parameters, and what follows them.
-use Rattle.sym_print.specs.declared.detail.Detail.{Detail}
 use Rattle.cpp_grammar.specs.Scope.{arguments_of}
 use Rattle.std.proofs.Common.{◌≡◌, ◌≢◌, ◌⊎◌, refl, ap, sym, ◌∙◌, subst, ℕ, ◌+◌, ◌-◌, ◌≤◌, List, [], ◌∷◌, ◌++◌, length, take, drop, reverse, inl, inr, Bool, true, false, nat_eq, arith, codes, append-nil, append_assoc}
 use Rattle.std.specs.List.{ends_with}
@@ -26,11 +25,11 @@ use Rattle.cpp_direct.specs.Holes.{StandsAt, ListGoesOn}
 use Rattle.cpp_direct.specs.HolesOfLists.{IsSuffix}
 use Rattle.cpp_direct.specs.Marks.{has_const, called_on, mark_text}
 use Rattle.cpp_direct.specs.Prints.{PrintsName, Shows, Encloses, list_of}
-use Rattle.cpp_direct.specs.WriterInvariant.{AwaitsItems, Encoded, EndsBehind, EncodedBehind, Fronts, IsWhole, IsWriting, HasScope, IsFunction, IsScoped, ItemsGoOn, Keeps, ParametersGoOn, Scope, Stands, no_scope, qualifiers, in_front_of_next}
+use Rattle.cpp_direct.specs.WriterInvariant.{AwaitsItems, Encoded, EndsBehind, EncodedBehind, Fronts, IsWhole, IsWriting, HasScope, IsFunction, ItemsGoOn, Keeps, ParametersGoOn, Scope, Stands, no_scope, qualifiers, in_front_of_next, IsNamedSo}
 use Rattle.cpp_direct.specs.MidStep.{AwaitsNextParameter, IsNameEnded, IsNameScoped, AwaitsParameters, IsParameterEnded, IsFunctionEnded, IsEncodingEnded, IsSymbolEnded}
 use Rattle.cpp_direct.specs.Written.{Writes, Cuts}
 use Rattle.cpp_direct.proofs.Unmarked.{suffix-unmarked}
-use Rattle.cpp_direct.proofs.Kept.{keeps-as, keeps-same, keeps-written, none-kept, reverse-last}
+use Rattle.cpp_direct.proofs.Kept.{keeps-as, keeps-same, keeps-written, none-kept, reverse-last, type-comes}
 use Rattle.cpp_direct.proofs.Moves.{expects-empty}
 use Rattle.cpp_direct.proofs.MovesOfLists.{element-awaits}
 use Rattle.cpp_direct.proofs.MovesOfTypes.{builtin-comes}
@@ -139,9 +138,8 @@ plain-text marks.ConstLvalue = refl
 plain-text marks.Rvalue = refl
 plain-text marks.ConstRvalue = refl
 
-pub qualifiers-text : (v : Value) (mark : Mark) → qualifiers_of v ≡ qualifiers (has_const mark) → ref_of v ≡ called_on mark
-    → encoding_text (qualifiers_of v) (ref_of v) ≡ mark_text mark
-qualifiers-text v mark e f = rw (e, f) (plain-text mark)
+pub qualifiers-text : (v : Value) (mark : Mark) (own : Term) → IsNamedSo v own mark → encoding_text (qualifiers_of v) (ref_of v) ≡ mark_text mark
+qualifiers-text v mark own is = rw (is.qualifiers_are, is.mark_is) (plain-text mark)
 
 -- what follows a text is written in two or more pieces
 pub behind-two : (lead a q : List ℕ) → lead ++ a ++ q ≡ lead ++ (a ++ q)
@@ -164,8 +162,8 @@ object-ended s w mark is_instance argument_ from p =
     let behind : EncodedBehind s p.lead (encoding_of p.v nil) w.at = p.awaits.onward nothing_there w.at p.state
     (expects-empty s Kind.Items p.awaits.around p.awaits.inner w.at p.state p.awaits.awaits refl) in
     let shows : Shows (detail_of s) (encoding_of p.v nil) (b ++ q) =
-    subst (λ l. Shows (detail_of s) (encoding_of p.v nil) (b ++ l)) (qualifiers-text p.v mark p.qualifiers_are p.mark_is)
-    (object-encoded p.v b (subst (λ t. PrintsName (detail_of s) t b) (sym p.tree_is) p.prints)) in
+    subst (λ l. Shows (detail_of s) (encoding_of p.v nil) (b ++ l)) (qualifiers-text p.v mark p.own p.named_so)
+    (object-encoded p.v b (subst (λ t. PrintsName (detail_of s) t b) (sym p.named_so.tree_is) p.prints)) in
     record {
       state = p.state;
       scope = p.scope;
@@ -225,20 +223,8 @@ parameter-expected s w mark start argument a =
       λ t here now comes. parameter-goes_on s argument (λ e there then_. EncodedBehind s a.lead e there) a.make a.ts w.at a.state p t here now
           (element.onward t here now comes),
     ) in
-    record {
-      state = a.state;
-      scope = a.scope;
-      keeps = a.keeps;
-      is_before = (
-        element.inner,
-        p.around,
-        p.outside,
-        inr (inl element.awaits),
-        subst (λ os. Stands s a.scope os element.inner w.text.list.items) (sym a.open_is) stands,
-        subst (λ os. IsScoped a.scope p.around os) (sym a.open_is)
-            (parameters-scoped a.scope p.around mark start argument a.rest a.is_function.named p.scoped),
-      );
-    }
+    type-comes s w w a.state p.around element.inner a.keeps refl refl refl a.open_is p.outside (inr (inl element.awaits)) stands
+    (parameters-scoped a.scope p.around mark start argument a.rest a.is_function.named p.scoped)
 
 pub no-text : (l : List ℕ) (from : ℕ) → from ≡ length l → from ≡ 0 → l ≡ []
 no-text [] from is none = refl
@@ -253,7 +239,7 @@ name-scoped s w mark is_instance argument from p =
       (λ k o. let n = e.names k o in record {
         own = n.own;
         all = n.all;
-        scope_is = e.awaits.scope_is ∙ ap arguments_of e.tree_is ∙ n.all_are;
+        scope_is = e.awaits.scope_is ∙ ap arguments_of e.named_so.tree_is ∙ n.all_are;
         there = n.there;
         elements = n.elements;
         alone = λ is_pack. (n.alone is_pack).0;
@@ -283,7 +269,7 @@ parameters-begin s w mark is_instance argument from start scoped plain none all 
       name = p.name;
       is_function = record {
         own = p.own;
-        makes = encoding-plain p.v mark p.own p.tree_is p.qualifiers_are p.mark_is (p.no_return plain);
+        makes = encoding-plain p.v mark p.own p.named_so (p.no_return plain);
         prints = p.prints;
         elements = none-print-in (detail_of s) (types_of p.own) 6;
         names = p.names;

@@ -1,7 +1,7 @@
 -- Functions that have a return type: it is read after the name, and written before it.
 use Rattle.cpp_direct.proofs.PrintedParts.{has-none, has-parameters}
 use Rattle.cpp_direct.proofs.PrintedLocals.{returned-enclosing, returned-shows}
-use Rattle.std.proofs.Common.{◌≡◌, refl, ap, sym, ◌∙◌, subst, ℕ, ◌-◌, List, [], ◌∷◌, ◌++◌, length, take, drop, reverse, inl, inr, Bool, true, false, arith, codes, append_assoc, ◌≢◌}
+use Rattle.std.proofs.Common.{◌≡◌, refl, ap, sym, ◌∙◌, subst, ℕ, ◌-◌, List, [], ◌∷◌, ◌++◌, length, take, drop, reverse, inl, inr, Bool, true, false, arith, codes, append_assoc}
 use Rattle.std.proofs.lemmas.Bool.{false≢true}
 use Rattle.std.proofs.Math.Seq.{take-append_seam}
 use Rattle.cpp_grammar.specs.declared.kind.Kind.{Kind}
@@ -20,11 +20,11 @@ use Rattle.cpp_direct.specs.declared.direct.Direct.{Direct}
 use Rattle.cpp_direct.specs.Bytes.{is_local}
 use Rattle.cpp_direct.specs.Holes.{Expects}
 use Rattle.cpp_direct.specs.Prints.{PrintsIn, Shows, Encloses}
-use Rattle.cpp_direct.specs.WriterInvariant.{EncodedBehind, Fronts, HasArguments, IsScoped, IsWriting, IsInstance, Keeps, ParametersGoOn, Scope, Stands, qualifiers, plain_encoding}
+use Rattle.cpp_direct.specs.WriterInvariant.{EncodedBehind, Fronts, HasArguments, IsWriting, IsInstance, Keeps, ParametersGoOn, Scope, Stands, qualifiers, plain_encoding}
 use Rattle.cpp_direct.specs.MidStep.{IsNameScoped, IsFrontRead, AwaitsParameters}
 use Rattle.cpp_direct.specs.Written.{Writes}
 use Rattle.cpp_direct.proofs.Ending.{name-scoped, no-text, none-go_on, parameter-goes_on}
-use Rattle.cpp_direct.proofs.Kept.{keeps-same, keeps-written, reverse-last}
+use Rattle.cpp_direct.proofs.Kept.{keeps-same, keeps-written, reverse-last, type-comes}
 use Rattle.cpp_direct.proofs.MovesOfLists.{element-awaits}
 use Rattle.cpp_direct.proofs.PrintedLists.{none-print-in}
 use Rattle.cpp_direct.proofs.Scopes.{arguments-stay, front-scoped}
@@ -39,9 +39,7 @@ front-begins s w new mark argument from start scoped apart start_is text candida
     let p = scoped.ended in
     let instance_ : IsInstance (detail_of s) p.scope w.text.list.items argument mark p.v p.name = record {
       own = p.own;
-      tree_is = p.tree_is;
-      qualifiers_are = p.qualifiers_are;
-      mark_is = p.mark_is;
+      named_so = p.named_so;
       prints = p.prints;
       returns = p.returns refl;
       names = p.names;
@@ -63,21 +61,9 @@ front-begins s w new mark argument from start scoped apart start_is text candida
           t here now (element.onward t here now comes),
     ) in
     let open_is = ap reverse waiting ∙ reverse-last w.waiting.list.items (opens.Front mark start argument) in
-    record {
-      state = p.state;
-      scope = p.scope;
-      keeps = keeps-same s w new p.state.candidates text candidates scope_same p.keeps;
-      is_before = (
-        element.inner,
-        goes.around,
-        goes.outside,
-        inr (inl (subst (λ n. Expects s Kind.Item goes.around element.inner n p.state) (sym at) element.awaits)),
-        subst (λ v. Stands s p.scope (reverse new.waiting.list.items) element.inner v.list.items) (sym text)
-            (subst (λ ws. Stands s p.scope ws element.inner w.text.list.items) (sym open_is) stands),
-        subst (λ ws. IsScoped p.scope goes.around ws) (sym open_is)
-            (front-scoped p.scope goes.around mark start argument (reverse w.waiting.list.items) scoped.named goes.scoped),
-      );
-    }
+    type-comes s w new p.state goes.around element.inner p.keeps text candidates scope_same open_is goes.outside
+    (inr (inl (subst (λ n. Expects s Kind.Item goes.around element.inner n p.state) (sym at) element.awaits))) stands
+    (front-scoped p.scope goes.around mark start argument (reverse w.waiting.list.items) scoped.named goes.scoped)
 
 -- it is read still where something else changes
 pub front-same : (s : Symbol) (w new : Direct) (mark : Mark) (start : ℕ) (argument : Arguments) → IsFrontRead s w mark start argument
@@ -104,7 +90,7 @@ front-same s w new mark start argument p text candidates scope_same at = record 
 
 -- a function's return type comes before what it shows without one
 turned : (s : Symbol) (scope : Scope) (argument : Arguments) (mark : Mark) (v : Value) (name text : List ℕ) (is : IsInstance (detail_of s) scope text argument mark v name)
-    (r : Term) (b : List ℕ) (is_reference : Bool) → PrintsIn (detail_of s) (types_of is.own) 2 r b is_reference → (items : Term) (at : ℕ) → s.is_bare ≡ false
+    (r : Term) (b : List ℕ) (is_reference : Bool) → PrintsIn (detail_of s) (types_of is.own) 3 r b is_reference → (items : Term) (at : ℕ) → s.is_bare ≡ false
     → is_local s.bytes ≡ false → EncodedBehind s [] (encoding_of v (list r items)) at
     → EncodedBehind s (b ++ codes " ") (plain_encoding mark is.own items) at
 turned s scope argument mark v name text is r b is_reference prints items at whole_ apart p = record {
@@ -113,7 +99,7 @@ turned s scope argument mark v name text is r b is_reference prints items at who
     encoded = w.encoded;
     shows = λ bytes shows. w.shows (b ++ codes " " ++ bytes)
         (subst (λ t. Shows (detail_of s) t (b ++ codes " " ++ bytes))
-        (sym (encoding-returned v mark is.own is.tree_is is.qualifiers_are is.mark_is is.returns r items))
+        (sym (encoding-returned v mark is.own is.named_so is.returns r items))
         (front-shows (has-parameters s whole_) is.own (qualifiers (has_const mark)) (called_on mark) (parameters items) bytes shows r b is_reference prints));
   };
   entity = λ e. absurd (false≢true (sym apart ∙ e));
@@ -195,7 +181,7 @@ hidden-return s scope lead argument mark v name text is r local_ items at p = re
     encoded = w.encoded;
     shows = λ bytes encloses. w.shows bytes
         (subst (λ t. Encloses (detail_of s) t bytes)
-        (sym (encoding-returned v mark is.own is.tree_is is.qualifiers_are is.mark_is is.returns r items))
+        (sym (encoding-returned v mark is.own is.named_so is.returns r items))
         (returned-enclosing (detail_of s) is.own (qualifiers (has_const mark)) (called_on mark) r (parameters items) bytes encloses));
   };
 }
@@ -223,7 +209,7 @@ bare-return : (s : Symbol) (scope : Scope) (lead : List ℕ) (argument : Argumen
     (is : IsInstance (detail_of s) scope text argument mark v name) (r : Term) → s.is_bare ≡ true → (items : Term) (at : ℕ) → EncodedBehind s lead (encoding_of v (list r items)) at
     → EncodedBehind s lead (plain_encoding mark is.own items) at
 bare-return s scope lead argument mark v name text is r bare items at p =
-    let returns = sym (encoding-returned v mark is.own is.tree_is is.qualifiers_are is.mark_is is.returns r items) in
+    let returns = sym (encoding-returned v mark is.own is.named_so is.returns r items) in
     record {
       whole = λ e. let w = p.whole e in record {
         made = w.made;

@@ -14,10 +14,11 @@ use Rattle.cpp_direct.specs.declared.open.Step.TheVariants as steps
 use Rattle.cpp_direct.specs.declared.direct.Direct.{Direct}
 use Rattle.cpp_direct.specs.Holes.{Opened, Comes}
 use Rattle.cpp_direct.specs.Prints.{Names, PrintsAs, PrintsIn, IsElementIn, Shows}
-use Rattle.cpp_direct.specs.WriterInvariant.{HasArguments, IsNaming, IsTemplate, IsWriting, Keeps, Marks, AwaitsEnumerator, Belongs, Listing, Scope, of_template, of_pack, Stands, below, opening_text, extra_of, led_by, may_name, in_front_of_next, argument_of}
+use Rattle.cpp_direct.specs.WriterInvariant.{HasArguments, IsNaming, IsTemplate, IsWriting, Keeps, Marks, AwaitsEnumerator, Belongs, Listing, Scope, of_template, of_pack, Stands, below, opening_text, extra_of, led_by, in_front_of_next, argument_of}
 use Rattle.cpp_direct.specs.MidStep.{AwaitsMark, AwaitsNumber, AwaitsSignature, IsElementRead, IsFrontRead, IsParameterEnded, IsPassedClosed, IsReturned, IsSymbolEnded}
-use Rattle.cpp_direct.proofs.Listed.{TakesElements, last-found, list-waits, listing-at, some-elements}
-use Rattle.cpp_direct.proofs.PrintedLists.{element-as, element-in, next-prints, next-prints-as, next-prints-in, type-element}
+use Rattle.cpp_direct.proofs.Elements.{element-added}
+use Rattle.cpp_direct.proofs.Listed.{TakesElements, last-found, list-waits, some-elements}
+use Rattle.cpp_direct.proofs.PrintedLists.{element-in, next-prints, next-prints-in, type-element}
 use Rattle.cpp_direct.proofs.PrintedTypes.{as-in, type-element-in}
 use Rattle.cpp_direct.proofs.PrintedSymbols.{special-shows}
 use Rattle.cpp_direct.proofs.Kept.{made-here, template-stays}
@@ -253,27 +254,9 @@ pub argument-read : (s : Symbol) (w : Direct) (o : Open) → IsElementRead s w o
 argument-read s w o p takes =
     let waits = list-waits s o p.rest p.os p.front takes p.stands in
     let place = waits.place in
-    let front = p.front in
-    record {
-      state = p.state;
-      scope = p.scope;
-      keeps = p.keeps;
-      is_before = (
-        listing-at (o ∷ p.rest) front (reverse w.waiting.list.items) w.text.list.items place
-            (subst (λ ws. Belongs (detail_of s) p.scope.names place.listing ws place.owner place.rest) (sym p.open_is) place.belongs)
-            (subst (λ l. IsTemplate (detail_of s) p.scope.names place.owner place.front place.template place.name l) (sym p.written)
-            (template-stays (detail_of s) p.scope.names place.owner place.front place.template place.name front p.bytes place.is_template)),
-        waits.ts ++ p.own ∷ [],
-        in_front_of_next waits.ts waits.texts ++ p.bytes,
-        next-prints-as (detail_of s) p.scope.names (may_name place.listing place.owner) (extra_of place.listing) waits.ts waits.texts p.own p.bytes waits.elements
-            (element-as (detail_of s) p.scope.names (may_name place.listing place.owner) (extra_of place.listing) p.own p.bytes (p.element (extra_of place.listing))),
-        p.written ∙ ap (λ l. l ++ p.bytes) waits.written
-            ∙ append_assoc (led_by (detail_of s) place.listing place.front place.name) (in_front_of_next waits.ts waits.texts) p.bytes,
-        λ e. absurd (false≢true e),
-        λ e. some-elements waits.ts p.own,
-        waits.onward p.own w.at p.state p.comes,
-      );
-    }
+    element-added s w p.state place p.bytes waits.ts waits.texts p.own p.bytes p.keeps waits.elements (p.element (extra_of place.listing)) p.open_is p.written
+    (ap (λ l. l ++ p.bytes) waits.written ∙ append_assoc (led_by (detail_of s) place.listing place.front place.name) (in_front_of_next waits.ts waits.texts) p.bytes)
+    (waits.onward p.own w.at p.state p.comes)
 
 -- ## Return types
 
@@ -281,7 +264,7 @@ argument-read s w o p takes =
 pub front-got : (s : Symbol) {scope : Scope} (w : Direct) (is_reference : Bool) (mark : Mark) (start : ℕ) (argument : Arguments) (st : State) (rest : List Open) (os : List Opened)
     (t : Term) (front bytes : List ℕ) (waits : Stands s scope (opens.Front mark start argument ∷ rest) os front)
     → Keeps s scope w st.candidates → w.text.list.items ≡ front ++ bytes → Comes s os (tree t true) w.at st
-    → PrintsIn (detail_of s) (types_of waits.3.own) 2 t bytes is_reference → IsFrontRead s w mark start argument
+    → PrintsIn (detail_of s) (types_of waits.3.own) 3 t bytes is_reference → IsFrontRead s w mark start argument
 front-got s {scope = scope} w is_reference mark start argument st rest os t front bytes waits keeps written comes prints = record {
   state = st;
   scope = scope;

@@ -5,7 +5,7 @@ use Rattle.std.proofs.lemmas.Bool.{false≢true}
 use Rattle.std.proofs.lemmas.List.{reverse-append, reverse-reverse}
 use Rattle.std.proofs.Math.Seq.{drop-append_seam, take-append_seam}
 use Rattle.cpp_grammar.specs.Term.{Term}
-use Rattle.cpp_grammar.specs.Values.{State, Around}
+use Rattle.cpp_grammar.specs.Values.{State, Around, tree, outermost}
 use Rattle.cpp_direct.specs.Bytes.{is_local}
 use Rattle.cpp_direct.specs.WrittenParts.{opening_bracket}
 use Rattle.cpp_direct.specs.Symbol.{detail_of, Symbol}
@@ -14,9 +14,9 @@ use Rattle.cpp_direct.specs.declared.open.Argument.{Argument}
 use Rattle.cpp_direct.specs.declared.open.Nest.{Nest}
 use Rattle.cpp_direct.specs.declared.open.Open.{Open}
 use Rattle.cpp_direct.specs.declared.direct.Direct.{Direct}
-use Rattle.cpp_direct.specs.Holes.{Opened, candidate, with_candidate, unless_listed}
+use Rattle.cpp_direct.specs.Holes.{Comes, Opened, candidate, with_candidate, unless_listed}
 use Rattle.cpp_direct.specs.Prints.{Names, PrintsAs}
-use Rattle.cpp_direct.specs.WriterInvariant.{AreCandidates, AreNamed, ArgumentsGoOn, HasScope, IsBefore, IsCandidate, IsNaming, IsNest, IsPlaced, IsScopeOf, IsScoped, IsTemplate, Keeps, Scope, Stands, argument_of, arguments_in, below, encoding_place, is_within_type, no_scope, of_template, place_of}
+use Rattle.cpp_direct.specs.WriterInvariant.{AreCandidates, AreNamed, ArgumentsGoOn, ExpectsType, HasScope, IsBefore, IsCandidate, IsNaming, IsNest, IsPlaced, IsScopeOf, IsScoped, IsTemplate, IsWriting, Keeps, Scope, Stands, argument_of, arguments_in, below, encoding_place, is_within_type, no_scope, of_template, place_of}
 use Rattle.cpp_direct.specs.Written.{Writes, Reads, added, added_unless, IsKeptTo, AreKeptTo}
 use Rattle.std.specs.Prelude.{slice_set}
 use Rattle.cpp_grammar.specs.Values as values
@@ -108,18 +108,18 @@ placed-stays text more p bytes h = record {
 
 -- so are the arguments that may be named
 named-stays : (text more : List ℕ) (scope : Scope) → AreNamed text scope → AreNamed (text ++ more) scope
-named-stays text more scope named = λ number plain. let n = named number plain in (n.0, n.1, placed-stays text more (place_of scope.arguments number) n.0 n.2)
+named-stays text more scope named = λ number single. let n = named number single in (n.0, n.1, placed-stays text more (place_of scope.arguments number) n.0 n.2)
 
 -- nothing may be named
 pub none-named : (text : List ℕ) → AreNamed text no_scope
-none-named text zero plain = absurd (omega (arith, plain.0))
-none-named text (suc zero) plain = absurd (omega (arith, plain.0))
-none-named text (suc (suc zero)) plain = absurd (omega (arith, plain.0))
-none-named text (suc (suc (suc zero))) plain = absurd (omega (arith, plain.0))
-none-named text (suc (suc (suc (suc number)))) plain = absurd (omega (arith, plain.0))
+none-named text zero single = absurd (omega (arith, single.0))
+none-named text (suc zero) single = absurd (omega (arith, single.0))
+none-named text (suc (suc zero)) single = absurd (omega (arith, single.0))
+none-named text (suc (suc (suc zero))) single = absurd (omega (arith, single.0))
+none-named text (suc (suc (suc (suc number)))) single = absurd (omega (arith, single.0))
 
 none-own : (s : Symbol) → IsScopeOf s no_scope
-none-own s = record { encoded = λ real. absurd (real refl); plain = λ number bytes e. cc e }
+none-own s = record { encoded = λ real. absurd (real refl); single = λ number own e. cc e }
 
 -- there is no candidate, and nothing may be named
 pub none-kept : (s : Symbol) (w : Direct) → w.candidates.list.items ≡ [] → Keeps s no_scope w []
@@ -198,6 +198,57 @@ pub stands-same : (s : Symbol) (scope : Scope) (old new : Direct) (os : List Ope
 stands-same s scope old new os {ws = ws} text waits stands =
     subst (λ v. Stands s scope (reverse new.waiting.list.items) os v.list.items) (sym text) (subst (λ ws. Stands s scope ws os old.text.list.items) (sym waits) stands)
 
+-- a type comes next, for what was opened last
+pub type-comes : (s : Symbol) {scope : Scope} (old new : Direct) (st : State) (around : Around) (os : List Opened) {ws : List Open} → Keeps s scope old st.candidates
+    → new.text ≡ old.text → new.candidates ≡ old.candidates → new.has_scope ≡ old.has_scope → reverse new.waiting.list.items ≡ ws
+    → around.prefix ≡ outermost → ExpectsType s around os new.at st → Stands s scope ws os old.text.list.items → IsScoped scope around ws
+    → IsWriting s new steps.Type
+type-comes s {scope = scope} old new st around os keeps text candidates scope_same waits outside expects stands scoped = record {
+  state = st;
+  scope = scope;
+  keeps = keeps-same s old new st.candidates text candidates scope_same keeps;
+  is_before = (
+    os,
+    around,
+    outside,
+    expects,
+    stands-same s scope old new os text waits stands,
+    subst (λ ws. IsScoped scope around ws) (sym waits) scoped,
+  );
+}
+
+-- a type was read
+pub value-comes : (s : Symbol) {scope : Scope} (w : Direct) (st : State) (os : List Opened) (t : Term) (front bytes : List ℕ) (r d : Bool) {ws : List Open}
+    → Keeps s scope w st.candidates → w.text.list.items ≡ front ++ bytes → PrintsAs (detail_of s) scope.names d t bytes r → reverse w.waiting.list.items ≡ ws
+    → (d ≡ true → IsNaming s scope ws) → Comes s os (tree t true) w.at st → Stands s scope ws os front → IsWriting s w (steps.Value r d)
+value-comes s {scope = scope} w st os t front bytes r d keeps written prints waits naming comes stands = record {
+  state = st;
+  scope = scope;
+  keeps = keeps;
+  is_before = (
+    os,
+    t,
+    front,
+    bytes,
+    written,
+    prints,
+    λ e. subst (λ ws. IsNaming s scope ws) (sym waits) (naming e),
+    comes,
+    subst (λ ws. Stands s scope ws os front) (sym waits) stands,
+  );
+}
+
+-- it became a candidate
+pub value-added : (s : Symbol) {scope : Scope} (old new : Direct) (st : State) (os : List Opened) (around : Around) (t : Term) (front bytes : List ℕ) (from : ℕ) (r d : Bool)
+    {ws : List Open} → Keeps s scope old st.candidates → old.text.list.items ≡ front ++ bytes → from ≡ length front → PrintsAs (detail_of s) scope.names d t bytes r
+    → (d ≡ true → around.encoding ≡ encoding_place s.bytes) → new.text ≡ old.text → new.candidates.list.items ≡ added old from r d → new.has_scope ≡ old.has_scope
+    → reverse new.waiting.list.items ≡ ws → (d ≡ true → IsNaming s scope ws) → Comes s os (tree t true) new.at (with_candidate around t st)
+    → Stands s scope ws os front → IsWriting s new (steps.Value r d)
+value-added s old new st os around t front bytes from r d keeps written from_is prints made_in text_same added_is scope_same waits naming comes stands =
+    value-comes s new (with_candidate around t st) os t front bytes r d
+    (keeps-with s old new st front bytes from t around r d keeps written from_is prints made_in text_same added_is scope_same)
+    (ap (λ v. v.list.items) text_same ∙ written) prints waits naming comes stands
+
 -- what may be named within a type may be named in what is open in it
 pub scoped-within : (scope : Scope) (around : Around) (o : Open) (rest : List Open) → arguments_in o ≡ None
     → (is_within_type o ≡ true → IsScoped scope around rest) → IsScoped scope around (o ∷ rest)
@@ -207,10 +258,12 @@ scoped-within scope around o rest none scoped a found = go (is_within_type o) re
     go true is e = scoped is a e
     go false is e = absurd (false≢true (ap is_some (sym none ∙ e)))
 
--- in the symbol's own encoding types may name its arguments
-pub made-here : (s : Symbol) (scope : Scope) (around : Around) (open_ : List Open) → IsScoped scope around open_ → IsNaming s scope open_
-    → around.encoding ≡ encoding_place s.bytes
-made-here s scope around open_ scoped naming = ((scoped scope.arguments naming.0).1.0 not_none).0 ∙ naming.1
+-- in the symbol's own encoding, and in none of its lambdas, types may name its arguments
+pub encoded-here : (s : Symbol) (scope : Scope) (around : Around) (open_ : List Open) → IsScoped scope around open_ → IsNaming s scope open_
+    → (around.encoding ≡ encoding_place s.bytes) × (around.in_lambda ≡ false)
+encoded-here s scope around open_ scoped naming =
+    let h = (scoped scope.arguments naming.0).1.0 not_none in
+    (h.0 ∙ naming.1, h.1)
   where
     place : (b : Bool) (n : ℕ) → n ≡ cond b 3 2 → n ≢ 0
     place true n is none = absurd (omega (arith, is, none))
@@ -218,6 +271,10 @@ made-here s scope around open_ scoped naming = ((scoped scope.arguments naming.0
 
     not_none : scope.arguments.encoding ≢ 0
     not_none = place (is_local s.bytes) scope.arguments.encoding naming.1
+
+pub made-here : (s : Symbol) (scope : Scope) (around : Around) (open_ : List Open) → IsScoped scope around open_ → IsNaming s scope open_
+    → around.encoding ≡ encoding_place s.bytes
+made-here s scope around open_ scoped naming = (encoded-here s scope around open_ scoped naming).0
 
 -- what a substitution names
 pub candidate-found : {s : Symbol} {names : Names} (text : List ℕ) (ks : List Candidate) (cs : List values.Candidate) (n : ℕ) (k : Candidate)

@@ -9,7 +9,7 @@ use Rattle.cpp_grammar.specs.declared.kind.Kind.{Kind}
 use Rattle.cpp_grammar.specs.Grammar.{may_be_empty}
 use Rattle.cpp_grammar.specs.Term.{Term, nil, list, instance, pack}
 use Rattle.cpp_grammar.specs.Scope.{arguments_of}
-use Rattle.cpp_grammar.specs.Values.{Around, State, tree, nothing_there, tree_of, qualifiers_of, ref_of}
+use Rattle.cpp_grammar.specs.Values.{Around, State, tree, nothing_there, tree_of}
 use Rattle.cpp_grammar.specs.Between.{no_items}
 use Rattle.cpp_direct.specs.WrittenParts.{opening_bracket, closing_bracket}
 use Rattle.cpp_direct.specs.Symbol.{detail_of, Symbol}
@@ -21,10 +21,10 @@ use Rattle.cpp_direct.specs.declared.open.Open.{Open}
 use Rattle.cpp_direct.specs.declared.open.Open.TheVariants as opens
 use Rattle.cpp_direct.specs.declared.open.Step.TheVariants as steps
 use Rattle.cpp_direct.specs.declared.direct.Direct.{Direct}
-use Rattle.cpp_direct.specs.Holes.{Opened, Comes, Expects, IsListKind, ListGoesOn, StandsAt, AwaitsComponent, with_candidate}
+use Rattle.cpp_direct.specs.Holes.{Opened, Comes, IsListKind, ListGoesOn, StandsAt, AwaitsComponent, with_candidate}
 use Rattle.cpp_direct.specs.HolesOfLists.{IsArgumentKind}
 use Rattle.cpp_direct.specs.Prints.{Names, PrintAllAs, PrintsAs, list_of}
-use Rattle.cpp_direct.specs.WriterInvariant.{HasArguments, arguments_in, below, IsListing, IsNaming, IsScoped, IsOwn, Keeps, Scope, scoped_in, is_noted, is_type, may_name, IsNest, IsTail, IsTemplate, IsWriting, Owns, Serves, ArgumentsGoOn, AwaitsElementOf, AwaitsEnumerator, Belongs, Closes, ElementsGoOn, EnumeratorGoesOn, GoesOn, Listing, of_template, of_pack, Stands, element_kind, extra_of, led_by, list_with, in_front_of_next, nowhere}
+use Rattle.cpp_direct.specs.WriterInvariant.{Below, HasArguments, arguments_in, below, IsListing, IsNaming, IsScoped, IsOwn, Keeps, Scope, scoped_in, is_noted, is_type, may_name, IsNest, IsTail, IsTemplate, IsWriting, Owns, Serves, ArgumentsGoOn, AwaitsElementOf, AwaitsEnumerator, Belongs, Closes, ElementsGoOn, EnumeratorGoesOn, GoesOn, Listing, of_template, of_pack, Stands, element_kind, extra_of, led_by, list_with, in_front_of_next, nowhere}
 use Rattle.cpp_direct.specs.MidStep.{AreKnown, IsListEnded, AwaitsNextArgument, IsNameEnded}
 use Rattle.cpp_direct.specs.Written.{Writes, added}
 use Rattle.cpp_direct.proofs.Moves.{expects-empty, stands-split}
@@ -33,8 +33,8 @@ use Rattle.cpp_direct.proofs.PrintedLists.{element-as, list-more, list-with-none
 use Rattle.cpp_direct.proofs.PrintedNames.{as-name}
 use Rattle.cpp_direct.proofs.PrintedNests.{instance-as, instance-prints, instance-class}
 use Rattle.cpp_direct.proofs.PrintedTypes.{prints-as}
-use Rattle.cpp_direct.proofs.Scopes.{element-there, instance-returns, known-stay, none-known, none-scoped, structor-returns}
-use Rattle.cpp_direct.proofs.Kept.{keeps-grown, keeps-same, keeps-with, made-here, scoped-within, template-stays, reverse-last, last-reversed}
+use Rattle.cpp_direct.proofs.Scopes.{element-there, instance-returns, known-stay, none-known, none-scoped, structor-returns, plain-named}
+use Rattle.cpp_direct.proofs.Kept.{keeps-grown, keeps-same, keeps-with, made-here, scoped-within, template-stays, type-comes, value-added, reverse-last, last-reversed}
 
 -- ## What is open
 
@@ -94,18 +94,19 @@ element-goes-on s kind scoped closes ts t before at earlier st goes g = (
       (goes.5 (tree (list t (no_items l)) true) there now (g.passes l there now comes) ended),
 )
 
--- a list is open still where something else is
-abbrev pub listing-at : {detail : Detail} {names : Names} (opened : List Open) (text : List ℕ) (now : List Open) (later : List ℕ) (p : IsListing detail names opened text)
-    → Belongs detail names p.listing now p.owner p.rest → IsTemplate detail names p.owner p.front p.template p.name later → IsListing detail names now later
-listing-at opened text now later p belongs is_template = record {
+-- a list is open still where more is written
+abbrev pub listing-stays : {detail : Detail} {names : Names} {opened : List Open} {text : List ℕ} (now : List Open) (more later : List ℕ) (p : IsListing detail names opened text)
+    → now ≡ opened → later ≡ text ++ more → IsListing detail names now later
+listing-stays {detail} {names} {text = text} now more later p open_is is = record {
   listing = p.listing;
   owner = p.owner;
   rest = p.rest;
-  belongs = belongs;
+  belongs = subst (λ ws. Belongs detail names p.listing ws p.owner p.rest) (sym open_is) p.belongs;
   front = p.front;
   template = p.template;
   name = p.name;
-  is_template = is_template;
+  is_template = subst (λ l. IsTemplate detail names p.owner p.front p.template p.name l) (sym is)
+      (template-stays detail names p.owner p.front p.template p.name text more p.is_template);
 }
 
 -- what is written between two arguments
@@ -219,28 +220,13 @@ type-closed s w new from is_dependent p candidates text waiting scope_same at =
     let scope = p.scope in
     let t = instance p.template (list_with p.ts p.tail) in
     let bytes = p.name ++ opening_bracket (detail_of s) ++ p.arguments ++ closing_bracket (detail_of s) in
-    let outer = p.owns.0 in
     let around = p.owns.1 in
-    let state = with_candidate around t p.state in
     let prints = instance-as (detail_of s) scope.names is_dependent p.template p.name
     (prints-as (detail_of s) scope.names is_dependent p.template p.name false p.is_template.1) p.ts p.tail p.arguments p.is_tail p.elements in
-    record {
-      state = state;
-      scope = scope;
-      keeps = keeps-with s w new p.state p.front bytes from t around false is_dependent p.keeps p.written p.is_template.0 prints
-          (λ named. made-here s scope around (reverse w.waiting.list.items) p.owns.3 (p.owns.4 named)) text candidates scope_same;
-      is_before = (
-        outer,
-        t,
-        p.front,
-        bytes,
-        subst (λ v. v.list.items ≡ p.front ++ bytes) (sym text) p.written,
-        prints,
-        λ named. subst (λ v. IsNaming s scope (reverse v.list.items)) (sym waiting) (p.owns.4 named),
-        subst (λ n. Comes s outer (tree t true) n state) (sym at) p.owns.2,
-        subst (λ v. Stands s scope (reverse v.list.items) outer p.front) (sym waiting) p.owns.5,
-      );
-    }
+    value-added s w new p.state p.owns.0 around t p.front bytes from false is_dependent p.keeps p.written p.is_template.0 prints
+    (λ named. made-here s scope around (reverse w.waiting.list.items) p.owns.3 (p.owns.4 named)) text candidates scope_same
+    (ap (λ v. reverse v.list.items) waiting) p.owns.4
+    (subst (λ n. Comes s p.owns.0 (tree t true) n (with_candidate around t p.state)) (sym at) p.owns.2) p.owns.5
 
 instance-nest : {detail : Detail} (names : Names) (front name text : List ℕ) (nest : Nest) (is_listed is_instance : Bool) (t : Term) (ts : List Term) (tail : Term) (l : List ℕ)
     → IsTail tail → IsNest detail names front name text nest t → PrintAllAs detail names nest.is_dependent 3 ts l
@@ -339,7 +325,6 @@ first-closed s w new nest p candidates text waiting scope_same at =
 
 -- the arguments of the name of an encoding
 pub name-closed : (s : Symbol) (w : Direct) (from : ℕ) → IsClosed s w (opens.NameArguments from) → IsNameEnded s w marks.Plain true w.argument from
-unfolding tree_of qualifiers_of ref_of
 name-closed s w from p =
     let t = instance p.template (list_with p.ts p.tail) in
     let bytes = p.name ++ opening_bracket (detail_of s) ++ p.arguments ++ closing_bracket (detail_of s) in
@@ -349,9 +334,7 @@ name-closed s w from p =
       keeps = p.keeps;
       own = t;
       v = tree t false;
-      tree_is = refl;
-      qualifiers_are = refl;
-      mark_is = refl;
+      named_so = plain-named t;
       lead = p.front;
       name = bytes;
       written = p.written;
@@ -507,10 +490,7 @@ argument-expected s w new first p text candidates waiting scope_same at =
       state = p.state;
       scope = p.scope;
       keeps = keeps-grown s w new (comma first) p.state.candidates text candidates scope_same p.keeps;
-      place = listing-at (reverse w.waiting.list.items) w.text.list.items (reverse new.waiting.list.items) new.text.list.items place
-          (subst (λ v. Belongs (detail_of s) p.scope.names place.listing (reverse v.list.items) place.owner place.rest) (sym waiting) place.belongs)
-          (subst (λ l. IsTemplate (detail_of s) p.scope.names place.owner place.front place.template place.name l) (sym text)
-          (template-stays (detail_of s) p.scope.names place.owner place.front place.template place.name w.text.list.items (comma first) place.is_template));
+      place = listing-stays (reverse new.waiting.list.items) (comma first) new.text.list.items place (ap (λ v. reverse v.list.items) waiting) text;
       ts = ts;
       texts = texts;
       elements = p.is_before.3;
@@ -534,6 +514,21 @@ first-expected s w self first p is same =
     subst (λ d. AwaitsNextArgument s d) (sym same)
     (argument-expected s w w true (subst (λ f. IsWriting s w (steps.List f)) is p) (sym (append-nil w.text.list.items)) refl refl refl refl)
 
+-- a pack goes on after its J
+pub pack-goes-on : (s : Symbol) (owner : Open) (below_ : Below) (front : List ℕ) (template : Term) (ts : List Term) (texts : List ℕ) (at : ℕ) (st : State)
+    → ArgumentsGoOn s owner below_ front template ts at st → StandsAt s.bytes at (74 ∷ []) → GoesOn s (of_pack ts texts) owner below_ front template [] (at + 1) st
+pack-goes-on s owner below_ front template ts texts at st goes stands =
+    let opened = pack-opens s goes.1 goes.0 at st goes.4 stands in (
+      goes.0,
+      opened.inner,
+      goes.2,
+      goes.3,
+      opened.awaits,
+      λ l here now comes ended.
+          element-goes-on s Kind.ArgumentList (scoped_in owner below_) (λ u there later. Owns s owner below_ front (instance template u) there later)
+          ts (pack (no_items l)) at (here + 1) st now goes (opened.onward l here now comes ended),
+    )
+
 -- a pack begins
 pub pack-begins : (s : Symbol) (old new : Direct) (owner : Open) → AwaitsNextArgument s old → StandsAt s.bytes old.at (74 ∷ [])
     → slice_get old.waiting.list.items (length old.waiting.list.items - 1) ≡ Some owner → (owner ≡ opens.Pack → ⊥)
@@ -550,7 +545,6 @@ pack-begins s old new owner a stands found other waits at text candidates scope_
     go of_template is =
         let p = a.place in
         let goes = subst (λ l. GoesOn s l p.owner (below s a.scope p.rest) p.front p.template a.ts old.at a.state) is a.goes in
-        let opened = pack-opens s goes.1 goes.0 old.at a.state goes.4 stands in
         let belongs = subst (λ l. Belongs (detail_of s) a.scope.names l (reverse old.waiting.list.items) p.owner p.rest) is p.belongs in
         let elements = subst (λ l. PrintAllAs (detail_of s) a.scope.names (may_name l p.owner) (extra_of l) a.ts a.texts) is a.elements in
         let written = subst (λ l. old.text.list.items ≡ led_by (detail_of s) l p.front p.name ++ in_front_of_next a.ts a.texts) is a.written in
@@ -578,17 +572,8 @@ pack-begins s old new owner a stands found other waits at text candidates scope_
             ap (λ v. v.list.items) text ∙ written ∙ sym (append-nil (p.front ++ p.name ++ opening_bracket (detail_of s) ++ in_front_of_next a.ts a.texts)),
             (λ e. refl),
             (λ e. absurd (false≢true (sym e))),
-            (
-              goes.0,
-              opened.inner,
-              goes.2,
-              goes.3,
-              subst (λ n. Expects s Kind.PackList goes.0 opened.inner n a.state) (sym at) opened.awaits,
-              λ l here now comes ended.
-                  element-goes-on s Kind.ArgumentList (scoped_in p.owner (below s a.scope p.rest))
-                  (λ u there later. Owns s p.owner (below s a.scope p.rest) p.front (instance p.template u) there later)
-                  a.ts (pack (no_items l)) old.at (here + 1) a.state now goes (opened.onward l here now comes ended),
-            ),
+            subst (λ n. GoesOn s (of_pack a.ts a.texts) p.owner (below s a.scope p.rest) p.front p.template [] n a.state) (sym at)
+                (pack-goes-on s p.owner (below s a.scope p.rest) p.front p.template a.ts a.texts old.at a.state goes stands),
           );
         }
 
@@ -737,29 +722,19 @@ type-expected s w a =
     let scope = a.scope in
     let kind = element_kind p.listing in
     let element = element-awaits s kind a.goes.1 a.goes.0 w.at a.state (list-kind p.listing) a.goes.4 in
-    record {
-      state = a.state;
-      scope = scope;
-      keeps = a.keeps;
-      is_before = (
-        element.inner,
-        a.goes.0,
-        a.goes.2,
-        inr (inl element.awaits),
-        list-stands s scope (reverse w.waiting.list.items) element.inner w.text.list.items (record {
-          place = p;
-          ts = a.ts;
-          texts = a.texts;
-          elements = a.elements;
-          written = a.written;
-          onward = λ t here now comes.
-              element-goes-on s kind (scoped_in p.owner (below s scope p.rest))
-              (λ l there later. Closes s p.listing p.owner (below s scope p.rest) p.front p.template l there later)
-              a.ts t w.at here a.state now a.goes (element.onward t here now comes);
-        }),
-        list-scoped s scope a.goes.0 (reverse w.waiting.list.items) w.text.list.items p a.goes.3,
-      );
-    }
+    type-comes s w w a.state a.goes.0 element.inner a.keeps refl refl refl refl a.goes.2 (inr (inl element.awaits))
+    (list-stands s scope (reverse w.waiting.list.items) element.inner w.text.list.items (record {
+      place = p;
+      ts = a.ts;
+      texts = a.texts;
+      elements = a.elements;
+      written = a.written;
+      onward = λ t here now comes.
+          element-goes-on s kind (scoped_in p.owner (below s scope p.rest))
+          (λ l there later. Closes s p.listing p.owner (below s scope p.rest) p.front p.template l there later)
+          a.ts t w.at here a.state now a.goes (element.onward t here now comes);
+    }))
+    (list-scoped s scope a.goes.0 (reverse w.waiting.list.items) w.text.list.items p a.goes.3)
 
 -- ## Enumerators
 

@@ -13,7 +13,7 @@ use Rattle.cpp_grammar.specs.declared.production.Production.{Production}
 use Rattle.cpp_grammar.specs.Grammar.{in_ranges, among, is_in, pick, number_of_kind, alternatives, choose, parts_of, is_chain, may_be_empty}
 use Rattle.cpp_grammar.specs.Table.{rule_of, padded}
 use Rattle.cpp_grammar.specs.Term.{Term, source, within, lambda, builtin, nil}
-use Rattle.cpp_grammar.specs.Values.{State, Around, outermost, nothing_there, letter, text, tree, piece, tree_of, text_of, is_listed, qualifiers_of, ref_of, local_number, part, is_there, letter_of, piece_of}
+use Rattle.cpp_grammar.specs.Values.{State, Around, outermost, nothing_there, text, tree, piece, tree_of, text_of, is_listed, qualifiers_of, ref_of, local_number, part, is_there, letter_of, piece_of}
 use Rattle.cpp_grammar.specs.References.{with_type}
 use Rattle.cpp_grammar.specs.Between.{between, no_items, after, in_signature, extended, applied, named_so_far}
 use Rattle.cpp_grammar.specs.Meaning.{meaning, parameters, is_void, is_nil, listed_value}

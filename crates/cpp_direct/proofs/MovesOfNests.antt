@@ -1,16 +1,16 @@
 -- The parts of a nested name are read one after another.
-use Rattle.std.proofs.Common.{◌≡◌, ℕ, ◌+◌, List, [], ◌∷◌, Some, None, true, false, refl, subst, arith}
+use Rattle.std.proofs.Common.{◌≡◌, ℕ, ◌+◌, List, [], ◌∷◌, Ok, Some, true, false, refl, subst, arith}
 use Rattle.std.specs.Prelude.{slice_get}
 use Rattle.sym_core.specs.declared.NumberKind.TheVariants.{Seq36}
 use Rattle.sym_core.specs.Value.{counted_value}
 use Rattle.sym_shape.specs.declared.rule.Sym.TheVariants.{Kind as OfKind}
-use Rattle.sym_link.specs.Unfold.{standing}
+use Rattle.sym_link.specs.Unfold.{found, standing}
 use Rattle.cpp_grammar.specs.declared.kind.Kind.{Kind}
 use Rattle.cpp_grammar.specs.declared.production.Production.{Production}
 use Rattle.cpp_grammar.specs.Grammar.{number_of_kind, parts_of}
 use Rattle.cpp_grammar.specs.Table.{rule_of}
 use Rattle.cpp_grammar.specs.Term.{Term, alone, in_std, abbreviation, source}
-use Rattle.cpp_grammar.specs.Scope.{is_open, pack_length}
+use Rattle.cpp_grammar.specs.References.{substituted}
 use Rattle.cpp_grammar.specs.Values.{Candidate, State, outermost, Around, Value, nothing_there, tree, piece, is_there, letter_of, part, piece_of, text_of, tree_of}
 use Rattle.cpp_grammar.specs.Between.{after, applied, named_so_far, listed_so_far, between, extended}
 use Rattle.cpp_grammar.specs.Unfolding.{byte_of, close}
@@ -20,7 +20,7 @@ use Rattle.cpp_direct.specs.Symbol.{Symbol}
 use Rattle.cpp_direct.specs.Bytes.{is_abbreviated}
 use Rattle.cpp_direct.specs.Holes.{Opened, opened, StandsAt, Comes, Expects, IsNameAt, IsSeqAt, NestGoesOn, NestNamed, bare_name}
 use Rattle.cpp_direct.proofs.Moves.{alone-rest, stands-split, Hole, Filled, hole, open_at, fill, filled-at, eats, leaves, byte-opens, chain-opens, next-part, closes, name-fills, first-named, is_eaten, is_left}
-use Rattle.cpp_direct.proofs.MovesOfTypes.{abbreviation-fills, substituted-so, substitution-fills}
+use Rattle.cpp_direct.proofs.MovesOfTypes.{abbreviation-fills, substitution-fills}
 
 -- ## Pieces
 
@@ -85,12 +85,11 @@ nest-abbreviation s os around at st code expects here is =
 -- a reference at the front of a nested name
 pub nest-substitution : (s : Symbol) (os : List Opened) (around : Around) (at : ℕ) (st : State) (digits : List ℕ) (end : ℕ) (c : Candidate)
     → Expects s Kind.Nest around os at st → StandsAt s.bytes at (83 ∷ []) → IsSeqAt s.bytes (at + 1) digits end
-    → slice_get st.candidates (counted_value Seq36 digits) ≡ Some c → is_open c.tree ≡ false
-    → ((scope : Term) → pack_length scope c.tree ≡ None)
+    → slice_get st.candidates (counted_value Seq36 digits) ≡ Some c
+    → ((place : ℕ) → substituted around place (Some c) st ≡ Ok (found (tree c.tree true) st))
     → NestGoesOn s Kind.NestRestOrEnd os around c.tree true end st
-nest-substitution s os around at st digits end c expects here is there bound none =
-    nest-known s os around at st c.tree end expects here
-    (λ inner h. substitution-fills digits end c there (λ place. substituted-so around place c st bound none) h is)
+nest-substitution s os around at st digits end c expects here is there so =
+    nest-known s os around at st c.tree end expects here (λ inner h. substitution-fills digits end c there so h is)
 
 -- a name of std at the front of a nested name
 pub nest-std : (s : Symbol) (os : List Opened) (around : Around) (at : ℕ) (st : State) (name : List ℕ) (end : ℕ)

@@ -379,7 +379,7 @@ same-place n = go (nat_eq n n) refl
     go true is = is
     go false is = absurd (eqb-false n n is refl)
 
-substituted-open : (around : Around) (place : ℕ) (c : Candidate) (st : State) → c.encoding ≡ around.encoding → around.in_lambda ≡ false
+pub substituted-open : (around : Around) (place : ℕ) (c : Candidate) (st : State) → c.encoding ≡ around.encoding → around.in_lambda ≡ false
     → packs_in around.scope c.tree ≡ None → substituted around place (Some c) st ≡ Ok (found (tree c.tree true) st)
 unfolding substituted with_packs
 substituted-open around place c st made plain none =
@@ -416,21 +416,11 @@ substitution-fills {s = s} {around = around} {at = at} {st = st} digits end c na
 
 -- a substitution
 pub substitution-opens : (s : Symbol) (kind : Kind) (around : Around) (os : List Opened) (at : ℕ) (st : State) (digits : List ℕ) (end : ℕ)
-    (c : Candidate) → IsNamedKind kind
-    → slice_get st.candidates (counted_value Seq36 digits) ≡ Some c → is_open c.tree ≡ false → ((scope : Term) → pack_length scope c.tree ≡ None)
+    (c : Candidate) → IsNamedKind kind → slice_get st.candidates (counted_value Seq36 digits) ≡ Some c
+    → ((place : ℕ) → substituted around place (Some c) st ≡ Ok (found (tree c.tree true) st))
     → TreeOpens s kind os around at st → StandsAt s.bytes at (83 ∷ []) → IsSeqAt s.bytes (at + 1) digits end → TypeNamed s os around c.tree true end st
-substitution-opens s kind around os at st digits end c is_named names_it closed none solid stands is =
-    behind-s-named s kind around os at st c.tree end is_named
-    (λ inner h. substitution-fills digits end c names_it (λ place. substituted-so around place c st closed none) h is) solid stands
-
--- one that names parameters
-pub open-substitution-opens : (s : Symbol) (kind : Kind) (around : Around) (os : List Opened) (at : ℕ) (st : State) (digits : List ℕ) (end : ℕ)
-    (c : Candidate) → IsNamedKind kind → slice_get st.candidates (counted_value Seq36 digits) ≡ Some c → c.encoding ≡ around.encoding
-    → around.in_lambda ≡ false → packs_in around.scope c.tree ≡ None
-    → TreeOpens s kind os around at st → StandsAt s.bytes at (83 ∷ []) → IsSeqAt s.bytes (at + 1) digits end → TypeNamed s os around c.tree true end st
-open-substitution-opens s kind around os at st digits end c is_named names_it made plain none solid stands is =
-    behind-s-named s kind around os at st c.tree end is_named
-    (λ inner h. substitution-fills digits end c names_it (λ place. substituted-open around place c st made plain none) h is) solid stands
+substitution-opens s kind around os at st digits end c is_named names_it so solid stands is =
+    behind-s-named s kind around os at st c.tree end is_named (λ inner h. substitution-fills digits end c names_it so h is) solid stands
 
 -- a nested name is expected after an N
 pub nested-type-opens : (s : Symbol) (kind : Kind) (around : Around) (os : List Opened) (at : ℕ) (st : State) → IsNamedKind kind

@@ -1,78 +1,87 @@
 -- The arguments of the symbol's own name, which its types may name from there on, and their texts.
 use Rattle.sym_print.specs.declared.detail.Detail.{Detail}
-use Rattle.std.proofs.Common.{◌≡◌, ◌≢◌, ℕ, ◌-◌, ◌≤◌, List, [], ◌∷◌, take, drop, Bool, true, false, Option, Some, None, is_some, nat_le, refl, ap, sym, ◌∙◌, subst}
+use Rattle.std.proofs.Common.{◌≡◌, ◌≢◌, ℕ, ◌-◌, List, [], ◌∷◌, take, drop, reverse, Bool, Ok, true, false, Option, Some, None, is_some, nat_le, refl, ap, sym, ◌∙◌, subst}
 use Rattle.std.proofs.lemmas.Bool.{false≢true, le-leb, leb-true}
 use Rattle.cpp_grammar.specs.Parts.{types_of}
-use Rattle.cpp_grammar.specs.Scope.{arguments_of, element}
+use Rattle.sym_link.specs.Unfold.{found}
+use Rattle.cpp_grammar.specs.References.{packs_in, substituted}
+use Rattle.cpp_grammar.specs.Scope.{arguments_of, element, length_if_pack, pack_length}
 use Rattle.cpp_grammar.specs.Term.{Term}
 use Rattle.cpp_grammar.specs.Values as values
+use Rattle.cpp_grammar.specs.Values.{Around, State, tree}
 use Rattle.cpp_direct.specs.Symbol.{Symbol, detail_of}
 use Rattle.cpp_direct.specs.declared.direct.Direct.{Direct}
 use Rattle.cpp_direct.specs.declared.open.Argument.{Argument}
 use Rattle.cpp_direct.specs.declared.open.Arguments.{Arguments}
 use Rattle.cpp_direct.specs.declared.open.Candidate.{Candidate}
 use Rattle.cpp_direct.specs.declared.open.Mark.{Mark}
-use Rattle.cpp_direct.specs.Prints.{IsGiven, Names, Prints, PrintsAs}
-use Rattle.cpp_direct.specs.WriterInvariant.{AreCandidates, HasArguments, IsCandidate, IsKnown, IsPlaced, IsPlain, Keeps, Scope, encoding_place, place_of}
+use Rattle.cpp_direct.specs.declared.open.Open.{Open}
+use Rattle.cpp_direct.specs.Prints.{AreSingle, IsGiven, Named, Names, Prints, PrintsAs, PrintsGiven}
+use Rattle.cpp_direct.specs.WriterInvariant.{AreCandidates, HasArguments, IsCandidate, IsNaming, IsPlaced, IsScopeOf, IsScoped, IsSingle, Keeps, Scope, argument_of, encoding_place, place_of}
 use Rattle.cpp_direct.specs.MidStep.{IsNameEnded, IsNameScoped}
-use Rattle.cpp_direct.proofs.Kept.{piece-found}
+use Rattle.cpp_direct.proofs.Kept.{encoded-here, piece-found}
+use Rattle.cpp_direct.proofs.MovesOfTypes.{substituted-open}
 use Rattle.cpp_direct.proofs.PrintedTypes.{given-more, types-given}
 use Rattle.cpp_direct.proofs.Scopes.{arguments-named}
 
 -- ## Their texts
 
-abbrev plain_text : (is_known is_pack is_reference : Bool) → List ℕ → Option (List ℕ)
-plain_text true false false bytes = Some bytes
-plain_text _ _ _ bytes = None
+abbrev single_text : (is_known is_pack : Bool) → Named → Option Named
+single_text true false own = Some own
+single_text _ _ own = None
 
--- the text at a place, if that is known and it is a type and no reference
-abbrev text_at : (text : List ℕ) → Argument → Option (List ℕ)
-text_at text p = plain_text (nat_le p.from p.to) p.is_pack p.is_reference (take (p.to - p.from) (drop p.from text))
+-- what is at a place
+abbrev own_at : (text : List ℕ) → Argument → Named
+own_at text p = record { bytes = take (p.to - p.from) (drop p.from text); reference = p.is_reference }
+
+-- the same, if that is known and it is no pack
+abbrev text_at : (text : List ℕ) → Argument → Option Named
+text_at text p = single_text (nat_le p.from p.to) p.is_pack (own_at text p)
 
 abbrev names_at : (text : List ℕ) → Arguments → Names
 names_at text a number = text_at text (place_of a number)
 
-plain-some : (is_known is_pack is_reference : Bool) (l bytes : List ℕ) → plain_text is_known is_pack is_reference l ≡ Some bytes
-    → (is_known ≡ true) × (is_pack ≡ false) × (is_reference ≡ false) × (l ≡ bytes)
-plain-some true false false l bytes e = (refl, refl, refl, cc e)
-plain-some true false true l bytes e = absurd (false≢true (ap is_some e))
-plain-some true true r l bytes e = absurd (false≢true (ap is_some e))
-plain-some false p r l bytes e = absurd (false≢true (ap is_some e))
+single-some : (is_known is_pack : Bool) (own n : Named) → single_text is_known is_pack own ≡ Some n → (is_known ≡ true) × (is_pack ≡ false) × (own ≡ n)
+single-some true false own n e = (refl, refl, cc e)
+single-some true true own n e = absurd (false≢true (ap is_some e))
+single-some false p own n e = absurd (false≢true (ap is_some e))
 
 -- a text that is at its place is found there
-text-there : (text : List ℕ) (p : Argument) (bytes : List ℕ) → IsPlain p → IsPlaced text p bytes → text_at text p ≡ Some bytes
-text-there text p bytes plain placed =
+text-there : (text : List ℕ) (p : Argument) (bytes : List ℕ) → IsSingle p → IsPlaced text p bytes
+    → text_at text p ≡ Some (record { bytes = bytes; reference = p.is_reference })
+text-there text p bytes single placed =
     let found = piece-found text placed.front bytes placed.back p.from p.to placed.written placed.from_is placed.to_is in
-    let own = take (p.to - p.from) (drop p.from text) in
-    ap (λ b. plain_text b p.is_pack p.is_reference own) (le-leb p.from p.to plain.0) ∙ ap (λ b. plain_text true b p.is_reference own) plain.1
-    ∙ ap (λ b. plain_text true false b own) plain.2 ∙ ap Some found.2
+    let named : List ℕ → Option Named = λ l. Some (record { bytes = l; reference = p.is_reference }) in
+    ap (λ b. single_text b p.is_pack (own_at text p)) (le-leb p.from p.to single.0) ∙ ap (λ b. single_text true b (own_at text p)) single.1
+    ∙ ap named found.2
 
--- what has one is a type and no reference
-text-plain : (text : List ℕ) (p : Argument) (bytes : List ℕ) → text_at text p ≡ Some bytes → IsPlain p × (take (p.to - p.from) (drop p.from text) ≡ bytes)
-text-plain text p bytes e =
-    let h = plain-some (nat_le p.from p.to) p.is_pack p.is_reference (take (p.to - p.from) (drop p.from text)) bytes e in
-    ((leb-true p.from p.to h.0, h.1, h.2), h.3)
+-- what has one is known, and no pack
+text-single : (text : List ℕ) (p : Argument) (n : Named) → text_at text p ≡ Some n → IsSingle p × (own_at text p ≡ n)
+text-single text p n e =
+    let h = single-some (nat_le p.from p.to) p.is_pack (own_at text p) n e in
+    ((leb-true p.from p.to h.0, h.1), h.2)
 
 some-same : (t u : Term) → Some t ≡ Some u → t ≡ u
 some-same t u e = cc e
 
 -- the arguments of a name are given in its types
 arguments-given : {detail : Detail} (text : List ℕ) (a : Arguments) (own : Term) → HasArguments detail text a own → IsGiven detail (names_at text a) (types_of own)
-arguments-given {detail} text a own has number bytes is =
-    let h = has number (text-plain text (place_of a number) bytes is).0.0 in
-    types-given (names_at text a) own h.all h.all_are (λ k b e. one h.all h.all_are k b e) number bytes is
+arguments-given {detail} text a own has number n is =
+    let h = has number (text-single text (place_of a number) n is).0.0 in
+    types-given (names_at text a) own h.all h.all_are (λ k m e. one h.all h.all_are k m e) number n is
   where
-    one : (all : Term) → arguments_of own ≡ Some all → (k : ℕ) (b : List ℕ) → text_at text (place_of a k) ≡ Some b
-        → (t : Term) × (element all k ≡ t) × Prints detail t b false
-    one all all_are k b e =
+    one : (all : Term) → arguments_of own ≡ Some all → (k : ℕ) (m : Named) → text_at text (place_of a k) ≡ Some m
+        → (t : Term) × (element all k ≡ t) × Prints detail t m.bytes m.reference
+    one all all_are k m e =
         let p = place_of a k in
-        let plain = text-plain text p b e in
-        let h = has k plain.0.0 in
+        let single = text-single text p m e in
+        let h = has k single.0.0 in
         let found = piece-found text h.placed.front h.bytes h.placed.back p.from p.to h.placed.written h.placed.from_is h.placed.to_is in
         let same : h.all ≡ all = some-same h.all all (sym h.all_are ∙ all_are) in (
           h.own,
-          subst (λ t. element t k ≡ h.own) same (h.there plain.0.1).0,
-          subst (λ l. Prints detail h.own l false) (sym found.2 ∙ plain.1) (subst (λ r. Prints detail h.own h.bytes r) plain.0.2 h.prints),
+          subst (λ t. element t k ≡ h.own) same (h.there single.0.1).0,
+          subst (λ (x : Named). Prints detail h.own x.bytes x.reference) single.1
+              (subst (λ l. Prints detail h.own l p.is_reference) (sym found.2) h.prints),
         )
 
 -- ## Where they may be named from
@@ -115,19 +124,17 @@ scope-begins s old new mark is_instance argument a from p same encoded first new
         keeps = record {
           candidates = candidates-given s scope.names text old.candidates.list.items p.state.candidates
               (subst (λ (k : Scope). AreCandidates s k.names text old.candidates.list.items p.state.candidates) (p.keeps.unknown first) p.keeps.candidates);
-          named = λ number plain. let h = names number plain.0 in
-              (h.bytes, text-there text (place_of a number) h.bytes plain h.placed, h.placed);
+          named = λ number single. let h = names number single.0 in
+              (h.bytes, text-there text (place_of a number) h.bytes single h.placed, h.placed);
           own = record {
             encoded = λ real. (encoded real).1;
-            plain = λ number bytes e. (text-plain text (place_of a number) bytes e).0;
+            single = λ number n e. (text-single text (place_of a number) n e).0;
           };
           unknown = λ e. absurd (false≢true (sym e));
         };
         own = p.own;
         v = p.v;
-        tree_is = p.tree_is;
-        qualifiers_are = p.qualifiers_are;
-        mark_is = p.mark_is;
+        named_so = p.named_so;
         lead = p.lead;
         name = p.name;
         written = p.written;
@@ -151,3 +158,37 @@ scope-begins s old new mark is_instance argument a from p same encoded first new
 
     names : HasArguments (detail_of s) text a p.own
     names = subst (λ (k : Arguments). HasArguments (detail_of s) text k p.own) (sym same) (arguments-named text a.encoding argument p.own p.names)
+
+-- ## Where they are named
+
+-- types may name the arguments of the symbol's own name here
+pub named-here : (s : Symbol) {scope : Scope} (w : Direct) (cs : List values.Candidate) (around : Around) (all : Arguments) → Keeps s scope w cs
+    → IsScoped scope around (reverse w.waiting.list.items) → argument_of (reverse w.waiting.list.items) ≡ Some all → all.encoding ≢ 0
+    → IsNaming s scope (reverse w.waiting.list.items)
+named-here s {scope = scope} w cs around all keeps scoped found real =
+    let same : scope.arguments ≡ all = (scoped all found).0 in
+    (found ∙ ap (λ (a : Arguments). Some a) (sym same), keeps.own.encoded (λ none. real (ap (λ (a : Arguments). a.encoding) (sym same) ∙ none)))
+
+-- those that may be named are no packs
+named-single : (s : Symbol) (scope : Scope) (around : Around) (open_ : List Open) (arguments : Term) → IsScopeOf s scope → IsScoped scope around open_
+    → argument_of open_ ≡ Some scope.arguments → around.scope ≡ Some arguments → AreSingle scope.names arguments
+named-single s scope around open_ arguments own scoped found is k n e =
+    let single = own.single k n e in
+    let here = (scoped scope.arguments found).1.1 k single.0 in
+    let same : here.all ≡ arguments = cc (sym here.scope_is ∙ is) in
+    subst (λ l. length_if_pack (element l k) ≡ None) same (ap length_if_pack (here.there single.1).0 ∙ here.no_pack)
+
+-- so a type that names them names no pack
+no-pack-named : (scope : Option Term) (t : Term) → ((arguments : Term) → scope ≡ Some arguments → pack_length arguments t ≡ None) → packs_in scope t ≡ None
+unfolding packs_in
+no-pack-named None t none = refl
+no-pack-named (Some arguments) t none = none arguments refl
+
+-- what names them may be named again among the same types
+pub again-substituted : (s : Symbol) {scope : Scope} (around : Around) (open_ : List Open) (c : values.Candidate) (st : State) (bytes : List ℕ) (r : Bool)
+    → IsScopeOf s scope → IsScoped scope around open_ → IsNaming s scope open_ → c.encoding ≡ encoding_place s.bytes
+    → PrintsGiven (detail_of s) scope.names c.tree bytes r → (place : ℕ) → substituted around place (Some c) st ≡ Ok (found (tree c.tree true) st)
+again-substituted s {scope = scope} around open_ c st bytes r own scoped naming made prints place =
+    let here = encoded-here s scope around open_ scoped naming in
+    substituted-open around place c st (made ∙ sym here.0) here.1 (no-pack-named around.scope c.tree
+    (λ arguments is. prints.packless arguments (named-single s scope around open_ arguments own scoped naming.0 is)))

@@ -3,8 +3,8 @@ use Rattle.sym_print.specs.declared.detail.Detail.{Detail}
 use Rattle.cpp_direct.specs.WrittenParts.{opening_bracket}
 use Rattle.cpp_direct.specs.declared.open.Arguments.{Arguments}
 use Rattle.cpp_direct.proofs.Unmarked.{name-unmarked}
-use Rattle.cpp_direct.proofs.Scopes.{none-known, scoped-inside}
-use Rattle.std.proofs.Common.{◌≡◌, ◌≢◌, ℕ, ◌+◌, ◌-◌, ◌≤◌, List, [], ◌∷◌, ◌++◌, length, take, drop, reverse, slice_get, Bool, true, false, Option, Some, None, refl, ap, sym, ◌∙◌, subst, arith, codes, append-nil, append_assoc, ◌&&◌, length-append}
+use Rattle.cpp_direct.proofs.Scopes.{none-known, scoped-inside, member-named}
+use Rattle.std.proofs.Common.{◌≡◌, ◌≢◌, ℕ, ◌+◌, ◌-◌, ◌≤◌, List, [], ◌∷◌, ◌++◌, length, take, drop, reverse, slice_get, Bool, true, false, Option, Ok, Some, None, refl, ap, sym, ◌∙◌, subst, arith, codes, append-nil, append_assoc, ◌&&◌, length-append}
 use Rattle.std.specs.Option.{IfSome, OnSome}
 use Rattle.std.proofs.lemmas.Bool.{false≢true}
 use Rattle.sym_core.specs.declared.NumberKind.TheVariants.{Seq36}
@@ -14,9 +14,11 @@ use Rattle.cpp_grammar.specs.Grammar.{may_be_empty}
 use Rattle.cpp_grammar.specs.Term.{Term, alone, in_std, source, abbreviation, instance}
 use Rattle.cpp_grammar.specs.Texts.{look_up, abbreviation_texts, same_bytes}
 use Rattle.cpp_grammar.specs.Parts.{source_text}
-use Rattle.cpp_grammar.specs.References.{is_function_type}
+use Rattle.sym_link.specs.Unfold.{found}
+use Rattle.cpp_grammar.specs.Values as values
+use Rattle.cpp_grammar.specs.References.{is_function_type, substituted}
 use Rattle.cpp_grammar.specs.Scope.{has_return_type, arguments_of, is_structor}
-use Rattle.cpp_grammar.specs.Values.{State, Around, tree, named, tree_of, qualifiers_of, ref_of}
+use Rattle.cpp_grammar.specs.Values.{State, Around, tree, named}
 use Rattle.cpp_grammar.specs.Between.{with_tag, after, inside, no_items}
 use Rattle.cpp_direct.specs.Symbol.{detail_of, Symbol}
 use Rattle.cpp_direct.specs.declared.open.Mark.{Mark}
@@ -34,13 +36,15 @@ use Rattle.cpp_direct.specs.Holes.{Opened, Comes, StandsAt, IsNameAt, IsSeqAt, S
 use Rattle.cpp_direct.specs.HolesOfNests.{IsRest, IsFirstRest}
 use Rattle.cpp_direct.specs.Names.{tag_text}
 use Rattle.cpp_direct.specs.Prints.{Names, Prints, PrintsAs, NamesClass}
-use Rattle.cpp_direct.specs.WriterInvariant.{HasArguments, IsNaming, IsNest, IsNestScoped, IsNesting, IsOwn, IsScoped, IsTemplate, ArgumentsGoOn, Keeps, Scope, Serves, Stands, IsWriting, below, encoding_place, is_type, qualifiers, IsKnown, nowhere, place_of}
+use Rattle.cpp_direct.specs.WriterInvariant.{HasArguments, IsNaming, IsNest, IsNestScoped, IsNesting, IsOwn, IsScopeOf, IsScoped, IsTemplate, ArgumentsGoOn, Keeps, Scope, Serves, IsWriting, argument_of, below, encoding_place, is_type, qualifiers, IsKnown, nowhere, place_of}
 use Rattle.cpp_direct.specs.MidStep.{AwaitsNest, IsNestKnown, IsNestNamed, IsNameEnded, IsOperatorRead}
 use Rattle.cpp_direct.specs.Written.{Reads, added, added_unless}
 use Rattle.cpp_direct.proofs.Moves.{alone-arguments, any-tail, expects-empty, stands-join, comes-moved}
-use Rattle.cpp_direct.proofs.Kept.{arguments-begun, keeps-grown, keeps-read, keeps-same, keeps-with, keeps-unless, made-here, candidate-found, piece-found, nest-stays, reverse-last}
+use Rattle.cpp_direct.proofs.Kept.{arguments-begun, keeps-grown, keeps-read, keeps-same, keeps-with, keeps-unless, made-here, candidate-found, piece-found, nest-stays, reverse-last, value-comes}
 use Rattle.cpp_direct.proofs.MovesOfComponents.{component-awaits, component-outside, any-arguments, instance-arguments, nest-end, tag-follows}
 use Rattle.cpp_direct.proofs.MovesOfLists.{arguments-open}
+use Rattle.cpp_direct.proofs.MovesOfTypes.{substituted-so}
+use Rattle.cpp_direct.proofs.NamedArguments.{again-substituted, named-here}
 use Rattle.cpp_direct.proofs.MovesOfNests.{nest-source, nest-abbreviation, nest-substitution, nest-std}
 use Rattle.cpp_direct.proofs.PrintedNames.{as-name, source-prints, source-class, std-prints, std-class, abbreviation-prints}
 use Rattle.cpp_direct.proofs.PrintedNests.{tagged-as, std-tagged, again-tagged}
@@ -76,13 +80,13 @@ nest-scoped s {scope} old new around waiting_is purpose_same dependent_same n = 
   naming = λ e. subst (λ (o : List Open). IsNaming s scope (reverse o)) (sym waiting_is) (n.naming (sym dependent_same ∙ e));
 }
 
--- they name none in one that begins
-nest-closed : (s : Symbol) {scope : Scope} (old new : Direct) (around : Around) (purpose : Purpose)
+-- where one begins they name what they may
+nest-placed : (s : Symbol) {scope : Scope} (old new : Direct) (around : Around) (purpose : Purpose)
     → (is_type purpose ≡ true → IsScoped scope around (reverse old.waiting.list.items)) → new.waiting ≡ old.waiting → new.nest.purpose ≡ purpose
-    → new.nest.is_dependent ≡ false → IsNestScoped s scope new around
-nest-closed s {scope} old new around purpose scoped waiting_is purpose_is closed = record {
+    → (new.nest.is_dependent ≡ true → IsNaming s scope (reverse old.waiting.list.items)) → IsNestScoped s scope new around
+nest-placed s {scope} old new around purpose scoped waiting_is purpose_is naming = record {
   scoped = λ e. subst (λ o. IsScoped scope around (reverse o.list.items)) (sym waiting_is) (scoped (ap is_type (sym purpose_is) ∙ e));
-  naming = λ e. absurd (false≢true (sym closed ∙ e));
+  naming = λ e. subst (λ o. IsNaming s scope (reverse o.list.items)) (sym waiting_is) (naming e);
 }
 
 -- the name of a function or of data names none
@@ -254,27 +258,7 @@ named-opens s old mid new n here lists opening_ =
 
 -- what follows it is read
 pub known-goes-on : (s : Symbol) (w : Direct) → IsNestKnown s w → IsWriting s w steps.Rest
-known-goes-on s w n = record {
-  state = n.state;
-  scope = n.scope;
-  keeps = n.keeps;
-  is_before = (
-    n.own,
-    Kind.NestRestOrEnd,
-    tt,
-    record {
-      front = n.front;
-      around = n.around;
-      outer = n.outer;
-      bytes = n.bytes;
-      written = n.written;
-      is_nest = n.is_nest;
-      goes = subst (λ b. NestGoesOn s Kind.NestRestOrEnd n.outer n.around n.own b w.at n.state) (sym n.listed) n.known;
-      scoped = n.scoped;
-      serves = n.serves;
-    },
-  );
-}
+known-goes-on s w n = record { state = n.state; scope = n.scope; keeps = n.keeps; is_before = (n.own, Kind.NestRestOrEnd, tt, n.nesting) }
 
 -- what comes inside comes outside
 nest-outside : (s : Symbol) (kind : Kind) (inner outer : List Opened) (around : Around) (t : Term) (listed : Bool) (at : ℕ) (st : State)
@@ -293,28 +277,29 @@ pub known-opens : (s : Symbol) (old new : Direct) → IsNestKnown s old → s.is
     → OpensArguments (detail_of s) old new (opens.NestArguments old.nest) → IsWriting s new (steps.List true)
 unfolding inside
 known-opens s old new n wide is_type here opening_ =
-    let g = n.known in
-    let begun = instance-arguments s g.inner n.around n.own true old.at n.state g.awaits here in
+    let m = n.nesting in
+    let g = subst (λ b. NestGoesOn s Kind.NestRestOrEnd m.outer m.around n.own b old.at n.state) n.listed m.goes in
+    let begun = instance-arguments s g.inner m.around n.own true old.at n.state g.awaits here in
     let not_own : IsOwn old.nest.purpose → ⊥ = λ own. subst IsOwn is_type own in
-    list-begins s n.scope old old new old.candidates.list.items n.state (opens.NestArguments old.nest) n.front n.bytes n.own
+    list-begins s n.scope old old new old.candidates.list.items n.state (opens.NestArguments old.nest) m.front m.bytes n.own
     (record { candidates = refl; text = refl; waiting = refl; nest = refl; scope = refl; at = refl }) opening_ n.keeps (
-      nest-stays n.front n.bytes old.text.list.items (opening_bracket (detail_of s)) old.nest n.own n.is_nest,
+      nest-stays m.front m.bytes old.text.list.items (opening_bracket (detail_of s)) old.nest n.own m.is_nest,
       (λ own. absurd (not_own own)),
       (λ e. absurd (false≢true (sym n.classless ∙ e))),
-    ) n.written (
-      inside n.around,
+    ) m.written (
+      inside m.around,
       begun.inner,
       refl,
-      (λ within. scoped-inside n.scope n.around (reverse old.waiting.list.items) (n.scoped.scoped within)),
+      (λ within. scoped-inside n.scope m.around (reverse old.waiting.list.items) (m.scoped.scoped within)),
       begun.awaits,
       (λ l at st comes ended. (
-        n.around,
-        n.outer,
-        nest-outside s Kind.NestTail g.inner n.outer n.around (instance n.own (no_items l)) false (at + 1) st g.passes
-            (may-end s g.inner n.around (instance n.own (no_items l)) false (at + 1) st wide (begun.onward l at st comes ended)),
-        n.scoped.scoped,
-        n.scoped.naming,
-        n.serves,
+        m.around,
+        m.outer,
+        nest-outside s Kind.NestTail g.inner m.outer m.around (instance n.own (no_items l)) false (at + 1) st g.passes
+            (may-end s g.inner m.around (instance n.own (no_items l)) false (at + 1) st wide (begun.onward l at st comes ended)),
+        m.scoped.scoped,
+        m.scoped.naming,
+        m.serves,
       )),
     )
 
@@ -404,24 +389,12 @@ type-ended s scope old new st t keeps n here is_type lists =
     let text_is : new.text.list.items ≡ old.text.list.items = cc (lists.text) in
     let waiting_is : new.waiting.list.items ≡ old.waiting.list.items = cc (lists.waiting) in
     let later = unless_listed listed serves.1 t st in
-    record {
-      state = later;
-      scope = scope;
-      keeps = keeps-unless s old new st listed n.front n.bytes old.nest.from t serves.1 d keeps n.written n.is_nest.from_is n.is_nest.prints
-          (λ e. made-here s scope serves.1 open_ serves.3 (n.scoped.naming e)) lists.text lists.candidates lists.scope;
-      is_before = (
-        serves.0,
-        t,
-        n.front,
-        n.bytes,
-        text_is ∙ n.written,
-        n.is_nest.prints,
-        (λ e. subst (λ l. IsNaming s scope (reverse l)) (sym waiting_is) (n.scoped.naming e)),
-        comes-moved s serves.0 (tree t true) (old.at + 1) new.at later (sym lists.at)
-            (serves.2 t listed (old.at + 1) st (no-function (detail_of s) scope.names d t n.bytes n.is_nest.prints) (nest-comes s old st t n here)),
-        subst (λ l. Stands s scope (reverse l) serves.0 n.front) (sym waiting_is) serves.4,
-      );
-    }
+    value-comes s new later serves.0 t n.front n.bytes false d
+    (keeps-unless s old new st listed n.front n.bytes old.nest.from t serves.1 d keeps n.written n.is_nest.from_is n.is_nest.prints
+    (λ e. made-here s scope serves.1 open_ serves.3 (n.scoped.naming e)) lists.text lists.candidates lists.scope) (text_is ∙ n.written) n.is_nest.prints
+    (ap reverse waiting_is) n.scoped.naming
+    (comes-moved s serves.0 (tree t true) (old.at + 1) new.at later (sym lists.at)
+    (serves.2 t listed (old.at + 1) st (no-function (detail_of s) scope.names d t n.bytes n.is_nest.prints) (nest-comes s old st t n here))) serves.4
 
 -- the arguments that it ends in were noted, or none are known
 pub arguments-noted : {detail : Detail} (b : Bool) (text : List ℕ) (a r : Arguments) (t : Term) → (b ≡ true → r ≡ a) → (b ≡ false → r ≡ nowhere)
@@ -436,7 +409,6 @@ pub name-comes : (s : Symbol) (scope : Scope) (old : Direct) (st : State) (t : T
     → HasArguments (detail_of s) old.text.list.items argument_ t
     → StandsAt s.bytes old.at (69 ∷ [])
     → old.nest.purpose ≡ purposes.Name mark → IsNameEnded s (record old { at = old.at + 1 }) mark is_function argument_ old.nest.from
-unfolding tree_of qualifiers_of ref_of
 name-comes s scope old st t mark is_function argument_ keeps n no_return returns names here is_name =
     let serves = subst (λ p. Serves s p (below s scope (reverse old.waiting.list.items)) n.outer n.front) is_name n.serves in
     record {
@@ -445,9 +417,7 @@ name-comes s scope old st t mark is_function argument_ keeps n no_return returns
       keeps = keeps-same s old (record old { at = old.at + 1 }) st.candidates refl refl refl keeps;
       own = t;
       v = named t (qualifiers (has_const mark)) (called_on mark);
-      tree_is = refl;
-      qualifiers_are = refl;
-      mark_is = refl;
+      named_so = member-named t mark;
       lead = n.front;
       name = n.bytes;
       written = n.written;
@@ -462,7 +432,7 @@ name-comes s scope old st t mark is_function argument_ keeps n no_return returns
 -- the E of one that an operator ends
 pub operator-ends : (s : Symbol) (w : Direct) (mark : Mark) → IsOperatorRead s w → StandsAt s.bytes w.at (69 ∷ [])
     → w.nest.purpose ≡ purposes.Name mark → IsNameEnded s (record w { at = w.at + 1 }) mark false nowhere w.nest.from
-unfolding may_be_empty tree_of qualifiers_of ref_of
+unfolding may_be_empty
 operator-ends s w mark p here is_name =
     let t = p.own in
     let st = p.state in
@@ -474,9 +444,7 @@ operator-ends s w mark p here is_name =
       keeps = keeps-same s w (record w { at = w.at + 1 }) st.candidates refl refl refl p.keeps;
       own = t;
       v = named t (qualifiers (has_const mark)) (called_on mark);
-      tree_is = refl;
-      qualifiers_are = refl;
-      mark_is = refl;
+      named_so = member-named t mark;
       lead = p.front;
       name = p.bytes;
       written = p.written;
@@ -511,16 +479,16 @@ class-nest {detail} names front before class nest t from_is class_from class_to 
   names_class = λ e none. names_class;
 }
 
--- one that a reference stands for, which names none
+-- one that a reference stands for
 classless-nest : {detail : Detail} (names : Names) (front bytes : List ℕ) (nest : Nest) (t : Term) → nest.from ≡ length front → nest.class_from ≡ length front
-    → nest.class_to ≡ length front → nest.has_class ≡ false → nest.is_dependent ≡ false → Prints detail t bytes false
+    → nest.class_to ≡ length front → nest.has_class ≡ false → (IsOwn nest.purpose → nest.is_dependent ≡ false) → PrintsAs detail names nest.is_dependent t bytes false
     → IsNest detail names front bytes (front ++ bytes) nest t
 classless-nest {detail} names front bytes nest t from_is class_from class_to none closed prints = record {
   back = [];
   written = sym (append-nil (front ++ bytes));
   from_is = from_is;
-  prints = prints-as detail names nest.is_dependent t bytes false prints;
-  closed = λ own. closed;
+  prints = prints;
+  closed = closed;
   class_front = front;
   class = [];
   class_back = bytes;
@@ -530,7 +498,26 @@ classless-nest {detail} names front bytes nest t from_is class_from class_to non
   names_class = λ e closed. absurd (false≢true (sym none ∙ e));
 }
 
--- the rest is expected after a first piece
+-- a first piece was read
+first-nesting : (s : Symbol) (old new : Direct) (purpose : Purpose) (a : AwaitsNest s old purpose) (kind : Kind) (t : Term) (bytes : List ℕ)
+    → new.text.list.items ≡ old.text.list.items ++ bytes → new.waiting ≡ old.waiting → new.nest.purpose ≡ purpose
+    → (new.nest.is_dependent ≡ true → IsNaming s a.scope (reverse old.waiting.list.items))
+    → IsNest (detail_of s) a.scope.names old.text.list.items bytes (old.text.list.items ++ bytes) new.nest t
+    → NestGoesOn s kind a.outer a.around t new.nest.is_listed new.at a.state → IsNesting s a.scope kind new t a.state
+first-nesting s old new purpose a kind t bytes text_is waiting_is purpose_is naming is_nest goes = record {
+  front = old.text.list.items;
+  around = a.around;
+  outer = a.outer;
+  bytes = bytes;
+  written = text_is;
+  is_nest = subst (λ l. IsNest (detail_of s) a.scope.names old.text.list.items bytes l new.nest t) (sym text_is) is_nest;
+  goes = goes;
+  scoped = nest-placed s old new a.around purpose a.scoped waiting_is purpose_is naming;
+  serves = subst (λ p. Serves s p (below s a.scope (reverse new.waiting.list.items)) a.outer old.text.list.items) (sym purpose_is)
+      (subst (λ o. Serves s purpose (below s a.scope (reverse o.list.items)) a.outer old.text.list.items) (sym waiting_is) a.serves);
+}
+
+-- the rest is expected after it
 nest-begins : (s : Symbol) (old new : Direct) (purpose : Purpose) (a : AwaitsNest s old purpose) (t : Term) (bytes : List ℕ)
     → new.text.list.items ≡ old.text.list.items ++ bytes → new.candidates ≡ old.candidates → new.waiting ≡ old.waiting → new.has_scope ≡ old.has_scope
     → new.nest.purpose ≡ purpose → new.nest.is_dependent ≡ false
@@ -545,45 +532,25 @@ nest-begins s old new purpose a t bytes text_is candidates_are waiting_is scope_
     t,
     Kind.NestRestAlone,
     tt,
-    record {
-      front = old.text.list.items;
-      around = a.around;
-      outer = a.outer;
-      bytes = bytes;
-      written = text_is;
-      is_nest = subst (λ l. IsNest (detail_of s) a.scope.names old.text.list.items bytes l new.nest t) (sym text_is) is_nest;
-      goes = goes;
-      scoped = nest-closed s old new a.around purpose a.scoped waiting_is purpose_is closed;
-      serves = subst (λ p. Serves s p (below s a.scope (reverse new.waiting.list.items)) a.outer old.text.list.items) (sym purpose_is)
-          (subst (λ o. Serves s purpose (below s a.scope (reverse o.list.items)) a.outer old.text.list.items) (sym waiting_is) a.serves);
-    },
+    first-nesting s old new purpose a Kind.NestRestAlone t bytes text_is waiting_is purpose_is (λ e. absurd (false≢true (sym closed ∙ e))) is_nest goes,
   );
 }
 
 -- and after one that an S stands for
 known-begins : (s : Symbol) (old new : Direct) (purpose : Purpose) (a : AwaitsNest s old purpose) (t : Term) (bytes : List ℕ)
     → new.text.list.items ≡ old.text.list.items ++ bytes → new.candidates ≡ old.candidates → new.waiting ≡ old.waiting → new.has_scope ≡ old.has_scope
-    → new.nest.purpose ≡ purpose → new.nest.is_dependent ≡ false
+    → new.nest.purpose ≡ purpose → (new.nest.is_dependent ≡ true → IsNaming s a.scope (reverse old.waiting.list.items))
     → IsNest (detail_of s) a.scope.names old.text.list.items bytes (old.text.list.items ++ bytes) new.nest t → new.nest.is_listed ≡ true
     → new.nest.has_class ≡ false
-    → NestGoesOn s Kind.NestRestOrEnd a.outer a.around t true new.at a.state → IsNestKnown s new
-known-begins s old new purpose a t bytes text_is candidates_are waiting_is scope_same purpose_is closed is_nest listed classless known = record {
+    → NestGoesOn s Kind.NestRestOrEnd a.outer a.around t new.nest.is_listed new.at a.state → IsNestKnown s new
+known-begins s old new purpose a t bytes text_is candidates_are waiting_is scope_same purpose_is naming is_nest listed classless goes = record {
   state = a.state;
   scope = a.scope;
   keeps = keeps-grown s old new bytes a.state.candidates text_is candidates_are scope_same a.keeps;
-  around = a.around;
-  outer = a.outer;
   own = t;
-  known = known;
-  front = old.text.list.items;
-  bytes = bytes;
-  written = text_is;
-  is_nest = subst (λ l. IsNest (detail_of s) a.scope.names old.text.list.items bytes l new.nest t) (sym text_is) is_nest;
-  scoped = nest-closed s old new a.around purpose a.scoped waiting_is purpose_is closed;
+  nesting = first-nesting s old new purpose a Kind.NestRestOrEnd t bytes text_is waiting_is purpose_is naming is_nest goes;
   listed = listed;
   classless = classless;
-  serves = subst (λ p. Serves s p (below s a.scope (reverse new.waiting.list.items)) a.outer old.text.list.items) (sym purpose_is)
-      (subst (λ o. Serves s purpose (below s a.scope (reverse o.list.items)) a.outer old.text.list.items) (sym waiting_is) a.serves);
 }
 
 -- a nest whose class is written at these places
@@ -625,8 +592,8 @@ abbreviation-begins s old mid purpose letter a here behind there text_is candida
     let t : Term = abbreviation letter in
     let bytes = look_up (letter ∷ []) abbreviation_texts in
     let some : letter ≢ 0 = λ e. there (ap (λ l. look_up (l ∷ []) abbreviation_texts) e) in
-    known-begins s old (record mid { nest = nest }) purpose a t bytes text_is candidates_are waiting_is scope_same refl refl
-    (classless-nest a.scope.names old.text.list.items bytes nest t from_is from_is from_is refl refl (abbreviation-prints letter there))
+    known-begins s old (record mid { nest = nest }) purpose a t bytes text_is candidates_are waiting_is scope_same refl (λ e. absurd (false≢true e))
+    (classless-nest a.scope.names old.text.list.items bytes nest t from_is from_is from_is refl (λ own. refl) (abbreviation-prints letter there))
     refl refl (subst (λ n. NestGoesOn s Kind.NestRestOrEnd a.outer a.around t true n a.state) (omega (arith, at_is))
     (nest-abbreviation s a.outer a.around old.at a.state letter a.awaits (stands-join s.bytes old.at (83 ∷ []) (letter ∷ []) here (behind some))
     (abbreviation-listed letter there)))
@@ -640,24 +607,46 @@ candidate-text s w purpose a n k ordered found =
     let piece = piece-found w.text.list.items is.front is.bytes is.back k.from k.to is.written is.from_is is.to_is in
     (piece.0, piece.1)
 
+-- only a type names arguments
+own-closed : (purpose : Purpose) (d : Bool) → (d ≡ true → is_type purpose ≡ true) → IsOwn purpose → d ≡ false
+own-closed purpose false typed own = refl
+own-closed purposes.Type true typed own = absurd own
+own-closed (purposes.Name mark) true typed own = absurd (false≢true (typed refl))
+own-closed (purposes.Enclosing mark) true typed own = absurd (false≢true (typed refl))
+
+-- what a reference stands for may be named here
+named-again : (s : Symbol) {scope : Scope} (around : Around) (open_ : List Open) (c : values.Candidate) (st : State) (bytes : List ℕ) (d : Bool)
+    → PrintsAs (detail_of s) scope.names d c.tree bytes false → IsScopeOf s scope → (d ≡ true → IsScoped scope around open_)
+    → (d ≡ true → IsNaming s scope open_) → (d ≡ true → c.encoding ≡ encoding_place s.bytes) → (place : ℕ)
+    → substituted around place (Some c) st ≡ Ok (found (tree c.tree true) st)
+named-again s around open_ c st bytes false prints own scoped naming made place = substituted-so around place c st prints.is_closed prints.packless
+named-again s around open_ c st bytes true prints own scoped naming made place =
+    again-substituted s around open_ c st bytes false own (scoped refl) (naming refl) (made refl) prints place
+
 -- a reference begins a nested name
 pub reference-begins : (s : Symbol) (old mid : Direct) (purpose : Purpose) (digits : List ℕ) (k : Candidate) → AwaitsNest s old purpose
     → StandsAt s.bytes old.at (83 ∷ []) → IsSeqAt s.bytes (old.at + 1) digits mid.at
-    → k.from ≤ k.to → slice_get old.candidates.list.items (counted_value Seq36 digits) ≡ Some k → k.is_reference ≡ false → k.is_dependent ≡ false
+    → k.from ≤ k.to → slice_get old.candidates.list.items (counted_value Seq36 digits) ≡ Some k → k.is_reference ≡ false
+    → (k.is_dependent ≡ true → is_type purpose ≡ true)
+    → (k.is_dependent ≡ true → (all : Arguments) × (argument_of (reverse old.waiting.list.items) ≡ Some all) × (all.encoding ≢ 0))
     → mid.text.list.items ≡ old.text.list.items ++ take (k.to - k.from) (drop k.from old.text.list.items) → mid.candidates ≡ old.candidates
     → mid.waiting ≡ old.waiting → mid.has_scope ≡ old.has_scope → (from : ℕ) → from ≡ length old.text.list.items
-    → IsNestKnown s (record mid { nest = nest_of from from from purpose true false })
-reference-begins s old mid purpose digits k a here is ordered found plain closed text_is candidates_are waiting_is scope_same from from_is =
-    let nest = nest_of from from from purpose true false in
-    let one = candidate-found old.text.list.items old.candidates.list.items a.state.candidates (counted_value Seq36 digits) k a.keeps.candidates ordered found in
+    → IsNestKnown s (record mid { nest = record (nest_of from from from purpose true false) { is_dependent = k.is_dependent } })
+reference-begins s old mid purpose digits k a here is ordered found_ plain typed known text_is candidates_are waiting_is scope_same from from_is =
+    let nest = record (nest_of from from from purpose true false) { is_dependent = k.is_dependent } in
+    let one = candidate-found old.text.list.items old.candidates.list.items a.state.candidates (counted_value Seq36 digits) k a.keeps.candidates ordered found_ in
     let c = one.0 in
     let it = one.2 in
     let piece = piece-found old.text.list.items it.front it.bytes it.back k.from k.to it.written it.from_is it.to_is in
-    let own = subst (λ r. PrintsAs (detail_of s) a.scope.names k.is_dependent c.tree it.bytes r) plain it.prints in
-    let prints : Prints (detail_of s) c.tree it.bytes false = closed-prints a.scope.names closed own in
+    let prints = subst (λ r. PrintsAs (detail_of s) a.scope.names k.is_dependent c.tree it.bytes r) plain it.prints in
+    let scoped : k.is_dependent ≡ true → IsScoped a.scope a.around (reverse old.waiting.list.items) = λ e. a.scoped (typed e) in
+    let naming : k.is_dependent ≡ true → IsNaming s a.scope (reverse old.waiting.list.items) =
+    λ e. let n = known e in named-here s old a.state.candidates a.around n.0 a.keeps (scoped e) n.1 n.2 in
     known-begins s old (record mid { nest = nest }) purpose a c.tree it.bytes (text_is ∙ ap (λ l. old.text.list.items ++ l) piece.2) candidates_are
-    waiting_is scope_same refl refl (classless-nest a.scope.names old.text.list.items it.bytes nest c.tree from_is from_is from_is refl refl prints)
-    refl refl (nest-substitution s a.outer a.around old.at a.state digits mid.at c a.awaits here is one.1 prints.is_closed prints.packless)
+    waiting_is scope_same refl naming
+    (classless-nest a.scope.names old.text.list.items it.bytes nest c.tree from_is from_is from_is refl (own-closed purpose k.is_dependent typed) prints)
+    refl refl (nest-substitution s a.outer a.around old.at a.state digits mid.at c a.awaits here is one.1
+    (named-again s a.around (reverse old.waiting.list.items) c a.state it.bytes k.is_dependent prints a.keeps.own scoped naming it.made_in))
 
 -- a name in std begins a nested one
 pub std-begins : (s : Symbol) (old mid : Direct) (purpose : Purpose) (before : ℕ) (name : List ℕ)
@@ -696,7 +685,7 @@ std-begins s old mid purpose before name a here is filled text_is candidates_are
         class_to = omega (arith, to_is, ap length text_is, length-append (old.text.list.items ++ codes "std::") (source_text name));
         names_class = λ e none. std-class false name filled (name-unmarked s.bytes (before + 2) name mid.at is);
       };
-      scoped = nest-closed s old (record mid { nest = nest }) a.around purpose a.scoped waiting_is refl refl;
+      scoped = nest-placed s old (record mid { nest = nest }) a.around purpose a.scoped waiting_is refl (λ e. absurd (false≢true e));
       names_tagged = λ e none tag plain. std-tagged false name filled (name-unmarked s.bytes (before + 2) name mid.at is) tag plain;
       unlisted = refl;
       no_instance = refl;

@@ -377,7 +377,7 @@ list-packless-as detail names is_dependent arguments extra ts tail l single is a
 pub type-element-as : (detail : Detail) (names : Names) (is_dependent : Bool) (t : Term) (b : List ℕ) (r : Bool) → PrintsAs detail names is_dependent t b r
     → IsElementAs detail names is_dependent 3 t b
 type-element-as detail names false t b r p = type-element 3 t b r p
-type-element-as detail names true t b r p = record { prints = λ c given. type-in c 2 3 (omega arith) t b r (p.prints c given); packless = p.packless }
+type-element-as detail names true t b r p = record { prints = λ c given. type-in c 3 3 (omega arith) t b r (p.prints c given); packless = p.packless }
 
 -- No elements print nothing, and one more prints after those before it.
 pub none-print-as : (detail : Detail) (names : Names) (is_dependent : Bool) (extra : ℕ) → PrintAllAs detail names is_dependent extra [] []

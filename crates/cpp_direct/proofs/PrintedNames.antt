@@ -62,10 +62,10 @@ nothing_besides c t = record {
 
 -- a tree that is a name or a value, and nothing besides, prints its text in a context,
 pub own-in : {detail : Detail} (c : Context) (extra : ℕ) (t : Term) (bytes : List ℕ) → text_of (written_of detail left c t) ≡ bytes
-    → 1 + cost_of (written_of detail left c t) + cost_of (written_of detail right c t) ≤ extra + 4 * length bytes → besides c t ≡ nothing_besides c t
-    → PrintsIn detail c extra t bytes false
+    → 1 + cost_of (written_of detail left c t) + cost_of (written_of detail right c t) ≤ extra + 4 * length bytes → 1 ≤ length bytes
+    → besides c t ≡ nothing_besides c t → PrintsIn detail c extra t bytes false
 unfolding besides parts_in not_empty right_parts head head_with is_reference is_funarr is_empty is_function_type is_void
-own-in {detail} c extra t bytes left_text cost is = record {
+own-in {detail} c extra t bytes left_text cost some is = record {
   left_text = left_text;
   right_text = text_shown detail right c t [] (ap (λ b. b.behind) is) refl;
   cost = cost;
@@ -74,6 +74,7 @@ own-in {detail} c extra t bytes left_text cost is = record {
   filled = ap (λ b. b.empty) is;
   no_function = ap (λ b. b.function) is;
   void = λ e. absurd (false≢true (sym (ap (λ b. b.void) is) ∙ e));
+  some = some;
 }
 
 -- and anywhere
@@ -81,7 +82,7 @@ pub own-prints : {detail : Detail} (t : Term) (bytes : List ℕ) → PrintsName 
     → opening_text (last_piece t) ≡ codes "<" → ((c : Context) → besides c t ≡ nothing_besides c t) → Prints detail t bytes false
 unfolding besides length_if_pack prefix_item is_plain_integer
 own-prints t bytes n is_closed packless opening is =
-    made-prints t bytes false (λ c. own-in c 0 t bytes (n.left_text c) (omega (arith, n.cost c)) (is c)) is_closed packless (ap (λ b. b.pack) (is closed))
+    made-prints t bytes false (λ c. own-in c 0 t bytes (n.left_text c) (omega (arith, n.cost c)) (omega (arith, n.cost c)) (is c)) is_closed packless (ap (λ b. b.pack) (is closed))
     (λ c. ap (λ b. b.prefix) (is c)) opening (λ e. absurd (false≢true (sym (ap (λ b. b.integer) (is closed)) ∙ e))) (λ e. cc e)
 
 -- a tree of which one text is written at the left, and nothing at the right, names something by it

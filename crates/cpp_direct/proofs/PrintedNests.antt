@@ -118,7 +118,7 @@ within-in {detail} c extra t b prints prefix p x is =
       is.filled,
       length-append (b ++ codes "::") x,
       length-append b (codes "::"),
-    )) refl
+    )) (omega (arith, length-append (b ++ codes "::") x, length-append b (codes "::"))) refl
 
 -- and names something by them.
 pub within-names : {detail : Detail} (t : Term) (b : List ℕ) → Prints detail t b false → (p : Term) (x : List ℕ) → IsPiece detail p x
@@ -142,7 +142,7 @@ pub within-as : (detail : Detail) (names : Names) (is_dependent : Bool) (t : Ter
 unfolding pack_length last_piece first_of is_function_type length_if_pack prefix_item
 within-as detail names false t b prints p x is opening = within-prints t b prints p x is opening
 within-as detail names true t b prints p x is opening =
-    made-given names (within t p) (b ++ codes "::" ++ x) false (λ c given. within-in c 2 t b (prints.prints c given) (prints.as_prefix c) p x is)
+    made-given names (within t p) (b ++ codes "::" ++ x) false (λ c given. within-in c 3 t b (prints.prints c given) (prints.as_prefix c) p x is)
     (λ arguments single. rw (prints.packless arguments single, is.packless arguments) refl) refl refl (λ c. refl) opening
 
 -- It names its class without what it is in.
@@ -273,6 +273,12 @@ instance-in {detail} c extra t b p opening ts tail l is all =
       length-append (b ++ opening_bracket detail ++ l) (closing_bracket detail),
       length-append (b ++ opening_bracket detail) l,
       length-append b (opening_bracket detail),
+    )) (omega (
+      arith,
+      p.some,
+      length-append (b ++ opening_bracket detail ++ l) (closing_bracket detail),
+      length-append (b ++ opening_bracket detail) l,
+      length-append b (opening_bracket detail),
     )) refl
 
 -- anywhere,
@@ -294,7 +300,7 @@ unfolding pack_length is_function_type length_if_pack prefix_item last_piece ope
 instance-as detail names false t b p ts tail l is all = instance-prints t b p ts tail l is all
 instance-as detail names true t b p ts tail l is all =
     made-given names (instance t (list_with ts tail)) (b ++ opening_bracket detail ++ l ++ closing_bracket detail) false
-    (λ c given. instance-in c 2 t b (p.prints c given) p.opening ts tail l is (all-as-in detail names true c 3 ts l given all))
+    (λ c given. instance-in c 3 t b (p.prints c given) p.opening ts tail l is (all-as-in detail names true c 3 ts l given all))
     (λ arguments single. rw (p.packless arguments single, list-packless-as detail names true arguments 3 ts tail l single is all) refl)
     refl refl (λ c. refl) refl
 
@@ -388,8 +394,9 @@ tagged-as detail names false of_structor t b p tag plain = tagged-prints of_stru
 tagged-as detail names true of_structor t b p tag plain =
     let w = tagged of_structor t tag in
     made-given names w (b ++ tag_text tag) false
-    (λ c given. own-in c 2 w (b ++ tag_text tag) (tagged-left detail of_structor t b tag plain c (p.prints c given).left_text)
-    (tagged-costs detail 2 of_structor t b tag c (p.prints c given).cost) refl)
+    (λ c given. own-in c 3 w (b ++ tag_text tag) (tagged-left detail of_structor t b tag plain c (p.prints c given).left_text)
+    (tagged-costs detail 3 of_structor t b tag c (p.prints c given).cost)
+    (omega (arith, (p.prints c given).some, length-append b (tag_text tag))) refl)
     p.packless refl refl (λ c. refl) refl
 
 -- Where its class has this text at the base it names its class so.

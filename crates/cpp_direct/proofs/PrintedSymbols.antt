@@ -15,7 +15,7 @@ use Rattle.cpp_grammar.specs.Answer.{shown, root_item}
 use Rattle.cpp_direct.specs.declared.open.Mark.{Mark}
 use Rattle.cpp_direct.specs.Marks.{has_const, called_on}
 use Rattle.cpp_direct.specs.Prints.{written_of, PrintsName, PrintsIn, IsElement, Shows, list_of, joined, PrintEachIn, PrintAllIn}
-use Rattle.cpp_direct.specs.WriterInvariant.{qualifiers, plain_encoding}
+use Rattle.cpp_direct.specs.WriterInvariant.{qualifiers, plain_encoding, IsNamedSo}
 use Rattle.cpp_direct.specs.WrittenParts.{IsUnmarked, written}
 use Rattle.cpp_direct.proofs.Unmarked.{length-unmarked, qualifiers-unmarked, special-unmarked, thunk-unmarked, unmarked-same}
 use Rattle.cpp_direct.proofs.PrintedParts.{shown_by, text_shown, cost_shown, first_shown, first_cost_shown, text_append, cost_append, part-text, part-cost, length-filled}
@@ -65,11 +65,11 @@ function-shows {detail} shown name b p ts l all q ref =
     }
 
 -- what prints something is there
-not-absent : {detail : Detail} (c : Context) (t : Term) (b : List ℕ) (r : Bool) → PrintsIn detail c 2 t b r → t ≡ absent → ⊥
+not-absent : {detail : Detail} (c : Context) (t : Term) (b : List ℕ) (r : Bool) → PrintsIn detail c 3 t b r → t ≡ absent → ⊥
 unfolding parts_in left_parts not_empty
 not-absent {detail} c t b r p e =
     let none : b ≡ [] = sym p.left_text ∙ ap (λ u. text_of (written_of detail left c u)) e ∙ text_shown detail left c absent [] refl refl in
-    omega (arith, p.cost, ap length none)
+    omega (arith, p.some, ap length none)
 
 returned_parts : (detail : Detail) → has_parameters detail ≡ true → (name : Term) (q : Qualifiers) (ref : RefQualifier) (r items : Term) → (r ≡ absent → ⊥)
     → parts_in detail closed full (function name q ref r items)
@@ -84,7 +84,7 @@ fronted_text x y z b l e f g = rw (e, f, g) (append-nil (b ++ codes " " ++ l))
 -- A function that has a return type prints it before what it prints without.
 pub front-shows : {detail : Detail} → has_parameters detail ≡ true → (name : Term) (q : Qualifiers) (ref : RefQualifier) (items : Term) (l : List ℕ)
     → Shows detail (function name q ref absent items) l
-    → (r : Term) (b : List ℕ) (is_reference : Bool) → PrintsIn detail (types_of name) 2 r b is_reference
+    → (r : Term) (b : List ℕ) (is_reference : Bool) → PrintsIn detail (types_of name) 3 r b is_reference
     → Shows detail (function name q ref r items) (b ++ codes " " ++ l)
 unfolding parts_in full_parts function_full not_empty
 front-shows {detail} shown name q ref items l shows r b is_reference p =
@@ -216,14 +216,14 @@ unfolding encoding_of
 returned-items v e r items = rw (e, encoding_of) refl
 
 -- A name that has no return type makes a function without one of its items.
-pub encoding-plain : (v : Value) (mark : Mark) (own : Term) → tree_of v ≡ own → qualifiers_of v ≡ qualifiers (has_const mark) → ref_of v ≡ called_on mark
-    → has_return_type own ≡ false → (t rest : Term) → encoding_of v (list t rest) ≡ plain_encoding mark own (list t rest)
-encoding-plain v mark own e f g none t rest = plain-items v (ap has_return_type e ∙ none) t rest ∙ rw (e, f, g) refl
+pub encoding-plain : (v : Value) (mark : Mark) (own : Term) → IsNamedSo v own mark → has_return_type own ≡ false → (t rest : Term) → encoding_of v (list t rest) ≡ plain_encoding mark own (list t rest)
+encoding-plain v mark own is none t rest = plain-items v (ap has_return_type is.tree_is ∙ none) t rest ∙ rw (is.tree_is, is.qualifiers_are, is.mark_is) refl
 
 -- Of a name that has one the first item is the return type.
-pub encoding-returned : (v : Value) (mark : Mark) (own : Term) → tree_of v ≡ own → qualifiers_of v ≡ qualifiers (has_const mark) → ref_of v ≡ called_on mark
-    → has_return_type own ≡ true → (r items : Term) → encoding_of v (list r items) ≡ function own (qualifiers (has_const mark)) (called_on mark) r (parameters items)
-encoding-returned v mark own e f g returns r items = returned-items v (ap has_return_type e ∙ returns) r items ∙ rw (e, f, g) refl
+pub encoding-returned : (v : Value) (mark : Mark) (own : Term) → IsNamedSo v own mark → has_return_type own ≡ true → (r items : Term)
+    → encoding_of v (list r items) ≡ function own (qualifiers (has_const mark)) (called_on mark) r (parameters items)
+encoding-returned v mark own is returns r items =
+    returned-items v (ap has_return_type is.tree_is ∙ returns) r items ∙ rw (is.tree_is, is.qualifiers_are, is.mark_is) refl
 
 -- Parameters that aren't a lone void are those of the function that they make.
 pub made-with : (mark : Mark) (own : Term) (make : Term → Term) → ((t rest : Term) → make (list t rest) ≡ plain_encoding mark own (list t rest))

@@ -6,7 +6,7 @@ use Rattle.sym_print.specs.Details.{has_arguments}
 use Rattle.sym_print.specs.Unfold.{text}
 use Rattle.cpp_direct.specs.WrittenParts.{IsUnmarked, unmarked_parts, written_in}
 use Rattle.cpp_direct.proofs.PrintedParts.{text_shown, cost_shown, alone_shown, first_cost_shown, shown_by}
-use Rattle.cpp_direct.specs.Prints.{Prints, PrintsIn, PrintsGiven, PrintsAs, Names, IsGiven, AreSingle, EndsAsInteger, written_of, IsElementIn, PrintEachBy, PrintAllBy, forwarded, joined, list_of}
+use Rattle.cpp_direct.specs.Prints.{Prints, PrintsIn, PrintsGiven, PrintsAs, Named, Names, IsGiven, AreSingle, EndsAsInteger, written_of, IsElementIn, PrintEachBy, PrintAllBy, forwarded, joined, list_of}
 use Rattle.cpp_grammar.specs.Items.{closed, Form, left, right, low, Context, Head, lref, collapsed, head_with, head, is_reference, is_funarr, is_empty, argument, head_closed, expand, indexed, packs_of, is_none_of}
 use Rattle.cpp_grammar.specs.Meaning.{is_void}
 use Rattle.cpp_grammar.specs.Parts.{as_item, says, text_part, qualifier_text, prefix_item, last_piece, opening_text, marked_parts, reference_parts, qualified_left, qualified_right, closing_right, left_parts, right_parts, parts_in, not_empty, is_plain_integer, at_index, comma_before, expand_parts, expand_rest, expansion_parts, is_below, types_of}
@@ -42,6 +42,7 @@ prints-in c extra t b r p = record {
   filled = p.filled c;
   no_function = p.no_function;
   void = p.void;
+  some = omega (arith, p.cost c);
 }
 
 -- What prints in each context prints anywhere, if it is closed and names no packs.
@@ -69,7 +70,7 @@ made-prints t b r h is_closed packless no_pack as_prefix opening integer referen
 }
 
 -- What prints in each context where parameters name arguments with these texts prints so where they do.
-pub made-given : {detail : Detail} (names : Names) (t : Term) (b : List ℕ) (r : Bool) → ((c : Context) → IsGiven detail names c → PrintsIn detail c 2 t b r)
+pub made-given : {detail : Detail} (names : Names) (t : Term) (b : List ℕ) (r : Bool) → ((c : Context) → IsGiven detail names c → PrintsIn detail c 3 t b r)
     → ((arguments : Term) → AreSingle names arguments → pack_length arguments t ≡ None) → is_function_type t ≡ false → length_if_pack t ≡ None
     → ((c : Context) → prefix_item c t ≡ as_item left c t) → opening_text (last_piece t) ≡ codes "<" → PrintsGiven detail names t b r
 made-given names t b r prints packless no_function no_pack as_prefix opening =
@@ -80,7 +81,7 @@ made-given names t b r prints packless no_function no_pack as_prefix opening =
 -- What prints anywhere prints there,
 pub prints-given : {detail : Detail} (names : Names) (t : Term) (b : List ℕ) (r : Bool) → Prints detail t b r → PrintsGiven detail names t b r
 prints-given names t b r p =
-    made-given names t b r (λ c given. prints-in c 2 t b r p) (λ arguments single. p.packless arguments) p.no_function p.no_pack p.as_prefix p.opening
+    made-given names t b r (λ c given. prints-in c 3 t b r p) (λ arguments single. p.packless arguments) p.no_function p.no_pack p.as_prefix p.opening
 
 pub prints-as : (detail : Detail) (names : Names) (is_dependent : Bool) (t : Term) (b : List ℕ) (r : Bool) → Prints detail t b r
     → PrintsAs detail names is_dependent t b r
@@ -99,21 +100,21 @@ given-more names t b r p =
 
 -- In a context where they do it prints so.
 pub as-in : (detail : Detail) (names : Names) (is_dependent : Bool) (c : Context) (t : Term) (b : List ℕ) (r : Bool) → IsGiven detail names c
-    → PrintsAs detail names is_dependent t b r → PrintsIn detail c 2 t b r
+    → PrintsAs detail names is_dependent t b r → PrintsIn detail c 3 t b r
 as-in detail names is_dependent c t b r given p = (prints-as-given detail names is_dependent t b r p).prints c given
 
 -- So it is one of a function's parameters.
-pub type-element-in : {detail : Detail} (c : Context) (t : Term) (b : List ℕ) (r : Bool) → PrintsIn detail c 2 t b r → IsElementIn detail c 6 t b
-type-element-in c t b r p = type-in c 2 6 (omega arith) t b r p
+pub type-element-in : {detail : Detail} (c : Context) (t : Term) (b : List ℕ) (r : Bool) → PrintsIn detail c 3 t b r → IsElementIn detail c 6 t b
+type-element-in c t b r p = type-in c 3 6 (omega arith) t b r p
 
 -- The types of a function's name are such a context if its arguments have these texts.
 pub types-given : {detail : Detail} (names : Names) (name all : Term) → arguments_of name ≡ Some all
-    → ((k : ℕ) (b : List ℕ) → names k ≡ Some b → (own : Term) × (element all k ≡ own) × Prints detail own b false) → IsGiven detail names (types_of name)
+    → ((k : ℕ) (n : Named) → names k ≡ Some n → (own : Term) × (element all k ≡ own) × Prints detail own n.bytes n.reference) → IsGiven detail names (types_of name)
 unfolding argument types_of indexed
-types-given {detail} names name all e known k b is =
-    let own = known k b is in
+types-given {detail} names name all e known k n is =
+    let own = known k n is in
     let there : argument (types_of name) k ≡ own.0 = rw e own.1 in
-    subst (λ t. Prints detail t b false) (sym there) own.2
+    subst (λ t. Prints detail t n.bytes n.reference) (sym there) own.2
 
 -- ## Marks
 
@@ -151,62 +152,55 @@ marked-in {detail} c extra t made mark b r q p m reference_is no_function_head f
   filled = filled;
   no_function = no_function;
   void = λ e. absurd (false≢true (sym no_void ∙ e));
+  some = omega (arith, m.some, length-append b mark);
 }
+
+-- and, so, wherever the type does
+marked-as : (detail : Detail) (names : Names) (is_dependent : Bool) (t made : Term) (mark b : List ℕ) (r q : Bool)
+    → ((c : Context) (extra : ℕ) → PrintsIn detail c extra t b r → IsMarked detail c t made mark)
+    → ((c : Context) (extra : ℕ) → PrintsIn detail c extra t b r → (is_reference (head c made) ≡ q) × (is_funarr (head c made) ≡ false))
+    → ((c : Context) → is_empty c made ≡ false) → is_function_type made ≡ false → is_void made ≡ false → is_open made ≡ is_open t
+    → ((arguments : Term) → pack_length arguments made ≡ pack_length arguments t) → length_if_pack made ≡ None
+    → ((c : Context) → prefix_item c made ≡ as_item left c made) → opening_text (last_piece made) ≡ codes "<" → is_plain_integer made ≡ false
+    → PrintsAs detail names is_dependent t b r → PrintsAs detail names is_dependent made (b ++ mark) q
+marked-as detail names is_dependent t made mark b r q marks heads filled no_function no_void open_is packs_are no_pack as_prefix opening no_integer p = go is_dependent p
+  where
+    marked_in : (c : Context) (extra : ℕ) → PrintsIn detail c extra t b r → PrintsIn detail c extra made (b ++ mark) q
+    marked_in c extra h =
+        marked-in c extra t made mark b r q h (marks c extra h) (heads c extra h).0 (heads c extra h).1 (filled c) no_function no_void
+
+    go : (d : Bool) → PrintsAs detail names d t b r → PrintsAs detail names d made (b ++ mark) q
+    go false p =
+        made-prints made (b ++ mark) q (λ c. marked_in c 0 (prints-in c 0 t b r p)) (open_is ∙ p.is_closed) (λ arguments. packs_are arguments ∙ p.packless arguments)
+        no_pack as_prefix opening (λ e. absurd (false≢true (sym no_integer ∙ e)))
+        (λ e c. let m = marks c 0 (prints-in c 0 t b r p) in omega (arith, p.cost c, m.some, length-append b mark, marked-cost c t made mark m))
+    go true p =
+        made-given names made (b ++ mark) q (λ c given. marked_in c 3 (p.prints c given)) (λ arguments single. packs_are arguments ∙ p.packless arguments single)
+        no_function no_pack as_prefix opening
 
 -- A pointer prints its type and a star.
 pointer-marks : (detail : Detail) (c : Context) (t : Term) → is_funarr (head c t) ≡ false → IsMarked detail c t (pointer t) (codes "*")
 unfolding parts_in left_parts right_parts
 pointer-marks detail c t e = record { left_is = marked c t "*" e; right_is = closing c t e; written = refl; plain = refl; some = omega arith }
 
-pub pointer-in : {detail : Detail} (c : Context) (extra : ℕ) (t : Term) (b : List ℕ) (r : Bool) → PrintsIn detail c extra t b r
-    → PrintsIn detail c extra (pointer t) (b ++ codes "*") false
-unfolding head head_with is_reference is_funarr is_empty is_function_type is_void
-pointer-in {detail} c extra t b r p =
-    marked-in c extra t (pointer t) (codes "*") b r false p (pointer-marks detail c t p.is_funarr_head) refl refl refl refl refl
-
--- It does so anywhere.
-pub pointer-prints : {detail : Detail} (t : Term) (b : List ℕ) (r : Bool) → Prints detail t b r → Prints detail (pointer t) (b ++ codes "*") false
-unfolding is_open pack_length length_if_pack prefix_item last_piece opening_text is_plain_integer
-pointer-prints t b r p =
-    made-prints (pointer t) (b ++ codes "*") false (λ c. pointer-in c 0 t b r (prints-in c 0 t b r p)) p.is_closed p.packless refl (λ c. refl) refl (λ e. cc e)
-    (λ e. cc e)
-
 pub pointer-as : (detail : Detail) (names : Names) (is_dependent : Bool) (t : Term) (b : List ℕ) (r : Bool) → PrintsAs detail names is_dependent t b r
     → PrintsAs detail names is_dependent (pointer t) (b ++ codes "*") false
-unfolding pack_length is_function_type length_if_pack prefix_item last_piece opening_text
-pointer-as detail names false t b r p = pointer-prints t b r p
-pointer-as detail names true t b r p =
-    made-given names (pointer t) (b ++ codes "*") false (λ c given. pointer-in c 2 t b r (p.prints c given)) p.packless refl refl (λ c. refl) refl
+unfolding head head_with is_reference is_funarr is_empty is_function_type is_void is_open pack_length length_if_pack prefix_item last_piece opening_text is_plain_integer
+pointer-as detail names is_dependent t b r p =
+    marked-as detail names is_dependent t (pointer t) (codes "*") b r false (λ c extra h. pointer-marks detail c t h.is_funarr_head) (λ c extra h. (refl, refl)) (λ c. refl)
+    refl refl refl (λ arguments. refl) refl (λ c. refl) refl refl p
 
 -- An lvalue reference prints its type, which is no reference, and its mark.
 lvalue-marks : (detail : Detail) (c : Context) (t : Term) → is_reference (head c t) ≡ false → is_funarr (head c t) ≡ false → IsMarked detail c t (lvalue t) (codes "&")
 unfolding parts_in left_parts right_parts
 lvalue-marks detail c t e f = record { left_is = reference c low t "&" e f; right_is = closing c t f; written = refl; plain = refl; some = omega arith }
 
-pub lvalue-in : {detail : Detail} (c : Context) (extra : ℕ) (t : Term) (b : List ℕ) → PrintsIn detail c extra t b false
-    → PrintsIn detail c extra (lvalue t) (b ++ codes "&") true
-unfolding head head_with is_reference is_funarr is_empty is_function_type is_void
-lvalue-in {detail} c extra t b p =
-    marked-in c extra t (lvalue t) (codes "&") b false true p (lvalue-marks detail c t p.is_reference_head p.is_funarr_head) refl refl refl refl refl
-
--- It does so anywhere.
-pub lvalue-prints : {detail : Detail} (t : Term) (b : List ℕ) → Prints detail t b false → Prints detail (lvalue t) (b ++ codes "&") true
-unfolding is_open pack_length length_if_pack prefix_item last_piece opening_text is_plain_integer
-lvalue-prints {detail} t b p =
-    made-prints (lvalue t) (b ++ codes "&") true (λ c. lvalue-in c 0 t b (prints-in c 0 t b false p)) p.is_closed p.packless refl (λ c. refl) refl (λ e. cc e)
-    (λ e c. omega (
-      arith,
-      p.cost c,
-      length-append b (codes "&"),
-      marked-cost c t (lvalue t) (codes "&") (lvalue-marks detail c t (p.is_reference_head c) (p.is_funarr_head c)),
-    ))
-
 pub lvalue-as : (detail : Detail) (names : Names) (is_dependent : Bool) (t : Term) (b : List ℕ) → PrintsAs detail names is_dependent t b false
     → PrintsAs detail names is_dependent (lvalue t) (b ++ codes "&") true
-unfolding pack_length is_function_type length_if_pack prefix_item last_piece opening_text
-lvalue-as detail names false t b p = lvalue-prints t b p
-lvalue-as detail names true t b p =
-    made-given names (lvalue t) (b ++ codes "&") true (λ c given. lvalue-in c 2 t b (p.prints c given)) p.packless refl refl (λ c. refl) refl
+unfolding head head_with is_reference is_funarr is_empty is_function_type is_void is_open pack_length length_if_pack prefix_item last_piece opening_text is_plain_integer
+lvalue-as detail names is_dependent t b p =
+    marked-as detail names is_dependent t (lvalue t) (codes "&") b false true (λ c extra h. lvalue-marks detail c t h.is_reference_head h.is_funarr_head) (λ c extra h. (refl, refl)) (λ c. refl)
+    refl refl refl (λ arguments. refl) refl (λ c. refl) refl refl p
 
 collapsed-refers : (h : Head) → is_reference (collapsed h) ≡ true
 unfolding is_reference collapsed
@@ -230,24 +224,12 @@ rvalue-in {detail} c extra t b p =
     marked-in c extra t (rvalue t) (codes "&&") b false true p (rvalue-marks detail c t p.is_reference_head p.is_funarr_head)
     (collapsed-refers (head c t)) (collapsed-no_function (head c t)) refl refl refl
 
--- It does so anywhere.
-pub rvalue-prints : {detail : Detail} (t : Term) (b : List ℕ) → Prints detail t b false → Prints detail (rvalue t) (b ++ codes "&&") true
-unfolding is_open pack_length length_if_pack prefix_item last_piece opening_text is_plain_integer
-rvalue-prints {detail} t b p =
-    made-prints (rvalue t) (b ++ codes "&&") true (λ c. rvalue-in c 0 t b (prints-in c 0 t b false p)) p.is_closed p.packless refl (λ c. refl) refl (λ e. cc e)
-    (λ e c. omega (
-      arith,
-      p.cost c,
-      length-append b (codes "&&"),
-      marked-cost c t (rvalue t) (codes "&&") (rvalue-marks detail c t (p.is_reference_head c) (p.is_funarr_head c)),
-    ))
-
 pub rvalue-as : (detail : Detail) (names : Names) (is_dependent : Bool) (t : Term) (b : List ℕ) → PrintsAs detail names is_dependent t b false
     → PrintsAs detail names is_dependent (rvalue t) (b ++ codes "&&") true
-unfolding pack_length is_function_type length_if_pack prefix_item last_piece opening_text
-rvalue-as detail names false t b p = rvalue-prints t b p
-rvalue-as detail names true t b p =
-    made-given names (rvalue t) (b ++ codes "&&") true (λ c given. rvalue-in c 2 t b (p.prints c given)) p.packless refl refl (λ c. refl) refl
+unfolding head head_with is_empty is_function_type is_void is_open pack_length length_if_pack prefix_item last_piece opening_text is_plain_integer
+rvalue-as detail names is_dependent t b p =
+    marked-as detail names is_dependent t (rvalue t) (codes "&&") b false true (λ c extra h. rvalue-marks detail c t h.is_reference_head h.is_funarr_head) (λ c extra h. (collapsed-refers (head c t), collapsed-no_function (head c t))) (λ c. refl)
+    refl refl refl (λ arguments. refl) refl (λ c. refl) refl refl p
 
 -- the qualifiers of a type that is declared const
 abbrev pub constant : Qualifiers
@@ -271,31 +253,17 @@ unfolding parts_in left_parts right_parts
 const-marks detail c t d e f =
     record { left_is = qualified_left-is c t d e f; right_is = qualified_right-is c t d; written = refl; plain = refl; some = omega arith }
 
-pub const-in : {detail : Detail} (c : Context) (extra : ℕ) (t : Term) (b : List ℕ) → PrintsIn detail c extra t b false
-    → PrintsIn detail c extra (qualified constant t) (b ++ codes " const") false
-unfolding head head_with is_empty is_function_type is_void
-const-in {detail} c extra t b p =
-    marked-in c extra t (qualified constant t) (codes " const") b false false p
-    (const-marks detail c t p.no_function p.is_reference_head p.is_funarr_head) p.is_reference_head p.is_funarr_head refl refl refl
-
--- It does so anywhere.
-pub const-prints : {detail : Detail} (t : Term) (b : List ℕ) → Prints detail t b false → Prints detail (qualified constant t) (b ++ codes " const") false
-unfolding is_open pack_length length_if_pack prefix_item last_piece opening_text is_plain_integer
-const-prints t b p =
-    made-prints (qualified constant t) (b ++ codes " const") false (λ c. const-in c 0 t b (prints-in c 0 t b false p)) p.is_closed p.packless refl (λ c. refl) refl (λ e. cc e)
-    (λ e. cc e)
-
 pub const-as : (detail : Detail) (names : Names) (is_dependent : Bool) (t : Term) (b : List ℕ) → PrintsAs detail names is_dependent t b false
     → PrintsAs detail names is_dependent (qualified constant t) (b ++ codes " const") false
-unfolding pack_length is_function_type length_if_pack prefix_item last_piece opening_text
-const-as detail names false t b p = const-prints t b p
-const-as detail names true t b p =
-    made-given names (qualified constant t) (b ++ codes " const") false (λ c given. const-in c 2 t b (p.prints c given)) p.packless refl refl (λ c. refl) refl
+unfolding head head_with is_empty is_function_type is_void is_open pack_length length_if_pack prefix_item last_piece opening_text is_plain_integer
+const-as detail names is_dependent t b p =
+    marked-as detail names is_dependent t (qualified constant t) (codes " const") b false false (λ c extra h. const-marks detail c t h.no_function h.is_reference_head h.is_funarr_head) (λ c extra h. (h.is_reference_head, h.is_funarr_head)) (λ c. refl)
+    refl refl refl (λ arguments. refl) refl (λ c. refl) refl refl p
 
 -- ## Parameters
 
 -- A parameter prints the argument that it names.
-pub parameter-in : {detail : Detail} (c : Context) (k : ℕ) (b : List ℕ) (r : Bool) → Prints detail (argument c k) b r → PrintsIn detail c 2 (parameter k) b r
+pub parameter-in : {detail : Detail} (c : Context) (k : ℕ) (b : List ℕ) (r : Bool) → Prints detail (argument c k) b r → PrintsIn detail c 3 (parameter k) b r
 unfolding parts_in left_parts right_parts not_empty head head_closed head_with argument is_reference is_funarr is_empty is_function_type is_void
 parameter-in {detail} c k b r p =
     let t = parameter k in
@@ -314,21 +282,23 @@ parameter-in {detail} c k b r p =
       filled = refl;
       no_function = refl;
       void = λ e. cc e;
+      some = omega (arith, p.cost closed);
     }
 
 -- It does so where the argument has this text.
-pub parameter-given : {detail : Detail} (names : Names) (k : ℕ) (b : List ℕ) → names k ≡ Some b → PrintsGiven detail names (parameter k) b false
+pub parameter-given : {detail : Detail} (names : Names) (k : ℕ) (n : Named) → names k ≡ Some n → PrintsGiven detail names (parameter k) n.bytes n.reference
 unfolding pack_length is_function_type length_if_pack prefix_item last_piece opening_text
-parameter-given names k b e =
-    made-given names (parameter k) b false (λ c given. parameter-in c k b false (given k b e)) (λ arguments single. single k b e) refl refl (λ c. refl) refl
+parameter-given names k n e =
+    made-given names (parameter k) n.bytes n.reference (λ c given. parameter-in c k n.bytes n.reference (given k n e))
+    (λ arguments single. single k n e) refl refl (λ c. refl) refl
 
 -- An rvalue reference to a reference prints what this does.
-pub rvalue-again : {detail : Detail} (c : Context) (b : List ℕ) → Prints detail (argument c 0) b true → PrintsIn detail c 3 (rvalue (parameter 0)) b true
+pub rvalue-again : {detail : Detail} (c : Context) (k : ℕ) (b : List ℕ) → Prints detail (argument c k) b true → PrintsIn detail c 3 (rvalue (parameter k)) b true
 unfolding parts_in left_parts right_parts not_empty head head_closed head_with argument is_empty is_function_type is_void reference_parts closing_right
-rvalue-again {detail} c b p =
-    let u = parameter 0 in
-    let a = argument c 0 in
-    let inner = parameter-in c 0 b true p in
+rvalue-again {detail} c k b p =
+    let u = parameter k in
+    let a = argument c k in
+    let inner = parameter-in c k b true p in
     let ps = as_item left c u ∷ [] in
     let is : reference_parts c left u "&&" ≡ ps = rw (p.is_reference_head closed, reference_parts) refl in
     record {
@@ -347,7 +317,16 @@ rvalue-again {detail} c b p =
       filled = refl;
       no_function = refl;
       void = λ e. cc e;
+      some = inner.some;
     }
+
+-- It does so where the argument has this text.
+pub rvalue-given : {detail : Detail} (names : Names) (k : ℕ) (b : List ℕ) → names k ≡ Some (record { bytes = b; reference = true })
+    → PrintsGiven detail names (rvalue (parameter k)) b true
+unfolding pack_length is_function_type length_if_pack prefix_item last_piece opening_text
+rvalue-given names k b e =
+    let n : Named = record { bytes = b; reference = true } in
+    made-given names (rvalue (parameter k)) b true (λ c given. rvalue-again c k b (given k n e)) (λ arguments single. single k n e) refl refl (λ c. refl) refl
 
 -- ## Expansions
 
@@ -377,22 +356,10 @@ each-prints : {detail : Detail} (ts : List Term) (k : ℕ) (own : Term) (b : Lis
 unfolding argument indexed element at_index
 each-prints {detail} ts k own b true at p =
     subst (λ l. PrintsIn detail (at_index k (packed_in ts)) 3 each l true) (sym (append-nil b))
-    (rvalue-again (at_index k (packed_in ts)) b (subst (λ t. Prints detail t b true) (sym (element-of ts k own at)) p))
+    (rvalue-again (at_index k (packed_in ts)) 0 b (subst (λ t. Prints detail t b true) (sym (element-of ts k own at)) p))
 each-prints {detail} ts k own b false at p =
-    go (rvalue-in (at_index k (packed_in ts)) 2 (parameter 0) b
-    (parameter-in (at_index k (packed_in ts)) 0 b false (subst (λ t. Prints detail t b false) (sym (element-of ts k own at)) p)))
-  where
-    go : PrintsIn detail (at_index k (packed_in ts)) 2 each (b ++ codes "&&") true → PrintsIn detail (at_index k (packed_in ts)) 3 each (b ++ codes "&&") true
-    go h = record {
-      left_text = h.left_text;
-      right_text = h.right_text;
-      cost = omega (arith, h.cost);
-      is_reference_head = h.is_reference_head;
-      is_funarr_head = h.is_funarr_head;
-      filled = h.filled;
-      no_function = h.no_function;
-      void = h.void;
-    }
+    rvalue-in (at_index k (packed_in ts)) 3 (parameter 0) b
+    (parameter-in (at_index k (packed_in ts)) 0 b false (subst (λ t. Prints detail t b false) (sym (element-of ts k own at)) p))
 
 forwarded-prints : {detail : Detail} (ts : List Term) (k : ℕ) (own : Term) (b : List ℕ) → slice_get ts k ≡ Some own → PrintsForwarded detail own b
     → PrintsIn detail (at_index k (packed_in ts)) 3 each b true

@@ -4,14 +4,17 @@ use Rattle.std.proofs.Common.{◌≡◌, ℕ, zero, suc, ◌<◌, List, [], ◌�
 use Rattle.std.proofs.lemmas.Bool.{false≢true}
 use Rattle.cpp_grammar.specs.Scope.{count, element, arguments_of, before_arguments, has_return_type, is_structor}
 use Rattle.cpp_grammar.specs.Term.{Term, instance}
-use Rattle.cpp_grammar.specs.Values.{Around}
+use Rattle.cpp_grammar.specs.Values.{Around, tree, tree_of, qualifiers_of, ref_of}
+use Rattle.cpp_grammar.specs.Values as values
 use Rattle.cpp_grammar.specs.Between.{inside}
 use Rattle.cpp_direct.specs.declared.open.Mark.{Mark}
+use Rattle.cpp_direct.specs.declared.open.Mark.TheVariants as marks
 use Rattle.cpp_direct.specs.declared.open.Open.{Open}
 use Rattle.cpp_direct.specs.declared.open.Open.TheVariants as opens
 use Rattle.cpp_direct.specs.declared.open.Argument.{Argument}
 use Rattle.cpp_direct.specs.declared.open.Arguments.{Arguments}
-use Rattle.cpp_direct.specs.WriterInvariant.{IsArgument, IsAmong, AreAmong, HasArguments, HasScope, IsFunction, IsKnown, IsScope, IsScoped, Scope, argument_of, list_with, nowhere, place_of}
+use Rattle.cpp_direct.specs.Marks.{called_on, has_const}
+use Rattle.cpp_direct.specs.WriterInvariant.{IsArgument, IsAmong, AreAmong, HasArguments, HasScope, IsFunction, IsKnown, IsScope, IsScoped, Scope, argument_of, list_with, nowhere, place_of, IsNamedSo, qualifiers}
 use Rattle.cpp_direct.specs.MidStep.{AreKnown}
 use Rattle.cpp_direct.proofs.Kept.{placed-stays}
 
@@ -151,3 +154,13 @@ structor-returns t a h = rw h refl
 pub instance-returns : (t a : Term) → is_structor t ≡ false → has_return_type (instance t a) ≡ true
 unfolding has_return_type arguments_of before_arguments
 instance-returns t a h = rw h refl
+
+-- a nested name is read as that of a member function
+pub member-named : (t : Term) (mark : Mark) → IsNamedSo (values.named t (qualifiers (has_const mark)) (called_on mark)) t mark
+unfolding tree_of qualifiers_of ref_of
+member-named t mark = record { tree_is = refl; qualifiers_are = refl; mark_is = refl }
+
+-- and any other by itself
+pub plain-named : (t : Term) → IsNamedSo (tree t false) t marks.Plain
+unfolding tree_of qualifiers_of ref_of
+plain-named t = record { tree_is = refl; qualifiers_are = refl; mark_is = refl }

@@ -1,6 +1,6 @@
 -- A writer within a function type: where it begins, after its return type, between its parameters, and after it; and within an array.
 use Rattle.sym_print.specs.declared.detail.Detail.{Detail}
-use Rattle.std.proofs.Common.{◌≡◌, ◌≢◌, inl, inr, ℕ, ◌+◌, ◌-◌, length, List, [], ◌∷◌, ◌++◌, reverse, Bool, true, false, Option, refl, ap, sym, take, ◌∙◌, subst, arith, codes, append_assoc, append-nil, nat_eq, ◌⊎◌, if◌then◌else◌, ◌≤◌, drop, slice_get, Some}
+use Rattle.std.proofs.Common.{◌≡◌, ◌≢◌, inl, inr, ℕ, ◌+◌, ◌-◌, length, List, [], ◌∷◌, ◌++◌, reverse, Bool, true, false, Option, refl, ap, sym, take, ◌∙◌, subst, arith, codes, append_assoc, append-nil, nat_eq, if◌then◌else◌, ◌≤◌, drop, slice_get, Some}
 use Rattle.std.specs.List.{ends_with}
 use Rattle.std.specs.Option.{OnSome, IfSome}
 use Rattle.std.proofs.lemmas.Bool.{false≢true}
@@ -24,14 +24,14 @@ use Rattle.cpp_direct.specs.WriterInvariant.{below, IsScoped, AreCandidates, IsW
 use Rattle.cpp_direct.specs.MidStep.{AwaitsParameter, AwaitsSignature, IsElementPassed, IsFunctionRead, IsReturned, IsArrayRead, IsElementRead}
 use Rattle.cpp_direct.specs.Written.{Writes, hidden, with_hidden}
 use Rattle.cpp_direct.proofs.Ending.{no-void, next-written}
-use Rattle.cpp_direct.proofs.Kept.{keeps-as, keeps-grown, keeps-same, keeps-written, candidates-more, reverse-last}
+use Rattle.cpp_direct.proofs.Kept.{keeps-as, keeps-grown, keeps-same, keeps-written, candidates-more, reverse-last, type-comes}
 use Rattle.cpp_direct.proofs.Listed.{TakesElements, last-found}
 use Rattle.cpp_direct.proofs.Moves.{stands-split}
 use Rattle.cpp_direct.proofs.MovesOfTypes.{parameter-opens, reference-opens, signature-ends, builtin-comes, function-opens, pointed-function-opens, array-opens}
 use Rattle.cpp_direct.proofs.PrintedFunctions.{function-element, void-function-element, array-element}
 use Rattle.cpp_direct.proofs.PrintedLists.{list-more, none-print}
 use Rattle.cpp_direct.proofs.Scopes.{none-scoped}
-use Rattle.cpp_direct.proofs.TypesRead.{by-step, given, popped}
+use Rattle.cpp_direct.proofs.TypesRead.{by-step, given, popped, whole-awaited}
 use Rattle.cpp_direct.specs.declared.open.Access.{Access}
 use Rattle.cpp_direct.specs.HolesOfArrays.{IsSizeAt, access_letters, accessed, array_opening, is_marked, with_accessed}
 use Rattle.sym_core.specs.declared.NameClass.TheVariants.{Cpp}
@@ -59,40 +59,14 @@ return-opens s false kind os around at st whole outside expects stands = functio
 pub function-begins : (s : Symbol) (old new : Direct) (is_pointer : Bool) → IsWriting s old steps.Type
     → StandsAt s.bytes old.at (if is_pointer then 80 ∷ 70 ∷ [] else 70 ∷ []) → TakesFunction (reverse old.waiting.list.items) → new.waiting.list.items ≡ old.waiting.list.items ++ opens.Returned is_pointer ∷ []
     → new.at ≡ old.at + (if is_pointer then 2 else 1) → new.text ≡ old.text → new.candidates ≡ old.candidates → new.has_scope ≡ old.has_scope → IsWriting s new steps.Type
-function-begins s old new is_pointer p letters takes waits at text candidates scope_same = go p.is_before.3
-  where
-    os : List Opened
-    os = p.is_before.0
-
-    around : Around
-    around = p.is_before.1
-
-    begun : (kind : Kind) → IsQualifiable kind → Expects s kind around os old.at p.state → IsWriting s new steps.Type
-    begun kind whole expects =
-        let f = return-opens s is_pointer kind os around old.at p.state whole p.is_before.2 expects letters in
-        record {
-          state = p.state;
-          scope = p.scope;
-          keeps = keeps-same s old new p.state.candidates text candidates scope_same p.keeps;
-          is_before = (
-            f.inner,
-            around,
-            p.is_before.2,
-            inl (subst (λ k. Expects s Kind.Type around f.inner k p.state) (sym at) f.awaits),
-            subst (λ l. Stands s p.scope l f.inner new.text.list.items)
-                (sym (ap reverse waits ∙ reverse-last old.waiting.list.items (opens.Returned is_pointer)))
-                (subst (λ v. Stands s p.scope (opens.Returned is_pointer ∷ reverse old.waiting.list.items) f.inner v.list.items) (sym text)
-                (os, around, f.onward, takes, p.is_before.4)),
-            subst (λ l. IsScoped p.scope around l) (sym (ap reverse waits ∙ reverse-last old.waiting.list.items (opens.Returned is_pointer)))
-                (none-scoped p.scope around (opens.Returned is_pointer ∷ reverse old.waiting.list.items) refl),
-          );
-        }
-
-    go : Expects s Kind.Type around os old.at p.state ⊎ Expects s Kind.Item around os old.at p.state
-        ⊎ (Expects s Kind.ItemButRef around os old.at p.state × NoReference s.bytes old.at) → IsWriting s new steps.Type
-    go (inl expects) = begun Kind.Type tt expects
-    go (inr (inl expects)) = begun Kind.Item tt expects
-    go (inr (inr expects)) = begun Kind.ItemButRef tt expects.0
+function-begins s old new is_pointer p letters takes waits at text candidates scope_same =
+    let whole = whole-awaited s old p in
+    let a = whole.0 in
+    let f = return-opens s is_pointer a.kind a.os a.around old.at a.state whole.1 a.outside a.awaits letters in
+    type-comes s old new a.state a.around f.inner a.keeps text candidates scope_same
+    (ap reverse waits ∙ reverse-last old.waiting.list.items (opens.Returned is_pointer)) a.outside
+    (inl (subst (λ k. Expects s Kind.Type a.around f.inner k a.state) (sym at) f.awaits)) (a.os, a.around, f.onward, takes, a.stands)
+    (none-scoped a.scope a.around (opens.Returned is_pointer ∷ reverse old.waiting.list.items) refl)
 
 -- ## After the return type
 
@@ -226,19 +200,8 @@ signature-stands s w is_pointer a os onward = (
 pub parameter-comes : (s : Symbol) (w : Direct) (is_pointer : Bool) → AwaitsParameter s w is_pointer → NoReference s.bytes w.at → IsWriting s w steps.Type
 parameter-comes s w is_pointer a none =
     let p = parameter-opens s a.outer a.made_in is_pointer (λ l. plain_function a.returned (list_with a.ts l)) w.at a.state a.goes in
-    record {
-      state = a.state;
-      scope = a.scope;
-      keeps = a.keeps;
-      is_before = (
-        p.inner,
-        p.around,
-        p.outside,
-        inr (inr (p.awaits, none)),
-        subst (λ ws. Stands s a.scope ws p.inner w.text.list.items) (sym a.open_is) (signature-stands s w is_pointer a p.inner p.onward),
-        subst (λ ws. IsScoped a.scope p.around ws) (sym a.open_is) (none-scoped a.scope p.around (opens.Signature is_pointer ∷ a.rest) refl),
-      );
-    }
+    type-comes s w w a.state p.around p.inner a.keeps refl refl refl a.open_is p.outside (inr (inr (p.awaits, none)))
+    (signature-stands s w is_pointer a p.inner p.onward) (none-scoped a.scope p.around (opens.Signature is_pointer ∷ a.rest) refl)
 
 same-byte : (s : List ℕ) (at a b : ℕ) → StandsAt s at (a ∷ []) → StandsAt s at (b ∷ []) → a ≡ b
 same-byte s at a b p q = let e : a ∷ p.0 ≡ b ∷ q.0 = sym p.1 ∙ q.1 in cc e
@@ -280,22 +243,11 @@ reference-comes s old new o is_pointer is_lvalue from a begins stands is waits a
         let turned : reverse new.waiting.list.items ≡ entry ∷ opens.Signature is_pointer ∷ a.rest =
         ap reverse waits ∙ reverse-last old.waiting.list.items entry ∙ ap (λ ws. entry ∷ ws) a.open_is in
         let whole = signature-stands s old is_pointer a p.whole p.onward in
-        record {
-          state = a.state;
-          scope = a.scope;
-          keeps = keeps-same s old new a.state.candidates text candidates scope_same a.keeps;
-          is_before = (
-            p.inner,
-            p.around,
-            p.outside,
-            inl (subst (λ n. Expects s Kind.Type p.around p.inner n a.state) (sym at) p.awaits),
-            subst (λ v. Stands s a.scope (reverse new.waiting.list.items) p.inner v.list.items) (sym text)
-                (subst (λ ws. Stands s a.scope ws p.inner old.text.list.items) (sym turned)
-                (reference-stands s a.scope is_lvalue (opens.Signature is_pointer ∷ a.rest) p.inner old.text.list.items from
-                (p.whole, p.around, begins, p.passes, none-scoped a.scope p.around (opens.Signature is_pointer ∷ a.rest) refl, whole))),
-            subst (λ ws. IsScoped a.scope p.around ws) (sym turned) (reference-scoped a.scope p.around is_lvalue from is_pointer a.rest),
-          );
-        }
+        type-comes s old new a.state p.around p.inner a.keeps text candidates scope_same turned p.outside
+        (inl (subst (λ n. Expects s Kind.Type p.around p.inner n a.state) (sym at) p.awaits))
+        (reference-stands s a.scope is_lvalue (opens.Signature is_pointer ∷ a.rest) p.inner old.text.list.items from
+        (p.whole, p.around, begins, p.passes, none-scoped a.scope p.around (opens.Signature is_pointer ∷ a.rest) refl, whole))
+        (reference-scoped a.scope p.around is_lvalue from is_pointer a.rest)
 
 -- ## The end
 
@@ -464,41 +416,16 @@ pub array-begins : (s : Symbol) (old new : Direct) (access : Access) (digits : L
     → from ≤ to → to ≤ length s.bytes → take (to - from) (drop from s.bytes) ≡ digits
     → new.waiting.list.items ≡ old.waiting.list.items ++ opens.Array access from to ∷ [] → new.text ≡ old.text → new.candidates ≡ old.candidates → new.has_scope ≡ old.has_scope
     → IsWriting s new steps.Type
-array-begins s old new access digits from to p letters takes is ordered inside size waits text candidates scope_same = go p.is_before.3
-  where
-    os : List Opened
-    os = p.is_before.0
-
-    around : Around
-    around = p.is_before.1
-
-    begun : (kind : Kind) → IsQualifiable kind → (access ≡ accesses.Lvalue → IsReferable kind) → Expects s kind around os old.at p.state
-        → IsWriting s new steps.Type
-    begun kind whole referable expects =
-        let f = array-opens s access kind os around old.at p.state digits new.at whole referable expects letters is in
-        let entry = opens.Array access from to in
-        record {
-          state = p.state;
-          scope = p.scope;
-          keeps = keeps-same s old new p.state.candidates text candidates scope_same p.keeps;
-          is_before = (
-            f.inner,
-            around,
-            p.is_before.2,
-            inl f.awaits,
-            subst (λ l. Stands s p.scope l f.inner new.text.list.items) (sym (ap reverse waits ∙ reverse-last old.waiting.list.items entry))
-                (subst (λ v. Stands s p.scope (entry ∷ reverse old.waiting.list.items) f.inner v.list.items) (sym text)
-                (os, around, digits, ordered, inside, size, f.onward, takes, p.is_before.4)),
-            subst (λ l. IsScoped p.scope around l) (sym (ap reverse waits ∙ reverse-last old.waiting.list.items entry))
-                (none-scoped p.scope around (entry ∷ reverse old.waiting.list.items) refl),
-          );
-        }
-
-    go : Expects s Kind.Type around os old.at p.state ⊎ Expects s Kind.Item around os old.at p.state
-        ⊎ (Expects s Kind.ItemButRef around os old.at p.state × NoReference s.bytes old.at) → IsWriting s new steps.Type
-    go (inl expects) = begun Kind.Type tt (λ e. tt) expects
-    go (inr (inl expects)) = begun Kind.Item tt (λ e. tt) expects
-    go (inr (inr expects)) = begun Kind.ItemButRef tt (λ e. absurd (expects.1.0 (referred s access old.at e letters))) expects.0
+array-begins s old new access digits from to p letters takes is ordered inside size waits text candidates scope_same =
+    let whole = whole-awaited s old p in
+    let a = whole.0 in
+    let referable : access ≡ accesses.Lvalue → IsReferable a.kind =
+    λ e. elim a.referable [ inl may ↦ may | inr none ↦ absurd (none.0 (referred s access old.at e letters)) ] in
+    let f = array-opens s access a.kind a.os a.around old.at a.state digits new.at whole.1 referable a.awaits letters is in
+    let entry = opens.Array access from to in
+    type-comes s old new a.state a.around f.inner a.keeps text candidates scope_same (ap reverse waits ∙ reverse-last old.waiting.list.items entry) a.outside
+    (inl f.awaits) (a.os, a.around, digits, ordered, inside, size, f.onward, takes, a.stands)
+    (none-scoped a.scope a.around (entry ∷ reverse old.waiting.list.items) refl)
 
 -- ## The end of an array
 

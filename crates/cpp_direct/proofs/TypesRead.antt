@@ -28,15 +28,15 @@ use Rattle.cpp_direct.specs.declared.direct.Direct.{Direct}
 use Rattle.cpp_direct.specs.Holes.{Opened, StandsAt, Comes, Expects, IsTyped, IsReferable, IsNameAt, IsSeqAt, TypeNamed, with_candidate, unless_listed}
 use Rattle.cpp_direct.specs.HolesOfTypes.{NoReference, IsQualifiable, TypeOpens}
 use Rattle.cpp_direct.specs.Prints.{Prints, PrintsAs}
-use Rattle.cpp_direct.specs.WriterInvariant.{IsNaming, IsScoped, IsWriting, Keeps, Marks, Scope, Stands, below}
+use Rattle.cpp_direct.specs.WriterInvariant.{IsScoped, IsWriting, Keeps, Marks, Scope, Stands, below}
 use Rattle.cpp_direct.specs.MidStep.{AwaitsType, AwaitsNamedType, AwaitsNest, IsNamedAgain, IsTypeNamed, AwaitsMark}
 use Rattle.cpp_direct.specs.Written.{Reads, Writes, added, added_unless}
 use Rattle.cpp_direct.proofs.Unmarked.{name-unmarked}
 use Rattle.cpp_direct.proofs.Scopes.{scoped-inside}
-use Rattle.cpp_direct.proofs.Kept.{arguments-begun, candidate-found, keeps-as, keeps-grown, keeps-read, keeps-same, keeps-with, last-reversed, piece-found, reverse-last, stands-same}
+use Rattle.cpp_direct.proofs.Kept.{arguments-begun, candidate-found, keeps-as, keeps-grown, keeps-read, keeps-same, keeps-with, last-reversed, piece-found, reverse-last, stands-same, type-comes, value-added, value-comes}
 use Rattle.cpp_direct.proofs.Moves.{expects-empty, stands-join}
 use Rattle.cpp_direct.proofs.MovesOfLists.{arguments-open}
-use Rattle.cpp_direct.proofs.MovesOfTypes.{solid-opens, builtin-comes, builtin-with-d-comes, pointer-opens, lvalue-opens, rvalue-opens, const-opens, source-opens, std-opens, abbreviation-opens, substitution-opens, nested-type-opens}
+use Rattle.cpp_direct.proofs.MovesOfTypes.{solid-opens, builtin-comes, builtin-with-d-comes, pointer-opens, lvalue-opens, rvalue-opens, const-opens, source-opens, std-opens, abbreviation-opens, substitution-opens, substituted-so, nested-type-opens}
 use Rattle.cpp_direct.proofs.LettersTested.{each_passes, tested, is_filled, filled}
 use Rattle.cpp_direct.proofs.PrintedNames.{source-prints, std-prints, abbreviation-prints, builtin-prints, builtin-with-d-prints}
 
@@ -78,24 +78,9 @@ pub mark-answer : (s : Symbol) (old mid new : Direct) (mark : List ℕ) (from : 
 mark-answer s old mid new mark from r d a waits text candidates scope at more same_text same_waits same_scope same_at =
     let marked : mid.text.list.items ≡ a.front ++ (a.bytes ++ mark) = text ∙ ap (λ l. l ++ mark) a.written ∙ append_assoc a.front a.bytes mark in
     let open_is : reverse new.waiting.list.items ≡ a.rest = ap (λ v. reverse v.list.items) same_waits ∙ waits in
-    let state : State = with_candidate a.made_in a.made a.state in
-    record {
-      state = state;
-      scope = a.scope;
-      keeps = keeps-with s mid new a.state a.front (a.bytes ++ mark) from a.made a.made_in r d
-          (keeps-grown s old mid mark a.state.candidates text candidates scope a.keeps) marked a.from_is a.prints a.made_here same_text more same_scope;
-      is_before = (
-        a.outer,
-        a.made,
-        a.front,
-        a.bytes ++ mark,
-        ap (λ v. v.list.items) same_text ∙ marked,
-        a.prints,
-        λ e. subst (λ ws. IsNaming s a.scope ws) (sym open_is) (a.naming e),
-        subst (λ k. Comes s a.outer (tree a.made true) k state) (sym (same_at ∙ at)) a.comes,
-        subst (λ l. Stands s a.scope l a.outer a.front) (sym open_is) a.stands,
-      );
-    }
+    value-added s mid new a.state a.outer a.made_in a.made a.front (a.bytes ++ mark) from r d
+    (keeps-grown s old mid mark a.state.candidates text candidates scope a.keeps) marked a.from_is a.prints a.made_here same_text more same_scope open_is a.naming
+    (subst (λ k. Comes s a.outer (tree a.made true) k (with_candidate a.made_in a.made a.state)) (sym (same_at ∙ at)) a.comes) a.stands
 
 -- ## Names of types
 
@@ -115,23 +100,10 @@ pub bare-done : (s : Symbol) (old new : Direct) (from : ℕ) (listed r : Bool) �
 unfolding may_be_empty
 bare-done s old new from listed r a waits text candidates scope at =
     let state : State = unless_listed listed a.around a.own a.state in
-    record {
-      state = state;
-      scope = a.scope;
-      keeps = named-keeps s old new from listed r a text candidates scope;
-      is_before = (
-        a.outer,
-        a.own,
-        a.front,
-        a.bytes,
-        ap (λ v. v.list.items) text ∙ a.written,
-        a.prints,
-        λ e. absurd (false≢true e),
-        subst (λ k. Comes s a.outer (tree a.own true) k state) (sym at) (a.named.bare old.at a.state a.prints.no_function
-            (expects-empty s Kind.ArgumentsAlone (after a.own listed a.around) a.named.inner old.at a.state a.named.awaits refl)),
-        subst (λ v. Stands s a.scope (reverse v.list.items) a.outer a.front) (sym waits) a.stands,
-      );
-    }
+    value-comes s new state a.outer a.own a.front a.bytes r false (named-keeps s old new from listed r a text candidates scope)
+    (ap (λ v. v.list.items) text ∙ a.written) a.prints (ap (λ v. reverse v.list.items) waits) (λ e. absurd (false≢true e))
+    (subst (λ k. Comes s a.outer (tree a.own true) k state) (sym at) (a.named.bare old.at a.state a.prints.no_function
+    (expects-empty s Kind.ArgumentsAlone (after a.own listed a.around) a.named.inner old.at a.state a.named.awaits refl))) a.stands
 
 -- and arguments do
 argued-done : (s : Symbol) (old mid new : Direct) (from : ℕ) (listed : Bool) → IsTypeNamed s old from listed false → StandsAt s.bytes old.at (73 ∷ [])
@@ -255,37 +227,31 @@ expected-as s {scope = scope} w st keeps kind typed referable os around outside 
   scoped = scoped;
 }
 
+-- where a type is, it may have a qualifier
+pub whole-awaited : (s : Symbol) (w : Direct) → IsWriting s w steps.Type → (a : AwaitsType s w) × IsQualifiable a.kind
+unfolding expected-as
+whole-awaited s w p = elim p.is_before.3 [
+  | inl awaits ↦ (expected-as s w p.state p.keeps Kind.Type tt (inl tt) p.is_before.0 p.is_before.1 p.is_before.2 awaits p.is_before.4 p.is_before.5, tt)
+  | inr (inl awaits) ↦ (expected-as s w p.state p.keeps Kind.Item tt (inl tt) p.is_before.0 p.is_before.1 p.is_before.2 awaits p.is_before.4 p.is_before.5, tt)
+  | inr (inr awaits) ↦ (
+    expected-as s w p.state p.keeps Kind.ItemButRef tt (inr awaits.1) p.is_before.0 p.is_before.1 p.is_before.2 awaits.0 p.is_before.4 p.is_before.5,
+    tt,
+  )
+]
+
 -- what is expected where a type is
 pub awaits-type : (s : Symbol) (w : Direct) (is_plain : Bool) → IsWriting s w (if is_plain then steps.Plain else steps.Type) → AwaitsType s w
 awaits-type s w true p =
     expected-as s w p.state p.keeps Kind.Plain tt (inl tt) p.is_before.0 p.is_before.1 p.is_before.2 p.is_before.3 p.is_before.4 p.is_before.5
-awaits-type s w false p = elim p.is_before.3 [
-  | inl awaits ↦ expected-as s w p.state p.keeps Kind.Type tt (inl tt) p.is_before.0 p.is_before.1 p.is_before.2 awaits p.is_before.4 p.is_before.5
-  | inr (inl awaits) ↦ expected-as s w p.state p.keeps Kind.Item tt (inl tt) p.is_before.0 p.is_before.1 p.is_before.2 awaits p.is_before.4 p.is_before.5
-  | inr (inr awaits) ↦
-      expected-as s w p.state p.keeps Kind.ItemButRef tt (inr awaits.1) p.is_before.0 p.is_before.1 p.is_before.2 awaits.0 p.is_before.4 p.is_before.5
-]
+awaits-type s w false p = (whole-awaited s w p).0
 
 -- a type is read that is no candidate
 value-done : (s : Symbol) (old new : Direct) (a : AwaitsType s old) (t : Term) (bytes : List ℕ) → Prints (detail_of s) t bytes false
     → new.text.list.items ≡ old.text.list.items ++ bytes → new.candidates ≡ old.candidates → new.waiting ≡ old.waiting → new.has_scope ≡ old.has_scope
     → Comes s a.os (tree t true) new.at a.state → IsWriting s new (steps.Value false false)
-value-done s old new a t bytes prints text candidates waits scope comes = record {
-  state = a.state;
-  scope = a.scope;
-  keeps = keeps-grown s old new bytes a.state.candidates text candidates scope a.keeps;
-  is_before = (
-    a.os,
-    t,
-    old.text.list.items,
-    bytes,
-    text,
-    prints,
-    λ e. absurd (false≢true e),
-    comes,
-    subst (λ v. Stands s a.scope (reverse v.list.items) a.os old.text.list.items) (sym waits) a.stands,
-  );
-}
+value-done s old new a t bytes prints text candidates waits scope comes =
+    value-comes s new a.state a.os t old.text.list.items bytes false false (keeps-grown s old new bytes a.state.candidates text candidates scope a.keeps) text prints
+    (ap (λ v. reverse v.list.items) waits) (λ e. absurd (false≢true e)) comes a.stands
 
 -- a builtin type is read
 pub builtin-done : (s : Symbol) (old new : Direct) (letter : ℕ) → AwaitsType s old → (letter ≢ 0 → StandsAt s.bytes old.at (letter ∷ []))
@@ -420,7 +386,8 @@ substitution-named s old mid new n from digits k a stands is ordered found reads
     let prints = subst (λ b. PrintsAs (detail_of s) a.scope.names b c.0.tree c.2.bytes k.is_reference) plain c.2.prints in
     named-from s old new from true k.is_reference a c.0.tree c.2.bytes
     (keeps-grown s old new c.2.bytes a.state.candidates written (writes.candidates ∙ reads.candidates) (writes.scope ∙ reads.scope) a.keeps)
-    (substitution-opens s a.kind a.around a.os old.at a.state digits new.at c.0 a.is_named c.1 prints.is_closed prints.packless a.begins stands
+    (substitution-opens s a.kind a.around a.os old.at a.state digits new.at c.0 a.is_named c.1
+    (λ place. substituted-so a.around place c.0 a.state prints.is_closed prints.packless) a.begins stands
     (subst (λ n. IsSeqAt s.bytes (old.at + 1) digits n) (sym writes.at) is))
     written begins prints (λ e. absurd (false≢true (sym e))) (writes.waiting ∙ reads.waiting)
 
@@ -463,21 +430,10 @@ pub type-opened : (s : Symbol) (old new : Direct) (o : Option Step) (entry : Ope
     → IfSome o (λ next. next ≡ steps.Type) → OnSome o (new.waiting.list.items ≡ old.waiting.list.items ++ entry ∷ []) → OnSome o (new.at ≡ old.at + 1)
     → new.text ≡ old.text → new.candidates ≡ old.candidates → new.has_scope ≡ old.has_scope → IfSome o (IsWriting s new)
 type-opened s old new o entry from made a t begins stands scoped is waits at text candidates scope = by-step o steps.Type (IsWriting s new) is (λ e.
-    let open_is : reverse new.waiting.list.items ≡ entry ∷ reverse old.waiting.list.items
-    = ap reverse (given _ o steps.Type e waits) ∙ reverse-last old.waiting.list.items entry in
-    record {
-      state = a.state;
-      scope = a.scope;
-      keeps = keeps-same s old new a.state.candidates text candidates scope a.keeps;
-      is_before = (
-        t.inner,
-        a.around,
-        a.outside,
-        inl (subst (λ k. Expects s Kind.Type a.around t.inner k a.state) (sym (given _ o steps.Type e at)) t.awaits),
-        stands-same s a.scope old new t.inner text open_is (stands (a.os, a.around, begins, t.passes, a.scoped, a.stands)),
-        subst (λ l. IsScoped a.scope a.around l) (sym open_is) scoped,
-      );
-    })
+    type-comes s old new a.state a.around t.inner a.keeps text candidates scope
+    (ap reverse (given _ o steps.Type e waits) ∙ reverse-last old.waiting.list.items entry) a.outside
+    (inl (subst (λ k. Expects s Kind.Type a.around t.inner k a.state) (sym (given _ o steps.Type e at)) t.awaits))
+    (stands (a.os, a.around, begins, t.passes, a.scoped, a.stands)) scoped)
 
 -- after a P
 pub pointer-opened : (s : Symbol) (old new : Direct) (o : Option Step) (from : ℕ) → AwaitsType s old → from ≡ length old.text.list.items
@@ -542,21 +498,10 @@ pub const-opened : (s : Symbol) (old new : Direct) (o : Option Step) (from : ℕ
     → IsWriting s old (if is_plain then steps.Plain else steps.Type) → is_plain ≡ false → from ≡ length old.text.list.items
     → StandsAt s.bytes old.at (75 ∷ []) → IfSome o (λ next. next ≡ steps.Plain) → OnSome o (new.waiting.list.items ≡ old.waiting.list.items ++ opens.Const from ∷ [])
     → OnSome o (new.at ≡ old.at + 1) → new.text ≡ old.text → new.candidates ≡ old.candidates → new.has_scope ≡ old.has_scope → IfSome o (IsWriting s new)
-unfolding expected-as
 const-opened s old new o from true p plain begins stands is waits at text candidates scope = absurd (false≢true (sym plain))
-const-opened s old new o from false p plain begins stands is waits at text candidates scope = go p.is_before.3
-  where
-    go : Expects s Kind.Type p.is_before.1 p.is_before.0 old.at p.state ⊎ Expects s Kind.Item p.is_before.1 p.is_before.0 old.at p.state
-        ⊎ (Expects s Kind.ItemButRef p.is_before.1 p.is_before.0 old.at p.state × NoReference s.bytes old.at) → IfSome o (IsWriting s new)
-    go (inl awaits) = plain-opened s old new o from
-        (expected-as s old p.state p.keeps Kind.Type tt (inl tt) p.is_before.0 p.is_before.1 p.is_before.2 awaits p.is_before.4 p.is_before.5)
-        tt begins stands is waits at text candidates scope
-    go (inr (inl awaits)) = plain-opened s old new o from
-        (expected-as s old p.state p.keeps Kind.Item tt (inl tt) p.is_before.0 p.is_before.1 p.is_before.2 awaits p.is_before.4 p.is_before.5)
-        tt begins stands is waits at text candidates scope
-    go (inr (inr awaits)) = plain-opened s old new o from
-        (expected-as s old p.state p.keeps Kind.ItemButRef tt (inr awaits.1) p.is_before.0 p.is_before.1 p.is_before.2 awaits.0 p.is_before.4 p.is_before.5)
-        tt begins stands is waits at text candidates scope
+const-opened s old new o from false p plain begins stands is waits at text candidates scope =
+    let whole = whole-awaited s old p in
+    plain-opened s old new o from whole.0 whole.1 begins stands is waits at text candidates scope
 
 -- a nested name is expected after an N
 pub nest-awaited : (s : Symbol) (old : Direct) (n : ℕ) → AwaitsNamedType s old → n ≡ old.at + 1 → StandsAt s.bytes old.at (78 ∷ [])

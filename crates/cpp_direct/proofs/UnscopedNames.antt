@@ -1,7 +1,7 @@
 -- Names of encodings that are in no class, and of local entities: where a writer is after them.
 use Rattle.cpp_direct.specs.WrittenParts.{opening_bracket}
 use Rattle.cpp_direct.proofs.Unmarked.{name-unmarked}
-use Rattle.cpp_direct.proofs.Scopes.{none-known}
+use Rattle.cpp_direct.proofs.Scopes.{none-known, plain-named}
 use Rattle.std.proofs.Common.{◌≡◌, ◌≢◌, ℕ, ◌+◌, length, List, [], ◌∷◌, ◌++◌, reverse, Bool, true, false, not, cond, Option, Some, None, refl, ap, sym, subst, ◌∙◌, arith, append_assoc, codes, ◌≤◌, append-nil}
 use Rattle.std.specs.Option.{IfSome, OnSome}
 use Rattle.std.proofs.lemmas.Bool.{false≢true}
@@ -177,16 +177,14 @@ std-operator-unscoped s old marked read first second a b takes p letter next mar
 
 -- no arguments
 pub unscoped-bare : (s : Symbol) (w : Direct) (from : ℕ) (takes : Bool) → IsUnscoped s w from takes → IsNameEnded s w marks.Plain false nowhere from
-unfolding may_be_empty tree_of qualifiers_of ref_of
+unfolding may_be_empty
 unscoped-bare s w from takes p = record {
   state = p.state;
   scope = p.scope;
   keeps = p.keeps;
   own = p.own;
   v = tree p.own false;
-  tree_is = refl;
-  qualifiers_are = refl;
-  mark_is = refl;
+  named_so = plain-named p.own;
   lead = p.front;
   name = p.bytes;
   written = p.written;

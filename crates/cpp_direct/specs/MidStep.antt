@@ -1,6 +1,7 @@
 -- Where a writer is between two of its functions, within a step.
 use Rattle.std.specs.Prelude.{◌≡◌, ◌≢◌, ◌⊎◌, ℕ, zero, suc, ◌+◌, List, [], ◌∷◌, ◌++◌, length, reverse, ◌≤◌, Bool, true, false, cond, Some, codes, ◌-◌, take, drop, slice_get}
-use Rattle.cpp_direct.specs.Written.{Writes}
+use Rattle.cpp_direct.specs.Written.{Reads, Writes}
+use Rattle.cpp_direct.specs.HolesOfLists.{IsArgumentKind}
 use Rattle.cpp_direct.specs.WrittenParts.{IsUnmarked, opening_bracket}
 use Rattle.sym_print.specs.declared.detail.Detail.{Detail}
 use Rattle.cpp_grammar.specs.declared.kind.Kind.{Kind}
@@ -24,7 +25,7 @@ use Rattle.cpp_direct.specs.declared.open.Arguments.{Arguments}
 use Rattle.cpp_direct.specs.declared.open.Open.TheVariants as opens
 use Rattle.cpp_direct.specs.declared.direct.Direct.{Direct}
 use Rattle.cpp_direct.specs.Bytes.{is_local}
-use Rattle.cpp_direct.specs.Holes.{Opened, StandsAt, Comes, Expects, IsReferable, IsTyped, TypeNamed, NestGoesOn, NestNamed, bare_name, with_candidate, IsSeqAt}
+use Rattle.cpp_direct.specs.Holes.{Opened, StandsAt, Comes, Expects, ListGoesOn, IsReferable, IsTyped, TypeNamed, NestNamed, bare_name, with_candidate, IsSeqAt}
 use Rattle.sym_core.specs.Value.{counted_value}
 use Rattle.sym_core.specs.declared.NumberKind.TheVariants.{Seq36}
 use Rattle.cpp_direct.specs.HolesOfFunctions.{SignatureGoesOn, plain_function, pointed, with_pointed}
@@ -32,7 +33,7 @@ use Rattle.cpp_direct.specs.HolesOfArrays.{accessed, with_accessed}
 use Rattle.cpp_direct.specs.HolesOfTypes.{IsNamedKind, NoReference, TreeOpens}
 use Rattle.cpp_direct.specs.Marks.{has_const, called_on, mark_text}
 use Rattle.cpp_direct.specs.Prints.{NamesClass, Prints, PrintsName, IsElement, PrintAll, Shows, Encloses, sign_text, PrintsAs, PrintsIn, PrintAllAs, IsGiven, list_of, PrintAllBy, forwarded}
-use Rattle.cpp_direct.specs.WriterInvariant.{AwaitsItems, Encoded, EncodedBehind, Fronts, IsFunction, IsInstance, IsListing, IsNest, IsTail, IsTemplate, GoesOn, EnumeratorGoesOn, Owns, ParametersGoOn, Serves, Stands, TakesFunction, opening_text, qualifiers, extra_of, led_by, list_with, in_front_of_next, IsPlaced, IsAmong, AreAmong, HasArguments, IsKnown, IsScoped, is_type, place_of, of_pack, IsNaming, IsNestScoped, Keeps, Scope, below, is_noted, may_name, ArgumentsGoOn, encoding_place}
+use Rattle.cpp_direct.specs.WriterInvariant.{AwaitsItems, Encoded, EncodedBehind, Fronts, IsFunction, IsInstance, IsListing, IsNest, IsTail, IsTemplate, GoesOn, EnumeratorGoesOn, Owns, ParametersGoOn, Serves, Stands, TakesFunction, opening_text, qualifiers, arguments_or_pack, extra_of, led_by, list_with, in_front_of_next, IsAmong, AreAmong, HasArguments, IsKnown, IsScoped, is_type, place_of, IsNaming, IsNestScoped, Keeps, Scope, below, is_noted, may_name, encoding_place, IsNamedSo, IsNesting}
 
 -- the digits after the T of a parameter with this number
 abbrev pub parameter_digits : (number : ℕ) → List ℕ
@@ -175,14 +176,25 @@ pub record AwaitsMark (s : Symbol) (w : Direct) (mark : List ℕ) (from : ℕ) (
   pub made_here : is_dependent ≡ true → made_in.encoding ≡ encoding_place s.bytes
   pub stands : Stands s scope rest outer front
 
--- An argument of a name was read, which is a type, after so many others.
-pub record IsArgumentRead (s : Symbol) (w : Direct) (from number : ℕ) (known : Arguments) (is_reference : Bool) : Type 0 where
+-- what waits for an argument of a name, or for an element of a pack that is the only one
+abbrev pub argument_entry : (is_pack : Bool) → (from number : ℕ) → (known : Arguments) → Open
+argument_entry false from number known = opens.Argument from number known
+argument_entry true from number known = opens.Element from number known
+
+-- and what is open around that
+abbrev pub argument_around : (is_pack : Bool) → (owner : Open) → (rest : List Open) → List Open
+argument_around false owner rest = owner ∷ rest
+argument_around true owner rest = opens.Pack ∷ owner ∷ rest
+
+-- An argument of a name was read, or an element of a pack that is the only one, after so many others. It is a type, or the
+-- first argument and a literal.
+pub record IsArgumentRead (s : Symbol) (w : Direct) (is_pack : Bool) (from number : ℕ) (known : Arguments) (is_reference : Bool) : Type 0 where
   pub state : State
   pub scope : Scope
   pub keeps : Keeps s scope w state.candidates
   pub owner : Open
   pub rest : List Open
-  pub open_is : reverse w.waiting.list.items ≡ opens.Argument from number known ∷ owner ∷ rest
+  pub open_is : reverse w.waiting.list.items ≡ argument_entry is_pack from number known ∷ argument_around is_pack owner rest
   pub front : List ℕ
   pub template : Term
   pub name : List ℕ
@@ -191,79 +203,34 @@ pub record IsArgumentRead (s : Symbol) (w : Direct) (from number : ℕ) (known :
   pub t : Term
   pub bytes : List ℕ
   pub is_template : IsTemplate (detail_of s) scope.names owner front template name w.text.list.items
-  pub elements : PrintAll (detail_of s) 3 ts texts
+  pub elements : PrintAll (detail_of s) (extra_of (arguments_or_pack is_pack)) ts texts
   pub written : w.text.list.items ≡ (front ++ name ++ opening_bracket (detail_of s) ++ in_front_of_next ts texts) ++ bytes
   pub from_is : from ≡ length (front ++ name ++ opening_bracket (detail_of s) ++ in_front_of_next ts texts)
   pub number_is : number ≡ length ts
-  pub among : AreAmong (detail_of s) w.text.list.items false known ts
+  pub among : AreAmong (detail_of s) w.text.list.items is_pack known ts
   pub prints : Prints (detail_of s) t bytes is_reference
-  pub goes : ArgumentsGoOn s owner (below s scope rest) front template (ts ++ t ∷ []) w.at state
+  pub goes : GoesOn s (arguments_or_pack is_pack) owner (below s scope rest) front template (ts ++ t ∷ []) w.at state
 
--- A type is expected as an argument of a name, after these and so many, of which some are known.
-pub record AwaitsKnownArgument (s : Symbol) (w : Direct) (before : ℕ) (known : Arguments) : Type 0 where
+-- Another one is expected, after these and so many, of which some are known.
+pub record AwaitsKnownArgument (s : Symbol) (w : Direct) (is_pack : Bool) (before : ℕ) (known : Arguments) : Type 0 where
   pub state : State
   pub scope : Scope
   pub keeps : Keeps s scope w state.candidates
   pub owner : Open
   pub rest : List Open
-  pub open_is : reverse w.waiting.list.items ≡ owner ∷ rest
+  pub open_is : reverse w.waiting.list.items ≡ argument_around is_pack owner rest
   pub front : List ℕ
   pub template : Term
   pub name : List ℕ
   pub ts : List Term
   pub texts : List ℕ
   pub is_template : IsTemplate (detail_of s) scope.names owner front template name w.text.list.items
-  pub elements : PrintAll (detail_of s) 3 ts texts
+  pub elements : PrintAll (detail_of s) (extra_of (arguments_or_pack is_pack)) ts texts
   pub some : ts ≢ []
   pub written : w.text.list.items ≡ front ++ name ++ opening_bracket (detail_of s) ++ texts
   pub number_is : before + 1 ≡ length ts
-  pub among : AreAmong (detail_of s) w.text.list.items false known ts
-  pub goes : ArgumentsGoOn s owner (below s scope rest) front template ts w.at state
-
--- An element of a pack was read, which is the first argument of a name, after so many others.
-pub record IsPackElementRead (s : Symbol) (w : Direct) (from number : ℕ) (known : Arguments) (is_reference : Bool) : Type 0 where
-  pub state : State
-  pub scope : Scope
-  pub keeps : Keeps s scope w state.candidates
-  pub owner : Open
-  pub rest : List Open
-  pub open_is : reverse w.waiting.list.items ≡ opens.Element from number known ∷ opens.Pack ∷ owner ∷ rest
-  pub front : List ℕ
-  pub template : Term
-  pub name : List ℕ
-  pub ts : List Term
-  pub texts : List ℕ
-  pub t : Term
-  pub bytes : List ℕ
-  pub is_template : IsTemplate (detail_of s) scope.names owner front template name w.text.list.items
-  pub elements : PrintAll (detail_of s) 0 ts texts
-  pub written : w.text.list.items ≡ (front ++ name ++ opening_bracket (detail_of s) ++ in_front_of_next ts texts) ++ bytes
-  pub from_is : from ≡ length (front ++ name ++ opening_bracket (detail_of s) ++ in_front_of_next ts texts)
-  pub number_is : number ≡ length ts
-  pub among : AreAmong (detail_of s) w.text.list.items true known ts
-  pub prints : Prints (detail_of s) t bytes is_reference
-  pub goes : GoesOn s (of_pack [] []) owner (below s scope rest) front template (ts ++ t ∷ []) w.at state
-
--- Another one is expected, after so many.
-pub record AwaitsPackElement (s : Symbol) (w : Direct) (before : ℕ) (known : Arguments) : Type 0 where
-  pub state : State
-  pub scope : Scope
-  pub keeps : Keeps s scope w state.candidates
-  pub owner : Open
-  pub rest : List Open
-  pub open_is : reverse w.waiting.list.items ≡ opens.Pack ∷ owner ∷ rest
-  pub front : List ℕ
-  pub template : Term
-  pub name : List ℕ
-  pub ts : List Term
-  pub texts : List ℕ
-  pub is_template : IsTemplate (detail_of s) scope.names owner front template name w.text.list.items
-  pub elements : PrintAll (detail_of s) 0 ts texts
-  pub some : ts ≢ []
-  pub written : w.text.list.items ≡ front ++ name ++ opening_bracket (detail_of s) ++ texts
-  pub number_is : before + 1 ≡ length ts
-  pub among : AreAmong (detail_of s) w.text.list.items true known ts
-  pub goes : GoesOn s (of_pack [] []) owner (below s scope rest) front template ts w.at state
+  pub among : AreAmong (detail_of s) w.text.list.items is_pack known ts
+  pub goes : GoesOn s (arguments_or_pack is_pack) owner (below s scope rest) front template ts w.at state
 
 -- the first piece of a nested name is expected
 pub record AwaitsNest (s : Symbol) (w : Direct) (purpose : Purpose) : Type 0 where
@@ -282,18 +249,10 @@ pub record IsNestKnown (s : Symbol) (w : Direct) : Type 0 where
   pub state : State
   pub scope : Scope
   pub keeps : Keeps s scope w state.candidates
-  pub around : Around
-  pub outer : List Opened
   pub own : Term
-  pub known : NestGoesOn s Kind.NestRestOrEnd outer around own true w.at state
-  pub front : List ℕ
-  pub bytes : List ℕ
-  pub written : w.text.list.items ≡ front ++ bytes
-  pub is_nest : IsNest (detail_of s) scope.names front bytes w.text.list.items w.nest own
-  pub scoped : IsNestScoped s scope w around
+  pub nesting : IsNesting s scope Kind.NestRestOrEnd w own state
   pub listed : w.nest.is_listed ≡ true
   pub classless : w.nest.has_class ≡ false
-  pub serves : Serves s w.nest.purpose (below s scope (reverse w.waiting.list.items)) outer front
 
 -- A component of a nested name was read, or a name in std. Arguments may come after it, or tags.
 pub record IsNestNamed (s : Symbol) (w : Direct) : Type 0 where
@@ -400,6 +359,15 @@ pub record AwaitsNextArgument (s : Symbol) (w : Direct) : Type 0 where
   pub written : w.text.list.items ≡ led_by (detail_of s) place.listing place.front place.name ++ in_front_of_next ts texts
   pub goes : GoesOn s place.listing place.owner (below s scope place.rest) place.front place.template ts w.at state
 
+-- A literal of a builtin type was read and written, which is an element of a list.
+pub record IsLiteralRead (s : Symbol) (old new : Direct) : Type 0 where
+  pub own : Term
+  pub bytes : List ℕ
+  pub prints : Prints (detail_of s) own bytes false
+  pub reads : Reads old new bytes
+  pub goes_on : (kind : Kind) (around : Around) (os : List Opened) (st : State) → IsArgumentKind kind → Expects s kind around os old.at st
+      → ListGoesOn s kind os around own new.at st
+
 -- The type of an enumerator was read, which is an element. Its number is expected.
 pub record AwaitsNumber (s : Symbol) (w : Direct) : Type 0 where
   pub state : State
@@ -426,9 +394,7 @@ pub record IsNameEnded (s : Symbol) (w : Direct) (mark : Mark) (is_instance : Bo
   pub keeps : Keeps s scope w state.candidates
   pub own : Term
   pub v : Value
-  pub tree_is : tree_of v ≡ own
-  pub qualifiers_are : qualifiers_of v ≡ qualifiers (has_const mark)
-  pub mark_is : ref_of v ≡ called_on mark
+  pub named_so : IsNamedSo v own mark
   pub lead : List ℕ
   pub name : List ℕ
   pub written : w.text.list.items ≡ lead ++ name
@@ -462,7 +428,7 @@ pub record IsFrontRead (s : Symbol) (w : Direct) (mark : Mark) (start : ℕ) (ar
   pub returned : Term
   pub bytes : List ℕ
   pub is_reference : Bool
-  pub prints : PrintsIn (detail_of s) (types_of is_instance.own) 2 returned bytes is_reference
+  pub prints : PrintsIn (detail_of s) (types_of is_instance.own) 3 returned bytes is_reference
   pub written : w.text.list.items ≡ front ++ bytes
   pub goes : ParametersGoOn s argument lead (encoding_of v) (returned ∷ []) w.at state
 

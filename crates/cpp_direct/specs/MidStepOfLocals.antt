@@ -1,9 +1,9 @@
 -- Where a writer is between two of its functions within a step: local entities, and types in functions.
-use Rattle.std.specs.Prelude.{◌≡◌, ◌≢◌, ℕ, ◌+◌, List, [], ◌∷◌, ◌++◌, length, reverse, Bool, true, false, cond, codes}
+use Rattle.std.specs.Prelude.{◌≡◌, ◌≢◌, ℕ, ◌+◌, List, [], ◌∷◌, ◌++◌, length, reverse, Bool, true, cond, codes}
 use Rattle.cpp_grammar.specs.Term.{Term}
 use Rattle.cpp_grammar.specs.Scope.{has_return_type}
 use Rattle.cpp_grammar.specs.Meaning.{encoding_of}
-use Rattle.cpp_grammar.specs.Values.{State, Value, tree_of, qualifiers_of, ref_of}
+use Rattle.cpp_grammar.specs.Values.{State, Value}
 use Rattle.cpp_direct.specs.Symbol.{detail_of, Symbol}
 use Rattle.cpp_direct.specs.declared.open.Mark.{Mark}
 use Rattle.cpp_direct.specs.declared.open.Mark.TheVariants as marks
@@ -12,9 +12,9 @@ use Rattle.cpp_direct.specs.declared.open.Open.TheVariants as opens
 use Rattle.cpp_direct.specs.declared.direct.Direct.{Direct}
 use Rattle.cpp_direct.specs.Bytes.{is_local}
 use Rattle.cpp_direct.specs.Holes.{StandsAt}
-use Rattle.cpp_direct.specs.Marks.{has_const, called_on, mark_text}
+use Rattle.cpp_direct.specs.Marks.{mark_text}
 use Rattle.cpp_direct.specs.Prints.{PrintsName, PrintAll, Encloses}
-use Rattle.cpp_direct.specs.WriterInvariant.{IsEnclosing, ItemsGoOn, Keeps, LambdaWithin, Scope, TypeWithin, below, nowhere, qualifiers}
+use Rattle.cpp_direct.specs.WriterInvariant.{IsEnclosing, ItemsGoOn, Keeps, LambdaWithin, Scope, TypeWithin, below, nowhere, IsNamedSo}
 use Rattle.cpp_direct.specs.MidStep.{IsEncodingEnded}
 
 -- ## Local entities
@@ -30,40 +30,21 @@ pub record AwaitsEntity (s : Symbol) (w : Direct) (is_internal : Bool) : Type 0 
 
 -- ## Types in functions
 
--- The name of a function in which a type is was read and written from a place on, but for its qualifier.
-pub record IsEnclosingNamed (s : Symbol) (w : Direct) (mark : Mark) (from : ℕ) : Type 0 where
+-- The name of a function in which a type is was read and written from a place on, but for its qualifier. Its return type is expected if
+-- it is an instance of a function template.
+pub record IsEnclosingNamed (s : Symbol) (w : Direct) (mark : Mark) (is_instance : Bool) (from : ℕ) : Type 0 where
   pub state : State
   pub scope : Scope
   pub keeps : Keeps s scope w state.candidates
   pub own : Term
   pub v : Value
-  pub tree_is : tree_of v ≡ own
-  pub qualifiers_are : qualifiers_of v ≡ qualifiers (has_const mark)
-  pub mark_is : ref_of v ≡ called_on mark
+  pub named_so : IsNamedSo v own mark
   pub front : List ℕ
   pub name : List ℕ
   pub written : w.text.list.items ≡ front ++ name
   pub from_is : from ≡ length front
   pub prints : PrintsName (detail_of s) own name
-  pub no_return : has_return_type own ≡ false
-  pub goes : ItemsGoOn s nowhere (TypeWithin s (below s scope (reverse w.waiting.list.items)) front) (λ l. encoding_of v l) [] w.at state
-
--- The same of an instance of a function template. Its return type is expected.
-pub record IsEnclosingInstance (s : Symbol) (w : Direct) (mark : Mark) (from : ℕ) : Type 0 where
-  pub state : State
-  pub scope : Scope
-  pub keeps : Keeps s scope w state.candidates
-  pub own : Term
-  pub v : Value
-  pub tree_is : tree_of v ≡ own
-  pub qualifiers_are : qualifiers_of v ≡ qualifiers (has_const mark)
-  pub mark_is : ref_of v ≡ called_on mark
-  pub front : List ℕ
-  pub name : List ℕ
-  pub written : w.text.list.items ≡ front ++ name
-  pub from_is : from ≡ length front
-  pub prints : PrintsName (detail_of s) own name
-  pub returns : has_return_type own ≡ true
+  pub returns : has_return_type own ≡ is_instance
   pub goes : ItemsGoOn s nowhere (TypeWithin s (below s scope (reverse w.waiting.list.items)) front) (λ l. encoding_of v l) [] w.at state
 
 -- The name of a function in which a type is was read, and its return type if it has one. Its parameters are expected.

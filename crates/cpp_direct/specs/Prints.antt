@@ -52,24 +52,30 @@ pub record PrintsIn (detail : Detail) (context : Context) (extra : ℕ) (t : Ter
   pub filled : is_empty context t ≡ false
   pub no_function : is_function_type t ≡ false
   pub void : is_void t ≡ true → bytes ≡ codes "void"
+  pub some : 1 ≤ length bytes
 
 -- ## Types that name arguments of a function's template
 
--- the texts of the arguments of a function's template, by their numbers: of those that are types, and no references, and may be named
+-- the text of an argument of a function's template, and whether it is a reference
+pub record Named : Type 0 where
+  pub bytes : List ℕ
+  pub reference : Bool
+
+-- the arguments of a function's template, by their numbers: those that may be named
 abbrev pub Names : Type 0
-Names = (number : ℕ) → Option (List ℕ)
+Names = (number : ℕ) → Option Named
 
 -- in this context parameters name arguments with these texts
 abbrev pub IsGiven : (detail : Detail) → Names → Context → Type 0
-IsGiven detail names context = (number : ℕ) (bytes : List ℕ) → names number ≡ Some bytes → Prints detail (argument context number) bytes false
+IsGiven detail names context = (number : ℕ) (own : Named) → names number ≡ Some own → Prints detail (argument context number) own.bytes own.reference
 
 -- of these arguments those that may be named are no packs
 abbrev pub AreSingle : Names → (arguments : Term) → Type 0
-AreSingle names arguments = (number : ℕ) (bytes : List ℕ) → names number ≡ Some bytes → length_if_pack (element arguments number) ≡ None
+AreSingle names arguments = (number : ℕ) (own : Named) → names number ≡ Some own → length_if_pack (element arguments number) ≡ None
 
 -- A tree that has this text where parameters name arguments with these texts.
 pub record PrintsGiven (detail : Detail) (names : Names) (t : Term) (bytes : List ℕ) (reference : Bool) : Type 0 where
-  pub prints : (context : Context) → IsGiven detail names context → PrintsIn detail context 2 t bytes reference
+  pub prints : (context : Context) → IsGiven detail names context → PrintsIn detail context 3 t bytes reference
   pub packless : (arguments : Term) → AreSingle names arguments → pack_length arguments t ≡ None
   pub no_function : is_function_type t ≡ false
   pub no_pack : length_if_pack t ≡ None

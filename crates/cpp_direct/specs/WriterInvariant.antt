@@ -37,7 +37,7 @@ use Rattle.cpp_direct.specs.HolesOfNests.{IsFirstRest}
 use Rattle.cpp_direct.specs.HolesOfLists.{IsSuffix, IsDigitsAt, minus_sign}
 use Rattle.cpp_direct.specs.HolesOfLocals.{Discriminator, EntityOpened, IsDiscriminatorAt, IsEntityAt, IsLambdaDigit, lambda_ending, lambda_with, local_in}
 use Rattle.cpp_direct.specs.Marks.{has_const, called_on}
-use Rattle.cpp_direct.specs.Prints.{Names, IsGiven, Prints, PrintsAs, PrintsName, Shows, Encloses, NamesClass, PrintAll, PrintAllAs, PrintAllIn, list_of}
+use Rattle.cpp_direct.specs.Prints.{Named, Names, IsGiven, Prints, PrintsAs, PrintsName, Shows, Encloses, NamesClass, PrintAll, PrintAllAs, PrintAllIn, list_of}
 use Rattle.cpp_grammar.specs.Parts.{types_of}
 
 -- ## Candidates
@@ -155,9 +155,9 @@ abbrev pub argument_of : List Open → Option Arguments
 argument_of [] = None
 argument_of (o ∷ rest) = elim (is_within_type o) [ true ↦ argument_of rest | false ↦ arguments_in o ]
 
--- it is a type, and no reference
-abbrev pub IsPlain : Argument → Type 0
-IsPlain p = IsKnown p × (p.is_pack ≡ false) × (p.is_reference ≡ false)
+-- it is known, and no pack
+abbrev pub IsSingle : Argument → Type 0
+IsSingle p = IsKnown p × (p.is_pack ≡ false)
 
 -- What types may name: the arguments of the symbol's own name, where they are known, and their texts.
 pub record Scope : Type 0 where
@@ -171,12 +171,14 @@ no_scope = record { arguments = nowhere; names = λ number. None }
 -- the arguments that may be named have these texts at their places
 abbrev pub AreNamed : (text : List ℕ) → Scope → Type 0
 AreNamed text scope =
-    (number : ℕ) → IsPlain (place_of scope.arguments number) → (bytes : List ℕ) × (scope.names number ≡ Some bytes) × IsPlaced text (place_of scope.arguments number) bytes
+    (number : ℕ) → IsSingle (place_of scope.arguments number) → (bytes : List ℕ)
+    × (scope.names number ≡ Some (record { bytes = bytes; reference = (place_of scope.arguments number).is_reference }))
+    × IsPlaced text (place_of scope.arguments number) bytes
 
--- They are those of the symbol's own encoding, if it is known where theirs begins, and types that are no references.
+-- They are those of the symbol's own encoding, if it is known where theirs begins, and those that have texts are no packs.
 pub record IsScopeOf (s : Symbol) (scope : Scope) : Type 0 where
   pub encoded : scope.arguments.encoding ≢ 0 → scope.arguments.encoding ≡ encoding_place s.bytes
-  pub plain : (number : ℕ) (bytes : List ℕ) → scope.names number ≡ Some bytes → IsPlain (place_of scope.arguments number)
+  pub single : (number : ℕ) (own : Named) → scope.names number ≡ Some own → IsSingle (place_of scope.arguments number)
 
 -- What a writer keeps: its candidates, and the arguments that types may name, of which none are known before the symbol's own name.
 pub record Keeps (s : Symbol) (scope : Scope) (w : Direct) (cs : List values.Candidate) : Type 0 where
@@ -249,6 +251,12 @@ pub record IsShown (s : Symbol) (most : ℕ) (text : List ℕ) : Type 0 where
 
 abbrev pub qualifiers : (is_const : Bool) → Qualifiers
 qualifiers is_const = record { restrict = false; volatile = false; const = is_const }
+
+-- a name is read as this tree, and as that of a member function with these qualifiers
+pub record IsNamedSo (v : Value) (own : Term) (mark : Mark) : Type 0 where
+  pub tree_is : tree_of v ≡ own
+  pub qualifiers_are : qualifiers_of v ≡ qualifiers (has_const mark)
+  pub mark_is : ref_of v ≡ called_on mark
 
 -- a nested name is that of a function or of data
 abbrev pub IsOwn : Purpose → Type 0
@@ -332,9 +340,7 @@ pub record IsEnclosing (detail : Detail) (mark : Mark) (make : Term → Term) (t
 -- the name of a function that has a return type, and its text, and where the arguments of its template are
 pub record IsInstance (detail : Detail) (scope : Scope) (text : List ℕ) (argument : Arguments) (mark : Mark) (v : Value) (name : List ℕ) : Type 0 where
   pub own : Term
-  pub tree_is : tree_of v ≡ own
-  pub qualifiers_are : qualifiers_of v ≡ qualifiers (has_const mark)
-  pub mark_is : ref_of v ≡ called_on mark
+  pub named_so : IsNamedSo v own mark
   pub prints : PrintsName detail own name
   pub returns : has_return_type own ≡ true
   pub names : HasArguments detail text argument own
@@ -487,6 +493,21 @@ AwaitsElementOf s names listing owner below os text =
     × (text ≡ led_by (detail_of s) listing front name ++ in_front_of_next ts elements)
     × ((t : Term) (at : ℕ) (st : State) → Comes s os (tree t true) at st → GoesOn s listing owner below front template (ts ++ t ∷ []) at st)
 
+-- the arguments of a name, or a pack that is the only one of them
+abbrev pub arguments_or_pack : (is_pack : Bool) → Listing
+arguments_or_pack false = of_template
+arguments_or_pack true = of_pack [] []
+
+-- a type comes as an argument of a name with this number, or as an element of such a pack
+abbrev pub AwaitsArgument : (s : Symbol) → Names → (is_pack : Bool) → (from number : ℕ) → (known : Arguments) → (owner : Open) → Below → List Opened
+    → (text : List ℕ) → Type 0
+AwaitsArgument s names is_pack from number known owner below os text =
+    (front : List ℕ) × (template : Term) × (name : List ℕ) × (ts : List Term) × (elements : List ℕ) × IsTemplate (detail_of s) names owner front template name text
+    × PrintAll (detail_of s) (extra_of (arguments_or_pack is_pack)) ts elements
+    × (text ≡ front ++ name ++ opening_bracket (detail_of s) ++ in_front_of_next ts elements) × (from ≡ length text) × (number ≡ length ts)
+    × AreAmong (detail_of s) text is_pack known ts
+    × ((t : Term) (at : ℕ) (st : State) → Comes s os (tree t true) at st → GoesOn s (arguments_or_pack is_pack) owner below front template (ts ++ t ∷ []) at st)
+
 -- a list goes on after an enumerator of this type, once its number and an E are read
 abbrev pub EnumeratorGoesOn : (s : Symbol) → Listing → Open → Below → (front : List ℕ) → (template : Term) → List Term → Term → (at : ℕ) → State → Type 0
 EnumeratorGoesOn s listing owner below front template ts t at st =
@@ -594,17 +615,9 @@ Stands s scope (opens.Special ∷ rest) os text =
     × ((t : Term) (at : ℕ) (st : State) → Comes s os (tree t true) at st → Encoded s (special letter t) at)
 Stands s scope (opens.Argument from number known ∷ []) os text = ⊥
 Stands s scope (opens.Argument from number known ∷ owner ∷ rest) os text =
-    (front : List ℕ) × (template : Term) × (name : List ℕ) × (ts : List Term) × (elements : List ℕ) × IsTemplate (detail_of s) scope.names owner front template name text
-    × PrintAll (detail_of s) 3 ts elements × (text ≡ front ++ name ++ opening_bracket (detail_of s) ++ in_front_of_next ts elements) × (from ≡ length text) × (number ≡ length ts)
-    × AreAmong (detail_of s) text false known ts
-    × ((t : Term) (at : ℕ) (st : State) → Comes s os (tree t true) at st
-    → ArgumentsGoOn s owner (outside s scope rest (Stands s scope rest)) front template (ts ++ t ∷ []) at st)
+    AwaitsArgument s scope.names false from number known owner (outside s scope rest (Stands s scope rest)) os text
 Stands s scope (opens.Element from number known ∷ opens.Pack ∷ owner ∷ rest) os text =
-    (front : List ℕ) × (template : Term) × (name : List ℕ) × (ts : List Term) × (elements : List ℕ) × IsTemplate (detail_of s) scope.names owner front template name text
-    × PrintAll (detail_of s) 0 ts elements × (text ≡ front ++ name ++ opening_bracket (detail_of s) ++ in_front_of_next ts elements) × (from ≡ length text) × (number ≡ length ts)
-    × AreAmong (detail_of s) text true known ts
-    × ((t : Term) (at : ℕ) (st : State) → Comes s os (tree t true) at st
-    → GoesOn s (of_pack [] []) owner (outside s scope rest (Stands s scope rest)) front template (ts ++ t ∷ []) at st)
+    AwaitsArgument s scope.names true from number known owner (outside s scope rest (Stands s scope rest)) os text
 Stands s scope (opens.Element from number known ∷ rest) os text = ⊥
 Stands s scope (opens.Enumerator ∷ []) os text = ⊥
 Stands s scope (opens.Enumerator ∷ opens.Pack ∷ []) os text = ⊥
@@ -641,12 +654,16 @@ pub record IsNesting (s : Symbol) (scope : Scope) (kind : Kind) (w : Direct) (t 
   pub scoped : IsNestScoped s scope w around
   pub serves : Serves s w.nest.purpose (below s scope (reverse w.waiting.list.items)) outer front
 
+-- a type is expected, an item of a list, or one that is no reference
+abbrev pub ExpectsType : (s : Symbol) → Around → List Opened → (at : ℕ) → State → Type 0
+ExpectsType s around os at st =
+    Expects s Kind.Type around os at st ⊎ Expects s Kind.Item around os at st ⊎ (Expects s Kind.ItemButRef around os at st × NoReference s.bytes at)
+
 -- where a writer is, before it takes a step
 abbrev pub IsBefore : (s : Symbol) → Scope → Direct → State → Step → Type 0
 IsBefore s scope w st steps.Type =
     (os : List Opened) × (around : Around) × (around.prefix ≡ outermost)
-    × (Expects s Kind.Type around os w.at st ⊎ Expects s Kind.Item around os w.at st
-    ⊎ (Expects s Kind.ItemButRef around os w.at st × NoReference s.bytes w.at)) × Stands s scope (reverse w.waiting.list.items) os w.text.list.items
+    × ExpectsType s around os w.at st × Stands s scope (reverse w.waiting.list.items) os w.text.list.items
     × IsScoped scope around (reverse w.waiting.list.items)
 IsBefore s scope w st steps.Plain =
     (os : List Opened) × (around : Around) × (around.prefix ≡ outermost)

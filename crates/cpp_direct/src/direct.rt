@@ -19,8 +19,8 @@ pub struct Direct {
     pub(crate) candidates: Bounded<Candidate>,
     pub(crate) waiting: Bounded<Open>,
     pub(crate) nest: Nest,
-    /// the arguments of the name that was read last: the first of them, if they are types, but no function types and no arrays, or
-    /// the elements of a pack of such types, if this is the only one
+    /// the arguments of the name that was read last: the first of them, if they are types, but no function types and no arrays, where
+    /// the first may be a literal, or the elements of a pack of such types, if this is the only one
     pub(crate) argument: Arguments,
     /// whether the arguments of the symbol's own name are known, which types may name
     pub(crate) has_scope: bool,

@@ -12,7 +12,7 @@ ghost use Rattle.cpp_direct.specs.Holes.{StandsAt};
 ghost use Rattle.cpp_direct.specs.HolesOfLists.{IsDigitsAt, minus_sign};
 ghost use Rattle.cpp_direct.specs.ItemBytes.{is_integer_letter};
 ghost use Rattle.cpp_direct.specs.WriterInvariant.{IsWriting};
-ghost use Rattle.cpp_direct.specs.MidStep.{IsListEnded, AwaitsNextArgument, AwaitsNumber, truth_text, number_text, integer_text};
+ghost use Rattle.cpp_direct.specs.MidStep.{IsListEnded, AwaitsNextArgument, AwaitsNumber, IsLiteralRead, truth_text, number_text, integer_text};
 ghost use Rattle.cpp_direct.specs.Written.{Reads};
 ghost use Rattle.cpp_direct.specs.Symbol.{symbol_by};
 
@@ -67,6 +67,17 @@ fn is_plain_letter(letter: u8) -> bool
     }
 }
 
+/// Whether the literal at a place is an enumerator: its type has a name.
+pub fn is_enumerator_at(s: &[u8], at: usize) -> bool {
+    match s.get(at..) {
+        Some([_, behind, ..]) => match *behind {
+            b'N' | b'S' | b'1'..=b'9' => true,
+            _ => false,
+        },
+        _ => false,
+    }
+}
+
 impl Direct {
     /// Reads an argument or an element of a pack up to the first type in it, or the end of either.
     // <template-args> ::= I <template-arg>* E
@@ -92,7 +103,12 @@ impl Direct {
             self.push_pair(b',', b' ')?;
         }
         match byte {
-            b'L' => self.literal::<G>(s),
+            b'L' => {
+                if is_first {
+                    return self.first_literal::<G>(s);
+                }
+                self.literal::<G>(s)
+            }
             b'J' => self.begin_pack::<G>(s),
             _ => {
                 if is_first {
@@ -195,30 +211,38 @@ impl Direct {
     }
 
     // <expr-primary> ::= L <type> <value number> E | Lb0E | Lb1E
-    fn literal<G: Grammar>(&mut self, s: &[u8]) -> Option<Step>
+    pub(crate) fn literal<G: Grammar>(&mut self, s: &[u8]) -> Option<Step>
         requires fits { IsReadable s.now }
         requires letter { StandsAt s.now self.old.at (76 ∷ []) }
         requires awaits { AwaitsNextArgument (symbol_by G.IS_WIDE G.IS_BARE G.IS_BRIEF s.now) self.old }
         ensures { IfSome result (IsWriting (symbol_by G.IS_WIDE G.IS_BARE G.IS_BRIEF s.now) self.new) }
     {
-        self.at = self.at.checked_add(1)?;
-        match byte_at(s, self.at) {
-            b'b' => {
-                self.boolean(s)?;
-                self.literal_ended(s)?;
-                Some(Step::List { is_first: false })
-            }
-            b'N' | b'S' | b'1'..=b'9' => {
-                self.push(b"(")?;
-                self.waiting.push(Open::Enumerator)?;
-                self.named_type::<G>(s)
-            }
-            _ => {
-                self.integer(s)?;
-                self.literal_ended(s)?;
-                Some(Step::List { is_first: false })
-            }
+        if !is_enumerator_at(s, self.at) {
+            self.plain_literal::<G>(s)?;
+            return Some(Step::List { is_first: false });
         }
+        self.at = self.at.checked_add(1)?;
+        self.push(b"(")?;
+        self.waiting.push(Open::Enumerator)?;
+        self.named_type::<G>(s)
+    }
+
+    /// Reads a literal of a builtin type.
+    // <expr-primary> ::= L <type> <value number> E | Lb0E | Lb1E
+    pub(crate) fn plain_literal<G: Grammar>(&mut self, s: &[u8]) -> Option<()>
+        requires fits { IsReadable s.now }
+        requires letter { StandsAt s.now self.old.at (76 ∷ []) }
+        ensures { OnSome result (IsLiteralRead (symbol_by G.IS_WIDE G.IS_BARE G.IS_BRIEF s.now) self.old self.new) }
+    {
+        self.at = self.at.checked_add(1)?;
+        if byte_at(s, self.at) == b'b' {
+            self.boolean(s)?;
+            self.literal_ended(s)?;
+            return Some(());
+        }
+        self.integer(s)?;
+        self.literal_ended(s)?;
+        Some(())
     }
 
     /// Reads the number of an enumerator, after its type.

@@ -17,8 +17,8 @@ use crate::tokens::byte_at;
 
 /// A first piece that is a candidate already, and names no class.
 #[inline(always)]
-fn listed_nest(from: u32, purpose: Purpose) -> Nest
-    ensures { result ≡ record { from = from; class_from = from; class_to = from; purpose = purpose; is_listed = true; has_class = false; is_instance = false; is_dependent = false } }
+fn listed_nest(from: u32, purpose: Purpose, is_dependent: bool) -> Nest
+    ensures { result ≡ record { from = from; class_from = from; class_to = from; purpose = purpose; is_listed = true; has_class = false; is_instance = false; is_dependent = is_dependent } }
 {
     Nest {
         from,
@@ -28,7 +28,7 @@ fn listed_nest(from: u32, purpose: Purpose) -> Nest
         is_listed: true,
         has_class: false,
         is_instance: false,
-        is_dependent: false,
+        is_dependent,
     }
 }
 
@@ -104,16 +104,19 @@ impl Direct {
         let text = cpp_layout::abbreviation_text(letter);
         if text.is_empty() {
             let candidate = self.substitution(s)?;
-            if candidate.is_reference || candidate.is_dependent {
+            if candidate.is_reference {
+                return None;
+            }
+            if candidate.is_dependent && !self.may_depend(purpose) {
                 return None;
             }
             self.repeat(candidate.from, candidate.to)?;
-            self.nest = listed_nest(from, purpose);
+            self.nest = listed_nest(from, purpose, candidate.is_dependent);
             return self.nest_known::<G>(s);
         }
         self.at = self.at.checked_add(1)?;
         self.push(text)?;
-        self.nest = listed_nest(from, purpose);
+        self.nest = listed_nest(from, purpose, false);
         self.nest_known::<G>(s)
     }
 

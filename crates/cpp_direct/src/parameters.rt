@@ -1,20 +1,22 @@
 // The arguments of a function's template, and the types that name them.
 
-ghost use Rattle.std.specs.Prelude.{◌≡◌, ◌≤◌, ◌+◌, ◌∷◌, ◌++◌, [], List, length, reverse, true, false, Some};
+ghost use Rattle.std.specs.Prelude.{◌≡◌, ◌≢◌, ◌≤◌, ◌+◌, ◌∷◌, ◌++◌, [], List, length, reverse, true, false, Some};
 ghost use Rattle.std.specs.Option.{OnSome, IfSome};
 ghost use Rattle.cpp_grammar.specs.Term.{Term};
 ghost use Rattle.sym_print.specs.declared.detail.Detail.{Detail};
 ghost use Rattle.cpp_direct.specs.declared.direct.Direct.{Direct};
+ghost use Rattle.cpp_direct.specs.declared.open.Arguments.{Arguments};
 ghost use Rattle.cpp_direct.specs.Names.{IsReadable};
 ghost use Rattle.cpp_direct.specs.declared.open.Step.TheVariants as steps;
 ghost use Rattle.cpp_direct.specs.Holes.{StandsAt};
 ghost use Rattle.cpp_direct.specs.WriterInvariant.{EndsNamed, IsWriting, argument_of, arguments_in, is_type, is_within_type, place_of};
-ghost use Rattle.cpp_direct.specs.MidStep.{AwaitsType, AwaitsKnownArgument, AwaitsNextParameter, IsArgumentRead, IsNamedAgain, IsPackElementRead, AwaitsPackElement, AreForwarded, IsPackOf, comma_text, KnowsMore, parameter_digits};
+ghost use Rattle.cpp_direct.specs.MidStep.{AwaitsType, AwaitsKnownArgument, AwaitsNextParameter, IsArgumentRead, IsNamedAgain, AreForwarded, IsPackOf, comma_text, KnowsMore, parameter_digits};
 ghost use Rattle.cpp_direct.specs.Symbol.{symbol_by};
 ghost use Rattle.cpp_direct.specs.Written.{Writes};
 
 use crate::direct::Direct;
 use crate::grammar::Grammar;
+use crate::lists::is_enumerator_at;
 use crate::open::{Argument, Arguments, Candidate, Mark, Open, Purpose, Step};
 use crate::symbols::{NO_PLACE, NOWHERE};
 use crate::tokens::{byte_at, may_end};
@@ -229,6 +231,31 @@ impl Direct {
         Some(Step::Type)
     }
 
+    /// The first element of a list, which is a literal. Where it is an argument of a name, those after it are known.
+    // <template-args> ::= I <template-arg>* E
+    #[inline(never)]
+    pub(crate) fn first_literal<G: Grammar>(&mut self, s: &[u8]) -> Option<Step>
+        requires fits { IsReadable s.now }
+        requires letter { StandsAt s.now self.old.at (76 ∷ []) }
+        requires writing { IsWriting (symbol_by G.IS_WIDE G.IS_BARE G.IS_BRIEF s.now) self.old (steps.List true) }
+        ensures { IfSome result (IsWriting (symbol_by G.IS_WIDE G.IS_BARE G.IS_BRIEF s.now) self.new) }
+    {
+        if !self.is_named() {
+            return self.literal::<G>(s);
+        }
+        if is_enumerator_at(s, self.at) {
+            return self.literal::<G>(s);
+        }
+        let from = self.text.end();
+        self.waiting.push(Open::Argument {
+            from,
+            number: 0,
+            known: NOWHERE,
+        })?;
+        self.plain_literal::<G>(s)?;
+        self.argument_ended::<G>(s, from, 0, NOWHERE, false)
+    }
+
     /// The first argument of a list, which is a pack of something. Where it is an argument of a name, it may be the only one.
     // <template-arg> ::= J <template-arg>* E
     #[inline(never)]
@@ -268,7 +295,7 @@ impl Direct {
         is_reference: bool,
     ) -> Option<Step>
         requires fits { IsReadable s.now }
-        requires read { IsPackElementRead (symbol_by G.IS_WIDE G.IS_BARE G.IS_BRIEF s.now) self.old from number known is_reference }
+        requires read { IsArgumentRead (symbol_by G.IS_WIDE G.IS_BARE G.IS_BRIEF s.now) self.old true from number known is_reference }
         ensures { IfSome result (IsWriting (symbol_by G.IS_WIDE G.IS_BARE G.IS_BRIEF s.now) self.new) }
     {
         let _element = self.waiting.pop();
@@ -296,7 +323,7 @@ impl Direct {
     // <template-arg> ::= J <template-arg>* E
     fn next_element<G: Grammar>(&mut self, s: &[u8], before: u16, known: Arguments) -> Option<Step>
         requires fits { IsReadable s.now }
-        requires awaits { AwaitsPackElement (symbol_by G.IS_WIDE G.IS_BARE G.IS_BRIEF s.now) self.old before known }
+        requires awaits { AwaitsKnownArgument (symbol_by G.IS_WIDE G.IS_BARE G.IS_BRIEF s.now) self.old true before known }
         ensures { IfSome result (IsWriting (symbol_by G.IS_WIDE G.IS_BARE G.IS_BRIEF s.now) self.new) }
     {
         self.push_pair(b',', b' ')?;
@@ -404,7 +431,7 @@ impl Direct {
         is_reference: bool,
     ) -> Option<Step>
         requires fits { IsReadable s.now }
-        requires read { IsArgumentRead (symbol_by G.IS_WIDE G.IS_BARE G.IS_BRIEF s.now) self.old from number known is_reference }
+        requires read { IsArgumentRead (symbol_by G.IS_WIDE G.IS_BARE G.IS_BRIEF s.now) self.old false from number known is_reference }
         ensures { IfSome result (IsWriting (symbol_by G.IS_WIDE G.IS_BARE G.IS_BRIEF s.now) self.new) }
     {
         let _open = self.waiting.pop();
@@ -426,7 +453,7 @@ impl Direct {
     // <template-args> ::= I <template-arg>* E
     fn next_argument<G: Grammar>(&mut self, s: &[u8], before: u16, known: Arguments) -> Option<Step>
         requires fits { IsReadable s.now }
-        requires awaits { AwaitsKnownArgument (symbol_by G.IS_WIDE G.IS_BARE G.IS_BRIEF s.now) self.old before known }
+        requires awaits { AwaitsKnownArgument (symbol_by G.IS_WIDE G.IS_BARE G.IS_BRIEF s.now) self.old false before known }
         ensures { IfSome result (IsWriting (symbol_by G.IS_WIDE G.IS_BARE G.IS_BRIEF s.now) self.new) }
     {
         self.push_pair(b',', b' ')?;
@@ -469,17 +496,65 @@ impl Direct {
         let named = self.argument()?;
         let argument = known(named.at(read.number))?;
         // a pack is named in what is expanded alone
-        if argument.is_pack || argument.is_reference || named.encoding == 0 {
+        if argument.is_pack || named.encoding == 0 {
             return None;
         }
         self.at = read.end;
         let from = self.text.end();
         self.repeat(argument.from as u32, argument.to as u32)?;
-        self.add_candidate(from, false, true)?;
+        self.add_candidate(from, argument.is_reference, true)?;
         Some(Step::Value {
-            is_reference: false,
+            is_reference: argument.is_reference,
             is_dependent: true,
         })
+    }
+
+    /// Reads an rvalue reference, up to the first type that is in it. One to an argument that is a reference itself is this argument.
+    // <type> ::= O <type>
+    #[inline(never)]
+    pub(crate) fn rvalue_at<G: Grammar>(&mut self, s: &[u8]) -> Option<Step>
+        requires fits { IsReadable s.now }
+        requires letter { StandsAt s.now self.old.at (79 ∷ []) }
+        requires awaits { AwaitsType (symbol_by G.IS_WIDE G.IS_BARE G.IS_BRIEF s.now) self.old }
+        ensures { IfSome result (IsWriting (symbol_by G.IS_WIDE G.IS_BARE G.IS_BRIEF s.now) self.new) }
+    {
+        let from = self.text.end();
+        let behind = self.at.checked_add(1)?;
+        if byte_at(s, behind) != b'T' {
+            return self.open_type(Open::Rvalue { from }, Step::Type);
+        }
+        let read = parameter_number(s, behind.checked_add(1)?)?;
+        let named = self.argument()?;
+        let argument = known(named.at(read.number))?;
+        if argument.is_pack || named.encoding == 0 {
+            return None;
+        }
+        if !argument.is_reference {
+            return self.open_type(Open::Rvalue { from }, Step::Type);
+        }
+        self.at = read.end;
+        self.repeat(argument.from as u32, argument.to as u32)?;
+        self.add_candidate(from, true, true)?;
+        self.add_candidate(from, true, true)?;
+        Some(Step::Value {
+            is_reference: true,
+            is_dependent: true,
+        })
+    }
+
+    /// Whether a nested name that is read as this may name the arguments of the symbol's own name: a type may, among the types of that
+    /// function.
+    pub(crate) fn may_depend(&self, purpose: Purpose) -> bool
+        ensures is_type { result ≡ true → is_type purpose ≡ true }
+        ensures named { result ≡ true → (a : Arguments) × (argument_of (reverse self.now.waiting.list.items) ≡ Some a) × (a.encoding ≢ 0) }
+    {
+        if !is_type(purpose) {
+            return false;
+        }
+        match self.argument() {
+            Some(named) => named.encoding != 0,
+            None => false,
+        }
     }
 
     /// A type that names arguments of the function's template is named once more, among the types of that function.

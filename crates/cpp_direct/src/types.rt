@@ -88,7 +88,7 @@ impl Direct {
                 }
                 self.begin_array::<G>(s, Access::Plain)
             }
-            b'O' => self.open_type(Open::Rvalue { from }, Step::Type),
+            b'O' => self.rvalue_at::<G>(s),
             b'K' => {
                 if is_plain {
                     return None;

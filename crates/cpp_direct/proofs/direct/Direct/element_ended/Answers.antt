@@ -1,7 +1,7 @@
-use Rattle.std.proofs.Common.{refl, ap, ◌∙◌, ◌+◌, subst, arith, [], ◌∷◌}
+use Rattle.std.proofs.Common.{refl, true, ap, ◌∙◌, ◌+◌, subst, arith, [], ◌∷◌}
 use Rattle.cpp_direct.specs.Symbol.{symbol_by}
 use Rattle.cpp_direct.specs.Holes.{StandsAt}
-use Rattle.cpp_direct.proofs.Arguments.{element-passes, pack-element-awaits, pack-closes}
+use Rattle.cpp_direct.proofs.Arguments.{argument-awaits, argument-passes, pack-closes}
 use Rattle.cpp_direct.proofs.TypesRead.{popped, there}
 use Rattle.cpp_direct.specs.declared.open.Open.TheVariants as opens
 use Rattle.cpp_direct.proofs.direct.Direct.element_ended.Goals as goal
@@ -9,14 +9,14 @@ use Rattle.cpp_direct.proofs.direct.Direct.element_ended.Goals as goal
 pub returns-then-byte-eq76 : goal.returns-then-byte-eq76
 returns-then-byte-eq76 g c =
     let p = c.requires.read in
-    element-passes (symbol_by g.G.Grammar.IS_WIDE g.G.Grammar.IS_BARE g.G.Grammar.IS_BRIEF c.args.s.now) c.args.self.now _ c.args.from c.args.number c.args.known c.args.is_reference p
+    argument-passes (symbol_by g.G.Grammar.IS_WIDE g.G.Grammar.IS_BARE g.G.Grammar.IS_BRIEF c.args.s.now) c.args.self.now _ true c.args.from c.args.number c.args.known c.args.is_reference p
     (popped c.args.self.now.waiting.list.items c.pop-element.new.self.list.items (opens.Pack ∷ p.owner ∷ p.rest)
     (opens.Element c.args.from c.args.number c.args.known) _ refl p.open_is c.pop-element.ensures.rest) refl refl refl refl
 
 pub next_element-requires-clause-awaits : goal.next_element-requires-clause-awaits
 next_element-requires-clause-awaits g c =
     let p = c.requires.read in
-    pack-element-awaits (symbol_by g.G.Grammar.IS_WIDE g.G.Grammar.IS_BARE g.G.Grammar.IS_BRIEF c.args.s.now) c.args.self.now _ c.args.from c.end-to.result c.args.number c.placed.result c.args.known c.with-more.result
+    argument-awaits (symbol_by g.G.Grammar.IS_WIDE g.G.Grammar.IS_BARE g.G.Grammar.IS_BRIEF c.args.s.now) c.args.self.now _ true c.args.from c.end-to.result c.args.number c.placed.result c.args.known c.with-more.result
     c.args.is_reference p
     (popped c.args.self.now.waiting.list.items c.pop-element.new.self.list.items (opens.Pack ∷ p.owner ∷ p.rest)
     (opens.Element c.args.from c.args.number c.args.known) _ refl p.open_is c.pop-element.ensures.rest) refl refl refl refl c.end-to.ensures c.placed.ensures
@@ -25,7 +25,7 @@ next_element-requires-clause-awaits g c =
 pub returns-then-byte_at-ne69 : goal.returns-then-byte_at-ne69
 returns-then-byte_at-ne69 g c =
     let p = c.requires.read in
-    element-passes (symbol_by g.G.Grammar.IS_WIDE g.G.Grammar.IS_BARE g.G.Grammar.IS_BRIEF c.args.s.now) c.args.self.now _ c.args.from c.args.number c.args.known c.args.is_reference p
+    argument-passes (symbol_by g.G.Grammar.IS_WIDE g.G.Grammar.IS_BARE g.G.Grammar.IS_BRIEF c.args.s.now) c.args.self.now _ true c.args.from c.args.number c.args.known c.args.is_reference p
     (popped c.args.self.now.waiting.list.items c.pop-element.new.self.list.items (opens.Pack ∷ p.owner ∷ p.rest)
     (opens.Element c.args.from c.args.number c.args.known) _ refl p.open_is c.pop-element.ensures.rest) refl refl refl refl
 

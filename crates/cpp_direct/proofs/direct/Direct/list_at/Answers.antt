@@ -37,8 +37,8 @@ begin_pack-requires-clause-awaits g c = elim c.if-not-is_first.branch [
       first-expected (symbol_by g.G.Grammar.IS_WIDE g.G.Grammar.IS_BARE g.G.Grammar.IS_BRIEF c.args.s.now) c.args.self.now c.if-not-is_first.self c.args.is_first c.requires.writing w.if-not-is_first.false w.self-is
 ]
 
-pub returns-else-is_first-2 : goal.returns-else-is_first-2
-returns-else-is_first-2 g c = type-expected (symbol_by g.G.Grammar.IS_WIDE g.G.Grammar.IS_BARE g.G.Grammar.IS_BRIEF c.args.s.now) c.if-not-is_first.self (elim c.if-not-is_first.branch [
+pub returns-else-is_first-3 : goal.returns-else-is_first-3
+returns-else-is_first-3 g c = type-expected (symbol_by g.G.Grammar.IS_WIDE g.G.Grammar.IS_BARE g.G.Grammar.IS_BRIEF c.args.s.now) c.if-not-is_first.self (elim c.if-not-is_first.branch [
   | then-not-is_first+in_ok-push_pair w ↦
       another-expected (symbol_by g.G.Grammar.IS_WIDE g.G.Grammar.IS_BARE g.G.Grammar.IS_BRIEF c.args.s.now) c.args.self.now w.push_pair.new.self c.if-not-is_first.self c.args.is_first c.requires.writing w.if-not-is_first.true
       w.in_ok-push_pair.ensures w.self-is
@@ -48,10 +48,10 @@ returns-else-is_first-2 g c = type-expected (symbol_by g.G.Grammar.IS_WIDE g.G.G
 
 pub first_type-requires-clause-writing : goal.first_type-requires-clause-writing
 first_type-requires-clause-writing g c = elim c.if-not-is_first.branch [
-  | then-not-is_first+in_ok-push_pair w ↦ absurd (false≢true (sym w.if-not-is_first.true ∙ c.if-is_first-2.true))
+  | then-not-is_first+in_ok-push_pair w ↦ absurd (false≢true (sym w.if-not-is_first.true ∙ c.if-is_first-3.true))
   | else-not-is_first w ↦
       subst (λ d. IsWriting (symbol_by g.G.Grammar.IS_WIDE g.G.Grammar.IS_BARE g.G.Grammar.IS_BRIEF c.args.s.now) d (steps.List true)) (sym w.self-is)
-      (subst (λ f. IsWriting (symbol_by g.G.Grammar.IS_WIDE g.G.Grammar.IS_BARE g.G.Grammar.IS_BRIEF c.args.s.now) c.args.self.now (steps.List f)) c.if-is_first-2.true c.requires.writing)
+      (subst (λ f. IsWriting (symbol_by g.G.Grammar.IS_WIDE g.G.Grammar.IS_BARE g.G.Grammar.IS_BRIEF c.args.s.now) c.args.self.now (steps.List f)) c.if-is_first-3.true c.requires.writing)
 ]
 
 pub first_pack-requires-clause-writing : goal.first_pack-requires-clause-writing

@@ -1,10 +1,10 @@
-use Rattle.std.proofs.Common.{false, subst, sym, ◌∙◌}
+use Rattle.std.proofs.Common.{true, false, subst, sym, ◌∙◌}
 use Rattle.cpp_direct.specs.Symbol.{symbol_by}
 use Rattle.cpp_direct.specs.WriterInvariant.{IsOwn, IsWriting}
 use Rattle.cpp_direct.specs.declared.open.Step.TheVariants as steps
 use Rattle.cpp_direct.specs.MidStep.{IsNameEnded}
-use Rattle.cpp_direct.specs.MidStepOfLocals.{IsEnclosingInstance, IsEnclosingNamed}
-use Rattle.cpp_direct.proofs.EnclosingFunctions.{instance-within, name-within}
+use Rattle.cpp_direct.specs.MidStepOfLocals.{IsEnclosingNamed}
+use Rattle.cpp_direct.proofs.EnclosingFunctions.{name-within}
 use Rattle.cpp_direct.proofs.Nesting.{arguments-noted, type-ended, name-comes}
 use Rattle.cpp_direct.proofs.direct.Direct.nest_ended.Goals as goal
 
@@ -25,16 +25,16 @@ enclosing_instance-requires-clause-named g c =
     let old = c.args.self.now in
     let writing = c.requires.writing in
     let before = writing.is_before in
-    subst (λ n. IsEnclosingInstance (symbol_by g.G.Grammar.IS_WIDE g.G.Grammar.IS_BARE g.G.Grammar.IS_BRIEF c.args.s.now) (record old { at = n }) c.in-Enclosing.mark old.nest.from) (sym c.in_ok-self.ensures.1)
-    (instance-within (symbol_by g.G.Grammar.IS_WIDE g.G.Grammar.IS_BARE g.G.Grammar.IS_BRIEF c.args.s.now) old writing.state before.0 c.in-Enclosing.mark writing.keeps before.1 (before.3 (sym c.is_function_instance.ensures ∙ c.if-is_function_instance.true)) c.requires.end c.in-Enclosing.is)
+    subst (λ n. IsEnclosingNamed (symbol_by g.G.Grammar.IS_WIDE g.G.Grammar.IS_BARE g.G.Grammar.IS_BRIEF c.args.s.now) (record old { at = n }) c.in-Enclosing.mark true old.nest.from) (sym c.in_ok-self.ensures.1)
+    (name-within (symbol_by g.G.Grammar.IS_WIDE g.G.Grammar.IS_BARE g.G.Grammar.IS_BRIEF c.args.s.now) old writing.state before.0 c.in-Enclosing.mark true writing.keeps before.1 (before.3 (sym c.is_function_instance.ensures ∙ c.if-is_function_instance.true)) c.requires.end c.in-Enclosing.is)
 
 pub enclosing_named-requires-clause-named : goal.enclosing_named-requires-clause-named
 enclosing_named-requires-clause-named g c =
     let old = c.args.self.now in
     let writing = c.requires.writing in
     let before = writing.is_before in
-    subst (λ n. IsEnclosingNamed (symbol_by g.G.Grammar.IS_WIDE g.G.Grammar.IS_BARE g.G.Grammar.IS_BRIEF c.args.s.now) (record old { at = n }) c.in-Enclosing.mark old.nest.from) (sym c.in_ok-self.ensures.1)
-    (name-within (symbol_by g.G.Grammar.IS_WIDE g.G.Grammar.IS_BARE g.G.Grammar.IS_BRIEF c.args.s.now) old writing.state before.0 c.in-Enclosing.mark writing.keeps before.1 (before.2 (subst IsOwn (sym c.in-Enclosing.is) tt) (sym c.is_function_instance.ensures ∙ c.if-is_function_instance.false)) c.requires.end
+    subst (λ n. IsEnclosingNamed (symbol_by g.G.Grammar.IS_WIDE g.G.Grammar.IS_BARE g.G.Grammar.IS_BRIEF c.args.s.now) (record old { at = n }) c.in-Enclosing.mark false old.nest.from) (sym c.in_ok-self.ensures.1)
+    (name-within (symbol_by g.G.Grammar.IS_WIDE g.G.Grammar.IS_BARE g.G.Grammar.IS_BRIEF c.args.s.now) old writing.state before.0 c.in-Enclosing.mark false writing.keeps before.1 (before.2 (subst IsOwn (sym c.in-Enclosing.is) tt) (sym c.is_function_instance.ensures ∙ c.if-is_function_instance.false)) c.requires.end
     c.in-Enclosing.is)
 
 pub returns-in_ok-add_unless-in-Type : goal.returns-in_ok-add_unless-in-Type

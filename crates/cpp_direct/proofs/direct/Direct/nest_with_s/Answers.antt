@@ -1,4 +1,4 @@
-use Rattle.std.proofs.Common.{◌≡◌, ◌≤◌, ◌+◌, ◌-◌, ◌++◌, ◌∷◌, [], length, take, drop, subst, sym, ap, ◌∙◌, append-nil}
+use Rattle.std.proofs.Common.{◌≡◌, ◌≤◌, ◌+◌, ◌-◌, ◌++◌, ◌∷◌, [], length, take, drop, reverse, true, Some, ◌≢◌, subst, sym, ap, ◌∙◌, append-nil}
 use Rattle.std.proofs.lemmas.Bool.{false≢true}
 use Rattle.std.specs.Bool.{◌==◌}
 use Rattle.sym_core.specs.declared.NumberKind.TheVariants.{Seq36}
@@ -6,9 +6,12 @@ use Rattle.sym_core.specs.Value.{counted_value}
 use Rattle.cpp_direct.specs.Symbol.{symbol_by}
 use Rattle.cpp_direct.specs.Holes.{StandsAt, IsSeqAt}
 use Rattle.cpp_direct.specs.MidStep.{IsNestKnown}
+use Rattle.cpp_direct.specs.WriterInvariant.{argument_of, is_type}
+use Rattle.cpp_direct.specs.declared.open.Arguments.{Arguments}
 use Rattle.cpp_direct.proofs.Moves.{stands-join}
 use Rattle.cpp_direct.proofs.Nesting.{byte-there, candidate-text, reference-begins, abbreviation-begins}
 use Rattle.cpp_direct.proofs.direct.Direct.nest_with_s.Goals as goal
+use Rattle.cpp_direct.proofs.direct.Direct.nest_with_s.Goals.{else-candidate-2-via-then-candidate-2+else-not-may_depend, else-candidate-2-via-else-candidate-2}
 
 pub nest_in_std-requires-clause-awaits : goal.nest_in_std-requires-clause-awaits
 nest_in_std-requires-clause-awaits g c =
@@ -44,10 +47,20 @@ nest_known-requires g c =
     let same = c.in_ok-candidate.ensures.same in
     let wrote = c.in_ok-repeat.ensures in
     let plain : c.substitution.new.self.text.list.items ≡ old.text.list.items = same.text ∙ append-nil old.text.list.items in
+    let typed : k.is_dependent ≡ true → is_type c.args.purpose ≡ true = λ e. elim c.else-candidate-2.branch [
+      | else-candidate-2-via-then-candidate-2+else-not-may_depend w ↦ w.may_depend.ensures.is_type w.if-not-may_depend.false
+      | else-candidate-2-via-else-candidate-2 w ↦ absurd (false≢true (sym w.if-candidate-2.false ∙ e))
+    ] in
+    let named : k.is_dependent ≡ true → (a : Arguments) × (argument_of (reverse old.waiting.list.items) ≡ Some a) × (a.encoding ≢ 0) = λ e. elim c.else-candidate-2.branch [
+      | else-candidate-2-via-then-candidate-2+else-not-may_depend w ↦
+          let n = w.may_depend.ensures.named w.if-not-may_depend.false in
+          (n.0, ap (λ v. argument_of (reverse v.list.items)) (sym same.waiting) ∙ n.1, n.2)
+      | else-candidate-2-via-else-candidate-2 w ↦ absurd (false≢true (sym w.if-candidate-2.false ∙ e))
+    ] in
     subst (λ n. IsNestKnown s (record c.repeat.new.self { nest = n })) (sym c.listed_nest-self.ensures)
     (reference-begins s old c.repeat.new.self c.args.purpose is.0 k c.requires.awaits c.requires.letter
     (subst (λ n. IsSeqAt s.bytes (old.at + 1) is.0 n) (sym wrote.at) (subst (λ n. IsSeqAt s.bytes n is.0 c.substitution.new.self.at) c.in_ok-self.ensures.1 is.1))
-    c.in_ok-candidate.ensures.ordered is.2 c.if-candidate.false c.if-candidate-2.false (wrote.text ∙ ap (λ l. l ++ take (k.to - k.from) (drop k.from l)) plain)
+    c.in_ok-candidate.ensures.ordered is.2 c.if-candidate.false typed named (wrote.text ∙ ap (λ l. l ++ take (k.to - k.from) (drop k.from l)) plain)
     (wrote.candidates ∙ same.candidates) (wrote.waiting ∙ same.waiting) (wrote.scope ∙ same.scope) c.end-from.result c.end-from.ensures)
 
 pub nest_known-requires-2 : goal.nest_known-requires-2

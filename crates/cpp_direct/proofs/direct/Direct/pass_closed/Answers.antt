@@ -1,9 +1,9 @@
-use Rattle.std.proofs.Common.{Some, ap, ◌∙◌}
+use Rattle.std.proofs.Common.{Some, true, false, ap, ◌∙◌}
 use Rattle.cpp_direct.specs.Symbol.{symbol_by}
 use Rattle.cpp_direct.specs.declared.open.Open.TheVariants as opens
 use Rattle.cpp_direct.proofs.Handed.{value-element, value-returned, value-signature, value-enumerator, argument-read, special-read, takes-elements}
 use Rattle.cpp_direct.proofs.EnclosingFunctions.{lambda-parameter-read, parameter-read-within}
-use Rattle.cpp_direct.proofs.Arguments.{value-argument, value-in-pack}
+use Rattle.cpp_direct.proofs.Arguments.{value-argument}
 use Rattle.cpp_direct.proofs.Signatures.{value-array}
 use Rattle.cpp_direct.proofs.direct.Direct.pass_closed.Goals as goal
 
@@ -43,12 +43,12 @@ enumerator-requires-clause-awaits g c =
 
 pub argument_ended-requires-clause-read : goal.argument_ended-requires-clause-read
 argument_ended-requires-clause-read g c =
-    value-argument (symbol_by g.G.Grammar.IS_WIDE g.G.Grammar.IS_BARE g.G.Grammar.IS_BRIEF c.args.s.now) c.args.self.now c.args.is_reference c.in-Argument.from c.in-Argument.number c.in-Argument.known
+    value-argument (symbol_by g.G.Grammar.IS_WIDE g.G.Grammar.IS_BARE g.G.Grammar.IS_BRIEF c.args.s.now) c.args.self.now false c.args.is_reference c.in-Argument.from c.in-Argument.number c.in-Argument.known
     c.requires.writing (c.requires.waits ∙ ap (λ o. Some o) c.in-Argument.is)
 
 pub element_ended-requires-clause-read : goal.element_ended-requires-clause-read
 element_ended-requires-clause-read g c =
-    value-in-pack (symbol_by g.G.Grammar.IS_WIDE g.G.Grammar.IS_BARE g.G.Grammar.IS_BRIEF c.args.s.now) c.args.self.now c.args.is_reference c.in-Element.from c.in-Element.number c.in-Element.known
+    value-argument (symbol_by g.G.Grammar.IS_WIDE g.G.Grammar.IS_BARE g.G.Grammar.IS_BRIEF c.args.s.now) c.args.self.now true c.args.is_reference c.in-Element.from c.in-Element.number c.in-Element.known
     c.requires.writing (c.requires.waits ∙ ap (λ o. Some o) c.in-Element.is)
 
 pub returns-in_default : goal.returns-in_default

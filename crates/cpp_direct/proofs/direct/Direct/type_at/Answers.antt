@@ -1,7 +1,7 @@
 use Rattle.std.proofs.Common.{◌∷◌, [], arith}
 use Rattle.cpp_direct.specs.Symbol.{symbol_by}
 use Rattle.cpp_direct.proofs.Moves.{stands-join}
-use Rattle.cpp_direct.proofs.TypesRead.{awaits-type, names-awaited, there, lvalue-opened, rvalue-opened, const-opened}
+use Rattle.cpp_direct.proofs.TypesRead.{awaits-type, names-awaited, there, lvalue-opened, const-opened}
 use Rattle.cpp_direct.proofs.direct.Direct.type_at.Goals as goal
 
 pub named_type-requires-clause-awaits : goal.named_type-requires-clause-awaits
@@ -29,13 +29,8 @@ begin_array-requires-clause-letters g c =
     stands-join s at (82 ∷ []) (65 ∷ []) (there s at c.byte_at.result 82 c.in-82.is (omega arith) c.byte_at.ensures)
     (c.is_array_behind.ensures c.if-is_array_behind.true)
 
-pub returns-in-79 : goal.returns-in-79
-returns-in-79 g c =
-    let called = c.open_type-in-79.ensures in
-    rvalue-opened (symbol_by g.G.Grammar.IS_WIDE g.G.Grammar.IS_BARE g.G.Grammar.IS_BRIEF c.args.s.now) c.args.self.now c.open_type-in-79.new.self c.open_type-in-79.result c.end-from.result
-    (awaits-type (symbol_by g.G.Grammar.IS_WIDE g.G.Grammar.IS_BARE g.G.Grammar.IS_BRIEF c.args.s.now) c.args.self.now c.args.is_plain c.requires.writing) c.end-from.ensures
-    (there c.args.s.now c.args.self.now.at c.byte_at.result 79 c.in-79.is (omega arith) c.byte_at.ensures)
-    called.step called.open called.at called.text called.candidates called.scope
+pub rvalue_at-requires-clause-awaits : goal.rvalue_at-requires-clause-awaits
+rvalue_at-requires-clause-awaits g c = awaits-type (symbol_by g.G.Grammar.IS_WIDE g.G.Grammar.IS_BARE g.G.Grammar.IS_BRIEF c.args.s.now) c.args.self.now c.args.is_plain c.requires.writing
 
 pub returns-else-is_plain-3 : goal.returns-else-is_plain-3
 returns-else-is_plain-3 g c =
