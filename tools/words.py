@@ -325,16 +325,16 @@ def direct_letters():
 
 # what the letters of such a list are asked for: a test's name, what it says, and where it is defined
 DIRECT_TESTS = [
-    ("is_integer_letter", "integer_letters", "the letter of a type that an integer in an argument may have", "ItemBytes", []),
-    ("is_builtin_with_d", "builtin_letters_with_d", "the letter after a D of a builtin type", "Bytes", ["cpp_grammar::specs::Grammar::among"]),
+    ("is_integer_letter", "integer_letters", "the letter of a type that an integer in an argument may have", "ItemBytes"),
+    ("is_builtin_with_d", "builtin_letters_with_d", "the letter after a D of a builtin type", "Bytes"),
 ]
 
 def direct_tests():
     lists = {name: letters for name, _, letters in direct_lists()}
     out = [f"// {WRITTEN} Letters that are codes, by what they are codes of.", "#![tactic(auto)]", "", "ghost use Rattle.std.specs.Prelude.{◌≡◌};",
-           *[f"ghost use Rattle.cpp_direct.specs.{module}.{{{name}}};" for name, _, _, module, _ in DIRECT_TESTS]]
-    for name, letters, comment, module, through in DIRECT_TESTS:
-        out += ["", f"/// Whether it is {comment}.", unfolding(f"crate::specs::{module}::{name}", *through), "#[inline(always)]",
+           *[f"ghost use Rattle.cpp_direct.specs.{module}.{{{name}}};" for name, _, _, module in DIRECT_TESTS]]
+    for name, letters, comment, module in DIRECT_TESTS:
+        out += ["", f"/// Whether it is {comment}.", unfolding(f"crate::specs::{module}::{name}", "cpp_grammar::specs::Grammar::among"), "#[inline(always)]",
                 f"pub fn {name}(letter: u8) -> bool", f"    ensures {{ result ≡ {name} letter }}", "{", "    match letter {"]
         out += [f"        b'{letter}' => true," for letter in lists[letters]] + ["        _ => false,", "    }", "}"]
     return "\n".join(out) + "\n"

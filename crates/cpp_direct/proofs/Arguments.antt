@@ -15,27 +15,19 @@ use Rattle.cpp_direct.specs.declared.open.Arguments.{Arguments}
 use Rattle.cpp_direct.specs.declared.open.Open.{Open}
 use Rattle.cpp_direct.specs.declared.direct.Direct.{Direct}
 use Rattle.cpp_direct.specs.Holes.{Opened, Expects, StandsAt}
-use Rattle.cpp_direct.specs.Prints.{Names, Prints, PrintAll, PrintAllAs, IsElementAs, PrintEachBy, PrintAllBy, joined, list_of}
-use Rattle.cpp_direct.specs.WriterInvariant.{AwaitsArgument, Keeps, Scope, arguments_or_pack, element_kind, below, scoped_in, is_noted, may_name, AreAmong, ArgumentsGoOn, Belongs, EndsNamed, GoesOn, IsAmong, IsKnown, IsScoped, IsTemplate, IsWriting, Listing, of_template, of_pack, Owns, Stands, extra_of, in_front_of_next, led_by, list_with, nowhere, place_of, Closes}
+use Rattle.cpp_direct.specs.Prints.{Names, Prints, PrintAll, PrintAllAs, IsElementAs, PrintAllBy, list_of}
+use Rattle.cpp_direct.specs.WriterInvariant.{AwaitsArgument, Keeps, Scope, arguments_or_pack, element_kind, below, scoped_in, is_noted, may_name, AreAmong, ArgumentsGoOn, Belongs, EndsNamed, GoesOn, IsAmong, IsKnown, IsScoped, IsTemplate, IsWriting, Owns, Stands, extra_of, of_template, in_front_of_next, led_by, list_with, nowhere, place_of, Closes}
 use Rattle.cpp_direct.specs.MidStep.{AreKnown, AwaitsKnownArgument, IsArgumentRead, IsListEnded, IsLiteralRead, KnowsMore, argument_around, argument_entry}
 use Rattle.cpp_direct.specs.Written.{Writes}
 use Rattle.cpp_direct.proofs.Ending.{next-written}
-use Rattle.cpp_direct.proofs.Kept.{keeps-same, keeps-written, reverse-last, template-stays, type-comes, keeps-read}
-use Rattle.cpp_direct.proofs.Listed.{last-found, element-goes-on, list-kind, pack-goes-on, some-elements}
+use Rattle.cpp_direct.proofs.Kept.{keeps-same, keeps-written, reverse-last, template-stays, type-comes, none-known, keeps-read}
+use Rattle.cpp_direct.proofs.Listed.{last-found, element-goes-on, list-kind, pack-goes-on, some-elements, template-listed}
 use Rattle.cpp_direct.proofs.Moves.{expects-empty}
 use Rattle.cpp_direct.proofs.MovesOfLists.{element-awaits}
-use Rattle.cpp_direct.proofs.PrintedLists.{all-as, element-as, next-prints, none-print, none-print-as, type-element, pack-element, list-with-none}
-use Rattle.cpp_direct.proofs.Scopes.{among-stay, none-known, none-scoped, elements-there}
+use Rattle.cpp_direct.proofs.PrintedLists.{all-as, element-as, next-prints, none-print, none-print-as, type-element, pack-element, list-with-none, none-text}
+use Rattle.cpp_direct.proofs.Scopes.{among-stay, none-scoped, there-still}
 use Rattle.cpp_direct.specs.declared.open.Open.TheVariants as opens
 use Rattle.cpp_direct.specs.declared.open.Step.TheVariants as steps
-
--- no elements have no text
-pub none-text : (by : Term → List ℕ → Type 0) (l : List ℕ) → PrintAllBy by [] l → l ≡ []
-none-text by l all = go all.0 all.1 all.2
-  where
-    go : (texts : List (List ℕ)) → PrintEachBy by [] texts → joined texts ≡ l → l ≡ []
-    go [] each is = sym is
-    go (b ∷ bs) each is = absurd each
 
 -- ## What comes next
 
@@ -55,34 +47,27 @@ record HasNoArgument (s : Symbol) (w : Direct) : Type 0 where
   pub goes : ArgumentsGoOn s owner (below s scope rest) front template [] w.at state
 
 none-read : (s : Symbol) (w : Direct) → IsWriting s w (steps.List true) → EndsNamed (reverse w.waiting.list.items) → HasNoArgument s w
-none-read s w p named = go p.is_before.0.listing refl
-  where
-    go : (l : Listing) → p.is_before.0.listing ≡ l → HasNoArgument s w
-    go (of_pack before written) is =
-        absurd (subst (λ ws. EndsNamed ws)
-        (subst (λ l. Belongs (detail_of s) p.scope.names l (reverse w.waiting.list.items) p.is_before.0.owner p.is_before.0.rest) is p.is_before.0.belongs).0 named)
-    go of_template is =
-        let place = p.is_before.0 in
-        let o = place.owner in
-        let ts_is : p.is_before.1 ≡ [] = p.is_before.5 refl in
-        let by : Term → List ℕ → Type 0 = IsElementAs (detail_of s) p.scope.names (may_name place.listing o) (extra_of place.listing) in
-        let all : PrintAllBy by [] p.is_before.2 = subst (λ ts. PrintAllBy by ts p.is_before.2) ts_is p.is_before.3 in
-        record {
-          state = p.state;
-          scope = p.scope;
-          keeps = p.keeps;
-          owner = o;
-          rest = place.rest;
-          open_is = subst (λ l. Belongs (detail_of s) p.scope.names l (reverse w.waiting.list.items) o place.rest) is place.belongs;
-          front = place.front;
-          template = place.template;
-          name = place.name;
-          is_template = place.is_template;
-          written = subst (λ l. w.text.list.items ≡ led_by (detail_of s) l place.front place.name ++ p.is_before.2) is p.is_before.4
-              ∙ ap (λ l. place.front ++ place.name ++ opening_bracket (detail_of s) ++ l) (none-text by p.is_before.2 all);
-          goes = subst (λ ts. ArgumentsGoOn s o (below s p.scope place.rest) place.front place.template ts w.at p.state) ts_is
-              (subst (λ l. GoesOn s l o (below s p.scope place.rest) place.front place.template p.is_before.1 w.at p.state) is p.is_before.7);
-        }
+none-read s w p named =
+    let place = p.is_before.0 in
+    let ts_is : p.is_before.1 ≡ [] = p.is_before.5 refl in
+    let a = template-listed s w p.state place p.is_before.1 p.is_before.2 p.is_before.2 (λ rest e. subst (λ ws. EndsNamed ws) e named) p.is_before.3 p.is_before.4
+    p.is_before.7 in
+    let by = IsElementAs (detail_of s) p.scope.names (is_noted place.owner) 3 in
+    record {
+      state = p.state;
+      scope = p.scope;
+      keeps = p.keeps;
+      owner = place.owner;
+      rest = place.rest;
+      open_is = a.0;
+      front = place.front;
+      template = place.template;
+      name = place.name;
+      is_template = place.is_template;
+      written = a.2 ∙ ap (λ l. place.front ++ place.name ++ opening_bracket (detail_of s) ++ l)
+          (none-text by p.is_before.2 (subst (λ ts. PrintAllBy by ts p.is_before.2) ts_is a.1));
+      goes = subst (λ ts. ArgumentsGoOn s place.owner (below s p.scope place.rest) place.front place.template ts w.at p.state) ts_is a.3;
+    }
 
 argument-stands : (s : Symbol) (scope : Scope) (is_pack : Bool) (from number : ℕ) (known : Arguments) (owner : Open) (rest : List Open) (os : List Opened) (text : List ℕ)
     → AwaitsArgument s scope.names is_pack from number known owner (below s scope rest) os text
@@ -486,7 +471,7 @@ pack-closes s old new from to number size place known more is_reference p ends s
     )
     (subst (λ n. Owns s p.owner (below s p.scope p.rest) p.front (instance p.template (list own nil)) n p.state) (sym at) owns)
     (λ k o.
-    let there = elements-there size more k in
+    let there = there-still more.encoding size more k in
     let h = among k (subst IsKnown there o) in
     inr (
       ap (λ (q : Argument). q.is_pack) there ∙ h.1,

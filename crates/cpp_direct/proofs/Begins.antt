@@ -1,10 +1,10 @@
 -- The beginnings of symbols, and their answers.
-use Rattle.std.proofs.Common.{◌≡◌, ◌≢◌, ℕ, ◌+◌, inl, length, List, [], ◌∷◌, ◌++◌, reverse, Bool, true, false, ◌&&◌, ◌||◌, nat_eq, refl, ap, sym, subst, ◌∙◌, arith, codes, cond}
-use Rattle.std.proofs.lemmas.Bool.{false≢true, eqb-true}
+use Rattle.std.proofs.Common.{◌≡◌, ◌≢◌, ℕ, ◌+◌, inl, length, List, [], ◌∷◌, ◌++◌, reverse, true, false, ◌||◌, nat_eq, refl, ap, sym, subst, ◌∙◌, arith, codes, cond}
+use Rattle.std.proofs.lemmas.Bool.{false≢true}
 use Rattle.cpp_grammar.specs.declared.kind.Kind.{Kind}
 use Rattle.cpp_grammar.specs.Term.{Term, Adjustment, non_virtual, by_table, adjusting, special, thunk}
 use Rattle.cpp_grammar.specs.Parts.{thunk_text}
-use Rattle.cpp_grammar.specs.Texts.{Naming, look_up, special_texts, same_bytes}
+use Rattle.cpp_grammar.specs.Texts.{look_up, special_texts, same_bytes}
 use Rattle.cpp_grammar.specs.Values.{State, Value, tree, named, tree_of, signed_digits}
 use Rattle.cpp_grammar.specs.Between.{in_name, in_types, no_items}
 use Rattle.cpp_grammar.specs.Meaning.{encoding_of}
@@ -19,7 +19,8 @@ use Rattle.cpp_direct.specs.declared.direct.Direct.{Direct}
 use Rattle.cpp_direct.specs.Bytes.{is_local}
 use Rattle.cpp_direct.specs.Holes.{StandsAt, Comes, Expects}
 use Rattle.cpp_direct.specs.HolesOfLists.{SymbolOpened, EncodingOpened, IsOffsetAt, ThunkOpened, mark_letters, nest_marks}
-use Rattle.cpp_direct.specs.ItemBytes.{one_of, is_special_letter}
+use Rattle.cpp_grammar.specs.Grammar.{among}
+use Rattle.cpp_direct.specs.ItemBytes.{is_special_letter}
 use Rattle.cpp_direct.specs.Letters.{special_letters}
 use Rattle.cpp_direct.specs.Marks.{IsMarkPlace, has_const, called_on}
 use Rattle.cpp_direct.specs.Prints.{Shows}
@@ -32,6 +33,7 @@ use Rattle.cpp_direct.proofs.Moves.{stands-join}
 use Rattle.cpp_direct.proofs.MovesOfEncodings.{symbol-starts, encoding-opens, special-opens, thunk-opens, virtual-thunk-opens, name-nested}
 use Rattle.cpp_direct.proofs.PrintedSymbols.{thunk-shows}
 use Rattle.cpp_direct.proofs.Scopes.{none-scoped}
+use Rattle.cpp_direct.proofs.TypesRead.{code_in, codes_in, letter-listed}
 
 -- ## Encodings
 
@@ -158,33 +160,10 @@ virtual-thunk-begins s old first_ middle new fresh starts first second is reads 
 
 -- ## Special objects
 
--- each code of a table is one of these letters
-abbrev Names : List Naming → List ℕ → Type 0
-Names [] cs = Unit {0}
-Names (n ∷ ns) cs = (code : ℕ) × (n.code ≡ code ∷ []) × (one_of cs code ≡ true) × Names ns cs
-
-and-left : (a : Bool) → (a && true) ≡ true → a ≡ true
-and-left true e = refl
-and-left false e = e
-
--- a letter that has a text in a table is one of them
-named-letter : (table : List Naming) (cs : List ℕ) (letter : ℕ) → Names table cs → look_up (letter ∷ []) table ≢ [] → one_of cs letter ≡ true
-unfolding look_up same_bytes
-named-letter [] cs letter all there = absurd (there refl)
-named-letter (n ∷ ns) cs letter all there =
-    go all.0 all.1 all.2 (λ h. named-letter ns cs letter all.3 h) (same_bytes (letter ∷ []) n.code) refl there
-  where
-    go : (code : ℕ) → n.code ≡ code ∷ [] → one_of cs code ≡ true → (look_up (letter ∷ []) ns ≢ [] → one_of cs letter ≡ true) → (b : Bool)
-        → same_bytes (letter ∷ []) n.code ≡ b → ◌≢◌ {A = List ℕ} (elim b [ true ↦ n.text | false ↦ look_up (letter ∷ []) ns ]) [] → one_of cs letter ≡ true
-    go code is one rest true same h = subst (λ l. one_of cs l ≡ true)
-        (sym (eqb-true letter code (and-left (nat_eq letter code) (subst (λ l. same_bytes (letter ∷ []) l ≡ true) is same)))) one
-    go code is one rest false same h = rest h
-
 -- a letter that has a text as that of a special object is one
 special-known : (letter : ℕ) → look_up (letter ∷ []) special_texts ≢ [] → is_special_letter letter ≡ true
-unfolding special_texts is_special_letter
-special-known letter there =
-    named-letter special_texts special_letters letter (86, refl, refl, (84, refl, refl, (73, refl, refl, (83, refl, refl, tt)))) there
+unfolding is_special_letter special_texts code_in codes_in among
+special-known letter there = letter-listed special_texts special_letters letter refl there
 
 no-special : look_up (0 ∷ []) special_texts ≡ []
 unfolding look_up special_texts same_bytes

@@ -3,12 +3,12 @@ use Rattle.sym_print.specs.declared.detail.Detail.{Detail}
 use Rattle.cpp_grammar.specs.Unfolding.{byte_of, close}
 use Rattle.cpp_grammar.specs.Meaning.{meaning, listed_value}
 use Rattle.cpp_direct.specs.Symbol.{detail_of, Symbol}
-use Rattle.cpp_direct.proofs.Kept.{candidate-found, keeps-as, keeps-grown, keeps-same, keeps-with, keeps-written, made-here, piece-found, placed-stays, value-added, value-comes}
+use Rattle.cpp_direct.proofs.Kept.{candidate-found, keeps-as, keeps-grown, keeps-same, keeps-written, made-here, piece-found, placed-stays, value-added, value-comes, candidate-inside, keeps-with}
 use Rattle.cpp_direct.proofs.Listed.{some-elements}
 use Rattle.cpp_direct.proofs.Moves.{hole, eats, byte-opens, next-part, closes, none-fills, number-fills, is_eaten, stands-join, stands-split, expects-empty, open_at, fill, filled-at}
-use Rattle.cpp_direct.proofs.MovesOfTypes.{substitution-opens, solid-opens, rvalue-opens}
+use Rattle.cpp_direct.proofs.MovesOfTypes.{solid-opens, rvalue-opens, substitution-opens}
+use Rattle.cpp_direct.proofs.PrintedTypes.{parameter-given, expansion-element, rvalue-given}
 use Rattle.cpp_direct.proofs.NamedArguments.{again-substituted, named-here}
-use Rattle.cpp_direct.proofs.PrintedTypes.{parameter-given, rvalue-given, expansion-element}
 use Rattle.cpp_direct.specs.declared.open.Mark.{Mark}
 use Rattle.cpp_direct.specs.Holes.{Opened, StandsAt, Comes, candidate, with_candidate, Expects, IsReferable, IsTyped}
 use Rattle.cpp_direct.specs.Prints.{PrintsAs, PrintsGiven, forwarded, PrintAllBy, list_of}
@@ -170,13 +170,14 @@ pub record IsListed (old new : Direct) (from : ℕ) : Type 0 where
   pub scope : new.has_scope ≡ old.has_scope
   pub at : new.at ≡ old.at
 
-forwarded-there : (s : Symbol) (old mid one new : Direct) (all : Arguments) (k : ℕ) (p : Argument) (n from : ℕ) (a : AwaitsType s old) → k ≤ 3 → IsReferable a.kind
+-- An rvalue reference to it is read, which is this argument itself where that is a reference.
+pub forwarded-done : (s : Symbol) (old mid one new : Direct) (all : Arguments) (k : ℕ) (p : Argument) (n from : ℕ) (a : AwaitsType s old) → k ≤ 3 → IsReferable a.kind
     → StandsAt s.bytes old.at (79 ∷ []) → StandsAt s.bytes (old.at + 1) (84 ∷ []) → StandsAt s.bytes (old.at + 1 + 1) (parameter_digits k ++ 95 ∷ [])
     → argument_of (reverse old.waiting.list.items) ≡ Some all → p ≡ place_of all k → IsSingle p → all.encoding ≢ 0 → p.is_reference ≡ true
     → from ≡ length old.text.list.items → Writes (record old { at = n }) mid (take (p.to - p.from) (drop p.from old.text.list.items))
     → n ≡ old.at + 1 + 1 + length (parameter_digits k ++ 95 ∷ []) → IsListed mid one from → IsListed one new from
     → IsWriting s new (steps.Value true true)
-forwarded-there s old mid one new all k p n from a few referable mark letter line found is single real refers from_is writes at first second =
+forwarded-done s old mid one new all k p n from a few referable mark letter line found is single real refers from_is writes at first second =
     let text = old.text.list.items in
     let h = named-placed s old all k p a found is single in
     let bytes = h.0 in
@@ -202,28 +203,12 @@ forwarded-there s old mid one new all k p n from a few referable mark letter lin
     (parameter-comes s Kind.Type a.around reference.inner k (old.at + 1) a.state tt few (scope-named s old all k p a found is single) reference.awaits
     (stands-join s.bytes (old.at + 1) (84 ∷ []) (parameter_digits k ++ 95 ∷ []) letter line)))) a.stands
 
--- An rvalue reference to it is read, which is this argument itself where that is a reference.
-pub forwarded-done : (s : Symbol) (old mid one new : Direct) (all : Arguments) (k : ℕ) (p : Argument) (n from : ℕ) (a : AwaitsType s old) → k ≤ 3
-    → StandsAt s.bytes old.at (79 ∷ []) → StandsAt s.bytes (old.at + 1) (84 ∷ []) → StandsAt s.bytes (old.at + 1 + 1) (parameter_digits k ++ 95 ∷ [])
-    → argument_of (reverse old.waiting.list.items) ≡ Some all → p ≡ place_of all k → IsSingle p → all.encoding ≢ 0 → p.is_reference ≡ true
-    → from ≡ length old.text.list.items → Writes (record old { at = n }) mid (take (p.to - p.from) (drop p.from old.text.list.items))
-    → n ≡ old.at + 1 + 1 + length (parameter_digits k ++ 95 ∷ []) → IsListed mid one from → IsListed one new from
-    → IsWriting s new (steps.Value true true)
-forwarded-done s old mid one new all k p n from a few mark letter line found is single real refers from_is writes at first second =
-    elim a.referable [
-      | inl referable ↦ forwarded-there s old mid one new all k p n from a few referable mark letter line found is single real refers from_is writes at first second
-      | inr none ↦ absurd (none.1 mark)
-    ]
-
 -- ## The same once more
 
 -- it is written once more
 pub again-inside : (s : Symbol) (w : Direct) (k : Candidate) → IsNamedAgain s w k → (k.from ≤ k.to) × (k.to ≤ length w.text.list.items)
 again-inside s w k p =
-    let text = w.text.list.items in
-    let c = candidate-found text w.candidates.list.items p.awaits.state.candidates (counted_value Seq36 p.digits) k p.awaits.keeps.candidates p.ordered p.found in
-    let h = piece-found text c.2.front c.2.bytes c.2.back k.from k.to c.2.written c.2.from_is c.2.to_is in
-    (h.0, h.1)
+    candidate-inside s (record w { at = p.before }) p.awaits.state.candidates (counted_value Seq36 p.digits) k p.awaits.keeps p.ordered p.found
 
 pub dependent-again : (s : Symbol) (w new : Direct) (k : Candidate) (all : Arguments) → IsNamedAgain s w k
     → argument_of (reverse w.waiting.list.items) ≡ Some all → all.encoding ≢ 0 → Writes w new (take (k.to - k.from) (drop k.from w.text.list.items))

@@ -1,10 +1,8 @@
 -- Numbers and literals that were read, and arguments that are literals.
 use Rattle.sym_print.specs.declared.detail.Detail.{Detail}
-use Rattle.std.proofs.Common.{◌≡◌, ◌≢◌, ℕ, ◌+◌, ◌⊎◌, List, [], ◌∷◌, ◌++◌, length, reverse, nat_eq, Bool, true, false, cond, refl, ap, sym, subst, ◌∙◌, arith, codes, append_assoc, append-nil, drop, length-append, ◌-◌, inl, inr, ◌<◌, ◌≤◌, get_or, not, ◌&&◌}
+use Rattle.std.proofs.Common.{◌≡◌, ◌≢◌, ℕ, ◌+◌, ◌⊎◌, List, [], ◌∷◌, ◌++◌, length, reverse, nat_eq, Bool, true, false, cond, refl, ap, sym, subst, ◌∙◌, arith, codes, append_assoc, append-nil, drop, inl, inr, ◌<◌, ◌≤◌, get_or, not, ◌&&◌}
 use Rattle.std.proofs.lemmas.Bool.{false≢true, ne_eqb}
 use Rattle.std.specs.List.{ends_with}
-use Rattle.std.specs.Cmp.Lexicographic.{pointwise}
-use Rattle.std.proofs.Math.Seq.{drop-append_seam}
 use Rattle.cpp_direct.specs.Symbol.{detail_of, Symbol}
 use Rattle.cpp_direct.specs.HolesOfTypes.{TreeOpens}
 use Rattle.cpp_grammar.specs.declared.kind.Kind.{Kind}
@@ -21,6 +19,7 @@ use Rattle.cpp_direct.specs.Prints.{Prints, sign_text, EndsAsInteger, IsElement,
 use Rattle.cpp_direct.specs.WriterInvariant.{below, scoped_in, may_name, Closes, GoesOn, IsWriting, Stands, element_kind, extra_of, led_by, in_front_of_next, IsScoped, IsListing, Keeps, Scope}
 use Rattle.cpp_direct.specs.MidStep.{AwaitsNextArgument, IsLiteralRead, truth_text, number_text, integer_text, AwaitsNumber, AwaitsNamedType}
 use Rattle.cpp_direct.specs.Written.{Reads, Writes}
+use Rattle.cpp_direct.proofs.Ending.{ends-so}
 use Rattle.cpp_direct.proofs.Scopes.{none-scoped}
 use Rattle.cpp_direct.proofs.Kept.{keeps-grown, keeps-read, reverse-last}
 use Rattle.cpp_direct.proofs.Listed.{element-kind, element-goes-on, enumerator-stands, some-elements, listing-stays}
@@ -145,7 +144,7 @@ IsIntegerRead s old new =
 letter-there : (s : List ℕ) (from at letter : ℕ) (n : Bool) → (letter ≢ 0 → StandsAt s from (letter ∷ [])) → is_integer_letter letter ≡ true → at
     ≡ from + 1
     → StandsAt s at (minus_sign n) → StandsAt s from (letter ∷ minus_sign n)
-unfolding is_integer_letter
+unfolding is_integer_letter among
 letter-there s from at letter n first is next second =
     stands-join s from (letter ∷ []) (minus_sign n) (first (λ none. false≢true (ap is_integer_letter (sym none) ∙ is)))
     (subst (λ k. StandsAt s k (minus_sign n)) next second)
@@ -340,13 +339,6 @@ enumerator-expected s old begun pushed new a stands next nothing writes text can
           (sym (ap reverse waiting ∙ reverse-last old.waiting.list.items opens.Enumerator))
           (none-scoped a.scope a.goes.0 (opens.Enumerator ∷ reverse old.waiting.list.items) refl);
     }
-
--- a text that ends so
-ends-so : (text front last : List ℕ) → text ≡ front ++ last → ends_with nat_eq text last ≡ pointwise nat_eq last last
-ends-so text front last e =
-    let size : length text - length last ≡ length front = omega (arith, ap length e, length-append front last) in
-    ap (λ n. pointwise nat_eq last (drop n text)) size ∙ ap (λ l. pointwise nat_eq last (drop (length front) l)) e
-    ∙ ap (λ l. pointwise nat_eq last l) (drop-append_seam front last)
 
 -- A text ends in no type whose integers are without it.
 pub record EndsOtherwise (text : List ℕ) : Type 0 where

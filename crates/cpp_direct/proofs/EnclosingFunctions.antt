@@ -14,7 +14,7 @@ use Rattle.cpp_grammar.specs.Scope.{has_return_type, arguments_of}
 use Rattle.cpp_grammar.specs.References.{is_function_type}
 use Rattle.cpp_grammar.specs.Values.{State, Value, local_number, nothing_there, tree, named, tree_of}
 use Rattle.cpp_grammar.specs.Between.{after, in_name, in_types, no_items}
-use Rattle.cpp_grammar.specs.Meaning.{encoding_of, is_nil, is_void, parameters}
+use Rattle.cpp_grammar.specs.Meaning.{encoding_of}
 use Rattle.cpp_direct.specs.declared.marks.MarkPlace.{MarkPlace}
 use Rattle.cpp_direct.specs.declared.open.Mark.{Mark}
 use Rattle.cpp_direct.specs.declared.open.Mark.TheVariants as marks
@@ -47,7 +47,7 @@ use Rattle.cpp_direct.proofs.PrintedLists.{list-with-none, all-in, element-in, n
 use Rattle.cpp_direct.proofs.PrintedParts.{has-none, has-parameters}
 use Rattle.cpp_direct.proofs.PrintedLocals.{function-encloses, name-encloses, object-enclosing, returned-enclosing, lambda-prints, lambda-list-prints, local-prints}
 use Rattle.cpp_direct.proofs.PrintedNames.{as-name, source-prints}
-use Rattle.cpp_direct.proofs.PrintedSymbols.{encoding-plain, function-shows, encoding-returned, object-encoded, parameters-kept, void-shows}
+use Rattle.cpp_direct.proofs.PrintedSymbols.{encoding-plain, function-shows, encoding-returned, object-encoded, parameters-kept, void-shows, made-void, made-with}
 use Rattle.cpp_direct.proofs.Scopes.{member-named, none-scoped, plain-named}
 use Rattle.cpp_direct.specs.WrittenParts.{IsUnmarked}
 use Rattle.cpp_direct.proofs.Unmarked.{name-unmarked, is-no-mark, more-unmarked}
@@ -325,6 +325,23 @@ parameter-read-within s w mark from to p =
 
 -- ## Ends
 
+-- a function in which a type is was read, and the type is within it
+enclosing-read : (s : Symbol) {scope : Scope} (w : Direct) (mark : Mark) (from place : ℕ) (st : State) (e : Term) (front bytes : List ℕ) {rest : List Open}
+    → Keeps s scope w st.candidates → w.text.list.items ++ mark_text mark ≡ front ++ bytes → from ≡ length front → Encloses (detail_of s) e bytes
+    → reverse w.waiting.list.items ≡ rest → w.at ≡ place → TypeWithin s (below s scope rest) front e place st → IsEnclosingRead s w mark from
+enclosing-read s {scope = scope} w mark from place st e front bytes {rest = rest} keeps written from_is encloses waits at within = record {
+  state = st;
+  scope = scope;
+  keeps = keeps;
+  e = e;
+  front = front;
+  bytes = bytes;
+  written = written;
+  from_is = from_is;
+  encloses = encloses;
+  within = subst (λ ws. TypeWithin s (below s scope ws) front e w.at st) (sym waits) (subst (λ n. TypeWithin s (below s scope rest) front e n st) (sym at) within);
+}
+
 -- a name without items is read
 pub object-within : (s : Symbol) (w : Direct) (mark : Mark) (from : ℕ) → IsEnclosingNamed s w mark false from → IsEnclosingRead s w mark from
 unfolding no_items may_be_empty
@@ -347,22 +364,6 @@ object-within s w mark from p =
       within = p.goes.onward nothing_there w.at p.state (expects-empty s Kind.Items p.goes.around p.goes.inner w.at p.state p.goes.awaits refl);
     }
 
--- a lone void makes a function without parameters
-enclosed-void : (own returned : Term) (mark : Mark) (make : Term → Term)
-    → ((t rest : Term) → make (list t rest) ≡ function own (qualifiers (has_const mark)) (called_on mark) returned (parameters (list t rest)))
-    → make (list_of (builtin (118 ∷ []) ∷ [])) ≡ function own (qualifiers (has_const mark)) (called_on mark) returned nil
-unfolding parameters is_void is_nil
-enclosed-void own returned mark make makes = makes (builtin (118 ∷ [])) nil
-
--- parameters that aren't a lone void are those of the function that they make
-enclosed-with : (own returned : Term) (mark : Mark) (make : Term → Term)
-    → ((t rest : Term) → make (list t rest) ≡ function own (qualifiers (has_const mark)) (called_on mark) returned (parameters (list t rest)))
-    → (ts : List Term) → ts ≢ [] → parameters (list_of ts) ≡ list_of ts
-    → make (list_of ts) ≡ function own (qualifiers (has_const mark)) (called_on mark) returned (list_of ts)
-enclosed-with own returned mark make makes [] some kept = absurd (some refl)
-enclosed-with own returned mark make makes (t ∷ ts) some kept =
-    makes t (list_of ts) ∙ ap (function own (qualifiers (has_const mark)) (called_on mark) returned) kept
-
 -- a function with a lone void is read
 pub void-within : (s : Symbol) (w here new : Direct) (mark : Mark) (from : ℕ) → AwaitsEnclosingParameters s w mark from
     → StandsAt s.bytes w.at (118 ∷ []) → here.text ≡ w.text → here.candidates ≡ w.candidates → here.waiting ≡ w.waiting
@@ -372,27 +373,17 @@ void-within s w here new mark from p stands text candidates waiting scope at one
     let b = p.name in
     let q = mark_text mark in
     let e = p.make (list_of (builtin (118 ∷ []) ∷ [])) in
-    let below_ = below s p.scope (reverse w.waiting.list.items) in
     let shows : Shows (detail_of s) (function f.own (qualifiers (has_const mark)) (called_on mark) absent nil) (b ++ codes "()" ++ q) =
     subst (λ l. Shows (detail_of s) (function f.own (qualifiers (has_const mark)) (called_on mark) absent nil) (b ++ codes "()" ++ l)) (plain-text mark)
     (void-shows (has-parameters s whole) f.own b f.prints (qualifiers (has_const mark)) (called_on mark)) in
-    record {
-      state = p.state;
-      scope = p.scope;
-      keeps = keeps-written s here new (codes "()") p.state.candidates one (keeps-same s w here p.state.candidates text candidates scope p.keeps);
-      e = e;
-      front = p.front;
-      bytes = b ++ codes "()" ++ q;
-      written = ap (λ l. l ++ q) (one.text ∙ ap (λ v. v.list.items ++ codes "()") text ∙ ap (λ l. l ++ codes "()") p.written)
-          ∙ behind-three p.front b (codes "()") q;
-      from_is = p.from_is;
-      encloses = subst (λ t. Encloses (detail_of s) t (b ++ codes "()" ++ q)) (sym (enclosed-void f.own f.returned mark p.make f.makes))
-          (returned-enclosing (detail_of s) f.own (qualifiers (has_const mark)) (called_on mark) f.returned nil (b ++ codes "()" ++ q)
-          (function-encloses (detail_of s) f.own (qualifiers (has_const mark)) (called_on mark) nil (b ++ codes "()" ++ q) shows));
-      within = subst (λ v. TypeWithin s (below s p.scope (reverse v.list.items)) p.front e new.at p.state) (sym (one.waiting ∙ waiting))
-          (subst (λ n. TypeWithin s below_ p.front e n p.state) (sym (one.at ∙ at))
-          (void-read s nowhere (TypeWithin s below_ p.front) p.make w.at p.state p.goes stands));
-    }
+    enclosing-read s new mark from (w.at + 1) p.state e p.front (b ++ codes "()" ++ q)
+    (keeps-written s here new (codes "()") p.state.candidates one (keeps-same s w here p.state.candidates text candidates scope p.keeps))
+    (ap (λ l. l ++ q) (one.text ∙ ap (λ v. v.list.items ++ codes "()") text ∙ ap (λ l. l ++ codes "()") p.written) ∙ behind-three p.front b (codes "()") q) p.from_is
+    (subst (λ t. Encloses (detail_of s) t (b ++ codes "()" ++ q)) (sym (made-void f.own f.returned mark p.make f.makes))
+    (returned-enclosing (detail_of s) f.own (qualifiers (has_const mark)) (called_on mark) f.returned nil (b ++ codes "()" ++ q)
+    (function-encloses (detail_of s) f.own (qualifiers (has_const mark)) (called_on mark) nil (b ++ codes "()" ++ q) shows)))
+    (ap (λ v. reverse v.list.items) (one.waiting ∙ waiting)) (one.at ∙ at)
+    (void-read s nowhere (TypeWithin s (below s p.scope (reverse w.waiting.list.items)) p.front) p.make w.at p.state p.goes stands)
 
 -- where functions are shown by their names alone, nothing more is written of it
 pub void-unwritten : (s : Symbol) (w here : Direct) (mark : Mark) (from : ℕ) → AwaitsEnclosingParameters s w mark from
@@ -400,76 +391,55 @@ pub void-unwritten : (s : Symbol) (w here : Direct) (mark : Mark) (from : ℕ) �
     → here.has_scope ≡ w.has_scope → here.at ≡ w.at + 1 → s.is_bare ≡ true → IsEnclosingRead s here marks.Plain from
 void-unwritten s w here mark from p stands text candidates waiting scope at bare =
     let f = p.is_enclosing in
-    let e = p.make (list_of (builtin (118 ∷ []) ∷ [])) in
-    let below_ = below s p.scope (reverse w.waiting.list.items) in
-    record {
-      state = p.state;
-      scope = p.scope;
-      keeps = keeps-same s w here p.state.candidates text candidates scope p.keeps;
-      e = e;
-      front = p.front;
-      bytes = p.name;
-      written = append-nil here.text.list.items ∙ ap (λ v. v.list.items) text ∙ p.written;
-      from_is = p.from_is;
-      encloses = subst (λ t. Encloses (detail_of s) t p.name) (sym (enclosed-void f.own f.returned mark p.make f.makes))
-          (name-encloses (has-none s bare) f.own p.name f.prints (qualifiers (has_const mark)) (called_on mark) f.returned nil);
-      within = subst (λ v. TypeWithin s (below s p.scope (reverse v.list.items)) p.front e here.at p.state) (sym waiting)
-          (subst (λ n. TypeWithin s below_ p.front e n p.state) (sym at)
-          (void-read s nowhere (TypeWithin s below_ p.front) p.make w.at p.state p.goes stands));
-    }
+    enclosing-read s here marks.Plain from (w.at + 1) p.state (p.make (list_of (builtin (118 ∷ []) ∷ []))) p.front p.name
+    (keeps-same s w here p.state.candidates text candidates scope p.keeps) (append-nil here.text.list.items ∙ ap (λ v. v.list.items) text ∙ p.written) p.from_is
+    (subst (λ t. Encloses (detail_of s) t p.name) (sym (made-void f.own f.returned mark p.make f.makes))
+    (name-encloses (has-none s bare) f.own p.name f.prints (qualifiers (has_const mark)) (called_on mark) f.returned nil))
+    (ap (λ v. reverse v.list.items) waiting) at
+    (void-read s nowhere (TypeWithin s (below s p.scope (reverse w.waiting.list.items)) p.front) p.make w.at p.state p.goes stands)
+
+-- parameters that aren't a lone void make a function, and the type is within that
+parameters-end : (s : Symbol) (w : Direct) (mark : Mark) (from to : ℕ) (p : IsEnclosingParameterRead s w mark from to) → p.texts ≢ codes "void"
+    → (p.make (list_of p.ts) ≡ function p.is_enclosing.own (qualifiers (has_const mark)) (called_on mark) p.is_enclosing.returned (list_of p.ts))
+    × TypeWithin s (below s p.scope p.rest) p.front (p.make (list_of p.ts)) w.at p.state
+unfolding no_items may_be_empty
+parameters-end s w mark from to p apart = let f = p.is_enclosing in (
+  made-with f.own f.returned mark p.make f.makes p.ts p.some (parameters-kept (detail_of s) (types_of f.own) 6 p.ts p.texts f.elements apart),
+  subst (λ u. TypeWithin s (below s p.scope p.rest) p.front (p.make u) w.at p.state) (list-with-none p.ts)
+      (p.goes.onward nothing_there w.at p.state (expects-empty s Kind.Items p.goes.around p.goes.inner w.at p.state p.goes.awaits refl)),
+)
 
 -- a function with its parameters is read, unless they are a lone void
 pub function-within : (s : Symbol) (w last new : Direct) (mark : Mark) (from to : ℕ) (p : IsEnclosingParameterRead s w mark from to)
     → p.texts ≢ codes "void" → Writes w last (codes ")") → new.text ≡ last.text → new.candidates ≡ last.candidates
     → new.has_scope ≡ last.has_scope → new.at ≡ last.at → reverse new.waiting.list.items ≡ p.rest → s.is_bare ≡ false → IsEnclosingRead s new mark from
-unfolding no_items may_be_empty
 function-within s w last new mark from to p apart one text candidates scope at waits whole =
     let f = p.is_enclosing in
-    let e = p.make (list_of p.ts) in
     let b = p.name in
     let l = p.texts in
     let q = mark_text mark in
-    let made = function f.own (qualifiers (has_const mark)) (called_on mark) f.returned (list_of p.ts) in
-    let is : e ≡ made = enclosed-with f.own f.returned mark p.make f.makes p.ts p.some (parameters-kept (detail_of s) (types_of f.own) 6 p.ts l f.elements apart) in
-    let below_ = below s p.scope p.rest in
-    let within_ : TypeWithin s below_ p.front e w.at p.state = subst (λ u. TypeWithin s below_ p.front (p.make u) w.at p.state) (list-with-none p.ts)
-    (p.goes.onward nothing_there w.at p.state (expects-empty s Kind.Items p.goes.around p.goes.inner w.at p.state p.goes.awaits refl)) in
-    let shows : Shows (detail_of s) (function f.own (qualifiers (has_const mark)) (called_on mark) absent (list_of p.ts)) (b ++ codes "(" ++ l ++ codes ")" ++ q) =
+    let bytes = b ++ codes "(" ++ l ++ codes ")" ++ q in
+    let end = parameters-end s w mark from to p apart in
+    let shows : Shows (detail_of s) (function f.own (qualifiers (has_const mark)) (called_on mark) absent (list_of p.ts)) bytes =
     subst (λ x. Shows (detail_of s) (function f.own (qualifiers (has_const mark)) (called_on mark) absent (list_of p.ts)) (b ++ codes "(" ++ l ++ codes ")" ++ x))
     (plain-text mark)
     (function-shows (has-parameters s whole) f.own b f.prints p.ts l f.elements (qualifiers (has_const mark)) (called_on mark)) in
-    record {
-      state = p.state;
-      scope = p.scope;
-      keeps = keeps-same s last new p.state.candidates text candidates scope (keeps-written s w last (codes ")") p.state.candidates one p.keeps);
-      e = e;
-      front = p.front;
-      bytes = b ++ codes "(" ++ l ++ codes ")" ++ q;
-      written = ap (λ x. x ++ q) (ap (λ v. v.list.items) text ∙ one.text ∙ ap (λ x. x ++ codes ")") p.written)
-          ∙ behind-five p.front b (codes "(") l (codes ")") q;
-      from_is = p.from_is;
-      encloses = subst (λ t. Encloses (detail_of s) t (b ++ codes "(" ++ l ++ codes ")" ++ q)) (sym is)
-          (returned-enclosing (detail_of s) f.own (qualifiers (has_const mark)) (called_on mark) f.returned (list_of p.ts) (b ++ codes "(" ++ l ++ codes ")" ++ q)
-          (function-encloses (detail_of s) f.own (qualifiers (has_const mark)) (called_on mark) (list_of p.ts) (b ++ codes "(" ++ l ++ codes ")" ++ q) shows));
-      within = subst (λ ws. TypeWithin s (below s p.scope ws) p.front e new.at p.state) (sym waits)
-          (subst (λ n. TypeWithin s below_ p.front e n p.state) (sym (at ∙ one.at)) within_);
-    }
+    enclosing-read s new mark from w.at p.state (p.make (list_of p.ts)) p.front bytes
+    (keeps-same s last new p.state.candidates text candidates scope (keeps-written s w last (codes ")") p.state.candidates one p.keeps))
+    (ap (λ x. x ++ q) (ap (λ v. v.list.items) text ∙ one.text ∙ ap (λ x. x ++ codes ")") p.written) ∙ behind-five p.front b (codes "(") l (codes ")") q) p.from_is
+    (subst (λ t. Encloses (detail_of s) t bytes) (sym end.0)
+    (returned-enclosing (detail_of s) f.own (qualifiers (has_const mark)) (called_on mark) f.returned (list_of p.ts) bytes
+    (function-encloses (detail_of s) f.own (qualifiers (has_const mark)) (called_on mark) (list_of p.ts) bytes shows)))
+    waits (at ∙ one.at) end.1
 
 -- what was written after its name is taken away, where functions are shown by their names alone
 pub function-unwritten : (s : Symbol) (w shut new : Direct) (mark : Mark) (from to : ℕ) (p : IsEnclosingParameterRead s w mark from to)
     → p.texts ≢ codes "void" → w.has_scope ≡ false → shut.text ≡ w.text → shut.candidates ≡ w.candidates → shut.at ≡ w.at
     → reverse shut.waiting.list.items ≡ p.rest → new.text.list.items ≡ take to shut.text.list.items → AreKeptTo to shut.candidates.list.items new.candidates.list.items
     → new.waiting ≡ shut.waiting → new.at ≡ shut.at → s.is_bare ≡ true → IsEnclosingRead s new marks.Plain from
-unfolding no_items may_be_empty
 function-unwritten s w shut new mark from to p apart unknown same_text same_candidates same_at waits text kept waiting at bare =
     let f = p.is_enclosing in
-    let e = p.make (list_of p.ts) in
-    let made = function f.own (qualifiers (has_const mark)) (called_on mark) f.returned (list_of p.ts) in
-    let is : e ≡ made = enclosed-with f.own f.returned mark p.make f.makes p.ts p.some
-    (parameters-kept (detail_of s) (types_of f.own) 6 p.ts p.texts f.elements apart) in
-    let below_ = below s p.scope p.rest in
-    let within_ : TypeWithin s below_ p.front e w.at p.state = subst (λ u. TypeWithin s below_ p.front (p.make u) w.at p.state) (list-with-none p.ts)
-    (p.goes.onward nothing_there w.at p.state (expects-empty s Kind.Items p.goes.around p.goes.inner w.at p.state p.goes.awaits refl)) in
+    let end = parameters-end s w mark from to p apart in
     let left = p.front ++ p.name in
     let behind = codes "(" ++ p.texts in
     let whole_ : w.text.list.items ≡ left ++ behind = p.written ∙ append_assoc left (codes "(") p.texts in
@@ -477,27 +447,17 @@ function-unwritten s w shut new mark from to p apart unknown same_text same_cand
     text ∙ ap (λ n. take n shut.text.list.items) p.to_is ∙ ap (λ l. take (length left) l) (ap (λ v. v.list.items) same_text ∙ whole_)
     ∙ take-append_seam left behind in
     let none : p.scope ≡ no_scope = p.keeps.unknown unknown in
-    record {
-      state = p.state;
-      scope = p.scope;
-      keeps = record {
-        candidates = subst (λ l. AreCandidates s p.scope.names l new.candidates.list.items p.state.candidates) (sym left_is)
-            (candidates-kept s p.scope.names w.text.list.items left behind to w.candidates.list.items new.candidates.list.items p.state.candidates whole_ p.to_is
-            (subst (λ v. AreKeptTo to v.list.items new.candidates.list.items) same_candidates kept) p.keeps.candidates);
-        own = p.keeps.own;
-        named = subst (λ (k : Scope). AreNamed new.text.list.items k) (sym none) (none-named new.text.list.items);
-        unknown = λ e. none;
-      };
-      e = e;
-      front = p.front;
-      bytes = p.name;
-      written = append-nil new.text.list.items ∙ left_is;
-      from_is = p.from_is;
-      encloses = subst (λ t. Encloses (detail_of s) t p.name) (sym is)
-          (name-encloses (has-none s bare) f.own p.name f.prints (qualifiers (has_const mark)) (called_on mark) f.returned (list_of p.ts));
-      within = subst (λ ws. TypeWithin s (below s p.scope ws) p.front e new.at p.state) (sym (ap (λ v. reverse v.list.items) waiting ∙ waits))
-          (subst (λ n. TypeWithin s below_ p.front e n p.state) (sym (at ∙ same_at)) within_);
-    }
+    enclosing-read s {scope = p.scope} new marks.Plain from w.at p.state (p.make (list_of p.ts)) p.front p.name (record {
+      candidates = subst (λ l. AreCandidates s p.scope.names l new.candidates.list.items p.state.candidates) (sym left_is)
+          (candidates-kept s p.scope.names w.text.list.items left behind to w.candidates.list.items new.candidates.list.items p.state.candidates whole_ p.to_is
+          (subst (λ v. AreKeptTo to v.list.items new.candidates.list.items) same_candidates kept) p.keeps.candidates);
+      own = p.keeps.own;
+      named = subst (λ (k : Scope). AreNamed new.text.list.items k) (sym none) (none-named new.text.list.items);
+      unknown = λ e. none;
+    }) (append-nil new.text.list.items ∙ left_is) p.from_is
+    (subst (λ t. Encloses (detail_of s) t p.name) (sym end.0)
+    (name-encloses (has-none s bare) f.own p.name f.prints (qualifiers (has_const mark)) (called_on mark) f.returned (list_of p.ts)))
+    (ap (λ v. reverse v.list.items) waiting ∙ waits) (at ∙ same_at) end.1
 
 -- the name is within what is written
 pub name-inside : (s : Symbol) (w : Direct) (mark : Mark) (from to : ℕ) → IsEnclosingParameterRead s w mark from to → to ≤ length w.text.list.items
@@ -507,19 +467,9 @@ name-inside s w mark from to p =
 -- its qualifiers are written
 pub marks-written-within : (s : Symbol) (old new : Direct) (mark : Mark) (from : ℕ) → IsEnclosingRead s old mark from → Writes old new (mark_text mark)
     → IsEnclosingRead s new marks.Plain from
-marks-written-within s old new mark from p writes = record {
-  state = p.state;
-  scope = p.scope;
-  keeps = keeps-written s old new (mark_text mark) p.state.candidates writes p.keeps;
-  e = p.e;
-  front = p.front;
-  bytes = p.bytes;
-  written = append-nil new.text.list.items ∙ writes.text ∙ p.written;
-  from_is = p.from_is;
-  encloses = p.encloses;
-  within = subst (λ v. TypeWithin s (below s p.scope (reverse v.list.items)) p.front p.e new.at p.state) (sym writes.waiting)
-      (subst (λ n. TypeWithin s (below s p.scope (reverse old.waiting.list.items)) p.front p.e n p.state) (sym writes.at) p.within);
-}
+marks-written-within s old new mark from p writes =
+    enclosing-read s new marks.Plain from old.at p.state p.e p.front p.bytes (keeps-written s old new (mark_text mark) p.state.candidates writes p.keeps)
+    (append-nil new.text.list.items ∙ writes.text ∙ p.written) p.from_is p.encloses (ap (λ v. reverse v.list.items) writes.waiting) writes.at p.within
 
 -- ## Lambdas
 

@@ -382,7 +382,7 @@ void-ended s w first here mark start argument p stands one text candidates scope
     let q = mark_text mark in
     let e = p.make (list_of (builtin (118 ∷ []) ∷ [])) in
     let made = function f.own (qualifiers (has_const mark)) (called_on mark) absent nil in
-    let is : e ≡ made = made-void mark f.own p.make f.makes in
+    let is : e ≡ made = made-void f.own absent mark p.make f.makes in
     let behind : EncodedBehind s p.lead e (w.at + 1) =
     void-read s argument (λ u there then_. EncodedBehind s p.lead u there) p.make w.at p.state p.goes stands in
     let known = keeps-written s w first (codes "(") p.state.candidates one p.keeps in
@@ -420,7 +420,7 @@ function-ended s w mark start argument p apart =
     let b = p.name in
     let l = p.texts in
     let made = function f.own (qualifiers (has_const mark)) (called_on mark) absent (list_of p.ts) in
-    let is : e ≡ made = made-with mark f.own p.make f.makes p.ts p.some (parameters-kept (detail_of s) (types_of f.own) 6 p.ts l f.elements apart) in
+    let is : e ≡ made = made-with f.own absent mark p.make f.makes p.ts p.some (parameters-kept (detail_of s) (types_of f.own) 6 p.ts l f.elements apart) in
     let behind : EncodedBehind s p.lead e w.at = subst (λ u. EncodedBehind s p.lead (p.make u) w.at) (list-with-none p.ts)
     (p.goes.onward nothing_there w.at p.state (expects-empty s Kind.Items p.goes.around p.goes.inner w.at p.state p.goes.awaits refl)) in
     record {
@@ -512,15 +512,15 @@ name-within s w mark start p bare =
     let named = p.lead ++ p.name in
     omega (arith, fronts.2, ap length p.written, length-append (p.front ++ codes "(") p.texts, length-append p.front (codes "("), ap length fronts.1, length-append named fronts.0)
 
--- what ends in a lone void ends so
-void-last : (text front : List ℕ) → text ≡ front ++ codes "(void" → ends_with nat_eq text (codes "(void") ≡ true
-void-last text front e =
-    let size : length text - 5 ≡ length front = omega (arith, ap length e, length-append front (codes "(void")) in
-    ap (λ n. pointwise nat_eq (codes "(void") (drop n text)) size ∙ ap (λ l. pointwise nat_eq (codes "(void") (drop (length front) l)) e
-    ∙ ap (λ l. pointwise nat_eq (codes "(void") l) (drop-append_seam front (codes "(void"))
+-- a text that ends so
+pub ends-so : (text front last : List ℕ) → text ≡ front ++ last → ends_with nat_eq text last ≡ pointwise nat_eq last last
+ends-so text front last e =
+    let size : length text - length last ≡ length front = omega (arith, ap length e, length-append front last) in
+    ap (λ n. pointwise nat_eq last (drop n text)) size ∙ ap (λ l. pointwise nat_eq last (drop (length front) l)) e
+    ∙ ap (λ l. pointwise nat_eq last l) (drop-append_seam front last)
 
 -- parameters that don't end so aren't a lone void
 pub no-void : (text name parameters : List ℕ) → text ≡ name ++ codes "(" ++ parameters → ends_with nat_eq text (codes "(void") ≡ false
     → parameters ≢ codes "void"
 no-void text name parameters e other same =
-    false≢true (sym other ∙ void-last text name (e ∙ ap (λ l. name ++ codes "(" ++ l) same ∙ append_assoc name (codes "(") (codes "void")))
+    false≢true (sym other ∙ ends-so text name (codes "(void") (e ∙ ap (λ l. name ++ codes "(" ++ l) same ∙ append_assoc name (codes "(") (codes "void")))

@@ -13,7 +13,7 @@ use Rattle.cpp_direct.specs.declared.open.Arguments.{Arguments}
 use Rattle.cpp_direct.specs.declared.open.Step.TheVariants as steps
 use Rattle.cpp_direct.specs.declared.direct.Direct.{Direct}
 use Rattle.cpp_direct.specs.Holes.{Opened, Comes}
-use Rattle.cpp_direct.specs.Prints.{Names, PrintsAs, PrintsIn, IsElementIn, Shows}
+use Rattle.cpp_direct.specs.Prints.{Names, PrintsAs, IsElementIn, Shows}
 use Rattle.cpp_direct.specs.WriterInvariant.{HasArguments, IsNaming, IsTemplate, IsWriting, Keeps, Marks, AwaitsEnumerator, Belongs, Listing, Scope, of_template, of_pack, Stands, below, opening_text, extra_of, led_by, in_front_of_next, argument_of}
 use Rattle.cpp_direct.specs.MidStep.{AwaitsMark, AwaitsNumber, AwaitsSignature, IsElementRead, IsFrontRead, IsParameterEnded, IsPassedClosed, IsReturned, IsSymbolEnded}
 use Rattle.cpp_direct.proofs.Elements.{element-added}
@@ -261,30 +261,6 @@ argument-read s w o p takes =
 -- ## Return types
 
 -- it is the return type of a function
-pub front-got : (s : Symbol) {scope : Scope} (w : Direct) (is_reference : Bool) (mark : Mark) (start : ℕ) (argument : Arguments) (st : State) (rest : List Open) (os : List Opened)
-    (t : Term) (front bytes : List ℕ) (waits : Stands s scope (opens.Front mark start argument ∷ rest) os front)
-    → Keeps s scope w st.candidates → w.text.list.items ≡ front ++ bytes → Comes s os (tree t true) w.at st
-    → PrintsIn (detail_of s) (types_of waits.3.own) 3 t bytes is_reference → IsFrontRead s w mark start argument
-front-got s {scope = scope} w is_reference mark start argument st rest os t front bytes waits keeps written comes prints = record {
-  state = st;
-  scope = scope;
-  keeps = keeps;
-  v = waits.0;
-  lead = waits.1;
-  name = waits.2;
-  front = front;
-  front_is = waits.5;
-  is_instance = waits.3;
-  apart = waits.4;
-  start_is = waits.6;
-  returned = t;
-  bytes = bytes;
-  is_reference = is_reference;
-  prints = prints;
-  written = written;
-  goes = waits.7 t w.at st comes;
-}
-
 pub value-front : (s : Symbol) (w : Direct) (is_reference is_dependent : Bool) (mark : Mark) (start : ℕ) (argument : Arguments)
     → IsWriting s w (steps.Value is_reference is_dependent)
     → slice_get w.waiting.list.items (length w.waiting.list.items - 1) ≡ Some (opens.Front mark start argument) → IsFrontRead s w mark start argument
@@ -295,8 +271,25 @@ value-front s w is_reference is_dependent mark start argument p found =
     let bytes = p.is_before.3 in
     let last = last-found w.waiting.list.items (opens.Front mark start argument) found in
     let waits : Stands s p.scope (opens.Front mark start argument ∷ last.0) os front = subst (λ ws. Stands s p.scope ws os front) last.1 p.is_before.8 in
-    front-got s w is_reference mark start argument p.state last.0 os t front bytes waits p.keeps p.is_before.4 p.is_before.7
-    (as-in (detail_of s) p.scope.names is_dependent (types_of waits.3.own) t bytes is_reference waits.3.given p.is_before.5)
+    record {
+      state = p.state;
+      scope = p.scope;
+      keeps = p.keeps;
+      v = waits.0;
+      lead = waits.1;
+      name = waits.2;
+      front = front;
+      front_is = waits.5;
+      is_instance = waits.3;
+      apart = waits.4;
+      start_is = waits.6;
+      returned = t;
+      bytes = bytes;
+      is_reference = is_reference;
+      prints = as-in (detail_of s) p.scope.names is_dependent (types_of waits.3.own) t bytes is_reference waits.3.given p.is_before.5;
+      written = p.is_before.4;
+      goes = waits.7 t w.at p.state p.is_before.7;
+    }
 
 -- ## Function types
 

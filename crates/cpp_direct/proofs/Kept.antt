@@ -1,6 +1,7 @@
 -- What a writer keeps while its text and its lists grow.
 use Rattle.sym_print.specs.declared.detail.Detail.{Detail}
 use Rattle.std.proofs.Common.{◌≡◌, ◌≢◌, ℕ, zero, suc, ◌+◌, ◌-◌, ◌≤◌, length, List, [], ◌∷◌, ◌++◌, take, drop, reverse, slice_get, Bool, true, false, Option, Some, None, is_some, refl, ap, sym, ◌∙◌, subst, arith, append_assoc, append-nil, ◌<◌, inl, inr, get_or, length-append, cond}
+use Rattle.std.specs.Option.{IfSome, OnSome}
 use Rattle.std.proofs.lemmas.Bool.{false≢true}
 use Rattle.std.proofs.lemmas.List.{reverse-append, reverse-reverse}
 use Rattle.std.proofs.Math.Seq.{drop-append_seam, take-append_seam}
@@ -12,11 +13,14 @@ use Rattle.cpp_direct.specs.Symbol.{detail_of, Symbol}
 use Rattle.cpp_direct.specs.declared.open.Candidate.{Candidate}
 use Rattle.cpp_direct.specs.declared.open.Argument.{Argument}
 use Rattle.cpp_direct.specs.declared.open.Nest.{Nest}
+use Rattle.cpp_direct.specs.declared.open.Purpose.{Purpose}
+use Rattle.cpp_direct.specs.declared.open.Purpose.TheVariants as purposes
 use Rattle.cpp_direct.specs.declared.open.Open.{Open}
+use Rattle.cpp_direct.specs.declared.open.Step.{Step}
 use Rattle.cpp_direct.specs.declared.direct.Direct.{Direct}
 use Rattle.cpp_direct.specs.Holes.{Comes, Opened, candidate, with_candidate, unless_listed}
 use Rattle.cpp_direct.specs.Prints.{Names, PrintsAs}
-use Rattle.cpp_direct.specs.WriterInvariant.{AreCandidates, AreNamed, ArgumentsGoOn, ExpectsType, HasScope, IsBefore, IsCandidate, IsNaming, IsNest, IsPlaced, IsScopeOf, IsScoped, IsTemplate, IsWriting, Keeps, Scope, Stands, argument_of, arguments_in, below, encoding_place, is_within_type, no_scope, of_template, place_of}
+use Rattle.cpp_direct.specs.WriterInvariant.{AreCandidates, AreNamed, ArgumentsGoOn, ExpectsType, HasScope, IsCandidate, IsNaming, IsNest, IsPlaced, IsScopeOf, IsScoped, IsTemplate, IsWriting, Keeps, Scope, Stands, argument_of, arguments_in, below, encoding_place, is_within_type, no_scope, of_template, place_of, IsOwn, is_type, IsKnown, nowhere}
 use Rattle.cpp_direct.specs.Written.{Writes, Reads, added, added_unless, IsKeptTo, AreKeptTo}
 use Rattle.std.specs.Prelude.{slice_set}
 use Rattle.cpp_grammar.specs.Values as values
@@ -110,13 +114,17 @@ placed-stays text more p bytes h = record {
 named-stays : (text more : List ℕ) (scope : Scope) → AreNamed text scope → AreNamed (text ++ more) scope
 named-stays text more scope named = λ number single. let n = named number single in (n.0, n.1, placed-stays text more (place_of scope.arguments number) n.0 n.2)
 
--- nothing may be named
+-- none is known
+pub none-known : (k : ℕ) → IsKnown (place_of nowhere k) → ⊥
+none-known zero o = absurd (omega (arith, o))
+none-known (suc zero) o = absurd (omega (arith, o))
+none-known (suc (suc zero)) o = absurd (omega (arith, o))
+none-known (suc (suc (suc zero))) o = absurd (omega (arith, o))
+none-known (suc (suc (suc (suc k)))) o = absurd (omega (arith, o))
+
+-- and nothing may be named
 pub none-named : (text : List ℕ) → AreNamed text no_scope
-none-named text zero single = absurd (omega (arith, single.0))
-none-named text (suc zero) single = absurd (omega (arith, single.0))
-none-named text (suc (suc zero)) single = absurd (omega (arith, single.0))
-none-named text (suc (suc (suc zero))) single = absurd (omega (arith, single.0))
-none-named text (suc (suc (suc (suc number)))) single = absurd (omega (arith, single.0))
+none-named text number single = absurd (none-known number single.0)
 
 none-own : (s : Symbol) → IsScopeOf s no_scope
 none-own s = record { encoded = λ real. absurd (real refl); single = λ number own e. cc e }
@@ -288,6 +296,14 @@ candidate-found {s} {names} text (x ∷ ks) (y ∷ cs) zero k p ordered found = 
     Named None = ⊥
 candidate-found text (x ∷ ks) (y ∷ cs) (suc n) k p ordered found = candidate-found text ks cs n k p.1 ordered found
 
+-- so its text can be written once more
+pub candidate-inside : (s : Symbol) {scope : Scope} (w : Direct) (cs : List values.Candidate) (n : ℕ) (k : Candidate) → Keeps s scope w cs → k.from ≤ k.to
+    → slice_get w.candidates.list.items n ≡ Some k → (k.from ≤ k.to) × (k.to ≤ length w.text.list.items)
+candidate-inside s w cs n k keeps ordered found =
+    let c = candidate-found w.text.list.items w.candidates.list.items cs n k keeps.candidates ordered found in
+    let piece = piece-found w.text.list.items c.2.front c.2.bytes c.2.back k.from k.to c.2.written c.2.from_is c.2.to_is in
+    (piece.0, piece.1)
+
 -- ## What is open
 
 -- the last of a list is the first of it turned
@@ -299,6 +315,12 @@ pub last-reversed : {X : Type 0} (xs rest : List X) (x : X) → reverse xs ≡ x
 last-reversed xs rest x e = sym (reverse-reverse xs) ∙ ap reverse e ∙ reverse-append (x ∷ []) rest
 
 -- ## Nested names
+
+-- the name of a function or of data names none
+pub type-named : (purpose : Purpose) (d : Bool) → (IsOwn purpose → d ≡ false) → d ≡ true → is_type purpose ≡ true
+type-named purposes.Type d closed e = refl
+type-named (purposes.Name mark) d closed e = absurd (false≢true (sym (closed tt) ∙ e))
+type-named (purposes.Enclosing mark) d closed e = absurd (false≢true (sym (closed tt) ∙ e))
 
 -- a nested name stays one where more is written
 pub nest-stays : {detail : Detail} {names : Names} (front bytes text more : List ℕ) (nest : Nest) (t : Term) → IsNest detail names front bytes text nest t
@@ -329,30 +351,67 @@ template-stays detail names _ front t name text more p = p
 
 -- ## Lists
 
--- arguments begin
-pub arguments-begun : (s : Symbol) {scope : Scope} (w : Direct) (st : State) (owner : Open) (rest : List Open) (front name : List ℕ) (t : Term)
-    → reverse w.waiting.list.items ≡ owner ∷ rest → IsTemplate (detail_of s) scope.names owner front t name w.text.list.items
-    → w.text.list.items ≡ front ++ name ++ opening_bracket (detail_of s)
-    → ArgumentsGoOn s owner (below s scope rest) front t [] w.at st → IsBefore s scope w st (steps.List true)
-arguments-begun s {scope = scope} w st owner rest front name t open_is is_template written goes = (
-  record {
-    listing = of_template;
-    owner = owner;
-    rest = rest;
-    belongs = open_is;
-    front = front;
-    template = t;
-    name = name;
-    is_template = is_template;
-  },
-  [],
-  [],
-  ([], tt, refl),
-  written ∙ sym (append-nil (front ++ name ++ opening_bracket (detail_of s))),
-  (λ e. refl),
-  (λ e. absurd (false≢true (sym e))),
-  goes,
-)
+-- the candidates are these, and nothing else changed
+pub record Lists (old new : Direct) (ks : List Candidate) : Type 0 where
+  pub candidates : new.candidates.list.items ≡ ks
+  pub text : new.text ≡ old.text
+  pub waiting : new.waiting ≡ old.waiting
+  pub nest : new.nest ≡ old.nest
+  pub scope : new.has_scope ≡ old.has_scope
+  pub at : new.at ≡ old.at
+
+-- arguments were opened
+pub record OpensArguments (detail : Detail) (old new : Direct) (owner : Open) : Type 0 where
+  pub text : new.text.list.items ≡ old.text.list.items ++ opening_bracket detail
+  pub waiting : new.waiting.list.items ≡ old.waiting.list.items ++ owner ∷ []
+  pub at : new.at ≡ old.at + 1
+  pub candidates : new.candidates ≡ old.candidates
+  pub scope : new.has_scope ≡ old.has_scope
+
+-- arguments begin after a name
+pub list-begins : (s : Symbol) (scope : Scope) (old mid new : Direct) (ks : List Candidate) (st : State) (owner : Open) (front name : List ℕ) (t : Term)
+    → Lists old mid ks → OpensArguments (detail_of s) mid new owner → Keeps s scope mid st.candidates
+    → IsTemplate (detail_of s) scope.names owner front t name (old.text.list.items ++ opening_bracket (detail_of s)) → old.text.list.items ≡ front ++ name
+    → ArgumentsGoOn s owner (below s scope (reverse old.waiting.list.items)) front t [] (old.at + 1) st
+    → IsWriting s new (steps.List true)
+list-begins s scope old mid new ks st owner front name t lists opening_ keeps template written goes =
+    let bracket = opening_bracket (detail_of s) in
+    let text_is : new.text.list.items ≡ old.text.list.items ++ bracket = cc (opening_.text, lists.text) in
+    let waiting_is : new.waiting.list.items ≡ old.waiting.list.items ++ owner ∷ [] = cc (opening_.waiting, lists.waiting) in
+    let at_is : new.at ≡ old.at + 1 = cc (opening_.at, lists.at) in
+    record {
+      state = st;
+      scope = scope;
+      keeps = keeps-grown s mid new bracket st.candidates opening_.text opening_.candidates opening_.scope keeps;
+      is_before = (
+        record {
+          listing = of_template;
+          owner = owner;
+          rest = reverse old.waiting.list.items;
+          belongs = ap reverse waiting_is ∙ reverse-last old.waiting.list.items owner;
+          front = front;
+          template = t;
+          name = name;
+          is_template = subst (λ l. IsTemplate (detail_of s) scope.names owner front t name l) (sym text_is) template;
+        },
+        [],
+        [],
+        ([], tt, refl),
+        text_is ∙ ap (λ l. l ++ bracket) written ∙ sym (append-nil (front ++ name ++ bracket)),
+        (λ e. refl),
+        (λ e. absurd (false≢true (sym e))),
+        subst (λ n. ArgumentsGoOn s owner (below s scope (reverse old.waiting.list.items)) front t [] n st) (sym at_is) goes,
+      );
+    }
+
+-- what opening arguments says where there was memory
+pub opened-by : (s : Symbol) (r : Option Step) (old new : Direct) (owner : Open) → IfSome r (λ next. next ≡ steps.List true)
+    → OnSome r (new.waiting.list.items ≡ old.waiting.list.items ++ owner ∷ []) → OnSome r (new.at ≡ old.at + 1)
+    → OnSome r (new.text.list.items ≡ old.text.list.items ++ opening_bracket (detail_of s)) → OnSome r (new.candidates ≡ old.candidates)
+    → OnSome r (new.has_scope ≡ old.has_scope) → (OpensArguments (detail_of s) old new owner → IsWriting s new (steps.List true)) → IfSome r (IsWriting s new)
+opened-by s None old new owner step waiting at text candidates scope_same goes = tt
+opened-by s (Some next) old new owner step waiting at text candidates scope_same goes =
+    subst (λ x. IsWriting s new x) (sym step) (goes (record { text = text; waiting = waiting; at = at; candidates = candidates; scope = scope_same }))
 
 -- ## Where what was written after a place is taken away
 

@@ -3,7 +3,6 @@ use Rattle.std.proofs.Common.{◌≡◌, ℕ, ◌<◌, List, [], ◌∷◌, Bool
 use Rattle.std.proofs.lemmas.Bool.{false≢true, eqb-true, ltb-true, and_parts}
 use Rattle.cpp_grammar.specs.declared.production.Production.{Production}
 use Rattle.cpp_grammar.specs.Grammar.{among, number_of, productions, in_ranges, is_in, pick, alternatives, number_of_kind, choose, parts_of, is_chain}
-use Rattle.cpp_direct.specs.ItemBytes.{one_of}
 use Rattle.cpp_grammar.specs.Texts.{Naming, look_up, builtin_texts, same_bytes, operator_texts}
 use Rattle.cpp_direct.specs.Letters.{integer_letters}
 use Rattle.sym_shape.specs.declared.rule.Sym.TheVariants.{Kind as OfKind}
@@ -32,18 +31,6 @@ tested (c ∷ cs) test all byte is =
     go (nat_eq byte c) refl is (tested cs test both.1 byte) both.0
   where
     go : (b : Bool) → nat_eq byte c ≡ b → b || among cs byte ≡ true → (among cs byte ≡ true → test byte ≡ true) → test c ≡ true → test byte ≡ true
-    go true same h later here = subst (λ n. test n ≡ true) (sym (eqb-true byte c same)) here
-    go false other h later here = later h
-
--- and in the other form
-pub tested-one : (cs : List ℕ) (test : ℕ → Bool) → each_passes test cs ≡ true → (byte : ℕ) → one_of cs byte ≡ true → test byte ≡ true
-unfolding each_passes
-tested-one [] test all byte is = absurd (false≢true is)
-tested-one (c ∷ cs) test all byte is =
-    let both = and_parts (test c) (each_passes test cs) all in
-    go (nat_eq byte c) refl is (λ h. tested-one cs test both.1 byte h) both.0
-  where
-    go : (b : Bool) → nat_eq byte c ≡ b → b || one_of cs byte ≡ true → (one_of cs byte ≡ true → test byte ≡ true) → test c ≡ true → test byte ≡ true
     go true same h later here = subst (λ n. test n ≡ true) (sym (eqb-true byte c same)) here
     go false other h later here = later h
 

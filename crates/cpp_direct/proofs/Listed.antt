@@ -15,8 +15,6 @@ use Rattle.cpp_direct.specs.WrittenParts.{opening_bracket, closing_bracket}
 use Rattle.cpp_direct.specs.Symbol.{detail_of, Symbol}
 use Rattle.cpp_direct.specs.declared.open.Mark.TheVariants as marks
 use Rattle.cpp_direct.specs.declared.open.Nest.{Nest}
-use Rattle.cpp_direct.specs.declared.open.Purpose.{Purpose}
-use Rattle.cpp_direct.specs.declared.open.Purpose.TheVariants as purposes
 use Rattle.cpp_direct.specs.declared.open.Open.{Open}
 use Rattle.cpp_direct.specs.declared.open.Open.TheVariants as opens
 use Rattle.cpp_direct.specs.declared.open.Step.TheVariants as steps
@@ -24,7 +22,7 @@ use Rattle.cpp_direct.specs.declared.direct.Direct.{Direct}
 use Rattle.cpp_direct.specs.Holes.{Opened, Comes, IsListKind, ListGoesOn, StandsAt, AwaitsComponent, with_candidate}
 use Rattle.cpp_direct.specs.HolesOfLists.{IsArgumentKind}
 use Rattle.cpp_direct.specs.Prints.{Names, PrintAllAs, PrintsAs, list_of}
-use Rattle.cpp_direct.specs.WriterInvariant.{Below, HasArguments, arguments_in, below, IsListing, IsNaming, IsScoped, IsOwn, Keeps, Scope, scoped_in, is_noted, is_type, may_name, IsNest, IsTail, IsTemplate, IsWriting, Owns, Serves, ArgumentsGoOn, AwaitsElementOf, AwaitsEnumerator, Belongs, Closes, ElementsGoOn, EnumeratorGoesOn, GoesOn, Listing, of_template, of_pack, Stands, element_kind, extra_of, led_by, list_with, in_front_of_next, nowhere}
+use Rattle.cpp_direct.specs.WriterInvariant.{Below, HasArguments, arguments_in, below, IsListing, IsNaming, IsScoped, Keeps, Scope, scoped_in, is_noted, may_name, IsNest, IsTail, IsTemplate, IsWriting, Owns, Serves, ArgumentsGoOn, AwaitsElementOf, AwaitsEnumerator, Belongs, Closes, ElementsGoOn, EnumeratorGoesOn, GoesOn, Listing, of_template, of_pack, Stands, element_kind, extra_of, led_by, list_with, in_front_of_next, nowhere}
 use Rattle.cpp_direct.specs.MidStep.{AreKnown, IsListEnded, AwaitsNextArgument, IsNameEnded}
 use Rattle.cpp_direct.specs.Written.{Writes, added}
 use Rattle.cpp_direct.proofs.Moves.{expects-empty, stands-split}
@@ -33,8 +31,8 @@ use Rattle.cpp_direct.proofs.PrintedLists.{element-as, list-more, list-with-none
 use Rattle.cpp_direct.proofs.PrintedNames.{as-name}
 use Rattle.cpp_direct.proofs.PrintedNests.{instance-as, instance-prints, instance-class}
 use Rattle.cpp_direct.proofs.PrintedTypes.{prints-as}
-use Rattle.cpp_direct.proofs.Scopes.{element-there, instance-returns, known-stay, none-known, none-scoped, structor-returns, plain-named}
-use Rattle.cpp_direct.proofs.Kept.{keeps-grown, keeps-same, keeps-with, made-here, scoped-within, template-stays, type-comes, value-added, reverse-last, last-reversed}
+use Rattle.cpp_direct.proofs.Scopes.{element-there, instance-returns, known-stay, none-scoped, structor-returns, plain-named}
+use Rattle.cpp_direct.proofs.Kept.{keeps-grown, keeps-same, keeps-with, made-here, scoped-within, template-stays, type-comes, value-added, reverse-last, last-reversed, type-named, none-known}
 
 -- ## What is open
 
@@ -114,7 +112,7 @@ abbrev pub comma : (is_first : Bool) → List ℕ
 comma true = []
 comma false = codes ", "
 
-in-front : (ts : List Term) (l : List ℕ) (first : Bool) → (first ≡ true → ts ≡ []) → (first ≡ false → ts ≢ [])
+pub in-front : (ts : List Term) (l : List ℕ) (first : Bool) → (first ≡ true → ts ≡ []) → (first ≡ false → ts ≢ [])
     → in_front_of_next ts l ≡ l ++ comma first
 in-front [] l true none some = sym (append-nil l)
 in-front [] l false none some = absurd (some refl refl)
@@ -145,17 +143,20 @@ closing : (o e a b d : List ℕ) → (a ++ b ++ o ++ d) ++ e ≡ a ++ (b ++ o ++
 closing o e a b d = ap (λ l. l ++ d ++ e) (append_assoc a b o) ∙ ap (λ l. l ++ e) (append_assoc a (b ++ o) d) ∙ append_assoc a (b ++ o ++ d) e
 
 -- the last bracket is written, and what was opened last is taken away
-pub closes : (s : Symbol) (old new : Direct) (owner : Open) → IsListEnded s old new.argument → new.text.list.items ≡ old.text.list.items ++ closing_bracket (detail_of s)
-    → new.candidates ≡ old.candidates → new.has_scope ≡ old.has_scope → new.at ≡ old.at → old.waiting.list.items ≡ new.waiting.list.items ++ owner ∷ []
-    → IsClosed s new owner
-closes s old new owner p text candidates scope_same at opened =
+pub closed-by : (s : Symbol) (old mid new : Direct) (x owner : Open) → IsListEnded s old new.argument → Writes old mid (closing_bracket (detail_of s))
+    → new.text ≡ mid.text → new.candidates ≡ mid.candidates → new.has_scope ≡ mid.has_scope → new.at ≡ mid.at
+    → mid.waiting.list.items ≡ new.waiting.list.items ++ x ∷ [] → x ≡ owner → IsClosed s new owner
+closed-by s old mid new x owner p writes same candidates scope_same at items is =
     let scope = p.scope in
+    let text : new.text.list.items ≡ old.text.list.items ++ closing_bracket (detail_of s) = ap (λ v. v.list.items) same ∙ writes.text in
+    let opened : old.waiting.list.items ≡ new.waiting.list.items ++ owner ∷ [] =
+    ap (λ v. v.list.items) (sym writes.waiting) ∙ items ∙ ap (λ o. new.waiting.list.items ++ o ∷ []) is in
     let last = opened-last old.waiting.list.items new.waiting.list.items owner p.owner p.rest p.open_is opened in
     let made = instance p.template (list_with p.ts p.tail) in
     record {
       state = p.state;
       scope = scope;
-      keeps = keeps-grown s old new (closing_bracket (detail_of s)) p.state.candidates text candidates scope_same p.keeps;
+      keeps = keeps-grown s old new (closing_bracket (detail_of s)) p.state.candidates text (candidates ∙ writes.candidates) (scope_same ∙ writes.scope) p.keeps;
       front = p.front;
       template = p.template;
       name = p.name;
@@ -168,20 +169,11 @@ closes s old new owner p text candidates scope_same at opened =
           (template-stays (detail_of s) scope.names p.owner p.front p.template p.name old.text.list.items (closing_bracket (detail_of s)) p.is_template));
       elements = subst (λ o. PrintAllAs (detail_of s) scope.names (is_noted o) 3 p.ts p.arguments) last.0 p.elements;
       written = text ∙ ap (λ l. l ++ closing_bracket (detail_of s)) p.written ∙ closing (opening_bracket (detail_of s)) (closing_bracket (detail_of s)) p.front p.name p.arguments;
-      owns = subst (λ n. Owns s owner (below s scope (reverse new.waiting.list.items)) p.front made n p.state) (sym at)
+      owns = subst (λ n. Owns s owner (below s scope (reverse new.waiting.list.items)) p.front made n p.state) (sym (at ∙ writes.at))
           (subst (λ r. Owns s owner (below s scope r) p.front made old.at p.state) last.1
           (subst (λ o. Owns s o (below s scope p.rest) p.front made old.at p.state) last.0 p.owns));
       known = subst (λ l. AreKnown (detail_of s) l new.argument p.ts p.tail) (sym text) (known-stay old.text.list.items (closing_bracket (detail_of s)) new.argument p.ts p.tail p.known);
     }
-
--- the same by what was written and taken away
-pub closed-by : (s : Symbol) (old mid new : Direct) (x owner : Open) → IsListEnded s old new.argument → Writes old mid (closing_bracket (detail_of s))
-    → new.text ≡ mid.text → new.candidates ≡ mid.candidates → new.has_scope ≡ mid.has_scope → new.at ≡ mid.at
-    → mid.waiting.list.items ≡ new.waiting.list.items ++ x ∷ [] → x ≡ owner → IsClosed s new owner
-closed-by s old mid new x owner p writes text candidates scope_same at items is =
-    closes s old new owner p (subst (λ v. v.list.items ≡ old.text.list.items ++ closing_bracket (detail_of s)) (sym text) writes.text)
-    (candidates ∙ writes.candidates) (scope_same ∙ writes.scope) (at ∙ writes.at)
-    (subst (λ v. v.list.items ≡ new.waiting.list.items ++ owner ∷ []) writes.waiting (items ∙ ap (λ o. new.waiting.list.items ++ o ∷ []) is))
 
 -- what is known of them is known of the arguments of what they make
 closed-arguments : (s : Symbol) (w : Direct) (owner : Open) (p : IsClosed s w owner)
@@ -279,12 +271,6 @@ nest-closed s w nest p =
       );
     }
 
--- a nested name that names arguments is a type
-in-type : (purpose : Purpose) (is_dependent : Bool) → (IsOwn purpose → is_dependent ≡ false) → is_dependent ≡ true → is_type purpose ≡ true
-in-type purposes.Type is_dependent closed named = refl
-in-type (purposes.Name mark) is_dependent closed named = absurd (false≢true (sym (closed tt) ∙ named))
-in-type (purposes.Enclosing mark) is_dependent closed named = absurd (false≢true (sym (closed tt) ∙ named))
-
 -- the arguments of the first piece of a nested name
 pub first-closed : (s : Symbol) (w new : Direct) (nest : Nest) → IsClosed s w (opens.FirstArguments nest)
     → new.candidates.list.items ≡ added w nest.from false nest.is_dependent → new.text ≡ w.text → new.waiting ≡ w.waiting → new.has_scope ≡ w.has_scope
@@ -304,7 +290,7 @@ first-closed s w new nest p candidates text waiting scope_same at =
       state = state;
       scope = scope;
       keeps = keeps-with s w now p.state p.front bytes nest.from t around false nest.is_dependent p.keeps p.written p.is_template.from_is is_nest.prints
-          (λ named. made-here s scope around (reverse w.waiting.list.items) (p.owns.3 (in-type nest.purpose nest.is_dependent p.is_template.closed named))
+          (λ named. made-here s scope around (reverse w.waiting.list.items) (p.owns.3 (type-named nest.purpose nest.is_dependent p.is_template.closed named))
           (p.owns.4 named)) text candidates scope_same;
       is_before = (
         t,
@@ -348,46 +334,56 @@ name-closed s w from p =
 
 -- ## Between elements
 
+-- What is read of a list is read of arguments, if the list is no pack.
+pub template-listed : (s : Symbol) {scope : Scope} (w : Direct) (st : State) (p : IsListing (detail_of s) scope.names (reverse w.waiting.list.items) w.text.list.items)
+    (ts : List Term) (texts text : List ℕ) → ((rest : List Open) → reverse w.waiting.list.items ≡ opens.Pack ∷ rest → ⊥)
+    → PrintAllAs (detail_of s) scope.names (may_name p.listing p.owner) (extra_of p.listing) ts texts
+    → w.text.list.items ≡ led_by (detail_of s) p.listing p.front p.name ++ text → GoesOn s p.listing p.owner (below s scope p.rest) p.front p.template ts w.at st
+    → (reverse w.waiting.list.items ≡ p.owner ∷ p.rest) × PrintAllAs (detail_of s) scope.names (is_noted p.owner) 3 ts texts
+    × (w.text.list.items ≡ p.front ++ p.name ++ opening_bracket (detail_of s) ++ text) × ArgumentsGoOn s p.owner (below s scope p.rest) p.front p.template ts w.at st
+template-listed s {scope = scope} w st p ts texts text no_pack elements written goes = go p.listing p.belongs elements written goes
+  where
+    go : (l : Listing) → Belongs (detail_of s) scope.names l (reverse w.waiting.list.items) p.owner p.rest
+        → PrintAllAs (detail_of s) scope.names (may_name l p.owner) (extra_of l) ts texts
+        → w.text.list.items ≡ led_by (detail_of s) l p.front p.name ++ text → GoesOn s l p.owner (below s scope p.rest) p.front p.template ts w.at st
+        → (reverse w.waiting.list.items ≡ p.owner ∷ p.rest) × PrintAllAs (detail_of s) scope.names (is_noted p.owner) 3 ts texts
+        × (w.text.list.items ≡ p.front ++ p.name ++ opening_bracket (detail_of s) ++ text)
+        × ArgumentsGoOn s p.owner (below s scope p.rest) p.front p.template ts w.at st
+    go of_template belongs elements written goes = (belongs, elements, written, goes)
+    go (of_pack before more) belongs elements written goes = absurd (no_pack (p.owner ∷ p.rest) belongs.0)
+
 -- The arguments of a name end, which are no pack, with these after their elements.
 ended-so : (s : Symbol) (w : Direct) (first : Bool) (owner : Open) (to : ℕ) (tail : Term) → IsTail tail → (p : IsWriting s w (steps.List first))
     → slice_get w.waiting.list.items (length w.waiting.list.items - 1) ≡ Some owner → (owner ≡ opens.Pack → ⊥)
     → ((o : Open) (rest : List Open) (front : List ℕ) (template : Term) → ArgumentsGoOn s o (below s p.scope rest) front template p.is_before.1 w.at p.state
     → Owns s o (below s p.scope rest) front (instance template (list_with p.is_before.1 tail)) to p.state)
     → IsListEnded s (record w { at = to }) nowhere
-ended-so s w first owner to tail is_tail p found other owns = go p.is_before.0.listing refl
-  where
-    last : (rest : List Open) × (reverse w.waiting.list.items ≡ owner ∷ rest)
-    last = last-found w.waiting.list.items owner found
-
-    go : (l : Listing) → p.is_before.0.listing ≡ l → IsListEnded s (record w { at = to }) nowhere
-    go (of_pack before written) is =
-        absurd (other (cc (sym last.1
-        ∙ (subst (λ l. Belongs (detail_of s) p.scope.names l (reverse w.waiting.list.items) p.is_before.0.owner p.is_before.0.rest) is p.is_before.0.belongs).0)))
-    go of_template is =
-        let place = p.is_before.0 in
-        let ts = p.is_before.1 in
-        let texts = p.is_before.2 in
-        record {
-          state = p.state;
-          scope = p.scope;
-          keeps = keeps-same s w (record w { at = to }) p.state.candidates refl refl refl p.keeps;
-          owner = place.owner;
-          rest = place.rest;
-          open_is = subst (λ l. Belongs (detail_of s) p.scope.names l (reverse w.waiting.list.items) place.owner place.rest) is place.belongs;
-          front = place.front;
-          template = place.template;
-          name = place.name;
-          ts = ts;
-          tail = tail;
-          is_tail = is_tail;
-          arguments = texts;
-          is_template = place.is_template;
-          elements = subst (λ l. PrintAllAs (detail_of s) p.scope.names (may_name l place.owner) (extra_of l) ts texts) is p.is_before.3;
-          written = subst (λ l. w.text.list.items ≡ led_by (detail_of s) l place.front place.name ++ texts) is p.is_before.4;
-          known = λ k o. absurd (none-known k o);
-          owns = owns place.owner place.rest place.front place.template
-              (subst (λ l. GoesOn s l place.owner (below s p.scope place.rest) place.front place.template ts w.at p.state) is p.is_before.7);
-        }
+ended-so s w first owner to tail is_tail p found other owns =
+    let place = p.is_before.0 in
+    let ts = p.is_before.1 in
+    let texts = p.is_before.2 in
+    let last = last-found w.waiting.list.items owner found in
+    let a = template-listed s w p.state place ts texts texts (λ rest e. other (cc (sym last.1 ∙ e))) p.is_before.3 p.is_before.4 p.is_before.7 in
+    record {
+      state = p.state;
+      scope = p.scope;
+      keeps = keeps-same s w (record w { at = to }) p.state.candidates refl refl refl p.keeps;
+      owner = place.owner;
+      rest = place.rest;
+      open_is = a.0;
+      front = place.front;
+      template = place.template;
+      name = place.name;
+      ts = ts;
+      tail = tail;
+      is_tail = is_tail;
+      arguments = texts;
+      is_template = place.is_template;
+      elements = a.1;
+      written = a.2;
+      known = λ k o. absurd (none-known k o);
+      owns = owns place.owner place.rest place.front place.template a.3;
+    }
 
 -- an E ends the arguments
 pub list-ends : (s : Symbol) (w : Direct) (first : Bool) (owner : Open) → IsWriting s w (steps.List first) → StandsAt s.bytes w.at (69 ∷ [])
@@ -534,48 +530,35 @@ pub pack-begins : (s : Symbol) (old new : Direct) (owner : Open) → AwaitsNextA
     → slice_get old.waiting.list.items (length old.waiting.list.items - 1) ≡ Some owner → (owner ≡ opens.Pack → ⊥)
     → new.waiting.list.items ≡ old.waiting.list.items ++ opens.Pack ∷ [] → new.at ≡ old.at + 1 → new.text ≡ old.text → new.candidates ≡ old.candidates
     → new.has_scope ≡ old.has_scope → IsWriting s new (steps.List true)
-pack-begins s old new owner a stands found other waits at text candidates scope_same = go a.place.listing refl
-  where
-    last : (rest : List Open) × (reverse old.waiting.list.items ≡ owner ∷ rest)
-    last = last-found old.waiting.list.items owner found
-
-    go : (l : Listing) → a.place.listing ≡ l → IsWriting s new (steps.List true)
-    go (of_pack before written) is =
-        absurd (other (cc (sym last.1 ∙ (subst (λ l. Belongs (detail_of s) a.scope.names l (reverse old.waiting.list.items) a.place.owner a.place.rest) is a.place.belongs).0)))
-    go of_template is =
-        let p = a.place in
-        let goes = subst (λ l. GoesOn s l p.owner (below s a.scope p.rest) p.front p.template a.ts old.at a.state) is a.goes in
-        let belongs = subst (λ l. Belongs (detail_of s) a.scope.names l (reverse old.waiting.list.items) p.owner p.rest) is p.belongs in
-        let elements = subst (λ l. PrintAllAs (detail_of s) a.scope.names (may_name l p.owner) (extra_of l) a.ts a.texts) is a.elements in
-        let written = subst (λ l. old.text.list.items ≡ led_by (detail_of s) l p.front p.name ++ in_front_of_next a.ts a.texts) is a.written in
+pack-begins s old new owner a stands found other waits at text candidates scope_same =
+    let p = a.place in
+    let last = last-found old.waiting.list.items owner found in
+    let l = template-listed s old a.state p a.ts a.texts (in_front_of_next a.ts a.texts) (λ rest e. other (cc (sym last.1 ∙ e))) a.elements a.written a.goes in
+    record {
+      state = a.state;
+      scope = a.scope;
+      keeps = keeps-same s old new a.state.candidates text candidates scope_same a.keeps;
+      is_before = (
         record {
-          state = a.state;
-          scope = a.scope;
-          keeps = keeps-same s old new a.state.candidates text candidates scope_same a.keeps;
-          is_before = (
-            record {
-              listing = of_pack a.ts a.texts;
-              owner = p.owner;
-              rest = p.rest;
-              belongs = (
-                ap reverse waits ∙ reverse-last old.waiting.list.items opens.Pack ∙ ap (λ ws. opens.Pack ∷ ws) belongs,
-                elements,
-              );
-              front = p.front;
-              template = p.template;
-              name = p.name;
-              is_template = subst (λ v. IsTemplate (detail_of s) a.scope.names p.owner p.front p.template p.name v.list.items) (sym text) p.is_template;
-            },
-            [],
-            [],
-            none-print (detail_of s) 0,
-            ap (λ v. v.list.items) text ∙ written ∙ sym (append-nil (p.front ++ p.name ++ opening_bracket (detail_of s) ++ in_front_of_next a.ts a.texts)),
-            (λ e. refl),
-            (λ e. absurd (false≢true (sym e))),
-            subst (λ n. GoesOn s (of_pack a.ts a.texts) p.owner (below s a.scope p.rest) p.front p.template [] n a.state) (sym at)
-                (pack-goes-on s p.owner (below s a.scope p.rest) p.front p.template a.ts a.texts old.at a.state goes stands),
-          );
-        }
+          listing = of_pack a.ts a.texts;
+          owner = p.owner;
+          rest = p.rest;
+          belongs = (ap reverse waits ∙ reverse-last old.waiting.list.items opens.Pack ∙ ap (λ ws. opens.Pack ∷ ws) l.0, l.1);
+          front = p.front;
+          template = p.template;
+          name = p.name;
+          is_template = subst (λ v. IsTemplate (detail_of s) a.scope.names p.owner p.front p.template p.name v.list.items) (sym text) p.is_template;
+        },
+        [],
+        [],
+        none-print (detail_of s) 0,
+        ap (λ v. v.list.items) text ∙ l.2 ∙ sym (append-nil (p.front ++ p.name ++ opening_bracket (detail_of s) ++ in_front_of_next a.ts a.texts)),
+        (λ e. refl),
+        (λ e. absurd (false≢true (sym e))),
+        subst (λ n. GoesOn s (of_pack a.ts a.texts) p.owner (below s a.scope p.rest) p.front p.template [] n a.state) (sym at)
+            (pack-goes-on s p.owner (below s a.scope p.rest) p.front p.template a.ts a.texts old.at a.state l.3 stands),
+      );
+    }
 
 -- a list waits for a type among its elements
 pub record ListWaits (s : Symbol) (scope : Scope) (opened : List Open) (os : List Opened) (text : List ℕ) : Type 0 where
@@ -627,46 +610,28 @@ takes-none _ takes = absurd takes
 -- in arguments types may name what they may name around them, and in a pack nothing
 list-scoped : (s : Symbol) (scope : Scope) (around : Around) (opened : List Open) (text : List ℕ) (p : IsListing (detail_of s) scope.names opened text)
     → scoped_in p.owner (below s scope p.rest) around → IsScoped scope around opened
-list-scoped s scope around opened text p scoped = go p.listing refl
+list-scoped s scope around opened text p scoped = go p.listing p.belongs
   where
-    go : (l : Listing) → p.listing ≡ l → IsScoped scope around opened
+    go : (l : Listing) → Belongs (detail_of s) scope.names l opened p.owner p.rest → IsScoped scope around opened
     go of_template is =
-        subst (λ ws. IsScoped scope around ws) (sym (subst (λ l. Belongs (detail_of s) scope.names l opened p.owner p.rest) is p.belongs))
-        (scoped-within scope around p.owner p.rest
+        subst (λ ws. IsScoped scope around ws) (sym is) (scoped-within scope around p.owner p.rest
         (takes-none p.owner (template-takes (detail_of s) scope.names p.owner p.front p.template p.name text p.is_template)) scoped)
     go (of_pack before written) is =
-        subst (λ ws. IsScoped scope around ws) (sym (subst (λ l. Belongs (detail_of s) scope.names l opened p.owner p.rest) is p.belongs).0)
-        (none-scoped scope around (opens.Pack ∷ p.owner ∷ p.rest) refl)
+        subst (λ ws. IsScoped scope around ws) (sym is.0) (none-scoped scope around (opens.Pack ∷ p.owner ∷ p.rest) refl)
 
 -- it is open so
 list-stands : (s : Symbol) (scope : Scope) (opened : List Open) (os : List Opened) (text : List ℕ) → ListWaits s scope opened os text
     → Stands s scope opened os text
-list-stands s scope opened os text w = go w.place.listing refl
+list-stands s scope opened os text w =
+    let p = w.place in go p.listing p.belongs (p.front, p.template, p.name, w.ts, w.texts, p.is_template, w.elements, w.written, w.onward)
   where
-    awaits : (l : Listing) → w.place.listing ≡ l → AwaitsElementOf s scope.names l w.place.owner (below s scope w.place.rest) os text
-    awaits l is =
-        let p = w.place in (
-          p.front,
-          p.template,
-          p.name,
-          w.ts,
-          w.texts,
-          p.is_template,
-          subst (λ l. PrintAllAs (detail_of s) scope.names (may_name l p.owner) (extra_of l) w.ts w.texts) is w.elements,
-          subst (λ l. text ≡ led_by (detail_of s) l p.front p.name ++ in_front_of_next w.ts w.texts) is w.written,
-          λ t at st comes. subst (λ l. GoesOn s l p.owner (below s scope p.rest) p.front p.template (w.ts ++ t ∷ []) at st) is (w.onward t at st comes),
-        )
-
-    go : (l : Listing) → w.place.listing ≡ l → Stands s scope opened os text
-    go of_template is =
+    go : (l : Listing) → Belongs (detail_of s) scope.names l opened w.place.owner w.place.rest
+        → AwaitsElementOf s scope.names l w.place.owner (below s scope w.place.rest) os text → Stands s scope opened os text
+    go of_template is awaits =
         let p = w.place in
-        subst (λ ws. Stands s scope ws os text) (sym (subst (λ l. Belongs (detail_of s) scope.names l opened p.owner p.rest) is p.belongs))
-        (argument-stands s scope p.owner p.rest os text
-        (template-takes (detail_of s) scope.names p.owner p.front p.template p.name text p.is_template) (awaits of_template is))
-    go (of_pack before written) is =
-        let p = w.place in
-        let belongs = subst (λ l. Belongs (detail_of s) scope.names l opened p.owner p.rest) is p.belongs in
-        subst (λ ws. Stands s scope ws os text) (sym belongs.0) (before, written, belongs.1, awaits (of_pack before written) is)
+        subst (λ ws. Stands s scope ws os text) (sym is) (argument-stands s scope p.owner p.rest os text
+        (template-takes (detail_of s) scope.names p.owner p.front p.template p.name text p.is_template) awaits)
+    go (of_pack before written) is awaits = subst (λ ws. Stands s scope ws os text) (sym is.0) (before, written, is.1, awaits)
 
 waits-of : (s : Symbol) (scope : Scope) (owner : Open) (rest : List Open) (os : List Opened) (text : List ℕ)
     → AwaitsElementOf s scope.names of_template owner (below s scope rest) os text → ListWaits s scope (owner ∷ rest) os text
@@ -738,6 +703,14 @@ type-expected s w a =
 
 -- ## Enumerators
 
+enumerator-in : (s : Symbol) (scope : Scope) (o : Open) (rest : List Open) (os : List Opened) (text : List ℕ) → TakesArguments o
+    → AwaitsEnumerator s scope.names of_template o (below s scope rest) os text → Stands s scope (opens.Enumerator ∷ o ∷ rest) os text
+enumerator-in s scope (opens.TypeArguments from is_dependent) rest os text takes e = e
+enumerator-in s scope (opens.NestArguments nest) rest os text takes e = e
+enumerator-in s scope (opens.FirstArguments nest) rest os text takes e = e
+enumerator-in s scope (opens.NameArguments from) rest os text takes e = e
+enumerator-in s scope _ rest os text takes e = absurd takes
+
 -- a list waits for the type of an enumerator
 pub enumerator-stands : (s : Symbol) (scope : Scope) (opened : List Open) (text : List ℕ) (os : List Opened) (p : IsListing (detail_of s) scope.names opened text)
     (ts : List Term) (texts : List ℕ) → PrintAllAs (detail_of s) scope.names (may_name p.listing p.owner) (extra_of p.listing) ts texts
@@ -745,35 +718,13 @@ pub enumerator-stands : (s : Symbol) (scope : Scope) (opened : List Open) (text 
     → ((t : Term) (at : ℕ) (st : State) → Comes s os (tree t true) at st
     → EnumeratorGoesOn s p.listing p.owner (below s scope p.rest) p.front p.template ts t at st)
     → Stands s scope (opens.Enumerator ∷ opened) os text
-enumerator-stands s scope opened text os p ts texts elements written onward = go p.listing refl
+enumerator-stands s scope opened text os p ts texts elements written onward =
+    go p.listing p.belongs (p.front, p.template, p.name, ts, texts, p.is_template, elements, written, onward)
   where
-    awaits : (l : Listing) → p.listing ≡ l → AwaitsEnumerator s scope.names l p.owner (below s scope p.rest) os text
-    awaits l is = (
-      p.front,
-      p.template,
-      p.name,
-      ts,
-      texts,
-      p.is_template,
-      subst (λ k. PrintAllAs (detail_of s) scope.names (may_name k p.owner) (extra_of k) ts texts) is elements,
-      subst (λ k. text ≡ led_by (detail_of s) k p.front p.name ++ in_front_of_next ts texts ++ codes "(") is written,
-      λ t at st comes. subst (λ k. EnumeratorGoesOn s k p.owner (below s scope p.rest) p.front p.template ts t at st) is (onward t at st comes),
-    )
-
-    go : (l : Listing) → p.listing ≡ l → Stands s scope (opens.Enumerator ∷ opened) os text
-    go of_template is =
-        subst (λ ws. Stands s scope (opens.Enumerator ∷ ws) os text) (sym (subst (λ l. Belongs (detail_of s) scope.names l opened p.owner p.rest) is p.belongs))
-        (of-arguments p.owner (template-takes (detail_of s) scope.names p.owner p.front p.template p.name text p.is_template) (awaits of_template is))
-      where
-        of-arguments : (o : Open) → TakesArguments o → AwaitsEnumerator s scope.names of_template o (below s scope p.rest) os text
-            → Stands s scope (opens.Enumerator ∷ o ∷ p.rest) os text
-        of-arguments (opens.TypeArguments from is_dependent) takes e = e
-        of-arguments (opens.NestArguments nest) takes e = e
-        of-arguments (opens.FirstArguments nest) takes e = e
-        of-arguments (opens.NameArguments from) takes e = e
-        of-arguments _ takes e = absurd takes
-    go (of_pack before written_) is =
-        let belongs = subst (λ l. Belongs (detail_of s) scope.names l opened p.owner p.rest) is p.belongs in
-        let e = awaits (of_pack before written_) is in
-        subst (λ ws. Stands s scope (opens.Enumerator ∷ ws) os text) (sym belongs.0)
-        (before, written_, belongs.1, e)
+    go : (l : Listing) → Belongs (detail_of s) scope.names l opened p.owner p.rest → AwaitsEnumerator s scope.names l p.owner (below s scope p.rest) os text
+        → Stands s scope (opens.Enumerator ∷ opened) os text
+    go of_template is awaits =
+        subst (λ ws. Stands s scope (opens.Enumerator ∷ ws) os text) (sym is) (enumerator-in s scope p.owner p.rest os text
+        (template-takes (detail_of s) scope.names p.owner p.front p.template p.name text p.is_template) awaits)
+    go (of_pack before written) is awaits =
+        subst (λ ws. Stands s scope (opens.Enumerator ∷ ws) os text) (sym is.0) (before, written, is.1, awaits)

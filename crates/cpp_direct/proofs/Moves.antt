@@ -18,11 +18,10 @@ use Rattle.cpp_grammar.specs.Wide.{wide_choose, wide_alternatives}
 use Rattle.cpp_grammar.proofs.ClosedTrees.{at_number, its_symbols}
 use Rattle.cpp_direct.proofs.Tables.{takes-by, empty-by, names-by, arguments-by, rests-by, lists-by, tails-by, item-by}
 use Rattle.cpp_direct.specs.Symbol.{Symbol, table_by}
-use Rattle.cpp_direct.specs.Holes.{cpp_language, Opened, opened, ReadsRest, StandsAt, Comes, Needs, ExpectsSym, Expects, IsNameAt, IsSeqAt}
+use Rattle.cpp_direct.specs.Holes.{cpp_language, Opened, opened, ReadsRest, StandsAt, Comes, Needs, ExpectsSym, Expects, IsNameAt, IsNumberAt}
 use Rattle.std.proofs.lemmas.Bool.{false≢true, and_parts}
 use Rattle.sym_core.specs.Token.{Token, bytes_of, IsNumberToken}
 use Rattle.sym_core.specs.declared.NumberKind.{NumberKind}
-use Rattle.sym_core.specs.declared.NumberKind.TheVariants.{Seq36}
 use Rattle.cpp_grammar.specs.Term.{Term, alone}
 use Rattle.cpp_direct.proofs.LettersTested.{is_small, small, takes, taken}
 use Rattle.cpp_direct.proofs.Tables as tables
@@ -385,10 +384,10 @@ number-fills {s = s} {kind = kind} {around = around} {os = os} {at = at} {st = s
       (names-by s.is_wide (Number kind) t is) refl stands;
 }
 
--- the number of a substitution
-pub seq-fills : {s : Symbol} {around : Around} {os : List Opened} {at : ℕ} {st : State} (digits : List ℕ) (end : ℕ) → Hole s (Number Seq36) around os at st
-    → IsSeqAt s.bytes at digits end → Filled s os (text digits) end st
-seq-fills {s = s} {os = os} {st = st} digits end h is =
+-- one that has these digits
+pub digits-fill : {s : Symbol} {kind : NumberKind} {around : Around} {os : List Opened} {at : ℕ} {st : State} (digits : List ℕ) (end : ℕ)
+    → Hole s (Number kind) around os at st → IsNumberAt kind s.bytes at digits end → Filled s os (text digits) end st
+digits-fill {s = s} {os = os} {st = st} digits end h is =
     subst (λ l. Filled s os (text l) end st) is.own (filled-at end (number-fills is.token h is.is_number is.stands) (sym is.ends))
 
 -- ## Names

@@ -24,11 +24,11 @@ use Rattle.cpp_grammar.specs.Unfolding as unfolding_
 use Rattle.cpp_direct.specs.Symbol.{Symbol, mangled_of}
 use Rattle.cpp_direct.specs.Holes.{cpp_language, Opened, opened, StandsAt, Comes, Expects, IsNameAt, Named}
 use Rattle.sym_direct.specs.Holes as direct
-use Rattle.cpp_direct.specs.ItemBytes.{one_of, is_special_letter, is_suffix_byte}
+use Rattle.cpp_direct.specs.ItemBytes.{is_special_letter, is_suffix_byte}
 use Rattle.cpp_direct.specs.HolesOfLists.{const_letter, EncodingOpened, SpecialOpened, IsOffsetAt, ThunkOpened, nest_marks, NestOpened, IsSuffix, SymbolOpened}
 use Rattle.cpp_direct.specs.Letters.{special_letters}
 use Rattle.cpp_direct.proofs.Moves.{Hole, Filled, hole, open_at, fill, filled-at, hole-at, chosen-byte, eats, leaves, is_eaten, byte-opens, chain-opens, byte-fills, next-part, closes, none-fills, fixed-fills, name-fills, first-named, is_left, stands-split}
-use Rattle.cpp_direct.proofs.LettersTested.{each_passes, tested-one, IsOperator}
+use Rattle.cpp_direct.proofs.LettersTested.{each_passes, tested, IsOperator}
 use Rattle.cpp_direct.proofs.MovesOfComponents.{named-by, named-outside, operator-fills}
 use Rattle.cpp_direct.proofs.MovesOfLists.{integer-fills}
 use Rattle.cpp_direct.proofs.Tables.{stands-by}
@@ -53,7 +53,7 @@ encoding-opens s os around at st expects =
 -- the letter of a special object
 special-eaten : (b : ℕ) → is_special_letter b ≡ true → is_eaten Kind.Special Production.SpecialType b ≡ true
 unfolding is_eaten is_special_letter each_passes
-special-eaten b is = tested-one special_letters (λ c. is_eaten Kind.Special Production.SpecialType c) refl b is
+special-eaten b is = tested special_letters (λ c. is_eaten Kind.Special Production.SpecialType c) refl b is
 
 -- what comes after the T of a special name
 special-expected : (s : Symbol) (os : List Opened) (around : Around) (at : ℕ) (st : State) → Expects s Kind.Encoding around os at st → StandsAt s.bytes at (84 ∷ [])
@@ -249,7 +249,7 @@ suffix-byte : (b : ℕ) → is_suffix_byte b ≡ true
     → (choose Kind.SuffixMore b ≡ Some Production.SuffixByte) × (choose Kind.SuffixFirst b ≡ Some Production.SuffixByte) × (b < 256)
 unfolding choose alternatives pick is_in in_ranges among is_suffix_byte
 suffix-byte b is =
-    let same = in-class (nat_le 48 b && nat_le b 57) (nat_le 65 b && nat_le b 90) (nat_le 97 b && nat_le b 122) (one_of (codes "$._") b) is in
+    let same = in-class (nat_le 48 b && nat_le b 57) (nat_le 65 b && nat_le b 90) (nat_le 97 b && nat_le b 122) (among (codes "$._") b) is in
     (ap (λ x. cond x (Some Production.SuffixByte) None) same, ap (λ x. cond x (Some Production.SuffixByte) None) same, grind (arith, nat_tests))
   where
     in-class : (i j k l : Bool) → (i || j || k || l) ≡ true → ((i || (j || (k || false))) || l) ≡ true

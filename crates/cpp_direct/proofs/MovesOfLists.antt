@@ -1,7 +1,6 @@
 -- The moves in lists of arguments and of items: arguments are opened and closed, and a list goes on after each of its elements.
-use Rattle.std.proofs.Common.{◌≡◌, ℕ, ◌+◌, ◌⊎◌, inl, inr, length, List, [], ◌∷◌, Bool, true, false, nat_eq, Ok, refl, ap, sym, subst, arith, ◌∙◌, Result, Err}
-use Rattle.sym_core.specs.declared.NumberKind.TheVariants.{Digits}
-use Rattle.sym_shape.specs.declared.rule.Sym.TheVariants.{Kind as OfKind, Number}
+use Rattle.std.proofs.Common.{◌≡◌, ℕ, ◌+◌, ◌⊎◌, inl, inr, length, List, [], ◌∷◌, Bool, true, false, nat_eq, Ok, refl, ap, subst, arith, ◌∙◌, Result, Err}
+use Rattle.sym_shape.specs.declared.rule.Sym.TheVariants.{Kind as OfKind}
 use Rattle.sym_shape.specs.Tree.{Tree as Shape, Forest, nothing, grown, IsTree, AreTrees, spell_all}
 use Rattle.sym_link.specs.Reading.{Open, Found, ◌>>=◌}
 use Rattle.sym_link.specs.Unfold.{found, standing, unfold_tree, unfold_forest}
@@ -11,7 +10,7 @@ use Rattle.cpp_grammar.specs.declared.production.Production.{Production}
 use Rattle.cpp_grammar.specs.Grammar.{number_of_kind, productions, number_of, parts_of}
 use Rattle.cpp_grammar.specs.Table.{rule_of}
 use Rattle.cpp_grammar.specs.Term.{Term, builtin, integer, boolean, pack, list}
-use Rattle.cpp_grammar.specs.Values.{State, Around, text, signed, tree, tree_of, is_listed, signed_of, signed_digits, prefix_tree, prefix_listed, part, Value, is_there, letter_of, piece_of, text_of}
+use Rattle.cpp_grammar.specs.Values.{State, Around, signed, tree, tree_of, is_listed, signed_of, signed_digits, prefix_tree, prefix_listed, part, Value, is_there, letter_of, piece_of, text_of}
 use Rattle.cpp_grammar.specs.References.{appended, with_type, with_prefix}
 use Rattle.cpp_grammar.specs.Between.{Going, between, after, inside, no_items}
 use Rattle.cpp_grammar.specs.Meaning.{meaning}
@@ -21,9 +20,9 @@ use Rattle.cpp_direct.specs.Symbol.{Symbol, table_by}
 use Rattle.cpp_direct.specs.Holes.{Opened, opened, StandsAt, Comes, Expects, unless_listed, IsListKind, ListGoesOn, AwaitsElement, with_candidate}
 use Rattle.cpp_direct.specs.ItemBytes.{is_integer_letter}
 use Rattle.cpp_direct.specs.Letters.{integer_letters}
-use Rattle.cpp_direct.proofs.LettersTested.{each_passes, tested-one}
+use Rattle.cpp_direct.proofs.LettersTested.{each_passes, tested}
 use Rattle.cpp_direct.specs.HolesOfLists.{ArgumentsOpened, IsArgumentKind, LiteralOpened, PackOpened, EnumeratorOpened, IsDigitsAt, minus_sign}
-use Rattle.cpp_direct.proofs.Moves.{any-list, any-argument, Hole, Filled, hole, open_at, fill, filled-at, eats, leaves, is_eaten, byte-opens, chain-opens, byte-fills, next-part, closes, fixed-fills, number-fills, is_left, stands-split}
+use Rattle.cpp_direct.proofs.Moves.{any-list, any-argument, Hole, Filled, hole, open_at, fill, eats, leaves, is_eaten, byte-opens, chain-opens, byte-fills, next-part, closes, fixed-fills, is_left, stands-split, digits-fill}
 
 -- ## Arguments
 
@@ -156,13 +155,7 @@ bool-element s kind os around d at st is bit expects stands =
 -- a letter of a builtin type, where the type of a literal is expected
 integer-eaten : (b : ℕ) → is_integer_letter b ≡ true → is_eaten Kind.LiteralType Production.Builtin b ≡ true
 unfolding is_eaten is_integer_letter each_passes
-integer-eaten b is = tested-one integer_letters (λ c. is_eaten Kind.LiteralType Production.Builtin c) refl b is
-
--- the digits of an integer
-pub digits-fill : {s : Symbol} {around : Around} {os : List Opened} {at : ℕ} {st : State} (digits : List ℕ) (end : ℕ) → Hole s (Number Digits) around os at st
-    → IsDigitsAt s.bytes at digits end → Filled s os (text digits) end st
-digits-fill {s = s} {os = os} {st = st} digits end h is =
-    subst (λ d. Filled s os (text d) end st) is.own (filled-at end (number-fills is.token h is.is_number is.stands) (sym is.ends))
+integer-eaten b is = tested integer_letters (λ c. is_eaten Kind.LiteralType Production.Builtin c) refl b is
 
 -- an integer
 pub integer-fills : {s : Symbol} {around : Around} {os : List Opened} {at : ℕ} {st : State} (negative : Bool) (digits : List ℕ) (end : ℕ)

@@ -26,12 +26,11 @@ use Rattle.sym_direct.proofs.Moves as moves
 use Rattle.cpp_direct.specs.HolesOfLocals.{Discriminator, unnumbered, by_digit, by_digits, discriminator_value, IsDiscriminatorAt, IsLambdaDigit, IsPieceAt, LocalOpened, LocalTypeOpened, GuardOpened, lambda_digits, lambda_ending, lambda_with}
 use Rattle.cpp_direct.specs.Bytes.{short_numbers}
 use Rattle.cpp_direct.specs.WriterInvariant.{HasScope, ItemsGoOn, nowhere}
-use Rattle.cpp_direct.proofs.Scopes.{none-known}
+use Rattle.cpp_direct.proofs.Kept.{none-known}
 use Rattle.cpp_direct.proofs.ShortNumbers.{lambda-begins}
 use Rattle.cpp_direct.specs.HolesOfTypes.{IsNamedKind}
-use Rattle.cpp_direct.proofs.MovesOfLists.{digits-fill}
 use Rattle.cpp_direct.proofs.MovesOfTypes.{named-taken}
-use Rattle.cpp_direct.proofs.Moves.{stands-split, kind-at, reads-rule, joins, none-left, opens-where, needs-next, hole, open_at, fill, filled-at, hole-at, eats, leaves, chosen-byte, is_left, byte-opens, chain-opens, byte-fills, next-part, closes, none-fills, fixed-fills, name-fills, number-fills, is_eaten}
+use Rattle.cpp_direct.proofs.Moves.{stands-split, kind-at, reads-rule, joins, none-left, opens-where, needs-next, hole, open_at, fill, filled-at, hole-at, eats, leaves, chosen-byte, is_left, byte-opens, chain-opens, byte-fills, next-part, closes, none-fills, fixed-fills, name-fills, number-fills, is_eaten, digits-fill}
 use Rattle.cpp_direct.proofs.Tables.{empty-by, names-by}
 
 -- ## Discriminators

@@ -3,9 +3,9 @@ use Rattle.std.proofs.lemmas.Bool.{eqb-false}
 use Rattle.std.proofs.Common.{◌≡◌, ℕ, ◌+◌, ◌-◌, List, [], ◌∷◌, slice_get, Bool, true, false, ◌&&◌, ◌||◌, not, nat_eq, Option, Some, None, Result, Ok, Err, refl, ap, subst, ◌∙◌, arith, length, sym}
 use Rattle.sym_core.specs.declared.refusal.Refusal.{Refusal}
 use Rattle.sym_core.specs.declared.refusal.Refusal.TheVariants.{BadReference}
-use Rattle.sym_core.specs.declared.NumberKind.TheVariants.{Seq36, Decimal}
+use Rattle.sym_core.specs.declared.NumberKind.TheVariants.{Seq36}
 use Rattle.sym_core.specs.Value.{counted_value}
-use Rattle.sym_shape.specs.declared.rule.Sym.TheVariants.{Kind as OfKind, Number}
+use Rattle.sym_shape.specs.declared.rule.Sym.TheVariants.{Kind as OfKind}
 use Rattle.sym_link.specs.Reading.{Found, ◌>>=◌}
 use Rattle.sym_link.specs.Unfold.{found, standing, unfold_forest}
 use Rattle.cpp_grammar.specs.declared.kind.Kind.{Kind}
@@ -21,7 +21,7 @@ use Rattle.cpp_grammar.specs.Unfolding.{close, byte_of}
 use Rattle.cpp_direct.specs.Symbol.{Symbol, table_by}
 use Rattle.cpp_direct.specs.Bytes.{is_builtin, is_builtin_with_d, is_abbreviated}
 use Rattle.cpp_direct.specs.Letters.{builtin_letters, builtin_letters_with_d, abbreviation_letters}
-use Rattle.cpp_direct.proofs.Moves.{alone-arguments, stands-split, Hole, Filled, hole, open_at, fill, filled-at, eats, leaves, is_eaten, is_left, byte-opens, chain-opens, byte-fills, next-part, closes, none-fills, name-fills, seq-fills, first-named, number-fills, came}
+use Rattle.cpp_direct.proofs.Moves.{alone-arguments, stands-split, Hole, Filled, hole, open_at, fill, filled-at, eats, leaves, is_eaten, is_left, byte-opens, chain-opens, byte-fills, next-part, closes, none-fills, name-fills, first-named, came, digits-fill}
 use Rattle.cpp_direct.proofs.LettersTested.{each_passes, tested}
 use Rattle.cpp_direct.specs.Holes.{Opened, StandsAt, Comes, Expects, IsNameAt, IsSeqAt, IsReferable, IsTyped, TypeNamed, unless_listed, with_candidate, opened, ReadsRest}
 use Rattle.cpp_direct.specs.HolesOfTypes.{as_const, IsQualifiable, TypeOpens, TreePasses, TreeOpens, NameOpens, IsNamedKind}
@@ -350,16 +350,17 @@ abbreviation-opens s kind around os at st letter is_named is solid stands =
     behind-s-named s kind around os at st (abbreviation letter) (at + 2) is_named
     (λ inner h. filled-at (at + 2) (abbreviation-fills letter is h both.1) (omega arith)) solid both.0
 
-no-packs : (scope : Option Term) (t : Term) → ((inner : Term) → pack_length inner t ≡ None) → packs_in scope t ≡ None
+-- a type that names no pack in a scope names none where that is the scope
+pub no-pack-named : (scope : Option Term) (t : Term) → ((arguments : Term) → scope ≡ Some arguments → pack_length arguments t ≡ None) → packs_in scope t ≡ None
 unfolding packs_in
-no-packs None t none = refl
-no-packs (Some scope) t none = none scope
+no-pack-named None t none = refl
+no-pack-named (Some arguments) t none = none arguments refl
 
 pub substituted-so : (around : Around) (place : ℕ) (c : Candidate) (st : State) → is_open c.tree ≡ false
     → ((scope : Term) → pack_length scope c.tree ≡ None) → substituted around place (Some c) st ≡ Ok (found (tree c.tree true) st)
 unfolding substituted with_packs
 substituted-so around place c st closed none = ap (λ o. whole o (packs_in around.scope c.tree)) closed
-    ∙ ap (whole false) (no-packs around.scope c.tree none)
+    ∙ ap (whole false) (no-pack-named around.scope c.tree (λ scope is. none scope))
   where
     whole : Bool → Option ℕ → Result (Found Value State) Refusal
     whole o packs = elim (o && (around.in_lambda || not (nat_eq c.encoding around.encoding))) [
@@ -412,7 +413,7 @@ pub substitution-fills : {s : Symbol} {around : Around} {os : List Opened} {at :
 unfolding is_eaten is_left number_of_kind parts_of between close unfolding_.behind meaning part byte_of tree_of text_of piece_of letter_of is_there
 substitution-fills {s = s} {around = around} {at = at} {st = st} digits end c names_it so h is =
     let p = Production.Substitution in
-    closes p (seq-fills digits end (chain-opens (leaves s Kind.Abbreviation p 48 refl) h refl refl) is) (substitution-closes around at st digits c st names_it so)
+    closes p (digits-fill digits end (chain-opens (leaves s Kind.Abbreviation p 48 refl) h refl refl) is) (substitution-closes around at st digits c st names_it so)
 
 -- a substitution
 pub substitution-opens : (s : Symbol) (kind : Kind) (around : Around) (os : List Opened) (at : ℕ) (st : State) (digits : List ℕ) (end : ℕ)
@@ -437,12 +438,6 @@ nested-type-opens s kind around os at st is_named solid stands =
 
 -- ## Arrays
 
--- the size of an array
-size-fills : {s : Symbol} {around : Around} {os : List Opened} {at : ℕ} {st : State} (digits : List ℕ) (end : ℕ) → Hole s (Number Decimal) around os at st
-    → IsSizeAt s.bytes at digits end → Filled s os (values.text digits) end st
-size-fills {s = s} {os = os} {st = st} digits end h is =
-    subst (λ l. Filled s os (values.text l) end st) is.own (filled-at end (number-fills is.token h is.is_number is.stands) (sym is.ends))
-
 -- the type of an array's elements is expected after its size
 plain-array-opens : (s : Symbol) (kind : Kind) (os : List Opened) (around : Around) (at : ℕ) (st : State) (digits : List ℕ) (end : ℕ) → IsQualifiable kind
     → Expects s kind around os at st → StandsAt s.bytes at (65 ∷ []) → IsSizeAt s.bytes (at + 1) digits end → ArrayOpened s os around accesses.Plain digits end st
@@ -452,7 +447,7 @@ plain-array-opens s kind os around at st digits end whole expects stands is =
     let w = whole-opens s kind around os at st whole expects in
     let any = chain-opens (leaves s Kind.Solid Production.ArrayType 65 refl) (hole s Kind.Solid around w.inner at st w.awaits) refl refl in
     let rest = byte-opens (eats s Kind.AnyArray Production.AnyArray 65 refl) any stands refl refl in
-    let type = next-part p (size-fills digits end (chain-opens (leaves s Kind.ArrayRest p 48 refl) rest refl refl) is) refl in
+    let type = next-part p (digits-fill digits end (chain-opens (leaves s Kind.ArrayRest p 48 refl) rest refl refl) is) refl in
     record {
       inner = open_at type;
       awaits = type.expects;

@@ -3,7 +3,7 @@ use Rattle.std.proofs.Common.{◌≡◌, ◌≢◌, ℕ, ◌+◌, ◌-◌, ◌*�
 use Rattle.std.proofs.lemmas.List.{get_or-drop, get_or-take, length-append, length-drop, length-take-le, take-append-drop, drop-drop}
 use Rattle.std.proofs.lemmas.Bool.{and_parts, le-leb, ltb-false, ltb-true}
 use Rattle.std.proofs.lemmas.Bool.Decides.{nat_tests}
-use Rattle.std.proofs.Math.Seq.{drop-append_seam, take-append_seam}
+use Rattle.std.proofs.Math.Seq.{drop-append_seam}
 use Rattle.sym_core.specs.declared.NameClass.TheVariants.{Cpp}
 use Rattle.sym_core.specs.Number.{is_decimal_digit}
 use Rattle.sym_core.specs.Scan.{ReachesNameBytes}
@@ -13,16 +13,17 @@ use Rattle.cpp_grammar.specs.Parts.{source_text}
 use Rattle.cpp_direct.specs.declared.direct.Direct.{Direct}
 use Rattle.cpp_direct.specs.declared.names.NamePlace.{NamePlace}
 use Rattle.sym_direct.proofs.Moves.{stands-join}
-use Rattle.cpp_direct.specs.Holes.{StandsAt, IsNameAt, IsTagAt, IsSeqAt}
+use Rattle.cpp_direct.proofs.Kept.{piece-found}
+use Rattle.cpp_direct.specs.Holes.{StandsAt, IsNameAt, IsTagAt, IsNumberAt}
 use Rattle.cpp_direct.specs.Names.{IsLengthRead, IsNamePlace, tag_text}
 use Rattle.cpp_direct.specs.Written.{Writes, Reads}
 use Rattle.cpp_direct.specs.Marks.{IsMarkPlace}
 use Rattle.std.proofs.lemmas.Option.{slice_get_read}
 use Rattle.std.specs.Option.{OnSome}
 use Rattle.std.specs.Result.{result_ok}
-use Rattle.sym_core.specs.declared.NumberKind.TheVariants.{Decimal, Seq36, Digits}
+use Rattle.sym_core.specs.declared.NumberKind.{NumberKind}
+use Rattle.sym_core.specs.declared.NumberKind.TheVariants.{Digits}
 use Rattle.cpp_grammar.specs.Values.{signed_digits}
-use Rattle.cpp_direct.specs.HolesOfArrays.{IsSizeAt}
 use Rattle.cpp_direct.specs.HolesOfLists.{IsDigitsAt}
 use Rattle.cpp_direct.specs.MidStep.{number_text}
 use Rattle.cpp_direct.specs.declared.open.Mark.TheVariants as marks
@@ -33,32 +34,13 @@ use Rattle.cpp_direct.specs.declared.open.Mark.TheVariants as marks
 pub piece-at : (s before own behind rest : List ℕ) (at from to : ℕ) → at ≤ length s → drop at s ≡ (before ++ own ++ behind) ++ rest
     → from ≡ at + length before → to ≡ at + length before + length own
     → (from ≤ to) × (to ≤ length s) × (take (to - from) (drop from s) ≡ own)
-piece-at s before own behind rest at from to le e from_is to_is = (omega (arith, from_is, to_is), inside, found)
-  where
-    inside : to ≤ length s
-    inside = omega (
-      arith,
-      to_is,
-      le,
-      length-drop at s,
-      ap length e,
-      length-append ((before ++ own) ++ behind) rest,
-      length-append (before ++ own) behind,
-      length-append before own,
-    )
-
-    size : to - from ≡ length own
-    size = omega (arith, from_is, to_is)
-
-    whole : drop at s ≡ before ++ (own ++ (behind ++ rest))
-    whole = e ∙ append_assoc (before ++ own) behind rest ∙ append_assoc before own (behind ++ rest)
-
-    there : drop from s ≡ own ++ (behind ++ rest)
-    there = ap (λ n. drop n s) from_is ∙ sym (drop-drop (length before) at s) ∙ ap (λ l. drop (length before) l) whole
-        ∙ drop-append_seam before (own ++ (behind ++ rest))
-
-    found : take (to - from) (drop from s) ≡ own
-    found = ap (λ n. take n (drop from s)) size ∙ ap (λ l. take (length own) l) there ∙ take-append_seam own (behind ++ rest)
+piece-at s before own behind rest at from to le e from_is to_is =
+    let front = take at s ++ before in
+    let size : length front ≡ at + length before = length-append (take at s) before ∙ ap (λ n. n + length before) (length-take-le at s le) in
+    let whole : s ≡ front ++ own ++ (behind ++ rest) =
+    sym (take-append-drop at s) ∙ ap (λ l. take at s ++ l) (e ∙ append_assoc (before ++ own) behind rest ∙ append_assoc before own (behind ++ rest))
+    ∙ sym (append_assoc (take at s) before (own ++ (behind ++ rest))) ∙ sym (append_assoc front own (behind ++ rest)) in
+    piece-found s front own (behind ++ rest) from to whole (from_is ∙ sym size) (to_is ∙ ap (λ n. n + length own) (sym size))
 
 -- a place that was found is that of a token
 pub place-found : (Is : Token → Type 0) (s : List ℕ) (at : ℕ) (r : Result TokenPlace ℕ) (o : Option TokenPlace) (place : TokenPlace)
@@ -92,36 +74,18 @@ name-found s at place h le = (
   (own-found (IsName Cpp) s at place h le).2,
 )
 
--- the number of a substitution that was found
-pub seq-found : (s : List ℕ) (at : ℕ) (place : TokenPlace) → HasToken (IsNumberToken Seq36) (drop at s) at place → at ≤ length s
-    → (digits : List ℕ) × IsSeqAt s at digits place.end × (take (place.to - place.from) (drop place.from s) ≡ digits)
-seq-found s at place h le = (
-  h.token.own,
-  record { token = h.token; is_number = h.is; own = refl; stands = (h.rest, h.split); ends = h.end },
-  (own-found (IsNumberToken Seq36) s at place h le).2,
-)
-
--- the size of an array that was found
-pub size-found : (s : List ℕ) (at : ℕ) (place : TokenPlace) → HasToken (IsNumberToken Decimal) (drop at s) at place → at ≤ length s
-    → (digits : List ℕ) × IsSizeAt s at digits place.end × (place.from ≤ place.to) × (place.to ≤ length s)
+-- a number that was found
+pub number-found : (kind : NumberKind) (s : List ℕ) (at : ℕ) (place : TokenPlace) → HasToken (IsNumberToken kind) (drop at s) at place → at ≤ length s
+    → (digits : List ℕ) × IsNumberAt kind s at digits place.end × (place.from ≤ place.to) × (place.to ≤ length s)
     × (take (place.to - place.from) (drop place.from s) ≡ digits)
-size-found s at place h le =
-    let own = own-found (IsNumberToken Decimal) s at place h le in (
+number-found kind s at place h le =
+    let own = own-found (IsNumberToken kind) s at place h le in (
       h.token.own,
       record { token = h.token; is_number = h.is; own = refl; stands = (h.rest, h.split); ends = h.end },
       own.0,
       own.1,
       own.2,
     )
-
--- the digits of an integer that were found
-pub digits-found : (s : List ℕ) (at : ℕ) (place : TokenPlace) → HasToken (IsNumberToken Digits) (drop at s) at place → at ≤ length s
-    → (digits : List ℕ) × IsDigitsAt s at digits place.end × (take (place.to - place.from) (drop place.from s) ≡ digits)
-digits-found s at place h le = (
-  h.token.own,
-  record { token = h.token; is_number = h.is; own = refl; stands = (h.rest, h.split); ends = h.end },
-  (own-found (IsNumberToken Digits) s at place h le).2,
-)
 
 -- ## What is written
 
@@ -174,10 +138,10 @@ pub digits-read : (s : List ℕ) (old new : Direct) (place : TokenPlace) (is_neg
     → written ≡ number_text (signed_digits is_negative (take (place.to - place.from) (drop place.from s)))
     → (digits : List ℕ) × IsDigitsAt s old.at digits new.at × Reads old new (number_text (signed_digits is_negative digits))
 digits-read s old new place is_negative written h le there reads is =
-    let n = digits-found s old.at place h le in (
+    let n = number-found Digits s old.at place h le in (
       n.0,
       subst (λ e. IsDigitsAt s old.at n.0 e) (sym there) n.1,
-      subst (λ l. Reads old new l) (is ∙ ap (λ d. number_text (signed_digits is_negative d)) n.2) reads,
+      subst (λ l. Reads old new l) (is ∙ ap (λ d. number_text (signed_digits is_negative d)) n.4) reads,
     )
 
 -- nothing was written yet

@@ -4,8 +4,8 @@ use Rattle.std.proofs.Common.{◌≡◌, ◌≢◌, ℕ, ◌-◌, List, [], ◌�
 use Rattle.std.proofs.lemmas.Bool.{false≢true, le-leb, leb-true}
 use Rattle.cpp_grammar.specs.Parts.{types_of}
 use Rattle.sym_link.specs.Unfold.{found}
-use Rattle.cpp_grammar.specs.References.{packs_in, substituted}
-use Rattle.cpp_grammar.specs.Scope.{arguments_of, element, length_if_pack, pack_length}
+use Rattle.cpp_grammar.specs.References.{substituted}
+use Rattle.cpp_grammar.specs.Scope.{arguments_of, element, length_if_pack}
 use Rattle.cpp_grammar.specs.Term.{Term}
 use Rattle.cpp_grammar.specs.Values as values
 use Rattle.cpp_grammar.specs.Values.{Around, State, tree}
@@ -20,7 +20,7 @@ use Rattle.cpp_direct.specs.Prints.{AreSingle, IsGiven, Named, Names, Prints, Pr
 use Rattle.cpp_direct.specs.WriterInvariant.{AreCandidates, HasArguments, IsCandidate, IsNaming, IsPlaced, IsScopeOf, IsScoped, IsSingle, Keeps, Scope, argument_of, encoding_place, place_of}
 use Rattle.cpp_direct.specs.MidStep.{IsNameEnded, IsNameScoped}
 use Rattle.cpp_direct.proofs.Kept.{encoded-here, piece-found}
-use Rattle.cpp_direct.proofs.MovesOfTypes.{substituted-open}
+use Rattle.cpp_direct.proofs.MovesOfTypes.{no-pack-named, substituted-open}
 use Rattle.cpp_direct.proofs.PrintedTypes.{given-more, types-given}
 use Rattle.cpp_direct.proofs.Scopes.{arguments-named}
 
@@ -177,12 +177,6 @@ named-single s scope around open_ arguments own scoped found is k n e =
     let here = (scoped scope.arguments found).1.1 k single.0 in
     let same : here.all ≡ arguments = cc (sym here.scope_is ∙ is) in
     subst (λ l. length_if_pack (element l k) ≡ None) same (ap length_if_pack (here.there single.1).0 ∙ here.no_pack)
-
--- so a type that names them names no pack
-no-pack-named : (scope : Option Term) (t : Term) → ((arguments : Term) → scope ≡ Some arguments → pack_length arguments t ≡ None) → packs_in scope t ≡ None
-unfolding packs_in
-no-pack-named None t none = refl
-no-pack-named (Some arguments) t none = none arguments refl
 
 -- what names them may be named again among the same types
 pub again-substituted : (s : Symbol) {scope : Scope} (around : Around) (open_ : List Open) (c : values.Candidate) (st : State) (bytes : List ℕ) (r : Bool)

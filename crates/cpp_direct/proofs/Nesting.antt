@@ -3,9 +3,8 @@ use Rattle.sym_print.specs.declared.detail.Detail.{Detail}
 use Rattle.cpp_direct.specs.WrittenParts.{opening_bracket}
 use Rattle.cpp_direct.specs.declared.open.Arguments.{Arguments}
 use Rattle.cpp_direct.proofs.Unmarked.{name-unmarked}
-use Rattle.cpp_direct.proofs.Scopes.{none-known, scoped-inside, member-named}
-use Rattle.std.proofs.Common.{◌≡◌, ◌≢◌, ℕ, ◌+◌, ◌-◌, ◌≤◌, List, [], ◌∷◌, ◌++◌, length, take, drop, reverse, slice_get, Bool, true, false, Option, Ok, Some, None, refl, ap, sym, ◌∙◌, subst, arith, codes, append-nil, append_assoc, ◌&&◌, length-append}
-use Rattle.std.specs.Option.{IfSome, OnSome}
+use Rattle.cpp_direct.proofs.Scopes.{scoped-inside, member-named}
+use Rattle.std.proofs.Common.{◌≡◌, ◌≢◌, ℕ, ◌+◌, ◌-◌, ◌≤◌, List, [], ◌∷◌, ◌++◌, length, take, drop, reverse, slice_get, Bool, true, false, Some, refl, ap, sym, ◌∙◌, subst, arith, codes, append-nil, append_assoc, ◌&&◌, length-append, Ok}
 use Rattle.std.proofs.lemmas.Bool.{false≢true}
 use Rattle.sym_core.specs.declared.NumberKind.TheVariants.{Seq36}
 use Rattle.sym_core.specs.Value.{counted_value}
@@ -29,18 +28,17 @@ use Rattle.cpp_direct.specs.declared.open.Purpose.{Purpose}
 use Rattle.cpp_direct.specs.declared.open.Purpose.TheVariants as purposes
 use Rattle.cpp_direct.specs.declared.open.Open.{Open}
 use Rattle.cpp_direct.specs.declared.open.Open.TheVariants as opens
-use Rattle.cpp_direct.specs.declared.open.Step.{Step}
 use Rattle.cpp_direct.specs.declared.open.Step.TheVariants as steps
 use Rattle.cpp_direct.specs.declared.direct.Direct.{Direct}
 use Rattle.cpp_direct.specs.Holes.{Opened, Comes, StandsAt, IsNameAt, IsSeqAt, SamePasses, NestGoesOn, AwaitsComponent, with_candidate, unless_listed, IsTagAt}
 use Rattle.cpp_direct.specs.HolesOfNests.{IsRest, IsFirstRest}
 use Rattle.cpp_direct.specs.Names.{tag_text}
 use Rattle.cpp_direct.specs.Prints.{Names, Prints, PrintsAs, NamesClass}
-use Rattle.cpp_direct.specs.WriterInvariant.{HasArguments, IsNaming, IsNest, IsNestScoped, IsNesting, IsOwn, IsScopeOf, IsScoped, IsTemplate, ArgumentsGoOn, Keeps, Scope, Serves, IsWriting, argument_of, below, encoding_place, is_type, qualifiers, IsKnown, nowhere, place_of}
+use Rattle.cpp_direct.specs.WriterInvariant.{HasArguments, IsNaming, IsNest, IsNestScoped, IsNesting, IsOwn, IsScoped, Keeps, Scope, Serves, IsWriting, below, encoding_place, is_type, qualifiers, IsKnown, nowhere, place_of, IsScopeOf, argument_of}
 use Rattle.cpp_direct.specs.MidStep.{AwaitsNest, IsNestKnown, IsNestNamed, IsNameEnded, IsOperatorRead}
 use Rattle.cpp_direct.specs.Written.{Reads, added, added_unless}
 use Rattle.cpp_direct.proofs.Moves.{alone-arguments, any-tail, expects-empty, stands-join, comes-moved}
-use Rattle.cpp_direct.proofs.Kept.{arguments-begun, keeps-grown, keeps-read, keeps-same, keeps-with, keeps-unless, made-here, candidate-found, piece-found, nest-stays, reverse-last, value-comes}
+use Rattle.cpp_direct.proofs.Kept.{keeps-grown, keeps-read, keeps-same, keeps-with, keeps-unless, made-here, candidate-found, piece-found, nest-stays, value-comes, Lists, OpensArguments, list-begins, type-named, none-known}
 use Rattle.cpp_direct.proofs.MovesOfComponents.{component-awaits, component-outside, any-arguments, instance-arguments, nest-end, tag-follows}
 use Rattle.cpp_direct.proofs.MovesOfLists.{arguments-open}
 use Rattle.cpp_direct.proofs.MovesOfTypes.{substituted-so}
@@ -50,25 +48,6 @@ use Rattle.cpp_direct.proofs.PrintedNames.{as-name, source-prints, source-class,
 use Rattle.cpp_direct.proofs.PrintedNests.{tagged-as, std-tagged, again-tagged}
 use Rattle.cpp_direct.proofs.PrintedTypes.{prints-as}
 use Rattle.cpp_direct.proofs.TypesRead.{abbreviation-listed}
-
--- ## What small functions did
-
--- the candidates are these, and nothing else changed
-pub record Lists (old new : Direct) (ks : List Candidate) : Type 0 where
-  pub candidates : new.candidates.list.items ≡ ks
-  pub text : new.text ≡ old.text
-  pub waiting : new.waiting ≡ old.waiting
-  pub nest : new.nest ≡ old.nest
-  pub scope : new.has_scope ≡ old.has_scope
-  pub at : new.at ≡ old.at
-
--- arguments were opened
-pub record OpensArguments (detail : Detail) (old new : Direct) (owner : Open) : Type 0 where
-  pub text : new.text.list.items ≡ old.text.list.items ++ opening_bracket detail
-  pub waiting : new.waiting.list.items ≡ old.waiting.list.items ++ owner ∷ []
-  pub at : new.at ≡ old.at + 1
-  pub candidates : new.candidates ≡ old.candidates
-  pub scope : new.has_scope ≡ old.has_scope
 
 -- ## What types may name
 
@@ -89,12 +68,6 @@ nest-placed s {scope} old new around purpose scoped waiting_is purpose_is naming
   naming = λ e. subst (λ o. IsNaming s scope (reverse o.list.items)) (sym waiting_is) (naming e);
 }
 
--- the name of a function or of data names none
-type-named : (purpose : Purpose) (d : Bool) → (IsOwn purpose → d ≡ false) → d ≡ true → is_type purpose ≡ true
-type-named purposes.Type d closed e = refl
-type-named (purposes.Name mark) d closed e = absurd (false≢true (sym (closed tt) ∙ e))
-type-named (purposes.Enclosing mark) d closed e = absurd (false≢true (sym (closed tt) ∙ e))
-
 -- one that names any is in the symbol's own encoding
 nest-here : (s : Symbol) {scope : Scope} (w : Direct) (around : Around) → IsNestScoped s scope w around → (IsOwn w.nest.purpose → w.nest.is_dependent ≡ false)
     → w.nest.is_dependent ≡ true → around.encoding ≡ encoding_place s.bytes
@@ -109,32 +82,6 @@ closed-prints {detail} names {t = t} {bytes = bytes} closed prints = subst (λ b
 no-function : (detail : Detail) (names : Names) (d : Bool) (t : Term) (bytes : List ℕ) → PrintsAs detail names d t bytes false → is_function_type t ≡ false
 no-function detail names true t bytes prints = prints.no_function
 no-function detail names false t bytes prints = prints.no_function
-
--- ## Arguments are opened
-
--- what a byte says of the symbol, where it isn't after its end
-pub byte-there : (s : List ℕ) (at byte known : ℕ) → byte ≡ known → known ≢ 0 → (byte ≢ 0 → StandsAt s at (byte ∷ [])) → StandsAt s at (known ∷ [])
-byte-there s at byte known is some there = subst (λ b. StandsAt s at (b ∷ [])) is (there (λ e. some (sym is ∙ e)))
-
--- arguments begin after a name
-list-begins : (s : Symbol) (scope : Scope) (old mid new : Direct) (ks : List Candidate) (st : State) (owner : Open) (front name : List ℕ) (t : Term)
-    → Lists old mid ks → OpensArguments (detail_of s) mid new owner → Keeps s scope mid st.candidates
-    → IsTemplate (detail_of s) scope.names owner front t name (old.text.list.items ++ opening_bracket (detail_of s)) → old.text.list.items ≡ front ++ name
-    → ArgumentsGoOn s owner (below s scope (reverse old.waiting.list.items)) front t [] (old.at + 1) st
-    → IsWriting s new (steps.List true)
-list-begins s scope old mid new ks st owner front name t lists opening_ keeps template written goes =
-    let text_is : new.text.list.items ≡ old.text.list.items ++ opening_bracket (detail_of s) = cc (opening_.text, lists.text) in
-    let waiting_is : new.waiting.list.items ≡ old.waiting.list.items ++ owner ∷ [] = cc (opening_.waiting, lists.waiting) in
-    let at_is : new.at ≡ old.at + 1 = cc (opening_.at, lists.at) in
-    record {
-      state = st;
-      scope = scope;
-      keeps = keeps-grown s mid new (opening_bracket (detail_of s)) st.candidates opening_.text opening_.candidates opening_.scope keeps;
-      is_before = arguments-begun s new st owner (reverse old.waiting.list.items) front name t
-          (ap reverse waiting_is ∙ reverse-last old.waiting.list.items owner)
-          (subst (λ l. IsTemplate (detail_of s) scope.names owner front t name l) (sym text_is) template) (text_is ∙ ap (λ l. l ++ opening_bracket (detail_of s)) written)
-          (subst (λ n. ArgumentsGoOn s owner (below s scope (reverse old.waiting.list.items)) front t [] n st) (sym at_is) goes);
-    }
 
 -- ## A name with or without arguments
 
@@ -598,15 +545,6 @@ abbreviation-begins s old mid purpose letter a here behind there text_is candida
     (nest-abbreviation s a.outer a.around old.at a.state letter a.awaits (stands-join s.bytes old.at (83 ∷ []) (letter ∷ []) here (behind some))
     (abbreviation-listed letter there)))
 
--- what a candidate says of the text
-pub candidate-text : (s : Symbol) (w : Direct) (purpose : Purpose) (a : AwaitsNest s w purpose) (n : ℕ) (k : Candidate)
-    → k.from ≤ k.to → slice_get w.candidates.list.items n ≡ Some k → (k.from ≤ k.to) × (k.to ≤ length w.text.list.items)
-candidate-text s w purpose a n k ordered found =
-    let one = candidate-found w.text.list.items w.candidates.list.items a.state.candidates n k a.keeps.candidates ordered found in
-    let is = one.2 in
-    let piece = piece-found w.text.list.items is.front is.bytes is.back k.from k.to is.written is.from_is is.to_is in
-    (piece.0, piece.1)
-
 -- only a type names arguments
 own-closed : (purpose : Purpose) (d : Bool) → (d ≡ true → is_type purpose ≡ true) → IsOwn purpose → d ≡ false
 own-closed purpose false typed own = refl
@@ -694,12 +632,3 @@ std-begins s old mid purpose before name a here is filled text_is candidates_are
       no_structor = λ e. refl;
       serves = subst (λ o. Serves s purpose (below s a.scope (reverse o.list.items)) a.outer old.text.list.items) (sym waiting_is) a.serves;
     }
-
--- what opening arguments says where there was memory
-pub opened-by : (s : Symbol) (r : Option Step) (old new : Direct) (owner : Open) → IfSome r (λ next. next ≡ steps.List true)
-    → OnSome r (new.waiting.list.items ≡ old.waiting.list.items ++ owner ∷ []) → OnSome r (new.at ≡ old.at + 1)
-    → OnSome r (new.text.list.items ≡ old.text.list.items ++ opening_bracket (detail_of s)) → OnSome r (new.candidates ≡ old.candidates)
-    → OnSome r (new.has_scope ≡ old.has_scope) → (OpensArguments (detail_of s) old new owner → IsWriting s new (steps.List true)) → IfSome r (IsWriting s new)
-opened-by s None old new owner step waiting at text candidates scope_same goes = tt
-opened-by s (Some next) old new owner step waiting at text candidates scope_same goes =
-    subst (λ x. IsWriting s new x) (sym step) (goes (record { text = text; waiting = waiting; at = at; candidates = candidates; scope = scope_same }))

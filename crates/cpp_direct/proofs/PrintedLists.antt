@@ -79,73 +79,60 @@ ends-list {detail} tail (inr is) = let l = list (pack nil) nil in subst (EndsLis
 pub element-in : {detail : Detail} (c : Context) (extra : ℕ) (t : Term) (b : List ℕ) → IsElement detail extra t b → IsElementIn detail c extra t b
 element-in c extra t b p = record { both_texts = p.both_texts c; cost = p.cost c; filled = p.filled c; void = p.void }
 
-more-text : {detail : Detail} (c : Context) (extra : ℕ) (ts : List Term) (tail : Term) (texts : List (List ℕ)) (most : ℕ) → EndsList detail most tail
+more-shown : {detail : Detail} (c : Context) (extra : ℕ) (ts : List Term) (tail : Term) (texts : List (List ℕ)) (most : ℕ) → EndsList detail most tail
     → PrintEachIn detail c extra ts texts
-    → text_of (shown_by detail (list_part more c (list_with ts tail))) ≡ further texts
+    → (text_of (shown_by detail (list_part more c (list_with ts tail))) ≡ further texts)
+    × (extra ≤ 6 → cost_of (shown_by detail (list_part more c (list_with ts tail))) ≤ 1 + most + 4 * length (further texts))
 unfolding list_part parts_in not_empty
-more-text {detail} c extra [] tail [] most ends each = ends.more_text c
-more-text {detail} c extra (t ∷ ts) tail (b ∷ bs) most ends each =
-    append-nil (text_of (written_of detail more c (list t (list_with ts tail))))
-    ∙ text_shown detail more c (list t (list_with ts tail)) (says ", " ∷ as_item left c t ∷ as_item right c t ∷ list_part more c (list_with ts tail))
-    (more-is c t (list_with ts tail) (each.0.filled)) refl
-    ∙ ap (λ s. codes ", " ++ s) (element-text (text_of (written_of detail left c t)) (text_of (written_of detail right c t))
-    (text_of (shown_by detail (list_part more c (list_with ts tail)))) b (further bs)
-    (each.0.both_texts) (more-text c extra ts tail bs most ends each.1))
-more-text {detail} c extra [] tail (b ∷ bs) most ends each = elim each [ ]
-more-text {detail} c extra (t ∷ ts) tail [] most ends each = elim each [ ]
-
-more-cost : {detail : Detail} (c : Context) (extra : ℕ) (ts : List Term) (tail : Term) (texts : List (List ℕ)) (most : ℕ) → extra ≤ 6
-    → EndsList detail most tail → PrintEachIn detail c extra ts texts
-    → cost_of (shown_by detail (list_part more c (list_with ts tail))) ≤ 1 + most + 4 * length (further texts)
-unfolding list_part parts_in not_empty
-more-cost {detail} c extra [] tail [] most few ends each = omega (arith, ends.more_cost c)
-more-cost {detail} c extra (t ∷ ts) tail (b ∷ bs) most few ends each =
-    omega (
-      arith,
-      more-cost c extra ts tail bs most few ends each.1,
-      few,
-      each.0.cost,
-      length-append b (further bs),
-      length-append (codes ", ") (b ++ further bs),
-      cost_shown detail more c (list t (list_with ts tail)) (says ", " ∷ as_item left c t ∷ as_item right c t ∷ list_part more c (list_with ts tail))
-          (more-is c t (list_with ts tail) (each.0.filled)) refl,
+more-shown {detail} c extra [] tail [] most ends each = (ends.more_text c, λ few. omega (arith, ends.more_cost c))
+more-shown {detail} c extra (t ∷ ts) tail (b ∷ bs) most ends each =
+    let l = list t (list_with ts tail) in
+    let parts = says ", " ∷ as_item left c t ∷ as_item right c t ∷ list_part more c (list_with ts tail) in
+    let is = more-is c t (list_with ts tail) each.0.filled in
+    let later = more-shown c extra ts tail bs most ends each.1 in (
+      append-nil (text_of (written_of detail more c l)) ∙ text_shown detail more c l parts is refl
+          ∙ ap (λ s. codes ", " ++ s) (element-text (text_of (written_of detail left c t)) (text_of (written_of detail right c t))
+          (text_of (shown_by detail (list_part more c (list_with ts tail)))) b (further bs) each.0.both_texts later.0),
+      λ few. omega (
+        arith,
+        later.1 few,
+        few,
+        each.0.cost,
+        length-append b (further bs),
+        length-append (codes ", ") (b ++ further bs),
+        cost_shown detail more c l parts is refl,
+      ),
     )
-more-cost {detail} c extra [] tail (b ∷ bs) most few ends each = elim each [ ]
-more-cost {detail} c extra (t ∷ ts) tail [] most few ends each = elim each [ ]
+more-shown {detail} c extra [] tail (b ∷ bs) most ends each = elim each [ ]
+more-shown {detail} c extra (t ∷ ts) tail [] most ends each = elim each [ ]
 
-first-text : {detail : Detail} (c : Context) (extra : ℕ) (ts : List Term) (tail : Term) (texts : List (List ℕ)) (most : ℕ) → EndsList detail most tail
+first-shown : {detail : Detail} (c : Context) (extra : ℕ) (ts : List Term) (tail : Term) (texts : List (List ℕ)) (most : ℕ) → EndsList detail most tail
     → PrintEachIn detail c extra ts texts
-    → text_of (shown_by detail (list_part first c (list_with ts tail))) ≡ joined texts
+    → (text_of (shown_by detail (list_part first c (list_with ts tail))) ≡ joined texts)
+    × (extra ≤ 6 → cost_of (shown_by detail (list_part first c (list_with ts tail))) ≤ 1 + most + extra + 4 * length (joined texts))
 unfolding list_part parts_in not_empty
-first-text {detail} c extra [] tail [] most ends each = ends.first_text c
-first-text {detail} c extra (t ∷ ts) tail (b ∷ bs) most ends each =
-    append-nil (text_of (written_of detail first c (list t (list_with ts tail))))
-    ∙ text_shown detail first c (list t (list_with ts tail)) (as_item left c t ∷ as_item right c t ∷ list_part more c (list_with ts tail))
-    (first-is c t (list_with ts tail) (each.0.filled)) refl
-    ∙ element-text (text_of (written_of detail left c t)) (text_of (written_of detail right c t)) (text_of (shown_by detail (list_part more c (list_with ts tail)))) b (further bs)
-    (each.0.both_texts) (more-text c extra ts tail bs most ends each.1)
-    ∙ sym (joined-further b bs)
-first-text {detail} c extra [] tail (b ∷ bs) most ends each = elim each [ ]
-first-text {detail} c extra (t ∷ ts) tail [] most ends each = elim each [ ]
-
-first-cost : {detail : Detail} (c : Context) (extra : ℕ) (ts : List Term) (tail : Term) (texts : List (List ℕ)) (most : ℕ) → extra ≤ 6
-    → EndsList detail most tail → PrintEachIn detail c extra ts texts
-    → cost_of (shown_by detail (list_part first c (list_with ts tail))) ≤ 1 + most + extra + 4 * length (joined texts)
-unfolding list_part parts_in not_empty
-first-cost {detail} c extra [] tail [] most few ends each = omega (arith, ends.first_cost c)
-first-cost {detail} c extra (t ∷ ts) tail (b ∷ bs) most few ends each =
-    omega (
-      arith,
-      more-cost c extra ts tail bs most few ends each.1,
-      few,
-      each.0.cost,
-      ap length (joined-further b bs),
-      length-append b (further bs),
-      cost_shown detail first c (list t (list_with ts tail)) (as_item left c t ∷ as_item right c t ∷ list_part more c (list_with ts tail))
-          (first-is c t (list_with ts tail) (each.0.filled)) refl,
+first-shown {detail} c extra [] tail [] most ends each = (ends.first_text c, λ few. omega (arith, ends.first_cost c))
+first-shown {detail} c extra (t ∷ ts) tail (b ∷ bs) most ends each =
+    let l = list t (list_with ts tail) in
+    let parts = as_item left c t ∷ as_item right c t ∷ list_part more c (list_with ts tail) in
+    let is = first-is c t (list_with ts tail) each.0.filled in
+    let later = more-shown c extra ts tail bs most ends each.1 in (
+      append-nil (text_of (written_of detail first c l)) ∙ text_shown detail first c l parts is refl
+          ∙ element-text (text_of (written_of detail left c t)) (text_of (written_of detail right c t))
+          (text_of (shown_by detail (list_part more c (list_with ts tail)))) b (further bs) each.0.both_texts later.0
+          ∙ sym (joined-further b bs),
+      λ few. omega (
+        arith,
+        later.1 few,
+        few,
+        each.0.cost,
+        ap length (joined-further b bs),
+        length-append b (further bs),
+        cost_shown detail first c l parts is refl,
+      ),
     )
-first-cost {detail} c extra [] tail (b ∷ bs) most few ends each = elim each [ ]
-first-cost {detail} c extra (t ∷ ts) tail [] most few ends each = elim each [ ]
+first-shown {detail} c extra [] tail (b ∷ bs) most ends each = elim each [ ]
+first-shown {detail} c extra (t ∷ ts) tail [] most ends each = elim each [ ]
 
 pub list-with-none : (ts : List Term) → list_with ts nil ≡ list_of ts
 list-with-none [] = refl
@@ -173,25 +160,25 @@ all-in detail c extra ts l all = all-by (IsElement detail extra) (IsElementIn de
 -- What a list prints in a context whose last elements may be nothing,
 pub list-text-before : (detail : Detail) (c : Context) (extra : ℕ) (ts : List Term) (tail : Term) (l : List ℕ) → IsTail tail → PrintAllIn detail c extra ts l
     → text_of (shown_by detail (list_part first c (list_with ts tail))) ≡ l
-list-text-before detail c extra ts tail l is all = first-text c extra ts tail all.0 1 (ends-list tail is) all.1 ∙ all.2
+list-text-before detail c extra ts tail l is all = (first-shown c extra ts tail all.0 1 (ends-list tail is) all.1).0 ∙ all.2
 
 -- at a cost that its text bounds
 pub list-cost-before : (detail : Detail) (c : Context) (extra : ℕ) (ts : List Term) (tail : Term) (l : List ℕ) → extra ≤ 6 → IsTail tail
     → PrintAllIn detail c extra ts l → cost_of (shown_by detail (list_part first c (list_with ts tail))) ≤ 2 + extra + 4 * length l
-list-cost-before detail c extra ts tail l few is all = omega (arith, first-cost c extra ts tail all.0 1 few (ends-list tail is) all.1, ap length all.2)
+list-cost-before detail c extra ts tail l few is all = omega (arith, (first-shown c extra ts tail all.0 1 (ends-list tail is) all.1).1 few, ap length all.2)
 
 -- What a list prints in a context,
 pub list-text-in : (detail : Detail) (c : Context) (extra : ℕ) (ts : List Term) (l : List ℕ) → PrintAllIn detail c extra ts l
     → text_of (shown_by detail (list_part first c (list_of ts))) ≡ l
 list-text-in detail c extra ts l all =
-    subst (λ k. text_of (shown_by detail (list_part first c k)) ≡ l) (list-with-none ts) (first-text c extra ts nil all.0 0 ends-bare all.1 ∙ all.2)
+    subst (λ k. text_of (shown_by detail (list_part first c k)) ≡ l) (list-with-none ts) ((first-shown c extra ts nil all.0 0 ends-bare all.1).0 ∙ all.2)
 
 -- at a cost that its text bounds
 pub list-cost-in : (detail : Detail) (c : Context) (extra : ℕ) (ts : List Term) (l : List ℕ) → extra ≤ 6 → PrintAllIn detail c extra ts l
     → cost_of (shown_by detail (list_part first c (list_of ts))) ≤ 1 + extra + 4 * length l
 list-cost-in detail c extra ts l few all =
     subst (λ k. cost_of (shown_by detail (list_part first c k)) ≤ 1 + extra + 4 * length l) (list-with-none ts)
-    (omega (arith, first-cost c extra ts nil all.0 0 few ends-bare all.1, ap length all.2))
+    (omega (arith, (first-shown c extra ts nil all.0 0 ends-bare all.1).1 few, ap length all.2))
 
 -- What a list prints,
 pub list-text : (detail : Detail) (c : Context) (extra : ℕ) (ts : List Term) (l : List ℕ) → PrintAll detail extra ts l
@@ -288,6 +275,14 @@ none-print detail extra = ([], tt, refl)
 
 pub none-print-in : (detail : Detail) (c : Context) (extra : ℕ) → PrintAllIn detail c extra [] []
 none-print-in detail c extra = ([], tt, refl)
+
+-- no elements have no text
+pub none-text : (by : Term → List ℕ → Type 0) (l : List ℕ) → PrintAllBy by [] l → l ≡ []
+none-text by l all = go all.0 all.1 all.2
+  where
+    go : (texts : List (List ℕ)) → PrintEachBy by [] texts → joined texts ≡ l → l ≡ []
+    go [] each is = sym is
+    go (b ∷ bs) each is = absurd each
 
 -- One prints itself.
 one-prints : (by : Term → List ℕ → Type 0) (t : Term) (b : List ℕ) → by t b → PrintAllBy by (t ∷ []) b

@@ -225,18 +225,21 @@ pub encoding-returned : (v : Value) (mark : Mark) (own : Term) → IsNamedSo v o
 encoding-returned v mark own is returns r items =
     returned-items v (ap has_return_type is.tree_is ∙ returns) r items ∙ rw (is.tree_is, is.qualifiers_are, is.mark_is) refl
 
--- Parameters that aren't a lone void are those of the function that they make.
-pub made-with : (mark : Mark) (own : Term) (make : Term → Term) → ((t rest : Term) → make (list t rest) ≡ plain_encoding mark own (list t rest))
+-- Parameters that aren't a lone void are those of the function that they make, with some return type or none.
+pub made-with : (own returned : Term) (mark : Mark) (make : Term → Term)
+    → ((t rest : Term) → make (list t rest) ≡ function own (qualifiers (has_const mark)) (called_on mark) returned (parameters (list t rest)))
     → (ts : List Term) → ts ≢ [] → parameters (list_of ts) ≡ list_of ts
-    → make (list_of ts) ≡ function own (qualifiers (has_const mark)) (called_on mark) absent (list_of ts)
-made-with mark own make makes [] some kept = absurd (some refl)
-made-with mark own make makes (t ∷ ts) some kept = makes t (list_of ts) ∙ ap (function own (qualifiers (has_const mark)) (called_on mark) absent) kept
+    → make (list_of ts) ≡ function own (qualifiers (has_const mark)) (called_on mark) returned (list_of ts)
+made-with own returned mark make makes [] some kept = absurd (some refl)
+made-with own returned mark make makes (t ∷ ts) some kept =
+    makes t (list_of ts) ∙ ap (function own (qualifiers (has_const mark)) (called_on mark) returned) kept
 
 -- A lone void makes a function without parameters.
-pub made-void : (mark : Mark) (own : Term) (make : Term → Term) → ((t rest : Term) → make (list t rest) ≡ plain_encoding mark own (list t rest))
-    → make (list_of (builtin (118 ∷ []) ∷ [])) ≡ function own (qualifiers (has_const mark)) (called_on mark) absent nil
+pub made-void : (own returned : Term) (mark : Mark) (make : Term → Term)
+    → ((t rest : Term) → make (list t rest) ≡ function own (qualifiers (has_const mark)) (called_on mark) returned (parameters (list t rest)))
+    → make (list_of (builtin (118 ∷ []) ∷ [])) ≡ function own (qualifiers (has_const mark)) (called_on mark) returned nil
 unfolding parameters is_void is_nil
-made-void mark own make makes = makes (builtin (118 ∷ [])) nil
+made-void own returned mark make makes = makes (builtin (118 ∷ [])) nil
 
 -- A name without items is data.
 pub encoding-object : (v : Value) → encoding_of v nil ≡ object (tree_of v) (qualifiers_of v) (ref_of v)

@@ -14,7 +14,7 @@ use Rattle.cpp_direct.specs.declared.open.Open.TheVariants as opens
 use Rattle.cpp_direct.specs.declared.open.Argument.{Argument}
 use Rattle.cpp_direct.specs.declared.open.Arguments.{Arguments}
 use Rattle.cpp_direct.specs.Marks.{called_on, has_const}
-use Rattle.cpp_direct.specs.WriterInvariant.{IsArgument, IsAmong, AreAmong, HasArguments, HasScope, IsFunction, IsKnown, IsScope, IsScoped, Scope, argument_of, list_with, nowhere, place_of, IsNamedSo, qualifiers}
+use Rattle.cpp_direct.specs.WriterInvariant.{IsArgument, IsAmong, AreAmong, HasArguments, HasScope, IsFunction, IsKnown, IsScope, IsScoped, Scope, argument_of, list_with, place_of, IsNamedSo, qualifiers}
 use Rattle.cpp_direct.specs.MidStep.{AreKnown}
 use Rattle.cpp_direct.proofs.Kept.{placed-stays}
 
@@ -63,14 +63,6 @@ element-there [] tail k t e = cc e
 element-there (u ∷ ts) tail zero t e = (cc e, omega arith)
 element-there (u ∷ ts) tail (suc k) t e = let h = element-there ts tail k t e in (h.0, omega (arith, h.1))
 
--- none is known
-pub none-known : (k : ℕ) → IsKnown (place_of nowhere k) → ⊥
-none-known zero o = absurd (omega (arith, o))
-none-known (suc zero) o = absurd (omega (arith, o))
-none-known (suc (suc zero)) o = absurd (omega (arith, o))
-none-known (suc (suc (suc zero))) o = absurd (omega (arith, o))
-none-known (suc (suc (suc (suc k)))) o = absurd (omega (arith, o))
-
 -- and a function's
 pub function-stays : {detail : Detail} {scope : Scope} (text more : List ℕ) (p : Arguments) (mark : Mark) (make : Term → Term) (ts : List Term) (name texts : List ℕ)
     → IsFunction detail scope text p mark make ts name texts → IsFunction detail scope (text ++ more) p mark make ts name texts
@@ -98,27 +90,19 @@ pub front-scoped : (scope : Scope) (around : Around) (mark : Mark) (start : ℕ)
     → HasScope p around → IsScoped scope around (opens.Front mark start p ∷ rest)
 front-scoped scope around mark start p rest named h q e = scoped-by scope around p q (cc e) named h
 
--- which encoding is theirs says nothing of where they are
-named-there : (place : ℕ) (a : Arguments) (k : ℕ) → place_of (record a { encoding = place }) k ≡ place_of a k
-named-there place a zero = refl
-named-there place a (suc zero) = refl
-named-there place a (suc (suc zero)) = refl
-named-there place a (suc (suc (suc zero))) = refl
-named-there place a (suc (suc (suc (suc k)))) = refl
+-- which encoding is theirs and how many elements a pack has says nothing of where they are
+pub there-still : (place size : ℕ) (a : Arguments) (k : ℕ) → place_of (record a { encoding = place; elements = size }) k ≡ place_of a k
+there-still place size a zero = refl
+there-still place size a (suc zero) = refl
+there-still place size a (suc (suc zero)) = refl
+there-still place size a (suc (suc (suc zero))) = refl
+there-still place size a (suc (suc (suc (suc k)))) = refl
 
 pub arguments-named : {detail : Detail} (text : List ℕ) (place : ℕ) (a : Arguments) (name : Term) → HasArguments detail text a name
     → HasArguments detail text (record a { encoding = place }) name
 arguments-named {detail} text place a name has k o =
-    let same = named-there place a k in
+    let same = there-still place a.elements a k in
     subst (λ (p : Argument). IsArgument detail text a.elements p k name) (sym same) (has k (subst IsKnown same o))
-
--- how many elements a pack has says nothing of where they are
-pub elements-there : (size : ℕ) (a : Arguments) (k : ℕ) → place_of (record a { elements = size }) k ≡ place_of a k
-elements-there size a zero = refl
-elements-there size a (suc zero) = refl
-elements-there size a (suc (suc zero)) = refl
-elements-there size a (suc (suc (suc zero))) = refl
-elements-there size a (suc (suc (suc (suc k)))) = refl
 
 scope-inside : (number : ℕ) (is_pack : Bool) (around : Around) → IsScope number is_pack around → IsScope number is_pack (inside around)
 unfolding inside

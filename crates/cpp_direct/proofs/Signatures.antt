@@ -1,5 +1,4 @@
 -- A writer within a function type: where it begins, after its return type, between its parameters, and after it; and within an array.
-use Rattle.sym_print.specs.declared.detail.Detail.{Detail}
 use Rattle.std.proofs.Common.{◌≡◌, ◌≢◌, inl, inr, ℕ, ◌+◌, ◌-◌, length, List, [], ◌∷◌, ◌++◌, reverse, Bool, true, false, Option, refl, ap, sym, take, ◌∙◌, subst, arith, codes, append_assoc, append-nil, nat_eq, if◌then◌else◌, ◌≤◌, drop, slice_get, Some}
 use Rattle.std.specs.List.{ends_with}
 use Rattle.std.specs.Option.{OnSome, IfSome}
@@ -19,17 +18,17 @@ use Rattle.cpp_direct.specs.Bytes.{is_builtin}
 use Rattle.cpp_direct.specs.Holes.{Opened, StandsAt, Comes, Expects, candidate, with_candidate, IsReferable}
 use Rattle.cpp_direct.specs.HolesOfFunctions.{SignatureGoesOn, plain_function, pointed, with_pointed, reference, reference_letter, FunctionOpened}
 use Rattle.cpp_direct.specs.HolesOfTypes.{NoReference, IsQualifiable}
-use Rattle.cpp_direct.specs.Prints.{Names, PrintEach, PrintAll, joined}
-use Rattle.cpp_direct.specs.WriterInvariant.{below, IsScoped, AreCandidates, IsWriting, Marks, Scope, Stands, TakesFunction, opening_text, list_with, in_front_of_next}
+use Rattle.cpp_direct.specs.Prints.{Names, PrintAll, IsElement}
+use Rattle.cpp_direct.specs.WriterInvariant.{below, IsScoped, AreCandidates, IsWriting, Marks, Scope, Stands, TakesFunction, opening_text, list_with}
 use Rattle.cpp_direct.specs.MidStep.{AwaitsParameter, AwaitsSignature, IsElementPassed, IsFunctionRead, IsReturned, IsArrayRead, IsElementRead}
 use Rattle.cpp_direct.specs.Written.{Writes, hidden, with_hidden}
-use Rattle.cpp_direct.proofs.Ending.{no-void, next-written}
+use Rattle.cpp_direct.proofs.Ending.{no-void}
 use Rattle.cpp_direct.proofs.Kept.{keeps-as, keeps-grown, keeps-same, keeps-written, candidates-more, reverse-last, type-comes}
-use Rattle.cpp_direct.proofs.Listed.{TakesElements, last-found}
+use Rattle.cpp_direct.proofs.Listed.{TakesElements, last-found, comma, in-front}
 use Rattle.cpp_direct.proofs.Moves.{stands-split}
 use Rattle.cpp_direct.proofs.MovesOfTypes.{parameter-opens, reference-opens, signature-ends, builtin-comes, function-opens, pointed-function-opens, array-opens}
 use Rattle.cpp_direct.proofs.PrintedFunctions.{function-element, void-function-element, array-element}
-use Rattle.cpp_direct.proofs.PrintedLists.{list-more, none-print}
+use Rattle.cpp_direct.proofs.PrintedLists.{list-more, none-print, none-text}
 use Rattle.cpp_direct.proofs.Scopes.{none-scoped}
 use Rattle.cpp_direct.proofs.TypesRead.{by-step, given, popped, whole-awaited}
 use Rattle.cpp_direct.specs.declared.open.Access.{Access}
@@ -102,45 +101,18 @@ signature-begins s old new is_pointer p text candidates scope_same waits at =
 
 -- ## Parameters
 
--- the first one comes next
-pub first-next : (s : Symbol) (w : Direct) (is_pointer : Bool) → AwaitsSignature s w is_pointer true → AwaitsParameter s w is_pointer
-first-next s w is_pointer a = record {
-  state = a.state;
-  scope = a.scope;
-  keeps = a.keeps;
-  rest = a.rest;
-  open_is = a.open_is;
-  outer = a.outer;
-  made_in = a.made_in;
-  front = a.front;
-  returned = a.returned;
-  bytes = a.bytes;
-  is_reference = a.is_reference;
-  prints = a.prints;
-  ts = a.ts;
-  texts = a.texts;
-  elements = a.elements;
-  written = a.written ∙ ap (λ l. a.front ++ (a.bytes ++ opening_text is_pointer) ++ l) (in-front a.ts a.texts (a.none refl));
-  goes = a.goes;
-  takes = a.takes;
-  stands = a.stands;
-}
-  where
-    in-front : (ts : List Term) (l : List ℕ) → ts ≡ [] → l ≡ in_front_of_next ts l
-    in-front [] l e = refl
-    in-front (t ∷ ts) l e = absurd (cc e)
-
--- another one comes next
-pub another-next : (s : Symbol) (old new : Direct) (is_pointer : Bool) → AwaitsSignature s old is_pointer false → Writes old new (codes ", ")
-    → AwaitsParameter s new is_pointer
-another-next s old new is_pointer a one =
+-- one comes next, and the comma before it is written but for the first one
+parameter-next : (s : Symbol) (old new : Direct) (is_pointer is_first : Bool) → AwaitsSignature s old is_pointer is_first
+    → new.text.list.items ≡ old.text.list.items ++ comma is_first → new.candidates ≡ old.candidates → new.waiting ≡ old.waiting
+    → new.has_scope ≡ old.has_scope → new.at ≡ old.at → AwaitsParameter s new is_pointer
+parameter-next s old new is_pointer is_first a text candidates waiting scope_same at =
     let led = a.front ++ (a.bytes ++ opening_text is_pointer) in
     record {
       state = a.state;
       scope = a.scope;
-      keeps = keeps-written s old new (codes ", ") a.state.candidates one a.keeps;
+      keeps = keeps-grown s old new (comma is_first) a.state.candidates text candidates scope_same a.keeps;
       rest = a.rest;
-      open_is = ap (λ v. reverse v.list.items) one.waiting ∙ a.open_is;
+      open_is = ap (λ v. reverse v.list.items) waiting ∙ a.open_is;
       outer = a.outer;
       made_in = a.made_in;
       front = a.front;
@@ -151,13 +123,19 @@ another-next s old new is_pointer a one =
       ts = a.ts;
       texts = a.texts;
       elements = a.elements;
-      written = one.text ∙ ap (λ l. l ++ codes ", ") a.written ∙ append_assoc led a.texts (codes ", ")
-          ∙ ap (λ l. led ++ l) (sym (next-written a.ts a.texts (a.some refl)));
-      goes = subst (λ n. SignatureGoesOn s a.outer a.made_in is_pointer (λ l. plain_function a.returned (list_with a.ts l)) n a.state) (sym one.at)
-          a.goes;
+      written = text ∙ ap (λ l. l ++ comma is_first) a.written ∙ append_assoc led a.texts (comma is_first)
+          ∙ ap (λ l. led ++ l) (sym (in-front a.ts a.texts is_first a.none a.some));
+      goes = subst (λ n. SignatureGoesOn s a.outer a.made_in is_pointer (λ l. plain_function a.returned (list_with a.ts l)) n a.state) (sym at) a.goes;
       takes = a.takes;
       stands = a.stands;
     }
+
+pub first-next : (s : Symbol) (w : Direct) (is_pointer : Bool) → AwaitsSignature s w is_pointer true → AwaitsParameter s w is_pointer
+first-next s w is_pointer a = parameter-next s w w is_pointer true a (sym (append-nil w.text.list.items)) refl refl refl refl
+
+pub another-next : (s : Symbol) (old new : Direct) (is_pointer : Bool) → AwaitsSignature s old is_pointer false → Writes old new (codes ", ")
+    → AwaitsParameter s new is_pointer
+another-next s old new is_pointer a one = parameter-next s old new is_pointer false a one.text one.candidates one.waiting one.scope one.at
 
 -- a signature goes on after one more
 one-more : (s : Symbol) (outer : List Opened) (made_in : Around) (is_pointer : Bool) (returned : Term) (ts : List Term) (t : Term) (at : ℕ) (st : State)
@@ -288,13 +266,6 @@ signature-closed s old new is_pointer is_first a ends apart text candidates scop
     kept-apart true e = apart-behind (codes " (*)") (subst (λ b. old.text.list.items ≡ a.front ++ (a.bytes ++ opening_text b) ++ a.texts) e a.written)
     kept-apart false e = apart-behind (codes " ") (subst (λ b. old.text.list.items ≡ a.front ++ (a.bytes ++ opening_text b) ++ a.texts) e a.written)
 
-none-written : (detail : Detail) (l : List ℕ) → PrintAll detail 0 [] l → l ≡ []
-none-written detail l all = go all.0 all.1 all.2
-  where
-    go : (texts : List (List ℕ)) → PrintEach detail 0 [] texts → joined texts ≡ l → l ≡ []
-    go [] each is = sym is
-    go (b ∷ bs) each is = absurd each
-
 -- and a lone void is no parameter
 pub void-closed : (s : Symbol) (old new : Direct) (is_pointer : Bool) (a : AwaitsSignature s old is_pointer true)
     → StandsAt s.bytes old.at (118 ∷ 69 ∷ []) → new.text ≡ old.text → new.candidates ≡ old.candidates → new.has_scope ≡ old.has_scope → new.waiting ≡ old.waiting
@@ -322,7 +293,7 @@ void-closed s old new is_pointer a stands text candidates scope_same waits at =
       front = a.front;
       bytes = a.bytes ++ opening;
       written = ap (λ x. x.list.items) text ∙ a.written
-          ∙ ap (λ l. a.front ++ (a.bytes ++ opening) ++ l) (none-written (detail_of s) a.texts (subst (λ ts. PrintAll (detail_of s) 0 ts a.texts) none a.elements))
+          ∙ ap (λ l. a.front ++ (a.bytes ++ opening) ++ l) (none-text (IsElement (detail_of s) 0) a.texts (subst (λ ts. PrintAll (detail_of s) 0 ts a.texts) none a.elements))
           ∙ append-nil (a.front ++ (a.bytes ++ opening));
       element = λ extra. void-function-element extra is_pointer a.returned a.bytes a.is_reference a.prints;
       comes = subst (λ n. Comes s a.outer (tree (pointed is_pointer made) true) n (with_pointed is_pointer a.made_in made a.state)) (omega (arith, at))
@@ -339,13 +310,28 @@ pub one-hidden : (s : Symbol) (names : Names) (text : List ℕ) (ks : List Candi
     → AreCandidates s names text ks cs → AreCandidates s names text (ks ++ hidden ∷ []) (cs ++ c ∷ [])
 one-hidden s names text ks cs c p = candidates-more text ks cs hidden c p (λ ordered. absurd (omega (arith, ordered)))
 
+-- one more candidate of which nothing is known, or two
+abbrev hidden_behind : (is_marked : Bool) → List Candidate → List Candidate
+hidden_behind true ks = (ks ++ hidden ∷ []) ++ hidden ∷ []
+hidden_behind false ks = ks ++ hidden ∷ []
+
+-- it becomes a candidate, and so does what points or refers to it
+hidden-accessed : (s : Symbol) (names : Names) (access : Access) (ks : List Candidate) (text : List ℕ) (made_in : Around) (t : Term) (st : State)
+    → AreCandidates s names text ks st.candidates
+    → AreCandidates s names text (hidden_behind (is_marked access) ks) (with_accessed access made_in t st).candidates
+hidden-accessed s names accesses.Plain ks text made_in t st p = one-hidden s names text ks st.candidates (candidate made_in t) p
+hidden-accessed s names accesses.Pointer ks text made_in t st p =
+    one-hidden s names text (ks ++ hidden ∷ []) (with_candidate made_in t st).candidates (candidate made_in (pointer t))
+    (one-hidden s names text ks st.candidates (candidate made_in t) p)
+hidden-accessed s names accesses.Lvalue ks text made_in t st p =
+    one-hidden s names text (ks ++ hidden ∷ []) (with_candidate made_in t st).candidates (candidate made_in (lvalue t))
+    (one-hidden s names text ks st.candidates (candidate made_in t) p)
+
 hidden-candidates : (s : Symbol) (names : Names) (w : Direct) (is_pointer : Bool) (text : List ℕ) (made_in : Around) (t : Term) (st : State)
     → AreCandidates s names text w.candidates.list.items st.candidates
     → AreCandidates s names text (with_hidden w is_pointer) (with_pointed is_pointer made_in t st).candidates
-hidden-candidates s names w true text made_in t st p =
-    one-hidden s names text (w.candidates.list.items ++ hidden ∷ []) (with_candidate made_in t st).candidates (candidate made_in (pointer t))
-    (one-hidden s names text w.candidates.list.items st.candidates (candidate made_in t) p)
-hidden-candidates s names w false text made_in t st p = one-hidden s names text w.candidates.list.items st.candidates (candidate made_in t) p
+hidden-candidates s names w true text made_in t st p = hidden-accessed s names accesses.Pointer w.candidates.list.items text made_in t st p
+hidden-candidates s names w false text made_in t st p = hidden-accessed s names accesses.Plain w.candidates.list.items text made_in t st p
 
 -- they are added to the candidates as they were
 pub hidden-behind : (old new : Direct) (is_pointer : Bool) → new.candidates ≡ old.candidates → with_hidden new is_pointer ≡ with_hidden old is_pointer
@@ -459,23 +445,6 @@ value-array s w is_reference access from to p found =
       takes = waits.7;
       stands = waits.8;
     }
-
--- one more candidate of which nothing is known, or two
-abbrev hidden_behind : (is_marked : Bool) → List Candidate → List Candidate
-hidden_behind true ks = (ks ++ hidden ∷ []) ++ hidden ∷ []
-hidden_behind false ks = ks ++ hidden ∷ []
-
--- it becomes a candidate, and so does what points or refers to it
-hidden-accessed : (s : Symbol) (names : Names) (access : Access) (ks : List Candidate) (text : List ℕ) (made_in : Around) (t : Term) (st : State)
-    → AreCandidates s names text ks st.candidates
-    → AreCandidates s names text (hidden_behind (is_marked access) ks) (with_accessed access made_in t st).candidates
-hidden-accessed s names accesses.Plain ks text made_in t st p = one-hidden s names text ks st.candidates (candidate made_in t) p
-hidden-accessed s names accesses.Pointer ks text made_in t st p =
-    one-hidden s names text (ks ++ hidden ∷ []) (with_candidate made_in t st).candidates (candidate made_in (pointer t))
-    (one-hidden s names text ks st.candidates (candidate made_in t) p)
-hidden-accessed s names accesses.Lvalue ks text made_in t st p =
-    one-hidden s names text (ks ++ hidden ∷ []) (with_candidate made_in t st).candidates (candidate made_in (lvalue t))
-    (one-hidden s names text ks st.candidates (candidate made_in t) p)
 
 with-hidden : (w : Direct) (b : Bool) → with_hidden w b ≡ hidden_behind b w.candidates.list.items
 with-hidden w true = refl

@@ -14,7 +14,6 @@ use Rattle.cpp_grammar.specs.Texts.{Naming, look_up, builtin_texts, abbreviation
 use Rattle.cpp_grammar.specs.Parts.{source_text}
 use Rattle.cpp_grammar.specs.Values.{State, Around, outermost, tree}
 use Rattle.cpp_grammar.specs.Between.{after, inside, no_items}
-use Rattle.cpp_direct.specs.WrittenParts.{opening_bracket}
 use Rattle.cpp_direct.specs.Symbol.{detail_of, Symbol}
 use Rattle.cpp_direct.specs.Bytes.{is_builtin, is_builtin_with_d, is_abbreviated}
 use Rattle.cpp_direct.specs.Letters.{builtin_letters, builtin_letters_with_d, abbreviation_letters}
@@ -33,7 +32,7 @@ use Rattle.cpp_direct.specs.MidStep.{AwaitsType, AwaitsNamedType, AwaitsNest, Is
 use Rattle.cpp_direct.specs.Written.{Reads, Writes, added, added_unless}
 use Rattle.cpp_direct.proofs.Unmarked.{name-unmarked}
 use Rattle.cpp_direct.proofs.Scopes.{scoped-inside}
-use Rattle.cpp_direct.proofs.Kept.{arguments-begun, candidate-found, keeps-as, keeps-grown, keeps-read, keeps-same, keeps-with, last-reversed, piece-found, reverse-last, stands-same, type-comes, value-added, value-comes}
+use Rattle.cpp_direct.proofs.Kept.{candidate-found, keeps-as, keeps-grown, keeps-read, keeps-same, keeps-with, last-reversed, piece-found, reverse-last, stands-same, type-comes, value-added, value-comes, Lists, OpensArguments, list-begins}
 use Rattle.cpp_direct.proofs.Moves.{expects-empty, stands-join}
 use Rattle.cpp_direct.proofs.MovesOfLists.{arguments-open}
 use Rattle.cpp_direct.proofs.MovesOfTypes.{solid-opens, builtin-comes, builtin-with-d-comes, pointer-opens, lvalue-opens, rvalue-opens, const-opens, source-opens, std-opens, abbreviation-opens, substitution-opens, substituted-so, nested-type-opens}
@@ -106,64 +105,40 @@ bare-done s old new from listed r a waits text candidates scope at =
     (expects-empty s Kind.ArgumentsAlone (after a.own listed a.around) a.named.inner old.at a.state a.named.awaits refl))) a.stands
 
 -- and arguments do
-argued-done : (s : Symbol) (old mid new : Direct) (from : ℕ) (listed : Bool) → IsTypeNamed s old from listed false → StandsAt s.bytes old.at (73 ∷ [])
-    → mid.candidates.list.items ≡ added_unless old listed from false → mid.text ≡ old.text → mid.waiting ≡ old.waiting → mid.has_scope ≡ old.has_scope
-    → mid.at ≡ old.at → new.waiting.list.items ≡ mid.waiting.list.items ++ opens.TypeArguments from false ∷ []
-    → new.text.list.items ≡ mid.text.list.items ++ opening_bracket (detail_of s) → new.candidates ≡ mid.candidates → new.has_scope ≡ mid.has_scope
-    → new.at ≡ mid.at + 1 → IsWriting s new (steps.List true)
+pub argued-done : (s : Symbol) (old mid new : Direct) (from : ℕ) (listed r : Bool) → IsTypeNamed s old from listed r → r ≡ false → StandsAt s.bytes mid.at (73 ∷ [])
+    → Lists old mid (added_unless old listed from false) → OpensArguments (detail_of s) mid new (opens.TypeArguments from false) → IsWriting s new (steps.List true)
 unfolding inside
-argued-done s old mid new from listed a stands mid_candidates mid_text mid_waits mid_scope mid_at waits text candidates scope at =
-    let state : State = unless_listed listed a.around a.own a.state in
-    let opened : Open = opens.TypeArguments from false in
-    let o = arguments-open s a.named.inner a.around a.own listed old.at a.state a.named.awaits stands in
-    record {
-      state = state;
-      scope = a.scope;
-      keeps = keeps-grown s mid new (opening_bracket (detail_of s)) state.candidates text candidates scope
-          (named-keeps s old mid from listed false a mid_text mid_candidates mid_scope);
-      is_before = arguments-begun s new state opened (reverse old.waiting.list.items) a.front a.bytes a.own
-          (ap reverse waits ∙ reverse-last mid.waiting.list.items opened ∙ ap (λ v. opened ∷ reverse v.list.items) mid_waits) (a.from_is, a.prints)
-          (text ∙ ap (λ v. v.list.items ++ opening_bracket (detail_of s)) mid_text ∙ ap (λ l. l ++ opening_bracket (detail_of s)) a.written) (
-            inside a.around,
-            o.inner,
-            refl,
-            λ within. scoped-inside a.scope a.around (reverse old.waiting.list.items) a.scoped,
-            subst (λ k. Expects s Kind.ArgumentList (inside a.around) o.inner k state) (sym (at ∙ ap (λ k. k + 1) mid_at)) o.awaits,
-            λ l here now comes ended. (
-              a.outer,
-              a.around,
-              a.named.argued (no_items l) (here + 1) now (o.onward l here now comes ended),
-              a.scoped,
-              λ e. absurd (false≢true e),
-              a.stands,
-            ),
-          );
-    }
-
--- the same, if the calls give something
-pub argued-answer : (s : Symbol) (old mid new : Direct) (from : ℕ) (listed r : Bool) (o : Option Step) → IsTypeNamed s old from listed r → r ≡ false
-    → mid.candidates.list.items ≡ added_unless old listed from false → mid.text ≡ old.text → mid.waiting ≡ old.waiting → mid.has_scope ≡ old.has_scope
-    → mid.at ≡ old.at → StandsAt s.bytes mid.at (73 ∷ []) → IfSome o (λ next. next ≡ steps.List true)
-    → OnSome o (new.waiting.list.items ≡ mid.waiting.list.items ++ opens.TypeArguments from false ∷ []) → OnSome o (new.at ≡ mid.at + 1)
-    → OnSome o (new.text.list.items ≡ mid.text.list.items ++ opening_bracket (detail_of s)) → OnSome o (new.candidates ≡ mid.candidates)
-    → OnSome o (new.has_scope ≡ mid.has_scope) → IfSome o (IsWriting s new)
-argued-answer s old mid new from listed r o a none candidates text waits scope at stands is new_waits new_at new_text new_candidates new_scope =
-    by-step o (steps.List true) (IsWriting s new) is
-    (λ e. argued-done s old mid new from listed (subst (λ b. IsTypeNamed s old from listed b) none a) (subst (λ k. StandsAt s.bytes k (73 ∷ [])) at stands)
-    candidates text waits scope at (given _ o (steps.List true) e new_waits) (given _ o (steps.List true) e new_text)
-    (given _ o (steps.List true) e new_candidates) (given _ o (steps.List true) e new_scope) (given _ o (steps.List true) e new_at))
+argued-done s old mid new from listed r named none stands lists opening_ =
+    let a = subst (λ b. IsTypeNamed s old from listed b) none named in
+    let o = arguments-open s a.named.inner a.around a.own listed old.at a.state a.named.awaits (subst (λ n. StandsAt s.bytes n (73 ∷ [])) lists.at stands) in
+    list-begins s a.scope old mid new (added_unless old listed from false) (unless_listed listed a.around a.own a.state) (opens.TypeArguments from false) a.front a.bytes
+    a.own lists opening_ (named-keeps s old mid from listed false a lists.text lists.candidates lists.scope) (a.from_is, a.prints) a.written (
+      inside a.around,
+      o.inner,
+      refl,
+      (λ within. scoped-inside a.scope a.around (reverse old.waiting.list.items) a.scoped),
+      o.awaits,
+      (λ l here now comes ended. (
+        a.outer,
+        a.around,
+        a.named.argued (no_items l) (here + 1) now (o.onward l here now comes ended),
+        a.scoped,
+        λ e. absurd (false≢true e),
+        a.stands,
+      )),
+    )
 
 -- ## Letters of tables
 
-code_in : List ℕ → List ℕ → Bool
+unfoldable pub code_in : List ℕ → List ℕ → Bool
 code_in (c ∷ []) cs = among cs c
 code_in _ cs = true
 
-codes_in : List Naming → List ℕ → Bool
+unfoldable pub codes_in : List Naming → List ℕ → Bool
 codes_in [] cs = true
 codes_in (n ∷ rest) cs = code_in n.code cs && codes_in rest cs
 
-letter-listed : (table : List Naming) (cs : List ℕ) (letter : ℕ) → codes_in table cs ≡ true → look_up (letter ∷ []) table ≢ []
+pub letter-listed : (table : List Naming) (cs : List ℕ) (letter : ℕ) → codes_in table cs ≡ true → look_up (letter ∷ []) table ≢ []
     → among cs letter ≡ true
 unfolding look_up same_bytes code_in codes_in
 letter-listed [] cs letter all has = absurd (has refl)
@@ -364,14 +339,6 @@ abbreviation-named s old new from letter a s_stands stands has text candidates w
     (stands-join s.bytes old.at (83 ∷ []) (letter ∷ []) s_stands (stands (no-abbreviation letter is)))))
     text begins (abbreviation-prints letter has) (λ e. refl) waits
 
--- where a substitution's text is
-pub substitution-stands : (s : Symbol) (old : Direct) (n : ℕ) (k : Candidate) → AwaitsNamedType s old → k.from ≤ k.to → slice_get old.candidates.list.items n ≡ Some k
-    → (k.from ≤ k.to) × (k.to ≤ length old.text.list.items)
-substitution-stands s old n k a ordered found =
-    let c = candidate-found old.text.list.items old.candidates.list.items a.state.candidates n k a.keeps.candidates ordered found in
-    let piece = piece-found old.text.list.items c.2.front c.2.bytes c.2.back k.from k.to c.2.written c.2.from_is c.2.to_is in
-    (piece.0, piece.1)
-
 -- a substitution
 pub substitution-named : (s : Symbol) (old mid new : Direct) (n from : ℕ) (digits : List ℕ) (k : Candidate) → AwaitsNamedType s old → StandsAt s.bytes old.at (83 ∷ [])
     → IsSeqAt s.bytes (old.at + 1) digits mid.at → k.from ≤ k.to → slice_get old.candidates.list.items (counted_value Seq36 digits) ≡ Some k
@@ -448,26 +415,18 @@ pub lvalue-opened : (s : Symbol) (old new : Direct) (o : Option Step) (from : �
     → StandsAt s.bytes old.at (82 ∷ []) → IfSome o (λ next. next ≡ steps.Type) → OnSome o (new.waiting.list.items ≡ old.waiting.list.items ++ opens.Lvalue from ∷ [])
     → OnSome o (new.at ≡ old.at + 1) → new.text ≡ old.text → new.candidates ≡ old.candidates → new.has_scope ≡ old.has_scope → IfSome o (IsWriting s new)
 lvalue-opened s old new o from a begins stands is waits at text candidates scope =
-    go a.referable
-  where
-    go : IsReferable a.kind ⊎ NoReference s.bytes old.at → IfSome o (IsWriting s new)
-    go (inr none) = absurd (none.0 stands)
-    go (inl referable) =
-        type-opened s old new o (opens.Lvalue from) from lvalue a (lvalue-opens s a.kind a.around a.os old.at a.state referable a.awaits stands) begins
-        (λ m. m) a.scoped is waits at text candidates scope
+    let referable : IsReferable a.kind = elim a.referable [ inl may ↦ may | inr none ↦ absurd (none.0 stands) ] in
+    type-opened s old new o (opens.Lvalue from) from lvalue a (lvalue-opens s a.kind a.around a.os old.at a.state referable a.awaits stands) begins
+    (λ m. m) a.scoped is waits at text candidates scope
 
 -- and after an O
 pub rvalue-opened : (s : Symbol) (old new : Direct) (o : Option Step) (from : ℕ) → AwaitsType s old → from ≡ length old.text.list.items
     → StandsAt s.bytes old.at (79 ∷ []) → IfSome o (λ next. next ≡ steps.Type) → OnSome o (new.waiting.list.items ≡ old.waiting.list.items ++ opens.Rvalue from ∷ [])
     → OnSome o (new.at ≡ old.at + 1) → new.text ≡ old.text → new.candidates ≡ old.candidates → new.has_scope ≡ old.has_scope → IfSome o (IsWriting s new)
 rvalue-opened s old new o from a begins stands is waits at text candidates scope =
-    go a.referable
-  where
-    go : IsReferable a.kind ⊎ NoReference s.bytes old.at → IfSome o (IsWriting s new)
-    go (inr none) = absurd (none.1 stands)
-    go (inl referable) =
-        type-opened s old new o (opens.Rvalue from) from rvalue a (rvalue-opens s a.kind a.around a.os old.at a.state referable a.awaits stands) begins
-        (λ m. m) a.scoped is waits at text candidates scope
+    let referable : IsReferable a.kind = elim a.referable [ inl may ↦ may | inr none ↦ absurd (none.1 stands) ] in
+    type-opened s old new o (opens.Rvalue from) from rvalue a (rvalue-opens s a.kind a.around a.os old.at a.state referable a.awaits stands) begins
+    (λ m. m) a.scoped is waits at text candidates scope
 
 -- a plain type is expected, where one with a qualifier may be
 plain-opened : (s : Symbol) (old new : Direct) (o : Option Step) (from : ℕ) (a : AwaitsType s old) → IsQualifiable a.kind

@@ -13,6 +13,7 @@ use Rattle.cpp_grammar.specs.Parts.{source_text, begins_with, thunk_text, encodi
 use Rattle.cpp_grammar.specs.Term.{Thunk, adjusting, covariant, non_virtual, by_table, Qualifiers, RefQualifier, any_value, lvalue_only, rvalue_only}
 use Rattle.cpp_direct.specs.Holes.{IsNameAt}
 use Rattle.cpp_direct.specs.HolesOfLists.{IsSuffix}
+use Rattle.cpp_grammar.specs.Grammar.{among}
 use Rattle.cpp_direct.specs.ItemBytes.{is_suffix_byte}
 use Rattle.cpp_direct.specs.Names.{operator_text}
 use Rattle.cpp_direct.specs.WrittenParts.{unmarked_byte, unmarked, is_unmarked, IsUnmarked}
@@ -47,7 +48,7 @@ pub digits-unmarked : (digits : List ℕ) → AllByRecursion (λ b. is_decimal_d
 digits-unmarked digits each = each-unmarked (λ b. is_decimal_digit b ≡ true) digit-byte digits each
 
 suffix-byte : (byte : ℕ) → is_suffix_byte byte ≡ true → is_mark byte ≡ false
-unfolding is_suffix_byte
+unfolding is_suffix_byte among
 suffix-byte byte is = test-unmarked is_suffix_byte refl refl byte is
 
 -- nor has a suffix

@@ -1,9 +1,7 @@
 -- Names of encodings that are in no class, and of local entities: where a writer is after them.
-use Rattle.cpp_direct.specs.WrittenParts.{opening_bracket}
 use Rattle.cpp_direct.proofs.Unmarked.{name-unmarked}
-use Rattle.cpp_direct.proofs.Scopes.{none-known, plain-named}
-use Rattle.std.proofs.Common.{◌≡◌, ◌≢◌, ℕ, ◌+◌, length, List, [], ◌∷◌, ◌++◌, reverse, Bool, true, false, not, cond, Option, Some, None, refl, ap, sym, subst, ◌∙◌, arith, append_assoc, codes, ◌≤◌, append-nil}
-use Rattle.std.specs.Option.{IfSome, OnSome}
+use Rattle.cpp_direct.proofs.Scopes.{plain-named}
+use Rattle.std.proofs.Common.{◌≡◌, ◌≢◌, ℕ, ◌+◌, length, List, [], ◌∷◌, ◌++◌, Bool, true, false, not, cond, refl, ap, sym, subst, ◌∙◌, arith, append_assoc, codes, ◌≤◌, append-nil}
 use Rattle.std.proofs.lemmas.Bool.{false≢true}
 use Rattle.cpp_grammar.specs.declared.kind.Kind.{Kind}
 use Rattle.cpp_grammar.specs.Grammar.{may_be_empty}
@@ -13,9 +11,8 @@ use Rattle.cpp_grammar.specs.Scope.{has_return_type, arguments_of, is_structor}
 use Rattle.cpp_grammar.specs.Values.{State, piece, tree, tree_of, qualifiers_of, ref_of, Value, nothing_there, named, unqualified}
 use Rattle.cpp_grammar.specs.Between.{after, in_name, inside, no_items, with_tag, in_types}
 use Rattle.cpp_direct.specs.Symbol.{detail_of, Symbol}
-use Rattle.cpp_direct.specs.declared.open.Step.{Step}
 use Rattle.cpp_direct.specs.declared.direct.Direct.{Direct}
-use Rattle.cpp_direct.specs.Holes.{StandsAt, Comes, Expects, IsNameAt, Named, with_candidate, IsTagAt}
+use Rattle.cpp_direct.specs.Holes.{StandsAt, Comes, IsNameAt, Named, with_candidate, IsTagAt}
 use Rattle.cpp_direct.specs.Names.{IsOperatorAt, is_angle, operator_text, tag_text}
 use Rattle.cpp_direct.specs.Prints.{Prints, PrintsName, Shows}
 use Rattle.cpp_direct.specs.WriterInvariant.{IsWriting, Keeps, Scope, no_scope, nowhere, EntityBehind}
@@ -25,7 +22,7 @@ use Rattle.cpp_direct.proofs.Begins.{encoding-expected, items-await, encoded-who
 use Rattle.cpp_direct.proofs.Moves.{alone-arguments, expects-empty, stands-join}
 use Rattle.cpp_direct.proofs.MovesOfComponents.{tag-follows}
 use Rattle.cpp_direct.proofs.PrintedNests.{tagged-names, tagged-prints}
-use Rattle.cpp_direct.proofs.Kept.{arguments-begun, keeps-grown, keeps-read, keeps-same, keeps-with, none-kept, reverse-last}
+use Rattle.cpp_direct.proofs.Kept.{keeps-grown, keeps-read, keeps-same, keeps-with, none-kept, Lists, OpensArguments, list-begins, none-known}
 use Rattle.cpp_direct.proofs.NamePlaces.{reads-then, reads-of, reads-begun}
 use Rattle.cpp_direct.proofs.MovesOfEncodings.{name-source, name-internal, name-operator, name-std, operator-piece-comes, symbol-starts, encoding-opens}
 use Rattle.cpp_direct.proofs.MovesOfLists.{arguments-open}
@@ -228,53 +225,25 @@ unscoped-tagged s old new from takes tag wide p is reads =
       no_structor = p.no_structor;
     }
 
--- where arguments were opened after it
-list-stands : (s : Symbol) (read kept new : Direct) (from : ℕ) (takes : Bool) → IsUnscoped s read from takes → takes ≡ true → StandsAt s.bytes read.at (73 ∷ [])
-    → kept.candidates.list.items ≡ added read from false false → kept.text ≡ read.text → kept.waiting ≡ read.waiting → kept.has_scope ≡ read.has_scope → kept.at ≡ read.at
-    → new.waiting.list.items ≡ kept.waiting.list.items ++ opens.NameArguments from ∷ [] → new.at ≡ kept.at + 1
-    → new.text.list.items ≡ kept.text.list.items ++ opening_bracket (detail_of s) → new.candidates ≡ kept.candidates → new.has_scope ≡ kept.has_scope
-    → IsWriting s new (steps.List true)
-unfolding in_name inside
-list-stands s read kept new from takes p some there ks same_text same_open same_scope same_at open_ at_ text_ candidates_ scope_ =
-    let text_is : new.text.list.items ≡ read.text.list.items ++ opening_bracket (detail_of s) = cc (text_, same_text) in
-    let waiting_is : new.waiting.list.items ≡ read.waiting.list.items ++ opens.NameArguments from ∷ [] = cc (open_, same_open) in
-    let here_is : new.at ≡ read.at + 1 = cc (at_, same_at) in
-    let own = p.own in
-    let st = p.state in
-    let place = p.encoding in
-    let has = p.has in
-    let list = arguments-open s has.inner (in_name place) own false read.at st
-    (alone-arguments s (after own false (in_name place)) has.inner read.at st has.awaits) there in
-    let prints = p.prints some in
-    let state = with_candidate (in_name place) own st in
-    record {
-      state = state;
-      scope = p.scope;
-      keeps = keeps-grown s kept new (opening_bracket (detail_of s)) state.candidates text_ candidates_ scope_
-          (keeps-with s read kept st p.front p.bytes from own (in_name place) false false p.keeps p.written p.from_is prints (λ e. absurd (false≢true e)) same_text ks same_scope);
-      is_before = arguments-begun s new state (opens.NameArguments from) (reverse read.waiting.list.items) p.front p.bytes own
-          (ap reverse waiting_is ∙ reverse-last read.waiting.list.items (opens.NameArguments from)) (p.from_is, prints, p.no_structor)
-          (text_is ∙ ap (λ l. l ++ opening_bracket (detail_of s)) p.written) (
-            inside (in_name place),
-            list.inner,
-            refl,
-            (λ e. absurd (false≢true e)),
-            subst (λ n. Expects s Kind.ArgumentList (inside (in_name place)) list.inner n state) (sym here_is) list.awaits,
-            λ l at now comes ended. has.argued (no_items l) (at + 1) now (list.onward l at now comes ended),
-          );
-    }
-
 -- arguments
-pub unscoped-argued : (s : Symbol) (read kept new : Direct) (from : ℕ) (takes : Bool) (r : Option Step) → IsUnscoped s read from takes → takes ≡ true
-    → StandsAt s.bytes read.at (73 ∷ []) → kept.candidates.list.items ≡ added read from false false → kept.text ≡ read.text → kept.waiting ≡ read.waiting
-    → kept.has_scope ≡ read.has_scope → kept.at ≡ read.at
-    → IfSome r (λ next. next ≡ steps.List true) → OnSome r (new.waiting.list.items ≡ kept.waiting.list.items ++ opens.NameArguments from ∷ []) → OnSome r (new.at ≡ kept.at + 1)
-    → OnSome r (new.text.list.items ≡ kept.text.list.items ++ opening_bracket (detail_of s)) → OnSome r (new.candidates ≡ kept.candidates)
-    → OnSome r (new.has_scope ≡ kept.has_scope) → IfSome r (IsWriting s new)
-unscoped-argued s read kept new from takes None p some there ks same_text same_open same_scope same_at step open_ at_ text_ candidates_ scope_ = tt
-unscoped-argued s read kept new from takes (Some next) p some there ks same_text same_open same_scope same_at step open_ at_ text_ candidates_ scope_ =
-    subst (λ x. IsWriting s new x) (sym step)
-    (list-stands s read kept new from takes p some there ks same_text same_open same_scope same_at open_ at_ text_ candidates_ scope_)
+pub unscoped-argued : (s : Symbol) (read kept new : Direct) (from : ℕ) (takes : Bool) → IsUnscoped s read from takes → takes ≡ true → StandsAt s.bytes read.at (73 ∷ [])
+    → Lists read kept (added read from false false) → OpensArguments (detail_of s) kept new (opens.NameArguments from) → IsWriting s new (steps.List true)
+unfolding in_name inside
+unscoped-argued s read kept new from takes p some there lists opening_ =
+    let here = in_name p.encoding in
+    let list = arguments-open s p.has.inner here p.own false read.at p.state
+    (alone-arguments s (after p.own false here) p.has.inner read.at p.state p.has.awaits) there in
+    let prints = p.prints some in
+    list-begins s p.scope read kept new (added read from false false) (with_candidate here p.own p.state) (opens.NameArguments from) p.front p.bytes p.own lists opening_
+    (keeps-with s read kept p.state p.front p.bytes from p.own here false false p.keeps p.written p.from_is prints (λ e. absurd (false≢true e))
+    lists.text lists.candidates lists.scope) (p.from_is, prints, p.no_structor) p.written (
+      inside here,
+      list.inner,
+      refl,
+      (λ e. absurd (false≢true e)),
+      list.awaits,
+      (λ l at now comes ended. p.has.argued (no_items l) (at + 1) now (list.onward l at now comes ended)),
+    )
 
 -- ## The beginnings of local entities
 

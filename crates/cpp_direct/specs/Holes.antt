@@ -2,6 +2,7 @@
 -- and that the whole is read once they have it.
 use Rattle.std.specs.Prelude.{◌≡◌, ℕ, ◌+◌, List, [], ◌∷◌, ◌++◌, length, Bool, true, false}
 use Rattle.sym_core.specs.declared.NameClass.TheVariants.{Cpp}
+use Rattle.sym_core.specs.declared.NumberKind.{NumberKind}
 use Rattle.sym_core.specs.declared.NumberKind.TheVariants.{Seq36}
 use Rattle.sym_core.specs.Token.{Token, bytes_of, IsName, IsNumberToken}
 use Rattle.sym_shape.specs.declared.rule.Sym.{Sym}
@@ -78,13 +79,17 @@ pub record IsNameAt (s : List ℕ) (at : ℕ) (name : List ℕ) (end : ℕ) : Ty
 abbrev pub IsTagAt : (s : List ℕ) → (at : ℕ) → (tag : List ℕ) → (end : ℕ) → Type 0
 IsTagAt s at tag end = StandsAt s at (66 ∷ []) × IsNameAt s (at + 1) tag end
 
--- the number of a substitution is at the place, and this is the place after it
-pub record IsSeqAt (s : List ℕ) (at : ℕ) (digits : List ℕ) (end : ℕ) : Type 0 where
+-- a number of this kind is at the place, with these digits or none, and this is the place after it
+pub record IsNumberAt (kind : NumberKind) (s : List ℕ) (at : ℕ) (digits : List ℕ) (end : ℕ) : Type 0 where
   pub token : Token
-  pub is_number : IsNumberToken Seq36 token
+  pub is_number : IsNumberToken kind token
   pub own : token.own ≡ digits
   pub stands : StandsAt s at (bytes_of token)
   pub ends : end ≡ at + length (bytes_of token)
+
+-- the number of a substitution
+abbrev pub IsSeqAt : (s : List ℕ) → (at : ℕ) → (digits : List ℕ) → (end : ℕ) → Type 0
+IsSeqAt s at digits end = IsNumberAt Seq36 s at digits end
 
 -- a type may be expected as one of these kinds
 abbrev pub IsTyped : Kind → Type 0

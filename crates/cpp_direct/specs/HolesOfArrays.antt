@@ -1,6 +1,5 @@
 -- What is expected within an array, and what comes of it.
-use Rattle.std.specs.Prelude.{◌≡◌, ℕ, ◌+◌, List, [], ◌∷◌, length, Bool, true, false, codes}
-use Rattle.sym_core.specs.Token.{Token, IsNumberToken, bytes_of}
+use Rattle.std.specs.Prelude.{ℕ, List, [], ◌∷◌, Bool, true, false, codes}
 use Rattle.sym_core.specs.declared.NumberKind.TheVariants.{Decimal}
 use Rattle.cpp_grammar.specs.declared.kind.Kind.{Kind}
 use Rattle.cpp_grammar.specs.Term.{Term, array, pointer, lvalue}
@@ -9,15 +8,11 @@ use Rattle.cpp_grammar.specs.Values.{State, Around, tree}
 use Rattle.cpp_direct.specs.Symbol.{Symbol}
 use Rattle.cpp_direct.specs.declared.open.Access.{Access}
 use Rattle.cpp_direct.specs.declared.open.Access.TheVariants as accesses
-use Rattle.cpp_direct.specs.Holes.{Opened, StandsAt, Comes, Expects, with_candidate}
+use Rattle.cpp_direct.specs.Holes.{Opened, Comes, Expects, with_candidate, IsNumberAt}
 
 -- the size of an array is at the place, digits or none, and this is the place after it
-pub record IsSizeAt (s : List ℕ) (at : ℕ) (digits : List ℕ) (end : ℕ) : Type 0 where
-  pub token : Token
-  pub is_number : IsNumberToken Decimal token
-  pub own : token.own ≡ digits
-  pub stands : StandsAt s at (bytes_of token)
-  pub ends : end ≡ at + length (bytes_of token)
+abbrev pub IsSizeAt : (s : List ℕ) → (at : ℕ) → (digits : List ℕ) → (end : ℕ) → Type 0
+IsSizeAt s at digits end = IsNumberAt Decimal s at digits end
 
 -- an array, or a pointer or a reference to it
 abbrev pub accessed : Access → Term → Term

@@ -2,7 +2,6 @@
 use Rattle.std.specs.Prelude.{◌≡◌, ℕ, ◌+◌, List, [], ◌∷◌, ◌++◌, length, Bool, true, false, Ok}
 use Rattle.std.specs.List.{AllByRecursion}
 use Rattle.sym_core.specs.declared.NumberKind.TheVariants.{Digits}
-use Rattle.sym_core.specs.Token.{Token, bytes_of, IsNumberToken}
 use Rattle.sym_demangle.specs.Mangled.{StandsFor}
 use Rattle.cpp_grammar.specs.declared.kind.Kind.{Kind}
 use Rattle.cpp_grammar.specs.Term.{RefQualifier, any_value, lvalue_only, rvalue_only, Adjustment, adjusting, Term, symbol, special, thunk, integer, pack}
@@ -11,7 +10,7 @@ use Rattle.cpp_grammar.specs.Between.{in_name, in_types, inside, no_items}
 use Rattle.cpp_grammar.specs.Meaning.{encoding_of}
 use Rattle.cpp_grammar.specs.Unfolding.{first_around, first_state}
 use Rattle.cpp_direct.specs.Symbol.{Symbol, mangled_of}
-use Rattle.cpp_direct.specs.Holes.{Opened, StandsAt, Comes, Expects, ListGoesOn}
+use Rattle.cpp_direct.specs.Holes.{Opened, StandsAt, Comes, Expects, ListGoesOn, IsNumberAt}
 use Rattle.cpp_direct.specs.HolesOfTypes.{TreeOpens}
 use Rattle.cpp_direct.specs.ItemBytes.{is_suffix_byte}
 
@@ -45,12 +44,8 @@ pub record PackOpened (s : Symbol) (outer : List Opened) (around : Around) (at :
       → ListGoesOn s Kind.ArgumentList outer around (pack (no_items l)) (at + 1) st
 
 -- the digits of an integer are at the place, and this is the place after them
-pub record IsDigitsAt (s : List ℕ) (at : ℕ) (digits : List ℕ) (end : ℕ) : Type 0 where
-  pub token : Token
-  pub is_number : IsNumberToken Digits token
-  pub own : token.own ≡ digits
-  pub stands : StandsAt s at (bytes_of token)
-  pub ends : end ≡ at + length (bytes_of token)
+abbrev pub IsDigitsAt : (s : List ℕ) → (at : ℕ) → (digits : List ℕ) → (end : ℕ) → Type 0
+IsDigitsAt s at digits end = IsNumberAt Digits s at digits end
 
 -- what comes before the digits of an integer
 abbrev pub minus_sign : Bool → List ℕ

@@ -6,7 +6,7 @@ ghost use Rattle.cpp_direct.specs.ItemBytes.{is_integer_letter};
 ghost use Rattle.cpp_direct.specs.Bytes.{is_builtin_with_d};
 
 /// Whether it is the letter of a type that an integer in an argument may have.
-#[tactic(auto, unfolding(crate::specs::ItemBytes::is_integer_letter))]
+#[tactic(auto, unfolding(crate::specs::ItemBytes::is_integer_letter, cpp_grammar::specs::Grammar::among))]
 #[inline(always)]
 pub fn is_integer_letter(letter: u8) -> bool
     ensures { result ≡ is_integer_letter letter }

@@ -66,7 +66,7 @@ pub fn may_end(byte: u8) -> bool {
 }
 
 /// Whether a byte may be in a suffix.
-#[tactic(auto, unfolding(crate::specs::ItemBytes::is_suffix_byte))]
+#[tactic(auto, unfolding(crate::specs::ItemBytes::is_suffix_byte, cpp_grammar::specs::Grammar::among))]
 fn is_suffix_byte(byte: u8) -> bool
     ensures { result ≡ is_suffix_byte byte }
 {

@@ -1,4 +1,4 @@
-use Rattle.std.proofs.Common.{◌≡◌, ◌≤◌, ◌+◌, ◌-◌, ◌++◌, ◌∷◌, [], length, take, drop, reverse, true, Some, ◌≢◌, subst, sym, ap, ◌∙◌, append-nil}
+use Rattle.std.proofs.Common.{arith, ◌≡◌, ◌≤◌, ◌+◌, ◌-◌, ◌++◌, ◌∷◌, [], length, take, drop, subst, sym, ap, ◌∙◌, append-nil, reverse, true, Some, ◌≢◌}
 use Rattle.std.proofs.lemmas.Bool.{false≢true}
 use Rattle.std.specs.Bool.{◌==◌}
 use Rattle.sym_core.specs.declared.NumberKind.TheVariants.{Seq36}
@@ -9,7 +9,9 @@ use Rattle.cpp_direct.specs.MidStep.{IsNestKnown}
 use Rattle.cpp_direct.specs.WriterInvariant.{argument_of, is_type}
 use Rattle.cpp_direct.specs.declared.open.Arguments.{Arguments}
 use Rattle.cpp_direct.proofs.Moves.{stands-join}
-use Rattle.cpp_direct.proofs.Nesting.{byte-there, candidate-text, reference-begins, abbreviation-begins}
+use Rattle.cpp_direct.proofs.Kept.{candidate-inside}
+use Rattle.cpp_direct.proofs.Nesting.{reference-begins, abbreviation-begins}
+use Rattle.cpp_direct.proofs.TypesRead.{there}
 use Rattle.cpp_direct.proofs.direct.Direct.nest_with_s.Goals as goal
 use Rattle.cpp_direct.proofs.direct.Direct.nest_with_s.Goals.{else-candidate-2-via-then-candidate-2+else-not-may_depend, else-candidate-2-via-else-candidate-2}
 
@@ -21,22 +23,22 @@ nest_in_std-requires-clause-awaits g c =
       sym c.in_ok-self.ensures.1,
       stands-join s at (83 ∷ []) (116 ∷ []) c.requires.letter
           (subst (λ n. StandsAt s n (116 ∷ [])) c.in_ok-self.ensures.1
-          (byte-there s c.in_ok-self.field-0 c.byte_at-letter.result 116 c.if-letter-eq116.true (λ e. cc e) c.byte_at-letter.ensures)),
+          (there s c.in_ok-self.field-0 c.byte_at-letter.result 116 c.if-letter-eq116.true (omega arith) c.byte_at-letter.ensures)),
       c.requires.awaits,
     )
 
 pub repeat-requires-clause-from : goal.repeat-requires-clause-from
 repeat-requires-clause-from g c =
     let is = c.in_ok-candidate.ensures.is in
-    (candidate-text (symbol_by g.G.Grammar.IS_WIDE g.G.Grammar.IS_BARE g.G.Grammar.IS_BRIEF c.args.s.now) c.args.self.now c.args.purpose c.requires.awaits (counted_value Seq36 is.0) c.in_ok-candidate.candidate
-    c.in_ok-candidate.ensures.ordered is.2).0
+    (candidate-inside (symbol_by g.G.Grammar.IS_WIDE g.G.Grammar.IS_BARE g.G.Grammar.IS_BRIEF c.args.s.now) c.args.self.now c.requires.awaits.state.candidates (counted_value Seq36 is.0) c.in_ok-candidate.candidate
+    c.requires.awaits.keeps c.in_ok-candidate.ensures.ordered is.2).0
 
 pub repeat-requires-clause-to : goal.repeat-requires-clause-to
 repeat-requires-clause-to g c =
     let is = c.in_ok-candidate.ensures.is in
     subst (λ l. c.in_ok-candidate.candidate.to ≤ length l) (sym (c.in_ok-candidate.ensures.same.text ∙ append-nil c.args.self.now.text.list.items))
-    (candidate-text (symbol_by g.G.Grammar.IS_WIDE g.G.Grammar.IS_BARE g.G.Grammar.IS_BRIEF c.args.s.now) c.args.self.now c.args.purpose c.requires.awaits (counted_value Seq36 is.0) c.in_ok-candidate.candidate
-    c.in_ok-candidate.ensures.ordered is.2).1
+    (candidate-inside (symbol_by g.G.Grammar.IS_WIDE g.G.Grammar.IS_BARE g.G.Grammar.IS_BRIEF c.args.s.now) c.args.self.now c.requires.awaits.state.candidates (counted_value Seq36 is.0) c.in_ok-candidate.candidate
+    c.requires.awaits.keeps c.in_ok-candidate.ensures.ordered is.2).1
 
 pub nest_known-requires : goal.nest_known-requires
 nest_known-requires g c =

@@ -1,9 +1,11 @@
-use Rattle.std.proofs.Common.{◌∷◌, [], subst}
+use Rattle.std.proofs.Common.{arith, ◌∷◌, [], subst}
 use Rattle.cpp_direct.specs.Symbol.{symbol_by}
 use Rattle.cpp_direct.specs.declared.open.Open.TheVariants as opens
 use Rattle.cpp_direct.specs.Holes.{StandsAt}
 use Rattle.cpp_direct.proofs.MovesOfComponents.{first-is-rest}
-use Rattle.cpp_direct.proofs.Nesting.{component-next, first-opens, byte-there, opened-by}
+use Rattle.cpp_direct.proofs.Kept.{opened-by}
+use Rattle.cpp_direct.proofs.Nesting.{component-next, first-opens}
+use Rattle.cpp_direct.proofs.TypesRead.{there}
 use Rattle.cpp_direct.proofs.direct.Direct.rest_at.Goals as goal
 
 pub returns-then-byte_at-eq73 : goal.returns-then-byte_at-eq73
@@ -16,7 +18,7 @@ returns-then-byte_at-eq73 g c =
     opened-by s c.open_arguments.result mid c.open_arguments.new.self (opens.FirstArguments mid.nest) opened.step opened.«open» opened.at opened.text
     opened.candidates opened.scope
     (first-opens s writing.scope writing.is_before.1 c.args.self.now mid c.open_arguments.new.self writing.state writing.is_before.0 writing.is_before.2 writing.keeps writing.is_before.3
-    (subst (λ n. StandsAt s.bytes n (73 ∷ [])) added.at (byte-there s.bytes mid.at c.byte_at.result 73 c.if-byte_at-eq73.true (λ e. cc e) c.byte_at.ensures))
+    (subst (λ n. StandsAt s.bytes n (73 ∷ [])) added.at (there s.bytes mid.at c.byte_at.result 73 c.if-byte_at-eq73.true (omega arith) c.byte_at.ensures))
     (record { candidates = added.candidates; text = added.text; waiting = added.«open»; nest = added.nest; scope = added.scope; at = added.at }))
 
 pub component_at-requires-clause-writing : goal.component_at-requires-clause-writing

@@ -1,6 +1,6 @@
-use Rattle.std.proofs.Common.{◌+◌, ◌++◌, ◌∷◌, [], length, ◌∙◌, ap, subst, arith}
+use Rattle.std.proofs.Common.{◌+◌, ◌++◌, ◌∷◌, [], length, ◌∙◌, ap, subst, arith, inl, inr}
 use Rattle.cpp_direct.specs.Symbol.{symbol_by}
-use Rattle.cpp_direct.specs.Holes.{StandsAt}
+use Rattle.cpp_direct.specs.Holes.{IsReferable, StandsAt}
 use Rattle.cpp_direct.specs.WriterInvariant.{IsKnown}
 use Rattle.cpp_direct.specs.MidStep.{parameter_digits}
 use Rattle.cpp_direct.proofs.DependentsRead.{argument-inside, forwarded-done}
@@ -37,8 +37,12 @@ returns g c =
     let line = c.in_ok-checked_add.ensures.1 ∙ ap (λ n. n + 1) here in
     let first = c.add_candidate.ensures in
     let second = c.add_candidate-2.ensures in
+    let refers : IsReferable c.requires.awaits.kind = elim c.requires.awaits.referable [
+      | inl may ↦ may
+      | inr none ↦ absurd (none.1 c.requires.letter)
+    ] in
     forwarded-done s old c.repeat.new.self c.add_candidate.new.self c.add_candidate-2.new.self c.in_ok-named.named k c.in_ok-argument.argument c.in_ok-read.read.end c.end-from.result
-    c.requires.awaits c.in_ok-read.ensures.few c.requires.letter
+    c.requires.awaits c.in_ok-read.ensures.few refers c.requires.letter
     (subst (λ n. StandsAt s.bytes n (84 ∷ [])) here (there s.bytes c.in_ok-behind.behind c.byte_at.result 84 c.if-byte_at-ne84.false (omega arith) c.byte_at.ensures))
     (subst (λ n. StandsAt s.bytes n (parameter_digits k ++ 95 ∷ [])) line c.in_ok-read.ensures.stands)
     c.in_ok-named.ensures (is ∙ c.at.ensures (subst IsKnown is known)) (known, c.if-argument.false) c.if-named-eq0.false c.if-not-argument.false c.end-from.ensures

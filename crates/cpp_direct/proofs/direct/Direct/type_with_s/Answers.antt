@@ -1,7 +1,8 @@
 use Rattle.std.proofs.Common.{◌≢◌, ◌+◌, ◌++◌, [], ◌∷◌, length, ap, subst, ◌∙◌, arith, append-nil}
 use Rattle.cpp_direct.specs.Symbol.{symbol_by}
 use Rattle.cpp_direct.specs.Holes.{StandsAt, IsSeqAt}
-use Rattle.cpp_direct.proofs.TypesRead.{there, named-again, some-text, std-named, abbreviation-named, substitution-stands, substitution-named}
+use Rattle.cpp_direct.proofs.Kept.{candidate-inside}
+use Rattle.cpp_direct.proofs.TypesRead.{there, named-again, some-text, std-named, abbreviation-named, substitution-named}
 use Rattle.cpp_direct.proofs.direct.Direct.type_with_s.Goals as goal
 
 pub type_named-requires : goal.type_named-requires
@@ -37,7 +38,7 @@ dependent_again-requires-clause-again g c =
 pub repeat-requires-clause-from : goal.repeat-requires-clause-from
 repeat-requires-clause-from g c =
     let got = c.in_ok-candidate.ensures.is in
-    (substitution-stands (symbol_by g.G.Grammar.IS_WIDE g.G.Grammar.IS_BARE g.G.Grammar.IS_BRIEF c.args.s.now) c.args.self.now _ c.in_ok-candidate.candidate c.requires.awaits
+    (candidate-inside (symbol_by g.G.Grammar.IS_WIDE g.G.Grammar.IS_BARE g.G.Grammar.IS_BRIEF c.args.s.now) c.args.self.now c.requires.awaits.state.candidates _ c.in_ok-candidate.candidate c.requires.awaits.keeps
     c.in_ok-candidate.ensures.ordered got.2).0
 
 pub repeat-requires-clause-to : goal.repeat-requires-clause-to
@@ -46,7 +47,7 @@ repeat-requires-clause-to g c =
     let same = c.in_ok-candidate.ensures.same in
     omega (
       arith,
-      (substitution-stands (symbol_by g.G.Grammar.IS_WIDE g.G.Grammar.IS_BARE g.G.Grammar.IS_BRIEF c.args.s.now) c.args.self.now _ c.in_ok-candidate.candidate c.requires.awaits
+      (candidate-inside (symbol_by g.G.Grammar.IS_WIDE g.G.Grammar.IS_BARE g.G.Grammar.IS_BRIEF c.args.s.now) c.args.self.now c.requires.awaits.state.candidates _ c.in_ok-candidate.candidate c.requires.awaits.keeps
           c.in_ok-candidate.ensures.ordered got.2).1,
       ap length (same.text ∙ append-nil c.args.self.now.text.list.items),
     )
