@@ -1,4 +1,4 @@
--- A type that names an argument of a function's template is read, and so is a reference to each type of a pack.
+-- A type that names an argument of a function's template is read, and so is what expands a pack.
 use Rattle.sym_print.specs.declared.detail.Detail.{Detail}
 use Rattle.cpp_grammar.specs.Unfolding.{byte_of, close}
 use Rattle.cpp_grammar.specs.Meaning.{meaning, listed_value}
@@ -6,29 +6,33 @@ use Rattle.cpp_direct.specs.Symbol.{detail_of, Symbol}
 use Rattle.cpp_direct.proofs.Kept.{candidate-found, keeps-as, keeps-grown, keeps-same, keeps-written, made-here, piece-found, placed-stays, value-added, value-comes, candidate-inside, keeps-with}
 use Rattle.cpp_direct.proofs.Listed.{some-elements}
 use Rattle.cpp_direct.proofs.Moves.{hole, eats, byte-opens, next-part, closes, none-fills, number-fills, is_eaten, stands-join, stands-split, expects-empty, open_at, fill, filled-at}
-use Rattle.cpp_direct.proofs.MovesOfTypes.{solid-opens, rvalue-opens, substitution-opens}
-use Rattle.cpp_direct.proofs.PrintedTypes.{parameter-given, expansion-element, rvalue-given}
+use Rattle.cpp_direct.proofs.MovesOfTypes.{const-opens, lvalue-opens, rvalue-opens, solid-opens, substitution-opens}
+use Rattle.cpp_direct.proofs.PrintedExpansions.{expansion-element}
+use Rattle.cpp_direct.proofs.PrintedTypes.{parameter-given, rvalue-given}
 use Rattle.cpp_direct.proofs.NamedArguments.{again-substituted, named-here}
 use Rattle.cpp_direct.specs.declared.open.Mark.{Mark}
+use Rattle.cpp_direct.specs.HolesOfTypes.{as_const}
 use Rattle.cpp_direct.specs.Holes.{Opened, StandsAt, Comes, candidate, with_candidate, Expects, IsReferable, IsTyped}
-use Rattle.cpp_direct.specs.Prints.{PrintsAs, PrintsGiven, forwarded, PrintAllBy, list_of}
+use Rattle.cpp_direct.specs.Prints.{IsMarkedBy, Names, PrintsAs, PrintsGiven, PrintsMade, PrintAllBy, list_of, made_by, pattern_letters}
 use Rattle.cpp_direct.specs.WriterInvariant.{AreCandidates, EncodedBehind, HasArguments, IsAmong, IsKnown, IsPlaced, IsScope, IsSingle, IsWriting, Keeps, ParametersGoOn, argument_of, in_front_of_next, place_of}
-use Rattle.cpp_direct.specs.MidStep.{AwaitsType, IsNamedAgain, IsParameterEnded, parameter_digits, AwaitsNextParameter, AreForwarded, IsPackOf, PrintsForwarded, comma_text}
+use Rattle.cpp_direct.specs.MidStep.{AwaitsType, IsNamedAgain, IsParameterEnded, parameter_digits, AwaitsNextParameter, AreExpanded, IsPackOf, comma_text, expansion_letters}
 use Rattle.cpp_direct.specs.Written.{Writes, added, hidden}
 use Rattle.cpp_direct.specs.declared.direct.Direct.{Direct}
 use Rattle.cpp_direct.specs.declared.open.Argument.{Argument}
 use Rattle.cpp_direct.specs.declared.open.Candidate.{Candidate}
 use Rattle.cpp_direct.specs.declared.open.Arguments.{Arguments}
+use Rattle.cpp_direct.specs.declared.open.Pattern.{Pattern}
+use Rattle.cpp_direct.specs.declared.open.Pattern.TheVariants as patterns
 use Rattle.cpp_grammar.specs.Between.{Going, between, after, applied, listed_so_far, parameter_so_far, index_of, under_expansion}
 use Rattle.cpp_grammar.specs.Grammar.{may_be_empty, number_of_kind, parts_of}
 use Rattle.cpp_grammar.specs.Parts.{types_of}
 use Rattle.cpp_grammar.specs.References.{appended, is_function_type, with_packs, parameter_named, with_type}
 use Rattle.cpp_grammar.specs.Scope.{arguments_of, element, count, length_if_pack}
-use Rattle.cpp_grammar.specs.Term.{Term, parameter, expansion, rvalue, list, nil, pack}
+use Rattle.cpp_grammar.specs.Term.{Term, parameter, expansion, lvalue, rvalue, list, nil, pack}
 use Rattle.cpp_grammar.specs.Values.{tree, State, Around, text_of, is_there, letter_of, part, piece_of, tree_of, is_listed}
 use Rattle.cpp_grammar.specs.declared.kind.Kind.{Kind}
 use Rattle.cpp_grammar.specs.declared.production.Production.{Production}
-use Rattle.std.proofs.Common.{◌≡◌, ◌≢◌, ℕ, zero, suc, ◌+◌, ◌-◌, ◌≤◌, ◌<◌, length, List, [], ◌∷◌, ◌++◌, take, drop, reverse, slice_get, true, false, Option, Some, None, refl, ap, sym, ◌∙◌, subst, arith, append_assoc, append-nil, Ok, codes, inl, inr}
+use Rattle.std.proofs.Common.{◌≡◌, ◌≢◌, ℕ, zero, suc, ◌+◌, ◌-◌, ◌≤◌, ◌<◌, length, List, [], ◌∷◌, ◌++◌, take, drop, reverse, slice_get, true, false, replicate, Option, Some, None, refl, ap, sym, ◌∙◌, subst, arith, append_assoc, append-nil, Ok, codes, inl, inr}
 use Rattle.std.proofs.lemmas.Bool.{lt-ltb}
 use Rattle.std.proofs.lemmas.List.{length-append}
 use Rattle.sym_core.specs.Value.{counted_value}
@@ -50,18 +54,11 @@ use Rattle.cpp_grammar.specs.Values as values
 abbrev pub parameter_token : ℕ → Token
 parameter_token k = record { before = []; own = parameter_digits k; behind = 95 ∷ [] }
 
--- the number of the first parameter has no digits
-abbrev pub first_token : Token
-first_token = parameter_token 0
-
 pub parameter-number : (k : ℕ) → IsNumberToken Decimal (parameter_token k)
 parameter-number zero = record { bare = refl; digits = (tt, tt); ends = refl }
 parameter-number (suc zero) = record { bare = refl; digits = ((refl, tt), tt); ends = refl }
 parameter-number (suc (suc zero)) = record { bare = refl; digits = ((refl, tt), tt); ends = refl }
 parameter-number (suc (suc (suc k))) = record { bare = refl; digits = ((refl, tt), tt); ends = refl }
-
-pub first-number : IsNumberToken Decimal first_token
-first-number = parameter-number 0
 
 digits-count : (k : ℕ) → k ≤ 3 → index_of (values.text (parameter_digits k)) ≡ k
 unfolding index_of text_of
@@ -234,77 +231,150 @@ dependent-again s w new k all p found real writes =
     value-comes s new a.state a.os t text bytes k.is_reference true (keeps-written s w new _ a.state.candidates writes keeps) written prints
     (ap (λ v. reverse v.list.items) writes.waiting) (λ e. naming) (subst (λ n. Comes s a.os (tree t true) n a.state) (sym writes.at) comes) a.stands
 
--- ## A reference to each type of a pack
+-- ## A parameter that expands a pack
 
 -- where types are expanded, and no pack was named yet
-abbrev begun : State → State
+abbrev pub begun : State → State
 begun st = record st { packs = None }
 
 -- a pack of so many was named
 abbrev named_many : ℕ → State → State
 named_many n st = record st { packs = Some n }
 
--- the parameter is a candidate there
-pack-tested : (around : Around) (at : ℕ) (st : State) (scope : IsScope 0 true around)
-    → ◌≡◌ {A = Going} (between Production.Parameter (under_expansion around) at (values.text [] ∷ []) (begun st))
+-- a parameter with this number may name a pack of these elements
+pub record IsPackThere (around : Around) (k : ℕ) (ts : List Term) : Type 0 where
+  pub all : Term
+  pub scope_is : around.scope ≡ Some all
+  pub below : k < count all
+  pub pack_is : element all k ≡ pack (list_of ts)
+
+-- it is a candidate there
+pack-found : (around : Around) (k at : ℕ) (st : State) (ts : List Term) → IsPackThere around k ts
+    → parameter_named (under_expansion around) at k (begun st) ≡ Ok (with_candidate around (parameter k) (named_many (count (list_of ts)) st))
+unfolding parameter_named with_packs appended under_expansion length_if_pack
+pack-found around k at st ts p = rw (p.scope_is, lt-ltb k (count p.all) p.below, p.pack_is, parameter_named) refl
+
+pack-tested : (around : Around) (k at : ℕ) (st : State) (ts : List Term) → k ≤ 3 → IsPackThere around k ts
+    → ◌≡◌ {A = Going} (between Production.Parameter (under_expansion around) at (values.text (parameter_digits k) ∷ []) (begun st))
     (Ok (record {
-      context = after (parameter 0) true (under_expansion around);
-      values = tree (parameter 0) true ∷ [];
-      state = with_candidate around (parameter 0) (named_many (count (list_of scope.elements)) st);
+      context = after (parameter k) true (under_expansion around);
+      values = tree (parameter k) true ∷ [];
+      state = with_candidate around (parameter k) (named_many (count (list_of ts)) st);
     }))
-unfolding between parameter_so_far parameter_named listed_so_far index_of text_of count element length_if_pack with_packs appended under_expansion after
-pack-tested around at st scope = rw (scope.scope_is ∙ ap (λ l. Some l) (scope.alone refl)) refl
+unfolding between parameter_so_far listed_so_far
+pack-tested around k at st ts few p =
+    subst (λ n. ◌≡◌ {A = Going} (parameter_so_far (under_expansion around) at n [] (begun st))
+    (Ok (record {
+      context = after (parameter k) true (under_expansion around);
+      values = tree (parameter k) true ∷ [];
+      state = with_candidate around (parameter k) (named_many (count (list_of ts)) st);
+    })))
+    (sym (digits-count k few))
+    (rw (pack-found around k at st ts p) refl)
 
 -- the parameter comes
-pack-comes : (s : Symbol) (around : Around) (os : List Opened) (at : ℕ) (st : State) (scope : IsScope 0 true around)
-    → Expects s Kind.Type (under_expansion around) os at (begun st) → StandsAt s.bytes at (84 ∷ 95 ∷ [])
-    → Comes s os (tree (parameter 0) true) (at + 2) (with_candidate around (parameter 0) (named_many (count (list_of scope.elements)) st))
+pack-comes : (s : Symbol) (kind : Kind) (around : Around) (os : List Opened) (k at : ℕ) (st : State) (ts : List Term) → IsTyped kind → k ≤ 3 → IsPackThere around k ts
+    → Expects s kind (under_expansion around) os at (begun st) → StandsAt s.bytes at (84 ∷ (parameter_digits k ++ 95 ∷ []))
+    → Comes s os (tree (parameter k) true) (at + 1 + length (parameter_digits k ++ 95 ∷ [])) (with_candidate around (parameter k) (named_many (count (list_of ts)) st))
 unfolding is_eaten number_of_kind parts_of may_be_empty between close unfolding_.behind meaning part byte_of tree_of text_of piece_of letter_of is_there applied is_function_type
-pack-comes s around os at st scope expects stands =
+pack-comes s kind around os k at st ts typed few there expects stands =
     let p = Production.Parameter in
     let here = under_expansion around in
-    let later = with_candidate around (parameter 0) (named_many (count (list_of scope.elements)) st) in
-    let both = stands-split s.bytes at (84 ∷ []) (95 ∷ []) stands in
-    let solid = solid-opens s Kind.Type here os at (begun st) tt expects in
+    let end = at + 1 + length (parameter_digits k ++ 95 ∷ []) in
+    let later = with_candidate around (parameter k) (named_many (count (list_of ts)) st) in
+    let both = stands-split s.bytes at (84 ∷ []) (parameter_digits k ++ 95 ∷ []) stands in
+    let solid = solid-opens s kind here os at (begun st) typed expects in
     let number = byte-opens (eats s Kind.Solid p 84 refl) (hole s Kind.Solid here solid.inner at (begun st) solid.awaits) both.0 refl refl in
-    let arguments = next-part p (number-fills first_token number first-number both.1) (pack-tested around at st scope) in
-    solid.passes (parameter 0) true (at + 2) later refl
-    (filled-at (at + 2) (closes p (none-fills Kind.ArgumentsAlone arguments refl) refl) (omega arith)).comes
+    let arguments = next-part p (number-fills (parameter_token k) number (parameter-number k) both.1) (pack-tested around k at st ts few there) in
+    solid.passes (parameter k) true end later refl (closes p (none-fills Kind.ArgumentsAlone arguments refl) refl).comes
+
+-- the trees that a pattern makes of a parameter, one after the other
+abbrev trees_of : Pattern → Term → List Term
+trees_of patterns.Same t = t ∷ []
+trees_of patterns.Lvalue t = t ∷ lvalue t ∷ []
+trees_of patterns.ConstLvalue t = t ∷ as_const t ∷ lvalue (as_const t) ∷ []
+trees_of patterns.Rvalue t = t ∷ rvalue t ∷ []
+
+-- they become candidates
+abbrev with_trees : Around → List Term → State → State
+with_trees around [] st = st
+with_trees around (t ∷ ts) st = with_trees around ts (with_candidate around t st)
+
+-- what the pattern makes of it comes
+pattern-comes : (s : Symbol) (pattern : Pattern) (around : Around) (os : List Opened) (k at : ℕ) (st : State) (ts : List Term) → k ≤ 3 → IsPackThere around k ts
+    → Expects s Kind.Type (under_expansion around) os at (begun st) → StandsAt s.bytes at (pattern_letters pattern ++ 84 ∷ (parameter_digits k ++ 95 ∷ []))
+    → Comes s os (tree (made_by pattern (parameter k)) true) (at + length (pattern_letters pattern ++ 84 ∷ (parameter_digits k ++ 95 ∷ [])))
+    (with_trees around (trees_of pattern (parameter k)) (named_many (count (list_of ts)) st))
+unfolding under_expansion
+pattern-comes s patterns.Same around os k at st ts few there expects stands =
+    subst (λ n. Comes s os (tree (parameter k) true) n (with_candidate around (parameter k) (named_many (count (list_of ts)) st))) (omega arith)
+    (pack-comes s Kind.Type around os k at st ts tt few there expects stands)
+pattern-comes s patterns.Lvalue around os k at st ts few there expects stands =
+    let letters = 84 ∷ (parameter_digits k ++ 95 ∷ []) in
+    let both = stands-split s.bytes at (82 ∷ []) letters stands in
+    let o = lvalue-opens s Kind.Type (under_expansion around) os at (begun st) tt expects both.0 in
+    let own = with_candidate around (parameter k) (named_many (count (list_of ts)) st) in
+    subst (λ n. Comes s os (tree (lvalue (parameter k)) true) n (with_candidate around (lvalue (parameter k)) own)) (omega arith)
+    (o.passes (parameter k) (at + 1 + 1 + length (parameter_digits k ++ 95 ∷ [])) own
+    (pack-comes s Kind.Type around o.inner k (at + 1) st ts tt few there o.awaits both.1))
+pattern-comes s patterns.ConstLvalue around os k at st ts few there expects stands =
+    let letters = 84 ∷ (parameter_digits k ++ 95 ∷ []) in
+    let both = stands-split s.bytes at (82 ∷ []) (75 ∷ letters) stands in
+    let rest = stands-split s.bytes (at + 1) (75 ∷ []) letters both.1 in
+    let o = lvalue-opens s Kind.Type (under_expansion around) os at (begun st) tt expects both.0 in
+    let c = const-opens s Kind.Type (under_expansion around) o.inner (at + 1) (begun st) tt o.awaits rest.0 in
+    let own = with_candidate around (parameter k) (named_many (count (list_of ts)) st) in
+    let const_ = with_candidate around (as_const (parameter k)) own in
+    let end = at + 1 + 1 + 1 + length (parameter_digits k ++ 95 ∷ []) in
+    subst (λ n. Comes s os (tree (lvalue (as_const (parameter k))) true) n (with_candidate around (lvalue (as_const (parameter k))) const_)) (omega arith)
+    (o.passes (as_const (parameter k)) end const_
+    (c.passes (parameter k) end own (pack-comes s Kind.Plain around c.inner k (at + 1 + 1) st ts tt few there c.awaits rest.1)))
+pattern-comes s patterns.Rvalue around os k at st ts few there expects stands =
+    let letters = 84 ∷ (parameter_digits k ++ 95 ∷ []) in
+    let both = stands-split s.bytes at (79 ∷ []) letters stands in
+    let o = rvalue-opens s Kind.Type (under_expansion around) os at (begun st) tt expects both.0 in
+    let own = with_candidate around (parameter k) (named_many (count (list_of ts)) st) in
+    subst (λ n. Comes s os (tree (rvalue (parameter k)) true) n (with_candidate around (rvalue (parameter k)) own)) (omega arith)
+    (o.passes (parameter k) (at + 1 + 1 + length (parameter_digits k ++ 95 ∷ [])) own
+    (pack-comes s Kind.Type around o.inner k (at + 1) st ts tt few there o.awaits both.1))
 
 -- the candidates after it
-abbrev pub with_expansion : (size : ℕ) → Around → State → State
-with_expansion size around st =
-    let each = rvalue (parameter 0) in
-    with_candidate around (expansion each) (record (with_candidate around each (with_candidate around (parameter 0) (named_many size st))) { packs = st.packs })
+abbrev pub with_expansion : Pattern → (k size : ℕ) → Around → State → State
+with_expansion pattern k size around st =
+    with_candidate around (expansion (made_by pattern (parameter k)))
+    (record (with_trees around (trees_of pattern (parameter k)) (named_many size st)) { packs = st.packs })
 
--- a reference to each type of the pack comes, where a parameter is expected
-pub expansion-comes : (s : Symbol) (around : Around) (os : List Opened) (at : ℕ) (st : State) (scope : IsScope 0 true around)
-    → Expects s Kind.Item around os at st → StandsAt s.bytes at (68 ∷ 112 ∷ 79 ∷ 84 ∷ 95 ∷ [])
-    → Comes s os (tree (expansion (rvalue (parameter 0))) true) (at + 5) (with_expansion (count (list_of scope.elements)) around st)
+-- an expansion comes, where a parameter is expected
+pub expansion-comes : (s : Symbol) (pattern : Pattern) (around : Around) (os : List Opened) (k at : ℕ) (st : State) (ts : List Term) → k ≤ 3 → IsPackThere around k ts
+    → Expects s Kind.Item around os at st → StandsAt s.bytes at (expansion_letters pattern k)
+    → Comes s os (tree (expansion (made_by pattern (parameter k))) true) (at + length (expansion_letters pattern k)) (with_expansion pattern k (count (list_of ts)) around st)
 unfolding is_eaten number_of_kind parts_of between close unfolding_.behind meaning part byte_of tree_of text_of piece_of letter_of is_there listed_value with_type is_listed appended under_expansion
-expansion-comes s around os at st scope expects stands =
-    let first = stands-split s.bytes at (68 ∷ []) (112 ∷ 79 ∷ 84 ∷ 95 ∷ []) stands in
-    let second = stands-split s.bytes (at + 1) (112 ∷ []) (79 ∷ 84 ∷ 95 ∷ []) first.1 in
-    let third = stands-split s.bytes (at + 1 + 1) (79 ∷ []) (84 ∷ 95 ∷ []) second.1 in
+expansion-comes s pattern around os k at st ts few there expects stands =
+    let letters = pattern_letters pattern ++ 84 ∷ (parameter_digits k ++ 95 ∷ []) in
+    let t = made_by pattern (parameter k) in
+    let first = stands-split s.bytes at (68 ∷ []) (112 ∷ letters) stands in
+    let second = stands-split s.bytes (at + 1) (112 ∷ []) letters first.1 in
     let item = byte-opens (eats s Kind.Item Production.ItemWithD 68 refl) (hole s Kind.Item around os at st expects) first.0 refl refl in
-    let pattern = byte-opens (eats s Kind.ItemAfterD Production.Expansion 112 refl) item second.0 refl refl in
-    let reference = rvalue-opens s Kind.Type (under_expansion around) (open_at pattern) (at + 1 + 1) (begun st) tt pattern.expects third.0 in
-    let named = pack-comes s around reference.inner (at + 1 + 1 + 1) st scope reference.awaits third.1 in
-    let named_state = with_candidate around (parameter 0) (named_many (count (list_of scope.elements)) st) in
-    let refers = fill pattern (tree (rvalue (parameter 0)) true) (at + 1 + 1 + 1 + 2) (with_candidate around (rvalue (parameter 0)) named_state)
-    (reference.passes (parameter 0) (at + 1 + 1 + 1 + 2) named_state named) in
-    (filled-at (at + 5) (closes Production.ItemWithD (closes Production.Expansion refers refl) refl) (omega arith)).comes
+    let expanded = byte-opens (eats s Kind.ItemAfterD Production.Expansion 112 refl) item second.0 refl refl in
+    let end = at + 1 + 1 + length letters in
+    let made = with_trees around (trees_of pattern (parameter k)) (named_many (count (list_of ts)) st) in
+    let comes = pattern-comes s pattern around (open_at expanded) k (at + 1 + 1) st ts few there expanded.expects second.1 in
+    let refers = fill expanded (tree t true) end made comes in
+    (filled-at (at + length (expansion_letters pattern k)) (closes Production.ItemWithD (closes Production.Expansion refers refl) refl) (omega arith)).comes
 
 -- its letters are side by side
-pub letters-stand : (s : List ℕ) (at second third fourth fifth : ℕ) → StandsAt s at (68 ∷ []) → second ≡ at + 1 → StandsAt s second (112 ∷ [])
-    → third ≡ at + 2 → StandsAt s third (79 ∷ []) → fourth ≡ at + 3 → StandsAt s fourth (84 ∷ []) → fifth ≡ at + 4 → StandsAt s fifth (95 ∷ [])
-    → StandsAt s at (68 ∷ 112 ∷ 79 ∷ 84 ∷ 95 ∷ [])
-letters-stand s at second third fourth fifth d b p c o e t f line =
-    stands-join s at (68 ∷ []) (112 ∷ 79 ∷ 84 ∷ 95 ∷ []) d
-    (stands-join s (at + 1) (112 ∷ []) (79 ∷ 84 ∷ 95 ∷ []) (subst (λ k. StandsAt s k (112 ∷ [])) b p)
-    (stands-join s (at + 1 + 1) (79 ∷ []) (84 ∷ 95 ∷ []) (subst (λ k. StandsAt s k (79 ∷ [])) (omega (arith, c)) o)
-    (stands-join s (at + 1 + 1 + 1) (84 ∷ []) (95 ∷ []) (subst (λ k. StandsAt s k (84 ∷ [])) (omega (arith, e)) t)
-    (subst (λ k. StandsAt s k (95 ∷ [])) (omega (arith, f)) line))))
+pub letters-stand : (s : List ℕ) (pattern : Pattern) (k at second third named digits : ℕ) → StandsAt s at (68 ∷ []) → second ≡ at + 1 → StandsAt s second (112 ∷ [])
+    → third ≡ second + 1 → StandsAt s third (pattern_letters pattern) → named ≡ third + length (pattern_letters pattern) → StandsAt s named (84 ∷ [])
+    → digits ≡ named + 1 → StandsAt s digits (parameter_digits k ++ 95 ∷ []) → StandsAt s at (expansion_letters pattern k)
+letters-stand s pattern k at second third named digits d b p c letters e t f line =
+    let behind = parameter_digits k ++ 95 ∷ [] in
+    stands-join s at (68 ∷ []) (112 ∷ (pattern_letters pattern ++ 84 ∷ behind)) d
+    (subst (λ n. StandsAt s n (112 ∷ (pattern_letters pattern ++ 84 ∷ behind))) b
+    (stands-join s second (112 ∷ []) (pattern_letters pattern ++ 84 ∷ behind) p
+    (subst (λ n. StandsAt s n (pattern_letters pattern ++ 84 ∷ behind)) c
+    (stands-join s third (pattern_letters pattern) (84 ∷ behind) letters
+    (subst (λ n. StandsAt s n (84 ∷ behind)) e
+    (stands-join s named (84 ∷ []) behind t (subst (λ n. StandsAt s n behind) f line)))))))
 
 pub stands-so : (P : Type 0) (o : Option ℕ) → P → IfSome o (λ end. P)
 stands-so P None p = tt
@@ -342,8 +412,8 @@ pack-of text argument name h pack_ ordered =
     }
 
 -- none is written yet
-pub none-forwarded : {detail : Detail} (w : Direct) (ts : List Term) → AreForwarded detail w w ts 0
-none-forwarded w ts = record {
+pub none-expanded : {detail : Detail} (pattern : Pattern) (w : Direct) (ts : List Term) → AreExpanded detail pattern w w ts 0
+none-expanded pattern w ts = record {
   done = [];
   rest = ts;
   all = refl;
@@ -366,9 +436,9 @@ none-left [] e = refl
 none-left (t ∷ ts) e = absurd (omega (arith, e))
 
 -- all were written
-pub all-forwarded : {detail : Detail} (before w : Direct) (ts : List Term) (number : ℕ) → length ts ≤ number → (f : AreForwarded detail before w ts number)
+pub all-expanded : {detail : Detail} (pattern : Pattern) (before w : Direct) (ts : List Term) (number : ℕ) → length ts ≤ number → (f : AreExpanded detail pattern before w ts number)
     → f.rest ≡ []
-all-forwarded before w ts number le f = elim f.count [
+all-expanded pattern before w ts number le f = elim f.count [
   | inl e ↦ none-left f.rest (omega (arith, le, e, ap length f.all, length-append f.done f.rest))
   | inr e ↦ e.0
 ]
@@ -391,11 +461,11 @@ comma-between (d ∷ done) zero bytes e = absurd (omega (arith, e))
 comma-between (d ∷ done) (suc k) bytes e = refl
 
 -- where an element is
-pub forwarded-inside : {detail : Detail} (before w one : Direct) (ts : List Term) (argument : Arguments) (number : ℕ) (place : Argument)
+pub expanded-inside : {detail : Detail} (pattern : Pattern) (before w one : Direct) (ts : List Term) (argument : Arguments) (number : ℕ) (place : Argument)
     → IsPackOf detail before.text.list.items argument ts
-    → AreForwarded detail before w ts number → place ≡ place_of argument number → place.from ≤ place.to → place.is_pack ≡ true → Writes w one (comma_text number)
+    → AreExpanded detail pattern before w ts number → place ≡ place_of argument number → place.from ≤ place.to → place.is_pack ≡ true → Writes w one (comma_text number)
     → place.to ≤ length one.text.list.items
-forwarded-inside before w one ts argument number place p f is known is_pack writes =
+expanded-inside pattern before w one ts argument number place p f is known is_pack writes =
     let q = place_of argument number in
     let h = p.among number (subst IsKnown is known) (ap (λ (k : Argument). k.is_pack) (sym is) ∙ is_pack) in
     let inside = (piece-found before.text.list.items h.placed.front h.bytes h.placed.back q.from q.to h.placed.written h.placed.from_is h.placed.to_is).1 in
@@ -409,13 +479,13 @@ forwarded-inside before w one ts argument number place p f is known is_pack writ
       length-append before.text.list.items f.bytes,
     )
 
--- a reference to one more is written
-pub forwarded-more : {detail : Detail} (before w one two new : Direct) (ts : List Term) (argument : Arguments) (number : ℕ) (place : Argument) (marks : List ℕ)
-    → IsPackOf detail before.text.list.items argument ts → AreForwarded detail before w ts number → number < argument.elements
+-- what the pattern makes of one more is written
+pub expanded-more : {detail : Detail} (pattern : Pattern) (before w one two new : Direct) (ts : List Term) (argument : Arguments) (number : ℕ) (place : Argument) (marks : List ℕ)
+    → IsPackOf detail before.text.list.items argument ts → AreExpanded detail pattern before w ts number → number < argument.elements
     → place ≡ place_of argument number → place.from ≤ place.to → place.is_pack ≡ true → Writes w one (comma_text number)
-    → Writes one two (take (place.to - place.from) (drop place.from one.text.list.items)) → marks ≡ forwarded place.is_reference → Writes two new marks
-    → AreForwarded detail before new ts (number + 1)
-forwarded-more {detail} before w one two new ts argument number place marks p f below is known is_pack comma piece marks_are mark = elim f.count [
+    → Writes one two (take (place.to - place.from) (drop place.from one.text.list.items)) → IsMarkedBy pattern place.is_reference marks → Writes two new marks
+    → AreExpanded detail pattern before new ts (number + 1)
+expanded-more {detail} pattern before w one two new ts argument number place marks p f below is known is_pack comma piece marks_are mark = elim f.count [
   | inl size ↦ go size
   | inr over ↦ absurd (omega (arith, over.1, below, p.size))
 ]
@@ -426,7 +496,7 @@ forwarded-more {detail} before w one two new ts argument number place marks p f 
     h : IsAmong detail before.text.list.items q number ts
     h = p.among number (subst IsKnown is known) (ap (λ (k : Argument). k.is_pack) (sym is) ∙ is_pack)
 
-    go : length f.done ≡ number → AreForwarded detail before new ts (number + 1)
+    go : length f.done ≡ number → AreExpanded detail pattern before new ts (number + 1)
     go size =
         let next = next-one f.done f.rest number h.own size (subst (λ l. slice_get l number ≡ Some h.own) f.all h.there) in
         let one_is : one.text.list.items ≡ before.text.list.items ++ (f.bytes ++ comma_text number) =
@@ -436,7 +506,7 @@ forwarded-more {detail} before w one two new ts argument number place marks p f 
         placed.from_is placed.to_is in
         let own : take (place.to - place.from) (drop place.from one.text.list.items) ≡ h.bytes =
         ap (λ (k : Argument). take (k.to - k.from) (drop k.from one.text.list.items)) is ∙ ap (λ l. take (q.to - q.from) (drop q.from l)) one_is ∙ found.2 in
-        let more = h.bytes ++ forwarded q.is_reference in
+        let more = h.bytes ++ marks in
         let all_bytes = in_front_of_next f.done f.bytes ++ more in
         record {
           done = f.done ++ h.own ∷ [];
@@ -444,12 +514,11 @@ forwarded-more {detail} before w one two new ts argument number place marks p f 
           all = f.all ∙ ap (λ l. f.done ++ l) next.1 ∙ sym (append_assoc f.done (h.own ∷ []) next.0);
           count = inl (omega (arith, size, length-append f.done (h.own ∷ [])));
           bytes = all_bytes;
-          prints = next-prints-by (PrintsForwarded detail) f.done f.bytes h.own more f.prints (h.bytes, q.is_reference, h.prints, refl);
+          prints = next-prints-by (PrintsMade detail pattern) f.done f.bytes h.own more f.prints
+              (h.bytes, q.is_reference, marks, h.prints, subst (λ (k : Argument). IsMarkedBy pattern k.is_reference marks) is marks_are, refl);
           writes = record {
             text = mark.text ∙ ap (λ l. l ++ marks) (piece.text ∙ ap (λ l. one.text.list.items ++ l) own ∙ ap (λ l. l ++ h.bytes) one_is)
-                ∙ ap (λ l. before.text.list.items ++ (f.bytes ++ comma_text number) ++ h.bytes ++ l)
-                (marks_are ∙ ap (λ (k : Argument). forwarded k.is_reference) is)
-                ∙ append_assoc (before.text.list.items ++ (f.bytes ++ comma_text number)) h.bytes (forwarded q.is_reference)
+                ∙ append_assoc (before.text.list.items ++ (f.bytes ++ comma_text number)) h.bytes marks
                 ∙ append_assoc before.text.list.items (f.bytes ++ comma_text number) more
                 ∙ ap (λ l. before.text.list.items ++ (l ++ more)) (sym (comma-between f.done number f.bytes size));
             candidates = mark.candidates ∙ piece.candidates ∙ comma.candidates ∙ f.writes.candidates;
@@ -461,53 +530,84 @@ forwarded-more {detail} before w one two new ts argument number place marks p f 
           };
         }
 
--- the candidates with three more of which nothing is known
-abbrev pub with_three : List Candidate → List Candidate
-with_three ks = ((ks ++ hidden ∷ []) ++ hidden ∷ []) ++ hidden ∷ []
-
 some-there : (ts : List Term) (own : Term) → slice_get ts 0 ≡ Some own → ts ≢ []
 some-there [] own e none = cc e
 some-there (t ∷ ts) own e none = cc none
 
+-- each tree that a pattern makes is a candidate of which nothing is known, and so is the expansion
+trees-hidden : (s : Symbol) (names : Names) (text : List ℕ) (ks : List Candidate) (around : Around) (pattern : Pattern) (k size : ℕ) (st : State)
+    → AreCandidates s names text ks st.candidates
+    → AreCandidates s names text (ks ++ replicate (2 + length (pattern_letters pattern)) hidden) (with_expansion pattern k size around st).candidates
+trees-hidden s names text ks around pattern k size st known = go pattern known
+  where
+    p : Term
+    p = parameter k
+
+    once : (more : List Candidate) (cs : List values.Candidate) (t : Term) → AreCandidates s names text (ks ++ more) cs
+        → AreCandidates s names text (ks ++ (more ++ hidden ∷ [])) (cs ++ candidate around t ∷ [])
+    once more cs t have =
+        subst (λ l. AreCandidates s names text l (cs ++ candidate around t ∷ [])) (append_assoc ks more (hidden ∷ []))
+        (one-hidden s names text (ks ++ more) cs (candidate around t) have)
+
+    first : AreCandidates s names text ks st.candidates → AreCandidates s names text (ks ++ hidden ∷ []) (st.candidates ++ candidate around p ∷ [])
+    first have = one-hidden s names text ks st.candidates (candidate around p) have
+
+    go : (pattern : Pattern) → AreCandidates s names text ks st.candidates
+        → AreCandidates s names text (ks ++ replicate (2 + length (pattern_letters pattern)) hidden) (with_expansion pattern k size around st).candidates
+    go patterns.Same have = once (hidden ∷ []) (st.candidates ++ candidate around p ∷ []) (expansion p) (first have)
+    go patterns.Lvalue have =
+        let two = once (hidden ∷ []) (st.candidates ++ candidate around p ∷ []) (lvalue p) (first have) in
+        once (hidden ∷ hidden ∷ []) ((st.candidates ++ candidate around p ∷ []) ++ candidate around (lvalue p) ∷ []) (expansion (lvalue p)) two
+    go patterns.ConstLvalue have =
+        let c = as_const p in
+        let two = once (hidden ∷ []) (st.candidates ++ candidate around p ∷ []) c (first have) in
+        let three = once (hidden ∷ hidden ∷ []) ((st.candidates ++ candidate around p ∷ []) ++ candidate around c ∷ []) (lvalue c) two in
+        once (hidden ∷ hidden ∷ hidden ∷ []) (((st.candidates ++ candidate around p ∷ []) ++ candidate around c ∷ []) ++ candidate around (lvalue c) ∷ [])
+        (expansion (lvalue c)) three
+    go patterns.Rvalue have =
+        let two = once (hidden ∷ []) (st.candidates ++ candidate around p ∷ []) (rvalue p) (first have) in
+        once (hidden ∷ hidden ∷ []) ((st.candidates ++ candidate around p ∷ []) ++ candidate around (rvalue p) ∷ []) (expansion (rvalue p)) two
+
 -- it is read
-pub expansion-read : (s : Symbol) (old begun last new : Direct) (mark : Mark) (start : ℕ) (argument : Arguments) (a : AwaitsNextParameter s old mark start argument)
-    → argument.first.is_pack ≡ true → (ordered : argument.first.from ≤ argument.first.to) → argument.elements ≤ 4 → StandsAt s.bytes old.at (68 ∷ 112 ∷ 79 ∷ 84 ∷ 95 ∷ [])
-    → begun.text ≡ old.text → begun.candidates ≡ old.candidates → begun.waiting ≡ old.waiting → begun.has_scope ≡ old.has_scope → begun.at ≡ old.at + 5
-    → AreForwarded (detail_of s) begun last (a.is_function.names 0 ordered).elements 4
-    → new.text ≡ last.text → new.candidates.list.items ≡ with_three last.candidates.list.items → new.waiting ≡ last.waiting
-    → new.has_scope ≡ last.has_scope → new.at ≡ last.at
+pub expansion-read : (s : Symbol) (pattern : Pattern) (old moved last new : Direct) (mark : Mark) (start : ℕ) (argument : Arguments) (a : AwaitsNextParameter s old mark start argument)
+    → argument.first.is_pack ≡ true → (ordered : argument.first.from ≤ argument.first.to) → argument.elements ≤ 4 → StandsAt s.bytes old.at (expansion_letters pattern 0)
+    → moved.text ≡ old.text → moved.candidates ≡ old.candidates → moved.waiting ≡ old.waiting → moved.has_scope ≡ old.has_scope
+    → moved.at ≡ old.at + length (expansion_letters pattern 0)
+    → AreExpanded (detail_of s) pattern moved last (a.is_function.names 0 ordered).elements 4
+    → new.text ≡ last.text → new.candidates.list.items ≡ last.candidates.list.items ++ replicate (2 + length (pattern_letters pattern)) hidden
+    → new.waiting ≡ last.waiting → new.has_scope ≡ last.has_scope → new.at ≡ last.at
     → IsParameterEnded s new mark start argument
-expansion-read s old begun last new mark start argument a pack_ ordered few stands same_text same_candidates same_waiting same_scope begun_at fw text candidates waiting scope_ at =
+unfolding count element
+expansion-read s pattern old moved last new mark start argument a pack_ ordered few stands same_text same_candidates same_waiting same_scope moved_at fw text candidates waiting scope_ at =
     let f = a.is_function in
     let n = f.names 0 ordered in
     let ts = n.elements in
     let first = n.alone pack_ in
     let front = a.front ++ codes "(" in
     let bytes = fw.bytes in
-    let t = expansion (rvalue (parameter 0)) in
+    let t = expansion (made_by pattern (parameter 0)) in
     let around = a.goes.around in
     let scope = subst (λ k. IsScope 0 k a.goes.around) pack_ (a.goes.scoped.1 0 ordered) in
-    let later = with_expansion (count (list_of scope.elements)) around a.state in
-    let element = element-awaits s Kind.Items a.goes.inner a.goes.around old.at a.state tt a.goes.awaits in
-    let comes = expansion-comes s a.goes.around element.inner old.at a.state scope element.awaits stands in
-    let goes = parameter-goes_on s argument (λ x there then_. EncodedBehind s a.lead x there) a.make a.ts old.at a.state a.goes t (old.at + 5) later
-    (element.onward t (old.at + 5) later comes) in
-    let rest = all-forwarded begun last ts 4 (omega (arith, few, first.2)) fw in
+    let packed = list (pack (list_of scope.elements)) nil in
+    let there : IsPackThere around 0 scope.elements =
+    record { all = packed; scope_is = scope.scope_is ∙ ap (λ l. Some l) (scope.alone refl); below = omega arith; pack_is = refl } in
+    let size = count (list_of scope.elements) in
+    let later = with_expansion pattern 0 size around a.state in
+    let end = old.at + length (expansion_letters pattern 0) in
+    let item = element-awaits s Kind.Items a.goes.inner a.goes.around old.at a.state tt a.goes.awaits in
+    let comes = expansion-comes s pattern a.goes.around item.inner 0 old.at a.state scope.elements (omega arith) there item.awaits stands in
+    let goes = parameter-goes_on s argument (λ x there then_. EncodedBehind s a.lead x there) a.make a.ts old.at a.state a.goes t end later
+    (item.onward t end later comes) in
+    let rest = all-expanded pattern moved last ts 4 (omega (arith, few, first.2)) fw in
     let done : fw.done ≡ ts = sym (append-nil fw.done) ∙ ap (λ l. fw.done ++ l) (sym rest) ∙ sym fw.all in
-    let prints : PrintAllBy (PrintsForwarded (detail_of s)) ts bytes = subst (λ l. PrintAllBy (PrintsForwarded (detail_of s)) l bytes) done fw.prints in
-    let alone : arguments_of f.own ≡ Some (list (pack (list_of ts)) nil) = n.all_are ∙ ap (λ l. Some l) first.0 in
+    let prints : PrintAllBy (PrintsMade (detail_of s) pattern) ts bytes = subst (λ l. PrintAllBy (PrintsMade (detail_of s) pattern) l bytes) done fw.prints in
+    let own_pack : element n.all 0 ≡ pack (list_of ts) = ap (λ l. element l 0) first.0 in
     let grown : new.text.list.items ≡ old.text.list.items ++ bytes =
     ap (λ v. v.list.items) text ∙ fw.writes.text ∙ ap (λ v. v.list.items ++ bytes) same_text in
     let keeps : Keeps s a.scope last a.state.candidates =
-    keeps-written s begun last bytes a.state.candidates fw.writes (keeps-same s old begun a.state.candidates same_text same_candidates same_scope a.keeps) in
-    let forwarded_text = last.text.list.items in
-    let known : AreCandidates s a.scope.names forwarded_text (with_three last.candidates.list.items) later.candidates =
-    one-hidden s a.scope.names forwarded_text ((last.candidates.list.items ++ hidden ∷ []) ++ hidden ∷ [])
-    ((a.state.candidates ++ candidate around (parameter 0) ∷ []) ++ candidate around (rvalue (parameter 0)) ∷ [])
-    (candidate around t)
-    (one-hidden s a.scope.names forwarded_text (last.candidates.list.items ++ hidden ∷ [])
-    (a.state.candidates ++ candidate around (parameter 0) ∷ []) (candidate around (rvalue (parameter 0)))
-    (one-hidden s a.scope.names forwarded_text last.candidates.list.items a.state.candidates (candidate around (parameter 0)) keeps.candidates)) in
+    keeps-written s moved last bytes a.state.candidates fw.writes (keeps-same s old moved a.state.candidates same_text same_candidates same_scope a.keeps) in
+    let known : AreCandidates s a.scope.names last.text.list.items (last.candidates.list.items ++ replicate (2 + length (pattern_letters pattern)) hidden) later.candidates =
+    trees-hidden s a.scope.names last.text.list.items last.candidates.list.items around pattern 0 size a.state keeps.candidates in
     record {
       state = later;
       scope = a.scope;
@@ -526,12 +626,12 @@ expansion-read s old begun last new mark start argument a pack_ ordered few stan
         makes = f.makes;
         prints = f.prints;
         elements = next-prints-in (types_of f.own) 6 a.ts a.texts t bytes f.elements
-            (expansion-element f.own ts bytes (some-there ts n.own first.1) alone prints);
+            (expansion-element f.own n.all 0 ts pattern bytes (some-there ts n.own first.1) n.all_are own_pack prints);
         names = subst (λ l. HasArguments (detail_of s) l argument f.own) (sym grown) (arguments-stay old.text.list.items bytes argument f.own f.names);
         given = f.given;
         named = f.named;
       };
       fronts = a.fronts;
       written = grown ∙ ap (λ l. l ++ bytes) a.written ∙ append_assoc front (in_front_of_next a.ts a.texts) bytes;
-      goes = subst (λ k. ParametersGoOn s argument a.lead a.make (a.ts ++ t ∷ []) k later) (sym (at ∙ fw.writes.at ∙ begun_at)) goes;
+      goes = subst (λ k. ParametersGoOn s argument a.lead a.make (a.ts ++ t ∷ []) k later) (sym (at ∙ fw.writes.at ∙ moved_at)) goes;
     }

@@ -21,6 +21,7 @@ pub mod NamedArguments
 pub mod NestComponents
 pub mod Nesting
 pub mod Noted
+pub mod PrintedExpansions
 pub mod PrintedFunctions
 pub mod PrintedLists
 pub mod PrintedLocals

@@ -17,6 +17,7 @@ use Rattle.cpp_direct.specs.Symbol.{Symbol, detail_of}
 use Rattle.cpp_direct.specs.declared.open.Mark.{Mark}
 use Rattle.cpp_direct.specs.declared.open.Candidate.{Candidate}
 use Rattle.cpp_direct.specs.declared.open.Access.{Access}
+use Rattle.cpp_direct.specs.declared.open.Pattern.{Pattern}
 use Rattle.cpp_direct.specs.declared.open.Purpose.{Purpose}
 use Rattle.cpp_direct.specs.declared.open.Purpose.TheVariants as purposes
 use Rattle.cpp_direct.specs.declared.open.Open.{Open}
@@ -32,7 +33,7 @@ use Rattle.cpp_direct.specs.HolesOfFunctions.{SignatureGoesOn, plain_function, p
 use Rattle.cpp_direct.specs.HolesOfArrays.{accessed, with_accessed}
 use Rattle.cpp_direct.specs.HolesOfTypes.{IsNamedKind, NoReference, TreeOpens}
 use Rattle.cpp_direct.specs.Marks.{has_const, called_on, mark_text}
-use Rattle.cpp_direct.specs.Prints.{NamesClass, Prints, PrintsName, IsElement, PrintAll, Shows, Encloses, sign_text, PrintsAs, PrintsIn, PrintAllAs, IsGiven, list_of, PrintAllBy, forwarded}
+use Rattle.cpp_direct.specs.Prints.{NamesClass, Prints, PrintsName, IsElement, PrintAll, Shows, Encloses, sign_text, PrintsAs, PrintsIn, PrintAllAs, IsGiven, list_of, PrintAllBy, PrintsMade, pattern_letters}
 use Rattle.cpp_direct.specs.WriterInvariant.{AwaitsItems, Encoded, EncodedBehind, Fronts, IsFunction, IsInstance, IsListing, IsNest, IsTail, IsTemplate, GoesOn, EnumeratorGoesOn, Owns, ParametersGoOn, Serves, Stands, TakesFunction, opening_text, qualifiers, arguments_or_pack, extra_of, led_by, list_with, in_front_of_next, IsAmong, AreAmong, HasArguments, IsKnown, IsScoped, is_type, place_of, IsNaming, IsNestScoped, Keeps, Scope, below, is_noted, may_name, encoding_place, IsNamedSo, IsNesting}
 
 -- the digits after the T of a parameter with this number
@@ -491,18 +492,18 @@ pub record IsPackOf (detail : Detail) (text : List ℕ) (a : Arguments) (ts : Li
   pub size : length ts ≡ a.elements
   pub among : (k : ℕ) → IsKnown (place_of a k) → (place_of a k).is_pack ≡ true → IsAmong detail text (place_of a k) k ts
 
--- a tree of which an rvalue reference has this text
-abbrev pub PrintsForwarded : (detail : Detail) → Term → List ℕ → Type 0
-PrintsForwarded detail t bytes = (own : List ℕ) × (is_reference : Bool) × Prints detail t own is_reference × (bytes ≡ own ++ forwarded is_reference)
+-- the letters of an expansion
+abbrev pub expansion_letters : Pattern → (number : ℕ) → List ℕ
+expansion_letters pattern number = 68 ∷ 112 ∷ (pattern_letters pattern ++ 84 ∷ (parameter_digits number ++ 95 ∷ []))
 
--- References to so many elements of a pack were written, or to all.
-pub record AreForwarded (detail : Detail) (old new : Direct) (ts : List Term) (number : ℕ) : Type 0 where
+-- What a pattern makes of so many elements of a pack was written, or of all.
+pub record AreExpanded (detail : Detail) (pattern : Pattern) (old new : Direct) (ts : List Term) (number : ℕ) : Type 0 where
   pub done : List Term
   pub rest : List Term
   pub all : ts ≡ done ++ rest
   pub count : (length done ≡ number) ⊎ ((rest ≡ []) × (length ts ≤ number))
   pub bytes : List ℕ
-  pub prints : PrintAllBy (PrintsForwarded detail) done bytes
+  pub prints : PrintAllBy (PrintsMade detail pattern) done bytes
   pub writes : Writes old new bytes
 
 -- A parameter of a function was read.

@@ -2,13 +2,16 @@
 use Rattle.std.specs.Prelude.{◌≡◌, ℕ, ◌+◌, ◌*◌, ◌≤◌, List, [], ◌∷◌, ◌++◌, length, Bool, true, false, cond, Option, None, Some, codes, ◌⊎◌}
 use Rattle.sym_print.specs.declared.detail.Detail.{Detail}
 use Rattle.sym_print.specs.Unshared.{Unshared, text_of, cost_of}
-use Rattle.cpp_grammar.specs.Term.{Signed, Term, nil, list}
+use Rattle.cpp_grammar.specs.Term.{Signed, Term, lvalue, rvalue, nil, list}
 use Rattle.cpp_grammar.specs.Scope.{element, is_open, pack_length, length_if_pack}
 use Rattle.cpp_grammar.specs.References.{is_function_type}
 use Rattle.cpp_grammar.specs.Items.{Form, full, bare, left, right, base, piece, Context, closed, head, is_reference, is_funarr, is_empty, argument}
 use Rattle.cpp_grammar.specs.Meaning.{is_void}
 use Rattle.cpp_grammar.specs.Parts.{as_item, says, prefix_item, within_parts, last_piece, opening_text, is_plain_integer}
 use Rattle.cpp_direct.specs.WrittenParts.{written}
+use Rattle.cpp_direct.specs.HolesOfTypes.{as_const}
+use Rattle.cpp_direct.specs.declared.open.Pattern.{Pattern}
+use Rattle.cpp_direct.specs.declared.open.Pattern.TheVariants as patterns
 
 -- what is written of a tree in a form, wherever it is, in a detail
 abbrev pub written_of : Detail → Form → Context → Term → Unshared
@@ -87,10 +90,34 @@ abbrev pub PrintsAs : (detail : Detail) → Names → (is_dependent : Bool) → 
 PrintsAs detail names false t bytes reference = Prints detail t bytes reference
 PrintsAs detail names true t bytes reference = PrintsGiven detail names t bytes reference
 
--- what an rvalue reference to a type has after its text, if it is no reference
-abbrev pub forwarded : (reference : Bool) → List ℕ
-forwarded true = []
-forwarded false = codes "&&"
+-- ## Patterns, by which a parameter expands a pack
+
+-- the letters before the parameter
+abbrev pub pattern_letters : Pattern → List ℕ
+pattern_letters patterns.Same = []
+pattern_letters patterns.Lvalue = 82 ∷ []
+pattern_letters patterns.ConstLvalue = 82 ∷ 75 ∷ []
+pattern_letters patterns.Rvalue = 79 ∷ []
+
+-- what a pattern makes of a type
+abbrev pub made_by : Pattern → Term → Term
+made_by patterns.Same t = t
+made_by patterns.Lvalue t = lvalue t
+made_by patterns.ConstLvalue t = lvalue (as_const t)
+made_by patterns.Rvalue t = rvalue t
+
+-- What it has after the text of a type, which is a reference or isn't. An rvalue reference to a reference is what this is.
+abbrev pub IsMarkedBy : Pattern → (reference : Bool) → (marks : List ℕ) → Type 0
+IsMarkedBy patterns.Same reference marks = marks ≡ []
+IsMarkedBy patterns.Lvalue reference marks = (reference ≡ false) × (marks ≡ codes "&")
+IsMarkedBy patterns.ConstLvalue reference marks = (reference ≡ false) × (marks ≡ codes " const&")
+IsMarkedBy patterns.Rvalue true marks = marks ≡ []
+IsMarkedBy patterns.Rvalue false marks = marks ≡ codes "&&"
+
+-- a tree of which a pattern makes one with this text
+abbrev pub PrintsMade : (detail : Detail) → Pattern → Term → List ℕ → Type 0
+PrintsMade detail pattern t bytes =
+    (own : List ℕ) × (reference : Bool) × (marks : List ℕ) × Prints detail t own reference × IsMarkedBy pattern reference marks × (bytes ≡ own ++ marks)
 
 -- A tree whose class is named so where it comes before a constructor or a destructor.
 pub record NamesClass (detail : Detail) (t : Term) (class : List ℕ) : Type 0 where

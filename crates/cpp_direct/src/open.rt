@@ -44,6 +44,17 @@ pub struct Arguments {
     pub elements: u16,
 }
 
+/// What a parameter that expands a pack makes of each of its types.
+#[derive(Clone, Copy)]
+pub enum Pattern {
+    /// the type itself
+    Same,
+    Lvalue,
+    /// an lvalue reference to it as a constant
+    ConstLvalue,
+    Rvalue,
+}
+
 /// What a nested name is read as.
 #[derive(Clone, Copy)]
 pub enum Purpose {

@@ -1,23 +1,24 @@
 // The arguments of a function's template, and the types that name them.
 
-ghost use Rattle.std.specs.Prelude.{◌≡◌, ◌≢◌, ◌≤◌, ◌+◌, ◌∷◌, ◌++◌, [], List, length, reverse, true, false, Some};
+ghost use Rattle.std.specs.Prelude.{◌≡◌, ◌≢◌, ◌≤◌, ◌+◌, ◌∷◌, ◌++◌, [], List, length, replicate, reverse, true, false, Some};
 ghost use Rattle.std.specs.Option.{OnSome, IfSome};
 ghost use Rattle.cpp_grammar.specs.Term.{Term};
 ghost use Rattle.sym_print.specs.declared.detail.Detail.{Detail};
 ghost use Rattle.cpp_direct.specs.declared.direct.Direct.{Direct};
 ghost use Rattle.cpp_direct.specs.declared.open.Arguments.{Arguments};
 ghost use Rattle.cpp_direct.specs.Names.{IsReadable};
+ghost use Rattle.cpp_direct.specs.Prints.{IsMarkedBy, pattern_letters};
 ghost use Rattle.cpp_direct.specs.declared.open.Step.TheVariants as steps;
 ghost use Rattle.cpp_direct.specs.Holes.{StandsAt};
 ghost use Rattle.cpp_direct.specs.WriterInvariant.{EndsNamed, IsWriting, argument_of, arguments_in, is_type, is_within_type, place_of};
-ghost use Rattle.cpp_direct.specs.MidStep.{AwaitsType, AwaitsKnownArgument, AwaitsNextParameter, IsArgumentRead, IsNamedAgain, AreForwarded, IsPackOf, comma_text, KnowsMore, parameter_digits};
+ghost use Rattle.cpp_direct.specs.MidStep.{AwaitsType, AwaitsKnownArgument, AwaitsNextParameter, IsArgumentRead, IsNamedAgain, AreExpanded, IsPackOf, comma_text, expansion_letters, KnowsMore, parameter_digits};
 ghost use Rattle.cpp_direct.specs.Symbol.{symbol_by};
-ghost use Rattle.cpp_direct.specs.Written.{Writes};
+ghost use Rattle.cpp_direct.specs.Written.{Writes, hidden};
 
 use crate::direct::Direct;
 use crate::grammar::Grammar;
 use crate::lists::is_enumerator_at;
-use crate::open::{Argument, Arguments, Candidate, Mark, Open, Purpose, Step};
+use crate::open::{Argument, Arguments, Candidate, Mark, Open, Pattern, Purpose, Step};
 use crate::symbols::{NO_PLACE, NOWHERE};
 use crate::tokens::{byte_at, may_end};
 
@@ -173,23 +174,100 @@ fn is_element_at(s: &[u8], at: usize) -> bool {
     }
 }
 
-/// The place after `DpOT_`, if this is at a place.
-// <type> ::= Dp <type>
-fn expansion_end(s: &[u8], at: usize) -> Option<usize>
-    ensures stands { IfSome result (λ end. StandsAt s.now at (68 ∷ 112 ∷ 79 ∷ 84 ∷ 95 ∷ [])) }
-    ensures end { IfSome result (λ end. end ≡ at + 5) }
+/// A pattern, and the place after its letters.
+#[derive(Clone, Copy)]
+struct PatternPlace {
+    pattern: Pattern,
+    end: usize,
+}
+
+/// The pattern that comes before a parameter.
+fn pattern_at(s: &[u8], at: usize) -> Option<PatternPlace>
+    ensures stands { IfSome result (λ p. StandsAt s.now at (pattern_letters p.pattern)) }
+    ensures end { IfSome result (λ p. p.end ≡ at + length (pattern_letters p.pattern)) }
 {
-    let second = byte_at(s, at.checked_add(1)?);
-    let third = byte_at(s, at.checked_add(2)?);
-    let fourth = byte_at(s, at.checked_add(3)?);
-    let fifth = byte_at(s, at.checked_add(4)?);
-    if byte_at(s, at) != b'D' || second != b'p' || third != b'O' {
+    let behind = at.checked_add(1)?;
+    match byte_at(s, at) {
+        b'O' => Some(PatternPlace {
+            pattern: Pattern::Rvalue,
+            end: behind,
+        }),
+        b'R' => {
+            if byte_at(s, behind) != b'K' {
+                return Some(PatternPlace {
+                    pattern: Pattern::Lvalue,
+                    end: behind,
+                });
+            }
+            let end = behind.checked_add(1)?;
+            Some(PatternPlace {
+                pattern: Pattern::ConstLvalue,
+                end,
+            })
+        }
+        _ => Some(PatternPlace {
+            pattern: Pattern::Same,
+            end: at,
+        }),
+    }
+}
+
+/// A parameter that expands the pack that the argument with this number is, and the place after it.
+#[derive(Clone, Copy)]
+struct Expansion {
+    pattern: Pattern,
+    number: u16,
+    end: usize,
+}
+
+/// The expansion that is at a place.
+// <type> ::= Dp <type>
+fn expansion_at(s: &[u8], at: usize) -> Option<Expansion>
+    ensures stands { IfSome result (λ e. StandsAt s.now at (expansion_letters e.pattern e.number)) }
+    ensures end { IfSome result (λ e. e.end ≡ at + length (expansion_letters e.pattern e.number)) }
+    ensures few { IfSome result (λ e. e.number ≤ 3) }
+{
+    let second = at.checked_add(1)?;
+    if byte_at(s, at) != b'D' || byte_at(s, second) != b'p' {
         return None;
     }
-    if fourth != b'T' || fifth != b'_' {
+    let read = pattern_at(s, second.checked_add(1)?)?;
+    if byte_at(s, read.end) != b'T' {
         return None;
     }
-    at.checked_add(5)
+    let named = parameter_number(s, read.end.checked_add(1)?)?;
+    Some(Expansion {
+        pattern: read.pattern,
+        number: named.number,
+        end: named.end,
+    })
+}
+
+/// What a pattern has after the text of a type. Of a reference it isn't known which one it is.
+fn marks_of(pattern: Pattern, is_reference: bool) -> Option<&'static [u8]>
+    ensures { IfSome result (λ marks. IsMarkedBy pattern is_reference marks.now) }
+{
+    match pattern {
+        Pattern::Same => Some(b""),
+        Pattern::Rvalue => {
+            if is_reference {
+                return Some(b"");
+            }
+            Some(b"&&")
+        }
+        Pattern::Lvalue => {
+            if is_reference {
+                return None;
+            }
+            Some(b"&")
+        }
+        Pattern::ConstLvalue => {
+            if is_reference {
+                return None;
+            }
+            Some(b" const&")
+        }
+    }
 }
 
 impl Direct {
@@ -356,7 +434,7 @@ impl Direct {
         Some(Step::Type)
     }
 
-    /// The last parameter may be a reference to each type of the pack that the function's template has as its argument.
+    /// The last parameter may be one that expands the pack that the function's template has as its argument.
     // <type> ::= Dp <type>
     #[inline(never)]
     fn expansion<G: Grammar>(
@@ -371,21 +449,22 @@ impl Direct {
         requires awaits { AwaitsNextParameter (symbol_by G.IS_WIDE G.IS_BARE G.IS_BRIEF s.now) self.old mark start argument }
         ensures { IfSome result (IsWriting (symbol_by G.IS_WIDE G.IS_BARE G.IS_BRIEF s.now) self.new) }
     {
-        let Some(end) = expansion_end(s, self.at) else {
+        let Some(read) = expansion_at(s, self.at) else {
             return Some(Step::Type);
         };
         let first = argument.first;
-        if first.to < first.from || argument.elements > 4 || !may_end(byte_at(s, end)) {
+        if first.to < first.from || argument.elements > 4 || !may_end(byte_at(s, read.end)) {
             return None;
         }
-        self.at = end;
-        self.forward(argument, 0)?;
-        self.forward(argument, 1)?;
-        self.forward(argument, 2)?;
-        self.forward(argument, 3)?;
-        self.add_hidden(false)?;
-        self.add_hidden(false)?;
-        self.add_hidden(false)?;
+        if read.number != 0 {
+            return None;
+        }
+        self.at = read.end;
+        self.expand(argument, read.pattern, 0)?;
+        self.expand(argument, read.pattern, 1)?;
+        self.expand(argument, read.pattern, 2)?;
+        self.expand(argument, read.pattern, 3)?;
+        self.add_expansion(read.pattern)?;
         self.close_parameters::<G>(s, mark, start, argument)
     }
 
@@ -399,14 +478,13 @@ impl Direct {
         }
     }
 
-    /// Writes a reference to the element of a pack with this number, after those before it. A reference to a reference is one to what
-    /// this refers to.
-    // <type> ::= O <type>
-    fn forward(&mut self, argument: Arguments, number: u16) -> Option<()>
+    /// Writes what a pattern makes of the element of a pack with this number, after those before it.
+    // <type> ::= Dp <type>
+    fn expand(&mut self, argument: Arguments, pattern: Pattern, number: u16) -> Option<()>
         requires few { number ≤ 3 }
-        requires before { (detail : Detail) × (before : Direct) × (ts : List Term) × IsPackOf detail before.text.list.items argument ts × AreForwarded detail before self.old ts number }
+        requires before { (detail : Detail) × (before : Direct) × (ts : List Term) × IsPackOf detail before.text.list.items argument ts × AreExpanded detail pattern before self.old ts number }
         ensures { OnSome result ((detail : Detail) (before : Direct) (ts : List Term) → IsPackOf detail before.text.list.items argument ts
-            → AreForwarded detail before self.old ts number → AreForwarded detail before self.new ts (number + 1)) }
+            → AreExpanded detail pattern before self.old ts number → AreExpanded detail pattern before self.new ts (number + 1)) }
     {
         if number >= argument.elements {
             return Some(());
@@ -415,9 +493,28 @@ impl Direct {
         if !place.is_pack {
             return None;
         }
+        let marks = marks_of(pattern, place.is_reference)?;
         self.comma(number)?;
         self.repeat(place.from as u32, place.to as u32)?;
-        self.push(if place.is_reference { b"" } else { b"&&" })
+        self.push(marks)
+    }
+
+    /// The parameter that an expansion has, what its pattern makes of it, and the expansion become candidates. Their texts are nowhere.
+    fn add_expansion(&mut self, pattern: Pattern) -> Option<()>
+        ensures candidates { OnSome result (self.new.candidates.list.items ≡ self.old.candidates.list.items ++ replicate (2 + length (pattern_letters pattern)) hidden) }
+        ensures text { self.new.text ≡ self.old.text }
+        ensures open { self.new.waiting ≡ self.old.waiting }
+        ensures nest { self.new.nest ≡ self.old.nest }
+        ensures scope { self.new.has_scope ≡ self.old.has_scope }
+        ensures at { self.new.at ≡ self.old.at }
+    {
+        self.add_hidden(true)?;
+        match pattern {
+            Pattern::Same => Some(()),
+            Pattern::Lvalue => self.add_hidden(false),
+            Pattern::ConstLvalue => self.add_hidden(true),
+            Pattern::Rvalue => self.add_hidden(false),
+        }
     }
 
     /// An argument of a name is read, so many after the first one: others follow, or the end.

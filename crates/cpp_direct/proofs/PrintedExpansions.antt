@@ -1,0 +1,206 @@
+-- What a parameter prints that expands a pack: what its pattern makes of each type of the pack.
+use Rattle.sym_print.specs.declared.detail.Detail.{Detail}
+use Rattle.cpp_direct.specs.declared.open.Pattern.{Pattern}
+use Rattle.cpp_direct.specs.declared.open.Pattern.TheVariants as patterns
+use Rattle.std.proofs.lemmas.Bool.{lt-ltb, ltb-true, eqb-true}
+use Rattle.cpp_direct.specs.Prints.{Prints, PrintsIn, PrintsMade, IsMarkedBy, written_of, IsElementIn, PrintEachBy, PrintAllBy, joined, list_of, made_by}
+use Rattle.cpp_grammar.specs.Items.{left, right, Context, argument, expand, indexed, is_empty, is_none_of, packs_of}
+use Rattle.cpp_grammar.specs.Meaning.{is_void}
+use Rattle.cpp_grammar.specs.Parts.{as_item, says, left_parts, right_parts, parts_in, not_empty, at_index, comma_before, expand_parts, expand_rest, expansion_parts, is_below, types_of}
+use Rattle.cpp_grammar.specs.Scope.{pack_length, length_if_pack, arguments_of, count, element}
+use Rattle.cpp_grammar.specs.Term.{Term, lvalue, rvalue, qualified, parameter, expansion, pack}
+use Rattle.std.proofs.Common.{◌≡◌, refl, ap, ◌∙◌, ℕ, ◌+◌, ◌*◌, ◌≤◌, List, [], ◌∷◌, ◌++◌, length, Bool, true, false, arith, codes, length-append, sym, subst, append-nil, append_assoc, ◌≢◌, slice_get, Option, Some, zero, suc, ◌<◌, nat_lt, nat_eq}
+use Rattle.sym_print.specs.Unshared.{text_of, cost_of}
+use Rattle.cpp_direct.proofs.PrintedLists.{further, joined-further}
+use Rattle.cpp_direct.proofs.PrintedParts.{text_shown, cost_shown, shown_by}
+use Rattle.cpp_direct.proofs.PrintedTypes.{const-in, constant, lvalue-in, parameter-in, rvalue-again, rvalue-in}
+
+-- where the argument with this number is a pack of these types
+record IsPacked (c : Context) (k : ℕ) (ts : List Term) : Type 0 where
+  pub all : Term
+  pub scope_is : c.scope ≡ Some all
+  pub pack_is : element all k ≡ pack (list_of ts)
+
+-- what a pattern makes of each type of it
+abbrev each : Pattern → (number : ℕ) → Term
+each pattern k = made_by pattern (parameter k)
+
+-- ## One of them
+
+-- the elements of a pack
+element-of : (ts : List Term) (k : ℕ) (t : Term) → slice_get ts k ≡ Some t → element (list_of ts) k ≡ t
+unfolding element
+element-of [] k t e = cc e
+element-of (u ∷ ts) zero t e = cc e
+element-of (u ∷ ts) (suc k) t e = element-of ts k t e
+
+count-of : (ts : List Term) → count (list_of ts) ≡ length ts
+unfolding count
+count-of [] = refl
+count-of (t ∷ ts) = ap suc (count-of ts)
+
+argument-at : (c : Context) (k i : ℕ) (ts : List Term) (own : Term) → IsPacked c k ts → slice_get ts i ≡ Some own → argument (at_index i c) k ≡ own
+unfolding argument indexed at_index
+argument-at c k i ts own p at = rw (p.scope_is, p.pack_is) (element-of ts i own at)
+
+-- what a pattern makes of the type that a parameter names
+makes-in : {detail : Detail} (d : Context) (k : ℕ) (pattern : Pattern) (b marks : List ℕ) (r : Bool) → Prints detail (argument d k) b r → IsMarkedBy pattern r marks
+    → (q : Bool) × PrintsIn detail d 3 (each pattern k) (b ++ marks) q
+makes-in {detail} d k patterns.Same b marks r p is =
+    (r, subst (λ m. PrintsIn detail d 3 (parameter k) (b ++ m) r) (sym is)
+    (subst (λ l. PrintsIn detail d 3 (parameter k) l r) (sym (append-nil b)) (parameter-in d k b r p)))
+makes-in {detail} d k patterns.Lvalue b marks r p is =
+    let own = subst (λ q. Prints detail (argument d k) b q) is.0 p in
+    (true, subst (λ m. PrintsIn detail d 3 (lvalue (parameter k)) (b ++ m) true) (sym is.1) (lvalue-in d 3 (parameter k) b (parameter-in d k b false own)))
+makes-in {detail} d k patterns.ConstLvalue b marks r p is =
+    let own = subst (λ q. Prints detail (argument d k) b q) is.0 p in
+    let const_ = const-in d 3 (parameter k) b (parameter-in d k b false own) in
+    let t = lvalue (qualified constant (parameter k)) in
+    (true, subst (λ m. PrintsIn detail d 3 t (b ++ m) true) (sym is.1)
+    (subst (λ l. PrintsIn detail d 3 t l true) (append_assoc b (codes " const") (codes "&"))
+    (lvalue-in d 3 (qualified constant (parameter k)) (b ++ codes " const") const_)))
+makes-in {detail} d k patterns.Rvalue b marks true p is =
+    (true, subst (λ m. PrintsIn detail d 3 (rvalue (parameter k)) (b ++ m) true) (sym is)
+    (subst (λ l. PrintsIn detail d 3 (rvalue (parameter k)) l true) (sym (append-nil b)) (rvalue-again d k b p)))
+makes-in {detail} d k patterns.Rvalue b marks false p is =
+    (true, subst (λ m. PrintsIn detail d 3 (rvalue (parameter k)) (b ++ m) true) (sym is) (rvalue-in d 3 (parameter k) b (parameter-in d k b false p)))
+
+each-prints : {detail : Detail} (c : Context) (k i : ℕ) (ts : List Term) (pattern : Pattern) (own : Term) (b : List ℕ) → IsPacked c k ts → slice_get ts i ≡ Some own
+    → PrintsMade detail pattern own b → (q : Bool) × PrintsIn detail (at_index i c) 3 (each pattern k) b q
+each-prints {detail} c k i ts pattern own b packed at p =
+    let d = at_index i c in
+    let made = makes-in d k pattern p.0 p.2 p.1 (subst (λ t. Prints detail t p.0 p.1) (sym (argument-at c k i ts own packed at)) p.3) p.4 in
+    (made.0, subst (λ l. PrintsIn detail d 3 (each pattern k) l made.0) (sym p.5) made.1)
+
+-- ## After the first one
+
+packs-are : (c : Context) (k : ℕ) (ts : List Term) (pattern : Pattern) → IsPacked c k ts → packs_of c (each pattern k) ≡ Some (count (list_of ts))
+unfolding packs_of pack_length length_if_pack
+packs-are c k ts patterns.Same p = rw (p.scope_is, p.pack_is) refl
+packs-are c k ts patterns.Lvalue p = rw (p.scope_is, p.pack_is) refl
+packs-are c k ts patterns.ConstLvalue p = rw (p.scope_is, p.pack_is) refl
+packs-are c k ts patterns.Rvalue p = rw (p.scope_is, p.pack_is) refl
+
+not-below : (n m : ℕ) → m ≤ n → nat_lt n m ≡ false
+not-below n m le = go (nat_lt n m) refl
+  where
+    go : (b : Bool) → nat_lt n m ≡ b → nat_lt n m ≡ false
+    go true is = absurd (omega (arith, le, ltb-true n m is))
+    go false is = is
+
+-- what follows the first ones
+rest-ends : (c : Context) (k : ℕ) (ts : List Term) (pattern : Pattern) (n : ℕ) → IsPacked c k ts → length ts ≤ n → expand_rest c (each pattern k) n ≡ []
+unfolding expand_rest is_below
+rest-ends c k ts pattern n p le = rw (packs-are c k ts pattern p, not-below n (count (list_of ts)) (omega (arith, le, count-of ts)), expand_rest) refl
+
+rest-goes : (c : Context) (k : ℕ) (ts : List Term) (pattern : Pattern) (n : ℕ) → IsPacked c k ts → n < length ts
+    → expand_rest c (each pattern k) n ≡ as_item (expand n) c (each pattern k) ∷ []
+unfolding expand_rest is_below
+rest-goes c k ts pattern n p lt = rw (packs-are c k ts pattern p, lt-ltb n (count (list_of ts)) (omega (arith, lt, count-of ts)), expand_rest) refl
+
+-- the parts of one after the first
+abbrev next_parts : (detail : Detail) → Context → (t : Term) → (m : ℕ) → List ℕ → Type 0
+next_parts detail c t m l = (text_of (shown_by detail (expand_rest c t m)) ≡ l) × (cost_of (shown_by detail (expand_rest c t m)) ≤ 1 + 4 * length l)
+
+one-more : {detail : Detail} (c : Context) (k : ℕ) (ts : List Term) (pattern : Pattern) (m : ℕ) (b l : List ℕ) (q : Bool) → IsPacked c k ts → suc m < length ts
+    → PrintsIn detail (at_index (suc m) c) 3 (each pattern k) b q
+    → next_parts detail c (each pattern k) (suc m + 1) l → next_parts detail c (each pattern k) (suc m) (codes ", " ++ (b ++ l))
+unfolding parts_in expand_parts comma_before not_empty
+one-more {detail} c k ts pattern m b l q packed lt p n =
+    let t = each pattern k in
+    let d = at_index (suc m) c in
+    let rest = expand_rest c t (suc m + 1) in
+    let qs = says ", " ∷ as_item left d t ∷ as_item right d t ∷ rest in
+    let goes = rest-goes c k ts pattern (suc m) packed lt in (
+      ap (λ ps. text_of (shown_by detail ps)) goes ∙ append-nil (text_of (written_of detail (expand (suc m)) c t)) ∙ text_shown detail (expand (suc m)) c t qs refl refl
+          ∙ ap (λ x. codes ", " ++ (x ++ (text_of (written_of detail right d t) ++ text_of (shown_by detail rest)))) p.left_text
+          ∙ ap (λ x. codes ", " ++ (b ++ (x ++ text_of (shown_by detail rest)))) p.right_text
+          ∙ ap (λ x. codes ", " ++ (b ++ x)) n.0,
+      omega (
+        arith,
+        ap (λ ps. cost_of (shown_by detail ps)) goes,
+        cost_shown detail (expand (suc m)) c t qs refl refl,
+        p.cost,
+        n.1,
+        length-append (codes ", ") (b ++ l),
+        length-append b l,
+      ),
+    )
+
+rest-prints : (detail : Detail) (c : Context) (k : ℕ) (ts : List Term) (pattern : Pattern) (rest : List Term) (m : ℕ) (texts : List (List ℕ)) → IsPacked c k ts
+    → ((i : ℕ) (t : Term) → slice_get rest i ≡ Some t → slice_get ts (suc m + i) ≡ Some t)
+    → suc m + length rest ≡ length ts → PrintEachBy (PrintsMade detail pattern) rest texts → next_parts detail c (each pattern k) (suc m) (further texts)
+unfolding not_empty
+rest-prints detail c k ts pattern [] m [] packed there size each_ =
+    let none = rest-ends c k ts pattern (suc m) packed (omega (arith, size)) in
+    (ap (λ ps. text_of (shown_by detail ps)) none, omega (arith, ap (λ ps. cost_of (shown_by detail ps)) none))
+rest-prints detail c k ts pattern (t ∷ rest) m (b ∷ texts) packed there size each_ =
+    let at : slice_get ts (suc m) ≡ Some t = subst (λ n. slice_get ts n ≡ Some t) (omega arith) (there 0 t refl) in
+    let behind = rest-prints detail c k ts pattern rest (suc m) texts packed
+    (λ i u e. subst (λ n. slice_get ts n ≡ Some u) (omega arith) (there (suc i) u e)) (omega (arith, size)) each_.1 in
+    let own = each-prints c k (suc m) ts pattern t b packed at each_.0 in
+    one-more c k ts pattern m b (further texts) own.0 packed (omega (arith, size)) own.1
+    (subst (λ n. next_parts detail c (each pattern k) n (further texts)) (omega arith) behind)
+rest-prints detail c k ts pattern [] m (b ∷ texts) packed there size each_ = absurd each_
+rest-prints detail c k ts pattern (t ∷ rest) m [] packed there size each_ = absurd each_
+
+-- ## The whole
+
+not-none : (n : ℕ) → nat_eq (suc n) 0 ≡ false
+not-none n = go (nat_eq (suc n) 0) refl
+  where
+    go : (b : Bool) → nat_eq (suc n) 0 ≡ b → nat_eq (suc n) 0 ≡ false
+    go true is = absurd (omega (arith, eqb-true (suc n) 0 is))
+    go false is = is
+
+expanded : {detail : Detail} (c : Context) (k : ℕ) (pattern : Pattern) (t : Term) (rest : List Term) (b : List ℕ) (texts : List (List ℕ)) → IsPacked c k (t ∷ rest)
+    → PrintsMade detail pattern t b → PrintEachBy (PrintsMade detail pattern) rest texts
+    → IsElementIn detail c 6 (expansion (each pattern k)) (joined (b ∷ texts))
+unfolding parts_in left_parts right_parts not_empty expansion_parts expand_parts comma_before count is_empty is_none_of is_void
+expanded {detail} c k pattern t rest b texts packed one others =
+    let ts = t ∷ rest in
+    let u = each pattern k in
+    let d = at_index 0 c in
+    let e = expansion u in
+    let own = each-prints c k 0 ts pattern t b packed refl one in
+    let p = own.1 in
+    let n = rest-prints detail c k ts pattern rest 0 texts packed
+    (λ i v at. let behind : suc i ≡ suc 0 + i = omega arith in subst (λ m. slice_get ts m ≡ Some v) behind at) (omega arith) others in
+    let last = expand_rest c u 1 in
+    let ps = as_item (expand 0) c u ∷ [] in
+    let qs = as_item left d u ∷ as_item right d u ∷ last in
+    let packs = packs-are c k ts pattern packed in
+    let is : parts_in detail c left e ≡ ps = ap (λ o. expansion_parts c u o) packs in
+    record {
+      both_texts = ap (λ l. text_of (written_of detail left c e) ++ l) (text_shown detail right c e [] refl refl) ∙ append-nil (text_of (written_of detail left c e))
+          ∙ text_shown detail left c e ps is refl ∙ append-nil (text_of (written_of detail (expand 0) c u)) ∙ text_shown detail (expand 0) c u qs refl refl
+          ∙ ap (λ l. l ++ (text_of (written_of detail right d u) ++ text_of (shown_by detail last))) p.left_text
+          ∙ ap (λ l. b ++ (l ++ text_of (shown_by detail last))) p.right_text ∙ ap (λ l. b ++ l) n.0 ∙ sym (joined-further b texts);
+      cost = omega (
+        arith,
+        p.cost,
+        n.1,
+        cost_shown detail left c e ps is refl,
+        cost_shown detail right c e [] refl refl,
+        cost_shown detail (expand 0) c u qs refl refl,
+        ap length (joined-further b texts),
+        length-append b (further texts),
+      );
+      filled = ap is_none_of packs ∙ not-none (count (list_of rest));
+      void = λ h. cc h;
+    }
+
+-- The types of a name of whose arguments one is a pack of these: an expansion of it prints what its pattern makes of each of them.
+pub expansion-element : {detail : Detail} (name all : Term) (k : ℕ) (ts : List Term) (pattern : Pattern) (bytes : List ℕ) → ts ≢ []
+    → arguments_of name ≡ Some all → element all k ≡ pack (list_of ts)
+    → PrintAllBy (PrintsMade detail pattern) ts bytes → IsElementIn detail (types_of name) 6 (expansion (made_by pattern (parameter k))) bytes
+unfolding types_of
+expansion-element {detail} name all k ts pattern bytes some e pack_is printed =
+    subst (λ l. IsElementIn detail (types_of name) 6 (expansion (each pattern k)) l) printed.2
+    (go ts printed.0 some (record { all = all; scope_is = e; pack_is = pack_is }) printed.1)
+  where
+    go : (us : List Term) (texts : List (List ℕ)) → us ≢ [] → IsPacked (types_of name) k us → PrintEachBy (PrintsMade detail pattern) us texts
+        → IsElementIn detail (types_of name) 6 (expansion (each pattern k)) (joined texts)
+    go [] texts some_ packed each_ = absurd (some_ refl)
+    go (t ∷ us) [] some_ packed each_ = absurd each_
+    go (t ∷ us) (b ∷ texts) some_ packed each_ = expanded (types_of name) k pattern t us b texts packed each_.0 each_.1
