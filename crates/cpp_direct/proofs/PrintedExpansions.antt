@@ -9,7 +9,7 @@ use Rattle.cpp_grammar.specs.Meaning.{is_void}
 use Rattle.cpp_grammar.specs.Parts.{as_item, says, left_parts, right_parts, parts_in, not_empty, at_index, comma_before, expand_parts, expand_rest, expansion_parts, is_below, types_of}
 use Rattle.cpp_grammar.specs.Scope.{pack_length, length_if_pack, arguments_of, count, element}
 use Rattle.cpp_grammar.specs.Term.{Term, lvalue, rvalue, qualified, parameter, expansion, pack}
-use Rattle.std.proofs.Common.{◌≡◌, refl, ap, ◌∙◌, ℕ, ◌+◌, ◌*◌, ◌≤◌, List, [], ◌∷◌, ◌++◌, length, Bool, true, false, arith, codes, length-append, sym, subst, append-nil, append_assoc, ◌≢◌, slice_get, Option, Some, zero, suc, ◌<◌, nat_lt, nat_eq}
+use Rattle.std.proofs.Common.{◌≡◌, refl, ap, ◌∙◌, ℕ, ◌+◌, ◌*◌, ◌≤◌, List, [], ◌∷◌, ◌++◌, length, Bool, true, false, arith, codes, length-append, sym, subst, append-nil, append_assoc, ◌≢◌, slice_get, Some, zero, suc, ◌<◌, nat_lt, nat_eq}
 use Rattle.sym_print.specs.Unshared.{text_of, cost_of}
 use Rattle.cpp_direct.proofs.PrintedLists.{further, joined-further}
 use Rattle.cpp_direct.proofs.PrintedParts.{text_shown, cost_shown, shown_by}
@@ -46,22 +46,28 @@ argument-at c k i ts own p at = rw (p.scope_is, p.pack_is) (element-of ts i own 
 -- what a pattern makes of the type that a parameter names
 makes-in : {detail : Detail} (d : Context) (k : ℕ) (pattern : Pattern) (b marks : List ℕ) (r : Bool) → Prints detail (argument d k) b r → IsMarkedBy pattern r marks
     → (q : Bool) × PrintsIn detail d 3 (each pattern k) (b ++ marks) q
-makes-in {detail} d k patterns.Same b marks r p is =
-    (r, subst (λ m. PrintsIn detail d 3 (parameter k) (b ++ m) r) (sym is)
-    (subst (λ l. PrintsIn detail d 3 (parameter k) l r) (sym (append-nil b)) (parameter-in d k b r p)))
+makes-in {detail} d k patterns.Same b marks r p is = (
+  r,
+  subst (λ m. PrintsIn detail d 3 (parameter k) (b ++ m) r) (sym is)
+      (subst (λ l. PrintsIn detail d 3 (parameter k) l r) (sym (append-nil b)) (parameter-in d k b r p)),
+)
 makes-in {detail} d k patterns.Lvalue b marks r p is =
     let own = subst (λ q. Prints detail (argument d k) b q) is.0 p in
     (true, subst (λ m. PrintsIn detail d 3 (lvalue (parameter k)) (b ++ m) true) (sym is.1) (lvalue-in d 3 (parameter k) b (parameter-in d k b false own)))
 makes-in {detail} d k patterns.ConstLvalue b marks r p is =
     let own = subst (λ q. Prints detail (argument d k) b q) is.0 p in
     let const_ = const-in d 3 (parameter k) b (parameter-in d k b false own) in
-    let t = lvalue (qualified constant (parameter k)) in
-    (true, subst (λ m. PrintsIn detail d 3 t (b ++ m) true) (sym is.1)
-    (subst (λ l. PrintsIn detail d 3 t l true) (append_assoc b (codes " const") (codes "&"))
-    (lvalue-in d 3 (qualified constant (parameter k)) (b ++ codes " const") const_)))
-makes-in {detail} d k patterns.Rvalue b marks true p is =
-    (true, subst (λ m. PrintsIn detail d 3 (rvalue (parameter k)) (b ++ m) true) (sym is)
-    (subst (λ l. PrintsIn detail d 3 (rvalue (parameter k)) l true) (sym (append-nil b)) (rvalue-again d k b p)))
+    let t = lvalue (qualified constant (parameter k)) in (
+      true,
+      subst (λ m. PrintsIn detail d 3 t (b ++ m) true) (sym is.1)
+          (subst (λ l. PrintsIn detail d 3 t l true) (append_assoc b (codes " const") (codes "&"))
+          (lvalue-in d 3 (qualified constant (parameter k)) (b ++ codes " const") const_)),
+    )
+makes-in {detail} d k patterns.Rvalue b marks true p is = (
+  true,
+  subst (λ m. PrintsIn detail d 3 (rvalue (parameter k)) (b ++ m) true) (sym is)
+      (subst (λ l. PrintsIn detail d 3 (rvalue (parameter k)) l true) (sym (append-nil b)) (rvalue-again d k b p)),
+)
 makes-in {detail} d k patterns.Rvalue b marks false p is =
     (true, subst (λ m. PrintsIn detail d 3 (rvalue (parameter k)) (b ++ m) true) (sym is) (rvalue-in d 3 (parameter k) b (parameter-in d k b false p)))
 

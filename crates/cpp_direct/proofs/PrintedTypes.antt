@@ -1,19 +1,19 @@
 -- Types that are made of another type: pointers, references and constant types, and parameters that name one.
 use Rattle.sym_print.specs.declared.detail.Detail.{Detail}
 use Prim.Native.String.{String}
-use Rattle.std.proofs.lemmas.Bool.{false≢true, lt-ltb, ltb-true, eqb-true}
+use Rattle.std.proofs.lemmas.Bool.{false≢true}
 use Rattle.sym_print.specs.Details.{has_arguments}
 use Rattle.sym_print.specs.Unfold.{text}
 use Rattle.cpp_direct.specs.WrittenParts.{IsUnmarked, unmarked_parts, written_in}
-use Rattle.cpp_direct.proofs.PrintedParts.{text_shown, cost_shown, alone_shown, first_cost_shown, shown_by}
+use Rattle.cpp_direct.proofs.PrintedParts.{text_shown, cost_shown, alone_shown, first_cost_shown}
 use Rattle.cpp_direct.specs.Prints.{Prints, PrintsIn, PrintsGiven, PrintsAs, Named, Names, IsGiven, AreSingle, EndsAsInteger, written_of, IsElementIn}
-use Rattle.cpp_grammar.specs.Items.{closed, Form, left, right, low, Context, Head, lref, collapsed, head_with, head, is_reference, is_funarr, is_empty, argument, head_closed, expand, indexed, packs_of, is_none_of}
+use Rattle.cpp_grammar.specs.Items.{closed, Form, left, right, low, Context, Head, lref, collapsed, head_with, head, is_reference, is_funarr, is_empty, argument, head_closed, indexed}
 use Rattle.cpp_grammar.specs.Meaning.{is_void}
-use Rattle.cpp_grammar.specs.Parts.{as_item, says, text_part, qualifier_text, prefix_item, last_piece, opening_text, marked_parts, reference_parts, qualified_left, qualified_right, closing_right, left_parts, right_parts, parts_in, not_empty, is_plain_integer, at_index, comma_before, expand_parts, expand_rest, expansion_parts, is_below, types_of}
+use Rattle.cpp_grammar.specs.Parts.{as_item, says, text_part, qualifier_text, prefix_item, last_piece, opening_text, marked_parts, reference_parts, qualified_left, qualified_right, closing_right, left_parts, right_parts, parts_in, not_empty, is_plain_integer, types_of}
 use Rattle.cpp_grammar.specs.References.{is_function_type}
-use Rattle.cpp_grammar.specs.Scope.{is_open, pack_length, length_if_pack, arguments_of, count, element}
-use Rattle.cpp_grammar.specs.Term.{Qualifiers, Term, function_type, pointer, lvalue, rvalue, qualified, parameter, expansion, pack, nil, list}
-use Rattle.std.proofs.Common.{◌≡◌, refl, ap, ◌∙◌, ℕ, ◌+◌, ◌*◌, ◌≤◌, List, [], ◌∷◌, ◌++◌, length, Bool, true, false, None, arith, codes, length-append, sym, subst, append-nil, ◌≢◌, slice_get, Option, Some, zero, suc, ◌<◌, nat_lt, nat_eq}
+use Rattle.cpp_grammar.specs.Scope.{is_open, pack_length, length_if_pack, arguments_of, element}
+use Rattle.cpp_grammar.specs.Term.{Qualifiers, Term, function_type, pointer, lvalue, rvalue, qualified, parameter}
+use Rattle.std.proofs.Common.{◌≡◌, refl, ap, ◌∙◌, ℕ, ◌+◌, ◌*◌, ◌≤◌, List, [], ◌∷◌, ◌++◌, length, Bool, true, false, None, arith, codes, length-append, sym, subst, append-nil, Some}
 use Rattle.sym_print.specs.Unshared.{text_of, cost_of}
 use Rattle.cpp_direct.proofs.PrintedLists.{type-in}
 

@@ -9,4 +9,4 @@ returns-in_ok-end-in-82-clause-stands c =
     let s = c.args.s.now in
     stands-join s c.args.at (82 ∷ []) (75 ∷ []) (there s c.args.at c.byte_at.result 82 c.in-82.is (omega arith) c.byte_at.ensures)
     (subst (λ n. StandsAt s n (75 ∷ [])) c.in_ok-behind.ensures.1
-    (there s c.in_ok-behind.behind c.byte_at-2.result 75 c.if-byte_at-ne75.false (omega arith) c.byte_at-2.ensures))
+    (there s c.in_ok-behind.behind c.byte_at-in-82.result 75 c.if-byte_at-ne75.false (omega arith) c.byte_at-in-82.ensures))

@@ -57,7 +57,7 @@ close_parameters-requires-clause-ended g c =
     let begun = record old { at = c.in-Some.read.end } in
     let ts = (f.names 0 c.if-first.false).elements in
     let pack = pack-of old.text.list.items c.args.argument f.own f.names c.requires.is_pack c.if-first.false in
-    let number : c.in-Some.read.number ≡ 0 = c.if-in-Some-number-ne0.false in
+    let number : c.in-Some.read.number ≡ 0 = c.if-read-ne0.false in
     let stands = subst (λ k. StandsAt c.args.s.now old.at (expansion_letters pattern k)) number c.in-Some.ensures.stands in
     let three = c.in_ok-expand-3.ensures (detail_by g.G.Grammar.IS_BARE g.G.Grammar.IS_BRIEF) begun ts pack (c.in_ok-expand-2.ensures (detail_by g.G.Grammar.IS_BARE g.G.Grammar.IS_BRIEF) begun ts pack (c.in_ok-expand.ensures (detail_by g.G.Grammar.IS_BARE g.G.Grammar.IS_BRIEF) begun ts pack (none-expanded pattern begun ts))) in
     expansion-read (symbol_by g.G.Grammar.IS_WIDE g.G.Grammar.IS_BARE g.G.Grammar.IS_BRIEF c.args.s.now) pattern old begun c.expand-4.new.self c.add_expansion.new.self c.args.mark c.args.start c.args.argument c.requires.awaits
