@@ -65,7 +65,8 @@ impl Arguments {
 
     /// The same, and the argument with this number is known.
     fn with(self, number: u16, place: Argument) -> Arguments
-        ensures { KnowsMore self result number place }
+        ensures more { KnowsMore self result number place }
+        ensures before { result.before ≡ self.before }
     {
         match number {
             0 => Arguments {

@@ -15,8 +15,9 @@ expand-requires-clause-before g c =
     let f = c.requires.awaits.is_function in
     let pattern = c.in-Some.read.pattern in
     let begun = record old { at = c.in-Some.read.end } in
-    let ts = (f.names 0 c.if-first.false).elements in
-    let pack = pack-of old.text.list.items c.args.argument f.own f.names c.requires.is_pack c.if-first.false in
+    let known = c.if-first.false in
+    let ts = (f.names c.args.argument.before known).elements in
+    let pack = pack-of old.text.list.items c.args.argument f.own f.names known c.if-not-first.false in
     (detail_by g.G.Grammar.IS_BARE g.G.Grammar.IS_BRIEF, begun, ts, pack, none-expanded pattern begun ts)
 
 pub expand-requires-2-clause-before : goal.expand-requires-2-clause-before
@@ -25,8 +26,9 @@ expand-requires-2-clause-before g c =
     let f = c.requires.awaits.is_function in
     let pattern = c.in-Some.read.pattern in
     let begun = record old { at = c.in-Some.read.end } in
-    let ts = (f.names 0 c.if-first.false).elements in
-    let pack = pack-of old.text.list.items c.args.argument f.own f.names c.requires.is_pack c.if-first.false in
+    let known = c.if-first.false in
+    let ts = (f.names c.args.argument.before known).elements in
+    let pack = pack-of old.text.list.items c.args.argument f.own f.names known c.if-not-first.false in
     (detail_by g.G.Grammar.IS_BARE g.G.Grammar.IS_BRIEF, begun, ts, pack, c.in_ok-expand.ensures (detail_by g.G.Grammar.IS_BARE g.G.Grammar.IS_BRIEF) begun ts pack (none-expanded pattern begun ts))
 
 pub expand-requires-3-clause-before : goal.expand-requires-3-clause-before
@@ -35,8 +37,9 @@ expand-requires-3-clause-before g c =
     let f = c.requires.awaits.is_function in
     let pattern = c.in-Some.read.pattern in
     let begun = record old { at = c.in-Some.read.end } in
-    let ts = (f.names 0 c.if-first.false).elements in
-    let pack = pack-of old.text.list.items c.args.argument f.own f.names c.requires.is_pack c.if-first.false in
+    let known = c.if-first.false in
+    let ts = (f.names c.args.argument.before known).elements in
+    let pack = pack-of old.text.list.items c.args.argument f.own f.names known c.if-not-first.false in
     (detail_by g.G.Grammar.IS_BARE g.G.Grammar.IS_BRIEF, begun, ts, pack, c.in_ok-expand-2.ensures (detail_by g.G.Grammar.IS_BARE g.G.Grammar.IS_BRIEF) begun ts pack (c.in_ok-expand.ensures (detail_by g.G.Grammar.IS_BARE g.G.Grammar.IS_BRIEF) begun ts pack (none-expanded pattern begun ts)))
 
 pub expand-requires-4-clause-before : goal.expand-requires-4-clause-before
@@ -45,8 +48,9 @@ expand-requires-4-clause-before g c =
     let f = c.requires.awaits.is_function in
     let pattern = c.in-Some.read.pattern in
     let begun = record old { at = c.in-Some.read.end } in
-    let ts = (f.names 0 c.if-first.false).elements in
-    let pack = pack-of old.text.list.items c.args.argument f.own f.names c.requires.is_pack c.if-first.false in
+    let known = c.if-first.false in
+    let ts = (f.names c.args.argument.before known).elements in
+    let pack = pack-of old.text.list.items c.args.argument f.own f.names known c.if-not-first.false in
     (detail_by g.G.Grammar.IS_BARE g.G.Grammar.IS_BRIEF, begun, ts, pack, c.in_ok-expand-3.ensures (detail_by g.G.Grammar.IS_BARE g.G.Grammar.IS_BRIEF) begun ts pack (c.in_ok-expand-2.ensures (detail_by g.G.Grammar.IS_BARE g.G.Grammar.IS_BRIEF) begun ts pack (c.in_ok-expand.ensures (detail_by g.G.Grammar.IS_BARE g.G.Grammar.IS_BRIEF) begun ts pack (none-expanded pattern begun ts))))
 
 pub close_parameters-requires-clause-ended : goal.close_parameters-requires-clause-ended
@@ -55,13 +59,14 @@ close_parameters-requires-clause-ended g c =
     let f = c.requires.awaits.is_function in
     let pattern = c.in-Some.read.pattern in
     let begun = record old { at = c.in-Some.read.end } in
-    let ts = (f.names 0 c.if-first.false).elements in
-    let pack = pack-of old.text.list.items c.args.argument f.own f.names c.requires.is_pack c.if-first.false in
-    let number : c.in-Some.read.number ≡ 0 = c.if-read-ne0.false in
+    let known = c.if-first.false in
+    let ts = (f.names c.args.argument.before known).elements in
+    let pack = pack-of old.text.list.items c.args.argument f.own f.names known c.if-not-first.false in
+    let number : c.in-Some.read.number ≡ c.args.argument.before = c.if-read-neargument.false in
     let stands = subst (λ k. StandsAt c.args.s.now old.at (expansion_letters pattern k)) number c.in-Some.ensures.stands in
     let three = c.in_ok-expand-3.ensures (detail_by g.G.Grammar.IS_BARE g.G.Grammar.IS_BRIEF) begun ts pack (c.in_ok-expand-2.ensures (detail_by g.G.Grammar.IS_BARE g.G.Grammar.IS_BRIEF) begun ts pack (c.in_ok-expand.ensures (detail_by g.G.Grammar.IS_BARE g.G.Grammar.IS_BRIEF) begun ts pack (none-expanded pattern begun ts))) in
     expansion-read (symbol_by g.G.Grammar.IS_WIDE g.G.Grammar.IS_BARE g.G.Grammar.IS_BRIEF c.args.s.now) pattern old begun c.expand-4.new.self c.add_expansion.new.self c.args.mark c.args.start c.args.argument c.requires.awaits
-    c.requires.is_pack c.if-first.false (omega (arith, c.if-argument-gt4.false)) stands refl refl refl refl
+    known c.if-not-first.false (omega (arith, c.if-argument-gt4.false)) (omega (arith, number, c.in-Some.ensures.few)) stands refl refl refl refl
     (c.in-Some.ensures.end ∙ ap (λ k. old.at + length (expansion_letters pattern k)) number)
     (c.in_ok-expand-4.ensures (detail_by g.G.Grammar.IS_BARE g.G.Grammar.IS_BRIEF) begun ts pack three)
     c.add_expansion.ensures.text c.in_ok-add_expansion.ensures.candidates c.add_expansion.ensures.open c.add_expansion.ensures.scope c.add_expansion.ensures.at
