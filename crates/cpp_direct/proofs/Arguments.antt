@@ -5,7 +5,7 @@ use Rattle.std.proofs.lemmas.Bool.{false≢true, le-leb, leb-false, leb-true}
 use Rattle.std.proofs.lemmas.List.{length-append}
 use Rattle.cpp_grammar.specs.declared.kind.Kind.{Kind}
 use Rattle.cpp_grammar.specs.Grammar.{may_be_empty}
-use Rattle.cpp_grammar.specs.Term.{Term, nil, instance, list, pack}
+use Rattle.cpp_grammar.specs.Term.{Term, nil, instance, pack}
 use Rattle.cpp_grammar.specs.Values.{Around, State, nothing_there}
 use Rattle.cpp_grammar.specs.Between.{no_items}
 use Rattle.cpp_direct.specs.WrittenParts.{opening_bracket}
@@ -24,7 +24,7 @@ use Rattle.cpp_direct.proofs.Kept.{keeps-same, keeps-written, reverse-last, temp
 use Rattle.cpp_direct.proofs.Listed.{last-found, element-goes-on, list-kind, pack-goes-on, some-elements, template-listed}
 use Rattle.cpp_direct.proofs.Moves.{expects-empty}
 use Rattle.cpp_direct.proofs.MovesOfLists.{element-awaits}
-use Rattle.cpp_direct.proofs.PrintedLists.{all-as, element-as, next-prints, none-print, none-print-as, type-element, pack-element, list-with-none, none-text}
+use Rattle.cpp_direct.proofs.PrintedLists.{all-as, next-prints, none-print, type-element, pack-element, list-with-none, none-text}
 use Rattle.cpp_grammar.specs.Scope.{count, element}
 use Rattle.cpp_direct.proofs.Scopes.{among-stay, element-there, none-scoped, there-still}
 use Rattle.cpp_direct.specs.declared.open.Open.TheVariants as opens

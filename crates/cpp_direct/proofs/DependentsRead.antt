@@ -28,7 +28,7 @@ use Rattle.cpp_grammar.specs.Grammar.{may_be_empty, number_of_kind, parts_of}
 use Rattle.cpp_grammar.specs.Parts.{types_of}
 use Rattle.cpp_grammar.specs.References.{appended, is_function_type, with_packs, parameter_named, with_type}
 use Rattle.cpp_grammar.specs.Scope.{element, count, length_if_pack}
-use Rattle.cpp_grammar.specs.Term.{Term, parameter, expansion, lvalue, rvalue, list, nil, pack}
+use Rattle.cpp_grammar.specs.Term.{Term, parameter, expansion, lvalue, rvalue, pack}
 use Rattle.cpp_grammar.specs.Values.{tree, State, Around, text_of, is_there, letter_of, part, piece_of, tree_of, is_listed}
 use Rattle.cpp_grammar.specs.declared.kind.Kind.{Kind}
 use Rattle.cpp_grammar.specs.declared.production.Production.{Production}

@@ -5,7 +5,7 @@ use Rattle.cpp_direct.specs.HolesOfLists.{IsArgumentKind}
 use Rattle.cpp_direct.specs.WrittenParts.{IsUnmarked, opening_bracket}
 use Rattle.sym_print.specs.declared.detail.Detail.{Detail}
 use Rattle.cpp_grammar.specs.declared.kind.Kind.{Kind}
-use Rattle.cpp_grammar.specs.Term.{Term, Signed, absent, array, function, instance, builtin, pack, list, nil}
+use Rattle.cpp_grammar.specs.Term.{Term, Signed, absent, array, function, instance, builtin, pack}
 use Rattle.cpp_grammar.specs.Texts.{look_up, builtin_texts, literal_endings}
 use Rattle.cpp_grammar.specs.Parts.{is_plain_integer, types_of}
 use Rattle.cpp_grammar.specs.Scope.{count, element, has_return_type, is_structor}

@@ -456,7 +456,10 @@ impl Direct {
         if first.to < first.from || !first.is_pack {
             return None;
         }
-        if read.number != argument.before || argument.elements > 4 || !may_end(byte_at(s, read.end)) {
+        if read.number != argument.before
+            || argument.elements > 4
+            || !may_end(byte_at(s, read.end))
+        {
             return None;
         }
         self.at = read.end;
