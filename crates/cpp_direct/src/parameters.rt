@@ -395,7 +395,14 @@ impl Direct {
         let _pack = self.waiting.pop();
         self.at = behind.checked_add(1)?;
         let elements = number.checked_add(1)?.checked_sub(more.before)?;
-        self.close_list::<G>(s, Arguments { elements, ..more })
+        self.close_list::<G>(
+            s,
+            Arguments {
+                has_pack: true,
+                elements,
+                ..more
+            },
+        )
     }
 
     /// An element of a pack comes next, after so many others.
@@ -429,7 +436,7 @@ impl Direct {
         requires awaits { AwaitsNextParameter (symbol_by G.IS_WIDE G.IS_BARE G.IS_BRIEF s.now) self.old mark start argument }
         ensures { IfSome result (IsWriting (symbol_by G.IS_WIDE G.IS_BARE G.IS_BRIEF s.now) self.new) }
     {
-        if argument.elements != 0 {
+        if argument.has_pack {
             return self.expansion::<G>(s, mark, start, argument);
         }
         Some(Step::Type)
@@ -452,6 +459,9 @@ impl Direct {
         let Some(read) = expansion_at(s, self.at) else {
             return Some(Step::Type);
         };
+        if argument.elements == 0 {
+            return self.expand_nothing::<G>(s, mark, start, argument, read);
+        }
         let first = argument.at(argument.before);
         if first.to < first.from || !first.is_pack {
             return None;
@@ -581,14 +591,17 @@ impl Direct {
     {
         let behind = self.at.checked_add(1)?;
         let byte = byte_at(s, behind);
+        let number = last.checked_add(1)?;
+        if byte == b'E' {
+            return self.empty_pack_ended::<G>(s, number, known);
+        }
         // a literal isn't known, nor is what follows it
-        if byte == b'E' || byte == b'L' || is_element_at(s, behind) {
+        if byte == b'L' || is_element_at(s, behind) {
             return Some(Step::List { is_first: false });
         }
         self.push_pair(b',', b' ')?;
         self.at = behind;
         let from = self.text.end();
-        let number = last.checked_add(1)?;
         self.waiting.push(Open::Pack)?;
         self.waiting.push(Open::Element {
             from,
@@ -599,6 +612,63 @@ impl Direct {
             },
         })?;
         Some(Step::Type)
+    }
+
+    /// A pack of nothing is read, the last argument of a name after so many: nothing is written for it.
+    // <template-arg> ::= J <template-arg>* E
+    fn empty_pack_ended<G: Grammar>(&mut self, s: &[u8], before: u16, known: Arguments) -> Option<Step>
+    {
+        let end = self.at.checked_add(2)?;
+        if byte_at(s, end) != b'E' {
+            return Some(Step::List { is_first: false });
+        }
+        self.at = end.checked_add(1)?;
+        self.close_list::<G>(
+            s,
+            Arguments {
+                has_pack: true,
+                before,
+                elements: 0,
+                ..known
+            },
+        )
+    }
+
+    /// Another parameter comes next, where the pack is empty: for one that expands it nothing is written, and no comma before it.
+    // <type> ::= Dp <type>
+    #[inline(never)]
+    pub(crate) fn next_unless_empty<G: Grammar>(
+        &mut self,
+        s: &[u8],
+        mark: Mark,
+        start: u32,
+        argument: Arguments,
+    ) -> Option<Step>
+    {
+        let Some(read) = expansion_at(s, self.at) else {
+            self.push_pair(b',', b' ')?;
+            return Some(Step::Type);
+        };
+        self.expand_nothing::<G>(s, mark, start, argument, read)
+    }
+
+    /// The last parameter expands an empty pack.
+    // <type> ::= Dp <type>
+    fn expand_nothing<G: Grammar>(
+        &mut self,
+        s: &[u8],
+        mark: Mark,
+        start: u32,
+        argument: Arguments,
+        read: Expansion,
+    ) -> Option<Step>
+    {
+        if read.number != argument.before || !may_end(byte_at(s, read.end)) {
+            return None;
+        }
+        self.at = read.end;
+        self.add_expansion(read.pattern)?;
+        self.close_parameters::<G>(s, mark, start, argument)
     }
 
     /// The arguments that types may name in what is open, if it is few levels within the types of a function.

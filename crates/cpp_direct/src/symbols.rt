@@ -43,6 +43,7 @@ pub const NOWHERE: Arguments = Arguments {
     third: NO_PLACE,
     fourth: NO_PLACE,
     encoding: 0,
+    has_pack: false,
     before: 0,
     elements: 0,
 };
@@ -341,6 +342,9 @@ impl Direct {
     {
         let byte = byte_at(s, self.at);
         if !may_end(byte) {
+            if argument.has_pack && argument.elements == 0 {
+                return self.next_unless_empty::<G>(s, mark, start, argument);
+            }
             self.push_pair(b',', b' ')?;
             return self.next_parameter::<G>(s, mark, start, argument);
         }
