@@ -291,36 +291,36 @@ next-within s w last mark from to p one =
 pub parameter-read-within : (s : Symbol) (w : Direct) (mark : Mark) (from to : ℕ) → IsElementRead s w (opens.Enclosing mark from to)
     → IsEnclosingParameterRead s w mark from to
 parameter-read-within s w mark from to p =
-    let waits = p.stands in
+    let waits = p.read.stands in
     let front = waits.0 in
     let ts = waits.2 in
     let name = waits.3 in
     let texts = waits.4 in
     let is_enclosing = waits.5 in
     record {
-      state = p.state;
-      scope = p.scope;
-      keeps = p.keeps;
+      state = p.read.state;
+      scope = p.read.scope;
+      keeps = p.read.keeps;
       rest = p.rest;
       open_is = p.open_is;
       make = waits.1;
-      ts = ts ++ p.own ∷ [];
-      some = some-elements ts p.own;
+      ts = ts ++ p.read.own ∷ [];
+      some = some-elements ts p.read.own;
       front = front;
       name = name;
-      texts = in_front_of_next ts texts ++ p.bytes;
+      texts = in_front_of_next ts texts ++ p.read.bytes;
       is_enclosing = record {
         own = is_enclosing.own;
         returned = is_enclosing.returned;
         makes = is_enclosing.makes;
         prints = is_enclosing.prints;
-        elements = next-prints-in (types_of is_enclosing.own) 6 ts texts p.own p.bytes is_enclosing.elements
-            (element-in (types_of is_enclosing.own) 6 p.own p.bytes (p.element 6));
+        elements = next-prints-in (types_of is_enclosing.own) 6 ts texts p.read.own p.read.bytes is_enclosing.elements
+            (element-in (types_of is_enclosing.own) 6 p.read.own p.read.bytes (p.read.element 6));
       };
       from_is = waits.6;
-      written = p.written ∙ ap (λ l. l ++ p.bytes) waits.7 ∙ append_assoc (front ++ name ++ codes "(") (in_front_of_next ts texts) p.bytes;
+      written = p.read.written ∙ ap (λ l. l ++ p.read.bytes) waits.7 ∙ append_assoc (front ++ name ++ codes "(") (in_front_of_next ts texts) p.read.bytes;
       to_is = waits.9;
-      goes = waits.8 p.own w.at p.state p.comes;
+      goes = waits.8 p.read.own w.at p.read.state p.read.comes;
     }
 
 -- ## Ends
@@ -562,26 +562,26 @@ lambda-begun s old new from a short stands text candidates scope at waiting =
 -- a parameter of one is read
 pub lambda-parameter-read : (s : Symbol) (w : Direct) (from : ℕ) → IsElementRead s w (opens.Lambda from) → IsLambdaParameterRead s w from
 lambda-parameter-read s w from p =
-    let waits = p.stands in
+    let waits = p.read.stands in
     let ts = waits.3 in
     let texts = waits.4 in
     record {
-      state = p.state;
-      scope = p.scope;
-      keeps = p.keeps;
+      state = p.read.state;
+      scope = p.read.scope;
+      keeps = p.read.keeps;
       rest = p.rest;
       open_is = p.open_is;
       front = waits.0;
       e = waits.1;
       bytes = waits.2;
       encloses = waits.5;
-      ts = ts ++ p.own ∷ [];
-      some = some-elements ts p.own;
-      texts = in_front_of_next ts texts ++ p.bytes;
-      elements = next-prints 0 ts texts p.own p.bytes waits.6 (p.element 0);
+      ts = ts ++ p.read.own ∷ [];
+      some = some-elements ts p.read.own;
+      texts = in_front_of_next ts texts ++ p.read.bytes;
+      elements = next-prints 0 ts texts p.read.own p.read.bytes waits.6 (p.read.element 0);
       from_is = waits.7;
-      written = p.written ∙ ap (λ l. l ++ p.bytes) waits.8 ∙ append_assoc (waits.0 ++ (waits.2 ++ lambda_front)) (in_front_of_next ts texts) p.bytes;
-      goes = waits.9 p.own w.at p.state p.comes;
+      written = p.read.written ∙ ap (λ l. l ++ p.read.bytes) waits.8 ∙ append_assoc (waits.0 ++ (waits.2 ++ lambda_front)) (in_front_of_next ts texts) p.read.bytes;
+      goes = waits.9 p.read.own w.at p.read.state p.read.comes;
     }
 
 -- another one comes next

@@ -15,7 +15,7 @@ use Rattle.cpp_direct.specs.declared.direct.Direct.{Direct}
 use Rattle.cpp_direct.specs.Holes.{Opened, Comes}
 use Rattle.cpp_direct.specs.Prints.{Names, PrintsAs, IsElementIn, Shows}
 use Rattle.cpp_direct.specs.WriterInvariant.{HasArguments, IsNaming, IsTemplate, IsWriting, Keeps, Marks, AwaitsEnumerator, Belongs, Listing, Scope, of_template, of_pack, Stands, below, opening_text, extra_of, led_by, in_front_of_next, argument_of}
-use Rattle.cpp_direct.specs.MidStep.{AwaitsMark, AwaitsNumber, AwaitsSignature, IsElementRead, IsFrontRead, IsParameterEnded, IsPassedClosed, IsReturned, IsSymbolEnded}
+use Rattle.cpp_direct.specs.MidStep.{FirstType, AwaitsMark, AwaitsNumber, AwaitsSignature, IsElementRead, IsFrontRead, IsParameterEnded, IsPassedClosed, IsReturned, IsSymbolEnded}
 use Rattle.cpp_direct.proofs.Elements.{element-added}
 use Rattle.cpp_direct.proofs.Listed.{TakesElements, last-found, list-waits, some-elements}
 use Rattle.cpp_direct.proofs.PrintedLists.{element-in, next-prints, next-prints-in, type-element}
@@ -62,25 +62,31 @@ value-marked s w is_reference marked_reference is_dependent entry from made mark
       stands = marks.5;
     }
 
+-- it is the first type in a function type or in an array
+abbrev pub first-type : (s : Symbol) (w : Direct) (is_reference : Bool) → IsWriting s w (steps.Value is_reference false) → FirstType s
+first-type s w is_reference p = record { own = p.is_before.1; bytes = p.is_before.3; is_reference = is_reference; prints = p.is_before.5 }
+
 -- it is an element or a parameter
-pub value-element : (s : Symbol) (w : Direct) (is_reference : Bool) (o : Open) → IsWriting s w (steps.Value is_reference false)
+abbrev pub value-element : (s : Symbol) (w : Direct) (is_reference : Bool) (o : Open) → IsWriting s w (steps.Value is_reference false)
     → slice_get w.waiting.list.items (length w.waiting.list.items - 1) ≡ Some o → IsElementRead s w o
 value-element s w is_reference o p found =
     let last = last-found w.waiting.list.items o found in
     record {
-      state = p.state;
-      scope = p.scope;
-      keeps = p.keeps;
       rest = last.0;
       open_is = last.1;
-      os = p.is_before.0;
-      own = p.is_before.1;
-      front = p.is_before.2;
-      bytes = p.is_before.3;
-      written = p.is_before.4;
-      element = λ extra. type-element extra p.is_before.1 p.is_before.3 is_reference p.is_before.5;
-      comes = p.is_before.7;
-      stands = subst (λ ws. Stands s p.scope ws p.is_before.0 p.is_before.2) last.1 p.is_before.8;
+      read = record {
+        state = p.state;
+        scope = p.scope;
+        keeps = p.keeps;
+        os = p.is_before.0;
+        own = p.is_before.1;
+        front = p.is_before.2;
+        bytes = p.is_before.3;
+        written = p.is_before.4;
+        element = λ extra. type-element extra p.is_before.1 p.is_before.3 is_reference p.is_before.5;
+        comes = p.is_before.7;
+        stands = subst (λ ws. Stands s p.scope ws p.is_before.0 p.is_before.2) last.1 p.is_before.8;
+      };
     }
 
 -- a parameter was read
@@ -128,8 +134,8 @@ parameter-got s {scope = scope} w mark start argument st opened_ os t front byte
 pub parameter-read : (s : Symbol) (w : Direct) (mark : Mark) (start : ℕ) (argument : Arguments) → IsElementRead s w (opens.Parameters mark start argument)
     → IsParameterEnded s w mark start argument
 parameter-read s w mark start argument p =
-    parameter-got s w mark start argument p.state p.rest p.os p.own p.front p.bytes p.stands p.keeps p.open_is p.written p.comes
-    (element-in (types_of p.stands.6.own) 6 p.own p.bytes (p.element 6))
+    parameter-got s w mark start argument p.read.state p.rest p.read.os p.read.own p.read.front p.read.bytes p.read.stands p.read.keeps p.open_is p.read.written p.read.comes
+    (element-in (types_of p.read.stands.6.own) 6 p.read.own p.read.bytes (p.read.element 6))
 
 -- it is a type
 pub value-parameter : (s : Symbol) (w : Direct) (is_reference is_dependent : Bool) (mark : Mark) (start : ℕ) (argument : Arguments)
@@ -149,18 +155,18 @@ value-parameter s w is_reference is_dependent mark start argument p found =
 -- what a special object is of was read
 pub special-read : (s : Symbol) (w : Direct) → IsElementRead s w opens.Special → IsSymbolEnded s w
 special-read s w p =
-    let waits = p.stands in
+    let waits = p.read.stands in
     let letter = waits.0 in
     let front_is = waits.1 in
     let filled = waits.2 in
     record {
-      state = p.state;
-      scope = p.scope;
-      keeps = p.keeps;
-      e = special letter p.own;
-      encoded = waits.3 p.own w.at p.state p.comes;
-      shows = subst (λ l. Shows (detail_of s) (special letter p.own) l) (sym (p.written ∙ ap (λ l. l ++ p.bytes) front_is))
-          (special-shows letter (λ e. filled (front_is ∙ e)) p.own p.bytes (p.element 0));
+      state = p.read.state;
+      scope = p.read.scope;
+      keeps = p.read.keeps;
+      e = special letter p.read.own;
+      encoded = waits.3 p.read.own w.at p.read.state p.read.comes;
+      shows = subst (λ l. Shows (detail_of s) (special letter p.read.own) l) (sym (p.read.written ∙ ap (λ l. l ++ p.read.bytes) front_is))
+          (special-shows letter (λ e. filled (front_is ∙ e)) p.read.own p.read.bytes (p.read.element 0));
     }
 
 -- it is the type of an enumerator
@@ -252,11 +258,11 @@ takes-elements (opens.NameArguments x) w u g z n m a q e j = tt
 -- an element was read
 pub argument-read : (s : Symbol) (w : Direct) (o : Open) → IsElementRead s w o → TakesElements o → IsWriting s w (steps.List false)
 argument-read s w o p takes =
-    let waits = list-waits s o p.rest p.os p.front takes p.stands in
+    let waits = list-waits s o p.rest p.read.os p.read.front takes p.read.stands in
     let place = waits.place in
-    element-added s w p.state place p.bytes waits.ts waits.texts p.own p.bytes p.keeps waits.elements (p.element (extra_of place.listing)) p.open_is p.written
-    (ap (λ l. l ++ p.bytes) waits.written ∙ append_assoc (led_by (detail_of s) place.listing place.front place.name) (in_front_of_next waits.ts waits.texts) p.bytes)
-    (waits.onward p.own w.at p.state p.comes)
+    element-added s w p.read.state place p.read.bytes waits.ts waits.texts p.read.own p.read.bytes p.read.keeps waits.elements (p.read.element (extra_of place.listing)) p.open_is p.read.written
+    (ap (λ l. l ++ p.read.bytes) waits.written ∙ append_assoc (led_by (detail_of s) place.listing place.front place.name) (in_front_of_next waits.ts waits.texts) p.read.bytes)
+    (waits.onward p.read.own w.at p.read.state p.read.comes)
 
 -- ## Return types
 
@@ -297,39 +303,34 @@ value-front s w is_reference is_dependent mark start argument p found =
 pub value-returned : (s : Symbol) (w : Direct) (is_reference is_pointer : Bool) → IsWriting s w (steps.Value is_reference false)
     → slice_get w.waiting.list.items (length w.waiting.list.items - 1) ≡ Some (opens.Returned is_pointer) → IsReturned s w is_pointer
 value-returned s w is_reference is_pointer p found =
-    let os = p.is_before.0 in
-    let t = p.is_before.1 in
-    let front = p.is_before.2 in
-    let last = last-found w.waiting.list.items (opens.Returned is_pointer) found in
-    let waits : Stands s p.scope (opens.Returned is_pointer ∷ last.0) os front = subst (λ ws. Stands s p.scope ws os front) last.1 p.is_before.8 in
+    let last = value-element s w is_reference (opens.Returned is_pointer) p found in
+    let waits = last.read.stands in
     record {
       state = p.state;
       scope = p.scope;
       keeps = p.keeps;
-      rest = last.0;
-      open_is = last.1;
-      outer = waits.0;
-      made_in = waits.1;
-      front = front;
-      returned = t;
-      bytes = p.is_before.3;
-      is_reference = is_reference;
-      prints = p.is_before.5;
+      taker = record {
+        rest = last.rest;
+        outer = waits.0;
+        made_in = waits.1;
+        front = last.read.front;
+        takes = waits.3;
+        stands = waits.4;
+      };
+      open_is = last.open_is;
+      first = first-type s w is_reference p;
       written = p.is_before.4;
-      goes = waits.2 t w.at p.state p.is_before.7;
-      takes = waits.3;
-      stands = waits.4;
+      goes = waits.2 p.is_before.1 w.at p.state p.is_before.7;
     }
 
 -- it is a parameter of one
 pub value-signature : (s : Symbol) (w : Direct) (is_reference is_pointer : Bool) → IsWriting s w (steps.Value is_reference false)
     → slice_get w.waiting.list.items (length w.waiting.list.items - 1) ≡ Some (opens.Signature is_pointer) → AwaitsSignature s w is_pointer false
 value-signature s w is_reference is_pointer p found =
-    let os = p.is_before.0 in
-    let t = p.is_before.1 in
-    let b = p.is_before.3 in
-    let last = last-found w.waiting.list.items (opens.Signature is_pointer) found in
-    let waits : Stands s p.scope (opens.Signature is_pointer ∷ last.0) os p.is_before.2 = subst (λ ws. Stands s p.scope ws os p.is_before.2) last.1 p.is_before.8 in
+    let last = value-element s w is_reference (opens.Signature is_pointer) p found in
+    let t = last.read.own in
+    let b = last.read.bytes in
+    let waits = last.read.stands in
     let front = waits.2 in
     let bytes = waits.4 in
     let ts = waits.6 in
@@ -338,23 +339,27 @@ value-signature s w is_reference is_pointer p found =
       state = p.state;
       scope = p.scope;
       keeps = p.keeps;
-      rest = last.0;
-      open_is = last.1;
-      outer = waits.0;
-      made_in = waits.1;
-      front = front;
-      returned = waits.3;
-      bytes = bytes;
-      is_reference = waits.5;
-      prints = waits.8;
+      taker = record {
+        rest = last.rest;
+        outer = waits.0;
+        made_in = waits.1;
+        front = front;
+        takes = waits.12;
+        stands = waits.13;
+      };
+      open_is = last.open_is;
+      first = record {
+        own = waits.3;
+        bytes = bytes;
+        is_reference = waits.5;
+        prints = waits.8;
+      };
       ts = ts ++ t ∷ [];
       none = λ e. absurd (false≢true e);
       some = λ e. some-elements ts t;
       texts = in_front_of_next ts texts ++ b;
-      elements = next-prints 0 ts texts t b waits.9 (type-element 0 t b is_reference p.is_before.5);
+      elements = next-prints 0 ts texts t b waits.9 (last.read.element 0);
       written = p.is_before.4 ∙ ap (λ l. l ++ b) waits.10
           ∙ append_assoc (front ++ (bytes ++ opening_text is_pointer)) (in_front_of_next ts texts) b;
       goes = waits.11 t w.at p.state p.is_before.7;
-      takes = waits.12;
-      stands = waits.13;
     }

@@ -20,9 +20,10 @@ use Rattle.cpp_direct.specs.HolesOfFunctions.{SignatureGoesOn, plain_function, p
 use Rattle.cpp_direct.specs.HolesOfTypes.{NoReference, IsQualifiable}
 use Rattle.cpp_direct.specs.Prints.{Names, PrintAll, IsElement}
 use Rattle.cpp_direct.specs.WriterInvariant.{below, IsScoped, AreCandidates, IsWriting, Marks, Scope, Stands, TakesFunction, opening_text, list_with}
-use Rattle.cpp_direct.specs.MidStep.{AwaitsParameter, AwaitsSignature, IsElementPassed, IsFunctionRead, IsReturned, IsArrayRead, IsElementRead}
+use Rattle.cpp_direct.specs.MidStep.{AwaitsParameter, AwaitsSignature, IsElementPassed, IsFunctionRead, IsReturned, IsArrayRead, IsElementRead, ElementOf}
 use Rattle.cpp_direct.specs.Written.{Writes, hidden, with_hidden}
 use Rattle.cpp_direct.proofs.Ending.{no-void}
+use Rattle.cpp_direct.proofs.Handed.{first-type, value-element}
 use Rattle.cpp_direct.proofs.Kept.{keeps-as, keeps-grown, keeps-same, keeps-written, candidates-more, reverse-last, type-comes}
 use Rattle.cpp_direct.proofs.Listed.{TakesElements, last-found, comma, in-front}
 use Rattle.cpp_direct.proofs.Moves.{stands-split}
@@ -72,31 +73,23 @@ function-begins s old new is_pointer p letters takes waits at text candidates sc
 -- the parameters come
 pub signature-begins : (s : Symbol) (old new : Direct) (is_pointer : Bool) (p : IsReturned s old is_pointer)
     → new.text.list.items ≡ old.text.list.items ++ opening_text is_pointer → new.candidates ≡ old.candidates → new.has_scope ≡ old.has_scope
-    → reverse new.waiting.list.items ≡ opens.Signature is_pointer ∷ p.rest → new.at ≡ old.at → AwaitsSignature s new is_pointer true
+    → reverse new.waiting.list.items ≡ opens.Signature is_pointer ∷ p.taker.rest → new.at ≡ old.at → AwaitsSignature s new is_pointer true
 signature-begins s old new is_pointer p text candidates scope_same waits at =
     let opening = opening_text is_pointer in
     record {
       state = p.state;
       scope = p.scope;
       keeps = keeps-grown s old new opening p.state.candidates text candidates scope_same p.keeps;
-      rest = p.rest;
+      taker = p.taker;
       open_is = waits;
-      outer = p.outer;
-      made_in = p.made_in;
-      front = p.front;
-      returned = p.returned;
-      bytes = p.bytes;
-      is_reference = p.is_reference;
-      prints = p.prints;
+      first = p.first;
       ts = [];
       none = λ e. refl;
       some = λ e. absurd (false≢true (sym e));
       texts = [];
       elements = none-print (detail_of s) 0;
-      written = text ∙ ap (λ l. l ++ opening) p.written ∙ append_assoc p.front p.bytes opening ∙ sym (append-nil (p.front ++ (p.bytes ++ opening)));
-      goes = subst (λ n. SignatureGoesOn s p.outer p.made_in is_pointer (λ l. plain_function p.returned l) n p.state) (sym at) p.goes;
-      takes = p.takes;
-      stands = p.stands;
+      written = text ∙ ap (λ l. l ++ opening) p.written ∙ append_assoc p.taker.front p.first.bytes opening ∙ sym (append-nil (p.taker.front ++ (p.first.bytes ++ opening)));
+      goes = subst (λ n. SignatureGoesOn s p.taker.outer p.taker.made_in is_pointer (λ l. plain_function p.first.own l) n p.state) (sym at) p.goes;
     }
 
 -- ## Parameters
@@ -106,28 +99,20 @@ parameter-next : (s : Symbol) (old new : Direct) (is_pointer is_first : Bool) �
     → new.text.list.items ≡ old.text.list.items ++ comma is_first → new.candidates ≡ old.candidates → new.waiting ≡ old.waiting
     → new.has_scope ≡ old.has_scope → new.at ≡ old.at → AwaitsParameter s new is_pointer
 parameter-next s old new is_pointer is_first a text candidates waiting scope_same at =
-    let led = a.front ++ (a.bytes ++ opening_text is_pointer) in
+    let led = a.taker.front ++ (a.first.bytes ++ opening_text is_pointer) in
     record {
       state = a.state;
       scope = a.scope;
       keeps = keeps-grown s old new (comma is_first) a.state.candidates text candidates scope_same a.keeps;
-      rest = a.rest;
+      taker = a.taker;
       open_is = ap (λ v. reverse v.list.items) waiting ∙ a.open_is;
-      outer = a.outer;
-      made_in = a.made_in;
-      front = a.front;
-      returned = a.returned;
-      bytes = a.bytes;
-      is_reference = a.is_reference;
-      prints = a.prints;
+      first = a.first;
       ts = a.ts;
       texts = a.texts;
       elements = a.elements;
       written = text ∙ ap (λ l. l ++ comma is_first) a.written ∙ append_assoc led a.texts (comma is_first)
           ∙ ap (λ l. led ++ l) (sym (in-front a.ts a.texts is_first a.none a.some));
-      goes = subst (λ n. SignatureGoesOn s a.outer a.made_in is_pointer (λ l. plain_function a.returned (list_with a.ts l)) n a.state) (sym at) a.goes;
-      takes = a.takes;
-      stands = a.stands;
+      goes = subst (λ n. SignatureGoesOn s a.taker.outer a.taker.made_in is_pointer (λ l. plain_function a.first.own (list_with a.ts l)) n a.state) (sym at) a.goes;
     }
 
 pub first-next : (s : Symbol) (w : Direct) (is_pointer : Bool) → AwaitsSignature s w is_pointer true → AwaitsParameter s w is_pointer
@@ -155,31 +140,31 @@ one-more s outer made_in is_pointer returned ts t at st g = record {
 -- where a parameter comes, it is the signature's
 signature-stands : (s : Symbol) (w : Direct) (is_pointer : Bool) (a : AwaitsParameter s w is_pointer) (os : List Opened)
     → ((t : Term) (at : ℕ) (st : State) → Comes s os (tree t true) at st
-    → SignatureGoesOn s a.outer a.made_in is_pointer (λ l. plain_function a.returned (list_with a.ts (list t l))) at st)
-    → Stands s a.scope (opens.Signature is_pointer ∷ a.rest) os w.text.list.items
+    → SignatureGoesOn s a.taker.outer a.taker.made_in is_pointer (λ l. plain_function a.first.own (list_with a.ts (list t l))) at st)
+    → Stands s a.scope (opens.Signature is_pointer ∷ a.taker.rest) os w.text.list.items
 signature-stands s w is_pointer a os onward = (
-  a.outer,
-  a.made_in,
-  a.front,
-  a.returned,
-  a.bytes,
-  a.is_reference,
+  a.taker.outer,
+  a.taker.made_in,
+  a.taker.front,
+  a.first.own,
+  a.first.bytes,
+  a.first.is_reference,
   a.ts,
   a.texts,
-  a.prints,
+  a.first.prints,
   a.elements,
   a.written,
-  λ t at st comes. one-more s a.outer a.made_in is_pointer a.returned a.ts t at st (onward t at st comes),
-  a.takes,
-  a.stands,
+  λ t at st comes. one-more s a.taker.outer a.taker.made_in is_pointer a.first.own a.ts t at st (onward t at st comes),
+  a.taker.takes,
+  a.taker.stands,
 )
 
 -- a parameter comes that is no reference
 pub parameter-comes : (s : Symbol) (w : Direct) (is_pointer : Bool) → AwaitsParameter s w is_pointer → NoReference s.bytes w.at → IsWriting s w steps.Type
 parameter-comes s w is_pointer a none =
-    let p = parameter-opens s a.outer a.made_in is_pointer (λ l. plain_function a.returned (list_with a.ts l)) w.at a.state a.goes in
+    let p = parameter-opens s a.taker.outer a.taker.made_in is_pointer (λ l. plain_function a.first.own (list_with a.ts l)) w.at a.state a.goes in
     type-comes s w w a.state p.around p.inner a.keeps refl refl refl a.open_is p.outside (inr (inr (p.awaits, none)))
-    (signature-stands s w is_pointer a p.inner p.onward) (none-scoped a.scope p.around (opens.Signature is_pointer ∷ a.rest) refl)
+    (signature-stands s w is_pointer a p.inner p.onward) (none-scoped a.scope p.around (opens.Signature is_pointer ∷ a.taker.rest) refl)
 
 same-byte : (s : List ℕ) (at a b : ℕ) → StandsAt s at (a ∷ []) → StandsAt s at (b ∷ []) → a ≡ b
 same-byte s at a b p q = let e : a ∷ p.0 ≡ b ∷ q.0 = sym p.1 ∙ q.1 in cc e
@@ -216,16 +201,16 @@ reference-comes s old new o is_pointer is_lvalue from a begins stands is waits a
   where
     go : new.waiting.list.items ≡ old.waiting.list.items ++ reference_entry is_lvalue from ∷ [] → new.at ≡ old.at + 1 → IsWriting s new steps.Type
     go waits at =
-        let p = reference-opens s a.outer a.made_in is_pointer is_lvalue (λ l. plain_function a.returned (list_with a.ts l)) old.at a.state a.goes stands in
+        let p = reference-opens s a.taker.outer a.taker.made_in is_pointer is_lvalue (λ l. plain_function a.first.own (list_with a.ts l)) old.at a.state a.goes stands in
         let entry = reference_entry is_lvalue from in
-        let turned : reverse new.waiting.list.items ≡ entry ∷ opens.Signature is_pointer ∷ a.rest =
+        let turned : reverse new.waiting.list.items ≡ entry ∷ opens.Signature is_pointer ∷ a.taker.rest =
         ap reverse waits ∙ reverse-last old.waiting.list.items entry ∙ ap (λ ws. entry ∷ ws) a.open_is in
         let whole = signature-stands s old is_pointer a p.whole p.onward in
         type-comes s old new a.state p.around p.inner a.keeps text candidates scope_same turned p.outside
         (inl (subst (λ n. Expects s Kind.Type p.around p.inner n a.state) (sym at) p.awaits))
-        (reference-stands s a.scope is_lvalue (opens.Signature is_pointer ∷ a.rest) p.inner old.text.list.items from
-        (p.whole, p.around, begins, p.passes, none-scoped a.scope p.around (opens.Signature is_pointer ∷ a.rest) refl, whole))
-        (reference-scoped a.scope p.around is_lvalue from is_pointer a.rest)
+        (reference-stands s a.scope is_lvalue (opens.Signature is_pointer ∷ a.taker.rest) p.inner old.text.list.items from
+        (p.whole, p.around, begins, p.passes, none-scoped a.scope p.around (opens.Signature is_pointer ∷ a.taker.rest) refl, whole))
+        (reference-scoped a.scope p.around is_lvalue from is_pointer a.taker.rest)
 
 -- ## The end
 
@@ -235,36 +220,31 @@ pub signature-closed : (s : Symbol) (old new : Direct) (is_pointer is_first : Bo
     → new.waiting ≡ old.waiting → new.at ≡ old.at + 1 → IsFunctionRead s new is_pointer
 signature-closed s old new is_pointer is_first a ends apart text candidates scope_same waits at =
     let opening = opening_text is_pointer in
-    let made = plain_function a.returned (list_with a.ts nil) in
+    let made = plain_function a.first.own (list_with a.ts nil) in
     record {
       state = a.state;
       scope = a.scope;
       keeps = keeps-same s old new a.state.candidates text candidates scope_same a.keeps;
-      rest = a.rest;
+      taker = a.taker;
       open_is = ap (λ v. reverse v.list.items) waits ∙ a.open_is;
-      outer = a.outer;
-      made_in = a.made_in;
       made = made;
-      front = a.front;
-      bytes = (a.bytes ++ opening) ++ a.texts;
-      written = ap (λ v. v.list.items) text ∙ a.written ∙ append_assoc a.front (a.bytes ++ opening) a.texts;
-      element = λ extra. function-element extra is_pointer a.returned a.bytes a.is_reference a.ts a.texts a.prints a.elements (kept-apart is_pointer refl);
-      comes = subst (λ n. Comes s a.outer (tree (pointed is_pointer made) true) n (with_pointed is_pointer a.made_in made a.state)) (sym at)
+      bytes = (a.first.bytes ++ opening) ++ a.texts;
+      written = ap (λ v. v.list.items) text ∙ a.written ∙ append_assoc a.taker.front (a.first.bytes ++ opening) a.texts;
+      element = λ extra. function-element extra is_pointer a.first.own a.first.bytes a.first.is_reference a.ts a.texts a.first.prints a.elements (kept-apart is_pointer refl);
+      comes = subst (λ n. Comes s a.taker.outer (tree (pointed is_pointer made) true) n (with_pointed is_pointer a.taker.made_in made a.state)) (sym at)
           (a.goes.passes nil (old.at + 1) a.state
-          (signature-ends s a.outer a.made_in is_pointer (λ l. plain_function a.returned (list_with a.ts l)) old.at a.state a.goes ends));
-      takes = a.takes;
-      stands = a.stands;
+          (signature-ends s a.taker.outer a.taker.made_in is_pointer (λ l. plain_function a.first.own (list_with a.ts l)) old.at a.state a.goes ends));
     }
   where
-    apart-behind : (head : List ℕ) → old.text.list.items ≡ a.front ++ (a.bytes ++ (head ++ codes "(")) ++ a.texts → a.texts ≢ codes "void"
+    apart-behind : (head : List ℕ) → old.text.list.items ≡ a.taker.front ++ (a.first.bytes ++ (head ++ codes "(")) ++ a.texts → a.texts ≢ codes "void"
     apart-behind head e =
-        no-void old.text.list.items (a.front ++ (a.bytes ++ head)) a.texts
-        (e ∙ ap (λ l. l ++ a.texts) (ap (λ l. a.front ++ l) (sym (append_assoc a.bytes head (codes "(")))
-        ∙ sym (append_assoc a.front (a.bytes ++ head) (codes "(")))) apart
+        no-void old.text.list.items (a.taker.front ++ (a.first.bytes ++ head)) a.texts
+        (e ∙ ap (λ l. l ++ a.texts) (ap (λ l. a.taker.front ++ l) (sym (append_assoc a.first.bytes head (codes "(")))
+        ∙ sym (append_assoc a.taker.front (a.first.bytes ++ head) (codes "(")))) apart
 
     kept-apart : (b : Bool) → is_pointer ≡ b → a.texts ≢ codes "void"
-    kept-apart true e = apart-behind (codes " (*)") (subst (λ b. old.text.list.items ≡ a.front ++ (a.bytes ++ opening_text b) ++ a.texts) e a.written)
-    kept-apart false e = apart-behind (codes " ") (subst (λ b. old.text.list.items ≡ a.front ++ (a.bytes ++ opening_text b) ++ a.texts) e a.written)
+    kept-apart true e = apart-behind (codes " (*)") (subst (λ b. old.text.list.items ≡ a.taker.front ++ (a.first.bytes ++ opening_text b) ++ a.texts) e a.written)
+    kept-apart false e = apart-behind (codes " ") (subst (λ b. old.text.list.items ≡ a.taker.front ++ (a.first.bytes ++ opening_text b) ++ a.texts) e a.written)
 
 -- and a lone void is no parameter
 pub void-closed : (s : Symbol) (old new : Direct) (is_pointer : Bool) (a : AwaitsSignature s old is_pointer true)
@@ -276,31 +256,26 @@ void-closed s old new is_pointer a stands text candidates scope_same waits at =
     let v = builtin (118 ∷ []) in
     let none = a.none refl in
     let both = stands-split s.bytes old.at (118 ∷ []) (69 ∷ []) stands in
-    let made = plain_function a.returned (list v nil) in
-    let start = subst (λ ts. SignatureGoesOn s a.outer a.made_in is_pointer (λ l. plain_function a.returned (list_with ts l)) old.at a.state) none a.goes in
-    let p = parameter-opens s a.outer a.made_in is_pointer (λ l. plain_function a.returned l) old.at a.state start in
+    let made = plain_function a.first.own (list v nil) in
+    let start = subst (λ ts. SignatureGoesOn s a.taker.outer a.taker.made_in is_pointer (λ l. plain_function a.first.own (list_with ts l)) old.at a.state) none a.goes in
+    let p = parameter-opens s a.taker.outer a.taker.made_in is_pointer (λ l. plain_function a.first.own l) old.at a.state start in
     let g = p.onward v (old.at + 1) a.state
     (builtin-comes s Kind.ItemButRef p.around p.inner old.at a.state 118 tt refl p.awaits both.0) in
     record {
       state = a.state;
       scope = a.scope;
       keeps = keeps-same s old new a.state.candidates text candidates scope_same a.keeps;
-      rest = a.rest;
+      taker = a.taker;
       open_is = ap (λ x. reverse x.list.items) waits ∙ a.open_is;
-      outer = a.outer;
-      made_in = a.made_in;
       made = made;
-      front = a.front;
-      bytes = a.bytes ++ opening;
+      bytes = a.first.bytes ++ opening;
       written = ap (λ x. x.list.items) text ∙ a.written
-          ∙ ap (λ l. a.front ++ (a.bytes ++ opening) ++ l) (none-text (IsElement (detail_of s) 0) a.texts (subst (λ ts. PrintAll (detail_of s) 0 ts a.texts) none a.elements))
-          ∙ append-nil (a.front ++ (a.bytes ++ opening));
-      element = λ extra. void-function-element extra is_pointer a.returned a.bytes a.is_reference a.prints;
-      comes = subst (λ n. Comes s a.outer (tree (pointed is_pointer made) true) n (with_pointed is_pointer a.made_in made a.state)) (omega (arith, at))
+          ∙ ap (λ l. a.taker.front ++ (a.first.bytes ++ opening) ++ l) (none-text (IsElement (detail_of s) 0) a.texts (subst (λ ts. PrintAll (detail_of s) 0 ts a.texts) none a.elements))
+          ∙ append-nil (a.taker.front ++ (a.first.bytes ++ opening));
+      element = λ extra. void-function-element extra is_pointer a.first.own a.first.bytes a.first.is_reference a.first.prints;
+      comes = subst (λ n. Comes s a.taker.outer (tree (pointed is_pointer made) true) n (with_pointed is_pointer a.taker.made_in made a.state)) (omega (arith, at))
           (g.passes nil (old.at + 1 + 1) a.state
-          (signature-ends s a.outer a.made_in is_pointer (λ l. plain_function a.returned (list v l)) (old.at + 1) a.state g both.1));
-      takes = a.takes;
-      stands = a.stands;
+          (signature-ends s a.taker.outer a.taker.made_in is_pointer (λ l. plain_function a.first.own (list v l)) (old.at + 1) a.state g both.1));
     }
 
 -- ## Handed on
@@ -340,35 +315,37 @@ hidden-behind old new false same = ap (λ v. v.list.items ++ hidden ∷ []) same
 
 -- what waits for the function type, once its own entry is taken away
 pub still-popped : (s : Symbol) (old new : Direct) (is_pointer : Bool) (p : IsFunctionRead s old is_pointer) (left : List Open) (size : ℕ)
-    → new.waiting ≡ old.waiting → size ≡ length new.waiting.list.items → left ≡ take (size - 1) new.waiting.list.items → reverse left ≡ p.rest
+    → new.waiting ≡ old.waiting → size ≡ length new.waiting.list.items → left ≡ take (size - 1) new.waiting.list.items → reverse left ≡ p.taker.rest
 still-popped s old new is_pointer p left size same length_is is =
-    popped old.waiting.list.items left p.rest (opens.Signature is_pointer) size (length_is ∙ ap (λ v. length v.list.items) same) p.open_is
+    popped old.waiting.list.items left p.taker.rest (opens.Signature is_pointer) size (length_is ∙ ap (λ v. length v.list.items) same) p.open_is
     (is ∙ ap (λ v. take (size - 1) v.list.items) same)
 
 -- a function type is an element or a parameter
 pub function-handed : (s : Symbol) (old new : Direct) (is_pointer : Bool) (p : IsFunctionRead s old is_pointer)
-    → new.text.list.items ≡ old.text.list.items ++ codes ")" → new.candidates.list.items ≡ with_hidden old is_pointer → new.has_scope ≡ old.has_scope → reverse new.waiting.list.items ≡ p.rest
+    → new.text.list.items ≡ old.text.list.items ++ codes ")" → new.candidates.list.items ≡ with_hidden old is_pointer → new.has_scope ≡ old.has_scope → reverse new.waiting.list.items ≡ p.taker.rest
     → new.at ≡ old.at → IsElementPassed s new
 function-handed s old new is_pointer p text candidates scope_same waits at =
     let own = pointed is_pointer p.made in
-    let then_ = with_pointed is_pointer p.made_in p.made p.state in
+    let then_ = with_pointed is_pointer p.taker.made_in p.made p.state in
     let grown : Direct = record old { text = new.text } in
     let keeps = keeps-grown s old grown (codes ")") p.state.candidates text refl refl p.keeps in
     record {
-      state = then_;
-      scope = p.scope;
-      keeps = keeps-as s grown new then_.candidates refl candidates scope_same
-          (hidden-candidates s p.scope.names old is_pointer new.text.list.items p.made_in p.made p.state keeps.candidates)
-          keeps.named keeps.own keeps.unknown;
-      os = p.outer;
-      own = own;
-      front = p.front;
-      bytes = p.bytes ++ codes ")";
-      written = text ∙ ap (λ l. l ++ codes ")") p.written ∙ append_assoc p.front p.bytes (codes ")");
-      element = p.element;
-      comes = subst (λ n. Comes s p.outer (tree own true) n then_) (sym at) p.comes;
-      takes = subst TakesFunction (sym waits) p.takes;
-      stands = subst (λ ws. Stands s p.scope ws p.outer p.front) (sym waits) p.stands;
+      read = record {
+        state = then_;
+        scope = p.scope;
+        keeps = keeps-as s grown new then_.candidates refl candidates scope_same
+            (hidden-candidates s p.scope.names old is_pointer new.text.list.items p.taker.made_in p.made p.state keeps.candidates)
+            keeps.named keeps.own keeps.unknown;
+        os = p.taker.outer;
+        own = own;
+        front = p.taker.front;
+        bytes = p.bytes ++ codes ")";
+        written = text ∙ ap (λ l. l ++ codes ")") p.written ∙ append_assoc p.taker.front p.bytes (codes ")");
+        element = p.element;
+        comes = subst (λ n. Comes s p.taker.outer (tree own true) n then_) (sym at) p.comes;
+        stands = subst (λ ws. Stands s p.scope ws p.taker.outer p.taker.front) (sym waits) p.taker.stands;
+      };
+      takes = subst TakesFunction (sym waits) p.taker.takes;
     }
 
 -- what takes a function type, and isn't parameters or a special object, takes elements
@@ -419,31 +396,28 @@ array-begins s old new access digits from to p letters takes is ordered inside s
 pub value-array : (s : Symbol) (w : Direct) (is_reference : Bool) (access : Access) (from to : ℕ) → IsWriting s w (steps.Value is_reference false)
     → slice_get w.waiting.list.items (length w.waiting.list.items - 1) ≡ Some (opens.Array access from to) → IsArrayRead s w access from to
 value-array s w is_reference access from to p found =
-    let os = p.is_before.0 in
-    let front = p.is_before.2 in
-    let last = last-found w.waiting.list.items (opens.Array access from to) found in
-    let waits : Stands s p.scope (opens.Array access from to ∷ last.0) os front = subst (λ ws. Stands s p.scope ws os front) last.1 p.is_before.8 in
+    let last = value-element s w is_reference (opens.Array access from to) p found in
+    let waits = last.read.stands in
     record {
       state = p.state;
       scope = p.scope;
       keeps = p.keeps;
-      rest = last.0;
-      open_is = last.1;
-      outer = waits.0;
-      made_in = waits.1;
+      taker = record {
+        rest = last.rest;
+        outer = waits.0;
+        made_in = waits.1;
+        front = last.read.front;
+        takes = waits.7;
+        stands = waits.8;
+      };
+      open_is = last.open_is;
       digits = waits.2;
       ordered = waits.3;
       inside = waits.4;
       size = waits.5;
-      own = p.is_before.1;
-      front = front;
-      bytes = p.is_before.3;
-      is_reference = is_reference;
-      prints = p.is_before.5;
+      first = first-type s w is_reference p;
       written = p.is_before.4;
       comes = waits.6 p.is_before.1 w.at p.state p.is_before.7;
-      takes = waits.7;
-      stands = waits.8;
     }
 
 with-hidden : (w : Direct) (b : Bool) → with_hidden w b ≡ hidden_behind b w.candidates.list.items
@@ -458,7 +432,7 @@ size-unmarked s from to digits readable ordered inside is =
     (all-reached digits (own-each s from (to - from) digits (omega (arith, ordered, inside)) (omega (arith, ordered, inside)) (sym is) readable.plain))
 
 pub array-written : (s : Symbol) → IsReadable s.bytes → (w begun first second third last : Direct) (access : Access) (from to : ℕ) (p : IsArrayRead s w access from to) (size : List ℕ)
-    → begun.text ≡ w.text → begun.candidates ≡ w.candidates → begun.has_scope ≡ w.has_scope → begun.at ≡ w.at → reverse begun.waiting.list.items ≡ p.rest
+    → begun.text ≡ w.text → begun.candidates ≡ w.candidates → begun.has_scope ≡ w.has_scope → begun.at ≡ w.at → reverse begun.waiting.list.items ≡ p.taker.rest
     → Writes begun first (array_opening access) → size ≡ values.normal (take (to - from) (drop from s.bytes)) → Writes first second size
     → Writes second third (codes "]") → last.candidates.list.items ≡ with_hidden third (is_marked access) → last.text ≡ third.text → last.waiting ≡ third.waiting
     → last.has_scope ≡ third.has_scope → last.at ≡ third.at → IsElementPassed s last
@@ -466,37 +440,39 @@ array-written s readable w begun first second third last access from to p size t
     same_scope same_at =
     let opening = array_opening access in
     let digits = values.normal p.digits in
-    let own = array digits p.own in
+    let own = array digits p.first.own in
     let plain = normal-unmarked p.digits (size-unmarked s.bytes from to p.digits readable p.ordered p.inside p.size) in
     let whole = accessed access own in
-    let bytes = p.bytes ++ opening ++ digits ++ codes "]" in
-    let then_ = with_accessed access p.made_in own p.state in
+    let bytes = p.first.bytes ++ opening ++ digits ++ codes "]" in
+    let then_ = with_accessed access p.taker.made_in own p.state in
     let is : size ≡ digits = size_is ∙ ap (λ l. values.normal l) p.size in
     let known = keeps-same s w begun p.state.candidates text candidates scope_same p.keeps in
-    let grown : third.text.list.items ≡ p.front ++ bytes =
+    let grown : third.text.list.items ≡ p.taker.front ++ bytes =
     three.text ∙ ap (λ l. l ++ codes "]") (two.text ∙ ap (λ l. first.text.list.items ++ l) is
     ∙ ap (λ l. l ++ digits) (one.text ∙ ap (λ v. v.list.items ++ opening) text ∙ ap (λ l. l ++ opening) p.written))
-    ∙ joined p.front p.bytes opening digits (codes "]") in
-    let written : last.text.list.items ≡ p.front ++ bytes = ap (λ v. v.list.items) same_text ∙ grown in
-    let open_is : reverse last.waiting.list.items ≡ p.rest =
+    ∙ joined p.taker.front p.first.bytes opening digits (codes "]") in
+    let written : last.text.list.items ≡ p.taker.front ++ bytes = ap (λ v. v.list.items) same_text ∙ grown in
+    let open_is : reverse last.waiting.list.items ≡ p.taker.rest =
     ap (λ v. reverse v.list.items) (same_waits ∙ three.waiting ∙ two.waiting ∙ one.waiting) ∙ waits in
     let there = keeps-written s second third (codes "]") p.state.candidates three
     (keeps-written s first second size p.state.candidates two (keeps-written s begun first opening p.state.candidates one known)) in
     record {
-      state = then_;
-      scope = p.scope;
-      keeps = keeps-as s third last then_.candidates (ap (λ v. v.list.items) same_text) (more ∙ with-hidden third (is_marked access)) same_scope
-          (hidden-accessed s p.scope.names access third.candidates.list.items third.text.list.items p.made_in own p.state there.candidates)
-          there.named there.own there.unknown;
-      os = p.outer;
-      own = whole;
-      front = p.front;
-      bytes = bytes;
-      written = written;
-      element = λ extra. array-element extra access digits plain p.own p.bytes p.is_reference p.prints;
-      comes = subst (λ n. Comes s p.outer (tree whole true) n then_) (sym (same_at ∙ three.at ∙ two.at ∙ one.at ∙ at)) p.comes;
-      takes = subst TakesFunction (sym open_is) p.takes;
-      stands = subst (λ ws. Stands s p.scope ws p.outer p.front) (sym open_is) p.stands;
+      read = record {
+        state = then_;
+        scope = p.scope;
+        keeps = keeps-as s third last then_.candidates (ap (λ v. v.list.items) same_text) (more ∙ with-hidden third (is_marked access)) same_scope
+            (hidden-accessed s p.scope.names access third.candidates.list.items third.text.list.items p.taker.made_in own p.state there.candidates)
+            there.named there.own there.unknown;
+        os = p.taker.outer;
+        own = whole;
+        front = p.taker.front;
+        bytes = bytes;
+        written = written;
+        element = λ extra. array-element extra access digits plain p.first.own p.first.bytes p.first.is_reference p.first.prints;
+        comes = subst (λ n. Comes s p.taker.outer (tree whole true) n then_) (sym (same_at ∙ three.at ∙ two.at ∙ one.at ∙ at)) p.comes;
+        stands = subst (λ ws. Stands s p.scope ws p.taker.outer p.taker.front) (sym open_is) p.taker.stands;
+      };
+      takes = subst TakesFunction (sym open_is) p.taker.takes;
     }
   where
     joined : (f b o d e : List ℕ) → f ++ b ++ o ++ d ++ e ≡ f ++ (b ++ o ++ d ++ e)
@@ -511,18 +487,4 @@ pub passed-on : (s : Symbol) (w : Direct) (o : Open) → IsElementPassed s w →
     → IsElementRead s w o
 passed-on s w o p found =
     let last = last-found w.waiting.list.items o found in
-    record {
-      state = p.state;
-      scope = p.scope;
-      keeps = p.keeps;
-      rest = last.0;
-      open_is = last.1;
-      os = p.os;
-      own = p.own;
-      front = p.front;
-      bytes = p.bytes;
-      written = p.written;
-      element = p.element;
-      comes = p.comes;
-      stands = subst (λ ws. Stands s p.scope ws p.os p.front) last.1 p.stands;
-    }
+    record { rest = last.0; open_is = last.1; read = subst (λ ws. ElementOf s w ws) last.1 p.read }

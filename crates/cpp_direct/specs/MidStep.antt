@@ -567,13 +567,11 @@ pub record IsSymbolEnded (s : Symbol) (w : Direct) : Type 0 where
 
 -- ## Function types
 
--- A type was read after a text, as an element or a parameter of what is open.
-pub record IsElementRead (s : Symbol) (w : Direct) (o : Open) : Type 0 where
+-- A type was read after a text, as an element or a parameter of these that are open.
+pub record ElementOf (s : Symbol) (w : Direct) (waits : List Open) : Type 0 where
   pub state : State
   pub scope : Scope
   pub keeps : Keeps s scope w state.candidates
-  pub rest : List Open
-  pub open_is : reverse w.waiting.list.items ≡ o ∷ rest
   pub os : List Opened
   pub own : Term
   pub front : List ℕ
@@ -581,129 +579,104 @@ pub record IsElementRead (s : Symbol) (w : Direct) (o : Open) : Type 0 where
   pub written : w.text.list.items ≡ front ++ bytes
   pub element : (extra : ℕ) → IsElement (detail_of s) extra own bytes
   pub comes : Comes s os (tree own true) w.at state
-  pub stands : Stands s scope (o ∷ rest) os front
+  pub stands : Stands s scope waits os front
+
+-- The same, and this is what is open.
+pub record IsElementRead (s : Symbol) (w : Direct) (o : Open) : Type 0 where
+  pub rest : List Open
+  pub open_is : reverse w.waiting.list.items ≡ o ∷ rest
+  pub read : ElementOf s w (o ∷ rest)
 
 -- The same of a type that prints on both sides of a name, where what is open takes it.
 pub record IsElementPassed (s : Symbol) (w : Direct) : Type 0 where
-  pub state : State
-  pub scope : Scope
-  pub keeps : Keeps s scope w state.candidates
-  pub os : List Opened
-  pub own : Term
-  pub front : List ℕ
-  pub bytes : List ℕ
-  pub written : w.text.list.items ≡ front ++ bytes
-  pub element : (extra : ℕ) → IsElement (detail_of s) extra own bytes
-  pub comes : Comes s os (tree own true) w.at state
+  pub read : ElementOf s w (reverse w.waiting.list.items)
   pub takes : TakesFunction (reverse w.waiting.list.items)
-  pub stands : Stands s scope (reverse w.waiting.list.items) os front
+
+-- what takes a function type or an array that comes after a text: what waits for it, and what is open around it, where it is made
+pub record Taker (s : Symbol) (scope : Scope) : Type 0 where
+  pub rest : List Open
+  pub outer : List Opened
+  pub made_in : Around
+  pub front : List ℕ
+  pub takes : TakesFunction rest
+  pub stands : Stands s scope rest outer front
+
+-- the type that is read first in one: the return type, or that of the elements
+pub record FirstType (s : Symbol) : Type 0 where
+  pub own : Term
+  pub bytes : List ℕ
+  pub is_reference : Bool
+  pub prints : Prints (detail_of s) own bytes is_reference
 
 -- The type of an array's elements was read. The digits of the size are between two places of the symbol.
 pub record IsArrayRead (s : Symbol) (w : Direct) (access : Access) (from to : ℕ) : Type 0 where
   pub state : State
   pub scope : Scope
   pub keeps : Keeps s scope w state.candidates
-  pub rest : List Open
-  pub open_is : reverse w.waiting.list.items ≡ opens.Array access from to ∷ rest
-  pub outer : List Opened
-  pub made_in : Around
+  pub taker : Taker s scope
+  pub open_is : reverse w.waiting.list.items ≡ opens.Array access from to ∷ taker.rest
   pub digits : List ℕ
   pub ordered : from ≤ to
   pub inside : to ≤ length s.bytes
   pub size : take (to - from) (drop from s.bytes) ≡ digits
-  pub own : Term
-  pub front : List ℕ
-  pub bytes : List ℕ
-  pub is_reference : Bool
-  pub prints : Prints (detail_of s) own bytes is_reference
-  pub written : w.text.list.items ≡ front ++ bytes
-  pub comes : Comes s outer (tree (accessed access (array (values.normal digits) own)) true) w.at
-      (with_accessed access made_in (array (values.normal digits) own) state)
-  pub takes : TakesFunction rest
-  pub stands : Stands s scope rest outer front
+  pub first : FirstType s
+  pub written : w.text.list.items ≡ taker.front ++ first.bytes
+  pub comes : Comes s taker.outer (tree (accessed access (array (values.normal digits) first.own)) true) w.at
+      (with_accessed access taker.made_in (array (values.normal digits) first.own) state)
 
 -- Of a function type the return type was read, or a parameter.
 pub record AwaitsSignature (s : Symbol) (w : Direct) (is_pointer is_first : Bool) : Type 0 where
   pub state : State
   pub scope : Scope
   pub keeps : Keeps s scope w state.candidates
-  pub rest : List Open
-  pub open_is : reverse w.waiting.list.items ≡ opens.Signature is_pointer ∷ rest
-  pub outer : List Opened
-  pub made_in : Around
-  pub front : List ℕ
-  pub returned : Term
-  pub bytes : List ℕ
-  pub is_reference : Bool
-  pub prints : Prints (detail_of s) returned bytes is_reference
+  pub taker : Taker s scope
+  pub open_is : reverse w.waiting.list.items ≡ opens.Signature is_pointer ∷ taker.rest
+  pub first : FirstType s
   pub ts : List Term
   pub none : is_first ≡ true → ts ≡ []
   pub some : is_first ≡ false → ts ≢ []
   pub texts : List ℕ
   pub elements : PrintAll (detail_of s) 0 ts texts
-  pub written : w.text.list.items ≡ front ++ (bytes ++ opening_text is_pointer) ++ texts
-  pub goes : SignatureGoesOn s outer made_in is_pointer (λ l. plain_function returned (list_with ts l)) w.at state
-  pub takes : TakesFunction rest
-  pub stands : Stands s scope rest outer front
+  pub written : w.text.list.items ≡ taker.front ++ (first.bytes ++ opening_text is_pointer) ++ texts
+  pub goes : SignatureGoesOn s taker.outer taker.made_in is_pointer (λ l. plain_function first.own (list_with ts l)) w.at state
 
 -- A parameter of a function type comes next.
 pub record AwaitsParameter (s : Symbol) (w : Direct) (is_pointer : Bool) : Type 0 where
   pub state : State
   pub scope : Scope
   pub keeps : Keeps s scope w state.candidates
-  pub rest : List Open
-  pub open_is : reverse w.waiting.list.items ≡ opens.Signature is_pointer ∷ rest
-  pub outer : List Opened
-  pub made_in : Around
-  pub front : List ℕ
-  pub returned : Term
-  pub bytes : List ℕ
-  pub is_reference : Bool
-  pub prints : Prints (detail_of s) returned bytes is_reference
+  pub taker : Taker s scope
+  pub open_is : reverse w.waiting.list.items ≡ opens.Signature is_pointer ∷ taker.rest
+  pub first : FirstType s
   pub ts : List Term
   pub texts : List ℕ
   pub elements : PrintAll (detail_of s) 0 ts texts
-  pub written : w.text.list.items ≡ front ++ (bytes ++ opening_text is_pointer) ++ in_front_of_next ts texts
-  pub goes : SignatureGoesOn s outer made_in is_pointer (λ l. plain_function returned (list_with ts l)) w.at state
-  pub takes : TakesFunction rest
-  pub stands : Stands s scope rest outer front
+  pub written : w.text.list.items ≡ taker.front ++ (first.bytes ++ opening_text is_pointer) ++ in_front_of_next ts texts
+  pub goes : SignatureGoesOn s taker.outer taker.made_in is_pointer (λ l. plain_function first.own (list_with ts l)) w.at state
 
 -- The return type of a function type was read.
 pub record IsReturned (s : Symbol) (w : Direct) (is_pointer : Bool) : Type 0 where
   pub state : State
   pub scope : Scope
   pub keeps : Keeps s scope w state.candidates
-  pub rest : List Open
-  pub open_is : reverse w.waiting.list.items ≡ opens.Returned is_pointer ∷ rest
-  pub outer : List Opened
-  pub made_in : Around
-  pub front : List ℕ
-  pub returned : Term
-  pub bytes : List ℕ
-  pub is_reference : Bool
-  pub prints : Prints (detail_of s) returned bytes is_reference
-  pub written : w.text.list.items ≡ front ++ bytes
-  pub goes : SignatureGoesOn s outer made_in is_pointer (λ l. plain_function returned l) w.at state
-  pub takes : TakesFunction rest
-  pub stands : Stands s scope rest outer front
+  pub taker : Taker s scope
+  pub open_is : reverse w.waiting.list.items ≡ opens.Returned is_pointer ∷ taker.rest
+  pub first : FirstType s
+  pub written : w.text.list.items ≡ taker.front ++ first.bytes
+  pub goes : SignatureGoesOn s taker.outer taker.made_in is_pointer (λ l. plain_function first.own l) w.at state
 
 -- A function type was read, or a pointer to one, and written but for its last bracket.
 pub record IsFunctionRead (s : Symbol) (w : Direct) (is_pointer : Bool) : Type 0 where
   pub state : State
   pub scope : Scope
   pub keeps : Keeps s scope w state.candidates
-  pub rest : List Open
-  pub open_is : reverse w.waiting.list.items ≡ opens.Signature is_pointer ∷ rest
-  pub outer : List Opened
-  pub made_in : Around
+  pub taker : Taker s scope
+  pub open_is : reverse w.waiting.list.items ≡ opens.Signature is_pointer ∷ taker.rest
   pub made : Term
-  pub front : List ℕ
   pub bytes : List ℕ
-  pub written : w.text.list.items ≡ front ++ bytes
+  pub written : w.text.list.items ≡ taker.front ++ bytes
   pub element : (extra : ℕ) → IsElement (detail_of s) extra (pointed is_pointer made) (bytes ++ codes ")")
-  pub comes : Comes s outer (tree (pointed is_pointer made) true) w.at (with_pointed is_pointer made_in made state)
-  pub takes : TakesFunction rest
-  pub stands : Stands s scope rest outer front
+  pub comes : Comes s taker.outer (tree (pointed is_pointer made) true) w.at (with_pointed is_pointer taker.made_in made state)
 
 -- ## Literals
 

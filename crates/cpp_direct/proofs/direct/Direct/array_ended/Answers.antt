@@ -13,7 +13,7 @@ pass_element-requires-clause-passed g c =
     let p = c.requires.read in
     array-written (symbol_by g.G.Grammar.IS_WIDE g.G.Grammar.IS_BARE g.G.Grammar.IS_BRIEF c.args.s.now) c.requires.fits w begun c.push.new.self c.push-2.new.self c.push_byte.new.self c.add_hidden.new.self c.args.access c.args.from
     c.args.to p c.normal.result.now refl refl refl refl
-    (popped w.waiting.list.items c.pop-open.new.self.list.items p.rest (opens.Array c.args.access c.args.from c.args.to) _ refl p.open_is c.pop-open.ensures.rest)
+    (popped w.waiting.list.items c.pop-open.new.self.list.items p.taker.rest (opens.Array c.args.access c.args.from c.args.to) _ refl p.open_is c.pop-open.ensures.rest)
     (subst (λ l. Writes begun c.push.new.self l) c.array_opening.ensures c.in_ok-push.ensures) c.normal.ensures c.in_ok-push-2.ensures
     c.in_ok-push_byte.ensures
     (c.in_ok-add_hidden.ensures.candidates ∙ ap (λ b. with_hidden c.push_byte.new.self b) c.is_marked.ensures)

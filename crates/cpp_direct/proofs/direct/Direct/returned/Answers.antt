@@ -24,5 +24,5 @@ first_parameter-requires-clause-awaits g c =
     (ap reverse c.in_ok-push-2.ensures.items
     ∙ reverse-last c.push.new.self.waiting.list.items entry
     ∙ ap (λ r. entry ∷ r) (ap (λ v. reverse v.list.items) c.in_ok-push.ensures.waiting
-    ∙ popped w.waiting.list.items c.pop-open.new.self.list.items p.rest (opens.Returned c.args.is_pointer) _ refl p.open_is c.pop-open.ensures.rest))
+    ∙ popped w.waiting.list.items c.pop-open.new.self.list.items p.taker.rest (opens.Returned c.args.is_pointer) _ refl p.open_is c.pop-open.ensures.rest))
     c.in_ok-push.ensures.at
