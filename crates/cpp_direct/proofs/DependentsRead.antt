@@ -3,8 +3,8 @@ use Rattle.sym_print.specs.declared.detail.Detail.{Detail}
 use Rattle.cpp_grammar.specs.Unfolding.{byte_of, close}
 use Rattle.cpp_grammar.specs.Meaning.{meaning, listed_value}
 use Rattle.cpp_direct.specs.Symbol.{detail_of, Symbol}
+use Rattle.cpp_direct.proofs.Handed.{parameter-got}
 use Rattle.cpp_direct.proofs.Kept.{candidate-found, keeps-as, keeps-grown, keeps-same, keeps-written, made-here, piece-found, placed-stays, value-added, value-comes, candidate-inside, keeps-with}
-use Rattle.cpp_direct.proofs.Listed.{some-elements}
 use Rattle.cpp_direct.proofs.Moves.{hole, eats, byte-opens, next-part, closes, none-fills, number-fills, is_eaten, stands-join, stands-split, expects-empty, open_at, fill, filled-at}
 use Rattle.cpp_direct.proofs.MovesOfTypes.{solid-opens, rvalue-opens, substitution-opens}
 use Rattle.cpp_direct.proofs.PrintedTypes.{parameter-given, expansion-element, rvalue-given}
@@ -12,7 +12,7 @@ use Rattle.cpp_direct.proofs.NamedArguments.{again-substituted, named-here}
 use Rattle.cpp_direct.specs.declared.open.Mark.{Mark}
 use Rattle.cpp_direct.specs.Holes.{Opened, StandsAt, Comes, candidate, with_candidate, Expects, IsReferable, IsTyped}
 use Rattle.cpp_direct.specs.Prints.{PrintsAs, PrintsGiven, forwarded, PrintAllBy, list_of}
-use Rattle.cpp_direct.specs.WriterInvariant.{AreCandidates, EncodedBehind, HasArguments, IsAmong, IsKnown, IsPlaced, IsScope, IsSingle, IsWriting, Keeps, ParametersGoOn, argument_of, in_front_of_next, place_of}
+use Rattle.cpp_direct.specs.WriterInvariant.{AreCandidates, EncodedBehind, HasArguments, IsAmong, IsKnown, IsPlaced, IsScope, IsSingle, IsWriting, Keeps, Stands, argument_of, in_front_of_next, place_of}
 use Rattle.cpp_direct.specs.MidStep.{AwaitsType, IsNamedAgain, IsParameterEnded, parameter_digits, AwaitsNextParameter, AreForwarded, IsPackOf, PrintsForwarded, comma_text}
 use Rattle.cpp_direct.specs.Written.{Writes, added, hidden}
 use Rattle.cpp_direct.specs.declared.direct.Direct.{Direct}
@@ -21,14 +21,13 @@ use Rattle.cpp_direct.specs.declared.open.Candidate.{Candidate}
 use Rattle.cpp_direct.specs.declared.open.Arguments.{Arguments}
 use Rattle.cpp_grammar.specs.Between.{Going, between, after, applied, listed_so_far, parameter_so_far, index_of, under_expansion}
 use Rattle.cpp_grammar.specs.Grammar.{may_be_empty, number_of_kind, parts_of}
-use Rattle.cpp_grammar.specs.Parts.{types_of}
 use Rattle.cpp_grammar.specs.References.{appended, is_function_type, with_packs, parameter_named, with_type}
 use Rattle.cpp_grammar.specs.Scope.{arguments_of, element, count, length_if_pack}
 use Rattle.cpp_grammar.specs.Term.{Term, parameter, expansion, rvalue, list, nil, pack}
 use Rattle.cpp_grammar.specs.Values.{tree, State, Around, text_of, is_there, letter_of, part, piece_of, tree_of, is_listed}
 use Rattle.cpp_grammar.specs.declared.kind.Kind.{Kind}
 use Rattle.cpp_grammar.specs.declared.production.Production.{Production}
-use Rattle.std.proofs.Common.{◌≡◌, ◌≢◌, ℕ, zero, suc, ◌+◌, ◌-◌, ◌≤◌, ◌<◌, length, List, [], ◌∷◌, ◌++◌, take, drop, reverse, slice_get, true, false, Option, Some, None, refl, ap, sym, ◌∙◌, subst, arith, append_assoc, append-nil, Ok, codes, inl, inr}
+use Rattle.std.proofs.Common.{◌≡◌, ◌≢◌, ℕ, zero, suc, ◌+◌, ◌-◌, ◌≤◌, ◌<◌, length, List, [], ◌∷◌, ◌++◌, take, drop, reverse, slice_get, true, false, Option, Some, None, refl, ap, sym, ◌∙◌, subst, arith, append_assoc, append-nil, Ok, inl, inr}
 use Rattle.std.proofs.lemmas.Bool.{lt-ltb}
 use Rattle.std.proofs.lemmas.List.{length-append}
 use Rattle.sym_core.specs.Value.{counted_value}
@@ -37,12 +36,12 @@ use Rattle.sym_core.specs.Token.{Token, IsNumberToken}
 use Rattle.std.specs.Option.{IfSome}
 use Rattle.cpp_direct.proofs.Ending.{parameter-goes_on}
 use Rattle.cpp_direct.proofs.MovesOfLists.{element-awaits}
-use Rattle.cpp_direct.proofs.PrintedLists.{next-prints-in, next-prints-by}
-use Rattle.cpp_direct.proofs.Scopes.{arguments-stay}
+use Rattle.cpp_direct.proofs.PrintedLists.{next-prints-by}
 use Rattle.cpp_direct.proofs.Signatures.{one-hidden}
 use Rattle.cpp_grammar.specs.Unfolding as unfolding_
 use Rattle.cpp_direct.specs.declared.open.Step.TheVariants as steps
 use Rattle.cpp_grammar.specs.Values as values
+use Rattle.cpp_direct.specs.declared.open.Open.TheVariants as opens
 
 -- ## Moves
 
@@ -482,7 +481,6 @@ expansion-read s old begun last new mark start argument a pack_ ordered few stan
     let n = f.names 0 ordered in
     let ts = n.elements in
     let first = n.alone pack_ in
-    let front = a.front ++ codes "(" in
     let bytes = fw.bytes in
     let t = expansion (rvalue (parameter 0)) in
     let around = a.goes.around in
@@ -490,8 +488,19 @@ expansion-read s old begun last new mark start argument a pack_ ordered few stan
     let later = with_expansion (count (list_of scope.elements)) around a.state in
     let element = element-awaits s Kind.Items a.goes.inner a.goes.around old.at a.state tt a.goes.awaits in
     let comes = expansion-comes s a.goes.around element.inner old.at a.state scope element.awaits stands in
-    let goes = parameter-goes_on s argument (λ x there then_. EncodedBehind s a.lead x there) a.make a.ts old.at a.state a.goes t (old.at + 5) later
-    (element.onward t (old.at + 5) later comes) in
+    let waits : Stands s a.scope (opens.Parameters mark start argument ∷ a.rest) element.inner old.text.list.items = (
+      a.front,
+      a.lead,
+      a.make,
+      a.ts,
+      a.name,
+      a.texts,
+      f,
+      a.fronts,
+      a.written,
+      λ u at st it. parameter-goes_on s argument
+          (λ x there then_. EncodedBehind s a.lead x there) a.make a.ts old.at a.state a.goes u at st (element.onward u at st it),
+    ) in
     let rest = all-forwarded begun last ts 4 (omega (arith, few, first.2)) fw in
     let done : fw.done ≡ ts = sym (append-nil fw.done) ∙ ap (λ l. fw.done ++ l) (sym rest) ∙ sym fw.all in
     let prints : PrintAllBy (PrintsForwarded (detail_of s)) ts bytes = subst (λ l. PrintAllBy (PrintsForwarded (detail_of s)) l bytes) done fw.prints in
@@ -508,30 +517,8 @@ expansion-read s old begun last new mark start argument a pack_ ordered few stan
     (one-hidden s a.scope.names forwarded_text (last.candidates.list.items ++ hidden ∷ [])
     (a.state.candidates ++ candidate around (parameter 0) ∷ []) (candidate around (rvalue (parameter 0)))
     (one-hidden s a.scope.names forwarded_text last.candidates.list.items a.state.candidates (candidate around (parameter 0)) keeps.candidates)) in
-    record {
-      state = later;
-      scope = a.scope;
-      keeps = keeps-as s last new later.candidates (ap (λ v. v.list.items) text) candidates scope_ known keeps.named keeps.own keeps.unknown;
-      rest = a.rest;
-      open_is = ap (λ v. reverse v.list.items) (waiting ∙ fw.writes.waiting ∙ same_waiting) ∙ a.open_is;
-      make = a.make;
-      ts = a.ts ++ t ∷ [];
-      some = some-elements a.ts t;
-      front = a.front;
-      lead = a.lead;
-      name = a.name;
-      texts = in_front_of_next a.ts a.texts ++ bytes;
-      is_function = record {
-        own = f.own;
-        makes = f.makes;
-        prints = f.prints;
-        elements = next-prints-in (types_of f.own) 6 a.ts a.texts t bytes f.elements
-            (expansion-element f.own ts bytes (some-there ts n.own first.1) alone prints);
-        names = subst (λ l. HasArguments (detail_of s) l argument f.own) (sym grown) (arguments-stay old.text.list.items bytes argument f.own f.names);
-        given = f.given;
-        named = f.named;
-      };
-      fronts = a.fronts;
-      written = grown ∙ ap (λ l. l ++ bytes) a.written ∙ append_assoc front (in_front_of_next a.ts a.texts) bytes;
-      goes = subst (λ k. ParametersGoOn s argument a.lead a.make (a.ts ++ t ∷ []) k later) (sym (at ∙ fw.writes.at ∙ begun_at)) goes;
-    }
+    parameter-got s new mark start argument later a.rest element.inner t old.text.list.items bytes waits
+    (keeps-as s last new later.candidates (ap (λ v. v.list.items) text) candidates scope_ known keeps.named keeps.own keeps.unknown)
+    (ap (λ v. reverse v.list.items) (waiting ∙ fw.writes.waiting ∙ same_waiting) ∙ a.open_is) grown
+    (subst (λ k. Comes s element.inner (tree t true) k later) (sym (at ∙ fw.writes.at ∙ begun_at)) comes)
+    (expansion-element f.own ts bytes (some-there ts n.own first.1) alone prints)
