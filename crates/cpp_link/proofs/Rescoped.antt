@@ -2,7 +2,7 @@
 use Rattle.std.proofs.Common.{◌≡◌, refl, sym, ◌∙◌, ap, subst, arith, ℕ, ◌+◌, ◌-◌, ◌<◌, ◌≤◌, List, [], ◌∷◌, ◌++◌, length, take, drop, Bool, true, false, ◌&&◌, nat_eq, Option, Ok, Err}
 use Rattle.std.specs.Prelude.{Result, OnOk}
 use Rattle.std.proofs.lemmas.List.{length-drop, take-append-drop}
-use Rattle.std.proofs.lemmas.Bool.{true≢false, false≢true}
+use Rattle.std.proofs.lemmas.Bool.{true≢false, false≢true, and_parts, eqb-true}
 use Rattle.sym_core.specs.declared.refusal.Refusal.{Refusal}
 use Rattle.sym_link.specs.declared.language.Frame.{Frame}
 use Rattle.sym_link.specs.Reading.{Open, Found}
@@ -37,7 +37,7 @@ use Rattle.cpp_link.specs.declared.rescoping.Rescoping.{Rescoping}
 use Rattle.cpp_references.specs.declared.around.Surroundings.{Surroundings}
 use Rattle.cpp_link.specs.declared.part.Step.{Step}
 use Rattle.cpp_link.specs.LinkReading.{link_close, link_meaning}
-use Rattle.cpp_link.specs.LinkRescoping.{link_close_wide, linked_wide, is_parameter, is_parameter_argument, generic_read, is_holder, is_own_arguments, names_generic, names_holder, counts_base, number_in, named_by, substituted_nodes, wide_at_end, wide_view, wide_makes, wide_counted}
+use Rattle.cpp_link.specs.LinkRescoping.{link_close_wide, linked_wide, is_parameter, is_parameter_argument, steps_apart, generic_read, number_in, named_by, substituted_nodes, wide_at_end, wide_view, wide_makes, wide_counted}
 use Rattle.cpp_link.specs.Making.{state_of}
 use Rattle.cpp_link.specs.NodeCount.{makes_before, makes_at_end}
 use Rattle.cpp_link.specs.Parts.{trees_in, value_of, values_of, value_in, values_in, is_lambda, around_of, candidates_of, packs_of, IsClosed, IsThere, AreCandidatesThere}
@@ -52,40 +52,39 @@ use Rattle.cpp_link.proofs.Within.{at_plain, closes_within}
 
 -- ## Before a part
 
--- where no parameter of a lambda is named, and no name with its M, and no base class is counted, it goes as in the other reading
-apart_between : (p : Production) (around : Around) (place : ℕ) (vs : List Value) (state : State) → names_generic p around.in_lambda (length vs) ≡ false
-    → names_holder p (length vs) ≡ false → counts_base p (length vs) ≡ false → between_wide p around place vs state ≡ between p around place vs state
-unfolding between_wide between is_parameter is_holder is_own_arguments parameter_here argument_here parameter_named parameter_so_far listed_so_far argument_so_far
-apart_between Production.Parameter around place (v ∷ []) state apart unheld uncounted = go around.in_lambda apart
+second : (l : Bool) (before : ℕ) → (l && nat_eq before 1) ≡ true → (l ≡ true) × (before ≡ 1)
+second l before is = let both_ = and_parts l (nat_eq before 1) is in (both_.0, eqb-true before 1 both_.1)
+
+-- where the wide reading does nothing of its own, it goes as in the other reading
+apart_between : (p : Production) (around : Around) (place : ℕ) (vs : List Value) (state : State) → steps_apart p around.in_lambda (length vs) ≡ false → between_wide p around place vs state ≡ between p around place vs state
+unfolding between_wide between steps_apart parameter_here argument_here parameter_named parameter_so_far listed_so_far argument_so_far
+apart_between Production.Parameter around place (v ∷ []) state apart = go around.in_lambda apart
   where
-    go : (b : Bool) → (b && true && nat_eq (length (v ∷ [])) 1) ≡ false
-        → elim b [ true ↦ generic_so_far around (index_of v) [] state | false ↦ parameter_so_far around place (index_of v) [] state ] ≡ parameter_so_far around place (index_of v) [] state
+    go : (b : Bool) → (b && true) ≡ false → elim b [ true ↦ generic_so_far around (index_of v) [] state | false ↦ parameter_so_far around place (index_of v) [] state ] ≡ parameter_so_far around place (index_of v) [] state
     go true e = absurd (true≢false e)
     go false e = refl
-apart_between Production.NestParameter around place (v ∷ []) state apart unheld uncounted = go around.in_lambda apart
+apart_between Production.NestParameter around place (v ∷ []) state apart = go around.in_lambda apart
   where
-    go : (b : Bool) → (b && true && nat_eq (length (v ∷ [])) 1) ≡ false
-        → elim b [ true ↦ generic_so_far around (index_of v) [] state | false ↦ parameter_so_far around place (index_of v) [] state ] ≡ parameter_so_far around place (index_of v) [] state
+    go : (b : Bool) → (b && true) ≡ false → elim b [ true ↦ generic_so_far around (index_of v) [] state | false ↦ parameter_so_far around place (index_of v) [] state ] ≡ parameter_so_far around place (index_of v) [] state
     go true e = absurd (true≢false e)
     go false e = refl
-apart_between Production.ParameterArgument around place (v ∷ []) state apart unheld uncounted = go around.in_lambda apart
+apart_between Production.ParameterArgument around place (v ∷ []) state apart = go around.in_lambda apart
   where
-    go : (b : Bool) → (b && true && nat_eq (length (v ∷ [])) 1) ≡ false
+    go : (b : Bool) → (b && true) ≡ false
         → elim b [ true ↦ generic_so_far around (index_of v) [] state | false ↦ parameter_so_far around (place - 1) (index_of v) [] state ] ≡ parameter_so_far around (place - 1) (index_of v) [] state
     go true e = absurd (true≢false e)
     go false e = refl
-apart_between Production.ParameterExpression around place (v ∷ []) state apart unheld uncounted = go around.in_lambda apart
+apart_between Production.ParameterExpression around place (v ∷ []) state apart = go around.in_lambda apart
   where
     own : Going
     own = next (tree (term.parameter (generic_number (index_of v)) auto) true ∷ []) around state
 
-    go : (b : Bool) → (b && true && nat_eq (length (v ∷ [])) 1) ≡ false
-        → elim b [ true ↦ own | false ↦ argument_so_far around place (index_of v) state ] ≡ argument_so_far around place (index_of v) state
+    go : (b : Bool) → (b && true) ≡ false → elim b [ true ↦ own | false ↦ argument_so_far around place (index_of v) state ] ≡ argument_so_far around place (index_of v) state
     go true e = absurd (true≢false e)
     go false e = refl
-apart_between Production.Holder around place (v ∷ []) state apart unheld uncounted = absurd (true≢false unheld)
-apart_between Production.OwnArguments around place [] state apart unheld uncounted = absurd (true≢false uncounted)
-apart_between p around place vs state apart unheld uncounted = refl
+apart_between Production.Holder around place (v ∷ []) state apart = absurd (true≢false apart)
+apart_between Production.OwnArguments around place [] state apart = absurd (true≢false apart)
+apart_between p around place vs state apart = refl
 
 -- what is done before the next part of the open rule of the reading, in terms of the frame
 pub wide_read_is : (s : List ℕ) (old : Linked) (frame : Frame Surroundings) (own : List Part) (rule : Open State Around) (known : List Value) (state : State) → IsAt (cpp_view s) s old frame own rule known state
@@ -100,53 +99,61 @@ wide_read_is s old frame own rule known state is =
         → between_wide (production_at n) around p vs state ≡ between_wide (production_at m) code q us (record { candidates = cs; packs = packs })
     same m n q p code around us vs cs packs state number place context known candidates packed = rw (number, place, context, known, candidates, packed) refl
 
-same_test : (m n : ℕ) (a b : Bool) (h k : ℕ) → m ≡ n → a ≡ b → h ≡ k → names_generic (production_at m) a h ≡ false → names_generic (production_at n) b k ≡ false
-same_test m n a b h k e f g is = rw (← e, ← f, ← g) is
-
-same_holder : (m n h k : ℕ) → m ≡ n → h ≡ k → names_holder (production_at m) h ≡ false → names_holder (production_at n) k ≡ false
-same_holder m n h k e g is = rw (← e, ← g) is
-
-same_base : (m n h k : ℕ) → m ≡ n → h ≡ k → counts_base (production_at m) h ≡ false → counts_base (production_at n) k ≡ false
-same_base m n h k e g is = rw (← e, ← g) is
-
--- What was done where no parameter of a lambda is named, and no name with its M, and no base class is counted, is what the wide reading says.
-pub apart_goes : (s : List ℕ) (old new : Linked) (frame : Frame Surroundings) (parts new_parts : List Part) (held : ℕ) (result : Result Surroundings Refusal) → held ≡ length parts - frame.base
-    → names_generic (production_at frame.rule) (is_lambda frame.kept.scope) held ≡ false → names_holder (production_at frame.rule) held ≡ false
-    → counts_base (production_at frame.rule) held ≡ false → GoesOn (cpp_view s) s (Surrounds s) old new frame parts new_parts result → GoesOn (wide_view s) s (Surrounds s) old new frame parts new_parts result
+-- What was done where the wide reading does nothing of its own is what it says.
+pub apart_goes : (s : List ℕ) (old new : Linked) (frame : Frame Surroundings) (parts new_parts : List Part) (before : ℕ) (result : Result Surroundings Refusal) → before ≡ length parts - frame.base
+    → steps_apart (production_at frame.rule) (is_lambda frame.kept.scope) before ≡ false
+    → GoesOn (cpp_view s) s (Surrounds s) old new frame parts new_parts result → GoesOn (wide_view s) s (Surrounds s) old new frame parts new_parts result
 unfolding cpp cpp_wide around_of
-apart_goes s old new frame parts new_parts held result counted apart unheld uncounted goes rule known state is =
+apart_goes s old new frame parts new_parts before result counted apart goes rule known state is =
     let at = at_plain s old frame (drop frame.base parts) rule known state is in
     let known_are = (parts_are s old (drop frame.base parts) known is.parts).1 in
-    let many : held ≡ length known =
+    let many : before ≡ length known =
     omega (arith, counted, length-drop frame.base parts, values_length s (trees_in s old.nodes) (drop frame.base parts), ap (λ vs. length vs) known_are) in
     let lambda : is_lambda frame.kept.scope ≡ rule.context.in_lambda = ap (λ (a : Around). a.in_lambda) is.kept.surrounds.is in
     subst (λ read. Goes (cpp_view s) (Surrounds s) new (take frame.base parts) new_parts result read)
     (sym (apart_between (production_at rule.rule.number) rule.context rule.place known state
-    (same_test frame.rule rule.rule.number (is_lambda frame.kept.scope) rule.context.in_lambda held (length known) is.number lambda many apart)
-    (same_holder frame.rule rule.rule.number held (length known) is.number many unheld)
-    (same_base frame.rule rule.rule.number held (length known) is.number many uncounted)))
+    (same_test frame.rule rule.rule.number (is_lambda frame.kept.scope) rule.context.in_lambda before (length known) is.number lambda many apart)))
     (goes rule known state at)
+  where
+    same_test : (m n : ℕ) (a b : Bool) (h k : ℕ) → m ≡ n → a ≡ b → h ≡ k → steps_apart (production_at m) a h ≡ false → steps_apart (production_at n) b k ≡ false
+    same_test m n a b h k e f g is = rw (← e, ← f, ← g) is
 
 -- the step that was taken is that of the wide reading
-pub wide_goes_right : (s : List ℕ) (old new : Linked) (frame : Frame Surroundings) (parts new_parts : List Part) (step : Step) (then : Surroundings)
-    → ((cs : List values.Candidate) → between_wide (production_at frame.rule) (around_of (trees_in s old.nodes) frame.kept) frame.place (values_in s old.nodes (drop frame.base parts)) (record { candidates = cs; packs = old.packs })
-    ≡ goes_on s old.nodes frame.kept (values_in s old.nodes (drop frame.base parts)) cs old.packs step)
+pub wide_goes_right : (s : List ℕ) (old new : Linked) (frame : Frame Surroundings) (parts new_parts own : List Part) (production : Production) (step : Step) (then : Surroundings)
+    → own ≡ drop frame.base parts → production ≡ production_at frame.rule
+    → ((cs : List values.Candidate) → between_wide production (around_of (trees_in s old.nodes) frame.kept) frame.place (values_in s old.nodes own) (record { candidates = cs; packs = old.packs })
+    ≡ goes_on s old.nodes frame.kept (values_in s old.nodes own) cs old.packs step)
     → Takes s old new frame.kept frame.base parts new_parts step then
     → GoesOn (wide_view s) s (Surrounds s) old new frame parts new_parts (Ok then)
-wide_goes_right s old new frame parts new_parts step then step_is takes rule known state is = (
+wide_goes_right s old new frame parts new_parts own production step then same numbered step_is takes rule known state is = (
   record { values = values_in s new.nodes (drop frame.base new_parts); context = around_of (trees_in s new.nodes) then; state = state_of s new },
-  wide_read_is s old frame (drop frame.base parts) rule known state (at_plain s old frame (drop frame.base parts) rule known state is) ∙ step_is (state_of s old).candidates ∙ takes.is,
+  wide_read_is s old frame (drop frame.base parts) rule known state (at_plain s old frame (drop frame.base parts) rule known state is) ∙ stepped own production same numbered step_is ∙ takes.is,
   record {
     there = takes.around;
     is = refl;
     closed = wide_between_closed (production_at frame.rule) (around_of (trees_in s old.nodes) frame.kept) frame.place (values_in s old.nodes (drop frame.base parts)) (state_of s old) _
-        (step_is (state_of s old).candidates ∙ takes.is) (subst (λ around. IsClosed around) (sym is.kept.surrounds.is) is.kept.surrounds.closed);
+        (stepped own production same numbered step_is ∙ takes.is) (subst (λ around. IsClosed around) (sym is.kept.surrounds.is) is.kept.surrounds.closed);
   },
   record { table = takes.grows.table; there = takes.candidates; candidates = refl; packs = refl },
   drop frame.base new_parts,
   sym (take-append-drop frame.base new_parts) ∙ ap (λ ps. ps ++ drop frame.base new_parts) takes.lower,
   parts_all s new (drop frame.base new_parts) takes.there,
 )
+  where
+    stepped : (own : List Part) (production : Production) → own ≡ drop frame.base parts → production ≡ production_at frame.rule
+        → ((cs : List values.Candidate) → between_wide production (around_of (trees_in s old.nodes) frame.kept) frame.place (values_in s old.nodes own) (record { candidates = cs; packs = old.packs })
+        ≡ goes_on s old.nodes frame.kept (values_in s old.nodes own) cs old.packs step)
+        → between_wide (production_at frame.rule) (around_of (trees_in s old.nodes) frame.kept) frame.place (values_in s old.nodes (drop frame.base parts)) (state_of s old)
+        ≡ goes_on s old.nodes frame.kept (values_in s old.nodes (drop frame.base parts)) (state_of s old).candidates old.packs step
+    stepped own production same numbered step_is = rw (← same, ← numbered) (step_is (state_of s old).candidates)
+
+-- the refusal of a step is that of the wide reading
+pub wide_refused_right : (s : List ℕ) (old new : Linked) (frame : Frame Surroundings) (parts new_parts own : List Part) (production : Production) (e : Refusal)
+    → own ≡ drop frame.base parts → production ≡ production_at frame.rule
+    → ((cs : List values.Candidate) → Fails e (between_wide production (around_of (trees_in s old.nodes) frame.kept) frame.place (values_in s old.nodes own) (record { candidates = cs; packs = old.packs })))
+    → GoesOn (wide_view s) s (Surrounds s) old new frame parts new_parts (Err e)
+wide_refused_right s old new frame parts new_parts own production e same numbered refused rule known state is =
+    rw (wide_read_is s old frame (drop frame.base parts) rule known state (at_plain s old frame (drop frame.base parts) rule known state is), ← same, ← numbered) (refused (state_of s old).candidates)
 
 -- ## Where a rule closes
 
@@ -352,14 +359,20 @@ generic_is s y kept p place (x ∷ []) digits cs packs step is lambda one own_is
     ∙ ap (λ ds. generic_read (is_parameter_argument p) (around_of (trees_in s y) kept) (counted_value Decimal ds) (record { candidates = cs; packs = packs })) (sym own_is)
     ∙ goes (value_of s (trees_in s y) x)
 
-pub no_pack : (p : Production) → is_parameter p ≡ true → p ≡ Production.PackArgument → ⊥
-unfolding is_parameter
-no_pack p is pack = absurd (false≢true (ap is_parameter (sym pack) ∙ is))
+pub no_pack : (p : Production) (l : Bool) (before : ℕ) → steps_apart p l before ≡ true → p ≡ Production.PackArgument → ⊥
+unfolding steps_apart
+no_pack p l before is pack = absurd (false≢true (ap (λ q. steps_apart q l before) (sym pack) ∙ is))
 
-pub own_arguments_alone : (p : Production) → is_own_arguments p ≡ true → p ≡ Production.OwnArguments
-unfolding is_own_arguments
-own_arguments_alone Production.OwnArguments is = refl
-own_arguments_alone _ is = absurd (false≢true is)
+-- what is neither a name with its M nor the arguments of a constructor that is inherited is a parameter of a lambda
+pub apart_generic : (p : Production) (l : Bool) (before : ℕ) → steps_apart p l before ≡ true → (p ≡ Production.Holder → ⊥) → (p ≡ Production.OwnArguments → ⊥) → (is_parameter p ≡ true) × ((l ≡ true) × (before ≡ 1))
+unfolding steps_apart is_parameter
+apart_generic Production.Parameter l before is held own = (refl, second l before is)
+apart_generic Production.NestParameter l before is held own = (refl, second l before is)
+apart_generic Production.ParameterArgument l before is held own = (refl, second l before is)
+apart_generic Production.ParameterExpression l before is held own = (refl, second l before is)
+apart_generic Production.Holder l before is held own = absurd (held refl)
+apart_generic Production.OwnArguments l before is held own = absurd (own refl)
+apart_generic _ l before is held own = absurd (false≢true is)
 
 -- ## Lambdas
 

@@ -384,6 +384,7 @@ impl Linked {
                 listed: true,
                 is_name: false,
                 is_candidate: true,
+                is_held: false,
                 packs: self.packs,
             },
             Production::RvalueItem => Step::Made {
@@ -391,6 +392,7 @@ impl Linked {
                 listed: true,
                 is_name: false,
                 is_candidate: true,
+                is_held: false,
                 packs: self.packs,
             },
             Production::Constraint => self.go(self.in_signature(kept)),
@@ -459,6 +461,7 @@ impl Linked {
                 listed: true,
                 is_name: true,
                 is_candidate: true,
+                is_held: false,
                 packs: self.packs,
             },
             Production::Lambda => self.go(self.in_signature(kept)),

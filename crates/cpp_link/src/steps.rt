@@ -33,7 +33,7 @@ use sym_core::{Refusal, Span};
 /// The candidate that the name so far becomes.
 #[tactic(auto, unfolding(crate::specs::Parts::around_of, crate::specs::Parts::prefix_in, crate::specs::Parts::prefix_of, crate::specs::Reads::with_candidate, cpp_term::specs::References::with_prefix, cpp_term::specs::Values::prefix_tree, cpp_term::specs::Values::prefix_listed))]
 fn prefix_candidate(kept: Surroundings) -> Option<u32>
-    ensures is { (ts : List term.Term) (state : State) → with_prefix (around_of ts kept) state ≡ with_candidate (around_of ts kept) ts result state }
+    ensures is { (ts : List term.Term) (state : State) → with_prefix (around_of ts kept) state ≡ with_candidate false (around_of ts kept) ts result state }
     ensures there { (n : ℕ) → IsPrefixThere n (name_of kept) → IsThereBelow n result }
 {
     match kept.naming {
@@ -59,13 +59,14 @@ impl Linked {
     /// A name is made of this node.
     #[inline(always)]
     pub(crate) fn named(&self, node: Node) -> Step
-        ensures { result ≡ Step.Made node false true false self.now.packs }
+        ensures { result ≡ Step.Made node false true false false self.now.packs }
     {
         Step::Made {
             node,
             listed: false,
             is_name: true,
             is_candidate: false,
+            is_held: false,
             packs: self.packs,
         }
     }
@@ -73,13 +74,14 @@ impl Linked {
     /// A name is made of this node, which is no candidate.
     #[inline(always)]
     pub(crate) fn listed_name(&self, node: Node) -> Step
-        ensures { result ≡ Step.Made node true true false self.now.packs }
+        ensures { result ≡ Step.Made node true true false false self.now.packs }
     {
         Step::Made {
             node,
             listed: true,
             is_name: true,
             is_candidate: false,
+            is_held: false,
             packs: self.packs,
         }
     }
@@ -99,7 +101,7 @@ impl Linked {
     #[inline(always)]
     pub(crate) fn prefix_candidate(&self, symbol: &[u8], kept: Surroundings) -> Option<u32>
         requires kept { IsKeptThere (length self.now.nodes.nodes) kept }
-        ensures is { (state : State) → with_prefix (around_of (trees_in symbol.now self.now.nodes) kept) state ≡ with_candidate (around_of (trees_in symbol.now self.now.nodes) kept) (trees_in symbol.now self.now.nodes) result state }
+        ensures is { (state : State) → with_prefix (around_of (trees_in symbol.now self.now.nodes) kept) state ≡ with_candidate false (around_of (trees_in symbol.now self.now.nodes) kept) (trees_in symbol.now self.now.nodes) result state }
         ensures there { IsThereBelow (length self.now.nodes.nodes) result }
     {
         prefix_candidate(kept)
@@ -110,7 +112,7 @@ impl Linked {
     pub fn type_candidate(&self, symbol: &[u8], kept: Surroundings, part: Part) -> Option<u32>
         requires table { IsTable (over symbol.now self.now.nodes) }
         requires there { IsThere symbol.now (length self.now.nodes.nodes) part }
-        ensures is { (state : State) → with_type (around_of (trees_in symbol.now self.now.nodes) kept) (value_in symbol.now self.now.nodes part) state ≡ with_candidate (around_of (trees_in symbol.now self.now.nodes) kept) (trees_in symbol.now self.now.nodes) result state }
+        ensures is { (state : State) → with_type (around_of (trees_in symbol.now self.now.nodes) kept) (value_in symbol.now self.now.nodes part) state ≡ with_candidate false (around_of (trees_in symbol.now self.now.nodes) kept) (trees_in symbol.now self.now.nodes) result state }
         ensures there { IsThereBelow (length self.now.nodes.nodes) result }
     {
         if is_listed(part) {
@@ -199,6 +201,7 @@ impl Linked {
                 listed: true,
                 is_name: false,
                 is_candidate: false,
+                is_held: false,
                 packs: self.packs,
             },
         }

@@ -18,4 +18,4 @@ returns-clause-state c =
     ap (λ v. counted_base around v (state_of s old)) (sym c.given.ensures.is) ∙ c.base_to_count-base.ensures.is around (state_of s old)
     ∙ counted_after s old.nodes mid.nodes c.args.kept c.base_to_count-base.result (state_of s old) (state_of s mid) c.in_ok-made.ensures.grows.stays c.requires.kept c.base_to_count-base.ensures.there
     (sym (nothing_behind (slice_index s c.args.place) around began known (state_of s old)) ∙ c.in_ok-made.ensures.state began refl)
-    ∙ c.in_ok-count_base.ensures.is s
+    ∙ c.in_ok-note.ensures.is
