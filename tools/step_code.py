@@ -47,7 +47,7 @@ def made_step(made, listed, is_name, is_candidate):
     if m := re.fullmatch(r"of new_(lvalue|rvalue) \(tree_at (\d) ∷ \[\]\)", made): new = Call(f"Node::{m[1].capitalize()}", node(m[2]))
     else: new = Fields("Node::Instance", template=TEMPLATE, arguments=list_of(re.fullmatch(r"of new_instance \(the_name ∷ list_at (\d) ∷ \[\]\)", made)[1]))
     if is_name == "true" and listed == "false": return Call(named, new)
-    return Fields("Step::Made", node=new, listed=listed, is_name=is_name, is_candidate=is_candidate, is_held="false", packs="self.packs")
+    return Fields("Step::Made", node=new, listed=listed, is_name=is_name, is_candidate=is_candidate, packs="self.packs")
 
 def code(step):
     """what is done, in code"""

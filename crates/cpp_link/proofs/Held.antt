@@ -7,8 +7,9 @@ use Rattle.sym_link.specs.Reading.{Found}
 use Rattle.cpp_grammar.specs.declared.production.Production.{Production}
 use Rattle.cpp_term.specs.Term.{Term, holder}
 use Rattle.cpp_term.specs.Values as values
-use Rattle.cpp_term.specs.Values.{State, Around, Value, tree, prefix_tree}
+use Rattle.cpp_term.specs.Values.{State, Around, Value, tree, tree_of, part, prefix_tree}
 use Rattle.cpp_term.specs.Between.{Going, inside, after, listed_so_far}
+use Rattle.cpp_term.specs.References.{appended}
 use Rattle.cpp_term.specs.Rescoping.{with_holder, with_base, has_held, is_instance, is_counted_alike, holder_so_far, substituted_wide, numbered, between_wide}
 use Rattle.cpp_term.proofs.Notes.{both}
 use Rattle.cpp_tree.specs.Nodes as nodes
@@ -17,9 +18,9 @@ use Rattle.cpp_tree.specs.declared.node.Node.{Node}
 use Rattle.cpp_references.specs.declared.candidates.Candidate.{Candidate}
 use Rattle.cpp_references.specs.declared.around.Surroundings.{Surroundings}
 use Rattle.cpp_link.specs.declared.part.Step.{Step}
-use Rattle.cpp_link.specs.LinkRescoping.{steps_apart}
+use Rattle.cpp_link.specs.LinkRescoping.{steps_apart, with_mark, going_marked}
 use Rattle.cpp_link.specs.Parts.{trees_in, prefix_of, name_of, around_of, candidates_of, is_apart_behind, AreCounted}
-use Rattle.cpp_link.specs.Reads.{goes_on, behind_first, named_if, appended_if}
+use Rattle.cpp_link.specs.Reads.{goes_on, with_candidate, behind_first, named_if, appended_if}
 use Rattle.cpp_link.specs.NodeCount.{makes_before}
 use Rattle.cpp_link.specs.Owed.{made_before}
 use Rattle.cpp_link.specs.Stepping.{IsStepOf}
@@ -40,8 +41,8 @@ base_first p l before is apart = eqb-true before 0 (ap (λ q. steps_apart q l be
 pub held_read : (s : List ℕ) (y : Stored) (kept : Surroundings) (place : ℕ) (vs : List Value) (cs : List values.Candidate) (packs : Option ℕ) (name : ℕ) → length vs ≡ 1
     → tree_at (trees_in s y) name ≡ prefix_tree (prefix_of (trees_in s y) (name_of kept)) → is_instance (tree_at (trees_in s y) name) ≡ false
     → between_wide Production.Holder (around_of (trees_in s y) kept) place vs (record { candidates = cs; packs = packs })
-    ≡ goes_on s y kept vs cs packs (Step.Made (Node.Holder name) true true false true packs)
-unfolding between_wide holder_so_far listed_so_far around_of goes_on behind_first named_if appended_if nodes.tree_of
+    ≡ going_marked Production.Holder (around_of (trees_in s y) kept) (goes_on s y kept vs cs packs (Step.Made (Node.Holder name) true true false packs))
+unfolding between_wide holder_so_far listed_so_far around_of goes_on going_marked with_mark part tree_of behind_first named_if appended_if nodes.tree_of
 held_read s y kept place [] cs packs name one prefix none = absurd (omega (arith, one))
 held_read s y kept place (v ∷ w ∷ vs) cs packs name one prefix none = absurd (omega (arith, one))
 held_read s y kept place (v ∷ []) cs packs name one prefix none =
@@ -75,13 +76,17 @@ held_refused around place (v ∷ []) state one named = by (is_instance (prefix_t
 pub base_read : (s : List ℕ) (y : Stored) (kept then : Surroundings) (place : ℕ) (vs : List Value) (cs : List values.Candidate) (packs : Option ℕ) (base : ℕ) → length vs ≡ 0
     → tree_at (trees_in s y) base ≡ prefix_tree (prefix_of (trees_in s y) (name_of kept)) → around_of (trees_in s y) then ≡ inside (around_of (trees_in s y) kept)
     → between_wide Production.OwnArguments (around_of (trees_in s y) kept) place vs (record { candidates = cs; packs = packs })
-    ≡ goes_on s y kept vs cs packs (Step.Counted base then)
-unfolding between_wide goes_on around_of
+    ≡ going_marked Production.OwnArguments (around_of (trees_in s y) kept) (goes_on s y kept vs cs packs (Step.Go (Some base) then packs))
+unfolding between_wide goes_on going_marked with_mark with_candidate with_base around_of
 base_read s y kept then place (v ∷ vs) cs packs base none prefix around = absurd (omega (arith, none))
 base_read s y kept then place [] cs packs base none prefix around = both ends (sym around) (sym prefix)
   where
     ends : Around → Term → Going
-    ends a t = Ok (record { values = []; context = a; state = with_base (around_of (trees_in s y) kept) t (record { candidates = cs; packs = packs }) })
+    ends a t = Ok (record {
+      values = [];
+      context = a;
+      state = with_holder (around_of (trees_in s y) kept) (prefix_tree (prefix_of (trees_in s y) (name_of kept))) (appended (around_of (trees_in s y) kept) t (record { candidates = cs; packs = packs }));
+    })
 
 -- how many nodes are made
 pub held_makes : (known : List Value) → length known ≡ 1 → 1 ≡ makes_before Production.Holder known
@@ -95,9 +100,9 @@ unfolding makes_before made_before
 base_makes [] none = refl
 base_makes (v ∷ vs) none = absurd (omega (arith, none))
 
-pub held_step : (held : ℕ) (node : Node) (listed is_name is_candidate is_held : Bool) (packs : Option ℕ) → held ≡ 1 → IsStepOf Production.Holder held (Step.Made node listed is_name is_candidate is_held packs)
+pub held_step : (before : ℕ) (node : Node) (packs : Option ℕ) → before ≡ 1 → IsStepOf Production.Holder before (Step.Made node true true false packs)
 unfolding made_before
-held_step held node listed is_name is_candidate is_held packs one = rw one (omega arith, refl)
+held_step before node packs one = rw one (omega arith, refl)
 
 -- ## Numbers
 

@@ -1,11 +1,12 @@
 -- What the wide reading says of a rule that is open, in terms of the frame and the nodes.
 use Rattle.std.proofs.Common.{◌≡◌, refl, sym, ◌∙◌, ap, subst, arith, ℕ, ◌+◌, ◌-◌, ◌<◌, ◌≤◌, List, [], ◌∷◌, ◌++◌, length, take, drop, Bool, true, false, ◌&&◌, nat_eq, Option, Ok, Err}
-use Rattle.std.specs.Prelude.{Result, OnOk}
+use Rattle.std.specs.Prelude.{Vec, Result, OnOk}
+use Rattle.std.specs.Global.{Global}
 use Rattle.std.proofs.lemmas.List.{length-drop, take-append-drop}
 use Rattle.std.proofs.lemmas.Bool.{true≢false, false≢true, and_parts, eqb-true}
 use Rattle.sym_core.specs.declared.refusal.Refusal.{Refusal}
 use Rattle.sym_link.specs.declared.language.Frame.{Frame}
-use Rattle.sym_link.specs.Reading.{Open, Found}
+use Rattle.sym_link.specs.Reading.{Open, Found, Next}
 use Rattle.sym_link.specs.Driving.{Fails}
 use Rattle.sym_link.specs.Linking.{Puts}
 use Rattle.sym_link.specs.Threads.{IsAt, Goes, GoesOn, ClosesAll}
@@ -35,9 +36,10 @@ use Rattle.cpp_link.specs.declared.linked.Linked.{Linked}
 use Rattle.cpp_link.specs.declared.part.Part.{Part}
 use Rattle.cpp_link.specs.declared.rescoping.Rescoping.{Rescoping}
 use Rattle.cpp_references.specs.declared.around.Surroundings.{Surroundings}
+use Rattle.cpp_references.specs.declared.candidates.Candidate.{Candidate}
 use Rattle.cpp_link.specs.declared.part.Step.{Step}
 use Rattle.cpp_link.specs.LinkReading.{link_close, link_meaning}
-use Rattle.cpp_link.specs.LinkRescoping.{link_close_wide, linked_wide, is_parameter, is_parameter_argument, steps_apart, generic_read, number_in, named_by, substituted_nodes, wide_at_end, wide_view, wide_makes, wide_counted}
+use Rattle.cpp_link.specs.LinkRescoping.{link_close_wide, linked_wide, is_parameter, is_parameter_argument, steps_apart, with_mark, going_marked, generic_read, number_in, named_by, substituted_nodes, wide_at_end, wide_view, wide_makes, wide_counted}
 use Rattle.cpp_link.specs.Making.{state_of}
 use Rattle.cpp_link.specs.NodeCount.{makes_before, makes_at_end}
 use Rattle.cpp_link.specs.Parts.{trees_in, value_of, values_of, value_in, values_in, is_lambda, around_of, candidates_of, packs_of, IsClosed, IsThere, AreCandidatesThere}
@@ -118,34 +120,44 @@ apart_goes s old new frame parts new_parts before result counted apart goes rule
     same_test : (m n : ℕ) (a b : Bool) (h k : ℕ) → m ≡ n → a ≡ b → h ≡ k → steps_apart (production_at m) a h ≡ false → steps_apart (production_at n) b k ≡ false
     same_test m n a b h k e f g is = rw (← e, ← f, ← g) is
 
--- the step that was taken is that of the wide reading
-pub wide_goes_right : (s : List ℕ) (old new : Linked) (frame : Frame Surroundings) (parts new_parts own : List Part) (production : Production) (step : Step) (then : Surroundings)
+-- the step that was taken, and the mark, are those of the wide reading
+pub wide_goes_right : (s : List ℕ) (old mid : Linked) (more : Vec Candidate Global) (frame : Frame Surroundings) (parts new_parts own : List Part) (production : Production) (step : Step) (then : Surroundings)
     → own ≡ drop frame.base parts → production ≡ production_at frame.rule
     → ((cs : List values.Candidate) → between_wide production (around_of (trees_in s old.nodes) frame.kept) frame.place (values_in s old.nodes own) (record { candidates = cs; packs = old.packs })
-    ≡ goes_on s old.nodes frame.kept (values_in s old.nodes own) cs old.packs step)
-    → Takes s old new frame.kept frame.base parts new_parts step then
-    → GoesOn (wide_view s) s (Surrounds s) old new frame parts new_parts (Ok then)
-wide_goes_right s old new frame parts new_parts own production step then same numbered step_is takes rule known state is = (
-  record { values = values_in s new.nodes (drop frame.base new_parts); context = around_of (trees_in s new.nodes) then; state = state_of s new },
-  wide_read_is s old frame (drop frame.base parts) rule known state (at_plain s old frame (drop frame.base parts) rule known state is) ∙ stepped own production same numbered step_is ∙ takes.is,
+    ≡ going_marked production (around_of (trees_in s old.nodes) frame.kept) (goes_on s old.nodes frame.kept (values_in s old.nodes own) cs old.packs step))
+    → Takes s old mid frame.kept frame.base parts new_parts step then → AreCandidatesThere (length mid.nodes.nodes) more.items
+    → with_mark production (around_of (trees_in s old.nodes) frame.kept) (values_in s mid.nodes (drop frame.base new_parts)) (state_of s mid)
+    ≡ record { candidates = candidates_of (trees_in s mid.nodes) more.items; packs = mid.packs }
+    → GoesOn (wide_view s) s (Surrounds s) old (record mid { candidates = more }) frame parts new_parts (Ok then)
+wide_goes_right s old mid more frame parts new_parts own production step then same numbered step_is takes there marked rule known state is = (
+  going (record { candidates = candidates_of (trees_in s mid.nodes) more.items; packs = mid.packs }),
+  wide_read_is s old frame (drop frame.base parts) rule known state (at_plain s old frame (drop frame.base parts) rule known state is) ∙ reads own production same numbered step_is marked,
   record {
     there = takes.around;
     is = refl;
     closed = wide_between_closed (production_at frame.rule) (around_of (trees_in s old.nodes) frame.kept) frame.place (values_in s old.nodes (drop frame.base parts)) (state_of s old) _
-        (stepped own production same numbered step_is ∙ takes.is) (subst (λ around. IsClosed around) (sym is.kept.surrounds.is) is.kept.surrounds.closed);
+        (reads own production same numbered step_is marked) (subst (λ around. IsClosed around) (sym is.kept.surrounds.is) is.kept.surrounds.closed);
   },
-  record { table = takes.grows.table; there = takes.candidates; candidates = refl; packs = refl },
+  record { table = takes.grows.table; there = there; candidates = refl; packs = refl },
   drop frame.base new_parts,
   sym (take-append-drop frame.base new_parts) ∙ ap (λ ps. ps ++ drop frame.base new_parts) takes.lower,
-  parts_all s new (drop frame.base new_parts) takes.there,
+  parts_all s (record mid { candidates = more }) (drop frame.base new_parts) takes.there,
 )
   where
-    stepped : (own : List Part) (production : Production) → own ≡ drop frame.base parts → production ≡ production_at frame.rule
+    going : State → Next Value State Around
+    going then_state = record { values = values_in s mid.nodes (drop frame.base new_parts); context = around_of (trees_in s mid.nodes) then; state = then_state }
+
+    reads : (own : List Part) (production : Production) → own ≡ drop frame.base parts → production ≡ production_at frame.rule
         → ((cs : List values.Candidate) → between_wide production (around_of (trees_in s old.nodes) frame.kept) frame.place (values_in s old.nodes own) (record { candidates = cs; packs = old.packs })
-        ≡ goes_on s old.nodes frame.kept (values_in s old.nodes own) cs old.packs step)
+        ≡ going_marked production (around_of (trees_in s old.nodes) frame.kept) (goes_on s old.nodes frame.kept (values_in s old.nodes own) cs old.packs step))
+        → with_mark production (around_of (trees_in s old.nodes) frame.kept) (values_in s mid.nodes (drop frame.base new_parts)) (state_of s mid)
+        ≡ record { candidates = candidates_of (trees_in s mid.nodes) more.items; packs = mid.packs }
         → between_wide (production_at frame.rule) (around_of (trees_in s old.nodes) frame.kept) frame.place (values_in s old.nodes (drop frame.base parts)) (state_of s old)
-        ≡ goes_on s old.nodes frame.kept (values_in s old.nodes (drop frame.base parts)) (state_of s old).candidates old.packs step
-    stepped own production same numbered step_is = rw (← same, ← numbered) (step_is (state_of s old).candidates)
+        ≡ Ok (going (record { candidates = candidates_of (trees_in s mid.nodes) more.items; packs = mid.packs }))
+    unfolding going_marked
+    reads own production same numbered step_is marked = rw (← same, ← numbered)
+        (step_is (state_of s old).candidates ∙ ap (λ ps. going_marked production (around_of (trees_in s old.nodes) frame.kept) (goes_on s old.nodes frame.kept (values_in s old.nodes ps) (state_of s old).candidates old.packs step)) same
+        ∙ ap (λ g. going_marked production (around_of (trees_in s old.nodes) frame.kept) g) takes.is ∙ ap (λ x. Ok (going x)) marked)
 
 -- the refusal of a step is that of the wide reading
 pub wide_refused_right : (s : List ℕ) (old new : Linked) (frame : Frame Surroundings) (parts new_parts own : List Part) (production : Production) (e : Refusal)
@@ -373,6 +385,18 @@ apart_generic Production.ParameterExpression l before is held own = (refl, secon
 apart_generic Production.Holder l before is held own = absurd (held refl)
 apart_generic Production.OwnArguments l before is held own = absurd (own refl)
 apart_generic _ l before is held own = absurd (false≢true is)
+
+-- there is no mark then
+pub unmarked : (p : Production) (around : Around) (vs : List Value) (state : State) → (p ≡ Production.Holder → ⊥) → (p ≡ Production.OwnArguments → ⊥) → with_mark p around vs state ≡ state
+unfolding with_mark
+unmarked Production.Holder around vs state held own = absurd (held refl)
+unmarked Production.OwnArguments around vs state held own = absurd (own refl)
+unmarked _ around vs state held own = refl
+
+pub going_unmarked : (p : Production) (around : Around) (going : Going) → (p ≡ Production.Holder → ⊥) → (p ≡ Production.OwnArguments → ⊥) → going_marked p around going ≡ going
+unfolding going_marked
+going_unmarked p around (Ok n) held own = ap (λ x. Ok (record n { state = x })) (unmarked p around n.values n.state held own)
+going_unmarked p around (Err e) held own = refl
 
 -- ## Lambdas
 

@@ -7,8 +7,6 @@ use Rattle.cpp_term.specs.Term.{Term}
 use Rattle.cpp_term.specs.Values as values
 use Rattle.cpp_term.specs.Values.{State, Value, Around}
 use Rattle.cpp_term.specs.Between.{Going}
-use Rattle.cpp_term.specs.Rescoping.{with_base}
-use Rattle.cpp_term.proofs.Notes.{both}
 use Rattle.cpp_tree.specs.Nodes.{Stored, over, tree_at, IsTable}
 use Rattle.cpp_tree.specs.declared.node.Node.{Node}
 use Rattle.cpp_link.specs.declared.linked.Linked.{Linked}
@@ -33,16 +31,14 @@ use Rattle.cpp_link.proofs.Making.{parts_more}
 pub first_steps : (p : Production) (result : Result Step Refusal) → get_or (made_before p) 1 0 ≡ 1 → IfOk result (λ step. IsStepOf p 1 step)
 first_steps p (Err e) one = tt
 first_steps p (Ok (Step.Go candidate then packs)) one = tt
-first_steps p (Ok (Step.Counted base then)) one = tt
 first_steps p (Ok (Step.Named node listed is_name)) one = omega arith
-first_steps p (Ok (Step.Made node listed is_name is_candidate is_held packs)) one = (omega arith, one)
+first_steps p (Ok (Step.Made node listed is_name is_candidate packs)) one = (omega arith, one)
 
 -- what a production owes pays for the nodes of a step
 pub step_owed : (p : Production) (held : ℕ) (step : Step) → IsStepOf p held step → nodes_of_step step + owes_of p (suc held) ≤ owes_of p held
-step_owed p before (Step.Go candidate then packs) of = omega (arith, quiet_owed p before)
-step_owed p before (Step.Counted base then) of = omega (arith, quiet_owed p before)
+step_owed p held (Step.Go candidate then packs) of = omega (arith, quiet_owed p held)
 step_owed p held (Step.Named node listed is_name) of = omega (arith, quiet_owed p held)
-step_owed p held (Step.Made node listed is_name is_candidate is_held packs) of = made_owed p held of.1
+step_owed p held (Step.Made node listed is_name is_candidate packs) of = made_owed p held of.1
 
 -- ## Parts
 
@@ -92,30 +88,10 @@ grown s y z table same = rw same (record { table = table; stays = λ i less. ref
 pub takes_go : (s : List ℕ) (old new : Linked) (kept : Surroundings) (base : ℕ) (parts : List Part) (candidate : Option ℕ) (then : Surroundings) (packs : Option ℕ)
     → IsTable (over s old.nodes) → new.nodes ≡ old.nodes → AreCandidatesThere (length old.nodes.nodes) new.candidates.items
     → IsKeptThere (length old.nodes.nodes) then → AreThere s (length old.nodes.nodes) (drop base parts)
-    → with_candidate true (around_of (trees_in s old.nodes) kept) (trees_in s old.nodes) None
-    (with_candidate false (around_of (trees_in s old.nodes) kept) (trees_in s old.nodes) candidate (record { candidates = candidates_of (trees_in s old.nodes) old.candidates.items; packs = packs })) ≡ state_of s new
+    → with_candidate false (around_of (trees_in s old.nodes) kept) (trees_in s old.nodes) candidate (record { candidates = candidates_of (trees_in s old.nodes) old.candidates.items; packs = packs }) ≡ state_of s new
     → Takes s old new kept base parts parts (Step.Go candidate then packs) then
-unfolding goes_on with_candidate
+unfolding goes_on
 takes_go s old new kept base parts candidate then packs table same candidates around there is = record {
-  grows = grown s old.nodes new.nodes table same;
-  thunks = ap (λ y. y.thunks) same;
-  candidates = rw same candidates;
-  around = rw same around;
-  there = rw same there;
-  lower = refl;
-  count = refl;
-  is = same_going _ _ _ _ _ _ (ap (λ y. values_in s y (drop base parts)) (sym same)) (ap (λ y. around_of (trees_in s y) then) (sym same)) is;
-}
-
--- a base class becomes a candidate, and again as a mark
-pub takes_counted : (s : List ℕ) (old new : Linked) (kept : Surroundings) (base : ℕ) (parts : List Part) (class : ℕ) (then : Surroundings)
-    → IsTable (over s old.nodes) → new.nodes ≡ old.nodes → AreCandidatesThere (length old.nodes.nodes) new.candidates.items
-    → IsKeptThere (length old.nodes.nodes) then → AreThere s (length old.nodes.nodes) (drop base parts)
-    → with_candidate true (around_of (trees_in s old.nodes) kept) (trees_in s old.nodes) (Some class)
-    (with_candidate false (around_of (trees_in s old.nodes) kept) (trees_in s old.nodes) (Some class) (state_of s old)) ≡ state_of s new
-    → Takes s old new kept base parts parts (Step.Counted class then) then
-unfolding goes_on with_candidate with_base
-takes_counted s old new kept base parts class then table same candidates around there is = record {
   grows = grown s old.nodes new.nodes table same;
   thunks = ap (λ y. y.thunks) same;
   candidates = rw same candidates;
@@ -146,17 +122,17 @@ takes_named s l kept then base parts new_parts node listed is_name table candida
 }
 
 -- the first part is the tree of a node that has been made
-pub takes_made : (s : List ℕ) (old new : Linked) (kept then : Surroundings) (base : ℕ) (parts new_parts : List Part) (node : Node) (number : ℕ) (listed is_name is_candidate is_held : Bool) (packs : Option ℕ)
+pub takes_made : (s : List ℕ) (old new : Linked) (kept then : Surroundings) (base : ℕ) (parts new_parts : List Part) (node : Node) (number : ℕ) (listed is_name is_candidate : Bool) (packs : Option ℕ)
     → Grows s old.nodes new.nodes 1 → new.nodes.thunks ≡ old.nodes.thunks → AreCandidatesThere (length new.nodes.nodes) new.candidates.items
     → IsKeptThere (length old.nodes.nodes) kept → AreThere s (length old.nodes.nodes) (drop base parts)
     → tree_at (trees_in s new.nodes) number ≡ tree_of_node s old.nodes node → number < length new.nodes.nodes
     → around_of (trees_in s new.nodes) then ≡ named_if is_name (around_of (trees_in s new.nodes) kept) (tree_at (trees_in s new.nodes) number) listed → IsKeptThere (length new.nodes.nodes) then
     → drop base new_parts ≡ Part.Tree number listed ∷ drop (base + 1) parts → take base new_parts ≡ take base parts → length new_parts ≡ length parts
-    → appended_if true is_held (around_of (trees_in s old.nodes) kept) (tree_of_node s old.nodes node) (appended_if false is_candidate (around_of (trees_in s old.nodes) kept) (tree_of_node s old.nodes node)
-    (record { candidates = candidates_of (trees_in s old.nodes) old.candidates.items; packs = packs })) ≡ state_of s new
-    → Takes s old new kept base parts new_parts (Step.Made node listed is_name is_candidate is_held packs) then
+    → appended_if is_candidate (around_of (trees_in s old.nodes) kept) (tree_of_node s old.nodes node)
+    (record { candidates = candidates_of (trees_in s old.nodes) old.candidates.items; packs = packs }) ≡ state_of s new
+    → Takes s old new kept base parts new_parts (Step.Made node listed is_name is_candidate packs) then
 unfolding goes_on
-takes_made s old new kept then base parts new_parts node number listed is_name is_candidate is_held packs grows thunks candidates kept_there there tree less around around_there own lower count state = record {
+takes_made s old new kept then base parts new_parts node number listed is_name is_candidate packs grows thunks candidates kept_there there tree less around around_there own lower count state = record {
   grows = grows;
   thunks = thunks;
   candidates = candidates;
@@ -178,27 +154,25 @@ taken_as s old new kept base parts new_parts step taken then left same is takes 
 
 -- ## A node that may become a candidate
 
-choice : (h : Bool) (a : Around) (ts : List Term) (number : ℕ) (state : State) (b : Bool) → appended_if h b a (tree_at ts number) state ≡ with_candidate h a ts (elim b [ true ↦ Some number | false ↦ None ]) state
+choice : (a : Around) (ts : List Term) (number : ℕ) (state : State) (b : Bool) → appended_if b a (tree_at ts number) state ≡ with_candidate false a ts (elim b [ true ↦ Some number | false ↦ None ]) state
 unfolding appended_if with_candidate
-choice false a ts number state false = refl
-choice false a ts number state true = refl
-choice true a ts number state false = refl
-choice true a ts number state true = refl
+choice a ts number state false = refl
+choice a ts number state true = refl
 
-pub noted_is : (s : List ℕ) (y z : Stored) (kept : Surroundings) (cs : List Candidate) (number : ℕ) (t : Term) (is_candidate is_held : Bool) (candidate held packs : Option ℕ) (state : State)
+pub noted_is : (s : List ℕ) (y z : Stored) (kept : Surroundings) (cs : List Candidate) (number : ℕ) (t : Term) (is_candidate : Bool) (candidate : Option ℕ) (packs : Option ℕ) (state : State)
     → ((i : ℕ) → i < length y.nodes → tree_at (trees_in s z) i ≡ tree_at (trees_in s y) i)
     → IsKeptThere (length y.nodes) kept → AreCandidatesThere (length y.nodes) cs → tree_at (trees_in s z) number ≡ t
-    → candidate ≡ elim is_candidate [ true ↦ Some number | false ↦ None ] → held ≡ elim is_held [ true ↦ Some number | false ↦ None ]
-    → with_candidate true (around_of (trees_in s z) kept) (trees_in s z) held
-    (with_candidate false (around_of (trees_in s z) kept) (trees_in s z) candidate (record { candidates = candidates_of (trees_in s z) cs; packs = packs })) ≡ state
-    → appended_if true is_held (around_of (trees_in s y) kept) t (appended_if false is_candidate (around_of (trees_in s y) kept) t (record { candidates = candidates_of (trees_in s y) cs; packs = packs })) ≡ state
-noted_is s y z kept cs number t is_candidate is_held candidate held packs state stays there listed tree chosen marked is =
-    let a = around_of (trees_in s z) kept in
-    let ts = trees_in s z in
-    let before : State = record { candidates = candidates_of (trees_in s z) cs; packs = packs } in
-    rw (sym (around_stays s y z stays kept there), sym tree, sym (candidates_stay s y z stays cs listed))
-    (ap (λ x. appended_if true is_held a (tree_at ts number) x) (choice false a ts number before is_candidate) ∙ choice true a ts number _ is_held
-    ∙ both (λ c h. with_candidate true a ts h (with_candidate false a ts c before)) (sym chosen) (sym marked) ∙ is)
+    → candidate ≡ elim is_candidate [ true ↦ Some number | false ↦ None ]
+    → with_candidate false (around_of (trees_in s z) kept) (trees_in s z) candidate (record { candidates = candidates_of (trees_in s z) cs; packs = packs }) ≡ state
+    → appended_if is_candidate (around_of (trees_in s y) kept) t (record { candidates = candidates_of (trees_in s y) cs; packs = packs }) ≡ state
+noted_is s y z kept cs number t is_candidate candidate packs state stays there listed tree chosen is =
+    same is_candidate _ _ _ _ _ _ packs (sym (around_stays s y z stays kept there)) (sym tree) (sym (candidates_stay s y z stays cs listed))
+    ∙ choice (around_of (trees_in s z) kept) (trees_in s z) number (record { candidates = candidates_of (trees_in s z) cs; packs = packs }) is_candidate
+    ∙ ap (λ o. with_candidate false (around_of (trees_in s z) kept) (trees_in s z) o (record { candidates = candidates_of (trees_in s z) cs; packs = packs })) (sym chosen) ∙ is
+  where
+    same : (b : Bool) (a c : Around) (t u : Term) (cs ds : List values.Candidate) (packs : Option ℕ) → a ≡ c → t ≡ u → cs ≡ ds
+        → appended_if b a t (record { candidates = cs; packs = packs }) ≡ appended_if b c u (record { candidates = ds; packs = packs })
+    same b a c t u cs ds packs around tree candidates = rw (around, tree, candidates) refl
 
 -- ## How many nodes are made
 

@@ -1,5 +1,5 @@
 -- C++'s reading of the wide grammar as the linker follows it, and how many nodes are made of a symbol by it.
-use Rattle.std.specs.Prelude.{◌≡◌, ℕ, ◌+◌, List, [], ◌∷◌, slice_get, Option, Some, None, Bool, true, false, ◌&&◌, nat_eq, Result, Ok}
+use Rattle.std.specs.Prelude.{◌≡◌, ℕ, ◌+◌, List, [], ◌∷◌, slice_get, Option, Some, None, Bool, true, false, ◌&&◌, nat_eq, Result, Ok, Err}
 use Rattle.sym_core.specs.declared.refusal.Refusal.{Refusal}
 use Rattle.sym_core.specs.declared.NumberKind.TheVariants.{Seq36}
 use Rattle.sym_core.specs.Value.{counted_value}
@@ -13,9 +13,9 @@ use Rattle.cpp_grammar.specs.Rescoping.{generic_number}
 use Rattle.cpp_grammar.specs.Unfolding.{production_at, byte_of}
 use Rattle.cpp_term.specs.Term.{parameter}
 use Rattle.cpp_term.specs.Items.{auto}
-use Rattle.cpp_term.specs.Values.{Candidate, State, Around, Value, tree, text_of, part}
+use Rattle.cpp_term.specs.Values.{Candidate, State, Around, Value, tree, tree_of, prefix_tree, text_of, part}
 use Rattle.cpp_term.specs.Unfolding.{first_around, first_state}
-use Rattle.cpp_term.specs.Rescoping.{generic_so_far, is_foreign, as_generic_lambda, counted_base, close_wide, cpp_wide}
+use Rattle.cpp_term.specs.Rescoping.{generic_so_far, with_holder, is_foreign, as_generic_lambda, counted_base, close_wide, cpp_wide}
 use Rattle.cpp_term.specs.Between.{Going, next}
 use Rattle.cpp_link.specs.declared.linked.Linked.{Linked}
 use Rattle.cpp_link.specs.declared.rescoping.Rescoping.{Rescoping}
@@ -68,6 +68,17 @@ steps_apart Production.ParameterExpression in_lambda before = in_lambda && nat_e
 steps_apart Production.Holder in_lambda before = nat_eq before 1
 steps_apart Production.OwnArguments in_lambda before = nat_eq before 0
 steps_apart _ in_lambda before = false
+
+-- What is a mark among the candidates then, once the parts stand for these values: a name with its M, or a base class.
+unfoldable pub with_mark : Production → Around → List Value → State → State
+with_mark Production.Holder around vs state = with_holder around (tree_of (part vs 0)) state
+with_mark Production.OwnArguments around vs state = with_holder around (prefix_tree around.prefix) state
+with_mark _ around vs state = state
+
+-- what is done, and the mark
+unfoldable pub going_marked : Production → Around → Going → Going
+going_marked production around (Ok next) = Ok (record next { state = with_mark production around next.values next.state })
+going_marked production around (Err e) = Err e
 
 -- what the lambda's own parameter of this number comes to, which may be an argument itself
 unfoldable pub generic_read : (is_argument : Bool) → Around → ℕ → State → Going

@@ -97,8 +97,7 @@ AreCounted before (c ∷ cs) = (c.is_apart ≡ before) × AreCounted (before || 
 abbrev pub AreCandidatesThere : ℕ → List Candidate → Type 0
 AreCandidatesThere n cs = AreNodesThere n cs × AreCounted false cs
 
-abbrev pub IsStepThere : List ℕ → (thunks n : ℕ) → Step → Type 0
-IsStepThere s thunks n (Step.Go candidate then packs) = nodes.IsThereBelow n candidate × IsKeptThere n then
-IsStepThere s thunks n (Step.Counted base then) = (base < n) × IsKeptThere n then
-IsStepThere s thunks n (Step.Named node listed is_name) = node < n
-IsStepThere s thunks n (Step.Made node listed is_name is_candidate is_held packs) = IsBelow s thunks n node
+abbrev pub IsStepThere : List ℕ → (held n : ℕ) → Step → Type 0
+IsStepThere s held n (Step.Go candidate then packs) = nodes.IsThereBelow n candidate × IsKeptThere n then
+IsStepThere s held n (Step.Named node listed is_name) = node < n
+IsStepThere s held n (Step.Made node listed is_name is_candidate packs) = IsBelow s held n node

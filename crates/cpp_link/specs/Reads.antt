@@ -6,7 +6,7 @@ use Rattle.cpp_term.specs.Term.{Term, absent, nil}
 use Rattle.cpp_term.specs.Scope.{has_return_type}
 use Rattle.cpp_term.specs.Meaning.{is_void, is_nil, parameters}
 use Rattle.cpp_term.specs.References.{appended}
-use Rattle.cpp_term.specs.Rescoping.{with_holder, with_base}
+use Rattle.cpp_term.specs.Rescoping.{with_holder}
 use Rattle.cpp_term.specs.Values as values
 use Rattle.cpp_term.specs.Values.{State, Value, Around, tree_of, qualifiers_of, ref_of}
 use Rattle.cpp_tree.specs.Nodes.{Stored, tree_at, tree_if_there, IsThereBelow}
@@ -96,24 +96,19 @@ unfoldable pub named_if : Bool → Around → Term → (listed : Bool) → Aroun
 named_if false around t listed = around
 named_if true around t listed = after t listed around
 
-unfoldable pub appended_if : (is_held is_candidate : Bool) → Around → Term → State → State
-appended_if false false around t state = state
-appended_if false true around t state = appended around t state
-appended_if true false around t state = state
-appended_if true true around t state = with_holder around t state
+unfoldable pub appended_if : Bool → Around → Term → State → State
+appended_if false around t state = state
+appended_if true around t state = appended around t state
 
 -- what a step comes to, before a part that this surrounds, after these values
 unfoldable pub goes_on : List ℕ → Stored → Surroundings → List Value → List values.Candidate → Option ℕ → Step → Going
 goes_on s y kept vs cs before (Step.Go candidate then packs) =
     Ok (record { values = vs; context = around_of (trees_in s y) then; state = with_candidate false (around_of (trees_in s y) kept) (trees_in s y) candidate (record { candidates = cs; packs = packs }) })
-goes_on s y kept vs cs before (Step.Counted base then) =
-    Ok (record { values = vs; context = around_of (trees_in s y) then; state = with_base (around_of (trees_in s y) kept) (tree_at (trees_in s y) base) (record { candidates = cs; packs = before }) })
 goes_on s y kept vs cs before (Step.Named node listed is_name) =
     Ok (record { values = values.tree (tree_at (trees_in s y) node) listed ∷ behind_first vs; context = named_if is_name (around_of (trees_in s y) kept) (tree_at (trees_in s y) node) listed; state = record { candidates = cs; packs = before } })
-goes_on s y kept vs cs before (Step.Made node listed is_name is_candidate is_held packs) =
+goes_on s y kept vs cs before (Step.Made node listed is_name is_candidate packs) =
     Ok (record {
       values = values.tree (tree_of_node s y node) listed ∷ behind_first vs;
       context = named_if is_name (around_of (trees_in s y) kept) (tree_of_node s y node) listed;
-      state = appended_if true is_held (around_of (trees_in s y) kept) (tree_of_node s y node)
-          (appended_if false is_candidate (around_of (trees_in s y) kept) (tree_of_node s y node) (record { candidates = cs; packs = packs }));
+      state = appended_if is_candidate (around_of (trees_in s y) kept) (tree_of_node s y node) (record { candidates = cs; packs = packs });
     })

@@ -15,16 +15,15 @@ use Rattle.cpp_link.specs.Reads.{goes_on}
 
 -- how many nodes a step makes
 abbrev pub nodes_of_step : Step → ℕ
-nodes_of_step (Step.Made node listed is_name is_candidate is_held packs) = 1
+nodes_of_step (Step.Made node listed is_name is_candidate packs) = 1
 nodes_of_step _ = 0
 
 -- A step after so many parts of a production: one that makes another part of the first has a first part, and a node is one
 -- that the production makes there.
-abbrev pub IsStepOf : Production → (before : ℕ) → Step → Type 0
-IsStepOf production before (Step.Go candidate then packs) = Unit {0}
-IsStepOf production before (Step.Counted base then) = Unit {0}
-IsStepOf production before (Step.Named node listed is_name) = 0 < before
-IsStepOf production before (Step.Made node listed is_name is_candidate is_held packs) = (0 < before) × (get_or (made_before production) before 0 ≡ 1)
+abbrev pub IsStepOf : Production → (held : ℕ) → Step → Type 0
+IsStepOf production held (Step.Go candidate then packs) = Unit {0}
+IsStepOf production held (Step.Named node listed is_name) = 0 < held
+IsStepOf production held (Step.Made node listed is_name is_candidate packs) = (0 < held) × (get_or (made_before production) held 0 ≡ 1)
 
 -- a step after these parts adds at most so many nodes as the production may add less after those
 abbrev pub CountsStep : {A : Type 0} → Production → (old new : Linked) → (own new_own : List Part) → Result A Refusal → Type 0

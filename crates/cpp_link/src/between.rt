@@ -1,6 +1,6 @@
 // What is done before the next part of a rule.
 
-ghost use Rattle.std.specs.Prelude.{◌≡◌, ℕ, ◌+◌, ◌<◌, ◌≤◌, ◌∷◌, ◌++◌, [], List, length, take, drop, true, false, Option, Some, None, IfOk, IfErr, OnOk, vec_capacity, OnErr};
+ghost use Rattle.std.specs.Prelude.{◌≡◌, ℕ, ◌+◌, ◌<◌, ◌≤◌, ◌∷◌, ◌++◌, [], List, length, take, drop, true, false, Some, None, IfOk, IfErr, OnOk, vec_capacity, OnErr};
 ghost use Rattle.sym_core.specs.declared.refusal.Refusal.TheVariants as refusals;
 ghost use Rattle.sym_link.specs.Linking.{HasRoom, Adds, Pays, owed_behind, owed_next};
 ghost use Rattle.sym_link.specs.Threads.{IsOpenAt, GoesOn, AddsBefore};
@@ -61,66 +61,35 @@ pub(crate) fn quiet_parts(number: u16) -> usize
 }
 
 impl Linked {
-    /// A tree is there as a mark among the candidates, or none is.
-    ///
-    /// # Errors
-    ///
-    /// `Memory` where the candidates couldn't grow.
-    #[inline(never)]
-    fn hold(&mut self, symbol: &[u8], kept: Surroundings, held: Option<u32>) -> Result<(), Refusal>
-        requires held { IsThereBelow (length self.old.nodes.nodes) held }
-        requires there { AreCandidatesThere (length self.old.nodes.nodes) self.old.candidates.items }
-        ensures nodes { self.new.nodes ≡ self.old.nodes }
-        ensures packs { self.new.packs ≡ self.old.packs }
-        ensures there { OnOk result (AreCandidatesThere (length self.old.nodes.nodes) self.new.candidates.items) }
-        ensures is { OnOk result ((packs : Option ℕ) → with_candidate true (around_of (trees_in symbol.now self.old.nodes) kept) (trees_in symbol.now self.old.nodes) held
-            (record { candidates = candidates_of (trees_in symbol.now self.old.nodes) self.old.candidates.items; packs = packs })
-            ≡ record { candidates = candidates_of (trees_in symbol.now self.old.nodes) self.new.candidates.items; packs = packs }) }
-        ensures memory { IfErr result (λ e. e ≡ refusals.Memory) }
-        ensures keeps { KeepsRoom self.old self.new }
-        ensures full { OnErr result (LacksRoom self.old self.new) }
-    {
-        self.append(symbol, kept, held, true)
-    }
-
-    /// A tree becomes a candidate or none does, one is there as a mark or none is, and the packs have this length.
+    /// A tree becomes a candidate or none does, and the packs have this length.
     ///
     /// # Errors
     ///
     /// `Memory` where the candidates couldn't grow.
     #[inline(always)]
-    pub(crate) fn note(
+    fn note(
         &mut self,
         symbol: &[u8],
         kept: Surroundings,
         candidate: Option<u32>,
-        held: Option<u32>,
         packs: Option<u32>,
     ) -> Result<(), Refusal>
         requires candidate { IsThereBelow (length self.old.nodes.nodes) candidate }
-        requires held { IsThereBelow (length self.old.nodes.nodes) held }
         requires there { AreCandidatesThere (length self.old.nodes.nodes) self.old.candidates.items }
         ensures nodes { self.new.nodes ≡ self.old.nodes }
         ensures there { OnOk result (AreCandidatesThere (length self.old.nodes.nodes) self.new.candidates.items) }
-        ensures is { OnOk result (with_candidate true (around_of (trees_in symbol.now self.old.nodes) kept) (trees_in symbol.now self.old.nodes) held
-            (with_candidate false (around_of (trees_in symbol.now self.old.nodes) kept) (trees_in symbol.now self.old.nodes) candidate
-            (record { candidates = candidates_of (trees_in symbol.now self.old.nodes) self.old.candidates.items; packs = packs })) ≡ state_of symbol.now self.new) }
+        ensures is { OnOk result (with_candidate false (around_of (trees_in symbol.now self.old.nodes) kept) (trees_in symbol.now self.old.nodes) candidate
+            (record { candidates = candidates_of (trees_in symbol.now self.old.nodes) self.old.candidates.items; packs = packs }) ≡ state_of symbol.now self.new) }
         ensures memory { IfErr result (λ e. e ≡ refusals.Memory) }
         ensures keeps { KeepsRoom self.old self.new }
         ensures full { OnErr result (LacksRoom self.old self.new) }
     {
         self.append(symbol, kept, candidate, false)?;
         self.packs = packs;
-        match held {
-            None => Ok(()),
-            Some(_) => {
-                self.hold(symbol, kept, held)?;
-                Ok(())
-            }
-        }
+        Ok(())
     }
 
-    /// Adds a node, which may become a candidate or a mark among these. The packs have this length then. It answers the node's number.
+    /// Adds a node, which may become a candidate. The packs have this length then. It answers the node's number.
     ///
     /// # Errors
     ///
@@ -132,7 +101,6 @@ impl Linked {
         kept: Surroundings,
         node: Node,
         is_candidate: bool,
-        is_held: bool,
         packs: Option<u32>,
     ) -> Result<u32, Refusal>
         requires place { HasPlace symbol.now self.old.nodes 1 }
@@ -145,17 +113,14 @@ impl Linked {
         ensures tree { IfOk result (λ number. tree_at (trees_in symbol.now self.new.nodes) number ≡ tree_of_node symbol.now self.old.nodes node) }
         ensures below { IfOk result (λ number. number < length self.new.nodes.nodes) }
         ensures there { OnOk result (AreCandidatesThere (length self.new.nodes.nodes) self.new.candidates.items) }
-        ensures is { OnOk result (appended_if true is_held (around_of (trees_in symbol.now self.old.nodes) kept) (tree_of_node symbol.now self.old.nodes node)
-            (appended_if false is_candidate (around_of (trees_in symbol.now self.old.nodes) kept) (tree_of_node symbol.now self.old.nodes node)
-            (record { candidates = candidates_of (trees_in symbol.now self.old.nodes) self.old.candidates.items; packs = packs })) ≡ state_of symbol.now self.new) }
+        ensures is { OnOk result (appended_if is_candidate (around_of (trees_in symbol.now self.old.nodes) kept) (tree_of_node symbol.now self.old.nodes node)
+            (record { candidates = candidates_of (trees_in symbol.now self.old.nodes) self.old.candidates.items; packs = packs }) ≡ state_of symbol.now self.new) }
         ensures memory { IfErr result (λ e. e ≡ refusals.Memory) }
         ensures keeps { KeepsRoom self.old self.new }
         ensures full { OnErr result (LacksRoom self.old self.new) }
     {
         let number = self.add(symbol, node)?;
-        let candidate = candidate_if(is_candidate, number);
-        let held = candidate_if(is_held, number);
-        self.note(symbol, kept, candidate, held, packs)?;
+        self.note(symbol, kept, candidate_if(is_candidate, number), packs)?;
         Ok(number)
     }
 
@@ -210,11 +175,7 @@ impl Linked {
                 then,
                 packs,
             } => {
-                self.note(symbol, kept, candidate, None, packs)?;
-                Ok(then)
-            }
-            Step::Counted { base, then } => {
-                self.note(symbol, kept, Some(base), Some(base), self.packs)?;
+                self.note(symbol, kept, candidate, packs)?;
                 Ok(then)
             }
             Step::Named {
@@ -230,10 +191,9 @@ impl Linked {
                 listed,
                 is_name,
                 is_candidate,
-                is_held,
                 packs,
             } => {
-                let node = self.add_noted(symbol, kept, node, is_candidate, is_held, packs)?;
+                let node = self.add_noted(symbol, kept, node, is_candidate, packs)?;
                 put_first(parts, base, Part::Tree { node, listed });
                 Ok(self.behind_if(is_name, kept, node, listed))
             }

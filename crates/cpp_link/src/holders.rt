@@ -172,7 +172,8 @@ impl Linked {
     {
         let base = self.base_to_count(symbol, self.given(symbol, parts, 1));
         let made = self.make_rare(symbol, Production::Inheriting, place, kept, parts)?;
-        self.note(symbol, kept, base, base, self.packs)?;
+        self.append(symbol, kept, base, false)?;
+        self.append(symbol, kept, base, true)?;
         Ok(made)
     }
 

@@ -96,25 +96,18 @@ pub enum Step {
         then: Surroundings,
         packs: Option<u32>,
     },
-    /// A base class becomes a candidate, and again as a mark, and this surrounds the part.
-    Counted {
-        base: u32,
-        then: Surroundings,
-    },
     /// A node that is there is what the first part is now. It may come before the next part as the name so far.
     Named {
         node: u32,
         listed: bool,
         is_name: bool,
     },
-    /// A node is made, which the first part is now. It may come before the next part as the name so far, and become a candidate or a
-    /// mark among these.
+    /// A node is made, which the first part is now. It may come before the next part as the name so far, and become a candidate.
     Made {
         node: Node,
         listed: bool,
         is_name: bool,
         is_candidate: bool,
-        is_held: bool,
         packs: Option<u32>,
     },
 }

@@ -15,14 +15,14 @@ ghost use Rattle.cpp_grammar.specs.Rescoping.{generic_number};
 ghost use Rattle.cpp_grammar.specs.Unfolding.{production_at};
 ghost use Rattle.cpp_term.specs.Values as values;
 ghost use Rattle.cpp_term.specs.Rescoping.{is_foreign, restated, substituted_wide, as_generic_lambda, between_wide};
-ghost use Rattle.cpp_tree.specs.Nodes.{over, tree_at, bytes_at, piece_of, IsPieceBelow, IsWithin, IsTable};
+ghost use Rattle.cpp_tree.specs.Nodes.{over, tree_at, bytes_at, piece_of, IsThereBelow, IsPieceBelow, IsWithin, IsTable};
 ghost use Rattle.cpp_link.specs.Grows.{HasPlace};
-ghost use Rattle.cpp_link.specs.LinkRescoping.{is_parameter, is_parameter_argument, steps_apart, generic_read, named_by, substituted_nodes, wide_view};
+ghost use Rattle.cpp_link.specs.LinkRescoping.{is_parameter, is_parameter_argument, steps_apart, with_mark, going_marked, generic_read, named_by, substituted_nodes, wide_view};
 ghost use Rattle.cpp_link.specs.Making.{state_of};
 ghost use Rattle.cpp_link.specs.NodeCount.{makes_before, makes_at_end};
 ghost use Rattle.cpp_link.specs.Parts.{trees_in, value_in, values_in, is_lambda, around_of, candidate_of, IsClosed, IsThere, AreThere, IsKeptThere, IsStepThere};
 ghost use Rattle.cpp_link.specs.Progress.{Advances};
-ghost use Rattle.cpp_link.specs.Reads.{goes_on};
+ghost use Rattle.cpp_link.specs.Reads.{with_candidate, goes_on};
 ghost use Rattle.cpp_link.specs.Room.{KeepsRoom, LacksRoom, IsRoomy};
 ghost use Rattle.cpp_link.specs.Stepping.{IsStepOf, nodes_of_step};
 ghost use Rattle.cpp_link.specs.View as view;
@@ -106,7 +106,6 @@ impl Linked {
                 listed: true,
                 is_name: false,
                 is_candidate: false,
-                is_held: false,
                 packs: self.packs,
             };
         }
@@ -115,13 +114,12 @@ impl Linked {
             listed: true,
             is_name: true,
             is_candidate: true,
-            is_held: false,
             packs: self.packs,
         }
     }
 
-    /// What is done before the next part where the wide reading does something of its own: a parameter of a lambda is named, a name becomes
-    /// a candidate again with its `M`, or the base class of a constructor that is inherited is counted.
+    /// What is done before the next part where the wide reading does something of its own, but for the mark: a parameter of a lambda is
+    /// named, a name has its `M`, or the base class of a constructor that is inherited becomes a candidate.
     ///
     /// # Errors
     ///
@@ -139,7 +137,7 @@ impl Linked {
         requires there { AreThere symbol.now (length self.now.nodes.nodes) parts.now }
         requires apart { steps_apart production (is_lambda kept.scope) (length parts.now) ≡ true }
         ensures is { IfOk result (λ step. (cs : List values.Candidate) → between_wide production (around_of (trees_in symbol.now self.now.nodes) kept) place (values_in symbol.now self.now.nodes parts.now) (record { candidates = cs; packs = self.now.packs })
-            ≡ goes_on symbol.now self.now.nodes kept (values_in symbol.now self.now.nodes parts.now) cs self.now.packs step) }
+            ≡ going_marked production (around_of (trees_in symbol.now self.now.nodes) kept) (goes_on symbol.now self.now.nodes kept (values_in symbol.now self.now.nodes parts.now) cs self.now.packs step)) }
         ensures refused { IfErr result (λ e. (cs : List values.Candidate) → Fails e (between_wide production (around_of (trees_in symbol.now self.now.nodes) kept) place (values_in symbol.now self.now.nodes parts.now) (record { candidates = cs; packs = self.now.packs }))) }
         ensures there { IfOk result (λ step. IsStepThere symbol.now (length self.now.nodes.thunks) (length self.now.nodes.nodes) step) }
         ensures of { IfOk result (λ step. IsStepOf production (length parts.now) step) }
@@ -152,20 +150,14 @@ impl Linked {
                 if self.is_instance(symbol, name) {
                     return Err(Refusal::BadReference { at: place });
                 }
-                Ok(Step::Made {
-                    node: Node::Holder(name),
-                    listed: true,
-                    is_name: true,
-                    is_candidate: false,
-                    is_held: true,
-                    packs: self.packs,
-                })
+                Ok(self.listed_name(Node::Holder(name)))
             }
             Production::OwnArguments => {
                 let base = self.prefix_node(symbol, kept);
-                Ok(Step::Counted {
-                    base,
+                Ok(Step::Go {
+                    candidate: Some(base),
                     then: self.inside(kept),
+                    packs: self.packs,
                 })
             }
             _ => {
@@ -173,6 +165,28 @@ impl Linked {
                 let is_argument = is_parameter_argument(production);
                 Ok(self.generic(symbol, kept, digits, is_argument))
             }
+        }
+    }
+
+    /// The tree that is marked among the candidates before the next part, after these parts: a name with its `M`, or a base class.
+    fn marked(
+        &self,
+        symbol: &[u8],
+        production: Production,
+        kept: Surroundings,
+        parts: &[Part],
+    ) -> Option<u32>
+        requires table { IsTable (over symbol.now self.now.nodes) }
+        requires kept { IsKeptThere (length self.now.nodes.nodes) kept }
+        requires there { AreThere symbol.now (length self.now.nodes.nodes) parts.now }
+        ensures is { (state : values.State) → with_candidate true (around_of (trees_in symbol.now self.now.nodes) kept) (trees_in symbol.now self.now.nodes) result state
+            ≡ with_mark production (around_of (trees_in symbol.now self.now.nodes) kept) (values_in symbol.now self.now.nodes parts.now) state }
+        ensures there { IsThereBelow (length self.now.nodes.nodes) result }
+    {
+        match production {
+            Production::Holder => Some(self.node(symbol, self.given(symbol, parts, 0))),
+            Production::OwnArguments => Some(self.prefix_node(symbol, kept)),
+            _ => None,
         }
     }
 
@@ -199,6 +213,8 @@ impl Linked {
         let production = production_of(frame.rule);
         let step = self.step_apart(symbol, production, frame.place, frame.kept, own)?;
         let then = self.take_step(symbol, frame.kept, frame.base, step, parts)?;
+        let mark = self.marked(symbol, production, frame.kept, &parts[frame.base..]);
+        self.append(symbol, frame.kept, mark, true)?;
         Ok(then)
     }
 

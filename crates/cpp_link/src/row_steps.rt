@@ -384,7 +384,6 @@ impl Linked {
                 listed: true,
                 is_name: false,
                 is_candidate: true,
-                is_held: false,
                 packs: self.packs,
             },
             Production::RvalueItem => Step::Made {
@@ -392,7 +391,6 @@ impl Linked {
                 listed: true,
                 is_name: false,
                 is_candidate: true,
-                is_held: false,
                 packs: self.packs,
             },
             Production::Constraint => self.go(self.in_signature(kept)),
@@ -461,7 +459,6 @@ impl Linked {
                 listed: true,
                 is_name: true,
                 is_candidate: true,
-                is_held: false,
                 packs: self.packs,
             },
             Production::Lambda => self.go(self.in_signature(kept)),

@@ -59,14 +59,13 @@ impl Linked {
     /// A name is made of this node.
     #[inline(always)]
     pub(crate) fn named(&self, node: Node) -> Step
-        ensures { result ≡ Step.Made node false true false false self.now.packs }
+        ensures { result ≡ Step.Made node false true false self.now.packs }
     {
         Step::Made {
             node,
             listed: false,
             is_name: true,
             is_candidate: false,
-            is_held: false,
             packs: self.packs,
         }
     }
@@ -74,14 +73,13 @@ impl Linked {
     /// A name is made of this node, which is no candidate.
     #[inline(always)]
     pub(crate) fn listed_name(&self, node: Node) -> Step
-        ensures { result ≡ Step.Made node true true false false self.now.packs }
+        ensures { result ≡ Step.Made node true true false self.now.packs }
     {
         Step::Made {
             node,
             listed: true,
             is_name: true,
             is_candidate: false,
-            is_held: false,
             packs: self.packs,
         }
     }
@@ -201,7 +199,6 @@ impl Linked {
                 listed: true,
                 is_name: false,
                 is_candidate: false,
-                is_held: false,
                 packs: self.packs,
             },
         }

@@ -1,4 +1,4 @@
-use Rattle.std.proofs.Common.{sym, ◌∙◌, ap, true, false}
+use Rattle.std.proofs.Common.{sym, ◌∙◌, ap}
 use Rattle.cpp_link.specs.Making.{state_of}
 use Rattle.cpp_link.specs.Parts.{trees_in, around_of, candidates_of}
 use Rattle.cpp_link.specs.Reads.{with_candidate}
@@ -12,8 +12,6 @@ note-requires-clause-there c = rw c.add.ensures.candidates (candidates_more _ _ 
 pub returns-clause-is : goal.returns-clause-is
 returns-clause-is c =
     let ts = trees_in c.args.symbol.now c.add.new.self.nodes in
-    noted_is c.args.symbol.now c.args.self.now.nodes c.add.new.self.nodes c.args.kept c.args.self.now.candidates.items c.in_ok-number.number _ c.args.is_candidate c.args.is_held
-    c.candidate_if-candidate.result c.candidate_if-held.result c.args.packs (state_of c.args.symbol.now c.note.new.self) c.add.ensures.grows.stays c.requires.kept c.requires.there
-    c.in_ok-number.ensures.tree c.candidate_if-candidate.ensures c.candidate_if-held.ensures
-    (ap (λ v. with_candidate true (around_of ts c.args.kept) ts c.candidate_if-held.result
-    (with_candidate false (around_of ts c.args.kept) ts c.candidate_if-candidate.result (record { candidates = candidates_of ts v.items; packs = c.args.packs }))) (sym c.add.ensures.candidates) ∙ c.in_ok-note.ensures.is)
+    noted_is c.args.symbol.now c.args.self.now.nodes c.add.new.self.nodes c.args.kept c.args.self.now.candidates.items c.in_ok-number.number _ c.args.is_candidate c.candidate_if.result c.args.packs
+    (state_of c.args.symbol.now c.note.new.self) c.add.ensures.grows.stays c.requires.kept c.requires.there c.in_ok-number.ensures.tree c.candidate_if.ensures
+    (ap (λ v. with_candidate false (around_of ts c.args.kept) ts c.candidate_if.result (record { candidates = candidates_of ts v.items; packs = c.args.packs })) (sym c.add.ensures.candidates) ∙ c.in_ok-note.ensures.is)

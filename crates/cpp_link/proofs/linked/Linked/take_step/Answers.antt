@@ -4,7 +4,7 @@ use Rattle.cpp_link.specs.Parts.{IsStepThere}
 use Rattle.cpp_link.specs.declared.part.Step.{Step}
 use Rattle.cpp_link.specs.declared.part.Part.{Part}
 use Rattle.cpp_link.specs.Stepping.{IsStepOf, nodes_of_step}
-use Rattle.cpp_link.proofs.Stepping.{takes_go, takes_counted, takes_named, takes_made, taken_as, go_counts, named_counts, made_counts, made_refused}
+use Rattle.cpp_link.proofs.Stepping.{takes_go, takes_named, takes_made, taken_as, go_counts, named_counts, made_counts, made_refused}
 use Rattle.cpp_link.proofs.linked.Linked.take_step.Goals as goal
 
 pub behind_if-requires-clause-node : goal.behind_if-requires-clause-node
@@ -19,14 +19,6 @@ returns-in_ok-note-in-Go-clause-takes c =
     (takes_go c.args.symbol.now c.args.self.now c.note.new.self c.args.kept c.args.base c.args.parts.now.items c.in-Go.candidate c.in-Go.then c.in-Go.packs
     c.requires.place.table c.note.ensures.nodes c.in_ok-note-in-Go.ensures.there there.1 c.requires.parts c.in_ok-note-in-Go.ensures.is)
 
-pub returns-in_ok-note-in-Counted-clause-takes : goal.returns-in_ok-note-in-Counted-clause-takes
-returns-in_ok-note-in-Counted-clause-takes c =
-    let there = subst (λ step. IsStepThere c.args.symbol.now (length c.args.self.now.nodes.thunks) (length c.args.self.now.nodes.nodes) step) c.in-Counted.is c.requires.step in
-    taken_as c.args.symbol.now c.args.self.now c.note-in-Counted.new.self c.args.kept c.args.base c.args.parts.now.items c.args.parts.now.items
-    (Step.Counted c.in-Counted.base c.in-Counted.then) c.args.step c.in-Counted.then c.in-Counted.then c.in-Counted.is refl
-    (takes_counted c.args.symbol.now c.args.self.now c.note-in-Counted.new.self c.args.kept c.args.base c.args.parts.now.items c.in-Counted.base c.in-Counted.then
-    c.requires.place.table c.note-in-Counted.ensures.nodes c.in_ok-note-in-Counted.ensures.there there.1 c.requires.parts c.in_ok-note-in-Counted.ensures.is)
-
 pub returns-in-Named-clause-takes : goal.returns-in-Named-clause-takes
 returns-in-Named-clause-takes c =
     let there = subst (λ step. IsStepThere c.args.symbol.now (length c.args.self.now.nodes.thunks) (length c.args.self.now.nodes.nodes) step) c.in-Named.is c.requires.step in
@@ -38,19 +30,16 @@ returns-in-Named-clause-takes c =
 pub returns-in_ok-node-in-Made-clause-takes : goal.returns-in_ok-node-in-Made-clause-takes
 returns-in_ok-node-in-Made-clause-takes c =
     taken_as c.args.symbol.now c.args.self.now c.add_noted.new.self c.args.kept c.args.base c.args.parts.now.items c.put_first-in-Made.new.parts.items
-    (Step.Made c.in-Made.node c.in-Made.listed c.in-Made.is_name c.in-Made.is_candidate c.in-Made.is_held c.in-Made.packs) c.args.step
+    (Step.Made c.in-Made.node c.in-Made.listed c.in-Made.is_name c.in-Made.is_candidate c.in-Made.packs) c.args.step
     c.behind_if-in-Made.result c.behind_if-in-Made.result c.in-Made.is refl
     (takes_made c.args.symbol.now c.args.self.now c.add_noted.new.self c.args.kept c.behind_if-in-Made.result c.args.base c.args.parts.now.items c.put_first-in-Made.new.parts.items
-    c.in-Made.node c.in_ok-node-in-Made.node c.in-Made.listed c.in-Made.is_name c.in-Made.is_candidate c.in-Made.is_held c.in-Made.packs
+    c.in-Made.node c.in_ok-node-in-Made.node c.in-Made.listed c.in-Made.is_name c.in-Made.is_candidate c.in-Made.packs
     c.add_noted.ensures.grows c.add_noted.ensures.thunks c.in_ok-node-in-Made.ensures.there c.requires.kept c.requires.parts c.in_ok-node-in-Made.ensures.tree c.in_ok-node-in-Made.ensures.below
     (c.behind_if-in-Made.ensures.around _) c.behind_if-in-Made.ensures.there
     c.put_first-in-Made.ensures.own c.put_first-in-Made.ensures.lower c.put_first-in-Made.ensures.count c.in_ok-node-in-Made.ensures.is)
 
 pub returns-in_ok-note-in-Go-clause-few : goal.returns-in_ok-note-in-Go-clause-few
 returns-in_ok-note-in-Go-clause-few c production of pack = go_counts production c.args.self.now c.note.new.self (drop c.args.base c.args.parts.now.items) c.note.ensures.nodes
-
-pub returns-in_ok-note-in-Counted-clause-few : goal.returns-in_ok-note-in-Counted-clause-few
-returns-in_ok-note-in-Counted-clause-few c production of pack = go_counts production c.args.self.now c.note-in-Counted.new.self (drop c.args.base c.args.parts.now.items) c.note-in-Counted.ensures.nodes
 
 pub returns-in-Named-clause-few : goal.returns-in-Named-clause-few
 returns-in-Named-clause-few c production of pack =
