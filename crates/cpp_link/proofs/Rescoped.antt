@@ -129,6 +129,7 @@ pub wide_goes_right : (s : List ℕ) (old mid : Linked) (more : Vec Candidate Gl
     → with_mark production (around_of (trees_in s old.nodes) frame.kept) (values_in s mid.nodes (drop frame.base new_parts)) (state_of s mid)
     ≡ record { candidates = candidates_of (trees_in s mid.nodes) more.items; packs = mid.packs }
     → GoesOn (wide_view s) s (Surrounds s) old (record mid { candidates = more }) frame parts new_parts (Ok then)
+unfolding going_marked
 wide_goes_right s old mid more frame parts new_parts own production step then same numbered step_is takes there marked rule known state is = (
   going (record { candidates = candidates_of (trees_in s mid.nodes) more.items; packs = mid.packs }),
   wide_read_is s old frame (drop frame.base parts) rule known state (at_plain s old frame (drop frame.base parts) rule known state is) ∙ reads own production same numbered step_is marked,
@@ -154,7 +155,6 @@ wide_goes_right s old mid more frame parts new_parts own production step then sa
         ≡ record { candidates = candidates_of (trees_in s mid.nodes) more.items; packs = mid.packs }
         → between_wide (production_at frame.rule) (around_of (trees_in s old.nodes) frame.kept) frame.place (values_in s old.nodes (drop frame.base parts)) (state_of s old)
         ≡ Ok (going (record { candidates = candidates_of (trees_in s mid.nodes) more.items; packs = mid.packs }))
-    unfolding going_marked
     reads own production same numbered step_is marked = rw (← same, ← numbered)
         (step_is (state_of s old).candidates ∙ ap (λ ps. going_marked production (around_of (trees_in s old.nodes) frame.kept) (goes_on s old.nodes frame.kept (values_in s old.nodes ps) (state_of s old).candidates old.packs step)) same
         ∙ ap (λ g. going_marked production (around_of (trees_in s old.nodes) frame.kept) g) takes.is ∙ ap (λ x. Ok (going x)) marked)
