@@ -1,32 +1,32 @@
-use Rattle.std.proofs.Common.{◌≡◌, refl, sym, ◌∙◌, inl, ap, subst, arith, ◌-◌, List, [], ◌∷◌, length, take, drop}
-use Rattle.std.proofs.lemmas.Result.{err_from_is_err_and}
+use Rattle.std.proofs.Common.{◌≡◌, refl, ◌∙◌, ap, arith, ◌-◌, List, length, take, drop}
 use Rattle.sym_link.proofs.Lists.{rest_all}
-use Rattle.cpp_grammar.specs.declared.production.Production.{Production}
 use Rattle.cpp_grammar.specs.Unfolding.{production_at}
 use Rattle.cpp_link.specs.declared.part.Part.{Part}
+use Rattle.cpp_link.specs.LinkRescoping.{wide_view}
 use Rattle.cpp_link.specs.Parts.{is_lambda}
-use Rattle.cpp_link.specs.Stepping.{IsStepOf, nodes_of_step}
+use Rattle.cpp_link.specs.Stepping.{nodes_of_step}
 use Rattle.cpp_link.proofs.NodeCount.{made_before_part}
-use Rattle.cpp_link.proofs.GoingOn.{adds_right, steps_few, refused_few}
+use Rattle.cpp_link.proofs.GoingOn.{refused_few, step_of_rule, refused_advances, lacking_advances, taken_advances}
 use Rattle.cpp_link.proofs.Rescoped.{wide_goes_right, wide_refused_right, no_pack}
-use Rattle.cpp_link.proofs.Rooms.{same_room, roomy_ok, roomy_refused}
+use Rattle.cpp_link.proofs.Rooms.{same_room}
 use Rattle.cpp_link.proofs.Viewing.{open_there}
 use Rattle.cpp_link.proofs.linked.Linked.before_apart.Goals as goal
 
 pub step_apart-requires-clause-there : goal.step_apart-requires-clause-there
 step_apart-requires-clause-there c =
-    let own : List Part = take (length c.deref.result.now - c.args.frame.now.base) (drop c.args.frame.now.base c.deref.result.now) in
-    let same : own ≡ drop c.args.frame.now.base c.args.parts.now.items = rest_all c.deref.result.now c.args.frame.now.base ∙ ap (λ ps. drop c.args.frame.now.base ps) c.deref.ensures.value in
-    open_there c.args.symbol.now c.args.self.now c.args.frame.now c.args.parts.now.items own c.requires.open same
+    open_there c.args.symbol.now c.args.self.now c.args.frame.now c.args.parts.now.items _ c.requires.open (rw c.deref.ensures.value (rest_all c.args.parts.now.items c.args.frame.now.base))
 
-pub returns-in_err-step-clause-goes : goal.returns-in_err-step-clause-goes
-returns-in_err-step-clause-goes c rule known state is =
-    let p = err_from_is_err_and c.from_residual.result c.from_residual.ensures.1 in
-    let own : List Part = take (length c.deref.result.now - c.args.frame.now.base) (drop c.args.frame.now.base c.deref.result.now) in
-    let same : own ≡ drop c.args.frame.now.base c.args.parts.now.items = rest_all c.deref.result.now c.args.frame.now.base ∙ ap (λ ps. drop c.args.frame.now.base ps) c.deref.ensures.value in
-    rw (p.1, p.2)
-    (wide_refused_right c.args.symbol.now c.args.self.now c.args.self.now c.args.frame.now c.args.parts.now.items c.args.parts.now.items own c.production_of-production.result c.in_err-step.field-0.0
-    same c.production_of-production.ensures c.in_err-step.ensures.refused rule known state is)
+pub returns-in_err-step : goal.returns-in_err-step
+returns-in_err-step c =
+    let s = c.args.symbol.now in
+    let old = c.args.self.now in
+    let frame = c.args.frame.now in
+    let parts = c.args.parts.now.items in
+    let e = c.in_err-step.field-0.0 in
+    let had = refused_advances (wide_view s) s old old frame c.args.parts.now c.args.parts.now (same_room old old refl refl) (omega arith) c.from_residual.result e c.from_residual.ensures.1
+    (wide_refused_right s old old frame parts parts _ c.production_of-production.result e (rw c.deref.ensures.value (rest_all parts frame.base)) c.production_of-production.ensures c.in_err-step.ensures.refused)
+    (omega arith) (λ memory. absurd (c.in_err-step.ensures.bad memory)) in
+    record { goes = had.goes; adds = had.adds; few = had.few; makes = had.makes; pays = had.pays; count = had.count; roomy = had.roomy }
 
 pub take_step-requires-clause-there : goal.take_step-requires-clause-there
 take_step-requires-clause-there c = c.requires.open.at.holds.there
@@ -36,76 +36,41 @@ take_step-requires-clause-kept c = c.requires.open.at.kept.surrounds.there
 
 pub take_step-requires-clause-of : goal.take_step-requires-clause-of
 take_step-requires-clause-of c =
-    let own : List Part = take (length c.deref.result.now - c.args.frame.now.base) (drop c.args.frame.now.base c.deref.result.now) in
-    let same : own ≡ drop c.args.frame.now.base c.args.parts.now.items = rest_all c.deref.result.now c.args.frame.now.base ∙ ap (λ ps. drop c.args.frame.now.base ps) c.deref.ensures.value in
-    (c.production_of-production.result, subst (λ ps. IsStepOf c.production_of-production.result (length ps) c.in_ok-step.step) same c.in_ok-step.ensures.of)
+    let frame = c.args.frame.now in
+    (production_at frame.rule, step_of_rule frame c.args.parts.now.items c.deref.result.now c.production_of-production.result c.in_ok-step.step c.deref.ensures.value c.production_of-production.ensures c.in_ok-step.ensures.of)
 
 pub take_step-requires-clause-parts : goal.take_step-requires-clause-parts
 take_step-requires-clause-parts c = open_there c.args.symbol.now c.args.self.now c.args.frame.now c.args.parts.now.items (drop c.args.frame.now.base c.args.parts.now.items) c.requires.open refl
 
-pub returns-clause-goes : goal.returns-clause-goes
-returns-clause-goes c rule known state is =
-    let own : List Part = take (length c.deref.result.now - c.args.frame.now.base) (drop c.args.frame.now.base c.deref.result.now) in
-    let same : own ≡ drop c.args.frame.now.base c.args.parts.now.items = rest_all c.deref.result.now c.args.frame.now.base ∙ ap (λ ps. drop c.args.frame.now.base ps) c.deref.ensures.value in
-    wide_goes_right c.args.symbol.now c.args.self.now c.take_step.new.self c.args.frame.now c.args.parts.now.items c.take_step.new.parts.items own c.production_of-production.result c.in_ok-step.step c.in_ok-then.then
-    same c.production_of-production.ensures c.in_ok-step.ensures.is c.in_ok-then.ensures.takes rule known state is
+pub returns-in_err-then : goal.returns-in_err-then
+returns-in_err-then c =
+    let s = c.args.symbol.now in
+    let old = c.args.self.now in
+    let new = c.take_step.new.self in
+    let frame = c.args.frame.now in
+    let parts = c.args.parts.now.items in
+    let of = step_of_rule frame parts c.deref.result.now c.production_of-production.result c.in_ok-step.step c.deref.ensures.value c.production_of-production.ensures c.in_ok-step.ensures.of in
+    let had = lacking_advances (wide_view s) s old new frame c.args.parts.now c.take_step.new.parts c.take_step.ensures.keeps c.take_step.ensures.capacity c.from_residual-in_err-then.result _ c.from_residual-in_err-then.ensures.1
+    c.in_err-then.ensures.memory
+    (refused_few s old new frame parts c.requires.room.paid (c.in_err-then.ensures.few (production_at frame.rule) of
+    (λ is none. absurd (no_pack (production_at frame.rule) (is_lambda frame.kept.scope) (length parts - frame.base) c.requires.apart is))))
+    c.in_err-then.ensures.full in
+    record { goes = had.goes; adds = had.adds; few = had.few; makes = had.makes; pays = had.pays; count = had.count; roomy = had.roomy }
 
-pub returns-clause-adds : goal.returns-clause-adds
-returns-clause-adds c =
-    let own : List Part = take (length c.deref.result.now - c.args.frame.now.base) (drop c.args.frame.now.base c.deref.result.now) in
-    let same : own ≡ drop c.args.frame.now.base c.args.parts.now.items = rest_all c.deref.result.now c.args.frame.now.base ∙ ap (λ ps. drop c.args.frame.now.base ps) c.deref.ensures.value in
-    adds_right c.args.symbol.now c.args.self.now c.take_step.new.self c.args.frame.now c.args.parts.now.items c.take_step.new.parts.items own c.production_of-production.result c.in_ok-step.step c.in_ok-then.then
-    same c.production_of-production.ensures c.requires.room.paid c.in_ok-step.ensures.of c.in_ok-then.ensures.takes
-
-pub returns-in_err-step-clause-few : goal.returns-in_err-step-clause-few
-returns-in_err-step-clause-few c =
-    let p = err_from_is_err_and c.from_residual.result c.from_residual.ensures.1 in
-    rw p.1 (omega arith)
-
-pub returns-in_err-then-clause-few : goal.returns-in_err-then-clause-few
-returns-in_err-then-clause-few c =
-    let p = err_from_is_err_and c.from_residual-in_err-then.result c.from_residual-in_err-then.ensures.1 in
-    let own : List Part = take (length c.deref.result.now - c.args.frame.now.base) (drop c.args.frame.now.base c.deref.result.now) in
-    let same : own ≡ drop c.args.frame.now.base c.args.parts.now.items = rest_all c.deref.result.now c.args.frame.now.base ∙ ap (λ ps. drop c.args.frame.now.base ps) c.deref.ensures.value in
+pub returns : goal.returns
+returns c =
+    let s = c.args.symbol.now in
+    let old = c.args.self.now in
+    let new = c.take_step.new.self in
+    let frame = c.args.frame.now in
+    let parts = c.args.parts.now.items in
+    let own : List Part = take (length c.deref.result.now - frame.base) (drop frame.base c.deref.result.now) in
+    let same : own ≡ drop frame.base parts = rest_all c.deref.result.now frame.base ∙ ap (λ ps. drop frame.base ps) c.deref.ensures.value in
     let numbered = c.production_of-production.ensures in
-    let of : IsStepOf (production_at c.args.frame.now.rule) (length (drop c.args.frame.now.base c.args.parts.now.items)) c.in_ok-step.step =
-    subst (λ p. IsStepOf p (length (drop c.args.frame.now.base c.args.parts.now.items)) c.in_ok-step.step) numbered (subst (λ ps. IsStepOf c.production_of-production.result (length ps) c.in_ok-step.step) same c.in_ok-step.ensures.of) in
-    let pack : production_at c.args.frame.now.rule ≡ Production.PackArgument → drop c.args.frame.now.base c.args.parts.now.items ≡ Part.Nothing ∷ [] → nodes_of_step c.in_ok-step.step ≡ 0 =
-    λ is none. absurd (no_pack (production_at c.args.frame.now.rule) (is_lambda c.args.frame.now.kept.scope) (length c.args.parts.now.items - c.args.frame.now.base) c.requires.apart is) in
-    rw p.1 (refused_few c.args.symbol.now c.args.self.now c.take_step.new.self c.args.frame.now c.args.parts.now.items c.requires.room.paid (c.in_err-then.ensures.few (production_at c.args.frame.now.rule) of pack))
-
-pub returns-clause-few : goal.returns-clause-few
-returns-clause-few c =
-    let own : List Part = take (length c.deref.result.now - c.args.frame.now.base) (drop c.args.frame.now.base c.deref.result.now) in
-    let same : own ≡ drop c.args.frame.now.base c.args.parts.now.items = rest_all c.deref.result.now c.args.frame.now.base ∙ ap (λ ps. drop c.args.frame.now.base ps) c.deref.ensures.value in
-    let numbered = c.production_of-production.ensures in
-    let of : IsStepOf (production_at c.args.frame.now.rule) (length (drop c.args.frame.now.base c.args.parts.now.items)) c.in_ok-step.step =
-    subst (λ p. IsStepOf p (length (drop c.args.frame.now.base c.args.parts.now.items)) c.in_ok-step.step) numbered (subst (λ ps. IsStepOf c.production_of-production.result (length ps) c.in_ok-step.step) same c.in_ok-step.ensures.of) in
-    let pack : production_at c.args.frame.now.rule ≡ Production.PackArgument → drop c.args.frame.now.base c.args.parts.now.items ≡ Part.Nothing ∷ [] → nodes_of_step c.in_ok-step.step ≡ 0 =
-    λ is none. absurd (no_pack (production_at c.args.frame.now.rule) (is_lambda c.args.frame.now.kept.scope) (length c.args.parts.now.items - c.args.frame.now.base) c.requires.apart is) in
-    steps_few c.args.symbol.now c.args.self.now c.take_step.new.self c.args.frame.now c.args.parts.now.items c.take_step.new.parts.items c.in_ok-then.then c.requires.room.paid
-    c.in_ok-then.ensures.takes.grows.least (c.in_ok-then.ensures.few (production_at c.args.frame.now.rule) of pack)
-
-pub returns-clause-makes : goal.returns-clause-makes
-returns-clause-makes c =
-    let own : List Part = take (length c.deref.result.now - c.args.frame.now.base) (drop c.args.frame.now.base c.deref.result.now) in
-    let same : own ≡ drop c.args.frame.now.base c.args.parts.now.items = rest_all c.deref.result.now c.args.frame.now.base ∙ ap (λ ps. drop c.args.frame.now.base ps) c.deref.ensures.value in
-    omega (
-      arith,
-      c.in_ok-then.ensures.more,
-      made_before_part c.args.symbol.now c.args.self.now c.args.frame.now c.args.parts.now.items own c.production_of-production.result (nodes_of_step c.in_ok-step.step)
-          same c.production_of-production.ensures c.in_ok-step.ensures.makes,
-    )
-
-pub returns-in_err-step-clause-roomy : goal.returns-in_err-step-clause-roomy
-returns-in_err-step-clause-roomy c =
-    let p = err_from_is_err_and c.from_residual.result c.from_residual.ensures.1 in
-    roomy_refused _ _ _ _ _ p.0 p.1 (same_room c.args.self.now c.args.self.now refl refl) (omega arith) (λ memory. absurd (c.in_err-step.ensures.bad (sym p.2 ∙ memory)))
-
-pub returns-in_err-then-clause-roomy : goal.returns-in_err-then-clause-roomy
-returns-in_err-then-clause-roomy c =
-    let p = err_from_is_err_and c.from_residual-in_err-then.result c.from_residual-in_err-then.ensures.1 in
-    roomy_refused _ _ _ _ _ p.0 p.1 c.take_step.ensures.keeps c.take_step.ensures.capacity (λ memory. inl c.in_err-then.ensures.full)
-
-pub returns-clause-roomy : goal.returns-clause-roomy
-returns-clause-roomy c = roomy_ok _ _ _ _ _ _ refl c.take_step.ensures.keeps c.take_step.ensures.capacity
+    let of = step_of_rule frame parts c.deref.result.now c.production_of-production.result c.in_ok-step.step c.deref.ensures.value numbered c.in_ok-step.ensures.of in
+    let had = taken_advances (wide_view s) s old new frame c.args.parts.now c.take_step.new.parts c.take_step.ensures.keeps c.take_step.ensures.capacity c.in_ok-step.step c.in_ok-then.then of c.requires.room.paid c.in_ok-then.ensures.takes
+    (c.in_ok-then.ensures.few (production_at frame.rule) of
+    (λ is none. absurd (no_pack (production_at frame.rule) (is_lambda frame.kept.scope) (length parts - frame.base) c.requires.apart is))) c.in_ok-then.ensures.more
+    (made_before_part s old frame parts own c.production_of-production.result (nodes_of_step c.in_ok-step.step) same numbered c.in_ok-step.ensures.makes)
+    (wide_goes_right s old new frame parts c.take_step.new.parts.items own c.production_of-production.result c.in_ok-step.step c.in_ok-then.then same numbered c.in_ok-step.ensures.is c.in_ok-then.ensures.takes) in
+    record { goes = had.goes; adds = had.adds; few = had.few; makes = had.makes; pays = had.pays; count = had.count; roomy = had.roomy }
