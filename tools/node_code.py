@@ -128,15 +128,14 @@ SEEN = {
     "Local": "view_of_local(symbol, nodes, encoding, entity, discriminator)", "Alone": "view_of_name(symbol, nodes, ALONE, None, piece)",
     "InStd": "view_of_name(symbol, nodes, IN_STD, None, piece)", "Within": "view_of_name(symbol, nodes, NESTED, Some(prefix), piece)",
     "Parameter": "leaf(PARAMETER, number as u64)", "BuiltinWithD": "leaf(BUILTIN_WITH_D, letter as u64)",
-    # no node here: the tree that is there again is shown in its place
-    "Reargued": "leaf(ABSENT, 0)",
 }
 NUMBERS = {NUMBER: "{0} as u64", TRUTH: "bit({0}) as u64", QUALIFIERS: "{0}.number() as u64", MARK: "{0}.number() as u64", SIGNED: "bit({0}.negative) as u64"}
 TEXTS = {BYTES: "{0}", SIGNED: "{0}.digits"}
 
-def seen():
-    """the view of a node: its production, numbers, text and parts"""
+def seen(trees):
+    """the views of the nodes of some trees: each a production, numbers, a text and parts"""
     def of(node, tree, own):
+        if tree not in trees: return None
         if node in SEEN: return SEEN[node]
         numbers = [NUMBERS[sort].format(name) for name, sort, _ in own if sort in NUMBERS and not (tree == "builtin" and sort != NUMBER)]
         if tree == "function_type": numbers = ["linkage_number(c_linkage, noexcept)", numbers[-1]]

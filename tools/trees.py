@@ -685,7 +685,9 @@ def arms_by_production(found):
     yield "cpp_tree/src/node.rt", "Node", list(node_code.variants())
     yield "cpp_tree/src/node.rt", "is_encoding", [f"            Node::{node} {{ .. }} => true," for node, tree, args in nodes() if tree in words.ENCODINGS]
     yield "cpp_tree/src/notes.rt", "noted", node_code.noted()
-    yield "cpp_tree/src/view.rt", "view_of_own", node_code.seen()
+    families = {"own": words.ENTITIES, "type": words.VIEWED_TYPES}
+    for family, trees in families.items(): yield "cpp_tree/src/view.rt", f"view_of_{family}", node_code.seen(trees)
+    yield "cpp_tree/src/view.rt", "view_of_expression", node_code.seen([tree for node, tree, args in nodes() if tree != "again" and not any(tree in trees for trees in families.values())])
     yield from step_code.arms()
     compared = [(node, args) for node, tree, args in nodes() if tree in words.COMPONENTS]
     yield "cpp_spelling/src/types.rt", "is_component", [f"        Node::{node}{'(_)' if len(args) == 1 else ' { .. }'} => true," for node, args in compared]
@@ -766,6 +768,8 @@ def declarations(crates):
     yield "cpp_link/proofs/CandidatesFew.antt", "may_leave", may_leave(crates)
     yield "cpp_tree/specs/Nodes.antt", "tree_of", tree_of()
     yield "cpp_tree/specs/Nodes.antt", "is_encoding", node_cases("is_encoding", [], [], lambda node, tree, args: "true" if tree in words.ENCODINGS else None, "false")
+    for name, of in (("is_entity", words.ENTITIES), ("is_type", words.VIEWED_TYPES)):
+        yield "cpp_tree/specs/Nodes.antt", name, node_cases(name, [], [], lambda node, tree, args: "true" if tree in of else None, "false")
     yield "cpp_tree/specs/Nodes.antt", "IsBelow", is_below()
     yield "cpp_tree/specs/Fields.antt", "fields_of", fields_of()
     yield "cpp_tree/specs/Fields.antt", "narrow_tree_from", tree_from()

@@ -371,6 +371,10 @@ FITTING = {
 }
 # the trees that are encodings
 ENCODINGS = "function object special thunk of_name construction clone".split()
+# those that stand for what has a name, and those of types, in the order of the table: seen in functions of their own
+ENTITIES = [*ENCODINGS, *"alone in_std within instance local holder tagged of_default".split()]
+VIEWED_TYPES = """abbreviation parameter builtin sized_float constrained vendor pointer lvalue rvalue array bounded member_pointer function_type qualified vector
+    complex decltype expansion""".split()
 
 # ## Rust v0 (RFC 2603)
 
