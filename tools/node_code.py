@@ -134,14 +134,19 @@ SEEN = {
 NUMBERS = {NUMBER: "{0} as u64", TRUTH: "bit({0}) as u64", QUALIFIERS: "{0}.number() as u64", MARK: "{0}.number() as u64", SIGNED: "bit({0}.negative) as u64"}
 TEXTS = {BYTES: "{0}", SIGNED: "{0}.digits"}
 
+def view(node, tree, own):
+    """what is seen of a node of which no more is seen: the code of its numbers, its texts and its parts"""
+    numbers = [NUMBERS[sort].format(name) for name, sort, _ in own if sort in NUMBERS and not (tree == "builtin" and sort != NUMBER)]
+    if tree == "function_type": numbers = ["linkage_number(c_linkage, noexcept)", numbers[-1]]
+    texts = [TEXTS[sort].format(name) for name, sort, _ in own if sort in TEXTS]
+    parts = [name for (name, sort, _), of_tree in zip(own, sorts_of(tree)) if of_tree in (OWN, OUTSIDE, INSIDE, SIGNATURE, TREE)]
+    return numbers, texts, [] if node == "Parameter" else parts
+
 def seen():
     """the view of a node: its production, numbers, text and parts"""
     def of(node, tree, own):
         if node in SEEN: return SEEN[node]
-        numbers = [NUMBERS[sort].format(name) for name, sort, _ in own if sort in NUMBERS and not (tree == "builtin" and sort != NUMBER)]
-        if tree == "function_type": numbers = ["linkage_number(c_linkage, noexcept)", numbers[-1]]
-        texts = [TEXTS[sort].format(name) for name, sort, _ in own if sort in TEXTS]
-        parts = [name for (name, sort, _), of_tree in zip(own, sorts_of(tree)) if of_tree in (OWN, OUTSIDE, INSIDE, SIGNATURE, TREE)]
+        numbers, texts, parts = view(node, tree, own)
         told = f"[{', '.join([*numbers, '0'][:2])}]" if numbers else "none"
         text = texts[0] if texts else "NO_TEXT"
         if not parts and not texts: return f"leaf({tree.upper()}, {numbers[0] if numbers else '0'})"

@@ -485,6 +485,55 @@ def noted_answers():
         "pub returns-in_default : goal.returns-in_default", "returns-in_default c =", "    c.bare-in_default.ensures", "    ∙ other-node c.args.self.now.nodes c.args.node (record {",
         *[f"      not_{node.lower()} = c.in_default.not-{node};" for node, args in noted_nodes()], "    })"]) + "\n"
 
+# what another call tells of some nodes: the answer by its clauses, and where that call asks for a bound the one that the node has
+TOLD = {
+    "Thunk": ("told-one y c.in-Thunk.is (told.fields ∙ ap (λ u. thunk_fields (thunk_of y.bytes u) (plain_tree y c.in-Thunk.encoding)) c.thunk.ensures) told.texts told.parts told.count (λ k b. b.1)", "", ""),
+    "OfName": ("told-one y c.in-OfName.is told.fields told.texts told.parts told.count (λ k b. b)", "", ""),
+    "Local": ("told-two y c.in-Local.is told.fields told.texts told.parts told.count (λ k b. (b.0, b.1))", "discriminator", ".2"),
+    "Alone": ("told-name y c.in-Alone.is (told.fields (erase (tree_of y.bytes y.thunks (trees y) (Node.Alone c.in-Alone.piece)))) told.texts (λ k b. told.parts k tt b) told.few", "piece", ""),
+    "InStd": ("told-name y c.in-InStd.is (told.fields (erase (tree_of y.bytes y.thunks (trees y) (Node.InStd c.in-InStd.piece)))) told.texts (λ k b. told.parts k tt b) told.few", "piece", ""),
+    "Within": ("told-name y c.in-Within.is (told.fields (erase (tree_of y.bytes y.thunks (trees y) (Node.Within c.in-Within.prefix c.in-Within.piece)))) told.texts (λ k b. told.parts k b.0 b.1) told.few", "piece", ".1"),
+}
+
+def seen_answers():
+    """that each arm of a node's view shows the node: by the calls that it makes, each of whose steps has the arm's name from its second call on"""
+    called = {}
+    def place(call, arm):
+        called[call] = [*called.get(call, []), arm]
+        again = called[call].count(arm)
+        return (f"-in-{arm}" if len(called[call]) > 1 else "") + (f"-{again}" if again > 1 and again < len(called[call]) else "")
+    def step(call, arm): return f"c.{call}{place(call, arm)}"
+    lines = []
+    for node, tree, args in nodes():
+        own, goal = list(node_code.fields(tree, args)), f"returns-in-{node}"
+        if node in TOLD:
+            told, asked, part = TOLD[node]
+            called_by = node_code.SEEN[node].partition("(")[0]
+            behind = place(called_by, node)
+            if asked:
+                required = f"{called_by}-requires{behind}"
+                fact = f"below-as (over c.args.symbol.now c.args.nodes.now) (length c.args.nodes.now.nodes) c.in-{node}.is c.requires.node"
+                lines += ["", f"pub {required} : goal.{required}", f"{required} c = record {{ {asked} = {f'({fact}){part}' if part else fact} }}"]
+            lines += ["", f"pub {goal} : goal.{goal}", "unfolding fields_of erase tree_of", f"{goal} c =", "    let y = over c.args.symbol.now c.args.nodes.now in", f"    let told = c.{called_by}{behind}.ensures in", f"    {told}"]
+        if node in node_code.SEEN and node not in ("Parameter", "BuiltinWithD"): continue
+        numbers, texts, parts = node_code.view(node, tree, own)
+        known = []
+        for number in numbers:
+            call = re.search(r"(\w+)\(", number)
+            known.append("refl" if not call else step(call[1], node) + (".ensures" if call[1] == "linkage_number" else ".ensures.is"))
+        lemma = ["none", "one", "two", "three"][len(parts)]
+        call = "leaf" if not parts and not texts else lemma if len(parts) in (1, 2) else "seen"
+        bound = {name: fact for (name, _), (_, _, fact) in zip([(name, sort) for name, sort, _ in own if sort in BELOW], placed(args, tuple(BELOW)))}
+        facts = [bound[texts[0].removesuffix(".digits")] if texts else "none-within c.args.symbol.now", *[bound[part] for part in parts]]
+        facts = f"({', '.join(facts)})" if len(facts) > 1 else facts[0]
+        seen = "function_fields (over c.args.symbol.now c.args.nodes.now) f.name f.returned f.parameters f.under f.qualifiers f.mark".replace("f.", "c.in-Function.") if node == "Function" else "refl"
+        seen = f"({seen})" if " " in seen else seen
+        lines += ["", f"pub {goal} : goal.{goal}", *(["unfolding fields_of erase tree_of"] if seen == "refl" else []),
+            f"{goal} c = seen-{lemma} (over c.args.symbol.now c.args.nodes.now) (length c.args.nodes.now.nodes) c.in-{node}.is c.requires.node {step(call, node)}.ensures {' '.join([*known, 'refl', 'refl'][:2])} {seen} (λ k b. {facts})"]
+    return "\n".join([f"-- {WRITTEN}", "use Rattle.std.proofs.Common.{length, refl, ap, ◌∙◌}", "use Rattle.cpp_term.specs.Erased.{erase}", "use Rattle.cpp_tree.specs.Fields.{fields_of, thunk_fields}",
+        "use Rattle.cpp_tree.specs.declared.node.Node.{Node}", "use Rattle.cpp_tree.specs.Nodes.{over, trees, tree_of, thunk_of}", "use Rattle.cpp_tree.specs.Views.{plain_tree}", "use Rattle.cpp_tree.proofs.Trees.{function_fields}",
+        "use Rattle.cpp_tree.proofs.Viewing.{none-within, below-as, seen-none, seen-one, seen-two, seen-three, told-one, told-two, told-name}", "use Rattle.cpp_tree.proofs.view.view_of_own.Goals as goal", *lines]) + "\n"
+
 # ## Wrappers
 
 def wrapper_templates():
@@ -870,6 +919,7 @@ def files(crates):
     texts = {"cpp_link/specs/Families.antt": family_specs(found), "cpp_link/proofs/FamilyArms.antt": family_laws(found),
              **{f"cpp_link/proofs/linked/Linked/outcome_of_{snake(family)}/Answers.antt": family_answers(family, found[family]) for family in found if family != "Common"},
              "cpp_tree/proofs/nodes/Nodes/noted/Answers.antt": noted_answers(),
+             "cpp_tree/proofs/view/view_of_own/Answers.antt": seen_answers(),
              "cpp_link/proofs/linked/Linked/finish_rule/Answers.antt": rare_answers("finish_rule", "finish_rare-requires-clause-rare", "", "c.production_of-production.result", "", UNREAD_IMPORTS, [*UNREAD_ANSWER, *handed_answers()]),
              "cpp_link/proofs/linked/Linked/outcome/Answers.antt": rare_answers("outcome", "unreachable-requires", "c.requires.common (", "c.args.production", ")")}
     for path, name, lines in [*declarations(crates), *payments.declarations(crates)]:
