@@ -111,14 +111,14 @@ HEADS = {"Lvalue": "Lvalue", "Array": "FunctionOrArray", "Bounded": "FunctionOrA
 
 def sorts_of(tree): return {t[0]: [sort for name, sort in t[1:]] for t in words.TREES}.get(tree, [])
 
-def noted():
+def noting(node, tree, own):
     """what is noted of a node, by its parts that aren't under a scope of their own"""
-    def of(node, tree, own):
-        if node in NOTED: return NOTED[node]
-        parts = [name for (name, _, _), sort in zip(own, sorts_of(tree)) if sort == TREE]
-        if not parts: return None
-        return f"self.noted_type{'s' if len(parts) == 2 else ''}(node, {', '.join(parts)}, Words::{HEADS.get(node, 'Plain')})"
-    return list(arms("Node::", "            ", of))
+    if node in NOTED: return NOTED[node]
+    parts = [name for (name, _, _), sort in zip(own, sorts_of(tree)) if sort == TREE]
+    if not parts: return None
+    return f"self.noted_type{'s' if len(parts) == 2 else ''}(node, {', '.join(parts)}, Words::{HEADS.get(node, 'Plain')})"
+
+def noted(): return list(arms("Node::", "            ", noting))
 
 # ## What is seen
 

@@ -480,59 +480,99 @@ def other_node():
     lines = [f"other-node ns {node_pattern(node, args)} other = absurd ({applied('other.not_' + node.lower(), [name for name, type in args])} refl)" for node, args in noted_nodes()]
     return lines + ["other-node ns _ other = refl"]
 
-def noted_answers():
-    return "\n".join([f"-- {WRITTEN}", "use Rattle.std.proofs.Common.{◌∙◌}", "use Rattle.cpp_tree.proofs.Compacting.{other-node}", "use Rattle.cpp_tree.proofs.nodes.Nodes.noted.Goals as goal", "",
-        "pub returns-in_default : goal.returns-in_default", "returns-in_default c =", "    c.bare-in_default.ensures", "    ∙ other-node c.args.self.now.nodes c.args.node (record {",
-        *[f"      not_{node.lower()} = c.in_default.not-{node};" for node, args in noted_nodes()], "    })"]) + "\n"
+NOTED_IMPORTS = """use Rattle.std.proofs.Common.{length, refl, ◌∙◌}
+use Rattle.cpp_tree.specs.Nodes.{over}
+use Rattle.cpp_tree.specs.Notes.{frees, node_by_argument, if_own, class_by, empties, ends_in, untagging, classes, packing, returning, counting, running, having_pack}
+use Rattle.cpp_tree.specs.Compact.{packs_kept, class_kept, arguments_kept, untagged_kept, returns_kept, count_kept, run_kept, has_pack_kept}
+use Rattle.cpp_tree.proofs.Compacting.{other-node}
+use Rattle.cpp_tree.proofs.Viewing.{below-as}
+use Rattle.cpp_tree.proofs.nodes.Nodes.noted.Goals as goal""".split("\n")
+NOTES = "unfolding " + " ".join(name for line in NOTED_IMPORTS if ".Notes." in line or ".Compact." in line for name in line[line.index("{") + 1:-1].split(", "))
 
-# what another call tells of some nodes: the answer by its clauses, and where that call asks for a bound the one that the node has
+def noted_answers(crates):
+    """that each arm notes what there is to note: by what it calls, which asks that the arguments are below"""
+    with open(f"{crates}/cpp_tree/src/notes.rt", encoding="utf-8") as f: code = f.read()
+    called, lines = set(), []
+    for node, tree, args in nodes():
+        own = list(node_code.fields(tree, args))
+        right = node_code.noting(node, tree, own)
+        if right is None: continue
+        call, given = re.fullmatch(r"(?:self\.)?(\w+)\((.*)\)", right).groups()
+        behind = f"-in-{node}" if call in called else ""
+        called.add(call)
+        bound = dict(zip([name for name, sort, _ in own if sort in BELOW], [fact for _, _, fact in placed(args, tuple(BELOW))]))
+        asked = re.search(rf" fn {call}\((.*?)\)(.*?)\n    {{", code, re.S)
+        if asked:
+            taken = dict(zip(re.findall(r"(\w+): ", asked[1]), given.split(", ")))
+            facts = []
+            for name, text in re.findall(r"requires (?:(\w+) )?{ (.*) }", asked[2]):
+                of = next((p for p in re.findall(r"(?<![\w.])\w+", text) if p in taken and p != "symbol"), None)
+                facts.append((name, bound[taken[of]] if of else f"c.requires.{name}"))
+            value = f"record {{ {'; '.join(f'{name} = {fact}' for name, fact in facts)} }}" if facts[0][0] else facts[0][1]
+            lines += answer(f"{call}-requires{behind}", f" let b = below-as (over c.args.symbol.now c.args.self.now) (length c.args.self.now.nodes) c.in-{node}.is c.requires.below in {value}")
+        lines += answer(f"returns-in-{node}", f" c.{call}{behind}.ensures ∙ rw c.in-{node}.is refl", NOTES)
+    lines += answer("returns-in_default", "\n".join(["", "    c.bare-in_default.ensures", "    ∙ other-node c.args.self.now.nodes c.args.node (record {",
+        *[f"      not_{node.lower()} = c.in_default.not-{node};" for node, args in noted_nodes()], "    })"]))
+    return "\n".join([f"-- {WRITTEN}", *NOTED_IMPORTS, *lines]) + "\n"
+
+# what another call tells of some nodes: the lemma, what it takes beside the node and the call's texts, and where that call asks for a bound, its
+# name and which of the node's it is
+def named_as(node, parts): return "told-name", f"(told.fields (erase (tree_of y.bytes y.thunks (trees y) ({node}))))", f"(λ k b. {parts}) told.few"
+def told_of(lemma, parts, fields="told.fields"): return lemma, fields, f"told.parts told.count (λ k b. {parts})"
 TOLD = {
-    "Thunk": ("told-one y c.in-Thunk.is (told.fields ∙ ap (λ u. thunk_fields (thunk_of y.bytes u) (plain_tree y c.in-Thunk.encoding)) c.thunk.ensures) told.texts told.parts told.count (λ k b. b.1)", "", ""),
-    "OfName": ("told-one y c.in-OfName.is told.fields told.texts told.parts told.count (λ k b. b)", "", ""),
-    "Local": ("told-two y c.in-Local.is told.fields told.texts told.parts told.count (λ k b. (b.0, b.1))", "discriminator", ".2"),
-    "Alone": ("told-name y c.in-Alone.is (told.fields (erase (tree_of y.bytes y.thunks (trees y) (Node.Alone c.in-Alone.piece)))) told.texts (λ k b. told.parts k tt b) told.few", "piece", ""),
-    "InStd": ("told-name y c.in-InStd.is (told.fields (erase (tree_of y.bytes y.thunks (trees y) (Node.InStd c.in-InStd.piece)))) told.texts (λ k b. told.parts k tt b) told.few", "piece", ""),
-    "Within": ("told-name y c.in-Within.is (told.fields (erase (tree_of y.bytes y.thunks (trees y) (Node.Within c.in-Within.prefix c.in-Within.piece)))) told.texts (λ k b. told.parts k b.0 b.1) told.few", "piece", ".1"),
+    "Thunk": (*told_of("told-one", "b.1", "(told.fields ∙ ap (λ u. thunk_fields (thunk_of y.bytes u) (plain_tree y c.in-Thunk.encoding)) c.thunk.ensures)"), None, ""),
+    "OfName": (*told_of("told-one", "b"), None, ""),
+    "Local": (*told_of("told-two", "(b.0, b.1)"), "discriminator", ".2"),
+    "Alone": (*named_as("Node.Alone c.in-Alone.piece", "told.parts k tt b"), "piece", ""),
+    "InStd": (*named_as("Node.InStd c.in-InStd.piece", "told.parts k tt b"), "piece", ""),
+    "Within": (*named_as("Node.Within c.in-Within.prefix c.in-Within.piece", "told.parts k b.0 b.1"), "piece", ".1"),
 }
+SEEN_IMPORTS = """use Rattle.std.proofs.Common.{length, refl, ap, ◌∙◌}
+use Rattle.cpp_term.specs.Erased.{erase}
+use Rattle.cpp_tree.specs.Fields.{fields_of, thunk_fields}
+use Rattle.cpp_tree.specs.declared.node.Node.{Node}
+use Rattle.cpp_tree.specs.Nodes.{over, trees, tree_of, thunk_of}
+use Rattle.cpp_tree.specs.Views.{plain_tree}
+use Rattle.cpp_tree.proofs.Trees.{function_fields}
+use Rattle.cpp_tree.proofs.Viewing.{none-within, below-as, seen-none, seen-one, seen-two, seen-three, told-one, told-two, told-name}
+use Rattle.cpp_tree.proofs.view.view_of_own.Goals as goal""".split("\n")
+TABLE, HELD = "(over c.args.symbol.now c.args.nodes.now)", "(length c.args.nodes.now.nodes)"
+UNFOLDING = "unfolding fields_of erase tree_of"
 
 def seen_answers():
     """that each arm of a node's view shows the node: by the calls that it makes, each of whose steps has the arm's name from its second call on"""
-    called = {}
+    called, lines = {}, []
     def place(call, arm):
         called[call] = [*called.get(call, []), arm]
         again = called[call].count(arm)
         return (f"-in-{arm}" if len(called[call]) > 1 else "") + (f"-{again}" if again > 1 and again < len(called[call]) else "")
-    def step(call, arm): return f"c.{call}{place(call, arm)}"
-    lines = []
+    def fact_of(number, arm):
+        call = re.search(r"(\w+)\(", number)
+        return f"c.{call[1]}{place(call[1], arm)}.ensures{'' if call[1] == 'linkage_number' else '.is'}" if call else "refl"
     for node, tree, args in nodes():
-        own, goal = list(node_code.fields(tree, args)), f"returns-in-{node}"
+        goal, shown = f"returns-in-{node}", f"{TABLE} {HELD} c.in-{node}.is c.requires.node"
         if node in TOLD:
-            told, asked, part = TOLD[node]
-            called_by = node_code.SEEN[node].partition("(")[0]
-            behind = place(called_by, node)
-            if asked:
-                required = f"{called_by}-requires{behind}"
-                fact = f"below-as (over c.args.symbol.now c.args.nodes.now) (length c.args.nodes.now.nodes) c.in-{node}.is c.requires.node"
-                lines += ["", f"pub {required} : goal.{required}", f"{required} c = record {{ {asked} = {f'({fact}){part}' if part else fact} }}"]
-            lines += ["", f"pub {goal} : goal.{goal}", "unfolding fields_of erase tree_of", f"{goal} c =", "    let y = over c.args.symbol.now c.args.nodes.now in", f"    let told = c.{called_by}{behind}.ensures in", f"    {told}"]
+            lemma, fields, others, asked, part = TOLD[node]
+            call = node_code.SEEN[node].partition("(")[0]
+            behind = place(call, node)
+            if asked: lines += answer(f"{call}-requires{behind}", f" record {{ {asked} = {f'(below-as {shown}){part}' if part else f'below-as {shown}'} }}")
+            lines += answer(goal, "\n    ".join(["", "let y = over c.args.symbol.now c.args.nodes.now in", f"let told = c.{call}{behind}.ensures in", f"{lemma} y c.in-{node}.is {fields} told.texts {others}"]), UNFOLDING)
         if node in node_code.SEEN and node not in ("Parameter", "BuiltinWithD"): continue
+        own = list(node_code.fields(tree, args))
         numbers, texts, parts = node_code.view(node, tree, own)
-        known = []
-        for number in numbers:
-            call = re.search(r"(\w+)\(", number)
-            known.append("refl" if not call else step(call[1], node) + (".ensures" if call[1] == "linkage_number" else ".ensures.is"))
-        lemma = ["none", "one", "two", "three"][len(parts)]
-        call = "leaf" if not parts and not texts else lemma if len(parts) in (1, 2) else "seen"
-        bound = {name: fact for (name, _), (_, _, fact) in zip([(name, sort) for name, sort, _ in own if sort in BELOW], placed(args, tuple(BELOW)))}
+        known = [*[fact_of(number, node) for number in numbers], "refl", "refl"][:2]
+        count = ["none", "one", "two", "three"][len(parts)]
+        call = "leaf" if not parts and not texts else count if len(parts) in (1, 2) else "seen"
+        bound = dict(zip([name for name, sort, _ in own if sort in BELOW], [fact for _, _, fact in placed(args, tuple(BELOW))]))
         facts = [bound[texts[0].removesuffix(".digits")] if texts else "none-within c.args.symbol.now", *[bound[part] for part in parts]]
-        facts = f"({', '.join(facts)})" if len(facts) > 1 else facts[0]
-        seen = "function_fields (over c.args.symbol.now c.args.nodes.now) f.name f.returned f.parameters f.under f.qualifiers f.mark".replace("f.", "c.in-Function.") if node == "Function" else "refl"
-        seen = f"({seen})" if " " in seen else seen
-        lines += ["", f"pub {goal} : goal.{goal}", *(["unfolding fields_of erase tree_of"] if seen == "refl" else []),
-            f"{goal} c = seen-{lemma} (over c.args.symbol.now c.args.nodes.now) (length c.args.nodes.now.nodes) c.in-{node}.is c.requires.node {step(call, node)}.ensures {' '.join([*known, 'refl', 'refl'][:2])} {seen} (λ k b. {facts})"]
-    return "\n".join([f"-- {WRITTEN}", "use Rattle.std.proofs.Common.{length, refl, ap, ◌∙◌}", "use Rattle.cpp_term.specs.Erased.{erase}", "use Rattle.cpp_tree.specs.Fields.{fields_of, thunk_fields}",
-        "use Rattle.cpp_tree.specs.declared.node.Node.{Node}", "use Rattle.cpp_tree.specs.Nodes.{over, trees, tree_of, thunk_of}", "use Rattle.cpp_tree.specs.Views.{plain_tree}", "use Rattle.cpp_tree.proofs.Trees.{function_fields}",
-        "use Rattle.cpp_tree.proofs.Viewing.{none-within, below-as, seen-none, seen-one, seen-two, seen-three, told-one, told-two, told-name}", "use Rattle.cpp_tree.proofs.view.view_of_own.Goals as goal", *lines]) + "\n"
+        held = facts[0] if len(facts) == 1 else f"({', '.join(facts)})"
+        # (under what a function's types are isn't seen)
+        fields = f"(function_fields {TABLE} {' '.join(f'c.in-Function.{name}' for name in [*parts, 'under', 'qualifiers', 'mark'])})" if node == "Function" else "refl"
+        lines += answer(goal, f" seen-{count} {shown} c.{call}{place(call, node)}.ensures {' '.join(known)} {fields} (λ k b. {held})", UNFOLDING if fields == "refl" else None)
+    return "\n".join([f"-- {WRITTEN}", *SEEN_IMPORTS, *lines]) + "\n"
+
+def answer(goal, value, unfolding=None):
+    return ["", f"pub {goal} : goal.{goal}", *([unfolding] if unfolding else []), f"{goal} c ={value}"]
 
 # ## Wrappers
 
@@ -918,7 +958,7 @@ def files(crates):
     found = families(crates)
     texts = {"cpp_link/specs/Families.antt": family_specs(found), "cpp_link/proofs/FamilyArms.antt": family_laws(found),
              **{f"cpp_link/proofs/linked/Linked/outcome_of_{snake(family)}/Answers.antt": family_answers(family, found[family]) for family in found if family != "Common"},
-             "cpp_tree/proofs/nodes/Nodes/noted/Answers.antt": noted_answers(),
+             "cpp_tree/proofs/nodes/Nodes/noted/Answers.antt": noted_answers(crates),
              "cpp_tree/proofs/view/view_of_own/Answers.antt": seen_answers(),
              "cpp_link/proofs/linked/Linked/finish_rule/Answers.antt": rare_answers("finish_rule", "finish_rare-requires-clause-rare", "", "c.production_of-production.result", "", UNREAD_IMPORTS, [*UNREAD_ANSWER, *handed_answers()]),
              "cpp_link/proofs/linked/Linked/outcome/Answers.antt": rare_answers("outcome", "unreachable-requires", "c.requires.common (", "c.args.production", ")")}

@@ -1,4 +1,4 @@
-use Rattle.std.proofs.Common.{rules, ap, ◌∙◌, ◌++◌, ◌∷◌, []}
+use Rattle.std.proofs.Common.{rules, arith, ap, ◌∙◌, ◌++◌, ◌∷◌, [], length, length-append}
 use Rattle.cpp_tree.specs.Nodes.{over, trees}
 use Rattle.cpp_tree.specs.Notes.{noting}
 use Rattle.cpp_tree.proofs.Noting.{noted}
@@ -13,15 +13,16 @@ returns c =
     let more = held-one-more c.self.inside.entries.items _ c.noted-compact.result c.args.self.now.nodes _ (search rules) (ap (λ v. v.nodes) c.self.view_is) c.noted-compact.ensures in
     let grown = with-one-more c.args.symbol.now c.args.self.now _ _ made more (search rules) in
     let is-noted = noted y c.requires.table c.flat.result c.flat.ensures.flat c.flat.ensures.settled c.flat.ensures.below in
+    let longer = ap length more ∙ length-append c.args.self.now.nodes (made ∷ []) in
     record {
       table = pushed y _ made grown c.requires.table is-noted;
       number = search rules;
       trees = grown-is y _ made grown ∙ ap (λ t. trees y ++ t ∷ []) c.flat.ensures.tree;
       tree = pushed-there y _ made c.len-number.result grown (search rules) c.requires.table is-noted ∙ c.flat.ensures.tree;
       stays = pushed-stays y _ made grown c.requires.table is-noted;
-      more = search rules;
-      few = search rules;
-      least = search rules;
+      more = longer;
+      few = omega (arith, longer);
+      least = omega (arith, longer);
       thunks = search rules;
       same = search rules;
       memory = search rules;
