@@ -17,9 +17,8 @@ returns-in_err-write_text-in_default-next g c =
     let bytes_of = g.Y.Layout.bytes_of c.args.y.now in
     let stack = c.loop-next.stack.items in
     let part = c.in-Some.next.now in
-    let told = c.in_err-write_text-in_default-next.ensures in
-    let same_spent : c.write_text.new.meter.spent ≡ c.loop-next.meter.spent = ap (λ (m : Meter). m.spent) told.err.1 in
-    let same_steps : c.write_text.new.meter.steps ≡ c.loop-next.meter.steps = ap (λ (m : Meter). m.steps) told.err.1 in
+    let same_spent : c.write_text.new.meter.spent ≡ c.loop-next.meter.spent = ap (λ (m : Meter). m.spent) c.in_err-write_text-in_default-next.ensures.err.1 in
+    let same_steps : c.write_text.new.meter.steps ≡ c.loop-next.meter.steps = ap (λ (m : Meter). m.steps) c.in_err-write_text-in_default-next.ensures.err.1 in
     let p = err_from_is_err_and c.from_residual-in_err-write_text-in_default-next.result c.from_residual-in_err-write_text-in_default-next.ensures.1 in
     let refused : Refusal → Result (Unit {0}) Refusal = λ r. Err r in
     let is : (r : Refusal) → c.from_residual-in_err-write_text-in_default-next.result ≡ Err r → c.in_err-write_text-in_default-next.field-0.0 ≡ r = λ r same. cc (p.1, p.2, same) in
@@ -29,17 +28,17 @@ returns-in_err-write_text-in_default-next g c =
       paid = c.write_text.ensures.paid;
       stack_paid = omega (arith, same_spent, c.loop-next.invariant.5);
       may_come = c.loop-next.invariant.0;
-      text = ap (λ t. t ++ text_of_stack unshared bytes_of stack) told.err.0 ∙ c.loop-next.invariant.1;
+      text = ap (λ t. t ++ text_of_stack unshared bytes_of stack) c.in_err-write_text-in_default-next.ensures.err.0 ∙ c.loop-next.invariant.1;
       cost = omega (arith, same_spent, c.loop-next.invariant.2);
       steps = omega (arith, same_steps, c.loop-next.invariant.3);
       limit = omega (arith, c.write_text.ensures.limit, c.loop-next.invariant.6);
       entry_room = c.loop-next.invariant.7;
-      own = rw (p.1, p.2) told.own;
+      own = rw (p.1, p.2) c.in_err-write_text-in_default-next.ensures.own;
       text_room = omega (arith, c.write_text.ensures.room, c.loop-next.invariant.8);
       done = rw p.1 tt;
       too_long = λ same. omega (
         arith,
-        told.too_long (ap refused (is TooLong same)),
+        c.in_err-write_text-in_default-next.ensures.too_long (ap refused (is TooLong same)),
         cost_of_next unshared bytes_of stack part next,
         cost_of_text unshared bytes_of part is_text,
         c.loop-next.invariant.2,
@@ -47,8 +46,8 @@ returns-in_err-write_text-in_default-next g c =
       );
       memory = λ same. inr (omega (
         arith,
-        told.memory (ap refused (is Memory same)),
-        told.affords (ap refused (is Memory same)),
+        c.in_err-write_text-in_default-next.ensures.memory (ap refused (is Memory same)),
+        c.in_err-write_text-in_default-next.ensures.affords (ap refused (is Memory same)),
         c.loop-next.invariant.4,
         c.loop-next.invariant.6,
         c.loop-next.invariant.8,
@@ -57,21 +56,20 @@ returns-in_err-write_text-in_default-next g c =
 
 pub returns-in_err-print_item-in-Sub : goal.returns-in_err-print_item-in-Sub
 returns-in_err-print_item-in-Sub g c =
-    let told = c.print_item.ensures in
     let p = err_from_is_err_and c.from_residual.result c.from_residual.ensures.1 in
     let refused : Refusal → Result (Unit {0}) Refusal = λ r. Err r in
     let is : (r : Refusal) → c.from_residual.result ≡ Err r → c.in_err-print_item-in-Sub.field-0.0 ≡ r = λ r same. cc (p.1, p.2, same) in
     record {
-      paid = told.paid;
-      stack_paid = told.stack_paid;
-      may_come = told.may_come;
-      text = told.text ∙ c.loop-next.invariant.1;
-      cost = omega (arith, told.cost, c.loop-next.invariant.2);
-      steps = omega (arith, told.remaining, c.loop-next.invariant.3);
-      limit = omega (arith, told.limit, c.loop-next.invariant.6);
-      entry_room = omega (arith, told.entry_room, c.loop-next.invariant.7);
+      paid = c.print_item.ensures.paid;
+      stack_paid = c.print_item.ensures.stack_paid;
+      may_come = c.print_item.ensures.may_come;
+      text = c.print_item.ensures.text ∙ c.loop-next.invariant.1;
+      cost = omega (arith, c.print_item.ensures.cost, c.loop-next.invariant.2);
+      steps = omega (arith, c.print_item.ensures.remaining, c.loop-next.invariant.3);
+      limit = omega (arith, c.print_item.ensures.limit, c.loop-next.invariant.6);
+      entry_room = omega (arith, c.print_item.ensures.entry_room, c.loop-next.invariant.7);
       own = rw (p.1, p.2) c.in_err-print_item-in-Sub.ensures.own;
-      text_room = omega (arith, told.text_room, c.loop-next.invariant.8);
+      text_room = omega (arith, c.print_item.ensures.text_room, c.loop-next.invariant.8);
       done = rw p.1 tt;
       too_long = λ same. omega (arith, c.in_err-print_item-in-Sub.ensures.too_long (ap refused (is TooLong same)), c.loop-next.invariant.2, c.loop-next.invariant.6);
       memory = λ same. elim (c.in_err-print_item-in-Sub.ensures.memory (ap refused (is Memory same))) [

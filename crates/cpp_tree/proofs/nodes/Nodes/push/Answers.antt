@@ -10,8 +10,8 @@ pub returns : goal.returns
 returns c =
     let y = over c.args.symbol.now c.args.self.now in
     let made = noting c.args.self.now.nodes c.flat.result in
-    let more = held-one-more c.self.inside.entries.items _ c.noted-compact.result c.args.self.now.nodes _ (search rules) (ap (λ v. v.nodes) c.self.view_is) c.noted-compact.ensures in
-    let grown = with-one-more c.args.symbol.now c.args.self.now _ _ made more (search rules) in
+    let more = held-one-more c.self.inside.entries.items c.push_reserved.new.self.items c.noted-compact.result c.args.self.now.nodes made (search rules) (ap (λ v. v.nodes) c.self.view_is) c.noted-compact.ensures in
+    let grown = with-one-more c.args.symbol.now c.args.self.now _ c.self.inside.thunks.items made more (ap (λ v. v.thunks) c.self.view_is) in
     let is-noted = noted y c.requires.table c.flat.result c.flat.ensures.flat c.flat.ensures.settled c.flat.ensures.below in
     let longer = ap length more ∙ length-append c.args.self.now.nodes (made ∷ []) in
     record {
