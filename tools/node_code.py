@@ -32,6 +32,16 @@ def nodes():
     # a tree of another node, with another argument in its free parameters
     yield "Reargued", "again", [("t", TREE), ("a", TREE)]
 
+# what is said of an argument below a node
+BELOW = {TREE: "{0} < n", OWN: "{0} < n", PIECE: "IsPieceBelow s n {0}", BYTES: "IsWithin {0} s", SIGNED: "IsWithin {0}.digits s",
+         DISCRIMINATOR: "IsSpan s {0}", THUNK: "{0} < held", UNDER: "IsThereBelow n (under_kept {0})"}
+def bounds(args): return [(name, sort) for name, sort in args if sort in BELOW]
+
+def placed(args, over):
+    """the arguments of these sorts, each with the fact of its bound: a part of b where there are several bounds"""
+    all_ = bounds(args)
+    return [(name, sort, "b" if len(all_) == 1 else f"b.{all_.index((name, sort))}") for name, sort in args if sort in over]
+
 # names of arguments in code, by tree or for each
 NAMED = {"t": "ty", "p": "piece", "q": "qualifiers", "m": "mark", "e": "encoding", "d": "discriminator", "u": "thunk", "k": "number", "a": "argument", "c": "c_linkage", "n": "noexcept",
          ("array", "t"): "element", ("bounded", "t"): "element", ("vector", "t"): "element", ("member_pointer", "t"): "member", ("integer", "n"): "value", ("again", "t"): "tree",
