@@ -21,6 +21,7 @@ use Rattle.cpp_term.specs.Meant.{done}
 use Rattle.cpp_term.specs.Unfolding.{cpp}
 use Rattle.cpp_link.specs.declared.linked.Linked.{Linked}
 use Rattle.cpp_references.specs.declared.around.Surroundings.{Surroundings}
+use Rattle.cpp_references.specs.declared.candidates.Candidate.{Candidate}
 use Rattle.cpp_link.specs.declared.part.Part.{Part}
 use Rattle.cpp_link.specs.declared.part.Step.{Step}
 use Rattle.cpp_link.specs.Making.{state_of}
@@ -200,16 +201,20 @@ module _ (view : View Linked Part Surroundings Value State Around) (s : List ℕ
   lacking_advances result e is memory few lacks =
       refused_advances result e is (subst (λ x. GoesOn view s (Surrounds s) old new frame parts.items new_parts.items (Err x)) (sym memory) (λ rule known state at. tt)) few (λ same. lacks)
 
-  -- a step was taken
-  pub taken_advances : (step : Step) (then : Surroundings) → IsStepOf (production_at frame.rule) (length (drop frame.base parts.items)) step → IsPaid old → Takes s old new frame.kept frame.base parts.items new_parts.items step then
-      → (let taken : Result Surroundings Refusal = Ok then in CountsStep (production_at frame.rule) old new (drop frame.base parts.items) (drop frame.base new_parts.items) taken)
-      → length new.nodes.nodes ≡ length old.nodes.nodes + nodes_of_step step → nodes_of_step step ≡ makes_before (production_at frame.rule) (values_in s old.nodes (drop frame.base parts.items))
+-- a step was taken, and these are the candidates after it
+module _ (view : View Linked Part Surroundings Value State Around) (s : List ℕ) (old mid : Linked) (more : Vec Candidate Global) (frame : Frame Surroundings) (parts new_parts : Vec Part Global) where
+  abbrev new : Linked
+  new = record mid { candidates = more }
+
+  pub taken_advances : KeepsRoom old new → vec_capacity parts ≤ vec_capacity new_parts → (step : Step) (then : Surroundings) → IsStepOf (production_at frame.rule) (length (drop frame.base parts.items)) step → IsPaid old → Takes s old mid frame.kept frame.base parts.items new_parts.items step then
+      → (let taken : Result Surroundings Refusal = Ok then in CountsStep (production_at frame.rule) old mid (drop frame.base parts.items) (drop frame.base new_parts.items) taken)
+      → length mid.nodes.nodes ≡ length old.nodes.nodes + nodes_of_step step → nodes_of_step step ≡ makes_before (production_at frame.rule) (values_in s old.nodes (drop frame.base parts.items))
       → GoesOn view s (Surrounds s) old new frame parts.items new_parts.items (Ok then) → Advances view s old new frame parts new_parts (Ok then)
-  taken_advances step then of paid takes few more makes goes = record {
+  taken_advances keeps capacity step then of paid takes few made makes goes = record {
     goes = goes;
-    adds = adds_right s old new frame parts.items new_parts.items (drop frame.base parts.items) (production_at frame.rule) step then refl refl paid of takes;
-    few = steps_few s old new frame parts.items new_parts.items then paid takes.grows.least few;
-    makes = omega (arith, more, makes);
+    adds = (record { least = takes.grows.least; stays = takes.grows.stays }, (adds_right s old mid frame parts.items new_parts.items (drop frame.base parts.items) (production_at frame.rule) step then refl refl paid of takes).1);
+    few = steps_few s old mid frame parts.items new_parts.items then paid takes.grows.least few;
+    makes = omega (arith, made, makes);
     pays = λ at was. record { begun = omega (arith, was.begun, takes.grows.least); thunks = omega (arith, was.thunks, takes.grows.least, ap (λ xs. length xs) takes.thunks) };
     count = takes.count;
     roomy = roomy_ok old new parts new_parts (Ok then) then refl keeps capacity;

@@ -1,11 +1,12 @@
 -- What the wide reading says of a rule that is open, in terms of the frame and the nodes.
 use Rattle.std.proofs.Common.{◌≡◌, refl, sym, ◌∙◌, ap, subst, arith, ℕ, ◌+◌, ◌-◌, ◌<◌, ◌≤◌, List, [], ◌∷◌, ◌++◌, length, take, drop, Bool, true, false, ◌&&◌, nat_eq, Option, Ok, Err}
-use Rattle.std.specs.Prelude.{Result, OnOk}
+use Rattle.std.specs.Prelude.{Vec, Result, OnOk}
+use Rattle.std.specs.Global.{Global}
 use Rattle.std.proofs.lemmas.List.{length-drop, take-append-drop}
-use Rattle.std.proofs.lemmas.Bool.{true≢false, false≢true}
+use Rattle.std.proofs.lemmas.Bool.{true≢false, false≢true, and_parts, eqb-true}
 use Rattle.sym_core.specs.declared.refusal.Refusal.{Refusal}
 use Rattle.sym_link.specs.declared.language.Frame.{Frame}
-use Rattle.sym_link.specs.Reading.{Open, Found}
+use Rattle.sym_link.specs.Reading.{Open, Found, Next}
 use Rattle.sym_link.specs.Driving.{Fails}
 use Rattle.sym_link.specs.Linking.{Puts}
 use Rattle.sym_link.specs.Threads.{IsAt, Goes, GoesOn, ClosesAll}
@@ -35,9 +36,10 @@ use Rattle.cpp_link.specs.declared.linked.Linked.{Linked}
 use Rattle.cpp_link.specs.declared.part.Part.{Part}
 use Rattle.cpp_link.specs.declared.rescoping.Rescoping.{Rescoping}
 use Rattle.cpp_references.specs.declared.around.Surroundings.{Surroundings}
+use Rattle.cpp_references.specs.declared.candidates.Candidate.{Candidate}
 use Rattle.cpp_link.specs.declared.part.Step.{Step}
 use Rattle.cpp_link.specs.LinkReading.{link_close, link_meaning}
-use Rattle.cpp_link.specs.LinkRescoping.{link_close_wide, linked_wide, is_parameter, is_parameter_argument, generic_read, is_holder, is_own_arguments, names_generic, names_holder, counts_base, number_in, named_by, substituted_nodes, wide_at_end, wide_view, wide_makes, wide_counted}
+use Rattle.cpp_link.specs.LinkRescoping.{link_close_wide, linked_wide, is_parameter, is_parameter_argument, steps_apart, with_mark, going_marked, generic_read, number_in, named_by, substituted_nodes, wide_at_end, wide_view, wide_makes, wide_counted}
 use Rattle.cpp_link.specs.Making.{state_of}
 use Rattle.cpp_link.specs.NodeCount.{makes_before, makes_at_end}
 use Rattle.cpp_link.specs.Parts.{trees_in, value_of, values_of, value_in, values_in, is_lambda, around_of, candidates_of, packs_of, IsClosed, IsThere, AreCandidatesThere}
@@ -52,40 +54,39 @@ use Rattle.cpp_link.proofs.Within.{at_plain, closes_within}
 
 -- ## Before a part
 
--- where no parameter of a lambda is named, and no name with its M, and no base class is counted, it goes as in the other reading
-apart_between : (p : Production) (around : Around) (place : ℕ) (vs : List Value) (state : State) → names_generic p around.in_lambda (length vs) ≡ false
-    → names_holder p (length vs) ≡ false → counts_base p (length vs) ≡ false → between_wide p around place vs state ≡ between p around place vs state
-unfolding between_wide between is_parameter is_holder is_own_arguments parameter_here argument_here parameter_named parameter_so_far listed_so_far argument_so_far
-apart_between Production.Parameter around place (v ∷ []) state apart unheld uncounted = go around.in_lambda apart
+second : (l : Bool) (before : ℕ) → (l && nat_eq before 1) ≡ true → (l ≡ true) × (before ≡ 1)
+second l before is = let both_ = and_parts l (nat_eq before 1) is in (both_.0, eqb-true before 1 both_.1)
+
+-- where the wide reading does nothing of its own, it goes as in the other reading
+apart_between : (p : Production) (around : Around) (place : ℕ) (vs : List Value) (state : State) → steps_apart p around.in_lambda (length vs) ≡ false → between_wide p around place vs state ≡ between p around place vs state
+unfolding between_wide between steps_apart parameter_here argument_here parameter_named parameter_so_far listed_so_far argument_so_far
+apart_between Production.Parameter around place (v ∷ []) state apart = go around.in_lambda apart
   where
-    go : (b : Bool) → (b && true && nat_eq (length (v ∷ [])) 1) ≡ false
-        → elim b [ true ↦ generic_so_far around (index_of v) [] state | false ↦ parameter_so_far around place (index_of v) [] state ] ≡ parameter_so_far around place (index_of v) [] state
+    go : (b : Bool) → (b && true) ≡ false → elim b [ true ↦ generic_so_far around (index_of v) [] state | false ↦ parameter_so_far around place (index_of v) [] state ] ≡ parameter_so_far around place (index_of v) [] state
     go true e = absurd (true≢false e)
     go false e = refl
-apart_between Production.NestParameter around place (v ∷ []) state apart unheld uncounted = go around.in_lambda apart
+apart_between Production.NestParameter around place (v ∷ []) state apart = go around.in_lambda apart
   where
-    go : (b : Bool) → (b && true && nat_eq (length (v ∷ [])) 1) ≡ false
-        → elim b [ true ↦ generic_so_far around (index_of v) [] state | false ↦ parameter_so_far around place (index_of v) [] state ] ≡ parameter_so_far around place (index_of v) [] state
+    go : (b : Bool) → (b && true) ≡ false → elim b [ true ↦ generic_so_far around (index_of v) [] state | false ↦ parameter_so_far around place (index_of v) [] state ] ≡ parameter_so_far around place (index_of v) [] state
     go true e = absurd (true≢false e)
     go false e = refl
-apart_between Production.ParameterArgument around place (v ∷ []) state apart unheld uncounted = go around.in_lambda apart
+apart_between Production.ParameterArgument around place (v ∷ []) state apart = go around.in_lambda apart
   where
-    go : (b : Bool) → (b && true && nat_eq (length (v ∷ [])) 1) ≡ false
+    go : (b : Bool) → (b && true) ≡ false
         → elim b [ true ↦ generic_so_far around (index_of v) [] state | false ↦ parameter_so_far around (place - 1) (index_of v) [] state ] ≡ parameter_so_far around (place - 1) (index_of v) [] state
     go true e = absurd (true≢false e)
     go false e = refl
-apart_between Production.ParameterExpression around place (v ∷ []) state apart unheld uncounted = go around.in_lambda apart
+apart_between Production.ParameterExpression around place (v ∷ []) state apart = go around.in_lambda apart
   where
     own : Going
     own = next (tree (term.parameter (generic_number (index_of v)) auto) true ∷ []) around state
 
-    go : (b : Bool) → (b && true && nat_eq (length (v ∷ [])) 1) ≡ false
-        → elim b [ true ↦ own | false ↦ argument_so_far around place (index_of v) state ] ≡ argument_so_far around place (index_of v) state
+    go : (b : Bool) → (b && true) ≡ false → elim b [ true ↦ own | false ↦ argument_so_far around place (index_of v) state ] ≡ argument_so_far around place (index_of v) state
     go true e = absurd (true≢false e)
     go false e = refl
-apart_between Production.Holder around place (v ∷ []) state apart unheld uncounted = absurd (true≢false unheld)
-apart_between Production.OwnArguments around place [] state apart unheld uncounted = absurd (true≢false uncounted)
-apart_between p around place vs state apart unheld uncounted = refl
+apart_between Production.Holder around place (v ∷ []) state apart = absurd (true≢false apart)
+apart_between Production.OwnArguments around place [] state apart = absurd (true≢false apart)
+apart_between p around place vs state apart = refl
 
 -- what is done before the next part of the open rule of the reading, in terms of the frame
 pub wide_read_is : (s : List ℕ) (old : Linked) (frame : Frame Surroundings) (own : List Part) (rule : Open State Around) (known : List Value) (state : State) → IsAt (cpp_view s) s old frame own rule known state
@@ -100,53 +101,71 @@ wide_read_is s old frame own rule known state is =
         → between_wide (production_at n) around p vs state ≡ between_wide (production_at m) code q us (record { candidates = cs; packs = packs })
     same m n q p code around us vs cs packs state number place context known candidates packed = rw (number, place, context, known, candidates, packed) refl
 
-same_test : (m n : ℕ) (a b : Bool) (h k : ℕ) → m ≡ n → a ≡ b → h ≡ k → names_generic (production_at m) a h ≡ false → names_generic (production_at n) b k ≡ false
-same_test m n a b h k e f g is = rw (← e, ← f, ← g) is
-
-same_holder : (m n h k : ℕ) → m ≡ n → h ≡ k → names_holder (production_at m) h ≡ false → names_holder (production_at n) k ≡ false
-same_holder m n h k e g is = rw (← e, ← g) is
-
-same_base : (m n h k : ℕ) → m ≡ n → h ≡ k → counts_base (production_at m) h ≡ false → counts_base (production_at n) k ≡ false
-same_base m n h k e g is = rw (← e, ← g) is
-
--- What was done where no parameter of a lambda is named, and no name with its M, and no base class is counted, is what the wide reading says.
-pub apart_goes : (s : List ℕ) (old new : Linked) (frame : Frame Surroundings) (parts new_parts : List Part) (held : ℕ) (result : Result Surroundings Refusal) → held ≡ length parts - frame.base
-    → names_generic (production_at frame.rule) (is_lambda frame.kept.scope) held ≡ false → names_holder (production_at frame.rule) held ≡ false
-    → counts_base (production_at frame.rule) held ≡ false → GoesOn (cpp_view s) s (Surrounds s) old new frame parts new_parts result → GoesOn (wide_view s) s (Surrounds s) old new frame parts new_parts result
+-- What was done where the wide reading does nothing of its own is what it says.
+pub apart_goes : (s : List ℕ) (old new : Linked) (frame : Frame Surroundings) (parts new_parts : List Part) (before : ℕ) (result : Result Surroundings Refusal) → before ≡ length parts - frame.base
+    → steps_apart (production_at frame.rule) (is_lambda frame.kept.scope) before ≡ false
+    → GoesOn (cpp_view s) s (Surrounds s) old new frame parts new_parts result → GoesOn (wide_view s) s (Surrounds s) old new frame parts new_parts result
 unfolding cpp cpp_wide around_of
-apart_goes s old new frame parts new_parts held result counted apart unheld uncounted goes rule known state is =
+apart_goes s old new frame parts new_parts before result counted apart goes rule known state is =
     let at = at_plain s old frame (drop frame.base parts) rule known state is in
     let known_are = (parts_are s old (drop frame.base parts) known is.parts).1 in
-    let many : held ≡ length known =
+    let many : before ≡ length known =
     omega (arith, counted, length-drop frame.base parts, values_length s (trees_in s old.nodes) (drop frame.base parts), ap (λ vs. length vs) known_are) in
     let lambda : is_lambda frame.kept.scope ≡ rule.context.in_lambda = ap (λ (a : Around). a.in_lambda) is.kept.surrounds.is in
     subst (λ read. Goes (cpp_view s) (Surrounds s) new (take frame.base parts) new_parts result read)
     (sym (apart_between (production_at rule.rule.number) rule.context rule.place known state
-    (same_test frame.rule rule.rule.number (is_lambda frame.kept.scope) rule.context.in_lambda held (length known) is.number lambda many apart)
-    (same_holder frame.rule rule.rule.number held (length known) is.number many unheld)
-    (same_base frame.rule rule.rule.number held (length known) is.number many uncounted)))
+    (same_test frame.rule rule.rule.number (is_lambda frame.kept.scope) rule.context.in_lambda before (length known) is.number lambda many apart)))
     (goes rule known state at)
+  where
+    same_test : (m n : ℕ) (a b : Bool) (h k : ℕ) → m ≡ n → a ≡ b → h ≡ k → steps_apart (production_at m) a h ≡ false → steps_apart (production_at n) b k ≡ false
+    same_test m n a b h k e f g is = rw (← e, ← f, ← g) is
 
--- the step that was taken is that of the wide reading
-pub wide_goes_right : (s : List ℕ) (old new : Linked) (frame : Frame Surroundings) (parts new_parts : List Part) (step : Step) (then : Surroundings)
-    → ((cs : List values.Candidate) → between_wide (production_at frame.rule) (around_of (trees_in s old.nodes) frame.kept) frame.place (values_in s old.nodes (drop frame.base parts)) (record { candidates = cs; packs = old.packs })
-    ≡ goes_on s old.nodes frame.kept (values_in s old.nodes (drop frame.base parts)) cs old.packs step)
-    → Takes s old new frame.kept frame.base parts new_parts step then
-    → GoesOn (wide_view s) s (Surrounds s) old new frame parts new_parts (Ok then)
-wide_goes_right s old new frame parts new_parts step then step_is takes rule known state is = (
-  record { values = values_in s new.nodes (drop frame.base new_parts); context = around_of (trees_in s new.nodes) then; state = state_of s new },
-  wide_read_is s old frame (drop frame.base parts) rule known state (at_plain s old frame (drop frame.base parts) rule known state is) ∙ step_is (state_of s old).candidates ∙ takes.is,
+-- the step that was taken, and the mark, are those of the wide reading
+pub wide_goes_right : (s : List ℕ) (old mid : Linked) (more : Vec Candidate Global) (frame : Frame Surroundings) (parts new_parts own : List Part) (production : Production) (step : Step) (then : Surroundings)
+    → own ≡ drop frame.base parts → production ≡ production_at frame.rule
+    → ((cs : List values.Candidate) → between_wide production (around_of (trees_in s old.nodes) frame.kept) frame.place (values_in s old.nodes own) (record { candidates = cs; packs = old.packs })
+    ≡ going_marked production (around_of (trees_in s old.nodes) frame.kept) (goes_on s old.nodes frame.kept (values_in s old.nodes own) cs old.packs step))
+    → Takes s old mid frame.kept frame.base parts new_parts step then → AreCandidatesThere (length mid.nodes.nodes) more.items
+    → with_mark production (around_of (trees_in s old.nodes) frame.kept) (values_in s mid.nodes (drop frame.base new_parts)) (state_of s mid)
+    ≡ record { candidates = candidates_of (trees_in s mid.nodes) more.items; packs = mid.packs }
+    → GoesOn (wide_view s) s (Surrounds s) old (record mid { candidates = more }) frame parts new_parts (Ok then)
+unfolding going_marked
+wide_goes_right s old mid more frame parts new_parts own production step then same numbered step_is takes there marked rule known state is = (
+  going (record { candidates = candidates_of (trees_in s mid.nodes) more.items; packs = mid.packs }),
+  wide_read_is s old frame (drop frame.base parts) rule known state (at_plain s old frame (drop frame.base parts) rule known state is) ∙ reads own production same numbered step_is marked,
   record {
     there = takes.around;
     is = refl;
     closed = wide_between_closed (production_at frame.rule) (around_of (trees_in s old.nodes) frame.kept) frame.place (values_in s old.nodes (drop frame.base parts)) (state_of s old) _
-        (step_is (state_of s old).candidates ∙ takes.is) (subst (λ around. IsClosed around) (sym is.kept.surrounds.is) is.kept.surrounds.closed);
+        (reads own production same numbered step_is marked) (subst (λ around. IsClosed around) (sym is.kept.surrounds.is) is.kept.surrounds.closed);
   },
-  record { table = takes.grows.table; there = takes.candidates; candidates = refl; packs = refl },
+  record { table = takes.grows.table; there = there; candidates = refl; packs = refl },
   drop frame.base new_parts,
   sym (take-append-drop frame.base new_parts) ∙ ap (λ ps. ps ++ drop frame.base new_parts) takes.lower,
-  parts_all s new (drop frame.base new_parts) takes.there,
+  parts_all s (record mid { candidates = more }) (drop frame.base new_parts) takes.there,
 )
+  where
+    going : State → Next Value State Around
+    going then_state = record { values = values_in s mid.nodes (drop frame.base new_parts); context = around_of (trees_in s mid.nodes) then; state = then_state }
+
+    reads : (own : List Part) (production : Production) → own ≡ drop frame.base parts → production ≡ production_at frame.rule
+        → ((cs : List values.Candidate) → between_wide production (around_of (trees_in s old.nodes) frame.kept) frame.place (values_in s old.nodes own) (record { candidates = cs; packs = old.packs })
+        ≡ going_marked production (around_of (trees_in s old.nodes) frame.kept) (goes_on s old.nodes frame.kept (values_in s old.nodes own) cs old.packs step))
+        → with_mark production (around_of (trees_in s old.nodes) frame.kept) (values_in s mid.nodes (drop frame.base new_parts)) (state_of s mid)
+        ≡ record { candidates = candidates_of (trees_in s mid.nodes) more.items; packs = mid.packs }
+        → between_wide (production_at frame.rule) (around_of (trees_in s old.nodes) frame.kept) frame.place (values_in s old.nodes (drop frame.base parts)) (state_of s old)
+        ≡ Ok (going (record { candidates = candidates_of (trees_in s mid.nodes) more.items; packs = mid.packs }))
+    reads own production same numbered step_is marked = rw (← same, ← numbered)
+        (step_is (state_of s old).candidates ∙ ap (λ ps. going_marked production (around_of (trees_in s old.nodes) frame.kept) (goes_on s old.nodes frame.kept (values_in s old.nodes ps) (state_of s old).candidates old.packs step)) same
+        ∙ ap (λ g. going_marked production (around_of (trees_in s old.nodes) frame.kept) g) takes.is ∙ ap (λ x. Ok (going x)) marked)
+
+-- the refusal of a step is that of the wide reading
+pub wide_refused_right : (s : List ℕ) (old new : Linked) (frame : Frame Surroundings) (parts new_parts own : List Part) (production : Production) (e : Refusal)
+    → own ≡ drop frame.base parts → production ≡ production_at frame.rule
+    → ((cs : List values.Candidate) → Fails e (between_wide production (around_of (trees_in s old.nodes) frame.kept) frame.place (values_in s old.nodes own) (record { candidates = cs; packs = old.packs })))
+    → GoesOn (wide_view s) s (Surrounds s) old new frame parts new_parts (Err e)
+wide_refused_right s old new frame parts new_parts own production e same numbered refused rule known state is =
+    rw (wide_read_is s old frame (drop frame.base parts) rule known state (at_plain s old frame (drop frame.base parts) rule known state is), ← same, ← numbered) (refused (state_of s old).candidates)
 
 -- ## Where a rule closes
 
@@ -168,88 +187,45 @@ apart_closes s old new frame parts new_parts result apart other uninherited clos
     (λ inheriting. uninherited (ap production_at is.number ∙ inheriting))))
     (closes rule known state (at_plain s old frame (drop frame.base parts) rule known state is))
 
--- what comes of a substitution by the wide reading, in terms of the frame
-substitution_is : (s : List ℕ) (old : Linked) (frame : Frame Surroundings) (own : List Part) (rule : Open State Around) (known : List Value) (state : State) → IsAt (wide_view s) s old frame own rule known state
-    → production_at frame.rule ≡ Production.Substitution
-    → (linked_wide s).close rule known state
-    ≡ numbered (around_of (trees_in s old.nodes) frame.kept) (frame.place - 1) (number_in (values_in s old.nodes own)) (state_of s old)
-unfolding link_close_wide close_wide
-substitution_is s old frame own rule known state is substitution =
-    ap (λ p. link_close_wide s p (byte_of rule.taken) rule.context rule.place rule.before known state) (ap production_at (sym is.number) ∙ substitution)
-    ∙ same frame.place rule.place (around_of (trees_in s old.nodes) frame.kept) rule.context (values_in s old.nodes own) known _ old.packs state
+-- what comes of a rule of this production by the wide reading, in terms of the frame
+closing_is : (s : List ℕ) (old : Linked) (frame : Frame Surroundings) (own given : List Part) (p : Production) (rule : Open State Around) (known : List Value) (state : State) → IsAt (wide_view s) s old frame own rule known state
+    → given ≡ own → production_at frame.rule ≡ p
+    → (linked_wide s).close rule known state ≡ link_close_wide s p (byte_of rule.taken) (around_of (trees_in s old.nodes) frame.kept) frame.place rule.before (values_in s old.nodes given) (state_of s old)
+closing_is s old frame own given p rule known state is same numbered =
+    ap (λ q. link_close_wide s q (byte_of rule.taken) rule.context rule.place rule.before known state) (ap production_at (sym is.number) ∙ numbered)
+    ∙ closes_alike frame.place rule.place (around_of (trees_in s old.nodes) frame.kept) rule.context (values_in s old.nodes own) known _ old.packs state
     is.place is.kept.surrounds.is (parts_are s old own known is.parts).1 is.holds.candidates is.holds.packs
+    ∙ ap (λ ps. link_close_wide s p (byte_of rule.taken) (around_of (trees_in s old.nodes) frame.kept) frame.place rule.before (values_in s old.nodes ps) (state_of s old)) (sym same)
   where
-    same : (q p : ℕ) (code around : Around) (us vs : List Value) (cs : List values.Candidate) (packs : Option ℕ) (state : State)
-        → q ≡ p → code ≡ around → us ≡ vs → cs ≡ state.candidates → packs ≡ state.packs
-        → numbered around (p - 1) (number_in vs) state ≡ numbered code (q - 1) (number_in us) (record { candidates = cs; packs = packs })
-    same q p code around us vs cs packs state place context known candidates packed = rw (place, context, known, candidates, packed) refl
+    closes_alike : (m n : ℕ) (code around : Around) (us vs : List Value) (cs : List values.Candidate) (packs : Option ℕ) (state : State)
+        → m ≡ n → code ≡ around → us ≡ vs → cs ≡ state.candidates → packs ≡ state.packs
+        → link_close_wide s p (byte_of rule.taken) around n rule.before vs state ≡ link_close_wide s p (byte_of rule.taken) code m rule.before us (record { candidates = cs; packs = packs })
+    closes_alike m n code around us vs cs packs state place context known candidates packed = rw (place, context, known, candidates, packed) refl
 
--- a part was put that stands for what a substitution stands for
-pub wide_put_right : (s : List ℕ) (old new : Linked) (frame : Frame Surroundings) (parts new_parts own : List Part) (made : Part) (done : Unit {0}) → own ≡ drop frame.base parts
-    → production_at frame.rule ≡ Production.Substitution
-    → numbered (around_of (trees_in s old.nodes) frame.kept) (frame.place - 1) (number_in (values_in s old.nodes own)) (state_of s old) ≡ Ok (found (value_in s new.nodes made) (state_of s new))
+-- a part was put that stands for what the rule closes to
+pub wide_put_right : (s : List ℕ) (old new : Linked) (frame : Frame Surroundings) (parts new_parts own : List Part) (p : Production) (made : Part) (done : Unit {0}) → own ≡ drop frame.base parts → production_at frame.rule ≡ p
+    → ((byte : ℕ) (began : State) → began.packs ≡ packs_of frame.kept
+    → link_close_wide s p byte (around_of (trees_in s old.nodes) frame.kept) frame.place began (values_in s old.nodes own) (state_of s old) ≡ Ok (found (value_in s new.nodes made) (state_of s new)))
     → IsThere s (length new.nodes.nodes) made → IsWhole s new → new_parts ≡ take frame.base parts ++ made ∷ []
     → ClosesAll (wide_view s) s old new frame parts new_parts (Ok done)
-wide_put_right s old new frame parts new_parts own made done same substitution closes there whole items rule known state is = (
+wide_put_right s old new frame parts new_parts own p made done same numbered closes there whole items rule known state is = (
   made,
   items,
   (
     value_in s new.nodes made,
     state_of s new,
-    substitution_is s old frame (drop frame.base parts) rule known state is substitution
-        ∙ ap (λ ps. numbered (around_of (trees_in s old.nodes) frame.kept) (frame.place - 1) (number_in (values_in s old.nodes ps)) (state_of s old)) (sym same) ∙ closes,
+    closing_is s old frame (drop frame.base parts) own p rule known state is same numbered ∙ closes (byte_of rule.taken) rule.before (sym is.kept.packs),
     record { there = there; is = refl },
     record { table = whole.table; there = whole.there; candidates = refl; packs = refl },
   ),
 )
 
--- the refusal of a substitution is that of the wide reading
-pub wide_closing_refused : (s : List ℕ) (old new : Linked) (frame : Frame Surroundings) (parts new_parts own : List Part) (e : Refusal) → own ≡ drop frame.base parts
-    → production_at frame.rule ≡ Production.Substitution
-    → Fails e (numbered (around_of (trees_in s old.nodes) frame.kept) (frame.place - 1) (number_in (values_in s old.nodes own)) (state_of s old))
+-- the refusal of what the rule closes to is that of the wide reading
+pub wide_closing_refused : (s : List ℕ) (old new : Linked) (frame : Frame Surroundings) (parts new_parts own : List Part) (p : Production) (e : Refusal) → own ≡ drop frame.base parts → production_at frame.rule ≡ p
+    → ((byte : ℕ) (began : State) → Fails e (link_close_wide s p byte (around_of (trees_in s old.nodes) frame.kept) frame.place began (values_in s old.nodes own) (state_of s old)))
     → ClosesAll (wide_view s) s old new frame parts new_parts (Err e)
-wide_closing_refused s old new frame parts new_parts own e same substitution refused rule known state is =
-    subst (λ read. Fails e read)
-    (sym (substitution_is s old frame (drop frame.base parts) rule known state is substitution
-    ∙ ap (λ ps. numbered (around_of (trees_in s old.nodes) frame.kept) (frame.place - 1) (number_in (values_in s old.nodes ps)) (state_of s old)) (sym same)))
-    refused
-
--- what comes of a lambda by the wide reading, in terms of the frame
-lambda_is : (s : List ℕ) (old : Linked) (frame : Frame Surroundings) (own : List Part) (rule : Open State Around) (known : List Value) (state : State) → IsAt (wide_view s) s old frame own rule known state
-    → production_at frame.rule ≡ Production.Lambda → (byte : ℕ)
-    → (linked_wide s).close rule known state ≡ Ok (found (as_generic_lambda (link_meaning s Production.Lambda byte frame.place (around_of (trees_in s old.nodes) frame.kept) (values_in s old.nodes own))) (state_of s old))
-unfolding link_close_wide link_meaning
-lambda_is s old frame own rule known state is lambda byte =
-    ap (λ p. link_close_wide s p (byte_of rule.taken) rule.context rule.place rule.before known state) (ap production_at (sym is.number) ∙ lambda)
-    ∙ same (values_in s old.nodes own) known _ old.packs state (parts_are s old own known is.parts).1 is.holds.candidates is.holds.packs
-  where
-    same : (us vs : List Value) (cs : List values.Candidate) (packs : Option ℕ) (state : State) → us ≡ vs → cs ≡ state.candidates → packs ≡ state.packs
-        → ◌≡◌ {A = Result (Found Value State) Refusal} (Ok (found (as_generic_lambda (link_meaning s Production.Lambda (byte_of rule.taken) rule.place rule.context vs)) state))
-        (Ok (found (as_generic_lambda (link_meaning s Production.Lambda byte frame.place (around_of (trees_in s old.nodes) frame.kept) us)) (record { candidates = cs; packs = packs })))
-    same us vs cs packs state known candidates packed = rw (known, candidates, packed) refl
-
--- a part was put that stands for what a lambda is
-pub lambda_put_right : (s : List ℕ) (old new : Linked) (frame : Frame Surroundings) (parts new_parts own : List Part) (made owned : Part) (byte : ℕ) (done : Unit {0}) → own ≡ drop frame.base parts
-    → production_at frame.rule ≡ Production.Lambda
-    → value_in s new.nodes made ≡ link_meaning s Production.Lambda byte frame.place (around_of (trees_in s old.nodes) frame.kept) (values_in s old.nodes own)
-    → ((began : State) → began.packs ≡ packs_of frame.kept → behind Production.Lambda byte (around_of (trees_in s old.nodes) frame.kept) began (values_in s old.nodes own) (state_of s old) ≡ state_of s new)
-    → value_in s new.nodes owned ≡ as_generic_lambda (value_in s new.nodes made)
-    → IsThere s (length new.nodes.nodes) owned → IsWhole s new → new_parts ≡ take frame.base parts ++ owned ∷ []
-    → ClosesAll (wide_view s) s old new frame parts new_parts (Ok done)
-unfolding behind
-lambda_put_right s old new frame parts new_parts own made owned byte done same lambda meant left value there whole items rule known state is = (
-  owned,
-  items,
-  (
-    value_in s new.nodes owned,
-    state_of s new,
-    lambda_is s old frame (drop frame.base parts) rule known state is lambda byte
-        ∙ ap (λ ps. Ok (found (as_generic_lambda (link_meaning s Production.Lambda byte frame.place (around_of (trees_in s old.nodes) frame.kept) (values_in s old.nodes ps))) (state_of s old))) (sym same)
-        ∙ both (λ v x. Ok (found v x)) (ap as_generic_lambda (sym meant) ∙ sym value) (left rule.before (sym is.kept.packs)),
-    record { there = there; is = refl },
-    record { table = whole.table; there = whole.there; candidates = refl; packs = refl },
-  ),
-)
+wide_closing_refused s old new frame parts new_parts own p e same numbered refused rule known state is =
+    subst (λ read. Fails e read) (sym (closing_is s old frame (drop frame.base parts) own p rule known state is same numbered)) (refused (byte_of rule.taken) rule.before)
 
 -- ## How many nodes are made
 
@@ -352,14 +328,32 @@ generic_is s y kept p place (x ∷ []) digits cs packs step is lambda one own_is
     ∙ ap (λ ds. generic_read (is_parameter_argument p) (around_of (trees_in s y) kept) (counted_value Decimal ds) (record { candidates = cs; packs = packs })) (sym own_is)
     ∙ goes (value_of s (trees_in s y) x)
 
-pub no_pack : (p : Production) → is_parameter p ≡ true → p ≡ Production.PackArgument → ⊥
-unfolding is_parameter
-no_pack p is pack = absurd (false≢true (ap is_parameter (sym pack) ∙ is))
+pub no_pack : (p : Production) (l : Bool) (before : ℕ) → steps_apart p l before ≡ true → p ≡ Production.PackArgument → ⊥
+unfolding steps_apart
+no_pack p l before is pack = absurd (false≢true (ap (λ q. steps_apart q l before) (sym pack) ∙ is))
 
-pub own_arguments_alone : (p : Production) → is_own_arguments p ≡ true → p ≡ Production.OwnArguments
-unfolding is_own_arguments
-own_arguments_alone Production.OwnArguments is = refl
-own_arguments_alone _ is = absurd (false≢true is)
+-- what is neither a name with its M nor the arguments of a constructor that is inherited is a parameter of a lambda
+pub apart_generic : (p : Production) (l : Bool) (before : ℕ) → steps_apart p l before ≡ true → (p ≡ Production.Holder → ⊥) → (p ≡ Production.OwnArguments → ⊥) → (is_parameter p ≡ true) × ((l ≡ true) × (before ≡ 1))
+unfolding steps_apart is_parameter
+apart_generic Production.Parameter l before is held own = (refl, second l before is)
+apart_generic Production.NestParameter l before is held own = (refl, second l before is)
+apart_generic Production.ParameterArgument l before is held own = (refl, second l before is)
+apart_generic Production.ParameterExpression l before is held own = (refl, second l before is)
+apart_generic Production.Holder l before is held own = absurd (held refl)
+apart_generic Production.OwnArguments l before is held own = absurd (own refl)
+apart_generic _ l before is held own = absurd (false≢true is)
+
+-- there is no mark then
+pub unmarked : (p : Production) (around : Around) (vs : List Value) (state : State) → (p ≡ Production.Holder → ⊥) → (p ≡ Production.OwnArguments → ⊥) → with_mark p around vs state ≡ state
+unfolding with_mark
+unmarked Production.Holder around vs state held own = absurd (held refl)
+unmarked Production.OwnArguments around vs state held own = absurd (own refl)
+unmarked _ around vs state held own = refl
+
+pub going_unmarked : (p : Production) (around : Around) (going : Going) → (p ≡ Production.Holder → ⊥) → (p ≡ Production.OwnArguments → ⊥) → going_marked p around going ≡ going
+unfolding going_marked
+going_unmarked p around (Ok n) held own = ap (λ x. Ok (record n { state = x })) (unmarked p around n.values n.state held own)
+going_unmarked p around (Err e) held own = refl
 
 -- ## Lambdas
 

@@ -123,7 +123,7 @@ impl Linked {
         let byte = symbol[place as usize];
         let made = self.add_node(symbol, outcome)?;
         let after = self.after_rule(symbol, production, byte, kept, parts, made);
-        self.append(symbol, kept, after.candidate)?;
+        self.append(symbol, kept, after.candidate, false)?;
         self.packs = after.packs;
         Ok(made)
     }

@@ -61,7 +61,7 @@ returns c =
     let own : List Part = take (length c.deref.result.now - frame.base) (drop frame.base c.deref.result.now) in
     let same : own ≡ drop frame.base parts = rest_all c.deref.result.now frame.base ∙ ap (λ ps. drop frame.base ps) c.deref.ensures.value in
     let of = step_of_rule frame parts c.deref.result.now c.args.production c.in_ok-step.step c.deref.ensures.value c.requires.numbered c.in_ok-step.ensures.of in
-    taken_advances (cpp_view s) s old new frame c.args.parts.now c.take_step.new.parts c.take_step.ensures.keeps c.take_step.ensures.capacity c.in_ok-step.step c.in_ok-then.then of c.requires.room.paid c.in_ok-then.ensures.takes
+    taken_advances (cpp_view s) s old new new.candidates frame c.args.parts.now c.take_step.new.parts c.take_step.ensures.keeps c.take_step.ensures.capacity c.in_ok-step.step c.in_ok-then.then of c.requires.room.paid c.in_ok-then.ensures.takes
     (c.in_ok-then.ensures.few (production_at frame.rule) of (λ is none. c.in_ok-step.ensures.pack (c.requires.numbered ∙ is) (same ∙ none))) c.in_ok-then.ensures.more
     (made_before_part s old frame parts own c.args.production (nodes_of_step c.in_ok-step.step) same c.requires.numbered c.in_ok-step.ensures.makes)
     (goes_right s old new frame parts c.take_step.new.parts.items own c.args.production c.in_ok-step.step c.in_ok-then.then same c.requires.numbered c.in_ok-step.ensures.is c.in_ok-then.ensures.takes)

@@ -1,10 +1,14 @@
-use Rattle.std.proofs.Common.{sym, inl, arith}
+use Rattle.std.proofs.Common.{sym, inl, arith, Ok}
 use Rattle.sym_link.proofs.Lists.{rest_all}
+use Rattle.sym_link.specs.Unfold.{found}
 use Rattle.cpp_grammar.specs.declared.production.Production.{Production}
-use Rattle.cpp_link.specs.LinkRescoping.{wide_view}
+use Rattle.cpp_term.specs.Meaning.{meaning}
+use Rattle.cpp_term.proofs.Notes.{both}
+use Rattle.cpp_link.specs.LinkReading.{link_meaning}
+use Rattle.cpp_link.specs.LinkRescoping.{link_close_wide, wide_view}
 use Rattle.cpp_link.specs.NodeCount.{makes_at_end}
 use Rattle.cpp_link.proofs.Finishing.{lacking_finishes, put_finishes}
-use Rattle.cpp_link.proofs.Inherited.{inheriting_put_right}
+use Rattle.cpp_link.proofs.Rescoped.{wide_put_right}
 use Rattle.cpp_link.proofs.linked.Linked.finish_inheriting.Goals as goal
 
 pub returns-in_err-made : goal.returns-in_err-made
@@ -15,6 +19,7 @@ returns-in_err-made c =
     record { closes = had.closes; adds = had.adds; few = had.few; makes = had.makes; pays = had.pays; roomy = had.roomy }
 
 pub returns : goal.returns
+unfolding link_close_wide link_meaning meaning
 returns c =
     let s = c.args.symbol.now in
     let old = c.args.self.now in
@@ -24,7 +29,7 @@ returns c =
     let had = put_finishes (wide_view s) makes_at_end s old new frame c.args.parts.now c.put.new.parts c.deref.result.now Production.Inheriting
     c.deref.ensures.value (sym c.requires.inheriting) c.requires.room.paid.begun c.in_ok-made.ensures.few c.close_inheriting.ensures.keeps c.put.ensures.keeps
     c.put.result c.in_ok-made.made c.put.ensures.items c.put.ensures.memory c.put.ensures.rest c.put.ensures.full
-    (λ done items. inheriting_put_right s old new frame parts c.put.new.parts.items _ c.in_ok-made.made _ done (rw c.deref.ensures.value (rest_all c.args.parts.now.items c.args.frame.now.base)) c.requires.inheriting
-    c.in_ok-made.ensures.value c.in_ok-made.ensures.state c.in_ok-made.ensures.there c.in_ok-made.ensures.whole items)
+    (λ done items. wide_put_right s old new frame parts c.put.new.parts.items _ Production.Inheriting c.in_ok-made.made done (rw c.deref.ensures.value (rest_all c.args.parts.now.items c.args.frame.now.base)) c.requires.inheriting
+    (λ byte began same. both (λ v x. Ok (found v x)) (sym c.in_ok-made.ensures.value) c.in_ok-made.ensures.state) c.in_ok-made.ensures.there c.in_ok-made.ensures.whole items)
     c.in_ok-made.ensures.grows c.in_ok-made.ensures.makes c.in_ok-made.ensures.paid in
     record { closes = had.closes; adds = had.adds; few = had.few; makes = had.makes; pays = had.pays; roomy = had.roomy }

@@ -1,8 +1,9 @@
 use Rattle.std.proofs.Common.{sym, inl, arith}
 use Rattle.sym_link.proofs.Lists.{rest_all}
 use Rattle.cpp_grammar.specs.declared.production.Production.{Production}
+use Rattle.cpp_term.specs.Rescoping.{close_wide}
 use Rattle.cpp_link.specs.Closes.{ends_of}
-use Rattle.cpp_link.specs.LinkRescoping.{substituted_nodes, named_by, wide_view}
+use Rattle.cpp_link.specs.LinkRescoping.{link_close_wide, substituted_nodes, named_by, wide_view}
 use Rattle.cpp_link.specs.Making.{state_of}
 use Rattle.cpp_link.specs.Owed.{made_at_end}
 use Rattle.cpp_link.specs.Parts.{trees_in, around_of}
@@ -15,7 +16,7 @@ pub substitute_counted-requires-clause-closed : goal.substitute_counted-requires
 substitute_counted-requires-clause-closed c = kept_closed c.args.symbol.now c.args.self.now c.args.frame.now.kept _ c.requires.open.at.kept.surrounds
 
 pub returns-in_err-made : goal.returns-in_err-made
-unfolding ends_of made_at_end
+unfolding ends_of made_at_end link_close_wide close_wide
 returns-in_err-made c =
     let s = c.args.symbol.now in
     let old = c.args.self.now in
@@ -26,12 +27,12 @@ returns-in_err-made c =
     let had = refused_finishes (wide_view s) (λ p known. substituted_nodes (around_of (trees_in s old.nodes) frame.kept) (named_by (state_of s old) known)) s old new frame
     c.args.parts.now c.args.parts.now c.deref.result.now Production.Substitution
     c.deref.ensures.value (sym c.requires.substitution) c.requires.room.paid.begun c.in_err-made.ensures.few c.substitute_counted.ensures.keeps (omega arith) c.from_residual.result e c.from_residual.ensures.1
-    (wide_closing_refused s old new frame parts parts _ e (rw c.deref.ensures.value (rest_all c.args.parts.now.items c.args.frame.now.base)) c.requires.substitution c.in_err-made.ensures.refused)
+    (wide_closing_refused s old new frame parts parts _ Production.Substitution e (rw c.deref.ensures.value (rest_all c.args.parts.now.items c.args.frame.now.base)) c.requires.substitution (λ byte began. c.in_err-made.ensures.refused))
     (λ memory. inl (c.in_err-made.ensures.full memory)) in
     record { closes = had.closes; adds = had.adds; few = had.few; makes = had.makes; pays = had.pays; roomy = had.roomy }
 
 pub returns : goal.returns
-unfolding ends_of made_at_end
+unfolding ends_of made_at_end link_close_wide close_wide
 returns c =
     let s = c.args.symbol.now in
     let old = c.args.self.now in
@@ -42,7 +43,7 @@ returns c =
     c.args.parts.now c.put.new.parts c.deref.result.now Production.Substitution
     c.deref.ensures.value (sym c.requires.substitution) c.requires.room.paid.begun c.in_ok-made.ensures.few c.substitute_counted.ensures.keeps c.put.ensures.keeps
     c.put.result c.in_ok-made.made c.put.ensures.items c.put.ensures.memory c.put.ensures.rest c.put.ensures.full
-    (λ done items. wide_put_right s old new frame parts c.put.new.parts.items _ c.in_ok-made.made done (rw c.deref.ensures.value (rest_all c.args.parts.now.items c.args.frame.now.base)) c.requires.substitution
-    c.in_ok-made.ensures.is c.in_ok-made.ensures.there c.in_ok-made.ensures.whole items)
+    (λ done items. wide_put_right s old new frame parts c.put.new.parts.items _ Production.Substitution c.in_ok-made.made done (rw c.deref.ensures.value (rest_all c.args.parts.now.items c.args.frame.now.base)) c.requires.substitution
+    (λ byte began same. c.in_ok-made.ensures.is) c.in_ok-made.ensures.there c.in_ok-made.ensures.whole items)
     c.in_ok-made.ensures.grows c.in_ok-made.ensures.makes c.in_ok-made.ensures.paid in
     record { closes = had.closes; adds = had.adds; few = had.few; makes = had.makes; pays = had.pays; roomy = had.roomy }

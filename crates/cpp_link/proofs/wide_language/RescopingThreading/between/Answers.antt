@@ -7,7 +7,7 @@ use Rattle.cpp_link.specs.View.{Surrounds}
 use Rattle.cpp_link.specs.LinkRescoping.{wide_view, wide_makes}
 use Rattle.cpp_link.specs.Parts.{is_lambda}
 use Rattle.cpp_grammar.specs.Unfolding.{production_at}
-use Rattle.cpp_link.proofs.Quiet.{quiet_generic, quiet_holder, quiet_base}
+use Rattle.cpp_link.proofs.Quiet.{quiet_apart}
 use Rattle.cpp_link.proofs.Rescoped.{apart_goes, wide_before_read}
 use Rattle.cpp_link.proofs.Within.{goes_within}
 use Rattle.cpp_link.proofs.wide_language.RescopingThreading.between.Goals as goal
@@ -25,4 +25,4 @@ returns-then-len-frame-clause-goes c =
     (between_tallied (wide_view s) wide_makes s (Surrounds s) old.linked new.linked frame c.args.parts.now.items c.before_part.new.parts.items c.before_part.result
     (wide_before_read s old.linked new.linked frame c.args.parts.now.items c.before_part.result c.requires.room.paid.begun c.before_part.ensures.makes)
     (apart_goes s old.linked new.linked frame c.args.parts.now.items c.before_part.new.parts.items held c.before_part.result (ap (λ n. n - frame.base) (c.len.ensures ∙ c.args.parts.now.ok.0))
-    (quiet_generic (production_at frame.rule) (is_lambda frame.kept.scope) held before) (quiet_holder (production_at frame.rule) held before) (quiet_base (production_at frame.rule) held before) c.before_part.ensures.goes))
+    (quiet_apart (production_at frame.rule) (is_lambda frame.kept.scope) held before) c.before_part.ensures.goes))
