@@ -13,7 +13,7 @@ use Rattle.cpp_term.specs.References.{appended}
 use Rattle.cpp_term.specs.Rescoping.{with_holder, with_base, has_held, is_instance, is_counted_alike, holder_so_far, substituted_wide, numbered, between_wide}
 use Rattle.cpp_term.proofs.Notes.{both}
 use Rattle.cpp_tree.specs.Nodes as nodes
-use Rattle.cpp_tree.specs.Nodes.{Stored, over, tree_at, IsTable}
+use Rattle.cpp_tree.specs.Nodes.{Stored, tree_at}
 use Rattle.cpp_tree.specs.declared.node.Node.{Node}
 use Rattle.cpp_references.specs.declared.candidates.Candidate.{Candidate}
 use Rattle.cpp_references.specs.declared.around.Surroundings.{Surroundings}

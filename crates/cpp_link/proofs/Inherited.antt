@@ -1,37 +1,30 @@
 -- What is done with a constructor that is inherited is what the wide reading says.
-use Rattle.std.proofs.Common.{◌≡◌, refl, sym, ◌∙◌, ap, ℕ, ◌<◌, List, [], ◌∷◌, ◌++◌, length, take, drop, true, false, Option, Some, None, Result, Ok, Err}
-use Rattle.sym_core.specs.declared.refusal.Refusal.{Refusal}
+use Rattle.std.proofs.Common.{◌≡◌, refl, sym, ◌∙◌, ap, ℕ, ◌<◌, List, length, drop, true, false, Option, Some, None, Err}
 use Rattle.sym_core.specs.declared.refusal.Refusal.TheVariants.{BadReference}
 use Rattle.sym_link.specs.declared.language.Frame.{Frame}
-use Rattle.sym_link.specs.Reading.{Open, Found}
-use Rattle.sym_link.specs.Threads.{IsAt, ClosesAll}
-use Rattle.sym_link.specs.Unfold.{found}
+use Rattle.sym_link.specs.Threads.{ClosesAll}
 use Rattle.cpp_grammar.specs.declared.production.Production.{Production}
-use Rattle.cpp_grammar.specs.Unfolding.{production_at, byte_of}
+use Rattle.cpp_grammar.specs.Unfolding.{production_at}
 use Rattle.cpp_term.specs.Term as term
 use Rattle.cpp_term.specs.Term.{Term}
 use Rattle.cpp_term.specs.Rescoping.{with_base, counted_base}
 use Rattle.cpp_term.specs.Values as values
-use Rattle.cpp_term.specs.Values.{State, Around, Value, Prefix, part, is_listed}
+use Rattle.cpp_term.specs.Values.{State, Around, Value, Prefix, is_listed}
 use Rattle.cpp_term.specs.Between.{extended, inherited}
-use Rattle.cpp_term.specs.Meaning.{meaning}
 use Rattle.cpp_term.specs.Unfolding.{behind, close}
-use Rattle.cpp_term.proofs.Notes.{both}
 use Rattle.cpp_tree.specs.Nodes.{Stored, tree_at, IsThereBelow}
 use Rattle.cpp_references.specs.declared.around.Surroundings.{Surroundings}
 use Rattle.cpp_references.specs.declared.candidates.Candidate.{Candidate}
 use Rattle.cpp_link.specs.declared.linked.Linked.{Linked}
 use Rattle.cpp_link.specs.declared.part.Part.{Part}
-use Rattle.cpp_link.specs.LinkReading.{link_meaning, link_close}
-use Rattle.cpp_link.specs.LinkRescoping.{link_close_wide, linked_wide, wide_view}
+use Rattle.cpp_link.specs.LinkReading.{link_close, linked}
 use Rattle.cpp_link.specs.Reads.{with_candidate}
-use Rattle.cpp_link.specs.Making.{state_of}
 use Rattle.cpp_link.specs.NodeCount.{inheriting_at_end}
-use Rattle.cpp_link.specs.Parts.{trees_in, value_of, value_in, values_in, around_of, candidates_of, IsThere, IsKeptThere}
+use Rattle.cpp_link.specs.Parts.{trees_in, value_of, around_of, candidates_of, IsKeptThere}
 use Rattle.cpp_link.specs.Staying.{around_stays}
-use Rattle.cpp_link.specs.View.{IsWhole, cpp_view}
-use Rattle.cpp_link.proofs.Finishing.{refused_right}
-use Rattle.cpp_link.proofs.Viewing.{parts_are}
+use Rattle.cpp_link.specs.View.{cpp_view}
+use Rattle.cpp_link.proofs.Bytes.{byte_serves}
+use Rattle.cpp_link.proofs.Finishing.{plain_closing, refused_right}
 
 -- ## The base class is counted
 
@@ -70,8 +63,8 @@ nothing_behind byte around began vs state = refl
 pub inheriting_unread : (s : List ℕ) (old new : Linked) (frame : Frame Surroundings) (parts new_parts : List Part) → production_at frame.rule ≡ Production.Inheriting
     → ClosesAll (cpp_view s) s old new frame parts new_parts (Err (BadReference frame.place))
 unfolding link_close close
-inheriting_unread s old new frame parts new_parts inheriting rule known state is =
-    refused_right s old frame (drop frame.base parts) (drop frame.base parts) Production.Inheriting (BadReference frame.place) rule known state is (sym inheriting) refl (λ began. refl)
+inheriting_unread s old new frame parts new_parts inheriting =
+    refused_right (linked s) (plain_closing s) s (byte_serves s) old frame parts (drop frame.base parts) Production.Inheriting (sym inheriting) refl new new_parts (BadReference frame.place) (λ began. refl)
 
 -- ## Its name
 

@@ -1,19 +1,18 @@
 -- What the wide reading says of a rule that is open, in terms of the frame and the nodes.
-use Rattle.std.proofs.Common.{◌≡◌, refl, sym, ◌∙◌, ap, subst, arith, ℕ, ◌+◌, ◌-◌, ◌<◌, ◌≤◌, List, [], ◌∷◌, ◌++◌, length, take, drop, Bool, true, false, ◌&&◌, nat_eq, Option, Ok, Err}
-use Rattle.std.specs.Prelude.{Vec, Result, OnOk}
-use Rattle.std.specs.Global.{Global}
-use Rattle.std.proofs.lemmas.List.{length-drop, take-append-drop}
+use Rattle.std.proofs.Common.{◌≡◌, refl, sym, ◌∙◌, ap, subst, arith, ℕ, ◌+◌, ◌-◌, ◌<◌, ◌≤◌, List, [], ◌∷◌, length, take, drop, Bool, true, false, ◌&&◌, nat_eq, Option, Ok, Err}
+use Rattle.std.specs.Prelude.{slice_index, Result, OnOk}
+use Rattle.std.proofs.lemmas.List.{length-drop}
 use Rattle.std.proofs.lemmas.Bool.{true≢false, false≢true, and_parts, eqb-true}
 use Rattle.sym_core.specs.declared.refusal.Refusal.{Refusal}
 use Rattle.sym_link.specs.declared.language.Frame.{Frame}
 use Rattle.sym_link.specs.Reading.{Open, Found, Next}
-use Rattle.sym_link.specs.Driving.{Fails}
 use Rattle.sym_link.specs.Linking.{Puts}
+use Rattle.sym_link.specs.Threads as open_
 use Rattle.sym_link.specs.Threads.{IsAt, Goes, GoesOn, ClosesAll}
 use Rattle.sym_link.specs.Tally.{tallied_view}
-use Rattle.sym_link.proofs.Tally.{finish_tallied}
-use Rattle.sym_link.specs.Unfold.{found}
+use Rattle.sym_link.proofs.Tally.{between_tallied, finish_tallied}
 use Rattle.cpp_grammar.specs.declared.production.Production.{Production}
+use Rattle.cpp_grammar.specs.Table.{wide}
 use Rattle.cpp_grammar.specs.Rescoping.{generic_number}
 use Rattle.cpp_grammar.specs.Unfolding.{production_at, byte_of}
 use Rattle.cpp_term.specs.Term as term
@@ -26,10 +25,9 @@ use Rattle.sym_core.specs.Value.{counted_value}
 use Rattle.sym_core.specs.declared.NumberKind.TheVariants.{Decimal}
 use Rattle.cpp_term.specs.References.{parameter_named}
 use Rattle.cpp_term.specs.Between.{Going, next, parameter_so_far, argument_so_far, index_of, between, listed_so_far}
-use Rattle.cpp_term.specs.Unfolding.{cpp, behind}
-use Rattle.cpp_term.specs.Rescoping.{generic_so_far, parameter_here, argument_here, numbered, lambda_with, as_generic_lambda, between_wide, close_wide, cpp_wide}
-use Rattle.cpp_term.proofs.Notes.{both}
-use Rattle.cpp_link.proofs.Scopes.{wide_between_closed}
+use Rattle.cpp_term.specs.Meaning.{meaning}
+use Rattle.cpp_term.specs.Unfolding.{cpp}
+use Rattle.cpp_term.specs.Rescoping.{generic_so_far, parameter_here, argument_here, lambda_with, as_generic_lambda, between_wide, close_wide, cpp_wide}
 use Rattle.cpp_tree.specs.Nodes.{Stored, tree_at, piece_of}
 use Rattle.cpp_tree.specs.declared.node.Piece.{Piece}
 use Rattle.cpp_link.specs.declared.linked.Linked.{Linked}
@@ -39,18 +37,17 @@ use Rattle.cpp_references.specs.declared.around.Surroundings.{Surroundings}
 use Rattle.cpp_references.specs.declared.candidates.Candidate.{Candidate}
 use Rattle.cpp_link.specs.declared.part.Step.{Step}
 use Rattle.cpp_link.specs.LinkReading.{link_close, link_meaning}
-use Rattle.cpp_link.specs.LinkRescoping.{link_close_wide, linked_wide, is_parameter, is_parameter_argument, steps_apart, with_mark, going_marked, generic_read, number_in, named_by, substituted_nodes, wide_at_end, wide_view, wide_makes, wide_counted}
-use Rattle.cpp_link.specs.Making.{state_of}
+use Rattle.cpp_link.specs.LinkRescoping.{link_close_wide, linked_wide, wide_ends, is_parameter, is_parameter_argument, steps_apart, with_mark, going_marked, generic_read, wide_at_end, wide_view, wide_makes, wide_counted}
 use Rattle.cpp_link.specs.NodeCount.{makes_before, makes_at_end}
-use Rattle.cpp_link.specs.Parts.{trees_in, value_of, values_of, value_in, values_in, is_lambda, around_of, candidates_of, packs_of, IsClosed, IsThere, AreCandidatesThere}
+use Rattle.cpp_link.specs.Parts.{trees_in, value_of, values_of, values_in, is_lambda, around_of, candidates_of, IsThere, AreCandidatesThere}
 use Rattle.cpp_link.specs.Reads.{goes_on}
 use Rattle.cpp_link.specs.Staying.{candidates_stay}
-use Rattle.cpp_link.specs.Stepping.{Takes}
-use Rattle.cpp_link.specs.View.{IsWhole, Surrounds, cpp_view}
-use Rattle.cpp_link.proofs.NodeCount.{before_read, end_read}
+use Rattle.cpp_link.specs.View.{Surrounds, cpp_view}
+use Rattle.cpp_link.proofs.Bytes.{byte_serves}
+use Rattle.cpp_link.proofs.NodeCount.{before_read}
 use Rattle.cpp_link.proofs.Places.{values_length}
-use Rattle.cpp_link.proofs.Viewing.{parts_are, parts_all}
-use Rattle.cpp_link.proofs.Within.{at_plain, closes_within}
+use Rattle.cpp_link.proofs.Viewing.{parts_are}
+use Rattle.cpp_link.proofs.Within.{at_plain, goes_within, closes_within}
 
 -- ## Before a part
 
@@ -88,18 +85,9 @@ apart_between Production.Holder around place (v ∷ []) state apart = absurd (tr
 apart_between Production.OwnArguments around place [] state apart = absurd (true≢false apart)
 apart_between p around place vs state apart = refl
 
--- what is done before the next part of the open rule of the reading, in terms of the frame
-pub wide_read_is : (s : List ℕ) (old : Linked) (frame : Frame Surroundings) (own : List Part) (rule : Open State Around) (known : List Value) (state : State) → IsAt (cpp_view s) s old frame own rule known state
-    → cpp_wide.between rule known state ≡ between_wide (production_at frame.rule) (around_of (trees_in s old.nodes) frame.kept) frame.place (values_in s old.nodes own) (state_of s old)
+pub wide_reads : (s : List ℕ) (rule : Open State Around) (known : List Value) (state : State) → (linked_wide s).between rule known state ≡ between_wide (production_at rule.rule.number) rule.context rule.place known state
 unfolding cpp_wide
-wide_read_is s old frame own rule known state is =
-    same frame.rule rule.rule.number frame.place rule.place (around_of (trees_in s old.nodes) frame.kept) rule.context (values_in s old.nodes own) known _ old.packs state
-    is.number is.place is.kept.surrounds.is (parts_are s old own known is.parts).1 is.holds.candidates is.holds.packs
-  where
-    same : (m n q p : ℕ) (code around : Around) (us vs : List Value) (cs : List values.Candidate) (packs : Option ℕ) (state : State)
-        → m ≡ n → q ≡ p → code ≡ around → us ≡ vs → cs ≡ state.candidates → packs ≡ state.packs
-        → between_wide (production_at n) around p vs state ≡ between_wide (production_at m) code q us (record { candidates = cs; packs = packs })
-    same m n q p code around us vs cs packs state number place context known candidates packed = rw (number, place, context, known, candidates, packed) refl
+wide_reads s rule known state = refl
 
 -- What was done where the wide reading does nothing of its own is what it says.
 pub apart_goes : (s : List ℕ) (old new : Linked) (frame : Frame Surroundings) (parts new_parts : List Part) (before : ℕ) (result : Result Surroundings Refusal) → before ≡ length parts - frame.base
@@ -120,52 +108,10 @@ apart_goes s old new frame parts new_parts before result counted apart goes rule
     same_test : (m n : ℕ) (a b : Bool) (h k : ℕ) → m ≡ n → a ≡ b → h ≡ k → steps_apart (production_at m) a h ≡ false → steps_apart (production_at n) b k ≡ false
     same_test m n a b h k e f g is = rw (← e, ← f, ← g) is
 
--- the step that was taken, and the mark, are those of the wide reading
-pub wide_goes_right : (s : List ℕ) (old mid : Linked) (more : Vec Candidate Global) (frame : Frame Surroundings) (parts new_parts own : List Part) (production : Production) (step : Step) (then : Surroundings)
-    → own ≡ drop frame.base parts → production ≡ production_at frame.rule
-    → ((cs : List values.Candidate) → between_wide production (around_of (trees_in s old.nodes) frame.kept) frame.place (values_in s old.nodes own) (record { candidates = cs; packs = old.packs })
-    ≡ going_marked production (around_of (trees_in s old.nodes) frame.kept) (goes_on s old.nodes frame.kept (values_in s old.nodes own) cs old.packs step))
-    → Takes s old mid frame.kept frame.base parts new_parts step then → AreCandidatesThere (length mid.nodes.nodes) more.items
-    → with_mark production (around_of (trees_in s old.nodes) frame.kept) (values_in s mid.nodes (drop frame.base new_parts)) (state_of s mid)
-    ≡ record { candidates = candidates_of (trees_in s mid.nodes) more.items; packs = mid.packs }
-    → GoesOn (wide_view s) s (Surrounds s) old (record mid { candidates = more }) frame parts new_parts (Ok then)
+-- the mark is the only difference that it makes
+pub marking_is : (production : Production) (around : Around) (n : Next Value State Around) (state : State) → with_mark production around n.values n.state ≡ state → going_marked production around (Ok n) ≡ Ok (record n { state = state })
 unfolding going_marked
-wide_goes_right s old mid more frame parts new_parts own production step then same numbered step_is takes there marked rule known state is = (
-  going (record { candidates = candidates_of (trees_in s mid.nodes) more.items; packs = mid.packs }),
-  wide_read_is s old frame (drop frame.base parts) rule known state (at_plain s old frame (drop frame.base parts) rule known state is) ∙ reads own production same numbered step_is marked,
-  record {
-    there = takes.around;
-    is = refl;
-    closed = wide_between_closed (production_at frame.rule) (around_of (trees_in s old.nodes) frame.kept) frame.place (values_in s old.nodes (drop frame.base parts)) (state_of s old) _
-        (reads own production same numbered step_is marked) (subst (λ around. IsClosed around) (sym is.kept.surrounds.is) is.kept.surrounds.closed);
-  },
-  record { table = takes.grows.table; there = there; candidates = refl; packs = refl },
-  drop frame.base new_parts,
-  sym (take-append-drop frame.base new_parts) ∙ ap (λ ps. ps ++ drop frame.base new_parts) takes.lower,
-  parts_all s (record mid { candidates = more }) (drop frame.base new_parts) takes.there,
-)
-  where
-    going : State → Next Value State Around
-    going then_state = record { values = values_in s mid.nodes (drop frame.base new_parts); context = around_of (trees_in s mid.nodes) then; state = then_state }
-
-    reads : (own : List Part) (production : Production) → own ≡ drop frame.base parts → production ≡ production_at frame.rule
-        → ((cs : List values.Candidate) → between_wide production (around_of (trees_in s old.nodes) frame.kept) frame.place (values_in s old.nodes own) (record { candidates = cs; packs = old.packs })
-        ≡ going_marked production (around_of (trees_in s old.nodes) frame.kept) (goes_on s old.nodes frame.kept (values_in s old.nodes own) cs old.packs step))
-        → with_mark production (around_of (trees_in s old.nodes) frame.kept) (values_in s mid.nodes (drop frame.base new_parts)) (state_of s mid)
-        ≡ record { candidates = candidates_of (trees_in s mid.nodes) more.items; packs = mid.packs }
-        → between_wide (production_at frame.rule) (around_of (trees_in s old.nodes) frame.kept) frame.place (values_in s old.nodes (drop frame.base parts)) (state_of s old)
-        ≡ Ok (going (record { candidates = candidates_of (trees_in s mid.nodes) more.items; packs = mid.packs }))
-    reads own production same numbered step_is marked = rw (← same, ← numbered)
-        (step_is (state_of s old).candidates ∙ ap (λ ps. going_marked production (around_of (trees_in s old.nodes) frame.kept) (goes_on s old.nodes frame.kept (values_in s old.nodes ps) (state_of s old).candidates old.packs step)) same
-        ∙ ap (λ g. going_marked production (around_of (trees_in s old.nodes) frame.kept) g) takes.is ∙ ap (λ x. Ok (going x)) marked)
-
--- the refusal of a step is that of the wide reading
-pub wide_refused_right : (s : List ℕ) (old new : Linked) (frame : Frame Surroundings) (parts new_parts own : List Part) (production : Production) (e : Refusal)
-    → own ≡ drop frame.base parts → production ≡ production_at frame.rule
-    → ((cs : List values.Candidate) → Fails e (between_wide production (around_of (trees_in s old.nodes) frame.kept) frame.place (values_in s old.nodes own) (record { candidates = cs; packs = old.packs })))
-    → GoesOn (wide_view s) s (Surrounds s) old new frame parts new_parts (Err e)
-wide_refused_right s old new frame parts new_parts own production e same numbered refused rule known state is =
-    rw (wide_read_is s old frame (drop frame.base parts) rule known state (at_plain s old frame (drop frame.base parts) rule known state is), ← same, ← numbered) (refused (state_of s old).candidates)
+marking_is production around n state is = ap (λ x. Ok (record n { state = x })) is
 
 -- ## Where a rule closes
 
@@ -187,108 +133,65 @@ apart_closes s old new frame parts new_parts result apart other uninherited clos
     (λ inheriting. uninherited (ap production_at is.number ∙ inheriting))))
     (closes rule known state (at_plain s old frame (drop frame.base parts) rule known state is))
 
--- what comes of a rule of this production by the wide reading, in terms of the frame
-closing_is : (s : List ℕ) (old : Linked) (frame : Frame Surroundings) (own given : List Part) (p : Production) (rule : Open State Around) (known : List Value) (state : State) → IsAt (wide_view s) s old frame own rule known state
-    → given ≡ own → production_at frame.rule ≡ p
-    → (linked_wide s).close rule known state ≡ link_close_wide s p (byte_of rule.taken) (around_of (trees_in s old.nodes) frame.kept) frame.place rule.before (values_in s old.nodes given) (state_of s old)
-closing_is s old frame own given p rule known state is same numbered =
-    ap (λ q. link_close_wide s q (byte_of rule.taken) rule.context rule.place rule.before known state) (ap production_at (sym is.number) ∙ numbered)
-    ∙ closes_alike frame.place rule.place (around_of (trees_in s old.nodes) frame.kept) rule.context (values_in s old.nodes own) known _ old.packs state
-    is.place is.kept.surrounds.is (parts_are s old own known is.parts).1 is.holds.candidates is.holds.packs
-    ∙ ap (λ ps. link_close_wide s p (byte_of rule.taken) (around_of (trees_in s old.nodes) frame.kept) frame.place rule.before (values_in s old.nodes ps) (state_of s old)) (sym same)
+-- by the wide reading
+abbrev pub wide_closing : List ℕ → Production → Around → (place : ℕ) → (began : State) → List Value → State → Result (Found Value State) Refusal
+wide_closing s p around place began vs state = link_close_wide s p (slice_index s place) around place began vs state
+
+pub wide_byte_serves : (s : List ℕ) (rule : Open State Around) (known : List Value) (state : State) → open_.IsThere wide s rule
+    → (linked_wide s).close rule known state ≡ wide_closing s (production_at rule.rule.number) rule.context rule.place rule.before known state
+unfolding link_close_wide close_wide link_meaning meaning
+wide_byte_serves s rule known state there = by (production_at rule.rule.number) (byte_serves s rule known state there)
   where
-    closes_alike : (m n : ℕ) (code around : Around) (us vs : List Value) (cs : List values.Candidate) (packs : Option ℕ) (state : State)
-        → m ≡ n → code ≡ around → us ≡ vs → cs ≡ state.candidates → packs ≡ state.packs
-        → link_close_wide s p (byte_of rule.taken) around n rule.before vs state ≡ link_close_wide s p (byte_of rule.taken) code m rule.before us (record { candidates = cs; packs = packs })
-    closes_alike m n code around us vs cs packs state place context known candidates packed = rw (place, context, known, candidates, packed) refl
-
--- a part was put that stands for what the rule closes to
-pub wide_put_right : (s : List ℕ) (old new : Linked) (frame : Frame Surroundings) (parts new_parts own : List Part) (p : Production) (made : Part) (done : Unit {0}) → own ≡ drop frame.base parts → production_at frame.rule ≡ p
-    → ((byte : ℕ) (began : State) → began.packs ≡ packs_of frame.kept
-    → link_close_wide s p byte (around_of (trees_in s old.nodes) frame.kept) frame.place began (values_in s old.nodes own) (state_of s old) ≡ Ok (found (value_in s new.nodes made) (state_of s new)))
-    → IsThere s (length new.nodes.nodes) made → IsWhole s new → new_parts ≡ take frame.base parts ++ made ∷ []
-    → ClosesAll (wide_view s) s old new frame parts new_parts (Ok done)
-wide_put_right s old new frame parts new_parts own p made done same numbered closes there whole items rule known state is = (
-  made,
-  items,
-  (
-    value_in s new.nodes made,
-    state_of s new,
-    closing_is s old frame (drop frame.base parts) own p rule known state is same numbered ∙ closes (byte_of rule.taken) rule.before (sym is.kept.packs),
-    record { there = there; is = refl },
-    record { table = whole.table; there = whole.there; candidates = refl; packs = refl },
-  ),
-)
-
--- the refusal of what the rule closes to is that of the wide reading
-pub wide_closing_refused : (s : List ℕ) (old new : Linked) (frame : Frame Surroundings) (parts new_parts own : List Part) (p : Production) (e : Refusal) → own ≡ drop frame.base parts → production_at frame.rule ≡ p
-    → ((byte : ℕ) (began : State) → Fails e (link_close_wide s p byte (around_of (trees_in s old.nodes) frame.kept) frame.place began (values_in s old.nodes own) (state_of s old)))
-    → ClosesAll (wide_view s) s old new frame parts new_parts (Err e)
-wide_closing_refused s old new frame parts new_parts own p e same numbered refused rule known state is =
-    subst (λ read. Fails e read) (sym (closing_is s old frame (drop frame.base parts) own p rule known state is same numbered)) (refused (byte_of rule.taken) rule.before)
+    by : (p : Production) → link_close s p (byte_of rule.taken) rule.context rule.place rule.before known state ≡ link_close s p (slice_index s rule.place) rule.context rule.place rule.before known state
+        → link_close_wide s p (byte_of rule.taken) rule.context rule.place rule.before known state ≡ link_close_wide s p (slice_index s rule.place) rule.context rule.place rule.before known state
+    by Production.Substitution same = refl
+    by Production.Lambda same = refl
+    by Production.Inheriting same = refl
+    by _ same = same
 
 -- ## How many nodes are made
 
-pub wide_before_read : (s : List ℕ) (old new : Linked) (frame : Frame Surroundings) (parts : List Part) (result : Result Surroundings Refusal) → 4 ≤ length old.nodes.nodes
-    → OnOk result (length new.nodes.nodes ≡ length old.nodes.nodes + makes_before (production_at frame.rule) (values_in s old.nodes (drop frame.base parts)))
-    → (rule : Open State Around) (known : List Value) (state : State) → IsAt (wide_view s) s old frame (drop frame.base parts) rule known state
-    → OnOk result (length new.nodes.nodes - 4 ≡ length old.nodes.nodes - 4 + makes_before (production_at rule.rule.number) known)
-wide_before_read s old new frame parts result begun made rule known state is =
-    before_read s old new frame parts result begun made rule known state (at_plain s old frame (drop frame.base parts) rule known state is)
+-- what goes on to the next part by the wide reading, and makes so many nodes before it, goes on to it where they are counted
+pub goes_counted : (s : List ℕ) (old : Rescoping) (new : Linked) (frame : Frame Surroundings) (parts new_parts : List Part) (result : Result Surroundings Refusal) → 4 ≤ length old.linked.nodes.nodes
+    → OnOk result (length new.nodes.nodes ≡ length old.linked.nodes.nodes + makes_before (production_at frame.rule) (values_in s old.linked.nodes (drop frame.base parts)))
+    → GoesOn (wide_view s) s (Surrounds s) old.linked new frame parts new_parts result
+    → GoesOn (wide_counted s) s (λ l. Surrounds s l.linked) old (record { linked = new }) frame parts new_parts result
+goes_counted s old new frame parts new_parts result begun made goes =
+    goes_within (tallied_view (wide_view s) wide_makes) s old (record { linked = new }) (Surrounds s) frame parts new_parts result
+    (between_tallied (wide_view s) wide_makes s (Surrounds s) old.linked new frame parts new_parts result
+    (λ rule known state is. before_read s old.linked new frame parts result begun made rule known state (at_plain s old.linked frame (drop frame.base parts) rule known state is)) goes)
 
-apart_end : (p : Production) (around : Around) (known : List Value) (state : State) → (p ≡ Production.Substitution → ⊥) → makes_at_end p known ≡ wide_at_end p around known state
+pub apart_end : (p : Production) (around : Around) (known : List Value) (state : State) → (p ≡ Production.Substitution → ⊥) → makes_at_end p known ≡ wide_at_end p around known state
 unfolding wide_at_end
 apart_end Production.Substitution around known state apart = absurd (apart refl)
 apart_end _ around known state apart = refl
 
-pub apart_end_read : (s : List ℕ) (old new : Linked) (frame : Frame Surroundings) (parts : List Part) (result : Result (Unit {0}) Refusal) → 4 ≤ length old.nodes.nodes
-    → (production_at frame.rule ≡ Production.Substitution → ⊥)
-    → OnOk result (length new.nodes.nodes ≡ length old.nodes.nodes + makes_at_end (production_at frame.rule) (values_in s old.nodes (drop frame.base parts)))
-    → (rule : Open State Around) (known : List Value) (state : State) → IsAt (wide_view s) s old frame (drop frame.base parts) rule known state
-    → OnOk result (length new.nodes.nodes - 4 ≡ length old.nodes.nodes - 4 + wide_at_end (production_at rule.rule.number) rule.context known state)
-apart_end_read s old new frame parts result begun apart made rule known state is =
-    subst (λ n. OnOk result (length new.nodes.nodes - 4 ≡ length old.nodes.nodes - 4 + n))
-    (apart_end (production_at rule.rule.number) rule.context known state (λ substitution. apart (ap production_at is.number ∙ substitution)))
-    (end_read s old new frame parts result begun made rule known state (at_plain s old frame (drop frame.base parts) rule known state is))
-
 -- what closes a rule by the wide reading, and makes so many nodes, closes it where they are counted
-pub closes_counted : (s : List ℕ) (old : Rescoping) (new : Linked) (frame : Frame Surroundings) (parts new_parts : List Part) (result : Result (Unit {0}) Refusal)
-    → ((rule : Open State Around) (known : List Value) (state : State) → IsAt (wide_view s) s old.linked frame (drop frame.base parts) rule known state
-    → OnOk result (length new.nodes.nodes - 4 ≡ length old.linked.nodes.nodes - 4 + wide_at_end (production_at rule.rule.number) rule.context known state))
+pub closes_counted : (s : List ℕ) (old : Rescoping) (new : Linked) (frame : Frame Surroundings) (parts new_parts : List Part) (result : Result (Unit {0}) Refusal) → 4 ≤ length old.linked.nodes.nodes
+    → OnOk result (length new.nodes.nodes ≡ length old.linked.nodes.nodes + wide_ends s old.linked frame.kept (production_at frame.rule) (values_in s old.linked.nodes (drop frame.base parts)))
     → ClosesAll (wide_view s) s old.linked new frame parts new_parts result → ClosesAll (wide_counted s) s old (record { linked = new }) frame parts new_parts result
-closes_counted s old new frame parts new_parts result made closes =
+closes_counted s old new frame parts new_parts result begun made closes =
     closes_within (tallied_view (wide_view s) wide_makes) s old (record { linked = new }) frame parts new_parts result
-    (finish_tallied (wide_view s) wide_makes s old.linked new frame parts new_parts result made closes)
-
--- as what is no substitution does
-pub apart_counted : (s : List ℕ) (old : Rescoping) (new : Linked) (frame : Frame Surroundings) (parts new_parts : List Part) (result : Result (Unit {0}) Refusal) → 4 ≤ length old.linked.nodes.nodes
-    → (production_at frame.rule ≡ Production.Substitution → ⊥)
-    → OnOk result (length new.nodes.nodes ≡ length old.linked.nodes.nodes + makes_at_end (production_at frame.rule) (values_in s old.linked.nodes (drop frame.base parts)))
-    → ClosesAll (wide_view s) s old.linked new frame parts new_parts result → ClosesAll (wide_counted s) s old (record { linked = new }) frame parts new_parts result
-apart_counted s old new frame parts new_parts result begun apart made closes =
-    closes_counted s old new frame parts new_parts result (apart_end_read s old.linked new frame parts result begun apart made) closes
-
-pub substitution_end_read : (s : List ℕ) (old new : Linked) (frame : Frame Surroundings) (parts : List Part) (result : Result (Unit {0}) Refusal) → 4 ≤ length old.nodes.nodes
-    → production_at frame.rule ≡ Production.Substitution
-    → OnOk result (length new.nodes.nodes ≡ length old.nodes.nodes + substituted_nodes (around_of (trees_in s old.nodes) frame.kept) (named_by (state_of s old) (values_in s old.nodes (drop frame.base parts))))
-    → (rule : Open State Around) (known : List Value) (state : State) → IsAt (wide_view s) s old frame (drop frame.base parts) rule known state
-    → OnOk result (length new.nodes.nodes - 4 ≡ length old.nodes.nodes - 4 + wide_at_end (production_at rule.rule.number) rule.context known state)
-unfolding wide_at_end
-substitution_end_read s old new frame parts (Err e) begun substitution made rule known state is = tt
-substitution_end_read s old new frame parts (Ok done) begun substitution made rule known state is =
-    omega (
-      arith,
-      begun,
-      made,
-      ap (λ p. wide_at_end p rule.context known state) (ap production_at (sym is.number) ∙ substitution),
-      same (around_of (trees_in s old.nodes) frame.kept) rule.context (values_in s old.nodes (drop frame.base parts)) known _ old.packs state
-          is.kept.surrounds.is (parts_are s old (drop frame.base parts) known is.parts).1 is.holds.candidates is.holds.packs,
-    )
+    (finish_tallied (wide_view s) wide_makes s old.linked new frame parts new_parts result (ended result made) closes)
   where
-    same : (code around : Around) (us vs : List Value) (cs : List values.Candidate) (packs : Option ℕ) (state : State)
-        → code ≡ around → us ≡ vs → cs ≡ state.candidates → packs ≡ state.packs
-        → substituted_nodes around (named_by state vs) ≡ substituted_nodes code (named_by (record { candidates = cs; packs = packs }) us)
-    same code around us vs cs packs state context known candidates packed = rw (context, known, candidates) refl
+    same : (m n : ℕ) (code around : Around) (us vs : List Value) (cs : List values.Candidate) (packs : Option ℕ) (state : State)
+        → m ≡ n → code ≡ around → us ≡ vs → cs ≡ state.candidates → packs ≡ state.packs
+        → wide_at_end (production_at n) around vs state ≡ wide_at_end (production_at m) code us (record { candidates = cs; packs = packs })
+    same m n code around us vs cs packs state number context known candidates packed = rw (number, context, known, candidates, packed) refl
+
+    ended : (r : Result (Unit {0}) Refusal)
+        → OnOk r (length new.nodes.nodes ≡ length old.linked.nodes.nodes + wide_ends s old.linked frame.kept (production_at frame.rule) (values_in s old.linked.nodes (drop frame.base parts)))
+        → (rule : Open State Around) (known : List Value) (state : State) → IsAt (wide_view s) s old.linked frame (drop frame.base parts) rule known state
+        → OnOk r (length new.nodes.nodes - 4 ≡ length old.linked.nodes.nodes - 4 + wide_at_end (production_at rule.rule.number) rule.context known state)
+    ended (Err e) more rule known state is = tt
+    ended (Ok done) more rule known state is =
+        omega (
+          arith,
+          begun,
+          more,
+          same frame.rule rule.rule.number (around_of (trees_in s old.linked.nodes) frame.kept) rule.context (values_in s old.linked.nodes (drop frame.base parts)) known _ old.linked.packs state
+              is.number is.kept.surrounds.is (parts_are s old.linked (drop frame.base parts) known is.parts).1 is.holds.candidates is.holds.packs,
+        )
 
 -- ## A tree that is there again
 

@@ -22,7 +22,9 @@ use Rattle.cpp_link.specs.declared.rescoping.Rescoping.{Rescoping}
 use Rattle.cpp_link.specs.declared.part.Part.{Part}
 use Rattle.cpp_references.specs.declared.around.Surroundings.{Surroundings}
 use Rattle.cpp_link.specs.LinkReading.{link_begin, link_close, link_meaning}
+use Rattle.cpp_link.specs.Making.{state_of}
 use Rattle.cpp_link.specs.NodeCount.{makes_before, makes_at_end, counted_nodes}
+use Rattle.cpp_link.specs.Parts.{trees_in, around_of}
 use Rattle.cpp_link.specs.View.{cpp_view}
 
 -- ## The reading
@@ -103,6 +105,10 @@ substituted_nodes around (Some c) = elim (is_foreign around c) [ true ↦ 1 | fa
 unfoldable pub wide_at_end : Production → Around → List Value → State → ℕ
 wide_at_end Production.Substitution around known state = substituted_nodes around (named_by state known)
 wide_at_end p around known state = makes_at_end p known
+
+-- of a rule with these parts, which closes when so much is linked
+abbrev pub wide_ends : List ℕ → Linked → Surroundings → Production → List Value → ℕ
+wide_ends s l kept p known = wide_at_end p (around_of (trees_in s l.nodes) kept) known (state_of s l)
 
 abbrev pub wide_makes : Makes Value State Around
 wide_makes = record {

@@ -44,16 +44,6 @@ unfoldable pub ending_node : Node → Bool
 ending_node (Node.Operation first second left right) = is_code 99 109 first second || is_code 103 116 first second || is_code 114 115 first second
 ending_node _ = false
 
--- the encoding that is a literal
-unfoldable pub encoding_in : Node → Option ℕ
-encoding_in (Node.EncodingLiteral encoding) = Some encoding
-encoding_in _ = None
-
--- an operation, or the address of this encoding
-unfoldable pub operation_read : List Term → Option ℕ → (first second : ℕ) → (left right : Term) → Term
-operation_read ts None first second left right = term.operation first second left right
-operation_read ts (Some encoding) first second left right = term.address_of (tree_at ts encoding)
-
 -- the first element and the others of a list that has some, and the argument under which both are
 unfoldable pub cell_under : Node → Option ℕ → Option Split
 cell_under (Node.Cell first rest) under = Some (record { first = first; rest = rest; under = under })

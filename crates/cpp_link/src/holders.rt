@@ -1,28 +1,29 @@
 // Names with an `M`, by the wide grammar. Not all compilers count the name before it among the candidates.
 
-ghost use Rattle.std.specs.Prelude.{◌≡◌, ℕ, ◌+◌, ◌-◌, ◌<◌, ◌≤◌, ◌^◌, MatchOption, length, drop, slice_index, true, false, Ok, IfOk, IfErr, OnOk, OnErr};
+ghost use Rattle.std.specs.Prelude.{◌≡◌, ℕ, ◌+◌, ◌-◌, ◌<◌, ◌≤◌, ◌^◌, MatchOption, length, slice_index, true, false, Ok, IfOk, IfErr, OnOk, OnErr};
 ghost use Rattle.sym_core.specs.Number.{FitsSymbol};
 ghost use Rattle.sym_core.specs.Value.{counted_value};
 ghost use Rattle.sym_core.specs.declared.NumberKind.TheVariants as kinds;
 ghost use Rattle.sym_core.specs.declared.refusal.Refusal.TheVariants as refusals;
 ghost use Rattle.sym_link.specs.Driving.{Fails};
-ghost use Rattle.sym_link.specs.Linking.{HasRoom, Adds, AddsFew, Pays, owed_behind};
-ghost use Rattle.sym_link.specs.Threads.{IsOpenAt, ClosesAll};
+ghost use Rattle.sym_link.specs.Linking.{HasRoom, owed_behind};
+ghost use Rattle.sym_link.specs.Threads.{IsOpenAt};
 ghost use Rattle.sym_link.specs.Unfold.{found};
 ghost use Rattle.cpp_grammar.specs.declared.production.Production.TheVariants as productions;
 ghost use Rattle.cpp_grammar.specs.Unfolding.{production_at};
 ghost use Rattle.cpp_term.specs.Rescoping.{counted_base, is_counted_alike, is_instance, numbered};
-ghost use Rattle.cpp_term.specs.Values.{State, Around, part, text_of};
+ghost use Rattle.cpp_term.specs.Values.{State, Around, part};
 ghost use Rattle.cpp_tree.specs.Nodes.{over, tree_at, bytes_at, IsThereBelow, IsWithin, IsTable};
 ghost use Rattle.cpp_link.specs.Closes.{ends_of};
 ghost use Rattle.cpp_link.specs.Grows.{HasPlace};
 ghost use Rattle.cpp_link.specs.LinkReading.{link_meaning};
-ghost use Rattle.cpp_link.specs.LinkRescoping.{number_in, named_by, substituted_nodes, wide_view};
+ghost use Rattle.cpp_link.specs.LinkRescoping.{number_in, named_by, substituted_nodes, wide_ends, wide_view};
 ghost use Rattle.cpp_link.specs.Making.{state_of};
 ghost use Rattle.cpp_link.specs.NodeCount.{makes_at_end};
 ghost use Rattle.cpp_link.specs.Parts.{trees_in, value_in, values_in, around_of, candidates_of, IsClosed, IsThere, AreThere, IsKeptThere, AreCandidatesThere};
+ghost use Rattle.cpp_link.specs.Progress.{Finishes};
 ghost use Rattle.cpp_link.specs.Reads.{instance_node, with_candidate};
-ghost use Rattle.cpp_link.specs.Room.{KeepsRoom, LacksRoom, IsRoomy};
+ghost use Rattle.cpp_link.specs.Room.{KeepsRoom, LacksRoom};
 ghost use Rattle.cpp_link.specs.View as view;
 ghost use Rattle.cpp_link.specs.View.{IsPaid, IsWhole, cpp_view};
 
@@ -183,7 +184,7 @@ impl Linked {
     ///
     /// `Memory` where a list couldn't grow.
     #[tactic(auto, using(crate::proofs::Viewing::own_there, crate::proofs::Viewing::open_whole, crate::proofs::Viewing::open_kept))]
-    pub fn finish_inheriting(
+    pub(crate) fn finish_inheriting(
         &mut self,
         symbol: &[u8],
         frame: &Frame<Surroundings>,
@@ -194,12 +195,7 @@ impl Linked {
         requires open { IsOpenAt (cpp_view symbol.now) symbol.now self.old frame.now parts.old.items }
         requires base { frame.now.base ≤ length parts.old.items }
         requires place { frame.now.place < length symbol.now }
-        ensures closes { ClosesAll (wide_view symbol.now) symbol.now self.old self.new frame.now parts.old.items parts.new.items result }
-        ensures adds { OnOk result (Adds (cpp_view symbol.now) self.old self.new (owed_behind (cpp_view symbol.now) frame.now parts.old.items) 0) }
-        ensures few { AddsFew (cpp_view symbol.now) self.old self.new frame.now parts.old.items }
-        ensures makes { OnOk result (length self.new.nodes.nodes ≡ length self.old.nodes.nodes + makes_at_end (production_at frame.now.rule) (values_in symbol.now self.old.nodes (drop frame.now.base parts.old.items))) }
-        ensures pays { OnOk result ((at : ℕ) → Pays (cpp_view symbol.now) self.old self.new at at) }
-        ensures roomy { IsRoomy self.old self.new parts.old parts.new result }
+        ensures { Finishes (wide_view symbol.now) (wide_ends symbol.now self.old frame.now.kept) symbol.now self.old self.new frame.now parts.old parts.new result }
     {
         let made = self.close_inheriting(symbol, frame.place, frame.kept, &parts[frame.base..])?;
         put(parts, frame.base, made)

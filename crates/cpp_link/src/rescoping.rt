@@ -1,13 +1,13 @@
 // What is linked of a symbol by the wide grammar: in a lambda's signature parameters are the lambda's own, such a lambda is a piece of
 // its own, and a substitution stands for its tree with the arguments that are meant where it is.
 
-ghost use Rattle.std.specs.Prelude.{◌≡◌, ℕ, ◌+◌, ◌-◌, ◌<◌, ◌≤◌, ◌^◌, ◌∷◌, [], MatchOption, ◌&&◌, ◌||◌, List, length, drop, true, Ok, IfOk, IfErr, OnOk};
+ghost use Rattle.std.specs.Prelude.{◌≡◌, ℕ, ◌+◌, ◌-◌, ◌<◌, ◌≤◌, ◌^◌, ◌∷◌, [], MatchOption, ◌&&◌, ◌||◌, List, length, true, Ok, IfOk, IfErr, OnOk};
 ghost use Rattle.sym_core.specs.Value.{counted_value};
 ghost use Rattle.sym_core.specs.declared.NumberKind.TheVariants as kinds;
 ghost use Rattle.sym_core.specs.declared.refusal.Refusal.TheVariants as refusals;
 ghost use Rattle.sym_link.specs.Driving.{Fails};
-ghost use Rattle.sym_link.specs.Linking.{HasRoom, Adds, AddsFew, Pays, owed_behind};
-ghost use Rattle.sym_link.specs.Threads.{IsOpenAt, ClosesAll};
+ghost use Rattle.sym_link.specs.Linking.{HasRoom, owed_behind};
+ghost use Rattle.sym_link.specs.Threads.{IsOpenAt};
 ghost use Rattle.sym_link.specs.Unfold.{found};
 ghost use Rattle.cpp_grammar.specs.declared.production.Production.TheVariants as productions;
 ghost use Rattle.cpp_grammar.specs.declared.production.Production.{Production as Production-type};
@@ -17,13 +17,13 @@ ghost use Rattle.cpp_term.specs.Values as values;
 ghost use Rattle.cpp_term.specs.Rescoping.{is_foreign, restated, substituted_wide, as_generic_lambda, between_wide};
 ghost use Rattle.cpp_tree.specs.Nodes.{over, tree_at, bytes_at, piece_of, IsThereBelow, IsPieceBelow, IsWithin, IsTable};
 ghost use Rattle.cpp_link.specs.Grows.{HasPlace};
-ghost use Rattle.cpp_link.specs.LinkRescoping.{is_parameter, is_parameter_argument, steps_apart, with_mark, going_marked, generic_read, named_by, substituted_nodes, wide_view};
+ghost use Rattle.cpp_link.specs.LinkRescoping.{is_parameter, is_parameter_argument, steps_apart, with_mark, going_marked, generic_read, named_by, substituted_nodes, wide_ends, wide_view};
 ghost use Rattle.cpp_link.specs.Making.{state_of};
-ghost use Rattle.cpp_link.specs.NodeCount.{makes_before, makes_at_end};
+ghost use Rattle.cpp_link.specs.NodeCount.{makes_before};
 ghost use Rattle.cpp_link.specs.Parts.{trees_in, value_in, values_in, is_lambda, around_of, candidate_of, IsClosed, IsThere, AreThere, IsKeptThere, IsStepThere};
-ghost use Rattle.cpp_link.specs.Progress.{Advances};
+ghost use Rattle.cpp_link.specs.Progress.{Advances, Finishes};
 ghost use Rattle.cpp_link.specs.Reads.{with_candidate, goes_on};
-ghost use Rattle.cpp_link.specs.Room.{KeepsRoom, LacksRoom, IsRoomy};
+ghost use Rattle.cpp_link.specs.Room.{KeepsRoom, LacksRoom};
 ghost use Rattle.cpp_link.specs.Stepping.{IsStepOf, nodes_of_step};
 ghost use Rattle.cpp_link.specs.View as view;
 ghost use Rattle.cpp_link.specs.View.{IsPaid, IsWhole, cpp_view};
@@ -197,7 +197,7 @@ impl Linked {
     ///
     /// Those of `step_apart`, and `Memory` where a list couldn't grow.
     #[tactic(auto, using(crate::proofs::Viewing::own_there, crate::proofs::Viewing::open_kept))]
-    pub fn before_apart(
+    pub(crate) fn before_apart(
         &mut self,
         symbol: &[u8],
         frame: &Frame<Surroundings>,
@@ -325,7 +325,7 @@ impl Linked {
     ///
     /// Those of `substitute_counted`, and `Memory` where the list of parts couldn't grow.
     #[tactic(auto, using(crate::proofs::Viewing::own_there))]
-    pub fn finish_substitution(
+    pub(crate) fn finish_substitution(
         &mut self,
         symbol: &[u8],
         frame: &Frame<Surroundings>,
@@ -335,12 +335,7 @@ impl Linked {
         requires room { HasRoom (cpp_view symbol.now) symbol.now self.old (owed_behind (cpp_view symbol.now) frame.now parts.old.items) }
         requires open { IsOpenAt (cpp_view symbol.now) symbol.now self.old frame.now parts.old.items }
         requires base { frame.now.base ≤ length parts.old.items }
-        ensures closes { ClosesAll (wide_view symbol.now) symbol.now self.old self.new frame.now parts.old.items parts.new.items result }
-        ensures adds { OnOk result (Adds (cpp_view symbol.now) self.old self.new (owed_behind (cpp_view symbol.now) frame.now parts.old.items) 0) }
-        ensures few { AddsFew (cpp_view symbol.now) self.old self.new frame.now parts.old.items }
-        ensures makes { OnOk result (length self.new.nodes.nodes ≡ length self.old.nodes.nodes + substituted_nodes (around_of (trees_in symbol.now self.old.nodes) frame.now.kept) (named_by (state_of symbol.now self.old) (values_in symbol.now self.old.nodes (drop frame.now.base parts.old.items)))) }
-        ensures pays { OnOk result ((at : ℕ) → Pays (cpp_view symbol.now) self.old self.new at at) }
-        ensures roomy { IsRoomy self.old self.new parts.old parts.new result }
+        ensures { Finishes (wide_view symbol.now) (wide_ends symbol.now self.old frame.now.kept) symbol.now self.old self.new frame.now parts.old parts.new result }
     {
         let made = self.substitute_counted(symbol, frame.place, frame.kept, &parts[frame.base..])?;
         put(parts, frame.base, made)
@@ -386,7 +381,7 @@ impl Linked {
     ///
     /// `Memory` where a list couldn't grow.
     #[tactic(auto, using(crate::proofs::Viewing::own_there, crate::proofs::Viewing::open_whole, crate::proofs::Viewing::open_kept))]
-    pub fn finish_lambda(
+    pub(crate) fn finish_lambda(
         &mut self,
         symbol: &[u8],
         frame: &Frame<Surroundings>,
@@ -397,12 +392,7 @@ impl Linked {
         requires open { IsOpenAt (cpp_view symbol.now) symbol.now self.old frame.now parts.old.items }
         requires base { frame.now.base ≤ length parts.old.items }
         requires place { frame.now.place < length symbol.now }
-        ensures closes { ClosesAll (wide_view symbol.now) symbol.now self.old self.new frame.now parts.old.items parts.new.items result }
-        ensures adds { OnOk result (Adds (cpp_view symbol.now) self.old self.new (owed_behind (cpp_view symbol.now) frame.now parts.old.items) 0) }
-        ensures few { AddsFew (cpp_view symbol.now) self.old self.new frame.now parts.old.items }
-        ensures makes { OnOk result (length self.new.nodes.nodes ≡ length self.old.nodes.nodes + makes_at_end (production_at frame.now.rule) (values_in symbol.now self.old.nodes (drop frame.now.base parts.old.items))) }
-        ensures pays { OnOk result ((at : ℕ) → Pays (cpp_view symbol.now) self.old self.new at at) }
-        ensures roomy { IsRoomy self.old self.new parts.old parts.new result }
+        ensures { Finishes (wide_view symbol.now) (wide_ends symbol.now self.old frame.now.kept) symbol.now self.old self.new frame.now parts.old parts.new result }
     {
         let made = self.make_rare(
             symbol,

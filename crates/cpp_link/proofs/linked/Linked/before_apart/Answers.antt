@@ -4,18 +4,20 @@ use Rattle.sym_link.proofs.Lists.{rest_all}
 use Rattle.cpp_grammar.specs.Unfolding.{production_at}
 use Rattle.cpp_link.specs.declared.part.Part.{Part}
 use Rattle.cpp_link.specs.Stepping.{nodes_of_step}
-use Rattle.cpp_link.specs.LinkRescoping.{steps_apart, with_mark, wide_view}
+use Rattle.cpp_link.specs.LinkRescoping.{linked_wide, steps_apart, with_mark, going_marked, wide_view}
 use Rattle.cpp_link.specs.Making.{state_of}
-use Rattle.cpp_link.specs.Parts.{values_in, is_lambda}
+use Rattle.cpp_link.specs.Parts.{trees_in, values_in, is_lambda, around_of}
 use Rattle.cpp_link.specs.Progress.{Advances}
 use Rattle.cpp_link.specs.Room.{KeepsRoom}
 use Rattle.cpp_link.specs.Staying.{around_stays, kept_more}
 use Rattle.cpp_term.specs.Values.{Around}
+use Rattle.cpp_term.specs.Rescoping.{between_wide}
 use Rattle.cpp_term.proofs.Notes.{both}
 use Rattle.cpp_link.proofs.NodeCount.{made_before_part}
-use Rattle.cpp_link.proofs.GoingOn.{refused_few, step_of_rule, refused_advances, lacking_advances, taken_advances}
-use Rattle.cpp_link.proofs.Rescoped.{wide_goes_right, wide_refused_right, no_pack}
+use Rattle.cpp_link.proofs.GoingOn.{goes_right, refused_right, refused_few, step_of_rule, refused_advances, lacking_advances, taken_advances}
+use Rattle.cpp_link.proofs.Rescoped.{wide_reads, marking_is, no_pack}
 use Rattle.cpp_link.proofs.Rooms.{same_room, keeps_on, lacks_on}
+use Rattle.cpp_link.proofs.Scopes.{wide_between_closed}
 use Rattle.cpp_link.proofs.Viewing.{open_there}
 use Rattle.cpp_link.proofs.linked.Linked.before_apart.Goals as goal
 
@@ -36,7 +38,7 @@ returns-in_err-step c =
     let parts = c.args.parts.now.items in
     let e = c.in_err-step.field-0.0 in
     refused_advances (wide_view s) s old old frame c.args.parts.now c.args.parts.now (same_room old old refl refl) (omega arith) c.from_residual.result e c.from_residual.ensures.1
-    (wide_refused_right s old old frame parts parts _ c.production_of-production.result e (rw c.deref.ensures.value (rest_all parts frame.base)) c.production_of-production.ensures c.in_err-step.ensures.refused)
+    (refused_right (linked_wide s) between_wide (wide_reads s) s old frame parts _ c.production_of-production.result (rw c.deref.ensures.value (rest_all parts frame.base)) c.production_of-production.ensures old parts e c.in_err-step.ensures.refused)
     (omega arith) (λ memory. absurd (c.in_err-step.ensures.bad memory))
 
 pub take_step-requires-clause-there : goal.take_step-requires-clause-there
@@ -108,5 +110,6 @@ returns c =
     (taken_advances (wide_view s) s old mid new.candidates frame c.args.parts.now c.take_step.new.parts keeps c.take_step.ensures.capacity c.in_ok-step.step c.in_ok-then.then of c.requires.room.paid takes
     (c.in_ok-then.ensures.few (production_at frame.rule) of (λ is none. absurd (no_pack (production_at frame.rule) _ _ c.requires.apart is))) c.in_ok-then.ensures.more
     (made_before_part s old frame parts own production (nodes_of_step c.in_ok-step.step) same c.production_of-production.ensures c.in_ok-step.ensures.makes)
-    (wide_goes_right s old mid new.candidates frame parts new_parts own production c.in_ok-step.step c.in_ok-then.then same c.production_of-production.ensures c.in_ok-step.ensures.is takes
-    c.in_ok-append.ensures.there marked))
+    (goes_right (linked_wide s) between_wide (wide_reads s) s old frame parts own production same c.production_of-production.ensures mid new.candidates new_parts c.in_ok-step.step c.in_ok-then.then
+    (going_marked production (around_of (trees_in s old.nodes) frame.kept)) (wide_between_closed production _ _ _ _) c.in_ok-step.ensures.is takes c.in_ok-append.ensures.there
+    (marking_is production (around_of (trees_in s old.nodes) frame.kept) _ _ marked)))
