@@ -67,26 +67,21 @@ module _ (reading : Reading Value State Around) (before : Production → Around 
           → before (production_at n) context p vs state ≡ before (production_at m) code q us (record { candidates = cs; packs = packs })
       same_before m n q p code context us vs cs packs state number place surrounded known candidates packed = rw (number, place, surrounded, known, candidates, packed) refl
 
+  -- what is gone on with
+  abbrev gone : (mid : Linked) (new_parts : List Part) (then : Surroundings) → State → Next Value State Around
+  gone mid new_parts then state = record { values = values_in s mid.nodes (drop frame.base new_parts); context = around_of (trees_in s mid.nodes) then; state = state }
+
   -- the step that was taken, with what is marked then, is that of the reading, and these are the candidates after it
   pub goes_right : (mid : Linked) (more : Vec Candidate Global) (new_parts : List Part) (step : Step) (then : Surroundings) (marking : Going → Going)
       → ((n : Next Value State Around) → before production around frame.place (values_in s old.nodes own) (state_of s old) ≡ Ok n → IsClosed around → IsClosed n.context)
       → ((cs : List values.Candidate) → before production around frame.place (values_in s old.nodes own) (record { candidates = cs; packs = old.packs })
       ≡ marking (goes_on s old.nodes frame.kept (values_in s old.nodes own) cs old.packs step))
       → Takes s old mid frame.kept frame.base parts new_parts step then → AreCandidatesThere (length mid.nodes.nodes) more.items
-      → marking (Ok (record { values = values_in s mid.nodes (drop frame.base new_parts); context = around_of (trees_in s mid.nodes) then; state = state_of s mid }))
-      ≡ Ok (record {
-        values = values_in s mid.nodes (drop frame.base new_parts);
-        context = around_of (trees_in s mid.nodes) then;
-        state = record { candidates = candidates_of (trees_in s mid.nodes) more.items; packs = mid.packs };
-      })
+      → marking (Ok (gone mid new_parts then (state_of s mid))) ≡ Ok (gone mid new_parts then (record { candidates = candidates_of (trees_in s mid.nodes) more.items; packs = mid.packs }))
       → GoesOn view s (Surrounds s) old (record mid { candidates = more }) frame parts new_parts (Ok then)
   goes_right mid more new_parts step then marking closed step_is takes there marked rule known state is =
       let reached = step_is (state_of s old).candidates ∙ ap (λ ps. marking (goes_on s old.nodes frame.kept (values_in s old.nodes ps) (state_of s old).candidates old.packs step)) same ∙ ap marking takes.is ∙ marked in (
-        record {
-          values = values_in s mid.nodes (drop frame.base new_parts);
-          context = around_of (trees_in s mid.nodes) then;
-          state = record { candidates = candidates_of (trees_in s mid.nodes) more.items; packs = mid.packs };
-        },
+        gone mid new_parts then (record { candidates = candidates_of (trees_in s mid.nodes) more.items; packs = mid.packs }),
         read_is rule known state is ∙ reached,
         record {
           there = takes.around;

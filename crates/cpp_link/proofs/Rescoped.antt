@@ -34,12 +34,11 @@ use Rattle.cpp_link.specs.declared.linked.Linked.{Linked}
 use Rattle.cpp_link.specs.declared.part.Part.{Part}
 use Rattle.cpp_link.specs.declared.rescoping.Rescoping.{Rescoping}
 use Rattle.cpp_references.specs.declared.around.Surroundings.{Surroundings}
-use Rattle.cpp_references.specs.declared.candidates.Candidate.{Candidate}
 use Rattle.cpp_link.specs.declared.part.Step.{Step}
 use Rattle.cpp_link.specs.LinkReading.{link_close, link_meaning}
 use Rattle.cpp_link.specs.LinkRescoping.{link_close_wide, linked_wide, wide_ends, is_parameter, is_parameter_argument, steps_apart, with_mark, going_marked, generic_read, wide_at_end, wide_view, wide_makes, wide_counted}
 use Rattle.cpp_link.specs.NodeCount.{makes_before, makes_at_end}
-use Rattle.cpp_link.specs.Parts.{trees_in, value_of, values_of, values_in, is_lambda, around_of, candidates_of, IsThere, AreCandidatesThere}
+use Rattle.cpp_link.specs.Parts.{trees_in, value_of, values_of, values_in, is_lambda, around_of, candidates_of, AreCandidatesThere}
 use Rattle.cpp_link.specs.Reads.{goes_on}
 use Rattle.cpp_link.specs.Staying.{candidates_stay}
 use Rattle.cpp_link.specs.View.{Surrounds, cpp_view}
@@ -54,25 +53,18 @@ use Rattle.cpp_link.proofs.Within.{at_plain, goes_within, closes_within}
 second : (l : Bool) (before : ℕ) → (l && nat_eq before 1) ≡ true → (l ≡ true) × (before ≡ 1)
 second l before is = let both_ = and_parts l (nat_eq before 1) is in (both_.0, eqb-true before 1 both_.1)
 
+-- outside of a lambda's signature a parameter is named as in the other reading
+named_outside : (in_lambda : Bool) (around : Around) (place k : ℕ) (state : State) → (in_lambda && true) ≡ false
+    → elim in_lambda [ true ↦ generic_so_far around k [] state | false ↦ parameter_so_far around place k [] state ] ≡ parameter_so_far around place k [] state
+named_outside true around place k state e = absurd (true≢false e)
+named_outside false around place k state e = refl
+
 -- where the wide reading does nothing of its own, it goes as in the other reading
 apart_between : (p : Production) (around : Around) (place : ℕ) (vs : List Value) (state : State) → steps_apart p around.in_lambda (length vs) ≡ false → between_wide p around place vs state ≡ between p around place vs state
 unfolding between_wide between steps_apart parameter_here argument_here parameter_named parameter_so_far listed_so_far argument_so_far
-apart_between Production.Parameter around place (v ∷ []) state apart = go around.in_lambda apart
-  where
-    go : (b : Bool) → (b && true) ≡ false → elim b [ true ↦ generic_so_far around (index_of v) [] state | false ↦ parameter_so_far around place (index_of v) [] state ] ≡ parameter_so_far around place (index_of v) [] state
-    go true e = absurd (true≢false e)
-    go false e = refl
-apart_between Production.NestParameter around place (v ∷ []) state apart = go around.in_lambda apart
-  where
-    go : (b : Bool) → (b && true) ≡ false → elim b [ true ↦ generic_so_far around (index_of v) [] state | false ↦ parameter_so_far around place (index_of v) [] state ] ≡ parameter_so_far around place (index_of v) [] state
-    go true e = absurd (true≢false e)
-    go false e = refl
-apart_between Production.ParameterArgument around place (v ∷ []) state apart = go around.in_lambda apart
-  where
-    go : (b : Bool) → (b && true) ≡ false
-        → elim b [ true ↦ generic_so_far around (index_of v) [] state | false ↦ parameter_so_far around (place - 1) (index_of v) [] state ] ≡ parameter_so_far around (place - 1) (index_of v) [] state
-    go true e = absurd (true≢false e)
-    go false e = refl
+apart_between Production.Parameter around place (v ∷ []) state apart = named_outside around.in_lambda around place (index_of v) state apart
+apart_between Production.NestParameter around place (v ∷ []) state apart = named_outside around.in_lambda around place (index_of v) state apart
+apart_between Production.ParameterArgument around place (v ∷ []) state apart = named_outside around.in_lambda around (place - 1) (index_of v) state apart
 apart_between Production.ParameterExpression around place (v ∷ []) state apart = go around.in_lambda apart
   where
     own : Going
@@ -108,7 +100,7 @@ apart_goes s old new frame parts new_parts before result counted apart goes rule
     same_test : (m n : ℕ) (a b : Bool) (h k : ℕ) → m ≡ n → a ≡ b → h ≡ k → steps_apart (production_at m) a h ≡ false → steps_apart (production_at n) b k ≡ false
     same_test m n a b h k e f g is = rw (← e, ← f, ← g) is
 
--- the mark is the only difference that it makes
+-- what is gone on with where the candidates have this mark
 pub marking_is : (production : Production) (around : Around) (n : Next Value State Around) (state : State) → with_mark production around n.values n.state ≡ state → going_marked production around (Ok n) ≡ Ok (record n { state = state })
 unfolding going_marked
 marking_is production around n state is = ap (λ x. Ok (record n { state = x })) is

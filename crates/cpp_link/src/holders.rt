@@ -1,6 +1,6 @@
 // Names with an `M`, by the wide grammar. Not all compilers count the name before it among the candidates.
 
-ghost use Rattle.std.specs.Prelude.{◌≡◌, ℕ, ◌+◌, ◌-◌, ◌<◌, ◌≤◌, ◌^◌, MatchOption, length, slice_index, true, false, Ok, IfOk, IfErr, OnOk, OnErr};
+ghost use Rattle.std.specs.Prelude.{◌≡◌, ℕ, ◌+◌, ◌-◌, ◌<◌, ◌≤◌, ◌^◌, MatchOption, length, slice_index, true, false, Ok, IfOk, IfErr, OnOk};
 ghost use Rattle.sym_core.specs.Number.{FitsSymbol};
 ghost use Rattle.sym_core.specs.Value.{counted_value};
 ghost use Rattle.sym_core.specs.declared.NumberKind.TheVariants as kinds;
@@ -21,10 +21,8 @@ ghost use Rattle.cpp_link.specs.LinkRescoping.{number_in, named_by, substituted_
 ghost use Rattle.cpp_link.specs.Making.{state_of};
 ghost use Rattle.cpp_link.specs.NodeCount.{makes_at_end};
 ghost use Rattle.cpp_link.specs.Parts.{trees_in, value_in, values_in, around_of, candidates_of, IsClosed, IsThere, AreThere, IsKeptThere, AreCandidatesThere};
-ghost use Rattle.cpp_link.specs.Progress.{Finishes};
+ghost use Rattle.cpp_link.specs.Progress.{Finishes, MakesPart};
 ghost use Rattle.cpp_link.specs.Reads.{instance_node, with_candidate};
-ghost use Rattle.cpp_link.specs.Room.{KeepsRoom, LacksRoom};
-ghost use Rattle.cpp_link.specs.View as view;
 ghost use Rattle.cpp_link.specs.View.{IsPaid, IsWhole, cpp_view};
 
 use crate::linked::{Linked, has_holder, is_apart};
@@ -102,14 +100,7 @@ impl Linked {
         requires room { HasPlace symbol.now self.old.nodes 2 }
         ensures is { IfOk result (λ made. numbered (around_of (trees_in symbol.now self.old.nodes) kept) (place - 1) (number_in (values_in symbol.now self.old.nodes parts.now)) (state_of symbol.now self.old) ≡ Ok (found (value_in symbol.now self.new.nodes made) (state_of symbol.now self.new))) }
         ensures refused { IfErr result (λ e. Fails e (numbered (around_of (trees_in symbol.now self.old.nodes) kept) (place - 1) (number_in (values_in symbol.now self.old.nodes parts.now)) (state_of symbol.now self.old))) }
-        ensures there { IfOk result (λ made. IsThere symbol.now (length self.new.nodes.nodes) made) }
-        ensures grows { OnOk result (view.GoesOn symbol.now self.old self.new) }
-        ensures few { length self.new.nodes.nodes ≤ length self.old.nodes.nodes + 2 }
-        ensures makes { OnOk result (length self.new.nodes.nodes ≡ length self.old.nodes.nodes + substituted_nodes (around_of (trees_in symbol.now self.old.nodes) kept) (named_by (state_of symbol.now self.old) (values_in symbol.now self.old.nodes parts.now))) }
-        ensures paid { OnOk result (IsPaid self.new) }
-        ensures whole { OnOk result (IsWhole symbol.now self.new) }
-        ensures keeps { KeepsRoom self.old self.new }
-        ensures full { IfErr result (λ e. e ≡ refusals.Memory → LacksRoom self.old self.new) }
+        ensures made { MakesPart symbol.now self.old self.new 2 (substituted_nodes (around_of (trees_in symbol.now self.old.nodes) kept) (named_by (state_of symbol.now self.old) (values_in symbol.now self.old.nodes parts.now))) result }
     {
         let digits = self.text(symbol, parts, 0);
         if self.is_counted_alike(symbol, digits) {
@@ -161,15 +152,8 @@ impl Linked {
         requires kept { IsKeptThere (length self.old.nodes.nodes) kept }
         ensures value { IfOk result (λ made. value_in symbol.now self.new.nodes made ≡ link_meaning symbol.now productions.Inheriting (slice_index symbol.now place) place (around_of (trees_in symbol.now self.old.nodes) kept) (values_in symbol.now self.old.nodes parts.now)) }
         ensures state { OnOk result (counted_base (around_of (trees_in symbol.now self.old.nodes) kept) (part (values_in symbol.now self.old.nodes parts.now) 1) (state_of symbol.now self.old) ≡ state_of symbol.now self.new) }
-        ensures there { IfOk result (λ made. IsThere symbol.now (length self.new.nodes.nodes) made) }
-        ensures grows { OnOk result (view.GoesOn symbol.now self.old self.new) }
-        ensures few { length self.new.nodes.nodes ≤ length self.old.nodes.nodes + ends_of productions.Inheriting parts.now }
-        ensures makes { OnOk result (length self.new.nodes.nodes ≡ length self.old.nodes.nodes + makes_at_end productions.Inheriting (values_in symbol.now self.old.nodes parts.now)) }
-        ensures paid { OnOk result (IsPaid self.new) }
-        ensures whole { OnOk result (IsWhole symbol.now self.new) }
+        ensures made { MakesPart symbol.now self.old self.new (ends_of productions.Inheriting parts.now) (makes_at_end productions.Inheriting (values_in symbol.now self.old.nodes parts.now)) result }
         ensures memory { IfErr result (λ e. e ≡ refusals.Memory) }
-        ensures keeps { KeepsRoom self.old self.new }
-        ensures full { OnErr result (LacksRoom self.old self.new) }
     {
         let base = self.base_to_count(symbol, self.given(symbol, parts, 1));
         let made = self.make_rare(symbol, Production::Inheriting, place, kept, parts)?;

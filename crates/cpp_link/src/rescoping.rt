@@ -1,7 +1,7 @@
 // What is linked of a symbol by the wide grammar: in a lambda's signature parameters are the lambda's own, such a lambda is a piece of
 // its own, and a substitution stands for its tree with the arguments that are meant where it is.
 
-ghost use Rattle.std.specs.Prelude.{◌≡◌, ℕ, ◌+◌, ◌-◌, ◌<◌, ◌≤◌, ◌^◌, ◌∷◌, [], MatchOption, ◌&&◌, ◌||◌, List, length, true, Ok, IfOk, IfErr, OnOk};
+ghost use Rattle.std.specs.Prelude.{◌≡◌, ℕ, ◌-◌, ◌<◌, ◌≤◌, ◌^◌, ◌∷◌, [], MatchOption, ◌&&◌, ◌||◌, List, length, true, Ok, IfOk, IfErr};
 ghost use Rattle.sym_core.specs.Value.{counted_value};
 ghost use Rattle.sym_core.specs.declared.NumberKind.TheVariants as kinds;
 ghost use Rattle.sym_core.specs.declared.refusal.Refusal.TheVariants as refusals;
@@ -21,11 +21,9 @@ ghost use Rattle.cpp_link.specs.LinkRescoping.{is_parameter, is_parameter_argume
 ghost use Rattle.cpp_link.specs.Making.{state_of};
 ghost use Rattle.cpp_link.specs.NodeCount.{makes_before};
 ghost use Rattle.cpp_link.specs.Parts.{trees_in, value_in, values_in, is_lambda, around_of, candidate_of, IsClosed, IsThere, AreThere, IsKeptThere, IsStepThere};
-ghost use Rattle.cpp_link.specs.Progress.{Advances, Finishes};
+ghost use Rattle.cpp_link.specs.Progress.{Advances, Finishes, MakesPart};
 ghost use Rattle.cpp_link.specs.Reads.{with_candidate, goes_on};
-ghost use Rattle.cpp_link.specs.Room.{KeepsRoom, LacksRoom};
 ghost use Rattle.cpp_link.specs.Stepping.{IsStepOf, nodes_of_step};
-ghost use Rattle.cpp_link.specs.View as view;
 ghost use Rattle.cpp_link.specs.View.{IsPaid, IsWhole, cpp_view};
 
 use crate::dispatch::production_of;
@@ -250,14 +248,7 @@ impl Linked {
         requires room { HasPlace symbol.now self.old.nodes 2 }
         ensures is { IfOk result (λ made. restated (around_of (trees_in symbol.now self.old.nodes) kept) place (tree_at (trees_in symbol.now self.old.nodes) node) (state_of symbol.now self.old) ≡ Ok (found (value_in symbol.now self.new.nodes made) (state_of symbol.now self.new))) }
         ensures refused { IfErr result (λ e. Fails e (restated (around_of (trees_in symbol.now self.old.nodes) kept) place (tree_at (trees_in symbol.now self.old.nodes) node) (state_of symbol.now self.old))) }
-        ensures there { IfOk result (λ made. IsThere symbol.now (length self.new.nodes.nodes) made) }
-        ensures grows { OnOk result (view.GoesOn symbol.now self.old self.new) }
-        ensures few { length self.new.nodes.nodes ≤ length self.old.nodes.nodes + 2 }
-        ensures makes { OnOk result (length self.new.nodes.nodes ≡ length self.old.nodes.nodes + 1) }
-        ensures paid { OnOk result (IsPaid self.new) }
-        ensures whole { OnOk result (IsWhole symbol.now self.new) }
-        ensures keeps { KeepsRoom self.old self.new }
-        ensures full { IfErr result (λ e. e ≡ refusals.Memory → LacksRoom self.old self.new) }
+        ensures made { MakesPart symbol.now self.old self.new 2 1 result }
     {
         match argument_here(&self.nodes, symbol, kept, place, node, self.packs) {
             Ok((argument, packs)) => {
@@ -294,14 +285,7 @@ impl Linked {
         requires room { HasPlace symbol.now self.old.nodes 2 }
         ensures is { IfOk result (λ made. substituted_wide (around_of (trees_in symbol.now self.old.nodes) kept) (place - 1) (named_by (state_of symbol.now self.old) (values_in symbol.now self.old.nodes parts.now)) (state_of symbol.now self.old) ≡ Ok (found (value_in symbol.now self.new.nodes made) (state_of symbol.now self.new))) }
         ensures refused { IfErr result (λ e. Fails e (substituted_wide (around_of (trees_in symbol.now self.old.nodes) kept) (place - 1) (named_by (state_of symbol.now self.old) (values_in symbol.now self.old.nodes parts.now)) (state_of symbol.now self.old))) }
-        ensures there { IfOk result (λ made. IsThere symbol.now (length self.new.nodes.nodes) made) }
-        ensures grows { OnOk result (view.GoesOn symbol.now self.old self.new) }
-        ensures few { length self.new.nodes.nodes ≤ length self.old.nodes.nodes + 2 }
-        ensures makes { OnOk result (length self.new.nodes.nodes ≡ length self.old.nodes.nodes + substituted_nodes (around_of (trees_in symbol.now self.old.nodes) kept) (named_by (state_of symbol.now self.old) (values_in symbol.now self.old.nodes parts.now))) }
-        ensures paid { OnOk result (IsPaid self.new) }
-        ensures whole { OnOk result (IsWhole symbol.now self.new) }
-        ensures keeps { KeepsRoom self.old self.new }
-        ensures full { IfErr result (λ e. e ≡ refusals.Memory → LacksRoom self.old self.new) }
+        ensures made { MakesPart symbol.now self.old self.new 2 (substituted_nodes (around_of (trees_in symbol.now self.old.nodes) kept) (named_by (state_of symbol.now self.old) (values_in symbol.now self.old.nodes parts.now))) result }
     {
         let at = place.saturating_sub(1);
         let Some(candidate) = self.candidate(symbol, self.text(symbol, parts, 0)) else {
