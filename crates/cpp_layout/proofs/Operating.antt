@@ -1,5 +1,5 @@
 -- The operations of code are those of the table.
-use Rattle.std.proofs.Common.{◌≡◌, refl, sym, ap, ◌∙◌, subst, arith, append-nil, ℕ, ◌+◌, ◌*◌, ◌<◌, List, [], ◌∷◌, ◌++◌, length, Bool, true, false, nat_eq, ◌||◌, Option, Some, None}
+use Rattle.std.proofs.Common.{◌≡◌, refl, sym, ap, ◌∙◌, subst, arith, append-nil, ℕ, ◌+◌, ◌*◌, ◌<◌, List, [], ◌∷◌, ◌++◌, length, Bool, true, false, nat_eq, ◌||◌, Some, None}
 use Rattle.std.specs.Prelude.{nat_le}
 use Rattle.std.proofs.lemmas.Bool.{true≢false, eq-eqb, or_parts}
 use Rattle.cpp_grammar.specs.Texts.{same_bytes}
@@ -8,6 +8,7 @@ use Rattle.cpp_grammar.specs.declared.operand.Operand.{Operand}
 use Rattle.cpp_grammar.specs.Operations.{operations, operation_of_code}
 use Rattle.cpp_grammar.specs.Items as heads
 use Rattle.cpp_grammar.specs.Parts.{printed, no_operation}
+use Rattle.cpp_grammar.proofs.Chosen.{either}
 use Rattle.cpp_layout.specs.declared.operation_rows.Operation.{Operation}
 use Rattle.cpp_layout.specs.Operations.{with_code}
 use Rattle.cpp_layout.proofs.Coding.{same_bytes_sound}
@@ -47,11 +48,7 @@ unfolding operation_of_code
 none-of a b [] e = refl
 none-of a b (o ∷ os) e =
     let others = or_parts (nat_eq (a * 256 + b) (number_of o.code)) (any_number os (a * 256 + b)) e in
-    go (none-of a b os others.1) (same_bytes (a ∷ b ∷ []) o.code) (apart a b o others.0)
-  where
-    go : operation_of_code (a ∷ b ∷ []) os ≡ None → (s : Bool) → (s ≡ true → ⊥) → elim s as (λ _. Option table.Operation) [ true ↦ Some o | false ↦ operation_of_code (a ∷ b ∷ []) os ] ≡ None
-    go rest false not = rest
-    go rest true not = absurd (not refl)
+    either (λ found. found ≡ None) (same_bytes (a ∷ b ∷ []) o.code) (Some o) (operation_of_code (a ∷ b ∷ []) os) (λ is. absurd (apart a b o others.0 is)) (λ is. none-of a b os others.1)
 
 -- what has none of the codes
 pub none-printed : (a b : ℕ) (r : Operation) → any_number operations (a * 256 + b) ≡ false → Is r no_operation → Is r (printed a b)
