@@ -330,10 +330,8 @@ holder_goes around x y place packs =
 base_moves : (around : Around) (t : Term) (u : term_.Term) (x : State) (y : value_.State) → y.packs ≡ x.packs → u ≡ annotate (around_place true around) t → Moves true around x y (with_base around t x) (wide_.with_base (noted_around true around) u y)
 unfolding with_base wide_.with_base
 base_moves around t u x y packs e =
-    let a = appended around t x in
-    let b = reference_.appended (noted_around true around) u y in
     let one = one_moves true around t u x y packs e in
-    moves_then true around x a (with_holder around t a) y b (wide_.with_holder (noted_around true around) u b) one (held_moves true around t u a b one.packs e)
+    moves_then true around x _ _ y _ _ one (held_moves true around t u _ _ one.packs e)
 
 base_goes : (around : Around) (x : State) (y : value_.State) → y.packs ≡ x.packs →
     Alike {A = Next Value State Around} (Goes true (around_place true around) around x y) (next [] (inside around) (with_base around (prefix_tree around.prefix) x))
