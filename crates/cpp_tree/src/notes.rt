@@ -468,6 +468,7 @@ impl Nodes {
 
     /// A name of a piece after no other.
     #[inline(always)]
+    #[tactic(auto, unfolding(crate::specs::Notes::piece_packs, crate::specs::Notes::piece_frees, crate::specs::Notes::piece_by_argument))]
     fn noted_piece(&self, symbol: &[u8], node: Node, piece: Piece) -> Compact
         requires below { IsPieceBelow symbol.now (length self.now.nodes) piece }
         ensures { entry_of result ≡ kept node (piece_packs self.now.nodes piece) (piece_frees self.now.nodes piece) false (piece_by_argument self.now.nodes piece) Words.Plain 0 0 }
@@ -482,6 +483,7 @@ impl Nodes {
 
     /// A name of a piece after a prefix.
     #[inline(always)]
+    #[tactic(auto, unfolding(crate::specs::Notes::piece_packs, crate::specs::Notes::piece_frees, crate::specs::Notes::piece_by_argument, crate::specs::Notes::joined, crate::specs::Notes::passed))]
     fn noted_within(&self, symbol: &[u8], node: Node, prefix: u32, piece: Piece) -> Compact
         requires prefix { prefix < length self.now.nodes }
         requires below { IsPieceBelow symbol.now (length self.now.nodes) piece }
