@@ -242,7 +242,7 @@ name-scoped s w mark is_instance argument from p =
         scope_is = e.awaits.scope_is ∙ ap arguments_of e.named_so.tree_is ∙ n.all_are;
         there = n.there;
         elements = n.elements;
-        alone = λ is_pack. (n.alone is_pack).0;
+        packed = λ is_pack. let h = n.packed is_pack in (h.0, h.1);
         no_pack = n.prints.no_pack;
       }),
     )

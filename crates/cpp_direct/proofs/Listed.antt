@@ -188,19 +188,19 @@ closed-arguments s w owner p k known = elim (p.known k known) [
     all_are = refl;
     there = λ e. element-there p.ts p.tail k h.1.own h.1.there;
     elements = [];
-    alone = λ e. absurd (false≢true (sym h.0 ∙ e));
+    packed = λ e. absurd (false≢true (sym h.0 ∙ e));
     prints = h.1.prints;
   }
   | inr h ↦ record {
-    bytes = h.4.bytes;
-    placed = h.4.placed;
-    own = h.4.own;
+    bytes = h.5.bytes;
+    placed = h.5.placed;
+    own = h.5.own;
     all = list_with p.ts p.tail;
     all_are = refl;
     there = λ e. absurd (false≢true (sym e ∙ h.0));
     elements = h.1;
-    alone = λ e. (h.2, h.4.there, h.3);
-    prints = h.4.prints;
+    packed = λ e. (h.2, h.3, h.5.there, h.4);
+    prints = h.5.prints;
   }
 ]
 

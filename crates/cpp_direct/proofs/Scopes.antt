@@ -1,6 +1,6 @@
 -- What a parameter of a template may name, and where it is.
 use Rattle.sym_print.specs.declared.detail.Detail.{Detail}
-use Rattle.std.proofs.Common.{◌≡◌, ℕ, zero, suc, ◌<◌, List, [], ◌∷◌, ◌++◌, slice_get, Some, None, is_some, arith, ap, sym, ◌∙◌, subst, refl, inl, inr, Bool, true, false}
+use Rattle.std.proofs.Common.{◌≡◌, ℕ, zero, suc, ◌<◌, ◌-◌, List, [], ◌∷◌, ◌++◌, slice_get, Some, None, is_some, arith, ap, sym, ◌∙◌, subst, refl, inl, inr, Bool, true, false}
 use Rattle.std.proofs.lemmas.Bool.{false≢true}
 use Rattle.cpp_grammar.specs.Scope.{count, element, arguments_of, before_arguments, has_return_type, is_structor}
 use Rattle.cpp_grammar.specs.Term.{Term, instance}
@@ -29,7 +29,7 @@ arguments-stay text more a name has k o = let h = has k o in record {
   all_are = h.all_are;
   there = h.there;
   elements = h.elements;
-  alone = h.alone;
+  packed = h.packed;
   prints = h.prints;
 }
 
@@ -43,16 +43,16 @@ one-stays text more p k ts h = record {
   prints = h.prints;
 }
 
-pub among-stay : {detail : Detail} (text more : List ℕ) (is_pack : Bool) (a : Arguments) (ts : List Term) → AreAmong detail text is_pack a ts
-    → AreAmong detail (text ++ more) is_pack a ts
-among-stay text more is_pack a ts known k o = let h = known k o in (one-stays text more (place_of a k) k ts h.0, h.1)
+pub among-stay : {detail : Detail} (text more : List ℕ) (is_pack : Bool) (first : ℕ) (a : Arguments) (ts : List Term) → AreAmong detail text is_pack first a ts
+    → AreAmong detail (text ++ more) is_pack first a ts
+among-stay text more is_pack first a ts known k o = let h = known k o in (one-stays text more (place_of a k) k ts h.0, h.1)
 
 -- and after the last of them
 pub known-stay : {detail : Detail} (text more : List ℕ) (a : Arguments) (ts : List Term) (tail : Term) → AreKnown detail text a ts tail
     → AreKnown detail (text ++ more) a ts tail
 known-stay text more a ts tail known k o = elim (known k o) [
   | inl h ↦ inl (h.0, one-stays text more (place_of a k) k ts h.1)
-  | inr h ↦ inr (h.0, h.1, h.2, h.3, one-stays text more (place_of a k) k h.1 h.4)
+  | inr h ↦ inr (h.0, h.1, h.2, h.3, h.4, one-stays text more (place_of a k) (k - a.before) h.1 h.5)
 ]
 
 -- an element of the list of elements
@@ -90,29 +90,30 @@ pub front-scoped : (scope : Scope) (around : Around) (mark : Mark) (start : ℕ)
     → HasScope p around → IsScoped scope around (opens.Front mark start p ∷ rest)
 front-scoped scope around mark start p rest named h q e = scoped-by scope around p q (cc e) named h
 
--- which encoding is theirs and how many elements a pack has says nothing of where they are
-pub there-still : (place size : ℕ) (a : Arguments) (k : ℕ) → place_of (record a { encoding = place; elements = size }) k ≡ place_of a k
-there-still place size a zero = refl
-there-still place size a (suc zero) = refl
-there-still place size a (suc (suc zero)) = refl
-there-still place size a (suc (suc (suc zero))) = refl
-there-still place size a (suc (suc (suc (suc k)))) = refl
+-- which encoding is theirs, where a pack is and how many elements it has says nothing of where they are
+pub there-still : (place before size : ℕ) (a : Arguments) (k : ℕ)
+    → place_of (record a { encoding = place; before = before; elements = size }) k ≡ place_of a k
+there-still place before size a zero = refl
+there-still place before size a (suc zero) = refl
+there-still place before size a (suc (suc zero)) = refl
+there-still place before size a (suc (suc (suc zero))) = refl
+there-still place before size a (suc (suc (suc (suc k)))) = refl
 
 pub arguments-named : {detail : Detail} (text : List ℕ) (place : ℕ) (a : Arguments) (name : Term) → HasArguments detail text a name
     → HasArguments detail text (record a { encoding = place }) name
 arguments-named {detail} text place a name has k o =
-    let same = there-still place a.elements a k in
-    subst (λ (p : Argument). IsArgument detail text a.elements p k name) (sym same) (has k (subst IsKnown same o))
+    let same = there-still place a.before a.elements a k in
+    subst (λ (p : Argument). IsArgument detail text a.before a.elements p k name) (sym same) (has k (subst IsKnown same o))
 
-scope-inside : (number : ℕ) (is_pack : Bool) (around : Around) → IsScope number is_pack around → IsScope number is_pack (inside around)
+scope-inside : (before number : ℕ) (is_pack : Bool) (around : Around) → IsScope before number is_pack around → IsScope before number is_pack (inside around)
 unfolding inside
-scope-inside number is_pack around h = record {
+scope-inside before number is_pack around h = record {
   own = h.own;
   all = h.all;
   scope_is = h.scope_is;
   there = h.there;
   elements = h.elements;
-  alone = h.alone;
+  packed = h.packed;
   no_pack = h.no_pack;
 }
 
@@ -121,7 +122,7 @@ pub scoped-inside : (scope : Scope) (around : Around) (open_ : List Open) → Is
 unfolding inside
 scoped-inside scope around open_ scoped a found =
     let h = scoped a found in
-    (h.0, (h.1.0, λ k known. scope-inside k (place_of a k).is_pack around (h.1.1 k known)))
+    (h.0, (h.1.0, λ k known. scope-inside a.before k (place_of a k).is_pack around (h.1.1 k known)))
 
 -- elsewhere none does
 pub none-scoped : (scope : Scope) (around : Around) (open_ : List Open) → argument_of open_ ≡ None → IsScoped scope around open_

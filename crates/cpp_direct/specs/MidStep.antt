@@ -1,14 +1,14 @@
 -- Where a writer is between two of its functions, within a step.
-use Rattle.std.specs.Prelude.{◌≡◌, ◌≢◌, ◌⊎◌, ℕ, zero, suc, ◌+◌, List, [], ◌∷◌, ◌++◌, length, reverse, ◌≤◌, Bool, true, false, cond, Some, codes, ◌-◌, take, drop, slice_get}
+use Rattle.std.specs.Prelude.{◌≡◌, ◌≢◌, ◌⊎◌, ℕ, zero, suc, ◌+◌, List, [], ◌∷◌, ◌++◌, length, reverse, ◌≤◌, ◌<◌, Bool, true, false, cond, Some, codes, ◌-◌, take, drop, slice_get}
 use Rattle.cpp_direct.specs.Written.{Reads, Writes}
 use Rattle.cpp_direct.specs.HolesOfLists.{IsArgumentKind}
 use Rattle.cpp_direct.specs.WrittenParts.{IsUnmarked, opening_bracket}
 use Rattle.sym_print.specs.declared.detail.Detail.{Detail}
 use Rattle.cpp_grammar.specs.declared.kind.Kind.{Kind}
-use Rattle.cpp_grammar.specs.Term.{Term, Signed, absent, array, function, instance, builtin, pack, list, nil}
+use Rattle.cpp_grammar.specs.Term.{Term, Signed, absent, array, function, instance, builtin, pack}
 use Rattle.cpp_grammar.specs.Texts.{look_up, builtin_texts, literal_endings}
 use Rattle.cpp_grammar.specs.Parts.{is_plain_integer, types_of}
-use Rattle.cpp_grammar.specs.Scope.{has_return_type, is_structor}
+use Rattle.cpp_grammar.specs.Scope.{count, element, has_return_type, is_structor}
 use Rattle.cpp_grammar.specs.Between.{after, in_name, with_tag}
 use Rattle.cpp_grammar.specs.Meaning.{encoding_of}
 use Rattle.cpp_grammar.specs.Values as values
@@ -34,7 +34,7 @@ use Rattle.cpp_direct.specs.HolesOfArrays.{accessed, with_accessed}
 use Rattle.cpp_direct.specs.HolesOfTypes.{IsNamedKind, NoReference, TreeOpens}
 use Rattle.cpp_direct.specs.Marks.{has_const, called_on, mark_text}
 use Rattle.cpp_direct.specs.Prints.{NamesClass, Prints, PrintsName, IsElement, PrintAll, Shows, Encloses, sign_text, PrintsAs, PrintsIn, PrintAllAs, IsGiven, list_of, PrintAllBy, PrintsMade, pattern_letters}
-use Rattle.cpp_direct.specs.WriterInvariant.{AwaitsItems, Encoded, EncodedBehind, Fronts, IsFunction, IsInstance, IsListing, IsNest, IsTail, IsTemplate, GoesOn, EnumeratorGoesOn, Owns, ParametersGoOn, Serves, Stands, TakesFunction, opening_text, qualifiers, arguments_or_pack, extra_of, led_by, list_with, in_front_of_next, IsAmong, AreAmong, HasArguments, IsKnown, IsScoped, is_type, place_of, IsNaming, IsNestScoped, Keeps, Scope, below, is_noted, may_name, encoding_place, IsNamedSo, IsNesting}
+use Rattle.cpp_direct.specs.WriterInvariant.{AwaitsItems, Encoded, EncodedBehind, Fronts, IsFunction, IsInstance, IsListing, IsNest, IsTail, IsTemplate, GoesOn, EnumeratorGoesOn, Owns, ParametersGoOn, Serves, Stands, TakesFunction, opening_text, qualifiers, arguments_or_pack, extra_of, led_by, list_with, in_front_of_next, ComeBefore, IsAmong, AreAmong, HasArguments, IsKnown, IsScoped, is_type, place_of, IsNaming, IsNestScoped, Keeps, Scope, below, is_noted, may_name, encoding_place, IsNamedSo, IsNesting}
 
 -- the digits after the T of a parameter with this number
 abbrev pub parameter_digits : (number : ℕ) → List ℕ
@@ -177,7 +177,7 @@ pub record AwaitsMark (s : Symbol) (w : Direct) (mark : List ℕ) (from : ℕ) (
   pub made_here : is_dependent ≡ true → made_in.encoding ≡ encoding_place s.bytes
   pub stands : Stands s scope rest outer front
 
--- what waits for an argument of a name, or for an element of a pack that is the only one
+-- what waits for an argument of a name, or for an element of a pack among them
 abbrev pub argument_entry : (is_pack : Bool) → (from number : ℕ) → (known : Arguments) → Open
 argument_entry false from number known = opens.Argument from number known
 argument_entry true from number known = opens.Element from number known
@@ -187,8 +187,8 @@ abbrev pub argument_around : (is_pack : Bool) → (owner : Open) → (rest : Lis
 argument_around false owner rest = owner ∷ rest
 argument_around true owner rest = opens.Pack ∷ owner ∷ rest
 
--- An argument of a name was read, or an element of a pack that is the only one, after so many others. It is a type, or the
--- first argument and a literal.
+-- An argument of a name was read, or an element of a pack among them, after so many others. It is a type, or the first argument
+-- and a literal.
 pub record IsArgumentRead (s : Symbol) (w : Direct) (is_pack : Bool) (from number : ℕ) (known : Arguments) (is_reference : Bool) : Type 0 where
   pub state : State
   pub scope : Scope
@@ -204,16 +204,19 @@ pub record IsArgumentRead (s : Symbol) (w : Direct) (is_pack : Bool) (from numbe
   pub t : Term
   pub bytes : List ℕ
   pub is_template : IsTemplate (detail_of s) scope.names owner front template name w.text.list.items
-  pub elements : PrintAll (detail_of s) (extra_of (arguments_or_pack is_pack)) ts texts
-  pub written : w.text.list.items ≡ (front ++ name ++ opening_bracket (detail_of s) ++ in_front_of_next ts texts) ++ bytes
-  pub from_is : from ≡ length (front ++ name ++ opening_bracket (detail_of s) ++ in_front_of_next ts texts)
-  pub number_is : number ≡ length ts
-  pub among : AreAmong (detail_of s) w.text.list.items is_pack known ts
+  pub before : List Term
+  pub before_text : List ℕ
+  pub come_before : ComeBefore (detail_of s) is_pack known before before_text
+  pub elements : PrintAll (detail_of s) (extra_of (arguments_or_pack is_pack before before_text)) ts texts
+  pub written : w.text.list.items ≡ (led_by (detail_of s) (arguments_or_pack is_pack before before_text) front name ++ in_front_of_next ts texts) ++ bytes
+  pub from_is : from ≡ length (led_by (detail_of s) (arguments_or_pack is_pack before before_text) front name ++ in_front_of_next ts texts)
+  pub number_is : number ≡ length (before ++ ts)
+  pub among : AreAmong (detail_of s) w.text.list.items is_pack (length before) known (before ++ ts)
   pub prints : Prints (detail_of s) t bytes is_reference
-  pub goes : GoesOn s (arguments_or_pack is_pack) owner (below s scope rest) front template (ts ++ t ∷ []) w.at state
+  pub goes : GoesOn s (arguments_or_pack is_pack before before_text) owner (below s scope rest) front template (ts ++ t ∷ []) w.at state
 
--- Another one is expected, after these and so many, of which some are known.
-pub record AwaitsKnownArgument (s : Symbol) (w : Direct) (is_pack : Bool) (before : ℕ) (known : Arguments) : Type 0 where
+-- Another one is expected, after so many and one more, of which some are known.
+pub record AwaitsKnownArgument (s : Symbol) (w : Direct) (is_pack : Bool) (last : ℕ) (known : Arguments) : Type 0 where
   pub state : State
   pub scope : Scope
   pub keeps : Keeps s scope w state.candidates
@@ -226,12 +229,15 @@ pub record AwaitsKnownArgument (s : Symbol) (w : Direct) (is_pack : Bool) (befor
   pub ts : List Term
   pub texts : List ℕ
   pub is_template : IsTemplate (detail_of s) scope.names owner front template name w.text.list.items
-  pub elements : PrintAll (detail_of s) (extra_of (arguments_or_pack is_pack)) ts texts
+  pub before : List Term
+  pub before_text : List ℕ
+  pub come_before : ComeBefore (detail_of s) is_pack known before before_text
+  pub elements : PrintAll (detail_of s) (extra_of (arguments_or_pack is_pack before before_text)) ts texts
   pub some : ts ≢ []
-  pub written : w.text.list.items ≡ front ++ name ++ opening_bracket (detail_of s) ++ texts
-  pub number_is : before + 1 ≡ length ts
-  pub among : AreAmong (detail_of s) w.text.list.items is_pack known ts
-  pub goes : GoesOn s (arguments_or_pack is_pack) owner (below s scope rest) front template ts w.at state
+  pub written : w.text.list.items ≡ led_by (detail_of s) (arguments_or_pack is_pack before before_text) front name ++ texts
+  pub number_is : last + 1 ≡ length (before ++ ts)
+  pub among : AreAmong (detail_of s) w.text.list.items is_pack (length before) known (before ++ ts)
+  pub goes : GoesOn s (arguments_or_pack is_pack before before_text) owner (below s scope rest) front template ts w.at state
 
 -- the first piece of a nested name is expected
 pub record AwaitsNest (s : Symbol) (w : Direct) (purpose : Purpose) : Type 0 where
@@ -320,12 +326,12 @@ pub record AwaitsClass (s : Symbol) (w : Direct) : Type 0 where
   pub structor : is_structor own ≡ true
   pub serves : Serves s w.nest.purpose (below s scope (reverse w.waiting.list.items)) outer front
 
--- the known ones among arguments are at their places, and a pack is the only one
+-- the known ones among arguments are at their places, and of a pack its elements
 abbrev pub AreKnown : (detail : Detail) (text : List ℕ) → Arguments → List Term → (tail : Term) → Type 0
 AreKnown detail text a ts tail =
     (number : ℕ) → IsKnown (place_of a number) → (((place_of a number).is_pack ≡ false) × IsAmong detail text (place_of a number) number ts)
-    ⊎ (((place_of a number).is_pack ≡ true) × (es : List Term) × (list_with ts tail ≡ list (pack (list_of es)) nil) × (length es ≡ a.elements)
-    × IsAmong detail text (place_of a number) number es)
+    ⊎ (((place_of a number).is_pack ≡ true) × (es : List Term) × (element (list_with ts tail) a.before ≡ pack (list_of es)) × (a.before < count (list_with ts tail))
+    × (length es ≡ a.elements) × IsAmong detail text (place_of a number) (number - a.before) es)
 
 -- The arguments of what was opened last are read and their E, but for their last bracket. Those that are known are at their places.
 pub record IsListEnded (s : Symbol) (w : Direct) (argument : Arguments) : Type 0 where
@@ -490,7 +496,7 @@ comma_text (suc k) = codes ", "
 -- a pack has these elements, and the known ones are at their places
 pub record IsPackOf (detail : Detail) (text : List ℕ) (a : Arguments) (ts : List Term) : Type 0 where
   pub size : length ts ≡ a.elements
-  pub among : (k : ℕ) → IsKnown (place_of a k) → (place_of a k).is_pack ≡ true → IsAmong detail text (place_of a k) k ts
+  pub among : (k : ℕ) → IsKnown (place_of a (a.before + k)) → (place_of a (a.before + k)).is_pack ≡ true → IsAmong detail text (place_of a (a.before + k)) k ts
 
 -- the letters of an expansion
 abbrev pub expansion_letters : Pattern → (number : ℕ) → List ℕ

@@ -1,6 +1,6 @@
 -- What a writer's lists say while a symbol is read: what is open waits for what comes next, and what was written is its text.
 use Rattle.sym_print.specs.declared.detail.Detail.{Detail}
-use Rattle.std.specs.Prelude.{◌≡◌, ◌≢◌, ◌⊎◌, ℕ, zero, suc, ◌+◌, ◌*◌, ◌≤◌, ◌<◌, List, [], ◌∷◌, ◌++◌, ◌-◌, length, take, drop, reverse, slice_get, Bool, true, false, cond, Option, Some, None, Ok, codes, ◌&&◌}
+use Rattle.std.specs.Prelude.{◌≡◌, ◌≢◌, ◌⊎◌, ℕ, zero, suc, ◌+◌, ◌*◌, ◌≤◌, ◌<◌, List, [], ◌∷◌, ◌++◌, ◌-◌, length, take, drop, reverse, slice_get, Bool, true, false, cond, Option, Some, None, Ok, codes, ◌&&◌, nat_le}
 use Rattle.sym_print.specs.Unshared.{text_of, cost_of}
 use Rattle.sym_demangle.specs.Mangled.{StandsFor}
 use Rattle.cpp_grammar.specs.declared.kind.Kind.{Kind}
@@ -78,7 +78,7 @@ abbrev pub no_place : Argument
 no_place = record { from = 1; to = 0; is_pack = false; is_reference = false }
 
 abbrev pub nowhere : Arguments
-nowhere = record { first = no_place; second = no_place; third = no_place; fourth = no_place; encoding = 0; elements = 0 }
+nowhere = record { first = no_place; second = no_place; third = no_place; fourth = no_place; encoding = 0; before = 0; elements = 0 }
 
 -- the argument with this number
 abbrev pub place_of : Arguments → (number : ℕ) → Argument
@@ -92,9 +92,9 @@ place_of a _ = no_place
 abbrev pub IsKnown : Argument → Type 0
 IsKnown p = p.from ≤ p.to
 
--- The argument of a name with this number is at a place, or the element with this number of the pack that is its only argument and
--- has so many elements.
-pub record IsArgument (detail : Detail) (text : List ℕ) (size : ℕ) (p : Argument) (number : ℕ) (name : Term) : Type 0 where
+-- The argument of a name with this number is at a place. Where one of them is a pack, after so many and with so many elements, these
+-- are in its place.
+pub record IsArgument (detail : Detail) (text : List ℕ) (before size : ℕ) (p : Argument) (number : ℕ) (name : Term) : Type 0 where
   pub bytes : List ℕ
   pub placed : IsPlaced text p bytes
   pub own : Term
@@ -102,21 +102,22 @@ pub record IsArgument (detail : Detail) (text : List ℕ) (size : ℕ) (p : Argu
   pub all_are : arguments_of name ≡ Some all
   pub there : p.is_pack ≡ false → (element all number ≡ own) × (number < count all)
   pub elements : List Term
-  pub alone : p.is_pack ≡ true → (all ≡ list (pack (list_of elements)) nil) × (slice_get elements number ≡ Some own) × (length elements ≡ size)
+  pub packed : p.is_pack ≡ true → (element all before ≡ pack (list_of elements)) × (before < count all)
+      × (slice_get elements (number - before) ≡ Some own) × (length elements ≡ size)
   pub prints : Prints detail own bytes p.is_reference
 
 -- the known arguments of a name are at their places
 abbrev pub HasArguments : (detail : Detail) (text : List ℕ) → Arguments → (name : Term) → Type 0
-HasArguments detail text a name = (number : ℕ) → IsKnown (place_of a number) → IsArgument detail text a.elements (place_of a number) number name
+HasArguments detail text a name = (number : ℕ) → IsKnown (place_of a number) → IsArgument detail text a.before a.elements (place_of a number) number name
 
--- a parameter may name that argument here, or the pack
-pub record IsScope (number : ℕ) (is_pack : Bool) (around : Around) : Type 0 where
+-- a parameter may name that argument here, or the pack that comes after so many
+pub record IsScope (before number : ℕ) (is_pack : Bool) (around : Around) : Type 0 where
   pub own : Term
   pub all : Term
   pub scope_is : around.scope ≡ Some all
   pub there : is_pack ≡ false → (element all number ≡ own) × (number < count all)
   pub elements : List Term
-  pub alone : is_pack ≡ true → all ≡ list (pack (list_of elements)) nil
+  pub packed : is_pack ≡ true → (element all before ≡ pack (list_of elements)) × (before < count all)
   pub no_pack : length_if_pack own ≡ None
 
 -- if the place is known, the innermost encoding begins there, and none of its lambdas is read
@@ -126,7 +127,7 @@ IsEncodedAt place around = place ≢ 0 → (around.encoding ≡ place) × (aroun
 -- parameters may name the known arguments here
 abbrev pub HasScope : Arguments → Around → Type 0
 HasScope a around =
-    IsEncodedAt a.encoding around × ((number : ℕ) → IsKnown (place_of a number) → IsScope number (place_of a number).is_pack around)
+    IsEncodedAt a.encoding around × ((number : ℕ) → IsKnown (place_of a number) → IsScope a.before number (place_of a number).is_pack around)
 
 -- a nested name is a type
 abbrev pub is_type : Purpose → Bool
@@ -469,10 +470,11 @@ pub record IsAmong (detail : Detail) (text : List ℕ) (p : Argument) (number : 
   pub there : slice_get ts number ≡ Some own
   pub prints : Prints detail own bytes p.is_reference
 
--- those that are known are arguments, or elements of a pack
-abbrev pub AreAmong : (detail : Detail) (text : List ℕ) → (is_pack : Bool) → Arguments → List Term → Type 0
-AreAmong detail text is_pack a ts =
-    (number : ℕ) → IsKnown (place_of a number) → IsAmong detail text (place_of a number) number ts × ((place_of a number).is_pack ≡ is_pack)
+-- those that are known are arguments, and in a pack those from this number on are its elements
+abbrev pub AreAmong : (detail : Detail) (text : List ℕ) → (is_pack : Bool) (first : ℕ) → Arguments → List Term → Type 0
+AreAmong detail text is_pack first a ts =
+    (number : ℕ) → IsKnown (place_of a number)
+    → IsAmong detail text (place_of a number) number ts × ((place_of a number).is_pack ≡ (is_pack && nat_le first number))
 
 -- this template comes before the arguments
 abbrev pub IsTemplate : (detail : Detail) → Names → Open → (front : List ℕ) → Term → (name : List ℕ) → (text : List ℕ) → Type 0
@@ -493,20 +495,28 @@ AwaitsElementOf s names listing owner below os text =
     × (text ≡ led_by (detail_of s) listing front name ++ in_front_of_next ts elements)
     × ((t : Term) (at : ℕ) (st : State) → Comes s os (tree t true) at st → GoesOn s listing owner below front template (ts ++ t ∷ []) at st)
 
--- the arguments of a name, or a pack that is the only one of them
-abbrev pub arguments_or_pack : (is_pack : Bool) → Listing
-arguments_or_pack false = of_template
-arguments_or_pack true = of_pack [] []
+-- the arguments of a name, or a pack among them after these and their text
+abbrev pub arguments_or_pack : (is_pack : Bool) → (before : List Term) → (written : List ℕ) → Listing
+arguments_or_pack false before written = of_template
+arguments_or_pack true before written = of_pack before written
+
+-- these arguments come before a pack, and before other arguments none does
+pub record ComeBefore (detail : Detail) (is_pack : Bool) (known : Arguments) (before : List Term) (written : List ℕ) : Type 0 where
+  pub none : is_pack ≡ false → before ≡ []
+  pub prints : PrintAll detail 3 before written
+  pub count_is : is_pack ≡ true → known.before ≡ length before
 
 -- a type comes as an argument of a name with this number, or as an element of such a pack
 abbrev pub AwaitsArgument : (s : Symbol) → Names → (is_pack : Bool) → (from number : ℕ) → (known : Arguments) → (owner : Open) → Below → List Opened
     → (text : List ℕ) → Type 0
 AwaitsArgument s names is_pack from number known owner below os text =
     (front : List ℕ) × (template : Term) × (name : List ℕ) × (ts : List Term) × (elements : List ℕ) × IsTemplate (detail_of s) names owner front template name text
-    × PrintAll (detail_of s) (extra_of (arguments_or_pack is_pack)) ts elements
-    × (text ≡ front ++ name ++ opening_bracket (detail_of s) ++ in_front_of_next ts elements) × (from ≡ length text) × (number ≡ length ts)
-    × AreAmong (detail_of s) text is_pack known ts
-    × ((t : Term) (at : ℕ) (st : State) → Comes s os (tree t true) at st → GoesOn s (arguments_or_pack is_pack) owner below front template (ts ++ t ∷ []) at st)
+    × (before : List Term) × (written : List ℕ) × ComeBefore (detail_of s) is_pack known before written
+    × PrintAll (detail_of s) (extra_of (arguments_or_pack is_pack before written)) ts elements
+    × (text ≡ led_by (detail_of s) (arguments_or_pack is_pack before written) front name ++ in_front_of_next ts elements) × (from ≡ length text)
+    × (number ≡ length (before ++ ts)) × AreAmong (detail_of s) text is_pack (length before) known (before ++ ts)
+    × ((t : Term) (at : ℕ) (st : State) → Comes s os (tree t true) at st
+    → GoesOn s (arguments_or_pack is_pack before written) owner below front template (ts ++ t ∷ []) at st)
 
 -- a list goes on after an enumerator of this type, once its number and an E are read
 abbrev pub EnumeratorGoesOn : (s : Symbol) → Listing → Open → Below → (front : List ℕ) → (template : Term) → List Term → Term → (at : ℕ) → State → Type 0
