@@ -362,8 +362,8 @@ impl Direct {
         Some(Step::Type)
     }
 
-    /// An element of a pack is read, so many after the first argument of a name: others follow, or the end of the pack, and after it that of
-    /// the arguments.
+    /// An element of a pack is read, so many after the first argument of a name: others follow, or the end of the pack, and
+    /// after it that of the arguments.
     // <template-arg> ::= J <template-arg>* E
     pub(crate) fn element_ended<G: Grammar>(
         &mut self,
