@@ -6,7 +6,7 @@ use Rattle.std.proofs.lemmas.List.{length-append}
 use Rattle.cpp_grammar.specs.declared.kind.Kind.{Kind}
 use Rattle.cpp_grammar.specs.Grammar.{may_be_empty}
 use Rattle.cpp_grammar.specs.Term.{Term, nil, instance, pack}
-use Rattle.cpp_grammar.specs.Values.{Around, State, nothing_there}
+use Rattle.cpp_grammar.specs.Values.{Around, nothing_there}
 use Rattle.cpp_grammar.specs.Between.{no_items}
 use Rattle.cpp_direct.specs.WrittenParts.{opening_bracket}
 use Rattle.cpp_direct.specs.Symbol.{detail_of, Symbol}
@@ -16,11 +16,11 @@ use Rattle.cpp_direct.specs.declared.open.Open.{Open}
 use Rattle.cpp_direct.specs.declared.direct.Direct.{Direct}
 use Rattle.cpp_direct.specs.Holes.{Opened, Expects, StandsAt}
 use Rattle.cpp_direct.specs.Prints.{Names, Prints, PrintAll, PrintAllAs, IsElementAs, PrintAllBy, list_of}
-use Rattle.cpp_direct.specs.WriterInvariant.{AwaitsArgument, Keeps, Scope, arguments_or_pack, ComeBefore, element_kind, below, scoped_in, is_noted, may_name, AreAmong, ArgumentsGoOn, Belongs, EndsNamed, GoesOn, IsAmong, IsKnown, IsScoped, IsTemplate, IsWriting, Owns, Stands, extra_of, of_template, in_front_of_next, led_by, list_with, nowhere, place_of, Closes}
+use Rattle.cpp_direct.specs.WriterInvariant.{AwaitsArgument, Scope, arguments_or_pack, ComeBefore, element_kind, below, scoped_in, is_noted, may_name, AreAmong, ArgumentsGoOn, Belongs, EndsNamed, GoesOn, IsAmong, IsKnown, IsScoped, IsTemplate, IsWriting, Owns, Stands, extra_of, of_template, in_front_of_next, led_by, list_with, nowhere, place_of, Closes, Kept, IsTypeRead}
 use Rattle.cpp_direct.specs.MidStep.{AreKnown, AwaitsKnownArgument, IsArgumentRead, IsListEnded, IsLiteralRead, KnowsMore, argument_around, argument_entry}
 use Rattle.cpp_direct.specs.Written.{Writes}
 use Rattle.cpp_direct.proofs.Ending.{next-written}
-use Rattle.cpp_direct.proofs.Kept.{keeps-same, keeps-written, reverse-last, template-stays, type-comes, none-known, keeps-read}
+use Rattle.cpp_direct.proofs.Kept.{kept-same, kept-written, reverse-last, template-stays, type-comes, none-known, kept-read}
 use Rattle.cpp_direct.proofs.Listed.{last-found, element-goes-on, list-kind, pack-goes-on, some-elements, template-listed}
 use Rattle.cpp_direct.proofs.Moves.{expects-empty}
 use Rattle.cpp_direct.proofs.MovesOfLists.{element-awaits}
@@ -34,9 +34,8 @@ use Rattle.cpp_direct.specs.declared.open.Step.TheVariants as steps
 
 -- nothing is read yet of the arguments of a name
 record HasNoArgument (s : Symbol) (w : Direct) : Type 0 where
-  pub state : State
-  pub scope : Scope
-  pub keeps : Keeps s scope w state.candidates
+  pub kept : Kept s w
+  pub open kept use *
   pub owner : Open
   pub rest : List Open
   pub open_is : reverse w.waiting.list.items ≡ owner ∷ rest
@@ -55,9 +54,7 @@ none-read s w p named =
     p.is_before.7 in
     let by = IsElementAs (detail_of s) p.scope.names (is_noted place.owner) 3 in
     record {
-      state = p.state;
-      scope = p.scope;
-      keeps = p.keeps;
+      kept = p.kept;
       owner = place.owner;
       rest = place.rest;
       open_is = a.0;
@@ -86,22 +83,21 @@ argument-scoped scope around false from number known opened = none-scoped scope 
 argument-scoped scope around true from number known opened = none-scoped scope around (opens.Element from number known ∷ opened) refl
 
 -- an argument comes next after these, or an element of the pack, and what is before it is written
-argument-next : (s : Symbol) {scope : Scope} (old new : Direct) (is_pack : Bool) (from number place : ℕ) (known : Arguments) (st : State) (owner : Open) (rest : List Open)
+argument-next : (s : Symbol) (old new : Direct) (is_pack : Bool) (from number place : ℕ) (known : Arguments) (kept : Kept s old) (owner : Open) (rest : List Open)
     (front : List ℕ) (template : Term) (name : List ℕ) (ts : List Term) (texts : List ℕ) (before : List Term) (before_text : List ℕ) → ComeBefore (detail_of s) is_pack known before before_text
-    → Keeps s scope old st.candidates
-    → IsTemplate (detail_of s) scope.names owner front template name old.text.list.items
+    → IsTemplate (detail_of s) kept.scope.names owner front template name old.text.list.items
     → PrintAll (detail_of s) (extra_of (arguments_or_pack is_pack before before_text)) ts texts
     → old.text.list.items ≡ led_by (detail_of s) (arguments_or_pack is_pack before before_text) front name ++ in_front_of_next ts texts
     → from ≡ length old.text.list.items → number ≡ length (before ++ ts)
     → AreAmong (detail_of s) old.text.list.items is_pack (length before) known (before ++ ts)
-    → GoesOn s (arguments_or_pack is_pack before before_text) owner (below s scope rest) front template ts place st
+    → GoesOn s (arguments_or_pack is_pack before before_text) owner (below s kept.scope rest) front template ts place kept.state
     → reverse new.waiting.list.items ≡ argument_entry is_pack from number known ∷ argument_around is_pack owner rest → new.text ≡ old.text
     → new.candidates ≡ old.candidates → new.has_scope ≡ old.has_scope → new.at ≡ place → IsWriting s new steps.Type
-argument-next s {scope = scope} old new is_pack from number place known st owner rest front template name ts texts before before_text come_before keeps is_template elements
+argument-next s old new is_pack from number place known kept owner rest front template name ts texts before before_text come_before is_template elements
     written from_is number_is among goes opened text candidates scope_same at =
     let listing = arguments_or_pack is_pack before before_text in
-    let element = element-awaits s (element_kind listing) goes.1 goes.0 place st (list-kind listing) goes.4 in
-    let stands = argument-stands s scope is_pack from number known owner rest element.inner old.text.list.items (
+    let element = element-awaits s (element_kind listing) goes.1 goes.0 place kept.state (list-kind listing) goes.4 in
+    let stands = argument-stands s kept.scope is_pack from number known owner rest element.inner old.text.list.items (
       front,
       template,
       name,
@@ -116,13 +112,13 @@ argument-next s {scope = scope} old new is_pack from number place known st owner
       from_is,
       number_is,
       among,
-      λ t here now comes. element-goes-on s (element_kind listing) (scoped_in owner (below s scope rest))
-          (λ l there later. Closes s listing owner (below s scope rest) front template l there later)
-          ts t place here st now goes (element.onward t here now comes),
+      λ t here now comes. element-goes-on s (element_kind listing) (scoped_in owner (below s kept.scope rest))
+          (λ l there later. Closes s listing owner (below s kept.scope rest) front template l there later)
+          ts t place here kept.state now goes (element.onward t here now comes),
     ) in
-    type-comes s old new st goes.0 element.inner keeps text candidates scope_same opened goes.2
-    (inr (inl (subst (λ n. Expects s Kind.Item goes.0 element.inner n st) (sym at) element.awaits))) stands
-    (argument-scoped scope goes.0 is_pack from number known (argument_around is_pack owner rest))
+    type-comes s old new kept goes.0 element.inner text candidates scope_same opened goes.2
+    (inr (inl (subst (λ n. Expects s Kind.Item goes.0 element.inner n kept.state) (sym at) element.awaits))) stands
+    (argument-scoped kept.scope goes.0 is_pack from number known (argument_around is_pack owner rest))
 
 -- the first argument does
 pub argument-begins : (s : Symbol) (old new : Direct) (from : ℕ) → IsWriting s old (steps.List true)
@@ -132,7 +128,7 @@ pub argument-begins : (s : Symbol) (old new : Direct) (from : ℕ) → IsWriting
 argument-begins s old new from p named from_is waits text candidates scope_same at =
     let b = none-read s old p named in
     let entry = opens.Argument from 0 nowhere in
-    argument-next s old new false from 0 old.at nowhere b.state b.owner b.rest b.front b.template b.name [] [] [] [] (none-before (detail_of s) false) b.keeps
+    argument-next s old new false from 0 old.at nowhere b.kept b.owner b.rest b.front b.template b.name [] [] [] [] (none-before (detail_of s) false)
     b.is_template (none-print (detail_of s) 3) b.written
     from_is refl (λ k known. absurd (none-known k known)) b.goes
     (ap reverse waits ∙ reverse-last old.waiting.list.items entry ∙ ap (λ ws. entry ∷ ws) b.open_is) text candidates scope_same at
@@ -145,7 +141,7 @@ pub element-begins : (s : Symbol) (old new : Direct) (from : ℕ) → IsWriting 
 element-begins s old new from p named letter from_is waits text candidates scope_same at =
     let b = none-read s old p named in
     let entry = opens.Element from 0 nowhere in
-    argument-next s old new true from 0 (old.at + 1) nowhere b.state b.owner b.rest b.front b.template b.name [] [] [] [] (none-before (detail_of s) true) b.keeps
+    argument-next s old new true from 0 (old.at + 1) nowhere b.kept b.owner b.rest b.front b.template b.name [] [] [] [] (none-before (detail_of s) true)
     b.is_template (none-print (detail_of s) 0)
     (b.written ∙ sym (append-nil (b.front ++ b.name ++ opening_bracket (detail_of s) ++ []))) from_is refl (λ k known. absurd (none-known k known))
     (pack-goes-on s b.owner (below s b.scope b.rest) b.front b.template [] [] old.at b.state b.goes letter)
@@ -160,9 +156,8 @@ pub next-argument-begins : (s : Symbol) (old mid new : Direct) (is_pack : Bool) 
 next-argument-begins s old mid new is_pack last from number known p writes from_is number_is waits text candidates scope_same at =
     let entry = argument_entry is_pack from number known in
     let led = led_by (detail_of s) (arguments_or_pack is_pack p.before p.before_text) p.front p.name in
-    argument-next s mid new is_pack from number old.at known p.state p.owner p.rest p.front p.template p.name p.ts p.texts
+    argument-next s mid new is_pack from number old.at known (kept-written s old mid (codes ", ") writes p.kept) p.owner p.rest p.front p.template p.name p.ts p.texts
     p.before p.before_text p.come_before
-    (keeps-written s old mid (codes ", ") p.state.candidates writes p.keeps)
     (subst (λ l. IsTemplate (detail_of s) p.scope.names p.owner p.front p.template p.name l) (sym writes.text)
     (template-stays (detail_of s) p.scope.names p.owner p.front p.template p.name old.text.list.items (codes ", ") p.is_template)) p.elements
     (writes.text ∙ ap (λ l. l ++ codes ", ") p.written ∙ append_assoc led p.texts (codes ", ")
@@ -196,9 +191,8 @@ pack-after s old mid new last from number known p letter writes from_is number_i
     let none = p.come_before.none refl in
     let count_is : number ≡ length p.ts = number_is ∙ p.number_is ∙ ap (λ (l : List Term). length (l ++ p.ts)) none in
     let among = among-stay old.text.list.items (codes ", ") false (length p.before) known (p.before ++ p.ts) p.among in
-    argument-next s mid new true from number (old.at + 1) now p.state p.owner p.rest p.front p.template p.name [] [] p.ts p.texts
+    argument-next s mid new true from number (old.at + 1) now (kept-written s old mid (codes ", ") writes p.kept) p.owner p.rest p.front p.template p.name [] [] p.ts p.texts
     (record { none = λ e. absurd (false≢true (sym e)); prints = p.elements; count_is = λ e. count_is })
-    (keeps-written s old mid (codes ", ") p.state.candidates writes p.keeps)
     (subst (λ l. IsTemplate (detail_of s) p.scope.names p.owner p.front p.template p.name l) (sym writes.text)
     (template-stays (detail_of s) p.scope.names p.owner p.front p.template p.name old.text.list.items (codes ", ") p.is_template))
     (none-print (detail_of s) 0)
@@ -228,17 +222,18 @@ pub value-argument : (s : Symbol) (w : Direct) (is_pack is_reference : Bool) (fr
     → IsArgumentRead s w is_pack from number known is_reference
 value-argument s w is_pack is_reference from number known p found =
     let last = last-found w.waiting.list.items (argument_entry is_pack from number known) found in
-    go is_pack last.0 last.1 (subst (λ ws. Stands s p.scope ws p.is_before.0 p.is_before.2) last.1 p.is_before.8)
+    go is_pack last.0 last.1 (subst (λ ws. Stands s p.scope ws v.os v.front) last.1 v.stands)
   where
+    v : IsTypeRead s p.scope w p.state (reverse w.waiting.list.items) is_reference false
+    v = p.is_before
+
     read : (b : Bool) (owner : Open) (rest : List Open) → reverse w.waiting.list.items ≡ argument_entry b from number known ∷ argument_around b owner rest
-        → AwaitsArgument s p.scope.names b from number known owner (below s p.scope rest) p.is_before.0 p.is_before.2
+        → AwaitsArgument s p.scope.names b from number known owner (below s p.scope rest) v.os v.front
         → IsArgumentRead s w b from number known is_reference
     read b owner rest is waits =
-        let bytes = p.is_before.3 in
+        let bytes = v.bytes in
         record {
-          state = p.state;
-          scope = p.scope;
-          keeps = p.keeps;
+          kept = p.kept;
           owner = owner;
           rest = rest;
           open_is = is;
@@ -247,25 +242,25 @@ value-argument s w is_pack is_reference from number known p found =
           name = waits.2;
           ts = waits.3;
           texts = waits.4;
-          t = p.is_before.1;
+          t = v.own;
           bytes = bytes;
-          is_template = subst (λ l. IsTemplate (detail_of s) p.scope.names owner waits.0 waits.1 waits.2 l) (sym p.is_before.4)
-              (template-stays (detail_of s) p.scope.names owner waits.0 waits.1 waits.2 p.is_before.2 bytes waits.5);
+          is_template = subst (λ l. IsTemplate (detail_of s) p.scope.names owner waits.0 waits.1 waits.2 l) (sym v.written)
+              (template-stays (detail_of s) p.scope.names owner waits.0 waits.1 waits.2 v.front bytes waits.5);
           before = waits.6;
           before_text = waits.7;
           come_before = waits.8;
           elements = waits.9;
-          written = p.is_before.4 ∙ ap (λ l. l ++ bytes) waits.10;
+          written = v.written ∙ ap (λ l. l ++ bytes) waits.10;
           from_is = waits.11 ∙ ap length waits.10;
           number_is = waits.12;
-          among = subst (λ l. AreAmong (detail_of s) l b (length waits.6) known (waits.6 ++ waits.3)) (sym p.is_before.4)
-              (among-stay p.is_before.2 bytes b (length waits.6) known (waits.6 ++ waits.3) waits.13);
-          prints = p.is_before.5;
-          goes = waits.14 p.is_before.1 w.at p.state p.is_before.7;
+          among = subst (λ l. AreAmong (detail_of s) l b (length waits.6) known (waits.6 ++ waits.3)) (sym v.written)
+              (among-stay v.front bytes b (length waits.6) known (waits.6 ++ waits.3) waits.13);
+          prints = v.prints;
+          goes = waits.14 v.own w.at p.state v.comes;
         }
 
     go : (b : Bool) (rest : List Open) → reverse w.waiting.list.items ≡ argument_entry b from number known ∷ rest
-        → Stands s p.scope (argument_entry b from number known ∷ rest) p.is_before.0 p.is_before.2 → IsArgumentRead s w b from number known is_reference
+        → Stands s p.scope (argument_entry b from number known ∷ rest) v.os v.front → IsArgumentRead s w b from number known is_reference
     go false [] is waits = absurd waits
     go false (owner ∷ rest) is waits = read false owner rest is waits
     go true (opens.Pack ∷ owner ∷ rest) is waits = read true owner rest is waits
@@ -282,9 +277,7 @@ literal-argument s old begun new from p named from_is waits text candidates scop
     let outer = below s b.scope b.rest in
     let grown : new.text.list.items ≡ old.text.list.items ++ l.bytes = l.reads.text ∙ ap (λ v. v.list.items ++ l.bytes) text in
     record {
-      state = b.state;
-      scope = b.scope;
-      keeps = keeps-read s begun new l.bytes b.state.candidates l.reads (keeps-same s old begun b.state.candidates text candidates scope_same b.keeps);
+      kept = kept-read s begun new l.bytes l.reads (kept-same s old begun text candidates scope_same b.kept);
       owner = b.owner;
       rest = b.rest;
       open_is = ap (λ v. reverse v.list.items) l.reads.waiting ∙ ap reverse waits ∙ reverse-last old.waiting.list.items entry ∙ ap (λ ws. entry ∷ ws) b.open_is;
@@ -351,9 +344,7 @@ argument-passes s old new is_pack from number known is_reference p waits text ca
     let ts = p.ts ++ p.t ∷ [] in
     let texts = in_front_of_next p.ts p.texts ++ p.bytes in
     record {
-      state = p.state;
-      scope = p.scope;
-      keeps = keeps-same s old new p.state.candidates text candidates scope_same p.keeps;
+      kept = kept-same s old new text candidates scope_same p.kept;
       is_before = (
         record {
           listing = listing;
@@ -379,9 +370,7 @@ argument-passes s old new is_pack from number known is_reference p waits text ca
 -- also where one was expected of which something would be known
 pub known-passes : (s : Symbol) (w : Direct) (last : ℕ) (known : Arguments) → AwaitsKnownArgument s w false last known → IsWriting s w (steps.List false)
 known-passes s w last known p = record {
-  state = p.state;
-  scope = p.scope;
-  keeps = p.keeps;
+  kept = p.kept;
   is_before = (
     record {
       listing = of_template;
@@ -484,9 +473,7 @@ pub argument-awaits : (s : Symbol) (old new : Direct) (is_pack : Bool) (from to 
 argument-awaits s old new is_pack from to number place known more is_reference p waits text candidates scope_same at to_is place_is knows same_before =
     let ts = p.ts ++ p.t ∷ [] in
     record {
-      state = p.state;
-      scope = p.scope;
-      keeps = keeps-same s old new p.state.candidates text candidates scope_same p.keeps;
+      kept = kept-same s old new text candidates scope_same p.kept;
       owner = p.owner;
       rest = p.rest;
       open_is = waits;
@@ -521,9 +508,7 @@ arguments-end : (s : Symbol) (old new : Direct) (is_pack : Bool) (from number : 
     → Owns s p.owner (below s p.scope p.rest) p.front (instance p.template (list_with ts nil)) new.at p.state
     → AreKnown (detail_of s) old.text.list.items more ts nil → IsListEnded s new more
 arguments-end s old new is_pack from number known more is_reference p ts arguments waits text candidates scope_same elements written owns is_known = record {
-  state = p.state;
-  scope = p.scope;
-  keeps = keeps-same s old new p.state.candidates text candidates scope_same p.keeps;
+  kept = kept-same s old new text candidates scope_same p.kept;
   owner = p.owner;
   rest = p.rest;
   open_is = waits;

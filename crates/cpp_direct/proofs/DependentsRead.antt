@@ -3,7 +3,7 @@ use Rattle.sym_print.specs.declared.detail.Detail.{Detail}
 use Rattle.cpp_grammar.specs.Unfolding.{byte_of, close}
 use Rattle.cpp_grammar.specs.Meaning.{meaning, listed_value}
 use Rattle.cpp_direct.specs.Symbol.{detail_of, Symbol}
-use Rattle.cpp_direct.proofs.Kept.{candidate-found, keeps-as, keeps-grown, keeps-same, keeps-written, made-here, piece-found, placed-stays, value-added, value-comes, candidate-inside, keeps-with}
+use Rattle.cpp_direct.proofs.Kept.{candidate-found, kept-grown, kept-same, kept-written, made-here, piece-found, placed-stays, value-added, value-comes, candidate-inside, kept-as, kept-with}
 use Rattle.cpp_direct.proofs.Listed.{some-elements}
 use Rattle.cpp_direct.proofs.Moves.{hole, eats, byte-opens, next-part, closes, none-fills, number-fills, is_eaten, stands-join, stands-split, expects-empty, open_at, fill, filled-at}
 use Rattle.cpp_direct.proofs.MovesOfTypes.{const-opens, lvalue-opens, rvalue-opens, solid-opens, substitution-opens}
@@ -14,7 +14,7 @@ use Rattle.cpp_direct.specs.declared.open.Mark.{Mark}
 use Rattle.cpp_direct.specs.HolesOfTypes.{as_const}
 use Rattle.cpp_direct.specs.Holes.{Opened, StandsAt, Comes, candidate, with_candidate, Expects, IsReferable, IsTyped}
 use Rattle.cpp_direct.specs.Prints.{IsMarkedBy, Names, PrintsAs, PrintsGiven, PrintsMade, PrintAllBy, list_of, made_by, pattern_letters}
-use Rattle.cpp_direct.specs.WriterInvariant.{AreCandidates, EncodedBehind, HasArguments, IsAmong, IsKnown, IsPlaced, IsScope, IsSingle, IsWriting, Keeps, ParametersGoOn, argument_of, in_front_of_next, place_of}
+use Rattle.cpp_direct.specs.WriterInvariant.{AreCandidates, EncodedBehind, HasArguments, IsAmong, IsKnown, IsPlaced, IsScope, IsSingle, IsWriting, ParametersGoOn, argument_of, in_front_of_next, place_of}
 use Rattle.cpp_direct.specs.MidStep.{AwaitsType, IsNamedAgain, IsParameterEnded, parameter_digits, AwaitsNextParameter, AreExpanded, IsPackOf, comma_text, expansion_letters}
 use Rattle.cpp_direct.specs.Written.{Writes, added, hidden}
 use Rattle.cpp_direct.specs.declared.direct.Direct.{Direct}
@@ -41,11 +41,11 @@ use Rattle.sym_core.specs.Token.{Token, IsNumberToken}
 use Rattle.cpp_direct.proofs.Ending.{parameter-goes_on}
 use Rattle.cpp_direct.proofs.MovesOfLists.{element-awaits}
 use Rattle.cpp_direct.proofs.PrintedLists.{next-prints-in, next-prints-by}
-use Rattle.cpp_direct.proofs.Scopes.{arguments-stay}
 use Rattle.cpp_direct.proofs.Signatures.{one-hidden}
 use Rattle.cpp_grammar.specs.Unfolding as unfolding_
 use Rattle.cpp_direct.specs.declared.open.Step.TheVariants as steps
 use Rattle.cpp_grammar.specs.Values as values
+use Rattle.cpp_direct.proofs.Scopes.{parameters-as}
 
 -- ## Moves
 
@@ -122,7 +122,7 @@ pub argument-inside : (s : Symbol) (w : Direct) (all : Arguments) (k : ℕ) (p :
     → argument_of (reverse w.waiting.list.items) ≡ Some all → p ≡ place_of all k → IsSingle p → p.to ≤ length w.text.list.items
 argument-inside s w all k p a found is single =
     let h = named-placed s w all k p a found is single in
-    (piece-found w.text.list.items h.2.front h.0 h.2.back p.from p.to h.2.written h.2.from_is h.2.to_is).1
+    (piece-found w.text.list.items h.0 p.from p.to h.2).1
 
 -- a parameter may name it
 scope-named : (s : Symbol) (w : Direct) (all : Arguments) (k : ℕ) (p : Argument) (a : AwaitsType s w) → argument_of (reverse w.waiting.list.items) ≡ Some all
@@ -145,14 +145,13 @@ parameter-done s old mid new all k p n from a few letter line found is single re
     let h = named-placed s old all k p a found is single in
     let bytes = h.0 in
     let grown : mid.text.list.items ≡ text ++ bytes =
-    writes.text ∙ ap (λ l. text ++ l) (piece-found text h.2.front bytes h.2.back p.from p.to h.2.written h.2.from_is h.2.to_is).2 in
+    writes.text ∙ ap (λ l. text ++ l) (piece-found text bytes p.from p.to h.2).2 in
     let prints = parameter-given a.scope.names k (record { bytes = bytes; reference = p.is_reference }) h.1 in
-    let naming = named-here s old a.state.candidates a.around all a.keeps a.scoped found real in
+    let naming = named-here s old a.kept a.around all a.scoped found real in
     let open_is : new.waiting ≡ old.waiting = same_waits ∙ writes.waiting in
     let later = with_candidate a.around (parameter k) a.state in
-    value-added s mid new a.state a.os a.around (parameter k) text bytes from p.is_reference true
-    (keeps-grown s old mid bytes a.state.candidates grown writes.candidates writes.scope a.keeps) grown from_is
-    prints (λ e. made-here s a.scope a.around (reverse old.waiting.list.items) a.scoped naming) same_text more same_scope (ap (λ v. reverse v.list.items) open_is)
+    value-added s mid new (kept-grown s old mid bytes grown writes.candidates writes.scope a.kept) a.os a.around (parameter k) text bytes from p.is_reference true
+    grown from_is prints (λ e. made-here s a.scope a.around (reverse old.waiting.list.items) a.scoped naming) same_text more same_scope (ap (λ v. reverse v.list.items) open_is)
     (λ e. naming)
     (subst (λ n. Comes s a.os (tree (parameter k) true) n later) (sym (same_at ∙ writes.at ∙ at))
     (parameter-comes s a.kind a.around a.os all.before k old.at a.state a.typed few (scope-named s old all k p a found is single) a.awaits
@@ -180,20 +179,19 @@ forwarded-done s old mid one new all k p n from a few referable mark letter line
     let named : a.scope.names k ≡ Some (record { bytes = bytes; reference = true })
     = subst (λ r. a.scope.names k ≡ Some (record { bytes = bytes; reference = r })) refers h.1 in
     let grown : mid.text.list.items ≡ text ++ bytes =
-    writes.text ∙ ap (λ l. text ++ l) (piece-found text h.2.front bytes h.2.back p.from p.to h.2.written h.2.from_is h.2.to_is).2 in
+    writes.text ∙ ap (λ l. text ++ l) (piece-found text bytes p.from p.to h.2).2 in
     let listed : one.text.list.items ≡ text ++ bytes = ap (λ v. v.list.items) first.text ∙ grown in
-    let naming = named-here s old a.state.candidates a.around all a.keeps a.scoped found real in
+    let naming = named-here s old a.kept a.around all a.scoped found real in
     let here = made-here s a.scope a.around (reverse old.waiting.list.items) a.scoped naming in
     let open_is : new.waiting ≡ old.waiting = second.waits ∙ first.waits ∙ writes.waiting in
     let own = with_candidate a.around (parameter k) a.state in
     let later = with_candidate a.around (rvalue (parameter k)) own in
     let reference = rvalue-opens s a.kind a.around a.os old.at a.state referable a.awaits mark in
     let prints = rvalue-given a.scope.names k bytes named in
-    value-added s one new own a.os a.around (rvalue (parameter k)) text bytes from true true
-    (keeps-with s mid one a.state text bytes from (parameter k) a.around true true
-    (keeps-grown s old mid bytes a.state.candidates grown writes.candidates writes.scope a.keeps) grown from_is
+    value-added s one new
+    (kept-with s mid one (kept-grown s old mid bytes grown writes.candidates writes.scope a.kept) text bytes from (parameter k) a.around true true grown from_is
     (parameter-given a.scope.names k (record { bytes = bytes; reference = true }) named) (λ e. here) first.text first.more first.scope)
-    listed from_is prints (λ e. here) second.text second.more second.scope (ap (λ v. reverse v.list.items) open_is) (λ e. naming)
+    a.os a.around (rvalue (parameter k)) text bytes from true true listed from_is prints (λ e. here) second.text second.more second.scope (ap (λ v. reverse v.list.items) open_is) (λ e. naming)
     (subst (λ n. Comes s a.os (tree (rvalue (parameter k)) true) n later) (sym (second.at ∙ first.at ∙ writes.at ∙ at))
     (reference.passes (parameter k) (old.at + 1 + 1 + length (parameter_digits k ++ 95 ∷ [])) own
     (parameter-comes s Kind.Type a.around reference.inner all.before k (old.at + 1) a.state tt few (scope-named s old all k p a found is single) reference.awaits
@@ -204,7 +202,7 @@ forwarded-done s old mid one new all k p n from a few referable mark letter line
 -- it is written once more
 pub again-inside : (s : Symbol) (w : Direct) (k : Candidate) → IsNamedAgain s w k → (k.from ≤ k.to) × (k.to ≤ length w.text.list.items)
 again-inside s w k p =
-    candidate-inside s (record w { at = p.before }) p.awaits.state.candidates (counted_value Seq36 p.digits) k p.awaits.keeps p.ordered p.found
+    candidate-inside s (record w { at = p.before }) (counted_value Seq36 p.digits) k p.awaits.kept p.ordered p.found
 
 pub dependent-again : (s : Symbol) (w new : Direct) (k : Candidate) (all : Arguments) → IsNamedAgain s w k
     → argument_of (reverse w.waiting.list.items) ≡ Some all → all.encoding ≢ 0 → Writes w new (take (k.to - k.from) (drop k.from w.text.list.items))
@@ -217,17 +215,17 @@ dependent-again s w new k all p found real writes =
     let t = c.0.tree in
     let bytes = c.2.bytes in
     let written : new.text.list.items ≡ text ++ bytes =
-    writes.text ∙ ap (λ l. text ++ l) (piece-found text c.2.front bytes c.2.back k.from k.to c.2.written c.2.from_is c.2.to_is).2 in
+    writes.text ∙ ap (λ l. text ++ l) (piece-found text bytes k.from k.to c.2.placed).2 in
     let prints : PrintsGiven (detail_of s) a.scope.names t bytes k.is_reference
     = subst (λ d. PrintsAs (detail_of s) a.scope.names d t bytes k.is_reference) p.is c.2.prints in
     let open_ = reverse w.waiting.list.items in
-    let keeps = keeps-same s (record w { at = p.before }) w a.state.candidates refl refl refl a.keeps in
-    let naming = named-here s w a.state.candidates a.around all keeps a.scoped found real in
+    let kept = kept-same s (record w { at = p.before }) w refl refl refl a.kept in
+    let naming = named-here s w kept a.around all a.scoped found real in
     let named = substitution-opens s a.kind a.around a.os p.before a.state p.digits w.at c.0 a.is_named c.1
     (again-substituted s a.around open_ c.0 a.state bytes k.is_reference a.keeps.own a.scoped naming (c.2.made_in p.is) prints) a.begins p.letter p.number in
     let comes : Comes s a.os (tree t true) w.at a.state = named.bare w.at a.state prints.no_function
     (expects-empty s Kind.ArgumentsAlone (after t true a.around) named.inner w.at a.state named.awaits refl) in
-    value-comes s new a.state a.os t text bytes k.is_reference true (keeps-written s w new _ a.state.candidates writes keeps) written prints
+    value-comes s new (kept-written s w new (take (k.to - k.from) (drop k.from text)) writes kept) a.os t text bytes k.is_reference true written prints
     (ap (λ v. reverse v.list.items) writes.waiting) (λ e. naming) (subst (λ n. Comes s a.os (tree t true) n a.state) (sym writes.at) comes) a.stands
 
 -- ## A parameter that expands a pack
@@ -467,7 +465,7 @@ pub expanded-inside : {detail : Detail} (pattern : Pattern) (before w one : Dire
 expanded-inside pattern before w one ts argument number place p f is known is_pack writes =
     let q = place_of argument (argument.before + number) in
     let h = p.among number (subst IsKnown is known) (ap (λ (k : Argument). k.is_pack) (sym is) ∙ is_pack) in
-    let inside = (piece-found before.text.list.items h.placed.front h.bytes h.placed.back q.from q.to h.placed.written h.placed.from_is h.placed.to_is).1 in
+    let inside = (piece-found before.text.list.items h.bytes q.from q.to h.placed).1 in
     omega (
       arith,
       ap (λ (k : Argument). k.to) is,
@@ -501,8 +499,7 @@ expanded-more {detail} pattern before w one two new ts argument number place mar
         let one_is : one.text.list.items ≡ before.text.list.items ++ (f.bytes ++ comma_text number) =
         comma.text ∙ ap (λ l. l ++ comma_text number) f.writes.text ∙ append_assoc before.text.list.items f.bytes (comma_text number) in
         let placed = placed-stays before.text.list.items (f.bytes ++ comma_text number) q h.bytes h.placed in
-        let found = piece-found (before.text.list.items ++ (f.bytes ++ comma_text number)) placed.front h.bytes placed.back q.from q.to placed.written
-        placed.from_is placed.to_is in
+        let found = piece-found (before.text.list.items ++ (f.bytes ++ comma_text number)) h.bytes q.from q.to placed in
         let own : take (place.to - place.from) (drop place.from one.text.list.items) ≡ h.bytes =
         ap (λ (k : Argument). take (k.to - k.from) (drop k.from one.text.list.items)) is ∙ ap (λ l. take (q.to - q.from) (drop q.from l)) one_is ∙ found.2 in
         let more = h.bytes ++ marks in
@@ -603,34 +600,19 @@ expansion-read s pattern old moved last new mark start argument a ordered pack_ 
     let starts : slice_get ts 0 ≡ Some n.own = subst (λ j. slice_get ts j ≡ Some n.own) (omega arith) first.2 in
     let grown : new.text.list.items ≡ old.text.list.items ++ bytes =
     ap (λ v. v.list.items) text ∙ fw.writes.text ∙ ap (λ v. v.list.items ++ bytes) same_text in
-    let keeps : Keeps s a.scope last a.state.candidates =
-    keeps-written s moved last bytes a.state.candidates fw.writes (keeps-same s old moved a.state.candidates same_text same_candidates same_scope a.keeps) in
+    let kept = kept-written s moved last bytes fw.writes (kept-same s old moved same_text same_candidates same_scope a.kept) in
     let known : AreCandidates s a.scope.names last.text.list.items (last.candidates.list.items ++ replicate (2 + length (pattern_letters pattern)) hidden) later.candidates =
-    trees-hidden s a.scope.names last.text.list.items last.candidates.list.items around pattern k size a.state keeps.candidates in
+    trees-hidden s a.scope.names last.text.list.items last.candidates.list.items around pattern k size a.state kept.keeps.candidates in
     record {
-      state = later;
-      scope = a.scope;
-      keeps = keeps-as s last new later.candidates (ap (λ v. v.list.items) text) candidates scope_ known keeps.named keeps.own keeps.unknown;
+      kept = kept-as s last new later kept text candidates scope_ known;
       rest = a.rest;
       open_is = ap (λ v. reverse v.list.items) (waiting ∙ fw.writes.waiting ∙ same_waiting) ∙ a.open_is;
-      make = a.make;
       ts = a.ts ++ t ∷ [];
       some = some-elements a.ts t;
-      front = a.front;
-      lead = a.lead;
-      name = a.name;
       texts = in_front_of_next a.ts a.texts ++ bytes;
-      is_function = record {
-        own = f.own;
-        makes = f.makes;
-        prints = f.prints;
-        elements = next-prints-in (types_of f.own) 6 a.ts a.texts t bytes f.elements
-            (expansion-element f.own n.all k ts pattern bytes (some-there ts n.own starts) n.all_are first.0 prints);
-        names = subst (λ l. HasArguments (detail_of s) l argument f.own) (sym grown) (arguments-stay old.text.list.items bytes argument f.own f.names);
-        given = f.given;
-        named = f.named;
-      };
-      fronts = a.fronts;
+      has = parameters-as s old.text.list.items new.text.list.items bytes mark start argument a.has grown
+          (next-prints-in (types_of f.own) 6 a.ts a.texts t bytes f.elements
+          (expansion-element f.own n.all k ts pattern bytes (some-there ts n.own starts) n.all_are first.0 prints));
       written = grown ∙ ap (λ l. l ++ bytes) a.written ∙ append_assoc front (in_front_of_next a.ts a.texts) bytes;
       goes = subst (λ j. ParametersGoOn s argument a.lead a.make (a.ts ++ t ∷ []) j later) (sym (at ∙ fw.writes.at ∙ moved_at)) goes;
     }

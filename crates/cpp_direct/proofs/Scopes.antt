@@ -7,6 +7,7 @@ use Rattle.cpp_grammar.specs.Term.{Term, instance}
 use Rattle.cpp_grammar.specs.Values.{Around, tree, tree_of, qualifiers_of, ref_of}
 use Rattle.cpp_grammar.specs.Values as values
 use Rattle.cpp_grammar.specs.Between.{inside}
+use Rattle.cpp_grammar.specs.Parts.{types_of}
 use Rattle.cpp_direct.specs.declared.open.Mark.{Mark}
 use Rattle.cpp_direct.specs.declared.open.Mark.TheVariants as marks
 use Rattle.cpp_direct.specs.declared.open.Open.{Open}
@@ -14,9 +15,11 @@ use Rattle.cpp_direct.specs.declared.open.Open.TheVariants as opens
 use Rattle.cpp_direct.specs.declared.open.Argument.{Argument}
 use Rattle.cpp_direct.specs.declared.open.Arguments.{Arguments}
 use Rattle.cpp_direct.specs.Marks.{called_on, has_const}
-use Rattle.cpp_direct.specs.WriterInvariant.{IsArgument, IsAmong, AreAmong, HasArguments, HasScope, IsFunction, IsKnown, IsScope, IsScoped, Scope, argument_of, list_with, place_of, IsNamedSo, qualifiers}
+use Rattle.cpp_direct.specs.WriterInvariant.{IsArgument, IsAmong, AreAmong, HasArguments, HasScope, IsKnown, IsScope, IsScoped, Scope, argument_of, list_with, place_of, IsNamedSo, qualifiers, HasParameters, IsOwnName}
 use Rattle.cpp_direct.specs.MidStep.{AreKnown}
 use Rattle.cpp_direct.proofs.Kept.{placed-stays}
+use Rattle.cpp_direct.specs.Prints.{PrintAllIn}
+use Rattle.cpp_direct.specs.Symbol.{Symbol, detail_of}
 
 -- the arguments of a name stay at their places where more is written
 pub arguments-stay : {detail : Detail} (text more : List ℕ) (a : Arguments) (name : Term) → HasArguments detail text a name
@@ -64,16 +67,31 @@ element-there (u ∷ ts) tail zero t e = (cc e, omega arith)
 element-there (u ∷ ts) tail (suc k) t e = let h = element-there ts tail k t e in (h.0, omega (arith, h.1))
 
 -- and a function's
-pub function-stays : {detail : Detail} {scope : Scope} (text more : List ℕ) (p : Arguments) (mark : Mark) (make : Term → Term) (ts : List Term) (name texts : List ℕ)
-    → IsFunction detail scope text p mark make ts name texts → IsFunction detail scope (text ++ more) p mark make ts name texts
-function-stays text more p mark make ts name texts f = record {
-  own = f.own;
-  makes = f.makes;
-  prints = f.prints;
-  elements = f.elements;
-  names = arguments-stay text more p f.own f.names;
-  given = f.given;
-  named = f.named;
+pub name-stays : {detail : Detail} {scope : Scope} (text new more : List ℕ) (a : Arguments) (own : Term) (name : List ℕ) → new ≡ text ++ more
+    → IsOwnName detail scope text a own name → IsOwnName detail scope new a own name
+name-stays {detail} text new more a own name grown p = record {
+  prints = p.prints;
+  names = subst (λ l. HasArguments detail l a own) (sym grown) (arguments-stay text more a own p.names);
+  given = p.given;
+  named = p.named;
+}
+
+-- with its parameters
+abbrev pub parameters-as : (s : Symbol) {scope : Scope} (text new more : List ℕ) (mark : Mark) (start : ℕ) (a : Arguments) {ts us : List Term} {texts more_texts : List ℕ}
+    (p : HasParameters s scope text mark start a ts texts) → new ≡ text ++ more → PrintAllIn (detail_of s) (types_of p.is_function.own) 6 us more_texts
+    → HasParameters s scope new mark start a us more_texts
+parameters-as s text new more mark start a p grown elements = record {
+  front = p.front;
+  lead = p.lead;
+  make = p.make;
+  name = p.name;
+  is_function = record {
+    own = p.is_function.own;
+    makes = p.is_function.makes;
+    is_own = name-stays text new more a p.is_function.own p.name grown p.is_function.is_own;
+    elements = elements;
+  };
+  fronts = p.fronts;
 }
 
 scoped-by : (scope : Scope) (around : Around) (p q : Arguments) → q ≡ p → scope.arguments ≡ p → HasScope p around
