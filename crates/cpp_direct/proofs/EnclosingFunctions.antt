@@ -48,7 +48,7 @@ use Rattle.cpp_direct.proofs.PrintedParts.{has-none, has-parameters}
 use Rattle.cpp_direct.proofs.PrintedLocals.{function-encloses, name-encloses, object-enclosing, returned-enclosing, lambda-prints, lambda-list-prints, local-prints}
 use Rattle.cpp_direct.proofs.PrintedNames.{as-name, source-prints}
 use Rattle.cpp_direct.proofs.PrintedSymbols.{encoding-plain, function-shows, encoding-returned, object-encoded, parameters-kept, void-shows, made-void, made-with}
-use Rattle.cpp_direct.proofs.Scopes.{member-named, none-scoped, plain-named}
+use Rattle.cpp_direct.proofs.Scopes.{none-scoped, has-member, has-plain}
 use Rattle.cpp_direct.specs.WrittenParts.{IsUnmarked}
 use Rattle.cpp_direct.proofs.Unmarked.{name-unmarked, is-no-mark, more-unmarked}
 use Rattle.cpp_direct.proofs.TypesRead.{builtin-listed, no-builtin}
@@ -139,14 +139,9 @@ source-within s old start new name from a letter same_text same_candidates same_
     record {
       kept = kept-read s start new (source_text name) reads
           (kept-same s old start same_text same_candidates same_scope a.kept);
-      own = own;
-      v = tree own false;
-      named_so = plain-named own;
-      front = front;
-      name = source_text name;
-      written = reads.text ∙ ap (λ v. v.list.items ++ source_text name) same_text;
-      from_is = from_is ∙ ap (λ v. length v.list.items) same_text;
-      prints = as-name own (source_text name) false (source-prints false name filled (name-unmarked s.bytes start.at name new.at is));
+      has = has-plain s new.text.list.items from own front (source_text name) (reads.text ∙ ap (λ v. v.list.items ++ source_text name) same_text)
+          (from_is ∙ ap (λ v. length v.list.items) same_text)
+          (as-name own (source_text name) false (source-prints false name filled (name-unmarked s.bytes start.at name new.at is)));
       returns = refl;
       goes = subst (λ v. ItemsGoOn s nowhere (TypeWithin s (below s a.scope (reverse v.list.items)) front) (λ l. encoding_of (tree own false) l) [] new.at a.state)
           (sym (reads.waiting ∙ same_waiting))
@@ -162,14 +157,8 @@ name-within s old kept t mark is_instance n returns here is_name =
     let serves = subst (λ p. Serves s p (below s kept.scope (reverse old.waiting.list.items)) n.outer n.front) is_name n.serves in
     record {
       kept = kept-same s old (record old { at = old.at + 1 }) refl refl refl kept;
-      own = t;
-      v = named t (qualifiers (has_const mark)) (called_on mark);
-      named_so = member-named t mark;
-      front = n.front;
-      name = n.bytes;
-      written = n.written;
-      from_is = n.is_nest.from_is;
-      prints = as-name t n.bytes false (closed-prints kept.scope.names (n.is_nest.closed (subst IsOwn (sym is_name) tt)) n.is_nest.prints);
+      has = has-member s old.text.list.items mark old.nest.from t n.front n.bytes n.written n.is_nest.from_is
+          (as-name t n.bytes false (closed-prints kept.scope.names (n.is_nest.closed (subst IsOwn (sym is_name) tt)) n.is_nest.prints));
       returns = returns;
       goes = serves t old.nest.is_listed (old.at + 1) kept.state (nest-comes s old kept.state t n here);
     }
@@ -181,7 +170,7 @@ pub plain-awaits : (s : Symbol) (w : Direct) (mark : Mark) (from : ℕ) → IsEn
 plain-awaits s w mark from p = record {
   kept = p.kept;
   has = record {
-    front = p.front;
+    front = p.lead;
     from_is = p.from_is;
     name = p.name;
     own = p.own;
@@ -202,7 +191,7 @@ pub returned-awaits : (s : Symbol) (w : Direct) (n : ℕ) (mark : Mark) (from le
 returned-awaits s w n mark from letter p has stands at_is =
     let r = builtin (letter ∷ []) in
     let make : Term → Term = λ l. encoding_of p.v l in
-    let becomes : Term → ℕ → State → Type 0 = TypeWithin s (below s p.scope (reverse w.waiting.list.items)) p.front in
+    let becomes : Term → ℕ → State → Type 0 = TypeWithin s (below s p.scope (reverse w.waiting.list.items)) p.lead in
     let listed = builtin-listed letter has in
     let element = element-awaits s Kind.Items p.goes.inner p.goes.around w.at p.state tt p.goes.awaits in
     let goes = parameter-goes_on s nowhere becomes make [] w.at p.state p.goes r (w.at + 1) p.state
@@ -211,7 +200,7 @@ returned-awaits s w n mark from letter p has stands at_is =
     record {
       kept = kept-same s w (record w { at = n }) refl refl refl p.kept;
       has = record {
-        front = p.front;
+        front = p.lead;
         from_is = p.from_is;
         name = p.name;
         own = p.own;
@@ -329,12 +318,12 @@ object-within s w mark from p =
       kept = p.kept;
       has = record {
         e = encoding_of p.v nil;
-        front = p.front;
+        front = p.lead;
         from_is = p.from_is;
         bytes = b ++ q;
         encloses = object-enclosing (detail_of s) p.v (b ++ q) shows;
       };
-      written = ap (λ l. l ++ q) p.written ∙ behind-two p.front b q;
+      written = ap (λ l. l ++ q) p.written ∙ behind-two p.lead b q;
       within = p.goes.onward nothing_there w.at p.state (expects-empty s Kind.Items p.goes.around p.goes.inner w.at p.state p.goes.awaits refl);
     }
 

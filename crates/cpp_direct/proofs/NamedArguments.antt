@@ -130,14 +130,7 @@ scope-begins s old new mark is_instance argument a from p same encoded first new
             unknown = λ e. absurd (false≢true (sym e));
           };
         };
-        own = p.own;
-        v = p.v;
-        named_so = p.named_so;
-        lead = p.lead;
-        name = p.name;
-        written = p.written;
-        from_is = p.from_is;
-        prints = p.prints;
+        has = p.has;
         no_return = p.no_return;
         returns = p.returns;
         names = names;

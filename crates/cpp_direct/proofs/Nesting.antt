@@ -3,7 +3,7 @@ use Rattle.sym_print.specs.declared.detail.Detail.{Detail}
 use Rattle.cpp_direct.specs.WrittenParts.{opening_bracket}
 use Rattle.cpp_direct.specs.declared.open.Arguments.{Arguments}
 use Rattle.cpp_direct.proofs.Unmarked.{name-unmarked}
-use Rattle.cpp_direct.proofs.Scopes.{scoped-inside, member-named}
+use Rattle.cpp_direct.proofs.Scopes.{scoped-inside, has-member}
 use Rattle.std.proofs.Common.{◌≡◌, ◌≢◌, ℕ, ◌+◌, ◌-◌, ◌≤◌, List, [], ◌∷◌, ◌++◌, length, take, drop, reverse, slice_get, Bool, true, false, Some, refl, ap, sym, ◌∙◌, subst, arith, codes, append-nil, append_assoc, ◌&&◌, Ok}
 use Rattle.std.proofs.lemmas.Bool.{false≢true}
 use Rattle.sym_core.specs.declared.NumberKind.TheVariants.{Seq36}
@@ -21,7 +21,6 @@ use Rattle.cpp_grammar.specs.Values.{State, Around, tree, named}
 use Rattle.cpp_grammar.specs.Between.{with_tag, after, inside, no_items}
 use Rattle.cpp_direct.specs.Symbol.{detail_of, Symbol}
 use Rattle.cpp_direct.specs.declared.open.Mark.{Mark}
-use Rattle.cpp_direct.specs.Marks.{has_const, called_on}
 use Rattle.cpp_direct.specs.declared.open.Candidate.{Candidate}
 use Rattle.cpp_direct.specs.declared.open.Nest.{Nest}
 use Rattle.cpp_direct.specs.declared.open.Purpose.{Purpose}
@@ -34,7 +33,7 @@ use Rattle.cpp_direct.specs.Holes.{Opened, Comes, StandsAt, IsNameAt, IsSeqAt, S
 use Rattle.cpp_direct.specs.HolesOfNests.{IsRest, IsFirstRest}
 use Rattle.cpp_direct.specs.Names.{tag_text}
 use Rattle.cpp_direct.specs.Prints.{Names, Prints, PrintsAs, NamesClass}
-use Rattle.cpp_direct.specs.WriterInvariant.{HasArguments, IsNaming, IsNest, IsNestScoped, IsNesting, IsOwn, IsScoped, Scope, Serves, IsWriting, below, encoding_place, is_type, qualifiers, IsKnown, nowhere, place_of, IsScopeOf, argument_of, Kept, IsNestSoFar}
+use Rattle.cpp_direct.specs.WriterInvariant.{HasArguments, IsNaming, IsNest, IsNestScoped, IsNesting, IsOwn, IsScoped, Scope, Serves, IsWriting, below, encoding_place, is_type, IsKnown, nowhere, place_of, IsScopeOf, argument_of, Kept, IsNestSoFar}
 use Rattle.cpp_direct.specs.MidStep.{AwaitsNest, IsNestKnown, IsNestNamed, IsNameEnded, IsOperatorRead}
 use Rattle.cpp_direct.specs.Written.{Reads, added, added_unless}
 use Rattle.cpp_direct.proofs.Moves.{alone-arguments, any-tail, expects-empty, stands-join, comes-moved}
@@ -345,14 +344,8 @@ name-comes s old kept t mark is_function argument_ n no_return returns names her
     let serves = subst (λ p. Serves s p (below s kept.scope (reverse old.waiting.list.items)) n.outer n.front) is_name n.serves in
     record {
       kept = kept-same s old (record old { at = old.at + 1 }) refl refl refl kept;
-      own = t;
-      v = named t (qualifiers (has_const mark)) (called_on mark);
-      named_so = member-named t mark;
-      lead = n.front;
-      name = n.bytes;
-      written = n.written;
-      from_is = n.is_nest.from_is;
-      prints = as-name t n.bytes false (closed-prints kept.scope.names (n.is_nest.closed (subst IsOwn (sym is_name) tt)) n.is_nest.prints);
+      has = has-member s old.text.list.items mark old.nest.from t n.front n.bytes n.written n.is_nest.from_is
+          (as-name t n.bytes false (closed-prints kept.scope.names (n.is_nest.closed (subst IsOwn (sym is_name) tt)) n.is_nest.prints));
       no_return = no_return;
       returns = returns;
       names = names;
@@ -370,14 +363,7 @@ operator-ends s w mark p here is_name =
     let goes = p.named.bare w.at st (expects-empty s Kind.MaybeArguments (after t false p.around) p.named.inner w.at st p.named.awaits refl) in
     record {
       kept = kept-same s w (record w { at = w.at + 1 }) refl refl refl p.kept;
-      own = t;
-      v = named t (qualifiers (has_const mark)) (called_on mark);
-      named_so = member-named t mark;
-      lead = p.front;
-      name = p.bytes;
-      written = p.written;
-      from_is = p.from_is;
-      prints = p.prints;
+      has = has-member s w.text.list.items mark w.nest.from t p.front p.bytes p.written p.from_is p.prints;
       no_return = λ e. p.no_return;
       returns = λ e. absurd (false≢true e);
       names = λ k o. absurd (none-known k o);

@@ -16,9 +16,9 @@ use Rattle.cpp_direct.specs.declared.open.Argument.{Argument}
 use Rattle.cpp_direct.specs.declared.open.Arguments.{Arguments}
 use Rattle.cpp_direct.specs.Marks.{called_on, has_const}
 use Rattle.cpp_direct.specs.WriterInvariant.{IsArgument, IsAmong, AreAmong, HasArguments, HasScope, IsKnown, IsScope, IsScoped, Scope, argument_of, list_with, place_of, IsNamedSo, qualifiers, HasParameters, IsOwnName}
-use Rattle.cpp_direct.specs.MidStep.{AreKnown}
+use Rattle.cpp_direct.specs.MidStep.{AreKnown, HasNameSo}
 use Rattle.cpp_direct.proofs.Kept.{placed-stays}
-use Rattle.cpp_direct.specs.Prints.{PrintAllIn}
+use Rattle.cpp_direct.specs.Prints.{PrintAllIn, PrintsName}
 use Rattle.cpp_direct.specs.Symbol.{Symbol, detail_of}
 
 -- the arguments of a name stay at their places where more is written
@@ -167,3 +167,30 @@ member-named t mark = record { tree_is = refl; qualifiers_are = refl; mark_is = 
 pub plain-named : (t : Term) → IsNamedSo (tree t false) t marks.Plain
 unfolding tree_of qualifiers_of ref_of
 plain-named t = record { tree_is = refl; qualifiers_are = refl; mark_is = refl }
+
+-- they are written so
+abbrev pub has-member : (s : Symbol) (text : List ℕ) (mark : Mark) (from : ℕ) (t : Term) (lead name : List ℕ) → text ≡ lead ++ name → from ≡ length lead
+    → PrintsName (detail_of s) t name → HasNameSo s text mark from
+has-member s text mark from t lead name written from_is prints = record {
+  own = t;
+  v = values.named t (qualifiers (has_const mark)) (called_on mark);
+  named_so = member-named t mark;
+  lead = lead;
+  name = name;
+  written = written;
+  from_is = from_is;
+  prints = prints;
+}
+
+abbrev pub has-plain : (s : Symbol) (text : List ℕ) (from : ℕ) (t : Term) (lead name : List ℕ) → text ≡ lead ++ name → from ≡ length lead
+    → PrintsName (detail_of s) t name → HasNameSo s text marks.Plain from
+has-plain s text from t lead name written from_is prints = record {
+  own = t;
+  v = tree t false;
+  named_so = plain-named t;
+  lead = lead;
+  name = name;
+  written = written;
+  from_is = from_is;
+  prints = prints;
+}

@@ -1,6 +1,5 @@
 -- Names of encodings that are in no class, and of local entities: where a writer is after them.
 use Rattle.cpp_direct.proofs.Unmarked.{name-unmarked}
-use Rattle.cpp_direct.proofs.Scopes.{plain-named}
 use Rattle.std.proofs.Common.{◌≡◌, ◌≢◌, ℕ, ◌+◌, length, List, [], ◌∷◌, ◌++◌, Bool, true, false, not, cond, refl, ap, sym, subst, ◌∙◌, arith, append_assoc, codes, ◌≤◌, append-nil}
 use Rattle.std.proofs.lemmas.Bool.{false≢true}
 use Rattle.cpp_grammar.specs.declared.kind.Kind.{Kind}
@@ -39,6 +38,7 @@ use Rattle.cpp_direct.proofs.PrintedLocals.{entity-shows, guard-shows}
 use Rattle.cpp_direct.specs.declared.open.Mark.TheVariants as marks
 use Rattle.cpp_direct.specs.declared.open.Open.TheVariants as opens
 use Rattle.cpp_direct.specs.declared.open.Step.TheVariants as steps
+use Rattle.cpp_direct.proofs.Scopes.{has-plain}
 
 -- what isn't so
 pub not-so : (b other : Bool) → b ≡ other → not b ≡ true → other ≡ false
@@ -173,14 +173,7 @@ pub unscoped-bare : (s : Symbol) (w : Direct) (from : ℕ) (takes : Bool) → Is
 unfolding may_be_empty
 unscoped-bare s w from takes p = record {
   kept = p.kept;
-  own = p.own;
-  v = tree p.own false;
-  named_so = plain-named p.own;
-  lead = p.front;
-  name = p.bytes;
-  written = p.written;
-  prints = p.names;
-  from_is = p.from_is;
+  has = has-plain s w.text.list.items from p.own p.front p.bytes p.written p.from_is p.names;
   no_return = λ e. p.no_return;
   returns = λ e. absurd (false≢true e);
   names = λ k o. absurd (none-known k o);

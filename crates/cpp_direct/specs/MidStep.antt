@@ -360,19 +360,24 @@ pub record AwaitsNumber (s : Symbol) (w : Direct) : Type 0 where
   pub written : w.text.list.items ≡ led_by (detail_of s) place.listing place.front place.name ++ in_front_of_next ts texts ++ codes "(" ++ bytes
   pub goes : EnumeratorGoesOn s place.listing place.owner (below s scope place.rest) place.front place.template ts type w.at state
 
--- The name of an encoding was read and written from a place on, but for its qualifier. The known ones of these arguments are at their
--- places.
-pub record IsNameEnded (s : Symbol) (w : Direct) (mark : Mark) (is_instance : Bool) (argument : Arguments) (from : ℕ) : Type 0 where
-  pub kept : Kept s w
-  pub open kept use *
+-- A name was written from a place on, and is read as that of a function with this mark, or of data.
+pub record HasNameSo (s : Symbol) (text : List ℕ) (mark : Mark) (from : ℕ) : Type 0 where
   pub own : Term
   pub v : Value
   pub named_so : IsNamedSo v own mark
   pub lead : List ℕ
   pub name : List ℕ
-  pub written : w.text.list.items ≡ lead ++ name
+  pub written : text ≡ lead ++ name
   pub from_is : from ≡ length lead
   pub prints : PrintsName (detail_of s) own name
+
+-- The name of an encoding was read and written from a place on, but for its qualifier. The known ones of these arguments are at their
+-- places.
+pub record IsNameEnded (s : Symbol) (w : Direct) (mark : Mark) (is_instance : Bool) (argument : Arguments) (from : ℕ) : Type 0 where
+  pub kept : Kept s w
+  pub open kept use *
+  pub has : HasNameSo s w.text.list.items mark from
+  pub open has use *
   pub no_return : is_instance ≡ false → has_return_type own ≡ false
   pub returns : is_instance ≡ true → has_return_type own ≡ true
   pub names : HasArguments (detail_of s) w.text.list.items argument own

@@ -3,7 +3,6 @@ use Rattle.std.specs.Prelude.{◌≡◌, ◌≢◌, ℕ, ◌+◌, List, [], ◌�
 use Rattle.cpp_grammar.specs.Term.{Term}
 use Rattle.cpp_grammar.specs.Scope.{has_return_type}
 use Rattle.cpp_grammar.specs.Meaning.{encoding_of}
-use Rattle.cpp_grammar.specs.Values.{Value}
 use Rattle.cpp_direct.specs.Symbol.{detail_of, Symbol}
 use Rattle.cpp_direct.specs.declared.open.Mark.{Mark}
 use Rattle.cpp_direct.specs.declared.open.Mark.TheVariants as marks
@@ -13,9 +12,9 @@ use Rattle.cpp_direct.specs.declared.direct.Direct.{Direct}
 use Rattle.cpp_direct.specs.Bytes.{is_local}
 use Rattle.cpp_direct.specs.Holes.{StandsAt}
 use Rattle.cpp_direct.specs.Marks.{mark_text}
-use Rattle.cpp_direct.specs.Prints.{PrintsName, PrintAll}
-use Rattle.cpp_direct.specs.WriterInvariant.{ItemsGoOn, LambdaWithin, TypeWithin, below, nowhere, IsNamedSo, Kept, HasEnclosing, IsEnclosed}
-use Rattle.cpp_direct.specs.MidStep.{IsEncodingEnded}
+use Rattle.cpp_direct.specs.Prints.{PrintAll}
+use Rattle.cpp_direct.specs.WriterInvariant.{ItemsGoOn, LambdaWithin, TypeWithin, below, nowhere, Kept, HasEnclosing, IsEnclosed}
+use Rattle.cpp_direct.specs.MidStep.{IsEncodingEnded, HasNameSo}
 
 -- ## Local entities
 
@@ -35,16 +34,10 @@ pub record AwaitsEntity (s : Symbol) (w : Direct) (is_internal : Bool) : Type 0 
 pub record IsEnclosingNamed (s : Symbol) (w : Direct) (mark : Mark) (is_instance : Bool) (from : ℕ) : Type 0 where
   pub kept : Kept s w
   pub open kept use *
-  pub own : Term
-  pub v : Value
-  pub named_so : IsNamedSo v own mark
-  pub front : List ℕ
-  pub name : List ℕ
-  pub written : w.text.list.items ≡ front ++ name
-  pub from_is : from ≡ length front
-  pub prints : PrintsName (detail_of s) own name
+  pub has : HasNameSo s w.text.list.items mark from
+  pub open has use *
   pub returns : has_return_type own ≡ is_instance
-  pub goes : ItemsGoOn s nowhere (TypeWithin s (below s scope (reverse w.waiting.list.items)) front) (λ l. encoding_of v l) [] w.at state
+  pub goes : ItemsGoOn s nowhere (TypeWithin s (below s scope (reverse w.waiting.list.items)) lead) (λ l. encoding_of v l) [] w.at state
 
 -- The name of a function in which a type is was read, and its return type if it has one. Its parameters are expected.
 pub record AwaitsEnclosingParameters (s : Symbol) (w : Direct) (mark : Mark) (from : ℕ) : Type 0 where
