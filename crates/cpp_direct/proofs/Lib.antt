@@ -10,7 +10,6 @@ pub mod Kept
 pub mod LettersTested
 pub mod Listed
 pub mod Moves
-pub mod MovesOfComponents
 pub mod MovesOfEncodings
 pub mod MovesOfLists
 pub mod MovesOfLocals

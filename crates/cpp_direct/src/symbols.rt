@@ -43,6 +43,7 @@ pub const NOWHERE: Arguments = Arguments {
     third: NO_PLACE,
     fourth: NO_PLACE,
     encoding: 0,
+    before: 0,
     elements: 0,
 };
 
