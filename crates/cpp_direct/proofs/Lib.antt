@@ -15,6 +15,7 @@ pub mod MovesOfLists
 pub mod MovesOfLocals
 pub mod MovesOfNests
 pub mod MovesOfTypes
+pub mod NameLanes
 pub mod NamePlaces
 pub mod NamedArguments
 pub mod NestComponents

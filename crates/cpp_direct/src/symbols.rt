@@ -89,7 +89,7 @@ impl Direct {
             Step::List { is_first } => self.list_at::<G>(s, is_first),
             Step::Rest => self.rest_at::<G>(s),
             Step::Tail => self.tail_at::<G>(s),
-            Step::Component => self.component_at::<G>(s),
+            Step::Component => self.components_at::<G>(s),
             Step::Ended => None,
         }
     }

@@ -21,8 +21,8 @@ returns-then-byte_at-eq73 g c =
     (subst (λ n. StandsAt s.bytes n (73 ∷ [])) added.at (there s.bytes mid.at c.byte_at.result 73 c.if-byte_at-eq73.true (omega arith) c.byte_at.ensures))
     (record { candidates = added.candidates; text = added.text; waiting = added.«open»; nest = added.nest; scope = added.scope; at = added.at }))
 
-pub component_at-requires-clause-writing : goal.component_at-requires-clause-writing
-component_at-requires-clause-writing g c =
+pub components_at-requires-clause-writing : goal.components_at-requires-clause-writing
+components_at-requires-clause-writing g c =
     let writing = c.requires.writing in
     let added = c.in_ok-add_unless.ensures in
     component-next (symbol_by g.G.Grammar.IS_WIDE g.G.Grammar.IS_BARE g.G.Grammar.IS_BRIEF c.args.s.now) writing.is_before.1 c.args.self.now c.add_unless.new.self writing.kept writing.is_before.0
