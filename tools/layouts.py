@@ -19,7 +19,12 @@ WHOLE = [
     ("fill_bare_of", "bare-other", "d", "full_parts d", "bare_parts d", ""),
     ("fill_root", "root-none", "", "[]", "root_parts", ""),
     ("ends_in_angle", "last-none", "", "fixed_text LESS", "opening_text (last_piece t)", "last_piece"),
+    ("precedence", "precedence-none", "", "0", "precedence_of", ""),
 ]
+# those that have arms for the pieces of names, and what the tree shows: the rest is by hand
+PIECES = [("fill_piece", "piece_parts c"), ("fill_rare_piece", "piece_parts c"), ("fill_within", "within_parts c prefix"), ("fill_base_within", "base_within c prefix")]
+# those that add none, and say what they find
+VALUES = ("ends_in_angle", "precedence")
 # the left parts are added by three functions, each for the nodes that the one before has no arms for
 LEFT = ["fill_left", "fill_left_type", "fill_left_argument"]
 # what is to be said before the parts are the tree's: of the text that is added, or of the arm
@@ -28,7 +33,7 @@ BEFORE = {("fill_left_type", "Pointer"): f'marked-whole {CONTEXT} _ "*" _ refl',
           ("fill_left_argument", "Boolean"): "boolean-whole _", ("fill_left_argument", "Pack"): "append-nil _",
           ("fill_left_type", "Constrained"): f"ap (λ t. as_item left {CONTEXT} (tree_shown c.args.self.now c.args.ctx c.in-Constrained.concept) ∷ text t ∷ []) c.placeholder.ensures.text"}
 # arms whose answers are by hand
-BY_HAND = [("fill_left", "InStd"), ("fill_left", "Local"), ("fill_base", "Local"), ("fill_left_argument", "Operation"), ("fill_left_argument", "FunctionParameter")]
+BY_HAND = [("fill_left", "InStd"), ("fill_left", "Local"), ("fill_base", "Local")]
 
 def bodies(crates):
     """the text of each function, by its name"""
@@ -38,8 +43,8 @@ def bodies(crates):
         for function in re.finditer(r"^    (?:pub(?:\(crate\))? )?fn (\w+)[^\n]*\n.*?^    \{\n(.*?)^    \}\n", text, re.M | re.S): yield function.group(1), function.group(2)
 
 def arms(body):
-    """the nodes that a match has arms for, and the text of each arm"""
-    starts = [m for m in re.finditer(r"^ +(?:Node::(\w+)|_ =>)", body, re.M)]
+    """the nodes or pieces that a match has arms for, and the text of each arm"""
+    starts = [m for m in re.finditer(r"^ +(?:(?:Node|Piece)::(\w+)|_ =>)", body, re.M)]
     return [(m.group(1), body[m.end():after.start()]) for m, after in zip(starts, starts[1:]) if m.group(1)]
 
 def calls(body):
@@ -54,7 +59,7 @@ def calls(body):
 
 def camel(name): return "".join(part.capitalize() for part in name.split("_"))
 def record_of(function): return "IsOther" + camel(function.replace("fill_", ""))
-def applied_to(text, t): return text.replace(" t)", f" {t})") if " t)" in text else text if text == "[]" or text.startswith("fixed") else f"{text} {t}"
+def applied_to(text, t): return text.replace(" t)", f" {t})") if " t)" in text else text if text in ("[]", "0") or text.startswith("fixed") else f"{text} {t}"
 def none(arms_): return "(record { " + "; ".join(f"not_{node.lower()} = c.in_default.not-{node}" for node in arms_) + " })"
 
 def others(matched, types):
@@ -71,7 +76,7 @@ def others(matched, types):
         "use Rattle.std.proofs.lemmas.Bool.{true≢false}", "use Rattle.sym_core.specs.declared.Span.{Span}", "use Rattle.sym_print.specs.declared.detail.Detail.{Detail}",
         "use Rattle.cpp_grammar.specs.Items as heads", "use Rattle.cpp_term.specs.Items as items", "use Rattle.cpp_term.specs.Term.{Term}",
         "use Rattle.cpp_term.specs.Reargued.{reargued}",
-        "use Rattle.cpp_term.specs.Parts.{as_item, prefix_item, left_parts, low_parts, base_parts, right_parts, own_piece, piece_parts, first_parts, more_parts, full_parts, bare_parts, root_parts, opening_text, last_piece}",
+        "use Rattle.cpp_term.specs.Parts.{as_item, prefix_item, left_parts, low_parts, base_parts, right_parts, own_piece, piece_parts, first_parts, more_parts, full_parts, bare_parts, root_parts, opening_text, last_piece, precedence_of}",
         "use Rattle.cpp_tree.specs.Nodes.{tree_of, is_again, is_encoding}",
         *[f"use Rattle.cpp_tree.specs.declared.node.{name}.{{{name}}}" for name in ("Node", "Piece", "Thunk", "Mark", "Signed", "Qualifiers")],
         "use Rattle.cpp_layout.specs.Texts.{fixed_text}", "use Rattle.cpp_layout.specs.declared.texts.TheConstants.{LESS}", "use Rattle.cpp_layout.specs.Layout.{IsNoName, IsNoType}"]
@@ -108,6 +113,20 @@ def others(matched, types):
             *[f"    by {shape(node)} flat e{h} = {case}" for node in encodings], *([other] if other else []), f"    by {again} flat e{h} = absurd (true≢false flat)", f"    by _ flat e{h} = {last}"]
     return "\n".join(lines) + "\n"
 
+def added(call, step):
+    """that the last part was added"""
+    room = {"push_item": " _ _", "push_list": " _ _"}.get(call, " _ _ _" if call.startswith("push_") else None)
+    return f"c.{step}.ensures.shows" if room is None else f"(c.{step}.ensures.shows{room} (starts {SHOWN} _))"
+
+def of_pieces(matched, steps, function, parts):
+    """each arm's answer, for the pieces of names"""
+    told = parts.replace(" prefix", " (tree_shown c.args.self.now c.args.ctx c.args.prefix)").replace(" c", f" {CONTEXT}", 1)
+    for piece in matched[function]:
+        fact = f"ap (λ p. {told} (piece_shown c.args.self.now c.args.ctx p)) (sym c.in-{piece}.is)"
+        text = TEXTS.format(steps[function, piece]) + " ∙ " if (function, piece) in steps else ""
+        goal = f"returns-in-{piece}-clause-shows"
+        yield [f"pub {goal} : goal.{goal}", f"unfolding piece_of {parts.split()[0]} reargued", f"{goal} g c = fills {SHOWN} _ _ _ {added(*steps[function][piece])} ({text}{fact})"]
+
 def answers(matched, steps, function, parts, by):
     """each arm's answer"""
     head = parts.split()[0]
@@ -118,11 +137,9 @@ def answers(matched, steps, function, parts, by):
     told = re.sub(r"\bd\b", DETAIL, re.sub(r"\bc\b", CONTEXT, parts))
     for node in matched[function]:
         if (function, node) in BY_HAND: continue
-        call, step = steps[function][node]
-        room = {"push_item": " _ _", "push_list": " _ _"}.get(call, " _ _ _" if call.startswith("push_") else None)
-        adds = f"c.{step}.ensures.shows" if room is None else f"(c.{step}.ensures.shows{room} (starts {SHOWN} _))"
+        adds = added(*steps[function][node])
         facts = [BEFORE[function, node]] if (function, node) in BEFORE else []
-        if call == "push_some": facts.append(TEXTS.format(steps[function, node]))
+        if steps[function][node][0] == "push_some": facts.append(TEXTS.format(steps[function, node]))
         if left: facts.append(f"ap (λ n. {told} (node_shown c.args.self.now c.args.ctx n)) (sym c.in-{node}.is)")
         if function == "fill_left": facts.append(f"ap (λ t. {told} t) (sym c.stored-stored.ensures.tree)")
         if not left: facts.append(f"ap (λ t. {applied_to(told, 't')}) (sym c.in-{node}.ensures.tree)")
@@ -130,12 +147,13 @@ def answers(matched, steps, function, parts, by):
         yield [f"pub {goal} : goal.{goal}", special.get((function, node), unfolded), f"{goal} g c = fills {SHOWN} _ _ _ {adds} ({' ∙ '.join(facts)})"]
 
 def default(function, lemma, variables, of_others, matched):
-    goal = "returns-in_default" + ("" if function == "ends_in_angle" else "-clause-shows")
+    goal = "returns-in_default" + ("" if function in VALUES else "-clause-shows")
     given = " ".join(["_ _ _ _", *(SAID[v] for v in variables)])
     fact = f"{lemma} {given} {STORED} {none(matched[function])}"
-    if function == "ends_in_angle": return [f"pub {goal} : goal.{goal}", f"{goal} c = {fact} ∙ ap opening_text c.entities.invariant.last"]
-    added = f"(starts {SHOWN} _)" if of_others == "[]" else f"c.{'fill_full' if function == 'fill_bare_of' else 'fill_as_left'}.ensures.shows"
-    return [f"pub {goal} : goal.{goal}", f"{goal} g c = fills {SHOWN} _ _ _ {added} ({fact})"]
+    last = " ∙ ap opening_text c.entities.invariant.last" if function == "ends_in_angle" else ""
+    if function in VALUES: return [f"pub {goal} : goal.{goal}", f"{goal} c = {fact}{last}"]
+    parts = f"(starts {SHOWN} _)" if of_others == "[]" else f"c.{'fill_full' if function == 'fill_bare_of' else 'fill_as_left'}.ensures.shows"
+    return [f"pub {goal} : goal.{goal}", f"{goal} g c = fills {SHOWN} _ _ _ {parts} ({fact})"]
 
 def left_defaults(matched):
     name, type_, argument = LEFT
@@ -147,11 +165,11 @@ def left_defaults(matched):
 def matches(crates):
     matched, steps = {}, {}
     for function, body in bodies(crates):
-        if function in LEFT or function in [row[0] for row in WHOLE]:
+        if function in [*LEFT, *(row[0] for row in [*WHOLE, *PIECES])]:
             matched[function], steps[function] = [node for node, text in arms(body)], calls(body)
             for node, text in arms(body):
-                added = re.search(r"push_some\(parts, (\w+)\(", text)
-                if added: steps[function, node] = added.group(1)
+                some = re.search(r"push_some\(parts, (\w+)\(", text)
+                if some: steps[function, node] = some.group(1)
     return matched, steps
 
 def files(crates, types):
@@ -161,7 +179,8 @@ def files(crates, types):
     place = "cpp_layout/proofs/symbol/Symbol/{0}/Answers.antt".format
     for function in LEFT: written += [(place(function), answer) for answer in answers(matched, steps, function, "left_parts d c", "")]
     for function, lemma, variables, of_others, of_tree, by in WHOLE:
-        if function != "ends_in_angle": written += [(place(function), answer) for answer in answers(matched, steps, function, of_tree, by)]
+        if function not in VALUES: written += [(place(function), answer) for answer in answers(matched, steps, function, of_tree, by)]
         written.append((place(function), default(function, lemma, variables, of_others, matched)))
+    for function, parts in PIECES: written += [(place(function), answer) for answer in of_pieces(matched, steps, function, parts)]
     for function, goal, answer in left_defaults(matched): written.append((place(function), [f"pub {goal} : goal.{goal}", f"{goal} {answer}"]))
     return others(matched, types), written, matched

@@ -32,6 +32,16 @@ def nodes():
     # a tree of another node, with another argument in its free parameters
     yield "Reargued", "again", [("t", TREE), ("a", TREE)]
 
+# what is said of an argument below a node
+BELOW = {TREE: "{0} < n", OWN: "{0} < n", PIECE: "IsPieceBelow s n {0}", BYTES: "IsWithin {0} s", SIGNED: "IsWithin {0}.digits s",
+         DISCRIMINATOR: "IsSpan s {0}", THUNK: "{0} < held", UNDER: "IsThereBelow n (under_kept {0})"}
+def bounds(args): return [(name, sort) for name, sort in args if sort in BELOW]
+
+def placed(args, over):
+    """the arguments of these sorts, each with the fact of its bound: a part of b where there are several bounds"""
+    all_ = bounds(args)
+    return [(name, sort, "b" if len(all_) == 1 else f"b.{all_.index((name, sort))}") for name, sort in args if sort in over]
+
 # names of arguments in code, by tree or for each
 NAMED = {"t": "ty", "p": "piece", "q": "qualifiers", "m": "mark", "e": "encoding", "d": "discriminator", "u": "thunk", "k": "number", "a": "argument", "c": "c_linkage", "n": "noexcept",
          ("array", "t"): "element", ("bounded", "t"): "element", ("vector", "t"): "element", ("member_pointer", "t"): "member", ("integer", "n"): "value", ("again", "t"): "tree",
@@ -111,14 +121,14 @@ HEADS = {"Lvalue": "Lvalue", "Array": "FunctionOrArray", "Bounded": "FunctionOrA
 
 def sorts_of(tree): return {t[0]: [sort for name, sort in t[1:]] for t in words.TREES}.get(tree, [])
 
-def noted():
+def noting(node, tree, own):
     """what is noted of a node, by its parts that aren't under a scope of their own"""
-    def of(node, tree, own):
-        if node in NOTED: return NOTED[node]
-        parts = [name for (name, _, _), sort in zip(own, sorts_of(tree)) if sort == TREE]
-        if not parts: return None
-        return f"self.noted_type{'s' if len(parts) == 2 else ''}(node, {', '.join(parts)}, Words::{HEADS.get(node, 'Plain')})"
-    return list(arms("Node::", "            ", of))
+    if node in NOTED: return NOTED[node]
+    parts = [name for (name, _, _), sort in zip(own, sorts_of(tree)) if sort == TREE]
+    if not parts: return None
+    return f"self.noted_type{'s' if len(parts) == 2 else ''}(node, {', '.join(parts)}, Words::{HEADS.get(node, 'Plain')})"
+
+def noted(): return list(arms("Node::", "            ", noting))
 
 # ## What is seen
 
@@ -134,14 +144,19 @@ SEEN = {
 NUMBERS = {NUMBER: "{0} as u64", TRUTH: "bit({0}) as u64", QUALIFIERS: "{0}.number() as u64", MARK: "{0}.number() as u64", SIGNED: "bit({0}.negative) as u64"}
 TEXTS = {BYTES: "{0}", SIGNED: "{0}.digits"}
 
+def view(node, tree, own):
+    """what is seen of a node of which no more is seen: the code of its numbers, its texts and its parts"""
+    numbers = [NUMBERS[sort].format(name) for name, sort, _ in own if sort in NUMBERS and not (tree == "builtin" and sort != NUMBER)]
+    if tree == "function_type": numbers = ["linkage_number(c_linkage, noexcept)", numbers[-1]]
+    texts = [TEXTS[sort].format(name) for name, sort, _ in own if sort in TEXTS]
+    parts = [name for (name, sort, _), of_tree in zip(own, sorts_of(tree)) if of_tree in (OWN, OUTSIDE, INSIDE, SIGNATURE, TREE)]
+    return numbers, texts, [] if node == "Parameter" else parts
+
 def seen():
     """the view of a node: its production, numbers, text and parts"""
     def of(node, tree, own):
         if node in SEEN: return SEEN[node]
-        numbers = [NUMBERS[sort].format(name) for name, sort, _ in own if sort in NUMBERS and not (tree == "builtin" and sort != NUMBER)]
-        if tree == "function_type": numbers = ["linkage_number(c_linkage, noexcept)", numbers[-1]]
-        texts = [TEXTS[sort].format(name) for name, sort, _ in own if sort in TEXTS]
-        parts = [name for (name, sort, _), of_tree in zip(own, sorts_of(tree)) if of_tree in (OWN, OUTSIDE, INSIDE, SIGNATURE, TREE)]
+        numbers, texts, parts = view(node, tree, own)
         told = f"[{', '.join([*numbers, '0'][:2])}]" if numbers else "none"
         text = texts[0] if texts else "NO_TEXT"
         if not parts and not texts: return f"leaf({tree.upper()}, {numbers[0] if numbers else '0'})"

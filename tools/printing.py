@@ -18,6 +18,7 @@ FILE = "cpp_layout/src/printed.rt"
 #   TEXT, text T: a fixed text, by its name or its number    some F: the text whose number is F, if that has one    TEXT if B, TEXT or OTHER if B
 #   bytes S, decimal N: bytes of the symbol, digits         part P: P, where the definition has a text that may be empty
 #   suffix Q M N: what follows a function's parameters      clone S: the suffix of a clone
+#   own N: the text N, if it isn't empty                    operand O T: the tree T as the operand O of the operation of two letters
 SORTS = {"tree": "u32", "whole": "u32", "text": "u16", "bytes": "Span", "signed": "Signed"}
 ROWS = [
     # encodings
@@ -82,6 +83,11 @@ ROWS = [
      "LEFT, left ty, right ty, RIGHT, MINUS if value.negative, bytes value.digits", "cast-whole {c} self.now.bytes value _ _"),
     ("fill_encoding_literal", "An encoding without its return type, after & or not.", "<expr-primary> ::= L <mangled-name> E", "", "encoding:whole address:bool",
      "text_if address (fixed_text AND) (as_item heads.bare items.closed {encoding} ∷ [])", "AND if address, bare encoding", "refl"),
+    ("fill_operation", "The parts of an operation.", "", "table", "first:u8 second:u8 left:tree right:tree", "operation_parts {c} (printed first second) {left} {right}",
+     "own operation.front, operand operation.left left, own operation.between, operand operation.right right, own operation.back",
+     "operation-whole {c} c.operation_of-operation.result (printed first second) {left} {right} c.operation_of-operation.ensures.is"),
+    ("fill_function_parameter", "A parameter of the function in whose types an expression is.", "<function-param> ::= fp [ <parameter-2 number> ] _ | fL <L-1 number> p [ <parameter-2 number> ] _", "",
+     "digits:bytes", "says \"fp\" ∷ text_part {digits}", "FUNCTION_PARAMETER, part bytes digits", "ap (λ l. says \"fp\" ∷ l) (append-nil (text_part {digits}))"),
     ("fill_decltype", "The parts of the type of an expression.", "", "", "expression:tree", "says \"decltype(\" ∷ as_item heads.left {c} {expression} ∷ says \")\" ∷ []", "DECLTYPE, left expression, RIGHT", "refl"),
 ]
 
@@ -91,18 +97,19 @@ ROWS = [
 NAMES = {
     "Rattle.std.specs.Prelude": "◌≡◌ ◌+◌ ◌<◌ ◌≤◌ ◌++◌ ◌∷◌ [] length false",
     "Rattle.sym_print.specs.Unfold": "text sub",
-    "Rattle.cpp_grammar.specs.Parts": "encoding_text clone_text qualifier_text",
+    "Rattle.cpp_grammar.specs.Parts": "encoding_text clone_text qualifier_text printed",
     "Rattle.cpp_grammar.specs.Texts": "look_up special_texts named_special_texts literal_endings",
-    "Rattle.cpp_term.specs.Parts": "as_item says text_part own_piece piece_parts prefix_item construction_parts root_parts left_parts right_parts member_parts array_left closing_right function_right sign_part",
+    "Rattle.cpp_term.specs.Parts": "as_item says text_part own_piece piece_parts prefix_item construction_parts root_parts left_parts right_parts member_parts array_left closing_right function_right sign_part operation_parts",
     "Rattle.cpp_tree.specs.Nodes": "is_again entry_at tree_at trees IsTable IsWithin IsThereBelow bytes_at qualifiers_of mark_of signed_of",
     "Rattle.cpp_layout.specs.Texts": "fixed_text",
     "Rattle.cpp_layout.specs.declared.texts.TheConstants": "AND COLONS RIGHT_BRACKET STD TAG",
     "Rattle.cpp_layout.specs.Layout": "table_of context_of item_in marked text_if Shows tree_shown",
 }
 MODULES = {"heads": "Rattle.cpp_grammar.specs.Items", "items": "Rattle.cpp_term.specs.Items", "term": "Rattle.cpp_term.specs.Term"}
-COMMON = "Rattle.std.proofs.Common", "refl ap sym ◌∙◌ ◌∷◌ ◌++◌ []"
+COMMON = "Rattle.std.proofs.Common", "refl ap sym ◌∙◌ append-nil ◌∷◌ ◌++◌ []"
 IN_CODE = """use crate::context::Context;
 use crate::numbered::{ending, named_special, special};
+use crate::operation_rows::operation_of;
 use crate::symbol::Symbol;
 use crate::{form, texts};
 use cpp_tree::node::{Mark, Qualifiers, Signed};
@@ -150,12 +157,14 @@ def steps(row):
         elif head == "prefix": call = "push_prefix", [*rest, "ctx"]
         elif head in ("text", "bytes", "decimal", "some", "suffix"): call = f"push_{head}", rest
         elif head == "clone": call = "push_clone_suffix", rest
+        elif head == "own": call = "push_own_text", rest
+        elif head == "operand": call = "fill_operand", [*rest, "ctx"]
         else: call = "push_text", [text(head)]
         added.append((*call, step.startswith("part ")))
     return added, asked
 
 # what is told of the parts that were there: the functions that add parts of one detail alone are told no detail
-TOLD = {"push_item": "_ _", "push_closed": "_ _", "push_list": "_ _", "push_prefix": "_ _"}
+TOLD = {"push_item": "_ _", "push_closed": "_ _", "push_list": "_ _", "push_prefix": "_ _", "fill_operand": "_ _"}
 
 def function_of(row):
     """the function"""
@@ -180,6 +189,7 @@ def function_of(row):
     yield "        ensures few { S.room parts.old ≤ S.room parts.new + 8 }"
     yield "    {"
     if asked: yield f"        let is_function = self.is_function({asked}, ctx);"
+    if "operation." in row[6]: yield "        let operation = operation_of(first, second);"
     for call, what, part in reversed(added): yield f"        self.{call}({', '.join(['parts', *what])});"
     yield "    }"
 

@@ -57,6 +57,7 @@ def special_front():
 OPERATIONS_HEAD = f'''-- {WRITTEN} How the operations of expressions are printed, by the codes of their operators.
 use Rattle.std.specs.Prelude.{{ℕ, List, [], ◌∷◌, true, false, Option, Some, None, codes}}
 use Prim.Native.String.{{String}}
+use Rattle.cpp_grammar.specs.declared.operand.Operand.{{Operand}}
 use Rattle.cpp_grammar.specs.Texts.{{same_bytes}}
 '''
 
@@ -66,14 +67,20 @@ operation_of_code code [] = None
 operation_of_code code (o ∷ rest) = elim (same_bytes code o.code) [ true ↦ Some o | false ↦ operation_of_code code rest ]
 '''
 
-def operand(how): return f"from_precedence {words.PRECEDENCES[how]}" if isinstance(how, int) else {words.NONE: "not_printed", words.LEFT: "as_it_is", words.BOTH: "as_type", words.LIST: "as_list"}[how]
+# how an operand is printed, in code and in the definitions
+HOW = {words.NONE: "NotPrinted", words.LEFT: "AsItIs", words.BOTH: "AsType", words.LIST: "AsList"}
+
+def operand(how): return f"Operand.From {words.PRECEDENCES[how]}" if isinstance(how, int) else f"Operand.{HOW[how]}"
+
+def operands():
+    return "\n".join([f"// {WRITTEN} How the operands of operations are printed.", "",
+        "/// How an operand is printed: not at all, as it is, as a type, as a list, or in parentheses if its precedence is at least this.", "#[derive(Clone, Copy)]", "pub enum Operand {",
+        *[f"    {how}," for how in HOW.values()], "    From(u8),", "}"]) + "\n"
 
 def operations():
     out = [OPERATIONS_HEAD, "-- the precedences, from that which binds most"]
     for i, name in enumerate(words.PRECEDENCES): out += [f"abbrev pub {name} : ℕ", f"{name} = {i}", ""]
-    out += ["-- how an operand is printed: not at all, as it is, as a type, as a list, or in parentheses if its precedence is at least this", "pub data Operand : Type 0 where",
-            "  not_printed : Operand", "  as_it_is : Operand", "  as_type : Operand", "  as_list : Operand", "  from_precedence : (precedence : ℕ) → Operand", "",
-            "-- an operator's code, the precedence of what it makes, and what is printed: a text, the left operand, a text, the right one, a text", "pub record Operation : Type 0 where",
+    out += ["-- an operator's code, the precedence of what it makes, and what is printed: a text, the left operand, a text, the right one, a text", "pub record Operation : Type 0 where",
             "  pub code : List ℕ", "  pub precedence : ℕ", "  pub front : List ℕ", "  pub left : Operand", "  pub between : List ℕ", "  pub right : Operand", "  pub back : List ℕ", "",
             "abbrev printed_as : String → ℕ → String → Operand → String → Operand → String → Operation",
             "printed_as code precedence front left between right back =",
@@ -171,6 +178,14 @@ def layout_texts():
     out += [f"        {name} => {rust_string(text)}," for name, text in words.PLAIN_TEXTS] + ["        _ => suffix_text(number),", "    }", "}"]
     return "\n".join(out) + "\n"
 
+def text_answers():
+    """the answers of the functions of texts, by their names: each leaves what is past its own texts to the next one, and past the last one there is none"""
+    for name, after in [("fixed_text", "suffix_text"), ("suffix_text", "builtin_text"), ("builtin_text", "operator_text"), ("operator_text", "remaining_text"), ("operation_text", None)]:
+        goal = f"{after}-requires" if after else "returns-in_default"
+        past = f"omega (arith, {'' if name == 'fixed_text' else 'c.requires, '}c.in_default)"
+        yield name, "\n".join([f"-- {WRITTEN}", "use Rattle.std.proofs.Common.{arith}", *([] if after else ["use Rattle.cpp_layout.proofs.Coding.{past_last}"]),
+            f"use Rattle.cpp_layout.proofs.texts.{name}.Goals as goal", "", f"pub {goal} : goal.{goal}", f"{goal} c = {past if after else f'past_last c.args.number ({past})'}"]) + "\n"
+
 # ## cpp_layout's numbers of codes
 
 # functions from a letter to the number of a text: name, comment, what is looked up, constant, rows (letter, place in the group, text), lemma, list of letters
@@ -214,20 +229,22 @@ def layout_codes():
     out += [f"        {i} => code!(b'{c[0]}', b'{c[1]}'), // operator{t}" for i, (c, t) in enumerate(words.OPERATORS)] + ["        _ => 0,", "    }", "}"]
     return "\n".join(out) + "\n"
 
+# the precedences that the code names
+ENDS = [("PRIMARY", "binds most"), ("UNARY", "an operator before its operand makes")]
+
 def layout_operations():
     def text(t): return f"texts::OPERATION + {OPERATION_TEXTS.index(t)}" if t else "texts::NONE"
-    def how(o): return f"Operand::From({o})" if isinstance(o, int) else {words.NONE: "Operand::NotPrinted", words.LEFT: "Operand::AsItIs", words.BOTH: "Operand::AsType", words.LIST: "Operand::AsList"}[o]
-    out = [f"// {WRITTEN} How the operations of expressions are printed, by the codes of their operators.", "#![tactic(auto)]", "", "ghost use Rattle.std.specs.Prelude.{◌≡◌, ◌≤◌};", "ghost use Rattle.cpp_grammar.specs.Parts.{printed};",
-           "ghost use Rattle.cpp_layout.specs.Operations.{most_of, IsOperation, HasTexts};", "", "use crate::texts;", "",
-           "/// How an operand is printed: not at all, as it is, as a type, as a list, or in parentheses if its precedence is at least this.", "#[derive(Clone, Copy)]", "pub enum Operand {",
-           "    NotPrinted,", "    AsItIs,", "    AsType,", "    AsList,", "    From(u8),", "}", "",
+    def how(o): return f"Operand::From({o})" if isinstance(o, int) else f"Operand::{HOW[o]}"
+    out = [f"// {WRITTEN} How the operations of expressions are printed, by the codes of their operators.", "#![tactic(auto)]", "", "ghost use Rattle.std.specs.Prelude.{◌≡◌, ◌≤◌, []};", "ghost use Rattle.cpp_grammar.specs.Parts.{printed};",
+           "ghost use Rattle.cpp_term.specs.Parts.{most_of};", "ghost use Rattle.cpp_layout.specs.Operations.{with_code, HasTexts};", "", "use crate::texts;", "use cpp_grammar::operand::Operand;", "",
+           *[line for name, what in ENDS for line in (f"/// The precedence of what {what}.", f"pub(crate) const {name}: u8 = {words.PRECEDENCES.index(name)};", "")],
            "/// The precedence of an operation, and what is printed: the numbers of texts, and how its operands are.", "#[derive(Clone, Copy)]", "pub struct Operation {",
            "    pub precedence: u8,", "    pub front: u16,", "    pub left: Operand,", "    pub between: u16,", "    pub right: Operand,", "    pub back: u16,", "}", "",
            "/// One of these parts.", "fn printed_as(", "    precedence: u8,", "    front: u16,", "    left: Operand,", "    between: u16,", "    right: Operand,", "    back: u16,", ") -> Operation",
            "    ensures { result ≡ record { precedence = precedence; front = front; left = left; between = between; right = right; back = back } }", "{", "    Operation {",
            "        precedence,", "        front,", "        left,", "        between,", "        right,", "        back,", "    }", "}", "",
            "/// The operation of two letters.", "pub(crate) fn operation_of(first: u8, second: u8) -> Operation",
-           "    ensures is { IsOperation result (printed first second) }", "    ensures texts { HasTexts result }", "    ensures few { most_of result ≤ 7 }", "{",
+           "    ensures is { with_code (printed first second).code result ≡ printed first second }", "    ensures texts { HasTexts result }", "    ensures few { most_of (with_code [] result) ≤ 7 }", "{",
            "    match first as u16 * 256 + second as u16 {"]
     for code, own, front, left, between, right, back in words.OPERATIONS:
         out += [f"        // {code}", f"        {ord(code[0]) * 256 + ord(code[1])} => printed_as(", *[f"            {value}," for value in (own, text(front), how(left), text(between), how(right), text(back))], "        ),"]
@@ -236,7 +253,6 @@ def layout_operations():
 
 def operation_answers():
     """each arm's operation is the one of the table, and has few parts"""
-    fields = "record { precedence = refl; front = refl; left = refl; between = refl; right = refl; back = refl }"
     computed = "unfolding printed operation_of_code operations same_bytes builtin_texts operator_texts abbreviation_texts special_texts named_special_texts literal_endings"
     counted = computed.replace("printed operation_of_code operations same_bytes", "text_part")
     numbers = [ord(code[0]) * 256 + ord(code[1]) for code, *rest in words.OPERATIONS]
@@ -248,11 +264,11 @@ def operation_answers():
     for n in numbers:
         called = "printed_as" if n == numbers[0] else f"printed_as-in-{n}"
         out += ["", f"pub returns-in-{n}-clause-is : goal.returns-in-{n}-clause-is", computed,
-                f"returns-in-{n}-clause-is c = printed-by c.args.first c.args.second {n // 256} {n % 256} c.{called}.result c.ranges.second.fits (lit< tt) (omega (arith, c.in-{n}.is)) (rw c.{called}.ensures {fields})",
+                f"returns-in-{n}-clause-is c = printed-by c.args.first c.args.second {n // 256} {n % 256} c.{called}.result c.ranges.second.fits (lit< tt) (omega (arith, c.in-{n}.is)) (rw c.{called}.ensures refl)",
                 "", f"pub returns-in-{n}-clause-few : goal.returns-in-{n}-clause-few", counted, f"returns-in-{n}-clause-few c = rw c.{called}.ensures (omega arith)"]
     off = ", ".join(f"ne_eqb ({both}) {n} (omega (arith, c.in_default))" for n in numbers)
     out += ["", "pub returns-in_default-clause-is : goal.returns-in_default-clause-is", "unfolding operations",
-            f"returns-in_default-clause-is c = none-printed c.args.first c.args.second c.printed_as-in_default.result (let n : any_number operations ({both}) ≡ false = rw ({off}) refl in n) (rw c.printed_as-in_default.ensures {fields})",
+            f"returns-in_default-clause-is c = none-printed c.args.first c.args.second c.printed_as-in_default.result (let n : any_number operations ({both}) ≡ false = rw ({off}) refl in n) (rw c.printed_as-in_default.ensures refl)",
             "", "pub returns-in_default-clause-few : goal.returns-in_default-clause-few", counted, "returns-in_default-clause-few c = rw c.printed_as-in_default.ensures (omega arith)"]
     return "\n".join(out) + "\n"
 
@@ -343,12 +359,14 @@ def files(productions, rows, skips):
     """the files, by their paths in the folder of the crates"""
     yield "cpp_grammar/specs/Texts.antt", grammar_texts()
     yield "cpp_grammar/specs/Operations.antt", operations()
+    yield "cpp_grammar/src/operand.rt", operands()
     yield "cpp_layout/src/operation_rows.rt", layout_operations()
     yield "cpp_layout/specs/TextLists.antt", text_lists()
     yield "cpp_layout/src/texts.rt", layout_texts()
     yield "cpp_layout/src/numbered.rt", layout_codes()
     yield "cpp_layout/proofs/CodeLetters.antt", code_letters()
     yield "cpp_layout/proofs/operation_rows/operation_of/Answers.antt", operation_answers()
+    for name, text in text_answers(): yield f"cpp_layout/proofs/texts/{name}/Answers.antt", text
     for name, text in code_answers(): yield f"cpp_layout/proofs/numbered/{name}/Answers.antt", text
     yield "cpp_direct/specs/Letters.antt", direct_letters()
     yield "cpp_direct/src/letters.rt", direct_tests()

@@ -1,12 +1,12 @@
 -- The arguments of a name, as long as they are types, and packs of them.
 use Rattle.sym_print.specs.declared.detail.Detail.{Detail}
-use Rattle.std.proofs.Common.{arith, ◌≡◌, ℕ, zero, suc, ◌+◌, ◌-◌, length, List, [], ◌∷◌, ◌++◌, reverse, slice_get, inr, inl, Bool, true, false, Some, refl, ap, sym, ◌∙◌, subst, codes, append_assoc, append-nil}
-use Rattle.std.proofs.lemmas.Bool.{false≢true}
+use Rattle.std.proofs.Common.{arith, ◌≡◌, ℕ, zero, suc, ◌+◌, ◌-◌, ◌≤◌, ◌<◌, length, List, [], ◌∷◌, ◌++◌, reverse, slice_get, inr, inl, Bool, true, false, Some, refl, ap, sym, ◌∙◌, subst, codes, append_assoc, append-nil, nat_le, ◌&&◌, ◌⊎◌}
+use Rattle.std.proofs.lemmas.Bool.{false≢true, le-leb, leb-false, leb-true}
 use Rattle.std.proofs.lemmas.List.{length-append}
 use Rattle.cpp_grammar.specs.declared.kind.Kind.{Kind}
 use Rattle.cpp_grammar.specs.Grammar.{may_be_empty}
-use Rattle.cpp_grammar.specs.Term.{Term, nil, instance, list, pack}
-use Rattle.cpp_grammar.specs.Values.{Around, State, nothing_there}
+use Rattle.cpp_grammar.specs.Term.{Term, nil, instance, pack}
+use Rattle.cpp_grammar.specs.Values.{Around, nothing_there}
 use Rattle.cpp_grammar.specs.Between.{no_items}
 use Rattle.cpp_direct.specs.WrittenParts.{opening_bracket}
 use Rattle.cpp_direct.specs.Symbol.{detail_of, Symbol}
@@ -16,16 +16,17 @@ use Rattle.cpp_direct.specs.declared.open.Open.{Open}
 use Rattle.cpp_direct.specs.declared.direct.Direct.{Direct}
 use Rattle.cpp_direct.specs.Holes.{Opened, Expects, StandsAt}
 use Rattle.cpp_direct.specs.Prints.{Names, Prints, PrintAll, PrintAllAs, IsElementAs, PrintAllBy, list_of}
-use Rattle.cpp_direct.specs.WriterInvariant.{AwaitsArgument, Keeps, Scope, arguments_or_pack, element_kind, below, scoped_in, is_noted, may_name, AreAmong, ArgumentsGoOn, Belongs, EndsNamed, GoesOn, IsAmong, IsKnown, IsScoped, IsTemplate, IsWriting, Owns, Stands, extra_of, of_template, in_front_of_next, led_by, list_with, nowhere, place_of, Closes}
+use Rattle.cpp_direct.specs.WriterInvariant.{AwaitsArgument, Scope, arguments_or_pack, ComeBefore, element_kind, below, scoped_in, is_noted, may_name, AreAmong, ArgumentsGoOn, Belongs, EndsNamed, GoesOn, IsAmong, IsKnown, IsScoped, IsTemplate, IsWriting, Owns, Stands, extra_of, of_template, in_front_of_next, led_by, list_with, nowhere, place_of, Closes, Kept, IsTypeRead}
 use Rattle.cpp_direct.specs.MidStep.{AreKnown, AwaitsKnownArgument, IsArgumentRead, IsListEnded, IsLiteralRead, KnowsMore, argument_around, argument_entry}
 use Rattle.cpp_direct.specs.Written.{Writes}
 use Rattle.cpp_direct.proofs.Ending.{next-written}
-use Rattle.cpp_direct.proofs.Kept.{keeps-same, keeps-written, reverse-last, template-stays, type-comes, none-known, keeps-read}
+use Rattle.cpp_direct.proofs.Kept.{kept-same, kept-written, reverse-last, template-stays, type-comes, none-known, kept-read}
 use Rattle.cpp_direct.proofs.Listed.{last-found, element-goes-on, list-kind, pack-goes-on, some-elements, template-listed}
 use Rattle.cpp_direct.proofs.Moves.{expects-empty}
 use Rattle.cpp_direct.proofs.MovesOfLists.{element-awaits}
-use Rattle.cpp_direct.proofs.PrintedLists.{all-as, element-as, next-prints, none-print, none-print-as, type-element, pack-element, list-with-none, none-text}
-use Rattle.cpp_direct.proofs.Scopes.{among-stay, none-scoped, there-still}
+use Rattle.cpp_direct.proofs.PrintedLists.{all-as, next-prints, none-print, type-element, pack-element, list-with-none, none-text}
+use Rattle.cpp_grammar.specs.Scope.{count, element}
+use Rattle.cpp_direct.proofs.Scopes.{among-stay, element-there, none-scoped, there-still}
 use Rattle.cpp_direct.specs.declared.open.Open.TheVariants as opens
 use Rattle.cpp_direct.specs.declared.open.Step.TheVariants as steps
 
@@ -33,9 +34,8 @@ use Rattle.cpp_direct.specs.declared.open.Step.TheVariants as steps
 
 -- nothing is read yet of the arguments of a name
 record HasNoArgument (s : Symbol) (w : Direct) : Type 0 where
-  pub state : State
-  pub scope : Scope
-  pub keeps : Keeps s scope w state.candidates
+  pub kept : Kept s w
+  pub open kept use *
   pub owner : Open
   pub rest : List Open
   pub open_is : reverse w.waiting.list.items ≡ owner ∷ rest
@@ -54,9 +54,7 @@ none-read s w p named =
     p.is_before.7 in
     let by = IsElementAs (detail_of s) p.scope.names (is_noted place.owner) 3 in
     record {
-      state = p.state;
-      scope = p.scope;
-      keeps = p.keeps;
+      kept = p.kept;
       owner = place.owner;
       rest = place.rest;
       open_is = a.0;
@@ -75,43 +73,52 @@ argument-stands : (s : Symbol) (scope : Scope) (is_pack : Bool) (from number : �
 argument-stands s scope false from number known owner rest os text p = p
 argument-stands s scope true from number known owner rest os text p = p
 
+-- nothing comes before the first argument, or before the first element of a pack that is the first argument
+none-before : (detail : Detail) (is_pack : Bool) → ComeBefore detail is_pack nowhere [] []
+none-before detail is_pack = record { none = λ e. refl; prints = none-print detail 3; count_is = λ e. refl }
+
 argument-scoped : (scope : Scope) (around : Around) (is_pack : Bool) (from number : ℕ) (known : Arguments) (opened : List Open)
     → IsScoped scope around (argument_entry is_pack from number known ∷ opened)
 argument-scoped scope around false from number known opened = none-scoped scope around (opens.Argument from number known ∷ opened) refl
 argument-scoped scope around true from number known opened = none-scoped scope around (opens.Element from number known ∷ opened) refl
 
 -- an argument comes next after these, or an element of the pack, and what is before it is written
-argument-next : (s : Symbol) {scope : Scope} (old new : Direct) (is_pack : Bool) (from number place : ℕ) (known : Arguments) (st : State) (owner : Open) (rest : List Open)
-    (front : List ℕ) (template : Term) (name : List ℕ) (ts : List Term) (texts : List ℕ) → Keeps s scope old st.candidates
-    → IsTemplate (detail_of s) scope.names owner front template name old.text.list.items → PrintAll (detail_of s) (extra_of (arguments_or_pack is_pack)) ts texts
-    → old.text.list.items ≡ front ++ name ++ opening_bracket (detail_of s) ++ in_front_of_next ts texts → from ≡ length old.text.list.items → number ≡ length ts
-    → AreAmong (detail_of s) old.text.list.items is_pack known ts
-    → GoesOn s (arguments_or_pack is_pack) owner (below s scope rest) front template ts place st
+argument-next : (s : Symbol) (old new : Direct) (is_pack : Bool) (from number place : ℕ) (known : Arguments) (kept : Kept s old) (owner : Open) (rest : List Open)
+    (front : List ℕ) (template : Term) (name : List ℕ) (ts : List Term) (texts : List ℕ) (before : List Term) (before_text : List ℕ) → ComeBefore (detail_of s) is_pack known before before_text
+    → IsTemplate (detail_of s) kept.scope.names owner front template name old.text.list.items
+    → PrintAll (detail_of s) (extra_of (arguments_or_pack is_pack before before_text)) ts texts
+    → old.text.list.items ≡ led_by (detail_of s) (arguments_or_pack is_pack before before_text) front name ++ in_front_of_next ts texts
+    → from ≡ length old.text.list.items → number ≡ length (before ++ ts)
+    → AreAmong (detail_of s) old.text.list.items is_pack (length before) known (before ++ ts)
+    → GoesOn s (arguments_or_pack is_pack before before_text) owner (below s kept.scope rest) front template ts place kept.state
     → reverse new.waiting.list.items ≡ argument_entry is_pack from number known ∷ argument_around is_pack owner rest → new.text ≡ old.text
     → new.candidates ≡ old.candidates → new.has_scope ≡ old.has_scope → new.at ≡ place → IsWriting s new steps.Type
-argument-next s {scope = scope} old new is_pack from number place known st owner rest front template name ts texts keeps is_template elements written from_is number_is
-    among goes opened text candidates scope_same at =
-    let listing = arguments_or_pack is_pack in
-    let element = element-awaits s (element_kind listing) goes.1 goes.0 place st (list-kind listing) goes.4 in
-    let stands = argument-stands s scope is_pack from number known owner rest element.inner old.text.list.items (
+argument-next s old new is_pack from number place known kept owner rest front template name ts texts before before_text come_before is_template elements
+    written from_is number_is among goes opened text candidates scope_same at =
+    let listing = arguments_or_pack is_pack before before_text in
+    let element = element-awaits s (element_kind listing) goes.1 goes.0 place kept.state (list-kind listing) goes.4 in
+    let stands = argument-stands s kept.scope is_pack from number known owner rest element.inner old.text.list.items (
       front,
       template,
       name,
       ts,
       texts,
       is_template,
+      before,
+      before_text,
+      come_before,
       elements,
       written,
       from_is,
       number_is,
       among,
-      λ t here now comes. element-goes-on s (element_kind listing) (scoped_in owner (below s scope rest))
-          (λ l there later. Closes s listing owner (below s scope rest) front template l there later)
-          ts t place here st now goes (element.onward t here now comes),
+      λ t here now comes. element-goes-on s (element_kind listing) (scoped_in owner (below s kept.scope rest))
+          (λ l there later. Closes s listing owner (below s kept.scope rest) front template l there later)
+          ts t place here kept.state now goes (element.onward t here now comes),
     ) in
-    type-comes s old new st goes.0 element.inner keeps text candidates scope_same opened goes.2
-    (inr (inl (subst (λ n. Expects s Kind.Item goes.0 element.inner n st) (sym at) element.awaits))) stands
-    (argument-scoped scope goes.0 is_pack from number known (argument_around is_pack owner rest))
+    type-comes s old new kept goes.0 element.inner text candidates scope_same opened goes.2
+    (inr (inl (subst (λ n. Expects s Kind.Item goes.0 element.inner n kept.state) (sym at) element.awaits))) stands
+    (argument-scoped kept.scope goes.0 is_pack from number known (argument_around is_pack owner rest))
 
 -- the first argument does
 pub argument-begins : (s : Symbol) (old new : Direct) (from : ℕ) → IsWriting s old (steps.List true)
@@ -121,7 +128,8 @@ pub argument-begins : (s : Symbol) (old new : Direct) (from : ℕ) → IsWriting
 argument-begins s old new from p named from_is waits text candidates scope_same at =
     let b = none-read s old p named in
     let entry = opens.Argument from 0 nowhere in
-    argument-next s old new false from 0 old.at nowhere b.state b.owner b.rest b.front b.template b.name [] [] b.keeps b.is_template (none-print (detail_of s) 3) b.written
+    argument-next s old new false from 0 old.at nowhere b.kept b.owner b.rest b.front b.template b.name [] [] [] [] (none-before (detail_of s) false)
+    b.is_template (none-print (detail_of s) 3) b.written
     from_is refl (λ k known. absurd (none-known k known)) b.goes
     (ap reverse waits ∙ reverse-last old.waiting.list.items entry ∙ ap (λ ws. entry ∷ ws) b.open_is) text candidates scope_same at
 
@@ -133,28 +141,78 @@ pub element-begins : (s : Symbol) (old new : Direct) (from : ℕ) → IsWriting 
 element-begins s old new from p named letter from_is waits text candidates scope_same at =
     let b = none-read s old p named in
     let entry = opens.Element from 0 nowhere in
-    argument-next s old new true from 0 (old.at + 1) nowhere b.state b.owner b.rest b.front b.template b.name [] [] b.keeps b.is_template (none-print (detail_of s) 0)
-    b.written from_is refl (λ k known. absurd (none-known k known))
+    argument-next s old new true from 0 (old.at + 1) nowhere b.kept b.owner b.rest b.front b.template b.name [] [] [] [] (none-before (detail_of s) true)
+    b.is_template (none-print (detail_of s) 0)
+    (b.written ∙ sym (append-nil (b.front ++ b.name ++ opening_bracket (detail_of s) ++ []))) from_is refl (λ k known. absurd (none-known k known))
     (pack-goes-on s b.owner (below s b.scope b.rest) b.front b.template [] [] old.at b.state b.goes letter)
     (ap reverse waits ∙ reverse-last (old.waiting.list.items ++ opens.Pack ∷ []) entry
     ∙ ap (λ ws. entry ∷ ws) (reverse-last old.waiting.list.items opens.Pack ∙ ap (λ ws. opens.Pack ∷ ws) b.open_is)) text candidates scope_same at
 
 -- or another one
-pub next-argument-begins : (s : Symbol) (old mid new : Direct) (is_pack : Bool) (before from number : ℕ) (known : Arguments) → AwaitsKnownArgument s old is_pack before known
-    → Writes old mid (codes ", ") → from ≡ length mid.text.list.items → number ≡ before + 1
+pub next-argument-begins : (s : Symbol) (old mid new : Direct) (is_pack : Bool) (last from number : ℕ) (known : Arguments) → AwaitsKnownArgument s old is_pack last known
+    → Writes old mid (codes ", ") → from ≡ length mid.text.list.items → number ≡ last + 1
     → new.waiting.list.items ≡ mid.waiting.list.items ++ argument_entry is_pack from number known ∷ [] → new.text ≡ mid.text → new.candidates ≡ mid.candidates
     → new.has_scope ≡ mid.has_scope → new.at ≡ mid.at → IsWriting s new steps.Type
-next-argument-begins s old mid new is_pack before from number known p writes from_is number_is waits text candidates scope_same at =
+next-argument-begins s old mid new is_pack last from number known p writes from_is number_is waits text candidates scope_same at =
     let entry = argument_entry is_pack from number known in
-    argument-next s mid new is_pack from number old.at known p.state p.owner p.rest p.front p.template p.name p.ts p.texts
-    (keeps-written s old mid (codes ", ") p.state.candidates writes p.keeps)
+    let led = led_by (detail_of s) (arguments_or_pack is_pack p.before p.before_text) p.front p.name in
+    argument-next s mid new is_pack from number old.at known (kept-written s old mid (codes ", ") writes p.kept) p.owner p.rest p.front p.template p.name p.ts p.texts
+    p.before p.before_text p.come_before
     (subst (λ l. IsTemplate (detail_of s) p.scope.names p.owner p.front p.template p.name l) (sym writes.text)
     (template-stays (detail_of s) p.scope.names p.owner p.front p.template p.name old.text.list.items (codes ", ") p.is_template)) p.elements
-    (writes.text ∙ ap (λ l. l ++ codes ", ") p.written ∙ append_assoc (p.front ++ p.name ++ opening_bracket (detail_of s)) p.texts (codes ", ")
-    ∙ ap (λ l. p.front ++ p.name ++ opening_bracket (detail_of s) ++ l) (sym (next-written p.ts p.texts p.some))) from_is (number_is ∙ p.number_is)
-    (subst (λ l. AreAmong (detail_of s) l is_pack known p.ts) (sym writes.text) (among-stay old.text.list.items (codes ", ") is_pack known p.ts p.among)) p.goes
+    (writes.text ∙ ap (λ l. l ++ codes ", ") p.written ∙ append_assoc led p.texts (codes ", ")
+    ∙ ap (λ l. led ++ l) (sym (next-written p.ts p.texts p.some))) from_is (number_is ∙ p.number_is)
+    (subst (λ l. AreAmong (detail_of s) l is_pack (length p.before) known (p.before ++ p.ts)) (sym writes.text)
+    (among-stay old.text.list.items (codes ", ") is_pack (length p.before) known (p.before ++ p.ts) p.among)) p.goes
     (ap reverse waits ∙ reverse-last mid.waiting.list.items entry
     ∙ ap (λ ws. entry ∷ ws) (ap (λ v. reverse v.list.items) writes.waiting ∙ p.open_is)) text candidates scope_same (at ∙ writes.at)
+
+not-le : (n m : ℕ) → m < n → nat_le n m ≡ false
+not-le n m lt = go (nat_le n m) refl
+  where
+    go : (b : Bool) → nat_le n m ≡ b → nat_le n m ≡ false
+    go true is = absurd (omega (arith, lt, leb-true n m is))
+    go false is = is
+
+there-below : (ts : List Term) (k : ℕ) (t : Term) → slice_get ts k ≡ Some t → k < length ts
+there-below [] k t e = cc e
+there-below (u ∷ ts) zero t e = omega arith
+there-below (u ∷ ts) (suc k) t e = omega (arith, there-below ts k t e)
+
+-- or the first element of a pack that comes after others
+pub pack-after : (s : Symbol) (old mid new : Direct) (last from number : ℕ) (known : Arguments) → AwaitsKnownArgument s old false last known
+    → StandsAt s.bytes old.at (74 ∷ []) → Writes old mid (codes ", ") → from ≡ length mid.text.list.items → number ≡ last + 1
+    → new.waiting.list.items ≡ (mid.waiting.list.items ++ opens.Pack ∷ []) ++ opens.Element from number (record known { before = number }) ∷ []
+    → new.text ≡ mid.text → new.candidates ≡ mid.candidates → new.has_scope ≡ mid.has_scope → new.at ≡ old.at + 1 → IsWriting s new steps.Type
+pack-after s old mid new last from number known p letter writes from_is number_is waits text candidates scope_same at =
+    let now : Arguments = record known { before = number } in
+    let entry = opens.Element from number now in
+    let led = p.front ++ p.name ++ opening_bracket (detail_of s) in
+    let none = p.come_before.none refl in
+    let count_is : number ≡ length p.ts = number_is ∙ p.number_is ∙ ap (λ (l : List Term). length (l ++ p.ts)) none in
+    let among = among-stay old.text.list.items (codes ", ") false (length p.before) known (p.before ++ p.ts) p.among in
+    argument-next s mid new true from number (old.at + 1) now (kept-written s old mid (codes ", ") writes p.kept) p.owner p.rest p.front p.template p.name [] [] p.ts p.texts
+    (record { none = λ e. absurd (false≢true (sym e)); prints = p.elements; count_is = λ e. count_is })
+    (subst (λ l. IsTemplate (detail_of s) p.scope.names p.owner p.front p.template p.name l) (sym writes.text)
+    (template-stays (detail_of s) p.scope.names p.owner p.front p.template p.name old.text.list.items (codes ", ") p.is_template))
+    (none-print (detail_of s) 0)
+    (writes.text ∙ ap (λ l. l ++ codes ", ") p.written ∙ append_assoc led p.texts (codes ", ")
+    ∙ ap (λ l. led ++ l) (sym (next-written p.ts p.texts p.some)) ∙ sym (append-nil (led ++ in_front_of_next p.ts p.texts)))
+    from_is (count_is ∙ ap length (sym (append-nil p.ts)))
+    (λ k o.
+    let same = there-still known.encoding number known.elements known k in
+    let h = among k (subst IsKnown same o) in
+    let own : IsAmong (detail_of s) mid.text.list.items (place_of now k) k p.ts =
+    subst (λ (q : Argument). IsAmong (detail_of s) mid.text.list.items q k p.ts) (sym same)
+    (subst (λ l. IsAmong (detail_of s) l (place_of known k) k p.ts) (sym writes.text)
+    (subst (λ (l : List Term). IsAmong (detail_of s) (old.text.list.items ++ codes ", ") (place_of known k) k (l ++ p.ts)) none h.0)) in (
+      subst (λ l. IsAmong (detail_of s) mid.text.list.items (place_of now k) k l) (sym (append-nil p.ts)) own,
+      ap (λ (q : Argument). q.is_pack) same ∙ h.1 ∙ sym (not-le (length p.ts) k (there-below p.ts k own.own own.there)),
+    ))
+    (pack-goes-on s p.owner (below s p.scope p.rest) p.front p.template p.ts p.texts old.at p.state p.goes letter)
+    (ap reverse waits ∙ reverse-last (mid.waiting.list.items ++ opens.Pack ∷ []) entry
+    ∙ ap (λ ws. entry ∷ ws) (reverse-last mid.waiting.list.items opens.Pack
+    ∙ ap (λ ws. opens.Pack ∷ ws) (ap (λ v. reverse v.list.items) writes.waiting ∙ p.open_is))) text candidates scope_same at
 
 -- ## What was read
 
@@ -164,17 +222,18 @@ pub value-argument : (s : Symbol) (w : Direct) (is_pack is_reference : Bool) (fr
     → IsArgumentRead s w is_pack from number known is_reference
 value-argument s w is_pack is_reference from number known p found =
     let last = last-found w.waiting.list.items (argument_entry is_pack from number known) found in
-    go is_pack last.0 last.1 (subst (λ ws. Stands s p.scope ws p.is_before.0 p.is_before.2) last.1 p.is_before.8)
+    go is_pack last.0 last.1 (subst (λ ws. Stands s p.scope ws v.os v.front) last.1 v.stands)
   where
+    v : IsTypeRead s p.scope w p.state (reverse w.waiting.list.items) is_reference false
+    v = p.is_before
+
     read : (b : Bool) (owner : Open) (rest : List Open) → reverse w.waiting.list.items ≡ argument_entry b from number known ∷ argument_around b owner rest
-        → AwaitsArgument s p.scope.names b from number known owner (below s p.scope rest) p.is_before.0 p.is_before.2
+        → AwaitsArgument s p.scope.names b from number known owner (below s p.scope rest) v.os v.front
         → IsArgumentRead s w b from number known is_reference
     read b owner rest is waits =
-        let bytes = p.is_before.3 in
+        let bytes = v.bytes in
         record {
-          state = p.state;
-          scope = p.scope;
-          keeps = p.keeps;
+          kept = p.kept;
           owner = owner;
           rest = rest;
           open_is = is;
@@ -183,21 +242,25 @@ value-argument s w is_pack is_reference from number known p found =
           name = waits.2;
           ts = waits.3;
           texts = waits.4;
-          t = p.is_before.1;
+          t = v.own;
           bytes = bytes;
-          is_template = subst (λ l. IsTemplate (detail_of s) p.scope.names owner waits.0 waits.1 waits.2 l) (sym p.is_before.4)
-              (template-stays (detail_of s) p.scope.names owner waits.0 waits.1 waits.2 p.is_before.2 bytes waits.5);
-          elements = waits.6;
-          written = p.is_before.4 ∙ ap (λ l. l ++ bytes) waits.7;
-          from_is = waits.8 ∙ ap length waits.7;
-          number_is = waits.9;
-          among = subst (λ l. AreAmong (detail_of s) l b known waits.3) (sym p.is_before.4) (among-stay p.is_before.2 bytes b known waits.3 waits.10);
-          prints = p.is_before.5;
-          goes = waits.11 p.is_before.1 w.at p.state p.is_before.7;
+          is_template = subst (λ l. IsTemplate (detail_of s) p.scope.names owner waits.0 waits.1 waits.2 l) (sym v.written)
+              (template-stays (detail_of s) p.scope.names owner waits.0 waits.1 waits.2 v.front bytes waits.5);
+          before = waits.6;
+          before_text = waits.7;
+          come_before = waits.8;
+          elements = waits.9;
+          written = v.written ∙ ap (λ l. l ++ bytes) waits.10;
+          from_is = waits.11 ∙ ap length waits.10;
+          number_is = waits.12;
+          among = subst (λ l. AreAmong (detail_of s) l b (length waits.6) known (waits.6 ++ waits.3)) (sym v.written)
+              (among-stay v.front bytes b (length waits.6) known (waits.6 ++ waits.3) waits.13);
+          prints = v.prints;
+          goes = waits.14 v.own w.at p.state v.comes;
         }
 
     go : (b : Bool) (rest : List Open) → reverse w.waiting.list.items ≡ argument_entry b from number known ∷ rest
-        → Stands s p.scope (argument_entry b from number known ∷ rest) p.is_before.0 p.is_before.2 → IsArgumentRead s w b from number known is_reference
+        → Stands s p.scope (argument_entry b from number known ∷ rest) v.os v.front → IsArgumentRead s w b from number known is_reference
     go false [] is waits = absurd waits
     go false (owner ∷ rest) is waits = read false owner rest is waits
     go true (opens.Pack ∷ owner ∷ rest) is waits = read true owner rest is waits
@@ -214,9 +277,7 @@ literal-argument s old begun new from p named from_is waits text candidates scop
     let outer = below s b.scope b.rest in
     let grown : new.text.list.items ≡ old.text.list.items ++ l.bytes = l.reads.text ∙ ap (λ v. v.list.items ++ l.bytes) text in
     record {
-      state = b.state;
-      scope = b.scope;
-      keeps = keeps-read s begun new l.bytes b.state.candidates l.reads (keeps-same s old begun b.state.candidates text candidates scope_same b.keeps);
+      kept = kept-read s begun new l.bytes l.reads (kept-same s old begun text candidates scope_same b.kept);
       owner = b.owner;
       rest = b.rest;
       open_is = ap (λ v. reverse v.list.items) l.reads.waiting ∙ ap reverse waits ∙ reverse-last old.waiting.list.items entry ∙ ap (λ ws. entry ∷ ws) b.open_is;
@@ -229,6 +290,9 @@ literal-argument s old begun new from p named from_is waits text candidates scop
       bytes = l.bytes;
       is_template = subst (λ t. IsTemplate (detail_of s) b.scope.names b.owner b.front b.template b.name t) (sym grown)
           (template-stays (detail_of s) b.scope.names b.owner b.front b.template b.name old.text.list.items l.bytes b.is_template);
+      before = [];
+      before_text = [];
+      come_before = none-before (detail_of s) false;
       elements = none-print (detail_of s) 3;
       written = grown ∙ ap (λ t. t ++ l.bytes) b.written;
       from_is = from_is ∙ ap length b.written;
@@ -243,17 +307,18 @@ literal-argument s old begun new from p named from_is waits text candidates scop
 -- with it all print
 read-prints : (s : Symbol) (w : Direct) (is_pack : Bool) (from number : ℕ) (known : Arguments) (is_reference : Bool)
     (p : IsArgumentRead s w is_pack from number known is_reference)
-    → PrintAll (detail_of s) (extra_of (arguments_or_pack is_pack)) (p.ts ++ p.t ∷ []) (in_front_of_next p.ts p.texts ++ p.bytes)
+    → PrintAll (detail_of s) (extra_of (arguments_or_pack is_pack p.before p.before_text)) (p.ts ++ p.t ∷ []) (in_front_of_next p.ts p.texts ++ p.bytes)
 read-prints s w is_pack from number known is_reference p =
-    let extra = extra_of (arguments_or_pack is_pack) in
+    let extra = extra_of (arguments_or_pack is_pack p.before p.before_text) in
     next-prints extra p.ts p.texts p.t p.bytes p.elements (type-element extra p.t p.bytes is_reference p.prints)
 
 -- this is the text
 read-written : (s : Symbol) (old new : Direct) (is_pack : Bool) (from number : ℕ) (known : Arguments) (is_reference : Bool)
     (p : IsArgumentRead s old is_pack from number known is_reference) → new.text ≡ old.text
-    → new.text.list.items ≡ p.front ++ p.name ++ opening_bracket (detail_of s) ++ (in_front_of_next p.ts p.texts ++ p.bytes)
+    → new.text.list.items ≡ led_by (detail_of s) (arguments_or_pack is_pack p.before p.before_text) p.front p.name ++ (in_front_of_next p.ts p.texts ++ p.bytes)
 read-written s old new is_pack from number known is_reference p text =
-    ap (λ v. v.list.items) text ∙ p.written ∙ append_assoc (p.front ++ p.name ++ opening_bracket (detail_of s)) (in_front_of_next p.ts p.texts) p.bytes
+    ap (λ v. v.list.items) text ∙ p.written
+    ∙ append_assoc (led_by (detail_of s) (arguments_or_pack is_pack p.before p.before_text) p.front p.name) (in_front_of_next p.ts p.texts) p.bytes
 
 -- and after it is the template that was there before
 read-template : (s : Symbol) (old new : Direct) (is_pack : Bool) (from number : ℕ) (known : Arguments) (is_reference : Bool)
@@ -262,14 +327,12 @@ read-template : (s : Symbol) (old new : Direct) (is_pack : Bool) (from number : 
 read-template s old new is_pack from number known is_reference p text =
     subst (λ v. IsTemplate (detail_of s) p.scope.names p.owner p.front p.template p.name v.list.items) (sym text) p.is_template
 
-argument-belongs : (detail : Detail) (names : Names) (is_pack : Bool) (opened : List Open) (owner : Open) (rest : List Open)
-    → opened ≡ argument_around is_pack owner rest → Belongs detail names (arguments_or_pack is_pack) opened owner rest
-argument-belongs detail names false opened owner rest is = is
-argument-belongs detail names true opened owner rest is = (is, none-print-as detail names (is_noted owner) 3)
-
-led-alone : (detail : Detail) (is_pack : Bool) (front name : List ℕ) → led_by detail (arguments_or_pack is_pack) front name ≡ front ++ name ++ opening_bracket detail
-led-alone detail false front name = refl
-led-alone detail true front name = append-nil (front ++ name ++ opening_bracket detail)
+argument-belongs : (detail : Detail) (names : Names) (is_pack : Bool) (known : Arguments) (opened : List Open) (owner : Open) (rest : List Open)
+    (before : List Term) (before_text : List ℕ) → ComeBefore detail is_pack known before before_text
+    → opened ≡ argument_around is_pack owner rest → Belongs detail names (arguments_or_pack is_pack before before_text) opened owner rest
+argument-belongs detail names false known opened owner rest before before_text come is = is
+argument-belongs detail names true known opened owner rest before before_text come is =
+    (is, all-as detail names (is_noted owner) 3 before before_text come.prints)
 
 -- others may follow, of which nothing is known
 pub argument-passes : (s : Symbol) (old new : Direct) (is_pack : Bool) (from number : ℕ) (known : Arguments) (is_reference : Bool)
@@ -277,19 +340,18 @@ pub argument-passes : (s : Symbol) (old new : Direct) (is_pack : Bool) (from num
     → reverse new.waiting.list.items ≡ argument_around is_pack p.owner p.rest → new.text ≡ old.text → new.candidates ≡ old.candidates → new.has_scope ≡ old.has_scope → new.at ≡ old.at
     → IsWriting s new (steps.List false)
 argument-passes s old new is_pack from number known is_reference p waits text candidates scope_same at =
-    let listing = arguments_or_pack is_pack in
+    let listing = arguments_or_pack is_pack p.before p.before_text in
     let ts = p.ts ++ p.t ∷ [] in
     let texts = in_front_of_next p.ts p.texts ++ p.bytes in
     record {
-      state = p.state;
-      scope = p.scope;
-      keeps = keeps-same s old new p.state.candidates text candidates scope_same p.keeps;
+      kept = kept-same s old new text candidates scope_same p.kept;
       is_before = (
         record {
           listing = listing;
           owner = p.owner;
           rest = p.rest;
-          belongs = argument-belongs (detail_of s) p.scope.names is_pack (reverse new.waiting.list.items) p.owner p.rest waits;
+          belongs = argument-belongs (detail_of s) p.scope.names is_pack known (reverse new.waiting.list.items) p.owner p.rest p.before p.before_text
+              p.come_before waits;
           front = p.front;
           template = p.template;
           name = p.name;
@@ -298,12 +360,37 @@ argument-passes s old new is_pack from number known is_reference p waits text ca
         ts,
         texts,
         all-as (detail_of s) p.scope.names (may_name listing p.owner) (extra_of listing) ts texts (read-prints s old is_pack from number known is_reference p),
-        read-written s old new is_pack from number known is_reference p text ∙ ap (λ l. l ++ texts) (sym (led-alone (detail_of s) is_pack p.front p.name)),
+        read-written s old new is_pack from number known is_reference p text,
         λ e. absurd (false≢true e),
         λ e. some-elements p.ts p.t,
         subst (λ n. GoesOn s listing p.owner (below s p.scope p.rest) p.front p.template ts n p.state) (sym at) p.goes,
       );
     }
+
+-- also where one was expected of which something would be known
+pub known-passes : (s : Symbol) (w : Direct) (last : ℕ) (known : Arguments) → AwaitsKnownArgument s w false last known → IsWriting s w (steps.List false)
+known-passes s w last known p = record {
+  kept = p.kept;
+  is_before = (
+    record {
+      listing = of_template;
+      owner = p.owner;
+      rest = p.rest;
+      belongs = p.open_is;
+      front = p.front;
+      template = p.template;
+      name = p.name;
+      is_template = p.is_template;
+    },
+    p.ts,
+    p.texts,
+    all-as (detail_of s) p.scope.names (is_noted p.owner) 3 p.ts p.texts p.elements,
+    p.written,
+    λ e. absurd (false≢true e),
+    λ e. p.some,
+    p.goes,
+  );
+}
 
 -- ## What is known of them
 
@@ -317,20 +404,21 @@ last-there [] t = refl
 last-there (v ∷ ts) t = last-there ts t
 
 -- one more is known
-pub known-more : {detail : Detail} (text : List ℕ) (is_pack : Bool) (from to number : ℕ) (is_reference : Bool) (place : Argument) (known more : Arguments) (ts : List Term) (t : Term)
+pub known-more : {detail : Detail} (text : List ℕ) (is_pack : Bool) (first from to number : ℕ) (is_reference : Bool) (place : Argument) (known more : Arguments) (ts : List Term) (t : Term)
     (before bytes : List ℕ) → text ≡ before ++ bytes → from ≡ length before → to ≡ length text → number ≡ length ts → Prints detail t bytes is_reference
     → (IsKnown place → place ≡ record { from = from; to = to; is_pack = is_pack; is_reference = is_reference }) → KnowsMore known more number place
-    → AreAmong detail text is_pack known ts → AreAmong detail text is_pack more (ts ++ t ∷ [])
-known-more {detail} text is_pack from to number is_reference place known more ts t before bytes written from_is to_is number_is prints place_is knows among k o =
+    → is_pack ≡ (is_pack && nat_le first number)
+    → AreAmong detail text is_pack first known ts → AreAmong detail text is_pack first more (ts ++ t ∷ [])
+known-more {detail} text is_pack first from to number is_reference place known more ts t before bytes written from_is to_is number_is prints place_is knows flag among k o =
     elim (knows k o) [
       | inl h ↦
-          subst (λ j. IsAmong detail text (place_of more k) j (ts ++ t ∷ []) × ((place_of more k).is_pack ≡ is_pack)) (sym h.0)
-          (subst (λ (q : Argument). IsAmong detail text q number (ts ++ t ∷ []) × (q.is_pack ≡ is_pack)) (sym h.1) (here (subst IsKnown h.1 o)))
+          subst (λ j. IsAmong detail text (place_of more k) j (ts ++ t ∷ []) × ((place_of more k).is_pack ≡ (is_pack && nat_le first j))) (sym h.0)
+          (subst (λ (q : Argument). IsAmong detail text q number (ts ++ t ∷ []) × (q.is_pack ≡ (is_pack && nat_le first number))) (sym h.1) (here (subst IsKnown h.1 o)))
       | inr h ↦
-          subst (λ (q : Argument). IsAmong detail text q k (ts ++ t ∷ []) × (q.is_pack ≡ is_pack)) (sym h) (there (among k (subst IsKnown h o)))
+          subst (λ (q : Argument). IsAmong detail text q k (ts ++ t ∷ []) × (q.is_pack ≡ (is_pack && nat_le first k))) (sym h) (there (among k (subst IsKnown h o)))
     ]
   where
-    here : IsKnown place → IsAmong detail text place number (ts ++ t ∷ []) × (place.is_pack ≡ is_pack)
+    here : IsKnown place → IsAmong detail text place number (ts ++ t ∷ []) × (place.is_pack ≡ (is_pack && nat_le first number))
     here e = (
       record {
         bytes = bytes;
@@ -345,11 +433,11 @@ known-more {detail} text is_pack from to number is_reference place known more ts
         there = ap (λ n. slice_get (ts ++ t ∷ []) n) number_is ∙ last-there ts t;
         prints = subst (λ (q : Argument). Prints detail t bytes q.is_reference) (sym (place_is e)) prints;
       },
-      ap (λ (q : Argument). q.is_pack) (place_is e),
+      ap (λ (q : Argument). q.is_pack) (place_is e) ∙ flag,
     )
 
-    there : IsAmong detail text (place_of known k) k ts × ((place_of known k).is_pack ≡ is_pack)
-        → IsAmong detail text (place_of known k) k (ts ++ t ∷ []) × ((place_of known k).is_pack ≡ is_pack)
+    there : IsAmong detail text (place_of known k) k ts × ((place_of known k).is_pack ≡ (is_pack && nat_le first k))
+        → IsAmong detail text (place_of known k) k (ts ++ t ∷ []) × ((place_of known k).is_pack ≡ (is_pack && nat_le first k))
     there g = (
       record {
         bytes = g.0.bytes;
@@ -361,27 +449,31 @@ known-more {detail} text is_pack from to number is_reference place known more ts
       g.1,
     )
 
+flag-behind : (is_pack : Bool) (before ts : List Term) (number : ℕ) → number ≡ length (before ++ ts) → is_pack ≡ (is_pack && nat_le (length before) number)
+flag-behind false before ts number is = refl
+flag-behind true before ts number is = sym (le-leb (length before) number (omega (arith, is, length-append before ts)))
+
 -- the one that was read is known
 argument-known : (s : Symbol) (old : Direct) (is_pack : Bool) (from to number : ℕ) (place : Argument) (known more : Arguments) (is_reference : Bool)
     (p : IsArgumentRead s old is_pack from number known is_reference) → to ≡ length old.text.list.items
     → (IsKnown place → place ≡ record { from = from; to = to; is_pack = is_pack; is_reference = is_reference }) → KnowsMore known more number place
-    → AreAmong (detail_of s) old.text.list.items is_pack more (p.ts ++ p.t ∷ [])
+    → AreAmong (detail_of s) old.text.list.items is_pack (length p.before) more (p.before ++ (p.ts ++ p.t ∷ []))
 argument-known s old is_pack from to number place known more is_reference p to_is place_is knows =
-    known-more old.text.list.items is_pack from to number is_reference place known more p.ts p.t
-    (p.front ++ p.name ++ opening_bracket (detail_of s) ++ in_front_of_next p.ts p.texts) p.bytes p.written p.from_is to_is p.number_is p.prints place_is knows p.among
+    subst (λ l. AreAmong (detail_of s) old.text.list.items is_pack (length p.before) more l) (append_assoc p.before p.ts (p.t ∷ []))
+    (known-more old.text.list.items is_pack (length p.before) from to number is_reference place known more (p.before ++ p.ts) p.t
+    (led_by (detail_of s) (arguments_or_pack is_pack p.before p.before_text) p.front p.name ++ in_front_of_next p.ts p.texts) p.bytes p.written p.from_is to_is
+    p.number_is p.prints place_is knows (flag-behind is_pack p.before p.ts number p.number_is) p.among)
 
 -- another one may follow
 pub argument-awaits : (s : Symbol) (old new : Direct) (is_pack : Bool) (from to number : ℕ) (place : Argument) (known more : Arguments) (is_reference : Bool)
     (p : IsArgumentRead s old is_pack from number known is_reference) → reverse new.waiting.list.items ≡ argument_around is_pack p.owner p.rest
     → new.text ≡ old.text → new.candidates ≡ old.candidates → new.has_scope ≡ old.has_scope → new.at ≡ old.at → to ≡ length old.text.list.items
     → (IsKnown place → place ≡ record { from = from; to = to; is_pack = is_pack; is_reference = is_reference }) → KnowsMore known more number place
-    → AwaitsKnownArgument s new is_pack number more
-argument-awaits s old new is_pack from to number place known more is_reference p waits text candidates scope_same at to_is place_is knows =
+    → more.before ≡ known.before → AwaitsKnownArgument s new is_pack number more
+argument-awaits s old new is_pack from to number place known more is_reference p waits text candidates scope_same at to_is place_is knows same_before =
     let ts = p.ts ++ p.t ∷ [] in
     record {
-      state = p.state;
-      scope = p.scope;
-      keeps = keeps-same s old new p.state.candidates text candidates scope_same p.keeps;
+      kept = kept-same s old new text candidates scope_same p.kept;
       owner = p.owner;
       rest = p.rest;
       open_is = waits;
@@ -391,26 +483,32 @@ argument-awaits s old new is_pack from to number place known more is_reference p
       ts = ts;
       texts = in_front_of_next p.ts p.texts ++ p.bytes;
       is_template = read-template s old new is_pack from number known is_reference p text;
+      before = p.before;
+      before_text = p.before_text;
+      come_before = record {
+        none = p.come_before.none;
+        prints = p.come_before.prints;
+        count_is = λ e. same_before ∙ p.come_before.count_is e;
+      };
       elements = read-prints s old is_pack from number known is_reference p;
       some = some-elements p.ts p.t;
       written = read-written s old new is_pack from number known is_reference p text;
-      number_is = omega (arith, p.number_is, length-append p.ts (p.t ∷ []));
-      among = subst (λ v. AreAmong (detail_of s) v.list.items is_pack more ts) (sym text)
+      number_is = omega (arith, p.number_is, length-append p.ts (p.t ∷ []), length-append p.before p.ts, length-append p.before ts);
+      among = subst (λ v. AreAmong (detail_of s) v.list.items is_pack (length p.before) more (p.before ++ ts)) (sym text)
           (argument-known s old is_pack from to number place known more is_reference p to_is place_is knows);
-      goes = subst (λ n. GoesOn s (arguments_or_pack is_pack) p.owner (below s p.scope p.rest) p.front p.template ts n p.state) (sym at) p.goes;
+      goes = subst (λ n. GoesOn s (arguments_or_pack is_pack p.before p.before_text) p.owner (below s p.scope p.rest) p.front p.template ts n p.state) (sym at) p.goes;
     }
 
 -- or it was the last one, and the arguments are these
 arguments-end : (s : Symbol) (old new : Direct) (is_pack : Bool) (from number : ℕ) (known more : Arguments) (is_reference : Bool)
-    (p : IsArgumentRead s old is_pack from number known is_reference) (ts : List Term) → reverse new.waiting.list.items ≡ p.owner ∷ p.rest
+    (p : IsArgumentRead s old is_pack from number known is_reference) (ts : List Term) (arguments : List ℕ) → reverse new.waiting.list.items ≡ p.owner ∷ p.rest
     → new.text ≡ old.text → new.candidates ≡ old.candidates → new.has_scope ≡ old.has_scope
-    → PrintAllAs (detail_of s) p.scope.names (is_noted p.owner) 3 ts (in_front_of_next p.ts p.texts ++ p.bytes)
+    → PrintAllAs (detail_of s) p.scope.names (is_noted p.owner) 3 ts arguments
+    → new.text.list.items ≡ p.front ++ p.name ++ opening_bracket (detail_of s) ++ arguments
     → Owns s p.owner (below s p.scope p.rest) p.front (instance p.template (list_with ts nil)) new.at p.state
     → AreKnown (detail_of s) old.text.list.items more ts nil → IsListEnded s new more
-arguments-end s old new is_pack from number known more is_reference p ts waits text candidates scope_same elements owns is_known = record {
-  state = p.state;
-  scope = p.scope;
-  keeps = keeps-same s old new p.state.candidates text candidates scope_same p.keeps;
+arguments-end s old new is_pack from number known more is_reference p ts arguments waits text candidates scope_same elements written owns is_known = record {
+  kept = kept-same s old new text candidates scope_same p.kept;
   owner = p.owner;
   rest = p.rest;
   open_is = waits;
@@ -420,10 +518,10 @@ arguments-end s old new is_pack from number known more is_reference p ts waits t
   ts = ts;
   tail = nil;
   is_tail = inl refl;
-  arguments = in_front_of_next p.ts p.texts ++ p.bytes;
+  arguments = arguments;
   is_template = read-template s old new is_pack from number known is_reference p text;
   elements = elements;
-  written = read-written s old new is_pack from number known is_reference p text;
+  written = written;
   owns = owns;
   known = subst (λ v. AreKnown (detail_of s) v.list.items more ts nil) (sym text) is_known;
 }
@@ -437,11 +535,88 @@ unfolding no_items may_be_empty
 argument-closes s old new from to number place known more is_reference p stands waits text candidates scope_same at to_is place_is knows =
     let ts = p.ts ++ p.t ∷ [] in
     let among = argument-known s old false from to number place known more is_reference p to_is place_is knows in
-    arguments-end s old new false from number known more is_reference p ts waits text candidates scope_same
+    arguments-end s old new false from number known more is_reference p ts (in_front_of_next p.ts p.texts ++ p.bytes) waits text candidates scope_same
     (all-as (detail_of s) p.scope.names (is_noted p.owner) 3 ts (in_front_of_next p.ts p.texts ++ p.bytes) (read-prints s old false from number known is_reference p))
+    (read-written s old new false from number known is_reference p text)
     (subst (λ n. Owns s p.owner (below s p.scope p.rest) p.front (instance p.template (list_with ts nil)) n p.state) (sym at)
     (p.goes.5 nothing_there old.at p.state (expects-empty s Kind.ArgumentList p.goes.0 p.goes.1 old.at p.state p.goes.4 refl) stands))
-    (λ k o. let h = among k o in inl (h.1, h.0))
+    (λ k o.
+    let h = among k o in
+    inl (h.1, subst (λ (l : List Term). IsAmong (detail_of s) old.text.list.items (place_of more k) k (l ++ ts)) (p.come_before.none refl) h.0))
+
+front-there : (us es vs : List Term) (k : ℕ) (t : Term) → k < length us → slice_get (us ++ es) k ≡ Some t → slice_get (us ++ vs) k ≡ Some t
+front-there [] es vs k t below e = absurd (omega (arith, below))
+front-there (u ∷ us) es vs zero t below e = e
+front-there (u ∷ us) es vs (suc k) t below e = front-there us es vs k t (omega (arith, below)) e
+
+behind-there : (us es : List Term) (k : ℕ) (t : Term) → length us ≤ k → slice_get (us ++ es) k ≡ Some t → slice_get es (k - length us) ≡ Some t
+behind-there [] es k t le e = subst (λ n. slice_get es n ≡ Some t) (omega arith) e
+behind-there (u ∷ us) es zero t le e = absurd (omega (arith, le))
+behind-there (u ∷ us) es (suc k) t le e =
+    subst (λ n. slice_get es n ≡ Some t) (omega arith) (behind-there us es k t (omega (arith, le)) e)
+
+-- what is known of a pack's elements, and of the arguments before it
+elements-known : (s : Symbol) (old : Direct) (from to number size : ℕ) (place : Argument) (known more : Arguments) (is_reference : Bool)
+    (p : IsArgumentRead s old true from number known is_reference) → to ≡ length old.text.list.items
+    → (IsKnown place → place ≡ record { from = from; to = to; is_pack = true; is_reference = is_reference }) → KnowsMore known more number place
+    → more.before ≡ length p.before → size ≡ number + 1 - more.before
+    → AreKnown (detail_of s) old.text.list.items (record more { elements = size }) (p.before ++ pack (list_of (p.ts ++ p.t ∷ [])) ∷ []) nil
+elements-known s old from to number size place known more is_reference p to_is place_is knows count_is size_is k o =
+    go (nat_le (length p.before) k) refl
+  where
+    text : List ℕ
+    text = old.text.list.items
+
+    es : List Term
+    es = p.ts ++ p.t ∷ []
+
+    own : Term
+    own = pack (list_of es)
+
+    all : List Term
+    all = p.before ++ own ∷ []
+
+    now : Arguments
+    now = record more { elements = size }
+
+    there : place_of now k ≡ place_of more k
+    there = there-still more.encoding more.before size more k
+
+    h : IsAmong (detail_of s) text (place_of more k) k (p.before ++ es) × ((place_of more k).is_pack ≡ nat_le (length p.before) k)
+    h = argument-known s old true from to number place known more is_reference p to_is place_is knows k (subst IsKnown there o)
+
+    is_there : (element (list_with all nil) (length p.before) ≡ own) × (length p.before < count (list_with all nil))
+    is_there = element-there all nil (length p.before) own (last-there p.before own)
+
+    go : (b : Bool) → nat_le (length p.before) k ≡ b
+        → (((place_of now k).is_pack ≡ false) × IsAmong (detail_of s) text (place_of now k) k all)
+        ⊎ (((place_of now k).is_pack ≡ true) × (us : List Term) × (element (list_with all nil) more.before ≡ pack (list_of us)) × (more.before < count (list_with all nil))
+        × (length us ≡ size) × IsAmong (detail_of s) text (place_of now k) (k - more.before) us)
+    go false is = inl (
+      ap (λ (q : Argument). q.is_pack) there ∙ h.1 ∙ is,
+      subst (λ (q : Argument). IsAmong (detail_of s) text q k all) (sym there) (record {
+        bytes = h.0.bytes;
+        placed = h.0.placed;
+        own = h.0.own;
+        there = front-there p.before es (own ∷ []) k h.0.own (omega (arith, leb-false (length p.before) k is)) h.0.there;
+        prints = h.0.prints;
+      }),
+    )
+    go true is = inr (
+      ap (λ (q : Argument). q.is_pack) there ∙ h.1 ∙ is,
+      es,
+      subst (λ n. element (list_with all nil) n ≡ own) (sym count_is) is_there.0,
+      subst (λ n. n < count (list_with all nil)) (sym count_is) is_there.1,
+      omega (arith, p.number_is, size_is, count_is, length-append p.ts (p.t ∷ []), length-append p.before p.ts),
+      subst (λ (q : Argument). IsAmong (detail_of s) text q (k - more.before) es) (sym there) (record {
+        bytes = h.0.bytes;
+        placed = h.0.placed;
+        own = h.0.own;
+        there = subst (λ n. slice_get es (k - n) ≡ Some h.0.own) (sym count_is)
+            (behind-there p.before es k h.0.own (leb-true (length p.before) k is) h.0.there);
+        prints = h.0.prints;
+      }),
+    )
 
 -- after an element of the pack they end with it
 pub pack-closes : (s : Symbol) (old new : Direct) (from to number size : ℕ) (place : Argument) (known more : Arguments) (is_reference : Bool)
@@ -449,34 +624,25 @@ pub pack-closes : (s : Symbol) (old new : Direct) (from to number size : ℕ) (p
     → StandsAt s.bytes old.at (69 ∷ []) → StandsAt s.bytes (old.at + 1) (69 ∷ []) → reverse new.waiting.list.items ≡ p.owner ∷ p.rest → new.text ≡ old.text
     → new.candidates ≡ old.candidates → new.has_scope ≡ old.has_scope → new.at ≡ old.at + 1 + 1 → to ≡ length old.text.list.items
     → (IsKnown place → place ≡ record { from = from; to = to; is_pack = true; is_reference = is_reference }) → KnowsMore known more number place
-    → size ≡ number + 1 → IsListEnded s new (record more { elements = size })
+    → more.before ≡ known.before → size ≡ number + 1 - more.before → IsListEnded s new (record more { elements = size })
 unfolding no_items may_be_empty
-pack-closes s old new from to number size place known more is_reference p ends stands waits text candidates scope_same at to_is place_is knows size_is =
+pack-closes s old new from to number size place known more is_reference p ends stands waits text candidates scope_same at to_is place_is knows same_before size_is =
     let es = p.ts ++ p.t ∷ [] in
     let own = pack (list_of es) in
+    let all = p.before ++ own ∷ [] in
     let texts = in_front_of_next p.ts p.texts ++ p.bytes in
-    let among = argument-known s old true from to number place known more is_reference p to_is place_is knows in
+    let led = p.front ++ p.name ++ opening_bracket (detail_of s) in
+    let arguments = in_front_of_next p.before p.before_text ++ texts in
+    let count_is : more.before ≡ length p.before = same_before ∙ p.come_before.count_is refl in
     let goes = p.goes.5 nothing_there old.at p.state (expects-empty s Kind.PackList p.goes.0 p.goes.1 old.at p.state p.goes.4 refl) ends in
     let here = goes.5 nothing_there (old.at + 1) p.state (expects-empty s Kind.ArgumentList goes.0 goes.1 (old.at + 1) p.state goes.4 refl) stands in
-    let owns : Owns s p.owner (below s p.scope p.rest) p.front (instance p.template (list own nil)) (old.at + 1 + 1) p.state =
-    subst (λ l. Owns s p.owner (below s p.scope p.rest) p.front (instance p.template (list (pack l) nil)) (old.at + 1 + 1) p.state) (list-with-none es) here in
-    arguments-end s old new true from number known (record more { elements = size }) is_reference p (own ∷ []) waits text candidates scope_same (
-      texts ∷ [],
-      (
-        element-as (detail_of s) p.scope.names (is_noted p.owner) 3 own texts (pack-element es texts (some-elements p.ts p.t)
-            (read-prints s old true from number known is_reference p)),
-        tt,
-      ),
-      refl,
-    )
-    (subst (λ n. Owns s p.owner (below s p.scope p.rest) p.front (instance p.template (list own nil)) n p.state) (sym at) owns)
-    (λ k o.
-    let there = there-still more.encoding size more k in
-    let h = among k (subst IsKnown there o) in
-    inr (
-      ap (λ (q : Argument). q.is_pack) there ∙ h.1,
-      es,
-      refl,
-      omega (arith, p.number_is, size_is, length-append p.ts (p.t ∷ [])),
-      subst (λ (q : Argument). IsAmong (detail_of s) old.text.list.items q k es) (sym there) h.0,
-    ))
+    let owns : Owns s p.owner (below s p.scope p.rest) p.front (instance p.template (list_with all nil)) (old.at + 1 + 1) p.state =
+    subst (λ l. Owns s p.owner (below s p.scope p.rest) p.front (instance p.template (list_with (p.before ++ pack l ∷ []) nil)) (old.at + 1 + 1) p.state)
+    (list-with-none es) here in
+    arguments-end s old new true from number known (record more { elements = size }) is_reference p all arguments waits text candidates scope_same
+    (all-as (detail_of s) p.scope.names (is_noted p.owner) 3 all arguments
+    (next-prints 3 p.before p.before_text own texts p.come_before.prints
+    (pack-element es texts (some-elements p.ts p.t) (read-prints s old true from number known is_reference p))))
+    (read-written s old new true from number known is_reference p text ∙ append_assoc led (in_front_of_next p.before p.before_text) texts)
+    (subst (λ n. Owns s p.owner (below s p.scope p.rest) p.front (instance p.template (list_with all nil)) n p.state) (sym at) owns)
+    (elements-known s old from to number size place known more is_reference p to_is place_is knows count_is size_is)

@@ -27,7 +27,7 @@ use Rattle.cpp_direct.specs.Prints.{Shows}
 use Rattle.cpp_direct.specs.WriterInvariant.{Encoded, EndsBehind, EncodedBehind, AwaitsItems, IsScoped, Stands, IsWriting, no_scope, qualifiers}
 use Rattle.cpp_direct.specs.MidStep.{IsFresh, AwaitsEncoding, AwaitsNest}
 use Rattle.cpp_direct.specs.Written.{Writes, Reads}
-use Rattle.cpp_direct.proofs.Kept.{keeps-same, none-kept}
+use Rattle.cpp_direct.proofs.Kept.{kept-same, none-kept}
 use Rattle.cpp_direct.proofs.NamePlaces.{reads-then}
 use Rattle.cpp_direct.proofs.Moves.{stands-join}
 use Rattle.cpp_direct.proofs.MovesOfEncodings.{symbol-starts, encoding-opens, special-opens, thunk-opens, virtual-thunk-opens, name-nested}
@@ -63,9 +63,7 @@ unfolding first_state
 encoding-awaited s w no_text no_candidate starts at_is apart =
     let opened_ = symbol-starts s starts in
     record {
-      state = first_state;
-      scope = no_scope;
-      keeps = none-kept s w no_candidate;
+      kept = record { state = first_state; scope = no_scope; keeps = none-kept s w no_candidate };
       around = first_around;
       outer = opened_.inner;
       begins = λ none. at_is ∙ sym (ap (λ b. cond b 3 2) apart);
@@ -112,9 +110,7 @@ thunk-awaited : (s : Symbol) (opened_ : SymbolOpened s) (by : Adjustment) (w : D
     → AwaitsEncoding s w
 unfolding first_state
 thunk-awaited s opened_ by w apart thunk_ text_is no_candidate = record {
-  state = first_state;
-  scope = no_scope;
-  keeps = none-kept s w no_candidate;
+  kept = record { state = first_state; scope = no_scope; keeps = none-kept s w no_candidate };
   around = in_name 2;
   outer = thunk_.inner;
   begins = λ none. absurd (thunk-text by (sym text_is ∙ none));
@@ -184,21 +180,21 @@ special-begins s w letter starts stands at_is written filled none_ waiting =
     let opened_ = symbol-starts s starts in
     let here = special-opens s opened_.inner first_around letter 2 first_state (special-known letter filled) opened_.awaits stands in
     record {
-      state = first_state;
-      scope = no_scope;
-      keeps = none-kept s w none_;
+      kept = record { state = first_state; scope = no_scope; keeps = none-kept s w none_ };
       is_before = (
-        here.inner,
-        in_name 2,
-        refl,
+        record {
+          os = here.inner;
+          around = in_name 2;
+          outside = refl;
+          stands = subst (λ ws. Stands s no_scope (reverse ws) here.inner w.text.list.items) (sym waiting) (
+            letter,
+            written,
+            (λ e. filled (sym written ∙ e)),
+            λ t at st comes. encoded-whole s opened_ (special letter t) at st (here.onward t at st comes),
+          );
+          scoped = subst (λ ws. IsScoped no_scope (in_name 2) (reverse ws)) (sym waiting) (none-scoped no_scope (in_name 2) (opens.Special ∷ []) refl);
+        },
         inl (subst (λ n. Expects s Kind.Type (in_name 2) here.inner n first_state) (sym at_is) here.awaits),
-        subst (λ ws. Stands s no_scope (reverse ws) here.inner w.text.list.items) (sym waiting) (
-          letter,
-          written,
-          (λ e. filled (sym written ∙ e)),
-          λ t at st comes. encoded-whole s opened_ (special letter t) at st (here.onward t at st comes),
-        ),
-        subst (λ ws. IsScoped no_scope (in_name 2) (reverse ws)) (sym waiting) (none-scoped no_scope (in_name 2) (opens.Special ∷ []) refl),
       );
     }
 
@@ -213,9 +209,7 @@ nested-marked s old n mark p stands at_is =
     let encoding = encoding-expected s old p in
     let nest = name-nested s encoding.inner (in_name old.at) (has_const mark) (called_on mark) old.at p.state encoding.awaits stands in
     record {
-      state = p.state;
-      scope = p.scope;
-      keeps = keeps-same s old (record old { at = n }) p.state.candidates refl refl refl p.keeps;
+      kept = kept-same s old (record old { at = n }) refl refl refl p.kept;
       around = in_name old.at;
       outside = refl;
       outer = nest.inner;

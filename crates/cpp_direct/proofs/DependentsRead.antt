@@ -3,7 +3,7 @@ use Rattle.sym_print.specs.declared.detail.Detail.{Detail}
 use Rattle.cpp_grammar.specs.Unfolding.{byte_of, close}
 use Rattle.cpp_grammar.specs.Meaning.{meaning, listed_value}
 use Rattle.cpp_direct.specs.Symbol.{detail_of, Symbol}
-use Rattle.cpp_direct.proofs.Kept.{candidate-found, keeps-as, keeps-grown, keeps-same, keeps-written, made-here, piece-found, placed-stays, value-added, value-comes, candidate-inside, keeps-with}
+use Rattle.cpp_direct.proofs.Kept.{candidate-found, kept-grown, kept-same, kept-written, made-here, piece-found, placed-stays, value-added, value-comes, candidate-inside, kept-as, kept-with}
 use Rattle.cpp_direct.proofs.Listed.{some-elements}
 use Rattle.cpp_direct.proofs.Moves.{hole, eats, byte-opens, next-part, closes, none-fills, number-fills, is_eaten, stands-join, stands-split, expects-empty, open_at, fill, filled-at}
 use Rattle.cpp_direct.proofs.MovesOfTypes.{const-opens, lvalue-opens, rvalue-opens, solid-opens, substitution-opens}
@@ -14,7 +14,7 @@ use Rattle.cpp_direct.specs.declared.open.Mark.{Mark}
 use Rattle.cpp_direct.specs.HolesOfTypes.{as_const}
 use Rattle.cpp_direct.specs.Holes.{Opened, StandsAt, Comes, candidate, with_candidate, Expects, IsReferable, IsTyped}
 use Rattle.cpp_direct.specs.Prints.{IsMarkedBy, Names, PrintsAs, PrintsGiven, PrintsMade, PrintAllBy, list_of, made_by, pattern_letters}
-use Rattle.cpp_direct.specs.WriterInvariant.{AreCandidates, EncodedBehind, HasArguments, IsAmong, IsKnown, IsPlaced, IsScope, IsSingle, IsWriting, Keeps, ParametersGoOn, argument_of, in_front_of_next, place_of}
+use Rattle.cpp_direct.specs.WriterInvariant.{AreCandidates, EncodedBehind, HasArguments, IsAmong, IsKnown, IsPlaced, IsScope, IsSingle, IsWriting, ParametersGoOn, argument_of, in_front_of_next, place_of}
 use Rattle.cpp_direct.specs.MidStep.{AwaitsType, IsNamedAgain, IsParameterEnded, parameter_digits, AwaitsNextParameter, AreExpanded, IsPackOf, comma_text, expansion_letters}
 use Rattle.cpp_direct.specs.Written.{Writes, added, hidden}
 use Rattle.cpp_direct.specs.declared.direct.Direct.{Direct}
@@ -28,25 +28,24 @@ use Rattle.cpp_grammar.specs.Grammar.{may_be_empty, number_of_kind, parts_of}
 use Rattle.cpp_grammar.specs.Parts.{types_of}
 use Rattle.cpp_grammar.specs.References.{appended, is_function_type, with_packs, parameter_named, with_type}
 use Rattle.cpp_grammar.specs.Scope.{element, count, length_if_pack}
-use Rattle.cpp_grammar.specs.Term.{Term, parameter, expansion, lvalue, rvalue, list, nil, pack}
+use Rattle.cpp_grammar.specs.Term.{Term, parameter, expansion, lvalue, rvalue, pack}
 use Rattle.cpp_grammar.specs.Values.{tree, State, Around, text_of, is_there, letter_of, part, piece_of, tree_of, is_listed}
 use Rattle.cpp_grammar.specs.declared.kind.Kind.{Kind}
 use Rattle.cpp_grammar.specs.declared.production.Production.{Production}
-use Rattle.std.proofs.Common.{◌≡◌, ◌≢◌, ℕ, zero, suc, ◌+◌, ◌-◌, ◌≤◌, ◌<◌, length, List, [], ◌∷◌, ◌++◌, take, drop, reverse, slice_get, true, false, replicate, Option, Some, None, refl, ap, sym, ◌∙◌, subst, arith, append_assoc, append-nil, Ok, codes, inl, inr}
+use Rattle.std.proofs.Common.{◌≡◌, ◌≢◌, ℕ, zero, suc, ◌+◌, ◌-◌, ◌≤◌, ◌<◌, length, List, [], ◌∷◌, ◌++◌, take, drop, reverse, slice_get, true, false, replicate, Some, None, refl, ap, sym, ◌∙◌, subst, arith, append_assoc, append-nil, Ok, codes, inl, inr}
 use Rattle.std.proofs.lemmas.Bool.{lt-ltb}
 use Rattle.std.proofs.lemmas.List.{length-append}
 use Rattle.sym_core.specs.Value.{counted_value}
 use Rattle.sym_core.specs.declared.NumberKind.TheVariants.{Seq36, Decimal}
 use Rattle.sym_core.specs.Token.{Token, IsNumberToken}
-use Rattle.std.specs.Option.{IfSome}
 use Rattle.cpp_direct.proofs.Ending.{parameter-goes_on}
 use Rattle.cpp_direct.proofs.MovesOfLists.{element-awaits}
 use Rattle.cpp_direct.proofs.PrintedLists.{next-prints-in, next-prints-by}
-use Rattle.cpp_direct.proofs.Scopes.{arguments-stay}
 use Rattle.cpp_direct.proofs.Signatures.{one-hidden}
 use Rattle.cpp_grammar.specs.Unfolding as unfolding_
 use Rattle.cpp_direct.specs.declared.open.Step.TheVariants as steps
 use Rattle.cpp_grammar.specs.Values as values
+use Rattle.cpp_direct.proofs.Scopes.{parameters-as}
 
 -- ## Moves
 
@@ -74,28 +73,28 @@ unfolding parameter_named with_packs appended
 parameter-found around k at st all scope below none = rw (scope, lt-ltb k (count all) below, none, parameter_named) refl
 
 -- in its scope it is a candidate
-parameter-tested : (around : Around) (k at : ℕ) (st : State) → k ≤ 3 → IsScope k false around
+parameter-tested : (around : Around) (before k at : ℕ) (st : State) → k ≤ 3 → IsScope before k false around
     → ◌≡◌ {A = Going} (between Production.Parameter around at (values.text (parameter_digits k) ∷ []) st)
     (Ok (record { context = after (parameter k) true around; values = tree (parameter k) true ∷ []; state = with_candidate around (parameter k) st }))
 unfolding between parameter_so_far listed_so_far
-parameter-tested around k at st few scope =
+parameter-tested around before k at st few scope =
     subst (λ n. ◌≡◌ {A = Going} (parameter_so_far around at n [] st)
     (Ok (record { context = after (parameter k) true around; values = tree (parameter k) true ∷ []; state = with_candidate around (parameter k) st })))
     (sym (digits-count k few))
     (rw (parameter-found around k at st scope.all scope.scope_is (scope.there refl).1 (ap length_if_pack (scope.there refl).0 ∙ scope.no_pack)) refl)
 
 -- a parameter comes, and is a candidate
-pub parameter-comes : (s : Symbol) (kind : Kind) (around : Around) (os : List Opened) (k at : ℕ) (st : State) → IsTyped kind → k ≤ 3
-    → IsScope k false around → Expects s kind around os at st → StandsAt s.bytes at (84 ∷ (parameter_digits k ++ 95 ∷ []))
+pub parameter-comes : (s : Symbol) (kind : Kind) (around : Around) (os : List Opened) (before k at : ℕ) (st : State) → IsTyped kind → k ≤ 3
+    → IsScope before k false around → Expects s kind around os at st → StandsAt s.bytes at (84 ∷ (parameter_digits k ++ 95 ∷ []))
     → Comes s os (tree (parameter k) true) (at + 1 + length (parameter_digits k ++ 95 ∷ [])) (with_candidate around (parameter k) st)
 unfolding is_eaten number_of_kind parts_of may_be_empty between close unfolding_.behind meaning part byte_of tree_of text_of piece_of letter_of is_there applied is_function_type
-parameter-comes s kind around os k at st typed few scope expects stands =
+parameter-comes s kind around os before k at st typed few scope expects stands =
     let p = Production.Parameter in
     let end = at + 1 + length (parameter_digits k ++ 95 ∷ []) in
     let both = stands-split s.bytes at (84 ∷ []) (parameter_digits k ++ 95 ∷ []) stands in
     let solid = solid-opens s kind around os at st typed expects in
     let number = byte-opens (eats s Kind.Solid p 84 refl) (hole s Kind.Solid around solid.inner at st solid.awaits) both.0 refl refl in
-    let arguments = next-part p (number-fills (parameter_token k) number (parameter-number k) both.1) (parameter-tested around k at st few scope) in
+    let arguments = next-part p (number-fills (parameter_token k) number (parameter-number k) both.1) (parameter-tested around before k at st few scope) in
     solid.passes (parameter k) true end (with_candidate around (parameter k) st) refl (closes p (none-fills Kind.ArgumentsAlone arguments refl) refl).comes
 
 -- the digits of a parameter's number come before its line
@@ -123,13 +122,13 @@ pub argument-inside : (s : Symbol) (w : Direct) (all : Arguments) (k : ℕ) (p :
     → argument_of (reverse w.waiting.list.items) ≡ Some all → p ≡ place_of all k → IsSingle p → p.to ≤ length w.text.list.items
 argument-inside s w all k p a found is single =
     let h = named-placed s w all k p a found is single in
-    (piece-found w.text.list.items h.2.front h.0 h.2.back p.from p.to h.2.written h.2.from_is h.2.to_is).1
+    (piece-found w.text.list.items h.0 p.from p.to h.2).1
 
 -- a parameter may name it
 scope-named : (s : Symbol) (w : Direct) (all : Arguments) (k : ℕ) (p : Argument) (a : AwaitsType s w) → argument_of (reverse w.waiting.list.items) ≡ Some all
-    → p ≡ place_of all k → IsSingle p → IsScope k false a.around
+    → p ≡ place_of all k → IsSingle p → IsScope all.before k false a.around
 scope-named s w all k p a found is single =
-    subst (λ j. IsScope k j a.around) (ap (λ (q : Argument). q.is_pack) (sym is) ∙ single.1)
+    subst (λ j. IsScope all.before k j a.around) (ap (λ (q : Argument). q.is_pack) (sym is) ∙ single.1)
     ((a.scoped all found).1.1 k (subst (λ (q : Argument). IsKnown q) is single.0))
 
 -- ## Parameters
@@ -146,17 +145,16 @@ parameter-done s old mid new all k p n from a few letter line found is single re
     let h = named-placed s old all k p a found is single in
     let bytes = h.0 in
     let grown : mid.text.list.items ≡ text ++ bytes =
-    writes.text ∙ ap (λ l. text ++ l) (piece-found text h.2.front bytes h.2.back p.from p.to h.2.written h.2.from_is h.2.to_is).2 in
+    writes.text ∙ ap (λ l. text ++ l) (piece-found text bytes p.from p.to h.2).2 in
     let prints = parameter-given a.scope.names k (record { bytes = bytes; reference = p.is_reference }) h.1 in
-    let naming = named-here s old a.state.candidates a.around all a.keeps a.scoped found real in
+    let naming = named-here s old a.kept a.around all a.scoped found real in
     let open_is : new.waiting ≡ old.waiting = same_waits ∙ writes.waiting in
     let later = with_candidate a.around (parameter k) a.state in
-    value-added s mid new a.state a.os a.around (parameter k) text bytes from p.is_reference true
-    (keeps-grown s old mid bytes a.state.candidates grown writes.candidates writes.scope a.keeps) grown from_is
-    prints (λ e. made-here s a.scope a.around (reverse old.waiting.list.items) a.scoped naming) same_text more same_scope (ap (λ v. reverse v.list.items) open_is)
+    value-added s mid new (kept-grown s old mid bytes grown writes.candidates writes.scope a.kept) a.os a.around (parameter k) text bytes from p.is_reference true
+    grown from_is prints (λ e. made-here s a.scope a.around (reverse old.waiting.list.items) a.scoped naming) same_text more same_scope (ap (λ v. reverse v.list.items) open_is)
     (λ e. naming)
     (subst (λ n. Comes s a.os (tree (parameter k) true) n later) (sym (same_at ∙ writes.at ∙ at))
-    (parameter-comes s a.kind a.around a.os k old.at a.state a.typed few (scope-named s old all k p a found is single) a.awaits
+    (parameter-comes s a.kind a.around a.os all.before k old.at a.state a.typed few (scope-named s old all k p a found is single) a.awaits
     (stands-join s.bytes old.at (84 ∷ []) (parameter_digits k ++ 95 ∷ []) letter line))) a.stands
 
 -- what is written from a place on became a candidate, which is a reference and names arguments
@@ -181,23 +179,22 @@ forwarded-done s old mid one new all k p n from a few referable mark letter line
     let named : a.scope.names k ≡ Some (record { bytes = bytes; reference = true })
     = subst (λ r. a.scope.names k ≡ Some (record { bytes = bytes; reference = r })) refers h.1 in
     let grown : mid.text.list.items ≡ text ++ bytes =
-    writes.text ∙ ap (λ l. text ++ l) (piece-found text h.2.front bytes h.2.back p.from p.to h.2.written h.2.from_is h.2.to_is).2 in
+    writes.text ∙ ap (λ l. text ++ l) (piece-found text bytes p.from p.to h.2).2 in
     let listed : one.text.list.items ≡ text ++ bytes = ap (λ v. v.list.items) first.text ∙ grown in
-    let naming = named-here s old a.state.candidates a.around all a.keeps a.scoped found real in
+    let naming = named-here s old a.kept a.around all a.scoped found real in
     let here = made-here s a.scope a.around (reverse old.waiting.list.items) a.scoped naming in
     let open_is : new.waiting ≡ old.waiting = second.waits ∙ first.waits ∙ writes.waiting in
     let own = with_candidate a.around (parameter k) a.state in
     let later = with_candidate a.around (rvalue (parameter k)) own in
     let reference = rvalue-opens s a.kind a.around a.os old.at a.state referable a.awaits mark in
     let prints = rvalue-given a.scope.names k bytes named in
-    value-added s one new own a.os a.around (rvalue (parameter k)) text bytes from true true
-    (keeps-with s mid one a.state text bytes from (parameter k) a.around true true
-    (keeps-grown s old mid bytes a.state.candidates grown writes.candidates writes.scope a.keeps) grown from_is
+    value-added s one new
+    (kept-with s mid one (kept-grown s old mid bytes grown writes.candidates writes.scope a.kept) text bytes from (parameter k) a.around true true grown from_is
     (parameter-given a.scope.names k (record { bytes = bytes; reference = true }) named) (λ e. here) first.text first.more first.scope)
-    listed from_is prints (λ e. here) second.text second.more second.scope (ap (λ v. reverse v.list.items) open_is) (λ e. naming)
+    a.os a.around (rvalue (parameter k)) text bytes from true true listed from_is prints (λ e. here) second.text second.more second.scope (ap (λ v. reverse v.list.items) open_is) (λ e. naming)
     (subst (λ n. Comes s a.os (tree (rvalue (parameter k)) true) n later) (sym (second.at ∙ first.at ∙ writes.at ∙ at))
     (reference.passes (parameter k) (old.at + 1 + 1 + length (parameter_digits k ++ 95 ∷ [])) own
-    (parameter-comes s Kind.Type a.around reference.inner k (old.at + 1) a.state tt few (scope-named s old all k p a found is single) reference.awaits
+    (parameter-comes s Kind.Type a.around reference.inner all.before k (old.at + 1) a.state tt few (scope-named s old all k p a found is single) reference.awaits
     (stands-join s.bytes (old.at + 1) (84 ∷ []) (parameter_digits k ++ 95 ∷ []) letter line)))) a.stands
 
 -- ## The same once more
@@ -205,7 +202,7 @@ forwarded-done s old mid one new all k p n from a few referable mark letter line
 -- it is written once more
 pub again-inside : (s : Symbol) (w : Direct) (k : Candidate) → IsNamedAgain s w k → (k.from ≤ k.to) × (k.to ≤ length w.text.list.items)
 again-inside s w k p =
-    candidate-inside s (record w { at = p.before }) p.awaits.state.candidates (counted_value Seq36 p.digits) k p.awaits.keeps p.ordered p.found
+    candidate-inside s (record w { at = p.before }) (counted_value Seq36 p.digits) k p.awaits.kept p.ordered p.found
 
 pub dependent-again : (s : Symbol) (w new : Direct) (k : Candidate) (all : Arguments) → IsNamedAgain s w k
     → argument_of (reverse w.waiting.list.items) ≡ Some all → all.encoding ≢ 0 → Writes w new (take (k.to - k.from) (drop k.from w.text.list.items))
@@ -218,17 +215,17 @@ dependent-again s w new k all p found real writes =
     let t = c.0.tree in
     let bytes = c.2.bytes in
     let written : new.text.list.items ≡ text ++ bytes =
-    writes.text ∙ ap (λ l. text ++ l) (piece-found text c.2.front bytes c.2.back k.from k.to c.2.written c.2.from_is c.2.to_is).2 in
+    writes.text ∙ ap (λ l. text ++ l) (piece-found text bytes k.from k.to c.2.placed).2 in
     let prints : PrintsGiven (detail_of s) a.scope.names t bytes k.is_reference
     = subst (λ d. PrintsAs (detail_of s) a.scope.names d t bytes k.is_reference) p.is c.2.prints in
     let open_ = reverse w.waiting.list.items in
-    let keeps = keeps-same s (record w { at = p.before }) w a.state.candidates refl refl refl a.keeps in
-    let naming = named-here s w a.state.candidates a.around all keeps a.scoped found real in
+    let kept = kept-same s (record w { at = p.before }) w refl refl refl a.kept in
+    let naming = named-here s w kept a.around all a.scoped found real in
     let named = substitution-opens s a.kind a.around a.os p.before a.state p.digits w.at c.0 a.is_named c.1
     (again-substituted s a.around open_ c.0 a.state bytes k.is_reference a.keeps.own a.scoped naming (c.2.made_in p.is) prints) a.begins p.letter p.number in
     let comes : Comes s a.os (tree t true) w.at a.state = named.bare w.at a.state prints.no_function
     (expects-empty s Kind.ArgumentsAlone (after t true a.around) named.inner w.at a.state named.awaits refl) in
-    value-comes s new a.state a.os t text bytes k.is_reference true (keeps-written s w new _ a.state.candidates writes keeps) written prints
+    value-comes s new (kept-written s w new (take (k.to - k.from) (drop k.from text)) writes kept) a.os t text bytes k.is_reference true written prints
     (ap (λ v. reverse v.list.items) writes.waiting) (λ e. naming) (subst (λ n. Comes s a.os (tree t true) n a.state) (sym writes.at) comes) a.stands
 
 -- ## A parameter that expands a pack
@@ -376,10 +373,6 @@ letters-stand s pattern k at second third named digits d b p c letters e t f lin
     (subst (λ n. StandsAt s n (84 ∷ behind)) e
     (stands-join s named (84 ∷ []) behind t (subst (λ n. StandsAt s n behind) f line)))))))
 
-pub stands-so : (P : Type 0) (o : Option ℕ) → P → IfSome o (λ end. P)
-stands-so P None p = tt
-stands-so P (Some end) p = p
-
 same-elements : (xs ys : List Term) → list_of xs ≡ list_of ys → xs ≡ ys
 same-elements [] [] e = refl
 same-elements [] (y ∷ ys) e = cc e
@@ -389,24 +382,28 @@ same-elements (x ∷ xs) (y ∷ ys) e =
     let rest : list_of xs ≡ list_of ys = cc e in
     ap (λ z. z ∷ xs) first ∙ ap (λ zs. y ∷ zs) (same-elements xs ys rest)
 
--- the elements of a function's pack
-pub pack-of : {detail : Detail} (text : List ℕ) (argument : Arguments) (name : Term) → (h : HasArguments detail text argument name) → argument.first.is_pack ≡ true
-    → (ordered : argument.first.from ≤ argument.first.to) → IsPackOf detail text argument (h 0 ordered).elements
-pack-of text argument name h pack_ ordered =
-    let first = (h 0 ordered).alone pack_ in
+-- the elements of a function's pack, of which the first one is known
+pub pack-of : {detail : Detail} (text : List ℕ) (argument : Arguments) (name : Term) → (h : HasArguments detail text argument name)
+    → (ordered : IsKnown (place_of argument argument.before)) → (place_of argument argument.before).is_pack ≡ true
+    → IsPackOf detail text argument (h argument.before ordered).elements
+pack-of text argument name h ordered pack_ =
+    let one = h argument.before ordered in
+    let first = one.packed pack_ in
     record {
-      size = first.2;
+      size = first.3;
       among = λ k known is_pack.
-          let g = h k known in
-          let own = g.alone is_pack in
-          let all : (h 0 ordered).all ≡ g.all = cc (sym (h 0 ordered).all_are ∙ g.all_are) in
-          let packs : list (pack (list_of g.elements)) nil ≡ list (pack (list_of (h 0 ordered).elements)) nil = sym own.0 ∙ sym all ∙ first.0 in
-          let lists : list_of g.elements ≡ list_of (h 0 ordered).elements = cc packs in
+          let g = h (argument.before + k) known in
+          let own = g.packed is_pack in
+          let all : one.all ≡ g.all = cc (sym one.all_are ∙ g.all_are) in
+          let packs : pack (list_of g.elements) ≡ pack (list_of one.elements) = sym own.0 ∙ ap (λ l. element l argument.before) (sym all) ∙ first.0 in
+          let lists : list_of g.elements ≡ list_of one.elements = cc packs in
+          let number : argument.before + k - argument.before ≡ k = omega arith in
           record {
             bytes = g.bytes;
             placed = g.placed;
             own = g.own;
-            there = subst (λ l. slice_get l k ≡ Some g.own) (same-elements g.elements (h 0 ordered).elements lists) own.1;
+            there = subst (λ l. slice_get l k ≡ Some g.own) (same-elements g.elements one.elements lists)
+                (subst (λ n. slice_get g.elements n ≡ Some g.own) number own.2);
             prints = g.prints;
           };
     }
@@ -463,12 +460,12 @@ comma-between (d ∷ done) (suc k) bytes e = refl
 -- where an element is
 pub expanded-inside : {detail : Detail} (pattern : Pattern) (before w one : Direct) (ts : List Term) (argument : Arguments) (number : ℕ) (place : Argument)
     → IsPackOf detail before.text.list.items argument ts
-    → AreExpanded detail pattern before w ts number → place ≡ place_of argument number → place.from ≤ place.to → place.is_pack ≡ true → Writes w one (comma_text number)
+    → AreExpanded detail pattern before w ts number → place ≡ place_of argument (argument.before + number) → place.from ≤ place.to → place.is_pack ≡ true → Writes w one (comma_text number)
     → place.to ≤ length one.text.list.items
 expanded-inside pattern before w one ts argument number place p f is known is_pack writes =
-    let q = place_of argument number in
+    let q = place_of argument (argument.before + number) in
     let h = p.among number (subst IsKnown is known) (ap (λ (k : Argument). k.is_pack) (sym is) ∙ is_pack) in
-    let inside = (piece-found before.text.list.items h.placed.front h.bytes h.placed.back q.from q.to h.placed.written h.placed.from_is h.placed.to_is).1 in
+    let inside = (piece-found before.text.list.items h.bytes q.from q.to h.placed).1 in
     omega (
       arith,
       ap (λ (k : Argument). k.to) is,
@@ -482,7 +479,7 @@ expanded-inside pattern before w one ts argument number place p f is known is_pa
 -- what the pattern makes of one more is written
 pub expanded-more : {detail : Detail} (pattern : Pattern) (before w one two new : Direct) (ts : List Term) (argument : Arguments) (number : ℕ) (place : Argument) (marks : List ℕ)
     → IsPackOf detail before.text.list.items argument ts → AreExpanded detail pattern before w ts number → number < argument.elements
-    → place ≡ place_of argument number → place.from ≤ place.to → place.is_pack ≡ true → Writes w one (comma_text number)
+    → place ≡ place_of argument (argument.before + number) → place.from ≤ place.to → place.is_pack ≡ true → Writes w one (comma_text number)
     → Writes one two (take (place.to - place.from) (drop place.from one.text.list.items)) → IsMarkedBy pattern place.is_reference marks → Writes two new marks
     → AreExpanded detail pattern before new ts (number + 1)
 expanded-more {detail} pattern before w one two new ts argument number place marks p f below is known is_pack comma piece marks_are mark = elim f.count [
@@ -491,7 +488,7 @@ expanded-more {detail} pattern before w one two new ts argument number place mar
 ]
   where
     q : Argument
-    q = place_of argument number
+    q = place_of argument (argument.before + number)
 
     h : IsAmong detail before.text.list.items q number ts
     h = p.among number (subst IsKnown is known) (ap (λ (k : Argument). k.is_pack) (sym is) ∙ is_pack)
@@ -502,8 +499,7 @@ expanded-more {detail} pattern before w one two new ts argument number place mar
         let one_is : one.text.list.items ≡ before.text.list.items ++ (f.bytes ++ comma_text number) =
         comma.text ∙ ap (λ l. l ++ comma_text number) f.writes.text ∙ append_assoc before.text.list.items f.bytes (comma_text number) in
         let placed = placed-stays before.text.list.items (f.bytes ++ comma_text number) q h.bytes h.placed in
-        let found = piece-found (before.text.list.items ++ (f.bytes ++ comma_text number)) placed.front h.bytes placed.back q.from q.to placed.written
-        placed.from_is placed.to_is in
+        let found = piece-found (before.text.list.items ++ (f.bytes ++ comma_text number)) h.bytes q.from q.to placed in
         let own : take (place.to - place.from) (drop place.from one.text.list.items) ≡ h.bytes =
         ap (λ (k : Argument). take (k.to - k.from) (drop k.from one.text.list.items)) is ∙ ap (λ l. take (q.to - q.from) (drop q.from l)) one_is ∙ found.2 in
         let more = h.bytes ++ marks in
@@ -570,68 +566,53 @@ trees-hidden s names text ks around pattern k size st known = go pattern known
 
 -- it is read
 pub expansion-read : (s : Symbol) (pattern : Pattern) (old moved last new : Direct) (mark : Mark) (start : ℕ) (argument : Arguments) (a : AwaitsNextParameter s old mark start argument)
-    → argument.first.is_pack ≡ true → (ordered : argument.first.from ≤ argument.first.to) → argument.elements ≤ 4 → StandsAt s.bytes old.at (expansion_letters pattern 0)
+    → (ordered : IsKnown (place_of argument argument.before)) → (place_of argument argument.before).is_pack ≡ true → argument.elements ≤ 4
+    → argument.before ≤ 3 → StandsAt s.bytes old.at (expansion_letters pattern argument.before)
     → moved.text ≡ old.text → moved.candidates ≡ old.candidates → moved.waiting ≡ old.waiting → moved.has_scope ≡ old.has_scope
-    → moved.at ≡ old.at + length (expansion_letters pattern 0)
-    → AreExpanded (detail_of s) pattern moved last (a.is_function.names 0 ordered).elements 4
+    → moved.at ≡ old.at + length (expansion_letters pattern argument.before)
+    → AreExpanded (detail_of s) pattern moved last (a.is_function.names argument.before ordered).elements 4
     → new.text ≡ last.text → new.candidates.list.items ≡ last.candidates.list.items ++ replicate (2 + length (pattern_letters pattern)) hidden
     → new.waiting ≡ last.waiting → new.has_scope ≡ last.has_scope → new.at ≡ last.at
     → IsParameterEnded s new mark start argument
-unfolding count element
-expansion-read s pattern old moved last new mark start argument a pack_ ordered few stands same_text same_candidates same_waiting same_scope moved_at fw text candidates waiting scope_ at =
+expansion-read s pattern old moved last new mark start argument a ordered pack_ few below stands same_text same_candidates same_waiting same_scope moved_at fw text candidates waiting scope_ at =
     let f = a.is_function in
-    let n = f.names 0 ordered in
+    let k = argument.before in
+    let n = f.names k ordered in
     let ts = n.elements in
-    let first = n.alone pack_ in
+    let first = n.packed pack_ in
     let front = a.front ++ codes "(" in
     let bytes = fw.bytes in
-    let t = expansion (made_by pattern (parameter 0)) in
+    let t = expansion (made_by pattern (parameter k)) in
     let around = a.goes.around in
-    let scope = subst (λ k. IsScope 0 k a.goes.around) pack_ (a.goes.scoped.1 0 ordered) in
-    let packed = list (pack (list_of scope.elements)) nil in
-    let there : IsPackThere around 0 scope.elements =
-    record { all = packed; scope_is = scope.scope_is ∙ ap (λ l. Some l) (scope.alone refl); below = omega arith; pack_is = refl } in
+    let scope = subst (λ j. IsScope k k j a.goes.around) pack_ (a.goes.scoped.1 k ordered) in
+    let packed = scope.packed refl in
+    let there : IsPackThere around k scope.elements = record { all = scope.all; scope_is = scope.scope_is; below = packed.1; pack_is = packed.0 } in
     let size = count (list_of scope.elements) in
-    let later = with_expansion pattern 0 size around a.state in
-    let end = old.at + length (expansion_letters pattern 0) in
+    let later = with_expansion pattern k size around a.state in
+    let end = old.at + length (expansion_letters pattern argument.before) in
     let item = element-awaits s Kind.Items a.goes.inner a.goes.around old.at a.state tt a.goes.awaits in
-    let comes = expansion-comes s pattern a.goes.around item.inner 0 old.at a.state scope.elements (omega arith) there item.awaits stands in
+    let comes = expansion-comes s pattern a.goes.around item.inner k old.at a.state scope.elements below there item.awaits stands in
     let goes = parameter-goes_on s argument (λ x there then_. EncodedBehind s a.lead x there) a.make a.ts old.at a.state a.goes t end later
     (item.onward t end later comes) in
-    let rest = all-expanded pattern moved last ts 4 (omega (arith, few, first.2)) fw in
+    let rest = all-expanded pattern moved last ts 4 (omega (arith, few, first.3)) fw in
     let done : fw.done ≡ ts = sym (append-nil fw.done) ∙ ap (λ l. fw.done ++ l) (sym rest) ∙ sym fw.all in
     let prints : PrintAllBy (PrintsMade (detail_of s) pattern) ts bytes = subst (λ l. PrintAllBy (PrintsMade (detail_of s) pattern) l bytes) done fw.prints in
-    let own_pack : element n.all 0 ≡ pack (list_of ts) = ap (λ l. element l 0) first.0 in
+    let starts : slice_get ts 0 ≡ Some n.own = subst (λ j. slice_get ts j ≡ Some n.own) (omega arith) first.2 in
     let grown : new.text.list.items ≡ old.text.list.items ++ bytes =
     ap (λ v. v.list.items) text ∙ fw.writes.text ∙ ap (λ v. v.list.items ++ bytes) same_text in
-    let keeps : Keeps s a.scope last a.state.candidates =
-    keeps-written s moved last bytes a.state.candidates fw.writes (keeps-same s old moved a.state.candidates same_text same_candidates same_scope a.keeps) in
+    let kept = kept-written s moved last bytes fw.writes (kept-same s old moved same_text same_candidates same_scope a.kept) in
     let known : AreCandidates s a.scope.names last.text.list.items (last.candidates.list.items ++ replicate (2 + length (pattern_letters pattern)) hidden) later.candidates =
-    trees-hidden s a.scope.names last.text.list.items last.candidates.list.items around pattern 0 size a.state keeps.candidates in
+    trees-hidden s a.scope.names last.text.list.items last.candidates.list.items around pattern k size a.state kept.keeps.candidates in
     record {
-      state = later;
-      scope = a.scope;
-      keeps = keeps-as s last new later.candidates (ap (λ v. v.list.items) text) candidates scope_ known keeps.named keeps.own keeps.unknown;
+      kept = kept-as s last new later kept text candidates scope_ known;
       rest = a.rest;
       open_is = ap (λ v. reverse v.list.items) (waiting ∙ fw.writes.waiting ∙ same_waiting) ∙ a.open_is;
-      make = a.make;
       ts = a.ts ++ t ∷ [];
       some = some-elements a.ts t;
-      front = a.front;
-      lead = a.lead;
-      name = a.name;
       texts = in_front_of_next a.ts a.texts ++ bytes;
-      is_function = record {
-        own = f.own;
-        makes = f.makes;
-        prints = f.prints;
-        elements = next-prints-in (types_of f.own) 6 a.ts a.texts t bytes f.elements
-            (expansion-element f.own n.all 0 ts pattern bytes (some-there ts n.own first.1) n.all_are own_pack prints);
-        names = subst (λ l. HasArguments (detail_of s) l argument f.own) (sym grown) (arguments-stay old.text.list.items bytes argument f.own f.names);
-        given = f.given;
-        named = f.named;
-      };
-      fronts = a.fronts;
+      has = parameters-as s old.text.list.items new.text.list.items bytes mark start argument a.has grown
+          (next-prints-in (types_of f.own) 6 a.ts a.texts t bytes f.elements
+          (expansion-element f.own n.all k ts pattern bytes (some-there ts n.own starts) n.all_are first.0 prints));
       written = grown ∙ ap (λ l. l ++ bytes) a.written ∙ append_assoc front (in_front_of_next a.ts a.texts) bytes;
-      goes = subst (λ k. ParametersGoOn s argument a.lead a.make (a.ts ++ t ∷ []) k later) (sym (at ∙ fw.writes.at ∙ moved_at)) goes;
+      goes = subst (λ j. ParametersGoOn s argument a.lead a.make (a.ts ++ t ∷ []) j later) (sym (at ∙ fw.writes.at ∙ moved_at)) goes;
     }

@@ -10,18 +10,18 @@ use Rattle.cpp_grammar.specs.Parts.{is_plain_integer}
 use Rattle.cpp_grammar.specs.Term.{Term, builtin, boolean, integer, Signed}
 use Rattle.cpp_grammar.specs.Texts.{look_up, builtin_texts, literal_endings}
 use Rattle.cpp_grammar.specs.Grammar.{among}
-use Rattle.cpp_grammar.specs.Values.{normal, signed_digits, is_zero, State}
+use Rattle.cpp_grammar.specs.Values.{normal, signed_digits, is_zero}
 use Rattle.cpp_direct.specs.declared.direct.Direct.{Direct}
 use Rattle.cpp_direct.specs.Holes.{StandsAt, ListGoesOn}
 use Rattle.cpp_direct.specs.HolesOfLists.{IsDigitsAt, minus_sign, IsOffsetAt}
 use Rattle.cpp_direct.specs.ItemBytes.{is_integer_letter}
 use Rattle.cpp_direct.specs.Prints.{Prints, sign_text, EndsAsInteger, IsElement, PrintAllAs}
-use Rattle.cpp_direct.specs.WriterInvariant.{below, scoped_in, may_name, Closes, GoesOn, IsWriting, Stands, element_kind, extra_of, led_by, in_front_of_next, IsScoped, IsListing, Keeps, Scope}
+use Rattle.cpp_direct.specs.WriterInvariant.{below, scoped_in, may_name, Closes, GoesOn, IsWriting, element_kind, extra_of, led_by, in_front_of_next, IsListing, Kept}
 use Rattle.cpp_direct.specs.MidStep.{AwaitsNextArgument, IsLiteralRead, truth_text, number_text, integer_text, AwaitsNumber, AwaitsNamedType}
 use Rattle.cpp_direct.specs.Written.{Reads, Writes}
 use Rattle.cpp_direct.proofs.Ending.{ends-so}
 use Rattle.cpp_direct.proofs.Scopes.{none-scoped}
-use Rattle.cpp_direct.proofs.Kept.{keeps-grown, keeps-read, reverse-last}
+use Rattle.cpp_direct.proofs.Kept.{kept-grown, kept-read, reverse-last, awaited-in}
 use Rattle.cpp_direct.proofs.Listed.{element-kind, element-goes-on, enumerator-stands, some-elements, listing-stays}
 use Rattle.cpp_direct.proofs.Moves.{stands-join}
 use Rattle.cpp_direct.proofs.MovesOfLists.{bool-element, integer-element, enumerator-opens}
@@ -195,24 +195,22 @@ cast-integer-read s old middle new letter first is cast next begun read =
 -- ## Elements
 
 -- one more was read and written
-pub element-added : (s : Symbol) {scope : Scope} (w : Direct) (st : State) {opened : List Open} {text : List ℕ} (p : IsListing (detail_of s) scope.names opened text)
-    (more : List ℕ) (ts : List Term) (texts : List ℕ) (t : Term) (bytes : List ℕ) → Keeps s scope w st.candidates
-    → PrintAllAs (detail_of s) scope.names (may_name p.listing p.owner) (extra_of p.listing) ts texts → IsElement (detail_of s) (extra_of p.listing) t bytes
+pub element-added : (s : Symbol) (w : Direct) (kept : Kept s w) {opened : List Open} {text : List ℕ} (p : IsListing (detail_of s) kept.scope.names opened text)
+    (more : List ℕ) (ts : List Term) (texts : List ℕ) (t : Term) (bytes : List ℕ)
+    → PrintAllAs (detail_of s) kept.scope.names (may_name p.listing p.owner) (extra_of p.listing) ts texts → IsElement (detail_of s) (extra_of p.listing) t bytes
     → reverse w.waiting.list.items ≡ opened → w.text.list.items ≡ text ++ more
     → text ++ more ≡ led_by (detail_of s) p.listing p.front p.name ++ (in_front_of_next ts texts ++ bytes)
-    → GoesOn s p.listing p.owner (below s scope p.rest) p.front p.template (ts ++ t ∷ []) w.at st → IsWriting s w (steps.List false)
-element-added s {scope = scope} w st p more ts texts t bytes keeps elements element open_is is written goes =
+    → GoesOn s p.listing p.owner (below s kept.scope p.rest) p.front p.template (ts ++ t ∷ []) w.at kept.state → IsWriting s w (steps.List false)
+element-added s w kept p more ts texts t bytes elements element open_is is written goes =
     let extra = extra_of p.listing in
     let noted = may_name p.listing p.owner in
     record {
-      state = st;
-      scope = scope;
-      keeps = keeps;
+      kept = kept;
       is_before = (
         listing-stays (reverse w.waiting.list.items) more w.text.list.items p open_is is,
         ts ++ t ∷ [],
         in_front_of_next ts texts ++ bytes,
-        next-prints-as (detail_of s) scope.names noted extra ts texts t bytes elements (element-as (detail_of s) scope.names noted extra t bytes element),
+        next-prints-as (detail_of s) kept.scope.names noted extra ts texts t bytes elements (element-as (detail_of s) kept.scope.names noted extra t bytes element),
         is ∙ written,
         λ first. absurd (false≢true first),
         λ further. some-elements ts t,
@@ -224,7 +222,7 @@ element-added s {scope = scope} w st p more ts texts t bytes keeps elements elem
 pub literal-added : (s : Symbol) (old new : Direct) → AwaitsNextArgument s old → IsLiteralRead s old new → IsWriting s new (steps.List false)
 literal-added s old new a l =
     let p = a.place in
-    element-added s new a.state p l.bytes a.ts a.texts l.own l.bytes (keeps-read s old new l.bytes a.state.candidates l.reads a.keeps) a.elements
+    element-added s new (kept-read s old new l.bytes l.reads a.kept) p l.bytes a.ts a.texts l.own l.bytes a.elements
     (type-element (extra_of p.listing) l.own l.bytes false l.prints) (ap (λ v. reverse v.list.items) l.reads.waiting) l.reads.text
     (ap (λ t. t ++ l.bytes) a.written ∙ append_assoc (led_by (detail_of s) p.listing p.front p.name) (in_front_of_next a.ts a.texts) l.bytes)
     (element-goes-on s (element_kind p.listing) (scoped_in p.owner (below s a.scope p.rest))
@@ -316,28 +314,20 @@ enumerator-expected s old begun pushed new a stands next nothing writes text can
     let waiting : new.waiting.list.items ≡ old.waiting.list.items ++ opens.Enumerator ∷ [] =
     waits ∙ ap (λ v. v.list.items ++ opens.Enumerator ∷ []) (writes.waiting ∙ nothing.waiting) in
     record {
-      state = a.state;
-      scope = a.scope;
-      keeps = keeps-grown s old new (codes "(") a.state.candidates written (candidates ∙ writes.candidates ∙ nothing.candidates)
-          (scope_same ∙ writes.scope ∙ nothing.scope) a.keeps;
-      kind = Kind.LiteralType;
-      is_named = tt;
-      around = a.goes.0;
-      outside = a.goes.2;
-      os = e.inner;
-      begins = subst (λ k. TreeOpens s Kind.LiteralType e.inner a.goes.0 k a.state) (sym (at ∙ writes.at ∙ next)) e.opens;
-      stands = subst (λ ws. Stands s a.scope ws e.inner new.text.list.items)
-          (sym (ap reverse waiting ∙ reverse-last old.waiting.list.items opens.Enumerator))
+      kept = kept-grown s old new (codes "(") written (candidates ∙ writes.candidates ∙ nothing.candidates)
+          (scope_same ∙ writes.scope ∙ nothing.scope) a.kept;
+      awaited = awaited-in s a.scope new new a.goes.0 e.inner refl (ap reverse waiting ∙ reverse-last old.waiting.list.items opens.Enumerator) a.goes.2
           (enumerator-stands s a.scope (reverse old.waiting.list.items) new.text.list.items e.inner
           (listing-stays (reverse old.waiting.list.items) (codes "(") new.text.list.items p refl written)
           a.ts a.texts a.elements (written ∙ ap (λ l. l ++ codes "(") a.written)
           (λ t here now comes negative digits end minus digits_there ended.
           element-goes-on s (element_kind p.listing) (scoped_in p.owner (below s a.scope p.rest))
           (λ l now then. Closes s p.listing p.owner (below s a.scope p.rest) p.front p.template l now then) a.ts (integer t (signed_digits negative digits)) old.at (end + 1) a.state now a.goes
-          (e.onward t here now comes negative digits end minus digits_there ended)));
-      scoped = subst (λ ws. IsScoped a.scope a.goes.0 ws)
-          (sym (ap reverse waiting ∙ reverse-last old.waiting.list.items opens.Enumerator))
+          (e.onward t here now comes negative digits end minus digits_there ended)))
           (none-scoped a.scope a.goes.0 (opens.Enumerator ∷ reverse old.waiting.list.items) refl);
+      kind = Kind.LiteralType;
+      is_named = tt;
+      begins = subst (λ k. TreeOpens s Kind.LiteralType e.inner a.goes.0 k a.state) (sym (at ∙ writes.at ∙ next)) e.opens;
     }
 
 -- A text ends in no type whose integers are without it.
@@ -387,9 +377,9 @@ enumerator-read s old begun pushed middle new a other text candidates scope_same
     let filled : ds ≢ [] = λ none. absurd (omega (arith, read.3.is_number.digits.1, ap length read.3.own, ap (λ (l : List ℕ). length l) none)) in
     let prints = enumerator-prints a.type a.bytes a.is_reference a.prints (not-integer a.type a.bytes a.is_reference a.prints
     (no-integer-type old.text.list.items (front ++ before) a.bytes a.written other)) n (normal-filled ds filled) (normal-unmarked ds (number-unmarked s.bytes _ ds _ read.3)) in
-    element-added s new a.state p more a.ts a.texts t own
-    (keeps-grown s old new more a.state.candidates wrote (ended.2.candidates ∙ read.4.candidates ∙ writes.candidates ∙ candidates)
-    (ended.2.scope ∙ read.4.scope ∙ writes.scope ∙ scope_same) a.keeps) a.elements (type-element (extra_of p.listing) t own false prints)
+    element-added s new
+    (kept-grown s old new more wrote (ended.2.candidates ∙ read.4.candidates ∙ writes.candidates ∙ candidates)
+    (ended.2.scope ∙ read.4.scope ∙ writes.scope ∙ scope_same) a.kept) p more a.ts a.texts t own a.elements (type-element (extra_of p.listing) t own false prints)
     (ap (λ v. reverse v.list.items) (ended.2.waiting ∙ read.4.waiting ∙ writes.waiting) ∙ waits) wrote
     (ap (λ l. l ++ more) a.written ∙ rejoined front before a.bytes (sign_text n) n.digits)
     (subst (λ k. GoesOn s p.listing p.owner (below s a.scope p.rest) p.front p.template (a.ts ++ t ∷ []) k a.state) (sym ended.1)

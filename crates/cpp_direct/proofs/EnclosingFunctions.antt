@@ -30,13 +30,13 @@ use Rattle.cpp_direct.specs.HolesOfLocals.{Discriminator, IsDiscriminatorAt, IsL
 use Rattle.cpp_direct.specs.Bytes.{short_numbers}
 use Rattle.cpp_direct.specs.Marks.{IsMarkPlace, has_const, called_on, mark_text}
 use Rattle.cpp_direct.specs.Prints.{Prints, PrintsName, PrintsPiece, Shows, Encloses, list_of}
-use Rattle.cpp_direct.specs.WriterInvariant.{AreCandidates, AreNamed, Below, IsEnclosing, IsNesting, IsOwn, IsWriting, ItemsGoOn, Keeps, LambdaWithin, Scope, Serves, Stands, TypeWithin, below, in_front_of_next, no_scope, nowhere, qualifiers}
+use Rattle.cpp_direct.specs.WriterInvariant.{AreCandidates, AreNamed, Below, IsNesting, IsOwn, IsWriting, ItemsGoOn, Keeps, LambdaWithin, Scope, Serves, Stands, TypeWithin, below, in_front_of_next, no_scope, nowhere, qualifiers, Kept, HasEnclosing}
 use Rattle.cpp_direct.specs.MidStep.{AwaitsNamedType, AwaitsNest, IsElementRead}
 use Rattle.cpp_direct.specs.MidStepOfLocals.{AwaitsEnclosingParameters, AwaitsTypeName, IsEnclosingNamed, IsEnclosingParameterRead, IsEnclosingRead, IsLambdaParameterRead}
 use Rattle.cpp_direct.specs.Written.{AreKeptTo, Writes, Reads, added}
 use Rattle.cpp_direct.proofs.Ending.{behind-two, behind-three, behind-five, next-written, parameter-goes_on, plain-text, qualifiers-text, void-read}
 use Rattle.cpp_direct.proofs.NamePlaces.{reads-of, reads-then}
-use Rattle.cpp_direct.proofs.Kept.{candidates-kept, keeps-grown, keeps-read, keeps-same, keeps-written, none-named, reverse-last, type-comes, value-added}
+use Rattle.cpp_direct.proofs.Kept.{candidates-kept, kept-grown, kept-read, kept-same, kept-written, none-named, reverse-last, type-comes, value-added}
 use Rattle.cpp_direct.proofs.Listed.{some-elements}
 use Rattle.cpp_direct.proofs.Moves.{expects-empty, stands-join}
 use Rattle.cpp_direct.proofs.MovesOfEncodings.{encoding-opens, name-nested, name-source}
@@ -48,7 +48,7 @@ use Rattle.cpp_direct.proofs.PrintedParts.{has-none, has-parameters}
 use Rattle.cpp_direct.proofs.PrintedLocals.{function-encloses, name-encloses, object-enclosing, returned-enclosing, lambda-prints, lambda-list-prints, local-prints}
 use Rattle.cpp_direct.proofs.PrintedNames.{as-name, source-prints}
 use Rattle.cpp_direct.proofs.PrintedSymbols.{encoding-plain, function-shows, encoding-returned, object-encoded, parameters-kept, void-shows, made-void, made-with}
-use Rattle.cpp_direct.proofs.Scopes.{member-named, none-scoped, plain-named}
+use Rattle.cpp_direct.proofs.Scopes.{none-scoped, has-member, has-plain}
 use Rattle.cpp_direct.specs.WrittenParts.{IsUnmarked}
 use Rattle.cpp_direct.proofs.Unmarked.{name-unmarked, is-no-mark, more-unmarked}
 use Rattle.cpp_direct.proofs.TypesRead.{builtin-listed, no-builtin}
@@ -105,9 +105,7 @@ nest-marked s old n mark a letter stands at_is =
     let e = name-opens s old a letter in
     let nest = name-nested s e.inner (in_name (old.at + 1)) (has_const mark) (called_on mark) (old.at + 1) a.state e.awaits stands in
     record {
-      state = a.state;
-      scope = a.scope;
-      keeps = keeps-same s old (record old { at = n }) a.state.candidates refl refl refl a.keeps;
+      kept = kept-same s old (record old { at = n }) refl refl refl a.kept;
       around = in_name (old.at + 1);
       outside = refl;
       outer = nest.inner;
@@ -139,18 +137,11 @@ source-within s old start new name from a letter same_text same_candidates same_
     let named_ = name-source s e.inner here (old.at + 1) name new.at a.state e.awaits refl (subst (λ k. IsNameAt s.bytes k name new.at) at_is is) in
     let front = old.text.list.items in
     record {
-      state = a.state;
-      scope = a.scope;
-      keeps = keeps-read s start new (source_text name) a.state.candidates reads
-          (keeps-same s old start a.state.candidates same_text same_candidates same_scope a.keeps);
-      own = own;
-      v = tree own false;
-      named_so = plain-named own;
-      front = front;
-      name = source_text name;
-      written = reads.text ∙ ap (λ v. v.list.items ++ source_text name) same_text;
-      from_is = from_is ∙ ap (λ v. length v.list.items) same_text;
-      prints = as-name own (source_text name) false (source-prints false name filled (name-unmarked s.bytes start.at name new.at is));
+      kept = kept-read s start new (source_text name) reads
+          (kept-same s old start same_text same_candidates same_scope a.kept);
+      has = has-plain s new.text.list.items from own front (source_text name) (reads.text ∙ ap (λ v. v.list.items ++ source_text name) same_text)
+          (from_is ∙ ap (λ v. length v.list.items) same_text)
+          (as-name own (source_text name) false (source-prints false name filled (name-unmarked s.bytes start.at name new.at is)));
       returns = refl;
       goes = subst (λ v. ItemsGoOn s nowhere (TypeWithin s (below s a.scope (reverse v.list.items)) front) (λ l. encoding_of (tree own false) l) [] new.at a.state)
           (sym (reads.waiting ∙ same_waiting))
@@ -159,25 +150,17 @@ source-within s old start new name from a letter same_text same_candidates same_
     }
 
 -- a nested one is read
-pub name-within : (s : Symbol) {scope : Scope} (old : Direct) (st : State) (t : Term) (mark : Mark) (is_instance : Bool)
-    → Keeps s scope old st.candidates → IsNesting s scope Kind.NestTail old t st → has_return_type t ≡ is_instance → StandsAt s.bytes old.at (69 ∷ [])
+pub name-within : (s : Symbol) (old : Direct) (kept : Kept s old) (t : Term) (mark : Mark) (is_instance : Bool)
+    → IsNesting s kept.scope Kind.NestTail old t kept.state → has_return_type t ≡ is_instance → StandsAt s.bytes old.at (69 ∷ [])
     → old.nest.purpose ≡ purposes.Enclosing mark → IsEnclosingNamed s (record old { at = old.at + 1 }) mark is_instance old.nest.from
-name-within s {scope = scope} old st t mark is_instance keeps n returns here is_name =
-    let serves = subst (λ p. Serves s p (below s scope (reverse old.waiting.list.items)) n.outer n.front) is_name n.serves in
+name-within s old kept t mark is_instance n returns here is_name =
+    let serves = subst (λ p. Serves s p (below s kept.scope (reverse old.waiting.list.items)) n.outer n.front) is_name n.serves in
     record {
-      state = st;
-      scope = scope;
-      keeps = keeps-same s old (record old { at = old.at + 1 }) st.candidates refl refl refl keeps;
-      own = t;
-      v = named t (qualifiers (has_const mark)) (called_on mark);
-      named_so = member-named t mark;
-      front = n.front;
-      name = n.bytes;
-      written = n.written;
-      from_is = n.is_nest.from_is;
-      prints = as-name t n.bytes false (closed-prints scope.names (n.is_nest.closed (subst IsOwn (sym is_name) tt)) n.is_nest.prints);
+      kept = kept-same s old (record old { at = old.at + 1 }) refl refl refl kept;
+      has = has-member s old.text.list.items mark old.nest.from t n.front n.bytes n.written n.is_nest.from_is
+          (as-name t n.bytes false (closed-prints kept.scope.names (n.is_nest.closed (subst IsOwn (sym is_name) tt)) n.is_nest.prints));
       returns = returns;
-      goes = serves t old.nest.is_listed (old.at + 1) st (nest-comes s old st t n here);
+      goes = serves t old.nest.is_listed (old.at + 1) kept.state (nest-comes s old kept.state t n here);
     }
 
 -- ## Parameters
@@ -185,21 +168,19 @@ name-within s {scope = scope} old st t mark is_instance keeps n returns here is_
 -- a function without a return type awaits its parameters
 pub plain-awaits : (s : Symbol) (w : Direct) (mark : Mark) (from : ℕ) → IsEnclosingNamed s w mark false from → AwaitsEnclosingParameters s w mark from
 plain-awaits s w mark from p = record {
-  state = p.state;
-  scope = p.scope;
-  keeps = p.keeps;
-  make = λ l. encoding_of p.v l;
-  front = p.front;
-  name = p.name;
-  is_enclosing = record {
+  kept = p.kept;
+  has = record {
+    front = p.lead;
+    from_is = p.from_is;
+    name = p.name;
     own = p.own;
     returned = absent;
+    make = λ l. encoding_of p.v l;
     makes = encoding-plain p.v mark p.own p.named_so p.returns;
     prints = p.prints;
     elements = none-print-in (detail_of s) (types_of p.own) 6;
   };
   written = p.written;
-  from_is = p.from_is;
   goes = p.goes;
 }
 
@@ -210,56 +191,48 @@ pub returned-awaits : (s : Symbol) (w : Direct) (n : ℕ) (mark : Mark) (from le
 returned-awaits s w n mark from letter p has stands at_is =
     let r = builtin (letter ∷ []) in
     let make : Term → Term = λ l. encoding_of p.v l in
-    let becomes : Term → ℕ → State → Type 0 = TypeWithin s (below s p.scope (reverse w.waiting.list.items)) p.front in
+    let becomes : Term → ℕ → State → Type 0 = TypeWithin s (below s p.scope (reverse w.waiting.list.items)) p.lead in
     let listed = builtin-listed letter has in
     let element = element-awaits s Kind.Items p.goes.inner p.goes.around w.at p.state tt p.goes.awaits in
     let goes = parameter-goes_on s nowhere becomes make [] w.at p.state p.goes r (w.at + 1) p.state
     (element.onward r (w.at + 1) p.state
     (builtin-comes s Kind.Item p.goes.around element.inner w.at p.state letter tt listed element.awaits (stands (no-builtin letter listed)))) in
     record {
-      state = p.state;
-      scope = p.scope;
-      keeps = keeps-same s w (record w { at = n }) p.state.candidates refl refl refl p.keeps;
-      make = λ l. make (list r l);
-      front = p.front;
-      name = p.name;
-      is_enclosing = record {
+      kept = kept-same s w (record w { at = n }) refl refl refl p.kept;
+      has = record {
+        front = p.lead;
+        from_is = p.from_is;
+        name = p.name;
         own = p.own;
         returned = r;
+        make = λ l. make (list r l);
         makes = λ t rest. encoding-returned p.v mark p.own p.named_so p.returns r (list t rest);
         prints = p.prints;
         elements = none-print-in (detail_of s) (types_of p.own) 6;
       };
       written = p.written;
-      from_is = p.from_is;
       goes = subst (λ k. ItemsGoOn s nowhere becomes (λ l. make (list r l)) [] k p.state) (sym at_is)
           (record { around = goes.around; inner = goes.inner; outside = goes.outside; scoped = goes.scoped; awaits = goes.awaits; onward = goes.onward });
     }
 
 -- a parameter comes next
-parameter-expected : (s : Symbol) (scope : Scope) (w : Direct) (st : State) (mark : Mark) (from to : ℕ) (rest : List Open) (front : List ℕ)
-    (make : Term → Term) (ts : List Term) (name texts : List ℕ)
-    → Keeps s scope w st.candidates → reverse w.waiting.list.items ≡ opens.Enclosing mark from to ∷ rest
-    → IsEnclosing (detail_of s) mark make ts name texts → from ≡ length front
-    → w.text.list.items ≡ front ++ name ++ codes "(" ++ in_front_of_next ts texts
-    → ItemsGoOn s nowhere (TypeWithin s (below s scope rest) front) make ts w.at st → to ≡ length (front ++ name) → IsWriting s w steps.Type
-parameter-expected s scope w st mark from to rest front make ts name texts keeps open_is is_enclosing from_is written p to_is =
-    let element = element-awaits s Kind.Items p.inner p.around w.at st tt p.awaits in
-    let stands : Stands s scope (opens.Enclosing mark from to ∷ rest) element.inner w.text.list.items = (
-      front,
-      make,
+parameter-expected : (s : Symbol) (w : Direct) (kept : Kept s w) (mark : Mark) (from to : ℕ) (rest : List Open) (ts : List Term) (texts : List ℕ)
+    (h : HasEnclosing (detail_of s) mark from ts texts) → reverse w.waiting.list.items ≡ opens.Enclosing mark from to ∷ rest
+    → w.text.list.items ≡ h.front ++ h.name ++ codes "(" ++ in_front_of_next ts texts
+    → ItemsGoOn s nowhere (TypeWithin s (below s kept.scope rest) h.front) h.make ts w.at kept.state → to ≡ length (h.front ++ h.name) → IsWriting s w steps.Type
+parameter-expected s w kept mark from to rest ts texts h open_is written p to_is =
+    let element = element-awaits s Kind.Items p.inner p.around w.at kept.state tt p.awaits in
+    let stands : Stands s kept.scope (opens.Enclosing mark from to ∷ rest) element.inner w.text.list.items = (
       ts,
-      name,
       texts,
-      is_enclosing,
-      from_is,
+      h,
       written,
       λ t here now comes.
-          parameter-goes_on s nowhere (TypeWithin s (below s scope rest) front) make ts w.at st p t here now (element.onward t here now comes),
+          parameter-goes_on s nowhere (TypeWithin s (below s kept.scope rest) h.front) h.make ts w.at kept.state p t here now (element.onward t here now comes),
       to_is,
     ) in
-    type-comes s w w st p.around element.inner keeps refl refl refl open_is p.outside (inr (inl element.awaits)) stands
-    (none-scoped scope p.around (opens.Enclosing mark from to ∷ rest) refl)
+    type-comes s w w kept p.around element.inner refl refl refl open_is p.outside (inr (inl element.awaits)) stands
+    (none-scoped kept.scope p.around (opens.Enclosing mark from to ∷ rest) refl)
 
 -- the first one comes next
 pub first-within : (s : Symbol) (w first last : Direct) (mark : Mark) (from to : ℕ) → AwaitsEnclosingParameters s w mark from
@@ -267,10 +240,10 @@ pub first-within : (s : Symbol) (w first last : Direct) (mark : Mark) (from to :
     → last.waiting.list.items ≡ first.waiting.list.items ++ opens.Enclosing mark from to ∷ [] → to ≡ length w.text.list.items
     → IsWriting s last steps.Type
 first-within s w first last mark from to p one text candidates scope at waiting to_is =
-    parameter-expected s p.scope last p.state mark from to (reverse w.waiting.list.items) p.front p.make [] p.name []
-    (keeps-same s first last p.state.candidates text candidates scope (keeps-written s w first (codes "(") p.state.candidates one p.keeps))
+    parameter-expected s last (kept-same s first last text candidates scope (kept-written s w first (codes "(") one p.kept)) mark from to
+    (reverse w.waiting.list.items) [] [] p.has
     (ap reverse waiting ∙ reverse-last first.waiting.list.items (opens.Enclosing mark from to)
-    ∙ ap (λ v. opens.Enclosing mark from to ∷ reverse v.list.items) one.waiting) p.is_enclosing p.from_is
+    ∙ ap (λ v. opens.Enclosing mark from to ∷ reverse v.list.items) one.waiting)
     (ap (λ l. l.list.items) text ∙ one.text ∙ ap (λ l. l ++ codes "(") p.written ∙ sym (append-nil (p.front ++ p.name ++ codes "(")))
     (subst (λ n. ItemsGoOn s nowhere (TypeWithin s (below s p.scope (reverse w.waiting.list.items)) p.front) p.make [] n p.state) (sym (at ∙ one.at)) p.goes)
     (to_is ∙ ap length p.written)
@@ -280,9 +253,8 @@ pub next-within : (s : Symbol) (w last : Direct) (mark : Mark) (from to : ℕ) �
     → Writes w last (codes ", ") → IsWriting s last steps.Type
 next-within s w last mark from to p one =
     let front = p.front ++ p.name ++ codes "(" in
-    parameter-expected s p.scope last p.state mark from to p.rest p.front p.make p.ts p.name p.texts
-    (keeps-written s w last (codes ", ") p.state.candidates one p.keeps)
-    (ap (λ l. reverse l.list.items) one.waiting ∙ p.open_is) p.is_enclosing p.from_is
+    parameter-expected s last (kept-written s w last (codes ", ") one p.kept) mark from to p.rest p.ts p.texts p.has
+    (ap (λ l. reverse l.list.items) one.waiting ∙ p.open_is)
     (one.text ∙ ap (λ l. l ++ codes ", ") p.written ∙ append_assoc front p.texts (codes ", ")
     ∙ ap (λ l. front ++ l) (sym (next-written p.ts p.texts p.some)))
     (subst (λ n. ItemsGoOn s nowhere (TypeWithin s (below s p.scope p.rest) p.front) p.make p.ts n p.state) (sym one.at) p.goes) p.to_is
@@ -292,54 +264,45 @@ pub parameter-read-within : (s : Symbol) (w : Direct) (mark : Mark) (from to : �
     → IsEnclosingParameterRead s w mark from to
 parameter-read-within s w mark from to p =
     let waits = p.read.stands in
-    let front = waits.0 in
-    let ts = waits.2 in
-    let name = waits.3 in
-    let texts = waits.4 in
-    let is_enclosing = waits.5 in
+    let ts = waits.0 in
+    let texts = waits.1 in
+    let h = waits.2 in
     record {
-      state = p.read.state;
-      scope = p.read.scope;
-      keeps = p.read.keeps;
+      kept = p.read.kept;
       rest = p.rest;
       open_is = p.open_is;
-      make = waits.1;
       ts = ts ++ p.read.own ∷ [];
       some = some-elements ts p.read.own;
-      front = front;
-      name = name;
       texts = in_front_of_next ts texts ++ p.read.bytes;
-      is_enclosing = record {
-        own = is_enclosing.own;
-        returned = is_enclosing.returned;
-        makes = is_enclosing.makes;
-        prints = is_enclosing.prints;
-        elements = next-prints-in (types_of is_enclosing.own) 6 ts texts p.read.own p.read.bytes is_enclosing.elements
-            (element-in (types_of is_enclosing.own) 6 p.read.own p.read.bytes (p.read.element 6));
+      has = record {
+        front = h.front;
+        from_is = h.from_is;
+        name = h.name;
+        own = h.own;
+        returned = h.returned;
+        make = h.make;
+        makes = h.makes;
+        prints = h.prints;
+        elements = next-prints-in (types_of h.own) 6 ts texts p.read.own p.read.bytes h.elements
+            (element-in (types_of h.own) 6 p.read.own p.read.bytes (p.read.element 6));
       };
-      from_is = waits.6;
-      written = p.read.written ∙ ap (λ l. l ++ p.read.bytes) waits.7 ∙ append_assoc (front ++ name ++ codes "(") (in_front_of_next ts texts) p.read.bytes;
-      to_is = waits.9;
-      goes = waits.8 p.read.own w.at p.read.state p.read.comes;
+      written = p.read.written ∙ ap (λ l. l ++ p.read.bytes) waits.3 ∙ append_assoc (h.front ++ h.name ++ codes "(") (in_front_of_next ts texts) p.read.bytes;
+      to_is = waits.5;
+      goes = waits.4 p.read.own w.at p.read.state p.read.comes;
     }
 
 -- ## Ends
 
 -- a function in which a type is was read, and the type is within it
-enclosing-read : (s : Symbol) {scope : Scope} (w : Direct) (mark : Mark) (from place : ℕ) (st : State) (e : Term) (front bytes : List ℕ) {rest : List Open}
-    → Keeps s scope w st.candidates → w.text.list.items ++ mark_text mark ≡ front ++ bytes → from ≡ length front → Encloses (detail_of s) e bytes
-    → reverse w.waiting.list.items ≡ rest → w.at ≡ place → TypeWithin s (below s scope rest) front e place st → IsEnclosingRead s w mark from
-enclosing-read s {scope = scope} w mark from place st e front bytes {rest = rest} keeps written from_is encloses waits at within = record {
-  state = st;
-  scope = scope;
-  keeps = keeps;
-  e = e;
-  front = front;
-  bytes = bytes;
+enclosing-read : (s : Symbol) (w : Direct) (mark : Mark) (from place : ℕ) (kept : Kept s w) (e : Term) (front bytes : List ℕ) {rest : List Open}
+    → w.text.list.items ++ mark_text mark ≡ front ++ bytes → from ≡ length front → Encloses (detail_of s) e bytes
+    → reverse w.waiting.list.items ≡ rest → w.at ≡ place → TypeWithin s (below s kept.scope rest) front e place kept.state → IsEnclosingRead s w mark from
+enclosing-read s w mark from place kept e front bytes {rest = rest} written from_is encloses waits at within = record {
+  kept = kept;
+  has = record { e = e; front = front; from_is = from_is; bytes = bytes; encloses = encloses };
   written = written;
-  from_is = from_is;
-  encloses = encloses;
-  within = subst (λ ws. TypeWithin s (below s scope ws) front e w.at st) (sym waits) (subst (λ n. TypeWithin s (below s scope rest) front e n st) (sym at) within);
+  within = subst (λ ws. TypeWithin s (below s kept.scope ws) front e w.at kept.state) (sym waits)
+      (subst (λ n. TypeWithin s (below s kept.scope rest) front e n kept.state) (sym at) within);
 }
 
 -- a name without items is read
@@ -352,15 +315,15 @@ object-within s w mark from p =
     subst (λ l. Shows (detail_of s) (encoding_of p.v nil) (b ++ l)) (qualifiers-text p.v mark p.own p.named_so)
     (object-encoded p.v b (subst (λ t. PrintsName (detail_of s) t b) (sym p.named_so.tree_is) p.prints)) in
     record {
-      state = p.state;
-      scope = p.scope;
-      keeps = p.keeps;
-      e = encoding_of p.v nil;
-      front = p.front;
-      bytes = b ++ q;
-      written = ap (λ l. l ++ q) p.written ∙ behind-two p.front b q;
-      from_is = p.from_is;
-      encloses = object-enclosing (detail_of s) p.v (b ++ q) shows;
+      kept = p.kept;
+      has = record {
+        e = encoding_of p.v nil;
+        front = p.lead;
+        from_is = p.from_is;
+        bytes = b ++ q;
+        encloses = object-enclosing (detail_of s) p.v (b ++ q) shows;
+      };
+      written = ap (λ l. l ++ q) p.written ∙ behind-two p.lead b q;
       within = p.goes.onward nothing_there w.at p.state (expects-empty s Kind.Items p.goes.around p.goes.inner w.at p.state p.goes.awaits refl);
     }
 
@@ -369,15 +332,15 @@ pub void-within : (s : Symbol) (w here new : Direct) (mark : Mark) (from : ℕ) 
     → StandsAt s.bytes w.at (118 ∷ []) → here.text ≡ w.text → here.candidates ≡ w.candidates → here.waiting ≡ w.waiting
     → here.has_scope ≡ w.has_scope → here.at ≡ w.at + 1 → Writes here new (codes "()") → s.is_bare ≡ false → IsEnclosingRead s new mark from
 void-within s w here new mark from p stands text candidates waiting scope at one whole =
-    let f = p.is_enclosing in
+    let f = p.has in
     let b = p.name in
     let q = mark_text mark in
     let e = p.make (list_of (builtin (118 ∷ []) ∷ [])) in
     let shows : Shows (detail_of s) (function f.own (qualifiers (has_const mark)) (called_on mark) absent nil) (b ++ codes "()" ++ q) =
     subst (λ l. Shows (detail_of s) (function f.own (qualifiers (has_const mark)) (called_on mark) absent nil) (b ++ codes "()" ++ l)) (plain-text mark)
     (void-shows (has-parameters s whole) f.own b f.prints (qualifiers (has_const mark)) (called_on mark)) in
-    enclosing-read s new mark from (w.at + 1) p.state e p.front (b ++ codes "()" ++ q)
-    (keeps-written s here new (codes "()") p.state.candidates one (keeps-same s w here p.state.candidates text candidates scope p.keeps))
+    enclosing-read s new mark from (w.at + 1) (kept-written s here new (codes "()") one (kept-same s w here text candidates scope p.kept)) e p.front
+    (b ++ codes "()" ++ q)
     (ap (λ l. l ++ q) (one.text ∙ ap (λ v. v.list.items ++ codes "()") text ∙ ap (λ l. l ++ codes "()") p.written) ∙ behind-three p.front b (codes "()") q) p.from_is
     (subst (λ t. Encloses (detail_of s) t (b ++ codes "()" ++ q)) (sym (made-void f.own f.returned mark p.make f.makes))
     (returned-enclosing (detail_of s) f.own (qualifiers (has_const mark)) (called_on mark) f.returned nil (b ++ codes "()" ++ q)
@@ -390,9 +353,9 @@ pub void-unwritten : (s : Symbol) (w here : Direct) (mark : Mark) (from : ℕ) �
     → StandsAt s.bytes w.at (118 ∷ []) → here.text ≡ w.text → here.candidates ≡ w.candidates → here.waiting ≡ w.waiting
     → here.has_scope ≡ w.has_scope → here.at ≡ w.at + 1 → s.is_bare ≡ true → IsEnclosingRead s here marks.Plain from
 void-unwritten s w here mark from p stands text candidates waiting scope at bare =
-    let f = p.is_enclosing in
-    enclosing-read s here marks.Plain from (w.at + 1) p.state (p.make (list_of (builtin (118 ∷ []) ∷ []))) p.front p.name
-    (keeps-same s w here p.state.candidates text candidates scope p.keeps) (append-nil here.text.list.items ∙ ap (λ v. v.list.items) text ∙ p.written) p.from_is
+    let f = p.has in
+    enclosing-read s here marks.Plain from (w.at + 1) (kept-same s w here text candidates scope p.kept) (p.make (list_of (builtin (118 ∷ []) ∷ []))) p.front p.name
+    (append-nil here.text.list.items ∙ ap (λ v. v.list.items) text ∙ p.written) p.from_is
     (subst (λ t. Encloses (detail_of s) t p.name) (sym (made-void f.own f.returned mark p.make f.makes))
     (name-encloses (has-none s bare) f.own p.name f.prints (qualifiers (has_const mark)) (called_on mark) f.returned nil))
     (ap (λ v. reverse v.list.items) waiting) at
@@ -400,10 +363,10 @@ void-unwritten s w here mark from p stands text candidates waiting scope at bare
 
 -- parameters that aren't a lone void make a function, and the type is within that
 parameters-end : (s : Symbol) (w : Direct) (mark : Mark) (from to : ℕ) (p : IsEnclosingParameterRead s w mark from to) → p.texts ≢ codes "void"
-    → (p.make (list_of p.ts) ≡ function p.is_enclosing.own (qualifiers (has_const mark)) (called_on mark) p.is_enclosing.returned (list_of p.ts))
+    → (p.make (list_of p.ts) ≡ function p.own (qualifiers (has_const mark)) (called_on mark) p.returned (list_of p.ts))
     × TypeWithin s (below s p.scope p.rest) p.front (p.make (list_of p.ts)) w.at p.state
 unfolding no_items may_be_empty
-parameters-end s w mark from to p apart = let f = p.is_enclosing in (
+parameters-end s w mark from to p apart = let f = p.has in (
   made-with f.own f.returned mark p.make f.makes p.ts p.some (parameters-kept (detail_of s) (types_of f.own) 6 p.ts p.texts f.elements apart),
   subst (λ u. TypeWithin s (below s p.scope p.rest) p.front (p.make u) w.at p.state) (list-with-none p.ts)
       (p.goes.onward nothing_there w.at p.state (expects-empty s Kind.Items p.goes.around p.goes.inner w.at p.state p.goes.awaits refl)),
@@ -414,7 +377,7 @@ pub function-within : (s : Symbol) (w last new : Direct) (mark : Mark) (from to 
     → p.texts ≢ codes "void" → Writes w last (codes ")") → new.text ≡ last.text → new.candidates ≡ last.candidates
     → new.has_scope ≡ last.has_scope → new.at ≡ last.at → reverse new.waiting.list.items ≡ p.rest → s.is_bare ≡ false → IsEnclosingRead s new mark from
 function-within s w last new mark from to p apart one text candidates scope at waits whole =
-    let f = p.is_enclosing in
+    let f = p.has in
     let b = p.name in
     let l = p.texts in
     let q = mark_text mark in
@@ -424,8 +387,7 @@ function-within s w last new mark from to p apart one text candidates scope at w
     subst (λ x. Shows (detail_of s) (function f.own (qualifiers (has_const mark)) (called_on mark) absent (list_of p.ts)) (b ++ codes "(" ++ l ++ codes ")" ++ x))
     (plain-text mark)
     (function-shows (has-parameters s whole) f.own b f.prints p.ts l f.elements (qualifiers (has_const mark)) (called_on mark)) in
-    enclosing-read s new mark from w.at p.state (p.make (list_of p.ts)) p.front bytes
-    (keeps-same s last new p.state.candidates text candidates scope (keeps-written s w last (codes ")") p.state.candidates one p.keeps))
+    enclosing-read s new mark from w.at (kept-same s last new text candidates scope (kept-written s w last (codes ")") one p.kept)) (p.make (list_of p.ts)) p.front bytes
     (ap (λ x. x ++ q) (ap (λ v. v.list.items) text ∙ one.text ∙ ap (λ x. x ++ codes ")") p.written) ∙ behind-five p.front b (codes "(") l (codes ")") q) p.from_is
     (subst (λ t. Encloses (detail_of s) t bytes) (sym end.0)
     (returned-enclosing (detail_of s) f.own (qualifiers (has_const mark)) (called_on mark) f.returned (list_of p.ts) bytes
@@ -438,7 +400,7 @@ pub function-unwritten : (s : Symbol) (w shut new : Direct) (mark : Mark) (from 
     → reverse shut.waiting.list.items ≡ p.rest → new.text.list.items ≡ take to shut.text.list.items → AreKeptTo to shut.candidates.list.items new.candidates.list.items
     → new.waiting ≡ shut.waiting → new.at ≡ shut.at → s.is_bare ≡ true → IsEnclosingRead s new marks.Plain from
 function-unwritten s w shut new mark from to p apart unknown same_text same_candidates same_at waits text kept waiting at bare =
-    let f = p.is_enclosing in
+    let f = p.has in
     let end = parameters-end s w mark from to p apart in
     let left = p.front ++ p.name in
     let behind = codes "(" ++ p.texts in
@@ -447,14 +409,16 @@ function-unwritten s w shut new mark from to p apart unknown same_text same_cand
     text ∙ ap (λ n. take n shut.text.list.items) p.to_is ∙ ap (λ l. take (length left) l) (ap (λ v. v.list.items) same_text ∙ whole_)
     ∙ take-append_seam left behind in
     let none : p.scope ≡ no_scope = p.keeps.unknown unknown in
-    enclosing-read s {scope = p.scope} new marks.Plain from w.at p.state (p.make (list_of p.ts)) p.front p.name (record {
+    let keeps : Keeps s p.scope new p.state.candidates = record {
       candidates = subst (λ l. AreCandidates s p.scope.names l new.candidates.list.items p.state.candidates) (sym left_is)
           (candidates-kept s p.scope.names w.text.list.items left behind to w.candidates.list.items new.candidates.list.items p.state.candidates whole_ p.to_is
           (subst (λ v. AreKeptTo to v.list.items new.candidates.list.items) same_candidates kept) p.keeps.candidates);
       own = p.keeps.own;
       named = subst (λ (k : Scope). AreNamed new.text.list.items k) (sym none) (none-named new.text.list.items);
       unknown = λ e. none;
-    }) (append-nil new.text.list.items ∙ left_is) p.from_is
+    } in
+    enclosing-read s new marks.Plain from w.at (record { state = p.state; scope = p.scope; keeps = keeps }) (p.make (list_of p.ts)) p.front p.name
+    (append-nil new.text.list.items ∙ left_is) p.from_is
     (subst (λ t. Encloses (detail_of s) t p.name) (sym end.0)
     (name-encloses (has-none s bare) f.own p.name f.prints (qualifiers (has_const mark)) (called_on mark) f.returned (list_of p.ts)))
     (ap (λ v. reverse v.list.items) waiting ∙ waits) (at ∙ same_at) end.1
@@ -468,7 +432,7 @@ name-inside s w mark from to p =
 pub marks-written-within : (s : Symbol) (old new : Direct) (mark : Mark) (from : ℕ) → IsEnclosingRead s old mark from → Writes old new (mark_text mark)
     → IsEnclosingRead s new marks.Plain from
 marks-written-within s old new mark from p writes =
-    enclosing-read s new marks.Plain from old.at p.state p.e p.front p.bytes (keeps-written s old new (mark_text mark) p.state.candidates writes p.keeps)
+    enclosing-read s new marks.Plain from old.at (kept-written s old new (mark_text mark) writes p.kept) p.e p.front p.bytes
     (append-nil new.text.list.items ∙ writes.text ∙ p.written) p.from_is p.encloses (ap (λ v. reverse v.list.items) writes.waiting) writes.at p.within
 
 -- ## Lambdas
@@ -527,14 +491,10 @@ lambda-begun s old new from a short stands text candidates scope at waiting =
     let written : new.text.list.items ≡ r.front ++ (r.bytes ++ lambda_front) ++ [] =
     text ∙ ap (λ l. l ++ lambda_front) front_written ∙ append_assoc r.front r.bytes lambda_front ∙ sym (append-nil (r.front ++ (r.bytes ++ lambda_front))) in
     let stands_ : Stands s r.scope (opens.Lambda from ∷ rest) first.inner new.text.list.items = (
-      r.front,
-      r.e,
-      r.bytes,
+      r.has,
       [],
       [],
-      r.encloses,
       none-print (detail_of s) 0,
-      r.from_is,
       written,
       λ t here now comes.
           let g = first.onward t here now comes in
@@ -554,8 +514,8 @@ lambda-begun s old new from a short stands text candidates scope at waiting =
             );
           },
     ) in
-    type-comes s new new r.state first.around first.inner (keeps-grown s old new lambda_front r.state.candidates text candidates scope
-    (keeps-same s (record old { at = a.before }) old r.state.candidates refl refl refl r.keeps)) refl refl refl opened_ first.outside
+    type-comes s new new (kept-grown s old new lambda_front text candidates scope
+    (kept-same s (record old { at = a.before }) old refl refl refl r.kept)) first.around first.inner refl refl refl opened_ first.outside
     (inr (inl (subst (λ k. Expects s Kind.Item first.around first.inner k r.state) (omega (arith, at, a.at_is)) first.awaits))) stands_
     (none-scoped r.scope first.around (opens.Lambda from ∷ rest) refl)
 
@@ -563,25 +523,20 @@ lambda-begun s old new from a short stands text candidates scope at waiting =
 pub lambda-parameter-read : (s : Symbol) (w : Direct) (from : ℕ) → IsElementRead s w (opens.Lambda from) → IsLambdaParameterRead s w from
 lambda-parameter-read s w from p =
     let waits = p.read.stands in
-    let ts = waits.3 in
-    let texts = waits.4 in
+    let h = waits.0 in
+    let ts = waits.1 in
+    let texts = waits.2 in
     record {
-      state = p.read.state;
-      scope = p.read.scope;
-      keeps = p.read.keeps;
+      kept = p.read.kept;
       rest = p.rest;
       open_is = p.open_is;
-      front = waits.0;
-      e = waits.1;
-      bytes = waits.2;
-      encloses = waits.5;
+      has = h;
       ts = ts ++ p.read.own ∷ [];
       some = some-elements ts p.read.own;
       texts = in_front_of_next ts texts ++ p.read.bytes;
-      elements = next-prints 0 ts texts p.read.own p.read.bytes waits.6 (p.read.element 0);
-      from_is = waits.7;
-      written = p.read.written ∙ ap (λ l. l ++ p.read.bytes) waits.8 ∙ append_assoc (waits.0 ++ (waits.2 ++ lambda_front)) (in_front_of_next ts texts) p.read.bytes;
-      goes = waits.9 p.read.own w.at p.read.state p.read.comes;
+      elements = next-prints 0 ts texts p.read.own p.read.bytes waits.3 (p.read.element 0);
+      written = p.read.written ∙ ap (λ l. l ++ p.read.bytes) waits.4 ∙ append_assoc (h.front ++ (h.bytes ++ lambda_front)) (in_front_of_next ts texts) p.read.bytes;
+      goes = waits.5 p.read.own w.at p.read.state p.read.comes;
     }
 
 -- another one comes next
@@ -593,18 +548,14 @@ lambda-next s w last from p one =
     let goes = subst (λ n. ItemsGoOn s nowhere (LambdaWithin s below_ p.front p.e) (λ l. l) p.ts n p.state) (sym one.at) p.goes in
     let element = element-awaits s Kind.Items goes.inner goes.around last.at p.state tt goes.awaits in
     let stands_ : Stands s p.scope (opens.Lambda from ∷ p.rest) element.inner last.text.list.items = (
-      p.front,
-      p.e,
-      p.bytes,
+      p.has,
       p.ts,
       p.texts,
-      p.encloses,
       p.elements,
-      p.from_is,
       one.text ∙ ap (λ l. l ++ codes ", ") p.written ∙ append_assoc led p.texts (codes ", ") ∙ ap (λ l. led ++ l) (sym (next-written p.ts p.texts p.some)),
       λ t here now comes. parameter-goes_on s nowhere (LambdaWithin s below_ p.front p.e) (λ l. l) p.ts last.at p.state goes t here now (element.onward t here now comes),
     ) in
-    type-comes s last last p.state goes.around element.inner (keeps-written s w last (codes ", ") p.state.candidates one p.keeps) refl refl refl opened_ goes.outside
+    type-comes s last last (kept-written s w last (codes ", ") one p.kept) goes.around element.inner refl refl refl opened_ goes.outside
     (inr (inl element.awaits)) stands_ (none-scoped p.scope goes.around (opens.Lambda from ∷ p.rest) refl)
 
 whole-text : (f b l n : List ℕ) → ((f ++ (b ++ lambda_front)) ++ l) ++ codes ")#" ++ (n ++ codes "}")
@@ -655,11 +606,11 @@ lambda-done s w begun pushed numbered popped_ last new from p apart ends same_te
     three.text ∙ append-nil popped_.text.list.items ∙ ap (λ v. v.list.items) popped_text ∙ two.text
     ∙ ap (λ l. l ++ (num ++ codes "}")) (one.text ∙ ap (λ v. v.list.items ++ codes ")#") same_text ∙ ap (λ l. l ++ codes ")#") p.written)
     ∙ whole-text p.front p.bytes p.texts num in
-    let begun_ = keeps-same s w begun p.state.candidates same_text same_candidates same_scope p.keeps in
-    let numbered_ = keeps-read s pushed numbered (num ++ codes "}") p.state.candidates two (keeps-written s begun pushed (codes ")#") p.state.candidates one begun_) in
-    let read = keeps-read s popped_ last [] p.state.candidates three
-    (keeps-same s numbered popped_ p.state.candidates popped_text popped_candidates popped_scope numbered_) in
-    value-added s last new p.state ends_with.0 ends_with.1 own p.front bytes from false false read written p.from_is shown (λ e. absurd (false≢true e)) text candidates
+    let begun_ = kept-same s w begun same_text same_candidates same_scope p.kept in
+    let numbered_ = kept-read s pushed numbered (num ++ codes "}") two (kept-written s begun pushed (codes ")#") one begun_) in
+    let read = kept-read s popped_ last [] three
+    (kept-same s numbered popped_ popped_text popped_candidates popped_scope numbered_) in
+    value-added s last new read ends_with.0 ends_with.1 own p.front bytes from false false written p.from_is shown (λ e. absurd (false≢true e)) text candidates
     scope (ap (λ v. reverse v.list.items) (waiting ∙ three.waiting) ∙ waits) (λ e. absurd (false≢true e))
     (subst (λ k. Comes s ends_with.0 (tree own true) k (with_candidate ends_with.1 own p.state)) (sym here)
     (ends_with.2 number popped_.at digit last.at is ending middle told)) ends_with.3
@@ -684,10 +635,10 @@ type-within s old pushed read last new from awaits one p n is prints two digit t
     whole.text ∙ ap (λ l. old.text.list.items ++ l) (append-nil (codes "::" ++ n)) ∙ sym (append_assoc old.text.list.items (codes "::") n)
     ∙ ap (λ l. l ++ codes "::" ++ n) old_written ∙ behind-three a.front a.bytes (codes "::") n in
     let shown = local-prints a.e a.bytes a.encloses p n prints digit in
-    let kept = keeps-read s old last (codes "::" ++ n ++ []) a.state.candidates whole
-    (keeps-same s (record old { at = awaits.before }) old a.state.candidates refl refl refl a.keeps) in
+    let kept = kept-read s old last (codes "::" ++ n ++ []) whole
+    (kept-same s (record old { at = awaits.before }) old refl refl refl a.kept) in
     let named_ = subst (λ k. IsPieceAt s k p read.at) (one.at ∙ awaits.at_is) is in
-    value-added s last new a.state w.0 w.1 t a.front bytes from false false kept written a.from_is shown (λ e. absurd (false≢true e)) text candidates scope
+    value-added s last new kept w.0 w.1 t a.front bytes from false false written a.from_is shown (λ e. absurd (false≢true e)) text candidates scope
     (ap (λ v. reverse v.list.items) (waiting ∙ whole.waiting)) (λ e. absurd (false≢true e))
     (subst (λ k. Comes s w.0 (tree t true) k (with_candidate w.1 t a.state)) (sym here)
     (entity.onward p read.at a.state (named_ entity.inner entity.around a.e a.state entity.awaits) digit last.at told)) w.3

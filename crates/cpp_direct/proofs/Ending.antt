@@ -25,18 +25,18 @@ use Rattle.cpp_direct.specs.Holes.{StandsAt, ListGoesOn}
 use Rattle.cpp_direct.specs.HolesOfLists.{IsSuffix}
 use Rattle.cpp_direct.specs.Marks.{has_const, called_on, mark_text}
 use Rattle.cpp_direct.specs.Prints.{PrintsName, Shows, Encloses, list_of}
-use Rattle.cpp_direct.specs.WriterInvariant.{AwaitsItems, Encoded, EndsBehind, EncodedBehind, Fronts, IsWhole, IsWriting, HasScope, IsFunction, ItemsGoOn, Keeps, ParametersGoOn, Scope, Stands, no_scope, qualifiers, in_front_of_next, IsNamedSo}
+use Rattle.cpp_direct.specs.WriterInvariant.{AwaitsItems, Encoded, EndsBehind, EncodedBehind, Fronts, IsWhole, IsWriting, HasScope, ItemsGoOn, ParametersGoOn, Stands, qualifiers, in_front_of_next, no_scope, IsNamedSo, Kept}
 use Rattle.cpp_direct.specs.MidStep.{AwaitsNextParameter, IsNameEnded, IsNameScoped, AwaitsParameters, IsParameterEnded, IsFunctionEnded, IsEncodingEnded, IsSymbolEnded}
 use Rattle.cpp_direct.specs.Written.{Writes, Cuts}
 use Rattle.cpp_direct.proofs.Unmarked.{suffix-unmarked}
-use Rattle.cpp_direct.proofs.Kept.{keeps-as, keeps-same, keeps-written, none-kept, reverse-last, type-comes}
+use Rattle.cpp_direct.proofs.Kept.{keeps-as, kept-same, kept-written, none-kept, reverse-last, type-comes}
 use Rattle.cpp_direct.proofs.Moves.{expects-empty}
 use Rattle.cpp_direct.proofs.MovesOfLists.{element-awaits}
 use Rattle.cpp_direct.proofs.MovesOfTypes.{builtin-comes}
 use Rattle.cpp_direct.proofs.PrintedLists.{list-with-none, list-more, none-print-in}
 use Rattle.cpp_direct.proofs.PrintedParts.{has-none, has-parameters}
 use Rattle.cpp_direct.proofs.PrintedLocals.{object-enclosing, function-encloses, name-shows}
-use Rattle.cpp_direct.proofs.Scopes.{function-stays, parameters-scoped}
+use Rattle.cpp_direct.proofs.Scopes.{parameters-scoped, parameters-as}
 use Rattle.cpp_direct.proofs.PrintedSymbols.{function-shows, void-shows, object-encoded, encoding-plain, made-with, made-void, symbol-text, symbol-cost, suffix-text, suffix-cost, parameters-kept, none_bracketed}
 
 -- ## The end
@@ -72,9 +72,7 @@ rest-stands s suffix at inside is =
 pub marks-written : (s : Symbol) (old new : Direct) (mark : Mark) → IsEncodingEnded s old mark → Writes old new (mark_text mark)
     → IsEncodingEnded s new marks.Plain
 marks-written s old new mark p writes = record {
-  state = p.state;
-  scope = p.scope;
-  keeps = keeps-written s old new (mark_text mark) p.state.candidates writes p.keeps;
+  kept = kept-written s old new (mark_text mark) writes p.kept;
   e = p.e;
   lead = p.lead;
   bytes = p.bytes;
@@ -89,9 +87,7 @@ pub symbol-ended : (s : Symbol) (w : Direct) → IsEncodingEnded s w marks.Plain
 symbol-ended s w p apart =
     let behind : EndsBehind s p.lead p.e w.at = p.behind.whole apart in
     record {
-      state = p.state;
-      scope = p.scope;
-      keeps = p.keeps;
+      kept = p.kept;
       e = behind.made;
       encoded = behind.encoded;
       shows = subst (λ l. Shows (detail_of s) behind.made l) (sym p.written ∙ append-nil w.text.list.items) (behind.shows p.bytes p.shows);
@@ -101,9 +97,7 @@ symbol-ended s w p apart =
 pub ends-plain : (s : Symbol) (suffix : List ℕ) (w : Direct) → IsSymbolEnded s w → w.at ≤ length s.bytes → suffix ≡ take (length s.bytes - w.at) (drop w.at s.bytes)
     → length suffix ≡ 0 → IsWriting s w steps.Ended
 ends-plain s suffix w p inside is none = record {
-  state = p.state;
-  scope = p.scope;
-  keeps = p.keeps;
+  kept = p.kept;
   is_before = whole-plain s p.e w.at w.text.list.items p.encoded p.shows
       (omega (arith, none, (rest-stands s.bytes suffix w.at inside is).1));
 }
@@ -117,10 +111,8 @@ ends-suffixed s suffix w first second last p inside is is_suffix one two three =
     let text : last.text.list.items ≡ w.text.list.items ++ codes " (" ++ suffix ++ codes ")" =
     three.text ∙ ap (λ l. l ++ codes ")") (two.text ∙ ap (λ l. l ++ suffix) one.text) in
     record {
-      state = p.state;
-      scope = p.scope;
-      keeps = keeps-written s second last (codes ")") p.state.candidates three
-          (keeps-written s first second suffix p.state.candidates two (keeps-written s w first (codes " (") p.state.candidates one p.keeps));
+      kept = kept-written s second last (codes ")") three
+          (kept-written s first second suffix two (kept-written s w first (codes " (") one p.kept));
       is_before = subst (λ l. IsWhole s l) (sym text)
           (whole-suffixed s p.e w.at w.text.list.items suffix p.encoded p.shows
           there.0 there.1 is_suffix);
@@ -165,9 +157,7 @@ object-ended s w mark is_instance argument_ from p =
     subst (λ l. Shows (detail_of s) (encoding_of p.v nil) (b ++ l)) (qualifiers-text p.v mark p.own p.named_so)
     (object-encoded p.v b (subst (λ t. PrintsName (detail_of s) t b) (sym p.named_so.tree_is) p.prints)) in
     record {
-      state = p.state;
-      scope = p.scope;
-      keeps = p.keeps;
+      kept = p.kept;
       e = encoding_of p.v nil;
       lead = p.lead;
       bytes = b ++ q;
@@ -211,19 +201,14 @@ parameter-expected s w mark start argument a =
     let p = a.goes in
     let element = element-awaits s Kind.Items p.inner p.around w.at a.state tt p.awaits in
     let stands : Stands s a.scope (opens.Parameters mark start argument ∷ a.rest) element.inner w.text.list.items = (
-      a.front,
-      a.lead,
-      a.make,
       a.ts,
-      a.name,
       a.texts,
-      a.is_function,
-      a.fronts,
+      a.has,
       a.written,
       λ t here now comes. parameter-goes_on s argument (λ e there then_. EncodedBehind s a.lead e there) a.make a.ts w.at a.state p t here now
           (element.onward t here now comes),
     ) in
-    type-comes s w w a.state p.around element.inner a.keeps refl refl refl a.open_is p.outside (inr (inl element.awaits)) stands
+    type-comes s w w a.kept p.around element.inner refl refl refl a.open_is p.outside (inr (inl element.awaits)) stands
     (parameters-scoped a.scope p.around mark start argument a.rest a.is_function.named p.scoped)
 
 pub no-text : (l : List ℕ) (from : ℕ) → from ≡ length l → from ≡ 0 → l ≡ []
@@ -242,7 +227,7 @@ name-scoped s w mark is_instance argument from p =
         scope_is = e.awaits.scope_is ∙ ap arguments_of e.named_so.tree_is ∙ n.all_are;
         there = n.there;
         elements = n.elements;
-        alone = λ is_pack. (n.alone is_pack).0;
+        packed = λ is_pack. let h = n.packed is_pack in (h.0, h.1);
         no_pack = n.prints.no_pack;
       }),
     )
@@ -260,23 +245,20 @@ pub parameters-begin : (s : Symbol) (w : Direct) (mark : Mark) (is_instance : Bo
 parameters-begin s w mark is_instance argument from start scoped plain none all =
     let p = scoped.ended in
     record {
-      state = p.state;
-      scope = p.scope;
-      keeps = p.keeps;
-      make = λ l. encoding_of p.v l;
-      front = w.text.list.items;
-      lead = p.lead;
-      name = p.name;
-      is_function = record {
-        own = p.own;
-        makes = encoding-plain p.v mark p.own p.named_so (p.no_return plain);
-        prints = p.prints;
-        elements = none-print-in (detail_of s) (types_of p.own) 6;
-        names = p.names;
-        given = scoped.given;
-        named = scoped.named;
+      kept = p.kept;
+      has = record {
+        front = w.text.list.items;
+        lead = p.lead;
+        make = λ l. encoding_of p.v l;
+        name = p.name;
+        is_function = record {
+          own = p.own;
+          makes = encoding-plain p.v mark p.own p.named_so (p.no_return plain);
+          is_own = record { prints = p.prints; names = p.names; given = scoped.given; named = scoped.named };
+          elements = none-print-in (detail_of s) (types_of p.own) 6;
+        };
+        fronts = fronts-of s.is_bare w.text.list.items start p.lead p.name p.written none all;
       };
-      fronts = fronts-of s.is_bare w.text.list.items start p.lead p.name p.written none all;
       written = refl;
       goes = none-go_on s argument p.lead p.v w.at p.state p.awaits (name-scoped s w mark is_instance argument from scoped);
     }
@@ -288,24 +270,14 @@ pub first-expected : (s : Symbol) (w first last : Direct) (mark : Mark) (start :
     → last.waiting.list.items ≡ first.waiting.list.items ++ opens.Parameters mark start argument ∷ []
     → AwaitsNextParameter s last mark start argument
 first-expected s w first last mark start argument p one text candidates scope_same at waiting =
-    let known = keeps-written s w first (codes "(") p.state.candidates one p.keeps in
-    let moved = keeps-same s first last p.state.candidates text candidates scope_same known in
     let grown : last.text.list.items ≡ w.text.list.items ++ codes "(" = ap (λ l. l.list.items) text ∙ one.text in
     record {
-      state = p.state;
-      scope = p.scope;
-      keeps = moved;
+      kept = kept-same s first last text candidates scope_same (kept-written s w first (codes "(") one p.kept);
       rest = reverse first.waiting.list.items;
       open_is = ap reverse waiting ∙ reverse-last first.waiting.list.items (opens.Parameters mark start argument);
-      make = p.make;
       ts = [];
-      front = p.front;
-      lead = p.lead;
-      name = p.name;
       texts = [];
-      is_function = subst (λ l. IsFunction (detail_of s) p.scope l argument mark p.make [] p.name []) (sym grown)
-          (function-stays w.text.list.items (codes "(") argument mark p.make [] p.name [] p.is_function);
-      fronts = p.fronts;
+      has = parameters-as s w.text.list.items last.text.list.items (codes "(") mark start argument p.has grown p.is_function.elements;
       written = grown ∙ ap (λ l. l ++ codes "(") p.written ∙ sym (append-nil (p.front ++ codes "("));
       goes = subst (λ n. ParametersGoOn s argument p.lead p.make [] n p.state) (sym (at ∙ one.at)) p.goes;
     }
@@ -316,20 +288,12 @@ pub next-expected : (s : Symbol) (w last : Direct) (mark : Mark) (start : ℕ) (
 next-expected s w last mark start argument p one =
     let front = p.front ++ codes "(" in
     record {
-      state = p.state;
-      scope = p.scope;
-      keeps = keeps-written s w last (codes ", ") p.state.candidates one p.keeps;
+      kept = kept-written s w last (codes ", ") one p.kept;
       rest = p.rest;
       open_is = ap (λ l. reverse l.list.items) one.waiting ∙ p.open_is;
-      make = p.make;
       ts = p.ts;
-      front = p.front;
-      lead = p.lead;
-      name = p.name;
       texts = p.texts;
-      is_function = subst (λ l. IsFunction (detail_of s) p.scope l argument mark p.make p.ts p.name p.texts) (sym one.text)
-          (function-stays w.text.list.items (codes ", ") argument mark p.make p.ts p.name p.texts p.is_function);
-      fronts = p.fronts;
+      has = parameters-as s w.text.list.items last.text.list.items (codes ", ") mark start argument p.has one.text p.is_function.elements;
       written = one.text ∙ ap (λ l. l ++ codes ", ") p.written ∙ append_assoc front p.texts (codes ", ")
           ∙ ap (λ l. front ++ l) (sym (next-written p.ts p.texts p.some));
       goes = subst (λ n. ParametersGoOn s argument p.lead p.make p.ts n p.state) (sym one.at) p.goes;
@@ -338,18 +302,17 @@ next-expected s w last mark start argument p one =
 -- ## What comes before an encoding's text
 
 -- where that is taken away, what is left of the candidates is some
-cut-keeps : (s : Symbol) (scope : Scope) (old new : Direct) (start : ℕ) (st : State) → Cuts old new start → Keeps s scope old st.candidates
-    → (now : State) × (left : Scope) × Keeps s left new now.candidates
-cut-keeps s scope old new start st cuts keeps = go cuts.candidates
+cut-kept : (s : Symbol) (old new : Direct) (start : ℕ) → Cuts old new start → Kept s old → Kept s new
+cut-kept s old new start cuts kept = go cuts.candidates
   where
-    go : ((start ≡ 0) × (new.candidates ≡ old.candidates)) ⊎ (new.candidates.list.items ≡ []) → (now : State) × (left : Scope) × Keeps s left new now.candidates
-    go (inl same) = (
-      st,
-      scope,
-      keeps-as s old new st.candidates (cuts.text ∙ ap (λ n. drop n old.text.list.items) same.0) (ap (λ v. v.list.items) same.1) cuts.scope
-          keeps.candidates keeps.named keeps.own keeps.unknown,
-    )
-    go (inr none) = (record st { candidates = [] }, no_scope, none-kept s new none)
+    go : ((start ≡ 0) × (new.candidates ≡ old.candidates)) ⊎ (new.candidates.list.items ≡ []) → Kept s new
+    go (inl same) = record {
+      state = kept.state;
+      scope = kept.scope;
+      keeps = keeps-as s old new kept.state.candidates (cuts.text ∙ ap (λ n. drop n old.text.list.items) same.0) (ap (λ v. v.list.items) same.1) cuts.scope
+          kept.keeps.candidates kept.keeps.named kept.keeps.own kept.keeps.unknown;
+    }
+    go (inr none) = record { state = record kept.state { candidates = [] }; scope = no_scope; keeps = none-kept s new none }
 
 -- and the text is what came after it
 cut-text : (old new : Direct) (start : ℕ) (aside text : List ℕ) → Cuts old new start → start ≡ length aside → old.text.list.items ≡ aside ++ text
@@ -385,15 +348,11 @@ void-ended s w first here mark start argument p stands one text candidates scope
     let is : e ≡ made = made-void f.own absent mark p.make f.makes in
     let behind : EncodedBehind s p.lead e (w.at + 1) =
     void-read s argument (λ u there then_. EncodedBehind s p.lead u there) p.make w.at p.state p.goes stands in
-    let known = keeps-written s w first (codes "(") p.state.candidates one p.keeps in
-    let moved = keeps-same s first here p.state.candidates text candidates scope_same known in
     let shows : s.is_bare ≡ false → Shows (detail_of s) made (b ++ codes "()" ++ q) =
     λ whole. subst (λ l. Shows (detail_of s) made (b ++ codes "()" ++ l)) (plain-text mark)
     (void-shows (has-parameters s whole) f.own b f.prints (qualifiers (has_const mark)) (called_on mark)) in
     record {
-      state = p.state;
-      scope = p.scope;
-      keeps = moved;
+      kept = kept-same s first here text candidates scope_same (kept-written s w first (codes "(") one p.kept);
       own = f.own;
       items = nil;
       e = e;
@@ -424,9 +383,7 @@ function-ended s w mark start argument p apart =
     let behind : EncodedBehind s p.lead e w.at = subst (λ u. EncodedBehind s p.lead (p.make u) w.at) (list-with-none p.ts)
     (p.goes.onward nothing_there w.at p.state (expects-empty s Kind.Items p.goes.around p.goes.inner w.at p.state p.goes.awaits refl)) in
     record {
-      state = p.state;
-      scope = p.scope;
-      keeps = p.keeps;
+      kept = p.kept;
       own = f.own;
       items = list_of p.ts;
       e = e;
@@ -456,12 +413,9 @@ function-closed s w last new mark start p whole_ one cuts =
     cut-text last new start fronts.0 (p.lead ++ b ++ codes "(" ++ l ++ codes ")") cuts fronts.2
     (one.text ∙ ap (λ x. x ++ codes ")") p.written ∙ ap (λ x. x ++ codes "(" ++ l ++ codes ")") fronts.1
     ∙ behind-five fronts.0 p.lead b (codes "(") l (codes ")")) in
-    let now = cut-keeps s p.scope last new start p.state cuts (keeps-written s w last (codes ")") p.state.candidates one p.keeps) in
     let text = b ++ codes "(" ++ l ++ codes ")" ++ q in
     record {
-      state = now.0;
-      scope = now.1;
-      keeps = now.2;
+      kept = cut-kept s last new start cuts (kept-written s w last (codes ")") one p.kept);
       e = p.e;
       lead = p.lead;
       bytes = text;
@@ -487,14 +441,10 @@ function-named s w last new mark start end p bare end_is one cuts =
     ap (λ n. take n w.text.list.items) (omega (arith, fronts.2)) ∙ ap (λ l. take (length named) l) whole_ ∙ take-append_seam named behind_ in
     let left_over : new.text.list.items ≡ named =
     cut-text last new end w.text.list.items named cuts end_is (one.text ∙ ap (λ l. w.text.list.items ++ l) again) in
-    let now = cut-keeps s p.scope last new end p.state cuts
-    (keeps-written s w last (take (start - 0) (drop 0 w.text.list.items)) p.state.candidates one p.keeps) in
     let made = function p.own (qualifiers (has_const mark)) (called_on mark) absent p.items in
     let shows : Shows (detail_of s) made p.name = name-shows (has-none s bare) p.own p.name p.prints (qualifiers (has_const mark)) (called_on mark) absent p.items in
     record {
-      state = now.0;
-      scope = now.1;
-      keeps = now.2;
+      kept = cut-kept s last new end cuts (kept-written s w last (take (start - 0) (drop 0 w.text.list.items)) one p.kept);
       e = p.e;
       lead = p.lead;
       bytes = p.name;

@@ -20,14 +20,14 @@ use Rattle.cpp_direct.specs.declared.direct.Direct.{Direct}
 use Rattle.cpp_direct.specs.Bytes.{is_local}
 use Rattle.cpp_direct.specs.Holes.{Expects}
 use Rattle.cpp_direct.specs.Prints.{PrintsIn, Shows, Encloses}
-use Rattle.cpp_direct.specs.WriterInvariant.{EncodedBehind, Fronts, HasArguments, IsWriting, IsInstance, Keeps, ParametersGoOn, Scope, Stands, qualifiers, plain_encoding}
+use Rattle.cpp_direct.specs.WriterInvariant.{EncodedBehind, Fronts, IsWriting, IsInstance, Keeps, ParametersGoOn, Scope, Stands, qualifiers, plain_encoding, HasInstance, IsOwnName}
 use Rattle.cpp_direct.specs.MidStep.{IsNameScoped, IsFrontRead, AwaitsParameters}
 use Rattle.cpp_direct.specs.Written.{Writes}
 use Rattle.cpp_direct.proofs.Ending.{name-scoped, no-text, none-go_on, parameter-goes_on}
-use Rattle.cpp_direct.proofs.Kept.{keeps-same, keeps-written, reverse-last, type-comes}
+use Rattle.cpp_direct.proofs.Kept.{kept-same, kept-written, reverse-last, type-comes}
 use Rattle.cpp_direct.proofs.MovesOfLists.{element-awaits}
 use Rattle.cpp_direct.proofs.PrintedLists.{none-print-in}
-use Rattle.cpp_direct.proofs.Scopes.{arguments-stay, front-scoped}
+use Rattle.cpp_direct.proofs.Scopes.{front-scoped, name-stays}
 use Rattle.cpp_direct.proofs.PrintedSymbols.{encoding-returned, front-shows}
 
 -- the return type of a function is expected after its name
@@ -37,31 +37,30 @@ pub front-begins : (s : Symbol) (w new : Direct) (mark : Mark) (argument : Argum
     → new.waiting.list.items ≡ w.waiting.list.items ++ opens.Front mark start argument ∷ [] → IsWriting s new steps.Type
 front-begins s w new mark argument from start scoped apart start_is text candidates scope_same at waiting =
     let p = scoped.ended in
-    let instance_ : IsInstance (detail_of s) p.scope w.text.list.items argument mark p.v p.name = record {
-      own = p.own;
-      named_so = p.named_so;
-      prints = p.prints;
-      returns = p.returns refl;
-      names = p.names;
-      given = scoped.given;
-      named = scoped.named;
+    let has : HasInstance s p.scope w.text.list.items mark start argument = record {
+      v = p.v;
+      lead = p.lead;
+      name = p.name;
+      is_instance = record {
+        own = p.own;
+        named_so = p.named_so;
+        returns = p.returns refl;
+        is_own = record { prints = p.prints; names = p.names; given = scoped.given; named = scoped.named };
+      };
+      apart = λ none. no-text p.lead from p.from_is (apart none);
+      text_is = p.written;
+      start_is = start_is;
     } in
     let goes : ParametersGoOn s argument p.lead (λ l. encoding_of p.v l) [] w.at p.state =
     none-go_on s argument p.lead p.v w.at p.state p.awaits (name-scoped s w mark true argument from scoped) in
     let element = element-awaits s Kind.Items goes.inner goes.around w.at p.state tt goes.awaits in
     let stands : Stands s p.scope (opens.Front mark start argument ∷ reverse w.waiting.list.items) element.inner w.text.list.items = (
-      p.v,
-      p.lead,
-      p.name,
-      instance_,
-      λ none. no-text p.lead from p.from_is (apart none),
-      p.written,
-      start_is,
+      has,
       λ t here now comes. parameter-goes_on s argument (λ e there then_. EncodedBehind s p.lead e there) (λ l. encoding_of p.v l) [] w.at p.state goes
           t here now (element.onward t here now comes),
     ) in
     let open_is = ap reverse waiting ∙ reverse-last w.waiting.list.items (opens.Front mark start argument) in
-    type-comes s w new p.state goes.around element.inner p.keeps text candidates scope_same open_is goes.outside
+    type-comes s w new p.kept goes.around element.inner text candidates scope_same open_is goes.outside
     (inr (inl (subst (λ n. Expects s Kind.Item goes.around element.inner n p.state) (sym at) element.awaits))) stands
     (front-scoped p.scope goes.around mark start argument (reverse w.waiting.list.items) scoped.named goes.scoped)
 
@@ -69,17 +68,9 @@ front-begins s w new mark argument from start scoped apart start_is text candida
 pub front-same : (s : Symbol) (w new : Direct) (mark : Mark) (start : ℕ) (argument : Arguments) → IsFrontRead s w mark start argument
     → new.text ≡ w.text → new.candidates ≡ w.candidates → new.has_scope ≡ w.has_scope → new.at ≡ w.at → IsFrontRead s new mark start argument
 front-same s w new mark start argument p text candidates scope_same at = record {
-  state = p.state;
-  scope = p.scope;
-  keeps = keeps-same s w new p.state.candidates text candidates scope_same p.keeps;
-  v = p.v;
-  lead = p.lead;
-  name = p.name;
+  kept = kept-same s w new text candidates scope_same p.kept;
   front = p.front;
-  front_is = p.front_is;
-  is_instance = p.is_instance;
-  apart = p.apart;
-  start_is = p.start_is;
+  has = p.has;
   returned = p.returned;
   bytes = p.bytes;
   is_reference = p.is_reference;
@@ -108,31 +99,28 @@ turned s scope argument mark v name text is r b is_reference prints items at who
 -- after the return type parameters are awaited, where this was written since
 front-leads : (s : Symbol) (w last : Direct) (mark : Mark) (start to : ℕ) (argument : Arguments) (p : IsFrontRead s w mark start argument) (front lead : List ℕ)
     → Keeps s p.scope last p.state.candidates
-    → HasArguments (detail_of s) last.text.list.items argument p.is_instance.own → Fronts s.is_bare front to lead p.name → last.text.list.items ≡ front
+    → IsOwnName (detail_of s) p.scope last.text.list.items argument p.is_instance.own p.name → Fronts s.is_bare front to lead p.name → last.text.list.items ≡ front
     → last.at ≡ w.at
     → ((items : Term) (there : ℕ) → EncodedBehind s p.lead (encoding_of p.v (list p.returned items)) there
     → EncodedBehind s lead (plain_encoding mark p.is_instance.own items) there)
     → AwaitsParameters s last mark to argument
-front-leads s w last mark start to argument p front lead keeps names fronts written at turns =
+front-leads s w last mark start to argument p front lead keeps is_own fronts written at turns =
     let is = p.is_instance in
     record {
-      state = p.state;
-      scope = p.scope;
-      keeps = keeps;
-      make = λ l. plain_encoding mark is.own l;
-      front = front;
-      lead = lead;
-      name = p.name;
-      is_function = record {
-        own = is.own;
-        makes = λ t rest. refl;
-        prints = is.prints;
-        elements = none-print-in (detail_of s) (types_of is.own) 6;
-        names = names;
-        given = is.given;
-        named = is.named;
+      kept = record { state = p.state; scope = p.scope; keeps = keeps };
+      has = record {
+        front = front;
+        lead = lead;
+        make = λ l. plain_encoding mark is.own l;
+        name = p.name;
+        is_function = record {
+          own = is.own;
+          makes = λ t rest. refl;
+          is_own = is_own;
+          elements = none-print-in (detail_of s) (types_of is.own) 6;
+        };
+        fronts = fronts;
       };
-      fronts = fronts;
       written = written;
       goes = record {
         around = p.goes.around;
@@ -153,18 +141,17 @@ front-turned s w here first last mark start argument p whole_ plain text candida
     let is = p.is_instance in
     let lead = p.bytes ++ codes " " in
     let none : p.lead ≡ [] = p.apart plain in
-    let named : p.front ≡ p.name = p.front_is ∙ ap (λ l. l ++ p.name) none in
+    let named : p.front ≡ p.name = p.text_is ∙ ap (λ l. l ++ p.name) none in
     let front : first.text.list.items ≡ p.front ++ lead =
     one.text ∙ ap (λ v. v.list.items ++ codes " ") text ∙ ap (λ l. l ++ codes " ") p.written ∙ append_assoc p.front p.bytes (codes " ") in
     let again : take (start - 0) (drop 0 first.text.list.items) ≡ p.front =
     ap (λ n. take n first.text.list.items) (omega (arith, p.start_is)) ∙ ap (λ l. take (length p.front) l) front ∙ take-append_seam p.front lead in
     let written : last.text.list.items ≡ p.front ++ lead ++ p.front = two.text ∙ ap (λ l. first.text.list.items ++ l) again ∙ ap (λ l. l ++ p.front) front in
-    let known = keeps-same s w here p.state.candidates text candidates scope_same p.keeps in
+    let known = kept-same s w here text candidates scope_same p.kept in
     front-leads s w last mark start start argument p (p.front ++ lead ++ p.name) lead
-    (keeps-written s first last (take (start - 0) (drop 0 first.text.list.items)) p.state.candidates two
-    (keeps-written s here first (codes " ") p.state.candidates one known))
-    (subst (λ l. HasArguments (detail_of s) l argument is.own) (sym written)
-    (arguments-stay (p.front ++ lead) p.front argument is.own (arguments-stay p.front lead argument is.own is.names)))
+    (kept-written s first last (take (start - 0) (drop 0 first.text.list.items)) two (kept-written s here first (codes " ") one known)).keeps
+    (name-stays (p.front ++ lead) last.text.list.items p.front argument is.own p.name written
+    (name-stays p.front (p.front ++ lead) lead argument is.own p.name refl is.is_own))
     (subst (λ b. Fronts b (p.front ++ lead ++ p.name) start lead p.name) (sym whole_) (p.front, refl, p.start_is))
     (written ∙ ap (λ l. p.front ++ lead ++ l) named) (two.at ∙ one.at ∙ at)
     (λ items there goes. turned s p.scope argument mark p.v p.name p.front is p.returned p.bytes p.is_reference p.prints items there whole_ plain
@@ -197,11 +184,10 @@ front-hidden s w last mark start begins argument p whole_ local_ begins_is one =
     ap (λ n. take n w.text.list.items) (omega (arith, p.start_is)) ∙ ap (λ l. take (length p.front) l) p.written ∙ take-append_seam p.front p.bytes in
     let written : last.text.list.items ≡ aside ++ p.front = one.text ∙ ap (λ l. w.text.list.items ++ l) again ∙ ap (λ l. l ++ p.front) p.written in
     front-leads s w last mark start begins argument p (aside ++ p.lead ++ p.name) p.lead
-    (keeps-written s w last (take (start - 0) (drop 0 w.text.list.items)) p.state.candidates one p.keeps)
-    (subst (λ l. HasArguments (detail_of s) l argument is.own) (sym written)
-    (arguments-stay aside p.front argument is.own (arguments-stay p.front p.bytes argument is.own is.names)))
+    (kept-written s w last (take (start - 0) (drop 0 w.text.list.items)) one p.kept).keeps
+    (name-stays aside last.text.list.items p.front argument is.own p.name written (name-stays p.front aside p.bytes argument is.own p.name refl is.is_own))
     (subst (λ b. Fronts b (aside ++ p.lead ++ p.name) begins p.lead p.name) (sym whole_) (aside, refl, begins_is ∙ ap length p.written))
-    (written ∙ ap (λ l. aside ++ l) p.front_is ∙ sym (append_assoc aside p.lead p.name)) one.at
+    (written ∙ ap (λ l. aside ++ l) p.text_is ∙ sym (append_assoc aside p.lead p.name)) one.at
     (λ items there goes. hidden-return s p.scope p.lead argument mark p.v p.name p.front is p.returned local_ items there goes)
 
 -- where functions are shown by their names alone none shows a return type
@@ -234,8 +220,8 @@ front-bare s w last mark start argument p bare text candidates scope_same at =
     let is = p.is_instance in
     let written : last.text.list.items ≡ p.front ++ p.bytes = ap (λ v. v.list.items) text ∙ p.written in
     front-leads s w last mark start start argument p (p.front ++ p.bytes) p.lead
-    (keeps-same s w last p.state.candidates text candidates scope_same p.keeps)
-    (subst (λ l. HasArguments (detail_of s) l argument is.own) (sym written) (arguments-stay p.front p.bytes argument is.own is.names))
+    (kept-same s w last text candidates scope_same p.kept).keeps
+    (name-stays p.front last.text.list.items p.bytes argument is.own p.name written is.is_own)
     (subst (λ b. Fronts b (p.front ++ p.bytes) start p.lead p.name) (sym bare)
-    (p.bytes, ap (λ l. l ++ p.bytes) p.front_is, p.start_is ∙ ap length p.front_is))
+    (p.bytes, ap (λ l. l ++ p.bytes) p.text_is, p.start_is ∙ ap length p.text_is))
     written at (λ items there goes. bare-return s p.scope p.lead argument mark p.v p.name p.front is p.returned bare items there goes)

@@ -20,7 +20,7 @@ use Rattle.cpp_direct.specs.declared.open.Step.{Step}
 use Rattle.cpp_direct.specs.declared.direct.Direct.{Direct}
 use Rattle.cpp_direct.specs.Holes.{Comes, Opened, candidate, with_candidate, unless_listed}
 use Rattle.cpp_direct.specs.Prints.{Names, PrintsAs}
-use Rattle.cpp_direct.specs.WriterInvariant.{AreCandidates, AreNamed, ArgumentsGoOn, ExpectsType, HasScope, IsCandidate, IsNaming, IsNest, IsPlaced, IsScopeOf, IsScoped, IsTemplate, IsWriting, Keeps, Scope, Stands, argument_of, arguments_in, below, encoding_place, is_within_type, no_scope, of_template, place_of, IsOwn, is_type, IsKnown, nowhere}
+use Rattle.cpp_direct.specs.WriterInvariant.{AreCandidates, AreNamed, ArgumentsGoOn, ExpectsType, HasScope, IsCandidate, IsNaming, IsNest, IsPlaced, IsScopeOf, IsScoped, IsTemplate, IsWriting, Keeps, Scope, Stands, argument_of, arguments_in, below, encoding_place, is_within_type, no_scope, of_template, place_of, IsOwn, is_type, IsKnown, nowhere, Kept, IsBetween, AwaitsTypeIn, IsTypeRead}
 use Rattle.cpp_direct.specs.Written.{Writes, Reads, added, added_unless, IsKeptTo, AreKeptTo}
 use Rattle.std.specs.Prelude.{slice_set}
 use Rattle.cpp_grammar.specs.Values as values
@@ -34,36 +34,50 @@ pub piece-stays : (text front bytes back more : List ℕ) → text ≡ front ++ 
 piece-stays text front bytes back more e = ap (λ l. l ++ more) e ∙ append_assoc (front ++ bytes) back more
 
 -- a piece by its place
-pub piece-found : (text front bytes back : List ℕ) (from to : ℕ) → text ≡ front ++ bytes ++ back → from ≡ length front → to ≡ length front + length bytes
+pub piece-found : (text bytes : List ℕ) (from to : ℕ) → IsBetween text from to bytes
     → (from ≤ to) × (to ≤ length text) × (take (to - from) (drop from text) ≡ bytes)
-piece-found text front bytes back from to e from_is to_is = (omega (arith, from_is, to_is), inside, found)
+piece-found text bytes from to p = (omega (arith, p.from_is, p.to_is), inside, found)
   where
     inside : to ≤ length text
-    inside = omega (arith, to_is, ap length e, length-append (front ++ bytes) back, length-append front bytes)
+    inside = omega (arith, p.to_is, ap length p.written, length-append (p.front ++ bytes) p.back, length-append p.front bytes)
 
     size : to - from ≡ length bytes
-    size = omega (arith, from_is, to_is)
+    size = omega (arith, p.from_is, p.to_is)
 
     found : take (to - from) (drop from text) ≡ bytes
-    found = ap (λ n. take n (drop from text)) size ∙ ap (λ n. take (length bytes) (drop n text)) from_is
-        ∙ ap (λ l. take (length bytes) (drop (length front) l)) (e ∙ append_assoc front bytes back) ∙ ap (λ l. take (length bytes) l) (drop-append_seam front (bytes ++ back))
-        ∙ take-append_seam bytes back
+    found = ap (λ n. take n (drop from text)) size ∙ ap (λ n. take (length bytes) (drop n text)) p.from_is
+        ∙ ap (λ l. take (length bytes) (drop (length p.front) l)) (p.written ∙ append_assoc p.front bytes p.back)
+        ∙ ap (λ l. take (length bytes) l) (drop-append_seam p.front (bytes ++ p.back)) ∙ take-append_seam bytes p.back
+
+-- it is between two places still where more is written
+pub placed-moved : (text more bytes : List ℕ) {new : List ℕ} {from to at end : ℕ} → new ≡ text ++ more → at ≡ from → end ≡ to
+    → IsBetween text from to bytes → IsBetween new at end bytes
+placed-moved text more bytes grown at_is end_is p = record {
+  front = p.front;
+  back = p.back ++ more;
+  written = grown ∙ piece-stays text p.front bytes p.back more p.written;
+  from_is = at_is ∙ p.from_is;
+  to_is = end_is ∙ p.to_is;
+}
+
+-- so is what ends it
+pub placed-last : {text : List ℕ} (front bytes : List ℕ) (from to : ℕ) → text ≡ front ++ bytes → from ≡ length front → to ≡ length text
+    → IsBetween text from to bytes
+placed-last front bytes from to written from_is to_is = record {
+  front = front;
+  back = [];
+  written = written ∙ sym (append-nil (front ++ bytes));
+  from_is = from_is;
+  to_is = to_is ∙ ap length written ∙ length-append front bytes;
+}
 
 -- ## Candidates
 
 -- a candidate stays one where more is written
 pub candidate-stays : {s : Symbol} {names : Names} (text more : List ℕ) (k : Candidate) (c : values.Candidate) → IsCandidate s names text k c
     → IsCandidate s names (text ++ more) k c
-candidate-stays text more k c p = record {
-  front = p.front;
-  bytes = p.bytes;
-  back = p.back ++ more;
-  written = piece-stays text p.front p.bytes p.back more p.written;
-  from_is = p.from_is;
-  to_is = p.to_is;
-  prints = p.prints;
-  made_in = p.made_in;
-}
+candidate-stays text more k c p =
+    record { bytes = p.bytes; placed = placed-moved text more p.bytes refl refl refl p.placed; prints = p.prints; made_in = p.made_in }
 
 -- candidates stay so where more is written
 pub candidates-stay : (s : Symbol) (names : Names) (text more : List ℕ) (ks : List Candidate) (cs : List values.Candidate) → AreCandidates s names text ks cs
@@ -88,12 +102,8 @@ pub candidates-added : (s : Symbol) (names : Names) (text : List ℕ) (ks : List
     → AreCandidates s names text (ks ++ record { from = from; to = length text; is_reference = r; is_dependent = d } ∷ []) (cs ++ candidate around t ∷ [])
 candidates-added s names text ks cs front bytes from t around r d p written from_is prints made_in =
     candidates-more text ks cs (record { from = from; to = length text; is_reference = r; is_dependent = d }) (candidate around t) p (λ ordered. record {
-      front = front;
       bytes = bytes;
-      back = [];
-      written = written ∙ sym (append-nil (front ++ bytes));
-      from_is = from_is;
-      to_is = ap length written ∙ length-append front bytes;
+      placed = placed-last front bytes from (length text) written from_is refl;
       prints = prints;
       made_in = made_in;
     })
@@ -102,16 +112,10 @@ candidates-added s names text ks cs front bytes from t around r d p written from
 
 -- a text is in its place still where more is written
 pub placed-stays : (text more : List ℕ) (p : Argument) (bytes : List ℕ) → IsPlaced text p bytes → IsPlaced (text ++ more) p bytes
-placed-stays text more p bytes h = record {
-  front = h.front;
-  back = h.back ++ more;
-  written = piece-stays text h.front bytes h.back more h.written;
-  from_is = h.from_is;
-  to_is = h.to_is;
-}
+placed-stays text more p bytes h = placed-moved text more bytes refl refl refl h
 
 -- so are the arguments that may be named
-named-stays : (text more : List ℕ) (scope : Scope) → AreNamed text scope → AreNamed (text ++ more) scope
+pub named-stays : (text more : List ℕ) (scope : Scope) → AreNamed text scope → AreNamed (text ++ more) scope
 named-stays text more scope named = λ number single. let n = named number single in (n.0, n.1, placed-stays text more (place_of scope.arguments number) n.0 n.2)
 
 -- none is known
@@ -151,111 +155,123 @@ keeps-as s {scope = scope} old new cs {text = text} text_is candidates_are scope
   unknown = λ none. unknown (sym scope_same ∙ none);
 }
 
--- these bytes were written
-pub keeps-grown : (s : Symbol) {scope : Scope} (old new : Direct) (bytes : List ℕ) (cs : List values.Candidate)
-    → new.text.list.items ≡ old.text.list.items ++ bytes → new.candidates ≡ old.candidates → new.has_scope ≡ old.has_scope
-    → Keeps s scope old cs → Keeps s scope new cs
-keeps-grown s {scope = scope} old new bytes cs text candidates scope_same keeps =
-    keeps-as s old new cs text (ap (λ v. v.list.items) candidates) scope_same
-    (candidates-stay s scope.names old.text.list.items bytes old.candidates.list.items cs keeps.candidates)
-    (named-stays old.text.list.items bytes scope keeps.named) keeps.own keeps.unknown
-
--- a text was written
-pub keeps-written : (s : Symbol) {scope : Scope} (old new : Direct) (bytes : List ℕ) (cs : List values.Candidate) → Writes old new bytes
-    → Keeps s scope old cs → Keeps s scope new cs
-keeps-written s old new bytes cs writes keeps = keeps-grown s old new bytes cs writes.text writes.candidates writes.scope keeps
-
--- the same where something was read
-pub keeps-read : (s : Symbol) {scope : Scope} (old new : Direct) (bytes : List ℕ) (cs : List values.Candidate) → Reads old new bytes
-    → Keeps s scope old cs → Keeps s scope new cs
-keeps-read s old new bytes cs reads keeps = keeps-grown s old new bytes cs reads.text reads.candidates reads.scope keeps
+-- other candidates are there
+abbrev pub kept-as : (s : Symbol) (old new : Direct) (st : State) (kept : Kept s old) {ks : List Candidate} → new.text ≡ old.text
+    → new.candidates.list.items ≡ ks → new.has_scope ≡ old.has_scope → AreCandidates s kept.scope.names old.text.list.items ks st.candidates → Kept s new
+kept-as s old new st kept text candidates scope_same are = record {
+  state = st;
+  scope = kept.scope;
+  keeps = keeps-as s old new st.candidates (ap (λ v. v.list.items) text) candidates scope_same are kept.keeps.named kept.keeps.own kept.keeps.unknown;
+}
 
 -- nothing was written
-pub keeps-same : (s : Symbol) {scope : Scope} (old new : Direct) (cs : List values.Candidate) → new.text ≡ old.text → new.candidates ≡ old.candidates
-    → new.has_scope ≡ old.has_scope → Keeps s scope old cs → Keeps s scope new cs
-keeps-same s old new cs text candidates scope_same keeps =
-    keeps-as s old new cs (ap (λ v. v.list.items) text) (ap (λ v. v.list.items) candidates) scope_same keeps.candidates keeps.named keeps.own keeps.unknown
+abbrev pub kept-same : (s : Symbol) (old new : Direct) → new.text ≡ old.text → new.candidates ≡ old.candidates → new.has_scope ≡ old.has_scope
+    → Kept s old → Kept s new
+kept-same s old new text candidates scope_same kept =
+    kept-as s old new kept.state kept text (ap (λ v. v.list.items) candidates) scope_same kept.keeps.candidates
+
+-- these bytes were written
+abbrev pub kept-grown : (s : Symbol) (old new : Direct) (bytes : List ℕ) → new.text.list.items ≡ old.text.list.items ++ bytes
+    → new.candidates ≡ old.candidates → new.has_scope ≡ old.has_scope → Kept s old → Kept s new
+kept-grown s old new bytes text candidates scope_same kept = record {
+  state = kept.state;
+  scope = kept.scope;
+  keeps = keeps-as s old new kept.state.candidates text (ap (λ v. v.list.items) candidates) scope_same
+      (candidates-stay s kept.scope.names old.text.list.items bytes old.candidates.list.items kept.state.candidates kept.keeps.candidates)
+      (named-stays old.text.list.items bytes kept.scope kept.keeps.named) kept.keeps.own kept.keeps.unknown;
+}
+
+-- a text was written
+abbrev pub kept-written : (s : Symbol) (old new : Direct) (bytes : List ℕ) → Writes old new bytes → Kept s old → Kept s new
+kept-written s old new bytes writes kept = kept-grown s old new bytes writes.text writes.candidates writes.scope kept
+
+-- the same where something was read
+abbrev pub kept-read : (s : Symbol) (old new : Direct) (bytes : List ℕ) → Reads old new bytes → Kept s old → Kept s new
+kept-read s old new bytes reads kept = kept-grown s old new bytes reads.text reads.candidates reads.scope kept
 
 -- what is written from a place on became a candidate
-pub keeps-with : (s : Symbol) {scope : Scope} (old new : Direct) (st : State) (front bytes : List ℕ) (from : ℕ) (t : Term) (around : Around) (r d : Bool)
-    → Keeps s scope old st.candidates → old.text.list.items ≡ front ++ bytes → from ≡ length front → PrintsAs (detail_of s) scope.names d t bytes r
+abbrev pub kept-with : (s : Symbol) (old new : Direct) (kept : Kept s old) (front bytes : List ℕ) (from : ℕ) (t : Term) (around : Around) (r d : Bool)
+    → old.text.list.items ≡ front ++ bytes → from ≡ length front → PrintsAs (detail_of s) kept.scope.names d t bytes r
     → (d ≡ true → around.encoding ≡ encoding_place s.bytes)
-    → new.text ≡ old.text → new.candidates.list.items ≡ added old from r d → new.has_scope ≡ old.has_scope
-    → Keeps s scope new (with_candidate around t st).candidates
-keeps-with s {scope = scope} old new st front bytes from t around r d keeps written from_is prints made_in text_same added_is scope_same =
-    keeps-as s old new (with_candidate around t st).candidates (ap (λ v. v.list.items) text_same) added_is scope_same
-    (candidates-added s scope.names old.text.list.items old.candidates.list.items st.candidates front bytes from t around r d keeps.candidates written from_is prints made_in)
-    keeps.named keeps.own keeps.unknown
+    → new.text ≡ old.text → new.candidates.list.items ≡ added old from r d → new.has_scope ≡ old.has_scope → Kept s new
+kept-with s old new kept front bytes from t around r d written from_is prints made_in text added_is scope_same =
+    kept-as s old new (with_candidate around t kept.state) kept text added_is scope_same
+    (candidates-added s kept.scope.names old.text.list.items old.candidates.list.items kept.state.candidates front bytes from t around r d kept.keeps.candidates
+    written from_is prints made_in)
 
--- the same unless it is one already
-pub keeps-unless : (s : Symbol) {scope : Scope} (old new : Direct) (st : State) (listed : Bool) (front bytes : List ℕ) (from : ℕ) (t : Term) (around : Around) (d : Bool)
-    → Keeps s scope old st.candidates → old.text.list.items ≡ front ++ bytes → from ≡ length front → PrintsAs (detail_of s) scope.names d t bytes false
+pub keeps-unless : (s : Symbol) (old new : Direct) (kept : Kept s old) (listed : Bool) (front bytes : List ℕ) (from : ℕ) (t : Term) (around : Around) (d : Bool)
+    → old.text.list.items ≡ front ++ bytes → from ≡ length front → (listed ≡ false → PrintsAs (detail_of s) kept.scope.names d t bytes false)
     → (d ≡ true → around.encoding ≡ encoding_place s.bytes)
     → new.text ≡ old.text → new.candidates.list.items ≡ added_unless old listed from d → new.has_scope ≡ old.has_scope
-    → Keeps s scope new (unless_listed listed around t st).candidates
-keeps-unless s old new st true front bytes from t around d keeps written from_is prints made_in text_same added_is scope_same =
-    keeps-as s old new st.candidates (ap (λ v. v.list.items) text_same) added_is scope_same keeps.candidates keeps.named keeps.own keeps.unknown
-keeps-unless s old new st false front bytes from t around d keeps written from_is prints made_in text_same added_is scope_same =
-    keeps-with s old new st front bytes from t around false d keeps written from_is prints made_in text_same added_is scope_same
+    → Keeps s kept.scope new (unless_listed listed around t kept.state).candidates
+keeps-unless s old new kept true front bytes from t around d written from_is prints made_in text added_is scope_same =
+    (kept-as s old new kept.state kept text added_is scope_same kept.keeps.candidates).keeps
+keeps-unless s old new kept false front bytes from t around d written from_is prints made_in text added_is scope_same =
+    (kept-with s old new kept front bytes from t around false d written from_is (prints refl) made_in text added_is scope_same).keeps
+
+-- the same unless it is one already
+abbrev pub kept-unless : (s : Symbol) (old new : Direct) (kept : Kept s old) (listed : Bool) (front bytes : List ℕ) (from : ℕ) (t : Term) (around : Around) (d : Bool)
+    → old.text.list.items ≡ front ++ bytes → from ≡ length front → (listed ≡ false → PrintsAs (detail_of s) kept.scope.names d t bytes false)
+    → (d ≡ true → around.encoding ≡ encoding_place s.bytes)
+    → new.text ≡ old.text → new.candidates.list.items ≡ added_unless old listed from d → new.has_scope ≡ old.has_scope → Kept s new
+kept-unless s old new kept listed front bytes from t around d written from_is prints made_in text added_is scope_same = record {
+  state = unless_listed listed around t kept.state;
+  scope = kept.scope;
+  keeps = keeps-unless s old new kept listed front bytes from t around d written from_is prints made_in text added_is scope_same;
+}
 
 -- ## What waits
 
--- and these wait
-pub stands-same : (s : Symbol) (scope : Scope) (old new : Direct) (os : List Opened) {ws : List Open} → new.text ≡ old.text → reverse new.waiting.list.items ≡ ws
-    → Stands s scope ws os old.text.list.items → Stands s scope (reverse new.waiting.list.items) os new.text.list.items
-stands-same s scope old new os {ws = ws} text waits stands =
-    subst (λ v. Stands s scope (reverse new.waiting.list.items) os v.list.items) (sym text) (subst (λ ws. Stands s scope ws os old.text.list.items) (sym waits) stands)
+-- a type is expected after the same text, for what was opened last
+abbrev pub awaited-in : (s : Symbol) (scope : Scope) (old new : Direct) (around : Around) (os : List Opened) {ws : List Open}
+    → new.text.list.items ≡ old.text.list.items → reverse new.waiting.list.items ≡ ws → around.prefix ≡ outermost → Stands s scope ws os old.text.list.items
+    → IsScoped scope around ws → AwaitsTypeIn s scope new
+awaited-in s scope old new around os {ws = ws} text waits outside stands scoped = record {
+  os = os;
+  around = around;
+  outside = outside;
+  stands = subst (λ l. Stands s scope (reverse new.waiting.list.items) os l) (sym text) (subst (λ ws. Stands s scope ws os old.text.list.items) (sym waits) stands);
+  scoped = subst (λ ws. IsScoped scope around ws) (sym waits) scoped;
+}
 
--- a type comes next, for what was opened last
-pub type-comes : (s : Symbol) {scope : Scope} (old new : Direct) (st : State) (around : Around) (os : List Opened) {ws : List Open} → Keeps s scope old st.candidates
+-- it comes next
+pub type-comes : (s : Symbol) (old new : Direct) (kept : Kept s old) (around : Around) (os : List Opened) {ws : List Open}
     → new.text ≡ old.text → new.candidates ≡ old.candidates → new.has_scope ≡ old.has_scope → reverse new.waiting.list.items ≡ ws
-    → around.prefix ≡ outermost → ExpectsType s around os new.at st → Stands s scope ws os old.text.list.items → IsScoped scope around ws
+    → around.prefix ≡ outermost → ExpectsType s around os new.at kept.state → Stands s kept.scope ws os old.text.list.items → IsScoped kept.scope around ws
     → IsWriting s new steps.Type
-type-comes s {scope = scope} old new st around os keeps text candidates scope_same waits outside expects stands scoped = record {
-  state = st;
-  scope = scope;
-  keeps = keeps-same s old new st.candidates text candidates scope_same keeps;
-  is_before = (
-    os,
-    around,
-    outside,
-    expects,
-    stands-same s scope old new os text waits stands,
-    subst (λ ws. IsScoped scope around ws) (sym waits) scoped,
-  );
+type-comes s old new kept around os text candidates scope_same waits outside expects stands scoped = record {
+  kept = kept-same s old new text candidates scope_same kept;
+  is_before = (awaited-in s kept.scope old new around os (ap (λ v. v.list.items) text) waits outside stands scoped, expects);
 }
 
 -- a type was read
-pub value-comes : (s : Symbol) {scope : Scope} (w : Direct) (st : State) (os : List Opened) (t : Term) (front bytes : List ℕ) (r d : Bool) {ws : List Open}
-    → Keeps s scope w st.candidates → w.text.list.items ≡ front ++ bytes → PrintsAs (detail_of s) scope.names d t bytes r → reverse w.waiting.list.items ≡ ws
-    → (d ≡ true → IsNaming s scope ws) → Comes s os (tree t true) w.at st → Stands s scope ws os front → IsWriting s w (steps.Value r d)
-value-comes s {scope = scope} w st os t front bytes r d keeps written prints waits naming comes stands = record {
-  state = st;
-  scope = scope;
-  keeps = keeps;
-  is_before = (
-    os,
-    t,
-    front,
-    bytes,
-    written,
-    prints,
-    λ e. subst (λ ws. IsNaming s scope ws) (sym waits) (naming e),
-    comes,
-    subst (λ ws. Stands s scope ws os front) (sym waits) stands,
-  );
+pub value-comes : (s : Symbol) (w : Direct) (kept : Kept s w) (os : List Opened) (t : Term) (front bytes : List ℕ) (r d : Bool) {ws : List Open}
+    → w.text.list.items ≡ front ++ bytes → PrintsAs (detail_of s) kept.scope.names d t bytes r → reverse w.waiting.list.items ≡ ws
+    → (d ≡ true → IsNaming s kept.scope ws) → Comes s os (tree t true) w.at kept.state → Stands s kept.scope ws os front → IsWriting s w (steps.Value r d)
+value-comes s w kept os t front bytes r d written prints waits naming comes stands = record {
+  kept = kept;
+  is_before = subst (λ ws. IsTypeRead s kept.scope w kept.state ws r d) (sym waits) (record {
+    os = os;
+    own = t;
+    front = front;
+    bytes = bytes;
+    written = written;
+    prints = prints;
+    naming = naming;
+    comes = comes;
+    stands = stands;
+  });
 }
 
 -- it became a candidate
-pub value-added : (s : Symbol) {scope : Scope} (old new : Direct) (st : State) (os : List Opened) (around : Around) (t : Term) (front bytes : List ℕ) (from : ℕ) (r d : Bool)
-    {ws : List Open} → Keeps s scope old st.candidates → old.text.list.items ≡ front ++ bytes → from ≡ length front → PrintsAs (detail_of s) scope.names d t bytes r
+pub value-added : (s : Symbol) (old new : Direct) (kept : Kept s old) (os : List Opened) (around : Around) (t : Term) (front bytes : List ℕ) (from : ℕ) (r d : Bool)
+    {ws : List Open} → old.text.list.items ≡ front ++ bytes → from ≡ length front → PrintsAs (detail_of s) kept.scope.names d t bytes r
     → (d ≡ true → around.encoding ≡ encoding_place s.bytes) → new.text ≡ old.text → new.candidates.list.items ≡ added old from r d → new.has_scope ≡ old.has_scope
-    → reverse new.waiting.list.items ≡ ws → (d ≡ true → IsNaming s scope ws) → Comes s os (tree t true) new.at (with_candidate around t st)
-    → Stands s scope ws os front → IsWriting s new (steps.Value r d)
-value-added s old new st os around t front bytes from r d keeps written from_is prints made_in text_same added_is scope_same waits naming comes stands =
-    value-comes s new (with_candidate around t st) os t front bytes r d
-    (keeps-with s old new st front bytes from t around r d keeps written from_is prints made_in text_same added_is scope_same)
-    (ap (λ v. v.list.items) text_same ∙ written) prints waits naming comes stands
+    → reverse new.waiting.list.items ≡ ws → (d ≡ true → IsNaming s kept.scope ws) → Comes s os (tree t true) new.at (with_candidate around t kept.state)
+    → Stands s kept.scope ws os front → IsWriting s new (steps.Value r d)
+value-added s old new kept os around t front bytes from r d written from_is prints made_in text added_is scope_same waits naming comes stands =
+    value-comes s new (kept-with s old new kept front bytes from t around r d written from_is prints made_in text added_is scope_same) os t front bytes r d
+    (ap (λ v. v.list.items) text ∙ written) prints waits naming comes stands
 
 -- what may be named within a type may be named in what is open in it
 pub scoped-within : (scope : Scope) (around : Around) (o : Open) (rest : List Open) → arguments_in o ≡ None
@@ -297,11 +313,11 @@ candidate-found {s} {names} text (x ∷ ks) (y ∷ cs) zero k p ordered found = 
 candidate-found text (x ∷ ks) (y ∷ cs) (suc n) k p ordered found = candidate-found text ks cs n k p.1 ordered found
 
 -- so its text can be written once more
-pub candidate-inside : (s : Symbol) {scope : Scope} (w : Direct) (cs : List values.Candidate) (n : ℕ) (k : Candidate) → Keeps s scope w cs → k.from ≤ k.to
+pub candidate-inside : (s : Symbol) (w : Direct) (n : ℕ) (k : Candidate) → Kept s w → k.from ≤ k.to
     → slice_get w.candidates.list.items n ≡ Some k → (k.from ≤ k.to) × (k.to ≤ length w.text.list.items)
-candidate-inside s w cs n k keeps ordered found =
-    let c = candidate-found w.text.list.items w.candidates.list.items cs n k keeps.candidates ordered found in
-    let piece = piece-found w.text.list.items c.2.front c.2.bytes c.2.back k.from k.to c.2.written c.2.from_is c.2.to_is in
+candidate-inside s w n k kept ordered found =
+    let c = candidate-found w.text.list.items w.candidates.list.items kept.state.candidates n k kept.keeps.candidates ordered found in
+    let piece = piece-found w.text.list.items c.2.bytes k.from k.to c.2.placed in
     (piece.0, piece.1)
 
 -- ## What is open
@@ -331,12 +347,8 @@ nest-stays front bytes text more nest t p = record {
   from_is = p.from_is;
   prints = p.prints;
   closed = p.closed;
-  class_front = p.class_front;
   class = p.class;
-  class_back = p.class_back ++ more;
-  class_written = piece-stays text p.class_front p.class p.class_back more p.class_written;
-  class_from = p.class_from;
-  class_to = p.class_to;
+  class_placed = placed-moved text more p.class refl refl refl p.class_placed;
   names_class = p.names_class;
 }
 
@@ -369,20 +381,18 @@ pub record OpensArguments (detail : Detail) (old new : Direct) (owner : Open) : 
   pub scope : new.has_scope ≡ old.has_scope
 
 -- arguments begin after a name
-pub list-begins : (s : Symbol) (scope : Scope) (old mid new : Direct) (ks : List Candidate) (st : State) (owner : Open) (front name : List ℕ) (t : Term)
-    → Lists old mid ks → OpensArguments (detail_of s) mid new owner → Keeps s scope mid st.candidates
-    → IsTemplate (detail_of s) scope.names owner front t name (old.text.list.items ++ opening_bracket (detail_of s)) → old.text.list.items ≡ front ++ name
-    → ArgumentsGoOn s owner (below s scope (reverse old.waiting.list.items)) front t [] (old.at + 1) st
+pub list-begins : (s : Symbol) (old mid new : Direct) (ks : List Candidate) (kept : Kept s mid) (owner : Open) (front name : List ℕ) (t : Term)
+    → Lists old mid ks → OpensArguments (detail_of s) mid new owner
+    → IsTemplate (detail_of s) kept.scope.names owner front t name (old.text.list.items ++ opening_bracket (detail_of s)) → old.text.list.items ≡ front ++ name
+    → ArgumentsGoOn s owner (below s kept.scope (reverse old.waiting.list.items)) front t [] (old.at + 1) kept.state
     → IsWriting s new (steps.List true)
-list-begins s scope old mid new ks st owner front name t lists opening_ keeps template written goes =
+list-begins s old mid new ks kept owner front name t lists opening_ template written goes =
     let bracket = opening_bracket (detail_of s) in
     let text_is : new.text.list.items ≡ old.text.list.items ++ bracket = cc (opening_.text, lists.text) in
     let waiting_is : new.waiting.list.items ≡ old.waiting.list.items ++ owner ∷ [] = cc (opening_.waiting, lists.waiting) in
     let at_is : new.at ≡ old.at + 1 = cc (opening_.at, lists.at) in
     record {
-      state = st;
-      scope = scope;
-      keeps = keeps-grown s mid new bracket st.candidates opening_.text opening_.candidates opening_.scope keeps;
+      kept = kept-grown s mid new bracket opening_.text opening_.candidates opening_.scope kept;
       is_before = (
         record {
           listing = of_template;
@@ -392,7 +402,7 @@ list-begins s scope old mid new ks st owner front name t lists opening_ keeps te
           front = front;
           template = t;
           name = name;
-          is_template = subst (λ l. IsTemplate (detail_of s) scope.names owner front t name l) (sym text_is) template;
+          is_template = subst (λ l. IsTemplate (detail_of s) kept.scope.names owner front t name l) (sym text_is) template;
         },
         [],
         [],
@@ -400,7 +410,7 @@ list-begins s scope old mid new ks st owner front name t lists opening_ keeps te
         text_is ∙ ap (λ l. l ++ bracket) written ∙ sym (append-nil (front ++ name ++ bracket)),
         (λ e. refl),
         (λ e. absurd (false≢true (sym e))),
-        subst (λ n. ArgumentsGoOn s owner (below s scope (reverse old.waiting.list.items)) front t [] n st) (sym at_is) goes,
+        subst (λ n. ArgumentsGoOn s owner (below s kept.scope (reverse old.waiting.list.items)) front t [] n kept.state) (sym at_is) goes,
       );
     }
 
@@ -428,13 +438,15 @@ candidate-kept text kept rest k c is p within =
     let own = p.front ++ p.bytes in
     let more = length kept - length own in
     record {
-      front = p.front;
       bytes = p.bytes;
-      back = take more p.back;
-      written = sym (take-append_seam kept rest) ∙ ap (λ l. take (length kept) l) (sym is ∙ p.written)
-          ∙ front-more (length kept) more own p.back (omega (arith, within, p.to_is, length-append p.front p.bytes));
-      from_is = p.from_is;
-      to_is = p.to_is;
+      placed = record {
+        front = p.front;
+        back = take more p.back;
+        written = sym (take-append_seam kept rest) ∙ ap (λ l. take (length kept) l) (sym is ∙ p.written)
+            ∙ front-more (length kept) more own p.back (omega (arith, within, p.to_is, length-append p.front p.bytes));
+        from_is = p.from_is;
+        to_is = p.to_is;
+      };
       prints = p.prints;
       made_in = p.made_in;
     }

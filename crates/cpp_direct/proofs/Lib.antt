@@ -10,12 +10,12 @@ pub mod Kept
 pub mod LettersTested
 pub mod Listed
 pub mod Moves
-pub mod MovesOfComponents
 pub mod MovesOfEncodings
 pub mod MovesOfLists
 pub mod MovesOfLocals
 pub mod MovesOfNests
 pub mod MovesOfTypes
+pub mod NameLanes
 pub mod NamePlaces
 pub mod NamedArguments
 pub mod NestComponents

@@ -22,7 +22,7 @@ use Rattle.cpp_direct.specs.declared.direct.Direct.{Direct}
 use Rattle.cpp_direct.specs.Holes.{Opened, Comes, IsListKind, ListGoesOn, StandsAt, AwaitsComponent, with_candidate}
 use Rattle.cpp_direct.specs.HolesOfLists.{IsArgumentKind}
 use Rattle.cpp_direct.specs.Prints.{Names, PrintAllAs, PrintsAs, list_of}
-use Rattle.cpp_direct.specs.WriterInvariant.{Below, HasArguments, arguments_in, below, IsListing, IsNaming, IsScoped, Keeps, Scope, scoped_in, is_noted, may_name, IsNest, IsTail, IsTemplate, IsWriting, Owns, Serves, ArgumentsGoOn, AwaitsElementOf, AwaitsEnumerator, Belongs, Closes, ElementsGoOn, EnumeratorGoesOn, GoesOn, Listing, of_template, of_pack, Stands, element_kind, extra_of, led_by, list_with, in_front_of_next, nowhere}
+use Rattle.cpp_direct.specs.WriterInvariant.{Below, HasArguments, arguments_in, below, IsListing, IsNaming, IsScoped, Scope, scoped_in, is_noted, may_name, IsNest, IsTail, IsTemplate, IsWriting, Owns, Serves, ArgumentsGoOn, AwaitsElementOf, AwaitsEnumerator, Belongs, Closes, ElementsGoOn, EnumeratorGoesOn, GoesOn, Listing, of_template, of_pack, Stands, element_kind, extra_of, led_by, list_with, in_front_of_next, nowhere, Kept}
 use Rattle.cpp_direct.specs.MidStep.{AreKnown, IsListEnded, AwaitsNextArgument, IsNameEnded}
 use Rattle.cpp_direct.specs.Written.{Writes, added}
 use Rattle.cpp_direct.proofs.Moves.{expects-empty, stands-split}
@@ -31,8 +31,8 @@ use Rattle.cpp_direct.proofs.PrintedLists.{element-as, list-more, list-with-none
 use Rattle.cpp_direct.proofs.PrintedNames.{as-name}
 use Rattle.cpp_direct.proofs.PrintedNests.{instance-as, instance-prints, instance-class}
 use Rattle.cpp_direct.proofs.PrintedTypes.{prints-as}
-use Rattle.cpp_direct.proofs.Scopes.{element-there, instance-returns, known-stay, none-scoped, structor-returns, plain-named}
-use Rattle.cpp_direct.proofs.Kept.{keeps-grown, keeps-same, keeps-with, made-here, scoped-within, template-stays, type-comes, value-added, reverse-last, last-reversed, type-named, none-known}
+use Rattle.cpp_direct.proofs.Scopes.{element-there, instance-returns, known-stay, none-scoped, structor-returns, has-plain}
+use Rattle.cpp_direct.proofs.Kept.{kept-grown, kept-same, made-here, scoped-within, template-stays, type-comes, value-added, reverse-last, last-reversed, type-named, none-known, kept-with}
 
 -- ## What is open
 
@@ -123,9 +123,8 @@ in-front (t ∷ ts) l false none some = refl
 
 -- The arguments of what was opened last are read and written.
 pub record IsClosed (s : Symbol) (w : Direct) (owner : Open) : Type 0 where
-  pub state : State
-  pub scope : Scope
-  pub keeps : Keeps s scope w state.candidates
+  pub kept : Kept s w
+  pub open kept use *
   pub front : List ℕ
   pub template : Term
   pub name : List ℕ
@@ -154,9 +153,7 @@ closed-by s old mid new x owner p writes same candidates scope_same at items is 
     let last = opened-last old.waiting.list.items new.waiting.list.items owner p.owner p.rest p.open_is opened in
     let made = instance p.template (list_with p.ts p.tail) in
     record {
-      state = p.state;
-      scope = scope;
-      keeps = keeps-grown s old new (closing_bracket (detail_of s)) p.state.candidates text (candidates ∙ writes.candidates) (scope_same ∙ writes.scope) p.keeps;
+      kept = kept-grown s old new (closing_bracket (detail_of s)) text (candidates ∙ writes.candidates) (scope_same ∙ writes.scope) p.kept;
       front = p.front;
       template = p.template;
       name = p.name;
@@ -188,19 +185,19 @@ closed-arguments s w owner p k known = elim (p.known k known) [
     all_are = refl;
     there = λ e. element-there p.ts p.tail k h.1.own h.1.there;
     elements = [];
-    alone = λ e. absurd (false≢true (sym h.0 ∙ e));
+    packed = λ e. absurd (false≢true (sym h.0 ∙ e));
     prints = h.1.prints;
   }
   | inr h ↦ record {
-    bytes = h.4.bytes;
-    placed = h.4.placed;
-    own = h.4.own;
+    bytes = h.5.bytes;
+    placed = h.5.placed;
+    own = h.5.own;
     all = list_with p.ts p.tail;
     all_are = refl;
     there = λ e. absurd (false≢true (sym e ∙ h.0));
     elements = h.1;
-    alone = λ e. (h.2, h.4.there, h.3);
-    prints = h.4.prints;
+    packed = λ e. (h.2, h.3, h.5.there, h.4);
+    prints = h.5.prints;
   }
 ]
 
@@ -215,7 +212,7 @@ type-closed s w new from is_dependent p candidates text waiting scope_same at =
     let around = p.owns.1 in
     let prints = instance-as (detail_of s) scope.names is_dependent p.template p.name
     (prints-as (detail_of s) scope.names is_dependent p.template p.name false p.is_template.1) p.ts p.tail p.arguments p.is_tail p.elements in
-    value-added s w new p.state p.owns.0 around t p.front bytes from false is_dependent p.keeps p.written p.is_template.0 prints
+    value-added s w new p.kept p.owns.0 around t p.front bytes from false is_dependent p.written p.is_template.0 prints
     (λ named. made-here s scope around (reverse w.waiting.list.items) p.owns.3 (p.owns.4 named)) text candidates scope_same
     (ap (λ v. reverse v.list.items) waiting) p.owns.4
     (subst (λ n. Comes s p.owns.0 (tree t true) n (with_candidate around t p.state)) (sym at) p.owns.2) p.owns.5
@@ -231,12 +228,8 @@ instance-nest {detail} names front name text nest is_listed is_instance t ts tai
   from_is = p.from_is;
   prints = instance-as detail names nest.is_dependent t name p.prints ts tail l is all;
   closed = p.closed;
-  class_front = p.class_front;
   class = p.class;
-  class_back = p.class_back;
-  class_written = p.class_written;
-  class_from = p.class_from;
-  class_to = p.class_to;
+  class_placed = p.class_placed;
   names_class = λ h plain. instance-class t name p.class (subst (λ d. PrintsAs detail names d t name false) plain p.prints) (p.names_class h plain)
       ts tail l is (subst (λ d. PrintAllAs detail names d 3 ts l) plain all);
 }
@@ -248,22 +241,22 @@ nest-closed s w nest p =
     let new : Direct = record w { nest = record nest { is_listed = false; is_instance = true } } in
     let t = instance p.template (list_with p.ts p.tail) in
     record {
-      state = p.state;
-      scope = p.scope;
-      keeps = keeps-same s w new p.state.candidates refl refl refl p.keeps;
+      kept = kept-same s w new refl refl refl p.kept;
       is_before = (
         t,
         record {
-          front = p.front;
-          around = p.owns.0;
-          outer = p.owns.1;
-          bytes = p.name ++ opening_bracket (detail_of s) ++ p.arguments ++ closing_bracket (detail_of s);
-          written = p.written;
-          is_nest = instance-nest p.scope.names p.front p.name w.text.list.items nest false true p.template p.ts p.tail p.arguments p.is_tail p.is_template.0
-              p.elements p.written;
+          so_far = record {
+            around = p.owns.0;
+            outer = p.owns.1;
+            front = p.front;
+            bytes = p.name ++ opening_bracket (detail_of s) ++ p.arguments ++ closing_bracket (detail_of s);
+            written = p.written;
+            is_nest = instance-nest p.scope.names p.front p.name w.text.list.items nest false true p.template p.ts p.tail p.arguments p.is_tail p.is_template.0
+                p.elements p.written;
+            scoped = record { scoped = p.owns.3; naming = p.owns.4 };
+            serves = p.owns.5;
+          };
           goes = p.owns.2;
-          scoped = record { scoped = p.owns.3; naming = p.owns.4 };
-          serves = p.owns.5;
         },
         (λ own h. structor-returns p.template (list_with p.ts p.tail) (p.is_template.1 own h)),
         (λ h. instance-returns p.template (list_with p.ts p.tail) (p.is_template.2 h)),
@@ -287,25 +280,25 @@ first-closed s w new nest p candidates text waiting scope_same at =
     = instance-nest scope.names p.front p.name w.text.list.items nest nest.is_listed nest.is_instance p.template p.ts p.tail p.arguments p.is_tail p.is_template
     p.elements p.written in
     record {
-      state = state;
-      scope = scope;
-      keeps = keeps-with s w now p.state p.front bytes nest.from t around false nest.is_dependent p.keeps p.written p.is_template.from_is is_nest.prints
+      kept = kept-with s w now p.kept p.front bytes nest.from t around false nest.is_dependent p.written p.is_template.from_is is_nest.prints
           (λ named. made-here s scope around (reverse w.waiting.list.items) (p.owns.3 (type-named nest.purpose nest.is_dependent p.is_template.closed named))
           (p.owns.4 named)) text candidates scope_same;
       is_before = (
         t,
-        p.front,
-        bytes,
-        around,
-        outer,
-        subst (λ v. v.list.items ≡ p.front ++ bytes) (sym text) p.written,
-        subst (λ v. IsNest (detail_of s) scope.names p.front bytes v.list.items nest t) (sym text) is_nest,
-        subst (λ n. AwaitsComponent s outer around t n state) (sym at) p.owns.2,
         record {
-          scoped = λ within. subst (λ v. IsScoped scope around (reverse v.list.items)) (sym waiting) (p.owns.3 within);
-          naming = λ named. subst (λ v. IsNaming s scope (reverse v.list.items)) (sym waiting) (p.owns.4 named);
+          around = around;
+          outer = outer;
+          front = p.front;
+          bytes = bytes;
+          written = subst (λ v. v.list.items ≡ p.front ++ bytes) (sym text) p.written;
+          is_nest = subst (λ v. IsNest (detail_of s) scope.names p.front bytes v.list.items nest t) (sym text) is_nest;
+          scoped = record {
+            scoped = λ within. subst (λ v. IsScoped scope around (reverse v.list.items)) (sym waiting) (p.owns.3 within);
+            naming = λ named. subst (λ v. IsNaming s scope (reverse v.list.items)) (sym waiting) (p.owns.4 named);
+          };
+          serves = subst (λ v. Serves s nest.purpose (below s scope (reverse v.list.items)) outer p.front) (sym waiting) p.owns.5;
         },
-        subst (λ v. Serves s nest.purpose (below s scope (reverse v.list.items)) outer p.front) (sym waiting) p.owns.5,
+        subst (λ n. AwaitsComponent s outer around t n state) (sym at) p.owns.2,
       );
     }
 
@@ -315,17 +308,9 @@ name-closed s w from p =
     let t = instance p.template (list_with p.ts p.tail) in
     let bytes = p.name ++ opening_bracket (detail_of s) ++ p.arguments ++ closing_bracket (detail_of s) in
     record {
-      state = p.state;
-      scope = p.scope;
-      keeps = p.keeps;
-      own = t;
-      v = tree t false;
-      named_so = plain-named t;
-      lead = p.front;
-      name = bytes;
-      written = p.written;
-      from_is = p.is_template.0;
-      prints = as-name t bytes false (instance-prints p.template p.name p.is_template.1 p.ts p.tail p.arguments p.is_tail p.elements);
+      kept = p.kept;
+      has = has-plain s w.text.list.items from t p.front bytes p.written p.is_template.0
+          (as-name t bytes false (instance-prints p.template p.name p.is_template.1 p.ts p.tail p.arguments p.is_tail p.elements));
       no_return = λ h. absurd (false≢true (sym h));
       returns = λ h. instance-returns p.template (list_with p.ts p.tail) p.is_template.2;
       names = closed-arguments s w (opens.NameArguments from) p;
@@ -365,9 +350,7 @@ ended-so s w first owner to tail is_tail p found other owns =
     let last = last-found w.waiting.list.items owner found in
     let a = template-listed s w p.state place ts texts texts (λ rest e. other (cc (sym last.1 ∙ e))) p.is_before.3 p.is_before.4 p.is_before.7 in
     record {
-      state = p.state;
-      scope = p.scope;
-      keeps = keeps-same s w (record w { at = to }) p.state.candidates refl refl refl p.keeps;
+      kept = kept-same s w (record w { at = to }) refl refl refl p.kept;
       owner = place.owner;
       rest = place.rest;
       open_is = a.0;
@@ -444,9 +427,7 @@ pack-ends s w new p stands found text candidates scope_same at popped = go p.is_
         let made = pack (list_of us) in
         let same : new.text.list.items ≡ w.text.list.items = ap (λ v. v.list.items) text in
         record {
-          state = p.state;
-          scope = p.scope;
-          keeps = keeps-same s w new p.state.candidates text candidates scope_same p.keeps;
+          kept = kept-same s w new text candidates scope_same p.kept;
           is_before = (
             record {
               listing = of_template;
@@ -483,9 +464,7 @@ argument-expected s w new first p text candidates waiting scope_same at =
     let texts = p.is_before.2 in
     let led = led_by (detail_of s) place.listing place.front place.name in
     record {
-      state = p.state;
-      scope = p.scope;
-      keeps = keeps-grown s w new (comma first) p.state.candidates text candidates scope_same p.keeps;
+      kept = kept-grown s w new (comma first) text candidates scope_same p.kept;
       place = listing-stays (reverse new.waiting.list.items) (comma first) new.text.list.items place (ap (λ v. reverse v.list.items) waiting) text;
       ts = ts;
       texts = texts;
@@ -535,9 +514,7 @@ pack-begins s old new owner a stands found other waits at text candidates scope_
     let last = last-found old.waiting.list.items owner found in
     let l = template-listed s old a.state p a.ts a.texts (in_front_of_next a.ts a.texts) (λ rest e. other (cc (sym last.1 ∙ e))) a.elements a.written a.goes in
     record {
-      state = a.state;
-      scope = a.scope;
-      keeps = keeps-same s old new a.state.candidates text candidates scope_same a.keeps;
+      kept = kept-same s old new text candidates scope_same a.kept;
       is_before = (
         record {
           listing = of_pack a.ts a.texts;
@@ -687,7 +664,7 @@ type-expected s w a =
     let scope = a.scope in
     let kind = element_kind p.listing in
     let element = element-awaits s kind a.goes.1 a.goes.0 w.at a.state (list-kind p.listing) a.goes.4 in
-    type-comes s w w a.state a.goes.0 element.inner a.keeps refl refl refl refl a.goes.2 (inr (inl element.awaits))
+    type-comes s w w a.kept a.goes.0 element.inner refl refl refl refl a.goes.2 (inr (inl element.awaits))
     (list-stands s scope (reverse w.waiting.list.items) element.inner w.text.list.items (record {
       place = p;
       ts = a.ts;

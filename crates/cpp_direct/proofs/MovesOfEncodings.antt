@@ -29,7 +29,7 @@ use Rattle.cpp_direct.specs.HolesOfLists.{const_letter, EncodingOpened, SpecialO
 use Rattle.cpp_direct.specs.Letters.{special_letters}
 use Rattle.cpp_direct.proofs.Moves.{Hole, Filled, hole, open_at, fill, filled-at, hole-at, chosen-byte, eats, leaves, is_eaten, byte-opens, chain-opens, byte-fills, next-part, closes, none-fills, fixed-fills, name-fills, first-named, is_left, stands-split}
 use Rattle.cpp_direct.proofs.LettersTested.{each_passes, tested, IsOperator}
-use Rattle.cpp_direct.proofs.MovesOfComponents.{named-by, named-outside, operator-fills}
+use Rattle.cpp_direct.proofs.MovesOfNests.{named-by, named-outside, operator-fills}
 use Rattle.cpp_direct.proofs.MovesOfLists.{integer-fills}
 use Rattle.cpp_direct.proofs.Tables.{stands-by}
 

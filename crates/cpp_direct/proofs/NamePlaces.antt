@@ -40,7 +40,13 @@ piece-at s before own behind rest at from to le e from_is to_is =
     let whole : s ≡ front ++ own ++ (behind ++ rest) =
     sym (take-append-drop at s) ∙ ap (λ l. take at s ++ l) (e ∙ append_assoc (before ++ own) behind rest ∙ append_assoc before own (behind ++ rest))
     ∙ sym (append_assoc (take at s) before (own ++ (behind ++ rest))) ∙ sym (append_assoc front own (behind ++ rest)) in
-    piece-found s front own (behind ++ rest) from to whole (from_is ∙ sym size) (to_is ∙ ap (λ n. n + length own) (sym size))
+    piece-found s own from to (record {
+      front = front;
+      back = behind ++ rest;
+      written = whole;
+      from_is = from_is ∙ sym size;
+      to_is = to_is ∙ ap (λ n. n + length own) (sym size);
+    })
 
 -- a place that was found is that of a token
 pub place-found : (Is : Token → Type 0) (s : List ℕ) (at : ℕ) (r : Result TokenPlace ℕ) (o : Option TokenPlace) (place : TokenPlace)

@@ -17,7 +17,7 @@ use Rattle.cpp_direct.specs.declared.open.Candidate.{Candidate}
 use Rattle.cpp_direct.specs.declared.open.Mark.{Mark}
 use Rattle.cpp_direct.specs.declared.open.Open.{Open}
 use Rattle.cpp_direct.specs.Prints.{AreSingle, IsGiven, Named, Names, Prints, PrintsAs, PrintsGiven}
-use Rattle.cpp_direct.specs.WriterInvariant.{AreCandidates, HasArguments, IsCandidate, IsNaming, IsPlaced, IsScopeOf, IsScoped, IsSingle, Keeps, Scope, argument_of, encoding_place, place_of}
+use Rattle.cpp_direct.specs.WriterInvariant.{AreCandidates, HasArguments, IsCandidate, IsNaming, IsPlaced, IsScopeOf, IsScoped, IsSingle, Scope, argument_of, encoding_place, place_of, Kept}
 use Rattle.cpp_direct.specs.MidStep.{IsNameEnded, IsNameScoped}
 use Rattle.cpp_direct.proofs.Kept.{encoded-here, piece-found}
 use Rattle.cpp_direct.proofs.MovesOfTypes.{no-pack-named, substituted-open}
@@ -50,7 +50,7 @@ single-some false p own n e = absurd (false≢true (ap is_some e))
 text-there : (text : List ℕ) (p : Argument) (bytes : List ℕ) → IsSingle p → IsPlaced text p bytes
     → text_at text p ≡ Some (record { bytes = bytes; reference = p.is_reference })
 text-there text p bytes single placed =
-    let found = piece-found text placed.front bytes placed.back p.from p.to placed.written placed.from_is placed.to_is in
+    let found = piece-found text bytes p.from p.to placed in
     let named : List ℕ → Option Named = λ l. Some (record { bytes = l; reference = p.is_reference }) in
     ap (λ b. single_text b p.is_pack (own_at text p)) (le-leb p.from p.to single.0) ∙ ap (λ b. single_text true b (own_at text p)) single.1
     ∙ ap named found.2
@@ -76,7 +76,7 @@ arguments-given {detail} text a own has number n is =
         let p = place_of a k in
         let single = text-single text p m e in
         let h = has k single.0.0 in
-        let found = piece-found text h.placed.front h.bytes h.placed.back p.from p.to h.placed.written h.placed.from_is h.placed.to_is in
+        let found = piece-found text h.bytes p.from p.to h.placed in
         let same : h.all ≡ all = some-same h.all all (sym h.all_are ∙ all_are) in (
           h.own,
           subst (λ t. element t k ≡ h.own) same (h.there single.0.1).0,
@@ -94,12 +94,8 @@ as-more detail names false t bytes r p = p
 candidate-given : (s : Symbol) (names : Names) (text : List ℕ) (k : Candidate) (c : values.Candidate) → IsCandidate s (λ number. None) text k c
     → IsCandidate s names text k c
 candidate-given s names text k c p = record {
-  front = p.front;
   bytes = p.bytes;
-  back = p.back;
-  written = p.written;
-  from_is = p.from_is;
-  to_is = p.to_is;
+  placed = p.placed;
   prints = as-more (detail_of s) names k.is_dependent c.tree p.bytes k.is_reference p.prints;
   made_in = p.made_in;
 }
@@ -119,27 +115,22 @@ pub scope-begins : (s : Symbol) (old new : Direct) (mark : Mark) (is_instance : 
 scope-begins s old new mark is_instance argument a from p same encoded first new_is =
     subst (λ (w : Direct). IsNameScoped s w mark is_instance a from) (sym new_is) (record {
       ended = record {
-        state = p.state;
-        scope = scope;
-        keeps = record {
-          candidates = candidates-given s scope.names text old.candidates.list.items p.state.candidates
-              (subst (λ (k : Scope). AreCandidates s k.names text old.candidates.list.items p.state.candidates) (p.keeps.unknown first) p.keeps.candidates);
-          named = λ number single. let h = names number single.0 in
-              (h.bytes, text-there text (place_of a number) h.bytes single h.placed, h.placed);
-          own = record {
-            encoded = λ real. (encoded real).1;
-            single = λ number n e. (text-single text (place_of a number) n e).0;
+        kept = record {
+          state = p.state;
+          scope = scope;
+          keeps = record {
+            candidates = candidates-given s scope.names text old.candidates.list.items p.state.candidates
+                (subst (λ (k : Scope). AreCandidates s k.names text old.candidates.list.items p.state.candidates) (p.keeps.unknown first) p.keeps.candidates);
+            named = λ number single. let h = names number single.0 in
+                (h.bytes, text-there text (place_of a number) h.bytes single h.placed, h.placed);
+            own = record {
+              encoded = λ real. (encoded real).1;
+              single = λ number n e. (text-single text (place_of a number) n e).0;
+            };
+            unknown = λ e. absurd (false≢true (sym e));
           };
-          unknown = λ e. absurd (false≢true (sym e));
         };
-        own = p.own;
-        v = p.v;
-        named_so = p.named_so;
-        lead = p.lead;
-        name = p.name;
-        written = p.written;
-        from_is = p.from_is;
-        prints = p.prints;
+        has = p.has;
         no_return = p.no_return;
         returns = p.returns;
         names = names;
@@ -162,12 +153,12 @@ scope-begins s old new mark is_instance argument a from p same encoded first new
 -- ## Where they are named
 
 -- types may name the arguments of the symbol's own name here
-pub named-here : (s : Symbol) {scope : Scope} (w : Direct) (cs : List values.Candidate) (around : Around) (all : Arguments) → Keeps s scope w cs
-    → IsScoped scope around (reverse w.waiting.list.items) → argument_of (reverse w.waiting.list.items) ≡ Some all → all.encoding ≢ 0
-    → IsNaming s scope (reverse w.waiting.list.items)
-named-here s {scope = scope} w cs around all keeps scoped found real =
-    let same : scope.arguments ≡ all = (scoped all found).0 in
-    (found ∙ ap (λ (a : Arguments). Some a) (sym same), keeps.own.encoded (λ none. real (ap (λ (a : Arguments). a.encoding) (sym same) ∙ none)))
+pub named-here : (s : Symbol) (w : Direct) (kept : Kept s w) (around : Around) (all : Arguments)
+    → IsScoped kept.scope around (reverse w.waiting.list.items) → argument_of (reverse w.waiting.list.items) ≡ Some all → all.encoding ≢ 0
+    → IsNaming s kept.scope (reverse w.waiting.list.items)
+named-here s w kept around all scoped found real =
+    let same : kept.scope.arguments ≡ all = (scoped all found).0 in
+    (found ∙ ap (λ (a : Arguments). Some a) (sym same), kept.keeps.own.encoded (λ none. real (ap (λ (a : Arguments). a.encoding) (sym same) ∙ none)))
 
 -- those that may be named are no packs
 named-single : (s : Symbol) (scope : Scope) (around : Around) (open_ : List Open) (arguments : Term) → IsScopeOf s scope → IsScoped scope around open_

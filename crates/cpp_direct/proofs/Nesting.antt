@@ -3,8 +3,8 @@ use Rattle.sym_print.specs.declared.detail.Detail.{Detail}
 use Rattle.cpp_direct.specs.WrittenParts.{opening_bracket}
 use Rattle.cpp_direct.specs.declared.open.Arguments.{Arguments}
 use Rattle.cpp_direct.proofs.Unmarked.{name-unmarked}
-use Rattle.cpp_direct.proofs.Scopes.{scoped-inside, member-named}
-use Rattle.std.proofs.Common.{◌≡◌, ◌≢◌, ℕ, ◌+◌, ◌-◌, ◌≤◌, List, [], ◌∷◌, ◌++◌, length, take, drop, reverse, slice_get, Bool, true, false, Some, refl, ap, sym, ◌∙◌, subst, arith, codes, append-nil, append_assoc, ◌&&◌, length-append, Ok}
+use Rattle.cpp_direct.proofs.Scopes.{scoped-inside, has-member}
+use Rattle.std.proofs.Common.{◌≡◌, ◌≢◌, ℕ, ◌+◌, ◌-◌, ◌≤◌, List, [], ◌∷◌, ◌++◌, length, take, drop, reverse, slice_get, Bool, true, false, Some, refl, ap, sym, ◌∙◌, subst, arith, codes, append-nil, append_assoc, ◌&&◌, Ok}
 use Rattle.std.proofs.lemmas.Bool.{false≢true}
 use Rattle.sym_core.specs.declared.NumberKind.TheVariants.{Seq36}
 use Rattle.sym_core.specs.Value.{counted_value}
@@ -21,7 +21,6 @@ use Rattle.cpp_grammar.specs.Values.{State, Around, tree, named}
 use Rattle.cpp_grammar.specs.Between.{with_tag, after, inside, no_items}
 use Rattle.cpp_direct.specs.Symbol.{detail_of, Symbol}
 use Rattle.cpp_direct.specs.declared.open.Mark.{Mark}
-use Rattle.cpp_direct.specs.Marks.{has_const, called_on}
 use Rattle.cpp_direct.specs.declared.open.Candidate.{Candidate}
 use Rattle.cpp_direct.specs.declared.open.Nest.{Nest}
 use Rattle.cpp_direct.specs.declared.open.Purpose.{Purpose}
@@ -34,16 +33,15 @@ use Rattle.cpp_direct.specs.Holes.{Opened, Comes, StandsAt, IsNameAt, IsSeqAt, S
 use Rattle.cpp_direct.specs.HolesOfNests.{IsRest, IsFirstRest}
 use Rattle.cpp_direct.specs.Names.{tag_text}
 use Rattle.cpp_direct.specs.Prints.{Names, Prints, PrintsAs, NamesClass}
-use Rattle.cpp_direct.specs.WriterInvariant.{HasArguments, IsNaming, IsNest, IsNestScoped, IsNesting, IsOwn, IsScoped, Keeps, Scope, Serves, IsWriting, below, encoding_place, is_type, qualifiers, IsKnown, nowhere, place_of, IsScopeOf, argument_of}
+use Rattle.cpp_direct.specs.WriterInvariant.{HasArguments, IsNaming, IsNest, IsNestScoped, IsNesting, IsOwn, IsScoped, Scope, Serves, IsWriting, below, encoding_place, is_type, IsKnown, nowhere, place_of, IsScopeOf, argument_of, Kept, IsNestSoFar}
 use Rattle.cpp_direct.specs.MidStep.{AwaitsNest, IsNestKnown, IsNestNamed, IsNameEnded, IsOperatorRead}
 use Rattle.cpp_direct.specs.Written.{Reads, added, added_unless}
 use Rattle.cpp_direct.proofs.Moves.{alone-arguments, any-tail, expects-empty, stands-join, comes-moved}
-use Rattle.cpp_direct.proofs.Kept.{keeps-grown, keeps-read, keeps-same, keeps-with, keeps-unless, made-here, candidate-found, piece-found, nest-stays, value-comes, Lists, OpensArguments, list-begins, type-named, none-known}
-use Rattle.cpp_direct.proofs.MovesOfComponents.{component-awaits, component-outside, any-arguments, instance-arguments, nest-end, tag-follows}
+use Rattle.cpp_direct.proofs.Kept.{kept-grown, kept-read, kept-same, made-here, candidate-found, piece-found, nest-stays, value-comes, Lists, OpensArguments, list-begins, type-named, none-known, kept-unless, kept-with, placed-last, placed-moved}
 use Rattle.cpp_direct.proofs.MovesOfLists.{arguments-open}
 use Rattle.cpp_direct.proofs.MovesOfTypes.{substituted-so}
 use Rattle.cpp_direct.proofs.NamedArguments.{again-substituted, named-here}
-use Rattle.cpp_direct.proofs.MovesOfNests.{nest-source, nest-abbreviation, nest-substitution, nest-std}
+use Rattle.cpp_direct.proofs.MovesOfNests.{nest-source, nest-abbreviation, nest-substitution, nest-std, component-awaits, component-outside, any-arguments, instance-arguments, nest-end, tag-follows}
 use Rattle.cpp_direct.proofs.PrintedNames.{as-name, source-prints, source-class, std-prints, std-class, abbreviation-prints}
 use Rattle.cpp_direct.proofs.PrintedNests.{tagged-as, std-tagged, again-tagged}
 use Rattle.cpp_direct.proofs.PrintedTypes.{prints-as}
@@ -68,6 +66,22 @@ nest-placed s {scope} old new around purpose scoped waiting_is purpose_is naming
   naming = λ e. subst (λ o. IsNaming s scope (reverse o.list.items)) (sym waiting_is) (naming e);
 }
 
+-- it is written further, or something else changed
+abbrev pub nest-further : (s : Symbol) {scope : Scope} (old new : Direct) {t : Term} (n : IsNestSoFar s scope old t) (u : Term) (bytes : List ℕ)
+    → new.text.list.items ≡ n.front ++ bytes → new.waiting.list.items ≡ old.waiting.list.items → new.nest.purpose ≡ old.nest.purpose
+    → new.nest.is_dependent ≡ old.nest.is_dependent → IsNest (detail_of s) scope.names n.front bytes new.text.list.items new.nest u → IsNestSoFar s scope new u
+nest-further s {scope} old new n u bytes written waiting_is purpose_same dependent_same is_nest = record {
+  around = n.around;
+  outer = n.outer;
+  front = n.front;
+  bytes = bytes;
+  written = written;
+  is_nest = is_nest;
+  scoped = nest-scoped s old new n.around waiting_is purpose_same dependent_same n.scoped;
+  serves = subst (λ (o : List Open). Serves s new.nest.purpose (below s scope (reverse o)) n.outer n.front) (sym waiting_is)
+      (subst (λ (p : Purpose). Serves s p (below s scope (reverse old.waiting.list.items)) n.outer n.front) (sym purpose_same) n.serves);
+}
+
 -- one that names any is in the symbol's own encoding
 nest-here : (s : Symbol) {scope : Scope} (w : Direct) (around : Around) → IsNestScoped s scope w around → (IsOwn w.nest.purpose → w.nest.is_dependent ≡ false)
     → w.nest.is_dependent ≡ true → around.encoding ≡ encoding_place s.bytes
@@ -89,22 +103,13 @@ no-function detail names false t bytes prints = prints.no_function
 pub named-goes-on : (s : Symbol) (w : Direct) → IsNestNamed s w → IsWriting s w steps.Tail
 unfolding may_be_empty
 named-goes-on s w n = record {
-  state = n.state;
-  scope = n.scope;
-  keeps = n.keeps;
+  kept = n.kept;
   is_before = (
     n.own,
     record {
-      front = n.front;
-      around = n.around;
-      outer = n.outer;
-      bytes = n.bytes;
-      written = n.written;
-      is_nest = n.is_nest;
+      so_far = n.so_far;
       goes = subst (λ b. NestGoesOn s Kind.NestTail n.outer n.around n.own b w.at n.state) (sym n.unlisted)
           (n.named.bare w.at n.state (expects-empty s Kind.MaybeArguments (after n.own false n.around) n.named.inner w.at n.state n.named.awaits refl));
-      scoped = n.scoped;
-      serves = n.serves;
     },
     (λ own e. n.no_return),
     (λ e. absurd (false≢true (sym (ap (λ b. b && w.nest.has_class) n.no_instance) ∙ e))),
@@ -133,22 +138,16 @@ named-tagged s old new tag wide n is reads =
       from_is = ap (λ x. x.from) reads.nest ∙ n.is_nest.from_is;
       prints = subst (λ b. PrintsAs (detail_of s) names b own (n.bytes ++ tag_text tag) false) (ap (λ x. x.is_dependent) nest) prints;
       closed = subst (λ x. IsOwn x.purpose → x.is_dependent ≡ false) nest n.is_nest.closed;
-      class_front = n.is_nest.class_front;
       class = n.is_nest.class;
-      class_back = n.is_nest.class_back ++ tag_text tag;
-      class_written = reads.text ∙ ap (λ l. l ++ tag_text tag) n.is_nest.class_written
-          ∙ append_assoc (n.is_nest.class_front ++ n.is_nest.class) n.is_nest.class_back (tag_text tag);
-      class_from = ap (λ x. x.class_from) reads.nest ∙ n.is_nest.class_from;
-      class_to = ap (λ x. x.class_to) reads.nest ∙ n.is_nest.class_to;
+      class_placed = placed-moved old.text.list.items (tag_text tag) n.is_nest.class reads.text (ap (λ x. x.class_from) reads.nest) (ap (λ x. x.class_to) reads.nest)
+          n.is_nest.class_placed;
       names_class = λ e none. n.names_tagged (classed e) (closed none) tag plain;
     } in
     record {
-      state = n.state;
-      scope = n.scope;
-      keeps = keeps-read s old new (tag_text tag) n.state.candidates reads n.keeps;
-      around = n.around;
-      outer = n.outer;
+      kept = kept-read s old new (tag_text tag) reads n.kept;
       own = own;
+      so_far = nest-further s old new n.so_far own (n.bytes ++ tag_text tag) written (ap (λ v. v.list.items) reads.waiting) (ap (λ x. x.purpose) reads.nest)
+          (ap (λ x. x.is_dependent) reads.nest) is_nest;
       named = record {
         inner = g.inner;
         awaits = g.awaits;
@@ -156,11 +155,6 @@ named-tagged s old new tag wide n is reads =
         argued = λ a at st comes. n.named.renamed (instance own a) at st (g.argued a at st comes);
         renamed = λ u at st comes. n.named.renamed u at st (g.renamed u at st comes);
       };
-      front = n.front;
-      bytes = n.bytes ++ tag_text tag;
-      written = written;
-      is_nest = is_nest;
-      scoped = nest-scoped s old new n.around (ap (λ v. v.list.items) reads.waiting) (ap (λ x. x.purpose) reads.nest) (ap (λ x. x.is_dependent) reads.nest) n.scoped;
       names_tagged = λ e none more more_plain.
           again-tagged (is_structor n.own) n.own n.bytes (closed-prints names (closed none) n.is_nest.prints) tag more n.is_nest.class plain more_plain
           (n.names_tagged (classed e) (closed none) tag plain);
@@ -169,8 +163,6 @@ named-tagged s old new tag wide n is reads =
       no_return = refl;
       structor = λ e. n.structor (ap (λ x. x.has_class) nest ∙ e);
       no_structor = λ e. n.no_structor (classed e);
-      serves = subst (λ x. Serves s x.purpose (below s n.scope (reverse new.waiting.list.items)) n.outer n.front) nest
-          (subst (λ v. Serves s old.nest.purpose (below s n.scope (reverse v.list.items)) n.outer n.front) (sym reads.waiting) n.serves);
     }
 
 -- arguments come after it
@@ -181,10 +173,10 @@ unfolding inside
 named-opens s old mid new n here lists opening_ =
     let begun = arguments-open s n.named.inner n.around n.own false old.at n.state
     (alone-arguments s (after n.own false n.around) n.named.inner old.at n.state n.named.awaits) here in
-    list-begins s n.scope old mid new (added old old.nest.from false old.nest.is_dependent) (with_candidate n.around n.own n.state) (opens.NestArguments old.nest) n.front n.bytes
+    list-begins s old mid new (added old old.nest.from false old.nest.is_dependent)
+    (kept-with s old mid n.kept n.front n.bytes old.nest.from n.own n.around false old.nest.is_dependent n.written n.is_nest.from_is n.is_nest.prints
+    (nest-here s old n.around n.scoped n.is_nest.closed) lists.text lists.candidates lists.scope) (opens.NestArguments old.nest) n.front n.bytes
     n.own lists (subst (λ x. OpensArguments (detail_of s) mid new (opens.NestArguments x)) lists.nest opening_)
-    (keeps-with s old mid n.state n.front n.bytes old.nest.from n.own n.around false old.nest.is_dependent n.keeps n.written n.is_nest.from_is n.is_nest.prints
-    (nest-here s old n.around n.scoped n.is_nest.closed) lists.text lists.candidates lists.scope)
     (nest-stays n.front n.bytes old.text.list.items (opening_bracket (detail_of s)) old.nest n.own n.is_nest, (λ own. n.structor), n.no_structor) n.written (
       inside n.around,
       begun.inner,
@@ -205,7 +197,7 @@ named-opens s old mid new n here lists opening_ =
 
 -- what follows it is read
 pub known-goes-on : (s : Symbol) (w : Direct) → IsNestKnown s w → IsWriting s w steps.Rest
-known-goes-on s w n = record { state = n.state; scope = n.scope; keeps = n.keeps; is_before = (n.own, Kind.NestRestOrEnd, tt, n.nesting) }
+known-goes-on s w n = record { kept = n.kept; is_before = (n.own, Kind.NestRestOrEnd, tt, n.nesting) }
 
 -- what comes inside comes outside
 nest-outside : (s : Symbol) (kind : Kind) (inner outer : List Opened) (around : Around) (t : Term) (listed : Bool) (at : ℕ) (st : State)
@@ -228,8 +220,8 @@ known-opens s old new n wide is_type here opening_ =
     let g = subst (λ b. NestGoesOn s Kind.NestRestOrEnd m.outer m.around n.own b old.at n.state) n.listed m.goes in
     let begun = instance-arguments s g.inner m.around n.own true old.at n.state g.awaits here in
     let not_own : IsOwn old.nest.purpose → ⊥ = λ own. subst IsOwn is_type own in
-    list-begins s n.scope old old new old.candidates.list.items n.state (opens.NestArguments old.nest) m.front m.bytes n.own
-    (record { candidates = refl; text = refl; waiting = refl; nest = refl; scope = refl; at = refl }) opening_ n.keeps (
+    list-begins s old old new old.candidates.list.items n.kept (opens.NestArguments old.nest) m.front m.bytes n.own
+    (record { candidates = refl; text = refl; waiting = refl; nest = refl; scope = refl; at = refl }) opening_ (
       nest-stays m.front m.bytes old.text.list.items (opening_bracket (detail_of s)) old.nest n.own m.is_nest,
       (λ own. absurd (not_own own)),
       (λ e. absurd (false≢true (sym n.classless ∙ e))),
@@ -253,56 +245,47 @@ known-opens s old new n wide is_type here opening_ =
 -- ## After a name so far
 
 -- a component follows
-pub component-next : (s : Symbol) (scope : Scope) (kind : Kind) (old new : Direct) (st : State) (t : Term) → IsRest kind
-    → Keeps s scope old st.candidates → IsNesting s scope kind old t st
+pub component-next : (s : Symbol) (kind : Kind) (old new : Direct) (kept : Kept s old) (t : Term) → IsRest kind
+    → IsNesting s kept.scope kind old t kept.state
     → Lists old new (added_unless old old.nest.is_listed old.nest.from old.nest.is_dependent) → IsWriting s new steps.Component
-component-next s scope kind old new st t rest keeps n lists =
+component-next s kind old new kept t rest n lists =
     let listed = old.nest.is_listed in
     let text_is : new.text.list.items ≡ old.text.list.items = cc (lists.text) in
     let waiting_is : new.waiting.list.items ≡ old.waiting.list.items = cc (lists.waiting) in
-    let later = unless_listed listed n.around t st in
+    let later = unless_listed listed n.around t kept.state in
     record {
-      state = later;
-      scope = scope;
-      keeps = keeps-unless s old new st listed n.front n.bytes old.nest.from t n.around old.nest.is_dependent keeps n.written n.is_nest.from_is n.is_nest.prints
+      kept = kept-unless s old new kept listed n.front n.bytes old.nest.from t n.around old.nest.is_dependent n.written n.is_nest.from_is (λ e. n.is_nest.prints)
           (nest-here s old n.around n.scoped n.is_nest.closed) lists.text lists.candidates lists.scope;
       is_before = (
         t,
-        n.front,
-        n.bytes,
-        n.around,
-        n.outer,
-        text_is ∙ n.written,
-        subst (λ x. IsNest (detail_of s) scope.names n.front n.bytes new.text.list.items x t) (sym lists.nest)
-            (subst (λ l. IsNest (detail_of s) scope.names n.front n.bytes l old.nest t) (sym text_is) n.is_nest),
+        nest-further s old new n.so_far t n.bytes (text_is ∙ n.written) waiting_is (ap (λ x. x.purpose) lists.nest) (ap (λ x. x.is_dependent) lists.nest)
+            (subst (λ x. IsNest (detail_of s) kept.scope.names n.front n.bytes new.text.list.items x t) (sym lists.nest)
+            (subst (λ l. IsNest (detail_of s) kept.scope.names n.front n.bytes l old.nest t) (sym text_is) n.is_nest)),
         subst (λ m. AwaitsComponent s n.outer n.around t m later) (sym lists.at)
             (component-outside s n.goes.inner n.outer n.around t old.at later n.goes.passes
-            (component-awaits s kind n.goes.inner n.around t listed old.at st rest n.goes.awaits)),
-        nest-scoped s old new n.around waiting_is (ap (λ x. x.purpose) lists.nest) (ap (λ x. x.is_dependent) lists.nest) n.scoped,
-        subst (λ x. Serves s x.purpose (below s scope (reverse new.waiting.list.items)) n.outer n.front) (sym lists.nest)
-            (subst (λ l. Serves s old.nest.purpose (below s scope (reverse l)) n.outer n.front) (sym waiting_is) n.serves),
+            (component-awaits s kind n.goes.inner n.around t listed old.at kept.state rest n.goes.awaits)),
       );
     }
 
 -- arguments of the first piece follow
-pub first-opens : (s : Symbol) (scope : Scope) (kind : Kind) (old mid new : Direct) (st : State) (t : Term) → IsFirstRest kind
-    → Keeps s scope old st.candidates → IsNesting s scope kind old t st → StandsAt s.bytes old.at (73 ∷ [])
+pub first-opens : (s : Symbol) (kind : Kind) (old mid new : Direct) (kept : Kept s old) (t : Term) → IsFirstRest kind
+    → IsNesting s kept.scope kind old t kept.state → StandsAt s.bytes old.at (73 ∷ [])
     → Lists old mid (added_unless old old.nest.is_listed old.nest.from old.nest.is_dependent) → OpensArguments (detail_of s) mid new (opens.FirstArguments mid.nest)
     → IsWriting s new (steps.List true)
 unfolding inside
-first-opens s scope kind old mid new st t first keeps n here lists opening_ =
+first-opens s kind old mid new kept t first n here lists opening_ =
     let around = n.around in
     let listed = old.nest.is_listed in
-    let begun = any-arguments s kind n.goes.inner n.around t listed old.at st first n.goes.awaits here in
-    list-begins s scope old mid new (added_unless old listed old.nest.from old.nest.is_dependent) (unless_listed listed around t st) (opens.FirstArguments old.nest) n.front n.bytes t
+    let begun = any-arguments s kind n.goes.inner n.around t listed old.at kept.state first n.goes.awaits here in
+    list-begins s old mid new (added_unless old listed old.nest.from old.nest.is_dependent)
+    (kept-unless s old mid kept listed n.front n.bytes old.nest.from t around old.nest.is_dependent n.written n.is_nest.from_is (λ e. n.is_nest.prints)
+    (nest-here s old around n.scoped n.is_nest.closed) lists.text lists.candidates lists.scope) (opens.FirstArguments old.nest) n.front n.bytes t
     lists (subst (λ x. OpensArguments (detail_of s) mid new (opens.FirstArguments x)) lists.nest opening_)
-    (keeps-unless s old mid st listed n.front n.bytes old.nest.from t around old.nest.is_dependent keeps n.written n.is_nest.from_is n.is_nest.prints
-    (nest-here s old around n.scoped n.is_nest.closed) lists.text lists.candidates lists.scope)
     (nest-stays n.front n.bytes old.text.list.items (opening_bracket (detail_of s)) old.nest t n.is_nest) n.written (
       inside n.around,
       begun.inner,
       refl,
-      (λ within. scoped-inside scope around (reverse old.waiting.list.items) (n.scoped.scoped within)),
+      (λ within. scoped-inside kept.scope around (reverse old.waiting.list.items) (n.scoped.scoped within)),
       begun.awaits,
       (λ l at later comes ended. (
         n.around,
@@ -324,24 +307,25 @@ nest-comes s old st t n here = n.goes.passes (tree t old.nest.is_listed) (old.at
     (nest-end s n.goes.inner n.around t old.nest.is_listed old.at st n.goes.awaits here)
 
 -- it is a type
-pub type-ended : (s : Symbol) (scope : Scope) (old new : Direct) (st : State) (t : Term) → Keeps s scope old st.candidates
-    → IsNesting s scope Kind.NestTail old t st → StandsAt s.bytes old.at (69 ∷ []) → old.nest.purpose ≡ purposes.Type
+pub type-ended : (s : Symbol) (old new : Direct) (kept : Kept s old) (t : Term)
+    → IsNesting s kept.scope Kind.NestTail old t kept.state → StandsAt s.bytes old.at (69 ∷ []) → old.nest.purpose ≡ purposes.Type
     → Lists (record old { at = old.at + 1 }) new (added_unless old old.nest.is_listed old.nest.from old.nest.is_dependent)
     → IsWriting s new (steps.Value false old.nest.is_dependent)
-type-ended s scope old new st t keeps n here is_type lists =
+type-ended s old new kept t n here is_type lists =
     let listed = old.nest.is_listed in
     let d = old.nest.is_dependent in
     let open_ = reverse old.waiting.list.items in
-    let serves = subst (λ p. Serves s p (below s scope open_) n.outer n.front) is_type n.serves in
+    let serves = subst (λ p. Serves s p (below s kept.scope open_) n.outer n.front) is_type n.serves in
     let text_is : new.text.list.items ≡ old.text.list.items = cc (lists.text) in
     let waiting_is : new.waiting.list.items ≡ old.waiting.list.items = cc (lists.waiting) in
-    let later = unless_listed listed serves.1 t st in
-    value-comes s new later serves.0 t n.front n.bytes false d
-    (keeps-unless s old new st listed n.front n.bytes old.nest.from t serves.1 d keeps n.written n.is_nest.from_is n.is_nest.prints
-    (λ e. made-here s scope serves.1 open_ serves.3 (n.scoped.naming e)) lists.text lists.candidates lists.scope) (text_is ∙ n.written) n.is_nest.prints
+    let later = unless_listed listed serves.1 t kept.state in
+    value-comes s new
+    (kept-unless s old new kept listed n.front n.bytes old.nest.from t serves.1 d n.written n.is_nest.from_is (λ e. n.is_nest.prints)
+    (λ e. made-here s kept.scope serves.1 open_ serves.3 (n.scoped.naming e)) lists.text lists.candidates lists.scope)
+    serves.0 t n.front n.bytes false d (text_is ∙ n.written) n.is_nest.prints
     (ap reverse waiting_is) n.scoped.naming
     (comes-moved s serves.0 (tree t true) (old.at + 1) new.at later (sym lists.at)
-    (serves.2 t listed (old.at + 1) st (no-function (detail_of s) scope.names d t n.bytes n.is_nest.prints) (nest-comes s old st t n here))) serves.4
+    (serves.2 t listed (old.at + 1) kept.state (no-function (detail_of s) kept.scope.names d t n.bytes n.is_nest.prints) (nest-comes s old kept.state t n here))) serves.4
 
 -- the arguments that it ends in were noted, or none are known
 pub arguments-noted : {detail : Detail} (b : Bool) (text : List ℕ) (a r : Arguments) (t : Term) → (b ≡ true → r ≡ a) → (b ≡ false → r ≡ nowhere)
@@ -350,30 +334,22 @@ arguments-noted {detail} true text a r t known none has = subst (λ (k : Argumen
 arguments-noted {detail} false text a r t known none has = λ k o. absurd (none-known k (subst (λ (q : Arguments). IsKnown (place_of q k)) (none refl) o))
 
 -- it is the name of the encoding
-pub name-comes : (s : Symbol) (scope : Scope) (old : Direct) (st : State) (t : Term) (mark : Mark) (is_function : Bool) (argument_ : Arguments)
-    → Keeps s scope old st.candidates → IsNesting s scope Kind.NestTail old t st
+pub name-comes : (s : Symbol) (old : Direct) (kept : Kept s old) (t : Term) (mark : Mark) (is_function : Bool) (argument_ : Arguments)
+    → IsNesting s kept.scope Kind.NestTail old t kept.state
     → (is_function ≡ false → has_return_type t ≡ false) → (is_function ≡ true → has_return_type t ≡ true)
     → HasArguments (detail_of s) old.text.list.items argument_ t
     → StandsAt s.bytes old.at (69 ∷ [])
     → old.nest.purpose ≡ purposes.Name mark → IsNameEnded s (record old { at = old.at + 1 }) mark is_function argument_ old.nest.from
-name-comes s scope old st t mark is_function argument_ keeps n no_return returns names here is_name =
-    let serves = subst (λ p. Serves s p (below s scope (reverse old.waiting.list.items)) n.outer n.front) is_name n.serves in
+name-comes s old kept t mark is_function argument_ n no_return returns names here is_name =
+    let serves = subst (λ p. Serves s p (below s kept.scope (reverse old.waiting.list.items)) n.outer n.front) is_name n.serves in
     record {
-      state = st;
-      scope = scope;
-      keeps = keeps-same s old (record old { at = old.at + 1 }) st.candidates refl refl refl keeps;
-      own = t;
-      v = named t (qualifiers (has_const mark)) (called_on mark);
-      named_so = member-named t mark;
-      lead = n.front;
-      name = n.bytes;
-      written = n.written;
-      from_is = n.is_nest.from_is;
-      prints = as-name t n.bytes false (closed-prints scope.names (n.is_nest.closed (subst IsOwn (sym is_name) tt)) n.is_nest.prints);
+      kept = kept-same s old (record old { at = old.at + 1 }) refl refl refl kept;
+      has = has-member s old.text.list.items mark old.nest.from t n.front n.bytes n.written n.is_nest.from_is
+          (as-name t n.bytes false (closed-prints kept.scope.names (n.is_nest.closed (subst IsOwn (sym is_name) tt)) n.is_nest.prints));
       no_return = no_return;
       returns = returns;
       names = names;
-      awaits = serves t old.nest.is_listed (old.at + 1) st (nest-comes s old st t n here);
+      awaits = serves t old.nest.is_listed (old.at + 1) kept.state (nest-comes s old kept.state t n here);
     }
 
 -- the E of one that an operator ends
@@ -386,17 +362,8 @@ operator-ends s w mark p here is_name =
     let serves = subst (λ u. Serves s u (below s p.scope (reverse w.waiting.list.items)) p.outer p.front) is_name p.serves in
     let goes = p.named.bare w.at st (expects-empty s Kind.MaybeArguments (after t false p.around) p.named.inner w.at st p.named.awaits refl) in
     record {
-      state = st;
-      scope = p.scope;
-      keeps = keeps-same s w (record w { at = w.at + 1 }) st.candidates refl refl refl p.keeps;
-      own = t;
-      v = named t (qualifiers (has_const mark)) (called_on mark);
-      named_so = member-named t mark;
-      lead = p.front;
-      name = p.bytes;
-      written = p.written;
-      from_is = p.from_is;
-      prints = p.prints;
+      kept = kept-same s w (record w { at = w.at + 1 }) refl refl refl p.kept;
+      has = has-member s w.text.list.items mark w.nest.from t p.front p.bytes p.written p.from_is p.prints;
       no_return = λ e. p.no_return;
       returns = λ e. absurd (false≢true e);
       names = λ k o. absurd (none-known k o);
@@ -407,22 +374,17 @@ operator-ends s w mark p here is_name =
 -- ## The first piece
 
 -- a name so far whose last piece names a class
-class-nest : {detail : Detail} (names : Names) (front before class : List ℕ) (nest : Nest) (t : Term) → nest.from ≡ length front
-    → nest.class_from ≡ length (front ++ before) → nest.class_to ≡ length (front ++ before) + length class → nest.is_dependent ≡ false
-    → Prints detail t (before ++ class) false → NamesClass detail t class
-    → IsNest detail names front (before ++ class) (front ++ (before ++ class)) nest t
-class-nest {detail} names front before class nest t from_is class_from class_to closed prints names_class = record {
+abbrev class-nest : {detail : Detail} (names : Names) (text front before class : List ℕ) (nest : Nest) (t : Term) → text ≡ front ++ (before ++ class)
+    → nest.from ≡ length front → nest.class_from ≡ length (front ++ before) → nest.class_to ≡ length text → nest.is_dependent ≡ false
+    → Prints detail t (before ++ class) false → NamesClass detail t class → IsNest detail names front (before ++ class) text nest t
+class-nest {detail} names text front before class nest t written from_is class_from class_to closed prints names_class = record {
   back = [];
-  written = sym (append-nil (front ++ (before ++ class)));
+  written = written ∙ sym (append-nil (front ++ (before ++ class)));
   from_is = from_is;
   prints = prints-as detail names nest.is_dependent t (before ++ class) false prints;
   closed = λ own. closed;
-  class_front = front ++ before;
   class = class;
-  class_back = [];
-  class_written = sym (append_assoc front before class) ∙ sym (append-nil (front ++ before ++ class));
-  class_from = class_from;
-  class_to = class_to;
+  class_placed = placed-last (front ++ before) class nest.class_from nest.class_to (written ∙ sym (append_assoc front before class)) class_from class_to;
   names_class = λ e none. names_class;
 }
 
@@ -436,32 +398,43 @@ classless-nest {detail} names front bytes nest t from_is class_from class_to non
   from_is = from_is;
   prints = prints;
   closed = closed;
-  class_front = front;
   class = [];
-  class_back = bytes;
-  class_written = ap (λ l. l ++ bytes) (sym (append-nil front));
-  class_from = class_from;
-  class_to = omega (arith, class_to);
+  class_placed = record {
+    front = front;
+    back = bytes;
+    written = ap (λ l. l ++ bytes) (sym (append-nil front));
+    from_is = class_from;
+    to_is = omega (arith, class_to);
+  };
   names_class = λ e closed. absurd (false≢true (sym none ∙ e));
 }
 
 -- a first piece was read
+abbrev first-so-far : (s : Symbol) (old new : Direct) (purpose : Purpose) (a : AwaitsNest s old purpose) (t : Term) (bytes : List ℕ)
+    → new.text.list.items ≡ old.text.list.items ++ bytes → new.waiting ≡ old.waiting → new.nest.purpose ≡ purpose
+    → (new.nest.is_dependent ≡ true → IsNaming s a.scope (reverse old.waiting.list.items))
+    → IsNest (detail_of s) a.scope.names old.text.list.items bytes new.text.list.items new.nest t → IsNestSoFar s a.scope new t
+first-so-far s old new purpose a t bytes text_is waiting_is purpose_is naming is_nest = record {
+  around = a.around;
+  outer = a.outer;
+  front = old.text.list.items;
+  bytes = bytes;
+  written = text_is;
+  is_nest = is_nest;
+  scoped = nest-placed s old new a.around purpose a.scoped waiting_is purpose_is naming;
+  serves = subst (λ p. Serves s p (below s a.scope (reverse new.waiting.list.items)) a.outer old.text.list.items) (sym purpose_is)
+      (subst (λ o. Serves s purpose (below s a.scope (reverse o.list.items)) a.outer old.text.list.items) (sym waiting_is) a.serves);
+}
+
 first-nesting : (s : Symbol) (old new : Direct) (purpose : Purpose) (a : AwaitsNest s old purpose) (kind : Kind) (t : Term) (bytes : List ℕ)
     → new.text.list.items ≡ old.text.list.items ++ bytes → new.waiting ≡ old.waiting → new.nest.purpose ≡ purpose
     → (new.nest.is_dependent ≡ true → IsNaming s a.scope (reverse old.waiting.list.items))
     → IsNest (detail_of s) a.scope.names old.text.list.items bytes (old.text.list.items ++ bytes) new.nest t
     → NestGoesOn s kind a.outer a.around t new.nest.is_listed new.at a.state → IsNesting s a.scope kind new t a.state
 first-nesting s old new purpose a kind t bytes text_is waiting_is purpose_is naming is_nest goes = record {
-  front = old.text.list.items;
-  around = a.around;
-  outer = a.outer;
-  bytes = bytes;
-  written = text_is;
-  is_nest = subst (λ l. IsNest (detail_of s) a.scope.names old.text.list.items bytes l new.nest t) (sym text_is) is_nest;
+  so_far = first-so-far s old new purpose a t bytes text_is waiting_is purpose_is naming
+      (subst (λ l. IsNest (detail_of s) a.scope.names old.text.list.items bytes l new.nest t) (sym text_is) is_nest);
   goes = goes;
-  scoped = nest-placed s old new a.around purpose a.scoped waiting_is purpose_is naming;
-  serves = subst (λ p. Serves s p (below s a.scope (reverse new.waiting.list.items)) a.outer old.text.list.items) (sym purpose_is)
-      (subst (λ o. Serves s purpose (below s a.scope (reverse o.list.items)) a.outer old.text.list.items) (sym waiting_is) a.serves);
 }
 
 -- the rest is expected after it
@@ -472,9 +445,7 @@ nest-begins : (s : Symbol) (old new : Direct) (purpose : Purpose) (a : AwaitsNes
     → NestGoesOn s Kind.NestRestAlone a.outer a.around t new.nest.is_listed new.at a.state
     → IsWriting s new steps.Rest
 nest-begins s old new purpose a t bytes text_is candidates_are waiting_is scope_same purpose_is closed is_nest goes = record {
-  state = a.state;
-  scope = a.scope;
-  keeps = keeps-grown s old new bytes a.state.candidates text_is candidates_are scope_same a.keeps;
+  kept = kept-grown s old new bytes text_is candidates_are scope_same a.kept;
   is_before = (
     t,
     Kind.NestRestAlone,
@@ -491,9 +462,7 @@ known-begins : (s : Symbol) (old new : Direct) (purpose : Purpose) (a : AwaitsNe
     → new.nest.has_class ≡ false
     → NestGoesOn s Kind.NestRestOrEnd a.outer a.around t new.nest.is_listed new.at a.state → IsNestKnown s new
 known-begins s old new purpose a t bytes text_is candidates_are waiting_is scope_same purpose_is naming is_nest listed classless goes = record {
-  state = a.state;
-  scope = a.scope;
-  keeps = keeps-grown s old new bytes a.state.candidates text_is candidates_are scope_same a.keeps;
+  kept = kept-grown s old new bytes text_is candidates_are scope_same a.kept;
   own = t;
   nesting = first-nesting s old new purpose a Kind.NestRestOrEnd t bytes text_is waiting_is purpose_is naming is_nest goes;
   listed = listed;
@@ -522,8 +491,8 @@ source-begins s old mid purpose name a is filled reads from to from_is to_is =
     let nest = nest_of from from to purpose false true in
     let t : Term = alone (source false name) in
     nest-begins s old (record mid { nest = nest }) purpose a t (source_text name) reads.text reads.candidates reads.waiting reads.scope refl refl
-    (class-nest a.scope.names old.text.list.items [] (source_text name) nest t from_is (from_is ∙ ap length (sym (append-nil old.text.list.items)))
-    (omega (arith, to_is, ap length reads.text, length-append old.text.list.items (source_text name), ap length (append-nil old.text.list.items))) refl
+    (class-nest a.scope.names (old.text.list.items ++ source_text name) old.text.list.items [] (source_text name) nest t refl from_is
+    (from_is ∙ ap length (sym (append-nil old.text.list.items))) (to_is ∙ ap length reads.text) refl
     (source-prints false name filled (name-unmarked s.bytes old.at name mid.at is)) (source-class false name filled (name-unmarked s.bytes old.at name mid.at is)))
     (nest-source s a.outer a.around old.at a.state name mid.at a.outside a.awaits is)
 
@@ -575,11 +544,11 @@ reference-begins s old mid purpose digits k a here is ordered found_ plain typed
     let one = candidate-found old.text.list.items old.candidates.list.items a.state.candidates (counted_value Seq36 digits) k a.keeps.candidates ordered found_ in
     let c = one.0 in
     let it = one.2 in
-    let piece = piece-found old.text.list.items it.front it.bytes it.back k.from k.to it.written it.from_is it.to_is in
+    let piece = piece-found old.text.list.items it.bytes k.from k.to it.placed in
     let prints = subst (λ r. PrintsAs (detail_of s) a.scope.names k.is_dependent c.tree it.bytes r) plain it.prints in
     let scoped : k.is_dependent ≡ true → IsScoped a.scope a.around (reverse old.waiting.list.items) = λ e. a.scoped (typed e) in
     let naming : k.is_dependent ≡ true → IsNaming s a.scope (reverse old.waiting.list.items) =
-    λ e. let n = known e in named-here s old a.state.candidates a.around n.0 a.keeps (scoped e) n.1 n.2 in
+    λ e. let n = known e in named-here s old a.kept a.around n.0 (scoped e) n.1 n.2 in
     known-begins s old (record mid { nest = nest }) purpose a c.tree it.bytes (text_is ∙ ap (λ l. old.text.list.items ++ l) piece.2) candidates_are
     waiting_is scope_same refl naming
     (classless-nest a.scope.names old.text.list.items it.bytes nest c.tree from_is from_is from_is refl (own-closed purpose k.is_dependent typed) prints)
@@ -599,36 +568,16 @@ std-begins s old mid purpose before name a here is filled text_is candidates_are
     let bytes = codes "std::" ++ source_text name in
     let written : mid.text.list.items ≡ old.text.list.items ++ bytes = text_is ∙ append_assoc old.text.list.items (codes "std::") (source_text name) in
     record {
-      state = a.state;
-      scope = a.scope;
-      keeps = keeps-grown s (record old { at = before }) (record mid { nest = nest }) bytes a.state.candidates written candidates_are scope_same a.keeps;
-      around = a.around;
-      outer = a.outer;
+      kept = kept-grown s (record old { at = before }) (record mid { nest = nest }) bytes written candidates_are scope_same a.kept;
       own = t;
+      so_far = first-so-far s (record old { at = before }) (record mid { nest = nest }) purpose a t bytes written waiting_is refl (λ e. absurd (false≢true e))
+          (class-nest a.scope.names mid.text.list.items old.text.list.items (codes "std::") (source_text name) nest t written from_is class_from_is to_is refl
+          (std-prints false name filled (name-unmarked s.bytes (before + 2) name mid.at is)) (std-class false name filled (name-unmarked s.bytes (before + 2) name mid.at is)));
       named = nest-std s a.outer a.around before a.state name mid.at a.awaits here is;
-      front = old.text.list.items;
-      bytes = bytes;
-      written = written;
-      is_nest = record {
-        back = [];
-        written = written ∙ sym (append-nil (old.text.list.items ++ bytes));
-        from_is = from_is;
-        prints = std-prints false name filled (name-unmarked s.bytes (before + 2) name mid.at is);
-        closed = λ own. refl;
-        class_front = old.text.list.items ++ codes "std::";
-        class = source_text name;
-        class_back = [];
-        class_written = text_is ∙ sym (append-nil (old.text.list.items ++ codes "std::" ++ source_text name));
-        class_from = class_from_is;
-        class_to = omega (arith, to_is, ap length text_is, length-append (old.text.list.items ++ codes "std::") (source_text name));
-        names_class = λ e none. std-class false name filled (name-unmarked s.bytes (before + 2) name mid.at is);
-      };
-      scoped = nest-placed s old (record mid { nest = nest }) a.around purpose a.scoped waiting_is refl (λ e. absurd (false≢true e));
       names_tagged = λ e none tag plain. std-tagged false name filled (name-unmarked s.bytes (before + 2) name mid.at is) tag plain;
       unlisted = refl;
       no_instance = refl;
       no_return = refl;
       structor = λ e. absurd (false≢true (sym e));
       no_structor = λ e. refl;
-      serves = subst (λ o. Serves s purpose (below s a.scope (reverse o.list.items)) a.outer old.text.list.items) (sym waiting_is) a.serves;
     }

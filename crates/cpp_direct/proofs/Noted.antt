@@ -15,12 +15,12 @@ use Rattle.cpp_direct.specs.declared.open.Step.TheVariants as steps
 use Rattle.cpp_direct.specs.declared.direct.Direct.{Direct}
 use Rattle.cpp_direct.specs.Holes.{Opened}
 use Rattle.cpp_direct.specs.Prints.{Names, PrintAllAs}
-use Rattle.cpp_direct.specs.WriterInvariant.{arguments_in, below, IsNaming, IsOwn, Scope, argument_of, is_noted, is_type, is_within_type, IsNest, IsTemplate, IsWriting, Owns, ArgumentsGoOn, AwaitsElementOf, of_template, Stands, list_with, in_front_of_next}
+use Rattle.cpp_direct.specs.WriterInvariant.{arguments_in, below, IsNaming, IsOwn, Scope, argument_of, is_noted, is_type, is_within_type, IsNest, IsTemplate, IsWriting, Owns, ArgumentsGoOn, AwaitsElementOf, of_template, Stands, list_with, in_front_of_next, IsTypeRead}
 use Rattle.cpp_direct.specs.MidStep.{IsDependentNow}
 use Rattle.cpp_direct.proofs.PrintedLists.{all-given, next-prints-as, type-element-as}
 use Rattle.cpp_direct.proofs.PrintedTypes.{prints-as-given}
 use Rattle.cpp_direct.proofs.Listed.{some-elements}
-use Rattle.cpp_direct.proofs.Kept.{keeps-same, template-stays, reverse-last}
+use Rattle.cpp_direct.proofs.Kept.{kept-same, template-stays, reverse-last}
 
 -- it is noted of what is open
 noted-now : (o noted : Open) → IsDependentNow o noted → is_noted noted ≡ true
@@ -49,12 +49,8 @@ noted-nest {detail} {names} front name text nest t type p = record {
   from_is = p.from_is;
   prints = prints-as-given detail names nest.is_dependent t name false p.prints;
   closed = λ own. absurd (subst IsOwn type own);
-  class_front = p.class_front;
   class = p.class;
-  class_back = p.class_back;
-  class_written = p.class_written;
-  class_from = p.class_from;
-  class_to = p.class_to;
+  class_placed = p.class_placed;
   names_class = λ h plain. absurd (false≢true (sym plain));
 }
 
@@ -99,24 +95,22 @@ listed-noted s w new is_reference ws owner noted p waits is now_waits text candi
     let scope = p.scope in
     let rest = reverse ws in
     let opened : reverse w.waiting.list.items ≡ owner ∷ rest = ap reverse waits ∙ reverse-last ws owner in
-    let t = p.is_before.1 in
-    let front = p.is_before.2 in
-    let bytes = p.is_before.3 in
-    let naming = noted-naming s scope owner noted rest is (subst (λ os. IsNaming s scope os) opened (p.is_before.6 refl)) in
-    let waits = noted-awaits s scope owner noted rest p.is_before.0 front is
-    (subst (λ os. Stands s scope os p.is_before.0 front) opened p.is_before.8) in
+    let v = subst (λ os. IsTypeRead s scope w p.state os is_reference true) opened p.is_before in
+    let t = v.own in
+    let front = v.front in
+    let bytes = v.bytes in
+    let naming = noted-naming s scope owner noted rest is (v.naming refl) in
+    let waits = noted-awaits s scope owner noted rest v.os front is v.stands in
     let ts = waits.3 in
     let texts = waits.4 in
-    let goes = waits.8 t w.at p.state p.is_before.7 in
+    let goes = waits.8 t w.at p.state v.comes in
     let led = waits.0 ++ waits.2 ++ opening_bracket (detail_of s) in
     let all : PrintAllAs (detail_of s) scope.names true 3 (ts ++ t ∷ []) (in_front_of_next ts texts ++ bytes) =
     next-prints-as (detail_of s) scope.names true 3 ts texts t bytes (all-given (detail_of s) scope.names (is_noted owner) 3 ts texts waits.6)
-    (type-element-as (detail_of s) scope.names true t bytes is_reference p.is_before.5) in
-    let whole : new.text.list.items ≡ front ++ bytes = ap (λ v. v.list.items) text ∙ p.is_before.4 in
+    (type-element-as (detail_of s) scope.names true t bytes is_reference v.prints) in
+    let whole : new.text.list.items ≡ front ++ bytes = ap (λ v. v.list.items) text ∙ v.written in
     record {
-      state = p.state;
-      scope = scope;
-      keeps = keeps-same s w new p.state.candidates text candidates scope_same p.keeps;
+      kept = kept-same s w new text candidates scope_same p.kept;
       is_before = (
         record {
           listing = of_template;

@@ -374,10 +374,7 @@ pub type-element-as : (detail : Detail) (names : Names) (is_dependent : Bool) (t
 type-element-as detail names false t b r p = type-element 3 t b r p
 type-element-as detail names true t b r p = record { prints = λ c given. type-in c 3 3 (omega arith) t b r (p.prints c given); packless = p.packless }
 
--- No elements print nothing, and one more prints after those before it.
-pub none-print-as : (detail : Detail) (names : Names) (is_dependent : Bool) (extra : ℕ) → PrintAllAs detail names is_dependent extra [] []
-none-print-as detail names is_dependent extra = ([], tt, refl)
-
+-- One more element prints after those before it.
 pub next-prints-as : (detail : Detail) (names : Names) (is_dependent : Bool) (extra : ℕ) (ts : List Term) (l : List ℕ) (t : Term) (b : List ℕ)
     → PrintAllAs detail names is_dependent extra ts l → IsElementAs detail names is_dependent extra t b
     → PrintAllAs detail names is_dependent extra (ts ++ t ∷ []) (in_front_of_next ts l ++ b)

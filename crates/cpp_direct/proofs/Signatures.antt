@@ -24,7 +24,7 @@ use Rattle.cpp_direct.specs.MidStep.{AwaitsParameter, AwaitsSignature, IsElement
 use Rattle.cpp_direct.specs.Written.{Writes, hidden, with_hidden}
 use Rattle.cpp_direct.proofs.Ending.{no-void}
 use Rattle.cpp_direct.proofs.Handed.{first-type, value-element}
-use Rattle.cpp_direct.proofs.Kept.{keeps-as, keeps-grown, keeps-same, keeps-written, candidates-more, reverse-last, type-comes}
+use Rattle.cpp_direct.proofs.Kept.{kept-grown, kept-same, kept-written, candidates-more, reverse-last, type-comes, kept-as}
 use Rattle.cpp_direct.proofs.Listed.{TakesElements, last-found, comma, in-front}
 use Rattle.cpp_direct.proofs.Moves.{stands-split}
 use Rattle.cpp_direct.proofs.MovesOfTypes.{parameter-opens, reference-opens, signature-ends, builtin-comes, function-opens, pointed-function-opens, array-opens}
@@ -63,9 +63,10 @@ function-begins s old new is_pointer p letters takes waits at text candidates sc
     let whole = whole-awaited s old p in
     let a = whole.0 in
     let f = return-opens s is_pointer a.kind a.os a.around old.at a.state whole.1 a.outside a.awaits letters in
-    type-comes s old new a.state a.around f.inner a.keeps text candidates scope_same
+    type-comes s old new a.kept a.around f.inner text candidates scope_same
     (ap reverse waits ∙ reverse-last old.waiting.list.items (opens.Returned is_pointer)) a.outside
-    (inl (subst (λ k. Expects s Kind.Type a.around f.inner k a.state) (sym at) f.awaits)) (a.os, a.around, f.onward, takes, a.stands)
+    (inl (subst (λ k. Expects s Kind.Type a.around f.inner k a.state) (sym at) f.awaits))
+    (record { outer = a.os; made_in = a.around; takes = takes; stands = a.stands }, f.onward)
     (none-scoped a.scope a.around (opens.Returned is_pointer ∷ reverse old.waiting.list.items) refl)
 
 -- ## After the return type
@@ -77,9 +78,7 @@ pub signature-begins : (s : Symbol) (old new : Direct) (is_pointer : Bool) (p : 
 signature-begins s old new is_pointer p text candidates scope_same waits at =
     let opening = opening_text is_pointer in
     record {
-      state = p.state;
-      scope = p.scope;
-      keeps = keeps-grown s old new opening p.state.candidates text candidates scope_same p.keeps;
+      kept = kept-grown s old new opening text candidates scope_same p.kept;
       taker = p.taker;
       open_is = waits;
       first = p.first;
@@ -101,9 +100,7 @@ parameter-next : (s : Symbol) (old new : Direct) (is_pointer is_first : Bool) �
 parameter-next s old new is_pointer is_first a text candidates waiting scope_same at =
     let led = a.taker.front ++ (a.first.bytes ++ opening_text is_pointer) in
     record {
-      state = a.state;
-      scope = a.scope;
-      keeps = keeps-grown s old new (comma is_first) a.state.candidates text candidates scope_same a.keeps;
+      kept = kept-grown s old new (comma is_first) text candidates scope_same a.kept;
       taker = a.taker;
       open_is = ap (λ v. reverse v.list.items) waiting ∙ a.open_is;
       first = a.first;
@@ -143,27 +140,21 @@ signature-stands : (s : Symbol) (w : Direct) (is_pointer : Bool) (a : AwaitsPara
     → SignatureGoesOn s a.taker.outer a.taker.made_in is_pointer (λ l. plain_function a.first.own (list_with a.ts (list t l))) at st)
     → Stands s a.scope (opens.Signature is_pointer ∷ a.taker.rest) os w.text.list.items
 signature-stands s w is_pointer a os onward = (
-  a.taker.outer,
-  a.taker.made_in,
   a.taker.front,
-  a.first.own,
-  a.first.bytes,
-  a.first.is_reference,
+  a.taker.taken,
+  a.first,
   a.ts,
   a.texts,
-  a.first.prints,
   a.elements,
   a.written,
   λ t at st comes. one-more s a.taker.outer a.taker.made_in is_pointer a.first.own a.ts t at st (onward t at st comes),
-  a.taker.takes,
-  a.taker.stands,
 )
 
 -- a parameter comes that is no reference
 pub parameter-comes : (s : Symbol) (w : Direct) (is_pointer : Bool) → AwaitsParameter s w is_pointer → NoReference s.bytes w.at → IsWriting s w steps.Type
 parameter-comes s w is_pointer a none =
     let p = parameter-opens s a.taker.outer a.taker.made_in is_pointer (λ l. plain_function a.first.own (list_with a.ts l)) w.at a.state a.goes in
-    type-comes s w w a.state p.around p.inner a.keeps refl refl refl a.open_is p.outside (inr (inr (p.awaits, none)))
+    type-comes s w w a.kept p.around p.inner refl refl refl a.open_is p.outside (inr (inr (p.awaits, none)))
     (signature-stands s w is_pointer a p.inner p.onward) (none-scoped a.scope p.around (opens.Signature is_pointer ∷ a.taker.rest) refl)
 
 same-byte : (s : List ℕ) (at a b : ℕ) → StandsAt s at (a ∷ []) → StandsAt s at (b ∷ []) → a ≡ b
@@ -206,7 +197,7 @@ reference-comes s old new o is_pointer is_lvalue from a begins stands is waits a
         let turned : reverse new.waiting.list.items ≡ entry ∷ opens.Signature is_pointer ∷ a.taker.rest =
         ap reverse waits ∙ reverse-last old.waiting.list.items entry ∙ ap (λ ws. entry ∷ ws) a.open_is in
         let whole = signature-stands s old is_pointer a p.whole p.onward in
-        type-comes s old new a.state p.around p.inner a.keeps text candidates scope_same turned p.outside
+        type-comes s old new a.kept p.around p.inner text candidates scope_same turned p.outside
         (inl (subst (λ n. Expects s Kind.Type p.around p.inner n a.state) (sym at) p.awaits))
         (reference-stands s a.scope is_lvalue (opens.Signature is_pointer ∷ a.taker.rest) p.inner old.text.list.items from
         (p.whole, p.around, begins, p.passes, none-scoped a.scope p.around (opens.Signature is_pointer ∷ a.taker.rest) refl, whole))
@@ -222,9 +213,7 @@ signature-closed s old new is_pointer is_first a ends apart text candidates scop
     let opening = opening_text is_pointer in
     let made = plain_function a.first.own (list_with a.ts nil) in
     record {
-      state = a.state;
-      scope = a.scope;
-      keeps = keeps-same s old new a.state.candidates text candidates scope_same a.keeps;
+      kept = kept-same s old new text candidates scope_same a.kept;
       taker = a.taker;
       open_is = ap (λ v. reverse v.list.items) waits ∙ a.open_is;
       made = made;
@@ -262,9 +251,7 @@ void-closed s old new is_pointer a stands text candidates scope_same waits at =
     let g = p.onward v (old.at + 1) a.state
     (builtin-comes s Kind.ItemButRef p.around p.inner old.at a.state 118 tt refl p.awaits both.0) in
     record {
-      state = a.state;
-      scope = a.scope;
-      keeps = keeps-same s old new a.state.candidates text candidates scope_same a.keeps;
+      kept = kept-same s old new text candidates scope_same a.kept;
       taker = a.taker;
       open_is = ap (λ x. reverse x.list.items) waits ∙ a.open_is;
       made = made;
@@ -328,14 +315,11 @@ function-handed s old new is_pointer p text candidates scope_same waits at =
     let own = pointed is_pointer p.made in
     let then_ = with_pointed is_pointer p.taker.made_in p.made p.state in
     let grown : Direct = record old { text = new.text } in
-    let keeps = keeps-grown s old grown (codes ")") p.state.candidates text refl refl p.keeps in
+    let kept = kept-grown s old grown (codes ")") text refl refl p.kept in
     record {
       read = record {
-        state = then_;
-        scope = p.scope;
-        keeps = keeps-as s grown new then_.candidates refl candidates scope_same
-            (hidden-candidates s p.scope.names old is_pointer new.text.list.items p.taker.made_in p.made p.state keeps.candidates)
-            keeps.named keeps.own keeps.unknown;
+        kept = kept-as s grown new then_ kept refl candidates scope_same
+            (hidden-candidates s p.scope.names old is_pointer new.text.list.items p.taker.made_in p.made p.state kept.keeps.candidates);
         os = p.taker.outer;
         own = own;
         front = p.taker.front;
@@ -386,8 +370,8 @@ array-begins s old new access digits from to p letters takes is ordered inside s
     λ e. elim a.referable [ inl may ↦ may | inr none ↦ absurd (none.0 (referred s access old.at e letters)) ] in
     let f = array-opens s access a.kind a.os a.around old.at a.state digits new.at whole.1 referable a.awaits letters is in
     let entry = opens.Array access from to in
-    type-comes s old new a.state a.around f.inner a.keeps text candidates scope_same (ap reverse waits ∙ reverse-last old.waiting.list.items entry) a.outside
-    (inl f.awaits) (a.os, a.around, digits, ordered, inside, size, f.onward, takes, a.stands)
+    type-comes s old new a.kept a.around f.inner text candidates scope_same (ap reverse waits ∙ reverse-last old.waiting.list.items entry) a.outside
+    (inl f.awaits) (record { outer = a.os; made_in = a.around; takes = takes; stands = a.stands }, digits, ordered, inside, size, f.onward)
     (none-scoped a.scope a.around (entry ∷ reverse old.waiting.list.items) refl)
 
 -- ## The end of an array
@@ -399,25 +383,16 @@ value-array s w is_reference access from to p found =
     let last = value-element s w is_reference (opens.Array access from to) p found in
     let waits = last.read.stands in
     record {
-      state = p.state;
-      scope = p.scope;
-      keeps = p.keeps;
-      taker = record {
-        rest = last.rest;
-        outer = waits.0;
-        made_in = waits.1;
-        front = last.read.front;
-        takes = waits.7;
-        stands = waits.8;
-      };
+      kept = p.kept;
+      taker = record { rest = last.rest; front = last.read.front; taken = waits.0 };
       open_is = last.open_is;
-      digits = waits.2;
-      ordered = waits.3;
-      inside = waits.4;
-      size = waits.5;
+      digits = waits.1;
+      ordered = waits.2;
+      inside = waits.3;
+      size = waits.4;
       first = first-type s w is_reference p;
-      written = p.is_before.4;
-      comes = waits.6 p.is_before.1 w.at p.state p.is_before.7;
+      written = p.is_before.written;
+      comes = waits.5 p.is_before.own w.at p.state p.is_before.comes;
     }
 
 with-hidden : (w : Direct) (b : Bool) → with_hidden w b ≡ hidden_behind b w.candidates.list.items
@@ -446,7 +421,7 @@ array-written s readable w begun first second third last access from to p size t
     let bytes = p.first.bytes ++ opening ++ digits ++ codes "]" in
     let then_ = with_accessed access p.taker.made_in own p.state in
     let is : size ≡ digits = size_is ∙ ap (λ l. values.normal l) p.size in
-    let known = keeps-same s w begun p.state.candidates text candidates scope_same p.keeps in
+    let known = kept-same s w begun text candidates scope_same p.kept in
     let grown : third.text.list.items ≡ p.taker.front ++ bytes =
     three.text ∙ ap (λ l. l ++ codes "]") (two.text ∙ ap (λ l. first.text.list.items ++ l) is
     ∙ ap (λ l. l ++ digits) (one.text ∙ ap (λ v. v.list.items ++ opening) text ∙ ap (λ l. l ++ opening) p.written))
@@ -454,15 +429,12 @@ array-written s readable w begun first second third last access from to p size t
     let written : last.text.list.items ≡ p.taker.front ++ bytes = ap (λ v. v.list.items) same_text ∙ grown in
     let open_is : reverse last.waiting.list.items ≡ p.taker.rest =
     ap (λ v. reverse v.list.items) (same_waits ∙ three.waiting ∙ two.waiting ∙ one.waiting) ∙ waits in
-    let there = keeps-written s second third (codes "]") p.state.candidates three
-    (keeps-written s first second size p.state.candidates two (keeps-written s begun first opening p.state.candidates one known)) in
+    let there = kept-written s second third (codes "]") three
+    (kept-written s first second size two (kept-written s begun first opening one known)) in
     record {
       read = record {
-        state = then_;
-        scope = p.scope;
-        keeps = keeps-as s third last then_.candidates (ap (λ v. v.list.items) same_text) (more ∙ with-hidden third (is_marked access)) same_scope
-            (hidden-accessed s p.scope.names access third.candidates.list.items third.text.list.items p.taker.made_in own p.state there.candidates)
-            there.named there.own there.unknown;
+        kept = kept-as s third last then_ there same_text (more ∙ with-hidden third (is_marked access)) same_scope
+            (hidden-accessed s p.scope.names access third.candidates.list.items third.text.list.items p.taker.made_in own p.state there.keeps.candidates);
         os = p.taker.outer;
         own = whole;
         front = p.taker.front;

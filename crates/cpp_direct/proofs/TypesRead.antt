@@ -1,5 +1,5 @@
 -- A writer reads a type, or the first bytes of one.
-use Rattle.std.proofs.Common.{◌≡◌, ◌≢◌, ◌⊎◌, inl, inr, ℕ, ◌+◌, ◌-◌, ◌≤◌, List, [], ◌∷◌, ◌++◌, length, take, drop, reverse, slice_get, Bool, true, false, ◌&&◌, nat_eq, Option, Some, None, codes, refl, ap, sym, subst, ◌∙◌, arith, append_assoc, append-nil, if◌then◌else◌}
+use Rattle.std.proofs.Common.{◌≡◌, ◌≢◌, inl, inr, ℕ, ◌+◌, ◌-◌, ◌≤◌, List, [], ◌∷◌, ◌++◌, length, take, drop, reverse, slice_get, Bool, true, false, ◌&&◌, nat_eq, Option, Some, None, codes, refl, ap, sym, subst, ◌∙◌, arith, append_assoc, append-nil, if◌then◌else◌}
 use Rattle.std.proofs.lemmas.List.{length-append, reverse-reverse}
 use Rattle.std.proofs.Math.Seq.{take-append_seam}
 use Rattle.std.specs.Option.{OnSome, IfSome}
@@ -12,7 +12,7 @@ use Rattle.cpp_grammar.specs.Grammar.{among, may_be_empty}
 use Rattle.cpp_grammar.specs.Term.{Term, alone, in_std, abbreviation, source, builtin, pointer, lvalue, rvalue}
 use Rattle.cpp_grammar.specs.Texts.{Naming, look_up, builtin_texts, abbreviation_texts, same_bytes}
 use Rattle.cpp_grammar.specs.Parts.{source_text}
-use Rattle.cpp_grammar.specs.Values.{State, Around, outermost, tree}
+use Rattle.cpp_grammar.specs.Values.{State, tree}
 use Rattle.cpp_grammar.specs.Between.{after, inside, no_items}
 use Rattle.cpp_direct.specs.Symbol.{detail_of, Symbol}
 use Rattle.cpp_direct.specs.Bytes.{is_builtin, is_builtin_with_d, is_abbreviated}
@@ -24,15 +24,15 @@ use Rattle.cpp_direct.specs.declared.open.Purpose.TheVariants as purposes
 use Rattle.cpp_direct.specs.declared.open.Step.{Step}
 use Rattle.cpp_direct.specs.declared.open.Step.TheVariants as steps
 use Rattle.cpp_direct.specs.declared.direct.Direct.{Direct}
-use Rattle.cpp_direct.specs.Holes.{Opened, StandsAt, Comes, Expects, IsTyped, IsReferable, IsNameAt, IsSeqAt, TypeNamed, with_candidate, unless_listed}
-use Rattle.cpp_direct.specs.HolesOfTypes.{NoReference, IsQualifiable, TypeOpens}
+use Rattle.cpp_direct.specs.Holes.{StandsAt, Comes, Expects, IsReferable, IsNameAt, IsSeqAt, TypeNamed, with_candidate, unless_listed}
+use Rattle.cpp_direct.specs.HolesOfTypes.{IsQualifiable, TypeOpens}
 use Rattle.cpp_direct.specs.Prints.{Prints, PrintsAs}
-use Rattle.cpp_direct.specs.WriterInvariant.{IsScoped, IsWriting, Keeps, Marks, Scope, Stands, below}
+use Rattle.cpp_direct.specs.WriterInvariant.{IsScoped, IsWriting, Marks, Stands, below, Kept}
 use Rattle.cpp_direct.specs.MidStep.{AwaitsType, AwaitsNamedType, AwaitsNest, IsNamedAgain, IsTypeNamed, AwaitsMark}
 use Rattle.cpp_direct.specs.Written.{Reads, Writes, added, added_unless}
 use Rattle.cpp_direct.proofs.Unmarked.{name-unmarked}
 use Rattle.cpp_direct.proofs.Scopes.{scoped-inside}
-use Rattle.cpp_direct.proofs.Kept.{candidate-found, keeps-as, keeps-grown, keeps-read, keeps-same, keeps-with, last-reversed, piece-found, reverse-last, stands-same, type-comes, value-added, value-comes, Lists, OpensArguments, list-begins}
+use Rattle.cpp_direct.proofs.Kept.{candidate-found, kept-grown, kept-same, last-reversed, piece-found, reverse-last, type-comes, value-added, value-comes, Lists, OpensArguments, list-begins, kept-unless, awaited-in}
 use Rattle.cpp_direct.proofs.Moves.{expects-empty, stands-join}
 use Rattle.cpp_direct.proofs.MovesOfLists.{arguments-open}
 use Rattle.cpp_direct.proofs.MovesOfTypes.{solid-opens, builtin-comes, builtin-with-d-comes, pointer-opens, lvalue-opens, rvalue-opens, const-opens, source-opens, std-opens, abbreviation-opens, substitution-opens, substituted-so, nested-type-opens}
@@ -77,20 +77,18 @@ pub mark-answer : (s : Symbol) (old mid new : Direct) (mark : List ℕ) (from : 
 mark-answer s old mid new mark from r d a waits text candidates scope at more same_text same_waits same_scope same_at =
     let marked : mid.text.list.items ≡ a.front ++ (a.bytes ++ mark) = text ∙ ap (λ l. l ++ mark) a.written ∙ append_assoc a.front a.bytes mark in
     let open_is : reverse new.waiting.list.items ≡ a.rest = ap (λ v. reverse v.list.items) same_waits ∙ waits in
-    value-added s mid new a.state a.outer a.made_in a.made a.front (a.bytes ++ mark) from r d
-    (keeps-grown s old mid mark a.state.candidates text candidates scope a.keeps) marked a.from_is a.prints a.made_here same_text more same_scope open_is a.naming
+    value-added s mid new (kept-grown s old mid mark text candidates scope a.kept) a.outer a.made_in a.made a.front (a.bytes ++ mark) from r d
+    marked a.from_is a.prints a.made_here same_text more same_scope open_is a.naming
     (subst (λ k. Comes s a.outer (tree a.made true) k (with_candidate a.made_in a.made a.state)) (sym (same_at ∙ at)) a.comes) a.stands
 
 -- ## Names of types
 
-named-keeps : (s : Symbol) (old new : Direct) (from : ℕ) (listed r : Bool) (a : IsTypeNamed s old from listed r) → new.text ≡ old.text
-    → new.candidates.list.items ≡ added_unless old listed from false → new.has_scope ≡ old.has_scope
-    → Keeps s a.scope new (unless_listed listed a.around a.own a.state).candidates
-named-keeps s old new from true r a text candidates scope =
-    keeps-as s old new a.state.candidates (ap (λ v. v.list.items) text) candidates scope a.keeps.candidates a.keeps.named a.keeps.own a.keeps.unknown
-named-keeps s old new from false r a text candidates scope =
-    keeps-with s old new a.state a.front a.bytes from a.own a.around false false a.keeps a.written a.from_is
-    (subst (λ b. Prints (detail_of s) a.own a.bytes b) (a.no_reference refl) a.prints) (λ e. absurd (false≢true e)) text candidates scope
+-- it became a candidate, unless it was one
+abbrev named-kept : (s : Symbol) (old new : Direct) (from : ℕ) (listed r : Bool) (a : IsTypeNamed s old from listed r) → new.text ≡ old.text
+    → new.candidates.list.items ≡ added_unless old listed from false → new.has_scope ≡ old.has_scope → Kept s new
+named-kept s old new from listed r a text candidates scope =
+    kept-unless s old new a.kept listed a.front a.bytes from a.own a.around false a.written a.from_is
+    (λ e. subst (λ b. Prints (detail_of s) a.own a.bytes b) (a.no_reference e) a.prints) (λ e. absurd (false≢true e)) text candidates scope
 
 -- nothing comes after the name of a type
 pub bare-done : (s : Symbol) (old new : Direct) (from : ℕ) (listed r : Bool) → IsTypeNamed s old from listed r
@@ -99,7 +97,7 @@ pub bare-done : (s : Symbol) (old new : Direct) (from : ℕ) (listed r : Bool) �
 unfolding may_be_empty
 bare-done s old new from listed r a waits text candidates scope at =
     let state : State = unless_listed listed a.around a.own a.state in
-    value-comes s new state a.outer a.own a.front a.bytes r false (named-keeps s old new from listed r a text candidates scope)
+    value-comes s new (named-kept s old new from listed r a text candidates scope) a.outer a.own a.front a.bytes r false
     (ap (λ v. v.list.items) text ∙ a.written) a.prints (ap (λ v. reverse v.list.items) waits) (λ e. absurd (false≢true e))
     (subst (λ k. Comes s a.outer (tree a.own true) k state) (sym at) (a.named.bare old.at a.state a.prints.no_function
     (expects-empty s Kind.ArgumentsAlone (after a.own listed a.around) a.named.inner old.at a.state a.named.awaits refl))) a.stands
@@ -111,8 +109,8 @@ unfolding inside
 argued-done s old mid new from listed r named none stands lists opening_ =
     let a = subst (λ b. IsTypeNamed s old from listed b) none named in
     let o = arguments-open s a.named.inner a.around a.own listed old.at a.state a.named.awaits (subst (λ n. StandsAt s.bytes n (73 ∷ [])) lists.at stands) in
-    list-begins s a.scope old mid new (added_unless old listed from false) (unless_listed listed a.around a.own a.state) (opens.TypeArguments from false) a.front a.bytes
-    a.own lists opening_ (named-keeps s old mid from listed false a lists.text lists.candidates lists.scope) (a.from_is, a.prints) a.written (
+    list-begins s old mid new (added_unless old listed from false) (named-kept s old mid from listed false a lists.text lists.candidates lists.scope)
+    (opens.TypeArguments from false) a.front a.bytes a.own lists opening_ (a.from_is, a.prints) a.written (
       inside a.around,
       o.inner,
       refl,
@@ -182,34 +180,13 @@ no-abbreviation letter is none = absurd (false≢true (subst (λ l. is_abbreviat
 
 -- ## Types
 
--- a type is expected as one of the kinds that it may be of
-expected-as : (s : Symbol) {scope : Scope} (w : Direct) (st : State) → Keeps s scope w st.candidates
-    → (kind : Kind) → IsTyped kind → IsReferable kind ⊎ NoReference s.bytes w.at → (os : List Opened) (around : Around) → around.prefix ≡ outermost
-    → Expects s kind around os w.at st → Stands s scope (reverse w.waiting.list.items) os w.text.list.items
-    → IsScoped scope around (reverse w.waiting.list.items) → AwaitsType s w
-expected-as s {scope = scope} w st keeps kind typed referable os around outside awaits stands scoped = record {
-  state = st;
-  scope = scope;
-  keeps = keeps;
-  kind = kind;
-  typed = typed;
-  around = around;
-  outside = outside;
-  os = os;
-  referable = referable;
-  awaits = awaits;
-  stands = stands;
-  scoped = scoped;
-}
-
 -- where a type is, it may have a qualifier
 pub whole-awaited : (s : Symbol) (w : Direct) → IsWriting s w steps.Type → (a : AwaitsType s w) × IsQualifiable a.kind
-unfolding expected-as
-whole-awaited s w p = elim p.is_before.3 [
-  | inl awaits ↦ (expected-as s w p.state p.keeps Kind.Type tt (inl tt) p.is_before.0 p.is_before.1 p.is_before.2 awaits p.is_before.4 p.is_before.5, tt)
-  | inr (inl awaits) ↦ (expected-as s w p.state p.keeps Kind.Item tt (inl tt) p.is_before.0 p.is_before.1 p.is_before.2 awaits p.is_before.4 p.is_before.5, tt)
+whole-awaited s w p = elim p.is_before.1 [
+  | inl awaits ↦ (record { kept = p.kept; awaited = p.is_before.0; kind = Kind.Type; typed = tt; referable = inl tt; awaits = awaits }, tt)
+  | inr (inl awaits) ↦ (record { kept = p.kept; awaited = p.is_before.0; kind = Kind.Item; typed = tt; referable = inl tt; awaits = awaits }, tt)
   | inr (inr awaits) ↦ (
-    expected-as s w p.state p.keeps Kind.ItemButRef tt (inr awaits.1) p.is_before.0 p.is_before.1 p.is_before.2 awaits.0 p.is_before.4 p.is_before.5,
+    record { kept = p.kept; awaited = p.is_before.0; kind = Kind.ItemButRef; typed = tt; referable = inr awaits.1; awaits = awaits.0 },
     tt,
   )
 ]
@@ -217,7 +194,7 @@ whole-awaited s w p = elim p.is_before.3 [
 -- what is expected where a type is
 pub awaits-type : (s : Symbol) (w : Direct) (is_plain : Bool) → IsWriting s w (if is_plain then steps.Plain else steps.Type) → AwaitsType s w
 awaits-type s w true p =
-    expected-as s w p.state p.keeps Kind.Plain tt (inl tt) p.is_before.0 p.is_before.1 p.is_before.2 p.is_before.3 p.is_before.4 p.is_before.5
+    record { kept = p.kept; awaited = p.is_before.0; kind = Kind.Plain; typed = tt; referable = inl tt; awaits = p.is_before.1 }
 awaits-type s w false p = (whole-awaited s w p).0
 
 -- a type is read that is no candidate
@@ -225,7 +202,7 @@ value-done : (s : Symbol) (old new : Direct) (a : AwaitsType s old) (t : Term) (
     → new.text.list.items ≡ old.text.list.items ++ bytes → new.candidates ≡ old.candidates → new.waiting ≡ old.waiting → new.has_scope ≡ old.has_scope
     → Comes s a.os (tree t true) new.at a.state → IsWriting s new (steps.Value false false)
 value-done s old new a t bytes prints text candidates waits scope comes =
-    value-comes s new a.state a.os t old.text.list.items bytes false false (keeps-grown s old new bytes a.state.candidates text candidates scope a.keeps) text prints
+    value-comes s new (kept-grown s old new bytes text candidates scope a.kept) a.os t old.text.list.items bytes false false text prints
     (ap (λ v. reverse v.list.items) waits) (λ e. absurd (false≢true e)) comes a.stands
 
 -- a builtin type is read
@@ -263,28 +240,20 @@ builtin-with-d-done s old new letter a first stands is text candidates waits sco
 -- where a type is expected a name may be
 pub names-awaited : (s : Symbol) (w : Direct) → AwaitsType s w → AwaitsNamedType s w
 names-awaited s w a = record {
-  state = a.state;
-  scope = a.scope;
-  keeps = a.keeps;
+  kept = a.kept;
+  awaited = a.awaited;
   kind = Kind.Solid;
   is_named = tt;
-  around = a.around;
-  outside = a.outside;
-  os = a.os;
   begins = solid-opens s a.kind a.around a.os w.at a.state a.typed a.awaits;
-  stands = a.stands;
-  scoped = a.scoped;
 }
 
 -- a name was read where one was awaited
 named-from : (s : Symbol) (old new : Direct) (from : ℕ) (listed r : Bool) (a : AwaitsNamedType s old) (own : Term) (bytes : List ℕ)
-    → Keeps s a.scope new a.state.candidates → TypeNamed s a.os a.around own listed new.at a.state
+    → TypeNamed s a.os a.around own listed new.at a.state → new.candidates ≡ old.candidates → new.has_scope ≡ old.has_scope
     → new.text.list.items ≡ old.text.list.items ++ bytes → from ≡ length old.text.list.items → Prints (detail_of s) own bytes r
     → (listed ≡ false → r ≡ false) → new.waiting ≡ old.waiting → IsTypeNamed s new from listed r
-named-from s old new from listed r a own bytes keeps named written from_is prints no_reference waits = record {
-  state = a.state;
-  scope = a.scope;
-  keeps = keeps;
+named-from s old new from listed r a own bytes named candidates scope written from_is prints no_reference waits = record {
+  kept = kept-grown s old new bytes written candidates scope a.kept;
   around = a.around;
   outside = a.outside;
   outer = a.os;
@@ -305,9 +274,8 @@ pub source-named : (s : Symbol) (old new : Direct) (from : ℕ) (name : List ℕ
     → Reads old new (source_text name) → from ≡ length old.text.list.items → IsTypeNamed s new from false false
 source-named s old new from name a is some reads begins =
     named-from s old new from false false a (alone (source false name)) (source_text name)
-    (keeps-read s old new (source_text name) a.state.candidates reads a.keeps)
     (source-opens s a.kind a.around a.os old.at a.state name new.at a.is_named a.outside a.begins is)
-    reads.text begins (source-prints false name some (name-unmarked s.bytes old.at name new.at is)) (λ e. refl) reads.waiting
+    reads.candidates reads.scope reads.text begins (source-prints false name some (name-unmarked s.bytes old.at name new.at is)) (λ e. refl) reads.waiting
 
 -- a name in std
 pub std-named : (s : Symbol) (old mid new : Direct) (from : ℕ) (name : List ℕ) → AwaitsNamedType s old → StandsAt s.bytes old.at (83 ∷ [])
@@ -317,10 +285,9 @@ pub std-named : (s : Symbol) (old mid new : Direct) (from : ℕ) (name : List �
     → IsNameAt s.bytes mid.at name new.at → name ≢ [] → Reads mid new (source_text name) → from ≡ length old.text.list.items → IsTypeNamed s new from false false
 std-named s old mid new from name a s_stands t_stands text candidates waits scope at is some reads begins =
     named-from s old new from false false a (in_std (source false name)) (codes "std::" ++ source_text name)
-    (keeps-read s mid new (source_text name) a.state.candidates reads
-    (keeps-grown s old mid (codes "std::") a.state.candidates text candidates scope a.keeps))
     (std-opens s a.kind a.around a.os old.at a.state name new.at a.is_named a.begins (stands-join s.bytes old.at (83 ∷ []) (116 ∷ []) s_stands t_stands)
     (subst (λ k. IsNameAt s.bytes k name new.at) (omega (arith, at)) is))
+    (reads.candidates ∙ candidates) (reads.scope ∙ scope)
     (reads.text ∙ ap (λ l. l ++ source_text name) text ∙ append_assoc old.text.list.items (codes "std::") (source_text name))
     begins (std-prints false name some (name-unmarked s.bytes mid.at name new.at is)) (λ e. refl) (reads.waiting ∙ waits)
 
@@ -333,11 +300,10 @@ abbreviation-named s old new from letter a s_stands stands has text candidates w
     let is = abbreviation-listed letter has in
     let bytes : List ℕ = look_up (letter ∷ []) abbreviation_texts in
     named-from s old new from true false a (abbreviation letter) bytes
-    (keeps-grown s old new bytes a.state.candidates text candidates scope a.keeps)
     (subst (λ k. TypeNamed s a.os a.around (abbreviation letter) true k a.state) (omega (arith, at))
     (abbreviation-opens s a.kind a.around a.os old.at a.state letter a.is_named is a.begins
     (stands-join s.bytes old.at (83 ∷ []) (letter ∷ []) s_stands (stands (no-abbreviation letter is)))))
-    text begins (abbreviation-prints letter has) (λ e. refl) waits
+    candidates scope text begins (abbreviation-prints letter has) (λ e. refl) waits
 
 -- a substitution
 pub substitution-named : (s : Symbol) (old mid new : Direct) (n from : ℕ) (digits : List ℕ) (k : Candidate) → AwaitsNamedType s old → StandsAt s.bytes old.at (83 ∷ [])
@@ -347,16 +313,15 @@ pub substitution-named : (s : Symbol) (old mid new : Direct) (n from : ℕ) (dig
 substitution-named s old mid new n from digits k a stands is ordered found reads writes begins plain =
     let text = old.text.list.items in
     let c = candidate-found text old.candidates.list.items a.state.candidates (counted_value Seq36 digits) k a.keeps.candidates ordered found in
-    let piece = piece-found text c.2.front c.2.bytes c.2.back k.from k.to c.2.written c.2.from_is c.2.to_is in
+    let piece = piece-found text c.2.bytes k.from k.to c.2.placed in
     let written : new.text.list.items ≡ text ++ c.2.bytes =
     writes.text ∙ ap (λ l. l ++ take (k.to - k.from) (drop k.from l)) (reads.text ∙ append-nil text) ∙ ap (λ l. text ++ l) piece.2 in
     let prints = subst (λ b. PrintsAs (detail_of s) a.scope.names b c.0.tree c.2.bytes k.is_reference) plain c.2.prints in
     named-from s old new from true k.is_reference a c.0.tree c.2.bytes
-    (keeps-grown s old new c.2.bytes a.state.candidates written (writes.candidates ∙ reads.candidates) (writes.scope ∙ reads.scope) a.keeps)
     (substitution-opens s a.kind a.around a.os old.at a.state digits new.at c.0 a.is_named c.1
     (λ place. substituted-so a.around place c.0 a.state prints.is_closed prints.packless) a.begins stands
     (subst (λ n. IsSeqAt s.bytes (old.at + 1) digits n) (sym writes.at) is))
-    written begins prints (λ e. absurd (false≢true (sym e))) (writes.waiting ∙ reads.waiting)
+    (writes.candidates ∙ reads.candidates) (writes.scope ∙ reads.scope) written begins prints (λ e. absurd (false≢true (sym e))) (writes.waiting ∙ reads.waiting)
 
 -- one that names an argument
 pub named-again : (s : Symbol) (old new : Direct) (n : ℕ) (digits : List ℕ) (k : Candidate) → AwaitsNamedType s old → StandsAt s.bytes old.at (83 ∷ [])
@@ -365,18 +330,12 @@ pub named-again : (s : Symbol) (old new : Direct) (n : ℕ) (digits : List ℕ) 
 named-again s old new n digits k a stands is ordered found reads dependent = record {
   before = old.at;
   awaits = record {
-    state = a.state;
-    scope = a.scope;
-    keeps = keeps-grown s old (record new { at = old.at }) [] a.state.candidates reads.text reads.candidates reads.scope a.keeps;
+    kept = kept-grown s old (record new { at = old.at }) [] reads.text reads.candidates reads.scope a.kept;
+    awaited = awaited-in s a.scope old (record new { at = old.at }) a.around a.os (reads.text ∙ append-nil old.text.list.items)
+        (ap (λ v. reverse v.list.items) reads.waiting) a.outside a.stands a.scoped;
     kind = a.kind;
     is_named = a.is_named;
-    around = a.around;
-    outside = a.outside;
-    os = a.os;
     begins = a.begins;
-    stands = subst (λ l. Stands s a.scope (reverse new.waiting.list.items) a.os l) (sym (reads.text ∙ append-nil old.text.list.items))
-        (subst (λ v. Stands s a.scope (reverse v.list.items) a.os old.text.list.items) (sym reads.waiting) a.stands);
-    scoped = subst (λ v. IsScoped a.scope a.around (reverse v.list.items)) (sym reads.waiting) a.scoped;
   };
   letter = stands;
   digits = digits;
@@ -397,7 +356,7 @@ pub type-opened : (s : Symbol) (old new : Direct) (o : Option Step) (entry : Ope
     → IfSome o (λ next. next ≡ steps.Type) → OnSome o (new.waiting.list.items ≡ old.waiting.list.items ++ entry ∷ []) → OnSome o (new.at ≡ old.at + 1)
     → new.text ≡ old.text → new.candidates ≡ old.candidates → new.has_scope ≡ old.has_scope → IfSome o (IsWriting s new)
 type-opened s old new o entry from made a t begins stands scoped is waits at text candidates scope = by-step o steps.Type (IsWriting s new) is (λ e.
-    type-comes s old new a.state a.around t.inner a.keeps text candidates scope
+    type-comes s old new a.kept a.around t.inner text candidates scope
     (ap reverse (given _ o steps.Type e waits) ∙ reverse-last old.waiting.list.items entry) a.outside
     (inl (subst (λ k. Expects s Kind.Type a.around t.inner k a.state) (sym (given _ o steps.Type e at)) t.awaits))
     (stands (a.os, a.around, begins, t.passes, a.scoped, a.stands)) scoped)
@@ -439,16 +398,10 @@ plain-opened s old new o from a may begins stands is waits at text candidates sc
     let open_is : reverse new.waiting.list.items ≡ opens.Const from ∷ reverse old.waiting.list.items
     = ap reverse (given _ o steps.Plain e waits) ∙ reverse-last old.waiting.list.items (opens.Const from) in
     record {
-      state = a.state;
-      scope = a.scope;
-      keeps = keeps-same s old new a.state.candidates text candidates scope a.keeps;
+      kept = kept-same s old new text candidates scope a.kept;
       is_before = (
-        t.inner,
-        a.around,
-        a.outside,
+        awaited-in s a.scope old new a.around t.inner (ap (λ v. v.list.items) text) open_is a.outside (a.os, a.around, begins, t.passes, a.scoped, a.stands) a.scoped,
         subst (λ k. Expects s Kind.Plain a.around t.inner k a.state) (sym (given _ o steps.Plain e at)) t.awaits,
-        stands-same s a.scope old new t.inner text open_is (a.os, a.around, begins, t.passes, a.scoped, a.stands),
-        subst (λ l. IsScoped a.scope a.around l) (sym open_is) a.scoped,
       );
     })
 
@@ -468,9 +421,7 @@ pub nest-awaited : (s : Symbol) (old : Direct) (n : ℕ) → AwaitsNamedType s o
 nest-awaited s old n a at stands =
     let t = nested-type-opens s a.kind a.around a.os old.at a.state a.is_named a.begins stands in
     record {
-      state = a.state;
-      scope = a.scope;
-      keeps = keeps-same s old (record old { at = n }) a.state.candidates refl refl refl a.keeps;
+      kept = kept-same s old (record old { at = n }) refl refl refl a.kept;
       around = a.around;
       outside = a.outside;
       outer = t.inner;

@@ -1,6 +1,5 @@
 -- Names of encodings that are in no class, and of local entities: where a writer is after them.
 use Rattle.cpp_direct.proofs.Unmarked.{name-unmarked}
-use Rattle.cpp_direct.proofs.Scopes.{plain-named}
 use Rattle.std.proofs.Common.{◌≡◌, ◌≢◌, ℕ, ◌+◌, length, List, [], ◌∷◌, ◌++◌, Bool, true, false, not, cond, refl, ap, sym, subst, ◌∙◌, arith, append_assoc, codes, ◌≤◌, append-nil}
 use Rattle.std.proofs.lemmas.Bool.{false≢true}
 use Rattle.cpp_grammar.specs.declared.kind.Kind.{Kind}
@@ -12,21 +11,20 @@ use Rattle.cpp_grammar.specs.Values.{State, piece, tree, tree_of, qualifiers_of,
 use Rattle.cpp_grammar.specs.Between.{after, in_name, inside, no_items, with_tag, in_types}
 use Rattle.cpp_direct.specs.Symbol.{detail_of, Symbol}
 use Rattle.cpp_direct.specs.declared.direct.Direct.{Direct}
-use Rattle.cpp_direct.specs.Holes.{StandsAt, Comes, IsNameAt, Named, with_candidate, IsTagAt}
+use Rattle.cpp_direct.specs.Holes.{StandsAt, Comes, IsNameAt, Named, IsTagAt}
 use Rattle.cpp_direct.specs.Names.{IsOperatorAt, is_angle, operator_text, tag_text}
 use Rattle.cpp_direct.specs.Prints.{Prints, PrintsName, Shows}
-use Rattle.cpp_direct.specs.WriterInvariant.{IsWriting, Keeps, Scope, no_scope, nowhere, EntityBehind}
+use Rattle.cpp_direct.specs.WriterInvariant.{IsWriting, nowhere, no_scope, EntityBehind, Kept}
 use Rattle.cpp_direct.specs.MidStep.{AwaitsEncoding, AwaitsSource, HasName, IsNameEnded, IsUnscoped, IsFresh, IsSymbolEnded}
 use Rattle.cpp_direct.specs.Written.{Writes, Reads, added}
 use Rattle.cpp_direct.proofs.Begins.{encoding-expected, items-await, encoded-whole, third-tells}
 use Rattle.cpp_direct.proofs.Moves.{alone-arguments, expects-empty, stands-join}
-use Rattle.cpp_direct.proofs.MovesOfComponents.{tag-follows}
 use Rattle.cpp_direct.proofs.PrintedNests.{tagged-names, tagged-prints}
-use Rattle.cpp_direct.proofs.Kept.{keeps-grown, keeps-read, keeps-same, keeps-with, none-kept, Lists, OpensArguments, list-begins, none-known}
+use Rattle.cpp_direct.proofs.Kept.{kept-grown, kept-read, kept-same, none-kept, Lists, OpensArguments, list-begins, none-known, kept-with}
 use Rattle.cpp_direct.proofs.NamePlaces.{reads-then, reads-of, reads-begun}
 use Rattle.cpp_direct.proofs.MovesOfEncodings.{name-source, name-internal, name-operator, name-std, operator-piece-comes, symbol-starts, encoding-opens}
 use Rattle.cpp_direct.proofs.MovesOfLists.{arguments-open}
-use Rattle.cpp_direct.proofs.MovesOfNests.{piece-comes}
+use Rattle.cpp_direct.proofs.MovesOfNests.{piece-comes, tag-follows}
 use Rattle.cpp_direct.proofs.LettersTested.{operator-listed}
 use Rattle.cpp_direct.proofs.PrintedNames.{as-name, source-prints, std-prints, operator-names, operator-prints, std-operator-names, std-operator-prints}
 use Rattle.cpp_grammar.specs.Meaning.{encoding_of, discriminator_of}
@@ -40,6 +38,7 @@ use Rattle.cpp_direct.proofs.PrintedLocals.{entity-shows, guard-shows}
 use Rattle.cpp_direct.specs.declared.open.Mark.TheVariants as marks
 use Rattle.cpp_direct.specs.declared.open.Open.TheVariants as opens
 use Rattle.cpp_direct.specs.declared.open.Step.TheVariants as steps
+use Rattle.cpp_direct.proofs.Scopes.{has-plain}
 
 -- what isn't so
 pub not-so : (b other : Bool) → b ≡ other → not b ≡ true → other ≡ false
@@ -74,15 +73,13 @@ name-has s false w p at name end letter at_is is =
     (name-source s encoding.inner (in_name w.at) w.at name end p.state encoding.awaits refl (subst (λ n. IsNameAt s.bytes n name end) here is))
 
 -- A name was read and written that is in no class.
-unscoped-read : (s : Symbol) (scope : Scope) (old new : Direct) (takes : Bool) (own : Term) (bytes : List ℕ) (st : State) (encoding : ℕ)
-    → Keeps s scope old st.candidates → HasName s old.text.list.items encoding own new.at st
+unscoped-read : (s : Symbol) (old new : Direct) (takes : Bool) (own : Term) (bytes : List ℕ) (kept : Kept s old) (encoding : ℕ)
+    → HasName s old.text.list.items encoding own new.at kept.state
     → Reads old new bytes → PrintsName (detail_of s) own bytes → (takes ≡ true → Prints (detail_of s) own bytes false) → has_return_type own ≡ false
     → is_structor own ≡ false
     → (from : ℕ) → from ≡ length old.text.list.items → IsUnscoped s new from takes
-unscoped-read s scope old new takes own bytes st encoding keeps has reads names prints no_return no_structor from from_is = record {
-  state = st;
-  scope = scope;
-  keeps = keeps-read s old new bytes st.candidates reads keeps;
+unscoped-read s old new takes own bytes kept encoding has reads names prints no_return no_structor from from_is = record {
+  kept = kept-read s old new bytes reads kept;
   encoding = encoding;
   own = own;
   front = old.text.list.items;
@@ -103,8 +100,7 @@ unfolding has_return_type arguments_of is_structor
 source-unscoped s internal old new name p is filled reads from from_is =
     let own = alone (source internal name) in
     let prints = source-prints internal name filled (name-unmarked s.bytes old.at name new.at is) in
-    unscoped-read s p.awaits.scope old new true own (source_text name) p.awaits.state p.before
-    (keeps-same s (record old { at = p.before }) old p.awaits.state.candidates refl refl refl p.awaits.keeps)
+    unscoped-read s old new true own (source_text name) (kept-same s (record old { at = p.before }) old refl refl refl p.awaits.kept) p.before
     (name-has s internal (record old { at = p.before }) p.awaits old.at name new.at p.letter p.at_is is)
     reads (as-name own (source_text name) false prints) (λ e. prints) refl refl from from_is
 
@@ -116,7 +112,7 @@ unfolding has_return_type arguments_of is_structor in_name
 operator-unscoped s old new first second takes p is plain reads from from_is =
     let own = alone (operator first second) in
     let encoding = encoding-expected s old p in
-    unscoped-read s p.scope old new takes own (operator_text first second) p.state old.at p.keeps
+    unscoped-read s old new takes own (operator_text first second) p.kept old.at
     (subst (λ n. HasName s old.text.list.items old.at own n p.state) (sym is.ends)
     (named-has s old p own (old.at + 2)
     (name-operator s encoding.inner (in_name old.at) old.at p.state first second (operator-listed first second is.known) encoding.awaits refl is.stands)))
@@ -145,7 +141,7 @@ std-source-unscoped s old marked read first second name p letter next mark then_
     let prints = std-prints false name filled (name-unmarked s.bytes marked.at name read.at is) in
     let here = stands-join s.bytes old.at (83 ∷ []) (116 ∷ []) letter (subst (λ n. StandsAt s.bytes n (116 ∷ [])) next mark) in
     let there = subst (λ n. IsNameAt s.bytes n name read.at) (std-place old.at first second marked.at next then_ w.at) is in
-    unscoped-read s p.scope old read true own x p.state old.at p.keeps
+    unscoped-read s old read true own x p.kept old.at
     (named-has s old p own read.at
     (name-std s encoding.inner (in_name old.at) old.at (source false name) read.at p.state encoding.awaits here
     (λ inner expects. piece-comes s inner (in_name old.at) (old.at + 2) p.state name read.at expects there)))
@@ -163,7 +159,7 @@ std-operator-unscoped s old marked read first second a b takes p letter next mar
     let here = stands-join s.bytes old.at (83 ∷ []) (116 ∷ []) letter (subst (λ n. StandsAt s.bytes n (116 ∷ [])) next mark) in
     let place = std-place old.at first second marked.at next then_ w.at in
     let there = subst (λ n. IsOperatorAt s.bytes n a b read.at) place is in
-    unscoped-read s p.scope old read takes own (codes "std::" ++ operator_text a b) p.state old.at p.keeps
+    unscoped-read s old read takes own (codes "std::" ++ operator_text a b) p.kept old.at
     (named-has s old p own read.at
     (name-std s encoding.inner (in_name old.at) old.at (operator a b) read.at p.state encoding.awaits here
     (λ inner expects. subst (λ n. Comes s inner (piece (operator a b)) n p.state) (sym there.ends)
@@ -176,17 +172,8 @@ std-operator-unscoped s old marked read first second a b takes p letter next mar
 pub unscoped-bare : (s : Symbol) (w : Direct) (from : ℕ) (takes : Bool) → IsUnscoped s w from takes → IsNameEnded s w marks.Plain false nowhere from
 unfolding may_be_empty
 unscoped-bare s w from takes p = record {
-  state = p.state;
-  scope = p.scope;
-  keeps = p.keeps;
-  own = p.own;
-  v = tree p.own false;
-  named_so = plain-named p.own;
-  lead = p.front;
-  name = p.bytes;
-  written = p.written;
-  prints = p.names;
-  from_is = p.from_is;
+  kept = p.kept;
+  has = has-plain s w.text.list.items from p.own p.front p.bytes p.written p.from_is p.names;
   no_return = λ e. p.no_return;
   returns = λ e. absurd (false≢true e);
   names = λ k o. absurd (none-known k o);
@@ -203,9 +190,7 @@ unscoped-tagged s old new from takes tag wide p is reads =
     let own : Term = with_tag p.own tag in
     let plain = name-unmarked s.bytes (old.at + 1) tag new.at is.1 in
     record {
-      state = p.state;
-      scope = p.scope;
-      keeps = keeps-read s old new (tag_text tag) p.state.candidates reads p.keeps;
+      kept = kept-read s old new (tag_text tag) reads p.kept;
       encoding = p.encoding;
       own = own;
       front = p.front;
@@ -234,9 +219,9 @@ unscoped-argued s read kept new from takes p some there lists opening_ =
     let list = arguments-open s p.has.inner here p.own false read.at p.state
     (alone-arguments s (after p.own false here) p.has.inner read.at p.state p.has.awaits) there in
     let prints = p.prints some in
-    list-begins s p.scope read kept new (added read from false false) (with_candidate here p.own p.state) (opens.NameArguments from) p.front p.bytes p.own lists opening_
-    (keeps-with s read kept p.state p.front p.bytes from p.own here false false p.keeps p.written p.from_is prints (λ e. absurd (false≢true e))
-    lists.text lists.candidates lists.scope) (p.from_is, prints, p.no_structor) p.written (
+    list-begins s read kept new (added read from false false)
+    (kept-with s read kept p.kept p.front p.bytes from p.own here false false p.written p.from_is prints (λ e. absurd (false≢true e))
+    lists.text lists.candidates lists.scope) (opens.NameArguments from) p.front p.bytes p.own lists opening_ (p.from_is, prints, p.no_structor) p.written (
       inside here,
       list.inner,
       refl,
@@ -265,9 +250,7 @@ local-begins s w fresh starts letter =
     let encoding_ = encoding-opens s opened_.inner first_around 2 first_state opened_.awaits in
     let here : LocalOpened s encoding_.inner (in_name 2) 3 first_state = local-opens s encoding_.inner (in_name 2) 2 first_state encoding_.awaits letter in
     record {
-      state = first_state;
-      scope = no_scope;
-      keeps = none-kept s (record w { at = 3 }) fresh.no_candidate;
+      kept = record { state = first_state; scope = no_scope; keeps = none-kept s (record w { at = 3 }) fresh.no_candidate };
       around = in_name 2;
       outer = here.inner;
       begins = λ none. sym (ap (λ b. cond b 3 2) (third-tells s.bytes 90 letter));
@@ -301,9 +284,11 @@ guard-begins s old new fresh starts marks letter stands writes =
     let here : LocalOpened s guard_.inner (in_name 2) 5 first_state = local-opens s guard_.inner (in_name 2) 4 first_state guard_.awaits stands in
     let text_is : new.text.list.items ≡ codes "guard variable for " = writes.text ∙ ap (λ l. l ++ codes "guard variable for ") fresh.no_text in
     record {
-      state = first_state;
-      scope = no_scope;
-      keeps = none-kept s (record new { at = 5 }) (ap (λ v. v.list.items) writes.candidates ∙ fresh.no_candidate);
+      kept = record {
+        state = first_state;
+        scope = no_scope;
+        keeps = none-kept s (record new { at = 5 }) (ap (λ v. v.list.items) writes.candidates ∙ fresh.no_candidate);
+      };
       around = in_name 2;
       outer = here.inner;
       begins = λ none. absurd (guard-text (sym text_is ∙ none));
@@ -347,9 +332,7 @@ entity-ended s internal old pushed read last p one name is_name filled two digit
     whole.text ∙ ap (λ l. old.text.list.items ++ l) (append-nil (codes "::" ++ n)) ∙ sym (append_assoc old.text.list.items (codes "::") n)
     ∙ ap (λ l. l ++ codes "::" ++ n) (sym (append-nil old.text.list.items) ∙ e.written) ∙ behind-three e.lead e.bytes (codes "::") n in
     record {
-      state = e.state;
-      scope = e.scope;
-      keeps = keeps-grown s (record old { at = p.before }) last (codes "::" ++ n ++ []) e.state.candidates whole.text whole.candidates whole.scope e.keeps;
+      kept = kept-grown s (record old { at = p.before }) last (codes "::" ++ n ++ []) whole.text whole.candidates whole.scope e.kept;
       e = behind.made;
       encoded = behind.encoded;
       shows = subst (λ l. Shows (detail_of s) behind.made l) (sym written) (behind.shows e.bytes e.encloses);

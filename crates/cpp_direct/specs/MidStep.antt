@@ -1,18 +1,18 @@
 -- Where a writer is between two of its functions, within a step.
-use Rattle.std.specs.Prelude.{◌≡◌, ◌≢◌, ◌⊎◌, ℕ, zero, suc, ◌+◌, List, [], ◌∷◌, ◌++◌, length, reverse, ◌≤◌, Bool, true, false, cond, Some, codes, ◌-◌, take, drop, slice_get}
+use Rattle.std.specs.Prelude.{◌≡◌, ◌≢◌, ◌⊎◌, ℕ, zero, suc, ◌+◌, List, [], ◌∷◌, ◌++◌, length, reverse, ◌≤◌, ◌<◌, Bool, true, false, cond, Some, codes, ◌-◌, take, drop, slice_get}
 use Rattle.cpp_direct.specs.Written.{Reads, Writes}
 use Rattle.cpp_direct.specs.HolesOfLists.{IsArgumentKind}
 use Rattle.cpp_direct.specs.WrittenParts.{IsUnmarked, opening_bracket}
 use Rattle.sym_print.specs.declared.detail.Detail.{Detail}
 use Rattle.cpp_grammar.specs.declared.kind.Kind.{Kind}
-use Rattle.cpp_grammar.specs.Term.{Term, Signed, absent, array, function, instance, builtin, pack, list, nil}
+use Rattle.cpp_grammar.specs.Term.{Term, Signed, absent, array, function, instance, builtin, pack}
 use Rattle.cpp_grammar.specs.Texts.{look_up, builtin_texts, literal_endings}
 use Rattle.cpp_grammar.specs.Parts.{is_plain_integer, types_of}
-use Rattle.cpp_grammar.specs.Scope.{has_return_type, is_structor}
+use Rattle.cpp_grammar.specs.Scope.{count, element, has_return_type, is_structor}
 use Rattle.cpp_grammar.specs.Between.{after, in_name, with_tag}
 use Rattle.cpp_grammar.specs.Meaning.{encoding_of}
 use Rattle.cpp_grammar.specs.Values as values
-use Rattle.cpp_grammar.specs.Values.{State, Around, Value, nothing_there, tree, outermost, tree_of, qualifiers_of, ref_of}
+use Rattle.cpp_grammar.specs.Values.{State, Around, Value, nothing_there, tree, outermost}
 use Rattle.cpp_direct.specs.Symbol.{Symbol, detail_of}
 use Rattle.cpp_direct.specs.declared.open.Mark.{Mark}
 use Rattle.cpp_direct.specs.declared.open.Candidate.{Candidate}
@@ -25,7 +25,6 @@ use Rattle.cpp_direct.specs.declared.open.Argument.{Argument}
 use Rattle.cpp_direct.specs.declared.open.Arguments.{Arguments}
 use Rattle.cpp_direct.specs.declared.open.Open.TheVariants as opens
 use Rattle.cpp_direct.specs.declared.direct.Direct.{Direct}
-use Rattle.cpp_direct.specs.Bytes.{is_local}
 use Rattle.cpp_direct.specs.Holes.{Opened, StandsAt, Comes, Expects, ListGoesOn, IsReferable, IsTyped, TypeNamed, NestNamed, bare_name, with_candidate, IsSeqAt}
 use Rattle.sym_core.specs.Value.{counted_value}
 use Rattle.sym_core.specs.declared.NumberKind.TheVariants.{Seq36}
@@ -34,7 +33,7 @@ use Rattle.cpp_direct.specs.HolesOfArrays.{accessed, with_accessed}
 use Rattle.cpp_direct.specs.HolesOfTypes.{IsNamedKind, NoReference, TreeOpens}
 use Rattle.cpp_direct.specs.Marks.{has_const, called_on, mark_text}
 use Rattle.cpp_direct.specs.Prints.{NamesClass, Prints, PrintsName, IsElement, PrintAll, Shows, Encloses, sign_text, PrintsAs, PrintsIn, PrintAllAs, IsGiven, list_of, PrintAllBy, PrintsMade, pattern_letters}
-use Rattle.cpp_direct.specs.WriterInvariant.{AwaitsItems, Encoded, EncodedBehind, Fronts, IsFunction, IsInstance, IsListing, IsNest, IsTail, IsTemplate, GoesOn, EnumeratorGoesOn, Owns, ParametersGoOn, Serves, Stands, TakesFunction, opening_text, qualifiers, arguments_or_pack, extra_of, led_by, list_with, in_front_of_next, IsAmong, AreAmong, HasArguments, IsKnown, IsScoped, is_type, place_of, IsNaming, IsNestScoped, Keeps, Scope, below, is_noted, may_name, encoding_place, IsNamedSo, IsNesting}
+use Rattle.cpp_direct.specs.WriterInvariant.{AwaitsItems, Encoded, EncodedBehind, Fronts, IsListing, IsTail, IsTemplate, GoesOn, EnumeratorGoesOn, Owns, ParametersGoOn, Serves, Stands, TakesFunction, opening_text, qualifiers, arguments_or_pack, extra_of, led_by, list_with, in_front_of_next, ComeBefore, IsAmong, AreAmong, HasArguments, IsKnown, IsScoped, is_type, place_of, IsNaming, IsNestScoped, Scope, below, is_noted, may_name, encoding_place, IsNamedSo, IsNesting, Kept, IsBetween, AwaitsTypeIn, HasInstance, HasParameters, IsNestSoFar, FirstType, IsTaken}
 
 -- the digits after the T of a parameter with this number
 abbrev pub parameter_digits : (number : ℕ) → List ℕ
@@ -56,9 +55,8 @@ pub record IsFresh (w : Direct) : Type 0 where
 
 -- an encoding is expected after what is written
 pub record AwaitsEncoding (s : Symbol) (w : Direct) : Type 0 where
-  pub state : State
-  pub scope : Scope
-  pub keeps : Keeps s scope w state.candidates
+  pub kept : Kept s w
+  pub open kept use *
   pub around : Around
   pub outer : List Opened
   pub begins : w.text.list.items ≡ [] → w.at ≡ encoding_place s.bytes
@@ -82,9 +80,8 @@ pub record HasName (s : Symbol) (lead : List ℕ) (encoding : ℕ) (t : Term) (a
 
 -- The name of an encoding that is in no class was read, and written from a place on. It takes arguments after it, or may have none.
 pub record IsUnscoped (s : Symbol) (w : Direct) (from : ℕ) (takes : Bool) : Type 0 where
-  pub state : State
-  pub scope : Scope
-  pub keeps : Keeps s scope w state.candidates
+  pub kept : Kept s w
+  pub open kept use *
   pub encoding : ℕ
   pub own : Term
   pub front : List ℕ
@@ -99,32 +96,24 @@ pub record IsUnscoped (s : Symbol) (w : Direct) (from : ℕ) (takes : Bool) : Ty
 
 -- a type is expected
 pub record AwaitsType (s : Symbol) (w : Direct) : Type 0 where
-  pub state : State
-  pub scope : Scope
-  pub keeps : Keeps s scope w state.candidates
+  pub kept : Kept s w
+  pub open kept use *
+  pub awaited : AwaitsTypeIn s scope w
+  pub open awaited use *
   pub kind : Kind
   pub typed : IsTyped kind
   pub referable : IsReferable kind ⊎ NoReference s.bytes w.at
-  pub around : Around
-  pub outside : around.prefix ≡ outermost
-  pub os : List Opened
   pub awaits : Expects s kind around os w.at state
-  pub stands : Stands s scope (reverse w.waiting.list.items) os w.text.list.items
-  pub scoped : IsScoped scope around (reverse w.waiting.list.items)
 
 -- a type is expected that is a name
 pub record AwaitsNamedType (s : Symbol) (w : Direct) : Type 0 where
-  pub state : State
-  pub scope : Scope
-  pub keeps : Keeps s scope w state.candidates
+  pub kept : Kept s w
+  pub open kept use *
+  pub awaited : AwaitsTypeIn s scope w
+  pub open awaited use *
   pub kind : Kind
   pub is_named : IsNamedKind kind
-  pub around : Around
-  pub outside : around.prefix ≡ outermost
-  pub os : List Opened
   pub begins : TreeOpens s kind os around w.at state
-  pub stands : Stands s scope (reverse w.waiting.list.items) os w.text.list.items
-  pub scoped : IsScoped scope around (reverse w.waiting.list.items)
 
 -- A substitution was read that names a type, which names an argument of the function's template.
 pub record IsNamedAgain (s : Symbol) (w : Direct) (k : Candidate) : Type 0 where
@@ -139,9 +128,8 @@ pub record IsNamedAgain (s : Symbol) (w : Direct) (k : Candidate) : Type 0 where
 
 -- the name of a type was read, which is a candidate already or not, and was written from a place on
 pub record IsTypeNamed (s : Symbol) (w : Direct) (from : ℕ) (is_listed is_reference : Bool) : Type 0 where
-  pub state : State
-  pub scope : Scope
-  pub keeps : Keeps s scope w state.candidates
+  pub kept : Kept s w
+  pub open kept use *
   pub around : Around
   pub outside : around.prefix ≡ outermost
   pub outer : List Opened
@@ -158,9 +146,8 @@ pub record IsTypeNamed (s : Symbol) (w : Direct) (from : ℕ) (is_listed is_refe
 
 -- A type was read that what waits for it marks. It was written from a place on, but for its mark.
 pub record AwaitsMark (s : Symbol) (w : Direct) (mark : List ℕ) (from : ℕ) (is_reference is_dependent : Bool) : Type 0 where
-  pub state : State
-  pub scope : Scope
-  pub keeps : Keeps s scope w state.candidates
+  pub kept : Kept s w
+  pub open kept use *
   pub entry : Open
   pub rest : List Open
   pub open_is : reverse w.waiting.list.items ≡ entry ∷ rest
@@ -177,7 +164,7 @@ pub record AwaitsMark (s : Symbol) (w : Direct) (mark : List ℕ) (from : ℕ) (
   pub made_here : is_dependent ≡ true → made_in.encoding ≡ encoding_place s.bytes
   pub stands : Stands s scope rest outer front
 
--- what waits for an argument of a name, or for an element of a pack that is the only one
+-- what waits for an argument of a name, or for an element of a pack among them
 abbrev pub argument_entry : (is_pack : Bool) → (from number : ℕ) → (known : Arguments) → Open
 argument_entry false from number known = opens.Argument from number known
 argument_entry true from number known = opens.Element from number known
@@ -187,12 +174,11 @@ abbrev pub argument_around : (is_pack : Bool) → (owner : Open) → (rest : Lis
 argument_around false owner rest = owner ∷ rest
 argument_around true owner rest = opens.Pack ∷ owner ∷ rest
 
--- An argument of a name was read, or an element of a pack that is the only one, after so many others. It is a type, or the
--- first argument and a literal.
+-- An argument of a name was read, or an element of a pack among them, after so many others. It is a type, or the first argument
+-- and a literal.
 pub record IsArgumentRead (s : Symbol) (w : Direct) (is_pack : Bool) (from number : ℕ) (known : Arguments) (is_reference : Bool) : Type 0 where
-  pub state : State
-  pub scope : Scope
-  pub keeps : Keeps s scope w state.candidates
+  pub kept : Kept s w
+  pub open kept use *
   pub owner : Open
   pub rest : List Open
   pub open_is : reverse w.waiting.list.items ≡ argument_entry is_pack from number known ∷ argument_around is_pack owner rest
@@ -204,19 +190,21 @@ pub record IsArgumentRead (s : Symbol) (w : Direct) (is_pack : Bool) (from numbe
   pub t : Term
   pub bytes : List ℕ
   pub is_template : IsTemplate (detail_of s) scope.names owner front template name w.text.list.items
-  pub elements : PrintAll (detail_of s) (extra_of (arguments_or_pack is_pack)) ts texts
-  pub written : w.text.list.items ≡ (front ++ name ++ opening_bracket (detail_of s) ++ in_front_of_next ts texts) ++ bytes
-  pub from_is : from ≡ length (front ++ name ++ opening_bracket (detail_of s) ++ in_front_of_next ts texts)
-  pub number_is : number ≡ length ts
-  pub among : AreAmong (detail_of s) w.text.list.items is_pack known ts
+  pub before : List Term
+  pub before_text : List ℕ
+  pub come_before : ComeBefore (detail_of s) is_pack known before before_text
+  pub elements : PrintAll (detail_of s) (extra_of (arguments_or_pack is_pack before before_text)) ts texts
+  pub written : w.text.list.items ≡ (led_by (detail_of s) (arguments_or_pack is_pack before before_text) front name ++ in_front_of_next ts texts) ++ bytes
+  pub from_is : from ≡ length (led_by (detail_of s) (arguments_or_pack is_pack before before_text) front name ++ in_front_of_next ts texts)
+  pub number_is : number ≡ length (before ++ ts)
+  pub among : AreAmong (detail_of s) w.text.list.items is_pack (length before) known (before ++ ts)
   pub prints : Prints (detail_of s) t bytes is_reference
-  pub goes : GoesOn s (arguments_or_pack is_pack) owner (below s scope rest) front template (ts ++ t ∷ []) w.at state
+  pub goes : GoesOn s (arguments_or_pack is_pack before before_text) owner (below s scope rest) front template (ts ++ t ∷ []) w.at state
 
--- Another one is expected, after these and so many, of which some are known.
-pub record AwaitsKnownArgument (s : Symbol) (w : Direct) (is_pack : Bool) (before : ℕ) (known : Arguments) : Type 0 where
-  pub state : State
-  pub scope : Scope
-  pub keeps : Keeps s scope w state.candidates
+-- Another one is expected, after so many and one more, of which some are known.
+pub record AwaitsKnownArgument (s : Symbol) (w : Direct) (is_pack : Bool) (last : ℕ) (known : Arguments) : Type 0 where
+  pub kept : Kept s w
+  pub open kept use *
   pub owner : Open
   pub rest : List Open
   pub open_is : reverse w.waiting.list.items ≡ argument_around is_pack owner rest
@@ -226,18 +214,20 @@ pub record AwaitsKnownArgument (s : Symbol) (w : Direct) (is_pack : Bool) (befor
   pub ts : List Term
   pub texts : List ℕ
   pub is_template : IsTemplate (detail_of s) scope.names owner front template name w.text.list.items
-  pub elements : PrintAll (detail_of s) (extra_of (arguments_or_pack is_pack)) ts texts
+  pub before : List Term
+  pub before_text : List ℕ
+  pub come_before : ComeBefore (detail_of s) is_pack known before before_text
+  pub elements : PrintAll (detail_of s) (extra_of (arguments_or_pack is_pack before before_text)) ts texts
   pub some : ts ≢ []
-  pub written : w.text.list.items ≡ front ++ name ++ opening_bracket (detail_of s) ++ texts
-  pub number_is : before + 1 ≡ length ts
-  pub among : AreAmong (detail_of s) w.text.list.items is_pack known ts
-  pub goes : GoesOn s (arguments_or_pack is_pack) owner (below s scope rest) front template ts w.at state
+  pub written : w.text.list.items ≡ led_by (detail_of s) (arguments_or_pack is_pack before before_text) front name ++ texts
+  pub number_is : last + 1 ≡ length (before ++ ts)
+  pub among : AreAmong (detail_of s) w.text.list.items is_pack (length before) known (before ++ ts)
+  pub goes : GoesOn s (arguments_or_pack is_pack before before_text) owner (below s scope rest) front template ts w.at state
 
 -- the first piece of a nested name is expected
 pub record AwaitsNest (s : Symbol) (w : Direct) (purpose : Purpose) : Type 0 where
-  pub state : State
-  pub scope : Scope
-  pub keeps : Keeps s scope w state.candidates
+  pub kept : Kept s w
+  pub open kept use *
   pub around : Around
   pub outside : around.prefix ≡ outermost
   pub outer : List Opened
@@ -247,9 +237,8 @@ pub record AwaitsNest (s : Symbol) (w : Direct) (purpose : Purpose) : Type 0 whe
 
 -- A name that an S stands for was read at the front of a nested one.
 pub record IsNestKnown (s : Symbol) (w : Direct) : Type 0 where
-  pub state : State
-  pub scope : Scope
-  pub keeps : Keeps s scope w state.candidates
+  pub kept : Kept s w
+  pub open kept use *
   pub own : Term
   pub nesting : IsNesting s scope Kind.NestRestOrEnd w own state
   pub listed : w.nest.is_listed ≡ true
@@ -257,31 +246,23 @@ pub record IsNestKnown (s : Symbol) (w : Direct) : Type 0 where
 
 -- A component of a nested name was read, or a name in std. Arguments may come after it, or tags.
 pub record IsNestNamed (s : Symbol) (w : Direct) : Type 0 where
-  pub state : State
-  pub scope : Scope
-  pub keeps : Keeps s scope w state.candidates
-  pub around : Around
-  pub outer : List Opened
+  pub kept : Kept s w
+  pub open kept use *
   pub own : Term
+  pub so_far : IsNestSoFar s scope w own
+  pub open so_far use *
   pub named : NestNamed s outer around own w.at state
-  pub front : List ℕ
-  pub bytes : List ℕ
-  pub written : w.text.list.items ≡ front ++ bytes
-  pub is_nest : IsNest (detail_of s) scope.names front bytes w.text.list.items w.nest own
-  pub scoped : IsNestScoped s scope w around
   pub names_tagged : w.nest.has_class ≡ true → w.nest.is_dependent ≡ false → (tag : List ℕ) → IsUnmarked tag → NamesClass (detail_of s) (with_tag own tag) is_nest.class
   pub unlisted : w.nest.is_listed ≡ false
   pub no_instance : w.nest.is_instance ≡ false
   pub no_return : has_return_type own ≡ false
   pub structor : w.nest.has_class ≡ false → is_structor own ≡ true
   pub no_structor : w.nest.has_class ≡ true → is_structor own ≡ false
-  pub serves : Serves s w.nest.purpose (below s scope (reverse w.waiting.list.items)) outer front
 
 -- An operator was read that ends a nested name: no arguments are read after it.
 pub record IsOperatorRead (s : Symbol) (w : Direct) : Type 0 where
-  pub state : State
-  pub scope : Scope
-  pub keeps : Keeps s scope w state.candidates
+  pub kept : Kept s w
+  pub open kept use *
   pub around : Around
   pub outer : List Opened
   pub own : Term
@@ -296,9 +277,8 @@ pub record IsOperatorRead (s : Symbol) (w : Direct) : Type 0 where
 
 -- A constructor or a destructor was read, and was written but for the name of its class.
 pub record AwaitsClass (s : Symbol) (w : Direct) : Type 0 where
-  pub state : State
-  pub scope : Scope
-  pub keeps : Keeps s scope w state.candidates
+  pub kept : Kept s w
+  pub open kept use *
   pub around : Around
   pub outer : List Opened
   pub own : Term
@@ -307,12 +287,8 @@ pub record AwaitsClass (s : Symbol) (w : Direct) : Type 0 where
   pub bytes : List ℕ
   pub written : w.text.list.items ≡ front ++ bytes
   pub from_is : w.nest.from ≡ length front
-  pub class_front : List ℕ
   pub class : List ℕ
-  pub class_back : List ℕ
-  pub class_written : w.text.list.items ≡ class_front ++ class ++ class_back
-  pub class_from : w.nest.class_from ≡ length class_front
-  pub class_to : w.nest.class_to ≡ length class_front + length class
+  pub class_placed : IsBetween w.text.list.items w.nest.class_from w.nest.class_to class
   pub closed : w.nest.is_dependent ≡ false
   pub scoped : IsNestScoped s scope w around
   pub prints : Prints (detail_of s) own (bytes ++ class) false
@@ -320,18 +296,17 @@ pub record AwaitsClass (s : Symbol) (w : Direct) : Type 0 where
   pub structor : is_structor own ≡ true
   pub serves : Serves s w.nest.purpose (below s scope (reverse w.waiting.list.items)) outer front
 
--- the known ones among arguments are at their places, and a pack is the only one
+-- the known ones among arguments are at their places, and of a pack its elements
 abbrev pub AreKnown : (detail : Detail) (text : List ℕ) → Arguments → List Term → (tail : Term) → Type 0
 AreKnown detail text a ts tail =
     (number : ℕ) → IsKnown (place_of a number) → (((place_of a number).is_pack ≡ false) × IsAmong detail text (place_of a number) number ts)
-    ⊎ (((place_of a number).is_pack ≡ true) × (es : List Term) × (list_with ts tail ≡ list (pack (list_of es)) nil) × (length es ≡ a.elements)
-    × IsAmong detail text (place_of a number) number es)
+    ⊎ (((place_of a number).is_pack ≡ true) × (es : List Term) × (element (list_with ts tail) a.before ≡ pack (list_of es)) × (a.before < count (list_with ts tail))
+    × (length es ≡ a.elements) × IsAmong detail text (place_of a number) (number - a.before) es)
 
 -- The arguments of what was opened last are read and their E, but for their last bracket. Those that are known are at their places.
 pub record IsListEnded (s : Symbol) (w : Direct) (argument : Arguments) : Type 0 where
-  pub state : State
-  pub scope : Scope
-  pub keeps : Keeps s scope w state.candidates
+  pub kept : Kept s w
+  pub open kept use *
   pub owner : Open
   pub rest : List Open
   pub open_is : reverse w.waiting.list.items ≡ owner ∷ rest
@@ -350,9 +325,8 @@ pub record IsListEnded (s : Symbol) (w : Direct) (argument : Arguments) : Type 0
 
 -- An element is expected, and the comma before it is written.
 pub record AwaitsNextArgument (s : Symbol) (w : Direct) : Type 0 where
-  pub state : State
-  pub scope : Scope
-  pub keeps : Keeps s scope w state.candidates
+  pub kept : Kept s w
+  pub open kept use *
   pub place : IsListing (detail_of s) scope.names (reverse w.waiting.list.items) w.text.list.items
   pub ts : List Term
   pub texts : List ℕ
@@ -371,9 +345,8 @@ pub record IsLiteralRead (s : Symbol) (old new : Direct) : Type 0 where
 
 -- The type of an enumerator was read, which is an element. Its number is expected.
 pub record AwaitsNumber (s : Symbol) (w : Direct) : Type 0 where
-  pub state : State
-  pub scope : Scope
-  pub keeps : Keeps s scope w state.candidates
+  pub kept : Kept s w
+  pub open kept use *
   pub opened : List Open
   pub open_is : reverse w.waiting.list.items ≡ opens.Enumerator ∷ opened
   pub place : IsListing (detail_of s) scope.names opened w.text.list.items
@@ -387,20 +360,24 @@ pub record AwaitsNumber (s : Symbol) (w : Direct) : Type 0 where
   pub written : w.text.list.items ≡ led_by (detail_of s) place.listing place.front place.name ++ in_front_of_next ts texts ++ codes "(" ++ bytes
   pub goes : EnumeratorGoesOn s place.listing place.owner (below s scope place.rest) place.front place.template ts type w.at state
 
--- The name of an encoding was read and written from a place on, but for its qualifier. The known ones of these arguments are at their
--- places.
-pub record IsNameEnded (s : Symbol) (w : Direct) (mark : Mark) (is_instance : Bool) (argument : Arguments) (from : ℕ) : Type 0 where
-  pub state : State
-  pub scope : Scope
-  pub keeps : Keeps s scope w state.candidates
+-- A name was written from a place on, and is read as that of a function with this mark, or of data.
+pub record HasNameSo (s : Symbol) (text : List ℕ) (mark : Mark) (from : ℕ) : Type 0 where
   pub own : Term
   pub v : Value
   pub named_so : IsNamedSo v own mark
   pub lead : List ℕ
   pub name : List ℕ
-  pub written : w.text.list.items ≡ lead ++ name
+  pub written : text ≡ lead ++ name
   pub from_is : from ≡ length lead
   pub prints : PrintsName (detail_of s) own name
+
+-- The name of an encoding was read and written from a place on, but for its qualifier. The known ones of these arguments are at their
+-- places.
+pub record IsNameEnded (s : Symbol) (w : Direct) (mark : Mark) (is_instance : Bool) (argument : Arguments) (from : ℕ) : Type 0 where
+  pub kept : Kept s w
+  pub open kept use *
+  pub has : HasNameSo s w.text.list.items mark from
+  pub open has use *
   pub no_return : is_instance ≡ false → has_return_type own ≡ false
   pub returns : is_instance ≡ true → has_return_type own ≡ true
   pub names : HasArguments (detail_of s) w.text.list.items argument own
@@ -415,17 +392,11 @@ pub record IsNameScoped (s : Symbol) (w : Direct) (mark : Mark) (is_instance : B
 
 -- The return type of a function was read, and comes after the function's name and what is written before it.
 pub record IsFrontRead (s : Symbol) (w : Direct) (mark : Mark) (start : ℕ) (argument : Arguments) : Type 0 where
-  pub state : State
-  pub scope : Scope
-  pub keeps : Keeps s scope w state.candidates
-  pub v : Value
-  pub lead : List ℕ
-  pub name : List ℕ
+  pub kept : Kept s w
+  pub open kept use *
   pub front : List ℕ
-  pub front_is : front ≡ lead ++ name
-  pub is_instance : IsInstance (detail_of s) scope front argument mark v name
-  pub apart : is_local s.bytes ≡ false → lead ≡ []
-  pub start_is : start ≡ length front
+  pub has : HasInstance s scope front mark start argument
+  pub open has use *
   pub returned : Term
   pub bytes : List ℕ
   pub is_reference : Bool
@@ -435,15 +406,10 @@ pub record IsFrontRead (s : Symbol) (w : Direct) (mark : Mark) (start : ℕ) (ar
 
 -- A function's name was read and written, and what comes before it. Its parameters are expected.
 pub record AwaitsParameters (s : Symbol) (w : Direct) (mark : Mark) (start : ℕ) (argument : Arguments) : Type 0 where
-  pub state : State
-  pub scope : Scope
-  pub keeps : Keeps s scope w state.candidates
-  pub make : Term → Term
-  pub front : List ℕ
-  pub lead : List ℕ
-  pub name : List ℕ
-  pub is_function : IsFunction (detail_of s) scope w.text.list.items argument mark make [] name []
-  pub fronts : Fronts s.is_bare front start lead name
+  pub kept : Kept s w
+  pub open kept use *
+  pub has : HasParameters s scope w.text.list.items mark start argument [] []
+  pub open has use *
   pub written : w.text.list.items ≡ front
   pub goes : ParametersGoOn s argument lead make [] w.at state
 
@@ -466,19 +432,14 @@ IsDependentNow _ new = ⊥
 
 -- A parameter of a function is expected.
 pub record AwaitsNextParameter (s : Symbol) (w : Direct) (mark : Mark) (start : ℕ) (argument : Arguments) : Type 0 where
-  pub state : State
-  pub scope : Scope
-  pub keeps : Keeps s scope w state.candidates
+  pub kept : Kept s w
+  pub open kept use *
   pub rest : List Open
   pub open_is : reverse w.waiting.list.items ≡ opens.Parameters mark start argument ∷ rest
-  pub make : Term → Term
   pub ts : List Term
-  pub front : List ℕ
-  pub lead : List ℕ
-  pub name : List ℕ
   pub texts : List ℕ
-  pub is_function : IsFunction (detail_of s) scope w.text.list.items argument mark make ts name texts
-  pub fronts : Fronts s.is_bare front start lead name
+  pub has : HasParameters s scope w.text.list.items mark start argument ts texts
+  pub open has use *
   pub written : w.text.list.items ≡ front ++ codes "(" ++ in_front_of_next ts texts
   pub goes : ParametersGoOn s argument lead make ts w.at state
 
@@ -490,7 +451,7 @@ comma_text (suc k) = codes ", "
 -- a pack has these elements, and the known ones are at their places
 pub record IsPackOf (detail : Detail) (text : List ℕ) (a : Arguments) (ts : List Term) : Type 0 where
   pub size : length ts ≡ a.elements
-  pub among : (k : ℕ) → IsKnown (place_of a k) → (place_of a k).is_pack ≡ true → IsAmong detail text (place_of a k) k ts
+  pub among : (k : ℕ) → IsKnown (place_of a (a.before + k)) → (place_of a (a.before + k)).is_pack ≡ true → IsAmong detail text (place_of a (a.before + k)) k ts
 
 -- the letters of an expansion
 abbrev pub expansion_letters : Pattern → (number : ℕ) → List ℕ
@@ -508,28 +469,22 @@ pub record AreExpanded (detail : Detail) (pattern : Pattern) (old new : Direct) 
 
 -- A parameter of a function was read.
 pub record IsParameterEnded (s : Symbol) (w : Direct) (mark : Mark) (start : ℕ) (argument : Arguments) : Type 0 where
-  pub state : State
-  pub scope : Scope
-  pub keeps : Keeps s scope w state.candidates
+  pub kept : Kept s w
+  pub open kept use *
   pub rest : List Open
   pub open_is : reverse w.waiting.list.items ≡ opens.Parameters mark start argument ∷ rest
-  pub make : Term → Term
   pub ts : List Term
   pub some : ts ≢ []
-  pub front : List ℕ
-  pub lead : List ℕ
-  pub name : List ℕ
   pub texts : List ℕ
-  pub is_function : IsFunction (detail_of s) scope w.text.list.items argument mark make ts name texts
-  pub fronts : Fronts s.is_bare front start lead name
+  pub has : HasParameters s scope w.text.list.items mark start argument ts texts
+  pub open has use *
   pub written : w.text.list.items ≡ front ++ codes "(" ++ texts
   pub goes : ParametersGoOn s argument lead make ts w.at state
 
 -- A function was read and written but for its last bracket and its qualifiers.
 pub record IsFunctionEnded (s : Symbol) (w : Direct) (mark : Mark) (start : ℕ) : Type 0 where
-  pub state : State
-  pub scope : Scope
-  pub keeps : Keeps s scope w state.candidates
+  pub kept : Kept s w
+  pub open kept use *
   pub own : Term
   pub items : Term
   pub e : Term
@@ -546,9 +501,8 @@ pub record IsFunctionEnded (s : Symbol) (w : Direct) (mark : Mark) (start : ℕ)
 
 -- An encoding was read and written after a text, but for its qualifier.
 pub record IsEncodingEnded (s : Symbol) (w : Direct) (mark : Mark) : Type 0 where
-  pub state : State
-  pub scope : Scope
-  pub keeps : Keeps s scope w state.candidates
+  pub kept : Kept s w
+  pub open kept use *
   pub e : Term
   pub lead : List ℕ
   pub bytes : List ℕ
@@ -559,9 +513,8 @@ pub record IsEncodingEnded (s : Symbol) (w : Direct) (mark : Mark) : Type 0 wher
 
 -- The encoding of a symbol was read and written, as it is shown in a detail.
 pub record IsSymbolEnded (s : Symbol) (w : Direct) : Type 0 where
-  pub state : State
-  pub scope : Scope
-  pub keeps : Keeps s scope w state.candidates
+  pub kept : Kept s w
+  pub open kept use *
   pub e : Term
   pub encoded : Encoded s e w.at
   pub shows : Shows (detail_of s) e w.text.list.items
@@ -570,9 +523,8 @@ pub record IsSymbolEnded (s : Symbol) (w : Direct) : Type 0 where
 
 -- A type was read after a text, as an element or a parameter of these that are open.
 pub record ElementOf (s : Symbol) (w : Direct) (waits : List Open) : Type 0 where
-  pub state : State
-  pub scope : Scope
-  pub keeps : Keeps s scope w state.candidates
+  pub kept : Kept s w
+  pub open kept use *
   pub os : List Opened
   pub own : Term
   pub front : List ℕ
@@ -593,27 +545,17 @@ pub record IsElementPassed (s : Symbol) (w : Direct) : Type 0 where
   pub read : ElementOf s w (reverse w.waiting.list.items)
   pub takes : TakesFunction (reverse w.waiting.list.items)
 
--- what takes a function type or an array that comes after a text: what waits for it, and what is open around it, where it is made
+-- what takes a function type or an array that comes after a text
 pub record Taker (s : Symbol) (scope : Scope) : Type 0 where
   pub rest : List Open
-  pub outer : List Opened
-  pub made_in : Around
   pub front : List ℕ
-  pub takes : TakesFunction rest
-  pub stands : Stands s scope rest outer front
-
--- the type that is read first in one: the return type, or that of the elements
-pub record FirstType (s : Symbol) : Type 0 where
-  pub own : Term
-  pub bytes : List ℕ
-  pub is_reference : Bool
-  pub prints : Prints (detail_of s) own bytes is_reference
+  pub taken : IsTaken (below s scope rest) rest front
+  pub open taken use *
 
 -- The type of an array's elements was read. The digits of the size are between two places of the symbol.
 pub record IsArrayRead (s : Symbol) (w : Direct) (access : Access) (from to : ℕ) : Type 0 where
-  pub state : State
-  pub scope : Scope
-  pub keeps : Keeps s scope w state.candidates
+  pub kept : Kept s w
+  pub open kept use *
   pub taker : Taker s scope
   pub open_is : reverse w.waiting.list.items ≡ opens.Array access from to ∷ taker.rest
   pub digits : List ℕ
@@ -627,9 +569,8 @@ pub record IsArrayRead (s : Symbol) (w : Direct) (access : Access) (from to : �
 
 -- Of a function type the return type was read, or a parameter.
 pub record AwaitsSignature (s : Symbol) (w : Direct) (is_pointer is_first : Bool) : Type 0 where
-  pub state : State
-  pub scope : Scope
-  pub keeps : Keeps s scope w state.candidates
+  pub kept : Kept s w
+  pub open kept use *
   pub taker : Taker s scope
   pub open_is : reverse w.waiting.list.items ≡ opens.Signature is_pointer ∷ taker.rest
   pub first : FirstType s
@@ -643,9 +584,8 @@ pub record AwaitsSignature (s : Symbol) (w : Direct) (is_pointer is_first : Bool
 
 -- A parameter of a function type comes next.
 pub record AwaitsParameter (s : Symbol) (w : Direct) (is_pointer : Bool) : Type 0 where
-  pub state : State
-  pub scope : Scope
-  pub keeps : Keeps s scope w state.candidates
+  pub kept : Kept s w
+  pub open kept use *
   pub taker : Taker s scope
   pub open_is : reverse w.waiting.list.items ≡ opens.Signature is_pointer ∷ taker.rest
   pub first : FirstType s
@@ -657,9 +597,8 @@ pub record AwaitsParameter (s : Symbol) (w : Direct) (is_pointer : Bool) : Type 
 
 -- The return type of a function type was read.
 pub record IsReturned (s : Symbol) (w : Direct) (is_pointer : Bool) : Type 0 where
-  pub state : State
-  pub scope : Scope
-  pub keeps : Keeps s scope w state.candidates
+  pub kept : Kept s w
+  pub open kept use *
   pub taker : Taker s scope
   pub open_is : reverse w.waiting.list.items ≡ opens.Returned is_pointer ∷ taker.rest
   pub first : FirstType s
@@ -668,9 +607,8 @@ pub record IsReturned (s : Symbol) (w : Direct) (is_pointer : Bool) : Type 0 whe
 
 -- A function type was read, or a pointer to one, and written but for its last bracket.
 pub record IsFunctionRead (s : Symbol) (w : Direct) (is_pointer : Bool) : Type 0 where
-  pub state : State
-  pub scope : Scope
-  pub keeps : Keeps s scope w state.candidates
+  pub kept : Kept s w
+  pub open kept use *
   pub taker : Taker s scope
   pub open_is : reverse w.waiting.list.items ≡ opens.Signature is_pointer ∷ taker.rest
   pub made : Term

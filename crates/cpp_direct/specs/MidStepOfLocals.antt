@@ -3,7 +3,6 @@ use Rattle.std.specs.Prelude.{◌≡◌, ◌≢◌, ℕ, ◌+◌, List, [], ◌�
 use Rattle.cpp_grammar.specs.Term.{Term}
 use Rattle.cpp_grammar.specs.Scope.{has_return_type}
 use Rattle.cpp_grammar.specs.Meaning.{encoding_of}
-use Rattle.cpp_grammar.specs.Values.{State, Value}
 use Rattle.cpp_direct.specs.Symbol.{detail_of, Symbol}
 use Rattle.cpp_direct.specs.declared.open.Mark.{Mark}
 use Rattle.cpp_direct.specs.declared.open.Mark.TheVariants as marks
@@ -13,9 +12,9 @@ use Rattle.cpp_direct.specs.declared.direct.Direct.{Direct}
 use Rattle.cpp_direct.specs.Bytes.{is_local}
 use Rattle.cpp_direct.specs.Holes.{StandsAt}
 use Rattle.cpp_direct.specs.Marks.{mark_text}
-use Rattle.cpp_direct.specs.Prints.{PrintsName, PrintAll, Encloses}
-use Rattle.cpp_direct.specs.WriterInvariant.{IsEnclosing, ItemsGoOn, Keeps, LambdaWithin, Scope, TypeWithin, below, nowhere, IsNamedSo}
-use Rattle.cpp_direct.specs.MidStep.{IsEncodingEnded}
+use Rattle.cpp_direct.specs.Prints.{PrintAll}
+use Rattle.cpp_direct.specs.WriterInvariant.{ItemsGoOn, LambdaWithin, TypeWithin, below, nowhere, Kept, HasEnclosing, IsEnclosed}
+use Rattle.cpp_direct.specs.MidStep.{IsEncodingEnded, HasNameSo}
 
 -- ## Local entities
 
@@ -33,63 +32,44 @@ pub record AwaitsEntity (s : Symbol) (w : Direct) (is_internal : Bool) : Type 0 
 -- The name of a function in which a type is was read and written from a place on, but for its qualifier. Its return type is expected if
 -- it is an instance of a function template.
 pub record IsEnclosingNamed (s : Symbol) (w : Direct) (mark : Mark) (is_instance : Bool) (from : ℕ) : Type 0 where
-  pub state : State
-  pub scope : Scope
-  pub keeps : Keeps s scope w state.candidates
-  pub own : Term
-  pub v : Value
-  pub named_so : IsNamedSo v own mark
-  pub front : List ℕ
-  pub name : List ℕ
-  pub written : w.text.list.items ≡ front ++ name
-  pub from_is : from ≡ length front
-  pub prints : PrintsName (detail_of s) own name
+  pub kept : Kept s w
+  pub open kept use *
+  pub has : HasNameSo s w.text.list.items mark from
+  pub open has use *
   pub returns : has_return_type own ≡ is_instance
-  pub goes : ItemsGoOn s nowhere (TypeWithin s (below s scope (reverse w.waiting.list.items)) front) (λ l. encoding_of v l) [] w.at state
+  pub goes : ItemsGoOn s nowhere (TypeWithin s (below s scope (reverse w.waiting.list.items)) lead) (λ l. encoding_of v l) [] w.at state
 
 -- The name of a function in which a type is was read, and its return type if it has one. Its parameters are expected.
 pub record AwaitsEnclosingParameters (s : Symbol) (w : Direct) (mark : Mark) (from : ℕ) : Type 0 where
-  pub state : State
-  pub scope : Scope
-  pub keeps : Keeps s scope w state.candidates
-  pub make : Term → Term
-  pub front : List ℕ
-  pub name : List ℕ
-  pub is_enclosing : IsEnclosing (detail_of s) mark make [] name []
+  pub kept : Kept s w
+  pub open kept use *
+  pub has : HasEnclosing (detail_of s) mark from [] []
+  pub open has use *
   pub written : w.text.list.items ≡ front ++ name
-  pub from_is : from ≡ length front
   pub goes : ItemsGoOn s nowhere (TypeWithin s (below s scope (reverse w.waiting.list.items)) front) make [] w.at state
 
 -- A parameter of such a function was read.
 pub record IsEnclosingParameterRead (s : Symbol) (w : Direct) (mark : Mark) (from to : ℕ) : Type 0 where
-  pub state : State
-  pub scope : Scope
-  pub keeps : Keeps s scope w state.candidates
+  pub kept : Kept s w
+  pub open kept use *
   pub rest : List Open
   pub open_is : reverse w.waiting.list.items ≡ opens.Enclosing mark from to ∷ rest
-  pub make : Term → Term
   pub ts : List Term
   pub some : ts ≢ []
-  pub front : List ℕ
-  pub name : List ℕ
   pub texts : List ℕ
-  pub is_enclosing : IsEnclosing (detail_of s) mark make ts name texts
-  pub from_is : from ≡ length front
+  pub has : HasEnclosing (detail_of s) mark from ts texts
+  pub open has use *
   pub written : w.text.list.items ≡ front ++ name ++ codes "(" ++ texts
   pub to_is : to ≡ length (front ++ name)
   pub goes : ItemsGoOn s nowhere (TypeWithin s (below s scope rest) front) make ts w.at state
 
 -- Such a function was read and written from a place on, but for its qualifier.
 pub record IsEnclosingRead (s : Symbol) (w : Direct) (mark : Mark) (from : ℕ) : Type 0 where
-  pub state : State
-  pub scope : Scope
-  pub keeps : Keeps s scope w state.candidates
-  pub e : Term
-  pub front : List ℕ
-  pub bytes : List ℕ
+  pub kept : Kept s w
+  pub open kept use *
+  pub has : IsEnclosed (detail_of s) from
+  pub open has use *
   pub written : w.text.list.items ++ mark_text mark ≡ front ++ bytes
-  pub from_is : from ≡ length front
-  pub encloses : Encloses (detail_of s) e bytes
   pub within : TypeWithin s (below s scope (reverse w.waiting.list.items)) front e w.at state
 
 -- The name of a type is expected after the E of the function that it is in, which was written from a place on.
@@ -101,19 +81,15 @@ pub record AwaitsTypeName (s : Symbol) (w : Direct) (from : ℕ) : Type 0 where
 
 -- A parameter of a lambda was read, which is a type that is in a function.
 pub record IsLambdaParameterRead (s : Symbol) (w : Direct) (from : ℕ) : Type 0 where
-  pub state : State
-  pub scope : Scope
-  pub keeps : Keeps s scope w state.candidates
+  pub kept : Kept s w
+  pub open kept use *
   pub rest : List Open
   pub open_is : reverse w.waiting.list.items ≡ opens.Lambda from ∷ rest
-  pub front : List ℕ
-  pub e : Term
-  pub bytes : List ℕ
-  pub encloses : Encloses (detail_of s) e bytes
+  pub has : IsEnclosed (detail_of s) from
+  pub open has use *
   pub ts : List Term
   pub some : ts ≢ []
   pub texts : List ℕ
   pub elements : PrintAll (detail_of s) 0 ts texts
-  pub from_is : from ≡ length front
   pub written : w.text.list.items ≡ front ++ (bytes ++ codes "::{lambda(") ++ texts
   pub goes : ItemsGoOn s nowhere (LambdaWithin s (below s scope rest) front e) (λ l. l) ts w.at state

@@ -1,6 +1,6 @@
 -- What a writer's lists say while a symbol is read: what is open waits for what comes next, and what was written is its text.
 use Rattle.sym_print.specs.declared.detail.Detail.{Detail}
-use Rattle.std.specs.Prelude.{◌≡◌, ◌≢◌, ◌⊎◌, ℕ, zero, suc, ◌+◌, ◌*◌, ◌≤◌, ◌<◌, List, [], ◌∷◌, ◌++◌, ◌-◌, length, take, drop, reverse, slice_get, Bool, true, false, cond, Option, Some, None, Ok, codes, ◌&&◌}
+use Rattle.std.specs.Prelude.{◌≡◌, ◌≢◌, ◌⊎◌, ℕ, zero, suc, ◌+◌, ◌*◌, ◌≤◌, ◌<◌, List, [], ◌∷◌, ◌++◌, ◌-◌, length, take, drop, reverse, slice_get, Bool, true, false, cond, Option, Some, None, Ok, codes, ◌&&◌, nat_le}
 use Rattle.sym_print.specs.Unshared.{text_of, cost_of}
 use Rattle.sym_demangle.specs.Mangled.{StandsFor}
 use Rattle.cpp_grammar.specs.declared.kind.Kind.{Kind}
@@ -46,14 +46,19 @@ use Rattle.cpp_grammar.specs.Parts.{types_of}
 abbrev pub encoding_place : List ℕ → ℕ
 encoding_place s = cond (is_local s) 3 2
 
--- what a substitution may name prints the text that is at its place; where it names arguments it was made in the symbol's own encoding
-pub record IsCandidate (s : Symbol) (names : Names) (text : List ℕ) (k : Candidate) (c : values.Candidate) : Type 0 where
+-- these bytes of a text are between two places
+pub record IsBetween (text : List ℕ) (from to : ℕ) (bytes : List ℕ) : Type 0 where
   pub front : List ℕ
-  pub bytes : List ℕ
   pub back : List ℕ
   pub written : text ≡ front ++ bytes ++ back
-  pub from_is : k.from ≡ length front
-  pub to_is : k.to ≡ length front + length bytes
+  pub from_is : from ≡ length front
+  pub to_is : to ≡ length front + length bytes
+
+-- what a substitution may name prints the text that is at its place; where it names arguments it was made in the symbol's own encoding
+pub record IsCandidate (s : Symbol) (names : Names) (text : List ℕ) (k : Candidate) (c : values.Candidate) : Type 0 where
+  pub bytes : List ℕ
+  pub placed : IsBetween text k.from k.to bytes
+  pub open placed use *
   pub prints : PrintsAs (detail_of s) names k.is_dependent c.tree bytes k.is_reference
   pub made_in : k.is_dependent ≡ true → c.encoding ≡ encoding_place s.bytes
 
@@ -66,19 +71,15 @@ AreCandidates s names text _ _ = ⊥
 -- ## Arguments of templates
 
 -- this text is at a place
-pub record IsPlaced (text : List ℕ) (p : Argument) (bytes : List ℕ) : Type 0 where
-  pub front : List ℕ
-  pub back : List ℕ
-  pub written : text ≡ front ++ bytes ++ back
-  pub from_is : p.from ≡ length front
-  pub to_is : p.to ≡ length front + length bytes
+abbrev pub IsPlaced : (text : List ℕ) → Argument → (bytes : List ℕ) → Type 0
+IsPlaced text p bytes = IsBetween text p.from p.to bytes
 
 -- what is nowhere
 abbrev pub no_place : Argument
 no_place = record { from = 1; to = 0; is_pack = false; is_reference = false }
 
 abbrev pub nowhere : Arguments
-nowhere = record { first = no_place; second = no_place; third = no_place; fourth = no_place; encoding = 0; elements = 0 }
+nowhere = record { first = no_place; second = no_place; third = no_place; fourth = no_place; encoding = 0; before = 0; elements = 0 }
 
 -- the argument with this number
 abbrev pub place_of : Arguments → (number : ℕ) → Argument
@@ -92,9 +93,9 @@ place_of a _ = no_place
 abbrev pub IsKnown : Argument → Type 0
 IsKnown p = p.from ≤ p.to
 
--- The argument of a name with this number is at a place, or the element with this number of the pack that is its only argument and
--- has so many elements.
-pub record IsArgument (detail : Detail) (text : List ℕ) (size : ℕ) (p : Argument) (number : ℕ) (name : Term) : Type 0 where
+-- The argument of a name with this number is at a place. Where one of them is a pack, after so many and with so many elements, these
+-- are in its place.
+pub record IsArgument (detail : Detail) (text : List ℕ) (before size : ℕ) (p : Argument) (number : ℕ) (name : Term) : Type 0 where
   pub bytes : List ℕ
   pub placed : IsPlaced text p bytes
   pub own : Term
@@ -102,21 +103,22 @@ pub record IsArgument (detail : Detail) (text : List ℕ) (size : ℕ) (p : Argu
   pub all_are : arguments_of name ≡ Some all
   pub there : p.is_pack ≡ false → (element all number ≡ own) × (number < count all)
   pub elements : List Term
-  pub alone : p.is_pack ≡ true → (all ≡ list (pack (list_of elements)) nil) × (slice_get elements number ≡ Some own) × (length elements ≡ size)
+  pub packed : p.is_pack ≡ true → (element all before ≡ pack (list_of elements)) × (before < count all)
+      × (slice_get elements (number - before) ≡ Some own) × (length elements ≡ size)
   pub prints : Prints detail own bytes p.is_reference
 
 -- the known arguments of a name are at their places
 abbrev pub HasArguments : (detail : Detail) (text : List ℕ) → Arguments → (name : Term) → Type 0
-HasArguments detail text a name = (number : ℕ) → IsKnown (place_of a number) → IsArgument detail text a.elements (place_of a number) number name
+HasArguments detail text a name = (number : ℕ) → IsKnown (place_of a number) → IsArgument detail text a.before a.elements (place_of a number) number name
 
--- a parameter may name that argument here, or the pack
-pub record IsScope (number : ℕ) (is_pack : Bool) (around : Around) : Type 0 where
+-- a parameter may name that argument here, or the pack that comes after so many
+pub record IsScope (before number : ℕ) (is_pack : Bool) (around : Around) : Type 0 where
   pub own : Term
   pub all : Term
   pub scope_is : around.scope ≡ Some all
   pub there : is_pack ≡ false → (element all number ≡ own) × (number < count all)
   pub elements : List Term
-  pub alone : is_pack ≡ true → all ≡ list (pack (list_of elements)) nil
+  pub packed : is_pack ≡ true → (element all before ≡ pack (list_of elements)) × (before < count all)
   pub no_pack : length_if_pack own ≡ None
 
 -- if the place is known, the innermost encoding begins there, and none of its lambdas is read
@@ -126,7 +128,7 @@ IsEncodedAt place around = place ≢ 0 → (around.encoding ≡ place) × (aroun
 -- parameters may name the known arguments here
 abbrev pub HasScope : Arguments → Around → Type 0
 HasScope a around =
-    IsEncodedAt a.encoding around × ((number : ℕ) → IsKnown (place_of a number) → IsScope number (place_of a number).is_pack around)
+    IsEncodedAt a.encoding around × ((number : ℕ) → IsKnown (place_of a number) → IsScope a.before number (place_of a number).is_pack around)
 
 -- a nested name is a type
 abbrev pub is_type : Purpose → Bool
@@ -186,6 +188,12 @@ pub record Keeps (s : Symbol) (scope : Scope) (w : Direct) (cs : List values.Can
   pub named : AreNamed w.text.list.items scope
   pub own : IsScopeOf s scope
   pub unknown : w.has_scope ≡ false → scope ≡ no_scope
+
+-- a writer keeps this after it has come so far
+pub record Kept (s : Symbol) (w : Direct) : Type 0 where
+  pub state : State
+  pub scope : Scope
+  pub keeps : Keeps s scope w state.candidates
 
 -- if there are any, parameters may name them
 abbrev pub IsScoped : Scope → Around → List Open → Type 0
@@ -270,12 +278,8 @@ pub record IsNest (detail : Detail) (names : Names) (front bytes text : List ℕ
   pub from_is : nest.from ≡ length front
   pub prints : PrintsAs detail names nest.is_dependent t bytes false
   pub closed : IsOwn nest.purpose → nest.is_dependent ≡ false
-  pub class_front : List ℕ
   pub class : List ℕ
-  pub class_back : List ℕ
-  pub class_written : text ≡ class_front ++ class ++ class_back
-  pub class_from : nest.class_from ≡ length class_front
-  pub class_to : nest.class_to ≡ length class_front + length class
+  pub class_placed : IsBetween text nest.class_from nest.class_to class
   pub names_class : nest.has_class ≡ true → nest.is_dependent ≡ false → NamesClass detail t class
 
 -- ## Lists
@@ -311,16 +315,21 @@ ParametersGoOn s argument lead make ts at st = ItemsGoOn s argument (λ e here n
 abbrev pub plain_encoding : (mark : Mark) → (own : Term) → (items : Term) → Term
 plain_encoding mark own items = function own (qualifiers (has_const mark)) (called_on mark) absent (parameters items)
 
--- A function's name and the parameters so far, with their texts. All parameters make a function that has no return type. The known
--- arguments of its template are at their places.
-pub record IsFunction (detail : Detail) (scope : Scope) (text : List ℕ) (argument : Arguments) (mark : Mark) (make : Term → Term) (ts : List Term) (name texts : List ℕ) : Type 0 where
-  pub own : Term
-  pub makes : (t rest : Term) → make (list t rest) ≡ plain_encoding mark own (list t rest)
+-- This name of the symbol's own prints this text. The known arguments that it ends in are at their places, and are those that types may
+-- name.
+pub record IsOwnName (detail : Detail) (scope : Scope) (text : List ℕ) (argument : Arguments) (own : Term) (name : List ℕ) : Type 0 where
   pub prints : PrintsName detail own name
-  pub elements : PrintAllIn detail (types_of own) 6 ts texts
   pub names : HasArguments detail text argument own
   pub given : IsGiven detail scope.names (types_of own)
   pub named : scope.arguments ≡ argument
+
+-- A function's name and the parameters so far, with their texts. All parameters make a function that has no return type.
+pub record IsFunction (detail : Detail) (scope : Scope) (text : List ℕ) (argument : Arguments) (mark : Mark) (make : Term → Term) (ts : List Term) (name texts : List ℕ) : Type 0 where
+  pub own : Term
+  pub makes : (t rest : Term) → make (list t rest) ≡ plain_encoding mark own (list t rest)
+  pub is_own : IsOwnName detail scope text argument own name
+  pub open is_own use *
+  pub elements : PrintAllIn detail (types_of own) 6 ts texts
 
 -- What is written of a function before its parameters. Its text begins at this place in it. Where functions are shown by their names
 -- alone, it ends there.
@@ -329,23 +338,52 @@ Fronts false front start lead name = (aside : List ℕ) × (front ≡ aside ++ l
 Fronts true front start lead name =
     (aside : List ℕ) × (front ≡ lead ++ name ++ aside) × (start ≡ length (lead ++ name))
 
--- The same of a function in which a type is. All parameters make one that has some return type, or none.
-pub record IsEnclosing (detail : Detail) (mark : Mark) (make : Term → Term) (ts : List Term) (name texts : List ℕ) : Type 0 where
+-- A function's name and the parameters so far are written, and what comes before them.
+pub record HasParameters (s : Symbol) (scope : Scope) (text : List ℕ) (mark : Mark) (start : ℕ) (argument : Arguments) (ts : List Term) (texts : List ℕ) : Type 0 where
+  pub front : List ℕ
+  pub lead : List ℕ
+  pub make : Term → Term
+  pub name : List ℕ
+  pub is_function : IsFunction (detail_of s) scope text argument mark make ts name texts
+  pub fronts : Fronts s.is_bare front start lead name
+
+-- The same of a function in which a type is, from a place on. All parameters make one that has some return type, or none.
+pub record HasEnclosing (detail : Detail) (mark : Mark) (from : ℕ) (ts : List Term) (texts : List ℕ) : Type 0 where
+  pub front : List ℕ
+  pub from_is : from ≡ length front
+  pub name : List ℕ
   pub own : Term
   pub returned : Term
+  pub make : Term → Term
   pub makes : (t rest : Term) → make (list t rest) ≡ function own (qualifiers (has_const mark)) (called_on mark) returned (parameters (list t rest))
   pub prints : PrintsName detail own name
   pub elements : PrintAllIn detail (types_of own) 6 ts texts
 
--- the name of a function that has a return type, and its text, and where the arguments of its template are
+-- Such a function with all of them was read, and these bytes are its text from a place on.
+pub record IsEnclosed (detail : Detail) (from : ℕ) : Type 0 where
+  pub e : Term
+  pub front : List ℕ
+  pub from_is : from ≡ length front
+  pub bytes : List ℕ
+  pub encloses : Encloses detail e bytes
+
+-- the name of a function that has a return type, and its text
 pub record IsInstance (detail : Detail) (scope : Scope) (text : List ℕ) (argument : Arguments) (mark : Mark) (v : Value) (name : List ℕ) : Type 0 where
   pub own : Term
   pub named_so : IsNamedSo v own mark
-  pub prints : PrintsName detail own name
   pub returns : has_return_type own ≡ true
-  pub names : HasArguments detail text argument own
-  pub given : IsGiven detail scope.names (types_of own)
-  pub named : scope.arguments ≡ argument
+  pub is_own : IsOwnName detail scope text argument own name
+  pub open is_own use *
+
+-- It is written, up to this place, after a text that is empty where no local entity is.
+pub record HasInstance (s : Symbol) (scope : Scope) (text : List ℕ) (mark : Mark) (start : ℕ) (argument : Arguments) : Type 0 where
+  pub v : Value
+  pub lead : List ℕ
+  pub name : List ℕ
+  pub is_instance : IsInstance (detail_of s) scope text argument mark v name
+  pub apart : is_local s.bytes ≡ false → lead ≡ []
+  pub text_is : text ≡ lead ++ name
+  pub start_is : start ≡ length text
 
 -- ## What is open
 
@@ -469,10 +507,11 @@ pub record IsAmong (detail : Detail) (text : List ℕ) (p : Argument) (number : 
   pub there : slice_get ts number ≡ Some own
   pub prints : Prints detail own bytes p.is_reference
 
--- those that are known are arguments, or elements of a pack
-abbrev pub AreAmong : (detail : Detail) (text : List ℕ) → (is_pack : Bool) → Arguments → List Term → Type 0
-AreAmong detail text is_pack a ts =
-    (number : ℕ) → IsKnown (place_of a number) → IsAmong detail text (place_of a number) number ts × ((place_of a number).is_pack ≡ is_pack)
+-- those that are known are arguments, and in a pack those from this number on are its elements
+abbrev pub AreAmong : (detail : Detail) (text : List ℕ) → (is_pack : Bool) (first : ℕ) → Arguments → List Term → Type 0
+AreAmong detail text is_pack first a ts =
+    (number : ℕ) → IsKnown (place_of a number)
+    → IsAmong detail text (place_of a number) number ts × ((place_of a number).is_pack ≡ (is_pack && nat_le first number))
 
 -- this template comes before the arguments
 abbrev pub IsTemplate : (detail : Detail) → Names → Open → (front : List ℕ) → Term → (name : List ℕ) → (text : List ℕ) → Type 0
@@ -493,20 +532,28 @@ AwaitsElementOf s names listing owner below os text =
     × (text ≡ led_by (detail_of s) listing front name ++ in_front_of_next ts elements)
     × ((t : Term) (at : ℕ) (st : State) → Comes s os (tree t true) at st → GoesOn s listing owner below front template (ts ++ t ∷ []) at st)
 
--- the arguments of a name, or a pack that is the only one of them
-abbrev pub arguments_or_pack : (is_pack : Bool) → Listing
-arguments_or_pack false = of_template
-arguments_or_pack true = of_pack [] []
+-- the arguments of a name, or a pack among them after these and their text
+abbrev pub arguments_or_pack : (is_pack : Bool) → (before : List Term) → (written : List ℕ) → Listing
+arguments_or_pack false before written = of_template
+arguments_or_pack true before written = of_pack before written
+
+-- these arguments come before a pack, and before other arguments none does
+pub record ComeBefore (detail : Detail) (is_pack : Bool) (known : Arguments) (before : List Term) (written : List ℕ) : Type 0 where
+  pub none : is_pack ≡ false → before ≡ []
+  pub prints : PrintAll detail 3 before written
+  pub count_is : is_pack ≡ true → known.before ≡ length before
 
 -- a type comes as an argument of a name with this number, or as an element of such a pack
 abbrev pub AwaitsArgument : (s : Symbol) → Names → (is_pack : Bool) → (from number : ℕ) → (known : Arguments) → (owner : Open) → Below → List Opened
     → (text : List ℕ) → Type 0
 AwaitsArgument s names is_pack from number known owner below os text =
     (front : List ℕ) × (template : Term) × (name : List ℕ) × (ts : List Term) × (elements : List ℕ) × IsTemplate (detail_of s) names owner front template name text
-    × PrintAll (detail_of s) (extra_of (arguments_or_pack is_pack)) ts elements
-    × (text ≡ front ++ name ++ opening_bracket (detail_of s) ++ in_front_of_next ts elements) × (from ≡ length text) × (number ≡ length ts)
-    × AreAmong (detail_of s) text is_pack known ts
-    × ((t : Term) (at : ℕ) (st : State) → Comes s os (tree t true) at st → GoesOn s (arguments_or_pack is_pack) owner below front template (ts ++ t ∷ []) at st)
+    × (before : List Term) × (written : List ℕ) × ComeBefore (detail_of s) is_pack known before written
+    × PrintAll (detail_of s) (extra_of (arguments_or_pack is_pack before written)) ts elements
+    × (text ≡ led_by (detail_of s) (arguments_or_pack is_pack before written) front name ++ in_front_of_next ts elements) × (from ≡ length text)
+    × (number ≡ length (before ++ ts)) × AreAmong (detail_of s) text is_pack (length before) known (before ++ ts)
+    × ((t : Term) (at : ℕ) (st : State) → Comes s os (tree t true) at st
+    → GoesOn s (arguments_or_pack is_pack before written) owner below front template (ts ++ t ∷ []) at st)
 
 -- a list goes on after an enumerator of this type, once its number and an E are read
 abbrev pub EnumeratorGoesOn : (s : Symbol) → Listing → Open → Below → (front : List ℕ) → (template : Term) → List Term → Term → (at : ℕ) → State → Type 0
@@ -566,6 +613,20 @@ TakesFunction _ = ⊥
 abbrev pub outside : (s : Symbol) → Scope → List Open → (waits : List Opened → List ℕ → Type 0) → Below
 outside s scope rest waits = record { waits = waits; scoped = λ around. IsScoped scope around rest; naming = IsNaming s scope rest }
 
+-- These take a function type or an array that comes after a text: what waits for it, and what is open around it, where it is made.
+pub record IsTaken (below : Below) (rest : List Open) (front : List ℕ) : Type 0 where
+  pub outer : List Opened
+  pub made_in : Around
+  pub takes : TakesFunction rest
+  pub stands : below.waits outer front
+
+-- the type that is read first in one: the return type, or that of the elements
+pub record FirstType (s : Symbol) : Type 0 where
+  pub own : Term
+  pub bytes : List ℕ
+  pub is_reference : Bool
+  pub prints : Prints (detail_of s) own bytes is_reference
+
 -- A type comes for the last of the open ones, after what is written.
 abbrev pub Stands : (s : Symbol) → Scope → List Open → List Opened → (text : List ℕ) → Type 0
 Stands s scope [] os text = ⊥
@@ -574,42 +635,37 @@ Stands s scope (opens.Lvalue from ∷ rest) os text = Marks s (outside s scope r
 Stands s scope (opens.Rvalue from ∷ rest) os text = Marks s (outside s scope rest (Stands s scope rest)) os text from rvalue
 Stands s scope (opens.Const from ∷ rest) os text = Marks s (outside s scope rest (Stands s scope rest)) os text from (qualified (qualifiers true))
 Stands s scope (opens.Front mark start argument ∷ rest) os text =
-    (v : Value) × (lead : List ℕ) × (name : List ℕ) × IsInstance (detail_of s) scope text argument mark v name × (is_local s.bytes ≡ false → lead ≡ [])
-    × (text ≡ lead ++ name) × (start ≡ length text)
-    × ((t : Term) (at : ℕ) (st : State) → Comes s os (tree t true) at st → ParametersGoOn s argument lead (encoding_of v) (t ∷ []) at st)
+    (h : HasInstance s scope text mark start argument)
+    × ((t : Term) (at : ℕ) (st : State) → Comes s os (tree t true) at st → ParametersGoOn s argument h.lead (encoding_of h.v) (t ∷ []) at st)
 Stands s scope (opens.Parameters mark start argument ∷ rest) os text =
-    (front : List ℕ) × (lead : List ℕ) × (make : Term → Term) × (ts : List Term) × (name : List ℕ) × (texts : List ℕ)
-    × IsFunction (detail_of s) scope text argument mark make ts name texts × Fronts s.is_bare front start lead name
-    × (text ≡ front ++ codes "(" ++ in_front_of_next ts texts)
-    × ((t : Term) (at : ℕ) (st : State) → Comes s os (tree t true) at st → ParametersGoOn s argument lead make (ts ++ t ∷ []) at st)
+    (ts : List Term) × (texts : List ℕ) × (p : HasParameters s scope text mark start argument ts texts)
+    × (text ≡ p.front ++ codes "(" ++ in_front_of_next ts texts)
+    × ((t : Term) (at : ℕ) (st : State) → Comes s os (tree t true) at st → ParametersGoOn s argument p.lead p.make (ts ++ t ∷ []) at st)
 Stands s scope (opens.Enclosing mark from to ∷ rest) os text =
-    (front : List ℕ) × (make : Term → Term) × (ts : List Term) × (name : List ℕ) × (texts : List ℕ)
-    × IsEnclosing (detail_of s) mark make ts name texts × (from ≡ length front) × (text ≡ front ++ name ++ codes "(" ++ in_front_of_next ts texts)
+    (ts : List Term) × (texts : List ℕ) × (h : HasEnclosing (detail_of s) mark from ts texts)
+    × (text ≡ h.front ++ h.name ++ codes "(" ++ in_front_of_next ts texts)
     × ((t : Term) (at : ℕ) (st : State) → Comes s os (tree t true) at st
-    → ItemsGoOn s nowhere (TypeWithin s (outside s scope rest (Stands s scope rest)) front) make (ts ++ t ∷ []) at st)
-    × (to ≡ length (front ++ name))
+    → ItemsGoOn s nowhere (TypeWithin s (outside s scope rest (Stands s scope rest)) h.front) h.make (ts ++ t ∷ []) at st)
+    × (to ≡ length (h.front ++ h.name))
 Stands s scope (opens.Lambda from ∷ rest) os text =
-    (front : List ℕ) × (e : Term) × (bytes : List ℕ) × (ts : List Term) × (texts : List ℕ)
-    × Encloses (detail_of s) e bytes × PrintAll (detail_of s) 0 ts texts × (from ≡ length front)
-    × (text ≡ front ++ (bytes ++ codes "::{lambda(") ++ in_front_of_next ts texts)
+    (h : IsEnclosed (detail_of s) from) × (ts : List Term) × (texts : List ℕ) × PrintAll (detail_of s) 0 ts texts
+    × (text ≡ h.front ++ (h.bytes ++ codes "::{lambda(") ++ in_front_of_next ts texts)
     × ((t : Term) (at : ℕ) (st : State) → Comes s os (tree t true) at st
-    → ItemsGoOn s nowhere (LambdaWithin s (outside s scope rest (Stands s scope rest)) front e) (λ l. l) (ts ++ t ∷ []) at st)
+    → ItemsGoOn s nowhere (LambdaWithin s (outside s scope rest (Stands s scope rest)) h.front h.e) (λ l. l) (ts ++ t ∷ []) at st)
 Stands s scope (opens.Returned is_pointer ∷ rest) os text =
-    (outer : List Opened) × (around : Around)
-    × ((r : Term) (at : ℕ) (st : State) → Comes s os (tree r true) at st → SignatureGoesOn s outer around is_pointer (λ l. plain_function r l) at st)
-    × TakesFunction rest × Stands s scope rest outer text
+    (k : IsTaken (outside s scope rest (Stands s scope rest)) rest text)
+    × ((r : Term) (at : ℕ) (st : State) → Comes s os (tree r true) at st → SignatureGoesOn s k.outer k.made_in is_pointer (λ l. plain_function r l) at st)
 Stands s scope (opens.Signature is_pointer ∷ rest) os text =
-    (outer : List Opened) × (around : Around) × (front : List ℕ) × (r : Term) × (bytes : List ℕ) × (is_reference : Bool) × (ts : List Term) × (texts : List ℕ)
-    × Prints (detail_of s) r bytes is_reference × PrintAll (detail_of s) 0 ts texts
-    × (text ≡ front ++ (bytes ++ opening_text is_pointer) ++ in_front_of_next ts texts)
+    (front : List ℕ) × (k : IsTaken (outside s scope rest (Stands s scope rest)) rest front) × (first : FirstType s)
+    × (ts : List Term) × (texts : List ℕ) × PrintAll (detail_of s) 0 ts texts
+    × (text ≡ front ++ (first.bytes ++ opening_text is_pointer) ++ in_front_of_next ts texts)
     × ((t : Term) (at : ℕ) (st : State) → Comes s os (tree t true) at st
-    → SignatureGoesOn s outer around is_pointer (λ l. plain_function r (list_with (ts ++ t ∷ []) l)) at st)
-    × TakesFunction rest × Stands s scope rest outer front
+    → SignatureGoesOn s k.outer k.made_in is_pointer (λ l. plain_function first.own (list_with (ts ++ t ∷ []) l)) at st)
 Stands s scope (opens.Array access from to ∷ rest) os text =
-    (outer : List Opened) × (around : Around) × (digits : List ℕ) × (from ≤ to) × (to ≤ length s.bytes) × (take (to - from) (drop from s.bytes) ≡ digits)
+    (k : IsTaken (outside s scope rest (Stands s scope rest)) rest text)
+    × (digits : List ℕ) × (from ≤ to) × (to ≤ length s.bytes) × (take (to - from) (drop from s.bytes) ≡ digits)
     × ((t : Term) (at : ℕ) (st : State) → Comes s os (tree t true) at st
-    → Comes s outer (tree (accessed access (array (values.normal digits) t)) true) at (with_accessed access around (array (values.normal digits) t) st))
-    × TakesFunction rest × Stands s scope rest outer text
+    → Comes s k.outer (tree (accessed access (array (values.normal digits) t)) true) at (with_accessed access k.made_in (array (values.normal digits) t) st))
 Stands s scope (opens.Special ∷ rest) os text =
     (letter : ℕ) × (text ≡ look_up (letter ∷ []) special_texts) × (text ≢ [])
     × ((t : Term) (at : ℕ) (st : State) → Comes s os (tree t true) at st → Encoded s (special letter t) at)
@@ -642,38 +698,53 @@ pub record IsNestScoped (s : Symbol) (scope : Scope) (w : Direct) (around : Arou
   pub scoped : is_type w.nest.purpose ≡ true → IsScoped scope around (reverse w.waiting.list.items)
   pub naming : w.nest.is_dependent ≡ true → IsNaming s scope (reverse w.waiting.list.items)
 
--- a nested name goes on, of which this was read
-pub record IsNesting (s : Symbol) (scope : Scope) (kind : Kind) (w : Direct) (t : Term) (st : State) : Type 0 where
-  pub front : List ℕ
+-- of a nested name this was read and written
+pub record IsNestSoFar (s : Symbol) (scope : Scope) (w : Direct) (t : Term) : Type 0 where
   pub around : Around
   pub outer : List Opened
+  pub front : List ℕ
   pub bytes : List ℕ
   pub written : w.text.list.items ≡ front ++ bytes
   pub is_nest : IsNest (detail_of s) scope.names front bytes w.text.list.items w.nest t
-  pub goes : NestGoesOn s kind outer around t w.nest.is_listed w.at st
   pub scoped : IsNestScoped s scope w around
   pub serves : Serves s w.nest.purpose (below s scope (reverse w.waiting.list.items)) outer front
+
+-- it goes on
+pub record IsNesting (s : Symbol) (scope : Scope) (kind : Kind) (w : Direct) (t : Term) (st : State) : Type 0 where
+  pub so_far : IsNestSoFar s scope w t
+  pub open so_far use *
+  pub goes : NestGoesOn s kind outer around t w.nest.is_listed w.at st
 
 -- a type is expected, an item of a list, or one that is no reference
 abbrev pub ExpectsType : (s : Symbol) → Around → List Opened → (at : ℕ) → State → Type 0
 ExpectsType s around os at st =
     Expects s Kind.Type around os at st ⊎ Expects s Kind.Item around os at st ⊎ (Expects s Kind.ItemButRef around os at st × NoReference s.bytes at)
 
+-- a type is expected, and these are open
+pub record AwaitsTypeIn (s : Symbol) (scope : Scope) (w : Direct) : Type 0 where
+  pub os : List Opened
+  pub around : Around
+  pub outside : around.prefix ≡ outermost
+  pub stands : Stands s scope (reverse w.waiting.list.items) os w.text.list.items
+  pub scoped : IsScoped scope around (reverse w.waiting.list.items)
+
+-- a type was read, and written after a front, and these are open
+pub record IsTypeRead (s : Symbol) (scope : Scope) (w : Direct) (st : State) (waits : List Open) (is_reference is_dependent : Bool) : Type 0 where
+  pub os : List Opened
+  pub own : Term
+  pub front : List ℕ
+  pub bytes : List ℕ
+  pub written : w.text.list.items ≡ front ++ bytes
+  pub prints : PrintsAs (detail_of s) scope.names is_dependent own bytes is_reference
+  pub naming : is_dependent ≡ true → IsNaming s scope waits
+  pub comes : Comes s os (tree own true) w.at st
+  pub stands : Stands s scope waits os front
+
 -- where a writer is, before it takes a step
 abbrev pub IsBefore : (s : Symbol) → Scope → Direct → State → Step → Type 0
-IsBefore s scope w st steps.Type =
-    (os : List Opened) × (around : Around) × (around.prefix ≡ outermost)
-    × ExpectsType s around os w.at st × Stands s scope (reverse w.waiting.list.items) os w.text.list.items
-    × IsScoped scope around (reverse w.waiting.list.items)
-IsBefore s scope w st steps.Plain =
-    (os : List Opened) × (around : Around) × (around.prefix ≡ outermost)
-    × Expects s Kind.Plain around os w.at st × Stands s scope (reverse w.waiting.list.items) os w.text.list.items
-    × IsScoped scope around (reverse w.waiting.list.items)
-IsBefore s scope w st (steps.Value is_reference is_dependent) =
-    (os : List Opened) × (t : Term) × (front : List ℕ) × (bytes : List ℕ)
-    × (w.text.list.items ≡ front ++ bytes) × PrintsAs (detail_of s) scope.names is_dependent t bytes is_reference
-    × (is_dependent ≡ true → IsNaming s scope (reverse w.waiting.list.items))
-    × Comes s os (tree t true) w.at st × Stands s scope (reverse w.waiting.list.items) os front
+IsBefore s scope w st steps.Type = (a : AwaitsTypeIn s scope w) × ExpectsType s a.around a.os w.at st
+IsBefore s scope w st steps.Plain = (a : AwaitsTypeIn s scope w) × Expects s Kind.Plain a.around a.os w.at st
+IsBefore s scope w st (steps.Value is_reference is_dependent) = IsTypeRead s scope w st (reverse w.waiting.list.items) is_reference is_dependent
 IsBefore s scope w st (steps.List is_first) =
     (place : IsListing (detail_of s) scope.names (reverse w.waiting.list.items) w.text.list.items) × (ts : List Term) × (elements : List ℕ)
     × PrintAllAs (detail_of s) scope.names (may_name place.listing place.owner) (extra_of place.listing) ts elements
@@ -685,15 +756,11 @@ IsBefore s scope w st steps.Tail =
     (t : Term) × IsNesting s scope Kind.NestTail w t st × (IsOwn w.nest.purpose → w.nest.is_instance && w.nest.has_class ≡ false → has_return_type t ≡ false)
     × (w.nest.is_instance && w.nest.has_class ≡ true → has_return_type t ≡ true)
     × (w.nest.is_instance ≡ true → HasArguments (detail_of s) w.text.list.items w.argument t)
-IsBefore s scope w st steps.Component =
-    (t : Term) × (front : List ℕ) × (bytes : List ℕ) × (around : Around) × (outer : List Opened)
-    × (w.text.list.items ≡ front ++ bytes) × IsNest (detail_of s) scope.names front bytes w.text.list.items w.nest t × AwaitsComponent s outer around t w.at st
-    × IsNestScoped s scope w around × Serves s w.nest.purpose (below s scope (reverse w.waiting.list.items)) outer front
+IsBefore s scope w st steps.Component = (t : Term) × (n : IsNestSoFar s scope w t) × AwaitsComponent s n.outer n.around t w.at st
 IsBefore s scope w st steps.Ended = IsWhole s w.text.list.items
 
 -- a writer that has come so far, and what comes next
 pub record IsWriting (s : Symbol) (w : Direct) (step : Step) : Type 0 where
-  pub state : State
-  pub scope : Scope
-  pub keeps : Keeps s scope w state.candidates
+  pub kept : Kept s w
+  pub open kept use *
   pub is_before : IsBefore s scope w state step

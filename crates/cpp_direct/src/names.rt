@@ -1,6 +1,6 @@
 // Names: where they are.
 
-ghost use Rattle.std.specs.Prelude.{◌≡◌, ◌≤◌, length, true, false};
+ghost use Rattle.std.specs.Prelude.{◌≡◌, ◌+◌, ◌<◌, ◌≤◌, ℕ, get_or, length, true, false};
 ghost use Rattle.std.specs.Option.{IfSome};
 ghost use Rattle.sym_core.specs.declared.NameClass.TheVariants.{Cpp};
 ghost use Rattle.sym_core.specs.Number.{is_decimal_digit};
@@ -9,12 +9,26 @@ ghost use Rattle.sym_core.specs.Token.{is_name_byte};
 ghost use Rattle.cpp_direct.specs.Names.{IsLengthRead, IsNamePlace, IsReadable};
 
 use crate::tokens::byte_at;
+use std::simd::prelude::*;
 use sym_core::{NameClass, find_name};
 
-/// Whether each byte may be in a name.
-// without an end in between, so that many bytes are held against the bounds at once
+/// So many bytes are looked at together.
+const LANES: usize = 16;
+
+/// Whether the bytes from a place on, as far as they are looked at together, may be in a name.
+#[inline(always)]
+fn are_lanes_named(bytes: &[u8], at: usize) -> bool
+    requires { at + 16 ≤ length bytes.now }
+    ensures { result ≡ true → (k : ℕ) → at ≤ k → k < at + 16 → is_name_byte Cpp (get_or bytes.now k 0) ≡ true }
+{
+    let lanes = u8x16::from_slice(&bytes[at..]);
+    let barred = lanes.simd_le(u8x16::splat(b' ')) | lanes.simd_eq(u8x16::splat(127));
+    barred.to_bitmask() == 0
+}
+
+/// Whether each of a few bytes may be in a name.
 #[inline(never)]
-pub fn are_name_bytes(bytes: &[u8]) -> bool
+fn are_few_named(bytes: &[u8]) -> bool
     ensures { result ≡ true → ReachesNameBytes Cpp bytes.now (length bytes.now) }
 {
     let mut are = true;
@@ -24,6 +38,24 @@ pub fn are_name_bytes(bytes: &[u8]) -> bool
         at += 1;
     }
     are
+}
+
+/// Whether each byte may be in a name. The last sixteen are looked at together wherever they begin.
+pub fn are_name_bytes(bytes: &[u8]) -> bool
+    ensures { result ≡ true → ReachesNameBytes Cpp bytes.now (length bytes.now) }
+{
+    if bytes.len() < LANES {
+        return are_few_named(bytes);
+    }
+    let last = bytes.len() - LANES;
+    let mut at = 0;
+    'lanes: while at < last {
+        if !are_lanes_named(bytes, at) {
+            return false;
+        }
+        at += LANES;
+    }
+    are_lanes_named(bytes, last)
 }
 
 /// Where a name has its own bytes: those after its length.

@@ -1,7 +1,7 @@
 // Nested names.
 
 ghost use Rattle.std.specs.Prelude.{◌≡◌, ℕ, ◌+◌, ◌∷◌, ◌&&◌, [], true, false};
-ghost use Rattle.std.specs.Option.{IfSome};
+ghost use Rattle.std.specs.Option.{IfSome, OnSome};
 ghost use Rattle.cpp_direct.specs.Names.{IsConstructorDigit, IsDestructorDigit, IsReadable};
 ghost use Rattle.cpp_direct.specs.declared.open.Step.TheVariants as steps;
 ghost use Rattle.cpp_direct.specs.Holes.{StandsAt};
@@ -61,6 +61,9 @@ fn is_destructor_digit<G: Grammar>(digit: u8) -> bool
     }
     G::IS_WIDE && b'4' <= digit && digit <= b'5'
 }
+
+/// So many components of a nested name are read in one step at most.
+const COMPONENTS_AT_ONCE: usize = 16;
 
 impl Direct {
     /// Reads the first piece of a nested name.
@@ -201,7 +204,7 @@ impl Direct {
         if byte_at(s, self.at) == b'I' {
             return self.open_arguments::<G>(Open::FirstArguments { nest: self.nest });
         }
-        self.component_at::<G>(s)
+        self.components_at::<G>(s)
     }
 
     /// Reads another component of a nested name, or its end.
@@ -213,8 +216,39 @@ impl Direct {
         if byte_at(s, self.at) == b'E' {
             return self.nest_ended::<G>(s);
         }
+        self.go_on::<G>(s)?;
+        self.components_at::<G>(s)
+    }
+
+    /// What is read of a nested name is a candidate, since a component follows.
+    #[inline(always)]
+    fn go_on<G: Grammar>(&mut self, _s: &[u8]) -> Option<()>
+        requires { IsWriting (symbol_by G.IS_WIDE G.IS_BARE G.IS_BRIEF _s.now) self.old steps.Tail }
+        ensures { OnSome result (IsWriting (symbol_by G.IS_WIDE G.IS_BARE G.IS_BRIEF _s.now) self.new steps.Component) }
+    {
         self.add_unless(self.nest.is_listed, self.nest.from, self.nest.is_dependent)?;
-        self.component_at::<G>(s)
+        Some(())
+    }
+
+    /// Reads components of a nested name, up to arguments or its end.
+    // <prefix> ::= <prefix> <unqualified-name>
+    #[inline(never)]
+    pub(crate) fn components_at<G: Grammar>(&mut self, s: &[u8]) -> Option<Step>
+        requires fits { IsReadable s.now }
+        requires writing { IsWriting (symbol_by G.IS_WIDE G.IS_BARE G.IS_BRIEF s.now) self.old steps.Component }
+        ensures { IfSome result (IsWriting (symbol_by G.IS_WIDE G.IS_BARE G.IS_BRIEF s.now) self.new) }
+    {
+        for _ in 0..COMPONENTS_AT_ONCE {
+            match self.component_at::<G>(s)? {
+                Step::Tail => {}
+                other => return Some(other),
+            }
+            if byte_at(s, self.at) == b'E' {
+                return self.nest_ended::<G>(s);
+            }
+            self.go_on::<G>(s)?;
+        }
+        Some(Step::Component)
     }
 
     /// Whether it ends in the arguments of a function that is no constructor or destructor.
@@ -267,12 +301,14 @@ impl Direct {
 
     /// Reads a component of a nested name.
     // <unqualified-name> ::= <source-name> | <operator-name> | <ctor-dtor-name>
-    pub(crate) fn component_at<G: Grammar>(&mut self, s: &[u8]) -> Option<Step>
+    #[inline(always)]
+    fn component_at<G: Grammar>(&mut self, s: &[u8]) -> Option<Step>
         requires fits { IsReadable s.now }
         requires writing { IsWriting (symbol_by G.IS_WIDE G.IS_BARE G.IS_BRIEF s.now) self.old steps.Component }
         ensures { IfSome result (IsWriting (symbol_by G.IS_WIDE G.IS_BARE G.IS_BRIEF s.now) self.new) }
     {
         match byte_at(s, self.at) {
+            b'1'..=b'9' => self.source::<G>(s, false),
             b'C' => self.constructor::<G>(s),
             b'D' => self.destructor::<G>(s),
             b'L' => self.source::<G>(s, true),

@@ -31,7 +31,7 @@ pub enum Mark {
     ConstRvalue,
 }
 
-/// The first arguments of a name, those of them that are known.
+/// The first arguments of a name, those of them that are known. If one of them is a pack, its elements are in its place.
 #[derive(Clone, Copy)]
 pub struct Arguments {
     pub first: Argument,
@@ -40,7 +40,9 @@ pub struct Arguments {
     pub fourth: Argument,
     /// the place where the encoding begins whose types may name them, 0 if this isn't known
     pub encoding: u16,
-    /// how many elements the pack has that is the only argument, and whose elements they are; 0 if there is none
+    /// how many arguments come before the pack
+    pub before: u16,
+    /// how many elements the pack has, 0 if there is none
     pub elements: u16,
 }
 

@@ -65,7 +65,8 @@ impl Arguments {
 
     /// The same, and the argument with this number is known.
     fn with(self, number: u16, place: Argument) -> Arguments
-        ensures { KnowsMore self result number place }
+        ensures more { KnowsMore self result number place }
+        ensures before { result.before ≡ self.before }
     {
         match number {
             0 => Arguments {
@@ -361,8 +362,8 @@ impl Direct {
         Some(Step::Type)
     }
 
-    /// An element of a pack is read, which is the first argument of a name: others follow, or the end of the pack, and after it that of
-    /// the arguments.
+    /// An element of a pack is read, so many after the first argument of a name: others follow, or the end of the pack, and
+    /// after it that of the arguments.
     // <template-arg> ::= J <template-arg>* E
     pub(crate) fn element_ended<G: Grammar>(
         &mut self,
@@ -393,7 +394,7 @@ impl Direct {
         }
         let _pack = self.waiting.pop();
         self.at = behind.checked_add(1)?;
-        let elements = number.checked_add(1)?;
+        let elements = number.checked_add(1)?.checked_sub(more.before)?;
         self.close_list::<G>(s, Arguments { elements, ..more })
     }
 
@@ -428,13 +429,13 @@ impl Direct {
         requires awaits { AwaitsNextParameter (symbol_by G.IS_WIDE G.IS_BARE G.IS_BRIEF s.now) self.old mark start argument }
         ensures { IfSome result (IsWriting (symbol_by G.IS_WIDE G.IS_BARE G.IS_BRIEF s.now) self.new) }
     {
-        if argument.first.is_pack {
+        if argument.elements != 0 {
             return self.expansion::<G>(s, mark, start, argument);
         }
         Some(Step::Type)
     }
 
-    /// The last parameter may be one that expands the pack that the function's template has as its argument.
+    /// The last parameter may be one that expands the pack that is among the arguments of the function's template.
     // <type> ::= Dp <type>
     #[inline(never)]
     fn expansion<G: Grammar>(
@@ -445,18 +446,20 @@ impl Direct {
         argument: Arguments,
     ) -> Option<Step>
         requires fits { IsReadable s.now }
-        requires is_pack { argument.first.is_pack ≡ true }
         requires awaits { AwaitsNextParameter (symbol_by G.IS_WIDE G.IS_BARE G.IS_BRIEF s.now) self.old mark start argument }
         ensures { IfSome result (IsWriting (symbol_by G.IS_WIDE G.IS_BARE G.IS_BRIEF s.now) self.new) }
     {
         let Some(read) = expansion_at(s, self.at) else {
             return Some(Step::Type);
         };
-        let first = argument.first;
-        if first.to < first.from || argument.elements > 4 || !may_end(byte_at(s, read.end)) {
+        let first = argument.at(argument.before);
+        if first.to < first.from || !first.is_pack {
             return None;
         }
-        if read.number != 0 {
+        if read.number != argument.before
+            || argument.elements > 4
+            || !may_end(byte_at(s, read.end))
+        {
             return None;
         }
         self.at = read.end;
@@ -489,7 +492,7 @@ impl Direct {
         if number >= argument.elements {
             return Some(());
         }
-        let place = known(argument.at(number))?;
+        let place = known(argument.at(argument.before.checked_add(number)?))?;
         if !place.is_pack {
             return None;
         }
@@ -533,12 +536,15 @@ impl Direct {
     {
         let _open = self.waiting.pop();
         let byte = byte_at(s, self.at);
-        // a literal or a pack isn't known, nor is what follows it
-        if byte == b'L' || byte == b'J' || is_element_at(s, self.at) {
+        // a literal isn't known, nor is what follows it
+        if byte == b'L' || is_element_at(s, self.at) {
             return Some(Step::List { is_first: false });
         }
         let to = self.text.end();
         let more = known.with(number, placed(from, to, false, is_reference));
+        if byte == b'J' {
+            return self.next_pack::<G>(s, number, more);
+        }
         if byte != b'E' {
             return self.next_argument::<G>(s, number, more);
         }
@@ -560,6 +566,37 @@ impl Direct {
             from,
             number,
             known,
+        })?;
+        Some(Step::Type)
+    }
+
+    /// A pack comes next, after so many arguments of a name and one more.
+    // <template-arg> ::= J <template-arg>* E
+    #[inline(never)]
+    fn next_pack<G: Grammar>(&mut self, s: &[u8], last: u16, known: Arguments) -> Option<Step>
+        requires fits { IsReadable s.now }
+        requires letter { StandsAt s.now self.old.at (74 ∷ []) }
+        requires awaits { AwaitsKnownArgument (symbol_by G.IS_WIDE G.IS_BARE G.IS_BRIEF s.now) self.old false last known }
+        ensures { IfSome result (IsWriting (symbol_by G.IS_WIDE G.IS_BARE G.IS_BRIEF s.now) self.new) }
+    {
+        let behind = self.at.checked_add(1)?;
+        let byte = byte_at(s, behind);
+        // a literal isn't known, nor is what follows it
+        if byte == b'E' || byte == b'L' || is_element_at(s, behind) {
+            return Some(Step::List { is_first: false });
+        }
+        self.push_pair(b',', b' ')?;
+        self.at = behind;
+        let from = self.text.end();
+        let number = last.checked_add(1)?;
+        self.waiting.push(Open::Pack)?;
+        self.waiting.push(Open::Element {
+            from,
+            number,
+            known: Arguments {
+                before: number,
+                ..known
+            },
         })?;
         Some(Step::Type)
     }

@@ -43,6 +43,7 @@ pub const NOWHERE: Arguments = Arguments {
     third: NO_PLACE,
     fourth: NO_PLACE,
     encoding: 0,
+    before: 0,
     elements: 0,
 };
 
@@ -88,7 +89,7 @@ impl Direct {
             Step::List { is_first } => self.list_at::<G>(s, is_first),
             Step::Rest => self.rest_at::<G>(s),
             Step::Tail => self.tail_at::<G>(s),
-            Step::Component => self.component_at::<G>(s),
+            Step::Component => self.components_at::<G>(s),
             Step::Ended => None,
         }
     }

@@ -371,7 +371,7 @@ impl Direct {
         ensures { IfSome result (IsWriting (symbol_by G.IS_WIDE G.IS_BARE G.IS_BRIEF _s.now) self.new) }
     {
         let _open = self.waiting.pop();
-        self.push(mark)?;
+        self.push_short(mark)?;
         self.add_candidate(from, is_reference, is_dependent)?;
         Some(Step::Value {
             is_reference,

@@ -45,6 +45,18 @@ impl Direct {
         self.text.push_pair(first, second)
     }
 
+    /// Writes a text that mostly has one byte or two.
+    #[inline(always)]
+    pub(crate) fn push_short(&mut self, text: &[u8]) -> Option<()>
+        ensures { OnSome result (Writes self.old self.new text.now) }
+    {
+        match text {
+            [byte] => self.push_byte(*byte),
+            [first, second] => self.push_pair(*first, *second),
+            _ => self.push(text),
+        }
+    }
+
     /// What is written from a place on becomes a candidate.
     #[inline(always)]
     pub(crate) fn add_candidate(

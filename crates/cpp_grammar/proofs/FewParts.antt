@@ -8,10 +8,11 @@ use Rattle.sym_print.specs.Details.{has_arguments, has_parameters}
 use Rattle.sym_print.specs.Unfold.{PartOf, text, sub}
 use Rattle.cpp_grammar.specs.Term.{Qualifiers, RefQualifier, Signed, Term, symbol, function, object, of_name, alone, in_std, within, instance, local, holder, tagged, abbreviation, parameter, source, constructor, destructor, inheriting, lambda, generic_lambda, sized_float, pointer, lvalue, rvalue, array, bounded, member_pointer, function_type, qualified, expansion, integer, operation, function_parameter, pack, nil, list, absent}
 use Rattle.cpp_grammar.specs.Items.{Form, root, full, bare, left, right, low, base, piece, first, more, expand, Context, Item, closed, signature_in, head, is_reference, is_funarr, packs_of, is_empty}
-use Rattle.cpp_grammar.specs.Parts.{as_item, says, text_part, list_part, piece_parts, within_parts, last_piece, opening_text, instance_parts, marked_parts, reference_parts, qualified_left, blank_last, qualifier_text, expansion_parts, sign_part, is_plain_integer, integer_parts, builtin_code, member_parts, array_left, float_parts, no_operation, precedence_of, operand_parts, operation_parts, printed, left_parts, low_parts, function_right, ref_text, closing_right, qualified_right, right_parts, base_within, base_tagged, base_parts, types_of, encoding_text, function_bare, function_full, full_parts, bare_parts, root_parts, first_parts, more_parts, at_index, is_below, comma_before, expand_rest, expand_parts, parts_in, not_empty, parts, own_piece}
+use Rattle.cpp_grammar.specs.Parts.{as_item, says, text_part, list_part, piece_parts, within_parts, last_piece, opening_text, instance_parts, marked_parts, reference_parts, qualified_left, blank_last, qualifier_text, expansion_parts, sign_part, is_plain_integer, integer_parts, builtin_code, member_parts, array_left, float_parts, no_operation, precedence_of, operand_parts, operation_parts, printed, left_parts, low_parts, function_right, ref_text, closing_right, qualified_right, right_parts, base_within, base_tagged, base_parts, types_of, encoding_text, function_bare, function_full, full_parts, bare_parts, root_parts, first_parts, more_parts, at_index, is_below, comma_before, expand_rest, expand_parts, parts_in, not_empty, parts, own_piece, most_parts, most_of}
 use Rattle.cpp_grammar.specs.Scope.{without_tags}
 use Rattle.std.proofs.lemmas.Bool.{leb-true}
-use Rattle.cpp_grammar.specs.Operations.{Operand, not_printed, as_it_is, as_type, as_list, from_precedence, Operation, operations, operation_of_code}
+use Rattle.cpp_grammar.specs.declared.operand.Operand.{Operand}
+use Rattle.cpp_grammar.specs.Operations.{Operation, operations, operation_of_code}
 use Rattle.cpp_grammar.specs.Texts.{look_up, same_bytes, literal_endings}
 use Rattle.cpp_grammar.proofs.Chosen.{either, either_cond}
 use Rattle.cpp_grammar.proofs.Steps.{first_of_both, second_of_both}
@@ -108,24 +109,13 @@ float_few : (digits : List ℕ) (end : ℕ) → HasFew 3 (float_parts digits end
 unfolding float_parts
 float_few digits end = choice_few 3 (nat_eq end 98) _ _ (omega arith) (choice_few 3 (nat_eq end 120) _ _ (omega arith) (omega arith))
 
--- how many parts an operand has at most, and an operation
-unfoldable most_parts : Operand → ℕ
-most_parts not_printed = 0
-most_parts as_it_is = 1
-most_parts as_type = 2
-most_parts as_list = 1
-most_parts (from_precedence least) = 3
-
-unfoldable most_of : Operation → ℕ
-most_of o = length (text_part o.front) + most_parts o.left + length (text_part o.between) + most_parts o.right + length (text_part o.back)
-
 operand_few : (c : Context) (o : Operand) (t : Term) → HasFew (most_parts o) (operand_parts c o t)
-unfolding operand_parts most_parts
-operand_few c not_printed t = omega arith
-operand_few c as_it_is t = omega arith
-operand_few c as_type t = omega arith
-operand_few c as_list t = list_few first c t
-operand_few c (from_precedence least) t = choice_few 3 (nat_le least (precedence_of t)) _ _ (omega arith) (omega arith)
+unfolding operand_parts
+operand_few c Operand.NotPrinted t = omega arith
+operand_few c Operand.AsItIs t = omega arith
+operand_few c Operand.AsType t = omega arith
+operand_few c Operand.AsList t = list_few first c t
+operand_few c (Operand.From least) t = choice_few 3 (nat_le least (precedence_of t)) _ _ (omega arith) (omega arith)
 
 -- each operation of the table has at most seven
 unfoldable all_few : List Operation → Bool
@@ -133,24 +123,24 @@ all_few [] = true
 all_few (o ∷ os) = nat_le (most_of o) 7 && all_few os
 
 rows_few : all_few operations ≡ true
-unfolding all_few operations most_of most_parts text_part
+unfolding all_few operations text_part
 rows_few = refl
 
 row_few : (code : List ℕ) (os : List Operation) → all_few os ≡ true → most_of (elim (operation_of_code code os) [ Some o ↦ o | None ↦ no_operation ]) ≤ 7
-unfolding all_few operation_of_code most_of most_parts text_part
+unfolding all_few operation_of_code text_part
 row_few code [] h = omega arith
 row_few code (o ∷ os) h =
     either (λ found. most_of (elim found [ Some p ↦ p | None ↦ no_operation ]) ≤ 7) (same_bytes code o.code) (Some o) (operation_of_code code os)
     (λ is. leb-true (most_of o) 7 (first_of_both (nat_le (most_of o) 7) (all_few os) h)) (λ is. row_few code os (second_of_both (nat_le (most_of o) 7) (all_few os) h))
 
 operation_few : (c : Context) (o : Operation) (x y : Term) → most_of o ≤ 7 → HasFew 7 (operation_parts c o x y)
-unfolding operation_parts most_of
+unfolding operation_parts
 operation_few c o x y h =
     let a = text_part o.front in
     let b = operand_parts c o.left x in
     let d = text_part o.between in
-    let e = operand_parts c o.right y in
-    omega (arith, h, length-append a b, length-append (a ++ b) d, length-append (a ++ b ++ d) e, length-append (a ++ b ++ d ++ e) (text_part o.back), operand_few c o.left x, operand_few c o.right y)
+    let e = operand_parts c o.right y ++ text_part o.back in
+    omega (arith, h, length-append a (b ++ (d ++ e)), length-append b (d ++ e), length-append d e, length-append (operand_parts c o.right y) (text_part o.back), operand_few c o.left x, operand_few c o.right y)
 
 left_few : (d : Detail) (c : Context) (t : Term) → HasFew 7 (left_parts d c t)
 unfolding left_parts printed

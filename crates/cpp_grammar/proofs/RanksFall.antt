@@ -11,7 +11,8 @@ use Rattle.cpp_grammar.specs.Scope.{element, arguments_of, pack_length, without_
 use Rattle.cpp_grammar.specs.Items.{Form, root, full, bare, left, right, low, base, piece, first, more, expand, Context, Item, indexed, auto, signature_in, argument, head, is_reference, is_funarr, packs_of, is_empty}
 use Rattle.cpp_grammar.specs.Parts.{as_item, says, text_part, list_part, piece_parts, prefix_item, within_parts, instance_parts, marked_parts, reference_parts, qualified_left, blank_last, qualifier_text, expansion_parts, sign_part, is_plain_integer, integer_parts, builtin_code, member_parts, array_left, entity_of, float_parts, precedence_of, operand_parts, operation_parts, printed, left_parts, low_parts, function_right, ref_text, closing_right, qualified_right, right_parts, base_within, base_tagged, base_parts, types_of, encoding_text, function_bare, function_full, full_parts, bare_parts, root_parts, first_parts, more_parts, at_index, is_below, comma_before, expand_rest, expand_parts, parts_in, not_empty, parts, own_piece}
 use Rattle.cpp_grammar.specs.Ranks.{or_none, pack_count, weight, scope_weight, weight_in, rank_in, rank}
-use Rattle.cpp_grammar.specs.Operations.{Operand, not_printed, as_it_is, as_type, as_list, from_precedence, Operation}
+use Rattle.cpp_grammar.specs.declared.operand.Operand.{Operand}
+use Rattle.cpp_grammar.specs.Operations.{Operation}
 use Rattle.cpp_grammar.specs.Texts.{look_up, literal_endings}
 
 -- ## Lists of parts
@@ -198,22 +199,18 @@ float_falls r digits end = falls_choice r (nat_eq end 98) _ _ tt (falls_choice r
 
 operand_falls : (r : ℕ) (c : Context) (o : Operand) (t : Term) → Below r c t → RanksBelow rank r (operand_parts c o t)
 unfolding operand_parts rank rank_in
-operand_falls r c not_printed t h = tt
-operand_falls r c as_it_is t h = (h, tt)
-operand_falls r c as_type t h = (h, (h, tt))
-operand_falls r c as_list t h = falls_first r c t h
-operand_falls r c (from_precedence least) t h = falls_choice r (nat_le least (precedence_of t)) _ _ (h, tt) (h, tt)
+operand_falls r c Operand.NotPrinted t h = tt
+operand_falls r c Operand.AsItIs t h = (h, tt)
+operand_falls r c Operand.AsType t h = (h, (h, tt))
+operand_falls r c Operand.AsList t h = falls_first r c t h
+operand_falls r c (Operand.From least) t h = falls_choice r (nat_le least (precedence_of t)) _ _ (h, tt) (h, tt)
 
 operation_falls : (r : ℕ) (c : Context) (o : Operation) (x y : Term) → Below r c x → Below r c y → RanksBelow rank r (operation_parts c o x y)
 unfolding operation_parts
 operation_falls r c o x y h g =
-    let a = text_part o.front in
-    let b = operand_parts c o.left x in
-    let d = text_part o.between in
-    let e = operand_parts c o.right y in
-    falls_append r (a ++ b ++ d ++ e) (text_part o.back)
-    (falls_append r (a ++ b ++ d) e
-    (falls_append r (a ++ b) d (falls_append r a b (falls_text r o.front) (operand_falls r c o.left x h)) (falls_text r o.between)) (operand_falls r c o.right y g)) (falls_text r o.back)
+    falls_append r (text_part o.front) _ (falls_text r o.front)
+    (falls_append r (operand_parts c o.left x) _ (operand_falls r c o.left x h)
+    (falls_append r (text_part o.between) _ (falls_text r o.between) (falls_append r (operand_parts c o.right y) _ (operand_falls r c o.right y g) (falls_text r o.back))))
 
 -- the entity of a local name weighs no more than what it is in
 entity_weight : (c : Context) (entity : Term) → weight_in c (entity_of entity) ≤ weight_in c entity

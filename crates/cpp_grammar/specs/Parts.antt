@@ -1,11 +1,12 @@
 -- The parts of what is printed: each item of a C++ tree has at most eight, texts that aren't empty and further items.
-use Rattle.std.specs.Prelude.{ℕ, zero, suc, ◌+◌, List, [], ◌∷◌, ◌++◌, drop, Bool, true, false, cond, ◌||◌, ◌&&◌, nat_eq, nat_le, nat_lt, Option, Some, None, codes, decimal}
+use Rattle.std.specs.Prelude.{ℕ, zero, suc, ◌+◌, List, [], ◌∷◌, ◌++◌, length, drop, Bool, true, false, cond, ◌||◌, ◌&&◌, nat_eq, nat_le, nat_lt, Option, Some, None, codes, decimal}
 use Prim.Native.String.{String}
 use Rattle.sym_print.specs.declared.detail.Detail.{Detail}
 use Rattle.sym_print.specs.Details.{has_arguments, has_parameters}
 use Rattle.sym_print.specs.Unfold.{PartOf, text, sub}
 use Rattle.cpp_grammar.specs.Texts.{same_bytes, look_up, builtin_texts, operator_texts, abbreviation_texts, special_texts, named_special_texts, literal_endings}
-use Rattle.cpp_grammar.specs.Operations.{UNARY, PRIMARY, Operand, not_printed, as_it_is, as_type, as_list, from_precedence, Operation, operations, operation_of_code}
+use Rattle.cpp_grammar.specs.declared.operand.Operand.{Operand}
+use Rattle.cpp_grammar.specs.Operations.{UNARY, PRIMARY, Operation, operations, operation_of_code}
 use Rattle.cpp_grammar.specs.Term.{Qualifiers, RefQualifier, any_value, lvalue_only, rvalue_only, Signed, non_virtual, by_table, Thunk, adjusting, covariant, Term, symbol, function, object, special, thunk, of_name, construction, clone, alone, in_std, within, instance, local, holder, tagged, of_default, abbreviation, parameter, source, operator, literal_operator, constructor, destructor, inheriting, lambda, generic_lambda, unnamed, string_literal, conversion, builtin, sized_float, constrained, vendor, pointer, lvalue, rvalue, array, bounded, member_pointer, function_type, qualified, vector, complex, decltype, expansion, integer, boolean, null_pointer, encoding_literal, address_of, operation, function_parameter, pack, nil, list, absent}
 use Rattle.cpp_grammar.specs.Scope.{arguments_of, without_tags}
 use Rattle.cpp_grammar.specs.Items.{Form, root, full, bare, left, right, low, base, piece, first, more, expand, Context, Item, closed, signature_in, argument, head, is_reference, is_funarr, packs_of, is_empty}
@@ -170,7 +171,7 @@ placeholder_text letter = elim (nat_eq letter 107) [ true ↦ codes " auto" | fa
 
 -- what isn't in the table prints nothing
 abbrev pub no_operation : Operation
-no_operation = record { code = []; precedence = PRIMARY; front = []; left = not_printed; between = []; right = not_printed; back = [] }
+no_operation = record { code = []; precedence = PRIMARY; front = []; left = Operand.NotPrinted; between = []; right = Operand.NotPrinted; back = [] }
 
 -- how the operation of two letters is printed
 unfoldable pub printed : (a b : ℕ) → Operation
@@ -183,18 +184,29 @@ precedence_of (address_of e) = UNARY
 precedence_of _ = PRIMARY
 
 unfoldable pub operand_parts : Context → Operand → Term → List (PartOf Item)
-operand_parts context not_printed t = []
-operand_parts context as_it_is t = as_item left context t ∷ []
-operand_parts context as_type t = as_item left context t ∷ as_item right context t ∷ []
-operand_parts context as_list t = list_part first context t
-operand_parts context (from_precedence least) t = elim (nat_le least (precedence_of t)) [
+operand_parts context Operand.NotPrinted t = []
+operand_parts context Operand.AsItIs t = as_item left context t ∷ []
+operand_parts context Operand.AsType t = as_item left context t ∷ as_item right context t ∷ []
+operand_parts context Operand.AsList t = list_part first context t
+operand_parts context (Operand.From least) t = elim (nat_le least (precedence_of t)) [
   | true ↦ says "(" ∷ as_item left context t ∷ says ")" ∷ []
   | false ↦ as_item left context t ∷ []
 ]
 
 unfoldable pub operation_parts : Context → Operation → Term → Term → List (PartOf Item)
 operation_parts context o x y =
-    text_part o.front ++ operand_parts context o.left x ++ text_part o.between ++ operand_parts context o.right y ++ text_part o.back
+    text_part o.front ++ (operand_parts context o.left x ++ (text_part o.between ++ (operand_parts context o.right y ++ text_part o.back)))
+
+-- how many parts an operand has at most, and an operation
+abbrev pub most_parts : Operand → ℕ
+most_parts Operand.NotPrinted = 0
+most_parts Operand.AsItIs = 1
+most_parts Operand.AsType = 2
+most_parts Operand.AsList = 1
+most_parts (Operand.From least) = 3
+
+abbrev pub most_of : Operation → ℕ
+most_of o = length (text_part o.front) + most_parts o.left + length (text_part o.between) + most_parts o.right + length (text_part o.back)
 
 -- the entity of a local name; in which default argument it is isn't printed
 unfoldable pub entity_of : Term → Term

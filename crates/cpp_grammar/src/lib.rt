@@ -4,6 +4,7 @@
 mod abi;
 mod kind;
 mod laws;
+pub mod operand;
 pub mod production;
 mod table;
 mod wide;

@@ -1,10 +1,11 @@
 -- The texts of codes, by their numbers.
-use Rattle.std.proofs.Common.{◌≡◌, refl, sym, ◌∙◌, ap, arith, ℕ, zero, suc, ◌+◌, ◌<◌, List, [], ◌∷◌, ◌++◌, length, slice_get, ◌*◌, Bool, true, false, nat_eq, nat_lt, ◌&&◌, ◌||◌, codes, Some, None, inl, inr}
+use Rattle.std.proofs.Common.{◌≡◌, refl, sym, ◌∙◌, ap, arith, ℕ, zero, suc, ◌+◌, ◌<◌, ◌≤◌, List, [], ◌∷◌, ◌++◌, length, slice_get, ◌*◌, Bool, true, false, nat_eq, nat_lt, ◌&&◌, ◌||◌, codes, Some, None, inl, inr}
 use Rattle.std.proofs.lemmas.Bool.{eqb-true, ltb-true}
 use Rattle.std.proofs.lemmas.Bool.Decides.{eqb_tells}
+use Rattle.std.proofs.lemmas.Option.{slice_get_past}
 use Rattle.cpp_grammar.specs.Texts.{Naming, same_bytes, look_up, builtin_texts, operator_texts, abbreviation_texts, special_texts, named_special_texts, literal_endings}
 use Rattle.cpp_layout.proofs.CodeLetters.{builtin_letters, d_letters, abbreviation_letters, special_letters, named_special_letters, ending_letters}
-use Rattle.cpp_layout.specs.Texts.{fixed_text, operator_letter, operator_code}
+use Rattle.cpp_layout.specs.Texts.{fixed_text, texts, operator_letter, operator_code}
 use Rattle.cpp_layout.specs.declared.texts.TheConstants.{COUNT, NONE, OPERATOR, OPERATORS, OPERATOR_ALONE}
 
 abbrev all_below : (ℕ → Bool) → ℕ → Bool
@@ -48,6 +49,11 @@ same_bytes_sound (x ∷ xs) [] e = cc e
 pub some_text : (n : ℕ) → n < COUNT → nat_eq n NONE ≡ false → 0 < length (fixed_text n)
 unfolding builtin_texts operator_texts abbreviation_texts special_texts named_special_texts literal_endings
 some_text n less other = ltb-true 0 (length (fixed_text n)) (or-second _ _ (holds_below (λ m. nat_eq m NONE || nat_lt 0 (length (fixed_text m))) COUNT n refl less) other)
+
+-- and past the last one there is none
+pub past_last : (n : ℕ) → COUNT ≤ n → [] ≡ fixed_text n
+unfolding builtin_texts operator_texts abbreviation_texts special_texts named_special_texts literal_endings
+past_last n past = rw (slice_get_past texts n past) refl
 
 abbrev pub any_of : List ℕ → ℕ → Bool
 any_of [] l = false

@@ -1,34 +1,35 @@
 -- The operations of code are those of the table.
-use Rattle.std.proofs.Common.{◌≡◌, refl, sym, ap, ◌∙◌, subst, arith, append-nil, append_assoc, ℕ, ◌+◌, ◌*◌, ◌<◌, List, [], ◌∷◌, ◌++◌, length, Bool, true, false, nat_eq, ◌||◌, Option, Some, None}
+use Rattle.std.proofs.Common.{◌≡◌, refl, sym, ap, ◌∙◌, subst, arith, append-nil, ℕ, ◌+◌, ◌*◌, ◌<◌, List, [], ◌∷◌, ◌++◌, length, Bool, true, false, nat_eq, ◌||◌, Some, None}
 use Rattle.std.specs.Prelude.{nat_le}
 use Rattle.std.proofs.lemmas.Bool.{true≢false, eq-eqb, or_parts}
 use Rattle.cpp_grammar.specs.Texts.{same_bytes}
 use Rattle.cpp_grammar.specs.Operations as table
-use Rattle.cpp_grammar.specs.Operations.{operations, operation_of_code, from_precedence}
+use Rattle.cpp_grammar.specs.declared.operand.Operand.{Operand}
+use Rattle.cpp_grammar.specs.Operations.{operations, operation_of_code}
 use Rattle.cpp_grammar.specs.Items as heads
 use Rattle.cpp_grammar.specs.Parts.{printed, no_operation}
+use Rattle.cpp_grammar.proofs.Chosen.{either}
 use Rattle.cpp_layout.specs.declared.operation_rows.Operation.{Operation}
-use Rattle.cpp_layout.specs.Operations.{IsOperation, operand_of}
+use Rattle.cpp_layout.specs.Operations.{with_code}
 use Rattle.cpp_layout.proofs.Coding.{same_bytes_sound}
 use Rattle.sym_print.specs.Unfold.{PartOf}
 use Rattle.cpp_term.specs.Items as items
-use Rattle.cpp_term.specs.Term.{Term, operation}
-use Rattle.cpp_term.specs.Reargued.{reargued}
+use Rattle.cpp_term.specs.Term.{Term}
 use Rattle.cpp_term.specs.Parts.{text_part, as_item, says, precedence_of, operand_parts, operation_parts}
-use Rattle.cpp_tree.specs.declared.node.Node.{Node}
-use Rattle.cpp_tree.specs.declared.node.Thunk.{Thunk}
-use Rattle.cpp_tree.specs.Nodes.{trees, tree_if_there, tree_of, is_again}
-use Rattle.cpp_layout.specs.declared.context.Context.{Context}
 use Rattle.cpp_layout.specs.Texts.{fixed_text}
 use Rattle.cpp_layout.specs.declared.texts.TheConstants.{LEFT, RIGHT}
-use Rattle.cpp_layout.specs.Layout.{ReadSymbol, table_of, text_if, tree_shown, node_shown}
+use Rattle.cpp_layout.specs.Layout.{text_if}
+
+-- an operation of code is this one of the table
+abbrev Is : Operation → table.Operation → Type 0
+Is r o = with_code o.code r ≡ o
 
 -- of the same two letters
-pub printed-by : (a b c d : ℕ) (r : Operation) → b < 256 → d < 256 → a * 256 + b ≡ c * 256 + d → IsOperation r (printed c d) → IsOperation r (printed a b)
+pub printed-by : (a b c d : ℕ) (r : Operation) → b < 256 → d < 256 → a * 256 + b ≡ c * 256 + d → Is r (printed c d) → Is r (printed a b)
 printed-by a b c d r less more same is =
     let e : c ≡ a = omega (arith, less, more, same) in
     let f : d ≡ b = omega (arith, less, more, same) in
-    subst (λ x. IsOperation r (printed a x)) f (subst (λ x. IsOperation r (printed x d)) e is)
+    subst (λ x. Is r (printed a x)) f (subst (λ x. Is r (printed x d)) e is)
 
 -- a code as one number
 abbrev number_of : List ℕ → ℕ
@@ -47,16 +48,12 @@ unfolding operation_of_code
 none-of a b [] e = refl
 none-of a b (o ∷ os) e =
     let others = or_parts (nat_eq (a * 256 + b) (number_of o.code)) (any_number os (a * 256 + b)) e in
-    go (none-of a b os others.1) (same_bytes (a ∷ b ∷ []) o.code) (apart a b o others.0)
-  where
-    go : operation_of_code (a ∷ b ∷ []) os ≡ None → (s : Bool) → (s ≡ true → ⊥) → elim s as (λ _. Option table.Operation) [ true ↦ Some o | false ↦ operation_of_code (a ∷ b ∷ []) os ] ≡ None
-    go rest false not = rest
-    go rest true not = absurd (not refl)
+    either (λ found. found ≡ None) (same_bytes (a ∷ b ∷ []) o.code) (Some o) (operation_of_code (a ∷ b ∷ []) os) (λ is. absurd (apart a b o others.0 is)) (λ is. none-of a b os others.1)
 
 -- what has none of the codes
-pub none-printed : (a b : ℕ) (r : Operation) → any_number operations (a * 256 + b) ≡ false → IsOperation r no_operation → IsOperation r (printed a b)
+pub none-printed : (a b : ℕ) (r : Operation) → any_number operations (a * 256 + b) ≡ false → Is r no_operation → Is r (printed a b)
 unfolding printed
-none-printed a b r e is = subst (λ o. IsOperation r (elim o [ Some p ↦ p | None ↦ no_operation ])) (sym (none-of a b operations e)) is
+none-printed a b r e is = subst (λ o. Is r (elim o [ Some p ↦ p | None ↦ no_operation ])) (sym (none-of a b operations e)) is
 
 -- ## Parts
 
@@ -65,53 +62,24 @@ unfolding text_part
 one-part [] some = absurd (omega (arith, some))
 one-part (x ∷ xs) some = refl
 
-pub precedence-none : (s : List ℕ) (us : List Thunk) (ts : List Term) (n : Node) → is_again n ≡ false → ((a b x y : ℕ) → n ≡ Node.Operation a b x y → ⊥) → ((e : ℕ) → n ≡ Node.AddressOf e → ⊥) → 0 ≡ precedence_of (tree_of s us ts n)
-unfolding tree_of precedence_of is_again
-precedence-none s us ts (Node.Operation a b x y) flat h1 h2 = absurd (h1 a b x y refl)
-precedence-none s us ts (Node.AddressOf e) flat h1 h2 = absurd (h2 e refl)
-precedence-none s us ts (Node.Reargued x z) flat h1 h2 = absurd (true≢false flat)
-precedence-none s us ts _ flat h1 h2 = refl
-
 -- ## Operands
 
--- what is asked of an operand is read from its own tree, not through a parameter's argument
-pub own-precedence : (given : Option Term) (t : Term) → precedence_of (reargued given t) ≡ precedence_of t
-unfolding precedence_of reargued
-own-precedence given (operation a b x y) = refl
-own-precedence given _ = refl
-
-pub asked-of : (y : ReadSymbol) (place ctx : Context) (at node : ℕ) (n : Node) (p : ℕ) → tree_shown y place at ≡ tree_shown y ctx node → tree_shown y place at ≡ node_shown y place n → is_again n ≡ false
-    → ((s : List ℕ) (us : List Thunk) (ts : List Term) → is_again n ≡ false → p ≡ precedence_of (tree_of s us ts n)) → precedence_of (tree_shown y ctx node) ≡ p
-asked-of y place ctx at node n p moved stored flat own =
-    ap precedence_of (sym moved ∙ stored) ∙ own-precedence (tree_if_there (trees (table_of y)) place.argument) (tree_of y.bytes y.table.thunks (trees (table_of y)) n)
-    ∙ sym (own y.bytes y.table.thunks (trees (table_of y)) flat)
-
--- an operand as it is, or in parentheses
-from_parts : items.Context → Term → Bool → List (PartOf items.Item)
-from_parts c t enclosed = elim enclosed [ true ↦ says "(" ∷ as_item heads.left c t ∷ says ")" ∷ [] | false ↦ as_item heads.left c t ∷ [] ]
-
--- by its precedence
-pub enclosed-by : (c : items.Context) (least p : ℕ) (t : Term) (others : List (PartOf items.Item)) → precedence_of t ≡ p
-    → text_if (nat_le least p) (fixed_text LEFT) (as_item heads.left c t ∷ text_if (nat_le least p) (fixed_text RIGHT) others) ≡ operand_parts c (from_precedence least) t ++ others
-unfolding operand_parts from_parts
-enclosed-by c least p t others asked =
-    subst (λ q. text_if (nat_le least q) (fixed_text LEFT) (as_item heads.left c t ∷ text_if (nat_le least q) (fixed_text RIGHT) others) ≡ operand_parts c (from_precedence least) t ++ others)
-    asked (by (nat_le least (precedence_of t)))
+-- an operand as it is, or in parentheses, by its precedence
+pub enclosed-by : (c : items.Context) (least p : ℕ) (t : Term) (others : List (PartOf items.Item)) → p ≡ precedence_of t
+    → text_if (nat_le least p) (fixed_text LEFT) (as_item heads.left c t ∷ text_if (nat_le least p) (fixed_text RIGHT) others) ≡ operand_parts c (Operand.From least) t ++ others
+unfolding operand_parts
+enclosed-by c least p t others asked = rw asked (by (nat_le least (precedence_of t)))
   where
-    by : (b : Bool) → text_if b (fixed_text LEFT) (as_item heads.left c t ∷ text_if b (fixed_text RIGHT) others) ≡ from_parts c t b ++ others
+    by : (b : Bool) → text_if b (fixed_text LEFT) (as_item heads.left c t ∷ text_if b (fixed_text RIGHT) others)
+        ≡ elim b as (λ _. List (PartOf items.Item)) [ true ↦ says "(" ∷ as_item heads.left c t ∷ says ")" ∷ [] | false ↦ as_item heads.left c t ∷ [] ] ++ others
     by true = refl
     by false = refl
 
 -- ## An operation's parts one after the other
 
-pub joined : (a b c d e : List (PartOf items.Item)) → a ++ (b ++ (c ++ (d ++ (e ++ [])))) ≡ a ++ b ++ c ++ d ++ e
-joined a b c d e =
-    ap (λ x. a ++ (b ++ (c ++ (d ++ x)))) (append-nil e)
-    ∙ sym (append_assoc a b (c ++ (d ++ e))) ∙ sym (append_assoc (a ++ b) c (d ++ e)) ∙ sym (append_assoc (a ++ b ++ c) d e)
-
-pub same-operation : (c : items.Context) (o : Operation) (p : table.Operation) (t u : Term) → IsOperation o p
-    → text_part (fixed_text o.front) ++ (operand_parts c (operand_of o.left) t ++ (text_part (fixed_text o.between) ++ (operand_parts c (operand_of o.right) u ++ (text_part (fixed_text o.back) ++ [])))) ≡ operation_parts c p t u
+pub operation-whole : (c : items.Context) (o : Operation) (p : table.Operation) (t u : Term) → with_code p.code o ≡ p
+    → text_part (fixed_text o.front) ++ (operand_parts c o.left t ++ (text_part (fixed_text o.between) ++ (operand_parts c o.right u ++ (text_part (fixed_text o.back) ++ [])))) ≡ operation_parts c p t u
 unfolding operation_parts
-same-operation c o p t u is =
-    joined (text_part (fixed_text o.front)) (operand_parts c (operand_of o.left) t) (text_part (fixed_text o.between)) (operand_parts c (operand_of o.right) u) (text_part (fixed_text o.back))
-    ∙ rw (is.front, is.left, is.between, is.right, is.back) refl
+operation-whole c o p t u is =
+    ap (λ l. text_part (fixed_text o.front) ++ (operand_parts c o.left t ++ (text_part (fixed_text o.between) ++ (operand_parts c o.right u ++ l)))) (append-nil (text_part (fixed_text o.back)))
+    ∙ ap (λ o. operation_parts c o t u) is

@@ -7,7 +7,7 @@ use Rattle.cpp_grammar.specs.Items as heads
 use Rattle.cpp_term.specs.Items as items
 use Rattle.cpp_term.specs.Term.{Term}
 use Rattle.cpp_term.specs.Reargued.{reargued}
-use Rattle.cpp_term.specs.Parts.{as_item, prefix_item, left_parts, low_parts, base_parts, right_parts, own_piece, piece_parts, first_parts, more_parts, full_parts, bare_parts, root_parts, opening_text, last_piece}
+use Rattle.cpp_term.specs.Parts.{as_item, prefix_item, left_parts, low_parts, base_parts, right_parts, own_piece, piece_parts, first_parts, more_parts, full_parts, bare_parts, root_parts, opening_text, last_piece, precedence_of}
 use Rattle.cpp_tree.specs.Nodes.{tree_of, is_again, is_encoding}
 use Rattle.cpp_tree.specs.declared.node.Node.{Node}
 use Rattle.cpp_tree.specs.declared.node.Piece.{Piece}
@@ -212,6 +212,21 @@ last-none s us ts given n flat t is other = subst (λ u. fixed_text LESS ≡ ope
     by (Node.Alone x0) flat other = absurd (other.not_alone x0 refl)
     by (Node.InStd x0) flat other = absurd (other.not_instd x0 refl)
     by (Node.Within x0 x1) flat other = absurd (other.not_within x0 x1 refl)
+    by (Node.Reargued x z) flat other = absurd (true≢false flat)
+    by _ flat other = refl
+
+-- a node for which precedence has no arm
+pub record IsOtherPrecedence (n : Node) : Type 0 where
+  pub not_operation : (x0 : ℕ) (x1 : ℕ) (x2 : ℕ) (x3 : ℕ) → n ≡ Node.Operation x0 x1 x2 x3 → ⊥
+  pub not_addressof : (x0 : ℕ) → n ≡ Node.AddressOf x0 → ⊥
+
+pub precedence-none : (s : List ℕ) (us : List Thunk) (ts : List Term) (given : Option Term) (n : Node) (flat : is_again n ≡ false) (t : Term) → t ≡ reargued given (tree_of s us ts n) → IsOtherPrecedence n → 0 ≡ precedence_of t
+unfolding tree_of precedence_of reargued is_again
+precedence-none s us ts given n flat t is other = subst (λ u. 0 ≡ precedence_of u) (sym is) (by n flat other)
+  where
+    by : (n : Node) → is_again n ≡ false → IsOtherPrecedence n → 0 ≡ precedence_of (reargued given (tree_of s us ts n))
+    by (Node.Operation x0 x1 x2 x3) flat other = absurd (other.not_operation x0 x1 x2 x3 refl)
+    by (Node.AddressOf x0) flat other = absurd (other.not_addressof x0 refl)
     by (Node.Reargued x z) flat other = absurd (true≢false flat)
     by _ flat other = refl
 

@@ -9,7 +9,6 @@ ghost use Rattle.cpp_layout.specs.Layout.{table_of, context_of, Shows, IsNoName,
 use crate::codes::placeholder;
 use crate::context::Context;
 use crate::numbered::{abbreviation, builtin, builtin_with_d, last_of_abbreviation};
-use crate::operation_rows::operation_of;
 use crate::symbol::Symbol;
 use crate::{form, texts};
 use cpp_tree::node::Node;
@@ -73,11 +72,8 @@ impl Symbol {
                 second,
                 left,
                 right,
-            } => self.fill_operation(parts, operation_of(first, second), left, right, ctx),
-            Node::FunctionParameter(digits) => {
-                self.push_bytes(parts, digits);
-                self.push_text(parts, texts::FUNCTION_PARAMETER);
-            }
+            } => self.fill_operation(parts, first, second, left, right, ctx),
+            Node::FunctionParameter(digits) => self.fill_function_parameter(parts, digits, ctx),
             _ => {}
         }
     }

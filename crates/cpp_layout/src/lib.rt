@@ -1,17 +1,16 @@
 //! How C++ symbols are shown: their nodes as items, and the parts of these.
 #![tactic(auto)]
 
+mod arguments;
 mod codes;
 pub mod context;
 mod encodings;
 mod form;
 mod left;
 mod lists;
-mod literals;
 mod names;
 mod numbered;
 mod operation_rows;
-mod operations;
 mod parts;
 mod print;
 mod printed;

@@ -6,13 +6,15 @@ ghost use Rattle.sym_print.specs.Held.{Held};
 ghost use Rattle.sym_print.specs.Unfold.{PartOf, text, sub};
 ghost use Rattle.sym_print.specs.declared.detail.Detail.{Detail};
 ghost use Rattle.cpp_term.specs.Items as items;
-ghost use Rattle.cpp_term.specs.Parts.{list_part};
+ghost use Rattle.cpp_term.specs.Parts.{list_part, text_part};
 ghost use Rattle.cpp_tree.specs.Nodes.{tree_at, trees, under_kept, IsTable, bytes_at, IsWithin, IsThereBelow};
 ghost use Rattle.cpp_layout.specs.Texts.{fixed_text};
+ghost use Rattle.cpp_layout.specs.declared.texts.TheConstants.{COUNT};
 ghost use Rattle.cpp_layout.specs.Layout.{table_of, item_in, form_of, tree_in, context_of, text_if, Shows, tree_shown, type_shown};
 
 use crate::context::Context;
 use crate::symbol::Symbol;
+use crate::texts;
 use cpp_tree::node::Node;
 use sym_core::Span;
 use sym_print::{Detail, Item, Part, PartList};
@@ -88,6 +90,20 @@ impl Symbol {
         ensures room { S.room parts.old ≤ S.room parts.new + 1 }
     {
         if test {
+            self.push_text(parts, number);
+        }
+    }
+
+    /// Adds the text of a number, if it has one.
+    #[inline(always)]
+    pub(crate) fn push_own_text<S: PartList<Context>>(&self, parts: &mut S, number: u16)
+        requires room { length (text_part (fixed_text number)) ≤ S.room parts.old }
+        requires few { number < COUNT }
+        ensures shows { (d : Detail) (below : Held Context) (others : List (PartOf items.Item)) → Shows self.now d below (S.held parts.old) others
+            → Shows self.now d below (S.held parts.new) (text_part (fixed_text number) ++ others) }
+        ensures room { S.room parts.old ≤ S.room parts.new + length (text_part (fixed_text number)) }
+    {
+        if number != texts::NONE {
             self.push_text(parts, number);
         }
     }

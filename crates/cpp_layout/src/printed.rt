@@ -3,9 +3,9 @@
 
 ghost use Rattle.std.specs.Prelude.{◌≡◌, ◌+◌, ◌<◌, ◌≤◌, ◌++◌, ◌∷◌, [], length, false};
 ghost use Rattle.sym_print.specs.Unfold.{text, sub};
-ghost use Rattle.cpp_grammar.specs.Parts.{encoding_text, clone_text, qualifier_text};
+ghost use Rattle.cpp_grammar.specs.Parts.{encoding_text, clone_text, qualifier_text, printed};
 ghost use Rattle.cpp_grammar.specs.Texts.{look_up, special_texts, named_special_texts, literal_endings};
-ghost use Rattle.cpp_term.specs.Parts.{as_item, says, text_part, own_piece, piece_parts, prefix_item, construction_parts, root_parts, left_parts, right_parts, member_parts, array_left, closing_right, function_right, sign_part};
+ghost use Rattle.cpp_term.specs.Parts.{as_item, says, text_part, own_piece, piece_parts, prefix_item, construction_parts, root_parts, left_parts, right_parts, member_parts, array_left, closing_right, function_right, sign_part, operation_parts};
 ghost use Rattle.cpp_tree.specs.Nodes.{is_again, entry_at, tree_at, trees, IsTable, IsWithin, IsThereBelow, bytes_at, qualifiers_of, mark_of, signed_of};
 ghost use Rattle.cpp_layout.specs.Texts.{fixed_text};
 ghost use Rattle.cpp_layout.specs.declared.texts.TheConstants.{AND, COLONS, RIGHT_BRACKET, STD, TAG};
@@ -16,6 +16,7 @@ ghost use Rattle.cpp_term.specs.Term as term;
 
 use crate::context::Context;
 use crate::numbered::{ending, named_special, special};
+use crate::operation_rows::operation_of;
 use crate::symbol::Symbol;
 use crate::{form, texts};
 use cpp_tree::node::{Mark, Qualifiers, Signed};
@@ -535,6 +536,50 @@ impl Symbol {
     {
         self.push_closed(parts, encoding, form::BARE, ctx.detail);
         self.push_text_if(parts, address, texts::AND);
+    }
+
+    /// The parts of an operation.
+    pub(crate) fn fill_operation<S: PartList<Context>>(
+        &self,
+        parts: &mut S,
+        first: u8,
+        second: u8,
+        left: u32,
+        right: u32,
+        ctx: Context,
+    )
+        requires context { IsThereBelow (length self.now.table.nodes) ctx.argument }
+        requires table { IsTable (table_of self.now) }
+        requires left { left < length self.now.table.nodes }
+        requires right { right < length self.now.table.nodes }
+        requires room { 8 ≤ S.room parts.old }
+        ensures shows { Shows self.now ctx.detail (S.held parts.old) (S.held parts.new) (operation_parts (context_of ctx) (printed first second) (tree_shown self.now ctx left) (tree_shown self.now ctx right)) }
+        ensures few { S.room parts.old ≤ S.room parts.new + 8 }
+    {
+        let operation = operation_of(first, second);
+        self.push_own_text(parts, operation.back);
+        self.fill_operand(parts, operation.right, right, ctx);
+        self.push_own_text(parts, operation.between);
+        self.fill_operand(parts, operation.left, left, ctx);
+        self.push_own_text(parts, operation.front);
+    }
+
+    /// A parameter of the function in whose types an expression is.
+    // <function-param> ::= fp [ <parameter-2 number> ] _ | fL <L-1 number> p [ <parameter-2 number> ] _
+    pub(crate) fn fill_function_parameter<S: PartList<Context>>(
+        &self,
+        parts: &mut S,
+        digits: Span,
+        ctx: Context,
+    )
+        requires context { IsThereBelow (length self.now.table.nodes) ctx.argument }
+        requires digits { IsWithin digits self.now.bytes }
+        requires room { 8 ≤ S.room parts.old }
+        ensures shows { Shows self.now ctx.detail (S.held parts.old) (S.held parts.new) (says "fp" ∷ text_part (bytes_at self.now.bytes digits)) }
+        ensures few { S.room parts.old ≤ S.room parts.new + 8 }
+    {
+        self.push_bytes(parts, digits);
+        self.push_text(parts, texts::FUNCTION_PARAMETER);
     }
 
     /// The parts of the type of an expression.

@@ -2,10 +2,15 @@
 use Rattle.std.proofs.Common.{◌≡◌, refl, ap, sym, ◌∙◌, arith, ℕ, zero, suc, ◌+◌, ◌-◌, ◌<◌, ◌≤◌, List, [], ◌∷◌, ◌++◌, length, Bool, true, false, ◌||◌, Some, None}
 use Rattle.std.specs.Prelude.{slice_get}
 use Rattle.cpp_term.specs.Term.{Term}
-use Rattle.cpp_term.specs.Rescoping.{has_held}
+use Rattle.cpp_term.specs.References.{appended}
+use Rattle.cpp_term.specs.Rescoping.{with_holder, has_held}
 use Rattle.cpp_term.specs.Values as values
+use Rattle.cpp_term.specs.Values.{State}
+use Rattle.cpp_tree.specs.Nodes.{tree_at}
+use Rattle.cpp_references.specs.declared.around.Surroundings.{Surroundings}
 use Rattle.cpp_references.specs.declared.candidates.Candidate.{Candidate}
-use Rattle.cpp_link.specs.Parts.{candidate_of, candidates_of, is_apart_behind, AreNodesThere, AreCounted, AreCandidatesThere}
+use Rattle.cpp_link.specs.Parts.{is_lambda, around_of, candidate_of, candidates_of, is_apart_behind, AreNodesThere, AreCounted, AreCandidatesThere}
+use Rattle.cpp_link.specs.Reads.{with_candidate}
 
 pub candidates_push : (ts : List Term) (cs : List Candidate) (c : Candidate) → candidates_of ts (cs ++ c ∷ []) ≡ candidates_of ts cs ++ candidate_of ts c ∷ []
 candidates_push ts [] c = refl
@@ -22,6 +27,18 @@ counted_push before (d ∷ cs) c counted apart = (counted.0, counted_push (befor
 
 pub there_push : (n : ℕ) (cs : List Candidate) (c : Candidate) → AreCandidatesThere n cs → c.node < n → c.is_apart ≡ is_apart_behind false cs → AreCandidatesThere n (cs ++ c ∷ [])
 there_push n cs c there below apart = (nodes_push n cs c there.0 below, counted_push false cs c there.1 apart)
+
+-- one that is named, and none
+pub one_noted : (h : Bool) (ts : List Term) (kept : Surroundings) (node : ℕ) (before : State) → with_candidate h (around_of ts kept) ts (Some node) before
+    ≡ record before { candidates = before.candidates ++ record { tree = tree_at ts node; encoding = kept.encoding; in_lambda = is_lambda kept.scope; is_held = h } ∷ [] }
+unfolding with_candidate appended with_holder around_of
+one_noted false ts kept node before = refl
+one_noted true ts kept node before = refl
+
+pub none_noted : (h : Bool) (ts : List Term) (kept : Surroundings) (before : State) → with_candidate h (around_of ts kept) ts None before ≡ before
+unfolding with_candidate
+none_noted false ts kept before = refl
+none_noted true ts kept before = refl
 
 pub past_all : (cs : List Candidate) (k : ℕ) → slice_get cs k ≡ None → length cs ≤ k
 past_all [] k is = omega arith

@@ -26,7 +26,7 @@ use Rattle.cpp_link.specs.NodeCount.{one_if_there, one_if_arguments}
 use Rattle.cpp_link.specs.RowNodes.{nodes_made, nodes_before, nodes_of, nodes_at_end}
 use Rattle.cpp_grammar.proofs.ClosedStates.{behind_bind}
 use Rattle.cpp_link.proofs.CandidatesFew as few_
-use Rattle.cpp_link.proofs.CandidatesFew.{is_component, becomes_candidate, goes_on, is_arguments, in_place, behind_name, pending, pending_around, makes_name, may_leave, takes_name, begins_arguments, leaves, starts_with, takes_pending, take_nothing, keeps, all_keep, closes_by_row, Onward, Flow, RowFlow, By, going, appended-one, typed-one, unqualified-one, prefix-one, substituted-none, parameter-one, came, none-appended, plain-flow, of-row, there-or-not, spent-or-not, rest-step}
+use Rattle.cpp_link.proofs.CandidatesFew.{is_component, becomes_candidate, goes_on, is_arguments, in_place, behind_name, pending, pending_around, makes_name, may_leave, takes_name, begins_arguments, leaves, starts_with, takes_pending, take_nothing, keeps, all_keep, closes_by_row, Flow, RowFlow, By, going, appended-one, typed-one, unqualified-one, prefix-one, substituted-none, parameter-one, came, none-appended, plain-flow, of-row, there-or-not, spent-or-not, rest-step}
 
 abbrev plain : Form → Gain → Row
 plain form gain = record { before = []; onward = quiet; form = form; gain = gain; restores_packs = false; tests_number = false }

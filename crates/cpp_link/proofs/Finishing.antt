@@ -1,5 +1,5 @@
 -- A rule closes as the reading says.
-use Rattle.std.proofs.Common.{◌≡◌, refl, sym, ◌∙◌, ap, subst, arith, ℕ, ◌+◌, ◌-◌, ◌<◌, ◌≤◌, ◌⊎◌, inr, drop, take, length-drop, List, [], ◌∷◌, ◌++◌, length, Option, Result, Ok, Err}
+use Rattle.std.proofs.Common.{◌≡◌, refl, sym, ◌∙◌, ap, subst, arith, ℕ, ◌+◌, ◌-◌, ◌<◌, ◌≤◌, ◌⊎◌, inl, inr, drop, take, length-drop, List, [], ◌∷◌, ◌++◌, length, Option, Result, Ok, Err}
 use Rattle.std.proofs.lemmas.Result.{err_from_is_err_and}
 use Rattle.std.specs.Prelude.{slice_index, Vec, vec_capacity, IfErr, IsErrAnd, OnOk, OnErr}
 use Rattle.std.specs.Global.{Global}
@@ -7,15 +7,18 @@ use Rattle.sym_core.specs.declared.refusal.Refusal.{Refusal}
 use Rattle.sym_core.specs.declared.refusal.Refusal.TheVariants.{Memory}
 use Rattle.sym_link.proofs.Lists.{rest_all}
 use Rattle.sym_link.specs.declared.language.Frame.{Frame}
-use Rattle.sym_link.specs.Reading.{Open}
+use Rattle.sym_link.specs.Reading.{Open, Found, Reading}
 use Rattle.sym_link.specs.Unfold.{found}
 use Rattle.sym_link.specs.Driving.{Fails}
-use Rattle.sym_link.specs.Linking.{View, Puts, AddsFew, owed_behind}
+use Rattle.sym_link.specs.Linking.{View, AddsFew, owed_behind}
+use Rattle.sym_link.specs.Threads as open_
 use Rattle.sym_link.specs.Threads.{IsAt, ClosesAll}
 use Rattle.cpp_grammar.specs.declared.production.Production.{Production}
+use Rattle.cpp_grammar.specs.Table.{wide}
 use Rattle.cpp_grammar.specs.Unfolding.{production_at}
 use Rattle.cpp_term.specs.Values as values
 use Rattle.cpp_term.specs.Values.{State, Value, Around}
+use Rattle.cpp_term.proofs.Notes.{both}
 use Rattle.cpp_link.specs.declared.linked.Linked.{Linked}
 use Rattle.cpp_references.specs.declared.around.Surroundings.{Surroundings}
 use Rattle.cpp_link.specs.declared.part.Part.{Part}
@@ -23,66 +26,63 @@ use Rattle.cpp_link.specs.Owed.{owes}
 use Rattle.cpp_link.specs.Closes.{closes_of, closes, ends_of}
 use Rattle.cpp_link.specs.ClosesLaws.{ends_closes}
 use Rattle.cpp_link.specs.ViewLaws.{cpp_laws}
-use Rattle.cpp_link.specs.Progress.{Finishes}
-use Rattle.cpp_link.specs.LinkReading.{link_close, linked}
+use Rattle.cpp_link.specs.Progress.{Finishes, MakesPart}
+use Rattle.cpp_link.specs.LinkReading.{link_close}
 use Rattle.cpp_link.specs.Making.{state_of}
 use Rattle.cpp_link.specs.Parts.{trees_in, value_in, values_in, packs_of, around_of, IsThere}
-use Rattle.cpp_link.specs.Room.{KeepsRoom, LacksRoom}
-use Rattle.cpp_link.specs.View.{GoesOn, IsPaid, IsWhole, cpp_view}
-use Rattle.cpp_link.proofs.Bytes.{byte_serves}
+use Rattle.cpp_link.specs.Room.{LacksRoom}
+use Rattle.cpp_link.specs.View.{IsWhole, cpp_view}
 use Rattle.cpp_link.proofs.Rooms.{roomy_ok, roomy_refused}
 use Rattle.cpp_link.proofs.Viewing.{parts_are}
 
-same_close : (s : List ℕ) (m n q p : ℕ) (code around : Around) (began : State) (us vs : List Value) (cs : List values.Candidate) (packs : Option ℕ) (state : State)
-    → m ≡ n → q ≡ p → code ≡ around → us ≡ vs → cs ≡ state.candidates → packs ≡ state.packs
-    → link_close s (production_at n) (slice_index s p) around p began vs state ≡ link_close s (production_at m) (slice_index s q) code q began us (record { candidates = cs; packs = packs })
-same_close s m n q p code around began us vs cs packs state number place context known candidates same = rw (number, place, context, known, candidates, same) refl
+-- What a rule closes to by this reading of the language, if it is of this production and these are its parts.
+module _ (reading : Reading Value State Around) (closing : Production → Around → (place : ℕ) → (began : State) → List Value → State → Result (Found Value State) Refusal) (s : List ℕ)
+    (reads : (rule : Open State Around) (known : List Value) (state : State) → open_.IsThere wide s rule → reading.close rule known state ≡ closing (production_at rule.rule.number) rule.context rule.place rule.before known state)
+    (old : Linked) (frame : Frame Surroundings) (parts given : List Part) (p : Production) (numbered : p ≡ production_at frame.rule) (same : given ≡ drop frame.base parts) where
+  abbrev view : View Linked Part Surroundings Value State Around
+  view = record (cpp_view s) { reading = reading }
 
--- what comes of the open rule of the reading, in terms of the frame
-read_is : (s : List ℕ) (old : Linked) (frame : Frame Surroundings) (own : List Part) (rule : Open State Around) (known : List Value) (state : State) → IsAt (cpp_view s) s old frame own rule known state
-    → (linked s).close rule known state
-    ≡ link_close s (production_at frame.rule) (slice_index s frame.place) (around_of (trees_in s old.nodes) frame.kept) frame.place rule.before (values_in s old.nodes own) (state_of s old)
-read_is s old frame own rule known state is =
-    byte_serves s rule known state is.there
-    ∙ same_close s frame.rule rule.rule.number frame.place rule.place (around_of (trees_in s old.nodes) frame.kept) rule.context rule.before (values_in s old.nodes own) known _ old.packs state
-    is.number is.place is.kept.surrounds.is (parts_are s old own known is.parts).1 is.holds.candidates is.holds.packs
+  abbrev around : Around
+  around = around_of (trees_in s old.nodes) frame.kept
 
--- what this production closes to with these parts is what comes of the open rule of the reading
-given_is : (s : List ℕ) (old : Linked) (frame : Frame Surroundings) (own given : List Part) (p : Production) (rule : Open State Around) (known : List Value) (state : State) → IsAt (cpp_view s) s old frame own rule known state
-    → p ≡ production_at frame.rule → given ≡ own
-    → (linked s).close rule known state
-    ≡ link_close s p (slice_index s frame.place) (around_of (trees_in s old.nodes) frame.kept) frame.place rule.before (values_in s old.nodes given) (state_of s old)
-given_is s old frame own given p rule known state is production same =
-    read_is s old frame own rule known state is
-    ∙ ap (λ q. link_close s q (slice_index s frame.place) (around_of (trees_in s old.nodes) frame.kept) frame.place rule.before (values_in s old.nodes own) (state_of s old)) (sym production)
-    ∙ ap (λ ps. link_close s p (slice_index s frame.place) (around_of (trees_in s old.nodes) frame.kept) frame.place rule.before (values_in s old.nodes ps) (state_of s old)) (sym same)
+  given_is : (rule : Open State Around) (known : List Value) (state : State) → IsAt view s old frame (drop frame.base parts) rule known state
+      → reading.close rule known state ≡ closing p around frame.place rule.before (values_in s old.nodes given) (state_of s old)
+  given_is rule known state is =
+      reads rule known state is.there
+      ∙ same_close frame.rule rule.rule.number frame.place rule.place around rule.context (values_in s old.nodes (drop frame.base parts)) known _ old.packs state
+      is.number is.place is.kept.surrounds.is (parts_are s old (drop frame.base parts) known is.parts).1 is.holds.candidates is.holds.packs
+      ∙ both (λ q ps. closing q around frame.place rule.before (values_in s old.nodes ps) (state_of s old)) (sym numbered) (sym same)
+    where
+      same_close : (m n i k : ℕ) (code context : Around) (us vs : List Value) (cs : List values.Candidate) (packs : Option ℕ) (state : State)
+          → m ≡ n → i ≡ k → code ≡ context → us ≡ vs → cs ≡ state.candidates → packs ≡ state.packs
+          → closing (production_at n) context k rule.before vs state ≡ closing (production_at m) code i rule.before us (record { candidates = cs; packs = packs })
+      same_close m n i k code context us vs cs packs state number place surrounded known candidates packed = rw (number, place, surrounded, known, candidates, packed) refl
 
--- a part was put that stands for what the rule closes to
-pub put_right : (s : List ℕ) (old new : Linked) (frame : Frame Surroundings) (own given lower new_parts : List Part) (p : Production) (made : Part) (done : Unit {0}) (rule : Open State Around) (known : List Value) (state : State)
-    → IsAt (cpp_view s) s old frame own rule known state → p ≡ production_at frame.rule → given ≡ own
-    → ((began : State) → began.packs ≡ packs_of frame.kept
-    → link_close s p (slice_index s frame.place) (around_of (trees_in s old.nodes) frame.kept) frame.place began (values_in s old.nodes given) (state_of s old) ≡ Ok (found (value_in s new.nodes made) (state_of s new)))
-    → IsThere s (length new.nodes.nodes) made → IsWhole s new → new_parts ≡ lower ++ made ∷ []
-    → Puts (cpp_view s) new lower new_parts (Ok done) ((linked s).close rule known state)
-put_right s old new frame own given lower new_parts p made done rule known state is production same closes there whole items = (
-  made,
-  items,
-  (
-    value_in s new.nodes made,
-    state_of s new,
-    given_is s old frame own given p rule known state is production same ∙ closes rule.before (sym is.kept.packs),
-    record { there = there; is = refl },
-    record { table = whole.table; there = whole.there; candidates = refl; packs = refl },
-  ),
-)
+  -- a part was put that stands for what the rule closes to
+  put_right : (new : Linked) (new_parts : List Part) (made : Part) (done : Unit {0})
+      → ((began : State) → began.packs ≡ packs_of frame.kept → closing p around frame.place began (values_in s old.nodes given) (state_of s old) ≡ Ok (found (value_in s new.nodes made) (state_of s new)))
+      → IsThere s (length new.nodes.nodes) made → IsWhole s new → new_parts ≡ take frame.base parts ++ made ∷ []
+      → ClosesAll view s old new frame parts new_parts (Ok done)
+  put_right new new_parts made done closes there whole items rule known state is = (
+    made,
+    items,
+    (
+      value_in s new.nodes made,
+      state_of s new,
+      given_is rule known state is ∙ closes rule.before (sym is.kept.packs),
+      record { there = there; is = refl },
+      record { table = whole.table; there = whole.there; candidates = refl; packs = refl },
+    ),
+  )
 
--- the refusal of what the rule closes to is that of the reading
-pub refused_right : (s : List ℕ) (old : Linked) (frame : Frame Surroundings) (own given : List Part) (p : Production) (e : Refusal) (rule : Open State Around) (known : List Value) (state : State)
-    → IsAt (cpp_view s) s old frame own rule known state → p ≡ production_at frame.rule → given ≡ own
-    → ((began : State) → Fails e (link_close s p (slice_index s frame.place) (around_of (trees_in s old.nodes) frame.kept) frame.place began (values_in s old.nodes given) (state_of s old)))
-    → Fails e ((linked s).close rule known state)
-refused_right s old frame own given p e rule known state is production same refused =
-    subst (λ read. Fails e read) (sym (given_is s old frame own given p rule known state is production same)) (refused rule.before)
+  -- the refusal of what the rule closes to is that of the reading
+  pub refused_right : (new : Linked) (new_parts : List Part) (e : Refusal) → ((began : State) → Fails e (closing p around frame.place began (values_in s old.nodes given) (state_of s old)))
+      → ClosesAll view s old new frame parts new_parts (Err e)
+  refused_right new new_parts e refused rule known state is = subst (λ read. Fails e read) (sym (given_is rule known state is)) (refused rule.before)
+
+-- by the ABI's reading
+abbrev pub plain_closing : List ℕ → Production → Around → (place : ℕ) → (began : State) → List Value → State → Result (Found Value State) Refusal
+plain_closing s p around place began vs state = link_close s p (slice_index s place) around place began vs state
 
 -- ## How many nodes are made
 
@@ -112,44 +112,63 @@ made_where_closed made s old new frame parts own p same numbered is = rw (← sa
 
 -- ## What is left
 
--- The frame's rule is of this production, and of its own parts, those from its base on, a call made nodes: no more than it may, in the room that there is.
-module _ (view : View Linked Part Surroundings Value State Around) (made : Production → List Value → ℕ) (s : List ℕ) (old new : Linked) (frame : Frame Surroundings) (parts new_parts : Vec Part Global) (given : List Part) (p : Production)
-    (value : given ≡ parts.items) (numbered : p ≡ production_at frame.rule) (begun : 4 ≤ length old.nodes.nodes)
-    (few : length new.nodes.nodes ≤ length old.nodes.nodes + ends_of p (take (length given - frame.base) (drop frame.base given))) (keeps : KeepsRoom old new) (capacity : vec_capacity parts ≤ vec_capacity new_parts) where
-  own_parts : take (length given - frame.base) (drop frame.base given) ≡ drop frame.base parts.items
+-- The frame's rule is of this production, and of its own parts, those from its base on, a call was to make the part that they stand for.
+module _ (reading : Reading Value State Around) (closing : Production → Around → (place : ℕ) → (began : State) → List Value → State → Result (Found Value State) Refusal) (s : List ℕ)
+    (reads : (rule : Open State Around) (known : List Value) (state : State) → open_.IsThere wide s rule → reading.close rule known state ≡ closing (production_at rule.rule.number) rule.context rule.place rule.before known state)
+    (made : Production → List Value → ℕ) (old new : Linked) (frame : Frame Surroundings) (parts new_parts : Vec Part Global) (given : List Part) (p : Production)
+    (value : given ≡ parts.items) (numbered : p ≡ production_at frame.rule) (begun : 4 ≤ length old.nodes.nodes) (capacity : vec_capacity parts ≤ vec_capacity new_parts) where
+  abbrev by_reading : View Linked Part Surroundings Value State Around
+  by_reading = record (cpp_view s) { reading = reading }
+
+  abbrev own : List Part
+  own = take (length given - frame.base) (drop frame.base given)
+
+  abbrev Makes : Result Part Refusal → Type 0
+  Makes call = MakesPart s old new (ends_of p own) (made p (values_in s old.nodes own)) call
+
+  own_parts : own ≡ drop frame.base parts.items
   own_parts = rest_all given frame.base ∙ ap (λ ps. drop frame.base ps) value
 
-  adds_few : AddsFew (cpp_view s) old new frame parts.items
-  adds_few = ends_few s old new frame parts.items _ p numbered own_parts begun few
+  adds_few : length new.nodes.nodes ≤ length old.nodes.nodes + ends_of p own → AddsFew (cpp_view s) old new frame parts.items
+  adds_few few = ends_few s old new frame parts.items own p numbered own_parts begun few
 
-  -- a refusal is passed on
-  pub refused_finishes : (result : Result (Unit {0}) Refusal) (e : Refusal) → IsErrAnd result (λ y. y ≡ e) → ClosesAll view s old new frame parts.items new_parts.items (Err e)
-      → (e ≡ Memory → LacksRoom old new ⊎ (vec_capacity parts < length new_parts.items + 1)) → Finishes view made s old new frame parts new_parts result
-  refused_finishes result e is closes full =
+  refused_at : (call : Result Part Refusal) → Makes call → (result : Result (Unit {0}) Refusal) (e : Refusal) → IsErrAnd result (λ y. y ≡ e) → ClosesAll by_reading s old new frame parts.items new_parts.items (Err e)
+      → (e ≡ Memory → LacksRoom old new ⊎ (vec_capacity parts < length new_parts.items + 1)) → Finishes by_reading made s old new frame parts new_parts result
+  refused_at call gave result e is closes full =
       let p = err_from_is_err_and result is in
       let passed : result ≡ Err e = p.1 ∙ ap (λ y. Err y) p.2 in
-      let refused : Finishes view made s old new frame parts new_parts (Err e) =
-      record { closes = closes; adds = tt; few = adds_few; makes = tt; pays = tt; roomy = roomy_refused old new parts new_parts (Err e) e refl keeps capacity full } in
-      subst (λ r. Finishes view made s old new frame parts new_parts r) (sym passed) refused
+      let refused : Finishes by_reading made s old new frame parts new_parts (Err e) =
+      record { closes = closes; adds = tt; few = adds_few gave.few; makes = tt; pays = tt; roomy = roomy_refused old new parts new_parts (Err e) e refl gave.keeps capacity full } in
+      subst (λ r. Finishes by_reading made s old new frame parts new_parts r) (sym passed) refused
+
+  lacking_at : (call : Result Part Refusal) → Makes call → (result : Result (Unit {0}) Refusal) (e : Refusal) → IsErrAnd result (λ y. y ≡ e) → e ≡ Memory → LacksRoom old new ⊎ (vec_capacity parts < length new_parts.items + 1)
+      → Finishes by_reading made s old new frame parts new_parts result
+  lacking_at call gave result e is memory lacks =
+      refused_at call gave result e is (subst (λ x. ClosesAll by_reading s old new frame parts.items new_parts.items (Err x)) (sym memory) (λ rule known state at. tt)) (λ same. lacks)
+
+  -- its refusal is passed on
+  pub refused_finishes : (e : Refusal) → Makes (Err e) → (result : Result (Unit {0}) Refusal) → IsErrAnd result (λ y. y ≡ e)
+      → ((began : State) → Fails e (closing p (around_of (trees_in s old.nodes) frame.kept) frame.place began (values_in s old.nodes own) (state_of s old))) → Finishes by_reading made s old new frame parts new_parts result
+  refused_finishes e gave result is refused =
+      refused_at (Err e) gave result e is (refused_right reading closing s reads old frame parts.items own p numbered own_parts new new_parts.items e refused) (λ memory. inl (gave.full memory))
 
   -- there was no memory, and the rule isn't closed whatever is read
-  pub lacking_finishes : (result : Result (Unit {0}) Refusal) (e : Refusal) → IsErrAnd result (λ y. y ≡ e) → e ≡ Memory → LacksRoom old new ⊎ (vec_capacity parts < length new_parts.items + 1)
-      → Finishes view made s old new frame parts new_parts result
-  lacking_finishes result e is memory lacks =
-      refused_finishes result e is (subst (λ x. ClosesAll view s old new frame parts.items new_parts.items (Err x)) (sym memory) (λ rule known state at. tt)) (λ same. lacks)
+  pub lacking_finishes : (e : Refusal) → Makes (Err e) → e ≡ Memory → (result : Result (Unit {0}) Refusal) → IsErrAnd result (λ y. y ≡ e) → Finishes by_reading made s old new frame parts new_parts result
+  lacking_finishes e gave memory result is = lacking_at (Err e) gave result e is memory (inl (gave.full memory))
 
   -- what the rule stands for is put in the place of its parts
-  pub put_finishes : (result : Result (Unit {0}) Refusal) (part : Part) → OnOk result (new_parts.items ≡ take frame.base parts.items ++ part ∷ []) → IfErr result (λ e. e ≡ Memory)
+  pub put_finishes : (called : Part) → Makes (Ok called) → (part : Part) → IsThere s (length new.nodes.nodes) part
+      → ((began : State) → began.packs ≡ packs_of frame.kept
+      → closing p (around_of (trees_in s old.nodes) frame.kept) frame.place began (values_in s old.nodes own) (state_of s old) ≡ Ok (found (value_in s new.nodes part) (state_of s new)))
+      → (result : Result (Unit {0}) Refusal) → OnOk result (new_parts.items ≡ take frame.base parts.items ++ part ∷ []) → IfErr result (λ e. e ≡ Memory)
       → OnErr result (length new_parts.items ≡ frame.base) → OnErr result (vec_capacity parts < frame.base + 1)
-      → ((done : Unit {0}) → new_parts.items ≡ take frame.base parts.items ++ part ∷ [] → ClosesAll view s old new frame parts.items new_parts.items (Ok done)) → GoesOn s old new
-      → length new.nodes.nodes ≡ length old.nodes.nodes + made p (values_in s old.nodes (take (length given - frame.base) (drop frame.base given))) → IsPaid new
-      → Finishes view made s old new frame parts new_parts result
-  put_finishes (Ok done) part items memory rest full closes grows makes paid = record {
-    closes = closes done items;
-    adds = (grows, few_adds s old new frame parts.items adds_few);
-    few = adds_few;
-    makes = made_where_closed made s old new frame parts.items _ p own_parts numbered makes;
-    pays = λ at was. paid;
-    roomy = roomy_ok old new parts new_parts (Ok done) done refl keeps capacity;
+      → Finishes by_reading made s old new frame parts new_parts result
+  put_finishes called gave part there closes (Ok done) items memory rest full = record {
+    closes = put_right reading closing s reads old frame parts.items own p numbered own_parts new new_parts.items part done closes there gave.whole items;
+    adds = (gave.grows, few_adds s old new frame parts.items (adds_few gave.few));
+    few = adds_few gave.few;
+    makes = made_where_closed made s old new frame parts.items own p own_parts numbered gave.makes;
+    pays = λ at was. gave.paid;
+    roomy = roomy_ok old new parts new_parts (Ok done) done refl gave.keeps capacity;
   }
-  put_finishes (Err e) part items memory rest full closes grows makes paid = lacking_finishes (Err e) e refl memory (inr (omega (arith, full, rest)))
+  put_finishes called gave part there closes (Err e) items memory rest full = lacking_at (Ok called) gave (Err e) e refl memory (inr (omega (arith, full, rest)))

@@ -8,7 +8,7 @@ use Rattle.sym_core.specs.declared.refusal.Refusal.{Refusal}
 use Rattle.sym_core.specs.declared.refusal.Refusal.TheVariants.{Memory}
 use Rattle.sym_link.proofs.Lists.{rest_all}
 use Rattle.sym_link.specs.declared.language.Frame.{Frame}
-use Rattle.sym_link.specs.Reading.{Open}
+use Rattle.sym_link.specs.Reading.{Open, Next, Reading}
 use Rattle.sym_link.specs.Driving.{Fails}
 use Rattle.sym_link.specs.Linking.{View, Adds, AddsFew, owed_behind, owed_next}
 use Rattle.sym_link.specs.Threads.{IsAt, GoesOn}
@@ -16,17 +16,19 @@ use Rattle.cpp_grammar.specs.declared.production.Production.{Production}
 use Rattle.cpp_grammar.specs.Unfolding.{production_at}
 use Rattle.cpp_term.specs.Values as values
 use Rattle.cpp_term.specs.Values.{State, Value, Around}
-use Rattle.cpp_term.specs.Between.{between}
+use Rattle.cpp_term.specs.Between.{Going, between}
 use Rattle.cpp_term.specs.Meant.{done}
 use Rattle.cpp_term.specs.Unfolding.{cpp}
+use Rattle.cpp_term.proofs.Notes.{both}
 use Rattle.cpp_link.specs.declared.linked.Linked.{Linked}
 use Rattle.cpp_references.specs.declared.around.Surroundings.{Surroundings}
+use Rattle.cpp_references.specs.declared.candidates.Candidate.{Candidate}
 use Rattle.cpp_link.specs.declared.part.Part.{Part}
 use Rattle.cpp_link.specs.declared.part.Step.{Step}
 use Rattle.cpp_link.specs.Making.{state_of}
 use Rattle.cpp_link.specs.Owed.{owes}
-use Rattle.cpp_link.specs.Parts.{trees_in, values_in, around_of, IsClosed}
-use Rattle.cpp_link.proofs.Scopes.{between_closed}
+use Rattle.cpp_link.specs.Parts.{trees_in, values_in, around_of, candidates_of, IsClosed, AreCandidatesThere}
+use Rattle.cpp_link.specs.LinkReading.{linked}
 use Rattle.cpp_link.specs.Reads.{goes_on}
 use Rattle.cpp_link.specs.Closes.{closes_of, closes}
 use Rattle.cpp_link.specs.ClosesLaws.{quiet_owed, closes_pushed}
@@ -42,55 +44,65 @@ use Rattle.cpp_link.proofs.RowNodes.{quiet_part}
 use Rattle.cpp_link.proofs.Rooms.{roomy_ok, roomy_refused}
 use Rattle.cpp_link.proofs.Viewing.{parts_are, parts_all}
 
-same_between : (m n q p : ℕ) (code around : Around) (us vs : List Value) (cs : List values.Candidate) (packs : Option ℕ) (state : State)
-    → m ≡ n → q ≡ p → code ≡ around → us ≡ vs → cs ≡ state.candidates → packs ≡ state.packs
-    → between (production_at n) around p vs state ≡ between (production_at m) code q us (record { candidates = cs; packs = packs })
-same_between m n q p code around us vs cs packs state number place context known candidates same = rw (number, place, context, known, candidates, same) refl
+-- What is done before the next part of the frame's rule by this reading of the language, once the parts from its base on are these.
+module _ (reading : Reading Value State Around) (before : Production → Around → ℕ → List Value → State → Going)
+    (reads : (rule : Open State Around) (known : List Value) (state : State) → reading.between rule known state ≡ before (production_at rule.rule.number) rule.context rule.place known state)
+    (s : List ℕ) (old : Linked) (frame : Frame Surroundings) (parts own : List Part) (production : Production) (same : own ≡ drop frame.base parts) (numbered : production ≡ production_at frame.rule) where
+  abbrev view : View Linked Part Surroundings Value State Around
+  view = record (cpp_view s) { reading = reading }
 
--- what is done before the next part of the open rule of the reading, in terms of the frame
-read_is : (s : List ℕ) (old : Linked) (frame : Frame Surroundings) (own : List Part) (rule : Open State Around) (known : List Value) (state : State) → IsAt (cpp_view s) s old frame own rule known state
-    → cpp.between rule known state ≡ between (production_at frame.rule) (around_of (trees_in s old.nodes) frame.kept) frame.place (values_in s old.nodes own) (state_of s old)
+  abbrev around : Around
+  around = around_of (trees_in s old.nodes) frame.kept
+
+  read_is : (rule : Open State Around) (known : List Value) (state : State) → IsAt view s old frame (drop frame.base parts) rule known state
+      → reading.between rule known state ≡ before production around frame.place (values_in s old.nodes own) (state_of s old)
+  read_is rule known state is =
+      reads rule known state
+      ∙ same_before frame.rule rule.rule.number frame.place rule.place around rule.context (values_in s old.nodes (drop frame.base parts)) known _ old.packs state
+      is.number is.place is.kept.surrounds.is (parts_are s old (drop frame.base parts) known is.parts).1 is.holds.candidates is.holds.packs
+      ∙ both (λ p ps. before p around frame.place (values_in s old.nodes ps) (state_of s old)) (sym numbered) (sym same)
+    where
+      same_before : (m n q p : ℕ) (code context : Around) (us vs : List Value) (cs : List values.Candidate) (packs : Option ℕ) (state : State)
+          → m ≡ n → q ≡ p → code ≡ context → us ≡ vs → cs ≡ state.candidates → packs ≡ state.packs
+          → before (production_at n) context p vs state ≡ before (production_at m) code q us (record { candidates = cs; packs = packs })
+      same_before m n q p code context us vs cs packs state number place surrounded known candidates packed = rw (number, place, surrounded, known, candidates, packed) refl
+
+  -- what is gone on with
+  abbrev gone : (mid : Linked) (new_parts : List Part) (then : Surroundings) → State → Next Value State Around
+  gone mid new_parts then state = record { values = values_in s mid.nodes (drop frame.base new_parts); context = around_of (trees_in s mid.nodes) then; state = state }
+
+  -- the step that was taken, with what is marked then, is that of the reading, and these are the candidates after it
+  pub goes_right : (mid : Linked) (more : Vec Candidate Global) (new_parts : List Part) (step : Step) (then : Surroundings) (marking : Going → Going)
+      → ((n : Next Value State Around) → before production around frame.place (values_in s old.nodes own) (state_of s old) ≡ Ok n → IsClosed around → IsClosed n.context)
+      → ((cs : List values.Candidate) → before production around frame.place (values_in s old.nodes own) (record { candidates = cs; packs = old.packs })
+      ≡ marking (goes_on s old.nodes frame.kept (values_in s old.nodes own) cs old.packs step))
+      → Takes s old mid frame.kept frame.base parts new_parts step then → AreCandidatesThere (length mid.nodes.nodes) more.items
+      → marking (Ok (gone mid new_parts then (state_of s mid))) ≡ Ok (gone mid new_parts then (record { candidates = candidates_of (trees_in s mid.nodes) more.items; packs = mid.packs }))
+      → GoesOn view s (Surrounds s) old (record mid { candidates = more }) frame parts new_parts (Ok then)
+  goes_right mid more new_parts step then marking closed step_is takes there marked rule known state is =
+      let reached = step_is (state_of s old).candidates ∙ ap (λ ps. marking (goes_on s old.nodes frame.kept (values_in s old.nodes ps) (state_of s old).candidates old.packs step)) same ∙ ap marking takes.is ∙ marked in (
+        gone mid new_parts then (record { candidates = candidates_of (trees_in s mid.nodes) more.items; packs = mid.packs }),
+        read_is rule known state is ∙ reached,
+        record {
+          there = takes.around;
+          is = refl;
+          closed = closed _ reached (subst (λ a. IsClosed a) (sym is.kept.surrounds.is) is.kept.surrounds.closed);
+        },
+        record { table = takes.grows.table; there = there; candidates = refl; packs = refl },
+        drop frame.base new_parts,
+        sym (take-append-drop frame.base new_parts) ∙ ap (λ ps. ps ++ drop frame.base new_parts) takes.lower,
+        parts_all s (record mid { candidates = more }) (drop frame.base new_parts) takes.there,
+      )
+
+  -- the refusal of a step is that of the reading
+  pub refused_right : (new : Linked) (new_parts : List Part) (e : Refusal)
+      → ((cs : List values.Candidate) → Fails e (before production around frame.place (values_in s old.nodes own) (record { candidates = cs; packs = old.packs })))
+      → GoesOn view s (Surrounds s) old new frame parts new_parts (Err e)
+  refused_right new new_parts e refused rule known state is = rw (read_is rule known state is) (refused (state_of s old).candidates)
+
+pub plain_reads : (s : List ℕ) (rule : Open State Around) (known : List Value) (state : State) → (linked s).between rule known state ≡ between (production_at rule.rule.number) rule.context rule.place known state
 unfolding cpp
-read_is s old frame own rule known state is =
-    same_between frame.rule rule.rule.number frame.place rule.place (around_of (trees_in s old.nodes) frame.kept) rule.context (values_in s old.nodes own) known _ old.packs state
-    is.number is.place is.kept.surrounds.is (parts_are s old own known is.parts).1 is.holds.candidates is.holds.packs
-
--- the step that was taken is that of the reading
-pub goes_right : (s : List ℕ) (old new : Linked) (frame : Frame Surroundings) (parts new_parts own : List Part) (production : Production) (step : Step) (then : Surroundings)
-    → own ≡ drop frame.base parts → production ≡ production_at frame.rule
-    → ((cs : List values.Candidate) → between production (around_of (trees_in s old.nodes) frame.kept) frame.place (values_in s old.nodes own) (record { candidates = cs; packs = old.packs })
-    ≡ goes_on s old.nodes frame.kept (values_in s old.nodes own) cs old.packs step)
-    → Takes s old new frame.kept frame.base parts new_parts step then
-    → GoesOn (cpp_view s) s (Surrounds s) old new frame parts new_parts (Ok then)
-goes_right s old new frame parts new_parts own production step then same numbered step_is takes rule known state is = (
-  record { values = values_in s new.nodes (drop frame.base new_parts); context = around_of (trees_in s new.nodes) then; state = state_of s new },
-  read_is s old frame (drop frame.base parts) rule known state is ∙ stepped own production same numbered step_is ∙ takes.is,
-  record {
-    there = takes.around;
-    is = refl;
-    closed = between_closed (production_at frame.rule) (around_of (trees_in s old.nodes) frame.kept) frame.place (values_in s old.nodes (drop frame.base parts)) (state_of s old) _
-        (stepped own production same numbered step_is ∙ takes.is) (subst (λ around. IsClosed around) (sym is.kept.surrounds.is) is.kept.surrounds.closed);
-  },
-  record { table = takes.grows.table; there = takes.candidates; candidates = refl; packs = refl },
-  drop frame.base new_parts,
-  sym (take-append-drop frame.base new_parts) ∙ ap (λ ps. ps ++ drop frame.base new_parts) takes.lower,
-  parts_all s new (drop frame.base new_parts) takes.there,
-)
-  where
-    stepped : (own : List Part) (production : Production) → own ≡ drop frame.base parts → production ≡ production_at frame.rule
-        → ((cs : List values.Candidate) → between production (around_of (trees_in s old.nodes) frame.kept) frame.place (values_in s old.nodes own) (record { candidates = cs; packs = old.packs })
-        ≡ goes_on s old.nodes frame.kept (values_in s old.nodes own) cs old.packs step)
-        → between (production_at frame.rule) (around_of (trees_in s old.nodes) frame.kept) frame.place (values_in s old.nodes (drop frame.base parts)) (state_of s old)
-        ≡ goes_on s old.nodes frame.kept (values_in s old.nodes (drop frame.base parts)) (state_of s old).candidates old.packs step
-    stepped own production same numbered step_is = rw (← same, ← numbered) (step_is (state_of s old).candidates)
-
--- the refusal of a step is that of the reading
-pub refused_right : (s : List ℕ) (old new : Linked) (frame : Frame Surroundings) (parts new_parts own : List Part) (production : Production) (e : Refusal)
-    → own ≡ drop frame.base parts → production ≡ production_at frame.rule
-    → ((cs : List values.Candidate) → Fails e (between production (around_of (trees_in s old.nodes) frame.kept) frame.place (values_in s old.nodes own) (record { candidates = cs; packs = old.packs })))
-    → GoesOn (cpp_view s) s (Surrounds s) old new frame parts new_parts (Err e)
-refused_right s old new frame parts new_parts own production e same numbered refused rule known state is =
-    rw (read_is s old frame (drop frame.base parts) rule known state is, ← same, ← numbered) (refused (state_of s old).candidates)
+plain_reads s rule known state = refl
 
 next_owes : (number held m : ℕ) (step : Step) → IsStepOf (production_at number) held step → m ≡ held → nodes_of_step step + owes number (m + 1) ≤ owes number held
 unfolding owes
@@ -125,7 +137,7 @@ pub quiet_right : (s : List ℕ) (old : Linked) (frame : Frame Surroundings) (pa
     → GoesOn (cpp_view s) s (Surrounds s) old old frame parts parts (Ok frame.kept)
 quiet_right s old frame parts held counted less rule known state is = (
   record { values = values_in s old.nodes (drop frame.base parts); context = around_of (trees_in s old.nodes) frame.kept; state = state_of s old },
-  read_is s old frame (drop frame.base parts) rule known state is
+  read_is (linked s) between (plain_reads s) s old frame parts (drop frame.base parts) (production_at frame.rule) refl refl rule known state is
       ∙ quiet_between (production_at frame.rule) (around_of (trees_in s old.nodes) frame.kept) frame.place (values_in s old.nodes (drop frame.base parts)) (state_of s old)
       (omega (arith, values_length s (trees_in s old.nodes) (drop frame.base parts), length-drop frame.base parts, counted, less)),
   record { there = is.kept.surrounds.there; is = refl; closed = subst (λ around. IsClosed around) (sym is.kept.surrounds.is) is.kept.surrounds.closed },
@@ -200,16 +212,20 @@ module _ (view : View Linked Part Surroundings Value State Around) (s : List ℕ
   lacking_advances result e is memory few lacks =
       refused_advances result e is (subst (λ x. GoesOn view s (Surrounds s) old new frame parts.items new_parts.items (Err x)) (sym memory) (λ rule known state at. tt)) few (λ same. lacks)
 
-  -- a step was taken
-  pub taken_advances : (step : Step) (then : Surroundings) → IsStepOf (production_at frame.rule) (length (drop frame.base parts.items)) step → IsPaid old → Takes s old new frame.kept frame.base parts.items new_parts.items step then
-      → (let taken : Result Surroundings Refusal = Ok then in CountsStep (production_at frame.rule) old new (drop frame.base parts.items) (drop frame.base new_parts.items) taken)
-      → length new.nodes.nodes ≡ length old.nodes.nodes + nodes_of_step step → nodes_of_step step ≡ makes_before (production_at frame.rule) (values_in s old.nodes (drop frame.base parts.items))
+-- a step was taken, and these are the candidates after it
+module _ (view : View Linked Part Surroundings Value State Around) (s : List ℕ) (old mid : Linked) (more : Vec Candidate Global) (frame : Frame Surroundings) (parts new_parts : Vec Part Global) where
+  abbrev new : Linked
+  new = record mid { candidates = more }
+
+  pub taken_advances : KeepsRoom old new → vec_capacity parts ≤ vec_capacity new_parts → (step : Step) (then : Surroundings) → IsStepOf (production_at frame.rule) (length (drop frame.base parts.items)) step → IsPaid old → Takes s old mid frame.kept frame.base parts.items new_parts.items step then
+      → (let taken : Result Surroundings Refusal = Ok then in CountsStep (production_at frame.rule) old mid (drop frame.base parts.items) (drop frame.base new_parts.items) taken)
+      → length mid.nodes.nodes ≡ length old.nodes.nodes + nodes_of_step step → nodes_of_step step ≡ makes_before (production_at frame.rule) (values_in s old.nodes (drop frame.base parts.items))
       → GoesOn view s (Surrounds s) old new frame parts.items new_parts.items (Ok then) → Advances view s old new frame parts new_parts (Ok then)
-  taken_advances step then of paid takes few more makes goes = record {
+  taken_advances keeps capacity step then of paid takes few made makes goes = record {
     goes = goes;
-    adds = adds_right s old new frame parts.items new_parts.items (drop frame.base parts.items) (production_at frame.rule) step then refl refl paid of takes;
-    few = steps_few s old new frame parts.items new_parts.items then paid takes.grows.least few;
-    makes = omega (arith, more, makes);
+    adds = (record { least = takes.grows.least; stays = takes.grows.stays }, (adds_right s old mid frame parts.items new_parts.items (drop frame.base parts.items) (production_at frame.rule) step then refl refl paid of takes).1);
+    few = steps_few s old mid frame parts.items new_parts.items then paid takes.grows.least few;
+    makes = omega (arith, made, makes);
     pays = λ at was. record { begun = omega (arith, was.begun, takes.grows.least); thunks = omega (arith, was.thunks, takes.grows.least, ap (λ xs. length xs) takes.thunks) };
     count = takes.count;
     roomy = roomy_ok old new parts new_parts (Ok then) then refl keeps capacity;

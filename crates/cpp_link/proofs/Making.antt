@@ -1,5 +1,5 @@
 -- What comes after a rule, in terms of the nodes that are there once its own is made.
-use Rattle.std.proofs.Common.{◌≡◌, refl, sym, ◌∙◌, ap, subst, ℕ, ◌-◌, ◌<◌, ◌≤◌, List, [], ◌∷◌, length, Option, Result, Ok, Err}
+use Rattle.std.proofs.Common.{◌≡◌, refl, sym, ◌∙◌, ap, subst, ℕ, ◌-◌, ◌<◌, ◌≤◌, List, [], ◌∷◌, length, Option, Result, Ok, Err, false}
 use Rattle.std.proofs.lemmas.Result.{IfOk-weaker, IfErr-weaker}
 use Rattle.std.specs.Prelude.{slice_get, IfOk, IfErr, OnOk}
 use Rattle.sym_core.specs.Value.{counted_value}
@@ -39,8 +39,8 @@ pub state_behind : (s : List ℕ) (old mid last : Linked) (p : Production) (byte
     → IsKeptThere (length old.nodes.nodes) kept → AreThere s (length old.nodes.nodes) parts → AreCandidatesThere (length old.nodes.nodes) old.candidates.items
     → mid.candidates ≡ old.candidates → mid.packs ≡ old.packs
     → ((cs : List values.Candidate) → behind p byte (around_of (trees_in s mid.nodes) kept) began (values_in s mid.nodes parts) (record { candidates = cs; packs = mid.packs })
-    ≡ with_candidate (around_of (trees_in s mid.nodes) kept) (trees_in s mid.nodes) candidate (record { candidates = cs; packs = packs }))
-    → with_candidate (around_of (trees_in s mid.nodes) kept) (trees_in s mid.nodes) candidate (record { candidates = candidates_of (trees_in s mid.nodes) mid.candidates.items; packs = packs })
+    ≡ with_candidate false (around_of (trees_in s mid.nodes) kept) (trees_in s mid.nodes) candidate (record { candidates = cs; packs = packs }))
+    → with_candidate false (around_of (trees_in s mid.nodes) kept) (trees_in s mid.nodes) candidate (record { candidates = candidates_of (trees_in s mid.nodes) mid.candidates.items; packs = packs })
     ≡ record { candidates = candidates_of (trees_in s mid.nodes) last.candidates.items; packs = packs }
     → last.nodes ≡ mid.nodes → last.packs ≡ packs
     → behind p byte (around_of (trees_in s old.nodes) kept) began (values_in s old.nodes parts) (state_of s old) ≡ state_of s last

@@ -1,18 +1,18 @@
 -- What the wide reading says of a rule that is open, in terms of the frame and the nodes.
-use Rattle.std.proofs.Common.{◌≡◌, refl, sym, ◌∙◌, ap, subst, arith, ℕ, ◌+◌, ◌-◌, ◌<◌, ◌≤◌, List, [], ◌∷◌, ◌++◌, length, take, drop, Bool, true, false, ◌&&◌, nat_eq, Option, Ok, Err}
-use Rattle.std.specs.Prelude.{Result, OnOk}
-use Rattle.std.proofs.lemmas.List.{length-drop, take-append-drop}
-use Rattle.std.proofs.lemmas.Bool.{true≢false, false≢true}
+use Rattle.std.proofs.Common.{◌≡◌, refl, sym, ◌∙◌, ap, subst, arith, ℕ, ◌+◌, ◌-◌, ◌<◌, ◌≤◌, List, [], ◌∷◌, length, take, drop, Bool, true, false, ◌&&◌, nat_eq, Option, Ok, Err}
+use Rattle.std.specs.Prelude.{slice_index, Result, OnOk}
+use Rattle.std.proofs.lemmas.List.{length-drop}
+use Rattle.std.proofs.lemmas.Bool.{true≢false, false≢true, and_parts, eqb-true}
 use Rattle.sym_core.specs.declared.refusal.Refusal.{Refusal}
 use Rattle.sym_link.specs.declared.language.Frame.{Frame}
-use Rattle.sym_link.specs.Reading.{Open, Found}
-use Rattle.sym_link.specs.Driving.{Fails}
+use Rattle.sym_link.specs.Reading.{Open, Found, Next}
 use Rattle.sym_link.specs.Linking.{Puts}
+use Rattle.sym_link.specs.Threads as open_
 use Rattle.sym_link.specs.Threads.{IsAt, Goes, GoesOn, ClosesAll}
 use Rattle.sym_link.specs.Tally.{tallied_view}
-use Rattle.sym_link.proofs.Tally.{finish_tallied}
-use Rattle.sym_link.specs.Unfold.{found}
+use Rattle.sym_link.proofs.Tally.{between_tallied, finish_tallied}
 use Rattle.cpp_grammar.specs.declared.production.Production.{Production}
+use Rattle.cpp_grammar.specs.Table.{wide}
 use Rattle.cpp_grammar.specs.Rescoping.{generic_number}
 use Rattle.cpp_grammar.specs.Unfolding.{production_at, byte_of}
 use Rattle.cpp_term.specs.Term as term
@@ -25,10 +25,9 @@ use Rattle.sym_core.specs.Value.{counted_value}
 use Rattle.sym_core.specs.declared.NumberKind.TheVariants.{Decimal}
 use Rattle.cpp_term.specs.References.{parameter_named}
 use Rattle.cpp_term.specs.Between.{Going, next, parameter_so_far, argument_so_far, index_of, between, listed_so_far}
-use Rattle.cpp_term.specs.Unfolding.{cpp, behind}
-use Rattle.cpp_term.specs.Rescoping.{generic_so_far, parameter_here, argument_here, numbered, lambda_with, as_generic_lambda, between_wide, close_wide, cpp_wide}
-use Rattle.cpp_term.proofs.Notes.{both}
-use Rattle.cpp_link.proofs.Scopes.{wide_between_closed}
+use Rattle.cpp_term.specs.Meaning.{meaning}
+use Rattle.cpp_term.specs.Unfolding.{cpp}
+use Rattle.cpp_term.specs.Rescoping.{generic_so_far, parameter_here, argument_here, lambda_with, as_generic_lambda, between_wide, close_wide, cpp_wide}
 use Rattle.cpp_tree.specs.Nodes.{Stored, tree_at, piece_of}
 use Rattle.cpp_tree.specs.declared.node.Piece.{Piece}
 use Rattle.cpp_link.specs.declared.linked.Linked.{Linked}
@@ -37,116 +36,74 @@ use Rattle.cpp_link.specs.declared.rescoping.Rescoping.{Rescoping}
 use Rattle.cpp_references.specs.declared.around.Surroundings.{Surroundings}
 use Rattle.cpp_link.specs.declared.part.Step.{Step}
 use Rattle.cpp_link.specs.LinkReading.{link_close, link_meaning}
-use Rattle.cpp_link.specs.LinkRescoping.{link_close_wide, linked_wide, is_parameter, is_parameter_argument, generic_read, is_holder, is_own_arguments, names_generic, names_holder, counts_base, number_in, named_by, substituted_nodes, wide_at_end, wide_view, wide_makes, wide_counted}
-use Rattle.cpp_link.specs.Making.{state_of}
+use Rattle.cpp_link.specs.LinkRescoping.{link_close_wide, linked_wide, wide_ends, is_parameter, is_parameter_argument, steps_apart, with_mark, going_marked, generic_read, wide_at_end, wide_view, wide_makes, wide_counted}
 use Rattle.cpp_link.specs.NodeCount.{makes_before, makes_at_end}
-use Rattle.cpp_link.specs.Parts.{trees_in, value_of, values_of, value_in, values_in, is_lambda, around_of, candidates_of, packs_of, IsClosed, IsThere, AreCandidatesThere}
+use Rattle.cpp_link.specs.Parts.{trees_in, value_of, values_of, values_in, is_lambda, around_of, candidates_of, AreCandidatesThere}
 use Rattle.cpp_link.specs.Reads.{goes_on}
 use Rattle.cpp_link.specs.Staying.{candidates_stay}
-use Rattle.cpp_link.specs.Stepping.{Takes}
-use Rattle.cpp_link.specs.View.{IsWhole, Surrounds, cpp_view}
-use Rattle.cpp_link.proofs.NodeCount.{before_read, end_read}
+use Rattle.cpp_link.specs.View.{Surrounds, cpp_view}
+use Rattle.cpp_link.proofs.Bytes.{byte_serves}
+use Rattle.cpp_link.proofs.NodeCount.{before_read}
 use Rattle.cpp_link.proofs.Places.{values_length}
-use Rattle.cpp_link.proofs.Viewing.{parts_are, parts_all}
-use Rattle.cpp_link.proofs.Within.{at_plain, closes_within}
+use Rattle.cpp_link.proofs.Viewing.{parts_are}
+use Rattle.cpp_link.proofs.Within.{at_plain, goes_within, closes_within}
 
 -- ## Before a part
 
--- where no parameter of a lambda is named, and no name with its M, and no base class is counted, it goes as in the other reading
-apart_between : (p : Production) (around : Around) (place : ℕ) (vs : List Value) (state : State) → names_generic p around.in_lambda (length vs) ≡ false
-    → names_holder p (length vs) ≡ false → counts_base p (length vs) ≡ false → between_wide p around place vs state ≡ between p around place vs state
-unfolding between_wide between is_parameter is_holder is_own_arguments parameter_here argument_here parameter_named parameter_so_far listed_so_far argument_so_far
-apart_between Production.Parameter around place (v ∷ []) state apart unheld uncounted = go around.in_lambda apart
-  where
-    go : (b : Bool) → (b && true && nat_eq (length (v ∷ [])) 1) ≡ false
-        → elim b [ true ↦ generic_so_far around (index_of v) [] state | false ↦ parameter_so_far around place (index_of v) [] state ] ≡ parameter_so_far around place (index_of v) [] state
-    go true e = absurd (true≢false e)
-    go false e = refl
-apart_between Production.NestParameter around place (v ∷ []) state apart unheld uncounted = go around.in_lambda apart
-  where
-    go : (b : Bool) → (b && true && nat_eq (length (v ∷ [])) 1) ≡ false
-        → elim b [ true ↦ generic_so_far around (index_of v) [] state | false ↦ parameter_so_far around place (index_of v) [] state ] ≡ parameter_so_far around place (index_of v) [] state
-    go true e = absurd (true≢false e)
-    go false e = refl
-apart_between Production.ParameterArgument around place (v ∷ []) state apart unheld uncounted = go around.in_lambda apart
-  where
-    go : (b : Bool) → (b && true && nat_eq (length (v ∷ [])) 1) ≡ false
-        → elim b [ true ↦ generic_so_far around (index_of v) [] state | false ↦ parameter_so_far around (place - 1) (index_of v) [] state ] ≡ parameter_so_far around (place - 1) (index_of v) [] state
-    go true e = absurd (true≢false e)
-    go false e = refl
-apart_between Production.ParameterExpression around place (v ∷ []) state apart unheld uncounted = go around.in_lambda apart
+second : (l : Bool) (before : ℕ) → (l && nat_eq before 1) ≡ true → (l ≡ true) × (before ≡ 1)
+second l before is = let both_ = and_parts l (nat_eq before 1) is in (both_.0, eqb-true before 1 both_.1)
+
+-- outside of a lambda's signature a parameter is named as in the other reading
+named_outside : (in_lambda : Bool) (around : Around) (place k : ℕ) (state : State) → (in_lambda && true) ≡ false
+    → elim in_lambda [ true ↦ generic_so_far around k [] state | false ↦ parameter_so_far around place k [] state ] ≡ parameter_so_far around place k [] state
+named_outside true around place k state e = absurd (true≢false e)
+named_outside false around place k state e = refl
+
+-- where the wide reading does nothing of its own, it goes as in the other reading
+apart_between : (p : Production) (around : Around) (place : ℕ) (vs : List Value) (state : State) → steps_apart p around.in_lambda (length vs) ≡ false → between_wide p around place vs state ≡ between p around place vs state
+unfolding between_wide between steps_apart parameter_here argument_here parameter_named parameter_so_far listed_so_far argument_so_far
+apart_between Production.Parameter around place (v ∷ []) state apart = named_outside around.in_lambda around place (index_of v) state apart
+apart_between Production.NestParameter around place (v ∷ []) state apart = named_outside around.in_lambda around place (index_of v) state apart
+apart_between Production.ParameterArgument around place (v ∷ []) state apart = named_outside around.in_lambda around (place - 1) (index_of v) state apart
+apart_between Production.ParameterExpression around place (v ∷ []) state apart = go around.in_lambda apart
   where
     own : Going
     own = next (tree (term.parameter (generic_number (index_of v)) auto) true ∷ []) around state
 
-    go : (b : Bool) → (b && true && nat_eq (length (v ∷ [])) 1) ≡ false
-        → elim b [ true ↦ own | false ↦ argument_so_far around place (index_of v) state ] ≡ argument_so_far around place (index_of v) state
+    go : (b : Bool) → (b && true) ≡ false → elim b [ true ↦ own | false ↦ argument_so_far around place (index_of v) state ] ≡ argument_so_far around place (index_of v) state
     go true e = absurd (true≢false e)
     go false e = refl
-apart_between Production.Holder around place (v ∷ []) state apart unheld uncounted = absurd (true≢false unheld)
-apart_between Production.OwnArguments around place [] state apart unheld uncounted = absurd (true≢false uncounted)
-apart_between p around place vs state apart unheld uncounted = refl
+apart_between Production.Holder around place (v ∷ []) state apart = absurd (true≢false apart)
+apart_between Production.OwnArguments around place [] state apart = absurd (true≢false apart)
+apart_between p around place vs state apart = refl
 
--- what is done before the next part of the open rule of the reading, in terms of the frame
-pub wide_read_is : (s : List ℕ) (old : Linked) (frame : Frame Surroundings) (own : List Part) (rule : Open State Around) (known : List Value) (state : State) → IsAt (cpp_view s) s old frame own rule known state
-    → cpp_wide.between rule known state ≡ between_wide (production_at frame.rule) (around_of (trees_in s old.nodes) frame.kept) frame.place (values_in s old.nodes own) (state_of s old)
+pub wide_reads : (s : List ℕ) (rule : Open State Around) (known : List Value) (state : State) → (linked_wide s).between rule known state ≡ between_wide (production_at rule.rule.number) rule.context rule.place known state
 unfolding cpp_wide
-wide_read_is s old frame own rule known state is =
-    same frame.rule rule.rule.number frame.place rule.place (around_of (trees_in s old.nodes) frame.kept) rule.context (values_in s old.nodes own) known _ old.packs state
-    is.number is.place is.kept.surrounds.is (parts_are s old own known is.parts).1 is.holds.candidates is.holds.packs
-  where
-    same : (m n q p : ℕ) (code around : Around) (us vs : List Value) (cs : List values.Candidate) (packs : Option ℕ) (state : State)
-        → m ≡ n → q ≡ p → code ≡ around → us ≡ vs → cs ≡ state.candidates → packs ≡ state.packs
-        → between_wide (production_at n) around p vs state ≡ between_wide (production_at m) code q us (record { candidates = cs; packs = packs })
-    same m n q p code around us vs cs packs state number place context known candidates packed = rw (number, place, context, known, candidates, packed) refl
+wide_reads s rule known state = refl
 
-same_test : (m n : ℕ) (a b : Bool) (h k : ℕ) → m ≡ n → a ≡ b → h ≡ k → names_generic (production_at m) a h ≡ false → names_generic (production_at n) b k ≡ false
-same_test m n a b h k e f g is = rw (← e, ← f, ← g) is
-
-same_holder : (m n h k : ℕ) → m ≡ n → h ≡ k → names_holder (production_at m) h ≡ false → names_holder (production_at n) k ≡ false
-same_holder m n h k e g is = rw (← e, ← g) is
-
-same_base : (m n h k : ℕ) → m ≡ n → h ≡ k → counts_base (production_at m) h ≡ false → counts_base (production_at n) k ≡ false
-same_base m n h k e g is = rw (← e, ← g) is
-
--- What was done where no parameter of a lambda is named, and no name with its M, and no base class is counted, is what the wide reading says.
-pub apart_goes : (s : List ℕ) (old new : Linked) (frame : Frame Surroundings) (parts new_parts : List Part) (held : ℕ) (result : Result Surroundings Refusal) → held ≡ length parts - frame.base
-    → names_generic (production_at frame.rule) (is_lambda frame.kept.scope) held ≡ false → names_holder (production_at frame.rule) held ≡ false
-    → counts_base (production_at frame.rule) held ≡ false → GoesOn (cpp_view s) s (Surrounds s) old new frame parts new_parts result → GoesOn (wide_view s) s (Surrounds s) old new frame parts new_parts result
+-- What was done where the wide reading does nothing of its own is what it says.
+pub apart_goes : (s : List ℕ) (old new : Linked) (frame : Frame Surroundings) (parts new_parts : List Part) (before : ℕ) (result : Result Surroundings Refusal) → before ≡ length parts - frame.base
+    → steps_apart (production_at frame.rule) (is_lambda frame.kept.scope) before ≡ false
+    → GoesOn (cpp_view s) s (Surrounds s) old new frame parts new_parts result → GoesOn (wide_view s) s (Surrounds s) old new frame parts new_parts result
 unfolding cpp cpp_wide around_of
-apart_goes s old new frame parts new_parts held result counted apart unheld uncounted goes rule known state is =
+apart_goes s old new frame parts new_parts before result counted apart goes rule known state is =
     let at = at_plain s old frame (drop frame.base parts) rule known state is in
     let known_are = (parts_are s old (drop frame.base parts) known is.parts).1 in
-    let many : held ≡ length known =
+    let many : before ≡ length known =
     omega (arith, counted, length-drop frame.base parts, values_length s (trees_in s old.nodes) (drop frame.base parts), ap (λ vs. length vs) known_are) in
     let lambda : is_lambda frame.kept.scope ≡ rule.context.in_lambda = ap (λ (a : Around). a.in_lambda) is.kept.surrounds.is in
     subst (λ read. Goes (cpp_view s) (Surrounds s) new (take frame.base parts) new_parts result read)
     (sym (apart_between (production_at rule.rule.number) rule.context rule.place known state
-    (same_test frame.rule rule.rule.number (is_lambda frame.kept.scope) rule.context.in_lambda held (length known) is.number lambda many apart)
-    (same_holder frame.rule rule.rule.number held (length known) is.number many unheld)
-    (same_base frame.rule rule.rule.number held (length known) is.number many uncounted)))
+    (same_test frame.rule rule.rule.number (is_lambda frame.kept.scope) rule.context.in_lambda before (length known) is.number lambda many apart)))
     (goes rule known state at)
+  where
+    same_test : (m n : ℕ) (a b : Bool) (h k : ℕ) → m ≡ n → a ≡ b → h ≡ k → steps_apart (production_at m) a h ≡ false → steps_apart (production_at n) b k ≡ false
+    same_test m n a b h k e f g is = rw (← e, ← f, ← g) is
 
--- the step that was taken is that of the wide reading
-pub wide_goes_right : (s : List ℕ) (old new : Linked) (frame : Frame Surroundings) (parts new_parts : List Part) (step : Step) (then : Surroundings)
-    → ((cs : List values.Candidate) → between_wide (production_at frame.rule) (around_of (trees_in s old.nodes) frame.kept) frame.place (values_in s old.nodes (drop frame.base parts)) (record { candidates = cs; packs = old.packs })
-    ≡ goes_on s old.nodes frame.kept (values_in s old.nodes (drop frame.base parts)) cs old.packs step)
-    → Takes s old new frame.kept frame.base parts new_parts step then
-    → GoesOn (wide_view s) s (Surrounds s) old new frame parts new_parts (Ok then)
-wide_goes_right s old new frame parts new_parts step then step_is takes rule known state is = (
-  record { values = values_in s new.nodes (drop frame.base new_parts); context = around_of (trees_in s new.nodes) then; state = state_of s new },
-  wide_read_is s old frame (drop frame.base parts) rule known state (at_plain s old frame (drop frame.base parts) rule known state is) ∙ step_is (state_of s old).candidates ∙ takes.is,
-  record {
-    there = takes.around;
-    is = refl;
-    closed = wide_between_closed (production_at frame.rule) (around_of (trees_in s old.nodes) frame.kept) frame.place (values_in s old.nodes (drop frame.base parts)) (state_of s old) _
-        (step_is (state_of s old).candidates ∙ takes.is) (subst (λ around. IsClosed around) (sym is.kept.surrounds.is) is.kept.surrounds.closed);
-  },
-  record { table = takes.grows.table; there = takes.candidates; candidates = refl; packs = refl },
-  drop frame.base new_parts,
-  sym (take-append-drop frame.base new_parts) ∙ ap (λ ps. ps ++ drop frame.base new_parts) takes.lower,
-  parts_all s new (drop frame.base new_parts) takes.there,
-)
+-- what is gone on with where the candidates have this mark
+pub marking_is : (production : Production) (around : Around) (n : Next Value State Around) (state : State) → with_mark production around n.values n.state ≡ state → going_marked production around (Ok n) ≡ Ok (record n { state = state })
+unfolding going_marked
+marking_is production around n state is = ap (λ x. Ok (record n { state = x })) is
 
 -- ## Where a rule closes
 
@@ -168,151 +125,65 @@ apart_closes s old new frame parts new_parts result apart other uninherited clos
     (λ inheriting. uninherited (ap production_at is.number ∙ inheriting))))
     (closes rule known state (at_plain s old frame (drop frame.base parts) rule known state is))
 
--- what comes of a substitution by the wide reading, in terms of the frame
-substitution_is : (s : List ℕ) (old : Linked) (frame : Frame Surroundings) (own : List Part) (rule : Open State Around) (known : List Value) (state : State) → IsAt (wide_view s) s old frame own rule known state
-    → production_at frame.rule ≡ Production.Substitution
-    → (linked_wide s).close rule known state
-    ≡ numbered (around_of (trees_in s old.nodes) frame.kept) (frame.place - 1) (number_in (values_in s old.nodes own)) (state_of s old)
-unfolding link_close_wide close_wide
-substitution_is s old frame own rule known state is substitution =
-    ap (λ p. link_close_wide s p (byte_of rule.taken) rule.context rule.place rule.before known state) (ap production_at (sym is.number) ∙ substitution)
-    ∙ same frame.place rule.place (around_of (trees_in s old.nodes) frame.kept) rule.context (values_in s old.nodes own) known _ old.packs state
-    is.place is.kept.surrounds.is (parts_are s old own known is.parts).1 is.holds.candidates is.holds.packs
+-- by the wide reading
+abbrev pub wide_closing : List ℕ → Production → Around → (place : ℕ) → (began : State) → List Value → State → Result (Found Value State) Refusal
+wide_closing s p around place began vs state = link_close_wide s p (slice_index s place) around place began vs state
+
+pub wide_byte_serves : (s : List ℕ) (rule : Open State Around) (known : List Value) (state : State) → open_.IsThere wide s rule
+    → (linked_wide s).close rule known state ≡ wide_closing s (production_at rule.rule.number) rule.context rule.place rule.before known state
+unfolding link_close_wide close_wide link_meaning meaning
+wide_byte_serves s rule known state there = by (production_at rule.rule.number) (byte_serves s rule known state there)
   where
-    same : (q p : ℕ) (code around : Around) (us vs : List Value) (cs : List values.Candidate) (packs : Option ℕ) (state : State)
-        → q ≡ p → code ≡ around → us ≡ vs → cs ≡ state.candidates → packs ≡ state.packs
-        → numbered around (p - 1) (number_in vs) state ≡ numbered code (q - 1) (number_in us) (record { candidates = cs; packs = packs })
-    same q p code around us vs cs packs state place context known candidates packed = rw (place, context, known, candidates, packed) refl
-
--- a part was put that stands for what a substitution stands for
-pub wide_put_right : (s : List ℕ) (old new : Linked) (frame : Frame Surroundings) (parts new_parts own : List Part) (made : Part) (done : Unit {0}) → own ≡ drop frame.base parts
-    → production_at frame.rule ≡ Production.Substitution
-    → numbered (around_of (trees_in s old.nodes) frame.kept) (frame.place - 1) (number_in (values_in s old.nodes own)) (state_of s old) ≡ Ok (found (value_in s new.nodes made) (state_of s new))
-    → IsThere s (length new.nodes.nodes) made → IsWhole s new → new_parts ≡ take frame.base parts ++ made ∷ []
-    → ClosesAll (wide_view s) s old new frame parts new_parts (Ok done)
-wide_put_right s old new frame parts new_parts own made done same substitution closes there whole items rule known state is = (
-  made,
-  items,
-  (
-    value_in s new.nodes made,
-    state_of s new,
-    substitution_is s old frame (drop frame.base parts) rule known state is substitution
-        ∙ ap (λ ps. numbered (around_of (trees_in s old.nodes) frame.kept) (frame.place - 1) (number_in (values_in s old.nodes ps)) (state_of s old)) (sym same) ∙ closes,
-    record { there = there; is = refl },
-    record { table = whole.table; there = whole.there; candidates = refl; packs = refl },
-  ),
-)
-
--- the refusal of a substitution is that of the wide reading
-pub wide_closing_refused : (s : List ℕ) (old new : Linked) (frame : Frame Surroundings) (parts new_parts own : List Part) (e : Refusal) → own ≡ drop frame.base parts
-    → production_at frame.rule ≡ Production.Substitution
-    → Fails e (numbered (around_of (trees_in s old.nodes) frame.kept) (frame.place - 1) (number_in (values_in s old.nodes own)) (state_of s old))
-    → ClosesAll (wide_view s) s old new frame parts new_parts (Err e)
-wide_closing_refused s old new frame parts new_parts own e same substitution refused rule known state is =
-    subst (λ read. Fails e read)
-    (sym (substitution_is s old frame (drop frame.base parts) rule known state is substitution
-    ∙ ap (λ ps. numbered (around_of (trees_in s old.nodes) frame.kept) (frame.place - 1) (number_in (values_in s old.nodes ps)) (state_of s old)) (sym same)))
-    refused
-
--- what comes of a lambda by the wide reading, in terms of the frame
-lambda_is : (s : List ℕ) (old : Linked) (frame : Frame Surroundings) (own : List Part) (rule : Open State Around) (known : List Value) (state : State) → IsAt (wide_view s) s old frame own rule known state
-    → production_at frame.rule ≡ Production.Lambda → (byte : ℕ)
-    → (linked_wide s).close rule known state ≡ Ok (found (as_generic_lambda (link_meaning s Production.Lambda byte frame.place (around_of (trees_in s old.nodes) frame.kept) (values_in s old.nodes own))) (state_of s old))
-unfolding link_close_wide link_meaning
-lambda_is s old frame own rule known state is lambda byte =
-    ap (λ p. link_close_wide s p (byte_of rule.taken) rule.context rule.place rule.before known state) (ap production_at (sym is.number) ∙ lambda)
-    ∙ same (values_in s old.nodes own) known _ old.packs state (parts_are s old own known is.parts).1 is.holds.candidates is.holds.packs
-  where
-    same : (us vs : List Value) (cs : List values.Candidate) (packs : Option ℕ) (state : State) → us ≡ vs → cs ≡ state.candidates → packs ≡ state.packs
-        → ◌≡◌ {A = Result (Found Value State) Refusal} (Ok (found (as_generic_lambda (link_meaning s Production.Lambda (byte_of rule.taken) rule.place rule.context vs)) state))
-        (Ok (found (as_generic_lambda (link_meaning s Production.Lambda byte frame.place (around_of (trees_in s old.nodes) frame.kept) us)) (record { candidates = cs; packs = packs })))
-    same us vs cs packs state known candidates packed = rw (known, candidates, packed) refl
-
--- a part was put that stands for what a lambda is
-pub lambda_put_right : (s : List ℕ) (old new : Linked) (frame : Frame Surroundings) (parts new_parts own : List Part) (made owned : Part) (byte : ℕ) (done : Unit {0}) → own ≡ drop frame.base parts
-    → production_at frame.rule ≡ Production.Lambda
-    → value_in s new.nodes made ≡ link_meaning s Production.Lambda byte frame.place (around_of (trees_in s old.nodes) frame.kept) (values_in s old.nodes own)
-    → ((began : State) → began.packs ≡ packs_of frame.kept → behind Production.Lambda byte (around_of (trees_in s old.nodes) frame.kept) began (values_in s old.nodes own) (state_of s old) ≡ state_of s new)
-    → value_in s new.nodes owned ≡ as_generic_lambda (value_in s new.nodes made)
-    → IsThere s (length new.nodes.nodes) owned → IsWhole s new → new_parts ≡ take frame.base parts ++ owned ∷ []
-    → ClosesAll (wide_view s) s old new frame parts new_parts (Ok done)
-unfolding behind
-lambda_put_right s old new frame parts new_parts own made owned byte done same lambda meant left value there whole items rule known state is = (
-  owned,
-  items,
-  (
-    value_in s new.nodes owned,
-    state_of s new,
-    lambda_is s old frame (drop frame.base parts) rule known state is lambda byte
-        ∙ ap (λ ps. Ok (found (as_generic_lambda (link_meaning s Production.Lambda byte frame.place (around_of (trees_in s old.nodes) frame.kept) (values_in s old.nodes ps))) (state_of s old))) (sym same)
-        ∙ both (λ v x. Ok (found v x)) (ap as_generic_lambda (sym meant) ∙ sym value) (left rule.before (sym is.kept.packs)),
-    record { there = there; is = refl },
-    record { table = whole.table; there = whole.there; candidates = refl; packs = refl },
-  ),
-)
+    by : (p : Production) → link_close s p (byte_of rule.taken) rule.context rule.place rule.before known state ≡ link_close s p (slice_index s rule.place) rule.context rule.place rule.before known state
+        → link_close_wide s p (byte_of rule.taken) rule.context rule.place rule.before known state ≡ link_close_wide s p (slice_index s rule.place) rule.context rule.place rule.before known state
+    by Production.Substitution same = refl
+    by Production.Lambda same = refl
+    by Production.Inheriting same = refl
+    by _ same = same
 
 -- ## How many nodes are made
 
-pub wide_before_read : (s : List ℕ) (old new : Linked) (frame : Frame Surroundings) (parts : List Part) (result : Result Surroundings Refusal) → 4 ≤ length old.nodes.nodes
-    → OnOk result (length new.nodes.nodes ≡ length old.nodes.nodes + makes_before (production_at frame.rule) (values_in s old.nodes (drop frame.base parts)))
-    → (rule : Open State Around) (known : List Value) (state : State) → IsAt (wide_view s) s old frame (drop frame.base parts) rule known state
-    → OnOk result (length new.nodes.nodes - 4 ≡ length old.nodes.nodes - 4 + makes_before (production_at rule.rule.number) known)
-wide_before_read s old new frame parts result begun made rule known state is =
-    before_read s old new frame parts result begun made rule known state (at_plain s old frame (drop frame.base parts) rule known state is)
+-- what goes on to the next part by the wide reading, and makes so many nodes before it, goes on to it where they are counted
+pub goes_counted : (s : List ℕ) (old : Rescoping) (new : Linked) (frame : Frame Surroundings) (parts new_parts : List Part) (result : Result Surroundings Refusal) → 4 ≤ length old.linked.nodes.nodes
+    → OnOk result (length new.nodes.nodes ≡ length old.linked.nodes.nodes + makes_before (production_at frame.rule) (values_in s old.linked.nodes (drop frame.base parts)))
+    → GoesOn (wide_view s) s (Surrounds s) old.linked new frame parts new_parts result
+    → GoesOn (wide_counted s) s (λ l. Surrounds s l.linked) old (record { linked = new }) frame parts new_parts result
+goes_counted s old new frame parts new_parts result begun made goes =
+    goes_within (tallied_view (wide_view s) wide_makes) s old (record { linked = new }) (Surrounds s) frame parts new_parts result
+    (between_tallied (wide_view s) wide_makes s (Surrounds s) old.linked new frame parts new_parts result
+    (λ rule known state is. before_read s old.linked new frame parts result begun made rule known state (at_plain s old.linked frame (drop frame.base parts) rule known state is)) goes)
 
-apart_end : (p : Production) (around : Around) (known : List Value) (state : State) → (p ≡ Production.Substitution → ⊥) → makes_at_end p known ≡ wide_at_end p around known state
+pub apart_end : (p : Production) (around : Around) (known : List Value) (state : State) → (p ≡ Production.Substitution → ⊥) → makes_at_end p known ≡ wide_at_end p around known state
 unfolding wide_at_end
 apart_end Production.Substitution around known state apart = absurd (apart refl)
 apart_end _ around known state apart = refl
 
-pub apart_end_read : (s : List ℕ) (old new : Linked) (frame : Frame Surroundings) (parts : List Part) (result : Result (Unit {0}) Refusal) → 4 ≤ length old.nodes.nodes
-    → (production_at frame.rule ≡ Production.Substitution → ⊥)
-    → OnOk result (length new.nodes.nodes ≡ length old.nodes.nodes + makes_at_end (production_at frame.rule) (values_in s old.nodes (drop frame.base parts)))
-    → (rule : Open State Around) (known : List Value) (state : State) → IsAt (wide_view s) s old frame (drop frame.base parts) rule known state
-    → OnOk result (length new.nodes.nodes - 4 ≡ length old.nodes.nodes - 4 + wide_at_end (production_at rule.rule.number) rule.context known state)
-apart_end_read s old new frame parts result begun apart made rule known state is =
-    subst (λ n. OnOk result (length new.nodes.nodes - 4 ≡ length old.nodes.nodes - 4 + n))
-    (apart_end (production_at rule.rule.number) rule.context known state (λ substitution. apart (ap production_at is.number ∙ substitution)))
-    (end_read s old new frame parts result begun made rule known state (at_plain s old frame (drop frame.base parts) rule known state is))
-
 -- what closes a rule by the wide reading, and makes so many nodes, closes it where they are counted
-pub closes_counted : (s : List ℕ) (old : Rescoping) (new : Linked) (frame : Frame Surroundings) (parts new_parts : List Part) (result : Result (Unit {0}) Refusal)
-    → ((rule : Open State Around) (known : List Value) (state : State) → IsAt (wide_view s) s old.linked frame (drop frame.base parts) rule known state
-    → OnOk result (length new.nodes.nodes - 4 ≡ length old.linked.nodes.nodes - 4 + wide_at_end (production_at rule.rule.number) rule.context known state))
+pub closes_counted : (s : List ℕ) (old : Rescoping) (new : Linked) (frame : Frame Surroundings) (parts new_parts : List Part) (result : Result (Unit {0}) Refusal) → 4 ≤ length old.linked.nodes.nodes
+    → OnOk result (length new.nodes.nodes ≡ length old.linked.nodes.nodes + wide_ends s old.linked frame.kept (production_at frame.rule) (values_in s old.linked.nodes (drop frame.base parts)))
     → ClosesAll (wide_view s) s old.linked new frame parts new_parts result → ClosesAll (wide_counted s) s old (record { linked = new }) frame parts new_parts result
-closes_counted s old new frame parts new_parts result made closes =
+closes_counted s old new frame parts new_parts result begun made closes =
     closes_within (tallied_view (wide_view s) wide_makes) s old (record { linked = new }) frame parts new_parts result
-    (finish_tallied (wide_view s) wide_makes s old.linked new frame parts new_parts result made closes)
-
--- as what is no substitution does
-pub apart_counted : (s : List ℕ) (old : Rescoping) (new : Linked) (frame : Frame Surroundings) (parts new_parts : List Part) (result : Result (Unit {0}) Refusal) → 4 ≤ length old.linked.nodes.nodes
-    → (production_at frame.rule ≡ Production.Substitution → ⊥)
-    → OnOk result (length new.nodes.nodes ≡ length old.linked.nodes.nodes + makes_at_end (production_at frame.rule) (values_in s old.linked.nodes (drop frame.base parts)))
-    → ClosesAll (wide_view s) s old.linked new frame parts new_parts result → ClosesAll (wide_counted s) s old (record { linked = new }) frame parts new_parts result
-apart_counted s old new frame parts new_parts result begun apart made closes =
-    closes_counted s old new frame parts new_parts result (apart_end_read s old.linked new frame parts result begun apart made) closes
-
-pub substitution_end_read : (s : List ℕ) (old new : Linked) (frame : Frame Surroundings) (parts : List Part) (result : Result (Unit {0}) Refusal) → 4 ≤ length old.nodes.nodes
-    → production_at frame.rule ≡ Production.Substitution
-    → OnOk result (length new.nodes.nodes ≡ length old.nodes.nodes + substituted_nodes (around_of (trees_in s old.nodes) frame.kept) (named_by (state_of s old) (values_in s old.nodes (drop frame.base parts))))
-    → (rule : Open State Around) (known : List Value) (state : State) → IsAt (wide_view s) s old frame (drop frame.base parts) rule known state
-    → OnOk result (length new.nodes.nodes - 4 ≡ length old.nodes.nodes - 4 + wide_at_end (production_at rule.rule.number) rule.context known state)
-unfolding wide_at_end
-substitution_end_read s old new frame parts (Err e) begun substitution made rule known state is = tt
-substitution_end_read s old new frame parts (Ok done) begun substitution made rule known state is =
-    omega (
-      arith,
-      begun,
-      made,
-      ap (λ p. wide_at_end p rule.context known state) (ap production_at (sym is.number) ∙ substitution),
-      same (around_of (trees_in s old.nodes) frame.kept) rule.context (values_in s old.nodes (drop frame.base parts)) known _ old.packs state
-          is.kept.surrounds.is (parts_are s old (drop frame.base parts) known is.parts).1 is.holds.candidates is.holds.packs,
-    )
+    (finish_tallied (wide_view s) wide_makes s old.linked new frame parts new_parts result (ended result made) closes)
   where
-    same : (code around : Around) (us vs : List Value) (cs : List values.Candidate) (packs : Option ℕ) (state : State)
-        → code ≡ around → us ≡ vs → cs ≡ state.candidates → packs ≡ state.packs
-        → substituted_nodes around (named_by state vs) ≡ substituted_nodes code (named_by (record { candidates = cs; packs = packs }) us)
-    same code around us vs cs packs state context known candidates packed = rw (context, known, candidates) refl
+    same : (m n : ℕ) (code around : Around) (us vs : List Value) (cs : List values.Candidate) (packs : Option ℕ) (state : State)
+        → m ≡ n → code ≡ around → us ≡ vs → cs ≡ state.candidates → packs ≡ state.packs
+        → wide_at_end (production_at n) around vs state ≡ wide_at_end (production_at m) code us (record { candidates = cs; packs = packs })
+    same m n code around us vs cs packs state number context known candidates packed = rw (number, context, known, candidates, packed) refl
+
+    ended : (r : Result (Unit {0}) Refusal)
+        → OnOk r (length new.nodes.nodes ≡ length old.linked.nodes.nodes + wide_ends s old.linked frame.kept (production_at frame.rule) (values_in s old.linked.nodes (drop frame.base parts)))
+        → (rule : Open State Around) (known : List Value) (state : State) → IsAt (wide_view s) s old.linked frame (drop frame.base parts) rule known state
+        → OnOk r (length new.nodes.nodes - 4 ≡ length old.linked.nodes.nodes - 4 + wide_at_end (production_at rule.rule.number) rule.context known state)
+    ended (Err e) more rule known state is = tt
+    ended (Ok done) more rule known state is =
+        omega (
+          arith,
+          begun,
+          more,
+          same frame.rule rule.rule.number (around_of (trees_in s old.linked.nodes) frame.kept) rule.context (values_in s old.linked.nodes (drop frame.base parts)) known _ old.linked.packs state
+              is.number is.kept.surrounds.is (parts_are s old.linked (drop frame.base parts) known is.parts).1 is.holds.candidates is.holds.packs,
+        )
 
 -- ## A tree that is there again
 
@@ -352,14 +223,32 @@ generic_is s y kept p place (x ∷ []) digits cs packs step is lambda one own_is
     ∙ ap (λ ds. generic_read (is_parameter_argument p) (around_of (trees_in s y) kept) (counted_value Decimal ds) (record { candidates = cs; packs = packs })) (sym own_is)
     ∙ goes (value_of s (trees_in s y) x)
 
-pub no_pack : (p : Production) → is_parameter p ≡ true → p ≡ Production.PackArgument → ⊥
-unfolding is_parameter
-no_pack p is pack = absurd (false≢true (ap is_parameter (sym pack) ∙ is))
+pub no_pack : (p : Production) (l : Bool) (before : ℕ) → steps_apart p l before ≡ true → p ≡ Production.PackArgument → ⊥
+unfolding steps_apart
+no_pack p l before is pack = absurd (false≢true (ap (λ q. steps_apart q l before) (sym pack) ∙ is))
 
-pub own_arguments_alone : (p : Production) → is_own_arguments p ≡ true → p ≡ Production.OwnArguments
-unfolding is_own_arguments
-own_arguments_alone Production.OwnArguments is = refl
-own_arguments_alone _ is = absurd (false≢true is)
+-- what is neither a name with its M nor the arguments of a constructor that is inherited is a parameter of a lambda
+pub apart_generic : (p : Production) (l : Bool) (before : ℕ) → steps_apart p l before ≡ true → (p ≡ Production.Holder → ⊥) → (p ≡ Production.OwnArguments → ⊥) → (is_parameter p ≡ true) × ((l ≡ true) × (before ≡ 1))
+unfolding steps_apart is_parameter
+apart_generic Production.Parameter l before is held own = (refl, second l before is)
+apart_generic Production.NestParameter l before is held own = (refl, second l before is)
+apart_generic Production.ParameterArgument l before is held own = (refl, second l before is)
+apart_generic Production.ParameterExpression l before is held own = (refl, second l before is)
+apart_generic Production.Holder l before is held own = absurd (held refl)
+apart_generic Production.OwnArguments l before is held own = absurd (own refl)
+apart_generic _ l before is held own = absurd (false≢true is)
+
+-- there is no mark then
+pub unmarked : (p : Production) (around : Around) (vs : List Value) (state : State) → (p ≡ Production.Holder → ⊥) → (p ≡ Production.OwnArguments → ⊥) → with_mark p around vs state ≡ state
+unfolding with_mark
+unmarked Production.Holder around vs state held own = absurd (held refl)
+unmarked Production.OwnArguments around vs state held own = absurd (own refl)
+unmarked _ around vs state held own = refl
+
+pub going_unmarked : (p : Production) (around : Around) (going : Going) → (p ≡ Production.Holder → ⊥) → (p ≡ Production.OwnArguments → ⊥) → going_marked p around going ≡ going
+unfolding going_marked
+going_unmarked p around (Ok n) held own = ap (λ x. Ok (record n { state = x })) (unmarked p around n.values n.state held own)
+going_unmarked p around (Err e) held own = refl
 
 -- ## Lambdas
 

@@ -13,6 +13,16 @@ pub same_room : (old new : Linked) → new.nodes ≡ old.nodes → new.candidate
 same_room old new nodes candidates =
     rw (nodes, candidates) (record { nodes = omega arith; thunks = omega arith; candidates = omega arith })
 
+-- another call after one
+pub keeps_on : (old mid new : Linked) → KeepsRoom old mid → KeepsRoom mid new → KeepsRoom old new
+keeps_on old mid new first second =
+    record { nodes = omega (arith, first.nodes, second.nodes); thunks = omega (arith, first.thunks, second.thunks); candidates = omega (arith, first.candidates, second.candidates) }
+
+pub lacks_on : (old mid new : Linked) → KeepsRoom old mid → LacksRoom mid new → LacksRoom old new
+lacks_on old mid new first (inl nodes) = inl (omega (arith, first.nodes, nodes))
+lacks_on old mid new first (inr (inl thunks)) = inr (inl (omega (arith, first.thunks, thunks)))
+lacks_on old mid new first (inr (inr candidates)) = inr (inr (omega (arith, first.candidates, candidates)))
+
 lacks_list : (old new : Linked) → LacksRoom old new → LackRoom (lists_of old) (lists_of new)
 lacks_list old new (inl nodes) = inl nodes
 lacks_list old new (inr (inl thunks)) = inr (inl thunks)

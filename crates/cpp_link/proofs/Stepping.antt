@@ -88,7 +88,7 @@ grown s y z table same = rw same (record { table = table; stays = λ i less. ref
 pub takes_go : (s : List ℕ) (old new : Linked) (kept : Surroundings) (base : ℕ) (parts : List Part) (candidate : Option ℕ) (then : Surroundings) (packs : Option ℕ)
     → IsTable (over s old.nodes) → new.nodes ≡ old.nodes → AreCandidatesThere (length old.nodes.nodes) new.candidates.items
     → IsKeptThere (length old.nodes.nodes) then → AreThere s (length old.nodes.nodes) (drop base parts)
-    → with_candidate (around_of (trees_in s old.nodes) kept) (trees_in s old.nodes) candidate (record { candidates = candidates_of (trees_in s old.nodes) old.candidates.items; packs = packs }) ≡ state_of s new
+    → with_candidate false (around_of (trees_in s old.nodes) kept) (trees_in s old.nodes) candidate (record { candidates = candidates_of (trees_in s old.nodes) old.candidates.items; packs = packs }) ≡ state_of s new
     → Takes s old new kept base parts parts (Step.Go candidate then packs) then
 unfolding goes_on
 takes_go s old new kept base parts candidate then packs table same candidates around there is = record {
@@ -154,7 +154,7 @@ taken_as s old new kept base parts new_parts step taken then left same is takes 
 
 -- ## A node that may become a candidate
 
-choice : (a : Around) (ts : List Term) (number : ℕ) (state : State) (b : Bool) → appended_if b a (tree_at ts number) state ≡ with_candidate a ts (elim b [ true ↦ Some number | false ↦ None ]) state
+choice : (a : Around) (ts : List Term) (number : ℕ) (state : State) (b : Bool) → appended_if b a (tree_at ts number) state ≡ with_candidate false a ts (elim b [ true ↦ Some number | false ↦ None ]) state
 unfolding appended_if with_candidate
 choice a ts number state false = refl
 choice a ts number state true = refl
@@ -163,12 +163,12 @@ pub noted_is : (s : List ℕ) (y z : Stored) (kept : Surroundings) (cs : List Ca
     → ((i : ℕ) → i < length y.nodes → tree_at (trees_in s z) i ≡ tree_at (trees_in s y) i)
     → IsKeptThere (length y.nodes) kept → AreCandidatesThere (length y.nodes) cs → tree_at (trees_in s z) number ≡ t
     → candidate ≡ elim is_candidate [ true ↦ Some number | false ↦ None ]
-    → with_candidate (around_of (trees_in s z) kept) (trees_in s z) candidate (record { candidates = candidates_of (trees_in s z) cs; packs = packs }) ≡ state
+    → with_candidate false (around_of (trees_in s z) kept) (trees_in s z) candidate (record { candidates = candidates_of (trees_in s z) cs; packs = packs }) ≡ state
     → appended_if is_candidate (around_of (trees_in s y) kept) t (record { candidates = candidates_of (trees_in s y) cs; packs = packs }) ≡ state
 noted_is s y z kept cs number t is_candidate candidate packs state stays there listed tree chosen is =
     same is_candidate _ _ _ _ _ _ packs (sym (around_stays s y z stays kept there)) (sym tree) (sym (candidates_stay s y z stays cs listed))
     ∙ choice (around_of (trees_in s z) kept) (trees_in s z) number (record { candidates = candidates_of (trees_in s z) cs; packs = packs }) is_candidate
-    ∙ ap (λ o. with_candidate (around_of (trees_in s z) kept) (trees_in s z) o (record { candidates = candidates_of (trees_in s z) cs; packs = packs })) (sym chosen) ∙ is
+    ∙ ap (λ o. with_candidate false (around_of (trees_in s z) kept) (trees_in s z) o (record { candidates = candidates_of (trees_in s z) cs; packs = packs })) (sym chosen) ∙ is
   where
     same : (b : Bool) (a c : Around) (t u : Term) (cs ds : List values.Candidate) (packs : Option ℕ) → a ≡ c → t ≡ u → cs ≡ ds
         → appended_if b a t (record { candidates = cs; packs = packs }) ≡ appended_if b c u (record { candidates = ds; packs = packs })

@@ -1,5 +1,5 @@
 -- C++'s reading of the wide grammar as the linker follows it, and how many nodes are made of a symbol by it.
-use Rattle.std.specs.Prelude.{◌≡◌, ℕ, ◌+◌, List, [], ◌∷◌, slice_get, Option, Some, None, Bool, true, false, ◌&&◌, nat_eq, Result, Ok}
+use Rattle.std.specs.Prelude.{◌≡◌, ℕ, ◌+◌, List, [], ◌∷◌, slice_get, Option, Some, None, Bool, true, false, ◌&&◌, nat_eq, Result, Ok, Err}
 use Rattle.sym_core.specs.declared.refusal.Refusal.{Refusal}
 use Rattle.sym_core.specs.declared.NumberKind.TheVariants.{Seq36}
 use Rattle.sym_core.specs.Value.{counted_value}
@@ -11,19 +11,20 @@ use Rattle.sym_link.specs.Tally.{Tally, tally, Makes, tallied, tallied_view}
 use Rattle.cpp_grammar.specs.declared.production.Production.{Production}
 use Rattle.cpp_grammar.specs.Rescoping.{generic_number}
 use Rattle.cpp_grammar.specs.Unfolding.{production_at, byte_of}
-use Rattle.cpp_term.specs.Term.{Term, parameter}
+use Rattle.cpp_term.specs.Term.{parameter}
 use Rattle.cpp_term.specs.Items.{auto}
-use Rattle.cpp_term.specs.Values.{Candidate, State, Around, Value, tree, pair, is_listed, text_of, part}
+use Rattle.cpp_term.specs.Values.{Candidate, State, Around, Value, tree, tree_of, prefix_tree, text_of, part}
 use Rattle.cpp_term.specs.Unfolding.{first_around, first_state}
-use Rattle.cpp_term.specs.Rescoping.{generic_so_far, is_foreign, as_generic_lambda, with_base, counted_base, close_wide, cpp_wide}
+use Rattle.cpp_term.specs.Rescoping.{generic_so_far, with_holder, is_foreign, as_generic_lambda, counted_base, close_wide, cpp_wide}
 use Rattle.cpp_term.specs.Between.{Going, next}
-use Rattle.cpp_tree.specs.Nodes.{tree_at}
 use Rattle.cpp_link.specs.declared.linked.Linked.{Linked}
 use Rattle.cpp_link.specs.declared.rescoping.Rescoping.{Rescoping}
 use Rattle.cpp_link.specs.declared.part.Part.{Part}
 use Rattle.cpp_references.specs.declared.around.Surroundings.{Surroundings}
 use Rattle.cpp_link.specs.LinkReading.{link_begin, link_close, link_meaning}
+use Rattle.cpp_link.specs.Making.{state_of}
 use Rattle.cpp_link.specs.NodeCount.{makes_before, makes_at_end, counted_nodes}
+use Rattle.cpp_link.specs.Parts.{trees_in, around_of}
 use Rattle.cpp_link.specs.View.{cpp_view}
 
 -- ## The reading
@@ -59,35 +60,27 @@ unfoldable pub is_parameter_argument : Production → Bool
 is_parameter_argument Production.ParameterExpression = true
 is_parameter_argument _ = false
 
-unfoldable pub is_holder : Production → Bool
-is_holder Production.Holder = true
-is_holder _ = false
+-- Before the part after so many of a production the wide reading does something of its own: in a lambda's signature a parameter is named,
+-- a name becomes a candidate with its M, or the base class of a constructor that is inherited is counted.
+unfoldable pub steps_apart : Production → (in_lambda : Bool) → (before : ℕ) → Bool
+steps_apart Production.Parameter in_lambda before = in_lambda && nat_eq before 1
+steps_apart Production.NestParameter in_lambda before = in_lambda && nat_eq before 1
+steps_apart Production.ParameterArgument in_lambda before = in_lambda && nat_eq before 1
+steps_apart Production.ParameterExpression in_lambda before = in_lambda && nat_eq before 1
+steps_apart Production.Holder in_lambda before = nat_eq before 1
+steps_apart Production.OwnArguments in_lambda before = nat_eq before 0
+steps_apart _ in_lambda before = false
 
-unfoldable pub is_own_arguments : Production → Bool
-is_own_arguments Production.OwnArguments = true
-is_own_arguments _ = false
+-- What is a mark among the candidates then, once the parts stand for these values: a name with its M, or a base class.
+unfoldable pub with_mark : Production → Around → List Value → State → State
+with_mark Production.Holder around vs state = with_holder around (tree_of (part vs 0)) state
+with_mark Production.OwnArguments around vs state = with_holder around (prefix_tree around.prefix) state
+with_mark _ around vs state = state
 
--- before the part after these the base class of a constructor that is inherited is counted
-abbrev pub counts_base : Production → (held : ℕ) → Bool
-counts_base p held = is_own_arguments p && nat_eq held 0
-
--- a base class that was counted before arguments of the constructor's own, or is there by its number alone
-unfoldable pub is_counted : Value → Bool
-is_counted (pair letter base own) = true
-is_counted base = is_listed base
-
--- this base class is counted, if one is to be
-unfoldable pub base_counted : Around → List Term → Option ℕ → State → State
-base_counted around ts None state = state
-base_counted around ts (Some base) state = with_base around (tree_at ts base) state
-
--- before the part after these a name becomes a candidate with its M
-abbrev pub names_holder : Production → (held : ℕ) → Bool
-names_holder p held = is_holder p && nat_eq held 1
-
--- before the part after these a parameter of a lambda is named
-abbrev pub names_generic : Production → (in_lambda : Bool) → (held : ℕ) → Bool
-names_generic p in_lambda held = in_lambda && is_parameter p && nat_eq held 1
+-- what is done, and the mark
+unfoldable pub going_marked : Production → Around → Going → Going
+going_marked production around (Ok next) = Ok (record next { state = with_mark production around next.values next.state })
+going_marked production around (Err e) = Err e
 
 -- what the lambda's own parameter of this number comes to, which may be an argument itself
 unfoldable pub generic_read : (is_argument : Bool) → Around → ℕ → State → Going
@@ -112,6 +105,10 @@ substituted_nodes around (Some c) = elim (is_foreign around c) [ true ↦ 1 | fa
 unfoldable pub wide_at_end : Production → Around → List Value → State → ℕ
 wide_at_end Production.Substitution around known state = substituted_nodes around (named_by state known)
 wide_at_end p around known state = makes_at_end p known
+
+-- of a rule with these parts, which closes when so much is linked
+abbrev pub wide_ends : List ℕ → Linked → Surroundings → Production → List Value → ℕ
+wide_ends s l kept p known = wide_at_end p (around_of (trees_in s l.nodes) kept) known (state_of s l)
 
 abbrev pub wide_makes : Makes Value State Around
 wide_makes = record {

@@ -1,7 +1,8 @@
 -- What a call leaves that goes on to the next part of a frame's rule, or closes it.
-use Rattle.std.specs.Prelude.{◌≡◌, ℕ, ◌+◌, List, [], ◌∷◌, ◌++◌, length, drop, Vec, Result, OnOk}
+use Rattle.std.specs.Prelude.{◌≡◌, ℕ, ◌+◌, ◌<◌, ◌≤◌, List, [], ◌∷◌, ◌++◌, length, drop, Vec, Result, IfOk, IfErr, OnOk, OnErr}
 use Rattle.std.specs.Global.{Global}
 use Rattle.sym_core.specs.declared.refusal.Refusal.{Refusal}
+use Rattle.sym_core.specs.declared.refusal.Refusal.TheVariants.{Memory}
 use Rattle.sym_link.specs.declared.language.Frame.{Frame}
 use Rattle.sym_link.specs.Linking.{View, Adds, AddsFew, Pays, owed_behind, owed_next}
 use Rattle.sym_link.specs.Threads.{GoesOn, ClosesAll, AddsBefore}
@@ -11,10 +12,34 @@ use Rattle.cpp_term.specs.Values.{State, Value, Around}
 use Rattle.cpp_references.specs.declared.around.Surroundings.{Surroundings}
 use Rattle.cpp_link.specs.declared.linked.Linked.{Linked}
 use Rattle.cpp_link.specs.declared.part.Part.{Part}
+use Rattle.cpp_link.specs.Grows.{Grows}
 use Rattle.cpp_link.specs.NodeCount.{makes_before}
-use Rattle.cpp_link.specs.Parts.{values_in}
-use Rattle.cpp_link.specs.Room.{IsRoomy}
-use Rattle.cpp_link.specs.View.{Surrounds, cpp_view}
+use Rattle.cpp_link.specs.Parts.{values_in, IsThere}
+use Rattle.cpp_link.specs.Room.{KeepsRoom, LacksRoom, IsRoomy}
+use Rattle.cpp_link.specs.View as view
+use Rattle.cpp_link.specs.View.{IsPaid, IsWhole, Surrounds, cpp_view}
+
+-- So many nodes were added, if they were, and the last of them is the answer. The candidates and the packs stay.
+pub record AddsNodes (s : List ℕ) (old new : Linked) (count : ℕ) (result : Result ℕ Refusal) : Type 0 where
+  pub grows : Grows s old.nodes new.nodes count
+  pub more : OnOk result (length new.nodes.nodes ≡ length old.nodes.nodes + count)
+  pub there : IfOk result (λ number. number < length new.nodes.nodes)
+  pub candidates : new.candidates ≡ old.candidates
+  pub packs : new.packs ≡ old.packs
+  pub memory : IfErr result (λ e. e ≡ Memory)
+  pub keeps : KeepsRoom old new
+  pub full : OnErr result (LacksRoom old new)
+
+-- A rule's part was made, if it was, of so many nodes. There are never more of them than may be made where the rule ends.
+pub record MakesPart (s : List ℕ) (old new : Linked) (most count : ℕ) (result : Result Part Refusal) : Type 0 where
+  pub there : IfOk result (λ part. IsThere s (length new.nodes.nodes) part)
+  pub grows : OnOk result (view.GoesOn s old new)
+  pub few : length new.nodes.nodes ≤ length old.nodes.nodes + most
+  pub makes : OnOk result (length new.nodes.nodes ≡ length old.nodes.nodes + count)
+  pub paid : OnOk result (IsPaid new)
+  pub whole : OnOk result (IsWhole s new)
+  pub keeps : KeepsRoom old new
+  pub full : IfErr result (λ e. e ≡ Memory → LacksRoom old new)
 
 -- What is done before the next part is what the view's reading says, and that part is surrounded then as it says.
 pub record Advances (view : View Linked Part Surroundings Value State Around) (s : List ℕ) (old new : Linked) (frame : Frame Surroundings) (parts new_parts : Vec Part Global) (result : Result Surroundings Refusal) : Type 0 where

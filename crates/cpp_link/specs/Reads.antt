@@ -6,6 +6,7 @@ use Rattle.cpp_term.specs.Term.{Term, absent, nil}
 use Rattle.cpp_term.specs.Scope.{has_return_type}
 use Rattle.cpp_term.specs.Meaning.{is_void, is_nil, parameters}
 use Rattle.cpp_term.specs.References.{appended}
+use Rattle.cpp_term.specs.Rescoping.{with_holder}
 use Rattle.cpp_term.specs.Values as values
 use Rattle.cpp_term.specs.Values.{State, Value, Around, tree_of, qualifiers_of, ref_of}
 use Rattle.cpp_tree.specs.Nodes.{Stored, tree_at, tree_if_there, IsThereBelow}
@@ -43,16 +44,6 @@ unfoldable pub ending_node : Node → Bool
 ending_node (Node.Operation first second left right) = is_code 99 109 first second || is_code 103 116 first second || is_code 114 115 first second
 ending_node _ = false
 
--- the encoding that is a literal
-unfoldable pub encoding_in : Node → Option ℕ
-encoding_in (Node.EncodingLiteral encoding) = Some encoding
-encoding_in _ = None
-
--- an operation, or the address of this encoding
-unfoldable pub operation_read : List Term → Option ℕ → (first second : ℕ) → (left right : Term) → Term
-operation_read ts None first second left right = term.operation first second left right
-operation_read ts (Some encoding) first second left right = term.address_of (tree_at ts encoding)
-
 -- the first element and the others of a list that has some, and the argument under which both are
 unfoldable pub cell_under : Node → Option ℕ → Option Split
 cell_under (Node.Cell first rest) under = Some (record { first = first; rest = rest; under = under })
@@ -77,10 +68,12 @@ encoding_by ts name (Some l) items = elim (has_return_type (tree_of name)) [
   | false ↦ term.function (tree_of name) (qualifiers_of name) (ref_of name) absent (parameters items)
 ]
 
--- a tree more or less among the candidates
-unfoldable pub with_candidate : Around → List Term → Option ℕ → State → State
-with_candidate around ts None state = state
-with_candidate around ts (Some n) state = appended around (tree_at ts n) state
+-- a tree more or less among the candidates, which may be there as a mark
+unfoldable pub with_candidate : (is_held : Bool) → Around → List Term → Option ℕ → State → State
+with_candidate false around ts None state = state
+with_candidate false around ts (Some n) state = appended around (tree_at ts n) state
+with_candidate true around ts None state = state
+with_candidate true around ts (Some n) state = with_holder around (tree_at ts n) state
 
 -- ## Steps
 
@@ -100,7 +93,7 @@ appended_if true around t state = appended around t state
 -- what a step comes to, before a part that this surrounds, after these values
 unfoldable pub goes_on : List ℕ → Stored → Surroundings → List Value → List values.Candidate → Option ℕ → Step → Going
 goes_on s y kept vs cs before (Step.Go candidate then packs) =
-    Ok (record { values = vs; context = around_of (trees_in s y) then; state = with_candidate (around_of (trees_in s y) kept) (trees_in s y) candidate (record { candidates = cs; packs = packs }) })
+    Ok (record { values = vs; context = around_of (trees_in s y) then; state = with_candidate false (around_of (trees_in s y) kept) (trees_in s y) candidate (record { candidates = cs; packs = packs }) })
 goes_on s y kept vs cs before (Step.Named node listed is_name) =
     Ok (record { values = values.tree (tree_at (trees_in s y) node) listed ∷ behind_first vs; context = named_if is_name (around_of (trees_in s y) kept) (tree_at (trees_in s y) node) listed; state = record { candidates = cs; packs = before } })
 goes_on s y kept vs cs before (Step.Made node listed is_name is_candidate packs) =

@@ -78,13 +78,13 @@ impl Linked {
         requires there { AreCandidatesThere (length self.old.nodes.nodes) self.old.candidates.items }
         ensures nodes { self.new.nodes ≡ self.old.nodes }
         ensures there { OnOk result (AreCandidatesThere (length self.old.nodes.nodes) self.new.candidates.items) }
-        ensures is { OnOk result (with_candidate (around_of (trees_in symbol.now self.old.nodes) kept) (trees_in symbol.now self.old.nodes) candidate
+        ensures is { OnOk result (with_candidate false (around_of (trees_in symbol.now self.old.nodes) kept) (trees_in symbol.now self.old.nodes) candidate
             (record { candidates = candidates_of (trees_in symbol.now self.old.nodes) self.old.candidates.items; packs = packs }) ≡ state_of symbol.now self.new) }
         ensures memory { IfErr result (λ e. e ≡ refusals.Memory) }
         ensures keeps { KeepsRoom self.old self.new }
         ensures full { OnErr result (LacksRoom self.old self.new) }
     {
-        self.append(symbol, kept, candidate)?;
+        self.append(symbol, kept, candidate, false)?;
         self.packs = packs;
         Ok(())
     }

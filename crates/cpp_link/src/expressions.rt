@@ -10,13 +10,13 @@ ghost use Rattle.cpp_term.specs.Between.{no_items};
 ghost use Rattle.cpp_term.specs.Meaning.{operation_or_address, operation_by, first_letter, second_letter, in_parentheses, is_comma, ends_arguments, enclosed_argument, enclosed_element};
 ghost use Rattle.cpp_tree.specs.declared.node.Thunk as thunks;
 ghost use Rattle.cpp_tree.specs.Nodes as nodes;
-ghost use Rattle.cpp_tree.specs.Nodes.{over, tree_at, IsThereBelow, IsBelow, IsTable};
+ghost use Rattle.cpp_tree.specs.Nodes.{over, tree_at, IsBelow, IsTable};
 ghost use Rattle.cpp_link.specs.declared.part.Outcome.{Outcome};
 ghost use Rattle.cpp_link.specs.declared.part.Part.{Part};
 ghost use Rattle.cpp_link.specs.Making.{nodes_of_outcome};
 ghost use Rattle.cpp_link.specs.NodeCount.{enclosed_at_end, elements_at_end, operation_at_end};
 ghost use Rattle.cpp_link.specs.Parts.{trees_in, tree_of_node, values_in, outcome_value, AreThere, IsOutcomeThere};
-ghost use Rattle.cpp_link.specs.Reads.{comma_node, ending_node, encoding_in, operation_read};
+ghost use Rattle.cpp_link.specs.Reads.{comma_node, ending_node};
 
 use crate::linked::Linked;
 use crate::meaning::made;
@@ -95,34 +95,9 @@ pub(crate) fn second_letter(piece: Piece) -> u8
     }
 }
 
-/// The encoding that it is as a literal, if it is one.
-#[tactic(auto, unfolding(crate::specs::Reads::encoding_in))]
-fn encoding_in(node: Node) -> Option<u32>
-    ensures { result ≡ encoding_in node }
-{
-    match node {
-        Node::EncodingLiteral(encoding) => Some(encoding),
-        _ => None,
-    }
-}
-
 impl Linked {
-    /// The encoding whose address an operator with these letters takes of this operand, if it does that.
-    fn addressed(&self, symbol: &[u8], first: u8, second: u8, operand: u32) -> Option<u32>
-        requires table { IsTable (over symbol.now self.now.nodes) }
-        requires operand { operand < length self.now.nodes.nodes }
-        ensures is { (right : Term) → operation_or_address (is_code 97 100 first second) first second (tree_at (trees_in symbol.now self.now.nodes) operand) right
-            ≡ operation_read (trees_in symbol.now self.now.nodes) result first second (tree_at (trees_in symbol.now self.now.nodes) operand) right }
-        ensures there { IsThereBelow (length self.now.nodes.nodes) result }
-    {
-        if is_code(b'a', b'd', first, second) {
-            return encoding_in(opened(&self.nodes, symbol, operand).node);
-        }
-        None
-    }
-
     /// The operation of the operator with this first letter and this second one: the address of an encoding is a node of its own.
-    #[tactic(auto, unfolding(crate::specs::Reads::operation_read, cpp_tree::specs::Nodes::tree_of))]
+    #[tactic(auto, unfolding(cpp_tree::specs::Nodes::tree_of))]
     fn operation(&self, symbol: &[u8], first: u8, second: u8, left: u32, right: u32) -> Node
         requires table { IsTable (over symbol.now self.now.nodes) }
         requires left { left < length self.now.nodes.nodes }
@@ -131,14 +106,18 @@ impl Linked {
             ≡ operation_or_address (is_code 97 100 first second) first second (tree_at (trees_in symbol.now self.now.nodes) left) (tree_at (trees_in symbol.now self.now.nodes) right) }
         ensures there { IsBelow symbol.now (length self.now.nodes.thunks) (length self.now.nodes.nodes) result }
     {
-        match self.addressed(symbol, first, second, left) {
-            Some(encoding) => Node::AddressOf(encoding),
-            None => Node::Operation {
-                first,
-                second,
-                left,
-                right,
-            },
+        let operation = Node::Operation {
+            first,
+            second,
+            left,
+            right,
+        };
+        if !is_code(b'a', b'd', first, second) {
+            return operation;
+        }
+        match opened(&self.nodes, symbol, left).node {
+            Node::EncodingLiteral(encoding) => Node::AddressOf(encoding),
+            _ => operation,
         }
     }
 

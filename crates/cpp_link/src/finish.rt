@@ -1,6 +1,6 @@
 // A rule closes over all its parts.
 
-ghost use Rattle.std.specs.Prelude.{◌≡◌, ℕ, ◌+◌, ◌-◌, ◌<◌, ◌≤◌, length, drop, slice_get, slice_index, Ok, IfOk, IfErr, IfSome, OnOk, OnErr};
+ghost use Rattle.std.specs.Prelude.{◌≡◌, ℕ, ◌+◌, ◌-◌, ◌<◌, ◌≤◌, length, drop, slice_get, slice_index, Ok, IfOk, IfErr, IfSome, OnOk};
 ghost use Rattle.sym_core.specs.Number.{FitsSymbol};
 ghost use Rattle.sym_core.specs.Value.{counted_value};
 ghost use Rattle.sym_core.specs.declared.NumberKind.TheVariants as kinds;
@@ -15,16 +15,16 @@ ghost use Rattle.cpp_term.specs.Unfolding as unfolding_;
 ghost use Rattle.cpp_tree.specs.Nodes.{bytes_at, IsWithin};
 ghost use Rattle.cpp_grammar.specs.declared.production.Production.TheVariants as productions;
 ghost use Rattle.cpp_grammar.specs.Unfolding.{production_at};
-ghost use Rattle.cpp_link.specs.Progress.{Finishes};
+ghost use Rattle.cpp_link.specs.Progress.{Finishes, MakesPart};
 ghost use Rattle.cpp_link.specs.Grows.{HasPlace};
 ghost use Rattle.cpp_link.specs.LinkReading.{link_meaning, link_close};
-ghost use Rattle.cpp_link.specs.Room.{KeepsRoom, LacksRoom, IsRoomy};
+ghost use Rattle.cpp_link.specs.Room.{IsRoomy};
 ghost use Rattle.cpp_link.specs.Making.{IsCommon, IsRare, nodes_of_outcome, state_of};
 ghost use Rattle.cpp_link.specs.NodeCount.{makes_at_end};
 ghost use Rattle.cpp_link.specs.Closes.{ends_of};
 ghost use Rattle.cpp_link.specs.Parts.{trees_in, value_in, values_in, packs_of, around_of, candidates_of, outcome_value, IsOutcomeThere, IsThere, AreThere, IsKeptThere, AreCandidatesThere};
 ghost use Rattle.cpp_link.specs.Reads.{maybe_candidate};
-ghost use Rattle.cpp_link.specs.View.{GoesOn, IsPaid, IsWhole, cpp_view};
+ghost use Rattle.cpp_link.specs.View.{IsPaid, IsWhole, cpp_view};
 
 use crate::dispatch::production_of;
 use crate::linked::Linked;
@@ -110,20 +110,13 @@ impl Linked {
         ensures value { IfOk result (λ made. value_in symbol.now self.new.nodes made ≡ link_meaning symbol.now production (slice_index symbol.now place) place (around_of (trees_in symbol.now self.old.nodes) kept) (values_in symbol.now self.old.nodes parts.now)) }
         ensures state { OnOk result ((began : State) → began.packs ≡ packs_of kept
             → unfolding_.behind production (slice_index symbol.now place) (around_of (trees_in symbol.now self.old.nodes) kept) began (values_in symbol.now self.old.nodes parts.now) (state_of symbol.now self.old) ≡ state_of symbol.now self.new) }
-        ensures there { IfOk result (λ made. IsThere symbol.now (length self.new.nodes.nodes) made) }
-        ensures grows { OnOk result (GoesOn symbol.now self.old self.new) }
-        ensures few { length self.new.nodes.nodes ≤ length self.old.nodes.nodes + ends_of production parts.now }
-        ensures makes { OnOk result (length self.new.nodes.nodes ≡ length self.old.nodes.nodes + makes_at_end production (values_in symbol.now self.old.nodes parts.now)) }
-        ensures paid { OnOk result (IsPaid self.new) }
-        ensures whole { OnOk result (IsWhole symbol.now self.new) }
+        ensures made { MakesPart symbol.now self.old self.new (ends_of production parts.now) (makes_at_end production (values_in symbol.now self.old.nodes parts.now)) result }
         ensures memory { IfErr result (λ e. e ≡ refusals.Memory) }
-        ensures keeps { KeepsRoom self.old self.new }
-        ensures full { OnErr result (LacksRoom self.old self.new) }
     {
         let byte = symbol[place as usize];
         let made = self.add_node(symbol, outcome)?;
         let after = self.after_rule(symbol, production, byte, kept, parts, made);
-        self.append(symbol, kept, after.candidate)?;
+        self.append(symbol, kept, after.candidate, false)?;
         self.packs = after.packs;
         Ok(made)
     }
@@ -154,14 +147,7 @@ impl Linked {
             → link_close symbol.now production (slice_index symbol.now place) (around_of (trees_in symbol.now self.old.nodes) kept) place began (values_in symbol.now self.old.nodes parts.now) (state_of symbol.now self.old) ≡ Ok (found (value_in symbol.now self.new.nodes made) (state_of symbol.now self.new))) }
         ensures refused { IfErr result (λ e. (began : State)
             → Fails e (link_close symbol.now production (slice_index symbol.now place) (around_of (trees_in symbol.now self.old.nodes) kept) place began (values_in symbol.now self.old.nodes parts.now) (state_of symbol.now self.old))) }
-        ensures there { IfOk result (λ made. IsThere symbol.now (length self.new.nodes.nodes) made) }
-        ensures grows { OnOk result (GoesOn symbol.now self.old self.new) }
-        ensures few { length self.new.nodes.nodes ≤ length self.old.nodes.nodes + ends_of production parts.now }
-        ensures makes { OnOk result (length self.new.nodes.nodes ≡ length self.old.nodes.nodes + makes_at_end production (values_in symbol.now self.old.nodes parts.now)) }
-        ensures paid { OnOk result (IsPaid self.new) }
-        ensures whole { OnOk result (IsWhole symbol.now self.new) }
-        ensures keeps { KeepsRoom self.old self.new }
-        ensures full { IfErr result (λ e. e ≡ refusals.Memory → LacksRoom self.old self.new) }
+        ensures made { MakesPart symbol.now self.old self.new (ends_of production parts.now) (makes_at_end production (values_in symbol.now self.old.nodes parts.now)) result }
     {
         match production {
             Production::Substitution => self.substitute(symbol, place, kept, parts),
@@ -197,15 +183,8 @@ impl Linked {
         ensures value { IfOk result (λ made. value_in symbol.now self.new.nodes made ≡ link_meaning symbol.now production (slice_index symbol.now place) place (around_of (trees_in symbol.now self.old.nodes) kept) (values_in symbol.now self.old.nodes parts.now)) }
         ensures state { OnOk result ((began : State) → began.packs ≡ packs_of kept
             → unfolding_.behind production (slice_index symbol.now place) (around_of (trees_in symbol.now self.old.nodes) kept) began (values_in symbol.now self.old.nodes parts.now) (state_of symbol.now self.old) ≡ state_of symbol.now self.new) }
-        ensures there { IfOk result (λ made. IsThere symbol.now (length self.new.nodes.nodes) made) }
-        ensures grows { OnOk result (GoesOn symbol.now self.old self.new) }
-        ensures few { length self.new.nodes.nodes ≤ length self.old.nodes.nodes + ends_of production parts.now }
-        ensures makes { OnOk result (length self.new.nodes.nodes ≡ length self.old.nodes.nodes + makes_at_end production (values_in symbol.now self.old.nodes parts.now)) }
-        ensures paid { OnOk result (IsPaid self.new) }
-        ensures whole { OnOk result (IsWhole symbol.now self.new) }
+        ensures made { MakesPart symbol.now self.old self.new (ends_of production parts.now) (makes_at_end production (values_in symbol.now self.old.nodes parts.now)) result }
         ensures memory { IfErr result (λ e. e ≡ refusals.Memory) }
-        ensures keeps { KeepsRoom self.old self.new }
-        ensures full { OnErr result (LacksRoom self.old self.new) }
     {
         let outcome = self.outcome_of_rare(symbol, production, place, kept, parts);
         self.add_node_and_candidate(symbol, production, place, kept, parts, outcome)

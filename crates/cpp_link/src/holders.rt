@@ -1,35 +1,33 @@
 // Names with an `M`, by the wide grammar. Not all compilers count the name before it among the candidates.
 
-ghost use Rattle.std.specs.Prelude.{◌≡◌, ℕ, ◌+◌, ◌-◌, ◌<◌, ◌≤◌, ◌^◌, ◌∷◌, ◌++◌, [], MatchOption, List, length, drop, slice_index, true, Ok, IfOk, IfErr, OnOk, OnErr};
+ghost use Rattle.std.specs.Prelude.{◌≡◌, ℕ, ◌+◌, ◌-◌, ◌<◌, ◌≤◌, ◌^◌, MatchOption, length, slice_index, true, false, Ok, IfOk, IfErr, OnOk};
 ghost use Rattle.sym_core.specs.Number.{FitsSymbol};
 ghost use Rattle.sym_core.specs.Value.{counted_value};
 ghost use Rattle.sym_core.specs.declared.NumberKind.TheVariants as kinds;
 ghost use Rattle.sym_core.specs.declared.refusal.Refusal.TheVariants as refusals;
 ghost use Rattle.sym_link.specs.Driving.{Fails};
-ghost use Rattle.sym_link.specs.Linking.{HasRoom, Adds, AddsFew, Pays, owed_behind, owed_next};
-ghost use Rattle.sym_link.specs.Threads.{IsOpenAt, GoesOn, ClosesAll, AddsBefore};
+ghost use Rattle.sym_link.specs.Linking.{HasRoom, owed_behind};
+ghost use Rattle.sym_link.specs.Threads.{IsOpenAt};
 ghost use Rattle.sym_link.specs.Unfold.{found};
 ghost use Rattle.cpp_grammar.specs.declared.production.Production.TheVariants as productions;
 ghost use Rattle.cpp_grammar.specs.Unfolding.{production_at};
-ghost use Rattle.cpp_term.specs.Term.{Term};
-ghost use Rattle.cpp_term.specs.Rescoping.{with_base, counted_base, is_counted_alike, is_instance, numbered};
-ghost use Rattle.cpp_term.specs.Values.{State, Around, part, text_of};
+ghost use Rattle.cpp_term.specs.Rescoping.{counted_base, is_counted_alike, is_instance, numbered};
+ghost use Rattle.cpp_term.specs.Values.{State, Around, part};
 ghost use Rattle.cpp_tree.specs.Nodes.{over, tree_at, bytes_at, IsThereBelow, IsWithin, IsTable};
-ghost use Rattle.cpp_link.specs.declared.part.Part.TheVariants as variants;
 ghost use Rattle.cpp_link.specs.Closes.{ends_of};
 ghost use Rattle.cpp_link.specs.Grows.{HasPlace};
 ghost use Rattle.cpp_link.specs.LinkReading.{link_meaning};
-ghost use Rattle.cpp_link.specs.LinkRescoping.{is_holder, is_own_arguments, is_counted, base_counted, number_in, named_by, substituted_nodes, wide_view};
+ghost use Rattle.cpp_link.specs.LinkRescoping.{number_in, named_by, substituted_nodes, wide_ends, wide_view};
 ghost use Rattle.cpp_link.specs.Making.{state_of};
-ghost use Rattle.cpp_link.specs.NodeCount.{makes_before, makes_at_end};
-ghost use Rattle.cpp_link.specs.Parts.{trees_in, value_of, value_in, values_in, around_of, candidates_of, IsClosed, IsThere, AreThere, IsKeptThere, AreCandidatesThere};
-ghost use Rattle.cpp_link.specs.Reads.{instance_node};
-ghost use Rattle.cpp_link.specs.Room.{KeepsRoom, LacksRoom, IsRoomy};
-ghost use Rattle.cpp_link.specs.View as view;
-ghost use Rattle.cpp_link.specs.View.{IsPaid, IsWhole, Surrounds, cpp_view};
+ghost use Rattle.cpp_link.specs.NodeCount.{makes_at_end};
+ghost use Rattle.cpp_link.specs.Parts.{trees_in, value_in, values_in, around_of, candidates_of, IsClosed, IsThere, AreThere, IsKeptThere, AreCandidatesThere};
+ghost use Rattle.cpp_link.specs.Progress.{Finishes, MakesPart};
+ghost use Rattle.cpp_link.specs.Reads.{instance_node, with_candidate};
+ghost use Rattle.cpp_link.specs.View.{IsPaid, IsWhole, cpp_view};
 
 use crate::linked::{Linked, has_holder, is_apart};
-use crate::part::{Part, Step, Surroundings};
+use crate::part::{Part, Surroundings};
+use crate::values::is_listed;
 use cpp_grammar::production::Production;
 use cpp_references::again::opened;
 use cpp_references::candidates::numbered;
@@ -37,40 +35,6 @@ use cpp_tree::node::Node;
 use sym_core::{Refusal, Span, value36};
 use sym_link::language::Frame;
 use sym_link::parts::put;
-
-/// Whether a production is a name with its `M`, and what it holds.
-#[tactic(auto, unfolding(crate::specs::LinkRescoping::is_holder))]
-pub fn is_holder(production: Production) -> bool
-    ensures { result ≡ is_holder production }
-{
-    match production {
-        Production::Holder => true,
-        _ => false,
-    }
-}
-
-/// Whether a production is the arguments of a constructor that is inherited.
-#[tactic(auto, unfolding(crate::specs::LinkRescoping::is_own_arguments))]
-pub fn is_own_arguments(production: Production) -> bool
-    ensures { result ≡ is_own_arguments production }
-{
-    match production {
-        Production::OwnArguments => true,
-        _ => false,
-    }
-}
-
-/// Whether the base class that a part is was counted before arguments of the constructor's own, or is there by its number alone.
-#[tactic(auto, unfolding(crate::specs::LinkRescoping::is_counted, crate::specs::Parts::value_of, cpp_term::specs::Values::is_listed))]
-fn is_counted(base: Part) -> bool
-    ensures { (s : List ℕ) (ts : List Term) → result ≡ is_counted (value_of s ts base) }
-{
-    match base {
-        Part::Pair { .. } => true,
-        Part::Tree { listed, .. } => listed,
-        _ => false,
-    }
-}
 
 /// Whether it is a template with arguments.
 #[tactic(auto, unfolding(crate::specs::Reads::instance_node))]
@@ -95,7 +59,7 @@ fn next_number(counted: Option<u64>) -> Option<u64>
 
 impl Linked {
     /// Whether a node's tree is a template with arguments.
-    fn is_instance(&self, symbol: &[u8], node: u32) -> bool
+    pub(crate) fn is_instance(&self, symbol: &[u8], node: u32) -> bool
         requires table { IsTable (over symbol.now self.now.nodes) }
         requires below { node < length self.now.nodes.nodes }
         ensures { result ≡ is_instance (tree_at (trees_in symbol.now self.now.nodes) node) }
@@ -136,14 +100,7 @@ impl Linked {
         requires room { HasPlace symbol.now self.old.nodes 2 }
         ensures is { IfOk result (λ made. numbered (around_of (trees_in symbol.now self.old.nodes) kept) (place - 1) (number_in (values_in symbol.now self.old.nodes parts.now)) (state_of symbol.now self.old) ≡ Ok (found (value_in symbol.now self.new.nodes made) (state_of symbol.now self.new))) }
         ensures refused { IfErr result (λ e. Fails e (numbered (around_of (trees_in symbol.now self.old.nodes) kept) (place - 1) (number_in (values_in symbol.now self.old.nodes parts.now)) (state_of symbol.now self.old))) }
-        ensures there { IfOk result (λ made. IsThere symbol.now (length self.new.nodes.nodes) made) }
-        ensures grows { OnOk result (view.GoesOn symbol.now self.old self.new) }
-        ensures few { length self.new.nodes.nodes ≤ length self.old.nodes.nodes + 2 }
-        ensures makes { OnOk result (length self.new.nodes.nodes ≡ length self.old.nodes.nodes + substituted_nodes (around_of (trees_in symbol.now self.old.nodes) kept) (named_by (state_of symbol.now self.old) (values_in symbol.now self.old.nodes parts.now))) }
-        ensures paid { OnOk result (IsPaid self.new) }
-        ensures whole { OnOk result (IsWhole symbol.now self.new) }
-        ensures keeps { KeepsRoom self.old self.new }
-        ensures full { IfErr result (λ e. e ≡ refusals.Memory → LacksRoom self.old self.new) }
+        ensures made { MakesPart symbol.now self.old self.new 2 (substituted_nodes (around_of (trees_in symbol.now self.old.nodes) kept) (named_by (state_of symbol.now self.old) (values_in symbol.now self.old.nodes parts.now))) result }
     {
         let digits = self.text(symbol, parts, 0);
         if self.is_counted_alike(symbol, digits) {
@@ -156,67 +113,22 @@ impl Linked {
 
     /// The base class of a constructor that is inherited, unless it was counted before arguments of the constructor's own, or is there
     /// by its number alone.
-    #[tactic(auto, unfolding(crate::specs::LinkRescoping::base_counted, crate::specs::Reads::with_candidate, crate::specs::Parts::value_of, cpp_term::specs::Rescoping::counted_base))]
+    #[tactic(auto, unfolding(crate::specs::Reads::with_candidate, crate::specs::Parts::value_of, cpp_term::specs::Rescoping::counted_base))]
     fn base_to_count(&self, symbol: &[u8], base: Part) -> Option<u32>
         requires table { IsTable (over symbol.now self.now.nodes) }
         requires there { IsThere symbol.now (length self.now.nodes.nodes) base }
-        ensures is { (around : Around) (state : State) → counted_base around (value_in symbol.now self.now.nodes base) state ≡ base_counted around (trees_in symbol.now self.now.nodes) result state }
+        ensures is { (around : Around) (state : State) → counted_base around (value_in symbol.now self.now.nodes base) state ≡ with_candidate true around (trees_in symbol.now self.now.nodes) result (with_candidate false around (trees_in symbol.now self.now.nodes) result state) }
         ensures there { IsThereBelow (length self.now.nodes.nodes) result }
     {
-        if is_counted(base) {
-            return None;
-        }
-        Some(self.node(symbol, base))
-    }
-
-    /// A base class is counted, if there is one to count: it becomes a candidate, and again as a mark of that.
-    ///
-    /// # Errors
-    ///
-    /// `Memory` where the candidates couldn't grow.
-    #[tactic(auto, unfolding(crate::specs::LinkRescoping::base_counted))]
-    fn count_base(&mut self, kept: Surroundings, base: Option<u32>) -> Result<(), Refusal>
-        requires below { IsThereBelow (length self.old.nodes.nodes) base }
-        requires there { AreCandidatesThere (length self.old.nodes.nodes) self.old.candidates.items }
-        ensures nodes { self.new.nodes ≡ self.old.nodes }
-        ensures packs { self.new.packs ≡ self.old.packs }
-        ensures there { OnOk result (AreCandidatesThere (length self.old.nodes.nodes) self.new.candidates.items) }
-        ensures is { OnOk result ((s : List ℕ) → base_counted (around_of (trees_in s self.old.nodes) kept) (trees_in s self.old.nodes) base (state_of s self.old) ≡ state_of s self.new) }
-        ensures memory { IfErr result (λ e. e ≡ refusals.Memory) }
-        ensures keeps { KeepsRoom self.old self.new }
-        ensures full { OnErr result (LacksRoom self.old self.new) }
-    {
         match base {
-            None => Ok(()),
-            Some(base) => {
-                self.push_candidate(kept, base, false)?;
-                self.push_candidate(kept, base, true)?;
-                Ok(())
+            Part::Pair { .. } => None,
+            _ => {
+                if is_listed(base) {
+                    return None;
+                }
+                Some(self.node(symbol, base))
             }
         }
-    }
-
-    /// What is done before the arguments of a constructor that is inherited, and what surrounds these: its base class is counted.
-    ///
-    /// # Errors
-    ///
-    /// `Memory` where a list couldn't grow.
-    pub fn before_own_arguments(
-        &mut self,
-        symbol: &[u8],
-        frame: &Frame<Surroundings>,
-    ) -> Result<Surroundings, Refusal>
-        requires own { production_at frame.now.rule ≡ productions.OwnArguments }
-        requires whole { IsWhole symbol.now self.old }
-        requires kept { IsKeptThere (length self.old.nodes.nodes) frame.now.kept }
-        ensures nodes { self.new.nodes ≡ self.old.nodes }
-        ensures goes { (parts : List Part) → length parts ≡ frame.now.base → GoesOn (wide_view symbol.now) symbol.now (Surrounds symbol.now) self.old self.new frame.now parts parts result }
-        ensures memory { IfErr result (λ e. e ≡ refusals.Memory) }
-        ensures keeps { KeepsRoom self.old self.new }
-        ensures full { OnErr result (LacksRoom self.old self.new) }
-    {
-        self.count_base(frame.kept, Some(self.prefix_node(symbol, frame.kept)))?;
-        Ok(self.inside(frame.kept))
     }
 
     /// A rule closes, of a constructor that is inherited: its base class is counted, where that isn't done.
@@ -240,19 +152,13 @@ impl Linked {
         requires kept { IsKeptThere (length self.old.nodes.nodes) kept }
         ensures value { IfOk result (λ made. value_in symbol.now self.new.nodes made ≡ link_meaning symbol.now productions.Inheriting (slice_index symbol.now place) place (around_of (trees_in symbol.now self.old.nodes) kept) (values_in symbol.now self.old.nodes parts.now)) }
         ensures state { OnOk result (counted_base (around_of (trees_in symbol.now self.old.nodes) kept) (part (values_in symbol.now self.old.nodes parts.now) 1) (state_of symbol.now self.old) ≡ state_of symbol.now self.new) }
-        ensures there { IfOk result (λ made. IsThere symbol.now (length self.new.nodes.nodes) made) }
-        ensures grows { OnOk result (view.GoesOn symbol.now self.old self.new) }
-        ensures few { length self.new.nodes.nodes ≤ length self.old.nodes.nodes + ends_of productions.Inheriting parts.now }
-        ensures makes { OnOk result (length self.new.nodes.nodes ≡ length self.old.nodes.nodes + makes_at_end productions.Inheriting (values_in symbol.now self.old.nodes parts.now)) }
-        ensures paid { OnOk result (IsPaid self.new) }
-        ensures whole { OnOk result (IsWhole symbol.now self.new) }
+        ensures made { MakesPart symbol.now self.old self.new (ends_of productions.Inheriting parts.now) (makes_at_end productions.Inheriting (values_in symbol.now self.old.nodes parts.now)) result }
         ensures memory { IfErr result (λ e. e ≡ refusals.Memory) }
-        ensures keeps { KeepsRoom self.old self.new }
-        ensures full { OnErr result (LacksRoom self.old self.new) }
     {
         let base = self.base_to_count(symbol, self.given(symbol, parts, 1));
         let made = self.make_rare(symbol, Production::Inheriting, place, kept, parts)?;
-        self.count_base(kept, base)?;
+        self.append(symbol, kept, base, false)?;
+        self.append(symbol, kept, base, true)?;
         Ok(made)
     }
 
@@ -262,7 +168,7 @@ impl Linked {
     ///
     /// `Memory` where a list couldn't grow.
     #[tactic(auto, using(crate::proofs::Viewing::own_there, crate::proofs::Viewing::open_whole, crate::proofs::Viewing::open_kept))]
-    pub fn finish_inheriting(
+    pub(crate) fn finish_inheriting(
         &mut self,
         symbol: &[u8],
         frame: &Frame<Surroundings>,
@@ -273,55 +179,9 @@ impl Linked {
         requires open { IsOpenAt (cpp_view symbol.now) symbol.now self.old frame.now parts.old.items }
         requires base { frame.now.base ≤ length parts.old.items }
         requires place { frame.now.place < length symbol.now }
-        ensures closes { ClosesAll (wide_view symbol.now) symbol.now self.old self.new frame.now parts.old.items parts.new.items result }
-        ensures adds { OnOk result (Adds (cpp_view symbol.now) self.old self.new (owed_behind (cpp_view symbol.now) frame.now parts.old.items) 0) }
-        ensures few { AddsFew (cpp_view symbol.now) self.old self.new frame.now parts.old.items }
-        ensures makes { OnOk result (length self.new.nodes.nodes ≡ length self.old.nodes.nodes + makes_at_end (production_at frame.now.rule) (values_in symbol.now self.old.nodes (drop frame.now.base parts.old.items))) }
-        ensures pays { OnOk result ((at : ℕ) → Pays (cpp_view symbol.now) self.old self.new at at) }
-        ensures roomy { IsRoomy self.old self.new parts.old parts.new result }
+        ensures { Finishes (wide_view symbol.now) (wide_ends symbol.now self.old frame.now.kept) symbol.now self.old self.new frame.now parts.old parts.new result }
     {
         let made = self.close_inheriting(symbol, frame.place, frame.kept, &parts[frame.base..])?;
         put(parts, frame.base, made)
-    }
-
-    /// What is done before what a name with its `M` holds, and what surrounds that: the name becomes a candidate again with its `M`.
-    ///
-    /// # Errors
-    ///
-    /// `BadReference` at the `M` after arguments, `Memory` where a list couldn't grow.
-    pub fn before_holder(
-        &mut self,
-        symbol: &[u8],
-        frame: &Frame<Surroundings>,
-        parts: &mut Vec<Part>,
-    ) -> Result<Surroundings, Refusal>
-        requires holder { is_holder (production_at frame.now.rule) ≡ true }
-        requires second { length parts.old.items ≡ frame.now.base + 1 }
-        requires room { HasRoom (cpp_view symbol.now) symbol.now self.old (owed_behind (cpp_view symbol.now) frame.now parts.old.items) }
-        requires open { IsOpenAt (cpp_view symbol.now) symbol.now self.old frame.now parts.old.items }
-        ensures goes { GoesOn (wide_view symbol.now) symbol.now (Surrounds symbol.now) self.old self.new frame.now parts.old.items parts.new.items result }
-        ensures adds { OnOk result (Adds (cpp_view symbol.now) self.old self.new (owed_behind (cpp_view symbol.now) frame.now parts.old.items) (owed_next (cpp_view symbol.now) frame.now parts.new.items)) }
-        ensures few { AddsBefore (cpp_view symbol.now) self.old self.new frame.now parts.old.items (drop frame.now.base parts.new.items ++ variants.Nothing ∷ []) result }
-        ensures makes { OnOk result (length self.new.nodes.nodes ≡ length self.old.nodes.nodes + makes_before (production_at frame.now.rule) (values_in symbol.now self.old.nodes (drop frame.now.base parts.old.items))) }
-        ensures pays { OnOk result ((at : ℕ) → Pays (cpp_view symbol.now) self.old self.new at at) }
-        ensures count { OnOk result (length parts.new.items ≡ length parts.old.items) }
-        ensures roomy { IsRoomy self.old self.new parts.old parts.new result }
-    {
-        let name = self.prefix_node(symbol, frame.kept);
-        if self.is_instance(symbol, name) {
-            return Err(Refusal::BadReference { at: frame.place });
-        }
-        let step = Step::Made {
-            node: Node::Holder(name),
-            listed: true,
-            is_name: true,
-            is_candidate: false,
-            packs: self.packs,
-        };
-        let then = self.take_step(symbol, frame.kept, frame.base, step, parts)?;
-        let held = self.given(symbol, &parts[frame.base..], 0);
-        let node = self.node(symbol, held);
-        self.push_candidate(frame.kept, node, true)?;
-        Ok(then)
     }
 }

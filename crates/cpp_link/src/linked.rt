@@ -107,7 +107,7 @@ impl Linked {
         Ok(())
     }
 
-    /// A tree becomes a candidate, or none does.
+    /// A tree becomes a candidate, which may be there as a mark, or none does.
     ///
     /// # Errors
     ///
@@ -118,13 +118,14 @@ impl Linked {
         symbol: &[u8],
         kept: Surroundings,
         candidate: Option<u32>,
+        is_held: bool,
     ) -> Result<(), Refusal>
         requires candidate { IsThereBelow (length self.old.nodes.nodes) candidate }
         requires there { AreCandidatesThere (length self.old.nodes.nodes) self.old.candidates.items }
         ensures nodes { self.new.nodes ≡ self.old.nodes }
         ensures packs { self.new.packs ≡ self.old.packs }
         ensures there { OnOk result (AreCandidatesThere (length self.old.nodes.nodes) self.new.candidates.items) }
-        ensures is { OnOk result ((packs : Option ℕ) → with_candidate (around_of (trees_in symbol.now self.old.nodes) kept) (trees_in symbol.now self.old.nodes) candidate
+        ensures is { OnOk result ((packs : Option ℕ) → with_candidate is_held (around_of (trees_in symbol.now self.old.nodes) kept) (trees_in symbol.now self.old.nodes) candidate
             (record { candidates = candidates_of (trees_in symbol.now self.old.nodes) self.old.candidates.items; packs = packs })
             ≡ record { candidates = candidates_of (trees_in symbol.now self.old.nodes) self.new.candidates.items; packs = packs }) }
         ensures memory { IfErr result (λ e. e ≡ refusals.Memory) }
@@ -134,7 +135,7 @@ impl Linked {
         match candidate {
             None => Ok(()),
             Some(node) => {
-                self.push_candidate(kept, node, false)?;
+                self.push_candidate(kept, node, is_held)?;
                 Ok(())
             }
         }

@@ -1,32 +1,30 @@
 // What is linked of a symbol by the wide grammar: in a lambda's signature parameters are the lambda's own, such a lambda is a piece of
 // its own, and a substitution stands for its tree with the arguments that are meant where it is.
 
-ghost use Rattle.std.specs.Prelude.{◌≡◌, ℕ, ◌+◌, ◌-◌, ◌<◌, ◌≤◌, ◌^◌, ◌∷◌, ◌++◌, [], MatchOption, ◌&&◌, ◌||◌, List, length, drop, true, Ok, IfOk, IfErr, OnOk};
+ghost use Rattle.std.specs.Prelude.{◌≡◌, ℕ, ◌-◌, ◌<◌, ◌≤◌, ◌^◌, ◌∷◌, [], MatchOption, ◌&&◌, ◌||◌, List, length, true, Ok, IfOk, IfErr};
 ghost use Rattle.sym_core.specs.Value.{counted_value};
 ghost use Rattle.sym_core.specs.declared.NumberKind.TheVariants as kinds;
 ghost use Rattle.sym_core.specs.declared.refusal.Refusal.TheVariants as refusals;
 ghost use Rattle.sym_link.specs.Driving.{Fails};
-ghost use Rattle.sym_link.specs.Linking.{HasRoom, Adds, AddsFew, Pays, owed_behind, owed_next};
-ghost use Rattle.sym_link.specs.Threads.{IsOpenAt, GoesOn, ClosesAll, AddsBefore};
+ghost use Rattle.sym_link.specs.Linking.{HasRoom, owed_behind};
+ghost use Rattle.sym_link.specs.Threads.{IsOpenAt};
 ghost use Rattle.sym_link.specs.Unfold.{found};
 ghost use Rattle.cpp_grammar.specs.declared.production.Production.TheVariants as productions;
 ghost use Rattle.cpp_grammar.specs.declared.production.Production.{Production as Production-type};
 ghost use Rattle.cpp_grammar.specs.Rescoping.{generic_number};
 ghost use Rattle.cpp_grammar.specs.Unfolding.{production_at};
 ghost use Rattle.cpp_term.specs.Values as values;
-ghost use Rattle.cpp_term.specs.Rescoping.{is_foreign, restated, substituted_wide, as_generic_lambda};
-ghost use Rattle.cpp_tree.specs.Nodes.{over, tree_at, bytes_at, piece_of, IsPieceBelow, IsWithin, IsTable};
-ghost use Rattle.cpp_link.specs.declared.part.Part.TheVariants as variants;
+ghost use Rattle.cpp_term.specs.Rescoping.{is_foreign, restated, substituted_wide, as_generic_lambda, between_wide};
+ghost use Rattle.cpp_tree.specs.Nodes.{over, tree_at, bytes_at, piece_of, IsThereBelow, IsPieceBelow, IsWithin, IsTable};
 ghost use Rattle.cpp_link.specs.Grows.{HasPlace};
-ghost use Rattle.cpp_link.specs.LinkRescoping.{is_parameter, is_parameter_argument, generic_read, named_by, substituted_nodes, wide_view};
+ghost use Rattle.cpp_link.specs.LinkRescoping.{is_parameter, is_parameter_argument, steps_apart, with_mark, going_marked, generic_read, named_by, substituted_nodes, wide_ends, wide_view};
 ghost use Rattle.cpp_link.specs.Making.{state_of};
-ghost use Rattle.cpp_link.specs.NodeCount.{makes_before, makes_at_end};
+ghost use Rattle.cpp_link.specs.NodeCount.{makes_before};
 ghost use Rattle.cpp_link.specs.Parts.{trees_in, value_in, values_in, is_lambda, around_of, candidate_of, IsClosed, IsThere, AreThere, IsKeptThere, IsStepThere};
-ghost use Rattle.cpp_link.specs.Reads.{goes_on};
-ghost use Rattle.cpp_link.specs.Room.{KeepsRoom, LacksRoom, IsRoomy};
+ghost use Rattle.cpp_link.specs.Progress.{Advances, Finishes, MakesPart};
+ghost use Rattle.cpp_link.specs.Reads.{with_candidate, goes_on};
 ghost use Rattle.cpp_link.specs.Stepping.{IsStepOf, nodes_of_step};
-ghost use Rattle.cpp_link.specs.View as view;
-ghost use Rattle.cpp_link.specs.View.{IsPaid, IsWhole, Surrounds, cpp_view};
+ghost use Rattle.cpp_link.specs.View.{IsPaid, IsWhole, cpp_view};
 
 use crate::dispatch::production_of;
 use crate::linked::Linked;
@@ -53,20 +51,6 @@ impl Rescoping {
         Rescoping {
             linked: Linked::new(alloc),
         }
-    }
-}
-
-/// Whether a production is a parameter.
-#[tactic(auto, unfolding(crate::specs::LinkRescoping::is_parameter))]
-pub fn is_parameter(production: Production) -> bool
-    ensures { result ≡ is_parameter production }
-{
-    match production {
-        Production::Parameter => true,
-        Production::NestParameter => true,
-        Production::ParameterArgument => true,
-        Production::ParameterExpression => true,
-        _ => false,
     }
 }
 
@@ -132,6 +116,106 @@ impl Linked {
         }
     }
 
+    /// What is done before the next part where the wide reading does something of its own, but for the mark: a parameter of a lambda is
+    /// named, a name has its `M`, or the base class of a constructor that is inherited becomes a candidate.
+    ///
+    /// # Errors
+    ///
+    /// `BadReference` at the `M` after arguments.
+    fn step_apart(
+        &self,
+        symbol: &[u8],
+        production: Production,
+        place: u32,
+        kept: Surroundings,
+        parts: &[Part],
+    ) -> Result<Step, Refusal>
+        requires table { IsTable (over symbol.now self.now.nodes) }
+        requires kept { IsKeptThere (length self.now.nodes.nodes) kept }
+        requires there { AreThere symbol.now (length self.now.nodes.nodes) parts.now }
+        requires apart { steps_apart production (is_lambda kept.scope) (length parts.now) ≡ true }
+        ensures is { IfOk result (λ step. (cs : List values.Candidate) → between_wide production (around_of (trees_in symbol.now self.now.nodes) kept) place (values_in symbol.now self.now.nodes parts.now) (record { candidates = cs; packs = self.now.packs })
+            ≡ going_marked production (around_of (trees_in symbol.now self.now.nodes) kept) (goes_on symbol.now self.now.nodes kept (values_in symbol.now self.now.nodes parts.now) cs self.now.packs step)) }
+        ensures refused { IfErr result (λ e. (cs : List values.Candidate) → Fails e (between_wide production (around_of (trees_in symbol.now self.now.nodes) kept) place (values_in symbol.now self.now.nodes parts.now) (record { candidates = cs; packs = self.now.packs }))) }
+        ensures there { IfOk result (λ step. IsStepThere symbol.now (length self.now.nodes.thunks) (length self.now.nodes.nodes) step) }
+        ensures of { IfOk result (λ step. IsStepOf production (length parts.now) step) }
+        ensures makes { IfOk result (λ step. nodes_of_step step ≡ makes_before production (values_in symbol.now self.now.nodes parts.now)) }
+        ensures bad { IfErr result (λ e. e ≡ refusals.Memory → ⊥) }
+    {
+        match production {
+            Production::Holder => {
+                let name = self.prefix_node(symbol, kept);
+                if self.is_instance(symbol, name) {
+                    return Err(Refusal::BadReference { at: place });
+                }
+                Ok(self.listed_name(Node::Holder(name)))
+            }
+            Production::OwnArguments => {
+                let base = self.prefix_node(symbol, kept);
+                Ok(Step::Go {
+                    candidate: Some(base),
+                    then: self.inside(kept),
+                    packs: self.packs,
+                })
+            }
+            _ => {
+                let digits = self.text(symbol, parts, 0);
+                let is_argument = is_parameter_argument(production);
+                Ok(self.generic(symbol, kept, digits, is_argument))
+            }
+        }
+    }
+
+    /// The tree that is marked among the candidates before the next part, after these parts: a name with its `M`, or a base class.
+    fn marked(
+        &self,
+        symbol: &[u8],
+        production: Production,
+        kept: Surroundings,
+        parts: &[Part],
+    ) -> Option<u32>
+        requires table { IsTable (over symbol.now self.now.nodes) }
+        requires kept { IsKeptThere (length self.now.nodes.nodes) kept }
+        requires there { AreThere symbol.now (length self.now.nodes.nodes) parts.now }
+        ensures is { (state : values.State) → with_candidate true (around_of (trees_in symbol.now self.now.nodes) kept) (trees_in symbol.now self.now.nodes) result state
+            ≡ with_mark production (around_of (trees_in symbol.now self.now.nodes) kept) (values_in symbol.now self.now.nodes parts.now) state }
+        ensures there { IsThereBelow (length self.now.nodes.nodes) result }
+    {
+        match production {
+            Production::Holder => Some(self.node(symbol, self.given(symbol, parts, 0))),
+            Production::OwnArguments => Some(self.prefix_node(symbol, kept)),
+            _ => None,
+        }
+    }
+
+    /// What is done before the next part of the frame's rule where the wide reading does something of its own, and what surrounds that
+    /// part.
+    ///
+    /// # Errors
+    ///
+    /// Those of `step_apart`, and `Memory` where a list couldn't grow.
+    #[tactic(auto, using(crate::proofs::Viewing::own_there, crate::proofs::Viewing::open_kept))]
+    pub(crate) fn before_apart(
+        &mut self,
+        symbol: &[u8],
+        frame: &Frame<Surroundings>,
+        parts: &mut Vec<Part>,
+    ) -> Result<Surroundings, Refusal>
+        requires apart { steps_apart (production_at frame.now.rule) (is_lambda frame.now.kept.scope) (length parts.old.items - frame.now.base) ≡ true }
+        requires room { HasRoom (cpp_view symbol.now) symbol.now self.old (owed_behind (cpp_view symbol.now) frame.now parts.old.items) }
+        requires open { IsOpenAt (cpp_view symbol.now) symbol.now self.old frame.now parts.old.items }
+        requires base { frame.now.base ≤ length parts.old.items }
+        ensures { Advances (wide_view symbol.now) symbol.now self.old self.new frame.now parts.old parts.new result }
+    {
+        let own = &parts[frame.base..];
+        let production = production_of(frame.rule);
+        let step = self.step_apart(symbol, production, frame.place, frame.kept, own)?;
+        let then = self.take_step(symbol, frame.kept, frame.base, step, parts)?;
+        let mark = self.marked(symbol, production, frame.kept, &parts[frame.base..]);
+        self.append(symbol, frame.kept, mark, true)?;
+        Ok(then)
+    }
+
     /// Whether a candidate's free parameters may stand for others here than where it was made.
     #[tactic(auto, unfolding(cpp_term::specs::Rescoping::is_foreign, crate::specs::Parts::around_of))]
     fn is_foreign(&self, symbol: &[u8], kept: Surroundings, candidate: Candidate) -> bool
@@ -164,14 +248,7 @@ impl Linked {
         requires room { HasPlace symbol.now self.old.nodes 2 }
         ensures is { IfOk result (λ made. restated (around_of (trees_in symbol.now self.old.nodes) kept) place (tree_at (trees_in symbol.now self.old.nodes) node) (state_of symbol.now self.old) ≡ Ok (found (value_in symbol.now self.new.nodes made) (state_of symbol.now self.new))) }
         ensures refused { IfErr result (λ e. Fails e (restated (around_of (trees_in symbol.now self.old.nodes) kept) place (tree_at (trees_in symbol.now self.old.nodes) node) (state_of symbol.now self.old))) }
-        ensures there { IfOk result (λ made. IsThere symbol.now (length self.new.nodes.nodes) made) }
-        ensures grows { OnOk result (view.GoesOn symbol.now self.old self.new) }
-        ensures few { length self.new.nodes.nodes ≤ length self.old.nodes.nodes + 2 }
-        ensures makes { OnOk result (length self.new.nodes.nodes ≡ length self.old.nodes.nodes + 1) }
-        ensures paid { OnOk result (IsPaid self.new) }
-        ensures whole { OnOk result (IsWhole symbol.now self.new) }
-        ensures keeps { KeepsRoom self.old self.new }
-        ensures full { IfErr result (λ e. e ≡ refusals.Memory → LacksRoom self.old self.new) }
+        ensures made { MakesPart symbol.now self.old self.new 2 1 result }
     {
         match argument_here(&self.nodes, symbol, kept, place, node, self.packs) {
             Ok((argument, packs)) => {
@@ -208,14 +285,7 @@ impl Linked {
         requires room { HasPlace symbol.now self.old.nodes 2 }
         ensures is { IfOk result (λ made. substituted_wide (around_of (trees_in symbol.now self.old.nodes) kept) (place - 1) (named_by (state_of symbol.now self.old) (values_in symbol.now self.old.nodes parts.now)) (state_of symbol.now self.old) ≡ Ok (found (value_in symbol.now self.new.nodes made) (state_of symbol.now self.new))) }
         ensures refused { IfErr result (λ e. Fails e (substituted_wide (around_of (trees_in symbol.now self.old.nodes) kept) (place - 1) (named_by (state_of symbol.now self.old) (values_in symbol.now self.old.nodes parts.now)) (state_of symbol.now self.old))) }
-        ensures there { IfOk result (λ made. IsThere symbol.now (length self.new.nodes.nodes) made) }
-        ensures grows { OnOk result (view.GoesOn symbol.now self.old self.new) }
-        ensures few { length self.new.nodes.nodes ≤ length self.old.nodes.nodes + 2 }
-        ensures makes { OnOk result (length self.new.nodes.nodes ≡ length self.old.nodes.nodes + substituted_nodes (around_of (trees_in symbol.now self.old.nodes) kept) (named_by (state_of symbol.now self.old) (values_in symbol.now self.old.nodes parts.now))) }
-        ensures paid { OnOk result (IsPaid self.new) }
-        ensures whole { OnOk result (IsWhole symbol.now self.new) }
-        ensures keeps { KeepsRoom self.old self.new }
-        ensures full { IfErr result (λ e. e ≡ refusals.Memory → LacksRoom self.old self.new) }
+        ensures made { MakesPart symbol.now self.old self.new 2 (substituted_nodes (around_of (trees_in symbol.now self.old.nodes) kept) (named_by (state_of symbol.now self.old) (values_in symbol.now self.old.nodes parts.now))) result }
     {
         let at = place.saturating_sub(1);
         let Some(candidate) = self.candidate(symbol, self.text(symbol, parts, 0)) else {
@@ -233,44 +303,13 @@ impl Linked {
         }
     }
 
-    /// What is done before the second part of a parameter in the signature of a lambda, and what surrounds that part.
-    ///
-    /// # Errors
-    ///
-    /// `Memory` where a list couldn't grow.
-    pub fn before_generic(
-        &mut self,
-        symbol: &[u8],
-        frame: &Frame<Surroundings>,
-        parts: &mut Vec<Part>,
-    ) -> Result<Surroundings, Refusal>
-        requires parameter { is_parameter (production_at frame.now.rule) ≡ true }
-        requires signature { is_lambda frame.now.kept.scope ≡ true }
-        requires second { length parts.old.items ≡ frame.now.base + 1 }
-        requires room { HasRoom (cpp_view symbol.now) symbol.now self.old (owed_behind (cpp_view symbol.now) frame.now parts.old.items) }
-        requires open { IsOpenAt (cpp_view symbol.now) symbol.now self.old frame.now parts.old.items }
-        ensures goes { GoesOn (wide_view symbol.now) symbol.now (Surrounds symbol.now) self.old self.new frame.now parts.old.items parts.new.items result }
-        ensures adds { OnOk result (Adds (cpp_view symbol.now) self.old self.new (owed_behind (cpp_view symbol.now) frame.now parts.old.items) (owed_next (cpp_view symbol.now) frame.now parts.new.items)) }
-        ensures few { AddsBefore (cpp_view symbol.now) self.old self.new frame.now parts.old.items (drop frame.now.base parts.new.items ++ variants.Nothing ∷ []) result }
-        ensures makes { OnOk result (length self.new.nodes.nodes ≡ length self.old.nodes.nodes + makes_before (production_at frame.now.rule) (values_in symbol.now self.old.nodes (drop frame.now.base parts.old.items))) }
-        ensures pays { OnOk result ((at : ℕ) → Pays (cpp_view symbol.now) self.old self.new at at) }
-        ensures count { OnOk result (length parts.new.items ≡ length parts.old.items) }
-        ensures roomy { IsRoomy self.old self.new parts.old parts.new result }
-    {
-        let digits = self.text(symbol, &parts[frame.base..], 0);
-        let is_argument = is_parameter_argument(production_of(frame.rule));
-        let step = self.generic(symbol, frame.kept, digits, is_argument);
-        let then = self.take_step(symbol, frame.kept, frame.base, step, parts)?;
-        Ok(then)
-    }
-
     /// The frame's rule, a substitution, closes: what it stands for takes the place of its part.
     ///
     /// # Errors
     ///
     /// Those of `substitute_counted`, and `Memory` where the list of parts couldn't grow.
     #[tactic(auto, using(crate::proofs::Viewing::own_there))]
-    pub fn finish_substitution(
+    pub(crate) fn finish_substitution(
         &mut self,
         symbol: &[u8],
         frame: &Frame<Surroundings>,
@@ -280,12 +319,7 @@ impl Linked {
         requires room { HasRoom (cpp_view symbol.now) symbol.now self.old (owed_behind (cpp_view symbol.now) frame.now parts.old.items) }
         requires open { IsOpenAt (cpp_view symbol.now) symbol.now self.old frame.now parts.old.items }
         requires base { frame.now.base ≤ length parts.old.items }
-        ensures closes { ClosesAll (wide_view symbol.now) symbol.now self.old self.new frame.now parts.old.items parts.new.items result }
-        ensures adds { OnOk result (Adds (cpp_view symbol.now) self.old self.new (owed_behind (cpp_view symbol.now) frame.now parts.old.items) 0) }
-        ensures few { AddsFew (cpp_view symbol.now) self.old self.new frame.now parts.old.items }
-        ensures makes { OnOk result (length self.new.nodes.nodes ≡ length self.old.nodes.nodes + substituted_nodes (around_of (trees_in symbol.now self.old.nodes) frame.now.kept) (named_by (state_of symbol.now self.old) (values_in symbol.now self.old.nodes (drop frame.now.base parts.old.items)))) }
-        ensures pays { OnOk result ((at : ℕ) → Pays (cpp_view symbol.now) self.old self.new at at) }
-        ensures roomy { IsRoomy self.old self.new parts.old parts.new result }
+        ensures { Finishes (wide_view symbol.now) (wide_ends symbol.now self.old frame.now.kept) symbol.now self.old self.new frame.now parts.old parts.new result }
     {
         let made = self.substitute_counted(symbol, frame.place, frame.kept, &parts[frame.base..])?;
         put(parts, frame.base, made)
@@ -331,7 +365,7 @@ impl Linked {
     ///
     /// `Memory` where a list couldn't grow.
     #[tactic(auto, using(crate::proofs::Viewing::own_there, crate::proofs::Viewing::open_whole, crate::proofs::Viewing::open_kept))]
-    pub fn finish_lambda(
+    pub(crate) fn finish_lambda(
         &mut self,
         symbol: &[u8],
         frame: &Frame<Surroundings>,
@@ -342,12 +376,7 @@ impl Linked {
         requires open { IsOpenAt (cpp_view symbol.now) symbol.now self.old frame.now parts.old.items }
         requires base { frame.now.base ≤ length parts.old.items }
         requires place { frame.now.place < length symbol.now }
-        ensures closes { ClosesAll (wide_view symbol.now) symbol.now self.old self.new frame.now parts.old.items parts.new.items result }
-        ensures adds { OnOk result (Adds (cpp_view symbol.now) self.old self.new (owed_behind (cpp_view symbol.now) frame.now parts.old.items) 0) }
-        ensures few { AddsFew (cpp_view symbol.now) self.old self.new frame.now parts.old.items }
-        ensures makes { OnOk result (length self.new.nodes.nodes ≡ length self.old.nodes.nodes + makes_at_end (production_at frame.now.rule) (values_in symbol.now self.old.nodes (drop frame.now.base parts.old.items))) }
-        ensures pays { OnOk result ((at : ℕ) → Pays (cpp_view symbol.now) self.old self.new at at) }
-        ensures roomy { IsRoomy self.old self.new parts.old parts.new result }
+        ensures { Finishes (wide_view symbol.now) (wide_ends symbol.now self.old frame.now.kept) symbol.now self.old self.new frame.now parts.old parts.new result }
     {
         let made = self.make_rare(
             symbol,

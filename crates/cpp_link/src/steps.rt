@@ -33,7 +33,7 @@ use sym_core::{Refusal, Span};
 /// The candidate that the name so far becomes.
 #[tactic(auto, unfolding(crate::specs::Parts::around_of, crate::specs::Parts::prefix_in, crate::specs::Parts::prefix_of, crate::specs::Reads::with_candidate, cpp_term::specs::References::with_prefix, cpp_term::specs::Values::prefix_tree, cpp_term::specs::Values::prefix_listed))]
 fn prefix_candidate(kept: Surroundings) -> Option<u32>
-    ensures is { (ts : List term.Term) (state : State) → with_prefix (around_of ts kept) state ≡ with_candidate (around_of ts kept) ts result state }
+    ensures is { (ts : List term.Term) (state : State) → with_prefix (around_of ts kept) state ≡ with_candidate false (around_of ts kept) ts result state }
     ensures there { (n : ℕ) → IsPrefixThere n (name_of kept) → IsThereBelow n result }
 {
     match kept.naming {
@@ -99,7 +99,7 @@ impl Linked {
     #[inline(always)]
     pub(crate) fn prefix_candidate(&self, symbol: &[u8], kept: Surroundings) -> Option<u32>
         requires kept { IsKeptThere (length self.now.nodes.nodes) kept }
-        ensures is { (state : State) → with_prefix (around_of (trees_in symbol.now self.now.nodes) kept) state ≡ with_candidate (around_of (trees_in symbol.now self.now.nodes) kept) (trees_in symbol.now self.now.nodes) result state }
+        ensures is { (state : State) → with_prefix (around_of (trees_in symbol.now self.now.nodes) kept) state ≡ with_candidate false (around_of (trees_in symbol.now self.now.nodes) kept) (trees_in symbol.now self.now.nodes) result state }
         ensures there { IsThereBelow (length self.now.nodes.nodes) result }
     {
         prefix_candidate(kept)
@@ -110,7 +110,7 @@ impl Linked {
     pub fn type_candidate(&self, symbol: &[u8], kept: Surroundings, part: Part) -> Option<u32>
         requires table { IsTable (over symbol.now self.now.nodes) }
         requires there { IsThere symbol.now (length self.now.nodes.nodes) part }
-        ensures is { (state : State) → with_type (around_of (trees_in symbol.now self.now.nodes) kept) (value_in symbol.now self.now.nodes part) state ≡ with_candidate (around_of (trees_in symbol.now self.now.nodes) kept) (trees_in symbol.now self.now.nodes) result state }
+        ensures is { (state : State) → with_type (around_of (trees_in symbol.now self.now.nodes) kept) (value_in symbol.now self.now.nodes part) state ≡ with_candidate false (around_of (trees_in symbol.now self.now.nodes) kept) (trees_in symbol.now self.now.nodes) result state }
         ensures there { IsThereBelow (length self.now.nodes.nodes) result }
     {
         if is_listed(part) {

@@ -11,41 +11,35 @@ ghost use Rattle.cpp_link.specs.declared.part.Part.TheVariants as variants;
 ghost use Rattle.cpp_term.specs.Values.{Value, State, Around};
 ghost use Rattle.cpp_link.specs.Parts.{is_lambda};
 ghost use Rattle.cpp_link.specs.View.{Surrounds};
-ghost use Rattle.cpp_link.specs.LinkRescoping.{names_generic, names_holder, counts_base, wide_counted};
+ghost use Rattle.cpp_link.specs.LinkRescoping.{steps_apart, wide_counted};
 ghost use Rattle.cpp_link.specs.RescopingLaws.{wide_laws, wide_threads};
 ghost use Rattle.cpp_link.specs.declared.rescoping.Rescoping.{Rescoping};
 
 use crate::between::quiet_parts;
 use crate::dispatch::{part_count, parts_ahead, production_of};
-use crate::holders::{is_holder, is_own_arguments};
 use crate::language::OUTSIDE;
 use crate::part::{Part, Surroundings};
-use crate::rescoping::{Rescoping, is_parameter};
+use crate::rescoping::Rescoping;
 use cpp_grammar::production::Production;
 use sym_core::Refusal;
 use sym_link::language::{Frame, Linking};
 use sym_link::threads::{Threading, close_by, enter_by, token_by};
 use sym_shape::rule::Row;
 
-/// Whether before the part after so many a parameter of a lambda is named.
-fn names_generic(production: Production, kept: Surroundings, held: usize) -> bool
-    ensures { result ≡ names_generic production (is_lambda kept.scope) held }
+/// Whether before the part after so many the wide reading does something of its own.
+#[tactic(auto, unfolding(crate::specs::LinkRescoping::steps_apart))]
+fn steps_apart(production: Production, kept: Surroundings, before: usize) -> bool
+    ensures { result ≡ steps_apart production (is_lambda kept.scope) before }
 {
-    kept.in_lambda() && is_parameter(production) && held == 1
-}
-
-/// Whether before the part after so many a name becomes a candidate with its `M`.
-fn names_holder(production: Production, held: usize) -> bool
-    ensures { result ≡ names_holder production held }
-{
-    is_holder(production) && held == 1
-}
-
-/// Whether before the part after so many the base class of a constructor that is inherited is counted.
-fn counts_base(production: Production, held: usize) -> bool
-    ensures { result ≡ counts_base production held }
-{
-    is_own_arguments(production) && held == 0
+    match production {
+        Production::Parameter => kept.in_lambda() && before == 1,
+        Production::NestParameter => kept.in_lambda() && before == 1,
+        Production::ParameterArgument => kept.in_lambda() && before == 1,
+        Production::ParameterExpression => kept.in_lambda() && before == 1,
+        Production::Holder => before == 1,
+        Production::OwnArguments => before == 0,
+        _ => false,
+    }
 }
 
 impl Rescoping {
@@ -72,16 +66,9 @@ impl Rescoping {
         ensures keeps { KeepsRoom (wide_counted symbol.now) self.old self.new parts.old parts.new }
         ensures full { NeedsRoom (wide_counted symbol.now) self.old self.new parts.old parts.new result }
     {
-        let production = production_of(frame.rule);
-        let held = parts.len() - frame.base;
-        if names_generic(production, frame.kept, held) {
-            return self.linked.before_generic(symbol, frame, parts);
-        }
-        if names_holder(production, held) {
-            return self.linked.before_holder(symbol, frame, parts);
-        }
-        if counts_base(production, held) {
-            return self.linked.before_own_arguments(symbol, frame);
+        let before = parts.len() - frame.base;
+        if steps_apart(production_of(frame.rule), frame.kept, before) {
+            return self.linked.before_apart(symbol, frame, parts);
         }
         self.linked.before_part(symbol, frame, parts)
     }

@@ -10,7 +10,7 @@ use Rattle.sym_core.specs.Value.{counted_value}
 use Rattle.cpp_grammar.specs.declared.production.Production.{Production}
 use Rattle.cpp_grammar.specs.Rescoping.{generic_number, generic_so_far, parameter_here, argument_here, lambda_with, as_generic_lambda, with_holder, is_instance, holder_so_far, numbered, with_base, counted_base, between_wide, close_wide}
 use Rattle.cpp_grammar.specs.Scope.{count, element, is_open, length_if_pack}
-use Rattle.cpp_grammar.specs.Term.{Term, list, instance, holder, parameter}
+use Rattle.cpp_grammar.specs.Term.{Term, list, holder, parameter}
 use Rattle.cpp_grammar.specs.Values as leaf_
 use Rattle.cpp_grammar.specs.Values.{Around, prefix_tree, Value, State, Candidate, local_number, tree_of, text_of, is_listed, part}
 use Rattle.cpp_grammar.specs.References.{appended, with_type, with_unqualified, with_packs, substituted, parameter_named}
@@ -36,6 +36,7 @@ use Rattle.cpp_term.specs.Unfolding as unfolded_
 use Rattle.cpp_term.specs.Rescoping as wide_
 use Rattle.cpp_term.specs.Annotated.{Place, around_place, place_in, in_own, argument_in, annotate, noted_scope, noted_value, noted_values, noted_prefix, noted_around}
 use Rattle.cpp_term.proofs.Notes.{both, choose, choose_cond, open_noted, closed_noted}
+use Rattle.cpp_term.proofs.SeenNoted.{is_instance_noted}
 use Rattle.cpp_term.proofs.MeaningNoted.{part_noted, tree_part, tree_noted, text_noted, text_part, prefix_tree_noted, Inside, lambda_noted, takes_encodings, is_of_none, made_inside, made_noted, listing_noted, listed_noted, meaning_noted}
 use Rattle.cpp_term.proofs.StatesNoted.{IsOutside, Settled, own_place, Alike, alike_bind, Same, Moves, moves_none, moves_then, one_moves, type_moves, unqualified_moves, prefix_moves, Comes, get_noted, substituted_noted, wide_numbered_noted, held_moves, parameter_noted}
 
@@ -314,11 +315,6 @@ argument_here_goes around x y place v settled packs =
     (sym (index_noted s v)) (own_argument_goes around x y (index_of v) is settled packs))
     (λ is. done_noted true (tests false false) around place (v ∷ []) x y refl packs)
 
-instance_noted : (s : Place) (t : Term) → wide_.is_instance (annotate s t) ≡ is_instance t
-unfolding is_instance wide_.is_instance annotate
-instance_noted s (instance template arguments) = refl
-instance_noted s _ = refl
-
 holder_goes : (around : Around) (x : State) (y : value_.State) (place : ℕ) → y.packs ≡ x.packs →
     Alike (Goes true (around_place true around) around x y) (holder_so_far around place x) (wide_.holder_so_far (noted_around true around) place y)
 unfolding holder_so_far wide_.holder_so_far listed_so_far between_.listed_so_far noted_around noted_values annotate
@@ -328,16 +324,14 @@ holder_goes around x y place packs =
     let u = term_.holder (value_.prefix_tree (noted_prefix s around.prefix)) in
     let same = ap term_.holder (prefix_tree_noted s around.prefix) in
     choose (Alike (Goes true s around x y)) (is_instance (prefix_tree around.prefix)) (wide_.is_instance (value_.prefix_tree (noted_prefix s around.prefix))) _ _ _ _
-    (ap wide_.is_instance (prefix_tree_noted s around.prefix) ∙ instance_noted s (prefix_tree around.prefix)) (λ h. refl)
+    (ap wide_.is_instance (prefix_tree_noted s around.prefix) ∙ is_instance_noted s (prefix_tree around.prefix)) (λ h. refl)
     (λ h. named_goes true around x (with_holder around t x) y (wide_.with_holder (noted_around true around) u y) t u true [] [] same refl (held_moves true around t u x y packs same))
 
 base_moves : (around : Around) (t : Term) (u : term_.Term) (x : State) (y : value_.State) → y.packs ≡ x.packs → u ≡ annotate (around_place true around) t → Moves true around x y (with_base around t x) (wide_.with_base (noted_around true around) u y)
 unfolding with_base wide_.with_base
 base_moves around t u x y packs e =
-    let a = appended around t x in
-    let b = reference_.appended (noted_around true around) u y in
     let one = one_moves true around t u x y packs e in
-    moves_then true around x a (with_holder around t a) y b (wide_.with_holder (noted_around true around) u b) one (held_moves true around t u a b one.packs e)
+    moves_then true around x _ _ y _ _ one (held_moves true around t u _ _ one.packs e)
 
 base_goes : (around : Around) (x : State) (y : value_.State) → y.packs ≡ x.packs →
     Alike {A = Next Value State Around} (Goes true (around_place true around) around x y) (next [] (inside around) (with_base around (prefix_tree around.prefix) x))

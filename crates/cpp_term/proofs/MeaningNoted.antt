@@ -2,7 +2,7 @@
 use Rattle.std.proofs.Common.{◌≡◌, refl, ap, sym, ◌∙◌, ℕ, zero, suc, List, [], ◌∷◌, Bool, true, false, not, ◌&&◌, cond, nat_eq, Option, Some, None}
 use Rattle.std.proofs.lemmas.Bool.{true≢false, false≢true, and_parts}
 use Rattle.cpp_grammar.specs.declared.production.Production.{Production}
-use Rattle.cpp_grammar.specs.Term.{RefQualifier, any_value, lvalue_only, rvalue_only, non_virtual, by_table, adjusting, covariant, Term, within, instance, local, tagged, of_default, constructor, destructor, inheriting, operator, builtin, lvalue, rvalue, encoding_literal, operation, nil, list, lambda}
+use Rattle.cpp_grammar.specs.Term.{RefQualifier, any_value, lvalue_only, rvalue_only, non_virtual, by_table, adjusting, covariant, Term, instance, local, of_default, inheriting, operator, builtin, lvalue, rvalue, encoding_literal, list, lambda}
 use Rattle.cpp_grammar.specs.Scope.{arguments_of, before_arguments, is_structor, has_return_type, is_open}
 use Rattle.cpp_grammar.specs.Values as leaf_
 use Rattle.cpp_grammar.specs.Values.{Around, Prefix, prefix_tree, prefix_listed, Value, unqualified, tree_of, piece_of, is_listed, qualifiers_of, ref_of, letter_of, is_there, mark_of, text_of, signed_of, adjustment_of, normal, signed_digits, local_number, part}
@@ -26,6 +26,7 @@ use Rattle.cpp_term.specs.Own as code_
 use Rattle.cpp_term.specs.Meant as meant_
 use Rattle.cpp_term.specs.Annotated.{Place, nowhere, around_place, place_of, place_in, annotate, noted_value, noted_values, noted_prefix, noted_around}
 use Rattle.cpp_term.proofs.Notes.{both, choose, choose_cond, arguments_noted, noted_in, types_place, closed_noted}
+use Rattle.cpp_term.proofs.SeenNoted.{is_structor_noted, is_nil_noted, is_comma_noted, ends_arguments_noted}
 
 pub three : {A B C D : Type 0} (f : A → B → C → D) {a b : A} {c d : B} {x y : C} → a ≡ b → c ≡ d → x ≡ y → f a c x ≡ f b d y
 three f {a} {b} {c} {d} {x} {y} e g h = ap (λ z. f z c x) e ∙ both (f b) g h
@@ -193,16 +194,11 @@ void_noted s (builtin (b ∷ [])) = refl
 void_noted s (builtin (b ∷ c ∷ cs)) = refl
 void_noted s _ = refl
 
-nil_noted : (s : Place) (t : Term) → noted_.is_nil (annotate s t) ≡ meaning_.is_nil t
-unfolding noted_.is_nil meaning_.is_nil annotate
-nil_noted s nil = refl
-nil_noted s _ = refl
-
 pub parameters_noted : (s : Place) (t : Term) → noted_.parameters (annotate s t) ≡ annotate s (meaning_.parameters t)
 unfolding noted_.parameters meaning_.parameters annotate
 parameters_noted s (list e rest) =
     choose (λ t u. u ≡ annotate s t) (meaning_.is_void e && meaning_.is_nil rest) (noted_.is_void (annotate s e) && noted_.is_nil (annotate s rest)) _ _ _ _
-    (both (λ x y. x && y) (void_noted s e) (nil_noted s rest)) (λ h. refl) (λ h. refl)
+    (both (λ x y. x && y) (void_noted s e) (is_nil_noted s rest)) (λ h. refl) (λ h. refl)
 parameters_noted s _ = refl
 
 parameters_part : (s : Place) (vs : List Value) (k : ℕ) → noted_.parameters (value_.tree_of (value_.part (noted_values s vs) k)) ≡ annotate s (meaning_.parameters (tree_of (part vs k)))
@@ -262,42 +258,24 @@ unfolding noted_.operation_by meaning_.operation_by noted_value
 operation_noted s first (leaf_.pair second left right) = ap (λ t. value_.tree t true) (address_noted s (meaning_.is_code 97 100 first second) first second left right)
 operation_noted s first _ = refl
 
-comma_noted : (s : Place) (t : Term) → noted_.is_comma (annotate s t) ≡ meaning_.is_comma t
-unfolding noted_.is_comma meaning_.is_comma annotate
-comma_noted s (operation first second left right) = refl
-comma_noted s _ = refl
-
-ends_noted : (s : Place) (t : Term) → noted_.ends_arguments (annotate s t) ≡ meaning_.ends_arguments t
-unfolding noted_.ends_arguments meaning_.ends_arguments annotate
-ends_noted s (operation first second left right) = refl
-ends_noted s _ = refl
-
 argument_enclosed : (s : Place) (v : Value) → noted_.enclosed_argument (noted_value s v) ≡ noted_value s (meaning_.enclosed_argument v)
 unfolding noted_.enclosed_argument meaning_.enclosed_argument noted_.in_parentheses meaning_.in_parentheses noted_value annotate
 argument_enclosed s v =
     choose (λ a b. b ≡ noted_value s a) (meaning_.ends_arguments (tree_of v)) (noted_.ends_arguments (value_.tree_of (noted_value s v))) _ _ _ _
-    (ap noted_.ends_arguments (tree_noted s v) ∙ ends_noted s (tree_of v)) (λ h. ap (λ t. value_.tree (noted_.in_parentheses t) true) (tree_noted s v)) (λ h. refl)
+    (ap noted_.ends_arguments (tree_noted s v) ∙ ends_arguments_noted s (tree_of v)) (λ h. ap (λ t. value_.tree (noted_.in_parentheses t) true) (tree_noted s v)) (λ h. refl)
 
 element_enclosed : (s : Place) (t : Term) → noted_.enclosed_element (annotate s t) ≡ annotate s (meaning_.enclosed_element t)
 unfolding noted_.enclosed_element meaning_.enclosed_element noted_.in_parentheses meaning_.in_parentheses annotate
-element_enclosed s t = choose (λ u w. w ≡ annotate s u) (meaning_.is_comma t) (noted_.is_comma (annotate s t)) _ _ _ _ (comma_noted s t) (λ h. refl) (λ h. refl)
+element_enclosed s t = choose (λ u w. w ≡ annotate s u) (meaning_.is_comma t) (noted_.is_comma (annotate s t)) _ _ _ _ (is_comma_noted s t) (λ h. refl) (λ h. refl)
 
 -- ## Encodings
 
-pub structor_noted : (s : Place) (t : Term) → scope_.is_structor (annotate s t) ≡ is_structor t
-unfolding scope_.is_structor is_structor annotate
-structor_noted s (within prefix (constructor digit)) = refl
-structor_noted s (within prefix (destructor digit)) = refl
-structor_noted s (within prefix (inheriting digit base)) = refl
-structor_noted s (tagged of_structor name tag) = refl
-structor_noted s _ = refl
-
 before_noted : (s : Place) (t : Term) → scope_.is_structor (scope_.before_arguments (annotate s t)) ≡ is_structor (before_arguments t)
 unfolding scope_.before_arguments before_arguments annotate
-before_noted s (instance template arguments) = structor_noted s template
+before_noted s (instance template arguments) = is_structor_noted s template
 before_noted s (local encoding entity discriminator) = before_noted s entity
 before_noted s (of_default digits entity) = before_noted s entity
-before_noted s t = structor_noted s t
+before_noted s t = is_structor_noted s t
 
 none_some : (s : Place) (b : Term) → None ≡ noted_in s (Some b) → ⊥
 unfolding noted_in
@@ -366,7 +344,7 @@ lambda_noted s vs = both (λ x d. value_.piece (term_.lambda x (local_number d))
 
 tag_noted : (s : Place) (t : Term) (u : term_.Term) (tag other : List ℕ) → u ≡ annotate s t → other ≡ tag → between_.with_tag u other ≡ annotate s (going_.with_tag t tag)
 unfolding between_.with_tag going_.with_tag annotate
-tag_noted s t u tag other is same = rw (is, same) (ap (λ b. term_.tagged b (annotate s t) tag) (structor_noted s t))
+tag_noted s t u tag other is same = rw (is, same) (ap (λ b. term_.tagged b (annotate s t) tag) (is_structor_noted s t))
 
 -- ## What rows make
 

@@ -2,7 +2,7 @@
 use Rattle.std.proofs.Common.{◌≡◌, refl, ap, sym, ◌∙◌, subst, nat_eq, max, not, cond, ℕ, zero, suc, Bool, true, false, ◌||◌, ◌&&◌, Option, Some, None}
 use Rattle.std.proofs.lemmas.Bool.{true≢false, eqb-true}
 use Rattle.cpp_grammar.specs.Term.{Term, alone, in_std, within, instance, local, holder, tagged, of_default, parameter, lambda, conversion, pointer, lvalue, rvalue, array, constrained, bounded, member_pointer, function_type, qualified, vector, complex, expansion, integer, pack, list, absent, decltype, inheriting, operation}
-use Rattle.cpp_grammar.specs.Scope.{count, element, is_list, is_alone, has_pack, arguments_of, is_open, Free, none_free, one_free, several_free, both_free, free_in, first_of, length_if_pack, pack_length}
+use Rattle.cpp_grammar.specs.Scope.{count, element, is_alone, has_pack, arguments_of, is_open, Free, none_free, one_free, several_free, both_free, free_in, first_of, length_if_pack, pack_length}
 use Rattle.cpp_grammar.specs.Items.{Context, auto, indexed, argument, Head, lref, collapsed, head_with, head_closed, head, packs_of, is_none_of, is_empty}
 use Rattle.cpp_grammar.specs.References.{packs_in}
 use Rattle.cpp_term.specs.Term as term_
@@ -146,11 +146,6 @@ closed_noted s r (list first rest) e = both term_.list (closed_noted s r first (
 closed_noted s r _ e = refl
 
 -- ## Elements of lists
-
-pub list_noted : (s : Place) (t : Term) → scope_.is_list (annotate s t) ≡ is_list t
-unfolding scope_.is_list is_list annotate
-list_noted s (list first rest) = refl
-list_noted s _ = refl
 
 alone_noted : (s : Place) (t : Term) → scope_.is_alone (annotate s t) ≡ is_alone t
 unfolding scope_.is_alone is_alone annotate

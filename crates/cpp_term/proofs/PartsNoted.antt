@@ -4,18 +4,20 @@ use Prim.Native.String.{String}
 use Rattle.sym_print.specs.declared.detail.Detail.{Detail}
 use Rattle.sym_print.specs.Details.{has_arguments, has_parameters}
 use Rattle.sym_print.specs.Unfold.{PartOf, text, sub}
-use Rattle.cpp_grammar.specs.Term.{Qualifiers, RefQualifier, Signed, Term, symbol, function, object, of_name, alone, in_std, within, instance, local, holder, tagged, of_default, abbreviation, parameter, source, operator, constructor, destructor, inheriting, lambda, generic_lambda, builtin, sized_float, pointer, lvalue, rvalue, array, bounded, member_pointer, function_type, qualified, expansion, integer, operation, function_parameter, pack, nil, list, absent}
+use Rattle.cpp_grammar.specs.Term.{Qualifiers, RefQualifier, Signed, Term, symbol, function, object, of_name, alone, in_std, within, instance, local, holder, tagged, of_default, abbreviation, parameter, source, constructor, destructor, inheriting, lambda, generic_lambda, builtin, sized_float, pointer, lvalue, rvalue, array, bounded, member_pointer, function_type, qualified, expansion, integer, operation, function_parameter, pack, nil, list, absent}
 use Rattle.cpp_grammar.specs.Scope.{arguments_of, without_tags}
 use Rattle.cpp_grammar.specs.Items.{Form, root, full, bare, left, right, low, base, piece, first, more, expand, Context, signature_in, Item, closed, argument, head, is_reference, is_funarr, packs_of, is_empty}
 use Rattle.cpp_grammar.specs.Parts as leaf_
 use Rattle.cpp_grammar.specs.Parts.{qualifier_text, ref_text, blank_last, encoding_text, is_below}
-use Rattle.cpp_grammar.specs.Operations.{Operand, not_printed, as_it_is, as_type, as_list, from_precedence, Operation}
+use Rattle.cpp_grammar.specs.declared.operand.Operand.{Operand}
+use Rattle.cpp_grammar.specs.Operations.{Operation}
 use Rattle.cpp_grammar.specs.Texts.{look_up, named_special_texts, literal_endings}
 use Rattle.cpp_term.specs.Items as item_
 use Rattle.cpp_term.specs.Scope as scope_
 use Rattle.cpp_term.specs.Parts as part_
 use Rattle.cpp_term.specs.Annotated.{Place, nowhere, place_of, place_in, context_place, argument_in, annotate, noted_scope, noted_context, noted_item, noted_part, noted_parts}
 use Rattle.cpp_term.proofs.Notes.{both, choose, choose_cond, types_place, argument_noted, packs_of_noted, head_noted, empty_noted}
+use Rattle.cpp_term.proofs.SeenNoted.{opening_text_noted, precedence_of_noted}
 
 noted_append : (xs ys : List (PartOf Item)) → noted_parts (xs ++ ys) ≡ noted_parts xs ++ noted_parts ys
 unfolding noted_parts
@@ -65,19 +67,14 @@ within_noted c prefix (destructor digit) = refl
 within_noted c prefix (inheriting digit class) = refl
 within_noted c prefix p = ap (λ i. i ∷ part_.says "::" ∷ part_.as_item piece (noted_context c) (annotate (at c) p) ∷ []) (prefix_noted c prefix)
 
-opening_noted : (s : Place) (t : Term) → part_.opening_text (annotate s t) ≡ leaf_.opening_text t
-unfolding part_.opening_text leaf_.opening_text annotate
-opening_noted s (operator a b) = refl
-opening_noted s _ = refl
-
 last_noted : (s : Place) (t : Term) → part_.opening_text (part_.last_piece (annotate s t)) ≡ leaf_.opening_text (leaf_.last_piece t)
 unfolding part_.last_piece leaf_.last_piece annotate
-last_noted s (alone p) = opening_noted s p
-last_noted s (in_std p) = opening_noted s p
-last_noted s (within prefix p) = opening_noted s p
+last_noted s (alone p) = opening_text_noted s p
+last_noted s (in_std p) = opening_text_noted s p
+last_noted s (within prefix p) = opening_text_noted s p
 last_noted s (local encoding entity discriminator) = last_noted s entity
 last_noted s (of_default digits entity) = last_noted s entity
-last_noted s _ = opening_noted s absent
+last_noted s _ = opening_text_noted s absent
 
 instance_noted : (all : Bool) (c : Context) (t arguments : Term) → part_.instance_parts all (noted_context c) (annotate (at c) t) (annotate (at c) arguments) ≡ noted_parts (leaf_.instance_parts all c t arguments)
 unfolding part_.instance_parts leaf_.instance_parts noted_parts noted_part noted_item
@@ -155,29 +152,20 @@ unfolding part_.float_parts leaf_.float_parts noted_parts noted_part
 float_noted digits end =
     choice (nat_eq end 98) (nat_eq end 98) _ _ _ _ refl refl (choice (nat_eq end 120) (nat_eq end 120) _ _ _ _ refl refl refl)
 
-precedence_noted : (s : Place) (t : Term) → part_.precedence_of (annotate s t) ≡ leaf_.precedence_of t
-unfolding part_.precedence_of leaf_.precedence_of annotate
-precedence_noted s (operation a b x y) = refl
-precedence_noted s _ = refl
-
 operand_noted : (c : Context) (o : Operand) (t : Term) → part_.operand_parts (noted_context c) o (annotate (at c) t) ≡ noted_parts (leaf_.operand_parts c o t)
 unfolding part_.operand_parts leaf_.operand_parts noted_parts noted_part noted_item
-operand_noted c not_printed t = refl
-operand_noted c as_it_is t = refl
-operand_noted c as_type t = refl
-operand_noted c as_list t = list_noted first c t
-operand_noted c (from_precedence least) t = choice (nat_le least (leaf_.precedence_of t)) (nat_le least (part_.precedence_of (annotate (at c) t))) _ _ _ _ (ap (λ p. nat_le least p) (precedence_noted (at c) t)) refl refl
+operand_noted c Operand.NotPrinted t = refl
+operand_noted c Operand.AsItIs t = refl
+operand_noted c Operand.AsType t = refl
+operand_noted c Operand.AsList t = list_noted first c t
+operand_noted c (Operand.From least) t = choice (nat_le least (leaf_.precedence_of t)) (nat_le least (part_.precedence_of (annotate (at c) t))) _ _ _ _ (ap (λ p. nat_le least p) (precedence_of_noted (at c) t)) refl refl
 
 operation_noted : (c : Context) (o : Operation) (x y : Term) → part_.operation_parts (noted_context c) o (annotate (at c) x) (annotate (at c) y) ≡ noted_parts (leaf_.operation_parts c o x y)
 unfolding part_.operation_parts leaf_.operation_parts
 operation_noted c o x y =
-    let a = leaf_.text_part o.front in
-    let b = leaf_.operand_parts c o.left x in
-    let d = leaf_.text_part o.between in
-    let e = leaf_.operand_parts c o.right y in
-    joins (a ++ b ++ d ++ e) _ _ _
-    (joins (a ++ b ++ d) _ _ _
-    (joins (a ++ b) _ _ _ (joins a _ _ _ (text_noted o.front) (operand_noted c o.left x)) (text_noted o.between)) (operand_noted c o.right y)) (text_noted o.back)
+    joins (leaf_.text_part o.front) _ _ _ (text_noted o.front)
+    (joins (leaf_.operand_parts c o.left x) _ _ _ (operand_noted c o.left x)
+    (joins (leaf_.text_part o.between) _ _ _ (text_noted o.between) (joins (leaf_.operand_parts c o.right y) _ _ _ (operand_noted c o.right y) (text_noted o.back))))
 
 entity_noted : (c : Context) (form : Form) (t : Term) → (part_.as_item form (noted_context c) (part_.entity_of (annotate (at c) t)) ∷ []) ≡ noted_parts (leaf_.as_item form c (leaf_.entity_of t) ∷ [])
 unfolding part_.entity_of leaf_.entity_of annotate noted_parts noted_part noted_item

@@ -21,7 +21,8 @@ use Rattle.cpp_term.specs.Items as item_
 use Rattle.cpp_term.specs.Reargued.{reargued, given_for}
 use Rattle.cpp_term.specs.Annotated.{Place, nowhere, around_place, place_in, in_own, in_arguments, argument_in, annotate, noted_scope, noted_value, noted_prefix, noted_around}
 use Rattle.cpp_term.proofs.Reargued.{given_same, given_element}
-use Rattle.cpp_term.proofs.Notes.{both, choose, count_noted, element_noted, list_noted, pack_noted, open_noted, closed_noted, length_noted, packs_noted, NameThis, renoted, free_noted}
+use Rattle.cpp_term.proofs.Notes.{both, choose, count_noted, element_noted, pack_noted, open_noted, closed_noted, length_noted, packs_noted, NameThis, renoted, free_noted}
+use Rattle.cpp_term.proofs.SeenNoted.{is_list_noted}
 use Rattle.cpp_term.proofs.MeaningNoted.{three, tree_noted, listed_noted, prefix_tree_noted, prefix_listed_noted}
 
 -- ## Results
@@ -312,7 +313,7 @@ in_scope_noted around place by t k x y one packs =
     with_arguments (Comes true around x y) place around.scope _ _ (λ arguments scope.
     let a : term_.Term = scope_.element (annotate nowhere arguments) k in
     let same : (nat_lt k (scope_.count (annotate nowhere arguments)) && not (scope_.is_list a)) ≡ (nat_lt k (count arguments) && not (is_list (element arguments k))) =
-    both (λ n b. nat_lt k n && not b) (count_noted nowhere arguments) (ap scope_.is_list (element_noted nowhere arguments k) ∙ list_noted nowhere (element arguments k)) in
+    both (λ n b. nat_lt k n && not b) (count_noted nowhere arguments) (ap scope_.is_list (element_noted nowhere arguments k) ∙ is_list_noted nowhere (element arguments k)) in
     choose (Alike (Comes true around x y)) (nat_lt k (count arguments) && not (is_list (element arguments k)))
     (nat_lt k (scope_.count (annotate nowhere arguments)) && not (scope_.is_list a)) _ _ _ _ same
     (λ h.

@@ -17,7 +17,7 @@ use Rattle.cpp_tree.specs.declared.node.Entry.{Entry}
 use Rattle.cpp_tree.specs.declared.compact.Words.{Words}
 use Rattle.cpp_tree.specs.declared.compact.Compact.{Compact}
 use Rattle.cpp_tree.specs.Nodes.{entry_at, by_none, under_kept}
-use Rattle.cpp_tree.specs.Notes.{by_argument_at, passed, joined, of_expansion, of_pack, piece_by_argument, node_by_argument, placed_under, if_own, packs_by, empty_by, pack_class, class_by, collapses, both_free, piece_frees, piece_packs, argument_packs, frees, empties, ends_in, untagging, classes, packing, returning, counting, running, having_pack, noting, bare_entry}
+use Rattle.cpp_tree.specs.Notes.{passed, joined, of_expansion, of_pack, piece_by_argument, node_by_argument, placed_under, if_own, packs_by, empty_by, pack_class, class_by, collapses, both_free, piece_frees, piece_packs, argument_packs, frees, empties, ends_in, untagging, classes, packing, returning, counting, running, having_pack, noting, bare_entry}
 use Rattle.cpp_tree.specs.Compact.{packs_kept, class_kept, arguments_kept, untagged_kept, returns_kept, count_kept, run_kept, has_pack_kept, free_kept, kept, with_head, restated_entry, entry_of}
 
 -- a length that is kept, and one that isn't
@@ -47,42 +47,6 @@ over-two-is n empty f l w first second c one other e g at there depends made =
 or-false : (b : Bool) → b ≡ b || false
 or-false true = refl
 or-false false = refl
-
-pub lambda-alone : (ns : List Entry) (n : Node) (piece : Piece) (p k : ℕ) → piece ≡ Piece.Lambda p k
-    → kept n (entry_at ns p).packs (entry_at ns p).free false (passed (by_argument_at ns p)) Words.Plain 0 0
-    ≡ kept n (piece_packs ns piece) (piece_frees ns piece) false (piece_by_argument ns piece) Words.Plain 0 0
-unfolding piece_packs piece_frees piece_by_argument
-lambda-alone ns n piece p k is = rw is refl
-
-pub lambda-within : (ns : List Entry) (n : Node) (e : Entry) (piece : Piece) (p k : ℕ) → piece ≡ Piece.Lambda p k
-    → kept n (first_of e.packs (entry_at ns p).packs) (both_free e.free (entry_at ns p).free) false (joined e.by_argument (by_argument_at ns p)) Words.Plain 0 0
-    ≡ kept n (first_of e.packs (piece_packs ns piece)) (both_free e.free (piece_frees ns piece)) false (joined e.by_argument (piece_by_argument ns piece)) Words.Plain 0 0
-unfolding piece_packs piece_frees piece_by_argument joined passed
-lambda-within ns n e piece p k is = rw is refl
-
-pub conversion-alone : (ns : List Entry) (n : Node) (piece : Piece) (t : ℕ) → piece ≡ Piece.Conversion t
-    → kept n (entry_at ns t).packs (entry_at ns t).free false (passed (by_argument_at ns t)) Words.Plain 0 0
-    ≡ kept n (piece_packs ns piece) (piece_frees ns piece) false (piece_by_argument ns piece) Words.Plain 0 0
-unfolding piece_packs piece_frees piece_by_argument
-conversion-alone ns n piece t is = rw is refl
-
-pub conversion-within : (ns : List Entry) (n : Node) (e : Entry) (piece : Piece) (t : ℕ) → piece ≡ Piece.Conversion t
-    → kept n (first_of e.packs (entry_at ns t).packs) (both_free e.free (entry_at ns t).free) false (joined e.by_argument (by_argument_at ns t)) Words.Plain 0 0
-    ≡ kept n (first_of e.packs (piece_packs ns piece)) (both_free e.free (piece_frees ns piece)) false (joined e.by_argument (piece_by_argument ns piece)) Words.Plain 0 0
-unfolding piece_packs piece_frees piece_by_argument joined passed
-conversion-within ns n e piece t is = rw is refl
-
-pub inheriting-alone : (ns : List Entry) (n : Node) (piece : Piece) (k t : ℕ) → piece ≡ Piece.Inheriting k t
-    → kept n (entry_at ns t).packs (entry_at ns t).free false (passed (by_argument_at ns t)) Words.Plain 0 0
-    ≡ kept n (piece_packs ns piece) (piece_frees ns piece) false (piece_by_argument ns piece) Words.Plain 0 0
-unfolding piece_packs piece_frees piece_by_argument
-inheriting-alone ns n piece k t is = rw is refl
-
-pub inheriting-within : (ns : List Entry) (n : Node) (e : Entry) (piece : Piece) (k t : ℕ) → piece ≡ Piece.Inheriting k t
-    → kept n (first_of e.packs (entry_at ns t).packs) (both_free e.free (entry_at ns t).free) false (joined e.by_argument (by_argument_at ns t)) Words.Plain 0 0
-    ≡ kept n (first_of e.packs (piece_packs ns piece)) (both_free e.free (piece_frees ns piece)) false (joined e.by_argument (piece_by_argument ns piece)) Words.Plain 0 0
-unfolding piece_packs piece_frees piece_by_argument joined passed
-inheriting-within ns n e piece k t is = rw is refl
 
 pub other-alone : (ns : List Entry) (n : Node) (piece : Piece) → ((p k : ℕ) → piece ≡ Piece.Lambda p k → ⊥) → ((k t : ℕ) → piece ≡ Piece.Inheriting k t → ⊥) → ((t : ℕ) → piece ≡ Piece.Conversion t → ⊥)
     → bare_entry n false ≡ kept n (piece_packs ns piece) (piece_frees ns piece) false (piece_by_argument ns piece) Words.Plain 0 0

@@ -1,4 +1,5 @@
 pub mod Trees
+mod Viewing
 pub mod Pushed
 pub mod Noting
 pub mod Compacting

@@ -176,15 +176,14 @@ unfolding tree_of
 erased_again y t a n is = ap (λ x. erase (tree_of y.bytes y.thunks (trees y) x)) is ∙ erase_reargued (Some (tree_at (trees y) a)) (tree_at (trees y) t)
 
 -- the fields of a function: under what its types are isn't seen
-pub function_seen : (y : Table) (n : Node) (seen : NodeView) (name returned parameters under first second : ℕ) (q : Qualifiers) (m : Mark) → n ≡ Node.Function name q m returned parameters under
-    → seen ≡ seen_of FUNCTION (first ∷ second ∷ []) (no_text ∷ no_text ∷ []) 3 (name ∷ returned ∷ parameters ∷ []) → first ≡ qualifiers_number (qualifiers_of q) → second ≡ mark_number (mark_of m)
-    → seen_fields y seen ≡ fields_of (erase (tree_of y.bytes y.thunks (trees y) n))
+pub function_fields : (y : Table) (name returned parameters under : ℕ) (q : Qualifiers) (m : Mark)
+    → seen_fields y (seen_of FUNCTION (qualifiers_number (qualifiers_of q) ∷ mark_number (mark_of m) ∷ []) (no_text ∷ no_text ∷ []) 3 (name ∷ returned ∷ parameters ∷ []))
+    ≡ fields_of (erase (tree_of y.bytes y.thunks (trees y) (Node.Function name q m returned parameters under)))
 unfolding fields_of erase tree_of
-function_seen y n seen name returned parameters under first second q m is seen-is first-is second-is =
+function_fields y name returned parameters under q m =
     let u = tree_if_there (trees y) (under_kept under) in
-    rw (seen-is, first-is, second-is, is)
-    (both (λ r p. fields FUNCTION (qualifiers_number (qualifiers_of q)) (mark_number (mark_of m)) [] (plain_tree y name ∷ r ∷ p ∷ []))
-    (sym (erase_reargued u (tree_at (trees y) returned))) (sym (erase_reargued u (tree_at (trees y) parameters))))
+    both (λ r p. fields FUNCTION (qualifiers_number (qualifiers_of q)) (mark_number (mark_of m)) [] (plain_tree y name ∷ r ∷ p ∷ []))
+    (sym (erase_reargued u (tree_at (trees y) returned))) (sym (erase_reargued u (tree_at (trees y) parameters)))
 
 pub not_again : (n : Node) → ((t a : ℕ) → n ≡ Node.Reargued t a → ⊥) → is_again n ≡ false
 unfolding is_again

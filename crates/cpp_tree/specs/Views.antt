@@ -1,11 +1,12 @@
 -- The views of a symbol's nodes.
-use Rattle.std.specs.Prelude.{◌≡◌, ℕ, ◌<◌, List, [], ◌∷◌, length, map, take, Option, Some, None, slice_get}
+use Rattle.std.specs.Prelude.{◌≡◌, ℕ, ◌<◌, ◌≤◌, List, [], ◌∷◌, length, map, take, Option, Some, None, slice_get}
 use Rattle.std.specs.List.{All}
 use Rattle.sym_core.specs.declared.Span.{Span}
 use Rattle.cpp_grammar.specs.Term as values
 use Rattle.cpp_grammar.specs.Term.{Term}
 use Rattle.cpp_term.specs.Erased.{erase}
-use Rattle.cpp_tree.specs.Nodes.{Table, trees, tree_at, bytes_at, thunk_of, IsWithin, IsThunkWithin}
+use Rattle.cpp_tree.specs.Nodes.{Table, trees, tree_at, tree_of, bytes_at, thunk_of, IsWithin, IsBelow, IsThunkWithin}
+use Rattle.cpp_tree.specs.declared.node.Node as table
 use Rattle.cpp_tree.specs.declared.node.Thunk.{Thunk}
 use Rattle.cpp_tree.specs.declared.tree_production.TheConstants.{WIDE_THUNK}
 use Rattle.cpp_tree.specs.Fields.{Fields, fields_of, offsets_of}
@@ -73,6 +74,13 @@ IsSlotBelow n (Some part) = part < n
 
 abbrev pub AreWithin : List ℕ → List Span → Type 0
 AreWithin s texts = All (λ text. IsWithin text s) texts
+
+-- What the view of a node shows: its fields, by texts within the symbol, and parts that are below what the node's are.
+pub record IsSeen (y : Table) (node : table.Node) (seen : NodeView) : Type 0 where
+  pub fields : seen_fields y seen ≡ fields_of (erase (tree_of y.bytes y.thunks (trees y) node))
+  pub texts : AreWithin y.bytes seen.node.texts
+  pub parts : (n : ℕ) → IsBelow y.bytes (length y.thunks) n node → AreBelow n seen
+  pub few : seen.node.parts ≤ 3
 
 -- what is known of a thunk is within the symbol
 abbrev pub IsKnownThunk : List ℕ → Option Thunk → Type 0

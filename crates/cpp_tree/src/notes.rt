@@ -468,6 +468,7 @@ impl Nodes {
 
     /// A name of a piece after no other.
     #[inline(always)]
+    #[tactic(auto, unfolding(crate::specs::Notes::piece_packs, crate::specs::Notes::piece_frees, crate::specs::Notes::piece_by_argument))]
     fn noted_piece(&self, symbol: &[u8], node: Node, piece: Piece) -> Compact
         requires below { IsPieceBelow symbol.now (length self.now.nodes) piece }
         ensures { entry_of result ≡ kept node (piece_packs self.now.nodes piece) (piece_frees self.now.nodes piece) false (piece_by_argument self.now.nodes piece) Words.Plain 0 0 }
@@ -482,6 +483,7 @@ impl Nodes {
 
     /// A name of a piece after a prefix.
     #[inline(always)]
+    #[tactic(auto, unfolding(crate::specs::Notes::piece_packs, crate::specs::Notes::piece_frees, crate::specs::Notes::piece_by_argument, crate::specs::Notes::joined, crate::specs::Notes::passed))]
     fn noted_within(&self, symbol: &[u8], node: Node, prefix: u32, piece: Piece) -> Compact
         requires prefix { prefix < length self.now.nodes }
         requires below { IsPieceBelow symbol.now (length self.now.nodes) piece }
@@ -776,7 +778,6 @@ impl Nodes {
 
     /// A node with what is noted of it.
     #[inline(always)]
-    #[tactic(auto, unfolding(crate::specs::Compact::packs_kept, crate::specs::Compact::class_kept, crate::specs::Compact::arguments_kept, crate::specs::Compact::untagged_kept, crate::specs::Compact::returns_kept, crate::specs::Compact::count_kept, crate::specs::Compact::run_kept, crate::specs::Compact::has_pack_kept, crate::specs::Notes::frees, crate::specs::Notes::node_by_argument, crate::specs::Notes::if_own, crate::specs::Notes::class_by, crate::specs::Notes::empties, crate::specs::Notes::ends_in, crate::specs::Notes::untagging, crate::specs::Notes::classes, crate::specs::Notes::packing, crate::specs::Notes::returning, crate::specs::Notes::counting, crate::specs::Notes::running, crate::specs::Notes::having_pack))]
     pub(crate) fn noted(&self, symbol: &[u8], node: Node) -> Compact
         requires table { IsTable (over symbol.now self.now) }
         requires below { IsBelow symbol.now (length self.now.thunks) (length self.now.nodes) node }

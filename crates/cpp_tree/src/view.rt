@@ -6,7 +6,7 @@ ghost use Rattle.cpp_term.specs.Erased.{erase};
 ghost use Rattle.cpp_grammar.specs.Term.{Term};
 ghost use Rattle.cpp_tree.specs.Nodes.{over, trees, tree_of, piece_of, qualifiers_of, mark_of, thunk_of, discriminator_of, is_again, IsSpan, IsBelow, IsPieceBelow, IsTable};
 ghost use Rattle.cpp_tree.specs.Fields.{bit, linkage_number, name_fields, named_fields, local_fields, thunk_fields, fields_of, offsets_of};
-ghost use Rattle.cpp_tree.specs.Views.{plain_tree, prefix_trees, seen_of, seen_behind, seen_fields, no_text, offsets_in, AreBelow, IsSlotBelow, AreWithin, IsKnownThunk};
+ghost use Rattle.cpp_tree.specs.Views.{plain_tree, prefix_trees, seen_of, seen_behind, seen_fields, no_text, offsets_in, AreBelow, IsSlotBelow, AreWithin, IsSeen, IsKnownThunk};
 
 use crate::node::{Adjustment, Mark, Piece, Qualifiers, Signed, Thunk, bit};
 use crate::tree_production::{
@@ -351,15 +351,12 @@ fn view_of_tree(symbol: &[u8], nodes: &Nodes, tree: u32) -> NodeView
 }
 
 /// The view of a node whose tree isn't there again.
-#[tactic(auto, unfolding(crate::specs::Fields::fields_of, cpp_term::specs::Erased::erase, crate::specs::Nodes::tree_of, crate::specs::Nodes::is_again))]
+#[tactic(auto, unfolding(crate::specs::Nodes::is_again))]
 fn view_of_own(symbol: &[u8], nodes: &Nodes, node: node::Node) -> NodeView
     requires table { IsTable (over symbol.now nodes.now) }
     requires own { is_again node ≡ false }
     requires node { IsBelow symbol.now (length nodes.now.thunks) (length nodes.now.nodes) node }
-    ensures fields { seen_fields (over symbol.now nodes.now) result ≡ fields_of (erase (tree_of symbol.now nodes.now.thunks (trees (over symbol.now nodes.now)) node)) }
-    ensures texts { AreWithin symbol.now result.node.texts }
-    ensures parts { (n : ℕ) → IsBelow symbol.now (length nodes.now.thunks) n node → AreBelow n result }
-    ensures few { result.node.parts ≤ 3 }
+    ensures { IsSeen (over symbol.now nodes.now) node result }
 {
     let none = [0; 2];
     match node {

@@ -1,8 +1,6 @@
 -- What was written of a symbol is its answer.
-use Rattle.std.proofs.Common.{◌≡◌, ℕ, ◌≤◌, ◌/◌, length, List, Bool, true, false, Ok, ap, sym, ◌∙◌, arith}
+use Rattle.std.proofs.Common.{◌≡◌, ℕ, ◌≤◌, ◌/◌, List, Bool, true, false, Ok, ap, sym, ◌∙◌, arith}
 use Rattle.sym_print.specs.declared.detail.Detail.{Detail}
-use Rattle.std.specs.Prelude.{Option, Some, None}
-use Rattle.std.specs.Option.{OnSome}
 use Rattle.sym_print.specs.declared.detail.Detail.TheVariants.{Full, Brief, NoParameters, BriefNoParameters}
 use Rattle.sym_print.specs.Answer.{text_within}
 use Rattle.sym_print.proofs.Answering.{text_within-ok}
@@ -11,7 +9,7 @@ use Rattle.cpp_grammar.specs.Answer.{shown, root_item}
 use Rattle.cpp_grammar.specs.Mangled.{cpp_mangled, wide_mangled}
 use Rattle.cpp_grammar.specs.Term.{Term}
 use Rattle.cpp_direct.specs.WriterInvariant.{IsShown}
-use Rattle.cpp_direct.specs.Symbol.{Symbol, detail_by, mangled_by, symbol_as, symbol_by}
+use Rattle.cpp_direct.specs.Symbol.{detail_by, mangled_by, symbol_as, symbol_by}
 
 -- what a symbol stands for is answered by its text, if that is short enough
 answer_by : (wide : Bool) (d : Detail) (s text : List ℕ) (t : Term) (limit : ℕ) → StandsFor (mangled_by wide) s (Ok t)
@@ -34,12 +32,3 @@ shown_answer wide Full s text limit most p short = answer_shown wide false false
 shown_answer wide Brief s text limit most p short = answer_shown wide false true s text limit most p short
 shown_answer wide NoParameters s text limit most p short = answer_shown wide true false s text limit most p short
 shown_answer wide BriefNoParameters s text limit most p short = answer_shown wide true true s text limit most p short
-
--- it may cost more
-pub shown_within : (s : Symbol) (few most : ℕ) (text : List ℕ) → IsShown s few text → few ≤ most → IsShown s most text
-shown_within s few most text p less = record { whole = p.whole; stands = p.stands; text_is = p.text_is; cost = omega (arith, p.cost, less) }
-
-pub shown_within-some : {T : Type 0} (r : Option T) (s : Symbol) (few most : ℕ) (text : List ℕ) → OnSome r (IsShown s few text) → few ≤ most
-    → OnSome r (IsShown s most text)
-shown_within-some None s few most text p less = tt
-shown_within-some (Some x) s few most text p less = shown_within s few most text p less

@@ -20,7 +20,8 @@ const BYTES_A_BYTE: usize = 8;
 
 const BYTES_ANYWAY: usize = 1_024;
 
-/// The most steps that are taken for each byte of a symbol: each reads a byte, or ends what was read.
+/// The most steps that are taken for each byte of a symbol: each reads a byte, or ends what was read. Where a step reads on in a loop,
+/// over the components of a nested name, each turn of that reads a byte of its own.
 const ROUNDS_A_BYTE: usize = 8;
 
 /// Writes the text of a symbol, by the wide grammar or by the default, as much of it as is asked for, if the symbol is one that can be
@@ -127,16 +128,22 @@ fn run<G: Grammar>(direct: &mut Direct, s: &[u8], most: u32, rounds: &mut usize)
     };
     let mut step = first;
     let last = ROUNDS_A_BYTE * s.len();
-    'steps: while *rounds < last {
-        *rounds += 1;
+    let mut left = last;
+    'steps: while left > 0 {
+        left -= 1;
         if let Step::Ended = step {
+            *rounds = last - left;
             return end::<G>(direct, s, most);
         }
         match direct.take::<G>(s, step) {
             Some(next) => step = next,
-            None => return false,
+            None => {
+                *rounds = last - left;
+                return false;
+            }
         }
     }
+    *rounds = last;
     false
 }
 

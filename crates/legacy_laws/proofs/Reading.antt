@@ -19,8 +19,7 @@ use Rattle.cpp_direct.specs.Holes.{Opened, StandsAt, Comes, IsNameAt, NestGoesOn
 use Rattle.cpp_direct.specs.HolesOfNests.{IsRest}
 use Rattle.cpp_direct.specs.HolesOfLists.{SymbolOpened}
 use Rattle.cpp_direct.proofs.Moves.{comes-moved, expects-empty}
-use Rattle.cpp_direct.proofs.MovesOfNests.{nest-source}
-use Rattle.cpp_direct.proofs.MovesOfComponents.{component-awaits, component-source, nest-end}
+use Rattle.cpp_direct.proofs.MovesOfNests.{nest-source, component-awaits, component-source, nest-end}
 use Rattle.cpp_direct.proofs.MovesOfEncodings.{encoding-opens, name-nested, symbol-starts}
 use Rattle.legacy_laws.proofs.Bytes.{end_here, front_here, legacy_drop, name_here, suffix_here}
 

@@ -11,7 +11,7 @@ use Rattle.rust_grammar.specs.Value.{Value, Ended}
 use Rattle.rust_grammar.specs.Unfold.{ended_at}
 use Rattle.sym_spell.specs.Pressing.{◌and◌, text, nothing}
 use Rattle.sym_spell.proofs.DigitValues.{digits-count}
-use Rattle.sym_spell.specs.Digits.{digit62, digits_in}
+use Rattle.sym_spell.specs.Digits.{digit62}
 use Rattle.std.specs.Prelude.{◌==◌, if◌then◌else◌}
 use Rattle.rust_press.specs.Same.{same_tree}
 use Rattle.rust_press.specs.Pressing.{Component, Pressed, Pressing, digits62, first_place, reference, either, spelled_out, component, spell_path, spell_type, spell_constant, type_or_reference}

@@ -16,10 +16,10 @@ use Rattle.rust_grammar.specs.declared.production.Production.{Production}
 use Rattle.rust_grammar.specs.Productions.{production_of}
 use Rattle.rust_grammar.specs.Rules.{v0_table}
 use Rattle.rust_grammar.specs.Value as value
-use Rattle.rust_grammar.specs.Value.{Value, State, Ended}
+use Rattle.rust_grammar.specs.Value.{Value, State}
 use Rattle.rust_grammar.specs.Unfold.{At, meaning_of, token_of, value62, value16}
 use Rattle.rust_press.specs.Pressing as pressing
-use Rattle.rust_press.specs.Pressing.{Pressing, number62, number16, counted, mark_if, press_name, press_disambiguator, press_binder, identifier_of, press_identifier, press_lifetime, press_abi, press_constant, press_path, press_other, press_arguments, press_types, press_bounds, press_bindings, type_or_reference, spell_type}
+use Rattle.rust_press.specs.Pressing.{Pressing, number62, number16, counted, mark_if, press_name, press_disambiguator, press_binder, press_identifier, press_lifetime, press_abi, press_constant, press_path, press_other, press_arguments, press_types, press_bounds, press_bindings, type_or_reference, spell_type}
 use Rattle.rust_press.specs.Subtrees.{IsTypeValue}
 use Rattle.rust_press.proofs.PressRead.{Holds}
 use Rattle.rust_press.proofs.PressTokens.{disambiguator_values, binder_values, identifier_values, unsafe_values, minus_values, abi_values}

@@ -11,7 +11,8 @@ use crate::words::{Taken, Tally, Words};
 use std::alloc::{AllocError, Global};
 
 /// How many bytes are read at a time, and from how many on they are written.
-const READ_SIZE: usize = 65_536;
+// With four times as many a start took a quarter more instructions, since their room is cleared.
+const READ_SIZE: usize = 16_384;
 
 /// Reads all that the source gives, and writes it with each word that names a symbol replaced by the text that a demangler gives it.
 pub fn filter_with<R: Source, W: Sink, D: Demangler>(
@@ -156,6 +157,7 @@ fn put_after<W: Sink>(
 }
 
 /// Puts dots after the bytes that wait to be written.
+#[inline(always)]
 fn write_dots<W: Sink>(writer: &mut W, out: &mut Vec<u8>, dots: u128) -> Result<(), FilterFault>
     requires failures { W.failure_count writer.old < 2 ^ 64 - 1 }
     ensures ok { OnOk result (Puts (W.taken writer.old) (W.taken writer.new) out.old.items out.new.items

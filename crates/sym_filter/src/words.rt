@@ -104,6 +104,10 @@ pub(crate) fn run_front(letters: Letters, text: &[u8]) -> usize
     ensures in_run { list_all (is_byte_of letters) (take result text.now) ≡ true }
     ensures stops { result < length text.now → is_byte_of letters (slice_index text.now result) ≡ false }
 {
+    // most often it is asked for where a run ends
+    if text.is_empty() || !is_byte_of(letters, text[0]) {
+        return 0;
+    }
     let mut length = lanes_run(text);
     'bytes: while length < text.len() {
         if !is_byte_of(letters, text[length]) {
@@ -302,6 +306,7 @@ impl Words {
 
     /// Ends the run that is held: appends the text for its word, or the word, and counts it where it names a symbol.
     /// Answers how many dots come after it.
+    #[inline(always)]
     pub fn end_word<D: Demangler>(
         &mut self,
         demangler: &D,
@@ -412,6 +417,7 @@ pub(crate) fn word_end(part: &[u8]) -> usize
 }
 
 /// Appends dots and a part of a word after them, or nothing.
+#[inline(always)]
 fn push_word(held: &mut Vec<u8>, dots: usize, part: &[u8]) -> Result<(), AllocError>
     requires { length held.old.items + dots + length part.now ≤ LONGEST_WORD }
     ensures ok { OnOk result (held.new.items ≡ held.old.items ++ replicate dots 46 ++ part.now) }

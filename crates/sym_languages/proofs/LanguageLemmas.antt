@@ -5,7 +5,6 @@ use Rattle.sym_core.specs.declared.counts.Counts.{Counts}
 use Rattle.sym_core.specs.declared.refusal.Refusal.{Refusal}
 use Rattle.sym_core.specs.declared.refusal.Refusal.TheVariants.{Memory, TooLong}
 use Rattle.sym_print.specs.declared.detail.Detail.{Detail}
-use Rattle.sym_print.specs.declared.detail.Detail.TheVariants.{NoParameters}
 use Rattle.sym_print.specs.Details.{has_arguments}
 use Rattle.sym_shape.specs.Decided.{AreBytes}
 use Rattle.sym_shape.specs.declared.rule.Row.{Row}

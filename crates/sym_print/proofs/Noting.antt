@@ -1,11 +1,10 @@
 -- What is noted stays so while entries are taken.
-use Rattle.std.proofs.Common.{◌≡◌, ℕ, ◌+◌, ◌-◌, ◌<◌, ◌≤◌, Some, List, [], ◌∷◌, ◌++◌, length, take, drop, reverse, slice_get, refl, sym, ap, ◌∙◌, subst, append_assoc, append-nil, arith, inl, inr, ◌⊎◌, ⊎_elim}
+use Rattle.std.proofs.Common.{◌≡◌, ℕ, ◌+◌, ◌-◌, ◌<◌, ◌≤◌, Some, List, [], ◌∷◌, ◌++◌, length, take, drop, reverse, refl, sym, ap, ◌∙◌, subst, append_assoc, append-nil, arith, inl, inr, ◌⊎◌, ⊎_elim}
 use Rattle.std.proofs.lemmas.List.{drop-append-le, length-append, length-drop, take-append-le, take_all}
-use Rattle.std.proofs.lemmas.Option.{slice_get_within, get_or_from_slice_get}
 use Rattle.std.proofs.Math.Numerals.{lt_of_le_of_ne}
 use Rattle.std.proofs.Math.Seq.{drop-length, drop-append_seam}
 use Rattle.std.specs.List.{All, Contains}
-use Rattle.std.proofs.lemmas.List.Elements.{All-nil, All-cons, All-head, All-tail, All-push, All-pop, All-weaker, All-same, All-contains, Contains-get_or}
+use Rattle.std.proofs.lemmas.List.Elements.{All-nil, All-cons, All-head, All-tail, All-push, All-pop, All-weaker, All-same, All-contains}
 use Rattle.sym_print.specs.declared.layout.Item.{Item}
 use Rattle.sym_print.specs.declared.layout.Part.{Part}
 use Rattle.sym_print.specs.declared.layout.Part.TheVariants.{Sub}
@@ -17,10 +16,6 @@ use Rattle.sym_print.specs.Stacked.{Stacked}
 use Rattle.sym_print.specs.Joined.{IsNext, IsText, text_of_part, cost_of_part, steps_of_part, text_of_stack, cost_of_stack, steps_of_stack}
 use Rattle.sym_print.specs.Noted.{IsNote, IsBegun, AreNested, AreBelow, EndsAt, AreNoted}
 use Rattle.sym_print.proofs.Stack.{next_is_last, text_of_stack-append, cost_of_stack-append, steps_of_stack-append, text_of_stack-reverse, cost_of_stack-reverse, steps_of_stack-reverse, text_of_text, cost_of_text, steps_of_text, cost_of_next}
-
--- what is there at a place is among a list's elements
-pub contained : {X : Type 0} (xs : List X) (k : ℕ) (x : X) → slice_get xs k ≡ Some x → Contains xs x
-contained xs k x e = subst (Contains xs) (get_or_from_slice_get xs k x x e) (Contains-get_or xs k x (slice_get_within xs k x e))
 
 -- a text costs at least its bytes
 pub length_of_text : (parts : Unshared) → length (text_of parts) ≤ cost_of_parts parts

@@ -15,8 +15,6 @@ use Rattle.clap.specs.declared.error.kind.ErrorKind.{ErrorKind}
 use Rattle.clap.specs.declared.error.kind.ErrorKind.TheVariants.{OutOfMemory}
 use Rattle.sym_command.specs.CommandLine.{AreGiven, AreRefused, faults_in, symbols_of}
 use Rattle.sym_command.specs.Command.{AnswersFront, AnswersWords, Took, Says}
-use Rattle.sym_command.specs.Lines.{Counting}
-use Rattle.sym_command.specs.declared.options.Asked.{Asked}
 use Rattle.sym_command.specs.declared.options.Asked.TheVariants.{Text, WideText}
 use Rattle.sym_command.specs.declared.options.Options.{Options}
 use Rattle.sym_command.specs.declared.outcome.Filtering.{Filtering}
@@ -25,7 +23,7 @@ use Rattle.sym_command.specs.declared.outcome.Run.TheVariants.{Done, Filter}
 use Rattle.sym_command.proofs.CommandLemmas.{faulty}
 use Rattle.sym_command.proofs.PageLemmas.{Took-said, OnErr-anyway}
 use Rattle.sym_languages.specs.Languages.{answers_by}
-use Rattle.symfilt_command.specs.Command.{answers_at, answers_of, counting_at, counting_of, filter_answers, AreBegun, IsRunOf, IsRun, IsStopped, Filtered, FilteredFront}
+use Rattle.symfilt_command.specs.Command.{answers_at, answers_of, counting_of, filter_answers, AreBegun, IsRunOf, IsRun, IsStopped, Filtered, FilteredFront}
 
 -- ## What is answered
 
@@ -36,10 +34,6 @@ by-legacy P cpp legacy known limit detail is given = subst (λ paths. P (answers
 -- where it is known which grammar the filter reads C++ by
 pub by-width : (P : Answering → Type 0) (filtering : Filtering) (wide : Bool) → filtering.wide ≡ wide → P (answers_at (cond wide WideText Text) filtering.legacy filtering.limit filtering.detail) → P (filter_answers filtering)
 by-width P filtering wide is given = subst (λ known. P (answers_at (cond known WideText Text) filtering.legacy filtering.limit filtering.detail)) (sym is) given
-
--- where it is known what is asked
-pub by-asked : (P : Answering → Counting → Type 0) (options : Options) (asked : Asked) → options.asked ≡ asked → P (answers_at asked options.legacy options.limit options.detail) (counting_at asked) → P (answers_of options) (counting_of options)
-by-asked P options asked is given = subst (λ known. P (answers_at known options.legacy options.limit options.detail) (counting_at known)) (sym is) given
 
 -- ## Words that the parser refuses
 

@@ -1,9 +1,17 @@
-use Rattle.std.proofs.Common.{arith}
-use Rattle.cpp_direct.proofs.NamePlaces.{reached-more}
+use Rattle.std.proofs.Common.{◌-◌, length, subst, arith}
+use Rattle.sym_core.specs.declared.NameClass.TheVariants.{Cpp}
+use Rattle.sym_core.specs.Scan.{ReachesNameBytes}
+use Rattle.cpp_direct.proofs.NameLanes.{reached-on}
 use Rattle.cpp_direct.proofs.names.are_name_bytes.Goals as goal
 
-pub bytes-preserved : goal.bytes-preserved
-bytes-preserved c = record {
-  high = omega (arith, c.bytes-test.true);
-  each = reached-more c.args.bytes.now c.bytes.at c.bytes.are c.bytes.invariant.each (omega (arith, c.type_inv.bytes c.bytes.at));
+pub lanes-preserved : goal.lanes-preserved
+lanes-preserved c = record {
+  high = omega (arith, c.lanes-test.true);
+  each = reached-on c.args.bytes.now c.lanes.at c.lanes.at c.lanes.invariant.each (omega arith) (c.are_lanes_named.ensures c.if-not-are_lanes_named.false);
 }
+
+pub returns : goal.returns
+returns c = λ is.
+    let bytes = c.args.bytes.now in
+    subst (λ n. ReachesNameBytes Cpp bytes n) (omega (arith, c.if-bytes-lt-LANES.false))
+    (reached-on bytes c.lanes.at (length bytes - 16) c.lanes.invariant.each (omega (arith, c.lanes-test.false)) (c.are_lanes_named-2.ensures is))

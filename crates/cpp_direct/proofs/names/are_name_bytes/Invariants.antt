@@ -1,15 +1,15 @@
--- where none of the bytes so far is out of bounds, they may be in a name
-use Rattle.std.proofs.Common.{◌≡◌, ◌≤◌, ◌-◌, length, true}
+-- the bytes so far may be in a name
+use Rattle.std.proofs.Common.{◌-◌, ◌≤◌, length}
 use Rattle.sym_core.specs.Scan.{ReachesNameBytes}
 use Rattle.sym_core.specs.declared.NameClass.TheVariants.{Cpp}
 use Rattle.cpp_direct.proofs.names.are_name_bytes.Given as goal
 
-abbrev pub invariant-bytes : goal.invariant-bytes
-invariant-bytes l =
+abbrev pub invariant-lanes : goal.invariant-lanes
+invariant-lanes l =
     record {
       high : l.at ≤ length l.bytes;
-      each : l.are ≡ true → ReachesNameBytes Cpp l.bytes l.at;
+      each : ReachesNameBytes Cpp l.bytes l.at;
     }
 
-abbrev pub decreases-bytes : goal.decreases-bytes
-decreases-bytes l = length l.bytes - l.at
+abbrev pub decreases-lanes : goal.decreases-lanes
+decreases-lanes l = length l.bytes - l.at

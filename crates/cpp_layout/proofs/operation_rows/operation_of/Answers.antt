@@ -10,7 +10,7 @@ use Rattle.cpp_layout.proofs.operation_rows.operation_of.Goals as goal
 
 pub returns-in-28787-clause-is : goal.returns-in-28787-clause-is
 unfolding printed operation_of_code operations same_bytes builtin_texts operator_texts abbreviation_texts special_texts named_special_texts literal_endings
-returns-in-28787-clause-is c = printed-by c.args.first c.args.second 112 115 c.printed_as.result c.ranges.second.fits (lit< tt) (omega (arith, c.in-28787.is)) (rw c.printed_as.ensures record { precedence = refl; front = refl; left = refl; between = refl; right = refl; back = refl })
+returns-in-28787-clause-is c = printed-by c.args.first c.args.second 112 115 c.printed_as.result c.ranges.second.fits (lit< tt) (omega (arith, c.in-28787.is)) (rw c.printed_as.ensures refl)
 
 pub returns-in-28787-clause-few : goal.returns-in-28787-clause-few
 unfolding text_part builtin_texts operator_texts abbreviation_texts special_texts named_special_texts literal_endings
@@ -18,7 +18,7 @@ returns-in-28787-clause-few c = rw c.printed_as.ensures (omega arith)
 
 pub returns-in-28263-clause-is : goal.returns-in-28263-clause-is
 unfolding printed operation_of_code operations same_bytes builtin_texts operator_texts abbreviation_texts special_texts named_special_texts literal_endings
-returns-in-28263-clause-is c = printed-by c.args.first c.args.second 110 103 c.printed_as-in-28263.result c.ranges.second.fits (lit< tt) (omega (arith, c.in-28263.is)) (rw c.printed_as-in-28263.ensures record { precedence = refl; front = refl; left = refl; between = refl; right = refl; back = refl })
+returns-in-28263-clause-is c = printed-by c.args.first c.args.second 110 103 c.printed_as-in-28263.result c.ranges.second.fits (lit< tt) (omega (arith, c.in-28263.is)) (rw c.printed_as-in-28263.ensures refl)
 
 pub returns-in-28263-clause-few : goal.returns-in-28263-clause-few
 unfolding text_part builtin_texts operator_texts abbreviation_texts special_texts named_special_texts literal_endings
@@ -26,7 +26,7 @@ returns-in-28263-clause-few c = rw c.printed_as-in-28263.ensures (omega arith)
 
 pub returns-in-24932-clause-is : goal.returns-in-24932-clause-is
 unfolding printed operation_of_code operations same_bytes builtin_texts operator_texts abbreviation_texts special_texts named_special_texts literal_endings
-returns-in-24932-clause-is c = printed-by c.args.first c.args.second 97 100 c.printed_as-in-24932.result c.ranges.second.fits (lit< tt) (omega (arith, c.in-24932.is)) (rw c.printed_as-in-24932.ensures record { precedence = refl; front = refl; left = refl; between = refl; right = refl; back = refl })
+returns-in-24932-clause-is c = printed-by c.args.first c.args.second 97 100 c.printed_as-in-24932.result c.ranges.second.fits (lit< tt) (omega (arith, c.in-24932.is)) (rw c.printed_as-in-24932.ensures refl)
 
 pub returns-in-24932-clause-few : goal.returns-in-24932-clause-few
 unfolding text_part builtin_texts operator_texts abbreviation_texts special_texts named_special_texts literal_endings
@@ -34,7 +34,7 @@ returns-in-24932-clause-few c = rw c.printed_as-in-24932.ensures (omega arith)
 
 pub returns-in-25701-clause-is : goal.returns-in-25701-clause-is
 unfolding printed operation_of_code operations same_bytes builtin_texts operator_texts abbreviation_texts special_texts named_special_texts literal_endings
-returns-in-25701-clause-is c = printed-by c.args.first c.args.second 100 101 c.printed_as-in-25701.result c.ranges.second.fits (lit< tt) (omega (arith, c.in-25701.is)) (rw c.printed_as-in-25701.ensures record { precedence = refl; front = refl; left = refl; between = refl; right = refl; back = refl })
+returns-in-25701-clause-is c = printed-by c.args.first c.args.second 100 101 c.printed_as-in-25701.result c.ranges.second.fits (lit< tt) (omega (arith, c.in-25701.is)) (rw c.printed_as-in-25701.ensures refl)
 
 pub returns-in-25701-clause-few : goal.returns-in-25701-clause-few
 unfolding text_part builtin_texts operator_texts abbreviation_texts special_texts named_special_texts literal_endings
@@ -42,7 +42,7 @@ returns-in-25701-clause-few c = rw c.printed_as-in-25701.ensures (omega arith)
 
 pub returns-in-25455-clause-is : goal.returns-in-25455-clause-is
 unfolding printed operation_of_code operations same_bytes builtin_texts operator_texts abbreviation_texts special_texts named_special_texts literal_endings
-returns-in-25455-clause-is c = printed-by c.args.first c.args.second 99 111 c.printed_as-in-25455.result c.ranges.second.fits (lit< tt) (omega (arith, c.in-25455.is)) (rw c.printed_as-in-25455.ensures record { precedence = refl; front = refl; left = refl; between = refl; right = refl; back = refl })
+returns-in-25455-clause-is c = printed-by c.args.first c.args.second 99 111 c.printed_as-in-25455.result c.ranges.second.fits (lit< tt) (omega (arith, c.in-25455.is)) (rw c.printed_as-in-25455.ensures refl)
 
 pub returns-in-25455-clause-few : goal.returns-in-25455-clause-few
 unfolding text_part builtin_texts operator_texts abbreviation_texts special_texts named_special_texts literal_endings
@@ -50,7 +50,7 @@ returns-in-25455-clause-few c = rw c.printed_as-in-25455.ensures (omega arith)
 
 pub returns-in-28276-clause-is : goal.returns-in-28276-clause-is
 unfolding printed operation_of_code operations same_bytes builtin_texts operator_texts abbreviation_texts special_texts named_special_texts literal_endings
-returns-in-28276-clause-is c = printed-by c.args.first c.args.second 110 116 c.printed_as-in-28276.result c.ranges.second.fits (lit< tt) (omega (arith, c.in-28276.is)) (rw c.printed_as-in-28276.ensures record { precedence = refl; front = refl; left = refl; between = refl; right = refl; back = refl })
+returns-in-28276-clause-is c = printed-by c.args.first c.args.second 110 116 c.printed_as-in-28276.result c.ranges.second.fits (lit< tt) (omega (arith, c.in-28276.is)) (rw c.printed_as-in-28276.ensures refl)
 
 pub returns-in-28276-clause-few : goal.returns-in-28276-clause-few
 unfolding text_part builtin_texts operator_texts abbreviation_texts special_texts named_special_texts literal_endings
@@ -58,7 +58,7 @@ returns-in-28276-clause-few c = rw c.printed_as-in-28276.ensures (omega arith)
 
 pub returns-in-24951-clause-is : goal.returns-in-24951-clause-is
 unfolding printed operation_of_code operations same_bytes builtin_texts operator_texts abbreviation_texts special_texts named_special_texts literal_endings
-returns-in-24951-clause-is c = printed-by c.args.first c.args.second 97 119 c.printed_as-in-24951.result c.ranges.second.fits (lit< tt) (omega (arith, c.in-24951.is)) (rw c.printed_as-in-24951.ensures record { precedence = refl; front = refl; left = refl; between = refl; right = refl; back = refl })
+returns-in-24951-clause-is c = printed-by c.args.first c.args.second 97 119 c.printed_as-in-24951.result c.ranges.second.fits (lit< tt) (omega (arith, c.in-24951.is)) (rw c.printed_as-in-24951.ensures refl)
 
 pub returns-in-24951-clause-few : goal.returns-in-24951-clause-few
 unfolding text_part builtin_texts operator_texts abbreviation_texts special_texts named_special_texts literal_endings
@@ -66,7 +66,7 @@ returns-in-24951-clause-few c = rw c.printed_as-in-24951.ensures (omega arith)
 
 pub returns-in-25708-clause-is : goal.returns-in-25708-clause-is
 unfolding printed operation_of_code operations same_bytes builtin_texts operator_texts abbreviation_texts special_texts named_special_texts literal_endings
-returns-in-25708-clause-is c = printed-by c.args.first c.args.second 100 108 c.printed_as-in-25708.result c.ranges.second.fits (lit< tt) (omega (arith, c.in-25708.is)) (rw c.printed_as-in-25708.ensures record { precedence = refl; front = refl; left = refl; between = refl; right = refl; back = refl })
+returns-in-25708-clause-is c = printed-by c.args.first c.args.second 100 108 c.printed_as-in-25708.result c.ranges.second.fits (lit< tt) (omega (arith, c.in-25708.is)) (rw c.printed_as-in-25708.ensures refl)
 
 pub returns-in-25708-clause-few : goal.returns-in-25708-clause-few
 unfolding text_part builtin_texts operator_texts abbreviation_texts special_texts named_special_texts literal_endings
@@ -74,7 +74,7 @@ returns-in-25708-clause-few c = rw c.printed_as-in-25708.ensures (omega arith)
 
 pub returns-in-25697-clause-is : goal.returns-in-25697-clause-is
 unfolding printed operation_of_code operations same_bytes builtin_texts operator_texts abbreviation_texts special_texts named_special_texts literal_endings
-returns-in-25697-clause-is c = printed-by c.args.first c.args.second 100 97 c.printed_as-in-25697.result c.ranges.second.fits (lit< tt) (omega (arith, c.in-25697.is)) (rw c.printed_as-in-25697.ensures record { precedence = refl; front = refl; left = refl; between = refl; right = refl; back = refl })
+returns-in-25697-clause-is c = printed-by c.args.first c.args.second 100 97 c.printed_as-in-25697.result c.ranges.second.fits (lit< tt) (omega (arith, c.in-25697.is)) (rw c.printed_as-in-25697.ensures refl)
 
 pub returns-in-25697-clause-few : goal.returns-in-25697-clause-few
 unfolding text_part builtin_texts operator_texts abbreviation_texts special_texts named_special_texts literal_endings
@@ -82,7 +82,7 @@ returns-in-25697-clause-few c = rw c.printed_as-in-25697.ensures (omega arith)
 
 pub returns-in-29815-clause-is : goal.returns-in-29815-clause-is
 unfolding printed operation_of_code operations same_bytes builtin_texts operator_texts abbreviation_texts special_texts named_special_texts literal_endings
-returns-in-29815-clause-is c = printed-by c.args.first c.args.second 116 119 c.printed_as-in-29815.result c.ranges.second.fits (lit< tt) (omega (arith, c.in-29815.is)) (rw c.printed_as-in-29815.ensures record { precedence = refl; front = refl; left = refl; between = refl; right = refl; back = refl })
+returns-in-29815-clause-is c = printed-by c.args.first c.args.second 116 119 c.printed_as-in-29815.result c.ranges.second.fits (lit< tt) (omega (arith, c.in-29815.is)) (rw c.printed_as-in-29815.ensures refl)
 
 pub returns-in-29815-clause-few : goal.returns-in-29815-clause-few
 unfolding text_part builtin_texts operator_texts abbreviation_texts special_texts named_special_texts literal_endings
@@ -90,7 +90,7 @@ returns-in-29815-clause-few c = rw c.printed_as-in-29815.ensures (omega arith)
 
 pub returns-in-26483-clause-is : goal.returns-in-26483-clause-is
 unfolding printed operation_of_code operations same_bytes builtin_texts operator_texts abbreviation_texts special_texts named_special_texts literal_endings
-returns-in-26483-clause-is c = printed-by c.args.first c.args.second 103 115 c.printed_as-in-26483.result c.ranges.second.fits (lit< tt) (omega (arith, c.in-26483.is)) (rw c.printed_as-in-26483.ensures record { precedence = refl; front = refl; left = refl; between = refl; right = refl; back = refl })
+returns-in-26483-clause-is c = printed-by c.args.first c.args.second 103 115 c.printed_as-in-26483.result c.ranges.second.fits (lit< tt) (omega (arith, c.in-26483.is)) (rw c.printed_as-in-26483.ensures refl)
 
 pub returns-in-26483-clause-few : goal.returns-in-26483-clause-few
 unfolding text_part builtin_texts operator_texts abbreviation_texts special_texts named_special_texts literal_endings
@@ -98,7 +98,7 @@ returns-in-26483-clause-few c = rw c.printed_as-in-26483.ensures (omega arith)
 
 pub returns-in-28767-clause-is : goal.returns-in-28767-clause-is
 unfolding printed operation_of_code operations same_bytes builtin_texts operator_texts abbreviation_texts special_texts named_special_texts literal_endings
-returns-in-28767-clause-is c = printed-by c.args.first c.args.second 112 95 c.printed_as-in-28767.result c.ranges.second.fits (lit< tt) (omega (arith, c.in-28767.is)) (rw c.printed_as-in-28767.ensures record { precedence = refl; front = refl; left = refl; between = refl; right = refl; back = refl })
+returns-in-28767-clause-is c = printed-by c.args.first c.args.second 112 95 c.printed_as-in-28767.result c.ranges.second.fits (lit< tt) (omega (arith, c.in-28767.is)) (rw c.printed_as-in-28767.ensures refl)
 
 pub returns-in-28767-clause-few : goal.returns-in-28767-clause-few
 unfolding text_part builtin_texts operator_texts abbreviation_texts special_texts named_special_texts literal_endings
@@ -106,7 +106,7 @@ returns-in-28767-clause-few c = rw c.printed_as-in-28767.ensures (omega arith)
 
 pub returns-in-27999-clause-is : goal.returns-in-27999-clause-is
 unfolding printed operation_of_code operations same_bytes builtin_texts operator_texts abbreviation_texts special_texts named_special_texts literal_endings
-returns-in-27999-clause-is c = printed-by c.args.first c.args.second 109 95 c.printed_as-in-27999.result c.ranges.second.fits (lit< tt) (omega (arith, c.in-27999.is)) (rw c.printed_as-in-27999.ensures record { precedence = refl; front = refl; left = refl; between = refl; right = refl; back = refl })
+returns-in-27999-clause-is c = printed-by c.args.first c.args.second 109 95 c.printed_as-in-27999.result c.ranges.second.fits (lit< tt) (omega (arith, c.in-27999.is)) (rw c.printed_as-in-27999.ensures refl)
 
 pub returns-in-27999-clause-few : goal.returns-in-27999-clause-few
 unfolding text_part builtin_texts operator_texts abbreviation_texts special_texts named_special_texts literal_endings
@@ -114,7 +114,7 @@ returns-in-27999-clause-few c = rw c.printed_as-in-27999.ensures (omega arith)
 
 pub returns-in-28784-clause-is : goal.returns-in-28784-clause-is
 unfolding printed operation_of_code operations same_bytes builtin_texts operator_texts abbreviation_texts special_texts named_special_texts literal_endings
-returns-in-28784-clause-is c = printed-by c.args.first c.args.second 112 112 c.printed_as-in-28784.result c.ranges.second.fits (lit< tt) (omega (arith, c.in-28784.is)) (rw c.printed_as-in-28784.ensures record { precedence = refl; front = refl; left = refl; between = refl; right = refl; back = refl })
+returns-in-28784-clause-is c = printed-by c.args.first c.args.second 112 112 c.printed_as-in-28784.result c.ranges.second.fits (lit< tt) (omega (arith, c.in-28784.is)) (rw c.printed_as-in-28784.ensures refl)
 
 pub returns-in-28784-clause-few : goal.returns-in-28784-clause-few
 unfolding text_part builtin_texts operator_texts abbreviation_texts special_texts named_special_texts literal_endings
@@ -122,7 +122,7 @@ returns-in-28784-clause-few c = rw c.printed_as-in-28784.ensures (omega arith)
 
 pub returns-in-28013-clause-is : goal.returns-in-28013-clause-is
 unfolding printed operation_of_code operations same_bytes builtin_texts operator_texts abbreviation_texts special_texts named_special_texts literal_endings
-returns-in-28013-clause-is c = printed-by c.args.first c.args.second 109 109 c.printed_as-in-28013.result c.ranges.second.fits (lit< tt) (omega (arith, c.in-28013.is)) (rw c.printed_as-in-28013.ensures record { precedence = refl; front = refl; left = refl; between = refl; right = refl; back = refl })
+returns-in-28013-clause-is c = printed-by c.args.first c.args.second 109 109 c.printed_as-in-28013.result c.ranges.second.fits (lit< tt) (omega (arith, c.in-28013.is)) (rw c.printed_as-in-28013.ensures refl)
 
 pub returns-in-28013-clause-few : goal.returns-in-28013-clause-few
 unfolding text_part builtin_texts operator_texts abbreviation_texts special_texts named_special_texts literal_endings
@@ -130,7 +130,7 @@ returns-in-28013-clause-few c = rw c.printed_as-in-28013.ensures (omega arith)
 
 pub returns-in-25715-clause-is : goal.returns-in-25715-clause-is
 unfolding printed operation_of_code operations same_bytes builtin_texts operator_texts abbreviation_texts special_texts named_special_texts literal_endings
-returns-in-25715-clause-is c = printed-by c.args.first c.args.second 100 115 c.printed_as-in-25715.result c.ranges.second.fits (lit< tt) (omega (arith, c.in-25715.is)) (rw c.printed_as-in-25715.ensures record { precedence = refl; front = refl; left = refl; between = refl; right = refl; back = refl })
+returns-in-25715-clause-is c = printed-by c.args.first c.args.second 100 115 c.printed_as-in-25715.result c.ranges.second.fits (lit< tt) (omega (arith, c.in-25715.is)) (rw c.printed_as-in-25715.ensures refl)
 
 pub returns-in-25715-clause-few : goal.returns-in-25715-clause-few
 unfolding text_part builtin_texts operator_texts abbreviation_texts special_texts named_special_texts literal_endings
@@ -138,7 +138,7 @@ returns-in-25715-clause-few c = rw c.printed_as-in-25715.ensures (omega arith)
 
 pub returns-in-28781-clause-is : goal.returns-in-28781-clause-is
 unfolding printed operation_of_code operations same_bytes builtin_texts operator_texts abbreviation_texts special_texts named_special_texts literal_endings
-returns-in-28781-clause-is c = printed-by c.args.first c.args.second 112 109 c.printed_as-in-28781.result c.ranges.second.fits (lit< tt) (omega (arith, c.in-28781.is)) (rw c.printed_as-in-28781.ensures record { precedence = refl; front = refl; left = refl; between = refl; right = refl; back = refl })
+returns-in-28781-clause-is c = printed-by c.args.first c.args.second 112 109 c.printed_as-in-28781.result c.ranges.second.fits (lit< tt) (omega (arith, c.in-28781.is)) (rw c.printed_as-in-28781.ensures refl)
 
 pub returns-in-28781-clause-few : goal.returns-in-28781-clause-few
 unfolding text_part builtin_texts operator_texts abbreviation_texts special_texts named_special_texts literal_endings
@@ -146,7 +146,7 @@ returns-in-28781-clause-few c = rw c.printed_as-in-28781.ensures (omega arith)
 
 pub returns-in-28012-clause-is : goal.returns-in-28012-clause-is
 unfolding printed operation_of_code operations same_bytes builtin_texts operator_texts abbreviation_texts special_texts named_special_texts literal_endings
-returns-in-28012-clause-is c = printed-by c.args.first c.args.second 109 108 c.printed_as-in-28012.result c.ranges.second.fits (lit< tt) (omega (arith, c.in-28012.is)) (rw c.printed_as-in-28012.ensures record { precedence = refl; front = refl; left = refl; between = refl; right = refl; back = refl })
+returns-in-28012-clause-is c = printed-by c.args.first c.args.second 109 108 c.printed_as-in-28012.result c.ranges.second.fits (lit< tt) (omega (arith, c.in-28012.is)) (rw c.printed_as-in-28012.ensures refl)
 
 pub returns-in-28012-clause-few : goal.returns-in-28012-clause-few
 unfolding text_part builtin_texts operator_texts abbreviation_texts special_texts named_special_texts literal_endings
@@ -154,7 +154,7 @@ returns-in-28012-clause-few c = rw c.printed_as-in-28012.ensures (omega arith)
 
 pub returns-in-25718-clause-is : goal.returns-in-25718-clause-is
 unfolding printed operation_of_code operations same_bytes builtin_texts operator_texts abbreviation_texts special_texts named_special_texts literal_endings
-returns-in-25718-clause-is c = printed-by c.args.first c.args.second 100 118 c.printed_as-in-25718.result c.ranges.second.fits (lit< tt) (omega (arith, c.in-25718.is)) (rw c.printed_as-in-25718.ensures record { precedence = refl; front = refl; left = refl; between = refl; right = refl; back = refl })
+returns-in-25718-clause-is c = printed-by c.args.first c.args.second 100 118 c.printed_as-in-25718.result c.ranges.second.fits (lit< tt) (omega (arith, c.in-25718.is)) (rw c.printed_as-in-25718.ensures refl)
 
 pub returns-in-25718-clause-few : goal.returns-in-25718-clause-few
 unfolding text_part builtin_texts operator_texts abbreviation_texts special_texts named_special_texts literal_endings
@@ -162,7 +162,7 @@ returns-in-25718-clause-few c = rw c.printed_as-in-25718.ensures (omega arith)
 
 pub returns-in-29293-clause-is : goal.returns-in-29293-clause-is
 unfolding printed operation_of_code operations same_bytes builtin_texts operator_texts abbreviation_texts special_texts named_special_texts literal_endings
-returns-in-29293-clause-is c = printed-by c.args.first c.args.second 114 109 c.printed_as-in-29293.result c.ranges.second.fits (lit< tt) (omega (arith, c.in-29293.is)) (rw c.printed_as-in-29293.ensures record { precedence = refl; front = refl; left = refl; between = refl; right = refl; back = refl })
+returns-in-29293-clause-is c = printed-by c.args.first c.args.second 114 109 c.printed_as-in-29293.result c.ranges.second.fits (lit< tt) (omega (arith, c.in-29293.is)) (rw c.printed_as-in-29293.ensures refl)
 
 pub returns-in-29293-clause-few : goal.returns-in-29293-clause-few
 unfolding text_part builtin_texts operator_texts abbreviation_texts special_texts named_special_texts literal_endings
@@ -170,7 +170,7 @@ returns-in-29293-clause-few c = rw c.printed_as-in-29293.ensures (omega arith)
 
 pub returns-in-28780-clause-is : goal.returns-in-28780-clause-is
 unfolding printed operation_of_code operations same_bytes builtin_texts operator_texts abbreviation_texts special_texts named_special_texts literal_endings
-returns-in-28780-clause-is c = printed-by c.args.first c.args.second 112 108 c.printed_as-in-28780.result c.ranges.second.fits (lit< tt) (omega (arith, c.in-28780.is)) (rw c.printed_as-in-28780.ensures record { precedence = refl; front = refl; left = refl; between = refl; right = refl; back = refl })
+returns-in-28780-clause-is c = printed-by c.args.first c.args.second 112 108 c.printed_as-in-28780.result c.ranges.second.fits (lit< tt) (omega (arith, c.in-28780.is)) (rw c.printed_as-in-28780.ensures refl)
 
 pub returns-in-28780-clause-few : goal.returns-in-28780-clause-few
 unfolding text_part builtin_texts operator_texts abbreviation_texts special_texts named_special_texts literal_endings
@@ -178,7 +178,7 @@ returns-in-28780-clause-few c = rw c.printed_as-in-28780.ensures (omega arith)
 
 pub returns-in-28009-clause-is : goal.returns-in-28009-clause-is
 unfolding printed operation_of_code operations same_bytes builtin_texts operator_texts abbreviation_texts special_texts named_special_texts literal_endings
-returns-in-28009-clause-is c = printed-by c.args.first c.args.second 109 105 c.printed_as-in-28009.result c.ranges.second.fits (lit< tt) (omega (arith, c.in-28009.is)) (rw c.printed_as-in-28009.ensures record { precedence = refl; front = refl; left = refl; between = refl; right = refl; back = refl })
+returns-in-28009-clause-is c = printed-by c.args.first c.args.second 109 105 c.printed_as-in-28009.result c.ranges.second.fits (lit< tt) (omega (arith, c.in-28009.is)) (rw c.printed_as-in-28009.ensures refl)
 
 pub returns-in-28009-clause-few : goal.returns-in-28009-clause-few
 unfolding text_part builtin_texts operator_texts abbreviation_texts special_texts named_special_texts literal_endings
@@ -186,7 +186,7 @@ returns-in-28009-clause-few c = rw c.printed_as-in-28009.ensures (omega arith)
 
 pub returns-in-27763-clause-is : goal.returns-in-27763-clause-is
 unfolding printed operation_of_code operations same_bytes builtin_texts operator_texts abbreviation_texts special_texts named_special_texts literal_endings
-returns-in-27763-clause-is c = printed-by c.args.first c.args.second 108 115 c.printed_as-in-27763.result c.ranges.second.fits (lit< tt) (omega (arith, c.in-27763.is)) (rw c.printed_as-in-27763.ensures record { precedence = refl; front = refl; left = refl; between = refl; right = refl; back = refl })
+returns-in-27763-clause-is c = printed-by c.args.first c.args.second 108 115 c.printed_as-in-27763.result c.ranges.second.fits (lit< tt) (omega (arith, c.in-27763.is)) (rw c.printed_as-in-27763.ensures refl)
 
 pub returns-in-27763-clause-few : goal.returns-in-27763-clause-few
 unfolding text_part builtin_texts operator_texts abbreviation_texts special_texts named_special_texts literal_endings
@@ -194,7 +194,7 @@ returns-in-27763-clause-few c = rw c.printed_as-in-27763.ensures (omega arith)
 
 pub returns-in-29555-clause-is : goal.returns-in-29555-clause-is
 unfolding printed operation_of_code operations same_bytes builtin_texts operator_texts abbreviation_texts special_texts named_special_texts literal_endings
-returns-in-29555-clause-is c = printed-by c.args.first c.args.second 115 115 c.printed_as-in-29555.result c.ranges.second.fits (lit< tt) (omega (arith, c.in-29555.is)) (rw c.printed_as-in-29555.ensures record { precedence = refl; front = refl; left = refl; between = refl; right = refl; back = refl })
+returns-in-29555-clause-is c = printed-by c.args.first c.args.second 115 115 c.printed_as-in-29555.result c.ranges.second.fits (lit< tt) (omega (arith, c.in-29555.is)) (rw c.printed_as-in-29555.ensures refl)
 
 pub returns-in-29555-clause-few : goal.returns-in-29555-clause-few
 unfolding text_part builtin_texts operator_texts abbreviation_texts special_texts named_special_texts literal_endings
@@ -202,7 +202,7 @@ returns-in-29555-clause-few c = rw c.printed_as-in-29555.ensures (omega arith)
 
 pub returns-in-27764-clause-is : goal.returns-in-27764-clause-is
 unfolding printed operation_of_code operations same_bytes builtin_texts operator_texts abbreviation_texts special_texts named_special_texts literal_endings
-returns-in-27764-clause-is c = printed-by c.args.first c.args.second 108 116 c.printed_as-in-27764.result c.ranges.second.fits (lit< tt) (omega (arith, c.in-27764.is)) (rw c.printed_as-in-27764.ensures record { precedence = refl; front = refl; left = refl; between = refl; right = refl; back = refl })
+returns-in-27764-clause-is c = printed-by c.args.first c.args.second 108 116 c.printed_as-in-27764.result c.ranges.second.fits (lit< tt) (omega (arith, c.in-27764.is)) (rw c.printed_as-in-27764.ensures refl)
 
 pub returns-in-27764-clause-few : goal.returns-in-27764-clause-few
 unfolding text_part builtin_texts operator_texts abbreviation_texts special_texts named_special_texts literal_endings
@@ -210,7 +210,7 @@ returns-in-27764-clause-few c = rw c.printed_as-in-27764.ensures (omega arith)
 
 pub returns-in-27749-clause-is : goal.returns-in-27749-clause-is
 unfolding printed operation_of_code operations same_bytes builtin_texts operator_texts abbreviation_texts special_texts named_special_texts literal_endings
-returns-in-27749-clause-is c = printed-by c.args.first c.args.second 108 101 c.printed_as-in-27749.result c.ranges.second.fits (lit< tt) (omega (arith, c.in-27749.is)) (rw c.printed_as-in-27749.ensures record { precedence = refl; front = refl; left = refl; between = refl; right = refl; back = refl })
+returns-in-27749-clause-is c = printed-by c.args.first c.args.second 108 101 c.printed_as-in-27749.result c.ranges.second.fits (lit< tt) (omega (arith, c.in-27749.is)) (rw c.printed_as-in-27749.ensures refl)
 
 pub returns-in-27749-clause-few : goal.returns-in-27749-clause-few
 unfolding text_part builtin_texts operator_texts abbreviation_texts special_texts named_special_texts literal_endings
@@ -218,7 +218,7 @@ returns-in-27749-clause-few c = rw c.printed_as-in-27749.ensures (omega arith)
 
 pub returns-in-26469-clause-is : goal.returns-in-26469-clause-is
 unfolding printed operation_of_code operations same_bytes builtin_texts operator_texts abbreviation_texts special_texts named_special_texts literal_endings
-returns-in-26469-clause-is c = printed-by c.args.first c.args.second 103 101 c.printed_as-in-26469.result c.ranges.second.fits (lit< tt) (omega (arith, c.in-26469.is)) (rw c.printed_as-in-26469.ensures record { precedence = refl; front = refl; left = refl; between = refl; right = refl; back = refl })
+returns-in-26469-clause-is c = printed-by c.args.first c.args.second 103 101 c.printed_as-in-26469.result c.ranges.second.fits (lit< tt) (omega (arith, c.in-26469.is)) (rw c.printed_as-in-26469.ensures refl)
 
 pub returns-in-26469-clause-few : goal.returns-in-26469-clause-few
 unfolding text_part builtin_texts operator_texts abbreviation_texts special_texts named_special_texts literal_endings
@@ -226,7 +226,7 @@ returns-in-26469-clause-few c = rw c.printed_as-in-26469.ensures (omega arith)
 
 pub returns-in-25969-clause-is : goal.returns-in-25969-clause-is
 unfolding printed operation_of_code operations same_bytes builtin_texts operator_texts abbreviation_texts special_texts named_special_texts literal_endings
-returns-in-25969-clause-is c = printed-by c.args.first c.args.second 101 113 c.printed_as-in-25969.result c.ranges.second.fits (lit< tt) (omega (arith, c.in-25969.is)) (rw c.printed_as-in-25969.ensures record { precedence = refl; front = refl; left = refl; between = refl; right = refl; back = refl })
+returns-in-25969-clause-is c = printed-by c.args.first c.args.second 101 113 c.printed_as-in-25969.result c.ranges.second.fits (lit< tt) (omega (arith, c.in-25969.is)) (rw c.printed_as-in-25969.ensures refl)
 
 pub returns-in-25969-clause-few : goal.returns-in-25969-clause-few
 unfolding text_part builtin_texts operator_texts abbreviation_texts special_texts named_special_texts literal_endings
@@ -234,7 +234,7 @@ returns-in-25969-clause-few c = rw c.printed_as-in-25969.ensures (omega arith)
 
 pub returns-in-28261-clause-is : goal.returns-in-28261-clause-is
 unfolding printed operation_of_code operations same_bytes builtin_texts operator_texts abbreviation_texts special_texts named_special_texts literal_endings
-returns-in-28261-clause-is c = printed-by c.args.first c.args.second 110 101 c.printed_as-in-28261.result c.ranges.second.fits (lit< tt) (omega (arith, c.in-28261.is)) (rw c.printed_as-in-28261.ensures record { precedence = refl; front = refl; left = refl; between = refl; right = refl; back = refl })
+returns-in-28261-clause-is c = printed-by c.args.first c.args.second 110 101 c.printed_as-in-28261.result c.ranges.second.fits (lit< tt) (omega (arith, c.in-28261.is)) (rw c.printed_as-in-28261.ensures refl)
 
 pub returns-in-28261-clause-few : goal.returns-in-28261-clause-few
 unfolding text_part builtin_texts operator_texts abbreviation_texts special_texts named_special_texts literal_endings
@@ -242,7 +242,7 @@ returns-in-28261-clause-few c = rw c.printed_as-in-28261.ensures (omega arith)
 
 pub returns-in-24942-clause-is : goal.returns-in-24942-clause-is
 unfolding printed operation_of_code operations same_bytes builtin_texts operator_texts abbreviation_texts special_texts named_special_texts literal_endings
-returns-in-24942-clause-is c = printed-by c.args.first c.args.second 97 110 c.printed_as-in-24942.result c.ranges.second.fits (lit< tt) (omega (arith, c.in-24942.is)) (rw c.printed_as-in-24942.ensures record { precedence = refl; front = refl; left = refl; between = refl; right = refl; back = refl })
+returns-in-24942-clause-is c = printed-by c.args.first c.args.second 97 110 c.printed_as-in-24942.result c.ranges.second.fits (lit< tt) (omega (arith, c.in-24942.is)) (rw c.printed_as-in-24942.ensures refl)
 
 pub returns-in-24942-clause-few : goal.returns-in-24942-clause-few
 unfolding text_part builtin_texts operator_texts abbreviation_texts special_texts named_special_texts literal_endings
@@ -250,7 +250,7 @@ returns-in-24942-clause-few c = rw c.printed_as-in-24942.ensures (omega arith)
 
 pub returns-in-25967-clause-is : goal.returns-in-25967-clause-is
 unfolding printed operation_of_code operations same_bytes builtin_texts operator_texts abbreviation_texts special_texts named_special_texts literal_endings
-returns-in-25967-clause-is c = printed-by c.args.first c.args.second 101 111 c.printed_as-in-25967.result c.ranges.second.fits (lit< tt) (omega (arith, c.in-25967.is)) (rw c.printed_as-in-25967.ensures record { precedence = refl; front = refl; left = refl; between = refl; right = refl; back = refl })
+returns-in-25967-clause-is c = printed-by c.args.first c.args.second 101 111 c.printed_as-in-25967.result c.ranges.second.fits (lit< tt) (omega (arith, c.in-25967.is)) (rw c.printed_as-in-25967.ensures refl)
 
 pub returns-in-25967-clause-few : goal.returns-in-25967-clause-few
 unfolding text_part builtin_texts operator_texts abbreviation_texts special_texts named_special_texts literal_endings
@@ -258,7 +258,7 @@ returns-in-25967-clause-few c = rw c.printed_as-in-25967.ensures (omega arith)
 
 pub returns-in-28530-clause-is : goal.returns-in-28530-clause-is
 unfolding printed operation_of_code operations same_bytes builtin_texts operator_texts abbreviation_texts special_texts named_special_texts literal_endings
-returns-in-28530-clause-is c = printed-by c.args.first c.args.second 111 114 c.printed_as-in-28530.result c.ranges.second.fits (lit< tt) (omega (arith, c.in-28530.is)) (rw c.printed_as-in-28530.ensures record { precedence = refl; front = refl; left = refl; between = refl; right = refl; back = refl })
+returns-in-28530-clause-is c = printed-by c.args.first c.args.second 111 114 c.printed_as-in-28530.result c.ranges.second.fits (lit< tt) (omega (arith, c.in-28530.is)) (rw c.printed_as-in-28530.ensures refl)
 
 pub returns-in-28530-clause-few : goal.returns-in-28530-clause-few
 unfolding text_part builtin_texts operator_texts abbreviation_texts special_texts named_special_texts literal_endings
@@ -266,7 +266,7 @@ returns-in-28530-clause-few c = rw c.printed_as-in-28530.ensures (omega arith)
 
 pub returns-in-24929-clause-is : goal.returns-in-24929-clause-is
 unfolding printed operation_of_code operations same_bytes builtin_texts operator_texts abbreviation_texts special_texts named_special_texts literal_endings
-returns-in-24929-clause-is c = printed-by c.args.first c.args.second 97 97 c.printed_as-in-24929.result c.ranges.second.fits (lit< tt) (omega (arith, c.in-24929.is)) (rw c.printed_as-in-24929.ensures record { precedence = refl; front = refl; left = refl; between = refl; right = refl; back = refl })
+returns-in-24929-clause-is c = printed-by c.args.first c.args.second 97 97 c.printed_as-in-24929.result c.ranges.second.fits (lit< tt) (omega (arith, c.in-24929.is)) (rw c.printed_as-in-24929.ensures refl)
 
 pub returns-in-24929-clause-few : goal.returns-in-24929-clause-few
 unfolding text_part builtin_texts operator_texts abbreviation_texts special_texts named_special_texts literal_endings
@@ -274,7 +274,7 @@ returns-in-24929-clause-few c = rw c.printed_as-in-24929.ensures (omega arith)
 
 pub returns-in-28527-clause-is : goal.returns-in-28527-clause-is
 unfolding printed operation_of_code operations same_bytes builtin_texts operator_texts abbreviation_texts special_texts named_special_texts literal_endings
-returns-in-28527-clause-is c = printed-by c.args.first c.args.second 111 111 c.printed_as-in-28527.result c.ranges.second.fits (lit< tt) (omega (arith, c.in-28527.is)) (rw c.printed_as-in-28527.ensures record { precedence = refl; front = refl; left = refl; between = refl; right = refl; back = refl })
+returns-in-28527-clause-is c = printed-by c.args.first c.args.second 111 111 c.printed_as-in-28527.result c.ranges.second.fits (lit< tt) (omega (arith, c.in-28527.is)) (rw c.printed_as-in-28527.ensures refl)
 
 pub returns-in-28527-clause-few : goal.returns-in-28527-clause-few
 unfolding text_part builtin_texts operator_texts abbreviation_texts special_texts named_special_texts literal_endings
@@ -282,7 +282,7 @@ returns-in-28527-clause-few c = rw c.printed_as-in-28527.ensures (omega arith)
 
 pub returns-in-26484-clause-is : goal.returns-in-26484-clause-is
 unfolding printed operation_of_code operations same_bytes builtin_texts operator_texts abbreviation_texts special_texts named_special_texts literal_endings
-returns-in-26484-clause-is c = printed-by c.args.first c.args.second 103 116 c.printed_as-in-26484.result c.ranges.second.fits (lit< tt) (omega (arith, c.in-26484.is)) (rw c.printed_as-in-26484.ensures record { precedence = refl; front = refl; left = refl; between = refl; right = refl; back = refl })
+returns-in-26484-clause-is c = printed-by c.args.first c.args.second 103 116 c.printed_as-in-26484.result c.ranges.second.fits (lit< tt) (omega (arith, c.in-26484.is)) (rw c.printed_as-in-26484.ensures refl)
 
 pub returns-in-26484-clause-few : goal.returns-in-26484-clause-few
 unfolding text_part builtin_texts operator_texts abbreviation_texts special_texts named_special_texts literal_endings
@@ -290,7 +290,7 @@ returns-in-26484-clause-few c = rw c.printed_as-in-26484.ensures (omega arith)
 
 pub returns-in-29299-clause-is : goal.returns-in-29299-clause-is
 unfolding printed operation_of_code operations same_bytes builtin_texts operator_texts abbreviation_texts special_texts named_special_texts literal_endings
-returns-in-29299-clause-is c = printed-by c.args.first c.args.second 114 115 c.printed_as-in-29299.result c.ranges.second.fits (lit< tt) (omega (arith, c.in-29299.is)) (rw c.printed_as-in-29299.ensures record { precedence = refl; front = refl; left = refl; between = refl; right = refl; back = refl })
+returns-in-29299-clause-is c = printed-by c.args.first c.args.second 114 115 c.printed_as-in-29299.result c.ranges.second.fits (lit< tt) (omega (arith, c.in-29299.is)) (rw c.printed_as-in-29299.ensures refl)
 
 pub returns-in-29299-clause-few : goal.returns-in-29299-clause-few
 unfolding text_part builtin_texts operator_texts abbreviation_texts special_texts named_special_texts literal_endings
@@ -298,7 +298,7 @@ returns-in-29299-clause-few c = rw c.printed_as-in-29299.ensures (omega arith)
 
 pub returns-in-25453-clause-is : goal.returns-in-25453-clause-is
 unfolding printed operation_of_code operations same_bytes builtin_texts operator_texts abbreviation_texts special_texts named_special_texts literal_endings
-returns-in-25453-clause-is c = printed-by c.args.first c.args.second 99 109 c.printed_as-in-25453.result c.ranges.second.fits (lit< tt) (omega (arith, c.in-25453.is)) (rw c.printed_as-in-25453.ensures record { precedence = refl; front = refl; left = refl; between = refl; right = refl; back = refl })
+returns-in-25453-clause-is c = printed-by c.args.first c.args.second 99 109 c.printed_as-in-25453.result c.ranges.second.fits (lit< tt) (omega (arith, c.in-25453.is)) (rw c.printed_as-in-25453.ensures refl)
 
 pub returns-in-25453-clause-few : goal.returns-in-25453-clause-few
 unfolding text_part builtin_texts operator_texts abbreviation_texts special_texts named_special_texts literal_endings
@@ -306,7 +306,7 @@ returns-in-25453-clause-few c = rw c.printed_as-in-25453.ensures (omega arith)
 
 pub returns-in-24915-clause-is : goal.returns-in-24915-clause-is
 unfolding printed operation_of_code operations same_bytes builtin_texts operator_texts abbreviation_texts special_texts named_special_texts literal_endings
-returns-in-24915-clause-is c = printed-by c.args.first c.args.second 97 83 c.printed_as-in-24915.result c.ranges.second.fits (lit< tt) (omega (arith, c.in-24915.is)) (rw c.printed_as-in-24915.ensures record { precedence = refl; front = refl; left = refl; between = refl; right = refl; back = refl })
+returns-in-24915-clause-is c = printed-by c.args.first c.args.second 97 83 c.printed_as-in-24915.result c.ranges.second.fits (lit< tt) (omega (arith, c.in-24915.is)) (rw c.printed_as-in-24915.ensures refl)
 
 pub returns-in-24915-clause-few : goal.returns-in-24915-clause-few
 unfolding text_part builtin_texts operator_texts abbreviation_texts special_texts named_special_texts literal_endings
@@ -314,7 +314,7 @@ returns-in-24915-clause-few c = rw c.printed_as-in-24915.ensures (omega arith)
 
 pub returns-in-28748-clause-is : goal.returns-in-28748-clause-is
 unfolding printed operation_of_code operations same_bytes builtin_texts operator_texts abbreviation_texts special_texts named_special_texts literal_endings
-returns-in-28748-clause-is c = printed-by c.args.first c.args.second 112 76 c.printed_as-in-28748.result c.ranges.second.fits (lit< tt) (omega (arith, c.in-28748.is)) (rw c.printed_as-in-28748.ensures record { precedence = refl; front = refl; left = refl; between = refl; right = refl; back = refl })
+returns-in-28748-clause-is c = printed-by c.args.first c.args.second 112 76 c.printed_as-in-28748.result c.ranges.second.fits (lit< tt) (omega (arith, c.in-28748.is)) (rw c.printed_as-in-28748.ensures refl)
 
 pub returns-in-28748-clause-few : goal.returns-in-28748-clause-few
 unfolding text_part builtin_texts operator_texts abbreviation_texts special_texts named_special_texts literal_endings
@@ -322,7 +322,7 @@ returns-in-28748-clause-few c = rw c.printed_as-in-28748.ensures (omega arith)
 
 pub returns-in-27977-clause-is : goal.returns-in-27977-clause-is
 unfolding printed operation_of_code operations same_bytes builtin_texts operator_texts abbreviation_texts special_texts named_special_texts literal_endings
-returns-in-27977-clause-is c = printed-by c.args.first c.args.second 109 73 c.printed_as-in-27977.result c.ranges.second.fits (lit< tt) (omega (arith, c.in-27977.is)) (rw c.printed_as-in-27977.ensures record { precedence = refl; front = refl; left = refl; between = refl; right = refl; back = refl })
+returns-in-27977-clause-is c = printed-by c.args.first c.args.second 109 73 c.printed_as-in-27977.result c.ranges.second.fits (lit< tt) (omega (arith, c.in-27977.is)) (rw c.printed_as-in-27977.ensures refl)
 
 pub returns-in-27977-clause-few : goal.returns-in-27977-clause-few
 unfolding text_part builtin_texts operator_texts abbreviation_texts special_texts named_special_texts literal_endings
@@ -330,7 +330,7 @@ returns-in-27977-clause-few c = rw c.printed_as-in-27977.ensures (omega arith)
 
 pub returns-in-27980-clause-is : goal.returns-in-27980-clause-is
 unfolding printed operation_of_code operations same_bytes builtin_texts operator_texts abbreviation_texts special_texts named_special_texts literal_endings
-returns-in-27980-clause-is c = printed-by c.args.first c.args.second 109 76 c.printed_as-in-27980.result c.ranges.second.fits (lit< tt) (omega (arith, c.in-27980.is)) (rw c.printed_as-in-27980.ensures record { precedence = refl; front = refl; left = refl; between = refl; right = refl; back = refl })
+returns-in-27980-clause-is c = printed-by c.args.first c.args.second 109 76 c.printed_as-in-27980.result c.ranges.second.fits (lit< tt) (omega (arith, c.in-27980.is)) (rw c.printed_as-in-27980.ensures refl)
 
 pub returns-in-27980-clause-few : goal.returns-in-27980-clause-few
 unfolding text_part builtin_texts operator_texts abbreviation_texts special_texts named_special_texts literal_endings
@@ -338,7 +338,7 @@ returns-in-27980-clause-few c = rw c.printed_as-in-27980.ensures (omega arith)
 
 pub returns-in-25686-clause-is : goal.returns-in-25686-clause-is
 unfolding printed operation_of_code operations same_bytes builtin_texts operator_texts abbreviation_texts special_texts named_special_texts literal_endings
-returns-in-25686-clause-is c = printed-by c.args.first c.args.second 100 86 c.printed_as-in-25686.result c.ranges.second.fits (lit< tt) (omega (arith, c.in-25686.is)) (rw c.printed_as-in-25686.ensures record { precedence = refl; front = refl; left = refl; between = refl; right = refl; back = refl })
+returns-in-25686-clause-is c = printed-by c.args.first c.args.second 100 86 c.printed_as-in-25686.result c.ranges.second.fits (lit< tt) (omega (arith, c.in-25686.is)) (rw c.printed_as-in-25686.ensures refl)
 
 pub returns-in-25686-clause-few : goal.returns-in-25686-clause-few
 unfolding text_part builtin_texts operator_texts abbreviation_texts special_texts named_special_texts literal_endings
@@ -346,7 +346,7 @@ returns-in-25686-clause-few c = rw c.printed_as-in-25686.ensures (omega arith)
 
 pub returns-in-29261-clause-is : goal.returns-in-29261-clause-is
 unfolding printed operation_of_code operations same_bytes builtin_texts operator_texts abbreviation_texts special_texts named_special_texts literal_endings
-returns-in-29261-clause-is c = printed-by c.args.first c.args.second 114 77 c.printed_as-in-29261.result c.ranges.second.fits (lit< tt) (omega (arith, c.in-29261.is)) (rw c.printed_as-in-29261.ensures record { precedence = refl; front = refl; left = refl; between = refl; right = refl; back = refl })
+returns-in-29261-clause-is c = printed-by c.args.first c.args.second 114 77 c.printed_as-in-29261.result c.ranges.second.fits (lit< tt) (omega (arith, c.in-29261.is)) (rw c.printed_as-in-29261.ensures refl)
 
 pub returns-in-29261-clause-few : goal.returns-in-29261-clause-few
 unfolding text_part builtin_texts operator_texts abbreviation_texts special_texts named_special_texts literal_endings
@@ -354,7 +354,7 @@ returns-in-29261-clause-few c = rw c.printed_as-in-29261.ensures (omega arith)
 
 pub returns-in-24910-clause-is : goal.returns-in-24910-clause-is
 unfolding printed operation_of_code operations same_bytes builtin_texts operator_texts abbreviation_texts special_texts named_special_texts literal_endings
-returns-in-24910-clause-is c = printed-by c.args.first c.args.second 97 78 c.printed_as-in-24910.result c.ranges.second.fits (lit< tt) (omega (arith, c.in-24910.is)) (rw c.printed_as-in-24910.ensures record { precedence = refl; front = refl; left = refl; between = refl; right = refl; back = refl })
+returns-in-24910-clause-is c = printed-by c.args.first c.args.second 97 78 c.printed_as-in-24910.result c.ranges.second.fits (lit< tt) (omega (arith, c.in-24910.is)) (rw c.printed_as-in-24910.ensures refl)
 
 pub returns-in-24910-clause-few : goal.returns-in-24910-clause-few
 unfolding text_part builtin_texts operator_texts abbreviation_texts special_texts named_special_texts literal_endings
@@ -362,7 +362,7 @@ returns-in-24910-clause-few c = rw c.printed_as-in-24910.ensures (omega arith)
 
 pub returns-in-28498-clause-is : goal.returns-in-28498-clause-is
 unfolding printed operation_of_code operations same_bytes builtin_texts operator_texts abbreviation_texts special_texts named_special_texts literal_endings
-returns-in-28498-clause-is c = printed-by c.args.first c.args.second 111 82 c.printed_as-in-28498.result c.ranges.second.fits (lit< tt) (omega (arith, c.in-28498.is)) (rw c.printed_as-in-28498.ensures record { precedence = refl; front = refl; left = refl; between = refl; right = refl; back = refl })
+returns-in-28498-clause-is c = printed-by c.args.first c.args.second 111 82 c.printed_as-in-28498.result c.ranges.second.fits (lit< tt) (omega (arith, c.in-28498.is)) (rw c.printed_as-in-28498.ensures refl)
 
 pub returns-in-28498-clause-few : goal.returns-in-28498-clause-few
 unfolding text_part builtin_texts operator_texts abbreviation_texts special_texts named_special_texts literal_endings
@@ -370,7 +370,7 @@ returns-in-28498-clause-few c = rw c.printed_as-in-28498.ensures (omega arith)
 
 pub returns-in-25935-clause-is : goal.returns-in-25935-clause-is
 unfolding printed operation_of_code operations same_bytes builtin_texts operator_texts abbreviation_texts special_texts named_special_texts literal_endings
-returns-in-25935-clause-is c = printed-by c.args.first c.args.second 101 79 c.printed_as-in-25935.result c.ranges.second.fits (lit< tt) (omega (arith, c.in-25935.is)) (rw c.printed_as-in-25935.ensures record { precedence = refl; front = refl; left = refl; between = refl; right = refl; back = refl })
+returns-in-25935-clause-is c = printed-by c.args.first c.args.second 101 79 c.printed_as-in-25935.result c.ranges.second.fits (lit< tt) (omega (arith, c.in-25935.is)) (rw c.printed_as-in-25935.ensures refl)
 
 pub returns-in-25935-clause-few : goal.returns-in-25935-clause-few
 unfolding text_part builtin_texts operator_texts abbreviation_texts special_texts named_special_texts literal_endings
@@ -378,7 +378,7 @@ returns-in-25935-clause-few c = rw c.printed_as-in-25935.ensures (omega arith)
 
 pub returns-in-27731-clause-is : goal.returns-in-27731-clause-is
 unfolding printed operation_of_code operations same_bytes builtin_texts operator_texts abbreviation_texts special_texts named_special_texts literal_endings
-returns-in-27731-clause-is c = printed-by c.args.first c.args.second 108 83 c.printed_as-in-27731.result c.ranges.second.fits (lit< tt) (omega (arith, c.in-27731.is)) (rw c.printed_as-in-27731.ensures record { precedence = refl; front = refl; left = refl; between = refl; right = refl; back = refl })
+returns-in-27731-clause-is c = printed-by c.args.first c.args.second 108 83 c.printed_as-in-27731.result c.ranges.second.fits (lit< tt) (omega (arith, c.in-27731.is)) (rw c.printed_as-in-27731.ensures refl)
 
 pub returns-in-27731-clause-few : goal.returns-in-27731-clause-few
 unfolding text_part builtin_texts operator_texts abbreviation_texts special_texts named_special_texts literal_endings
@@ -386,7 +386,7 @@ returns-in-27731-clause-few c = rw c.printed_as-in-27731.ensures (omega arith)
 
 pub returns-in-29267-clause-is : goal.returns-in-29267-clause-is
 unfolding printed operation_of_code operations same_bytes builtin_texts operator_texts abbreviation_texts special_texts named_special_texts literal_endings
-returns-in-29267-clause-is c = printed-by c.args.first c.args.second 114 83 c.printed_as-in-29267.result c.ranges.second.fits (lit< tt) (omega (arith, c.in-29267.is)) (rw c.printed_as-in-29267.ensures record { precedence = refl; front = refl; left = refl; between = refl; right = refl; back = refl })
+returns-in-29267-clause-is c = printed-by c.args.first c.args.second 114 83 c.printed_as-in-29267.result c.ranges.second.fits (lit< tt) (omega (arith, c.in-29267.is)) (rw c.printed_as-in-29267.ensures refl)
 
 pub returns-in-29267-clause-few : goal.returns-in-29267-clause-few
 unfolding text_part builtin_texts operator_texts abbreviation_texts special_texts named_special_texts literal_endings
@@ -394,7 +394,7 @@ returns-in-29267-clause-few c = rw c.printed_as-in-29267.ensures (omega arith)
 
 pub returns-in-27000-clause-is : goal.returns-in-27000-clause-is
 unfolding printed operation_of_code operations same_bytes builtin_texts operator_texts abbreviation_texts special_texts named_special_texts literal_endings
-returns-in-27000-clause-is c = printed-by c.args.first c.args.second 105 120 c.printed_as-in-27000.result c.ranges.second.fits (lit< tt) (omega (arith, c.in-27000.is)) (rw c.printed_as-in-27000.ensures record { precedence = refl; front = refl; left = refl; between = refl; right = refl; back = refl })
+returns-in-27000-clause-is c = printed-by c.args.first c.args.second 105 120 c.printed_as-in-27000.result c.ranges.second.fits (lit< tt) (omega (arith, c.in-27000.is)) (rw c.printed_as-in-27000.ensures refl)
 
 pub returns-in-27000-clause-few : goal.returns-in-27000-clause-few
 unfolding text_part builtin_texts operator_texts abbreviation_texts special_texts named_special_texts literal_endings
@@ -402,7 +402,7 @@ returns-in-27000-clause-few c = rw c.printed_as-in-27000.ensures (omega arith)
 
 pub returns-in-25716-clause-is : goal.returns-in-25716-clause-is
 unfolding printed operation_of_code operations same_bytes builtin_texts operator_texts abbreviation_texts special_texts named_special_texts literal_endings
-returns-in-25716-clause-is c = printed-by c.args.first c.args.second 100 116 c.printed_as-in-25716.result c.ranges.second.fits (lit< tt) (omega (arith, c.in-25716.is)) (rw c.printed_as-in-25716.ensures record { precedence = refl; front = refl; left = refl; between = refl; right = refl; back = refl })
+returns-in-25716-clause-is c = printed-by c.args.first c.args.second 100 116 c.printed_as-in-25716.result c.ranges.second.fits (lit< tt) (omega (arith, c.in-25716.is)) (rw c.printed_as-in-25716.ensures refl)
 
 pub returns-in-25716-clause-few : goal.returns-in-25716-clause-few
 unfolding text_part builtin_texts operator_texts abbreviation_texts special_texts named_special_texts literal_endings
@@ -410,7 +410,7 @@ returns-in-25716-clause-few c = rw c.printed_as-in-25716.ensures (omega arith)
 
 pub returns-in-28788-clause-is : goal.returns-in-28788-clause-is
 unfolding printed operation_of_code operations same_bytes builtin_texts operator_texts abbreviation_texts special_texts named_special_texts literal_endings
-returns-in-28788-clause-is c = printed-by c.args.first c.args.second 112 116 c.printed_as-in-28788.result c.ranges.second.fits (lit< tt) (omega (arith, c.in-28788.is)) (rw c.printed_as-in-28788.ensures record { precedence = refl; front = refl; left = refl; between = refl; right = refl; back = refl })
+returns-in-28788-clause-is c = printed-by c.args.first c.args.second 112 116 c.printed_as-in-28788.result c.ranges.second.fits (lit< tt) (omega (arith, c.in-28788.is)) (rw c.printed_as-in-28788.ensures refl)
 
 pub returns-in-28788-clause-few : goal.returns-in-28788-clause-few
 unfolding text_part builtin_texts operator_texts abbreviation_texts special_texts named_special_texts literal_endings
@@ -418,7 +418,7 @@ returns-in-28788-clause-few c = rw c.printed_as-in-28788.ensures (omega arith)
 
 pub returns-in-29045-clause-is : goal.returns-in-29045-clause-is
 unfolding printed operation_of_code operations same_bytes builtin_texts operator_texts abbreviation_texts special_texts named_special_texts literal_endings
-returns-in-29045-clause-is c = printed-by c.args.first c.args.second 113 117 c.printed_as-in-29045.result c.ranges.second.fits (lit< tt) (omega (arith, c.in-29045.is)) (rw c.printed_as-in-29045.ensures record { precedence = refl; front = refl; left = refl; between = refl; right = refl; back = refl })
+returns-in-29045-clause-is c = printed-by c.args.first c.args.second 113 117 c.printed_as-in-29045.result c.ranges.second.fits (lit< tt) (omega (arith, c.in-29045.is)) (rw c.printed_as-in-29045.ensures refl)
 
 pub returns-in-29045-clause-few : goal.returns-in-29045-clause-few
 unfolding text_part builtin_texts operator_texts abbreviation_texts special_texts named_special_texts literal_endings
@@ -426,7 +426,7 @@ returns-in-29045-clause-few c = rw c.printed_as-in-29045.ensures (omega arith)
 
 pub returns-in-28986-clause-is : goal.returns-in-28986-clause-is
 unfolding printed operation_of_code operations same_bytes builtin_texts operator_texts abbreviation_texts special_texts named_special_texts literal_endings
-returns-in-28986-clause-is c = printed-by c.args.first c.args.second 113 58 c.printed_as-in-28986.result c.ranges.second.fits (lit< tt) (omega (arith, c.in-28986.is)) (rw c.printed_as-in-28986.ensures record { precedence = refl; front = refl; left = refl; between = refl; right = refl; back = refl })
+returns-in-28986-clause-is c = printed-by c.args.first c.args.second 113 58 c.printed_as-in-28986.result c.ranges.second.fits (lit< tt) (omega (arith, c.in-28986.is)) (rw c.printed_as-in-28986.ensures refl)
 
 pub returns-in-28986-clause-few : goal.returns-in-28986-clause-few
 unfolding text_part builtin_texts operator_texts abbreviation_texts special_texts named_special_texts literal_endings
@@ -434,7 +434,7 @@ returns-in-28986-clause-few c = rw c.printed_as-in-28986.ensures (omega arith)
 
 pub returns-in-25452-clause-is : goal.returns-in-25452-clause-is
 unfolding printed operation_of_code operations same_bytes builtin_texts operator_texts abbreviation_texts special_texts named_special_texts literal_endings
-returns-in-25452-clause-is c = printed-by c.args.first c.args.second 99 108 c.printed_as-in-25452.result c.ranges.second.fits (lit< tt) (omega (arith, c.in-25452.is)) (rw c.printed_as-in-25452.ensures record { precedence = refl; front = refl; left = refl; between = refl; right = refl; back = refl })
+returns-in-25452-clause-is c = printed-by c.args.first c.args.second 99 108 c.printed_as-in-25452.result c.ranges.second.fits (lit< tt) (omega (arith, c.in-25452.is)) (rw c.printed_as-in-25452.ensures refl)
 
 pub returns-in-25452-clause-few : goal.returns-in-25452-clause-few
 unfolding text_part builtin_texts operator_texts abbreviation_texts special_texts named_special_texts literal_endings
@@ -442,7 +442,7 @@ returns-in-25452-clause-few c = rw c.printed_as-in-25452.ensures (omega arith)
 
 pub returns-in-25462-clause-is : goal.returns-in-25462-clause-is
 unfolding printed operation_of_code operations same_bytes builtin_texts operator_texts abbreviation_texts special_texts named_special_texts literal_endings
-returns-in-25462-clause-is c = printed-by c.args.first c.args.second 99 118 c.printed_as-in-25462.result c.ranges.second.fits (lit< tt) (omega (arith, c.in-25462.is)) (rw c.printed_as-in-25462.ensures record { precedence = refl; front = refl; left = refl; between = refl; right = refl; back = refl })
+returns-in-25462-clause-is c = printed-by c.args.first c.args.second 99 118 c.printed_as-in-25462.result c.ranges.second.fits (lit< tt) (omega (arith, c.in-25462.is)) (rw c.printed_as-in-25462.ensures refl)
 
 pub returns-in-25462-clause-few : goal.returns-in-25462-clause-few
 unfolding text_part builtin_texts operator_texts abbreviation_texts special_texts named_special_texts literal_endings
@@ -450,7 +450,7 @@ returns-in-25462-clause-few c = rw c.printed_as-in-25462.ensures (omega arith)
 
 pub returns-in-25439-clause-is : goal.returns-in-25439-clause-is
 unfolding printed operation_of_code operations same_bytes builtin_texts operator_texts abbreviation_texts special_texts named_special_texts literal_endings
-returns-in-25439-clause-is c = printed-by c.args.first c.args.second 99 95 c.printed_as-in-25439.result c.ranges.second.fits (lit< tt) (omega (arith, c.in-25439.is)) (rw c.printed_as-in-25439.ensures record { precedence = refl; front = refl; left = refl; between = refl; right = refl; back = refl })
+returns-in-25439-clause-is c = printed-by c.args.first c.args.second 99 95 c.printed_as-in-25439.result c.ranges.second.fits (lit< tt) (omega (arith, c.in-25439.is)) (rw c.printed_as-in-25439.ensures refl)
 
 pub returns-in-25439-clause-few : goal.returns-in-25439-clause-few
 unfolding text_part builtin_texts operator_texts abbreviation_texts special_texts named_special_texts literal_endings
@@ -458,7 +458,7 @@ returns-in-25439-clause-few c = rw c.printed_as-in-25439.ensures (omega arith)
 
 pub returns-in-29804-clause-is : goal.returns-in-29804-clause-is
 unfolding printed operation_of_code operations same_bytes builtin_texts operator_texts abbreviation_texts special_texts named_special_texts literal_endings
-returns-in-29804-clause-is c = printed-by c.args.first c.args.second 116 108 c.printed_as-in-29804.result c.ranges.second.fits (lit< tt) (omega (arith, c.in-29804.is)) (rw c.printed_as-in-29804.ensures record { precedence = refl; front = refl; left = refl; between = refl; right = refl; back = refl })
+returns-in-29804-clause-is c = printed-by c.args.first c.args.second 116 108 c.printed_as-in-29804.result c.ranges.second.fits (lit< tt) (omega (arith, c.in-29804.is)) (rw c.printed_as-in-29804.ensures refl)
 
 pub returns-in-29804-clause-few : goal.returns-in-29804-clause-few
 unfolding text_part builtin_texts operator_texts abbreviation_texts special_texts named_special_texts literal_endings
@@ -466,7 +466,7 @@ returns-in-29804-clause-few c = rw c.printed_as-in-29804.ensures (omega arith)
 
 pub returns-in-26988-clause-is : goal.returns-in-26988-clause-is
 unfolding printed operation_of_code operations same_bytes builtin_texts operator_texts abbreviation_texts special_texts named_special_texts literal_endings
-returns-in-26988-clause-is c = printed-by c.args.first c.args.second 105 108 c.printed_as-in-26988.result c.ranges.second.fits (lit< tt) (omega (arith, c.in-26988.is)) (rw c.printed_as-in-26988.ensures record { precedence = refl; front = refl; left = refl; between = refl; right = refl; back = refl })
+returns-in-26988-clause-is c = printed-by c.args.first c.args.second 105 108 c.printed_as-in-26988.result c.ranges.second.fits (lit< tt) (omega (arith, c.in-26988.is)) (rw c.printed_as-in-26988.ensures refl)
 
 pub returns-in-26988-clause-few : goal.returns-in-26988-clause-few
 unfolding text_part builtin_texts operator_texts abbreviation_texts special_texts named_special_texts literal_endings
@@ -474,7 +474,7 @@ returns-in-26988-clause-few c = rw c.printed_as-in-26988.ensures (omega arith)
 
 pub returns-in-25699-clause-is : goal.returns-in-25699-clause-is
 unfolding printed operation_of_code operations same_bytes builtin_texts operator_texts abbreviation_texts special_texts named_special_texts literal_endings
-returns-in-25699-clause-is c = printed-by c.args.first c.args.second 100 99 c.printed_as-in-25699.result c.ranges.second.fits (lit< tt) (omega (arith, c.in-25699.is)) (rw c.printed_as-in-25699.ensures record { precedence = refl; front = refl; left = refl; between = refl; right = refl; back = refl })
+returns-in-25699-clause-is c = printed-by c.args.first c.args.second 100 99 c.printed_as-in-25699.result c.ranges.second.fits (lit< tt) (omega (arith, c.in-25699.is)) (rw c.printed_as-in-25699.ensures refl)
 
 pub returns-in-25699-clause-few : goal.returns-in-25699-clause-few
 unfolding text_part builtin_texts operator_texts abbreviation_texts special_texts named_special_texts literal_endings
@@ -482,7 +482,7 @@ returns-in-25699-clause-few c = rw c.printed_as-in-25699.ensures (omega arith)
 
 pub returns-in-29539-clause-is : goal.returns-in-29539-clause-is
 unfolding printed operation_of_code operations same_bytes builtin_texts operator_texts abbreviation_texts special_texts named_special_texts literal_endings
-returns-in-29539-clause-is c = printed-by c.args.first c.args.second 115 99 c.printed_as-in-29539.result c.ranges.second.fits (lit< tt) (omega (arith, c.in-29539.is)) (rw c.printed_as-in-29539.ensures record { precedence = refl; front = refl; left = refl; between = refl; right = refl; back = refl })
+returns-in-29539-clause-is c = printed-by c.args.first c.args.second 115 99 c.printed_as-in-29539.result c.ranges.second.fits (lit< tt) (omega (arith, c.in-29539.is)) (rw c.printed_as-in-29539.ensures refl)
 
 pub returns-in-29539-clause-few : goal.returns-in-29539-clause-few
 unfolding text_part builtin_texts operator_texts abbreviation_texts special_texts named_special_texts literal_endings
@@ -490,7 +490,7 @@ returns-in-29539-clause-few c = rw c.printed_as-in-29539.ensures (omega arith)
 
 pub returns-in-25443-clause-is : goal.returns-in-25443-clause-is
 unfolding printed operation_of_code operations same_bytes builtin_texts operator_texts abbreviation_texts special_texts named_special_texts literal_endings
-returns-in-25443-clause-is c = printed-by c.args.first c.args.second 99 99 c.printed_as-in-25443.result c.ranges.second.fits (lit< tt) (omega (arith, c.in-25443.is)) (rw c.printed_as-in-25443.ensures record { precedence = refl; front = refl; left = refl; between = refl; right = refl; back = refl })
+returns-in-25443-clause-is c = printed-by c.args.first c.args.second 99 99 c.printed_as-in-25443.result c.ranges.second.fits (lit< tt) (omega (arith, c.in-25443.is)) (rw c.printed_as-in-25443.ensures refl)
 
 pub returns-in-25443-clause-few : goal.returns-in-25443-clause-few
 unfolding text_part builtin_texts operator_texts abbreviation_texts special_texts named_special_texts literal_endings
@@ -498,7 +498,7 @@ returns-in-25443-clause-few c = rw c.printed_as-in-25443.ensures (omega arith)
 
 pub returns-in-29283-clause-is : goal.returns-in-29283-clause-is
 unfolding printed operation_of_code operations same_bytes builtin_texts operator_texts abbreviation_texts special_texts named_special_texts literal_endings
-returns-in-29283-clause-is c = printed-by c.args.first c.args.second 114 99 c.printed_as-in-29283.result c.ranges.second.fits (lit< tt) (omega (arith, c.in-29283.is)) (rw c.printed_as-in-29283.ensures record { precedence = refl; front = refl; left = refl; between = refl; right = refl; back = refl })
+returns-in-29283-clause-is c = printed-by c.args.first c.args.second 114 99 c.printed_as-in-29283.result c.ranges.second.fits (lit< tt) (omega (arith, c.in-29283.is)) (rw c.printed_as-in-29283.ensures refl)
 
 pub returns-in-29283-clause-few : goal.returns-in-29283-clause-few
 unfolding text_part builtin_texts operator_texts abbreviation_texts special_texts named_special_texts literal_endings
@@ -506,7 +506,7 @@ returns-in-29283-clause-few c = rw c.printed_as-in-29283.ensures (omega arith)
 
 pub returns-in-29801-clause-is : goal.returns-in-29801-clause-is
 unfolding printed operation_of_code operations same_bytes builtin_texts operator_texts abbreviation_texts special_texts named_special_texts literal_endings
-returns-in-29801-clause-is c = printed-by c.args.first c.args.second 116 105 c.printed_as-in-29801.result c.ranges.second.fits (lit< tt) (omega (arith, c.in-29801.is)) (rw c.printed_as-in-29801.ensures record { precedence = refl; front = refl; left = refl; between = refl; right = refl; back = refl })
+returns-in-29801-clause-is c = printed-by c.args.first c.args.second 116 105 c.printed_as-in-29801.result c.ranges.second.fits (lit< tt) (omega (arith, c.in-29801.is)) (rw c.printed_as-in-29801.ensures refl)
 
 pub returns-in-29801-clause-few : goal.returns-in-29801-clause-few
 unfolding text_part builtin_texts operator_texts abbreviation_texts special_texts named_special_texts literal_endings
@@ -514,7 +514,7 @@ returns-in-29801-clause-few c = rw c.printed_as-in-29801.ensures (omega arith)
 
 pub returns-in-29797-clause-is : goal.returns-in-29797-clause-is
 unfolding printed operation_of_code operations same_bytes builtin_texts operator_texts abbreviation_texts special_texts named_special_texts literal_endings
-returns-in-29797-clause-is c = printed-by c.args.first c.args.second 116 101 c.printed_as-in-29797.result c.ranges.second.fits (lit< tt) (omega (arith, c.in-29797.is)) (rw c.printed_as-in-29797.ensures record { precedence = refl; front = refl; left = refl; between = refl; right = refl; back = refl })
+returns-in-29797-clause-is c = printed-by c.args.first c.args.second 116 101 c.printed_as-in-29797.result c.ranges.second.fits (lit< tt) (omega (arith, c.in-29797.is)) (rw c.printed_as-in-29797.ensures refl)
 
 pub returns-in-29797-clause-few : goal.returns-in-29797-clause-few
 unfolding text_part builtin_texts operator_texts abbreviation_texts special_texts named_special_texts literal_endings
@@ -522,7 +522,7 @@ returns-in-29797-clause-few c = rw c.printed_as-in-29797.ensures (omega arith)
 
 pub returns-in-29556-clause-is : goal.returns-in-29556-clause-is
 unfolding printed operation_of_code operations same_bytes builtin_texts operator_texts abbreviation_texts special_texts named_special_texts literal_endings
-returns-in-29556-clause-is c = printed-by c.args.first c.args.second 115 116 c.printed_as-in-29556.result c.ranges.second.fits (lit< tt) (omega (arith, c.in-29556.is)) (rw c.printed_as-in-29556.ensures record { precedence = refl; front = refl; left = refl; between = refl; right = refl; back = refl })
+returns-in-29556-clause-is c = printed-by c.args.first c.args.second 115 116 c.printed_as-in-29556.result c.ranges.second.fits (lit< tt) (omega (arith, c.in-29556.is)) (rw c.printed_as-in-29556.ensures refl)
 
 pub returns-in-29556-clause-few : goal.returns-in-29556-clause-few
 unfolding text_part builtin_texts operator_texts abbreviation_texts special_texts named_special_texts literal_endings
@@ -530,7 +530,7 @@ returns-in-29556-clause-few c = rw c.printed_as-in-29556.ensures (omega arith)
 
 pub returns-in-29562-clause-is : goal.returns-in-29562-clause-is
 unfolding printed operation_of_code operations same_bytes builtin_texts operator_texts abbreviation_texts special_texts named_special_texts literal_endings
-returns-in-29562-clause-is c = printed-by c.args.first c.args.second 115 122 c.printed_as-in-29562.result c.ranges.second.fits (lit< tt) (omega (arith, c.in-29562.is)) (rw c.printed_as-in-29562.ensures record { precedence = refl; front = refl; left = refl; between = refl; right = refl; back = refl })
+returns-in-29562-clause-is c = printed-by c.args.first c.args.second 115 122 c.printed_as-in-29562.result c.ranges.second.fits (lit< tt) (omega (arith, c.in-29562.is)) (rw c.printed_as-in-29562.ensures refl)
 
 pub returns-in-29562-clause-few : goal.returns-in-29562-clause-few
 unfolding text_part builtin_texts operator_texts abbreviation_texts special_texts named_special_texts literal_endings
@@ -538,7 +538,7 @@ returns-in-29562-clause-few c = rw c.printed_as-in-29562.ensures (omega arith)
 
 pub returns-in-24948-clause-is : goal.returns-in-24948-clause-is
 unfolding printed operation_of_code operations same_bytes builtin_texts operator_texts abbreviation_texts special_texts named_special_texts literal_endings
-returns-in-24948-clause-is c = printed-by c.args.first c.args.second 97 116 c.printed_as-in-24948.result c.ranges.second.fits (lit< tt) (omega (arith, c.in-24948.is)) (rw c.printed_as-in-24948.ensures record { precedence = refl; front = refl; left = refl; between = refl; right = refl; back = refl })
+returns-in-24948-clause-is c = printed-by c.args.first c.args.second 97 116 c.printed_as-in-24948.result c.ranges.second.fits (lit< tt) (omega (arith, c.in-24948.is)) (rw c.printed_as-in-24948.ensures refl)
 
 pub returns-in-24948-clause-few : goal.returns-in-24948-clause-few
 unfolding text_part builtin_texts operator_texts abbreviation_texts special_texts named_special_texts literal_endings
@@ -546,7 +546,7 @@ returns-in-24948-clause-few c = rw c.printed_as-in-24948.ensures (omega arith)
 
 pub returns-in-24954-clause-is : goal.returns-in-24954-clause-is
 unfolding printed operation_of_code operations same_bytes builtin_texts operator_texts abbreviation_texts special_texts named_special_texts literal_endings
-returns-in-24954-clause-is c = printed-by c.args.first c.args.second 97 122 c.printed_as-in-24954.result c.ranges.second.fits (lit< tt) (omega (arith, c.in-24954.is)) (rw c.printed_as-in-24954.ensures record { precedence = refl; front = refl; left = refl; between = refl; right = refl; back = refl })
+returns-in-24954-clause-is c = printed-by c.args.first c.args.second 97 122 c.printed_as-in-24954.result c.ranges.second.fits (lit< tt) (omega (arith, c.in-24954.is)) (rw c.printed_as-in-24954.ensures refl)
 
 pub returns-in-24954-clause-few : goal.returns-in-24954-clause-few
 unfolding text_part builtin_texts operator_texts abbreviation_texts special_texts named_special_texts literal_endings
@@ -554,7 +554,7 @@ returns-in-24954-clause-few c = rw c.printed_as-in-24954.ensures (omega arith)
 
 pub returns-in-28280-clause-is : goal.returns-in-28280-clause-is
 unfolding printed operation_of_code operations same_bytes builtin_texts operator_texts abbreviation_texts special_texts named_special_texts literal_endings
-returns-in-28280-clause-is c = printed-by c.args.first c.args.second 110 120 c.printed_as-in-28280.result c.ranges.second.fits (lit< tt) (omega (arith, c.in-28280.is)) (rw c.printed_as-in-28280.ensures record { precedence = refl; front = refl; left = refl; between = refl; right = refl; back = refl })
+returns-in-28280-clause-is c = printed-by c.args.first c.args.second 110 120 c.printed_as-in-28280.result c.ranges.second.fits (lit< tt) (omega (arith, c.in-28280.is)) (rw c.printed_as-in-28280.ensures refl)
 
 pub returns-in-28280-clause-few : goal.returns-in-28280-clause-few
 unfolding text_part builtin_texts operator_texts abbreviation_texts special_texts named_special_texts literal_endings
@@ -562,7 +562,7 @@ returns-in-28280-clause-few c = rw c.printed_as-in-28280.ensures (omega arith)
 
 pub returns-in-29530-clause-is : goal.returns-in-29530-clause-is
 unfolding printed operation_of_code operations same_bytes builtin_texts operator_texts abbreviation_texts special_texts named_special_texts literal_endings
-returns-in-29530-clause-is c = printed-by c.args.first c.args.second 115 90 c.printed_as-in-29530.result c.ranges.second.fits (lit< tt) (omega (arith, c.in-29530.is)) (rw c.printed_as-in-29530.ensures record { precedence = refl; front = refl; left = refl; between = refl; right = refl; back = refl })
+returns-in-29530-clause-is c = printed-by c.args.first c.args.second 115 90 c.printed_as-in-29530.result c.ranges.second.fits (lit< tt) (omega (arith, c.in-29530.is)) (rw c.printed_as-in-29530.ensures refl)
 
 pub returns-in-29530-clause-few : goal.returns-in-29530-clause-few
 unfolding text_part builtin_texts operator_texts abbreviation_texts special_texts named_special_texts literal_endings
@@ -570,7 +570,7 @@ returns-in-29530-clause-few c = rw c.printed_as-in-29530.ensures (omega arith)
 
 pub returns-in-29554-clause-is : goal.returns-in-29554-clause-is
 unfolding printed operation_of_code operations same_bytes builtin_texts operator_texts abbreviation_texts special_texts named_special_texts literal_endings
-returns-in-29554-clause-is c = printed-by c.args.first c.args.second 115 114 c.printed_as-in-29554.result c.ranges.second.fits (lit< tt) (omega (arith, c.in-29554.is)) (rw c.printed_as-in-29554.ensures record { precedence = refl; front = refl; left = refl; between = refl; right = refl; back = refl })
+returns-in-29554-clause-is c = printed-by c.args.first c.args.second 115 114 c.printed_as-in-29554.result c.ranges.second.fits (lit< tt) (omega (arith, c.in-29554.is)) (rw c.printed_as-in-29554.ensures refl)
 
 pub returns-in-29554-clause-few : goal.returns-in-29554-clause-few
 unfolding text_part builtin_texts operator_texts abbreviation_texts special_texts named_special_texts literal_endings
@@ -578,7 +578,7 @@ returns-in-29554-clause-few c = rw c.printed_as-in-29554.ensures (omega arith)
 
 pub returns-in-26196-clause-is : goal.returns-in-26196-clause-is
 unfolding printed operation_of_code operations same_bytes builtin_texts operator_texts abbreviation_texts special_texts named_special_texts literal_endings
-returns-in-26196-clause-is c = printed-by c.args.first c.args.second 102 84 c.printed_as-in-26196.result c.ranges.second.fits (lit< tt) (omega (arith, c.in-26196.is)) (rw c.printed_as-in-26196.ensures record { precedence = refl; front = refl; left = refl; between = refl; right = refl; back = refl })
+returns-in-26196-clause-is c = printed-by c.args.first c.args.second 102 84 c.printed_as-in-26196.result c.ranges.second.fits (lit< tt) (omega (arith, c.in-26196.is)) (rw c.printed_as-in-26196.ensures refl)
 
 pub returns-in-26196-clause-few : goal.returns-in-26196-clause-few
 unfolding text_part builtin_texts operator_texts abbreviation_texts special_texts named_special_texts literal_endings
@@ -586,7 +586,7 @@ returns-in-26196-clause-few c = rw c.printed_as-in-26196.ensures (omega arith)
 
 pub returns-in-10281-clause-is : goal.returns-in-10281-clause-is
 unfolding printed operation_of_code operations same_bytes builtin_texts operator_texts abbreviation_texts special_texts named_special_texts literal_endings
-returns-in-10281-clause-is c = printed-by c.args.first c.args.second 40 41 c.printed_as-in-10281.result c.ranges.second.fits (lit< tt) (omega (arith, c.in-10281.is)) (rw c.printed_as-in-10281.ensures record { precedence = refl; front = refl; left = refl; between = refl; right = refl; back = refl })
+returns-in-10281-clause-is c = printed-by c.args.first c.args.second 40 41 c.printed_as-in-10281.result c.ranges.second.fits (lit< tt) (omega (arith, c.in-10281.is)) (rw c.printed_as-in-10281.ensures refl)
 
 pub returns-in-10281-clause-few : goal.returns-in-10281-clause-few
 unfolding text_part builtin_texts operator_texts abbreviation_texts special_texts named_special_texts literal_endings
@@ -594,7 +594,7 @@ returns-in-10281-clause-few c = rw c.printed_as-in-10281.ensures (omega arith)
 
 pub returns-in-25710-clause-is : goal.returns-in-25710-clause-is
 unfolding printed operation_of_code operations same_bytes builtin_texts operator_texts abbreviation_texts special_texts named_special_texts literal_endings
-returns-in-25710-clause-is c = printed-by c.args.first c.args.second 100 110 c.printed_as-in-25710.result c.ranges.second.fits (lit< tt) (omega (arith, c.in-25710.is)) (rw c.printed_as-in-25710.ensures record { precedence = refl; front = refl; left = refl; between = refl; right = refl; back = refl })
+returns-in-25710-clause-is c = printed-by c.args.first c.args.second 100 110 c.printed_as-in-25710.result c.ranges.second.fits (lit< tt) (omega (arith, c.in-25710.is)) (rw c.printed_as-in-25710.ensures refl)
 
 pub returns-in-25710-clause-few : goal.returns-in-25710-clause-few
 unfolding text_part builtin_texts operator_texts abbreviation_texts special_texts named_special_texts literal_endings
@@ -602,7 +602,7 @@ returns-in-25710-clause-few c = rw c.printed_as-in-25710.ensures (omega arith)
 
 pub returns-in-25456-clause-is : goal.returns-in-25456-clause-is
 unfolding printed operation_of_code operations same_bytes builtin_texts operator_texts abbreviation_texts special_texts named_special_texts literal_endings
-returns-in-25456-clause-is c = printed-by c.args.first c.args.second 99 112 c.printed_as-in-25456.result c.ranges.second.fits (lit< tt) (omega (arith, c.in-25456.is)) (rw c.printed_as-in-25456.ensures record { precedence = refl; front = refl; left = refl; between = refl; right = refl; back = refl })
+returns-in-25456-clause-is c = printed-by c.args.first c.args.second 99 112 c.printed_as-in-25456.result c.ranges.second.fits (lit< tt) (omega (arith, c.in-25456.is)) (rw c.printed_as-in-25456.ensures refl)
 
 pub returns-in-25456-clause-few : goal.returns-in-25456-clause-few
 unfolding text_part builtin_texts operator_texts abbreviation_texts special_texts named_special_texts literal_endings
@@ -610,7 +610,7 @@ returns-in-25456-clause-few c = rw c.printed_as-in-25456.ensures (omega arith)
 
 pub returns-in-28279-clause-is : goal.returns-in-28279-clause-is
 unfolding printed operation_of_code operations same_bytes builtin_texts operator_texts abbreviation_texts special_texts named_special_texts literal_endings
-returns-in-28279-clause-is c = printed-by c.args.first c.args.second 110 119 c.printed_as-in-28279.result c.ranges.second.fits (lit< tt) (omega (arith, c.in-28279.is)) (rw c.printed_as-in-28279.ensures record { precedence = refl; front = refl; left = refl; between = refl; right = refl; back = refl })
+returns-in-28279-clause-is c = printed-by c.args.first c.args.second 110 119 c.printed_as-in-28279.result c.ranges.second.fits (lit< tt) (omega (arith, c.in-28279.is)) (rw c.printed_as-in-28279.ensures refl)
 
 pub returns-in-28279-clause-few : goal.returns-in-28279-clause-few
 unfolding text_part builtin_texts operator_texts abbreviation_texts special_texts named_special_texts literal_endings
@@ -618,7 +618,7 @@ returns-in-28279-clause-few c = rw c.printed_as-in-28279.ensures (omega arith)
 
 pub returns-in-28257-clause-is : goal.returns-in-28257-clause-is
 unfolding printed operation_of_code operations same_bytes builtin_texts operator_texts abbreviation_texts special_texts named_special_texts literal_endings
-returns-in-28257-clause-is c = printed-by c.args.first c.args.second 110 97 c.printed_as-in-28257.result c.ranges.second.fits (lit< tt) (omega (arith, c.in-28257.is)) (rw c.printed_as-in-28257.ensures record { precedence = refl; front = refl; left = refl; between = refl; right = refl; back = refl })
+returns-in-28257-clause-is c = printed-by c.args.first c.args.second 110 97 c.printed_as-in-28257.result c.ranges.second.fits (lit< tt) (omega (arith, c.in-28257.is)) (rw c.printed_as-in-28257.ensures refl)
 
 pub returns-in-28257-clause-few : goal.returns-in-28257-clause-few
 unfolding text_part builtin_texts operator_texts abbreviation_texts special_texts named_special_texts literal_endings
@@ -626,7 +626,7 @@ returns-in-28257-clause-few c = rw c.printed_as-in-28257.ensures (omega arith)
 
 pub returns-in-28200-clause-is : goal.returns-in-28200-clause-is
 unfolding printed operation_of_code operations same_bytes builtin_texts operator_texts abbreviation_texts special_texts named_special_texts literal_endings
-returns-in-28200-clause-is c = printed-by c.args.first c.args.second 110 40 c.printed_as-in-28200.result c.ranges.second.fits (lit< tt) (omega (arith, c.in-28200.is)) (rw c.printed_as-in-28200.ensures record { precedence = refl; front = refl; left = refl; between = refl; right = refl; back = refl })
+returns-in-28200-clause-is c = printed-by c.args.first c.args.second 110 40 c.printed_as-in-28200.result c.ranges.second.fits (lit< tt) (omega (arith, c.in-28200.is)) (rw c.printed_as-in-28200.ensures refl)
 
 pub returns-in-28200-clause-few : goal.returns-in-28200-clause-few
 unfolding text_part builtin_texts operator_texts abbreviation_texts special_texts named_special_texts literal_endings
@@ -634,7 +634,7 @@ returns-in-28200-clause-few c = rw c.printed_as-in-28200.ensures (omega arith)
 
 pub returns-in-28255-clause-is : goal.returns-in-28255-clause-is
 unfolding printed operation_of_code operations same_bytes builtin_texts operator_texts abbreviation_texts special_texts named_special_texts literal_endings
-returns-in-28255-clause-is c = printed-by c.args.first c.args.second 110 95 c.printed_as-in-28255.result c.ranges.second.fits (lit< tt) (omega (arith, c.in-28255.is)) (rw c.printed_as-in-28255.ensures record { precedence = refl; front = refl; left = refl; between = refl; right = refl; back = refl })
+returns-in-28255-clause-is c = printed-by c.args.first c.args.second 110 95 c.printed_as-in-28255.result c.ranges.second.fits (lit< tt) (omega (arith, c.in-28255.is)) (rw c.printed_as-in-28255.ensures refl)
 
 pub returns-in-28255-clause-few : goal.returns-in-28255-clause-few
 unfolding text_part builtin_texts operator_texts abbreviation_texts special_texts named_special_texts literal_endings
@@ -642,7 +642,7 @@ returns-in-28255-clause-few c = rw c.printed_as-in-28255.ensures (omega arith)
 
 pub returns-in-28777-clause-is : goal.returns-in-28777-clause-is
 unfolding printed operation_of_code operations same_bytes builtin_texts operator_texts abbreviation_texts special_texts named_special_texts literal_endings
-returns-in-28777-clause-is c = printed-by c.args.first c.args.second 112 105 c.printed_as-in-28777.result c.ranges.second.fits (lit< tt) (omega (arith, c.in-28777.is)) (rw c.printed_as-in-28777.ensures record { precedence = refl; front = refl; left = refl; between = refl; right = refl; back = refl })
+returns-in-28777-clause-is c = printed-by c.args.first c.args.second 112 105 c.printed_as-in-28777.result c.ranges.second.fits (lit< tt) (omega (arith, c.in-28777.is)) (rw c.printed_as-in-28777.ensures refl)
 
 pub returns-in-28777-clause-few : goal.returns-in-28777-clause-few
 unfolding text_part builtin_texts operator_texts abbreviation_texts special_texts named_special_texts literal_endings
@@ -650,7 +650,7 @@ returns-in-28777-clause-few c = rw c.printed_as-in-28777.ensures (omega arith)
 
 pub returns-in-26220-clause-is : goal.returns-in-26220-clause-is
 unfolding printed operation_of_code operations same_bytes builtin_texts operator_texts abbreviation_texts special_texts named_special_texts literal_endings
-returns-in-26220-clause-is c = printed-by c.args.first c.args.second 102 108 c.printed_as-in-26220.result c.ranges.second.fits (lit< tt) (omega (arith, c.in-26220.is)) (rw c.printed_as-in-26220.ensures record { precedence = refl; front = refl; left = refl; between = refl; right = refl; back = refl })
+returns-in-26220-clause-is c = printed-by c.args.first c.args.second 102 108 c.printed_as-in-26220.result c.ranges.second.fits (lit< tt) (omega (arith, c.in-26220.is)) (rw c.printed_as-in-26220.ensures refl)
 
 pub returns-in-26220-clause-few : goal.returns-in-26220-clause-few
 unfolding text_part builtin_texts operator_texts abbreviation_texts special_texts named_special_texts literal_endings
@@ -658,7 +658,7 @@ returns-in-26220-clause-few c = rw c.printed_as-in-26220.ensures (omega arith)
 
 pub returns-in-26226-clause-is : goal.returns-in-26226-clause-is
 unfolding printed operation_of_code operations same_bytes builtin_texts operator_texts abbreviation_texts special_texts named_special_texts literal_endings
-returns-in-26226-clause-is c = printed-by c.args.first c.args.second 102 114 c.printed_as-in-26226.result c.ranges.second.fits (lit< tt) (omega (arith, c.in-26226.is)) (rw c.printed_as-in-26226.ensures record { precedence = refl; front = refl; left = refl; between = refl; right = refl; back = refl })
+returns-in-26226-clause-is c = printed-by c.args.first c.args.second 102 114 c.printed_as-in-26226.result c.ranges.second.fits (lit< tt) (omega (arith, c.in-26226.is)) (rw c.printed_as-in-26226.ensures refl)
 
 pub returns-in-26226-clause-few : goal.returns-in-26226-clause-few
 unfolding text_part builtin_texts operator_texts abbreviation_texts special_texts named_special_texts literal_endings
@@ -666,7 +666,7 @@ returns-in-26226-clause-few c = rw c.printed_as-in-26226.ensures (omega arith)
 
 pub returns-in-29297-clause-is : goal.returns-in-29297-clause-is
 unfolding printed operation_of_code operations same_bytes builtin_texts operator_texts abbreviation_texts special_texts named_special_texts literal_endings
-returns-in-29297-clause-is c = printed-by c.args.first c.args.second 114 113 c.printed_as-in-29297.result c.ranges.second.fits (lit< tt) (omega (arith, c.in-29297.is)) (rw c.printed_as-in-29297.ensures record { precedence = refl; front = refl; left = refl; between = refl; right = refl; back = refl })
+returns-in-29297-clause-is c = printed-by c.args.first c.args.second 114 113 c.printed_as-in-29297.result c.ranges.second.fits (lit< tt) (omega (arith, c.in-29297.is)) (rw c.printed_as-in-29297.ensures refl)
 
 pub returns-in-29297-clause-few : goal.returns-in-29297-clause-few
 unfolding text_part builtin_texts operator_texts abbreviation_texts special_texts named_special_texts literal_endings
@@ -674,7 +674,7 @@ returns-in-29297-clause-few c = rw c.printed_as-in-29297.ensures (omega arith)
 
 pub returns-in-29265-clause-is : goal.returns-in-29265-clause-is
 unfolding printed operation_of_code operations same_bytes builtin_texts operator_texts abbreviation_texts special_texts named_special_texts literal_endings
-returns-in-29265-clause-is c = printed-by c.args.first c.args.second 114 81 c.printed_as-in-29265.result c.ranges.second.fits (lit< tt) (omega (arith, c.in-29265.is)) (rw c.printed_as-in-29265.ensures record { precedence = refl; front = refl; left = refl; between = refl; right = refl; back = refl })
+returns-in-29265-clause-is c = printed-by c.args.first c.args.second 114 81 c.printed_as-in-29265.result c.ranges.second.fits (lit< tt) (omega (arith, c.in-29265.is)) (rw c.printed_as-in-29265.ensures refl)
 
 pub returns-in-29265-clause-few : goal.returns-in-29265-clause-few
 unfolding text_part builtin_texts operator_texts abbreviation_texts special_texts named_special_texts literal_endings
@@ -682,7 +682,7 @@ returns-in-29265-clause-few c = rw c.printed_as-in-29265.ensures (omega arith)
 
 pub returns-in_default-clause-is : goal.returns-in_default-clause-is
 unfolding operations
-returns-in_default-clause-is c = none-printed c.args.first c.args.second c.printed_as-in_default.result (let n : any_number operations (c.args.first * 256 + c.args.second) ≡ false = rw (ne_eqb (c.args.first * 256 + c.args.second) 28787 (omega (arith, c.in_default)), ne_eqb (c.args.first * 256 + c.args.second) 28263 (omega (arith, c.in_default)), ne_eqb (c.args.first * 256 + c.args.second) 24932 (omega (arith, c.in_default)), ne_eqb (c.args.first * 256 + c.args.second) 25701 (omega (arith, c.in_default)), ne_eqb (c.args.first * 256 + c.args.second) 25455 (omega (arith, c.in_default)), ne_eqb (c.args.first * 256 + c.args.second) 28276 (omega (arith, c.in_default)), ne_eqb (c.args.first * 256 + c.args.second) 24951 (omega (arith, c.in_default)), ne_eqb (c.args.first * 256 + c.args.second) 25708 (omega (arith, c.in_default)), ne_eqb (c.args.first * 256 + c.args.second) 25697 (omega (arith, c.in_default)), ne_eqb (c.args.first * 256 + c.args.second) 29815 (omega (arith, c.in_default)), ne_eqb (c.args.first * 256 + c.args.second) 26483 (omega (arith, c.in_default)), ne_eqb (c.args.first * 256 + c.args.second) 28767 (omega (arith, c.in_default)), ne_eqb (c.args.first * 256 + c.args.second) 27999 (omega (arith, c.in_default)), ne_eqb (c.args.first * 256 + c.args.second) 28784 (omega (arith, c.in_default)), ne_eqb (c.args.first * 256 + c.args.second) 28013 (omega (arith, c.in_default)), ne_eqb (c.args.first * 256 + c.args.second) 25715 (omega (arith, c.in_default)), ne_eqb (c.args.first * 256 + c.args.second) 28781 (omega (arith, c.in_default)), ne_eqb (c.args.first * 256 + c.args.second) 28012 (omega (arith, c.in_default)), ne_eqb (c.args.first * 256 + c.args.second) 25718 (omega (arith, c.in_default)), ne_eqb (c.args.first * 256 + c.args.second) 29293 (omega (arith, c.in_default)), ne_eqb (c.args.first * 256 + c.args.second) 28780 (omega (arith, c.in_default)), ne_eqb (c.args.first * 256 + c.args.second) 28009 (omega (arith, c.in_default)), ne_eqb (c.args.first * 256 + c.args.second) 27763 (omega (arith, c.in_default)), ne_eqb (c.args.first * 256 + c.args.second) 29555 (omega (arith, c.in_default)), ne_eqb (c.args.first * 256 + c.args.second) 27764 (omega (arith, c.in_default)), ne_eqb (c.args.first * 256 + c.args.second) 27749 (omega (arith, c.in_default)), ne_eqb (c.args.first * 256 + c.args.second) 26469 (omega (arith, c.in_default)), ne_eqb (c.args.first * 256 + c.args.second) 25969 (omega (arith, c.in_default)), ne_eqb (c.args.first * 256 + c.args.second) 28261 (omega (arith, c.in_default)), ne_eqb (c.args.first * 256 + c.args.second) 24942 (omega (arith, c.in_default)), ne_eqb (c.args.first * 256 + c.args.second) 25967 (omega (arith, c.in_default)), ne_eqb (c.args.first * 256 + c.args.second) 28530 (omega (arith, c.in_default)), ne_eqb (c.args.first * 256 + c.args.second) 24929 (omega (arith, c.in_default)), ne_eqb (c.args.first * 256 + c.args.second) 28527 (omega (arith, c.in_default)), ne_eqb (c.args.first * 256 + c.args.second) 26484 (omega (arith, c.in_default)), ne_eqb (c.args.first * 256 + c.args.second) 29299 (omega (arith, c.in_default)), ne_eqb (c.args.first * 256 + c.args.second) 25453 (omega (arith, c.in_default)), ne_eqb (c.args.first * 256 + c.args.second) 24915 (omega (arith, c.in_default)), ne_eqb (c.args.first * 256 + c.args.second) 28748 (omega (arith, c.in_default)), ne_eqb (c.args.first * 256 + c.args.second) 27977 (omega (arith, c.in_default)), ne_eqb (c.args.first * 256 + c.args.second) 27980 (omega (arith, c.in_default)), ne_eqb (c.args.first * 256 + c.args.second) 25686 (omega (arith, c.in_default)), ne_eqb (c.args.first * 256 + c.args.second) 29261 (omega (arith, c.in_default)), ne_eqb (c.args.first * 256 + c.args.second) 24910 (omega (arith, c.in_default)), ne_eqb (c.args.first * 256 + c.args.second) 28498 (omega (arith, c.in_default)), ne_eqb (c.args.first * 256 + c.args.second) 25935 (omega (arith, c.in_default)), ne_eqb (c.args.first * 256 + c.args.second) 27731 (omega (arith, c.in_default)), ne_eqb (c.args.first * 256 + c.args.second) 29267 (omega (arith, c.in_default)), ne_eqb (c.args.first * 256 + c.args.second) 27000 (omega (arith, c.in_default)), ne_eqb (c.args.first * 256 + c.args.second) 25716 (omega (arith, c.in_default)), ne_eqb (c.args.first * 256 + c.args.second) 28788 (omega (arith, c.in_default)), ne_eqb (c.args.first * 256 + c.args.second) 29045 (omega (arith, c.in_default)), ne_eqb (c.args.first * 256 + c.args.second) 28986 (omega (arith, c.in_default)), ne_eqb (c.args.first * 256 + c.args.second) 25452 (omega (arith, c.in_default)), ne_eqb (c.args.first * 256 + c.args.second) 25462 (omega (arith, c.in_default)), ne_eqb (c.args.first * 256 + c.args.second) 25439 (omega (arith, c.in_default)), ne_eqb (c.args.first * 256 + c.args.second) 29804 (omega (arith, c.in_default)), ne_eqb (c.args.first * 256 + c.args.second) 26988 (omega (arith, c.in_default)), ne_eqb (c.args.first * 256 + c.args.second) 25699 (omega (arith, c.in_default)), ne_eqb (c.args.first * 256 + c.args.second) 29539 (omega (arith, c.in_default)), ne_eqb (c.args.first * 256 + c.args.second) 25443 (omega (arith, c.in_default)), ne_eqb (c.args.first * 256 + c.args.second) 29283 (omega (arith, c.in_default)), ne_eqb (c.args.first * 256 + c.args.second) 29801 (omega (arith, c.in_default)), ne_eqb (c.args.first * 256 + c.args.second) 29797 (omega (arith, c.in_default)), ne_eqb (c.args.first * 256 + c.args.second) 29556 (omega (arith, c.in_default)), ne_eqb (c.args.first * 256 + c.args.second) 29562 (omega (arith, c.in_default)), ne_eqb (c.args.first * 256 + c.args.second) 24948 (omega (arith, c.in_default)), ne_eqb (c.args.first * 256 + c.args.second) 24954 (omega (arith, c.in_default)), ne_eqb (c.args.first * 256 + c.args.second) 28280 (omega (arith, c.in_default)), ne_eqb (c.args.first * 256 + c.args.second) 29530 (omega (arith, c.in_default)), ne_eqb (c.args.first * 256 + c.args.second) 29554 (omega (arith, c.in_default)), ne_eqb (c.args.first * 256 + c.args.second) 26196 (omega (arith, c.in_default)), ne_eqb (c.args.first * 256 + c.args.second) 10281 (omega (arith, c.in_default)), ne_eqb (c.args.first * 256 + c.args.second) 25710 (omega (arith, c.in_default)), ne_eqb (c.args.first * 256 + c.args.second) 25456 (omega (arith, c.in_default)), ne_eqb (c.args.first * 256 + c.args.second) 28279 (omega (arith, c.in_default)), ne_eqb (c.args.first * 256 + c.args.second) 28257 (omega (arith, c.in_default)), ne_eqb (c.args.first * 256 + c.args.second) 28200 (omega (arith, c.in_default)), ne_eqb (c.args.first * 256 + c.args.second) 28255 (omega (arith, c.in_default)), ne_eqb (c.args.first * 256 + c.args.second) 28777 (omega (arith, c.in_default)), ne_eqb (c.args.first * 256 + c.args.second) 26220 (omega (arith, c.in_default)), ne_eqb (c.args.first * 256 + c.args.second) 26226 (omega (arith, c.in_default)), ne_eqb (c.args.first * 256 + c.args.second) 29297 (omega (arith, c.in_default)), ne_eqb (c.args.first * 256 + c.args.second) 29265 (omega (arith, c.in_default))) refl in n) (rw c.printed_as-in_default.ensures record { precedence = refl; front = refl; left = refl; between = refl; right = refl; back = refl })
+returns-in_default-clause-is c = none-printed c.args.first c.args.second c.printed_as-in_default.result (let n : any_number operations (c.args.first * 256 + c.args.second) ≡ false = rw (ne_eqb (c.args.first * 256 + c.args.second) 28787 (omega (arith, c.in_default)), ne_eqb (c.args.first * 256 + c.args.second) 28263 (omega (arith, c.in_default)), ne_eqb (c.args.first * 256 + c.args.second) 24932 (omega (arith, c.in_default)), ne_eqb (c.args.first * 256 + c.args.second) 25701 (omega (arith, c.in_default)), ne_eqb (c.args.first * 256 + c.args.second) 25455 (omega (arith, c.in_default)), ne_eqb (c.args.first * 256 + c.args.second) 28276 (omega (arith, c.in_default)), ne_eqb (c.args.first * 256 + c.args.second) 24951 (omega (arith, c.in_default)), ne_eqb (c.args.first * 256 + c.args.second) 25708 (omega (arith, c.in_default)), ne_eqb (c.args.first * 256 + c.args.second) 25697 (omega (arith, c.in_default)), ne_eqb (c.args.first * 256 + c.args.second) 29815 (omega (arith, c.in_default)), ne_eqb (c.args.first * 256 + c.args.second) 26483 (omega (arith, c.in_default)), ne_eqb (c.args.first * 256 + c.args.second) 28767 (omega (arith, c.in_default)), ne_eqb (c.args.first * 256 + c.args.second) 27999 (omega (arith, c.in_default)), ne_eqb (c.args.first * 256 + c.args.second) 28784 (omega (arith, c.in_default)), ne_eqb (c.args.first * 256 + c.args.second) 28013 (omega (arith, c.in_default)), ne_eqb (c.args.first * 256 + c.args.second) 25715 (omega (arith, c.in_default)), ne_eqb (c.args.first * 256 + c.args.second) 28781 (omega (arith, c.in_default)), ne_eqb (c.args.first * 256 + c.args.second) 28012 (omega (arith, c.in_default)), ne_eqb (c.args.first * 256 + c.args.second) 25718 (omega (arith, c.in_default)), ne_eqb (c.args.first * 256 + c.args.second) 29293 (omega (arith, c.in_default)), ne_eqb (c.args.first * 256 + c.args.second) 28780 (omega (arith, c.in_default)), ne_eqb (c.args.first * 256 + c.args.second) 28009 (omega (arith, c.in_default)), ne_eqb (c.args.first * 256 + c.args.second) 27763 (omega (arith, c.in_default)), ne_eqb (c.args.first * 256 + c.args.second) 29555 (omega (arith, c.in_default)), ne_eqb (c.args.first * 256 + c.args.second) 27764 (omega (arith, c.in_default)), ne_eqb (c.args.first * 256 + c.args.second) 27749 (omega (arith, c.in_default)), ne_eqb (c.args.first * 256 + c.args.second) 26469 (omega (arith, c.in_default)), ne_eqb (c.args.first * 256 + c.args.second) 25969 (omega (arith, c.in_default)), ne_eqb (c.args.first * 256 + c.args.second) 28261 (omega (arith, c.in_default)), ne_eqb (c.args.first * 256 + c.args.second) 24942 (omega (arith, c.in_default)), ne_eqb (c.args.first * 256 + c.args.second) 25967 (omega (arith, c.in_default)), ne_eqb (c.args.first * 256 + c.args.second) 28530 (omega (arith, c.in_default)), ne_eqb (c.args.first * 256 + c.args.second) 24929 (omega (arith, c.in_default)), ne_eqb (c.args.first * 256 + c.args.second) 28527 (omega (arith, c.in_default)), ne_eqb (c.args.first * 256 + c.args.second) 26484 (omega (arith, c.in_default)), ne_eqb (c.args.first * 256 + c.args.second) 29299 (omega (arith, c.in_default)), ne_eqb (c.args.first * 256 + c.args.second) 25453 (omega (arith, c.in_default)), ne_eqb (c.args.first * 256 + c.args.second) 24915 (omega (arith, c.in_default)), ne_eqb (c.args.first * 256 + c.args.second) 28748 (omega (arith, c.in_default)), ne_eqb (c.args.first * 256 + c.args.second) 27977 (omega (arith, c.in_default)), ne_eqb (c.args.first * 256 + c.args.second) 27980 (omega (arith, c.in_default)), ne_eqb (c.args.first * 256 + c.args.second) 25686 (omega (arith, c.in_default)), ne_eqb (c.args.first * 256 + c.args.second) 29261 (omega (arith, c.in_default)), ne_eqb (c.args.first * 256 + c.args.second) 24910 (omega (arith, c.in_default)), ne_eqb (c.args.first * 256 + c.args.second) 28498 (omega (arith, c.in_default)), ne_eqb (c.args.first * 256 + c.args.second) 25935 (omega (arith, c.in_default)), ne_eqb (c.args.first * 256 + c.args.second) 27731 (omega (arith, c.in_default)), ne_eqb (c.args.first * 256 + c.args.second) 29267 (omega (arith, c.in_default)), ne_eqb (c.args.first * 256 + c.args.second) 27000 (omega (arith, c.in_default)), ne_eqb (c.args.first * 256 + c.args.second) 25716 (omega (arith, c.in_default)), ne_eqb (c.args.first * 256 + c.args.second) 28788 (omega (arith, c.in_default)), ne_eqb (c.args.first * 256 + c.args.second) 29045 (omega (arith, c.in_default)), ne_eqb (c.args.first * 256 + c.args.second) 28986 (omega (arith, c.in_default)), ne_eqb (c.args.first * 256 + c.args.second) 25452 (omega (arith, c.in_default)), ne_eqb (c.args.first * 256 + c.args.second) 25462 (omega (arith, c.in_default)), ne_eqb (c.args.first * 256 + c.args.second) 25439 (omega (arith, c.in_default)), ne_eqb (c.args.first * 256 + c.args.second) 29804 (omega (arith, c.in_default)), ne_eqb (c.args.first * 256 + c.args.second) 26988 (omega (arith, c.in_default)), ne_eqb (c.args.first * 256 + c.args.second) 25699 (omega (arith, c.in_default)), ne_eqb (c.args.first * 256 + c.args.second) 29539 (omega (arith, c.in_default)), ne_eqb (c.args.first * 256 + c.args.second) 25443 (omega (arith, c.in_default)), ne_eqb (c.args.first * 256 + c.args.second) 29283 (omega (arith, c.in_default)), ne_eqb (c.args.first * 256 + c.args.second) 29801 (omega (arith, c.in_default)), ne_eqb (c.args.first * 256 + c.args.second) 29797 (omega (arith, c.in_default)), ne_eqb (c.args.first * 256 + c.args.second) 29556 (omega (arith, c.in_default)), ne_eqb (c.args.first * 256 + c.args.second) 29562 (omega (arith, c.in_default)), ne_eqb (c.args.first * 256 + c.args.second) 24948 (omega (arith, c.in_default)), ne_eqb (c.args.first * 256 + c.args.second) 24954 (omega (arith, c.in_default)), ne_eqb (c.args.first * 256 + c.args.second) 28280 (omega (arith, c.in_default)), ne_eqb (c.args.first * 256 + c.args.second) 29530 (omega (arith, c.in_default)), ne_eqb (c.args.first * 256 + c.args.second) 29554 (omega (arith, c.in_default)), ne_eqb (c.args.first * 256 + c.args.second) 26196 (omega (arith, c.in_default)), ne_eqb (c.args.first * 256 + c.args.second) 10281 (omega (arith, c.in_default)), ne_eqb (c.args.first * 256 + c.args.second) 25710 (omega (arith, c.in_default)), ne_eqb (c.args.first * 256 + c.args.second) 25456 (omega (arith, c.in_default)), ne_eqb (c.args.first * 256 + c.args.second) 28279 (omega (arith, c.in_default)), ne_eqb (c.args.first * 256 + c.args.second) 28257 (omega (arith, c.in_default)), ne_eqb (c.args.first * 256 + c.args.second) 28200 (omega (arith, c.in_default)), ne_eqb (c.args.first * 256 + c.args.second) 28255 (omega (arith, c.in_default)), ne_eqb (c.args.first * 256 + c.args.second) 28777 (omega (arith, c.in_default)), ne_eqb (c.args.first * 256 + c.args.second) 26220 (omega (arith, c.in_default)), ne_eqb (c.args.first * 256 + c.args.second) 26226 (omega (arith, c.in_default)), ne_eqb (c.args.first * 256 + c.args.second) 29297 (omega (arith, c.in_default)), ne_eqb (c.args.first * 256 + c.args.second) 29265 (omega (arith, c.in_default))) refl in n) (rw c.printed_as-in_default.ensures refl)
 
 pub returns-in_default-clause-few : goal.returns-in_default-clause-few
 unfolding text_part builtin_texts operator_texts abbreviation_texts special_texts named_special_texts literal_endings

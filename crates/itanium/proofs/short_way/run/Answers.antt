@@ -4,7 +4,7 @@ use Rattle.cpp_direct.specs.Symbol.{symbol_by}
 use Rattle.itanium.proofs.short_way.run.Goals as goal
 
 pub steps-init : goal.steps-init
-steps-init g c = (c.in-Some.ensures, omega (arith, c.requires.none))
+steps-init g c = (c.in-Some.ensures, omega arith)
 
 pub end-requires : goal.end-requires
 end-requires g c =
@@ -21,4 +21,4 @@ take-requires g c = record {
 }
 
 pub steps-preserved : goal.steps-preserved
-steps-preserved g c = (c.in-Some-take.ensures, omega (arith, c.steps-test.true))
+steps-preserved g c = (c.in-Some-take.ensures, omega (arith, c.steps-test.true, c.steps.invariant.1))

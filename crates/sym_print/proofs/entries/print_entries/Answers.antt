@@ -1,8 +1,8 @@
-use Rattle.std.proofs.Common.{◌≡◌, ◌-◌, ◌++◌, Err, Result, length, take, refl, arith, ap, ◌∙◌, rules, subst}
+use Rattle.std.proofs.Common.{◌≡◌, ◌-◌, ◌++◌, Err, Result, inl, inr, length, take, refl, arith, ap, ◌∙◌, rules, subst}
 use Rattle.std.proofs.lemmas.List.Elements.{All-same, All-take}
 use Rattle.std.proofs.lemmas.Result.{err_from_is_err_and}
 use Rattle.sym_core.specs.declared.Refusal.{Refusal}
-use Rattle.sym_core.specs.declared.Refusal.TheVariants.{TooLong}
+use Rattle.sym_core.specs.declared.Refusal.TheVariants.{TooLong, Memory}
 use Rattle.sym_print.specs.declared.meter.Meter.{Meter}
 use Rattle.sym_print.specs.Joined.{IsNext, IsText, text_of_stack, cost_of_stack, steps_of_stack}
 use Rattle.sym_print.proofs.Stack.{without_last, text_of_write, cost_of_next, cost_of_text, steps_of_next, steps_of_text}
@@ -11,45 +11,72 @@ use Rattle.sym_print.proofs.Noting.{noted-unmet, noted-moved, moves-text}
 use Rattle.sym_print.proofs.entries.print_entries.Given as given
 use Rattle.sym_print.proofs.entries.print_entries.Goals as goal
 
-pub returns-in_err-write_text-in_default-next-clause-text : goal.returns-in_err-write_text-in_default-next-clause-text
-returns-in_err-write_text-in_default-next-clause-text g c =
+pub returns-in_err-write_text-in_default-next : goal.returns-in_err-write_text-in_default-next
+returns-in_err-write_text-in_default-next g c =
     let unshared = g.Y.Layout.unshared c.args.y.now in
     let bytes_of = g.Y.Layout.bytes_of c.args.y.now in
-    ap (λ t. t ++ text_of_stack unshared bytes_of c.loop-next.stack.items) (c.in_err-write_text-in_default-next.ensures.err).0
-    ∙ c.loop-next.invariant.1
-
-pub returns-in_err-write_text-in_default-next-clause-cost : goal.returns-in_err-write_text-in_default-next-clause-cost
-returns-in_err-write_text-in_default-next-clause-cost g c =
-    omega (arith, ap (λ (m : Meter). m.spent) (c.in_err-write_text-in_default-next.ensures.err).1, c.loop-next.invariant.2)
-
-pub returns-in_err-write_text-in_default-next-clause-steps : goal.returns-in_err-write_text-in_default-next-clause-steps
-returns-in_err-write_text-in_default-next-clause-steps g c =
-    omega (arith, ap (λ (m : Meter). m.steps) (c.in_err-write_text-in_default-next.ensures.err).1, c.loop-next.invariant.3)
-
-pub returns-in_err-write_text-in_default-next-clause-too_long : goal.returns-in_err-write_text-in_default-next-clause-too_long
-returns-in_err-write_text-in_default-next-clause-too_long g c same =
+    let stack = c.loop-next.stack.items in
+    let part = c.in-Some.next.now in
+    let same_spent : c.write_text.new.meter.spent ≡ c.loop-next.meter.spent = ap (λ (m : Meter). m.spent) c.in_err-write_text-in_default-next.ensures.err.1 in
+    let same_steps : c.write_text.new.meter.steps ≡ c.loop-next.meter.steps = ap (λ (m : Meter). m.steps) c.in_err-write_text-in_default-next.ensures.err.1 in
     let p = err_from_is_err_and c.from_residual-in_err-write_text-in_default-next.result c.from_residual-in_err-write_text-in_default-next.ensures.1 in
-    let was : c.in_err-write_text-in_default-next.field-0.0 ≡ TooLong = cc (p.1, p.2) in
     let refused : Refusal → Result (Unit {0}) Refusal = λ r. Err r in
-    let unshared = g.Y.Layout.unshared c.args.y.now in
-    let bytes_of = g.Y.Layout.bytes_of c.args.y.now in
-    let is_text : IsText c.in-Some.next.now = search rules in
-    let next : IsNext c.loop-next.stack.items c.in-Some.next.now = search rules in
-    omega (
-      arith,
-      c.in_err-write_text-in_default-next.ensures.too_long (ap refused was),
-      cost_of_next unshared bytes_of c.loop-next.stack.items c.in-Some.next.now next,
-      cost_of_text unshared bytes_of c.in-Some.next.now is_text,
-      c.loop-next.invariant.2,
-      c.loop-next.invariant.6,
-    )
+    let is : (r : Refusal) → c.from_residual-in_err-write_text-in_default-next.result ≡ Err r → c.in_err-write_text-in_default-next.field-0.0 ≡ r = λ r same. cc (p.1, p.2, same) in
+    let is_text : IsText part = search rules in
+    let next : IsNext stack part = search rules in
+    record {
+      paid = c.write_text.ensures.paid;
+      stack_paid = omega (arith, same_spent, c.loop-next.invariant.5);
+      may_come = c.loop-next.invariant.0;
+      text = ap (λ t. t ++ text_of_stack unshared bytes_of stack) c.in_err-write_text-in_default-next.ensures.err.0 ∙ c.loop-next.invariant.1;
+      cost = omega (arith, same_spent, c.loop-next.invariant.2);
+      steps = omega (arith, same_steps, c.loop-next.invariant.3);
+      limit = omega (arith, c.write_text.ensures.limit, c.loop-next.invariant.6);
+      entry_room = c.loop-next.invariant.7;
+      own = rw (p.1, p.2) c.in_err-write_text-in_default-next.ensures.own;
+      text_room = omega (arith, c.write_text.ensures.room, c.loop-next.invariant.8);
+      done = rw p.1 tt;
+      too_long = λ same. omega (
+        arith,
+        c.in_err-write_text-in_default-next.ensures.too_long (ap refused (is TooLong same)),
+        cost_of_next unshared bytes_of stack part next,
+        cost_of_text unshared bytes_of part is_text,
+        c.loop-next.invariant.2,
+        c.loop-next.invariant.6,
+      );
+      memory = λ same. inr (omega (
+        arith,
+        c.in_err-write_text-in_default-next.ensures.memory (ap refused (is Memory same)),
+        c.in_err-write_text-in_default-next.ensures.affords (ap refused (is Memory same)),
+        c.loop-next.invariant.4,
+        c.loop-next.invariant.6,
+        c.loop-next.invariant.8,
+      ));
+    }
 
-pub returns-in_err-print_item-in-Sub-clause-too_long : goal.returns-in_err-print_item-in-Sub-clause-too_long
-returns-in_err-print_item-in-Sub-clause-too_long g c same =
+pub returns-in_err-print_item-in-Sub : goal.returns-in_err-print_item-in-Sub
+returns-in_err-print_item-in-Sub g c =
     let p = err_from_is_err_and c.from_residual.result c.from_residual.ensures.1 in
-    let was : c.in_err-print_item-in-Sub.field-0.0 ≡ TooLong = cc (p.1, p.2) in
     let refused : Refusal → Result (Unit {0}) Refusal = λ r. Err r in
-    omega (arith, c.in_err-print_item-in-Sub.ensures.too_long (ap refused was), c.loop-next.invariant.2, c.loop-next.invariant.6)
+    let is : (r : Refusal) → c.from_residual.result ≡ Err r → c.in_err-print_item-in-Sub.field-0.0 ≡ r = λ r same. cc (p.1, p.2, same) in
+    record {
+      paid = c.print_item.ensures.paid;
+      stack_paid = c.print_item.ensures.stack_paid;
+      may_come = c.print_item.ensures.may_come;
+      text = c.print_item.ensures.text ∙ c.loop-next.invariant.1;
+      cost = omega (arith, c.print_item.ensures.cost, c.loop-next.invariant.2);
+      steps = omega (arith, c.print_item.ensures.remaining, c.loop-next.invariant.3);
+      limit = omega (arith, c.print_item.ensures.limit, c.loop-next.invariant.6);
+      entry_room = omega (arith, c.print_item.ensures.entry_room, c.loop-next.invariant.7);
+      own = rw (p.1, p.2) c.in_err-print_item-in-Sub.ensures.own;
+      text_room = omega (arith, c.print_item.ensures.text_room, c.loop-next.invariant.8);
+      done = rw p.1 tt;
+      too_long = λ same. omega (arith, c.in_err-print_item-in-Sub.ensures.too_long (ap refused (is TooLong same)), c.loop-next.invariant.2, c.loop-next.invariant.6);
+      memory = λ same. elim (c.in_err-print_item-in-Sub.ensures.memory (ap refused (is Memory same))) [
+        | inl h ↦ inl (omega (arith, h, c.loop-next.invariant.6, c.loop-next.invariant.7))
+        | inr h ↦ inr (omega (arith, h, c.loop-next.invariant.6, c.loop-next.invariant.8))
+      ];
+    }
 
 pub note_whole-requires-clause-whole : goal.note_whole-requires-clause-whole
 note_whole-requires-clause-whole g c =
@@ -105,60 +132,19 @@ loop-next-preserved g c =
           c.len.result c.loop-next.invariant.9 (c.len.ensures ∙ c.loop-next.stack.ok.0) (c.is_whole.ensures.unmet c.if-is_whole.false)) c.loop-next.invariant.9,
     )
 
-pub returns-in_err-print_item-in-Sub-clause-paid : goal.returns-in_err-print_item-in-Sub-clause-paid
-returns-in_err-print_item-in-Sub-clause-paid g c = c.print_item.ensures.paid
-
-pub returns-in_err-print_item-in-Sub-clause-stack_paid : goal.returns-in_err-print_item-in-Sub-clause-stack_paid
-returns-in_err-print_item-in-Sub-clause-stack_paid g c = c.print_item.ensures.stack_paid
-
-pub returns-in_err-print_item-in-Sub-clause-may_come : goal.returns-in_err-print_item-in-Sub-clause-may_come
-returns-in_err-print_item-in-Sub-clause-may_come g c = c.print_item.ensures.may_come
-
-pub returns-in_err-print_item-in-Sub-clause-text : goal.returns-in_err-print_item-in-Sub-clause-text
-returns-in_err-print_item-in-Sub-clause-text g c = c.print_item.ensures.text ∙ c.loop-next.invariant.1
-
-pub returns-in_err-print_item-in-Sub-clause-cost : goal.returns-in_err-print_item-in-Sub-clause-cost
-returns-in_err-print_item-in-Sub-clause-cost g c = omega (arith, c.print_item.ensures.cost, c.loop-next.invariant.2)
-
-pub returns-in_err-print_item-in-Sub-clause-steps : goal.returns-in_err-print_item-in-Sub-clause-steps
-returns-in_err-print_item-in-Sub-clause-steps g c = omega (arith, c.print_item.ensures.remaining, c.loop-next.invariant.3)
-
-pub returns-in_err-print_item-in-Sub-clause-limit : goal.returns-in_err-print_item-in-Sub-clause-limit
-returns-in_err-print_item-in-Sub-clause-limit g c = omega (arith, c.print_item.ensures.limit, c.loop-next.invariant.6)
-
-pub returns-in_err-print_item-in-Sub-clause-entry_room : goal.returns-in_err-print_item-in-Sub-clause-entry_room
-returns-in_err-print_item-in-Sub-clause-entry_room g c = omega (arith, c.print_item.ensures.entry_room, c.loop-next.invariant.7)
-
-pub returns-in_err-print_item-in-Sub-clause-text_room : goal.returns-in_err-print_item-in-Sub-clause-text_room
-returns-in_err-print_item-in-Sub-clause-text_room g c = omega (arith, c.print_item.ensures.text_room, c.loop-next.invariant.8)
-
-pub returns-in_err-print_item-in-Sub-clause-own : goal.returns-in_err-print_item-in-Sub-clause-own
-returns-in_err-print_item-in-Sub-clause-own g c =
-    let p = err_from_is_err_and c.from_residual.result c.from_residual.ensures.1 in
-    rw (p.1, p.2) c.in_err-print_item-in-Sub.ensures.own
-
-pub returns-in_err-write_text-in_default-next-clause-paid : goal.returns-in_err-write_text-in_default-next-clause-paid
-returns-in_err-write_text-in_default-next-clause-paid g c = c.write_text.ensures.paid
-
-pub returns-in_err-write_text-in_default-next-clause-stack_paid : goal.returns-in_err-write_text-in_default-next-clause-stack_paid
-returns-in_err-write_text-in_default-next-clause-stack_paid g c = omega (arith, (ap (λ (m : Meter). m.spent) (c.in_err-write_text-in_default-next.ensures.err).1), c.loop-next.invariant.5)
-
-pub returns-in_err-write_text-in_default-next-clause-may_come : goal.returns-in_err-write_text-in_default-next-clause-may_come
-returns-in_err-write_text-in_default-next-clause-may_come g c = c.loop-next.invariant.0
-
-pub returns-in_err-write_text-in_default-next-clause-limit : goal.returns-in_err-write_text-in_default-next-clause-limit
-returns-in_err-write_text-in_default-next-clause-limit g c = omega (arith, c.write_text.ensures.limit, c.loop-next.invariant.6)
-
-pub returns-in_err-write_text-in_default-next-clause-entry_room : goal.returns-in_err-write_text-in_default-next-clause-entry_room
-returns-in_err-write_text-in_default-next-clause-entry_room g c = c.loop-next.invariant.7
-
-pub returns-in_err-write_text-in_default-next-clause-text_room : goal.returns-in_err-write_text-in_default-next-clause-text_room
-returns-in_err-write_text-in_default-next-clause-text_room g c = omega (arith, c.write_text.ensures.room, c.loop-next.invariant.8)
-
-pub returns-in_err-write_text-in_default-next-clause-own : goal.returns-in_err-write_text-in_default-next-clause-own
-returns-in_err-write_text-in_default-next-clause-own g c =
-    let p = err_from_is_err_and c.from_residual-in_err-write_text-in_default-next.result c.from_residual-in_err-write_text-in_default-next.ensures.1 in
-    rw (p.1, p.2) c.in_err-write_text-in_default-next.ensures.own
+pub loop-next-preserved-in-Continue-1 : goal.loop-next-preserved-in-Continue-1
+loop-next-preserved-in-Continue-1 g c = (
+  c.print_item.ensures.may_come,
+  c.print_item.ensures.text ∙ c.loop-next.invariant.1,
+  omega (arith, c.print_item.ensures.cost, c.loop-next.invariant.2),
+  omega (arith, c.print_item.ensures.remaining, c.loop-next.invariant.3),
+  c.print_item.ensures.paid,
+  c.print_item.ensures.stack_paid,
+  omega (arith, c.print_item.ensures.limit, c.loop-next.invariant.6),
+  omega (arith, c.print_item.ensures.entry_room, c.loop-next.invariant.7),
+  omega (arith, c.print_item.ensures.text_room, c.loop-next.invariant.8),
+  c.in_ok-print_item-in-Sub.ensures.noted,
+)
 
 pub returns-clause-paid : goal.returns-clause-paid
 returns-clause-paid g c = c.loop-next.invariant.4
@@ -189,17 +175,3 @@ returns-clause-text_room g c = c.loop-next.invariant.8
 
 pub returns-clause-own : goal.returns-clause-own
 returns-clause-own g c = tt
-
-pub loop-next-preserved-in-Continue-1 : goal.loop-next-preserved-in-Continue-1
-loop-next-preserved-in-Continue-1 g c = (
-  c.print_item.ensures.may_come,
-  c.print_item.ensures.text ∙ c.loop-next.invariant.1,
-  omega (arith, c.print_item.ensures.cost, c.loop-next.invariant.2),
-  omega (arith, c.print_item.ensures.remaining, c.loop-next.invariant.3),
-  c.print_item.ensures.paid,
-  c.print_item.ensures.stack_paid,
-  omega (arith, c.print_item.ensures.limit, c.loop-next.invariant.6),
-  omega (arith, c.print_item.ensures.entry_room, c.loop-next.invariant.7),
-  omega (arith, c.print_item.ensures.text_room, c.loop-next.invariant.8),
-  c.in_ok-print_item-in-Sub.ensures.noted,
-)

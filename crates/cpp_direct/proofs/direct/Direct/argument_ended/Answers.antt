@@ -20,7 +20,16 @@ next_argument-requires-clause-awaits g c =
     c.args.is_reference p
     (popped c.args.self.now.waiting.list.items c.pop-open.new.self.list.items (p.owner ∷ p.rest)
     (opens.Argument c.args.from c.args.number c.args.known) _ refl p.open_is c.pop-open.ensures.rest) refl refl refl refl c.end-to.ensures c.placed.ensures
-    c.with-more.ensures
+    c.with-more.ensures.more c.with-more.ensures.before
+
+pub next_pack-requires-clause-awaits : goal.next_pack-requires-clause-awaits
+next_pack-requires-clause-awaits g c =
+    let p = c.requires.read in
+    argument-awaits (symbol_by g.G.Grammar.IS_WIDE g.G.Grammar.IS_BARE g.G.Grammar.IS_BRIEF c.args.s.now) c.args.self.now _ false c.args.from c.end-to.result c.args.number c.placed.result c.args.known c.with-more.result
+    c.args.is_reference p
+    (popped c.args.self.now.waiting.list.items c.pop-open.new.self.list.items (p.owner ∷ p.rest)
+    (opens.Argument c.args.from c.args.number c.args.known) _ refl p.open_is c.pop-open.ensures.rest) refl refl refl refl c.end-to.ensures c.placed.ensures
+    c.with-more.ensures.more c.with-more.ensures.before
 
 pub close_list-requires-clause-ended : goal.close_list-requires-clause-ended
 close_list-requires-clause-ended g c =
@@ -30,4 +39,4 @@ close_list-requires-clause-ended g c =
     argument-closes s w _ c.args.from c.end-to.result c.args.number c.placed.result c.args.known c.with-more.result c.args.is_reference p
     (subst (λ b. StandsAt s.bytes w.at (b ∷ [])) c.if-byte-ne69.false (c.byte_at-byte.ensures (λ e. omega (arith, e, c.if-byte-ne69.false))))
     (popped w.waiting.list.items c.pop-open.new.self.list.items (p.owner ∷ p.rest) (opens.Argument c.args.from c.args.number c.args.known) _ refl
-    p.open_is c.pop-open.ensures.rest) refl refl refl c.in_ok-self.ensures.1 c.end-to.ensures c.placed.ensures c.with-more.ensures
+    p.open_is c.pop-open.ensures.rest) refl refl refl c.in_ok-self.ensures.1 c.end-to.ensures c.placed.ensures c.with-more.ensures.more

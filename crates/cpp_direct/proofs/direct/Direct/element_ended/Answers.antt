@@ -1,4 +1,4 @@
-use Rattle.std.proofs.Common.{refl, true, ap, ◌∙◌, ◌+◌, subst, arith, [], ◌∷◌}
+use Rattle.std.proofs.Common.{refl, true, ap, ◌∙◌, ◌+◌, ◌-◌, subst, arith, [], ◌∷◌}
 use Rattle.cpp_direct.specs.Symbol.{symbol_by}
 use Rattle.cpp_direct.specs.Holes.{StandsAt}
 use Rattle.cpp_direct.proofs.Arguments.{argument-awaits, argument-passes, pack-closes}
@@ -20,7 +20,7 @@ next_element-requires-clause-awaits g c =
     c.args.is_reference p
     (popped c.args.self.now.waiting.list.items c.pop-element.new.self.list.items (opens.Pack ∷ p.owner ∷ p.rest)
     (opens.Element c.args.from c.args.number c.args.known) _ refl p.open_is c.pop-element.ensures.rest) refl refl refl refl c.end-to.ensures c.placed.ensures
-    c.with-more.ensures
+    c.with-more.ensures.more c.with-more.ensures.before
 
 pub returns-then-byte_at-ne69 : goal.returns-then-byte_at-ne69
 returns-then-byte_at-ne69 g c =
@@ -43,5 +43,5 @@ close_list-requires-clause-ended g c =
     (popped w.waiting.list.items left (opens.Pack ∷ p.owner ∷ p.rest) (opens.Element c.args.from c.args.number c.args.known) _ refl p.open_is
     c.pop-element.ensures.rest)
     c.pop-pack.ensures.rest)
-    refl refl refl (c.in_ok-self.ensures.1 ∙ ap (λ n. n + 1) c.in_ok-behind.ensures.1) c.end-to.ensures c.placed.ensures c.with-more.ensures
-    c.in_ok-elements.ensures.1
+    refl refl refl (c.in_ok-self.ensures.1 ∙ ap (λ n. n + 1) c.in_ok-behind.ensures.1) c.end-to.ensures c.placed.ensures c.with-more.ensures.more
+    c.with-more.ensures.before (c.in_ok-elements.ensures.1 ∙ ap (λ n. n - c.with-more.result.before) c.in_ok-checked_add.ensures.1)

@@ -56,3 +56,11 @@ first_type-requires-clause-writing g c = elim c.if-not-is_first.branch [
 
 pub first_pack-requires-clause-writing : goal.first_pack-requires-clause-writing
 first_pack-requires-clause-writing g c = subst (λ f. IsWriting (symbol_by g.G.Grammar.IS_WIDE g.G.Grammar.IS_BARE g.G.Grammar.IS_BRIEF c.args.s.now) c.args.self.now (steps.List f)) c.if-is_first.true c.requires.writing
+
+pub first_literal-requires-clause-writing : goal.first_literal-requires-clause-writing
+first_literal-requires-clause-writing g c = elim c.if-not-is_first.branch [
+  | then-not-is_first+in_ok-push_pair w ↦ absurd (false≢true (sym w.if-not-is_first.true ∙ c.if-is_first-2.true))
+  | else-not-is_first w ↦
+      subst (λ d. IsWriting (symbol_by g.G.Grammar.IS_WIDE g.G.Grammar.IS_BARE g.G.Grammar.IS_BRIEF c.args.s.now) d (steps.List true)) (sym w.self-is)
+      (subst (λ f. IsWriting (symbol_by g.G.Grammar.IS_WIDE g.G.Grammar.IS_BARE g.G.Grammar.IS_BRIEF c.args.s.now) c.args.self.now (steps.List f)) c.if-is_first-2.true c.requires.writing)
+]

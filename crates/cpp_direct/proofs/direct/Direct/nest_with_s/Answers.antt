@@ -30,15 +30,15 @@ nest_in_std-requires-clause-awaits g c =
 pub repeat-requires-clause-from : goal.repeat-requires-clause-from
 repeat-requires-clause-from g c =
     let is = c.in_ok-candidate.ensures.is in
-    (candidate-inside (symbol_by g.G.Grammar.IS_WIDE g.G.Grammar.IS_BARE g.G.Grammar.IS_BRIEF c.args.s.now) c.args.self.now c.requires.awaits.state.candidates (counted_value Seq36 is.0) c.in_ok-candidate.candidate
-    c.requires.awaits.keeps c.in_ok-candidate.ensures.ordered is.2).0
+    (candidate-inside (symbol_by g.G.Grammar.IS_WIDE g.G.Grammar.IS_BARE g.G.Grammar.IS_BRIEF c.args.s.now) c.args.self.now (counted_value Seq36 is.0) c.in_ok-candidate.candidate
+    c.requires.awaits.kept c.in_ok-candidate.ensures.ordered is.2).0
 
 pub repeat-requires-clause-to : goal.repeat-requires-clause-to
 repeat-requires-clause-to g c =
     let is = c.in_ok-candidate.ensures.is in
     subst (λ l. c.in_ok-candidate.candidate.to ≤ length l) (sym (c.in_ok-candidate.ensures.same.text ∙ append-nil c.args.self.now.text.list.items))
-    (candidate-inside (symbol_by g.G.Grammar.IS_WIDE g.G.Grammar.IS_BARE g.G.Grammar.IS_BRIEF c.args.s.now) c.args.self.now c.requires.awaits.state.candidates (counted_value Seq36 is.0) c.in_ok-candidate.candidate
-    c.requires.awaits.keeps c.in_ok-candidate.ensures.ordered is.2).1
+    (candidate-inside (symbol_by g.G.Grammar.IS_WIDE g.G.Grammar.IS_BARE g.G.Grammar.IS_BRIEF c.args.s.now) c.args.self.now (counted_value Seq36 is.0) c.in_ok-candidate.candidate
+    c.requires.awaits.kept c.in_ok-candidate.ensures.ordered is.2).1
 
 pub nest_known-requires : goal.nest_known-requires
 nest_known-requires g c =

@@ -1,5 +1,7 @@
-use Rattle.std.proofs.Common.{◌∷◌, [], arith}
+use Rattle.std.proofs.Common.{◌∷◌, [], arith, subst, if◌then◌else◌}
 use Rattle.cpp_direct.specs.Symbol.{symbol_by}
+use Rattle.cpp_direct.specs.WriterInvariant.{IsWriting}
+use Rattle.cpp_direct.specs.declared.open.Step.TheVariants as steps
 use Rattle.cpp_direct.proofs.Moves.{stands-join}
 use Rattle.cpp_direct.proofs.TypesRead.{awaits-type, names-awaited, there, lvalue-opened, const-opened}
 use Rattle.cpp_direct.proofs.direct.Direct.type_at.Goals as goal
@@ -45,3 +47,15 @@ template_parameter-requires-clause-awaits g c = awaits-type (symbol_by g.G.Gramm
 
 pub pointer_at-requires-clause-awaits : goal.pointer_at-requires-clause-awaits
 pointer_at-requires-clause-awaits g c = awaits-type (symbol_by g.G.Grammar.IS_WIDE g.G.Grammar.IS_BARE g.G.Grammar.IS_BRIEF c.args.s.now) c.args.self.now c.args.is_plain c.requires.writing
+
+pub begin_function-requires-clause-writing : goal.begin_function-requires-clause-writing
+begin_function-requires-clause-writing g c =
+    subst (λ p. IsWriting (symbol_by g.G.Grammar.IS_WIDE g.G.Grammar.IS_BARE g.G.Grammar.IS_BRIEF c.args.s.now) c.args.self.now (if p then steps.Plain else steps.Type)) c.if-is_plain.false c.requires.writing
+
+pub begin_array-requires-clause-writing : goal.begin_array-requires-clause-writing
+begin_array-requires-clause-writing g c =
+    subst (λ p. IsWriting (symbol_by g.G.Grammar.IS_WIDE g.G.Grammar.IS_BARE g.G.Grammar.IS_BRIEF c.args.s.now) c.args.self.now (if p then steps.Plain else steps.Type)) c.if-not-is_plain.true c.requires.writing
+
+pub begin_array-requires-in-65-clause-writing : goal.begin_array-requires-in-65-clause-writing
+begin_array-requires-in-65-clause-writing g c =
+    subst (λ p. IsWriting (symbol_by g.G.Grammar.IS_WIDE g.G.Grammar.IS_BARE g.G.Grammar.IS_BRIEF c.args.s.now) c.args.self.now (if p then steps.Plain else steps.Type)) c.if-is_plain-2.false c.requires.writing

@@ -38,7 +38,7 @@ dependent_again-requires-clause-again g c =
 pub repeat-requires-clause-from : goal.repeat-requires-clause-from
 repeat-requires-clause-from g c =
     let got = c.in_ok-candidate.ensures.is in
-    (candidate-inside (symbol_by g.G.Grammar.IS_WIDE g.G.Grammar.IS_BARE g.G.Grammar.IS_BRIEF c.args.s.now) c.args.self.now c.requires.awaits.state.candidates _ c.in_ok-candidate.candidate c.requires.awaits.keeps
+    (candidate-inside (symbol_by g.G.Grammar.IS_WIDE g.G.Grammar.IS_BARE g.G.Grammar.IS_BRIEF c.args.s.now) c.args.self.now _ c.in_ok-candidate.candidate c.requires.awaits.kept
     c.in_ok-candidate.ensures.ordered got.2).0
 
 pub repeat-requires-clause-to : goal.repeat-requires-clause-to
@@ -47,7 +47,7 @@ repeat-requires-clause-to g c =
     let same = c.in_ok-candidate.ensures.same in
     omega (
       arith,
-      (candidate-inside (symbol_by g.G.Grammar.IS_WIDE g.G.Grammar.IS_BARE g.G.Grammar.IS_BRIEF c.args.s.now) c.args.self.now c.requires.awaits.state.candidates _ c.in_ok-candidate.candidate c.requires.awaits.keeps
+      (candidate-inside (symbol_by g.G.Grammar.IS_WIDE g.G.Grammar.IS_BARE g.G.Grammar.IS_BRIEF c.args.s.now) c.args.self.now _ c.in_ok-candidate.candidate c.requires.awaits.kept
           c.in_ok-candidate.ensures.ordered got.2).1,
       ap length (same.text ∙ append-nil c.args.self.now.text.list.items),
     )

@@ -1,9 +1,9 @@
-use Rattle.cpp_term.specs.Parts.{operand_parts}
+use Rattle.std.proofs.Common.{ap, ◌∙◌}
+use Rattle.cpp_term.specs.Parts.{operand_parts, precedence_of}
+use Rattle.cpp_layout.proofs.Growing.{fills}
+use Rattle.cpp_layout.proofs.Operating.{enclosed-by}
+use Rattle.cpp_layout.specs.Layout.{context_of, tree_shown}
 use Rattle.cpp_layout.proofs.symbol.Symbol.fill_operand.Goals as goal
-
-pub returns-in-NotPrinted-clause-shows : goal.returns-in-NotPrinted-clause-shows
-unfolding operand_parts
-returns-in-NotPrinted-clause-shows g c below others shows = rw c.in-NotPrinted.is shows
 
 pub returns-in-AsItIs-clause-shows : goal.returns-in-AsItIs-clause-shows
 unfolding operand_parts
@@ -18,5 +18,6 @@ unfolding operand_parts
 returns-in-AsList-clause-shows g c below others shows = rw c.in-AsList.is (c.push_list.ensures.shows below others shows)
 
 pub returns-in-From-clause-shows : goal.returns-in-From-clause-shows
-unfolding operand_parts
-returns-in-From-clause-shows g c below others shows = rw c.in-From.is (c.fill_from.ensures.shows below others shows)
+returns-in-From-clause-shows g c below others shows =
+    rw c.in-From.is (fills c.args.self.now c.args.ctx.detail _ _ _ (c.push_text_if-in-From.ensures.shows _ below _ (c.push_item-in-From.ensures.shows below _ (c.push_text_if.ensures.shows _ below others shows)))
+    (enclosed-by (context_of c.args.ctx) c.in-From.least c.precedence.result (tree_shown c.args.self.now c.args.ctx c.args.node) others (c.precedence.ensures ∙ ap precedence_of c.place-place.ensures.tree)))

@@ -2,11 +2,14 @@ use Rattle.std.proofs.Common.{◌≡◌, refl, ◌∙◌, ap, arith, ◌-◌, Li
 use Rattle.sym_link.proofs.Lists.{rest_all}
 use Rattle.cpp_grammar.specs.Unfolding.{production_at}
 use Rattle.cpp_link.specs.declared.part.Part.{Part}
+use Rattle.cpp_term.specs.Between.{between}
+use Rattle.cpp_link.specs.LinkReading.{linked}
 use Rattle.cpp_link.specs.Stepping.{nodes_of_step}
 use Rattle.cpp_link.specs.View.{cpp_view}
 use Rattle.cpp_link.proofs.NodeCount.{made_before_part}
-use Rattle.cpp_link.proofs.GoingOn.{goes_right, refused_right, refused_few, step_of_rule, refused_advances, lacking_advances, taken_advances}
+use Rattle.cpp_link.proofs.GoingOn.{plain_reads, goes_right, refused_right, refused_few, step_of_rule, refused_advances, lacking_advances, taken_advances}
 use Rattle.cpp_link.proofs.Rooms.{same_room}
+use Rattle.cpp_link.proofs.Scopes.{between_closed}
 use Rattle.cpp_link.proofs.Viewing.{open_there, kept_closed}
 use Rattle.cpp_link.proofs.linked.Linked.before_as.Goals as goal
 
@@ -24,7 +27,7 @@ returns-in_err-step c =
     let parts = c.args.parts.now.items in
     let e = c.in_err-step.field-0.0 in
     refused_advances (cpp_view s) s old old frame c.args.parts.now c.args.parts.now (same_room old old refl refl) (omega arith) c.from_residual.result e c.from_residual.ensures.1
-    (refused_right s old old frame parts parts _ c.args.production e (rw c.deref.ensures.value (rest_all parts frame.base)) c.requires.numbered c.in_err-step.ensures.refused)
+    (refused_right (linked s) between (plain_reads s) s old frame parts _ c.args.production (rw c.deref.ensures.value (rest_all parts frame.base)) c.requires.numbered old parts e c.in_err-step.ensures.refused)
     (omega arith) (λ memory. absurd (c.in_err-step.ensures.bad memory))
 
 pub take_step-requires-clause-there : goal.take_step-requires-clause-there
@@ -61,7 +64,8 @@ returns c =
     let own : List Part = take (length c.deref.result.now - frame.base) (drop frame.base c.deref.result.now) in
     let same : own ≡ drop frame.base parts = rest_all c.deref.result.now frame.base ∙ ap (λ ps. drop frame.base ps) c.deref.ensures.value in
     let of = step_of_rule frame parts c.deref.result.now c.args.production c.in_ok-step.step c.deref.ensures.value c.requires.numbered c.in_ok-step.ensures.of in
-    taken_advances (cpp_view s) s old new frame c.args.parts.now c.take_step.new.parts c.take_step.ensures.keeps c.take_step.ensures.capacity c.in_ok-step.step c.in_ok-then.then of c.requires.room.paid c.in_ok-then.ensures.takes
+    taken_advances (cpp_view s) s old new new.candidates frame c.args.parts.now c.take_step.new.parts c.take_step.ensures.keeps c.take_step.ensures.capacity c.in_ok-step.step c.in_ok-then.then of c.requires.room.paid c.in_ok-then.ensures.takes
     (c.in_ok-then.ensures.few (production_at frame.rule) of (λ is none. c.in_ok-step.ensures.pack (c.requires.numbered ∙ is) (same ∙ none))) c.in_ok-then.ensures.more
     (made_before_part s old frame parts own c.args.production (nodes_of_step c.in_ok-step.step) same c.requires.numbered c.in_ok-step.ensures.makes)
-    (goes_right s old new frame parts c.take_step.new.parts.items own c.args.production c.in_ok-step.step c.in_ok-then.then same c.requires.numbered c.in_ok-step.ensures.is c.in_ok-then.ensures.takes)
+    (goes_right (linked s) between (plain_reads s) s old frame parts own c.args.production same c.requires.numbered new new.candidates c.take_step.new.parts.items c.in_ok-step.step c.in_ok-then.then (λ g. g)
+    (between_closed c.args.production _ _ _ _) c.in_ok-step.ensures.is c.in_ok-then.ensures.takes c.in_ok-then.ensures.takes.candidates refl)

@@ -4,7 +4,7 @@ use Rattle.cpp_term.specs.Rescoping.{counted_base}
 use Rattle.cpp_term.specs.Values.{State}
 use Rattle.cpp_link.specs.Making.{state_of}
 use Rattle.cpp_link.specs.Parts.{trees_in, values_in, packs_of, around_of}
-use Rattle.cpp_link.proofs.Inherited.{counted_after, nothing_behind}
+use Rattle.cpp_link.proofs.Inherited.{counted_after, counted_twice, nothing_behind}
 use Rattle.cpp_link.proofs.linked.Linked.close_inheriting.Goals as goal
 
 pub returns-clause-state : goal.returns-clause-state
@@ -16,6 +16,7 @@ returns-clause-state c =
     let known = values_in s old.nodes c.args.parts.now in
     let began : State = record { candidates = []; packs = packs_of c.args.kept } in
     ap (λ v. counted_base around v (state_of s old)) (sym c.given.ensures.is) ∙ c.base_to_count-base.ensures.is around (state_of s old)
-    ∙ counted_after s old.nodes mid.nodes c.args.kept c.base_to_count-base.result (state_of s old) (state_of s mid) c.in_ok-made.ensures.grows.stays c.requires.kept c.base_to_count-base.ensures.there
+    ∙ counted_after s old.nodes mid.nodes c.args.kept c.base_to_count-base.result (state_of s old) (state_of s mid) c.in_ok-made.ensures.made.grows.stays c.requires.kept c.base_to_count-base.ensures.there
     (sym (nothing_behind (slice_index s c.args.place) around began known (state_of s old)) ∙ c.in_ok-made.ensures.state began refl)
-    ∙ c.in_ok-count_base.ensures.is s
+    ∙ counted_twice s mid.nodes c.append.new.self.nodes c.append-2.new.self.nodes mid.packs c.append.new.self.packs c.append-2.new.self.packs mid.candidates.items c.append.new.self.candidates.items c.append-2.new.self.candidates.items
+    c.args.kept c.base_to_count-base.result c.append.ensures.nodes c.append-2.ensures.nodes c.append.ensures.packs c.append-2.ensures.packs c.in_ok-append.ensures.is c.in_ok-append-2.ensures.is

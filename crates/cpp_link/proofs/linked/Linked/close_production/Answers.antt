@@ -1,4 +1,4 @@
-use Rattle.std.proofs.Common.{◌∙◌, subst}
+use Rattle.std.proofs.Common.{◌∙◌, subst, rules}
 use Rattle.std.specs.Prelude.{slice_index}
 use Rattle.cpp_link.specs.Making.{IsCommon, state_of}
 use Rattle.cpp_link.specs.Parts.{trees_in, value_in, values_in, packs_of, around_of}
@@ -32,9 +32,14 @@ returns-in_default-clause-is c =
     other_closes s c.args.production (slice_index s c.args.place) (around_of (trees_in s c.args.self.now.nodes) c.args.kept) c.args.place (values_in s c.args.self.now.nodes c.args.parts.now)
     (state_of s c.args.self.now) (state_of s c.add_node_and_candidate.new.self) (packs_of c.args.kept) (value_in s c.add_node_and_candidate.new.self.nodes) c.add_node_and_candidate.result c.in_default.not-Substitution (λ is. subst (λ p. IsCommon p) is c.requires.common tt) c.add_node_and_candidate.ensures.value c.add_node_and_candidate.ensures.state
 
-pub returns-in-Substitution-clause-makes : goal.returns-in-Substitution-clause-makes
-returns-in-Substitution-clause-makes c =
-    none_substituted c.args.self.now c.substitute.new.self c.substitute.result c.args.production (values_in c.args.symbol.now c.args.self.now.nodes c.args.parts.now) c.in-Substitution.is c.substitute.ensures.nodes
-
-pub returns-in-Substitution-clause-keeps : goal.returns-in-Substitution-clause-keeps
-returns-in-Substitution-clause-keeps c = same_room c.args.self.now c.substitute.new.self c.substitute.ensures.nodes c.substitute.ensures.candidates
+pub returns-in-Substitution-clause-made : goal.returns-in-Substitution-clause-made
+returns-in-Substitution-clause-made c = record {
+  there = search rules;
+  grows = search rules;
+  few = search rules;
+  makes = none_substituted c.args.self.now c.substitute.new.self c.substitute.result c.args.production (values_in c.args.symbol.now c.args.self.now.nodes c.args.parts.now) c.in-Substitution.is c.substitute.ensures.nodes;
+  paid = search rules;
+  whole = search rules;
+  keeps = same_room c.args.self.now c.substitute.new.self c.substitute.ensures.nodes c.substitute.ensures.candidates;
+  full = search rules;
+}

@@ -8,7 +8,7 @@ pub returns-clause-tree : goal.returns-clause-tree
 unfolding tree_of
 returns-clause-tree c =
     c.in_ok-number.ensures.tree
-    ∙ both (λ t u. term.list t u) (c.in_ok-first.ensures.tree ∙ c.in_parentheses.ensures.is _ _ _ c.requires.place.table.no_tree) (c.in_ok-first.ensures.grows.stays c.args.rest c.requires.rest)
+    ∙ both (λ t u. term.list t u) (c.in_ok-first.ensures.tree ∙ c.in_parentheses.ensures.is _ _ _ c.requires.place.table.no_tree) (c.in_ok-first.ensures.adds.grows.stays c.args.rest c.requires.rest)
 
 pub add-requires-clause-below : goal.add-requires-clause-below
 add-requires-clause-below c = c.in_parentheses.ensures.there _ _ _ (omega (arith, c.requires.place.table.fixed)) c.requires.first

@@ -1,13 +1,11 @@
-use Rattle.std.proofs.Common.{sym, inl, arith}
-use Rattle.sym_link.proofs.Lists.{rest_all}
+use Rattle.std.proofs.Common.{sym, arith}
 use Rattle.cpp_grammar.specs.declared.production.Production.{Production}
+use Rattle.cpp_term.specs.Rescoping.{close_wide}
 use Rattle.cpp_link.specs.Closes.{ends_of}
-use Rattle.cpp_link.specs.LinkRescoping.{substituted_nodes, named_by, wide_view}
-use Rattle.cpp_link.specs.Making.{state_of}
+use Rattle.cpp_link.specs.LinkRescoping.{link_close_wide, linked_wide, wide_at_end, wide_ends}
 use Rattle.cpp_link.specs.Owed.{made_at_end}
-use Rattle.cpp_link.specs.Parts.{trees_in, around_of}
 use Rattle.cpp_link.proofs.Finishing.{refused_finishes, put_finishes}
-use Rattle.cpp_link.proofs.Rescoped.{wide_put_right, wide_closing_refused}
+use Rattle.cpp_link.proofs.Rescoped.{wide_closing, wide_byte_serves}
 use Rattle.cpp_link.proofs.Viewing.{kept_closed}
 use Rattle.cpp_link.proofs.linked.Linked.finish_substitution.Goals as goal
 
@@ -15,34 +13,20 @@ pub substitute_counted-requires-clause-closed : goal.substitute_counted-requires
 substitute_counted-requires-clause-closed c = kept_closed c.args.symbol.now c.args.self.now c.args.frame.now.kept _ c.requires.open.at.kept.surrounds
 
 pub returns-in_err-made : goal.returns-in_err-made
-unfolding ends_of made_at_end
+unfolding ends_of made_at_end link_close_wide close_wide wide_at_end
 returns-in_err-made c =
     let s = c.args.symbol.now in
     let old = c.args.self.now in
-    let new = c.substitute_counted.new.self in
-    let frame = c.args.frame.now in
-    let parts = c.args.parts.now.items in
-    let e = c.in_err-made.field-0.0 in
-    let had = refused_finishes (wide_view s) (λ p known. substituted_nodes (around_of (trees_in s old.nodes) frame.kept) (named_by (state_of s old) known)) s old new frame
-    c.args.parts.now c.args.parts.now c.deref.result.now Production.Substitution
-    c.deref.ensures.value (sym c.requires.substitution) c.requires.room.paid.begun c.in_err-made.ensures.few c.substitute_counted.ensures.keeps (omega arith) c.from_residual.result e c.from_residual.ensures.1
-    (wide_closing_refused s old new frame parts parts _ e (rw c.deref.ensures.value (rest_all c.args.parts.now.items c.args.frame.now.base)) c.requires.substitution c.in_err-made.ensures.refused)
-    (λ memory. inl (c.in_err-made.ensures.full memory)) in
-    record { closes = had.closes; adds = had.adds; few = had.few; makes = had.makes; pays = had.pays; roomy = had.roomy }
+    refused_finishes (linked_wide s) (wide_closing s) s (wide_byte_serves s) (wide_ends s old c.args.frame.now.kept) old c.substitute_counted.new.self c.args.frame.now c.args.parts.now c.args.parts.now c.deref.result.now Production.Substitution c.deref.ensures.value (sym c.requires.substitution) c.requires.room.paid.begun (omega arith)
+    _ c.in_err-made.ensures.made c.from_residual.result c.from_residual.ensures.1 (λ began. c.in_err-made.ensures.refused)
 
 pub returns : goal.returns
-unfolding ends_of made_at_end
+unfolding ends_of made_at_end link_close_wide close_wide wide_at_end
 returns c =
     let s = c.args.symbol.now in
     let old = c.args.self.now in
-    let new = c.substitute_counted.new.self in
     let frame = c.args.frame.now in
-    let parts = c.args.parts.now.items in
-    let had = put_finishes (wide_view s) (λ p known. substituted_nodes (around_of (trees_in s old.nodes) frame.kept) (named_by (state_of s old) known)) s old new frame
-    c.args.parts.now c.put.new.parts c.deref.result.now Production.Substitution
-    c.deref.ensures.value (sym c.requires.substitution) c.requires.room.paid.begun c.in_ok-made.ensures.few c.substitute_counted.ensures.keeps c.put.ensures.keeps
-    c.put.result c.in_ok-made.made c.put.ensures.items c.put.ensures.memory c.put.ensures.rest c.put.ensures.full
-    (λ done items. wide_put_right s old new frame parts c.put.new.parts.items _ c.in_ok-made.made done (rw c.deref.ensures.value (rest_all c.args.parts.now.items c.args.frame.now.base)) c.requires.substitution
-    c.in_ok-made.ensures.is c.in_ok-made.ensures.there c.in_ok-made.ensures.whole items)
-    c.in_ok-made.ensures.grows c.in_ok-made.ensures.makes c.in_ok-made.ensures.paid in
-    record { closes = had.closes; adds = had.adds; few = had.few; makes = had.makes; pays = had.pays; roomy = had.roomy }
+    put_finishes (linked_wide s) (wide_closing s) s (wide_byte_serves s) (wide_ends s old frame.kept) old c.substitute_counted.new.self frame c.args.parts.now c.put.new.parts c.deref.result.now Production.Substitution c.deref.ensures.value (sym c.requires.substitution) c.requires.room.paid.begun c.put.ensures.keeps
+    _ c.in_ok-made.ensures.made c.in_ok-made.made c.in_ok-made.ensures.made.there
+    (λ began same. c.in_ok-made.ensures.is)
+    c.put.result c.put.ensures.items c.put.ensures.memory c.put.ensures.rest c.put.ensures.full

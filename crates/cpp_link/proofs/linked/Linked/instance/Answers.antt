@@ -8,4 +8,4 @@ pub returns-clause-tree : goal.returns-clause-tree
 unfolding tree_of
 returns-clause-tree c =
     c.in_ok-number.ensures.tree
-    ∙ both (λ t u. term.instance t u) c.in_ok-template.ensures.tree (c.in_ok-template.ensures.grows.stays c.args.arguments c.requires.arguments)
+    ∙ both (λ t u. term.instance t u) c.in_ok-template.ensures.tree (c.in_ok-template.ensures.adds.grows.stays c.args.arguments c.requires.arguments)

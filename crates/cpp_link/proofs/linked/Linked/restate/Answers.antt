@@ -1,4 +1,4 @@
-use Rattle.std.proofs.Common.{sym, ◌∙◌, ap, subst, length, true, Ok}
+use Rattle.std.proofs.Common.{sym, ◌∙◌, ap, subst, length, true, Ok, rules}
 use Rattle.sym_link.specs.Unfold.{found}
 use Rattle.cpp_term.specs.Values.{State, Around, tree}
 use Rattle.cpp_term.specs.Rescoping.{restated}
@@ -20,16 +20,25 @@ returns-in_ok-node-in-Ok-clause-is c =
     let ts = trees_in s old.nodes in
     let t = tree_at ts c.args.node in
     let cs = candidates_of ts old.candidates.items in
-    let kept = kept_state s old new c.in-Ok.packs c.in_ok-node-in-Ok.ensures.grows.stays c.requires.whole.there c.add.ensures.candidates in
+    let kept = kept_state s old new c.in-Ok.packs c.in_ok-node-in-Ok.ensures.adds.grows.stays c.requires.whole.there c.add.ensures.adds.candidates in
     c.in-Ok.ensures.is cs
     ∙ ap (λ x. Ok (found (tree x true) (record { candidates = cs; packs = c.in-Ok.packs }))) (sym c.in_ok-node-in-Ok.ensures.tree)
     ∙ ap (λ (x : State). Ok (found (tree (tree_at (trees_in s new.nodes) c.in_ok-node-in-Ok.node) true) x)) kept
 
-pub returns-in_ok-node-in-Ok-clause-whole : goal.returns-in_ok-node-in-Ok-clause-whole
-returns-in_ok-node-in-Ok-clause-whole c = record {
-  table = c.in_ok-node-in-Ok.ensures.grows.table;
-  there = subst (λ v. AreCandidatesThere (length c.add.new.self.nodes.nodes) v.items) (sym c.add.ensures.candidates)
-      (candidates_more _ _ c.args.self.now.candidates.items c.in_ok-node-in-Ok.ensures.grows.least c.requires.whole.there);
+pub returns-in_ok-node-in-Ok-clause-made : goal.returns-in_ok-node-in-Ok-clause-made
+returns-in_ok-node-in-Ok-clause-made c = record {
+  there = search rules;
+  grows = search rules;
+  few = search rules;
+  makes = search rules;
+  paid = search rules;
+  whole = record {
+    table = c.in_ok-node-in-Ok.ensures.adds.grows.table;
+    there = subst (λ v. AreCandidatesThere (length c.add.new.self.nodes.nodes) v.items) (sym c.add.ensures.adds.candidates)
+        (candidates_more _ _ c.args.self.now.candidates.items c.in_ok-node-in-Ok.ensures.adds.grows.least c.requires.whole.there);
+  };
+  keeps = search rules;
+  full = search rules;
 }
 
 pub returns-in-Err-clause-refused : goal.returns-in-Err-clause-refused

@@ -28,14 +28,7 @@ returns-then-is_counted_alike c =
     record {
       is = subst (λ x. IfOk c.substitute_rescoped.result (λ made. x ≡ Ok (found (value_in s c.substitute_rescoped.new.self.nodes made) (state_of s c.substitute_rescoped.new.self)))) same had.is;
       refused = subst (λ x. IfErr c.substitute_rescoped.result (λ e. Fails e x)) same had.refused;
-      there = had.there;
-      grows = had.grows;
-      few = had.few;
-      makes = had.makes;
-      paid = had.paid;
-      whole = had.whole;
-      keeps = had.keeps;
-      full = had.full;
+      made = had.made;
     }
 
 pub returns-clause-refused : goal.returns-clause-refused

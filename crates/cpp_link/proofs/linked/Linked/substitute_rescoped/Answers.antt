@@ -1,5 +1,5 @@
-use Rattle.std.proofs.Common.{◌≡◌, sym, ◌∙◌, ap, subst, arith, ◌+◌, ◌-◌, length, Some, Ok, Err}
-use Rattle.std.specs.Prelude.{slice_get, IfOk, IfErr, OnOk}
+use Rattle.std.proofs.Common.{◌≡◌, sym, ◌∙◌, ap, subst, arith, rules, ◌-◌, Some, Ok, Err}
+use Rattle.std.specs.Prelude.{slice_get, IfOk, IfErr}
 use Rattle.sym_core.specs.Value.{counted_value}
 use Rattle.sym_core.specs.declared.NumberKind.TheVariants.{Seq36}
 use Rattle.sym_core.specs.declared.refusal.Refusal.TheVariants.{BadReference}
@@ -10,6 +10,7 @@ use Rattle.cpp_term.specs.Rescoping.{restated, substituted_wide}
 use Rattle.cpp_tree.specs.Nodes.{tree_at}
 use Rattle.cpp_link.specs.LinkRescoping.{named_by, substituted_nodes}
 use Rattle.cpp_link.specs.Making.{state_of}
+use Rattle.cpp_link.specs.Progress.{MakesPart}
 use Rattle.cpp_link.specs.Parts.{trees_in, value_in, value_of, values_in, around_of, candidate_of, candidates_of}
 use Rattle.cpp_link.specs.Reads.{maybe_candidate, node_read}
 use Rattle.cpp_references.proofs.Named.{fails_is}
@@ -45,14 +46,7 @@ returns-then-is_foreign c =
     record {
       is = subst (λ x. IfOk c.restate.result (λ made. x ≡ Ok (found (value_in s c.restate.new.self.nodes made) (state_of s c.restate.new.self)))) (sym same) had.is;
       refused = subst (λ x. IfErr c.restate.result (λ e. Fails e x)) (sym same) had.refused;
-      there = had.there;
-      grows = had.grows;
-      few = had.few;
-      makes = subst (λ n. OnOk c.restate.result (length c.restate.new.self.nodes.nodes ≡ length c.args.self.now.nodes.nodes + n)) (sym counted) had.makes;
-      paid = had.paid;
-      whole = had.whole;
-      keeps = had.keeps;
-      full = had.full;
+      made = subst (λ n. MakesPart s c.args.self.now c.restate.new.self 2 n c.restate.result) (sym counted) had.made;
     }
 
 pub returns-in-Ok-clause-is : goal.returns-in-Ok-clause-is
@@ -69,19 +63,26 @@ returns-in-Ok-clause-is c =
     ∙ named_here around _ (candidate_of ts c.in-Some.candidate) st (sym c.is_foreign.ensures ∙ c.if-is_foreign.false)
     ∙ c.in-Ok.ensures.is cs
 
-pub returns-in-Ok-clause-makes : goal.returns-in-Ok-clause-makes
+pub returns-in-Ok-clause-made : goal.returns-in-Ok-clause-made
 unfolding maybe_candidate
-returns-in-Ok-clause-makes c =
+returns-in-Ok-clause-made c =
     let s = c.args.symbol.now in
     let ts = trees_in s c.args.self.now.nodes in
     let around : Around = around_of ts c.args.kept in
     let cs = candidates_of ts c.args.self.now.candidates.items in
     let named = sym (c.candidate.ensures.is ∙ ap (λ bytes. slice_get cs (counted_value Seq36 bytes)) c.text.ensures.is) ∙ ap (λ o. maybe_candidate ts o) c.in-Some.is in
-    omega (
-      arith,
-      ap (λ o. substituted_nodes around o) named
-          ∙ no_nodes around (c.args.place - 1) (candidate_of ts c.in-Some.candidate) (state_of s c.args.self.now) (sym c.is_foreign.ensures ∙ c.if-is_foreign.false),
-    )
+    let none = ap (λ o. substituted_nodes around o) named
+    ∙ no_nodes around (c.args.place - 1) (candidate_of ts c.in-Some.candidate) (state_of s c.args.self.now) (sym c.is_foreign.ensures ∙ c.if-is_foreign.false) in
+    record {
+      there = search rules;
+      grows = search rules;
+      few = search rules;
+      makes = omega (arith, none);
+      paid = search rules;
+      whole = search rules;
+      keeps = search rules;
+      full = search rules;
+    }
 
 pub returns-in-Err-clause-refused : goal.returns-in-Err-clause-refused
 unfolding maybe_candidate node_read

@@ -1,28 +1,20 @@
 use Rattle.std.proofs.Common.{◌∙◌, ap, subst, rules, ℕ, ◌-◌, ◌<◌}
-use Rattle.sym_link.specs.Tally.{tallied_view}
-use Rattle.sym_link.proofs.Tally.{between_tallied}
-use Rattle.cpp_link.specs.declared.rescoping.Rescoping.{Rescoping}
 use Rattle.cpp_link.specs.Tables.{quiet_parts}
-use Rattle.cpp_link.specs.View.{Surrounds}
-use Rattle.cpp_link.specs.LinkRescoping.{wide_view, wide_makes}
 use Rattle.cpp_link.specs.Parts.{is_lambda}
 use Rattle.cpp_grammar.specs.Unfolding.{production_at}
-use Rattle.cpp_link.proofs.Quiet.{quiet_generic, quiet_holder, quiet_base}
-use Rattle.cpp_link.proofs.Rescoped.{apart_goes, wide_before_read}
-use Rattle.cpp_link.proofs.Within.{goes_within}
+use Rattle.cpp_link.proofs.Quiet.{quiet_apart}
+use Rattle.cpp_link.proofs.Rescoped.{apart_goes, goes_counted}
 use Rattle.cpp_link.proofs.wide_language.RescopingThreading.between.Goals as goal
 
 pub returns-then-len-frame-clause-goes : goal.returns-then-len-frame-clause-goes
 returns-then-len-frame-clause-goes c =
     let s = c.args.symbol.now in
     let old = c.args.self.now in
-    let new : Rescoping = record { linked = c.before_part.new.self } in
+    let new = c.before_part.new.self in
     let frame = c.args.frame.now in
     let held : ℕ = c.len.result - frame.base in
     let lt : held < c.quiet_parts.result = search rules in
     let before : held < quiet_parts (production_at frame.rule) = subst (λ n. held < n) c.quiet_parts.ensures lt in
-    goes_within (tallied_view (wide_view s) wide_makes) s old new (Surrounds s) frame c.args.parts.now.items c.before_part.new.parts.items c.before_part.result
-    (between_tallied (wide_view s) wide_makes s (Surrounds s) old.linked new.linked frame c.args.parts.now.items c.before_part.new.parts.items c.before_part.result
-    (wide_before_read s old.linked new.linked frame c.args.parts.now.items c.before_part.result c.requires.room.paid.begun c.before_part.ensures.makes)
-    (apart_goes s old.linked new.linked frame c.args.parts.now.items c.before_part.new.parts.items held c.before_part.result (ap (λ n. n - frame.base) (c.len.ensures ∙ c.args.parts.now.ok.0))
-    (quiet_generic (production_at frame.rule) (is_lambda frame.kept.scope) held before) (quiet_holder (production_at frame.rule) held before) (quiet_base (production_at frame.rule) held before) c.before_part.ensures.goes))
+    goes_counted s old new frame c.args.parts.now.items c.before_part.new.parts.items c.before_part.result c.requires.room.paid.begun c.before_part.ensures.makes
+    (apart_goes s old.linked new frame c.args.parts.now.items c.before_part.new.parts.items held c.before_part.result (ap (λ n. n - frame.base) (c.len.ensures ∙ c.args.parts.now.ok.0))
+    (quiet_apart (production_at frame.rule) (is_lambda frame.kept.scope) held before) c.before_part.ensures.goes)

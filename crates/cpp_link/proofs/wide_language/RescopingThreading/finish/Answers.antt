@@ -1,6 +1,9 @@
-use Rattle.std.proofs.Common.{◌≡◌, sym, ◌∙◌}
-use Rattle.cpp_grammar.specs.declared.production.Production.{Production}
-use Rattle.cpp_link.proofs.Rescoped.{apart_closes, closes_counted, apart_counted, substitution_end_read}
+use Rattle.std.proofs.Common.{sym, ◌∙◌, subst, ◌≡◌, ◌+◌, drop, length}
+use Rattle.std.specs.Prelude.{OnOk}
+use Rattle.cpp_grammar.specs.Unfolding.{production_at}
+use Rattle.cpp_link.specs.Making.{state_of}
+use Rattle.cpp_link.specs.Parts.{trees_in, values_in, around_of}
+use Rattle.cpp_link.proofs.Rescoped.{apart_closes, closes_counted, apart_end}
 use Rattle.cpp_link.proofs.wide_language.RescopingThreading.finish.Goals as goal
 
 pub finish_substitution-requires-clause-substitution : goal.finish_substitution-requires-clause-substitution
@@ -8,29 +11,24 @@ finish_substitution-requires-clause-substitution c = sym c.production_of-product
 
 pub returns-in-Substitution-clause-closes : goal.returns-in-Substitution-clause-closes
 returns-in-Substitution-clause-closes c =
-    let s = c.args.symbol.now in
-    let new = c.finish_substitution.new.self in
-    let frame = c.args.frame.now in
-    let parts = c.args.parts.now.items in
-    closes_counted s c.args.self.now new frame parts c.finish_substitution.new.parts.items c.finish_substitution.result
-    (substitution_end_read s c.args.self.now.linked new frame parts c.finish_substitution.result c.requires.room.paid.begun (sym c.production_of-production.ensures ∙ c.in-Substitution.is) c.finish_substitution.ensures.makes)
-    c.finish_substitution.ensures.closes
+    closes_counted c.args.symbol.now c.args.self.now c.finish_substitution.new.self c.args.frame.now c.args.parts.now.items c.finish_substitution.new.parts.items c.finish_substitution.result c.requires.room.paid.begun
+    c.finish_substitution.ensures.makes c.finish_substitution.ensures.closes
 
 pub finish_lambda-requires-clause-lambda : goal.finish_lambda-requires-clause-lambda
 finish_lambda-requires-clause-lambda c = sym c.production_of-production.ensures ∙ c.in-Lambda.is
 
 pub returns-in-Lambda-clause-closes : goal.returns-in-Lambda-clause-closes
 returns-in-Lambda-clause-closes c =
-    apart_counted c.args.symbol.now c.args.self.now c.finish_lambda.new.self c.args.frame.now c.args.parts.now.items c.finish_lambda.new.parts.items c.finish_lambda.result c.requires.room.paid.begun
-    (λ e. let clash : Production.Lambda ≡ Production.Substitution = sym c.in-Lambda.is ∙ c.production_of-production.ensures ∙ e in absurd cc) c.finish_lambda.ensures.makes c.finish_lambda.ensures.closes
+    closes_counted c.args.symbol.now c.args.self.now c.finish_lambda.new.self c.args.frame.now c.args.parts.now.items c.finish_lambda.new.parts.items c.finish_lambda.result c.requires.room.paid.begun
+    c.finish_lambda.ensures.makes c.finish_lambda.ensures.closes
 
 pub finish_inheriting-requires-clause-inheriting : goal.finish_inheriting-requires-clause-inheriting
 finish_inheriting-requires-clause-inheriting c = sym c.production_of-production.ensures ∙ c.in-Inheriting.is
 
 pub returns-in-Inheriting-clause-closes : goal.returns-in-Inheriting-clause-closes
 returns-in-Inheriting-clause-closes c =
-    apart_counted c.args.symbol.now c.args.self.now c.finish_inheriting.new.self c.args.frame.now c.args.parts.now.items c.finish_inheriting.new.parts.items c.finish_inheriting.result c.requires.room.paid.begun
-    (λ e. let clash : Production.Inheriting ≡ Production.Substitution = sym c.in-Inheriting.is ∙ c.production_of-production.ensures ∙ e in absurd cc) c.finish_inheriting.ensures.makes c.finish_inheriting.ensures.closes
+    closes_counted c.args.symbol.now c.args.self.now c.finish_inheriting.new.self c.args.frame.now c.args.parts.now.items c.finish_inheriting.new.parts.items c.finish_inheriting.result c.requires.room.paid.begun
+    c.finish_inheriting.ensures.makes c.finish_inheriting.ensures.closes
 
 pub returns-in_default-clause-closes : goal.returns-in_default-clause-closes
 returns-in_default-clause-closes c =
@@ -40,6 +38,9 @@ returns-in_default-clause-closes c =
     let frame = c.args.frame.now in
     let parts = c.args.parts.now.items in
     let is = c.production_of-production.ensures in
-    apart_counted s old new frame parts c.finish_rule.new.parts.items c.finish_rule.result c.requires.room.paid.begun (λ e. c.in_default.not-Substitution (is ∙ e)) c.finish_rule.ensures.makes
+    let known = values_in s old.linked.nodes (drop frame.base parts) in
+    closes_counted s old new frame parts c.finish_rule.new.parts.items c.finish_rule.result c.requires.room.paid.begun
+    (subst (λ n. OnOk c.finish_rule.result (length new.nodes.nodes ≡ length old.linked.nodes.nodes + n))
+    (apart_end (production_at frame.rule) (around_of (trees_in s old.linked.nodes) frame.kept) known (state_of s old.linked) (λ e. c.in_default.not-Substitution (is ∙ e))) c.finish_rule.ensures.makes)
     (apart_closes s old.linked new frame parts c.finish_rule.new.parts.items c.finish_rule.result (λ e. c.in_default.not-Substitution (is ∙ e)) (λ e. c.in_default.not-Lambda (is ∙ e))
     (λ e. c.in_default.not-Inheriting (is ∙ e)) c.finish_rule.ensures.closes)

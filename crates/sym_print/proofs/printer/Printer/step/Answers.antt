@@ -1,4 +1,4 @@
-use Rattle.std.proofs.Common.{refl, inl, inr, arith}
+use Rattle.std.proofs.Common.{◌==◌, refl, inl, inr, arith, ap, ◌∙◌}
 use Rattle.sym_print.proofs.printer.Printer.step.Goals as goal
 
 pub returns-in-Some-clause-may_come : goal.returns-in-Some-clause-may_come
@@ -96,3 +96,6 @@ returns-in-Err-clause-remaining g c = tt
 
 pub returns-in-Err-clause-own : goal.returns-in-Err-clause-own
 returns-in-Err-clause-own g c = inr c.in-Err.ensures.own
+
+pub returns-in-Ok-clause-done : goal.returns-in-Ok-clause-done
+returns-in-Ok-clause-done g c = c.is_empty.ensures ∙ ap (λ n. n == 0) c.take.new.self.stack.ok.0

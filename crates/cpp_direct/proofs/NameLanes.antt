@@ -1,0 +1,45 @@
+-- Bytes that are looked at together: from the mask of sixteen of them that none is barred.
+use Rattle.std.proofs.Common.{◌≡◌, ℕ, ◌+◌, ◌-◌, ◌%◌, ◌^◌, ◌<◌, ◌≤◌, Bool, true, false, not, ◌||◌, List, map, length, get_or, Fits, w8, refl, sym, ap, ◌∙◌, subst, arith, nat_lt}
+use Rattle.std.proofs.lemmas.Bool.{agree_below, agree_below_at, not-true, ltb-true, ltb-false}
+use Rattle.std.proofs.lemmas.Simd.{map-map, mask_l-mod, length-chunk, get_or-chunk, leading_from_mask_l}
+use Rattle.std.proofs.lemmas.List.{length-map}
+use Rattle.std.proofs.lemmas.List.Sums.{prefix_len_passes}
+use Rattle.sym_core.specs.declared.NameClass.TheVariants.{Cpp}
+use Rattle.sym_core.specs.Scan.{ReachesNameBytes}
+use Rattle.sym_core.specs.Token.{is_name_byte}
+use lib.Lanes.{chunk, mask_l, top}
+
+module _ (q : ℕ → Bool) (d : List ℕ) (i : ℕ) (z : List ℕ) (f : ℕ → ℕ) (room : i + 16 ≤ length d)
+    (fits : (k : ℕ) → Fits w8 (get_or d k 0)) (none : mask_l (map (top 7) z) % 2 ^ 64 ≡ 0) (lanes : z ≡ map f (chunk i 16 d)) where
+  abbrev stops : ℕ → Bool
+  stops x = top 7 (f x)
+
+  long : length (chunk i 16 d) ≡ 16
+  long = length-chunk i 16 d room
+
+  unset : mask_l (map stops (chunk i 16 d)) ≡ 0
+  unset =
+      let v = chunk i 16 d in
+      sym (ap (λ l. mask_l l % 2 ^ 64) (ap (map (top 7)) lanes ∙ map-map (top 7) f v) ∙ mask_l-mod (map stops v) 64 (omega (arith, length-map v stops, long))) ∙ none
+
+  clear : (n : ℕ) → n < 16 → stops (get_or d (i + n) 0) ≡ false
+  clear n to =
+      subst (λ x. stops x ≡ false) (get_or-chunk i 16 d n 0 to)
+      (not-true _ (prefix_len_passes (λ x. not (stops x)) (chunk i 16 d) n 0 (omega (arith, leading_from_mask_l stops (chunk i 16 d) unset, long, to))))
+
+  -- where no lane is set, each byte passes that is passed where its lane isn't set
+  pub none_of : agree_below (λ x. stops x || q x) (λ _. true) 256 ≡ true → (k : ℕ) → i ≤ k → k < i + 16 → q (get_or d k 0) ≡ true
+  none_of all k low high =
+      let n = k - i in
+      subst (λ m. q (get_or d m 0) ≡ true) (omega (arith, low))
+      (sym (ap (λ b. b || q (get_or d (i + n) 0)) (clear n (omega (arith, low, high))))
+      ∙ agree_below_at (λ x. stops x || q x) (λ _. true) 256 (get_or d (i + n) 0) all (fits (i + n)).fits)
+
+-- the bytes before a place, and sixteen from one that isn't after it
+pub reached-on : (bytes : List ℕ) (at from : ℕ) → ReachesNameBytes Cpp bytes at → from ≤ at
+    → ((k : ℕ) → from ≤ k → k < from + 16 → is_name_byte Cpp (get_or bytes k 0) ≡ true) → ReachesNameBytes Cpp bytes (from + 16)
+reached-on bytes at from before low more k less = go (nat_lt k at) refl
+  where
+    go : (d : Bool) → nat_lt k at ≡ d → is_name_byte Cpp (get_or bytes k 0) ≡ true
+    go true d = before k (ltb-true k at d)
+    go false d = more k (omega (arith, low, ltb-false k at d)) less

@@ -1,0 +1,84 @@
+use Rattle.std.proofs.Common.{◌≡◌, sym, ◌∙◌, ap, subst, Bool, [], ◌∷◌, length}
+use Rattle.sym_core.specs.Value.{counted_value}
+use Rattle.sym_core.specs.declared.NumberKind.TheVariants.{Decimal}
+use Rattle.cpp_term.specs.Rescoping.{is_instance, between_wide}
+use Rattle.cpp_term.specs.Values.{Value}
+use Rattle.cpp_tree.specs.Nodes.{bytes_at}
+use Rattle.cpp_tree.specs.declared.node.Node.{Node}
+use Rattle.cpp_link.specs.LinkRescoping.{generic_read}
+use Rattle.cpp_link.specs.Parts.{trees_in, values_in, is_lambda, around_of}
+use Rattle.cpp_link.specs.Reads.{goes_on}
+use Rattle.cpp_link.specs.Stepping.{IsStepOf}
+use Rattle.cpp_link.proofs.Held.{held_second, base_first, held_read, held_refused, base_read, held_makes, base_makes, held_step}
+use Rattle.cpp_link.proofs.Places.{values_length}
+use Rattle.cpp_link.proofs.Rescoped.{apart_generic, going_unmarked, generic_is}
+use Rattle.cpp_link.proofs.linked.Linked.step_apart.Goals as goal
+
+pub returns-then-is_instance-clause-refused : goal.returns-then-is_instance-clause-refused
+unfolding around_of
+returns-then-is_instance-clause-refused c cs =
+    let s = c.args.symbol.now in
+    let y = c.args.self.now.nodes in
+    let one = held_second c.args.production (is_lambda c.args.kept.scope) (length c.args.parts.now) c.in-Holder.is c.requires.apart in
+    ap (λ p. between_wide p (around_of (trees_in s y) c.args.kept) c.args.place (values_in s y c.args.parts.now) (record { candidates = cs; packs = c.args.self.now.packs })) c.in-Holder.is
+    ∙ held_refused (around_of (trees_in s y) c.args.kept) c.args.place (values_in s y c.args.parts.now) (record { candidates = cs; packs = c.args.self.now.packs })
+    (values_length s (trees_in s y) c.args.parts.now ∙ one) (ap is_instance (sym c.prefix_node-name.ensures.is) ∙ sym c.is_instance.ensures ∙ c.if-is_instance.true)
+
+pub returns-else-is_instance-clause-is : goal.returns-else-is_instance-clause-is
+returns-else-is_instance-clause-is c cs =
+    let s = c.args.symbol.now in
+    let y = c.args.self.now.nodes in
+    let one = held_second c.args.production (is_lambda c.args.kept.scope) (length c.args.parts.now) c.in-Holder.is c.requires.apart in
+    rw (c.in-Holder.is, c.listed_name.ensures) (held_read s y c.args.kept c.args.place (values_in s y c.args.parts.now) cs c.args.self.now.packs c.prefix_node-name.result
+    (values_length s (trees_in s y) c.args.parts.now ∙ one) c.prefix_node-name.ensures.is (sym c.is_instance.ensures ∙ c.if-is_instance.false))
+
+pub returns-else-is_instance-clause-of : goal.returns-else-is_instance-clause-of
+returns-else-is_instance-clause-of c =
+    let one = held_second c.args.production (is_lambda c.args.kept.scope) (length c.args.parts.now) c.in-Holder.is c.requires.apart in
+    rw (c.in-Holder.is, c.listed_name.ensures) (held_step (length c.args.parts.now) (Node.Holder c.prefix_node-name.result) c.args.self.now.packs one)
+
+pub returns-else-is_instance-clause-makes : goal.returns-else-is_instance-clause-makes
+returns-else-is_instance-clause-makes c =
+    let s = c.args.symbol.now in
+    let y = c.args.self.now.nodes in
+    let one = held_second c.args.production (is_lambda c.args.kept.scope) (length c.args.parts.now) c.in-Holder.is c.requires.apart in
+    rw (c.in-Holder.is, c.listed_name.ensures) (held_makes (values_in s y c.args.parts.now) (values_length s (trees_in s y) c.args.parts.now ∙ one))
+
+pub returns-in-OwnArguments-clause-is : goal.returns-in-OwnArguments-clause-is
+returns-in-OwnArguments-clause-is c cs =
+    let s = c.args.symbol.now in
+    let y = c.args.self.now.nodes in
+    let none = base_first c.args.production (is_lambda c.args.kept.scope) (length c.args.parts.now) c.in-OwnArguments.is c.requires.apart in
+    rw c.in-OwnArguments.is (base_read s y c.args.kept c.inside.result c.args.place (values_in s y c.args.parts.now) cs c.args.self.now.packs c.prefix_node-base.result
+    (values_length s (trees_in s y) c.args.parts.now ∙ none) c.prefix_node-base.ensures.is (c.inside.ensures.around (trees_in s y)))
+
+pub returns-in-OwnArguments-clause-makes : goal.returns-in-OwnArguments-clause-makes
+returns-in-OwnArguments-clause-makes c =
+    let s = c.args.symbol.now in
+    let y = c.args.self.now.nodes in
+    let none = base_first c.args.production (is_lambda c.args.kept.scope) (length c.args.parts.now) c.in-OwnArguments.is c.requires.apart in
+    rw c.in-OwnArguments.is (base_makes (values_in s y c.args.parts.now) (values_length s (trees_in s y) c.args.parts.now ∙ none))
+
+pub returns-in_default-clause-is : goal.returns-in_default-clause-is
+returns-in_default-clause-is c cs =
+    let s = c.args.symbol.now in
+    let y = c.args.self.now.nodes in
+    let own = apart_generic c.args.production (is_lambda c.args.kept.scope) (length c.args.parts.now) c.requires.apart c.in_default.not-Holder c.in_default.not-OwnArguments in
+    let Reads : Bool → Value → Type 0 = λ b v.
+    generic_read b (around_of (trees_in s y) c.args.kept) (counted_value Decimal (bytes_at s c.text-digits.result)) (record { candidates = cs; packs = c.args.self.now.packs })
+    ≡ goes_on s y c.args.kept (v ∷ []) cs c.args.self.now.packs c.generic.result in
+    generic_is s y c.args.kept c.args.production c.args.place c.args.parts.now (bytes_at s c.text-digits.result) cs c.args.self.now.packs c.generic.result
+    own.0 own.1.0 own.1.1 c.text-digits.ensures.is (λ v. subst (λ b. Reads b v) c.is_parameter_argument-is_argument.ensures (c.generic.ensures.is v cs))
+    ∙ sym (going_unmarked c.args.production (around_of (trees_in s y) c.args.kept) _ c.in_default.not-Holder c.in_default.not-OwnArguments)
+
+pub returns-in_default-clause-of : goal.returns-in_default-clause-of
+returns-in_default-clause-of c =
+    let own = apart_generic c.args.production (is_lambda c.args.kept.scope) (length c.args.parts.now) c.requires.apart c.in_default.not-Holder c.in_default.not-OwnArguments in
+    subst (λ n. IsStepOf c.args.production n c.generic.result) (sym own.1.1) (c.generic.ensures.of c.args.production own.0)
+
+pub returns-in_default-clause-makes : goal.returns-in_default-clause-makes
+returns-in_default-clause-makes c =
+    let s = c.args.symbol.now in
+    let y = c.args.self.now.nodes in
+    let own = apart_generic c.args.production (is_lambda c.args.kept.scope) (length c.args.parts.now) c.requires.apart c.in_default.not-Holder c.in_default.not-OwnArguments in
+    c.generic.ensures.makes c.args.production (values_in s y c.args.parts.now) own.0 (values_length s (trees_in s y) c.args.parts.now ∙ own.1.1)
