@@ -1,5 +1,5 @@
--- the bytes so far are digits
-use Rattle.std.proofs.Common.{◌≤◌, ◌-◌}
+-- where there are no others, the bytes so far are digits
+use Rattle.std.proofs.Common.{◌≡◌, ◌≤◌, ◌-◌}
 use Rattle.rust_direct.specs.Hashes.{ReachesDigits}
 use Rattle.rust_direct.proofs.hashes.are_digits.Given as goal
 
@@ -7,7 +7,8 @@ abbrev pub invariant-digits : goal.invariant-digits
 invariant-digits l =
     record {
       high : l.end ≤ 11;
-      each : ReachesDigits l.bytes l.end;
+      few : l.others ≤ l.end;
+      each : l.others ≡ 0 → ReachesDigits l.bytes l.end;
     }
 
 abbrev pub decreases-digits : goal.decreases-digits
