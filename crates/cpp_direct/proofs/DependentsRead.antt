@@ -1,21 +1,21 @@
 -- A type that names an argument of a function's template is read, and so is what expands a pack.
 use Rattle.sym_print.specs.declared.detail.Detail.{Detail}
 use Rattle.cpp_grammar.specs.Unfolding.{byte_of, close}
-use Rattle.cpp_grammar.specs.Meaning.{meaning, listed_value}
+use Rattle.cpp_grammar.specs.Meaning.{is_void, meaning, listed_value}
 use Rattle.cpp_direct.specs.Symbol.{detail_of, Symbol}
 use Rattle.cpp_direct.proofs.Kept.{candidate-found, kept-grown, kept-same, kept-written, made-here, piece-found, placed-stays, value-added, value-comes, candidate-inside, kept-as, kept-with}
 use Rattle.cpp_direct.proofs.Listed.{some-elements}
 use Rattle.cpp_direct.proofs.Moves.{hole, eats, byte-opens, next-part, closes, none-fills, number-fills, is_eaten, stands-join, stands-split, expects-empty, open_at, fill, filled-at}
 use Rattle.cpp_direct.proofs.MovesOfTypes.{const-opens, lvalue-opens, rvalue-opens, solid-opens, substitution-opens}
-use Rattle.cpp_direct.proofs.PrintedExpansions.{expansion-element}
+use Rattle.cpp_direct.proofs.PrintedExpansions.{expansion-element, expansion-empty}
 use Rattle.cpp_direct.proofs.PrintedTypes.{parameter-given, rvalue-given}
 use Rattle.cpp_direct.proofs.NamedArguments.{again-substituted, named-here}
 use Rattle.cpp_direct.specs.declared.open.Mark.{Mark}
 use Rattle.cpp_direct.specs.HolesOfTypes.{as_const}
 use Rattle.cpp_direct.specs.Holes.{Opened, StandsAt, Comes, candidate, with_candidate, Expects, IsReferable, IsTyped}
 use Rattle.cpp_direct.specs.Prints.{IsMarkedBy, Names, PrintsAs, PrintsGiven, PrintsMade, PrintAllBy, list_of, made_by, pattern_letters}
-use Rattle.cpp_direct.specs.WriterInvariant.{AreCandidates, EncodedBehind, HasArguments, IsAmong, IsKnown, IsPlaced, IsScope, IsSingle, IsWriting, ParametersGoOn, argument_of, in_front_of_next, place_of}
-use Rattle.cpp_direct.specs.MidStep.{AwaitsType, IsNamedAgain, IsParameterEnded, parameter_digits, AwaitsNextParameter, AreExpanded, IsPackOf, comma_text, expansion_letters}
+use Rattle.cpp_direct.specs.WriterInvariant.{AreCandidates, EncodedBehind, IsAmong, IsKnown, IsPackOf, IsPackThere, IsPlaced, IsScope, IsSingle, IsWriting, ParametersGoOn, argument_of, in_front_of_next, place_of, Kept}
+use Rattle.cpp_direct.specs.MidStep.{AwaitsType, AreParametersRead, IsFunctionEnded, IsNamedAgain, parameter_digits, AreExpanded, comma_text, expansion_letters, separator}
 use Rattle.cpp_direct.specs.Written.{Writes, added, hidden}
 use Rattle.cpp_direct.specs.declared.direct.Direct.{Direct}
 use Rattle.cpp_direct.specs.declared.open.Argument.{Argument}
@@ -28,24 +28,24 @@ use Rattle.cpp_grammar.specs.Grammar.{may_be_empty, number_of_kind, parts_of}
 use Rattle.cpp_grammar.specs.Parts.{types_of}
 use Rattle.cpp_grammar.specs.References.{appended, is_function_type, with_packs, parameter_named, with_type}
 use Rattle.cpp_grammar.specs.Scope.{element, count, length_if_pack}
-use Rattle.cpp_grammar.specs.Term.{Term, parameter, expansion, lvalue, rvalue, pack}
+use Rattle.cpp_grammar.specs.Term.{Term, parameter, expansion, lvalue, rvalue}
 use Rattle.cpp_grammar.specs.Values.{tree, State, Around, text_of, is_there, letter_of, part, piece_of, tree_of, is_listed}
 use Rattle.cpp_grammar.specs.declared.kind.Kind.{Kind}
 use Rattle.cpp_grammar.specs.declared.production.Production.{Production}
-use Rattle.std.proofs.Common.{◌≡◌, ◌≢◌, ℕ, zero, suc, ◌+◌, ◌-◌, ◌≤◌, ◌<◌, length, List, [], ◌∷◌, ◌++◌, take, drop, reverse, slice_get, true, false, replicate, Some, None, refl, ap, sym, ◌∙◌, subst, arith, append_assoc, append-nil, Ok, codes, inl, inr}
+use Rattle.std.proofs.Common.{Bool, ◌≡◌, ◌≢◌, ℕ, zero, suc, ◌+◌, ◌-◌, ◌≤◌, ◌<◌, length, List, [], ◌∷◌, ◌++◌, take, drop, reverse, slice_get, true, false, replicate, Some, None, refl, ap, sym, ◌∙◌, subst, arith, append_assoc, append-nil, Ok, codes, inl, inr}
 use Rattle.std.proofs.lemmas.Bool.{lt-ltb}
 use Rattle.std.proofs.lemmas.List.{length-append}
 use Rattle.sym_core.specs.Value.{counted_value}
 use Rattle.sym_core.specs.declared.NumberKind.TheVariants.{Seq36, Decimal}
 use Rattle.sym_core.specs.Token.{Token, IsNumberToken}
-use Rattle.cpp_direct.proofs.Ending.{parameter-goes_on}
+use Rattle.cpp_direct.proofs.Ending.{next-separated, nothing-ended, parameter-goes_on}
 use Rattle.cpp_direct.proofs.MovesOfLists.{element-awaits}
-use Rattle.cpp_direct.proofs.PrintedLists.{next-prints-in, next-prints-by}
+use Rattle.cpp_direct.proofs.PrintedLists.{all-more, next-prints-in, next-prints-by}
+use Rattle.cpp_direct.proofs.Scopes.{parameters-as, pack-stays}
 use Rattle.cpp_direct.proofs.Signatures.{one-hidden}
 use Rattle.cpp_grammar.specs.Unfolding as unfolding_
 use Rattle.cpp_direct.specs.declared.open.Step.TheVariants as steps
 use Rattle.cpp_grammar.specs.Values as values
-use Rattle.cpp_direct.proofs.Scopes.{parameters-as}
 
 -- ## Moves
 
@@ -73,28 +73,28 @@ unfolding parameter_named with_packs appended
 parameter-found around k at st all scope below none = rw (scope, lt-ltb k (count all) below, none, parameter_named) refl
 
 -- in its scope it is a candidate
-parameter-tested : (around : Around) (before k at : ℕ) (st : State) → k ≤ 3 → IsScope before k false around
+parameter-tested : (around : Around) (k at : ℕ) (st : State) → k ≤ 3 → IsScope k around
     → ◌≡◌ {A = Going} (between Production.Parameter around at (values.text (parameter_digits k) ∷ []) st)
     (Ok (record { context = after (parameter k) true around; values = tree (parameter k) true ∷ []; state = with_candidate around (parameter k) st }))
 unfolding between parameter_so_far listed_so_far
-parameter-tested around before k at st few scope =
+parameter-tested around k at st few scope =
     subst (λ n. ◌≡◌ {A = Going} (parameter_so_far around at n [] st)
     (Ok (record { context = after (parameter k) true around; values = tree (parameter k) true ∷ []; state = with_candidate around (parameter k) st })))
     (sym (digits-count k few))
-    (rw (parameter-found around k at st scope.all scope.scope_is (scope.there refl).1 (ap length_if_pack (scope.there refl).0 ∙ scope.no_pack)) refl)
+    (rw (parameter-found around k at st scope.all scope.scope_is scope.there.1 (ap length_if_pack scope.there.0 ∙ scope.no_pack)) refl)
 
 -- a parameter comes, and is a candidate
-pub parameter-comes : (s : Symbol) (kind : Kind) (around : Around) (os : List Opened) (before k at : ℕ) (st : State) → IsTyped kind → k ≤ 3
-    → IsScope before k false around → Expects s kind around os at st → StandsAt s.bytes at (84 ∷ (parameter_digits k ++ 95 ∷ []))
+pub parameter-comes : (s : Symbol) (kind : Kind) (around : Around) (os : List Opened) (k at : ℕ) (st : State) → IsTyped kind → k ≤ 3
+    → IsScope k around → Expects s kind around os at st → StandsAt s.bytes at (84 ∷ (parameter_digits k ++ 95 ∷ []))
     → Comes s os (tree (parameter k) true) (at + 1 + length (parameter_digits k ++ 95 ∷ [])) (with_candidate around (parameter k) st)
 unfolding is_eaten number_of_kind parts_of may_be_empty between close unfolding_.behind meaning part byte_of tree_of text_of piece_of letter_of is_there applied is_function_type
-parameter-comes s kind around os before k at st typed few scope expects stands =
+parameter-comes s kind around os k at st typed few scope expects stands =
     let p = Production.Parameter in
     let end = at + 1 + length (parameter_digits k ++ 95 ∷ []) in
     let both = stands-split s.bytes at (84 ∷ []) (parameter_digits k ++ 95 ∷ []) stands in
     let solid = solid-opens s kind around os at st typed expects in
     let number = byte-opens (eats s Kind.Solid p 84 refl) (hole s Kind.Solid around solid.inner at st solid.awaits) both.0 refl refl in
-    let arguments = next-part p (number-fills (parameter_token k) number (parameter-number k) both.1) (parameter-tested around before k at st few scope) in
+    let arguments = next-part p (number-fills (parameter_token k) number (parameter-number k) both.1) (parameter-tested around k at st few scope) in
     solid.passes (parameter k) true end (with_candidate around (parameter k) st) refl (closes p (none-fills Kind.ArgumentsAlone arguments refl) refl).comes
 
 -- the digits of a parameter's number come before its line
@@ -126,10 +126,9 @@ argument-inside s w all k p a found is single =
 
 -- a parameter may name it
 scope-named : (s : Symbol) (w : Direct) (all : Arguments) (k : ℕ) (p : Argument) (a : AwaitsType s w) → argument_of (reverse w.waiting.list.items) ≡ Some all
-    → p ≡ place_of all k → IsSingle p → IsScope all.before k false a.around
+    → p ≡ place_of all k → IsSingle p → IsScope k a.around
 scope-named s w all k p a found is single =
-    subst (λ j. IsScope all.before k j a.around) (ap (λ (q : Argument). q.is_pack) (sym is) ∙ single.1)
-    ((a.scoped all found).1.1 k (subst (λ (q : Argument). IsKnown q) is single.0))
+    (a.scoped all found).1.1 k (subst (λ (q : Argument). IsSingle q) is single)
 
 -- ## Parameters
 
@@ -154,7 +153,7 @@ parameter-done s old mid new all k p n from a few letter line found is single re
     grown from_is prints (λ e. made-here s a.scope a.around (reverse old.waiting.list.items) a.scoped naming) same_text more same_scope (ap (λ v. reverse v.list.items) open_is)
     (λ e. naming)
     (subst (λ n. Comes s a.os (tree (parameter k) true) n later) (sym (same_at ∙ writes.at ∙ at))
-    (parameter-comes s a.kind a.around a.os all.before k old.at a.state a.typed few (scope-named s old all k p a found is single) a.awaits
+    (parameter-comes s a.kind a.around a.os k old.at a.state a.typed few (scope-named s old all k p a found is single) a.awaits
     (stands-join s.bytes old.at (84 ∷ []) (parameter_digits k ++ 95 ∷ []) letter line))) a.stands
 
 -- what is written from a place on became a candidate, which is a reference and names arguments
@@ -194,7 +193,7 @@ forwarded-done s old mid one new all k p n from a few referable mark letter line
     a.os a.around (rvalue (parameter k)) text bytes from true true listed from_is prints (λ e. here) second.text second.more second.scope (ap (λ v. reverse v.list.items) open_is) (λ e. naming)
     (subst (λ n. Comes s a.os (tree (rvalue (parameter k)) true) n later) (sym (second.at ∙ first.at ∙ writes.at ∙ at))
     (reference.passes (parameter k) (old.at + 1 + 1 + length (parameter_digits k ++ 95 ∷ [])) own
-    (parameter-comes s Kind.Type a.around reference.inner all.before k (old.at + 1) a.state tt few (scope-named s old all k p a found is single) reference.awaits
+    (parameter-comes s Kind.Type a.around reference.inner k (old.at + 1) a.state tt few (scope-named s old all k p a found is single) reference.awaits
     (stands-join s.bytes (old.at + 1) (84 ∷ []) (parameter_digits k ++ 95 ∷ []) letter line)))) a.stands
 
 -- ## The same once more
@@ -238,18 +237,11 @@ begun st = record st { packs = None }
 abbrev named_many : ℕ → State → State
 named_many n st = record st { packs = Some n }
 
--- a parameter with this number may name a pack of these elements
-pub record IsPackThere (around : Around) (k : ℕ) (ts : List Term) : Type 0 where
-  pub all : Term
-  pub scope_is : around.scope ≡ Some all
-  pub below : k < count all
-  pub pack_is : element all k ≡ pack (list_of ts)
-
 -- it is a candidate there
 pack-found : (around : Around) (k at : ℕ) (st : State) (ts : List Term) → IsPackThere around k ts
     → parameter_named (under_expansion around) at k (begun st) ≡ Ok (with_candidate around (parameter k) (named_many (count (list_of ts)) st))
 unfolding parameter_named with_packs appended under_expansion length_if_pack
-pack-found around k at st ts p = rw (p.scope_is, lt-ltb k (count p.all) p.below, p.pack_is, parameter_named) refl
+pack-found around k at st ts p = rw (p.scope_is, lt-ltb k (count p.all) p.there.1, p.there.0, parameter_named) refl
 
 pack-tested : (around : Around) (k at : ℕ) (st : State) (ts : List Term) → k ≤ 3 → IsPackThere around k ts
     → ◌≡◌ {A = Going} (between Production.Parameter (under_expansion around) at (values.text (parameter_digits k) ∷ []) (begun st))
@@ -373,40 +365,17 @@ letters-stand s pattern k at second third named digits d b p c letters e t f lin
     (subst (λ n. StandsAt s n (84 ∷ behind)) e
     (stands-join s named (84 ∷ []) behind t (subst (λ n. StandsAt s n behind) f line)))))))
 
-same-elements : (xs ys : List Term) → list_of xs ≡ list_of ys → xs ≡ ys
-same-elements [] [] e = refl
-same-elements [] (y ∷ ys) e = cc e
-same-elements (x ∷ xs) [] e = cc e
-same-elements (x ∷ xs) (y ∷ ys) e =
-    let first : x ≡ y = cc e in
-    let rest : list_of xs ≡ list_of ys = cc e in
-    ap (λ z. z ∷ xs) first ∙ ap (λ zs. y ∷ zs) (same-elements xs ys rest)
-
--- the elements of a function's pack, of which the first one is known
-pub pack-of : {detail : Detail} (text : List ℕ) (argument : Arguments) (name : Term) → (h : HasArguments detail text argument name)
-    → (ordered : IsKnown (place_of argument argument.before)) → (place_of argument argument.before).is_pack ≡ true
-    → IsPackOf detail text argument (h argument.before ordered).elements
-pack-of text argument name h ordered pack_ =
-    let one = h argument.before ordered in
-    let first = one.packed pack_ in
-    record {
-      size = first.3;
-      among = λ k known is_pack.
-          let g = h (argument.before + k) known in
-          let own = g.packed is_pack in
-          let all : one.all ≡ g.all = cc (sym one.all_are ∙ g.all_are) in
-          let packs : pack (list_of g.elements) ≡ pack (list_of one.elements) = sym own.0 ∙ ap (λ l. element l argument.before) (sym all) ∙ first.0 in
-          let lists : list_of g.elements ≡ list_of one.elements = cc packs in
-          let number : argument.before + k - argument.before ≡ k = omega arith in
-          record {
-            bytes = g.bytes;
-            placed = g.placed;
-            own = g.own;
-            there = subst (λ l. slice_get l k ≡ Some g.own) (same-elements g.elements one.elements lists)
-                (subst (λ n. slice_get g.elements n ≡ Some g.own) number own.2);
-            prints = g.prints;
-          };
-    }
+-- nothing is written
+pub none-written : (w : Direct) → Writes w w []
+none-written w = record {
+  text = sym (append-nil w.text.list.items);
+  candidates = refl;
+  waiting = refl;
+  nest = refl;
+  scope = refl;
+  at = refl;
+  rounds = refl;
+}
 
 -- none is written yet
 pub none-expanded : {detail : Detail} (pattern : Pattern) (w : Direct) (ts : List Term) → AreExpanded detail pattern w w ts 0
@@ -417,15 +386,7 @@ none-expanded pattern w ts = record {
   count = inl refl;
   bytes = [];
   prints = ([], tt, refl);
-  writes = record {
-    text = sym (append-nil w.text.list.items);
-    candidates = refl;
-    waiting = refl;
-    nest = refl;
-    scope = refl;
-    at = refl;
-    rounds = refl;
-  };
+  writes = none-written w;
 }
 
 none-left : (l : List Term) → length l ≡ 0 → l ≡ []
@@ -526,10 +487,6 @@ expanded-more {detail} pattern before w one two new ts argument number place mar
           };
         }
 
-some-there : (ts : List Term) (own : Term) → slice_get ts 0 ≡ Some own → ts ≢ []
-some-there [] own e none = cc e
-some-there (t ∷ ts) own e none = cc none
-
 -- each tree that a pattern makes is a candidate of which nothing is known, and so is the expansion
 trees-hidden : (s : Symbol) (names : Names) (text : List ℕ) (ks : List Candidate) (around : Around) (pattern : Pattern) (k size : ℕ) (st : State)
     → AreCandidates s names text ks st.candidates
@@ -564,55 +521,103 @@ trees-hidden s names text ks around pattern k size st known = go pattern known
         let two = once (hidden ∷ []) (st.candidates ++ candidate around p ∷ []) (rvalue p) (first have) in
         once (hidden ∷ hidden ∷ []) ((st.candidates ++ candidate around p ∷ []) ++ candidate around (rvalue p) ∷ []) (expansion (rvalue p)) two
 
--- it is read
-pub expansion-read : (s : Symbol) (pattern : Pattern) (old moved last new : Direct) (mark : Mark) (start : ℕ) (argument : Arguments) (a : AwaitsNextParameter s old mark start argument)
-    → (ordered : IsKnown (place_of argument argument.before)) → (place_of argument argument.before).is_pack ≡ true → argument.elements ≤ 4
+-- so what is known of the candidates before is known of those with them
+abbrev expansion-kept : (s : Symbol) (w new : Direct) (around : Around) (pattern : Pattern) (k size : ℕ) (kept : Kept s w)
+    → new.text ≡ w.text → new.candidates.list.items ≡ w.candidates.list.items ++ replicate (2 + length (pattern_letters pattern)) hidden
+    → new.has_scope ≡ w.has_scope → Kept s new
+expansion-kept s w new around pattern k size kept text candidates scope_ =
+    kept-as s w new (with_expansion pattern k size around kept.state) kept text candidates scope_
+    (trees-hidden s kept.scope.names w.text.list.items w.candidates.list.items around pattern k size kept.state kept.keeps.candidates)
+
+-- parameters go on after it
+expansion-goes : (s : Symbol) (pattern : Pattern) (w : Direct) (is_first : Bool) (mark : Mark) (start : ℕ) (argument : Arguments)
+    (a : AreParametersRead s w 3 is_first mark start argument) → argument.has_pack ≡ true → argument.before ≤ 3
+    → StandsAt s.bytes w.at (expansion_letters pattern argument.before)
+    → (size : ℕ) × ParametersGoOn s argument a.lead a.make (a.ts ++ expansion (made_by pattern (parameter argument.before)) ∷ [])
+    (w.at + length (expansion_letters pattern argument.before)) (with_expansion pattern argument.before size a.goes.around a.state)
+expansion-goes s pattern w is_first mark start argument a has_pack below stands =
+    let k = argument.before in
+    let around = a.goes.around in
+    let packed = a.goes.scoped.2 has_pack in
+    let size = count (list_of packed.0) in
+    let t = expansion (made_by pattern (parameter k)) in
+    let later = with_expansion pattern k size around a.state in
+    let end = w.at + length (expansion_letters pattern k) in
+    let item = element-awaits s Kind.Items a.goes.inner around w.at a.state tt a.goes.awaits in
+    let comes = expansion-comes s pattern around item.inner k w.at a.state packed.0 below packed.1 item.awaits stands in (
+      size,
+      parameter-goes_on s argument (λ x there then_. EncodedBehind s a.lead x there) a.make a.ts w.at a.state a.goes t end later (item.onward t end later comes),
+    )
+
+-- the elements are at their places where a comma is written
+pub pack-separated : (s : Symbol) {extra : ℕ} (w mid : Direct) (is_first : Bool) (mark : Mark) (start : ℕ) (argument : Arguments) (end : ℕ)
+    (a : AreParametersRead s w extra is_first mark start argument) (has_pack : argument.has_pack ≡ true) → Writes (record w { at = end }) mid (separator is_first)
+    → IsPackOf (detail_of s) mid.text.list.items argument (a.is_function.names.1 has_pack).elements
+pack-separated s w mid is_first mark start argument end a has_pack one =
+    let packed = a.is_function.names.1 has_pack in
+    subst (λ l. IsPackOf (detail_of s) l argument packed.elements) (sym one.text)
+    (pack-stays w.text.list.items (separator is_first) argument packed.elements packed.are)
+
+-- it is read, and what it makes of each element is written
+pub expansion-read : (s : Symbol) (pattern : Pattern) (old mid last new : Direct) (is_first : Bool) (mark : Mark) (start : ℕ) (argument : Arguments) (end : ℕ)
+    (a : AreParametersRead s old 3 is_first mark start argument) (has_pack : argument.has_pack ≡ true) → argument.elements ≢ 0 → argument.elements ≤ 4
     → argument.before ≤ 3 → StandsAt s.bytes old.at (expansion_letters pattern argument.before)
-    → moved.text ≡ old.text → moved.candidates ≡ old.candidates → moved.waiting ≡ old.waiting → moved.has_scope ≡ old.has_scope
-    → moved.at ≡ old.at + length (expansion_letters pattern argument.before)
-    → AreExpanded (detail_of s) pattern moved last (a.is_function.names argument.before ordered).elements 4
+    → end ≡ old.at + length (expansion_letters pattern argument.before) → Writes (record old { at = end }) mid (separator is_first)
+    → AreExpanded (detail_of s) pattern mid last (a.is_function.names.1 has_pack).elements 4
     → new.text ≡ last.text → new.candidates.list.items ≡ last.candidates.list.items ++ replicate (2 + length (pattern_letters pattern)) hidden
     → new.waiting ≡ last.waiting → new.has_scope ≡ last.has_scope → new.at ≡ last.at
-    → IsParameterEnded s new mark start argument
-expansion-read s pattern old moved last new mark start argument a ordered pack_ few below stands same_text same_candidates same_waiting same_scope moved_at fw text candidates waiting scope_ at =
+    → (extra : ℕ) × (extra ≤ 6) × AreParametersRead s new extra false mark start argument
+expansion-read s pattern old mid last new is_first mark start argument end a has_pack some few below stands end_is one fw text candidates waiting scope_ at =
     let f = a.is_function in
     let k = argument.before in
-    let n = f.names k ordered in
-    let ts = n.elements in
-    let first = n.packed pack_ in
-    let front = a.front ++ codes "(" in
+    let packed = f.names.1 has_pack in
+    let ts = packed.elements in
     let bytes = fw.bytes in
     let t = expansion (made_by pattern (parameter k)) in
-    let around = a.goes.around in
-    let scope = subst (λ j. IsScope k k j a.goes.around) pack_ (a.goes.scoped.1 k ordered) in
-    let packed = scope.packed refl in
-    let there : IsPackThere around k scope.elements = record { all = scope.all; scope_is = scope.scope_is; below = packed.1; pack_is = packed.0 } in
-    let size = count (list_of scope.elements) in
-    let later = with_expansion pattern k size around a.state in
-    let end = old.at + length (expansion_letters pattern argument.before) in
-    let item = element-awaits s Kind.Items a.goes.inner a.goes.around old.at a.state tt a.goes.awaits in
-    let comes = expansion-comes s pattern a.goes.around item.inner k old.at a.state scope.elements below there item.awaits stands in
-    let goes = parameter-goes_on s argument (λ x there then_. EncodedBehind s a.lead x there) a.make a.ts old.at a.state a.goes t end later
-    (item.onward t end later comes) in
-    let rest = all-expanded pattern moved last ts 4 (omega (arith, few, first.3)) fw in
+    let goes = expansion-goes s pattern old is_first mark start argument a has_pack below stands in
+    let later = with_expansion pattern k goes.0 a.goes.around a.state in
+    let between = separator is_first in
+    let rest = all-expanded pattern mid last ts 4 (omega (arith, few, packed.are.size)) fw in
     let done : fw.done ≡ ts = sym (append-nil fw.done) ∙ ap (λ l. fw.done ++ l) (sym rest) ∙ sym fw.all in
     let prints : PrintAllBy (PrintsMade (detail_of s) pattern) ts bytes = subst (λ l. PrintAllBy (PrintsMade (detail_of s) pattern) l bytes) done fw.prints in
-    let starts : slice_get ts 0 ≡ Some n.own = subst (λ j. slice_get ts j ≡ Some n.own) (omega arith) first.2 in
-    let grown : new.text.list.items ≡ old.text.list.items ++ bytes =
-    ap (λ v. v.list.items) text ∙ fw.writes.text ∙ ap (λ v. v.list.items ++ bytes) same_text in
-    let kept = kept-written s moved last bytes fw.writes (kept-same s old moved same_text same_candidates same_scope a.kept) in
-    let known : AreCandidates s a.scope.names last.text.list.items (last.candidates.list.items ++ replicate (2 + length (pattern_letters pattern)) hidden) later.candidates =
-    trees-hidden s a.scope.names last.text.list.items last.candidates.list.items around pattern k size a.state kept.keeps.candidates in
-    record {
-      kept = kept-as s last new later kept text candidates scope_ known;
-      rest = a.rest;
-      open_is = ap (λ v. reverse v.list.items) (waiting ∙ fw.writes.waiting ∙ same_waiting) ∙ a.open_is;
-      ts = a.ts ++ t ∷ [];
-      some = some-elements a.ts t;
-      texts = in_front_of_next a.ts a.texts ++ bytes;
-      has = parameters-as s old.text.list.items new.text.list.items bytes mark start argument a.has grown
-          (next-prints-in (types_of f.own) 6 a.ts a.texts t bytes f.elements
-          (expansion-element f.own n.all k ts pattern bytes (some-there ts n.own starts) n.all_are first.0 prints));
-      written = grown ∙ ap (λ l. l ++ bytes) a.written ∙ append_assoc front (in_front_of_next a.ts a.texts) bytes;
-      goes = subst (λ j. ParametersGoOn s argument a.lead a.make (a.ts ++ t ∷ []) j later) (sym (at ∙ fw.writes.at ∙ moved_at)) goes;
-    }
+    let grown : new.text.list.items ≡ mid.text.list.items ++ bytes = ap (λ v. v.list.items) text ∙ fw.writes.text in
+    let all_grown : new.text.list.items ≡ old.text.list.items ++ (between ++ bytes) =
+    grown ∙ ap (λ l. l ++ bytes) one.text ∙ append_assoc old.text.list.items between bytes in
+    let kept = kept-written s mid last bytes fw.writes
+    (kept-written s (record old { at = end }) mid between one (kept-same s old (record old { at = end }) refl refl refl a.kept)) in (
+      6,
+      omega arith,
+      record {
+        kept = expansion-kept s last new a.goes.around pattern k goes.0 kept text candidates scope_;
+        rest = a.rest;
+        open_is = ap (λ v. reverse v.list.items) (waiting ∙ fw.writes.waiting ∙ one.waiting) ∙ a.open_is;
+        ts = a.ts ++ t ∷ [];
+        none = λ e. cc e;
+        some = λ e. some-elements a.ts t;
+        texts = in_front_of_next a.ts a.texts ++ bytes;
+        has = parameters-as s old.text.list.items new.text.list.items (between ++ bytes) mark start argument a.has all_grown
+            (next-prints-in (types_of f.own) 6 a.ts a.texts t bytes (all-more (detail_of s) (types_of f.own) 3 6 (omega arith) a.ts a.texts f.elements)
+            (expansion-element f.own packed.all k ts pattern bytes (λ none. some (sym packed.are.size ∙ ap length none)) packed.all_are packed.there.0 prints));
+        written = grown ∙ ap (λ l. l ++ bytes) (next-separated s old is_first mark start argument a mid.text.list.items one.text)
+            ∙ append_assoc (a.front ++ codes "(") (in_front_of_next a.ts a.texts) bytes;
+        goes = subst (λ j. ParametersGoOn s argument a.lead a.make (a.ts ++ t ∷ []) j later) (sym (at ∙ fw.writes.at ∙ one.at ∙ end_is)) goes.1;
+      },
+    )
+
+-- where there is no element the function ends
+pub nothing-read : (s : Symbol) (pattern : Pattern) (old new : Direct) (is_first : Bool) (mark : Mark) (start : ℕ) (argument : Arguments)
+    (a : AreParametersRead s old 3 is_first mark start argument) (has_pack : argument.has_pack ≡ true) → argument.elements ≡ 0
+    → argument.before ≤ 3 → StandsAt s.bytes old.at (expansion_letters pattern argument.before)
+    → new.text ≡ old.text → new.candidates.list.items ≡ old.candidates.list.items ++ replicate (2 + length (pattern_letters pattern)) hidden
+    → new.has_scope ≡ old.has_scope → new.at ≡ old.at + length (expansion_letters pattern argument.before) → IsFunctionEnded s new mark start
+unfolding is_void
+nothing-read s pattern old new is_first mark start argument a has_pack none below stands text candidates scope_ at =
+    let k = argument.before in
+    let f = a.is_function in
+    let packed = f.names.1 has_pack in
+    let t = expansion (made_by pattern (parameter k)) in
+    let goes = expansion-goes s pattern old is_first mark start argument a has_pack below stands in
+    let later = with_expansion pattern k goes.0 a.goes.around a.state in
+    nothing-ended s old new is_first mark start argument a t (expansion-kept s old new a.goes.around pattern k goes.0 a.kept text candidates scope_) text
+    (expansion-empty f.own packed.all k packed.elements pattern (packed.are.size ∙ none) packed.all_are packed.there.0) refl
+    (subst (λ j. ParametersGoOn s argument a.lead a.make (a.ts ++ t ∷ []) j later) (sym at) goes.1)

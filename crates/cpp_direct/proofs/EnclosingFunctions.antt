@@ -43,7 +43,7 @@ use Rattle.cpp_direct.proofs.MovesOfEncodings.{encoding-opens, name-nested, name
 use Rattle.cpp_direct.proofs.MovesOfLists.{element-awaits}
 use Rattle.cpp_direct.proofs.MovesOfLocals.{lambda-opens, lambda-piece, lambda_bytes, local-type-opens, nowhere-scoped, number-is}
 use Rattle.cpp_direct.proofs.Nesting.{nest-comes, closed-prints}
-use Rattle.cpp_direct.proofs.PrintedLists.{list-with-none, all-in, element-in, next-prints, next-prints-in, none-print, none-print-in}
+use Rattle.cpp_direct.proofs.PrintedLists.{list-in, list-with-none, all-in, element-in, next-prints, next-prints-in, none-print, none-print-in}
 use Rattle.cpp_direct.proofs.PrintedParts.{has-none, has-parameters}
 use Rattle.cpp_direct.proofs.PrintedLocals.{function-encloses, name-encloses, object-enclosing, returned-enclosing, lambda-prints, lambda-list-prints, local-prints}
 use Rattle.cpp_direct.proofs.PrintedNames.{as-name, source-prints}
@@ -386,7 +386,8 @@ function-within s w last new mark from to p apart one text candidates scope at w
     let shows : Shows (detail_of s) (function f.own (qualifiers (has_const mark)) (called_on mark) absent (list_of p.ts)) bytes =
     subst (λ x. Shows (detail_of s) (function f.own (qualifiers (has_const mark)) (called_on mark) absent (list_of p.ts)) (b ++ codes "(" ++ l ++ codes ")" ++ x))
     (plain-text mark)
-    (function-shows (has-parameters s whole) f.own b f.prints p.ts l f.elements (qualifiers (has_const mark)) (called_on mark)) in
+    (function-shows (has-parameters s whole) f.own b f.prints (list_of p.ts) l (list-in (detail_of s) (types_of f.own) 6 p.ts l (omega arith) f.elements)
+    (qualifiers (has_const mark)) (called_on mark)) in
     enclosing-read s new mark from w.at (kept-same s last new text candidates scope (kept-written s w last (codes ")") one p.kept)) (p.make (list_of p.ts)) p.front bytes
     (ap (λ x. x ++ q) (ap (λ v. v.list.items) text ∙ one.text ∙ ap (λ x. x ++ codes ")") p.written) ∙ behind-five p.front b (codes "(") l (codes ")") q) p.from_is
     (subst (λ t. Encloses (detail_of s) t bytes) (sym end.0)

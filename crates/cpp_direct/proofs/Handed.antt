@@ -15,11 +15,11 @@ use Rattle.cpp_direct.specs.declared.direct.Direct.{Direct}
 use Rattle.cpp_direct.specs.Holes.{Opened, Comes}
 use Rattle.cpp_direct.specs.Prints.{Names, PrintsAs, IsElementIn, Shows}
 use Rattle.cpp_direct.specs.WriterInvariant.{FirstType, IsNaming, IsTemplate, IsWriting, Marks, AwaitsEnumerator, Belongs, Listing, Scope, of_template, of_pack, Stands, below, opening_text, extra_of, led_by, in_front_of_next, argument_of, Kept, IsTypeRead}
-use Rattle.cpp_direct.specs.MidStep.{AwaitsMark, AwaitsNumber, AwaitsSignature, IsElementRead, IsFrontRead, IsParameterEnded, IsPassedClosed, IsReturned, IsSymbolEnded}
+use Rattle.cpp_direct.specs.MidStep.{AwaitsMark, AwaitsNumber, AwaitsSignature, IsElementRead, IsFrontRead, AreParametersRead, IsPassedClosed, IsReturned, IsSymbolEnded}
 use Rattle.cpp_direct.proofs.Elements.{element-added}
 use Rattle.cpp_direct.proofs.Listed.{TakesElements, last-found, list-waits, some-elements}
-use Rattle.cpp_direct.proofs.PrintedLists.{element-in, next-prints, next-prints-in, type-element}
-use Rattle.cpp_direct.proofs.PrintedTypes.{as-in, type-element-in}
+use Rattle.cpp_direct.proofs.PrintedLists.{element-in, next-prints, next-prints-in, type-element, type-in}
+use Rattle.cpp_direct.proofs.PrintedTypes.{as-in}
 use Rattle.cpp_direct.proofs.PrintedSymbols.{special-shows}
 use Rattle.cpp_direct.proofs.Kept.{made-here, template-stays}
 use Rattle.cpp_direct.proofs.Scopes.{parameters-as}
@@ -86,8 +86,8 @@ value-element s w is_reference o p found =
 pub parameter-got : (s : Symbol) (w : Direct) (mark : Mark) (start : ℕ) (argument : Arguments) (kept : Kept s w) (rest : List Open) (os : List Opened) (t : Term)
     (front bytes : List ℕ) (waits : Stands s kept.scope (opens.Parameters mark start argument ∷ rest) os front)
     → reverse w.waiting.list.items ≡ opens.Parameters mark start argument ∷ rest
-    → w.text.list.items ≡ front ++ bytes → Comes s os (tree t true) w.at kept.state → IsElementIn (detail_of s) (types_of waits.2.is_function.own) 6 t bytes
-    → IsParameterEnded s w mark start argument
+    → w.text.list.items ≡ front ++ bytes → Comes s os (tree t true) w.at kept.state → IsElementIn (detail_of s) (types_of waits.2.is_function.own) 3 t bytes
+    → AreParametersRead s w 3 false mark start argument
 parameter-got s w mark start argument kept opened_ os t front bytes waits open_is written comes element =
     let ts = waits.0 in
     let texts = waits.1 in
@@ -96,31 +96,32 @@ parameter-got s w mark start argument kept opened_ os t front bytes waits open_i
       rest = opened_;
       open_is = open_is;
       ts = ts ++ t ∷ [];
-      some = some-elements ts t;
+      none = λ e. cc e;
+      some = λ e. some-elements ts t;
       texts = in_front_of_next ts texts ++ bytes;
       has = parameters-as s front w.text.list.items bytes mark start argument waits.2 written
-          (next-prints-in (types_of f.own) 6 ts texts t bytes f.elements element);
+          (next-prints-in (types_of f.own) 3 ts texts t bytes f.elements element);
       written = written ∙ ap (λ l. l ++ bytes) waits.3 ∙ append_assoc (waits.2.front ++ codes "(") (in_front_of_next ts texts) bytes;
       goes = waits.4 t w.at kept.state comes;
     }
 
 pub parameter-read : (s : Symbol) (w : Direct) (mark : Mark) (start : ℕ) (argument : Arguments) → IsElementRead s w (opens.Parameters mark start argument)
-    → IsParameterEnded s w mark start argument
+    → AreParametersRead s w 3 false mark start argument
 parameter-read s w mark start argument p =
     parameter-got s w mark start argument p.read.kept p.rest p.read.os p.read.own p.read.front p.read.bytes p.read.stands p.open_is p.read.written p.read.comes
-    (element-in (types_of p.read.stands.2.is_function.own) 6 p.read.own p.read.bytes (p.read.element 6))
+    (element-in (types_of p.read.stands.2.is_function.own) 3 p.read.own p.read.bytes (p.read.element 3))
 
 -- it is a type
 pub value-parameter : (s : Symbol) (w : Direct) (is_reference is_dependent : Bool) (mark : Mark) (start : ℕ) (argument : Arguments)
     → IsWriting s w (steps.Value is_reference is_dependent)
-    → slice_get w.waiting.list.items (length w.waiting.list.items - 1) ≡ Some (opens.Parameters mark start argument) → IsParameterEnded s w mark start argument
+    → slice_get w.waiting.list.items (length w.waiting.list.items - 1) ≡ Some (opens.Parameters mark start argument) → AreParametersRead s w 3 false mark start argument
 value-parameter s w is_reference is_dependent mark start argument p found =
     let last = last-found w.waiting.list.items (opens.Parameters mark start argument) found in
     let v = subst (λ ws. IsTypeRead s p.scope w p.state ws is_reference is_dependent) last.1 p.is_before in
     let f = v.stands.2.is_function in
     let types = types_of f.own in
     parameter-got s w mark start argument p.kept last.0 v.os v.own v.front v.bytes v.stands last.1 v.written v.comes
-    (type-element-in types v.own v.bytes is_reference (as-in (detail_of s) p.scope.names is_dependent types v.own v.bytes is_reference f.given v.prints))
+    (type-in types 3 v.own v.bytes is_reference (as-in (detail_of s) p.scope.names is_dependent types v.own v.bytes is_reference f.given v.prints))
 
 -- what a special object is of was read
 pub special-read : (s : Symbol) (w : Direct) → IsElementRead s w opens.Special → IsSymbolEnded s w

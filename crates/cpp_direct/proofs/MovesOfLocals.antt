@@ -247,7 +247,7 @@ pub record LambdaOpened (s : Symbol) (os : List Opened) (e : Term) (at : ℕ) (s
 
 -- no parameter names an argument there
 pub nowhere-scoped : (around : Around) → HasScope nowhere around
-nowhere-scoped around = ((λ placed. absurd (placed refl)), (λ k known. absurd (none-known k known)))
+nowhere-scoped around = (λ placed. absurd (placed refl), λ k single. absurd (none-known k single.0), λ e. cc e)
 
 -- a lambda begins in a symbol without long numbers
 pub lambda-opens : (s : Symbol) (os : List Opened) (around : Around) (e : Term) (at : ℕ) (st : State) → short_numbers 0 s.bytes ≡ true

@@ -67,7 +67,7 @@ some-same t u e = cc e
 -- the arguments of a name are given in its types
 arguments-given : {detail : Detail} (text : List ℕ) (a : Arguments) (own : Term) → HasArguments detail text a own → IsGiven detail (names_at text a) (types_of own)
 arguments-given {detail} text a own has number n is =
-    let h = has number (text-single text (place_of a number) n is).0.0 in
+    let h = has.0 number (text-single text (place_of a number) n is).0 in
     types-given (names_at text a) own h.all h.all_are (λ k m e. one h.all h.all_are k m e) number n is
   where
     one : (all : Term) → arguments_of own ≡ Some all → (k : ℕ) (m : Named) → text_at text (place_of a k) ≡ Some m
@@ -75,11 +75,11 @@ arguments-given {detail} text a own has number n is =
     one all all_are k m e =
         let p = place_of a k in
         let single = text-single text p m e in
-        let h = has k single.0.0 in
+        let h = has.0 k single.0 in
         let found = piece-found text h.bytes p.from p.to h.placed in
         let same : h.all ≡ all = some-same h.all all (sym h.all_are ∙ all_are) in (
           h.own,
-          subst (λ t. element t k ≡ h.own) same (h.there single.0.1).0,
+          subst (λ t. element t k ≡ h.own) same h.there.0,
           subst (λ (x : Named). Prints detail h.own x.bytes x.reference) single.1
               (subst (λ l. Prints detail h.own l p.is_reference) (sym found.2) h.prints),
         )
@@ -121,7 +121,7 @@ scope-begins s old new mark is_instance argument a from p same encoded first new
           keeps = record {
             candidates = candidates-given s scope.names text old.candidates.list.items p.state.candidates
                 (subst (λ (k : Scope). AreCandidates s k.names text old.candidates.list.items p.state.candidates) (p.keeps.unknown first) p.keeps.candidates);
-            named = λ number single. let h = names number single.0 in
+            named = λ number single. let h = names.0 number single in
                 (h.bytes, text-there text (place_of a number) h.bytes single h.placed, h.placed);
             own = record {
               encoded = λ real. (encoded real).1;
@@ -164,10 +164,9 @@ named-here s w kept around all scoped found real =
 named-single : (s : Symbol) (scope : Scope) (around : Around) (open_ : List Open) (arguments : Term) → IsScopeOf s scope → IsScoped scope around open_
     → argument_of open_ ≡ Some scope.arguments → around.scope ≡ Some arguments → AreSingle scope.names arguments
 named-single s scope around open_ arguments own scoped found is k n e =
-    let single = own.single k n e in
-    let here = (scoped scope.arguments found).1.1 k single.0 in
+    let here = (scoped scope.arguments found).1.1 k (own.single k n e) in
     let same : here.all ≡ arguments = cc (sym here.scope_is ∙ is) in
-    subst (λ l. length_if_pack (element l k) ≡ None) same (ap length_if_pack (here.there single.1).0 ∙ here.no_pack)
+    subst (λ l. length_if_pack (element l k) ≡ None) same (ap length_if_pack here.there.0 ∙ here.no_pack)
 
 -- what names them may be named again among the same types
 pub again-substituted : (s : Symbol) {scope : Scope} (around : Around) (open_ : List Open) (c : values.Candidate) (st : State) (bytes : List ℕ) (r : Bool)

@@ -3,7 +3,7 @@ use Rattle.sym_print.specs.declared.detail.Detail.{Detail}
 use Rattle.cpp_direct.specs.WrittenParts.{opening_bracket}
 use Rattle.cpp_direct.specs.declared.open.Arguments.{Arguments}
 use Rattle.cpp_direct.proofs.Unmarked.{name-unmarked}
-use Rattle.cpp_direct.proofs.Scopes.{scoped-inside, has-member}
+use Rattle.cpp_direct.proofs.Scopes.{no-arguments, scoped-inside, has-member}
 use Rattle.std.proofs.Common.{◌≡◌, ◌≢◌, ℕ, ◌+◌, ◌-◌, ◌≤◌, List, [], ◌∷◌, ◌++◌, length, take, drop, reverse, slice_get, Bool, true, false, Some, refl, ap, sym, ◌∙◌, subst, arith, codes, append-nil, append_assoc, ◌&&◌, Ok}
 use Rattle.std.proofs.lemmas.Bool.{false≢true}
 use Rattle.sym_core.specs.declared.NumberKind.TheVariants.{Seq36}
@@ -33,11 +33,11 @@ use Rattle.cpp_direct.specs.Holes.{Opened, Comes, StandsAt, IsNameAt, IsSeqAt, S
 use Rattle.cpp_direct.specs.HolesOfNests.{IsRest, IsFirstRest}
 use Rattle.cpp_direct.specs.Names.{tag_text}
 use Rattle.cpp_direct.specs.Prints.{Names, Prints, PrintsAs, NamesClass}
-use Rattle.cpp_direct.specs.WriterInvariant.{HasArguments, IsNaming, IsNest, IsNestScoped, IsNesting, IsOwn, IsScoped, Scope, Serves, IsWriting, below, encoding_place, is_type, IsKnown, nowhere, place_of, IsScopeOf, argument_of, Kept, IsNestSoFar}
+use Rattle.cpp_direct.specs.WriterInvariant.{HasArguments, IsNaming, IsNest, IsNestScoped, IsNesting, IsOwn, IsScoped, Scope, Serves, IsWriting, below, encoding_place, is_type, nowhere, IsScopeOf, argument_of, Kept, IsNestSoFar}
 use Rattle.cpp_direct.specs.MidStep.{AwaitsNest, IsNestKnown, IsNestNamed, IsNameEnded, IsOperatorRead}
 use Rattle.cpp_direct.specs.Written.{Reads, added, added_unless}
 use Rattle.cpp_direct.proofs.Moves.{alone-arguments, any-tail, expects-empty, stands-join, comes-moved}
-use Rattle.cpp_direct.proofs.Kept.{kept-grown, kept-read, kept-same, made-here, candidate-found, piece-found, nest-stays, value-comes, Lists, OpensArguments, list-begins, type-named, none-known, kept-unless, kept-with, placed-last, placed-moved}
+use Rattle.cpp_direct.proofs.Kept.{kept-grown, kept-read, kept-same, made-here, candidate-found, piece-found, nest-stays, value-comes, Lists, OpensArguments, list-begins, type-named, kept-unless, kept-with, placed-last, placed-moved}
 use Rattle.cpp_direct.proofs.MovesOfLists.{arguments-open}
 use Rattle.cpp_direct.proofs.MovesOfTypes.{substituted-so}
 use Rattle.cpp_direct.proofs.NamedArguments.{again-substituted, named-here}
@@ -331,7 +331,7 @@ type-ended s old new kept t n here is_type lists =
 pub arguments-noted : {detail : Detail} (b : Bool) (text : List ℕ) (a r : Arguments) (t : Term) → (b ≡ true → r ≡ a) → (b ≡ false → r ≡ nowhere)
     → (b ≡ true → HasArguments detail text a t) → HasArguments detail text r t
 arguments-noted {detail} true text a r t known none has = subst (λ (k : Arguments). HasArguments detail text k t) (sym (known refl)) (has refl)
-arguments-noted {detail} false text a r t known none has = λ k o. absurd (none-known k (subst (λ (q : Arguments). IsKnown (place_of q k)) (none refl) o))
+arguments-noted {detail} false text a r t known none has = subst (λ (k : Arguments). HasArguments detail text k t) (sym (none refl)) (no-arguments text t)
 
 -- it is the name of the encoding
 pub name-comes : (s : Symbol) (old : Direct) (kept : Kept s old) (t : Term) (mark : Mark) (is_function : Bool) (argument_ : Arguments)
@@ -366,7 +366,7 @@ operator-ends s w mark p here is_name =
       has = has-member s w.text.list.items mark w.nest.from t p.front p.bytes p.written p.from_is p.prints;
       no_return = λ e. p.no_return;
       returns = λ e. absurd (false≢true e);
-      names = λ k o. absurd (none-known k o);
+      names = no-arguments w.text.list.items p.own;
       awaits = serves t false (w.at + 1) st
           (goes.passes (tree t false) (w.at + 1) st (nest-end s goes.inner p.around t false w.at st goes.awaits here));
     }

@@ -1,5 +1,6 @@
 -- Names of encodings that are in no class, and of local entities: where a writer is after them.
 use Rattle.cpp_direct.proofs.Unmarked.{name-unmarked}
+use Rattle.cpp_direct.proofs.Scopes.{no-arguments}
 use Rattle.std.proofs.Common.{◌≡◌, ◌≢◌, ℕ, ◌+◌, length, List, [], ◌∷◌, ◌++◌, Bool, true, false, not, cond, refl, ap, sym, subst, ◌∙◌, arith, append_assoc, codes, ◌≤◌, append-nil}
 use Rattle.std.proofs.lemmas.Bool.{false≢true}
 use Rattle.cpp_grammar.specs.declared.kind.Kind.{Kind}
@@ -20,7 +21,7 @@ use Rattle.cpp_direct.specs.Written.{Writes, Reads, added}
 use Rattle.cpp_direct.proofs.Begins.{encoding-expected, items-await, encoded-whole, third-tells}
 use Rattle.cpp_direct.proofs.Moves.{alone-arguments, expects-empty, stands-join}
 use Rattle.cpp_direct.proofs.PrintedNests.{tagged-names, tagged-prints}
-use Rattle.cpp_direct.proofs.Kept.{kept-grown, kept-read, kept-same, none-kept, Lists, OpensArguments, list-begins, none-known, kept-with}
+use Rattle.cpp_direct.proofs.Kept.{kept-grown, kept-read, kept-same, none-kept, Lists, OpensArguments, list-begins, kept-with}
 use Rattle.cpp_direct.proofs.NamePlaces.{reads-then, reads-of, reads-begun}
 use Rattle.cpp_direct.proofs.MovesOfEncodings.{name-source, name-internal, name-operator, name-std, operator-piece-comes, symbol-starts, encoding-opens}
 use Rattle.cpp_direct.proofs.MovesOfLists.{arguments-open}
@@ -176,7 +177,7 @@ unscoped-bare s w from takes p = record {
   has = has-plain s w.text.list.items from p.own p.front p.bytes p.written p.from_is p.names;
   no_return = λ e. p.no_return;
   returns = λ e. absurd (false≢true e);
-  names = λ k o. absurd (none-known k o);
+  names = no-arguments w.text.list.items p.own;
   awaits = p.has.bare w.at p.state
       (expects-empty s Kind.MaybeArguments (after p.own false (in_name p.encoding)) p.has.inner w.at p.state p.has.awaits refl);
 }

@@ -1,14 +1,14 @@
 -- Where a writer is between two of its functions, within a step.
-use Rattle.std.specs.Prelude.{◌≡◌, ◌≢◌, ◌⊎◌, ℕ, zero, suc, ◌+◌, List, [], ◌∷◌, ◌++◌, length, reverse, ◌≤◌, ◌<◌, Bool, true, false, cond, Some, codes, ◌-◌, take, drop, slice_get}
+use Rattle.std.specs.Prelude.{◌≡◌, ◌≢◌, ◌⊎◌, ℕ, zero, suc, ◌+◌, List, [], ◌∷◌, ◌++◌, length, reverse, ◌≤◌, Bool, true, false, cond, Some, codes, ◌-◌, take, drop, slice_get}
 use Rattle.cpp_direct.specs.Written.{Reads, Writes}
 use Rattle.cpp_direct.specs.HolesOfLists.{IsArgumentKind}
 use Rattle.cpp_direct.specs.WrittenParts.{IsUnmarked, opening_bracket}
 use Rattle.sym_print.specs.declared.detail.Detail.{Detail}
 use Rattle.cpp_grammar.specs.declared.kind.Kind.{Kind}
-use Rattle.cpp_grammar.specs.Term.{Term, Signed, absent, array, function, instance, builtin, pack}
+use Rattle.cpp_grammar.specs.Term.{Term, Signed, absent, array, function, instance, builtin}
 use Rattle.cpp_grammar.specs.Texts.{look_up, builtin_texts, literal_endings}
 use Rattle.cpp_grammar.specs.Parts.{is_plain_integer, types_of}
-use Rattle.cpp_grammar.specs.Scope.{count, element, has_return_type, is_structor}
+use Rattle.cpp_grammar.specs.Scope.{has_return_type, is_structor}
 use Rattle.cpp_grammar.specs.Between.{after, in_name, with_tag}
 use Rattle.cpp_grammar.specs.Meaning.{encoding_of}
 use Rattle.cpp_grammar.specs.Values as values
@@ -32,8 +32,8 @@ use Rattle.cpp_direct.specs.HolesOfFunctions.{SignatureGoesOn, plain_function, p
 use Rattle.cpp_direct.specs.HolesOfArrays.{accessed, with_accessed}
 use Rattle.cpp_direct.specs.HolesOfTypes.{IsNamedKind, NoReference, TreeOpens}
 use Rattle.cpp_direct.specs.Marks.{has_const, called_on, mark_text}
-use Rattle.cpp_direct.specs.Prints.{NamesClass, Prints, PrintsName, IsElement, PrintAll, Shows, Encloses, sign_text, PrintsAs, PrintsIn, PrintAllAs, IsGiven, list_of, PrintAllBy, PrintsMade, pattern_letters}
-use Rattle.cpp_direct.specs.WriterInvariant.{AwaitsItems, Encoded, EncodedBehind, Fronts, IsListing, IsTail, IsTemplate, GoesOn, EnumeratorGoesOn, Owns, ParametersGoOn, Serves, Stands, TakesFunction, opening_text, qualifiers, arguments_or_pack, extra_of, led_by, list_with, in_front_of_next, ComeBefore, IsAmong, AreAmong, HasArguments, IsKnown, IsScoped, is_type, place_of, IsNaming, IsNestScoped, Scope, below, is_noted, may_name, encoding_place, IsNamedSo, IsNesting, Kept, IsBetween, AwaitsTypeIn, HasInstance, HasParameters, IsNestSoFar, FirstType, IsTaken}
+use Rattle.cpp_direct.specs.Prints.{NamesClass, Prints, PrintsName, IsElement, PrintAll, Shows, Encloses, sign_text, PrintsAs, PrintsIn, PrintAllAs, IsGiven, PrintAllBy, PrintsMade, pattern_letters}
+use Rattle.cpp_direct.specs.WriterInvariant.{AwaitsItems, Encoded, EncodedBehind, Fronts, IsListing, IsTail, IsTemplate, GoesOn, EnumeratorGoesOn, Owns, ParametersGoOn, Serves, Stands, TakesFunction, opening_text, qualifiers, arguments_or_pack, extra_of, led_by, list_with, in_front_of_next, ComeBefore, AreAmong, HasArguments, HasPack, IsAmong, IsPackOf, IsSingle, IsKnown, IsScoped, is_type, place_of, IsNaming, IsNestScoped, Scope, below, is_noted, may_name, encoding_place, IsNamedSo, IsNesting, Kept, IsBetween, AwaitsTypeIn, HasInstance, HasParameters, IsNestSoFar, FirstType, IsTaken}
 
 -- the digits after the T of a parameter with this number
 abbrev pub parameter_digits : (number : ℕ) → List ℕ
@@ -296,12 +296,11 @@ pub record AwaitsClass (s : Symbol) (w : Direct) : Type 0 where
   pub structor : is_structor own ≡ true
   pub serves : Serves s w.nest.purpose (below s scope (reverse w.waiting.list.items)) outer front
 
--- the known ones among arguments are at their places, and of a pack its elements
+-- the known ones among arguments are at their places, and those that are in a pack
 abbrev pub AreKnown : (detail : Detail) (text : List ℕ) → Arguments → List Term → (tail : Term) → Type 0
 AreKnown detail text a ts tail =
-    (number : ℕ) → IsKnown (place_of a number) → (((place_of a number).is_pack ≡ false) × IsAmong detail text (place_of a number) number ts)
-    ⊎ (((place_of a number).is_pack ≡ true) × (es : List Term) × (element (list_with ts tail) a.before ≡ pack (list_of es)) × (a.before < count (list_with ts tail))
-    × (length es ≡ a.elements) × IsAmong detail text (place_of a number) (number - a.before) es)
+    ((number : ℕ) → IsSingle (place_of a number) → IsAmong detail text (place_of a number) number ts)
+    × (a.has_pack ≡ true → (es : List Term) × HasPack (list_with ts tail) a.before es × IsPackOf detail text a es)
 
 -- The arguments of what was opened last are read and their E, but for their last bracket. Those that are known are at their places.
 pub record IsListEnded (s : Symbol) (w : Direct) (argument : Arguments) : Type 0 where
@@ -408,7 +407,7 @@ pub record IsFrontRead (s : Symbol) (w : Direct) (mark : Mark) (start : ℕ) (ar
 pub record AwaitsParameters (s : Symbol) (w : Direct) (mark : Mark) (start : ℕ) (argument : Arguments) : Type 0 where
   pub kept : Kept s w
   pub open kept use *
-  pub has : HasParameters s scope w.text.list.items mark start argument [] []
+  pub has : HasParameters s 3 scope w.text.list.items mark start argument [] []
   pub open has use *
   pub written : w.text.list.items ≡ front
   pub goes : ParametersGoOn s argument lead make [] w.at state
@@ -430,28 +429,30 @@ IsDependentNow (opens.NestArguments nest) new = (nest.purpose ≡ purposes.Type)
 IsDependentNow (opens.FirstArguments nest) new = (nest.purpose ≡ purposes.Type) × (new ≡ opens.FirstArguments (record nest { is_dependent = true }))
 IsDependentNow _ new = ⊥
 
--- A parameter of a function is expected.
-pub record AwaitsNextParameter (s : Symbol) (w : Direct) (mark : Mark) (start : ℕ) (argument : Arguments) : Type 0 where
+-- Of a function these parameters were read, or none where the first one is expected. Each may cost so much more than its text.
+pub record AreParametersRead (s : Symbol) (w : Direct) (extra : ℕ) (is_first : Bool) (mark : Mark) (start : ℕ) (argument : Arguments) : Type 0 where
   pub kept : Kept s w
   pub open kept use *
   pub rest : List Open
   pub open_is : reverse w.waiting.list.items ≡ opens.Parameters mark start argument ∷ rest
   pub ts : List Term
+  pub none : is_first ≡ true → ts ≡ []
+  pub some : is_first ≡ false → ts ≢ []
   pub texts : List ℕ
-  pub has : HasParameters s scope w.text.list.items mark start argument ts texts
+  pub has : HasParameters s extra scope w.text.list.items mark start argument ts texts
   pub open has use *
-  pub written : w.text.list.items ≡ front ++ codes "(" ++ in_front_of_next ts texts
+  pub written : w.text.list.items ≡ front ++ codes "(" ++ texts
   pub goes : ParametersGoOn s argument lead make ts w.at state
+
+-- what comes before an element of a list, the first one or another one
+abbrev pub separator : (is_first : Bool) → List ℕ
+separator true = []
+separator false = codes ", "
 
 -- what comes before the element of a list with this number
 abbrev pub comma_text : (number : ℕ) → List ℕ
 comma_text zero = []
 comma_text (suc k) = codes ", "
-
--- a pack has these elements, and the known ones are at their places
-pub record IsPackOf (detail : Detail) (text : List ℕ) (a : Arguments) (ts : List Term) : Type 0 where
-  pub size : length ts ≡ a.elements
-  pub among : (k : ℕ) → IsKnown (place_of a (a.before + k)) → (place_of a (a.before + k)).is_pack ≡ true → IsAmong detail text (place_of a (a.before + k)) k ts
 
 -- the letters of an expansion
 abbrev pub expansion_letters : Pattern → (number : ℕ) → List ℕ
@@ -466,20 +467,6 @@ pub record AreExpanded (detail : Detail) (pattern : Pattern) (old new : Direct) 
   pub bytes : List ℕ
   pub prints : PrintAllBy (PrintsMade detail pattern) done bytes
   pub writes : Writes old new bytes
-
--- A parameter of a function was read.
-pub record IsParameterEnded (s : Symbol) (w : Direct) (mark : Mark) (start : ℕ) (argument : Arguments) : Type 0 where
-  pub kept : Kept s w
-  pub open kept use *
-  pub rest : List Open
-  pub open_is : reverse w.waiting.list.items ≡ opens.Parameters mark start argument ∷ rest
-  pub ts : List Term
-  pub some : ts ≢ []
-  pub texts : List ℕ
-  pub has : HasParameters s scope w.text.list.items mark start argument ts texts
-  pub open has use *
-  pub written : w.text.list.items ≡ front ++ codes "(" ++ texts
-  pub goes : ParametersGoOn s argument lead make ts w.at state
 
 -- A function was read and written but for its last bracket and its qualifiers.
 pub record IsFunctionEnded (s : Symbol) (w : Direct) (mark : Mark) (start : ℕ) : Type 0 where

@@ -79,7 +79,7 @@ abbrev pub no_place : Argument
 no_place = record { from = 1; to = 0; is_pack = false; is_reference = false }
 
 abbrev pub nowhere : Arguments
-nowhere = record { first = no_place; second = no_place; third = no_place; fourth = no_place; encoding = 0; before = 0; elements = 0 }
+nowhere = record { first = no_place; second = no_place; third = no_place; fourth = no_place; encoding = 0; has_pack = false; before = 0; elements = 0 }
 
 -- the argument with this number
 abbrev pub place_of : Arguments → (number : ℕ) → Argument
@@ -93,42 +93,73 @@ place_of a _ = no_place
 abbrev pub IsKnown : Argument → Type 0
 IsKnown p = p.from ≤ p.to
 
--- The argument of a name with this number is at a place. Where one of them is a pack, after so many and with so many elements, these
--- are in its place.
-pub record IsArgument (detail : Detail) (text : List ℕ) (before size : ℕ) (p : Argument) (number : ℕ) (name : Term) : Type 0 where
+-- it is known, and no pack
+abbrev pub IsSingle : Argument → Type 0
+IsSingle p = IsKnown p × (p.is_pack ≡ false)
+
+-- what has this number among trees is at a place
+pub record IsAmong (detail : Detail) (text : List ℕ) (p : Argument) (number : ℕ) (ts : List Term) : Type 0 where
+  pub bytes : List ℕ
+  pub placed : IsPlaced text p bytes
+  pub own : Term
+  pub there : slice_get ts number ≡ Some own
+  pub prints : Prints detail own bytes p.is_reference
+
+-- a pack has these elements, and the known ones are at their places
+pub record IsPackOf (detail : Detail) (text : List ℕ) (a : Arguments) (ts : List Term) : Type 0 where
+  pub size : length ts ≡ a.elements
+  pub among : (k : ℕ) → IsKnown (place_of a (a.before + k)) → (place_of a (a.before + k)).is_pack ≡ true → IsAmong detail text (place_of a (a.before + k)) k ts
+
+-- The argument of a name with this number is at a place.
+pub record IsArgument (detail : Detail) (text : List ℕ) (p : Argument) (number : ℕ) (name : Term) : Type 0 where
   pub bytes : List ℕ
   pub placed : IsPlaced text p bytes
   pub own : Term
   pub all : Term
   pub all_are : arguments_of name ≡ Some all
-  pub there : p.is_pack ≡ false → (element all number ≡ own) × (number < count all)
-  pub elements : List Term
-  pub packed : p.is_pack ≡ true → (element all before ≡ pack (list_of elements)) × (before < count all)
-      × (slice_get elements (number - before) ≡ Some own) × (length elements ≡ size)
+  pub there : (element all number ≡ own) × (number < count all)
   pub prints : Prints detail own bytes p.is_reference
 
--- the known arguments of a name are at their places
-abbrev pub HasArguments : (detail : Detail) (text : List ℕ) → Arguments → (name : Term) → Type 0
-HasArguments detail text a name = (number : ℕ) → IsKnown (place_of a number) → IsArgument detail text a.before a.elements (place_of a number) number name
+-- among arguments the one with this number is a pack of these elements
+abbrev pub HasPack : (all : Term) → (number : ℕ) → List Term → Type 0
+HasPack all number ts = (element all number ≡ pack (list_of ts)) × (number < count all)
 
--- a parameter may name that argument here, or the pack that comes after so many
-pub record IsScope (before number : ℕ) (is_pack : Bool) (around : Around) : Type 0 where
+-- a name's arguments have a pack, which is known
+pub record OwnPack (detail : Detail) (text : List ℕ) (a : Arguments) (name : Term) : Type 0 where
+  pub all : Term
+  pub all_are : arguments_of name ≡ Some all
+  pub elements : List Term
+  pub there : HasPack all a.before elements
+  pub are : IsPackOf detail text a elements
+
+-- the known arguments of a name are at their places, and those of them that are in a pack
+abbrev pub HasArguments : (detail : Detail) (text : List ℕ) → Arguments → (name : Term) → Type 0
+HasArguments detail text a name =
+    ((number : ℕ) → IsSingle (place_of a number) → IsArgument detail text (place_of a number) number name) × (a.has_pack ≡ true → OwnPack detail text a name)
+
+-- a parameter may name that argument here
+pub record IsScope (number : ℕ) (around : Around) : Type 0 where
   pub own : Term
   pub all : Term
   pub scope_is : around.scope ≡ Some all
-  pub there : is_pack ≡ false → (element all number ≡ own) × (number < count all)
-  pub elements : List Term
-  pub packed : is_pack ≡ true → (element all before ≡ pack (list_of elements)) × (before < count all)
+  pub there : (element all number ≡ own) × (number < count all)
   pub no_pack : length_if_pack own ≡ None
+
+-- a parameter may name a pack of these elements
+pub record IsPackThere (around : Around) (number : ℕ) (ts : List Term) : Type 0 where
+  pub all : Term
+  pub scope_is : around.scope ≡ Some all
+  pub there : HasPack all number ts
 
 -- if the place is known, the innermost encoding begins there, and none of its lambdas is read
 abbrev pub IsEncodedAt : (place : ℕ) → Around → Type 0
 IsEncodedAt place around = place ≢ 0 → (around.encoding ≡ place) × (around.in_lambda ≡ false)
 
--- parameters may name the known arguments here
+-- parameters may name the known arguments here, and the pack
 abbrev pub HasScope : Arguments → Around → Type 0
 HasScope a around =
-    IsEncodedAt a.encoding around × ((number : ℕ) → IsKnown (place_of a number) → IsScope a.before number (place_of a number).is_pack around)
+    IsEncodedAt a.encoding around × ((number : ℕ) → IsSingle (place_of a number) → IsScope number around)
+    × (a.has_pack ≡ true → (ts : List Term) × IsPackThere around a.before ts)
 
 -- a nested name is a type
 abbrev pub is_type : Purpose → Bool
@@ -156,10 +187,6 @@ arguments_in _ = None
 abbrev pub argument_of : List Open → Option Arguments
 argument_of [] = None
 argument_of (o ∷ rest) = elim (is_within_type o) [ true ↦ argument_of rest | false ↦ arguments_in o ]
-
--- it is known, and no pack
-abbrev pub IsSingle : Argument → Type 0
-IsSingle p = IsKnown p × (p.is_pack ≡ false)
 
 -- What types may name: the arguments of the symbol's own name, where they are known, and their texts.
 pub record Scope : Type 0 where
@@ -323,13 +350,14 @@ pub record IsOwnName (detail : Detail) (scope : Scope) (text : List ℕ) (argume
   pub given : IsGiven detail scope.names (types_of own)
   pub named : scope.arguments ≡ argument
 
--- A function's name and the parameters so far, with their texts. All parameters make a function that has no return type.
-pub record IsFunction (detail : Detail) (scope : Scope) (text : List ℕ) (argument : Arguments) (mark : Mark) (make : Term → Term) (ts : List Term) (name texts : List ℕ) : Type 0 where
+-- A function's name and the parameters so far, with their texts, and what each may cost beyond its text. All parameters make a
+-- function that has no return type.
+pub record IsFunction (detail : Detail) (extra : ℕ) (scope : Scope) (text : List ℕ) (argument : Arguments) (mark : Mark) (make : Term → Term) (ts : List Term) (name texts : List ℕ) : Type 0 where
   pub own : Term
   pub makes : (t rest : Term) → make (list t rest) ≡ plain_encoding mark own (list t rest)
   pub is_own : IsOwnName detail scope text argument own name
   pub open is_own use *
-  pub elements : PrintAllIn detail (types_of own) 6 ts texts
+  pub elements : PrintAllIn detail (types_of own) extra ts texts
 
 -- What is written of a function before its parameters. Its text begins at this place in it. Where functions are shown by their names
 -- alone, it ends there.
@@ -339,12 +367,12 @@ Fronts true front start lead name =
     (aside : List ℕ) × (front ≡ lead ++ name ++ aside) × (start ≡ length (lead ++ name))
 
 -- A function's name and the parameters so far are written, and what comes before them.
-pub record HasParameters (s : Symbol) (scope : Scope) (text : List ℕ) (mark : Mark) (start : ℕ) (argument : Arguments) (ts : List Term) (texts : List ℕ) : Type 0 where
+pub record HasParameters (s : Symbol) (extra : ℕ) (scope : Scope) (text : List ℕ) (mark : Mark) (start : ℕ) (argument : Arguments) (ts : List Term) (texts : List ℕ) : Type 0 where
   pub front : List ℕ
   pub lead : List ℕ
   pub make : Term → Term
   pub name : List ℕ
-  pub is_function : IsFunction (detail_of s) scope text argument mark make ts name texts
+  pub is_function : IsFunction (detail_of s) extra scope text argument mark make ts name texts
   pub fronts : Fronts s.is_bare front start lead name
 
 -- The same of a function in which a type is, from a place on. All parameters make one that has some return type, or none.
@@ -499,14 +527,6 @@ abbrev pub GoesOn : (s : Symbol) → Listing → Open → Below → (front : Lis
 GoesOn s listing owner below front template ts at st =
     ElementsGoOn s (element_kind listing) (scoped_in owner below) (λ l now then. Closes s listing owner below front template l now then) ts at st
 
--- Arguments are these elements, and what is known of them so far. The one with this number is at a place.
-pub record IsAmong (detail : Detail) (text : List ℕ) (p : Argument) (number : ℕ) (ts : List Term) : Type 0 where
-  pub bytes : List ℕ
-  pub placed : IsPlaced text p bytes
-  pub own : Term
-  pub there : slice_get ts number ≡ Some own
-  pub prints : Prints detail own bytes p.is_reference
-
 -- those that are known are arguments, and in a pack those from this number on are its elements
 abbrev pub AreAmong : (detail : Detail) (text : List ℕ) → (is_pack : Bool) (first : ℕ) → Arguments → List Term → Type 0
 AreAmong detail text is_pack first a ts =
@@ -537,11 +557,12 @@ abbrev pub arguments_or_pack : (is_pack : Bool) → (before : List Term) → (wr
 arguments_or_pack false before written = of_template
 arguments_or_pack true before written = of_pack before written
 
--- these arguments come before a pack, and before other arguments none does
+-- these arguments come before a pack, and before other arguments none does; none of them ends in a pack so far
 pub record ComeBefore (detail : Detail) (is_pack : Bool) (known : Arguments) (before : List Term) (written : List ℕ) : Type 0 where
   pub none : is_pack ≡ false → before ≡ []
   pub prints : PrintAll detail 3 before written
   pub count_is : is_pack ≡ true → known.before ≡ length before
+  pub no_pack : known.has_pack ≡ false
 
 -- a type comes as an argument of a name with this number, or as an element of such a pack
 abbrev pub AwaitsArgument : (s : Symbol) → Names → (is_pack : Bool) → (from number : ℕ) → (known : Arguments) → (owner : Open) → Below → List Opened
@@ -638,7 +659,7 @@ Stands s scope (opens.Front mark start argument ∷ rest) os text =
     (h : HasInstance s scope text mark start argument)
     × ((t : Term) (at : ℕ) (st : State) → Comes s os (tree t true) at st → ParametersGoOn s argument h.lead (encoding_of h.v) (t ∷ []) at st)
 Stands s scope (opens.Parameters mark start argument ∷ rest) os text =
-    (ts : List Term) × (texts : List ℕ) × (p : HasParameters s scope text mark start argument ts texts)
+    (ts : List Term) × (texts : List ℕ) × (p : HasParameters s 3 scope text mark start argument ts texts)
     × (text ≡ p.front ++ codes "(" ++ in_front_of_next ts texts)
     × ((t : Term) (at : ℕ) (st : State) → Comes s os (tree t true) at st → ParametersGoOn s argument p.lead p.make (ts ++ t ∷ []) at st)
 Stands s scope (opens.Enclosing mark from to ∷ rest) os text =

@@ -40,9 +40,11 @@ pub struct Arguments {
     pub fourth: Argument,
     /// the place where the encoding begins whose types may name them, 0 if this isn't known
     pub encoding: u16,
-    /// how many arguments come before the pack
+    /// whether the last of them is a pack
+    pub has_pack: bool,
+    /// how many arguments come before it
     pub before: u16,
-    /// how many elements the pack has, 0 if there is none
+    /// and how many elements it has
     pub elements: u16,
 }
 

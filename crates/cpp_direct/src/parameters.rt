@@ -10,8 +10,8 @@ ghost use Rattle.cpp_direct.specs.Names.{IsReadable};
 ghost use Rattle.cpp_direct.specs.Prints.{IsMarkedBy, pattern_letters};
 ghost use Rattle.cpp_direct.specs.declared.open.Step.TheVariants as steps;
 ghost use Rattle.cpp_direct.specs.Holes.{StandsAt};
-ghost use Rattle.cpp_direct.specs.WriterInvariant.{EndsNamed, IsWriting, argument_of, arguments_in, is_type, is_within_type, place_of};
-ghost use Rattle.cpp_direct.specs.MidStep.{AwaitsType, AwaitsKnownArgument, AwaitsNextParameter, IsArgumentRead, IsNamedAgain, AreExpanded, IsPackOf, comma_text, expansion_letters, KnowsMore, parameter_digits};
+ghost use Rattle.cpp_direct.specs.WriterInvariant.{EndsNamed, IsPackOf, IsWriting, argument_of, arguments_in, is_type, is_within_type, place_of};
+ghost use Rattle.cpp_direct.specs.MidStep.{AwaitsType, AwaitsKnownArgument, AreParametersRead, IsArgumentRead, IsNamedAgain, AreExpanded, comma_text, expansion_letters, separator, KnowsMore, parameter_digits};
 ghost use Rattle.cpp_direct.specs.Symbol.{symbol_by};
 ghost use Rattle.cpp_direct.specs.Written.{Writes, hidden};
 
@@ -66,7 +66,7 @@ impl Arguments {
     /// The same, and the argument with this number is known.
     fn with(self, number: u16, place: Argument) -> Arguments
         ensures more { KnowsMore self result number place }
-        ensures before { result.before ≡ self.before }
+        ensures rest { (result.before ≡ self.before) × (result.has_pack ≡ self.has_pack) }
     {
         match number {
             0 => Arguments {
@@ -362,6 +362,26 @@ impl Direct {
         Some(Step::Type)
     }
 
+    /// An argument of a name is read, or an element of a pack among them, so many after the first one: where its text is becomes
+    /// known.
+    #[inline(always)]
+    fn note_argument<G: Grammar>(
+        &mut self,
+        _s: &[u8],
+        is_pack: bool,
+        from: u32,
+        number: u16,
+        known: Arguments,
+        is_reference: bool,
+    ) -> Arguments
+        requires read { IsArgumentRead (symbol_by G.IS_WIDE G.IS_BARE G.IS_BRIEF _s.now) self.old is_pack from number known is_reference }
+        ensures { AwaitsKnownArgument (symbol_by G.IS_WIDE G.IS_BARE G.IS_BRIEF _s.now) self.new is_pack number result }
+    {
+        let _entry = self.waiting.pop();
+        let to = self.text.end();
+        known.with(number, placed(from, to, is_pack, is_reference))
+    }
+
     /// An element of a pack is read, so many after the first argument of a name: others follow, or the end of the pack, and
     /// after it that of the arguments.
     // <template-arg> ::= J <template-arg>* E
@@ -377,14 +397,12 @@ impl Direct {
         requires read { IsArgumentRead (symbol_by G.IS_WIDE G.IS_BARE G.IS_BRIEF s.now) self.old true from number known is_reference }
         ensures { IfSome result (IsWriting (symbol_by G.IS_WIDE G.IS_BARE G.IS_BRIEF s.now) self.new) }
     {
-        let _element = self.waiting.pop();
+        let more = self.note_argument::<G>(s, true, from, number, known, is_reference);
         let byte = byte_at(s, self.at);
         // a literal isn't known, nor is what follows it
         if byte == b'L' || is_element_at(s, self.at) {
             return Some(Step::List { is_first: false });
         }
-        let to = self.text.end();
-        let more = known.with(number, placed(from, to, true, is_reference));
         if byte != b'E' {
             return self.next_element::<G>(s, number, more);
         }
@@ -395,7 +413,14 @@ impl Direct {
         let _pack = self.waiting.pop();
         self.at = behind.checked_add(1)?;
         let elements = number.checked_add(1)?.checked_sub(more.before)?;
-        self.close_list::<G>(s, Arguments { elements, ..more })
+        self.close_list::<G>(
+            s,
+            Arguments {
+                has_pack: true,
+                elements,
+                ..more
+            },
+        )
     }
 
     /// An element of a pack comes next, after so many others.
@@ -416,53 +441,71 @@ impl Direct {
         Some(Step::Type)
     }
 
-    /// A parameter of a function comes next.
+    /// A parameter of a function comes next, the first one or another one.
     #[inline(always)]
     pub(crate) fn next_parameter<G: Grammar>(
         &mut self,
         s: &[u8],
+        is_first: bool,
         mark: Mark,
         start: u32,
         argument: Arguments,
     ) -> Option<Step>
         requires fits { IsReadable s.now }
-        requires awaits { AwaitsNextParameter (symbol_by G.IS_WIDE G.IS_BARE G.IS_BRIEF s.now) self.old mark start argument }
+        requires awaits { AreParametersRead (symbol_by G.IS_WIDE G.IS_BARE G.IS_BRIEF s.now) self.old 3 is_first mark start argument }
         ensures { IfSome result (IsWriting (symbol_by G.IS_WIDE G.IS_BARE G.IS_BRIEF s.now) self.new) }
     {
-        if argument.elements != 0 {
-            return self.expansion::<G>(s, mark, start, argument);
+        if argument.has_pack {
+            return self.expansion::<G>(s, is_first, mark, start, argument);
         }
+        self.separate(is_first)?;
         Some(Step::Type)
     }
 
-    /// The last parameter may be one that expands the pack that is among the arguments of the function's template.
+    /// Writes what comes before an element of a list, the first one or another one.
+    #[inline(always)]
+    fn separate(&mut self, is_first: bool) -> Option<()>
+        ensures { OnSome result (Writes self.old self.new (separator is_first)) }
+    {
+        if is_first {
+            return Some(());
+        }
+        self.push_pair(b',', b' ')
+    }
+
+    /// The last parameter may be one that expands the pack that is among the arguments of the function's template. Nothing is written
+    /// of an empty one.
     // <type> ::= Dp <type>
     #[inline(never)]
     fn expansion<G: Grammar>(
         &mut self,
         s: &[u8],
+        is_first: bool,
         mark: Mark,
         start: u32,
         argument: Arguments,
     ) -> Option<Step>
         requires fits { IsReadable s.now }
-        requires awaits { AwaitsNextParameter (symbol_by G.IS_WIDE G.IS_BARE G.IS_BRIEF s.now) self.old mark start argument }
+        requires has_pack { argument.has_pack ≡ true }
+        requires awaits { AreParametersRead (symbol_by G.IS_WIDE G.IS_BARE G.IS_BRIEF s.now) self.old 3 is_first mark start argument }
         ensures { IfSome result (IsWriting (symbol_by G.IS_WIDE G.IS_BARE G.IS_BRIEF s.now) self.new) }
     {
         let Some(read) = expansion_at(s, self.at) else {
+            self.separate(is_first)?;
             return Some(Step::Type);
         };
-        let first = argument.at(argument.before);
-        if first.to < first.from || !first.is_pack {
-            return None;
-        }
-        if read.number != argument.before
-            || argument.elements > 4
-            || !may_end(byte_at(s, read.end))
-        {
+        if read.number != argument.before || !may_end(byte_at(s, read.end)) {
             return None;
         }
         self.at = read.end;
+        if argument.elements == 0 {
+            self.add_expansion(read.pattern)?;
+            return self.close::<G>(s, mark, start);
+        }
+        if argument.elements > 4 {
+            return None;
+        }
+        self.separate(is_first)?;
         self.expand(argument, read.pattern, 0)?;
         self.expand(argument, read.pattern, 1)?;
         self.expand(argument, read.pattern, 2)?;
@@ -534,14 +577,12 @@ impl Direct {
         requires read { IsArgumentRead (symbol_by G.IS_WIDE G.IS_BARE G.IS_BRIEF s.now) self.old false from number known is_reference }
         ensures { IfSome result (IsWriting (symbol_by G.IS_WIDE G.IS_BARE G.IS_BRIEF s.now) self.new) }
     {
-        let _open = self.waiting.pop();
+        let more = self.note_argument::<G>(s, false, from, number, known, is_reference);
         let byte = byte_at(s, self.at);
         // a literal isn't known, nor is what follows it
         if byte == b'L' || is_element_at(s, self.at) {
             return Some(Step::List { is_first: false });
         }
-        let to = self.text.end();
-        let more = known.with(number, placed(from, to, false, is_reference));
         if byte == b'J' {
             return self.next_pack::<G>(s, number, more);
         }
@@ -581,8 +622,11 @@ impl Direct {
     {
         let behind = self.at.checked_add(1)?;
         let byte = byte_at(s, behind);
+        if byte == b'E' {
+            return self.last_pack_empty::<G>(s, last, known);
+        }
         // a literal isn't known, nor is what follows it
-        if byte == b'E' || byte == b'L' || is_element_at(s, behind) {
+        if byte == b'L' || is_element_at(s, behind) {
             return Some(Step::List { is_first: false });
         }
         self.push_pair(b',', b' ')?;
@@ -599,6 +643,32 @@ impl Direct {
             },
         })?;
         Some(Step::Type)
+    }
+
+    /// An empty pack comes next, after so many arguments of a name and one more. It is the last one, or others follow, of which
+    /// nothing is known.
+    // <template-arg> ::= J <template-arg>* E
+    fn last_pack_empty<G: Grammar>(&mut self, s: &[u8], last: u16, known: Arguments) -> Option<Step>
+        requires fits { IsReadable s.now }
+        requires letters { StandsAt s.now self.old.at (74 ∷ 69 ∷ []) }
+        requires awaits { AwaitsKnownArgument (symbol_by G.IS_WIDE G.IS_BARE G.IS_BRIEF s.now) self.old false last known }
+        ensures { IfSome result (IsWriting (symbol_by G.IS_WIDE G.IS_BARE G.IS_BRIEF s.now) self.new) }
+    {
+        let end = self.at.checked_add(2)?;
+        if byte_at(s, end) != b'E' {
+            return Some(Step::List { is_first: false });
+        }
+        self.at = end.checked_add(1)?;
+        let before = last.checked_add(1)?;
+        self.close_list::<G>(
+            s,
+            Arguments {
+                has_pack: true,
+                before,
+                elements: 0,
+                ..known
+            },
+        )
     }
 
     /// The arguments that types may name in what is open, if it is few levels within the types of a function.

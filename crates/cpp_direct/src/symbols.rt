@@ -1,13 +1,13 @@
 // A symbol from its first byte to its last.
 
-ghost use Rattle.std.specs.Prelude.{◌≡◌, ◌≢◌, ◌+◌, ◌∷◌, [], length, true, false};
+ghost use Rattle.std.specs.Prelude.{◌≡◌, ◌≢◌, ◌≤◌, ◌+◌, ◌∷◌, ℕ, [], length, true, false};
 ghost use Rattle.std.specs.Option.{IfSome, OnSome};
 ghost use Rattle.cpp_direct.specs.declared.open.Mark.TheVariants as marks;
 ghost use Rattle.cpp_direct.specs.Holes.{StandsAt};
 ghost use Rattle.cpp_direct.specs.Names.{IsReadable};
 ghost use Rattle.cpp_direct.specs.WriterInvariant.{IsWriting, encoding_place};
 ghost use Rattle.cpp_direct.specs.Bytes.{is_local};
-ghost use Rattle.cpp_direct.specs.MidStep.{IsFresh, AwaitsEncoding, IsNameEnded, IsNameScoped, IsFrontRead, AwaitsParameters, IsParameterEnded, IsEncodingEnded, IsFunctionEnded, IsSymbolEnded};
+ghost use Rattle.cpp_direct.specs.MidStep.{IsFresh, AwaitsEncoding, IsNameEnded, IsNameScoped, IsFrontRead, AwaitsParameters, AreParametersRead, IsEncodingEnded, IsFunctionEnded, IsSymbolEnded};
 ghost use Rattle.cpp_direct.specs.Symbol.{symbol_by};
 
 use crate::direct::Direct;
@@ -43,6 +43,7 @@ pub const NOWHERE: Arguments = Arguments {
     third: NO_PLACE,
     fourth: NO_PLACE,
     encoding: 0,
+    has_pack: false,
     before: 0,
     elements: 0,
 };
@@ -324,7 +325,7 @@ impl Direct {
             start,
             argument,
         })?;
-        self.next_parameter::<G>(s, mark, start, argument)
+        self.next_parameter::<G>(s, true, mark, start, argument)
     }
 
     /// A parameter is read: another one follows, or the end of the encoding.
@@ -336,13 +337,11 @@ impl Direct {
         argument: Arguments,
     ) -> Option<Step>
         requires fits { IsReadable s.now }
-        requires ended { IsParameterEnded (symbol_by G.IS_WIDE G.IS_BARE G.IS_BRIEF s.now) self.old mark start argument }
+        requires ended { AreParametersRead (symbol_by G.IS_WIDE G.IS_BARE G.IS_BRIEF s.now) self.old 3 false mark start argument }
         ensures { IfSome result (IsWriting (symbol_by G.IS_WIDE G.IS_BARE G.IS_BRIEF s.now) self.new) }
     {
-        let byte = byte_at(s, self.at);
-        if !may_end(byte) {
-            self.push_pair(b',', b' ')?;
-            return self.next_parameter::<G>(s, mark, start, argument);
+        if !may_end(byte_at(s, self.at)) {
+            return self.next_parameter::<G>(s, false, mark, start, argument);
         }
         self.close_parameters::<G>(s, mark, start, argument)
     }
@@ -358,7 +357,7 @@ impl Direct {
         _argument: Arguments,
     ) -> Option<Step>
         requires fits { IsReadable s.now }
-        requires ended { IsParameterEnded (symbol_by G.IS_WIDE G.IS_BARE G.IS_BRIEF s.now) self.old mark start _argument }
+        requires ended { (extra : ℕ) × (extra ≤ 6) × AreParametersRead (symbol_by G.IS_WIDE G.IS_BARE G.IS_BRIEF s.now) self.old extra false mark start _argument }
         ensures { IfSome result (IsWriting (symbol_by G.IS_WIDE G.IS_BARE G.IS_BRIEF s.now) self.new) }
     {
         // a lone void is no parameter
@@ -370,7 +369,7 @@ impl Direct {
 
     /// A function is read, and written but for its last bracket. Where functions are shown by their names alone, what follows its
     /// name is taken away.
-    fn close<G: Grammar>(&mut self, s: &[u8], mark: Mark, start: u32) -> Option<Step>
+    pub(crate) fn close<G: Grammar>(&mut self, s: &[u8], mark: Mark, start: u32) -> Option<Step>
         requires fits { IsReadable s.now }
         requires ended { IsFunctionEnded (symbol_by G.IS_WIDE G.IS_BARE G.IS_BRIEF s.now) self.old mark start }
         ensures { IfSome result (IsWriting (symbol_by G.IS_WIDE G.IS_BARE G.IS_BRIEF s.now) self.new) }
