@@ -1,8 +1,9 @@
 -- The operations of code are those of the table.
 use Rattle.std.proofs.Common.{◌≡◌, refl, ap, ◌∙◌, subst, arith, append-nil, ℕ, zero, suc, ◌+◌, ◌*◌, ◌<◌, ◌≤◌, List, [], ◌∷◌, ◌++◌, length, drop, get_or, slice_get, Bool, true, false, nat_eq, nat_lt, ◌&&◌, ◌||◌, Option, Some, None, inl, inr}
 use Rattle.std.specs.Prelude.{nat_le}
-use Rattle.std.proofs.lemmas.Bool.{and_parts, or_parts, eq-eqb, ne_eqb, leb-true, ltb-true}
+use Rattle.std.proofs.lemmas.Bool.{and_parts, or_parts, eq-eqb, ne_eqb, ltb-true}
 use Rattle.std.proofs.lemmas.Bool.Decides.{eqb_tells}
+use Rattle.std.proofs.lemmas.Option.{slice_get_within}
 use Rattle.cpp_grammar.specs.Texts.{same_bytes, builtin_texts, operator_texts, abbreviation_texts, special_texts, named_special_texts, literal_endings}
 use Rattle.cpp_grammar.specs.Operations as table
 use Rattle.cpp_grammar.specs.declared.operand.Operand.{Operand}
@@ -12,7 +13,7 @@ use Rattle.cpp_grammar.specs.Parts.{printed, no_operation}
 use Rattle.cpp_layout.specs.declared.operation_rows.Operation.{Operation}
 use Rattle.cpp_layout.specs.declared.operation_rows.TheConstants.{OPERATIONS}
 use Rattle.cpp_layout.specs.Operations.{with_code, number_of, place_of, HasTexts}
-use Rattle.cpp_layout.proofs.Coding.{holds_below}
+use Rattle.cpp_layout.proofs.Coding.{all_below, holds_below}
 use Rattle.sym_print.specs.Unfold.{PartOf}
 use Rattle.cpp_term.specs.Items as items
 use Rattle.cpp_term.specs.Term.{Term}
@@ -96,44 +97,36 @@ row-at (q ∷ ps) (o ∷ os) zero p d same is =
     subst (λ x. with_code x.code o ≡ x) here (ap (λ l. get_or l 0 q) same)
 row-at (q ∷ ps) (o ∷ os) (suc k) p d same is = row-at ps os k p d (ap (λ l. drop 1 l) same) is
 
-place_within : (number : ℕ) (os : List table.Operation) → place_of number os ≤ length os
-unfolding place_of
-place_within number [] = omega arith
-place_within number (o ∷ os) = by (nat_eq number (number_of o.code)) (place_within number os)
-  where
-    by : (t : Bool) → place_of number os ≤ length os → elim t [ true ↦ 0 | false ↦ suc (place_of number os) ] ≤ suc (length os)
-    by true less = omega arith
-    by false less = omega (arith, less)
-
-pub place_few : (number k : ℕ) → k ≡ place_of number operations → k < length OPERATIONS
-unfolding operations
-place_few number k is = omega (arith, is, place_within number operations)
-
 all-pairs : all_pairs operations ≡ true
 unfolding operations
 all-pairs = refl
+
+pub operation_placed : (a b k : ℕ) → b < 256 → k ≡ place_of (a * 256 + b) operations → slice_get rows k ≡ Some (printed a b)
+unfolding printed
+operation_placed a b k less is = ap (λ n. slice_get rows n) is ∙ found-at a b operations less all-pairs
+
+pub row_there : (k : ℕ) (p : table.Operation) → slice_get rows k ≡ Some p → k < length OPERATIONS
+unfolding operations
+row_there k p is = slice_get_within rows k p is
 
 all-coded : coded rows OPERATIONS ≡ rows
 unfolding operations builtin_texts operator_texts abbreviation_texts special_texts named_special_texts literal_endings
 all-coded = refl
 
-pub row_printed : (a b k : ℕ) (d : Operation) → b < 256 → k ≡ place_of (a * 256 + b) operations → with_code (printed a b).code (get_or OPERATIONS k d) ≡ printed a b
-unfolding printed
-row_printed a b k d less is = row-at rows OPERATIONS k (printed a b) d all-coded (ap (λ n. slice_get rows n) is ∙ found-at a b operations less all-pairs)
+pub row_coded : (k : ℕ) (p : table.Operation) (d : Operation) → slice_get rows k ≡ Some p → with_code p.code (get_or OPERATIONS k d) ≡ p
+row_coded k p d is = row-at rows OPERATIONS k p d all-coded is
 
-abbrev has_texts : Operation → Bool
-has_texts o = nat_lt o.front COUNT && (nat_lt o.between COUNT && nat_lt o.back COUNT)
+-- a number of each row
+each-below : (number : Operation → ℕ) (bound k : ℕ) (d : Operation) → all_below (λ n. nat_lt (number (get_or OPERATIONS n d)) bound) (length OPERATIONS) ≡ true
+    → k < length OPERATIONS → number (get_or OPERATIONS k d) < bound
+each-below number bound k d all less = ltb-true (number (get_or OPERATIONS k d)) bound (holds_below (λ n. nat_lt (number (get_or OPERATIONS n d)) bound) (length OPERATIONS) k all less)
 
 pub row_texts : (k : ℕ) (d : Operation) → k < length OPERATIONS → HasTexts (get_or OPERATIONS k d)
-row_texts k d less =
-    let o = get_or OPERATIONS k d in
-    let all = and_parts (nat_lt o.front COUNT) (nat_lt o.between COUNT && nat_lt o.back COUNT) (holds_below (λ n. has_texts (get_or OPERATIONS n d)) (length OPERATIONS) k refl less) in
-    let rest = and_parts (nat_lt o.between COUNT) (nat_lt o.back COUNT) all.1 in
-    (ltb-true o.front COUNT all.0, ltb-true o.between COUNT rest.0, ltb-true o.back COUNT rest.1)
+row_texts k d less = (each-below (λ o. o.front) COUNT k d refl less, each-below (λ o. o.between) COUNT k d refl less, each-below (λ o. o.back) COUNT k d refl less)
 
 pub row_few : (k : ℕ) (d : Operation) → k < length OPERATIONS → most_of (with_code [] (get_or OPERATIONS k d)) ≤ 7
 unfolding text_part builtin_texts operator_texts abbreviation_texts special_texts named_special_texts literal_endings
-row_few k d less = leb-true _ 7 (holds_below (λ n. nat_le (most_of (with_code [] (get_or OPERATIONS n d))) 7) (length OPERATIONS) k refl less)
+row_few k d less = omega (arith, each-below (λ o. most_of (with_code [] o)) 8 k d refl less)
 
 -- ## Parts
 
