@@ -10,15 +10,16 @@ pub struct Candidate {
     pub is_dependent: bool,
 }
 
-/// An argument of a name, or an element of a pack, and where its text is in what is written. One that ends before it begins is
-/// nowhere.
+/// An argument of a name, or an element of a pack, and where its text is in what is written.
 #[derive(Clone, Copy)]
 pub struct Argument {
     pub from: u16,
     pub to: u16,
-    pub is_pack: bool,
     pub is_reference: bool,
 }
+
+/// Of so many arguments of a name it is known where they are, if each of those before them is.
+pub const MOST_KNOWN: usize = 8;
 
 /// The qualifiers of a member function: whether it is const, and what it may be called on.
 #[derive(Clone, Copy)]
@@ -31,21 +32,26 @@ pub enum Mark {
     ConstRvalue,
 }
 
-/// The first arguments of a name, those of them that are known. If one of them is a pack, its elements are in its place.
+/// The first arguments of a name, those of them that are known. If one of them is a pack, its elements are in its place. Between the
+/// texts of two of them are a comma and a space.
 #[derive(Clone, Copy)]
 pub struct Arguments {
-    pub first: Argument,
-    pub second: Argument,
-    pub third: Argument,
-    pub fourth: Argument,
+    /// where the text of the first one begins
+    pub from: u16,
+    /// where the text of each of them ends
+    pub ends: [u16; MOST_KNOWN],
+    /// whether it is a reference
+    pub references: [bool; MOST_KNOWN],
+    /// how many are known
+    pub count: u8,
     /// the place where the encoding begins whose types may name them, 0 if this isn't known
-    pub encoding: u16,
+    pub encoding: u8,
     /// whether the last of them is a pack
     pub has_pack: bool,
     /// how many arguments come before it
-    pub before: u16,
+    pub before: u8,
     /// and how many elements it has
-    pub elements: u16,
+    pub elements: u8,
 }
 
 /// What a parameter that expands a pack makes of each of its types.
@@ -170,7 +176,7 @@ pub enum Open {
     /// an argument of a name, so many after the first one, whose text begins at this place: an element of what was opened before
     Argument {
         from: u32,
-        number: u16,
+        number: u8,
         known: Arguments,
     },
     /// the elements of a pack, an argument of what was opened before
@@ -178,7 +184,7 @@ pub enum Open {
     /// an element of a pack that is the first argument of a name, so many after the first one, whose text begins at this place
     Element {
         from: u32,
-        number: u16,
+        number: u8,
         known: Arguments,
     },
     /// the number of an enumerator, an element of what was opened before
