@@ -119,12 +119,8 @@ pub named-stays : (text more : List ℕ) (scope : Scope) → AreNamed text scope
 named-stays text more scope named = λ number single. let n = named number single in (n.0, n.1, placed-stays text more (place_of scope.arguments number) n.0 n.2)
 
 -- none is known
-pub none-known : (k : ℕ) → IsKnown (place_of nowhere k) → ⊥
-none-known zero o = absurd (omega (arith, o))
-none-known (suc zero) o = absurd (omega (arith, o))
-none-known (suc (suc zero)) o = absurd (omega (arith, o))
-none-known (suc (suc (suc zero))) o = absurd (omega (arith, o))
-none-known (suc (suc (suc (suc k)))) o = absurd (omega (arith, o))
+pub none-known : (k : ℕ) → IsKnown nowhere k → ⊥
+none-known k o = omega (arith, o)
 
 -- and nothing may be named
 pub none-named : (text : List ℕ) → AreNamed text no_scope

@@ -32,7 +32,7 @@ use Rattle.cpp_direct.proofs.PrintedLists.{element-as, list-more, list-with-none
 use Rattle.cpp_direct.proofs.PrintedNames.{as-name}
 use Rattle.cpp_direct.proofs.PrintedNests.{instance-as, instance-prints, instance-class}
 use Rattle.cpp_direct.proofs.PrintedTypes.{prints-as}
-use Rattle.cpp_direct.proofs.Scopes.{there-still, element-there, instance-returns, known-stay, none-scoped, structor-returns, has-plain}
+use Rattle.cpp_direct.proofs.Scopes.{element-there, instance-returns, known-stay, none-scoped, structor-returns, has-plain}
 use Rattle.cpp_direct.proofs.Kept.{kept-grown, kept-same, made-here, scoped-within, template-stays, type-comes, value-added, reverse-last, last-reversed, type-named, none-known, kept-with}
 
 -- ## What is open
@@ -399,11 +399,11 @@ pub none-packed : {detail : Detail} (text : List ℕ) (is_first : Bool) (ts : Li
     → AreKnown detail text (record nowhere { has_pack = is_first }) ts (list (pack nil) nil)
 unfolding element count
 none-packed text is_first ts none = (
-  λ k single. absurd (none-known k (subst IsKnown (there-still 0 0 0 is_first nowhere k) single.0)),
+  λ k single. absurd (none-known k single.0),
   λ first. (
     [],
     subst (λ us. HasPack (list_with us (list (pack nil) nil)) 0 []) (sym (none first)) (refl, omega arith),
-    record { size = refl; among = λ k known. absurd (none-known (0 + k) (subst IsKnown (there-still 0 0 0 is_first nowhere (0 + k)) known)) },
+    record { size = refl; among = λ k known. absurd (none-known (0 + k) known) },
   ),
 )
 

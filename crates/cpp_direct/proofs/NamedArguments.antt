@@ -1,7 +1,7 @@
 -- The arguments of the symbol's own name, which its types may name from there on, and their texts.
 use Rattle.sym_print.specs.declared.detail.Detail.{Detail}
-use Rattle.std.proofs.Common.{◌≡◌, ◌≢◌, ℕ, ◌-◌, List, [], ◌∷◌, take, drop, reverse, Bool, Ok, true, false, Option, Some, None, is_some, nat_le, refl, ap, sym, ◌∙◌, subst}
-use Rattle.std.proofs.lemmas.Bool.{false≢true, le-leb, leb-true}
+use Rattle.std.proofs.Common.{◌≡◌, ◌≢◌, ℕ, ◌-◌, List, [], ◌∷◌, take, drop, reverse, Bool, Ok, true, false, Option, Some, None, is_some, nat_lt, not, ◌&&◌, ◌||◌, ◌<◌, refl, ap, sym, ◌∙◌, subst}
+use Rattle.std.proofs.lemmas.Bool.{false≢true, and_parts, lt-ltb, ltb-true}
 use Rattle.cpp_grammar.specs.Parts.{types_of}
 use Rattle.sym_link.specs.Unfold.{found}
 use Rattle.cpp_grammar.specs.References.{substituted}
@@ -26,40 +26,50 @@ use Rattle.cpp_direct.proofs.Scopes.{arguments-named}
 
 -- ## Their texts
 
-abbrev single_text : (is_known is_pack : Bool) → Named → Option Named
-single_text true false own = Some own
-single_text _ _ own = None
+abbrev single_text : (is_single : Bool) → Named → Option Named
+single_text true own = Some own
+single_text false own = None
+
+-- it is known, and no element of the pack
+abbrev is_single : Arguments → (number : ℕ) → Bool
+is_single a number = nat_lt number a.count && (not a.has_pack || nat_lt number a.before)
 
 -- what is at a place
 abbrev own_at : (text : List ℕ) → Argument → Named
 own_at text p = record { bytes = take (p.to - p.from) (drop p.from text); reference = p.is_reference }
 
--- the same, if that is known and it is no pack
-abbrev text_at : (text : List ℕ) → Argument → Option Named
-text_at text p = single_text (nat_le p.from p.to) p.is_pack (own_at text p)
-
+-- the same, if that is known and no element of the pack
 abbrev names_at : (text : List ℕ) → Arguments → Names
-names_at text a number = text_at text (place_of a number)
+names_at text a number = single_text (is_single a number) (own_at text (place_of a number))
 
-single-some : (is_known is_pack : Bool) (own n : Named) → single_text is_known is_pack own ≡ Some n → (is_known ≡ true) × (is_pack ≡ false) × (own ≡ n)
-single-some true false own n e = (refl, refl, cc e)
-single-some true true own n e = absurd (false≢true (ap is_some e))
-single-some false p own n e = absurd (false≢true (ap is_some e))
+single-some : (is_single : Bool) (own n : Named) → single_text is_single own ≡ Some n → (is_single ≡ true) × (own ≡ n)
+single-some true own n e = (refl, cc e)
+single-some false own n e = absurd (false≢true (ap is_some e))
+
+single-by : (k count before : ℕ) (has : Bool) → k < count → (has ≡ true → k < before) → nat_lt k count && (not has || nat_lt k before) ≡ true
+single-by k count before false known apart = ap (λ b. b && true) (lt-ltb k count known)
+single-by k count before true known apart = ap (λ b. b && nat_lt k before) (lt-ltb k count known) ∙ lt-ltb k before (apart refl)
+
+by-single : (k count before : ℕ) (has : Bool) → nat_lt k count && (not has || nat_lt k before) ≡ true → (k < count) × (has ≡ true → k < before)
+by-single k count before has e =
+    let h = and_parts (nat_lt k count) (not has || nat_lt k before) e in
+    (ltb-true k count h.0, λ is. ltb-true k before (subst (λ b. not b || nat_lt k before ≡ true) is h.1))
 
 -- a text that is at its place is found there
-text-there : (text : List ℕ) (p : Argument) (bytes : List ℕ) → IsSingle p → IsPlaced text p bytes
-    → text_at text p ≡ Some (record { bytes = bytes; reference = p.is_reference })
-text-there text p bytes single placed =
+text-there : (text : List ℕ) (a : Arguments) (number : ℕ) (bytes : List ℕ) → IsSingle a number → IsPlaced text (place_of a number) bytes
+    → names_at text a number ≡ Some (record { bytes = bytes; reference = (place_of a number).is_reference })
+text-there text a number bytes single placed =
+    let p = place_of a number in
     let found = piece-found text bytes p.from p.to placed in
     let named : List ℕ → Option Named = λ l. Some (record { bytes = l; reference = p.is_reference }) in
-    ap (λ b. single_text b p.is_pack (own_at text p)) (le-leb p.from p.to single.0) ∙ ap (λ b. single_text true b (own_at text p)) single.1
-    ∙ ap named found.2
+    ap (λ b. single_text b (own_at text p)) (single-by number a.count a.before a.has_pack single.0 single.1) ∙ ap named found.2
 
--- what has one is known, and no pack
-text-single : (text : List ℕ) (p : Argument) (n : Named) → text_at text p ≡ Some n → IsSingle p × (own_at text p ≡ n)
-text-single text p n e =
-    let h = single-some (nat_le p.from p.to) p.is_pack (own_at text p) n e in
-    ((leb-true p.from p.to h.0, h.1), h.2)
+-- what has one is known, and no element of the pack
+text-single : (text : List ℕ) (a : Arguments) (number : ℕ) (n : Named) → names_at text a number ≡ Some n
+    → IsSingle a number × (own_at text (place_of a number) ≡ n)
+text-single text a number n e =
+    let h = single-some (is_single a number) (own_at text (place_of a number)) n e in
+    (by-single number a.count a.before a.has_pack h.0, h.1)
 
 some-same : (t u : Term) → Some t ≡ Some u → t ≡ u
 some-same t u e = cc e
@@ -67,14 +77,14 @@ some-same t u e = cc e
 -- the arguments of a name are given in its types
 arguments-given : {detail : Detail} (text : List ℕ) (a : Arguments) (own : Term) → HasArguments detail text a own → IsGiven detail (names_at text a) (types_of own)
 arguments-given {detail} text a own has number n is =
-    let h = has.0 number (text-single text (place_of a number) n is).0 in
+    let h = has.0 number (text-single text a number n is).0 in
     types-given (names_at text a) own h.all h.all_are (λ k m e. one h.all h.all_are k m e) number n is
   where
-    one : (all : Term) → arguments_of own ≡ Some all → (k : ℕ) (m : Named) → text_at text (place_of a k) ≡ Some m
+    one : (all : Term) → arguments_of own ≡ Some all → (k : ℕ) (m : Named) → names_at text a k ≡ Some m
         → (t : Term) × (element all k ≡ t) × Prints detail t m.bytes m.reference
     one all all_are k m e =
         let p = place_of a k in
-        let single = text-single text p m e in
+        let single = text-single text a k m e in
         let h = has.0 k single.0 in
         let found = piece-found text h.bytes p.from p.to h.placed in
         let same : h.all ≡ all = some-same h.all all (sym h.all_are ∙ all_are) in (
@@ -122,10 +132,10 @@ scope-begins s old new mark is_instance argument a from p same encoded first new
             candidates = candidates-given s scope.names text old.candidates.list.items p.state.candidates
                 (subst (λ (k : Scope). AreCandidates s k.names text old.candidates.list.items p.state.candidates) (p.keeps.unknown first) p.keeps.candidates);
             named = λ number single. let h = names.0 number single in
-                (h.bytes, text-there text (place_of a number) h.bytes single h.placed, h.placed);
+                (h.bytes, text-there text a number h.bytes single h.placed, h.placed);
             own = record {
               encoded = λ real. (encoded real).1;
-              single = λ number n e. (text-single text (place_of a number) n e).0;
+              single = λ number n e. (text-single text a number n e).0;
             };
             unknown = λ e. absurd (false≢true (sym e));
           };

@@ -1,6 +1,6 @@
 -- What a writer's lists say while a symbol is read: what is open waits for what comes next, and what was written is its text.
 use Rattle.sym_print.specs.declared.detail.Detail.{Detail}
-use Rattle.std.specs.Prelude.{◌≡◌, ◌≢◌, ◌⊎◌, ℕ, zero, suc, ◌+◌, ◌*◌, ◌≤◌, ◌<◌, List, [], ◌∷◌, ◌++◌, ◌-◌, length, take, drop, reverse, slice_get, Bool, true, false, cond, Option, Some, None, Ok, codes, ◌&&◌, nat_le}
+use Rattle.std.specs.Prelude.{◌≡◌, ◌≢◌, ◌⊎◌, ℕ, zero, suc, ◌+◌, ◌*◌, ◌≤◌, ◌<◌, List, [], ◌∷◌, ◌++◌, ◌-◌, length, take, drop, reverse, replicate, get_or, slice_get, Bool, true, false, cond, Option, Some, None, Ok, codes, ◌&&◌}
 use Rattle.sym_print.specs.Unshared.{text_of, cost_of}
 use Rattle.sym_demangle.specs.Mangled.{StandsFor}
 use Rattle.cpp_grammar.specs.declared.kind.Kind.{Kind}
@@ -22,6 +22,7 @@ use Rattle.cpp_direct.specs.declared.open.Mark.{Mark}
 use Rattle.cpp_direct.specs.declared.open.Purpose.{Purpose}
 use Rattle.cpp_direct.specs.declared.open.Purpose.TheVariants as purposes
 use Rattle.cpp_direct.specs.declared.open.Open.{Open}
+use Rattle.cpp_direct.specs.declared.open.TheConstants.{MOST_KNOWN}
 use Rattle.cpp_direct.specs.declared.open.Argument.{Argument}
 use Rattle.cpp_direct.specs.declared.open.Arguments.{Arguments}
 use Rattle.cpp_direct.specs.declared.open.Open.TheVariants as opens
@@ -74,28 +75,26 @@ AreCandidates s names text _ _ = ⊥
 abbrev pub IsPlaced : (text : List ℕ) → Argument → (bytes : List ℕ) → Type 0
 IsPlaced text p bytes = IsBetween text p.from p.to bytes
 
--- what is nowhere
-abbrev pub no_place : Argument
-no_place = record { from = 1; to = 0; is_pack = false; is_reference = false }
-
+-- of no argument it is known where it is
 abbrev pub nowhere : Arguments
-nowhere = record { first = no_place; second = no_place; third = no_place; fourth = no_place; encoding = 0; has_pack = false; before = 0; elements = 0 }
+nowhere = record { from = 0; ends = replicate MOST_KNOWN 0; references = replicate MOST_KNOWN false; count = 0; encoding = 0; has_pack = false; before = 0; elements = 0 }
+
+-- where the text with this number begins: the first one at a place, and any other after the end of that before it, a comma and a space
+abbrev pub begin_by : (from : ℕ) → (ends : List ℕ) → (number : ℕ) → ℕ
+begin_by from ends zero = from
+begin_by from ends (suc before) = get_or ends before 0 + 2
 
 -- the argument with this number
 abbrev pub place_of : Arguments → (number : ℕ) → Argument
-place_of a zero = a.first
-place_of a (suc zero) = a.second
-place_of a (suc (suc zero)) = a.third
-place_of a (suc (suc (suc zero))) = a.fourth
-place_of a _ = no_place
+place_of a number = record { from = begin_by a.from a.ends number; to = get_or a.ends number 0; is_reference = get_or a.references number false }
 
--- what is somewhere
-abbrev pub IsKnown : Argument → Type 0
-IsKnown p = p.from ≤ p.to
+-- it is known
+abbrev pub IsKnown : Arguments → (number : ℕ) → Type 0
+IsKnown a number = number < a.count
 
--- it is known, and no pack
-abbrev pub IsSingle : Argument → Type 0
-IsSingle p = IsKnown p × (p.is_pack ≡ false)
+-- it is known, and no element of the pack
+abbrev pub IsSingle : Arguments → (number : ℕ) → Type 0
+IsSingle a number = IsKnown a number × (a.has_pack ≡ true → number < a.before)
 
 -- what has this number among trees is at a place
 pub record IsAmong (detail : Detail) (text : List ℕ) (p : Argument) (number : ℕ) (ts : List Term) : Type 0 where
@@ -108,7 +107,7 @@ pub record IsAmong (detail : Detail) (text : List ℕ) (p : Argument) (number : 
 -- a pack has these elements, and the known ones are at their places
 pub record IsPackOf (detail : Detail) (text : List ℕ) (a : Arguments) (ts : List Term) : Type 0 where
   pub size : length ts ≡ a.elements
-  pub among : (k : ℕ) → IsKnown (place_of a (a.before + k)) → (place_of a (a.before + k)).is_pack ≡ true → IsAmong detail text (place_of a (a.before + k)) k ts
+  pub among : (k : ℕ) → IsKnown a (a.before + k) → IsAmong detail text (place_of a (a.before + k)) k ts
 
 -- The argument of a name with this number is at a place.
 pub record IsArgument (detail : Detail) (text : List ℕ) (p : Argument) (number : ℕ) (name : Term) : Type 0 where
@@ -135,7 +134,7 @@ pub record OwnPack (detail : Detail) (text : List ℕ) (a : Arguments) (name : T
 -- the known arguments of a name are at their places, and those of them that are in a pack
 abbrev pub HasArguments : (detail : Detail) (text : List ℕ) → Arguments → (name : Term) → Type 0
 HasArguments detail text a name =
-    ((number : ℕ) → IsSingle (place_of a number) → IsArgument detail text (place_of a number) number name) × (a.has_pack ≡ true → OwnPack detail text a name)
+    ((number : ℕ) → IsSingle a number → IsArgument detail text (place_of a number) number name) × (a.has_pack ≡ true → OwnPack detail text a name)
 
 -- a parameter may name that argument here
 pub record IsScope (number : ℕ) (around : Around) : Type 0 where
@@ -158,7 +157,7 @@ IsEncodedAt place around = place ≢ 0 → (around.encoding ≡ place) × (aroun
 -- parameters may name the known arguments here, and the pack
 abbrev pub HasScope : Arguments → Around → Type 0
 HasScope a around =
-    IsEncodedAt a.encoding around × ((number : ℕ) → IsSingle (place_of a number) → IsScope number around)
+    IsEncodedAt a.encoding around × ((number : ℕ) → IsSingle a number → IsScope number around)
     × (a.has_pack ≡ true → (ts : List Term) × IsPackThere around a.before ts)
 
 -- a nested name is a type
@@ -200,14 +199,14 @@ no_scope = record { arguments = nowhere; names = λ number. None }
 -- the arguments that may be named have these texts at their places
 abbrev pub AreNamed : (text : List ℕ) → Scope → Type 0
 AreNamed text scope =
-    (number : ℕ) → IsSingle (place_of scope.arguments number) → (bytes : List ℕ)
+    (number : ℕ) → IsSingle scope.arguments number → (bytes : List ℕ)
     × (scope.names number ≡ Some (record { bytes = bytes; reference = (place_of scope.arguments number).is_reference }))
     × IsPlaced text (place_of scope.arguments number) bytes
 
 -- They are those of the symbol's own encoding, if it is known where theirs begins, and those that have texts are no packs.
 pub record IsScopeOf (s : Symbol) (scope : Scope) : Type 0 where
   pub encoded : scope.arguments.encoding ≢ 0 → scope.arguments.encoding ≡ encoding_place s.bytes
-  pub single : (number : ℕ) (own : Named) → scope.names number ≡ Some own → IsSingle (place_of scope.arguments number)
+  pub single : (number : ℕ) (own : Named) → scope.names number ≡ Some own → IsSingle scope.arguments number
 
 -- What a writer keeps: its candidates, and the arguments that types may name, of which none are known before the symbol's own name.
 pub record Keeps (s : Symbol) (scope : Scope) (w : Direct) (cs : List values.Candidate) : Type 0 where
@@ -527,11 +526,9 @@ abbrev pub GoesOn : (s : Symbol) → Listing → Open → Below → (front : Lis
 GoesOn s listing owner below front template ts at st =
     ElementsGoOn s (element_kind listing) (scoped_in owner below) (λ l now then. Closes s listing owner below front template l now then) ts at st
 
--- those that are known are arguments, and in a pack those from this number on are its elements
-abbrev pub AreAmong : (detail : Detail) (text : List ℕ) → (is_pack : Bool) (first : ℕ) → Arguments → List Term → Type 0
-AreAmong detail text is_pack first a ts =
-    (number : ℕ) → IsKnown (place_of a number)
-    → IsAmong detail text (place_of a number) number ts × ((place_of a number).is_pack ≡ (is_pack && nat_le first number))
+-- those that are known are among these
+abbrev pub AreAmong : (detail : Detail) (text : List ℕ) → Arguments → List Term → Type 0
+AreAmong detail text a ts = (number : ℕ) → IsKnown a number → IsAmong detail text (place_of a number) number ts
 
 -- this template comes before the arguments
 abbrev pub IsTemplate : (detail : Detail) → Names → Open → (front : List ℕ) → Term → (name : List ℕ) → (text : List ℕ) → Type 0
@@ -572,7 +569,7 @@ AwaitsArgument s names is_pack from number known owner below os text =
     × (before : List Term) × (written : List ℕ) × ComeBefore (detail_of s) is_pack known before written
     × PrintAll (detail_of s) (extra_of (arguments_or_pack is_pack before written)) ts elements
     × (text ≡ led_by (detail_of s) (arguments_or_pack is_pack before written) front name ++ in_front_of_next ts elements) × (from ≡ length text)
-    × (number ≡ length (before ++ ts)) × AreAmong (detail_of s) text is_pack (length before) known (before ++ ts)
+    × (number ≡ length (before ++ ts)) × AreAmong (detail_of s) text known (before ++ ts)
     × ((t : Term) (at : ℕ) (st : State) → Comes s os (tree t true) at st
     → GoesOn s (arguments_or_pack is_pack before written) owner below front template (ts ++ t ∷ []) at st)
 

@@ -18,7 +18,7 @@ pub struct Argument {
     pub is_reference: bool,
 }
 
-/// Of so many arguments of a name it is known where they are, if each of those before them is.
+/// Of how many arguments of a name it may be known where they are.
 pub const MOST_KNOWN: usize = 8;
 
 /// The qualifiers of a member function: whether it is const, and what it may be called on.

@@ -10,8 +10,8 @@ ghost use Rattle.cpp_direct.specs.Names.{IsReadable};
 ghost use Rattle.cpp_direct.specs.Prints.{IsMarkedBy, pattern_letters};
 ghost use Rattle.cpp_direct.specs.declared.open.Step.TheVariants as steps;
 ghost use Rattle.cpp_direct.specs.Holes.{StandsAt};
-ghost use Rattle.cpp_direct.specs.WriterInvariant.{EndsNamed, IsPackOf, IsWriting, argument_of, arguments_in, is_type, is_within_type, place_of};
-ghost use Rattle.cpp_direct.specs.MidStep.{AwaitsType, AwaitsKnownArgument, AreParametersRead, IsArgumentRead, IsNamedAgain, AreExpanded, comma_text, expansion_letters, separator, KnowsMore, parameter_digits};
+ghost use Rattle.cpp_direct.specs.WriterInvariant.{EndsNamed, IsKnown, IsPackOf, IsSingle, IsWriting, argument_of, arguments_in, begin_by, is_type, is_within_type, place_of};
+ghost use Rattle.cpp_direct.specs.MidStep.{AwaitsType, AwaitsKnownArgument, AreParametersRead, IsArgumentRead, IsNamedAgain, AreExpanded, comma_text, expansion_letters, separator, KnowsMore, most_by_digit, parameter_digits};
 ghost use Rattle.cpp_direct.specs.Symbol.{symbol_by};
 ghost use Rattle.cpp_direct.specs.Written.{Writes, hidden};
 
@@ -25,7 +25,7 @@ use crate::tokens::{byte_at, may_end};
 impl Arguments {
     /// Where the text of the argument with this number begins, if those before it are known.
     fn begin(&self, number: u8) -> Option<u16>
-        ensures { IfSome result (λ from. from ≡ begin_of self.now number) }
+        ensures { IfSome result (λ from. from ≡ begin_by self.now.from self.now.ends number) }
     {
         let Some(before) = number.checked_sub(1) else {
             return Some(self.from);
@@ -96,7 +96,7 @@ struct ParameterNumber {
 fn parameter_number(s: &[u8], at: usize) -> Option<ParameterNumber>
     ensures stands { IfSome result (λ n. StandsAt s.now at (parameter_digits n.number ++ 95 ∷ [])) }
     ensures end { IfSome result (λ n. n.end ≡ at + length (parameter_digits n.number ++ 95 ∷ [])) }
-    ensures few { IfSome result (λ n. n.number ≤ 10) }
+    ensures few { IfSome result (λ n. n.number ≤ most_by_digit) }
 {
     let behind = at.checked_add(1)?;
     let byte = byte_at(s, at);
@@ -181,11 +181,14 @@ fn pattern_at(s: &[u8], at: usize) -> Option<PatternPlace>
 {
     let behind = at.checked_add(1)?;
     match byte_at(s, at) {
+        // <type> ::= O <type>
         b'O' => Some(PatternPlace {
             pattern: Pattern::Rvalue,
             end: behind,
         }),
+        // <type> ::= R <type>
         b'R' => {
+            // <CV-qualifiers> ::= [r] [V] [K]
             if byte_at(s, behind) != b'K' {
                 return Some(PatternPlace {
                     pattern: Pattern::Lvalue,
@@ -218,13 +221,14 @@ struct Expansion {
 fn expansion_at(s: &[u8], at: usize) -> Option<Expansion>
     ensures stands { IfSome result (λ e. StandsAt s.now at (expansion_letters e.pattern e.number)) }
     ensures end { IfSome result (λ e. e.end ≡ at + length (expansion_letters e.pattern e.number)) }
-    ensures few { IfSome result (λ e. e.number ≤ 10) }
+    ensures few { IfSome result (λ e. e.number ≤ most_by_digit) }
 {
     let second = at.checked_add(1)?;
     if byte_at(s, at) != b'D' || byte_at(s, second) != b'p' {
         return None;
     }
     let read = pattern_at(s, second.checked_add(1)?)?;
+    // <template-param> ::= T_ | T <parameter-2 non-negative number> _
     if byte_at(s, read.end) != b'T' {
         return None;
     }
@@ -360,14 +364,14 @@ impl Direct {
     fn note_argument<G: Grammar>(
         &mut self,
         _s: &[u8],
-        is_pack: bool,
+        _is_pack: bool,
         from: u32,
         number: u8,
         known: Arguments,
         is_reference: bool,
     ) -> Arguments
-        requires read { IsArgumentRead (symbol_by G.IS_WIDE G.IS_BARE G.IS_BRIEF _s.now) self.old is_pack from number known is_reference }
-        ensures { AwaitsKnownArgument (symbol_by G.IS_WIDE G.IS_BARE G.IS_BRIEF _s.now) self.new is_pack number result }
+        requires read { IsArgumentRead (symbol_by G.IS_WIDE G.IS_BARE G.IS_BRIEF _s.now) self.old _is_pack from number known is_reference }
+        ensures { AwaitsKnownArgument (symbol_by G.IS_WIDE G.IS_BARE G.IS_BRIEF _s.now) self.new _is_pack number result }
     {
         let _entry = self.waiting.pop();
         let to = self.text.end();
@@ -495,11 +499,22 @@ impl Direct {
             return self.close::<G>(s, mark, start);
         }
         self.separate(is_first)?;
-        'elements: for number in 0..argument.elements {
-            self.expand(argument, read.pattern, number)?;
-        }
+        self.expand_all(argument, read.pattern)?;
         self.add_expansion(read.pattern)?;
         self.close_parameters::<G>(s, mark, start, argument)
+    }
+
+    /// Writes what a pattern makes of each element of a pack.
+    // <type> ::= Dp <type>
+    fn expand_all(&mut self, argument: Arguments, pattern: Pattern) -> Option<()>
+        requires pack { (detail : Detail) × (ts : List Term) × IsPackOf detail self.old.text.list.items argument ts }
+        ensures { OnSome result ((detail : Detail) (ts : List Term) → IsPackOf detail self.old.text.list.items argument ts
+            → AreExpanded detail pattern self.old self.new ts argument.elements) }
+    {
+        'elements: for number in 0..argument.elements {
+            self.expand(argument, pattern, number)?;
+        }
+        Some(())
     }
 
     /// Writes what comes before the element of a list with this number.
