@@ -14,7 +14,7 @@ use Rattle.cpp_direct.specs.declared.open.Mark.{Mark}
 use Rattle.cpp_direct.specs.HolesOfTypes.{as_const}
 use Rattle.cpp_direct.specs.Holes.{Opened, StandsAt, Comes, candidate, with_candidate, Expects, IsReferable, IsTyped}
 use Rattle.cpp_direct.specs.Prints.{IsMarkedBy, Names, PrintsAs, PrintsGiven, PrintsMade, PrintAllBy, list_of, made_by, pattern_letters}
-use Rattle.cpp_direct.specs.WriterInvariant.{AreCandidates, EncodedBehind, IsAmong, IsKnown, IsPackOf, IsPackThere, IsPlaced, IsScope, IsSingle, IsWriting, ParametersGoOn, argument_of, in_front_of_next, place_of, Kept}
+use Rattle.cpp_direct.specs.WriterInvariant.{AreCandidates, EncodedBehind, IsKnown, IsPackOf, IsPackThere, IsPlaced, IsScope, IsSingle, IsWriting, ParametersGoOn, argument_of, in_front_of_next, place_of, Kept}
 use Rattle.cpp_direct.specs.MidStep.{AwaitsType, AreParametersRead, IsFunctionEnded, IsNamedAgain, most_by_digit, parameter_digits, AreExpanded, comma_text, expansion_letters, separator}
 use Rattle.cpp_direct.specs.Written.{Writes, added, hidden}
 use Rattle.cpp_direct.specs.declared.direct.Direct.{Direct}
@@ -32,7 +32,7 @@ use Rattle.cpp_grammar.specs.Term.{Term, parameter, expansion, lvalue, rvalue}
 use Rattle.cpp_grammar.specs.Values.{tree, State, Around, text_of, is_there, letter_of, part, piece_of, tree_of, is_listed}
 use Rattle.cpp_grammar.specs.declared.kind.Kind.{Kind}
 use Rattle.cpp_grammar.specs.declared.production.Production.{Production}
-use Rattle.std.proofs.Common.{Bool, ◌≡◌, ◌≢◌, ℕ, zero, suc, ◌+◌, ◌-◌, ◌≤◌, ◌<◌, length, List, [], ◌∷◌, ◌++◌, take, drop, reverse, slice_get, true, false, replicate, Some, None, nat_le, ◌&&◌, refl, ap, sym, ◌∙◌, subst, arith, append_assoc, append-nil, Ok, codes, inl, inr}
+use Rattle.std.proofs.Common.{Bool, ◌≡◌, ◌≢◌, ℕ, zero, suc, ◌+◌, ◌-◌, ◌≤◌, ◌<◌, length, List, [], ◌∷◌, ◌++◌, take, drop, reverse, slice_get, true, false, replicate, Some, None, nat_le, ◌&&◌, refl, ap, sym, ◌∙◌, subst, arith, append_assoc, append-nil, Ok, codes}
 use Rattle.std.proofs.lemmas.Bool.{le-leb, lt-ltb}
 use Rattle.std.proofs.lemmas.List.{length-append}
 use Rattle.sym_core.specs.Value.{counted_value}

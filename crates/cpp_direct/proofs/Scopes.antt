@@ -1,6 +1,6 @@
 -- What a parameter of a template may name, and where it is.
 use Rattle.sym_print.specs.declared.detail.Detail.{Detail}
-use Rattle.std.proofs.Common.{◌+◌, ◌≡◌, ℕ, zero, suc, ◌<◌, List, [], ◌∷◌, ◌++◌, length, slice_get, Some, None, is_some, arith, ap, sym, ◌∙◌, subst, refl, Bool, true, false}
+use Rattle.std.proofs.Common.{◌+◌, ◌≡◌, ℕ, zero, suc, ◌<◌, List, [], ◌∷◌, ◌++◌, length, slice_get, Some, None, is_some, arith, ap, sym, ◌∙◌, subst, refl, true, false}
 use Rattle.std.proofs.lemmas.Bool.{false≢true}
 use Rattle.cpp_grammar.specs.Scope.{count, element, arguments_of, before_arguments, has_return_type, is_structor}
 use Rattle.cpp_grammar.specs.Term.{Term, instance}
@@ -15,7 +15,7 @@ use Rattle.cpp_direct.specs.declared.open.Open.TheVariants as opens
 use Rattle.cpp_direct.specs.declared.open.Argument.{Argument}
 use Rattle.cpp_direct.specs.declared.open.Arguments.{Arguments}
 use Rattle.cpp_direct.specs.Marks.{called_on, has_const}
-use Rattle.cpp_direct.specs.WriterInvariant.{nowhere, IsSingle, IsPackOf, IsArgument, IsAmong, AreAmong, HasArguments, HasScope, IsKnown, IsScoped, Scope, argument_of, list_with, place_of, IsNamedSo, qualifiers, HasParameters, IsOwnName}
+use Rattle.cpp_direct.specs.WriterInvariant.{nowhere, IsPackOf, IsAmong, AreAmong, HasArguments, HasScope, IsScoped, Scope, argument_of, list_with, place_of, IsNamedSo, qualifiers, HasParameters, IsOwnName}
 use Rattle.cpp_direct.specs.MidStep.{AreKnown, HasNameSo}
 use Rattle.cpp_direct.proofs.Kept.{none-known, placed-stays}
 use Rattle.cpp_direct.specs.Prints.{PrintAllIn, PrintsName}

@@ -18,7 +18,7 @@ pub struct Argument {
     pub is_reference: bool,
 }
 
-/// Of how many arguments of a name it may be known where they are.
+/// How many arguments of a name may be known, with the elements of a pack in its place.
 pub const MOST_KNOWN: usize = 8;
 
 /// The qualifiers of a member function: whether it is const, and what it may be called on.

@@ -23,7 +23,7 @@ use crate::symbols::NOWHERE;
 use crate::tokens::{byte_at, may_end};
 
 impl Arguments {
-    /// Where the text of the argument with this number begins, if those before it are known.
+    /// Where the text of the argument with this number begins, if those before it are known. A comma and a space are between them.
     fn begin(&self, number: u8) -> Option<u16>
         ensures { IfSome result (λ from. from ≡ begin_by self.now.from self.now.ends number) }
     {
@@ -48,7 +48,7 @@ impl Arguments {
         })
     }
 
-    /// The same, if it is no element of the pack.
+    /// The argument with this number, if it is known and no element of the pack.
     fn single(&self, number: u8) -> Option<Argument>
         ensures known { IfSome result (λ p. IsSingle self.now number) }
         ensures is { IfSome result (λ p. p ≡ place_of self.now number) }
@@ -59,7 +59,7 @@ impl Arguments {
         self.at(number)
     }
 
-    /// The same, and the argument with this number is known, whose text is from one place to another one.
+    /// The same, and the argument with this number is known, if those before it are: its text is from one place to another one.
     fn with(self, number: u8, from: u32, to: u32, is_reference: bool) -> Arguments
         ensures more { KnowsMore self result number from to is_reference }
         ensures rest { (result.before ≡ self.before) × (result.has_pack ≡ self.has_pack) }
