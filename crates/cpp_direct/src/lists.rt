@@ -110,6 +110,7 @@ impl Direct {
                 self.literal::<G>(s)
             }
             b'J' => self.begin_pack::<G>(s),
+            b'X' => self.begin_level::<G>(s),
             _ => {
                 if is_first {
                     return self.first_type::<G>(s);
@@ -212,6 +213,7 @@ impl Direct {
             Open::NameArguments { from } => {
                 self.name_ended::<G>(s, Mark::Plain, true, argument, from)
             }
+            Open::LevelArguments { is_dependent } => self.level_ended::<G>(s, is_dependent),
             _ => None,
         }
     }
