@@ -1,6 +1,6 @@
 // Arguments that are members of instances of templates, by names that aren't looked up.
 
-ghost use Rattle.std.specs.Prelude.{◌∷◌, []};
+ghost use Rattle.std.specs.Prelude.{◌≡◌, ◌∷◌, [], true};
 ghost use Rattle.std.specs.Option.{IfSome};
 ghost use Rattle.cpp_direct.specs.Names.{IsReadable};
 ghost use Rattle.cpp_direct.specs.Holes.{StandsAt};
@@ -21,13 +21,11 @@ impl Direct {
     #[inline(never)]
     pub(crate) fn begin_level<G: Grammar>(&mut self, s: &[u8]) -> Option<Step>
         requires fits { IsReadable s.now }
+        requires wide { G.IS_WIDE ≡ true }
         requires letter { StandsAt s.now self.old.at (88 ∷ []) }
         requires awaits { AwaitsNextArgument (symbol_by G.IS_WIDE G.IS_BARE G.IS_BRIEF s.now) self.old }
         ensures { IfSome result (IsWriting (symbol_by G.IS_WIDE G.IS_BARE G.IS_BRIEF s.now) self.new) }
     {
-        if !G::IS_WIDE {
-            return None;
-        }
         self.at = self.at.checked_add(1)?;
         if byte_at(s, self.at) != b's' {
             return None;

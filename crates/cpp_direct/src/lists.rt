@@ -102,6 +102,9 @@ impl Direct {
         if !is_first {
             self.push_pair(b',', b' ')?;
         }
+        if G::IS_WIDE && byte == b'X' {
+            return self.begin_level::<G>(s);
+        }
         match byte {
             b'L' => {
                 if is_first {
@@ -110,7 +113,6 @@ impl Direct {
                 self.literal::<G>(s)
             }
             b'J' => self.begin_pack::<G>(s),
-            b'X' => self.begin_level::<G>(s),
             _ => {
                 if is_first {
                     return self.first_type::<G>(s);
