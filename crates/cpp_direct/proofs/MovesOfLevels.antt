@@ -1,10 +1,10 @@
 -- The moves in an argument that is a member of an instance of a template: the template's name is read, and the member comes.
-use Rattle.std.proofs.Common.{◌≡◌, ℕ, ◌+◌, List, [], ◌∷◌, true, false, Ok, refl, ap}
+use Rattle.std.proofs.Common.{◌≡◌, ℕ, ◌+◌, List, [], ◌∷◌, true, Ok, refl, ap}
 use Rattle.cpp_grammar.specs.declared.kind.Kind.{Kind}
 use Rattle.cpp_grammar.specs.declared.production.Production.{Production}
 use Rattle.cpp_grammar.specs.Grammar.{may_be_empty, number_of_kind, parts_of}
-use Rattle.cpp_grammar.specs.Values.{State, Around, text, tree, tree_of, outermost, part, is_there, letter_of, piece_of, text_of, Value}
-use Rattle.cpp_grammar.specs.Between.{Going, between, after, extended, inside, no_items, applied}
+use Rattle.cpp_grammar.specs.Values.{State, Around, text, tree, tree_of, outermost, part, is_there, letter_of, piece_of, text_of}
+use Rattle.cpp_grammar.specs.Between.{Going, between, after, extended, no_items, applied}
 use Rattle.cpp_grammar.specs.Meaning.{meaning, operation_by, enclosed_argument, ends_arguments, is_code}
 use Rattle.cpp_grammar.specs.Unfolding as unfolding_
 use Rattle.cpp_grammar.specs.Unfolding.{close, byte_of}

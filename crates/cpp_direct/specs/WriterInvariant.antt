@@ -630,6 +630,7 @@ TakesFunction (opens.TypeArguments from is_dependent ∷ rest) = Unit {0}
 TakesFunction (opens.NestArguments nest ∷ rest) = Unit {0}
 TakesFunction (opens.FirstArguments nest ∷ rest) = Unit {0}
 TakesFunction (opens.NameArguments from ∷ rest) = Unit {0}
+TakesFunction (opens.LevelArguments is_dependent ∷ rest) = Unit {0}
 TakesFunction (opens.Pack ∷ rest) = Unit {0}
 TakesFunction (opens.Parameters mark start argument ∷ rest) = Unit {0}
 TakesFunction (opens.Special ∷ rest) = Unit {0}
