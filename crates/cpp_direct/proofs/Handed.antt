@@ -220,6 +220,7 @@ takes-elements (opens.TypeArguments x y) w u g z n m a q e j = tt
 takes-elements (opens.NestArguments x) w u g z n m a q e j = tt
 takes-elements (opens.FirstArguments x) w u g z n m a q e j = tt
 takes-elements (opens.NameArguments x) w u g z n m a q e j = tt
+takes-elements (opens.LevelArguments x) w u g z n m a q e j = tt
 
 -- an element was read
 pub argument-read : (s : Symbol) (w : Direct) (o : Open) → IsElementRead s w o → TakesElements o → IsWriting s w (steps.List false)

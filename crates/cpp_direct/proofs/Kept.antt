@@ -355,6 +355,7 @@ template-stays detail names (opens.TypeArguments from is_dependent) front t name
 template-stays detail names (opens.NestArguments nest) front t name text more p = (nest-stays front name text more nest t p.0, p.1, p.2)
 template-stays detail names (opens.FirstArguments nest) front t name text more p = nest-stays front name text more nest t p
 template-stays detail names (opens.NameArguments from) front t name text more p = p
+template-stays detail names (opens.LevelArguments is_dependent) front t name text more p = p
 template-stays detail names _ front t name text more p = p
 
 -- ## Lists

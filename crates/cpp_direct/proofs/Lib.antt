@@ -8,9 +8,11 @@ pub mod FrontsRead
 pub mod Handed
 pub mod Kept
 pub mod LettersTested
+pub mod Members
 pub mod Listed
 pub mod Moves
 pub mod MovesOfEncodings
+pub mod MovesOfLevels
 pub mod MovesOfLists
 pub mod MovesOfLocals
 pub mod MovesOfNests
@@ -23,6 +25,7 @@ pub mod Nesting
 pub mod Noted
 pub mod PrintedExpansions
 pub mod PrintedFunctions
+pub mod PrintedLevels
 pub mod PrintedLists
 pub mod PrintedLocals
 pub mod PrintedNames

@@ -558,6 +558,7 @@ TakesArguments (opens.TypeArguments from is_dependent) = Unit {0}
 TakesArguments (opens.NestArguments nest) = Unit {0}
 TakesArguments (opens.FirstArguments nest) = Unit {0}
 TakesArguments (opens.NameArguments from) = Unit {0}
+TakesArguments (opens.LevelArguments is_dependent) = Unit {0}
 TakesArguments _ = ⊥
 
 -- or is a pack of them
@@ -571,6 +572,7 @@ template-takes detail names (opens.TypeArguments from is_dependent) front t name
 template-takes detail names (opens.NestArguments nest) front t name text is = tt
 template-takes detail names (opens.FirstArguments nest) front t name text is = tt
 template-takes detail names (opens.NameArguments from) front t name text is = tt
+template-takes detail names (opens.LevelArguments is_dependent) front t name text is = tt
 template-takes detail names _ front t name text is = absurd is
 
 argument-stands : (s : Symbol) (scope : Scope) (owner : Open) (rest : List Open) (os : List Opened) (text : List ℕ) → TakesArguments owner
@@ -579,6 +581,7 @@ argument-stands s scope (opens.TypeArguments from is_dependent) rest os text tak
 argument-stands s scope (opens.NestArguments nest) rest os text takes p = p
 argument-stands s scope (opens.FirstArguments nest) rest os text takes p = p
 argument-stands s scope (opens.NameArguments from) rest os text takes p = p
+argument-stands s scope (opens.LevelArguments is_dependent) rest os text takes p = p
 argument-stands s scope _ rest os text takes p = absurd takes
 
 -- they have none that types name
@@ -587,6 +590,7 @@ takes-none (opens.TypeArguments from is_dependent) takes = refl
 takes-none (opens.NestArguments nest) takes = refl
 takes-none (opens.FirstArguments nest) takes = refl
 takes-none (opens.NameArguments from) takes = refl
+takes-none (opens.LevelArguments is_dependent) takes = refl
 takes-none _ takes = absurd takes
 
 -- in arguments types may name what they may name around them, and in a pack nothing
@@ -660,28 +664,38 @@ list-waits s {scope = scope} (opens.TypeArguments from is_dependent) rest os tex
 list-waits s {scope = scope} (opens.NestArguments nest) rest os text takes p = waits-of s scope (opens.NestArguments nest) rest os text p
 list-waits s {scope = scope} (opens.FirstArguments nest) rest os text takes p = waits-of s scope (opens.FirstArguments nest) rest os text p
 list-waits s {scope = scope} (opens.NameArguments from) rest os text takes p = waits-of s scope (opens.NameArguments from) rest os text p
+list-waits s {scope = scope} (opens.LevelArguments is_dependent) rest os text takes p = waits-of s scope (opens.LevelArguments is_dependent) rest os text p
 list-waits s _ rest os text takes p = absurd takes
 
--- an element may be a type
-pub type-expected : (s : Symbol) (w : Direct) → AwaitsNextArgument s w → IsWriting s w steps.Type
-type-expected s w a =
+-- the list waits for an element where one is expected
+pub element-stands : (s : Symbol) (w : Direct) (a : AwaitsNextArgument s w) (os : List Opened)
+    → ((t : Term) (at : ℕ) (st : State) → Comes s os (tree t true) at st → ListGoesOn s (element_kind a.place.listing) a.goes.1 a.goes.0 t at st)
+    → Stands s a.scope (reverse w.waiting.list.items) os w.text.list.items
+element-stands s w a os onward =
     let p = a.place in
     let scope = a.scope in
-    let kind = element_kind p.listing in
-    let element = element-awaits s kind a.goes.1 a.goes.0 w.at a.state (list-kind p.listing) a.goes.4 in
-    type-comes s w w a.kept a.goes.0 element.inner refl refl refl refl a.goes.2 (inr (inl element.awaits))
-    (list-stands s scope (reverse w.waiting.list.items) element.inner w.text.list.items (record {
+    list-stands s scope (reverse w.waiting.list.items) os w.text.list.items (record {
       place = p;
       ts = a.ts;
       texts = a.texts;
       elements = a.elements;
       written = a.written;
       onward = λ t here now comes.
-          element-goes-on s kind (scoped_in p.owner (below s scope p.rest))
+          element-goes-on s (element_kind p.listing) (scoped_in p.owner (below s scope p.rest))
           (λ l there later. Closes s p.listing p.owner (below s scope p.rest) p.front p.template l there later)
-          a.ts t w.at here a.state now a.goes (element.onward t here now comes);
-    }))
-    (list-scoped s scope a.goes.0 (reverse w.waiting.list.items) w.text.list.items p a.goes.3)
+          a.ts t w.at here a.state now a.goes (onward t here now comes);
+    })
+
+-- and its types may name what they may name around it
+pub element-scoped : (s : Symbol) (w : Direct) (a : AwaitsNextArgument s w) → IsScoped a.scope a.goes.0 (reverse w.waiting.list.items)
+element-scoped s w a = list-scoped s a.scope a.goes.0 (reverse w.waiting.list.items) w.text.list.items a.place a.goes.3
+
+-- an element may be a type
+pub type-expected : (s : Symbol) (w : Direct) → AwaitsNextArgument s w → IsWriting s w steps.Type
+type-expected s w a =
+    let element = element-awaits s (element_kind a.place.listing) a.goes.1 a.goes.0 w.at a.state (list-kind a.place.listing) a.goes.4 in
+    type-comes s w w a.kept a.goes.0 element.inner refl refl refl refl a.goes.2 (inr (inl element.awaits)) (element-stands s w a element.inner element.onward)
+    (element-scoped s w a)
 
 -- ## Enumerators
 
@@ -691,6 +705,7 @@ enumerator-in s scope (opens.TypeArguments from is_dependent) rest os text takes
 enumerator-in s scope (opens.NestArguments nest) rest os text takes e = e
 enumerator-in s scope (opens.FirstArguments nest) rest os text takes e = e
 enumerator-in s scope (opens.NameArguments from) rest os text takes e = e
+enumerator-in s scope (opens.LevelArguments is_dependent) rest os text takes e = e
 enumerator-in s scope _ rest os text takes e = absurd takes
 
 -- a list waits for the type of an enumerator

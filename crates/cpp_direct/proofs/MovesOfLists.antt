@@ -21,6 +21,7 @@ use Rattle.cpp_direct.specs.Holes.{Opened, opened, StandsAt, Comes, Expects, unl
 use Rattle.cpp_direct.specs.ItemBytes.{is_integer_letter}
 use Rattle.cpp_direct.specs.Letters.{integer_letters}
 use Rattle.cpp_direct.proofs.LettersTested.{each_passes, tested}
+use Rattle.cpp_direct.specs.HolesOfLevels.{AwaitsArgumentAt}
 use Rattle.cpp_direct.specs.HolesOfLists.{ArgumentsOpened, IsArgumentKind, LiteralOpened, PackOpened, EnumeratorOpened, IsDigitsAt, minus_sign}
 use Rattle.cpp_direct.proofs.Moves.{any-list, any-argument, Hole, Filled, hole, open_at, fill, eats, leaves, is_eaten, byte-opens, chain-opens, byte-fills, next-part, closes, fixed-fills, is_left, stands-split, digits-fill}
 
@@ -57,26 +58,39 @@ goes-on : {s : Symbol} {kind : Kind} {around : Around} {inner outer : List Opene
     → ListGoesOn s kind outer around t at st
 goes-on {inner = inner} t h closed = record { inner = inner; awaits = h.expects; passes = λ l to now comes. (closed l to now (fill h l to now comes)).comes }
 
--- an element of a list of arguments or items is expected, which is a type
-pub element-awaits : (s : Symbol) (kind : Kind) (os : List Opened) (around : Around) (at : ℕ) (st : State)
-    → IsListKind kind → Expects s kind around os at st → AwaitsElement s kind os around at st
+-- an element of a list of arguments is expected, which may be an expression
+pub argument-awaits : (s : Symbol) (kind : Kind) (os : List Opened) (around : Around) (at : ℕ) (st : State)
+    → IsArgumentKind kind → Expects s kind around os at st → AwaitsArgumentAt s kind os around at st
 unfolding is_eaten is_left number_of_kind parts_of between close unfolding_.behind meaning part byte_of tree_of text_of piece_of letter_of is_there
-element-awaits s Kind.ArgumentList os around at st list_kind expects =
+argument-awaits s Kind.ArgumentList os around at st kind_is expects =
     let p = Production.AnyArgument in
     let one = chain-opens (leaves s Kind.ArgumentList p 80 refl) (hole s Kind.ArgumentList around os at st expects) refl refl in
     record {
       inner = open_at one;
-      awaits = any-argument s around (open_at one) at st one.expects;
+      awaits = one.expects;
       onward = λ t here now comes. goes-on t (next-part p (fill one (tree t true) here now comes) refl) (λ l to later last. closes p last refl);
     }
-element-awaits s Kind.PackList os around at st list_kind expects =
+argument-awaits s Kind.PackList os around at st kind_is expects =
     let p = Production.AnyElement in
     let one = chain-opens (leaves s Kind.PackList p 80 refl) (hole s Kind.PackList around os at st expects) refl refl in
     record {
       inner = open_at one;
-      awaits = any-argument s around (open_at one) at st one.expects;
+      awaits = one.expects;
       onward = λ t here now comes. goes-on t (next-part p (fill one (tree t true) here now comes) refl) (λ l to later last. closes p last refl);
     }
+argument-awaits s _ os around at st kind_is expects = absurd kind_is
+
+argument-type : {s : Symbol} {kind : Kind} {os : List Opened} {around : Around} {at : ℕ} {st : State} → AwaitsArgumentAt s kind os around at st
+    → AwaitsElement s kind os around at st
+argument-type {s = s} {around = around} {at = at} {st = st} a =
+    record { inner = a.inner; awaits = any-argument s around a.inner at st a.awaits; onward = a.onward }
+
+-- an element of a list of arguments or items is expected, which is a type
+pub element-awaits : (s : Symbol) (kind : Kind) (os : List Opened) (around : Around) (at : ℕ) (st : State)
+    → IsListKind kind → Expects s kind around os at st → AwaitsElement s kind os around at st
+unfolding is_eaten is_left number_of_kind parts_of between close unfolding_.behind meaning part byte_of tree_of text_of piece_of letter_of is_there
+element-awaits s Kind.ArgumentList os around at st list_kind expects = argument-type (argument-awaits s Kind.ArgumentList os around at st tt expects)
+element-awaits s Kind.PackList os around at st list_kind expects = argument-type (argument-awaits s Kind.PackList os around at st tt expects)
 element-awaits s Kind.Items os around at st list_kind expects =
     let p = Production.Items in
     let one = chain-opens (leaves s Kind.Items p 80 refl) (hole s Kind.Items around os at st expects) refl refl in

@@ -344,6 +344,7 @@ takes-as-element o rest ws is takes apart no_special within = go o (subst TakesF
     go (opens.NestArguments nest) takes apart z m = tt
     go (opens.FirstArguments nest) takes apart z m = tt
     go (opens.NameArguments from) takes apart z m = tt
+    go (opens.LevelArguments is_dependent) takes apart z m = tt
     go opens.Pack takes apart z m = tt
     go (opens.Parameters x y w) takes apart z m = absurd (apart x y w refl)
     go opens.Special takes apart z m = absurd (z refl)

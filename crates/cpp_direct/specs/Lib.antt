@@ -2,6 +2,7 @@ pub mod Bytes
 pub mod Holes
 pub mod HolesOfArrays
 pub mod HolesOfFunctions
+pub mod HolesOfLevels
 pub mod HolesOfLists
 pub mod HolesOfLocals
 pub mod HolesOfNests

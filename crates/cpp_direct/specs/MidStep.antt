@@ -29,6 +29,7 @@ use Rattle.sym_core.specs.Value.{counted_value}
 use Rattle.sym_core.specs.declared.NumberKind.TheVariants.{Seq36}
 use Rattle.cpp_direct.specs.HolesOfFunctions.{SignatureGoesOn, plain_function, pointed, with_pointed}
 use Rattle.cpp_direct.specs.HolesOfArrays.{accessed, with_accessed}
+use Rattle.cpp_direct.specs.HolesOfLevels.{MemberComes}
 use Rattle.cpp_direct.specs.HolesOfTypes.{IsNamedKind, NoReference, TreeOpens}
 use Rattle.cpp_direct.specs.Marks.{has_const, called_on, mark_text}
 use Rattle.cpp_direct.specs.Prints.{NamesClass, Prints, PrintsName, IsElement, PrintAll, Shows, Encloses, sign_text, PrintsAs, PrintsIn, PrintAllAs, IsGiven, PrintAllBy, PrintsMade, pattern_letters}
@@ -361,6 +362,20 @@ pub record AwaitsNumber (s : Symbol) (w : Direct) : Type 0 where
   pub written : w.text.list.items ≡ led_by (detail_of s) place.listing place.front place.name ++ in_front_of_next ts texts ++ codes "(" ++ bytes
   pub goes : EnumeratorGoesOn s place.listing place.owner (below s scope place.rest) place.front place.template ts type w.at state
 
+-- An instance was read and written of which a member is an element. The member's name is expected, between two Es.
+pub record AwaitsMember (s : Symbol) (w : Direct) (is_dependent : Bool) : Type 0 where
+  pub kept : Kept s w
+  pub open kept use *
+  pub outer : List Opened
+  pub own : Term
+  pub front : List ℕ
+  pub bytes : List ℕ
+  pub written : w.text.list.items ≡ front ++ bytes
+  pub prints : PrintsAs (detail_of s) scope.names is_dependent own bytes false
+  pub naming : is_dependent ≡ true → IsNaming s scope (reverse w.waiting.list.items)
+  pub follows : MemberComes s outer own w.at state
+  pub stands : Stands s scope (reverse w.waiting.list.items) outer front
+
 -- A name was written from a place on, and is read as that of a function with this mark, or of data.
 pub record HasNameSo (s : Symbol) (text : List ℕ) (mark : Mark) (from : ℕ) : Type 0 where
   pub own : Term
@@ -429,6 +444,7 @@ abbrev pub IsDependentNow : (old new : Open) → Type 0
 IsDependentNow (opens.TypeArguments from is_dependent) new = new ≡ opens.TypeArguments from true
 IsDependentNow (opens.NestArguments nest) new = (nest.purpose ≡ purposes.Type) × (new ≡ opens.NestArguments (record nest { is_dependent = true }))
 IsDependentNow (opens.FirstArguments nest) new = (nest.purpose ≡ purposes.Type) × (new ≡ opens.FirstArguments (record nest { is_dependent = true }))
+IsDependentNow (opens.LevelArguments is_dependent) new = new ≡ opens.LevelArguments true
 IsDependentNow _ new = ⊥
 
 -- Of a function these parameters were read, or none where the first one is expected. Each may cost so much more than its text.

@@ -35,6 +35,7 @@ use Rattle.cpp_direct.specs.HolesOfFunctions.{SignatureGoesOn, plain_function}
 use Rattle.cpp_direct.specs.HolesOfArrays.{accessed, with_accessed}
 use Rattle.cpp_direct.specs.HolesOfTypes.{NoReference}
 use Rattle.cpp_direct.specs.HolesOfNests.{IsFirstRest}
+use Rattle.cpp_direct.specs.HolesOfLevels.{MemberComes}
 use Rattle.cpp_direct.specs.HolesOfLists.{IsSuffix, IsDigitsAt, minus_sign}
 use Rattle.cpp_direct.specs.HolesOfLocals.{Discriminator, EntityOpened, IsDiscriminatorAt, IsEntityAt, IsLambdaDigit, lambda_ending, lambda_with, local_in}
 use Rattle.cpp_direct.specs.Marks.{has_const, called_on}
@@ -174,6 +175,7 @@ is_within_type (opens.Const from) = true
 is_within_type (opens.TypeArguments from is_dependent) = true
 is_within_type (opens.NestArguments nest) = is_type nest.purpose
 is_within_type (opens.FirstArguments nest) = is_type nest.purpose
+is_within_type (opens.LevelArguments is_dependent) = true
 is_within_type _ = false
 
 -- the arguments that its types may name
@@ -470,6 +472,8 @@ Owns s (opens.FirstArguments nest) below front u at st =
     (around : Around) × (outer : List Opened) × AwaitsComponent s outer around u at (with_candidate around u st)
     × scoped_in (opens.FirstArguments nest) below around × (nest.is_dependent ≡ true → below.naming) × Serves s nest.purpose below outer front
 Owns s (opens.NameArguments from) below front u at st = AwaitsItems s front (tree u false) at st
+Owns s (opens.LevelArguments is_dependent) below front u at st =
+    (outer : List Opened) × MemberComes s outer u at st × (is_dependent ≡ true → below.naming) × below.waits outer front
 Owns s _ below front u at st = ⊥
 
 -- elements go on after these, up to an E, and what becomes of the list that they make
@@ -503,6 +507,7 @@ abbrev pub is_noted : Open → Bool
 is_noted (opens.TypeArguments from is_dependent) = is_dependent
 is_noted (opens.NestArguments nest) = nest.is_dependent
 is_noted (opens.FirstArguments nest) = nest.is_dependent
+is_noted (opens.LevelArguments is_dependent) = is_dependent
 is_noted _ = false
 
 -- whether elements of the list may do so
@@ -539,6 +544,7 @@ IsTemplate detail names (opens.NestArguments nest) front template name text =
 IsTemplate detail names (opens.FirstArguments nest) front template name text = IsNest detail names front name text nest template
 IsTemplate detail names (opens.NameArguments from) front template name text =
     (from ≡ length front) × Prints detail template name false × (is_structor template ≡ false)
+IsTemplate detail names (opens.LevelArguments is_dependent) front template name text = Prints detail template name false
 IsTemplate detail names _ front template name text = ⊥
 
 -- a type comes as an element
@@ -621,6 +627,7 @@ TakesFunction (opens.TypeArguments from is_dependent ∷ rest) = Unit {0}
 TakesFunction (opens.NestArguments nest ∷ rest) = Unit {0}
 TakesFunction (opens.FirstArguments nest ∷ rest) = Unit {0}
 TakesFunction (opens.NameArguments from ∷ rest) = Unit {0}
+TakesFunction (opens.LevelArguments is_dependent ∷ rest) = Unit {0}
 TakesFunction (opens.Pack ∷ rest) = Unit {0}
 TakesFunction (opens.Parameters mark start argument ∷ rest) = Unit {0}
 TakesFunction (opens.Special ∷ rest) = Unit {0}

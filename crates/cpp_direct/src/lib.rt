@@ -12,6 +12,7 @@ mod enclosing;
 mod functions;
 mod grammar;
 mod letters;
+mod levels;
 mod lists;
 mod locals;
 mod marks;

@@ -102,6 +102,9 @@ impl Direct {
         if !is_first {
             self.push_pair(b',', b' ')?;
         }
+        if G::IS_WIDE && byte == b'X' {
+            return self.begin_level::<G>(s);
+        }
         match byte {
             b'L' => {
                 if is_first {
@@ -212,6 +215,7 @@ impl Direct {
             Open::NameArguments { from } => {
                 self.name_ended::<G>(s, Mark::Plain, true, argument, from)
             }
+            Open::LevelArguments { is_dependent } => self.level_ended::<G>(s, is_dependent),
             _ => None,
         }
     }

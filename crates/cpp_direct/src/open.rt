@@ -133,6 +133,11 @@ pub enum Open {
     NameArguments {
         from: u32,
     },
+    /// the arguments of a name of which a member is an argument of what was opened before, and whether one of them names an argument
+    /// of the function's template
+    LevelArguments {
+        is_dependent: bool,
+    },
     /// the return type of a function, which is written after its name; what was written up to this place is no part of the text
     Front {
         mark: Mark,

@@ -130,6 +130,7 @@ fn is_within_type(entry: Open) -> bool
         Open::TypeArguments { .. } => true,
         Open::NestArguments { nest } => is_type(nest.purpose),
         Open::FirstArguments { nest } => is_type(nest.purpose),
+        Open::LevelArguments { .. } => true,
         _ => false,
     }
 }

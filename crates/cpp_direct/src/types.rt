@@ -42,6 +42,7 @@ fn dependent(entry: Open) -> Option<Open>
         Open::FirstArguments { nest } => Some(Open::FirstArguments {
             nest: dependent_nest(nest)?,
         }),
+        Open::LevelArguments { .. } => Some(Open::LevelArguments { is_dependent: true }),
         _ => None,
     }
 }
