@@ -30,7 +30,7 @@ use Rattle.cpp_direct.specs.HolesOfLocals.{Discriminator, IsDiscriminatorAt, IsL
 use Rattle.cpp_direct.specs.Bytes.{short_numbers}
 use Rattle.cpp_direct.specs.Marks.{IsMarkPlace, has_const, called_on, mark_text}
 use Rattle.cpp_direct.specs.Prints.{IsLed, Prints, PrintsName, PrintsPiece, Shows, Encloses, list_of}
-use Rattle.cpp_direct.specs.WriterInvariant.{AreCandidates, AreNamed, Below, IsNesting, IsOwn, IsWriting, ItemsGoOn, Keeps, LambdaComes, LambdaWithin, Scope, Serves, Stands, TypeWithin, below, in_front_of_next, no_scope, nowhere, qualifiers, Kept, HasEnclosing}
+use Rattle.cpp_direct.specs.WriterInvariant.{AreCandidates, AreNamed, Below, IsNest, IsNesting, IsOwn, IsWriting, ItemsGoOn, Keeps, LambdaComes, LambdaWithin, Scope, Serves, Stands, TypeWithin, below, in_front_of_next, no_scope, nowhere, qualifiers, Kept, HasEnclosing}
 use Rattle.cpp_direct.specs.MidStep.{AwaitsNamedType, AwaitsNest, IsElementRead}
 use Rattle.cpp_direct.specs.MidStepOfLocals.{AwaitsTypeName, IsLambdaOpened, IsLambdaParameterRead, IsLambdaRead}
 use Rattle.cpp_direct.specs.Written.{AreKeptTo, Writes, Reads, added}
@@ -42,7 +42,7 @@ use Rattle.cpp_direct.proofs.Moves.{expects-empty, stands-join}
 use Rattle.cpp_direct.proofs.MovesOfEncodings.{encoding-opens, name-nested, name-source}
 use Rattle.cpp_direct.proofs.MovesOfLists.{element-awaits}
 use Rattle.cpp_direct.proofs.MovesOfLocals.{IsPieceKind, LambdaEnds, lambda-opens, lambda-piece, lambda_bytes, number-is}
-use Rattle.cpp_direct.proofs.Nesting.{nest-comes, closed-prints}
+use Rattle.cpp_direct.proofs.Nesting.{classless-nest, closed-prints}
 use Rattle.cpp_direct.proofs.PrintedLists.{list-in, list-with-none, all-in, element-in, next-prints, next-prints-in, none-print, none-print-in}
 use Rattle.cpp_direct.proofs.PrintedParts.{has-none, has-parameters}
 use Rattle.cpp_direct.proofs.PrintedLocals.{function-encloses, name-encloses, object-enclosing, returned-enclosing, lambda-prints, lambda-list-prints, local-prints, component-prints}
@@ -288,16 +288,9 @@ ended-in-name s w from purpose p =
             front = p.front;
             bytes = bytes;
             written = p.written;
-            is_nest = record {
-              back = [];
-              written = p.written ∙ sym (append-nil (p.front ++ bytes));
-              from_is = p.from_is;
-              prints = component-prints p.e p.bytes p.leads p.own p.name p.prints;
-              closed = λ own. refl;
-              class = [];
-              class_placed = record { front = p.front; back = bytes; written = p.written; from_is = p.from_is; to_is = omega (arith, p.from_is) };
-              names_class = λ e none. absurd (false≢true e);
-            };
+            is_nest = subst (λ l. IsNest (detail_of s) p.scope.names p.front bytes l new.nest (within p.e p.own)) (sym p.written)
+                (classless-nest p.scope.names p.front bytes new.nest (within p.e p.own) p.from_is p.from_is p.from_is refl (λ own. refl)
+                (component-prints p.e p.bytes p.leads p.own p.name p.prints));
             scoped = record { scoped = p.comes.3; naming = λ e. absurd (false≢true e) };
             serves = p.comes.4;
           };

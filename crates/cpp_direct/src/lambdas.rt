@@ -128,43 +128,45 @@ impl Direct {
         self.push_pair(b')', b'#')?;
         self.lambda_number(s)?;
         let _open = self.waiting.pop();
-        match nested {
-            None => self.lambda_in_function::<G>(s, from),
-            Some(purpose) => self.lambda_in_name::<G>(s, from, purpose),
-        }
+        self.lambda_ended::<G>(s, from, nested)
     }
 
-    /// A lambda is read that is a type in a function.
+    /// A lambda is read. One in a function is a type. A nested name of which it is a component goes on after it, but a constructor that
+    /// is named after it is given up.
     // <local-name> ::= Z <function encoding> E <entity name> [<discriminator>]
-    fn lambda_in_function<G: Grammar>(&mut self, s: &[u8], from: u32) -> Option<Step>
+    // <prefix> ::= <prefix> <unqualified-name>
+    fn lambda_ended<G: Grammar>(
+        &mut self,
+        s: &[u8],
+        from: u32,
+        nested: Option<Purpose>,
+    ) -> Option<Step>
         requires fits { IsReadable s.now }
-        requires read { IsLambdaRead (symbol_by G.IS_WIDE G.IS_BARE G.IS_BRIEF s.now) self.old from None }
+        requires read { IsLambdaRead (symbol_by G.IS_WIDE G.IS_BARE G.IS_BRIEF s.now) self.old from nested }
         ensures { IfSome result (IsWriting (symbol_by G.IS_WIDE G.IS_BARE G.IS_BRIEF s.now) self.new) }
     {
-        self.discriminator(s)?;
-        self.add_candidate(from, false, false)?;
-        Some(Step::Value {
-            is_reference: false,
-            is_dependent: false,
-        })
-    }
-
-    /// A lambda is read that is a component of a nested name, which goes on after it. A constructor that is named after it is given up.
-    // <prefix> ::= <prefix> <unqualified-name>
-    fn lambda_in_name<G: Grammar>(&mut self, _s: &[u8], from: u32, purpose: Purpose) -> Option<Step>
-        requires { IsLambdaRead (symbol_by G.IS_WIDE G.IS_BARE G.IS_BRIEF _s.now) self.old from (Some purpose) }
-        ensures { IfSome result (IsWriting (symbol_by G.IS_WIDE G.IS_BARE G.IS_BRIEF _s.now) self.new) }
-    {
-        self.nest = Nest {
-            from,
-            class_from: from,
-            class_to: from,
-            purpose,
-            is_listed: false,
-            has_class: false,
-            is_instance: false,
-            is_dependent: false,
-        };
-        Some(Step::Tail)
+        match nested {
+            None => {
+                self.discriminator(s)?;
+                self.add_candidate(from, false, false)?;
+                Some(Step::Value {
+                    is_reference: false,
+                    is_dependent: false,
+                })
+            }
+            Some(purpose) => {
+                self.nest = Nest {
+                    from,
+                    class_from: from,
+                    class_to: from,
+                    purpose,
+                    is_listed: false,
+                    has_class: false,
+                    is_instance: false,
+                    is_dependent: false,
+                };
+                Some(Step::Tail)
+            }
+        }
     }
 }
