@@ -1,6 +1,6 @@
 // Types that are in the body of a function.
 
-ghost use Rattle.std.specs.Prelude.{◌≡◌, ◌+◌, ◌∷◌, ◌++◌, [], ℕ, List, length, Option, true, false, codes};
+ghost use Rattle.std.specs.Prelude.{◌+◌, ◌∷◌, [], ℕ, List, true, false};
 ghost use Rattle.std.specs.Option.{OnSome, IfSome};
 ghost use Rattle.cpp_grammar.specs.Term.{Term};
 ghost use Rattle.cpp_direct.specs.Names.{IsReadable};
