@@ -1,18 +1,16 @@
 -- Types that are in functions, from their Z to their end.
-use Rattle.std.proofs.Common.{◌≡◌, ◌≢◌, refl, ap, sym, ◌∙◌, subst, inl, inr, ℕ, ◌+◌, List, [], ◌∷◌, ◌++◌, length, reverse, take, ◌≤◌, true, false, Option, None, Some, arith, codes, length-append, append-nil, append_assoc, Bool}
-use Rattle.std.specs.Prelude.{decimal}
+use Rattle.std.proofs.Common.{◌≡◌, ◌≢◌, refl, ap, sym, ◌∙◌, subst, inl, inr, ℕ, ◌+◌, List, [], ◌∷◌, ◌++◌, length, reverse, take, ◌≤◌, true, false, arith, codes, length-append, append-nil, append_assoc, Bool}
 use Rattle.std.proofs.lemmas.Bool.{false≢true}
 use Rattle.std.proofs.Math.Seq.{take-append_seam}
-use Rattle.std.proofs.lemmas.Fmt.{decimal_digit}
 use Rattle.cpp_grammar.specs.declared.kind.Kind.{Kind}
 use Rattle.cpp_grammar.specs.Grammar.{may_be_empty}
-use Rattle.cpp_grammar.specs.Term.{Term, function, alone, lambda, source, builtin, nil, list, absent}
+use Rattle.cpp_grammar.specs.Term.{Term, function, alone, source, builtin, nil, list, absent}
 use Rattle.cpp_grammar.specs.Items.{closed}
 use Rattle.cpp_grammar.specs.Parts.{source_text, types_of}
 use Rattle.cpp_grammar.specs.Texts.{builtin_texts, look_up}
 use Rattle.cpp_grammar.specs.Scope.{has_return_type, arguments_of}
 use Rattle.cpp_grammar.specs.References.{is_function_type}
-use Rattle.cpp_grammar.specs.Values.{State, Value, local_number, nothing_there, tree, named, tree_of}
+use Rattle.cpp_grammar.specs.Values.{State, Value, nothing_there, tree, named, tree_of}
 use Rattle.cpp_grammar.specs.Between.{after, in_name, in_types, no_items}
 use Rattle.cpp_grammar.specs.Meaning.{encoding_of}
 use Rattle.cpp_direct.specs.declared.marks.MarkPlace.{MarkPlace}
@@ -26,31 +24,29 @@ use Rattle.cpp_direct.specs.declared.open.Step.TheVariants as steps
 use Rattle.cpp_direct.specs.declared.direct.Direct.{Direct}
 use Rattle.cpp_direct.specs.Holes.{Opened, StandsAt, Comes, Expects, IsNameAt, with_candidate}
 use Rattle.cpp_direct.specs.HolesOfLists.{mark_letters, nest_marks}
-use Rattle.cpp_direct.specs.HolesOfLocals.{Discriminator, IsDiscriminatorAt, IsLambdaDigit, IsPieceAt, lambda_digits, lambda_ending, lambda_number, lambda_with, local_in}
-use Rattle.cpp_direct.specs.Bytes.{short_numbers}
+use Rattle.cpp_direct.specs.HolesOfLocals.{Discriminator, IsDiscriminatorAt, IsPieceAt, local_in}
 use Rattle.cpp_direct.specs.Marks.{IsMarkPlace, has_const, called_on, mark_text}
-use Rattle.cpp_direct.specs.Prints.{Prints, PrintsName, PrintsPiece, Shows, Encloses, list_of}
-use Rattle.cpp_direct.specs.WriterInvariant.{AreCandidates, AreNamed, Below, IsNesting, IsOwn, IsWriting, ItemsGoOn, Keeps, LambdaWithin, Scope, Serves, Stands, TypeWithin, below, in_front_of_next, no_scope, nowhere, qualifiers, Kept, HasEnclosing}
+use Rattle.cpp_direct.specs.Prints.{PrintsName, PrintsPiece, Shows, Encloses, list_of}
+use Rattle.cpp_direct.specs.WriterInvariant.{AreCandidates, AreNamed, Below, IsNesting, IsOwn, IsWriting, ItemsGoOn, Keeps, Scope, Serves, Stands, TypeWithin, below, in_front_of_next, no_scope, nowhere, qualifiers, Kept, HasEnclosing}
 use Rattle.cpp_direct.specs.MidStep.{AwaitsNamedType, AwaitsNest, IsElementRead}
-use Rattle.cpp_direct.specs.MidStepOfLocals.{AwaitsEnclosingParameters, AwaitsTypeName, IsEnclosingNamed, IsEnclosingParameterRead, IsEnclosingRead, IsLambdaParameterRead}
+use Rattle.cpp_direct.specs.MidStepOfLocals.{AwaitsEnclosingParameters, AwaitsTypeName, IsEnclosingNamed, IsEnclosingParameterRead, IsEnclosingRead}
 use Rattle.cpp_direct.specs.Written.{AreKeptTo, Writes, Reads, added}
 use Rattle.cpp_direct.proofs.Ending.{behind-two, behind-three, behind-five, next-written, parameter-goes_on, plain-text, qualifiers-text, void-read}
 use Rattle.cpp_direct.proofs.NamePlaces.{reads-of, reads-then}
-use Rattle.cpp_direct.proofs.Kept.{candidates-kept, kept-grown, kept-read, kept-same, kept-written, none-named, reverse-last, type-comes, value-added}
+use Rattle.cpp_direct.proofs.Kept.{candidates-kept, kept-read, kept-same, kept-written, none-named, reverse-last, type-comes, value-added}
 use Rattle.cpp_direct.proofs.Listed.{some-elements}
 use Rattle.cpp_direct.proofs.Moves.{expects-empty, stands-join}
 use Rattle.cpp_direct.proofs.MovesOfEncodings.{encoding-opens, name-nested, name-source}
 use Rattle.cpp_direct.proofs.MovesOfLists.{element-awaits}
-use Rattle.cpp_direct.proofs.MovesOfLocals.{lambda-opens, lambda-piece, lambda_bytes, local-type-opens, nowhere-scoped, number-is}
+use Rattle.cpp_direct.proofs.MovesOfLocals.{local-type-opens, nowhere-scoped}
 use Rattle.cpp_direct.proofs.Nesting.{nest-comes, closed-prints}
-use Rattle.cpp_direct.proofs.PrintedLists.{list-in, list-with-none, all-in, element-in, next-prints, next-prints-in, none-print, none-print-in}
+use Rattle.cpp_direct.proofs.PrintedLists.{list-in, list-with-none, element-in, next-prints-in, none-print-in}
 use Rattle.cpp_direct.proofs.PrintedParts.{has-none, has-parameters}
-use Rattle.cpp_direct.proofs.PrintedLocals.{function-encloses, name-encloses, object-enclosing, returned-enclosing, lambda-prints, lambda-list-prints, local-prints}
+use Rattle.cpp_direct.proofs.PrintedLocals.{function-encloses, name-encloses, object-enclosing, returned-enclosing, local-prints}
 use Rattle.cpp_direct.proofs.PrintedNames.{as-name, source-prints}
 use Rattle.cpp_direct.proofs.PrintedSymbols.{encoding-plain, function-shows, encoding-returned, object-encoded, parameters-kept, void-shows, made-void, made-with}
 use Rattle.cpp_direct.proofs.Scopes.{none-scoped, has-member, has-plain}
-use Rattle.cpp_direct.specs.WrittenParts.{IsUnmarked}
-use Rattle.cpp_direct.proofs.Unmarked.{name-unmarked, is-no-mark, more-unmarked}
+use Rattle.cpp_direct.proofs.Unmarked.{name-unmarked}
 use Rattle.cpp_direct.proofs.TypesRead.{builtin-listed, no-builtin}
 use Rattle.cpp_direct.proofs.MovesOfTypes.{builtin-comes}
 
@@ -435,186 +431,6 @@ pub marks-written-within : (s : Symbol) (old new : Direct) (mark : Mark) (from :
 marks-written-within s old new mark from p writes =
     enclosing-read s new marks.Plain from old.at (kept-written s old new (mark_text mark) writes p.kept) p.e p.front p.bytes
     (append-nil new.text.list.items ∙ writes.text ∙ p.written) p.from_is p.encloses (ap (λ v. reverse v.list.items) writes.waiting) writes.at p.within
-
--- ## Lambdas
-
--- its first bytes are there
-pub lambda-stands : (s : List ℕ) (at second third fourth fifth : ℕ) (rest : List ℕ) → StandsAt s at (85 ∷ []) → second ≡ at + 1 → StandsAt s second (108 ∷ [])
-    → third ≡ at + 2 → StandsAt s third (118 ∷ []) → fourth ≡ at + 3 → StandsAt s fourth (69 ∷ []) → fifth ≡ at + 4 → StandsAt s fifth rest
-    → StandsAt s at (85 ∷ 108 ∷ 118 ∷ 69 ∷ rest)
-lambda-stands s at second third fourth fifth rest u b l c v d e f more =
-    stands-join s at (85 ∷ []) (108 ∷ 118 ∷ 69 ∷ rest) u
-    (stands-join s (at + 1) (108 ∷ []) (118 ∷ 69 ∷ rest) (subst (λ k. StandsAt s k (108 ∷ [])) b l)
-    (stands-join s (at + 1 + 1) (118 ∷ []) (69 ∷ rest) (subst (λ k. StandsAt s k (118 ∷ [])) (omega (arith, c)) v)
-    (stands-join s (at + 1 + 1 + 1) (69 ∷ []) rest (subst (λ k. StandsAt s k (69 ∷ [])) (omega (arith, d)) e)
-    (subst (λ k. StandsAt s k rest) (omega (arith, f)) more))))
-
-number-text : (digit : Option ℕ) → IsLambdaDigit digit → decimal (local_number (lambda_digits digit)) ≡ lambda_number digit
-unfolding local_number
-number-text None is = decimal_digit 1 (omega arith)
-number-text (Some d) is =
-    let n = local_number (d ∷ []) in
-    decimal_digit n (number-is (Some d) is) ∙ ap (λ k. k ∷ []) (omega (arith, is.0))
-
-lambda-unmarked : (digit : Option ℕ) → IsLambdaDigit digit → IsUnmarked (lambda_number digit)
-lambda-unmarked None is = refl
-lambda-unmarked (Some d) is = more-unmarked (d + 2) [] (is-no-mark (d + 2) (λ e. omega (arith, is.0, e)) (λ e. omega (arith, is.0, e))) refl
-
--- it is read, and written
-pub lambda-told : (s : Symbol) (old new : Direct) (digit : Option ℕ) → IsLambdaDigit digit → StandsAt s.bytes old.at (85 ∷ lambda_bytes (lambda_digits digit))
-    → new.at ≡ old.at + length (85 ∷ lambda_bytes (lambda_digits digit)) → Reads old new (codes "{lambda()#" ++ lambda_number digit ++ codes "}")
-    → (p : Term) × (n : List ℕ) × IsPieceAt s old.at p new.at × PrintsPiece (detail_of s) p n × Reads old new n
-lambda-told s old new digit is stands ends reads = (
-  lambda nil (local_number (lambda_digits digit)),
-  codes "{lambda()#" ++ lambda_number digit ++ codes "}",
-  lambda-piece s old.at digit new.at is stands ends,
-  lambda-prints (local_number (lambda_digits digit)) (lambda_number digit) (number-text digit is) (lambda-unmarked digit is),
-  reads,
-)
-
--- its first bytes are there, with parameters
-abbrev lambda_front : List ℕ
-lambda_front = codes "::{lambda("
-
--- the first parameter of one comes next
-pub lambda-begun : (s : Symbol) (old new : Direct) (from : ℕ) → AwaitsTypeName s old from → short_numbers 0 s.bytes ≡ true → StandsAt s.bytes old.at (85 ∷ 108 ∷ [])
-    → new.text.list.items ≡ old.text.list.items ++ lambda_front → new.candidates ≡ old.candidates → new.has_scope ≡ old.has_scope
-    → new.at ≡ old.at + 2 → new.waiting.list.items ≡ old.waiting.list.items ++ opens.Lambda from ∷ [] → IsWriting s new steps.Type
-lambda-begun s old new from a short stands text candidates scope at waiting =
-    let r = a.read in
-    let w = r.within in
-    let entity = w.2 a.letter in
-    let first = lambda-opens s entity.inner entity.around r.e (a.before + 1) r.state short entity.awaits
-    (subst (λ k. StandsAt s.bytes k (85 ∷ 108 ∷ [])) a.at_is stands) in
-    let rest = reverse old.waiting.list.items in
-    let opened_ = ap reverse waiting ∙ reverse-last old.waiting.list.items (opens.Lambda from) in
-    let front_written : old.text.list.items ≡ r.front ++ r.bytes = sym (append-nil old.text.list.items) ∙ r.written in
-    let written : new.text.list.items ≡ r.front ++ (r.bytes ++ lambda_front) ++ [] =
-    text ∙ ap (λ l. l ++ lambda_front) front_written ∙ append_assoc r.front r.bytes lambda_front ∙ sym (append-nil (r.front ++ (r.bytes ++ lambda_front))) in
-    let stands_ : Stands s r.scope (opens.Lambda from ∷ rest) first.inner new.text.list.items = (
-      r.has,
-      [],
-      [],
-      none-print (detail_of s) 0,
-      written,
-      λ t here now comes.
-          let g = first.onward t here now comes in
-          record {
-            around = g.around;
-            inner = g.inner;
-            outside = g.outside;
-            scoped = g.scoped;
-            awaits = g.awaits;
-            onward = λ l there then_ last. (
-              w.0,
-              w.1,
-              λ number middle digit end is ending ends_ told.
-                  entity.onward (lambda_with (list t (no_items l)) number) middle then_ (g.onward l there then_ last number middle is ending ends_) digit end
-                  told,
-              w.3,
-            );
-          },
-    ) in
-    type-comes s new new (kept-grown s old new lambda_front text candidates scope
-    (kept-same s (record old { at = a.before }) old refl refl refl r.kept)) first.around first.inner refl refl refl opened_ first.outside
-    (inr (inl (subst (λ k. Expects s Kind.Item first.around first.inner k r.state) (omega (arith, at, a.at_is)) first.awaits))) stands_
-    (none-scoped r.scope first.around (opens.Lambda from ∷ rest) refl)
-
--- a parameter of one is read
-pub lambda-parameter-read : (s : Symbol) (w : Direct) (from : ℕ) → IsElementRead s w (opens.Lambda from) → IsLambdaParameterRead s w from
-lambda-parameter-read s w from p =
-    let waits = p.read.stands in
-    let h = waits.0 in
-    let ts = waits.1 in
-    let texts = waits.2 in
-    record {
-      kept = p.read.kept;
-      rest = p.rest;
-      open_is = p.open_is;
-      has = h;
-      ts = ts ++ p.read.own ∷ [];
-      some = some-elements ts p.read.own;
-      texts = in_front_of_next ts texts ++ p.read.bytes;
-      elements = next-prints 0 ts texts p.read.own p.read.bytes waits.3 (p.read.element 0);
-      written = p.read.written ∙ ap (λ l. l ++ p.read.bytes) waits.4 ∙ append_assoc (h.front ++ (h.bytes ++ lambda_front)) (in_front_of_next ts texts) p.read.bytes;
-      goes = waits.5 p.read.own w.at p.read.state p.read.comes;
-    }
-
--- another one comes next
-pub lambda-next : (s : Symbol) (w last : Direct) (from : ℕ) → IsLambdaParameterRead s w from → Writes w last (codes ", ") → IsWriting s last steps.Type
-lambda-next s w last from p one =
-    let led = p.front ++ (p.bytes ++ lambda_front) in
-    let below_ = below s p.scope p.rest in
-    let opened_ = ap (λ l. reverse l.list.items) one.waiting ∙ p.open_is in
-    let goes = subst (λ n. ItemsGoOn s nowhere (LambdaWithin s below_ p.front p.e) (λ l. l) p.ts n p.state) (sym one.at) p.goes in
-    let element = element-awaits s Kind.Items goes.inner goes.around last.at p.state tt goes.awaits in
-    let stands_ : Stands s p.scope (opens.Lambda from ∷ p.rest) element.inner last.text.list.items = (
-      p.has,
-      p.ts,
-      p.texts,
-      p.elements,
-      one.text ∙ ap (λ l. l ++ codes ", ") p.written ∙ append_assoc led p.texts (codes ", ") ∙ ap (λ l. led ++ l) (sym (next-written p.ts p.texts p.some)),
-      λ t here now comes. parameter-goes_on s nowhere (LambdaWithin s below_ p.front p.e) (λ l. l) p.ts last.at p.state goes t here now (element.onward t here now comes),
-    ) in
-    type-comes s last last (kept-written s w last (codes ", ") one p.kept) goes.around element.inner refl refl refl opened_ goes.outside
-    (inr (inl element.awaits)) stands_ (none-scoped p.scope goes.around (opens.Lambda from ∷ p.rest) refl)
-
-whole-text : (f b l n : List ℕ) → ((f ++ (b ++ lambda_front)) ++ l) ++ codes ")#" ++ (n ++ codes "}")
-    ≡ f ++ (b ++ codes "::" ++ (codes "{lambda(" ++ l ++ codes ")#" ++ n ++ codes "}"))
-whole-text f b l n =
-    let x = codes "{lambda(" ++ l ++ codes ")#" ++ n ++ codes "}" in
-    sym (append_assoc (f ++ (b ++ lambda_front) ++ l ++ codes ")#") n (codes "}"))
-    ∙ behind-five f (b ++ lambda_front) l (codes ")#") n (codes "}")
-    ∙ ap (λ k. f ++ k) (behind-five b lambda_front l (codes ")#") n (codes "}") ∙ sym (append_assoc b (codes "::") x))
-
--- its bracket is by itself
-pub lambda-bracket : (f b l : List ℕ) → (f ++ (b ++ codes "::{lambda(")) ++ l ≡ (f ++ (b ++ codes "::{lambda")) ++ codes "(" ++ l
-lambda-bracket f b l =
-    ap (λ k. k ++ l) (ap (λ k. f ++ k) (sym (append_assoc b (codes "::{lambda") (codes "(")))
-    ∙ sym (append_assoc f (b ++ codes "::{lambda") (codes "(")))
-
--- its end is read
-pub lambda-done : (s : Symbol) (w begun pushed numbered popped_ last new : Direct) (from : ℕ) (p : IsLambdaParameterRead s w from) → p.texts ≢ codes "void"
-    → StandsAt s.bytes w.at (69 ∷ []) → begun.text ≡ w.text → begun.candidates ≡ w.candidates → begun.waiting ≡ w.waiting
-    → begun.has_scope ≡ w.has_scope → begun.at ≡ w.at + 1
-    → Writes begun pushed (codes ")#") → (number : Option ℕ) → IsLambdaDigit number → StandsAt s.bytes pushed.at (lambda_digits number ++ 95 ∷ [])
-    → numbered.at ≡ pushed.at + length (lambda_digits number ++ 95 ∷ []) → Reads pushed numbered (lambda_number number ++ codes "}")
-    → popped_.text ≡ numbered.text → popped_.candidates ≡ numbered.candidates → popped_.has_scope ≡ numbered.has_scope → popped_.at ≡ numbered.at
-    → reverse popped_.waiting.list.items ≡ p.rest
-    → (digit : Discriminator) → IsDiscriminatorAt s.bytes popped_.at digit last.at → Reads popped_ last []
-    → new.candidates.list.items ≡ added last from false false → new.text ≡ last.text → new.waiting ≡ last.waiting
-    → new.has_scope ≡ last.has_scope → new.at ≡ last.at → IsWriting s new (steps.Value false false)
-unfolding no_items may_be_empty
-lambda-done s w begun pushed numbered popped_ last new from p apart ends same_text same_candidates same_waiting same_scope at one number is digits_ numbered_at two
-    popped_text popped_candidates popped_scope popped_at waits digit told three candidates text waiting scope here =
-    let below_ = below s p.scope p.rest in
-    let items = list_of p.ts in
-    let num = lambda_number number in
-    let n = local_number (lambda_digits number) in
-    let ends_with : LambdaWithin s below_ p.front p.e items w.at p.state = subst (λ u. LambdaWithin s below_ p.front p.e u w.at p.state) (list-with-none p.ts)
-    (p.goes.onward nothing_there w.at p.state (expects-empty s Kind.Items p.goes.around p.goes.inner w.at p.state p.goes.awaits refl)) in
-    let same : lambda items n ≡ lambda_with items number = ap (λ k. lambda k n) (sym (parameters-kept (detail_of s) closed 0 p.ts p.texts (all-in (detail_of s) closed 0 p.ts p.texts p.elements) apart)) in
-    let own = local_in p.e (lambda_with items number) digit in
-    let bytes = p.bytes ++ codes "::" ++ (codes "{lambda(" ++ p.texts ++ codes ")#" ++ num ++ codes "}") in
-    let shown : Prints (detail_of s) own bytes false = subst (λ u. Prints (detail_of s) (local_in p.e u digit) bytes false) same
-    (local-prints p.e p.bytes p.encloses (lambda items n) (codes "{lambda(" ++ p.texts ++ codes ")#" ++ num ++ codes "}")
-    (lambda-list-prints p.ts p.texts p.elements n num (number-text number is) (lambda-unmarked number is)) digit) in
-    let place : pushed.at ≡ w.at + 1 = one.at ∙ at in
-    let ending : StandsAt s.bytes w.at (lambda_ending number) =
-    stands-join s.bytes w.at (69 ∷ []) (lambda_digits number ++ 95 ∷ []) ends (subst (λ k. StandsAt s.bytes k (lambda_digits number ++ 95 ∷ [])) place digits_) in
-    let middle : popped_.at ≡ w.at + length (lambda_ending number) = omega (arith, popped_at, numbered_at, place) in
-    let written : last.text.list.items ≡ p.front ++ bytes =
-    three.text ∙ append-nil popped_.text.list.items ∙ ap (λ v. v.list.items) popped_text ∙ two.text
-    ∙ ap (λ l. l ++ (num ++ codes "}")) (one.text ∙ ap (λ v. v.list.items ++ codes ")#") same_text ∙ ap (λ l. l ++ codes ")#") p.written)
-    ∙ whole-text p.front p.bytes p.texts num in
-    let begun_ = kept-same s w begun same_text same_candidates same_scope p.kept in
-    let numbered_ = kept-read s pushed numbered (num ++ codes "}") two (kept-written s begun pushed (codes ")#") one begun_) in
-    let read = kept-read s popped_ last [] three
-    (kept-same s numbered popped_ popped_text popped_candidates popped_scope numbered_) in
-    value-added s last new read ends_with.0 ends_with.1 own p.front bytes from false false written p.from_is shown (λ e. absurd (false≢true e)) text candidates
-    scope (ap (λ v. reverse v.list.items) (waiting ∙ three.waiting) ∙ waits) (λ e. absurd (false≢true e))
-    (subst (λ k. Comes s ends_with.0 (tree own true) k (with_candidate ends_with.1 own p.state)) (sym here)
-    (ends_with.2 number popped_.at digit last.at is ending middle told)) ends_with.3
 
 -- ## The type
 

@@ -1,5 +1,5 @@
 -- A type was read, and is handed to what waits for it.
-use Rattle.std.proofs.Common.{◌≡◌, ℕ, ◌-◌, length, List, [], ◌∷◌, ◌++◌, reverse, slice_get, Bool, true, false, Some, refl, ap, sym, ◌∙◌, subst, codes, append_assoc}
+use Rattle.std.proofs.Common.{◌≡◌, ℕ, ◌-◌, length, List, [], ◌∷◌, ◌++◌, reverse, slice_get, Bool, true, false, Option, Some, refl, ap, sym, ◌∙◌, subst, codes, append_assoc}
 use Rattle.std.proofs.lemmas.Bool.{false≢true}
 use Rattle.cpp_grammar.specs.Term.{Term, special}
 use Rattle.cpp_grammar.specs.Parts.{types_of}
@@ -10,6 +10,7 @@ use Rattle.cpp_direct.specs.declared.open.Mark.{Mark}
 use Rattle.cpp_direct.specs.declared.open.Open.{Open}
 use Rattle.cpp_direct.specs.declared.open.Open.TheVariants as opens
 use Rattle.cpp_direct.specs.declared.open.Arguments.{Arguments}
+use Rattle.cpp_direct.specs.declared.open.Purpose.{Purpose}
 use Rattle.cpp_direct.specs.declared.open.Step.TheVariants as steps
 use Rattle.cpp_direct.specs.declared.direct.Direct.{Direct}
 use Rattle.cpp_direct.specs.Holes.{Opened, Comes}
@@ -198,7 +199,7 @@ passed-closed _ p l r c f k = tt
 -- what is none of those that wait for something else
 pub takes-elements : (o : Open) → IsPassedClosed o → ((x : Bool) → o ≡ opens.Returned x → ⊥) → ((x : Bool) → o ≡ opens.Signature x → ⊥)
     → (o ≡ opens.Special → ⊥) → (o ≡ opens.Enumerator → ⊥) → ((x : Mark) (y z : ℕ) → o ≡ opens.Enclosing x y z → ⊥)
-    → ((x y : ℕ) (z : Arguments) → o ≡ opens.Argument x y z → ⊥) → ((x : ℕ) → o ≡ opens.Lambda x → ⊥) → ((x y : ℕ) (z : Arguments) → o ≡ opens.Element x y z → ⊥)
+    → ((x y : ℕ) (z : Arguments) → o ≡ opens.Argument x y z → ⊥) → ((x : ℕ) (y : Option Purpose) → o ≡ opens.Lambda x y → ⊥) → ((x y : ℕ) (z : Arguments) → o ≡ opens.Element x y z → ⊥)
     → ((x : Access) (y z : ℕ) → o ≡ opens.Array x y z → ⊥) → TakesElements o
 takes-elements (opens.Pointer x) w u g z n m a q e j = absurd w
 takes-elements (opens.Lvalue x) w u g z n m a q e j = absurd w
@@ -210,7 +211,7 @@ takes-elements (opens.Argument x y v) w u g z n m a q e j = absurd (a x y v refl
 takes-elements (opens.Returned x) w u g z n m a q e j = absurd (u x refl)
 takes-elements (opens.Signature x) w u g z n m a q e j = absurd (g x refl)
 takes-elements (opens.Enclosing x y v) w u g z n m a q e j = absurd (m x y v refl)
-takes-elements (opens.Lambda x) w u g z n m a q e j = absurd (q x refl)
+takes-elements (opens.Lambda x y) w u g z n m a q e j = absurd (q x y refl)
 takes-elements (opens.Array x y v) w u g z n m a q e j = absurd (j x y v refl)
 takes-elements (opens.Element x y v) w u g z n m a q e j = absurd (e x y v refl)
 takes-elements opens.Special w u g z n m a q e j = absurd (z refl)

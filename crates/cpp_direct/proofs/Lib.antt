@@ -7,6 +7,7 @@ pub mod Ending
 pub mod FrontsRead
 pub mod Handed
 pub mod Kept
+mod LambdasRead
 pub mod LettersTested
 pub mod Members
 pub mod Listed

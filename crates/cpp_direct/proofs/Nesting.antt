@@ -389,7 +389,7 @@ class-nest {detail} names text front before class nest t written from_is class_f
 }
 
 -- one that a reference stands for
-classless-nest : {detail : Detail} (names : Names) (front bytes : List ℕ) (nest : Nest) (t : Term) → nest.from ≡ length front → nest.class_from ≡ length front
+pub classless-nest : {detail : Detail} (names : Names) (front bytes : List ℕ) (nest : Nest) (t : Term) → nest.from ≡ length front → nest.class_from ≡ length front
     → nest.class_to ≡ length front → nest.has_class ≡ false → (IsOwn nest.purpose → nest.is_dependent ≡ false) → PrintsAs detail names nest.is_dependent t bytes false
     → IsNest detail names front bytes (front ++ bytes) nest t
 classless-nest {detail} names front bytes nest t from_is class_from class_to none closed prints = record {

@@ -5,7 +5,7 @@ use Rattle.sym_print.specs.Unshared.{text_of, cost_of}
 use Rattle.sym_demangle.specs.Mangled.{StandsFor}
 use Rattle.cpp_grammar.specs.declared.kind.Kind.{Kind}
 use Rattle.cpp_grammar.specs.Answer.{shown, root_item}
-use Rattle.cpp_grammar.specs.Term.{Term, Qualifiers, symbol, function, special, array, pointer, lvalue, rvalue, qualified, instance, integer, pack, nil, list, absent}
+use Rattle.cpp_grammar.specs.Term.{Term, Qualifiers, symbol, function, special, array, pointer, lvalue, rvalue, qualified, instance, within, integer, pack, nil, list, absent}
 use Rattle.cpp_grammar.specs.Parts.{source_text}
 use Rattle.cpp_grammar.specs.Texts.{look_up, special_texts}
 use Rattle.cpp_grammar.specs.Scope.{has_return_type, is_structor, arguments_of, length_if_pack, element, count}
@@ -39,7 +39,7 @@ use Rattle.cpp_direct.specs.HolesOfLevels.{MemberComes}
 use Rattle.cpp_direct.specs.HolesOfLists.{IsSuffix, IsDigitsAt, minus_sign}
 use Rattle.cpp_direct.specs.HolesOfLocals.{Discriminator, EntityOpened, IsDiscriminatorAt, IsEntityAt, IsLambdaDigit, lambda_ending, lambda_with, local_in}
 use Rattle.cpp_direct.specs.Marks.{has_const, called_on}
-use Rattle.cpp_direct.specs.Prints.{Named, Names, IsGiven, Prints, PrintsAs, PrintsName, Shows, Encloses, NamesClass, PrintAll, PrintAllAs, PrintAllIn, list_of}
+use Rattle.cpp_direct.specs.Prints.{Named, Names, IsGiven, Prints, PrintsAs, PrintsName, Shows, Encloses, IsLed, NamesClass, PrintAll, PrintAllAs, PrintAllIn, list_of}
 use Rattle.cpp_grammar.specs.Parts.{types_of}
 
 -- ## Candidates
@@ -438,15 +438,6 @@ TypeWithin s below front e at st =
     × (StandsAt s.bytes at (69 ∷ []) → EntityOpened s (λ t end now. Comes s outer (tree t true) end (with_candidate around t now)) e (at + 1) st)
     × below.waits outer front
 
--- The same of the parameters of a lambda, which is such a type, before the E after them.
-abbrev pub LambdaWithin : (s : Symbol) → Below → (front : List ℕ) → (e : Term) → (items : Term) → (at : ℕ) → State → Type 0
-LambdaWithin s below front e items at st =
-    (outer : List Opened) × (around : Around)
-    × ((number : Option ℕ) (middle : ℕ) (digit : Discriminator) (end : ℕ) → IsLambdaDigit number → StandsAt s.bytes at (lambda_ending number)
-    → middle ≡ at + length (lambda_ending number) → IsDiscriminatorAt s.bytes middle digit end
-    → Comes s outer (tree (local_in e (lambda_with items number) digit) true) end (with_candidate around (local_in e (lambda_with items number) digit) st))
-    × below.waits outer front
-
 -- A nested name that comes is what it is read as, and what types may name in it.
 abbrev pub Serves : (s : Symbol) → Purpose → Below → List Opened → (front : List ℕ) → Type 0
 Serves s purposes.Type below os front =
@@ -459,6 +450,24 @@ Serves s (purposes.Name mark) below os front =
 Serves s (purposes.Enclosing mark) below os front =
     (t : Term) (listed : Bool) (at : ℕ) (st : State) → Comes s os (tree t listed) at st
     → ItemsGoOn s nowhere (TypeWithin s below front) (λ l. encoding_of (named t (qualifiers (has_const mark)) (called_on mark)) l) [] at st
+
+-- A lambda was read after this tree, as a type in a function before its discriminator, or as a component of a nested name: what becomes
+-- of it.
+abbrev pub LambdaComes : (s : Symbol) → (nested : Option Purpose) → Below → (front : List ℕ) → (e : Term) → (lambda : Term) → (at : ℕ) → State → Type 0
+LambdaComes s None below front e p at st =
+    (outer : List Opened) × (around : Around)
+    × ((digit : Discriminator) (end : ℕ) → IsDiscriminatorAt s.bytes at digit end
+    → Comes s outer (tree (local_in e p digit) true) end (with_candidate around (local_in e p digit) st))
+    × below.waits outer front
+LambdaComes s (Some purpose) below front e p at st =
+    (outer : List Opened) × (around : Around) × NestGoesOn s Kind.NestTail outer around (within e p) false at st
+    × (is_type purpose ≡ true → below.scoped around) × Serves s purpose below outer front
+
+-- Its parameters were read, before the E after them.
+abbrev pub LambdaWithin : (s : Symbol) → (nested : Option Purpose) → Below → (front : List ℕ) → (e : Term) → (items : Term) → (at : ℕ) → State → Type 0
+LambdaWithin s nested below front e items at st =
+    (number : Option ℕ) (end : ℕ) → IsLambdaDigit number → StandsAt s.bytes at (lambda_ending number) → end ≡ at + length (lambda_ending number)
+    → LambdaComes s nested below front e (lambda_with items number) end st
 
 -- An instance is read, after this text: what becomes of it.
 abbrev pub Owns : (s : Symbol) → Open → Below → (front : List ℕ) → Term → (at : ℕ) → State → Type 0
@@ -672,11 +681,11 @@ Stands s scope (opens.Enclosing mark from to ∷ rest) os text =
     × ((t : Term) (at : ℕ) (st : State) → Comes s os (tree t true) at st
     → ItemsGoOn s nowhere (TypeWithin s (outside s scope rest (Stands s scope rest)) h.front) h.make (ts ++ t ∷ []) at st)
     × (to ≡ length (h.front ++ h.name))
-Stands s scope (opens.Lambda from ∷ rest) os text =
-    (h : IsEnclosed (detail_of s) from) × (ts : List Term) × (texts : List ℕ) × PrintAll (detail_of s) 0 ts texts
+Stands s scope (opens.Lambda from nested ∷ rest) os text =
+    (h : IsLed (detail_of s) nested from) × (ts : List Term) × (texts : List ℕ) × PrintAll (detail_of s) 0 ts texts
     × (text ≡ h.front ++ (h.bytes ++ codes "::{lambda(") ++ in_front_of_next ts texts)
     × ((t : Term) (at : ℕ) (st : State) → Comes s os (tree t true) at st
-    → ItemsGoOn s nowhere (LambdaWithin s (outside s scope rest (Stands s scope rest)) h.front h.e) (λ l. l) (ts ++ t ∷ []) at st)
+    → ItemsGoOn s nowhere (LambdaWithin s nested (outside s scope rest (Stands s scope rest)) h.front h.e) (λ l. l) (ts ++ t ∷ []) at st)
 Stands s scope (opens.Returned is_pointer ∷ rest) os text =
     (k : IsTaken (outside s scope rest (Stands s scope rest)) rest text)
     × ((r : Term) (at : ℕ) (st : State) → Comes s os (tree r true) at st → SignatureGoesOn s k.outer k.made_in is_pointer (λ l. plain_function r l) at st)

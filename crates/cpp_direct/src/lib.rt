@@ -11,6 +11,7 @@ mod direct;
 mod enclosing;
 mod functions;
 mod grammar;
+mod lambdas;
 mod letters;
 mod levels;
 mod lists;

@@ -312,6 +312,7 @@ impl Direct {
             b'C' => self.constructor::<G>(s),
             b'D' => self.destructor::<G>(s),
             b'L' => self.source::<G>(s, true),
+            b'U' => self.begin_component::<G>(s),
             b'a'..=b'z' => self.operator::<G>(s),
             _ => self.source::<G>(s, false),
         }

@@ -157,9 +157,11 @@ pub enum Open {
         from: u32,
         to: u32,
     },
-    /// the parameters of a lambda that is in a function, whose text begins at this place
+    /// the parameters of a lambda that is in a function, whose text begins at this place; or in a nested name, of which it is a
+    /// component, and what that one is read as
     Lambda {
         from: u32,
+        nested: Option<Purpose>,
     },
     /// the name of a special symbol
     Special,

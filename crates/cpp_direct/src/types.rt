@@ -291,7 +291,7 @@ impl Direct {
             Open::Signature { is_pointer } => self.parameter_at::<G>(s, is_pointer, false),
             Open::Array { access, from, to } => self.array_ended::<G>(s, access, from, to),
             Open::Enclosing { mark, from, to } => self.enclosing_parameter::<G>(s, mark, from, to),
-            Open::Lambda { from } => self.lambda_parameter::<G>(s, from),
+            Open::Lambda { from, nested } => self.lambda_parameter::<G>(s, from, nested),
             Open::Special => self.finish::<G>(s),
             Open::Enumerator => self.enumerator::<G>(s),
             Open::Argument {

@@ -2,7 +2,8 @@ use Rattle.std.proofs.Common.{Some, true, false, ap, ◌∙◌}
 use Rattle.cpp_direct.specs.Symbol.{symbol_by}
 use Rattle.cpp_direct.specs.declared.open.Open.TheVariants as opens
 use Rattle.cpp_direct.proofs.Handed.{value-element, value-returned, value-signature, value-enumerator, argument-read, special-read, takes-elements}
-use Rattle.cpp_direct.proofs.EnclosingFunctions.{lambda-parameter-read, parameter-read-within}
+use Rattle.cpp_direct.proofs.EnclosingFunctions.{parameter-read-within}
+use Rattle.cpp_direct.proofs.LambdasRead.{lambda-parameter-read}
 use Rattle.cpp_direct.proofs.Arguments.{value-argument}
 use Rattle.cpp_direct.proofs.Signatures.{value-array}
 use Rattle.cpp_direct.proofs.direct.Direct.pass_closed.Goals as goal
@@ -28,8 +29,8 @@ enclosing_parameter-requires-clause-read g c =
 
 pub lambda_parameter-requires-clause-read : goal.lambda_parameter-requires-clause-read
 lambda_parameter-requires-clause-read g c =
-    lambda-parameter-read (symbol_by g.G.Grammar.IS_WIDE g.G.Grammar.IS_BARE g.G.Grammar.IS_BRIEF c.args.s.now) c.args.self.now c.in-Lambda.from
-    (value-element (symbol_by g.G.Grammar.IS_WIDE g.G.Grammar.IS_BARE g.G.Grammar.IS_BRIEF c.args.s.now) c.args.self.now c.args.is_reference (opens.Lambda c.in-Lambda.from) c.requires.writing
+    lambda-parameter-read (symbol_by g.G.Grammar.IS_WIDE g.G.Grammar.IS_BARE g.G.Grammar.IS_BRIEF c.args.s.now) c.args.self.now c.in-Lambda.from c.in-Lambda.nested
+    (value-element (symbol_by g.G.Grammar.IS_WIDE g.G.Grammar.IS_BARE g.G.Grammar.IS_BRIEF c.args.s.now) c.args.self.now c.args.is_reference (opens.Lambda c.in-Lambda.from c.in-Lambda.nested) c.requires.writing
     (c.requires.waits ∙ ap (λ o. Some o) c.in-Lambda.is))
 
 pub finish-requires : goal.finish-requires
