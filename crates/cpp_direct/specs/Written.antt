@@ -1,5 +1,6 @@
 -- What the small functions of a writer do to its lists.
 use Rattle.std.specs.Prelude.{◌≡◌, ◌⊎◌, ℕ, List, [], ◌∷◌, ◌++◌, length, drop, Bool, true, false, ◌≤◌}
+use Rattle.cpp_direct.specs.declared.open.Argument.{Argument}
 use Rattle.cpp_direct.specs.declared.open.Candidate.{Candidate}
 use Rattle.cpp_direct.specs.declared.direct.Direct.{Direct}
 
@@ -57,3 +58,8 @@ AreKeptTo to _ _ = ⊥
 abbrev pub with_hidden : Direct → (is_pointer : Bool) → List Candidate
 with_hidden w true = (w.candidates.list.items ++ hidden ∷ []) ++ hidden ∷ []
 with_hidden w false = w.candidates.list.items ++ hidden ∷ []
+
+-- the candidates, and the text of an argument of the function's template
+abbrev pub with_argument : Direct → Argument → List Candidate
+with_argument w argument =
+    w.candidates.list.items ++ record { from = argument.from; to = argument.to; is_reference = argument.is_reference; is_dependent = true } ∷ []

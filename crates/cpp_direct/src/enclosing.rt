@@ -22,7 +22,7 @@ use crate::tokens::{are_numbers_short, byte_at};
 
 /// The longest symbol that is gone over once more, or its candidates are, at a lambda with parameters or at parameters that aren't
 /// shown, in bytes.
-const LONGEST_GONE_OVER: usize = 1_024;
+pub const LONGEST_GONE_OVER: usize = 1_024;
 
 impl Direct {
     /// Reads the first bytes of a type that is in a function, up to the first type in that one's name.

@@ -296,6 +296,11 @@ impl Direct {
                 }
                 self.enclosing_named::<G>(s, mark, self.nest.from)
             }
+            Purpose::Address { mark, encoding } => {
+                let argument = self.noted();
+                let is_function = self.is_function_instance();
+                self.addressed_named::<G>(s, mark, encoding, is_function, argument)
+            }
         }
     }
 

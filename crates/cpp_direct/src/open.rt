@@ -68,6 +68,8 @@ pub enum Purpose {
     Name { mark: Mark },
     /// the name of a function in which a type is, with these qualifiers
     Enclosing { mark: Mark },
+    /// the name of a function whose address is an argument, with these qualifiers, of an encoding that begins at this place
+    Address { mark: Mark, encoding: u16 },
 }
 
 /// A nested name so far: where its text begins, and where that of the class is that a constructor would be named after.
@@ -145,6 +147,18 @@ pub enum Open {
         mark: Mark,
         from: u32,
         to: u32,
+    },
+    /// the return type of a function whose address is an argument; its name ends at this place
+    AddressedFront {
+        mark: Mark,
+        to: u32,
+        argument: Arguments,
+    },
+    /// the parameters of such a function
+    Addressed {
+        mark: Mark,
+        to: u32,
+        argument: Arguments,
     },
     /// the parameters of a lambda that is in a function, whose text begins at this place
     Lambda {

@@ -269,7 +269,7 @@ impl Direct {
             } => self.front_ended::<G>(s, mark, start, argument),
             _ => {
                 if is_dependent {
-                    return self.pass_dependent::<G>(s);
+                    return self.pass_dependent::<G>(s, entry);
                 }
                 self.pass_closed::<G>(s, entry, is_reference)
             }
@@ -290,6 +290,9 @@ impl Direct {
             Open::Signature { is_pointer } => self.parameter_at::<G>(s, is_pointer, false),
             Open::Array { access, from, to } => self.array_ended::<G>(s, access, from, to),
             Open::Enclosing { mark, from, to } => self.enclosing_parameter::<G>(s, mark, from, to),
+            Open::AddressedFront { mark, to, argument } =>
+                self.addressed_front::<G>(s, mark, to, argument),
+            Open::Addressed { mark, to, .. } => self.addressed_parameter::<G>(s, mark, to),
             Open::Lambda { from } => self.lambda_parameter::<G>(s, from),
             Open::Special => self.finish::<G>(s),
             Open::Enumerator => self.enumerator::<G>(s),
@@ -310,10 +313,21 @@ impl Direct {
     /// Hands on a type that names arguments of the function's template, which the arguments of a type may do.
     // <template-arg> ::= <type>
     #[inline(never)]
-    fn pass_dependent<G: Grammar>(&mut self, _s: &[u8]) -> Option<Step>
-        requires writing { (is_reference : Bool) × IsWriting (symbol_by G.IS_WIDE G.IS_BARE G.IS_BRIEF _s.now) self.old (steps.Value is_reference true) }
-        ensures { IfSome result (IsWriting (symbol_by G.IS_WIDE G.IS_BARE G.IS_BRIEF _s.now) self.new) }
+    fn pass_dependent<G: Grammar>(&mut self, s: &[u8], entry: Open) -> Option<Step>
+        requires writing { (is_reference : Bool) × IsWriting (symbol_by G.IS_WIDE G.IS_BARE G.IS_BRIEF s.now) self.old (steps.Value is_reference true) }
+        ensures { IfSome result (IsWriting (symbol_by G.IS_WIDE G.IS_BARE G.IS_BRIEF s.now) self.new) }
     {
+        match entry {
+            Open::AddressedFront { mark, to, argument } =>
+                self.addressed_front::<G>(s, mark, to, argument),
+            Open::Addressed { mark, to, .. } => self.addressed_parameter::<G>(s, mark, to),
+            _ => self.note_dependent::<G>(s),
+        }
+    }
+
+    /// One of the arguments of a type names arguments of the function's template.
+    // <template-arg> ::= <type>
+    fn note_dependent<G: Grammar>(&mut self, _s: &[u8]) -> Option<Step> {
         let entry = dependent(self.waiting.pop()?)?;
         self.waiting.push(entry)?;
         Some(Step::List { is_first: false })

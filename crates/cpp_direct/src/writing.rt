@@ -5,11 +5,11 @@ ghost use Rattle.std.specs.Option.{OnSome, IfSome};
 ghost use Rattle.cpp_direct.specs.declared.open.Step.TheVariants as steps;
 ghost use Rattle.cpp_direct.specs.Symbol.{detail_by};
 ghost use Rattle.cpp_direct.specs.WrittenParts.{opening_bracket, closing_bracket};
-ghost use Rattle.cpp_direct.specs.Written.{Writes, Cuts, added, added_unless, with_hidden, AreKeptTo};
+ghost use Rattle.cpp_direct.specs.Written.{Writes, Cuts, added, added_unless, with_argument, with_hidden, AreKeptTo};
 
 use crate::direct::Direct;
 use crate::grammar::Grammar;
-use crate::open::{Candidate, Open, Step};
+use crate::open::{Argument, Candidate, Open, Step};
 use sym_direct::{Bounded, CLOSES, OPENS};
 
 /// A candidate whose text is nowhere: it ends before it begins.
@@ -79,6 +79,25 @@ impl Direct {
             to,
             is_reference,
             is_dependent,
+        })
+    }
+
+    /// The text of an argument of the function's template becomes a candidate, which names this.
+    #[inline(always)]
+    pub(crate) fn add_argument(&mut self, argument: Argument) -> Option<()>
+        ensures candidates { OnSome result (self.new.candidates.list.items ≡ with_argument self.old argument) }
+        ensures text { self.new.text ≡ self.old.text }
+        ensures open { self.new.waiting ≡ self.old.waiting }
+        ensures nest { self.new.nest ≡ self.old.nest }
+        ensures scope { self.new.has_scope ≡ self.old.has_scope }
+        ensures at { self.new.at ≡ self.old.at }
+        ensures rounds { self.new.rounds ≡ self.old.rounds }
+    {
+        self.candidates.push(Candidate {
+            from: argument.from as u32,
+            to: argument.to as u32,
+            is_reference: argument.is_reference,
+            is_dependent: true,
         })
     }
 
@@ -161,6 +180,13 @@ impl Direct {
         Some(())
     }
 
+    /// The arguments that types may name aren't named any more. Candidates that name them are nowhere then.
+    pub(crate) fn end_scope(&mut self)
+    {
+        self.has_scope = false;
+        hide_dependent(&mut self.candidates);
+    }
+
     /// Opens what waits for a type.
     #[inline(always)]
     pub(crate) fn open_type(&mut self, entry: Open, step: Step) -> Option<Step>
@@ -209,6 +235,18 @@ fn hide_after(candidates: &mut Bounded<Candidate>, to: u32)
     let mut at = 0;
     'candidates: while at < candidates.len() {
         if candidates.as_slice()[at].to > to {
+            candidates.put(at, HIDDEN);
+        }
+        at += 1;
+    }
+}
+
+/// Candidates that name arguments of the function's template are nowhere.
+fn hide_dependent(candidates: &mut Bounded<Candidate>)
+{
+    let mut at = 0;
+    'candidates: while at < candidates.len() {
+        if candidates.as_slice()[at].is_dependent {
             candidates.put(at, HIDDEN);
         }
         at += 1;
