@@ -150,7 +150,7 @@ parameter-done s old mid new all k p n from a few letter line found is single re
     let open_is : new.waiting ≡ old.waiting = same_waits ∙ writes.waiting in
     let later = with_candidate a.around (parameter k) a.state in
     value-added s mid new (kept-grown s old mid bytes grown writes.candidates writes.scope a.kept) a.os a.around (parameter k) text bytes from p.is_reference true
-    grown from_is prints (λ e. made-here s a.scope a.around (reverse old.waiting.list.items) a.scoped naming) same_text more same_scope (ap (λ v. reverse v.list.items) open_is)
+    grown from_is prints (λ e. made-here a.scope a.around (reverse old.waiting.list.items) a.scoped naming) same_text more same_scope (ap (λ v. reverse v.list.items) open_is)
     (λ e. naming)
     (subst (λ n. Comes s a.os (tree (parameter k) true) n later) (sym (same_at ∙ writes.at ∙ at))
     (parameter-comes s a.kind a.around a.os k old.at a.state a.typed few (scope-named s old all k p a found is single) a.awaits
@@ -181,7 +181,7 @@ forwarded-done s old mid one new all k p n from a few referable mark letter line
     writes.text ∙ ap (λ l. text ++ l) (piece-found text bytes p.from p.to h.2).2 in
     let listed : one.text.list.items ≡ text ++ bytes = ap (λ v. v.list.items) first.text ∙ grown in
     let naming = named-here s old a.kept a.around all a.scoped found real in
-    let here = made-here s a.scope a.around (reverse old.waiting.list.items) a.scoped naming in
+    let here = made-here a.scope a.around (reverse old.waiting.list.items) a.scoped naming in
     let open_is : new.waiting ≡ old.waiting = second.waits ∙ first.waits ∙ writes.waiting in
     let own = with_candidate a.around (parameter k) a.state in
     let later = with_candidate a.around (rvalue (parameter k)) own in
@@ -221,7 +221,7 @@ dependent-again s w new k all p found real writes =
     let kept = kept-same s (record w { at = p.before }) w refl refl refl a.kept in
     let naming = named-here s w kept a.around all a.scoped found real in
     let named = substitution-opens s a.kind a.around a.os p.before a.state p.digits w.at c.0 a.is_named c.1
-    (again-substituted s a.around open_ c.0 a.state bytes k.is_reference a.keeps.own a.scoped naming (c.2.made_in p.is) prints) a.begins p.letter p.number in
+    (again-substituted s a.around open_ c.0 a.state bytes k.is_reference a.keeps.single a.scoped naming (c.2.made_in p.is) prints) a.begins p.letter p.number in
     let comes : Comes s a.os (tree t true) w.at a.state = named.bare w.at a.state prints.no_function
     (expects-empty s Kind.ArgumentsAlone (after t true a.around) named.inner w.at a.state named.awaits refl) in
     value-comes s new (kept-written s w new (take (k.to - k.from) (drop k.from text)) writes kept) a.os t text bytes k.is_reference true written prints
@@ -488,25 +488,25 @@ expanded-more {detail} pattern before w one two new ts argument number place mar
         }
 
 -- each tree that a pattern makes is a candidate of which nothing is known, and so is the expansion
-trees-hidden : (s : Symbol) (names : Names) (text : List ℕ) (ks : List Candidate) (around : Around) (pattern : Pattern) (k size : ℕ) (st : State)
-    → AreCandidates s names text ks st.candidates
-    → AreCandidates s names text (ks ++ replicate (2 + length (pattern_letters pattern)) hidden) (with_expansion pattern k size around st).candidates
-trees-hidden s names text ks around pattern k size st known = go pattern known
+trees-hidden : (s : Symbol) (scope : Scope) (text : List ℕ) (ks : List Candidate) (around : Around) (pattern : Pattern) (k size : ℕ) (st : State)
+    → AreCandidates s scope text ks st.candidates
+    → AreCandidates s scope text (ks ++ replicate (2 + length (pattern_letters pattern)) hidden) (with_expansion pattern k size around st).candidates
+trees-hidden s scope text ks around pattern k size st known = go pattern known
   where
     p : Term
     p = parameter k
 
-    once : (more : List Candidate) (cs : List values.Candidate) (t : Term) → AreCandidates s names text (ks ++ more) cs
-        → AreCandidates s names text (ks ++ (more ++ hidden ∷ [])) (cs ++ candidate around t ∷ [])
+    once : (more : List Candidate) (cs : List values.Candidate) (t : Term) → AreCandidates s scope text (ks ++ more) cs
+        → AreCandidates s scope text (ks ++ (more ++ hidden ∷ [])) (cs ++ candidate around t ∷ [])
     once more cs t have =
-        subst (λ l. AreCandidates s names text l (cs ++ candidate around t ∷ [])) (append_assoc ks more (hidden ∷ []))
-        (one-hidden s names text (ks ++ more) cs (candidate around t) have)
+        subst (λ l. AreCandidates s scope text l (cs ++ candidate around t ∷ [])) (append_assoc ks more (hidden ∷ []))
+        (one-hidden s scope text (ks ++ more) cs (candidate around t) have)
 
-    first : AreCandidates s names text ks st.candidates → AreCandidates s names text (ks ++ hidden ∷ []) (st.candidates ++ candidate around p ∷ [])
-    first have = one-hidden s names text ks st.candidates (candidate around p) have
+    first : AreCandidates s scope text ks st.candidates → AreCandidates s scope text (ks ++ hidden ∷ []) (st.candidates ++ candidate around p ∷ [])
+    first have = one-hidden s scope text ks st.candidates (candidate around p) have
 
-    go : (pattern : Pattern) → AreCandidates s names text ks st.candidates
-        → AreCandidates s names text (ks ++ replicate (2 + length (pattern_letters pattern)) hidden) (with_expansion pattern k size around st).candidates
+    go : (pattern : Pattern) → AreCandidates s scope text ks st.candidates
+        → AreCandidates s scope text (ks ++ replicate (2 + length (pattern_letters pattern)) hidden) (with_expansion pattern k size around st).candidates
     go patterns.Same have = once (hidden ∷ []) (st.candidates ++ candidate around p ∷ []) (expansion p) (first have)
     go patterns.Lvalue have =
         let two = once (hidden ∷ []) (st.candidates ++ candidate around p ∷ []) (lvalue p) (first have) in
@@ -527,7 +527,7 @@ abbrev expansion-kept : (s : Symbol) (w new : Direct) (around : Around) (pattern
     → new.has_scope ≡ w.has_scope → Kept s new
 expansion-kept s w new around pattern k size kept text candidates scope_ =
     kept-as s w new (with_expansion pattern k size around kept.state) kept text candidates scope_
-    (trees-hidden s kept.scope.names w.text.list.items w.candidates.list.items around pattern k size kept.state kept.keeps.candidates)
+    (trees-hidden s kept.scope w.text.list.items w.candidates.list.items around pattern k size kept.state kept.keeps.candidates)
 
 -- parameters go on after it
 expansion-goes : (s : Symbol) (pattern : Pattern) (w : Direct) (is_first : Bool) (mark : Mark) (start : ℕ) (argument : Arguments)

@@ -33,7 +33,7 @@ use Rattle.cpp_direct.specs.Prints.{Prints, PrintsName, PrintsPiece, Shows, Encl
 use Rattle.cpp_direct.specs.WriterInvariant.{AreCandidates, AreNamed, Below, IsNesting, IsOwn, IsWriting, ItemsGoOn, Keeps, LambdaWithin, Scope, Serves, Stands, TypeWithin, below, in_front_of_next, no_scope, nowhere, qualifiers, Kept, HasEnclosing}
 use Rattle.cpp_direct.specs.MidStep.{AwaitsNamedType, AwaitsNest, IsElementRead}
 use Rattle.cpp_direct.specs.MidStepOfLocals.{AwaitsEnclosingParameters, AwaitsTypeName, IsEnclosingNamed, IsEnclosingParameterRead, IsEnclosingRead, IsLambdaParameterRead}
-use Rattle.cpp_direct.specs.Written.{AreKeptTo, Writes, Reads, added}
+use Rattle.cpp_direct.specs.Written.{AreLeft, EndsBy, Writes, Reads, added}
 use Rattle.cpp_direct.proofs.Ending.{behind-two, behind-three, behind-five, next-written, parameter-goes_on, plain-text, qualifiers-text, void-read}
 use Rattle.cpp_direct.proofs.NamePlaces.{reads-of, reads-then}
 use Rattle.cpp_direct.proofs.Kept.{candidates-kept, kept-grown, kept-read, kept-same, kept-written, none-named, reverse-last, type-comes, value-added}
@@ -398,7 +398,7 @@ function-within s w last new mark from to p apart one text candidates scope at w
 -- what was written after its name is taken away, where functions are shown by their names alone
 pub function-unwritten : (s : Symbol) (w shut new : Direct) (mark : Mark) (from to : ℕ) (p : IsEnclosingParameterRead s w mark from to)
     → p.texts ≢ codes "void" → w.has_scope ≡ false → shut.text ≡ w.text → shut.candidates ≡ w.candidates → shut.at ≡ w.at
-    → reverse shut.waiting.list.items ≡ p.rest → new.text.list.items ≡ take to shut.text.list.items → AreKeptTo to shut.candidates.list.items new.candidates.list.items
+    → reverse shut.waiting.list.items ≡ p.rest → new.text.list.items ≡ take to shut.text.list.items → AreLeft (EndsBy to) shut.candidates.list.items new.candidates.list.items
     → new.waiting ≡ shut.waiting → new.at ≡ shut.at → s.is_bare ≡ true → IsEnclosingRead s new marks.Plain from
 function-unwritten s w shut new mark from to p apart unknown same_text same_candidates same_at waits text kept waiting at bare =
     let f = p.has in
@@ -411,10 +411,10 @@ function-unwritten s w shut new mark from to p apart unknown same_text same_cand
     ∙ take-append_seam left behind in
     let none : p.scope ≡ no_scope = p.keeps.unknown unknown in
     let keeps : Keeps s p.scope new p.state.candidates = record {
-      candidates = subst (λ l. AreCandidates s p.scope.names l new.candidates.list.items p.state.candidates) (sym left_is)
-          (candidates-kept s p.scope.names w.text.list.items left behind to w.candidates.list.items new.candidates.list.items p.state.candidates whole_ p.to_is
-          (subst (λ v. AreKeptTo to v.list.items new.candidates.list.items) same_candidates kept) p.keeps.candidates);
-      own = p.keeps.own;
+      candidates = subst (λ l. AreCandidates s p.scope l new.candidates.list.items p.state.candidates) (sym left_is)
+          (candidates-kept s p.scope w.text.list.items left behind to w.candidates.list.items new.candidates.list.items p.state.candidates whole_ p.to_is
+          (subst (λ v. AreLeft (EndsBy to) v.list.items new.candidates.list.items) same_candidates kept) p.keeps.candidates);
+      single = p.keeps.single;
       named = subst (λ (k : Scope). AreNamed new.text.list.items k) (sym none) (none-named new.text.list.items);
       unknown = λ e. none;
     } in

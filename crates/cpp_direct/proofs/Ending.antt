@@ -314,7 +314,7 @@ cut-kept s old new start cuts kept = go cuts.candidates
       state = kept.state;
       scope = kept.scope;
       keeps = keeps-as s old new kept.state.candidates (cuts.text ∙ ap (λ n. drop n old.text.list.items) same.0) (ap (λ v. v.list.items) same.1) cuts.scope
-          kept.keeps.candidates kept.keeps.named kept.keeps.own kept.keeps.unknown;
+          kept.keeps.candidates kept.keeps.named kept.keeps.single kept.keeps.unknown;
     }
     go (inr none) = record { state = record kept.state { candidates = [] }; scope = no_scope; keeps = none-kept s new none }
 

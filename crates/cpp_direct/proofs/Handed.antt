@@ -36,7 +36,7 @@ value-marked s w is_reference marked_reference is_dependent entry from made mark
     let last = last-found w.waiting.list.items entry found in
     let v = subst (λ ws. IsTypeRead s p.scope w p.state ws is_reference is_dependent) last.1 p.is_before in
     let marks = stands_as p.scope last.0 v.os v.front v.stands in
-    let naming : is_dependent ≡ true → IsNaming s p.scope last.0 = λ e. let n = v.naming e in (sym (argument_as last.0) ∙ n.0, n.1) in
+    let naming : is_dependent ≡ true → IsNaming p.scope last.0 = λ e. let n = v.naming e in (sym (argument_as last.0) ∙ n.0, n.1) in
     record {
       kept = p.kept;
       entry = entry;
@@ -52,7 +52,7 @@ value-marked s w is_reference marked_reference is_dependent entry from made mark
       from_is = marks.2;
       prints = prints_as p.scope.names v.own v.bytes v.prints;
       naming = naming;
-      made_here = λ e. made-here s p.scope marks.1 last.0 marks.4 (naming e);
+      made_here = λ e. made-here p.scope marks.1 last.0 marks.4 (naming e);
       stands = marks.5;
     }
 

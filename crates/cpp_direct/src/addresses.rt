@@ -1,5 +1,14 @@
 // Addresses of functions, which are arguments of a name.
 
+ghost use Rattle.std.specs.Prelude.{◌≡◌, ◌∷◌, [], true, codes};
+ghost use Rattle.std.specs.Option.{IfSome};
+ghost use Rattle.cpp_direct.specs.Names.{IsReadable};
+ghost use Rattle.cpp_direct.specs.declared.open.Mark.TheVariants as marks;
+ghost use Rattle.cpp_direct.specs.Holes.{StandsAt};
+ghost use Rattle.cpp_direct.specs.WriterInvariant.{IsWriting};
+ghost use Rattle.cpp_direct.specs.MidStepOfAddresses.{AwaitsAddressedParameters, AwaitsArgumentOfName, IsAddressNamed, IsAddressedFrontRead, IsAddressedParameterRead, IsAddressedRead};
+ghost use Rattle.cpp_direct.specs.Symbol.{symbol_by};
+
 use crate::direct::Direct;
 use crate::enclosing::LONGEST_GONE_OVER;
 use crate::grammar::Grammar;
@@ -12,7 +21,9 @@ use crate::tokens::byte_at;
 const ADDRESS: &[u8] = b"XadL_ZN";
 
 /// Whether the address of a function that has a nested name begins at a place.
-fn is_address_at(s: &[u8], at: usize) -> bool {
+fn is_address_at(s: &[u8], at: usize) -> bool
+    ensures { result ≡ true → StandsAt s.now at (codes "XadL_ZN") }
+{
     match s.get(at..) {
         Some(bytes) => bytes.starts_with(ADDRESS),
         None => false,
@@ -24,7 +35,11 @@ impl Direct {
     /// the address of a function.
     // <template-arg> ::= <type> | X <expression> E
     #[inline(always)]
-    pub(crate) fn argument_at<G: Grammar>(&mut self, s: &[u8]) -> Option<Step> {
+    pub(crate) fn argument_at<G: Grammar>(&mut self, s: &[u8]) -> Option<Step>
+        requires fits { IsReadable s.now }
+        requires awaits { AwaitsArgumentOfName (symbol_by G.IS_WIDE G.IS_BARE G.IS_BRIEF s.now) self.old }
+        ensures { IfSome result (IsWriting (symbol_by G.IS_WIDE G.IS_BARE G.IS_BRIEF s.now) self.new) }
+    {
         if G::IS_WIDE && byte_at(s, self.at) == b'X' {
             return self.begin_address::<G>(s);
         }
@@ -35,34 +50,36 @@ impl Direct {
     /// where its return type ends, and where it ends itself.
     // <expression> ::= ad L <mangled-name> E
     #[inline(never)]
-    fn begin_address<G: Grammar>(&mut self, s: &[u8]) -> Option<Step> {
+    fn begin_address<G: Grammar>(&mut self, s: &[u8]) -> Option<Step>
+        requires fits { IsReadable s.now }
+        requires awaits { AwaitsArgumentOfName (symbol_by G.IS_WIDE G.IS_BARE G.IS_BRIEF s.now) self.old }
+        ensures { IfSome result (IsWriting (symbol_by G.IS_WIDE G.IS_BARE G.IS_BRIEF s.now) self.new) }
+    {
         if s.len() > LONGEST_GONE_OVER || !is_address_at(s, self.at) {
             return None;
         }
         let encoding = self.at.checked_add(6)?;
         self.push_byte(b'&')?;
+        self.waiting.push(Open::Address {
+            encoding: encoding as u16,
+        })?;
         let place = mark_at(s, encoding.checked_add(1)?)?;
         self.at = place.end;
-        self.nest_at::<G>(
-            s,
-            Purpose::Address {
-                mark: place.mark,
-                encoding: encoding as u16,
-            },
-        )
+        self.nest_at::<G>(s, Purpose::Address { mark: place.mark })
     }
 
     /// The name of a function is read whose address is an argument. Its return type follows or its parameters, whose types may name its
     /// own arguments.
     // <encoding> ::= <function name> <bare-function-type>
-    pub(crate) fn addressed_named<G: Grammar>(
-        &mut self,
-        s: &[u8],
-        mark: Mark,
-        encoding: u16,
-        is_instance: bool,
-        argument: Arguments,
-    ) -> Option<Step> {
+    #[inline(never)]
+    pub(crate) fn addressed_named<G: Grammar>(&mut self, s: &[u8], mark: Mark) -> Option<Step>
+        requires fits { IsReadable s.now }
+        requires named { IsAddressNamed (symbol_by G.IS_WIDE G.IS_BARE G.IS_BRIEF s.now) self.old mark }
+        ensures { IfSome result (IsWriting (symbol_by G.IS_WIDE G.IS_BARE G.IS_BRIEF s.now) self.new) }
+    {
+        let Open::Address { encoding } = self.waiting.pop()? else {
+            return None;
+        };
         if self.has_scope || byte_at(s, self.at) == b'E' {
             return None;
         }
@@ -70,9 +87,9 @@ impl Direct {
         let to = self.text.end();
         let argument = Arguments {
             encoding,
-            ..argument
+            ..self.noted()
         };
-        if !is_instance {
+        if !self.is_function_instance() {
             return self.addressed_parameters::<G>(s, mark, to, argument);
         }
         self.waiting.push(Open::AddressedFront {
@@ -91,7 +108,11 @@ impl Direct {
         mark: Mark,
         to: u32,
         argument: Arguments,
-    ) -> Option<Step> {
+    ) -> Option<Step>
+        requires fits { IsReadable s.now }
+        requires read { IsAddressedFrontRead (symbol_by G.IS_WIDE G.IS_BARE G.IS_BRIEF s.now) self.old mark to argument }
+        ensures { IfSome result (IsWriting (symbol_by G.IS_WIDE G.IS_BARE G.IS_BRIEF s.now) self.new) }
+    {
         let _open = self.waiting.pop();
         self.leave_out(to)?;
         self.addressed_parameters::<G>(s, mark, to, argument)
@@ -105,7 +126,11 @@ impl Direct {
         mark: Mark,
         to: u32,
         argument: Arguments,
-    ) -> Option<Step> {
+    ) -> Option<Step>
+        requires fits { IsReadable s.now }
+        requires awaits { AwaitsAddressedParameters (symbol_by G.IS_WIDE G.IS_BARE G.IS_BRIEF s.now) self.old mark to argument }
+        ensures { IfSome result (IsWriting (symbol_by G.IS_WIDE G.IS_BARE G.IS_BRIEF s.now) self.new) }
+    {
         let behind = byte_at(s, self.at.checked_add(1)?);
         if byte_at(s, self.at) == b'v' && behind == b'E' {
             self.at = self.at.checked_add(1)?;
@@ -132,7 +157,11 @@ impl Direct {
         s: &[u8],
         mark: Mark,
         to: u32,
-    ) -> Option<Step> {
+    ) -> Option<Step>
+        requires fits { IsReadable s.now }
+        requires read { IsAddressedParameterRead (symbol_by G.IS_WIDE G.IS_BARE G.IS_BRIEF s.now) self.old mark to }
+        ensures { IfSome result (IsWriting (symbol_by G.IS_WIDE G.IS_BARE G.IS_BRIEF s.now) self.new) }
+    {
         if byte_at(s, self.at) != b'E' {
             self.push_pair(b',', b' ')?;
             return Some(Step::Type);
@@ -151,7 +180,10 @@ impl Direct {
     }
 
     /// Writes the qualifiers of such a function.
-    fn addressed_marked<G: Grammar>(&mut self, s: &[u8], mark: Mark) -> Option<Step> {
+    fn addressed_marked<G: Grammar>(&mut self, s: &[u8], mark: Mark) -> Option<Step>
+        requires read { IsAddressedRead (symbol_by G.IS_WIDE G.IS_BARE G.IS_BRIEF s.now) self.old mark }
+        ensures { IfSome result (IsWriting (symbol_by G.IS_WIDE G.IS_BARE G.IS_BRIEF s.now) self.new) }
+    {
         self.push_mark(mark)?;
         self.addressed::<G>(s)
     }
@@ -159,20 +191,19 @@ impl Direct {
     /// Reads the E after such a function, and the one after its address, which is an argument of the name before it. The function's own
     /// arguments aren't named any more.
     // <template-arg> ::= X ad L <mangled-name> E E
-    fn addressed<G: Grammar>(&mut self, s: &[u8]) -> Option<Step> {
+    fn addressed<G: Grammar>(&mut self, s: &[u8]) -> Option<Step>
+        requires read { IsAddressedRead (symbol_by G.IS_WIDE G.IS_BARE G.IS_BRIEF s.now) self.old marks.Plain }
+        ensures { IfSome result (IsWriting (symbol_by G.IS_WIDE G.IS_BARE G.IS_BRIEF s.now) self.new) }
+    {
         let behind = self.at.checked_add(1)?;
         if byte_at(s, self.at) != b'E' || byte_at(s, behind) != b'E' {
             return None;
         }
         self.at = behind.checked_add(1)?;
         self.end_scope();
-        match *self.waiting.as_slice().last()? {
-            Open::Argument {
-                from,
-                number,
-                known,
-            } => self.argument_ended::<G>(s, from, number, known, false),
-            _ => None,
-        }
+        Some(Step::Value {
+            is_reference: false,
+            is_dependent: false,
+        })
     }
 }

@@ -68,8 +68,8 @@ pub enum Purpose {
     Name { mark: Mark },
     /// the name of a function in which a type is, with these qualifiers
     Enclosing { mark: Mark },
-    /// the name of a function whose address is an argument, with these qualifiers, of an encoding that begins at this place
-    Address { mark: Mark, encoding: u16 },
+    /// the name of a function whose address is an argument, with these qualifiers
+    Address { mark: Mark },
 }
 
 /// A nested name so far: where its text begins, and where that of the class is that a constructor would be named after.
@@ -148,13 +148,17 @@ pub enum Open {
         from: u32,
         to: u32,
     },
-    /// the return type of a function whose address is an argument; its name ends at this place
+    /// the name of a function whose address is an argument, of an encoding that begins at this place
+    Address {
+        encoding: u16,
+    },
+    /// the return type of such a function; its name ends at this place
     AddressedFront {
         mark: Mark,
         to: u32,
         argument: Arguments,
     },
-    /// the parameters of such a function
+    /// its parameters
     Addressed {
         mark: Mark,
         to: u32,

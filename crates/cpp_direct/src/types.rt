@@ -269,7 +269,7 @@ impl Direct {
             } => self.front_ended::<G>(s, mark, start, argument),
             _ => {
                 if is_dependent {
-                    return self.pass_dependent::<G>(s, entry);
+                    return self.pass_dependent::<G>(s);
                 }
                 self.pass_closed::<G>(s, entry, is_reference)
             }
@@ -313,11 +313,12 @@ impl Direct {
     /// Hands on a type that names arguments of the function's template, which the arguments of a type may do.
     // <template-arg> ::= <type>
     #[inline(never)]
-    fn pass_dependent<G: Grammar>(&mut self, s: &[u8], entry: Open) -> Option<Step>
+    fn pass_dependent<G: Grammar>(&mut self, s: &[u8]) -> Option<Step>
+        requires fits { IsReadable s.now }
         requires writing { (is_reference : Bool) × IsWriting (symbol_by G.IS_WIDE G.IS_BARE G.IS_BRIEF s.now) self.old (steps.Value is_reference true) }
         ensures { IfSome result (IsWriting (symbol_by G.IS_WIDE G.IS_BARE G.IS_BRIEF s.now) self.new) }
     {
-        match entry {
+        match *self.waiting.as_slice().last()? {
             Open::AddressedFront { mark, to, argument } =>
                 self.addressed_front::<G>(s, mark, to, argument),
             Open::Addressed { mark, to, .. } => self.addressed_parameter::<G>(s, mark, to),
@@ -327,7 +328,11 @@ impl Direct {
 
     /// One of the arguments of a type names arguments of the function's template.
     // <template-arg> ::= <type>
-    fn note_dependent<G: Grammar>(&mut self, _s: &[u8]) -> Option<Step> {
+    #[inline(always)]
+    fn note_dependent<G: Grammar>(&mut self, _s: &[u8]) -> Option<Step>
+        requires writing { (is_reference : Bool) × IsWriting (symbol_by G.IS_WIDE G.IS_BARE G.IS_BRIEF _s.now) self.old (steps.Value is_reference true) }
+        ensures { IfSome result (IsWriting (symbol_by G.IS_WIDE G.IS_BARE G.IS_BRIEF _s.now) self.new) }
+    {
         let entry = dependent(self.waiting.pop()?)?;
         self.waiting.push(entry)?;
         Some(Step::List { is_first: false })

@@ -1,11 +1,11 @@
 // The text and the candidates, as they grow.
 
-ghost use Rattle.std.specs.Prelude.{◌≡◌, ◌+◌, ◌-◌, ◌≤◌, ◌∷◌, ◌++◌, [], length, take, drop, true, if◌then◌else◌};
+ghost use Rattle.std.specs.Prelude.{◌≡◌, ◌+◌, ◌-◌, ◌≤◌, ◌∷◌, ◌++◌, [], length, take, drop, true, false, if◌then◌else◌};
 ghost use Rattle.std.specs.Option.{OnSome, IfSome};
 ghost use Rattle.cpp_direct.specs.declared.open.Step.TheVariants as steps;
 ghost use Rattle.cpp_direct.specs.Symbol.{detail_by};
 ghost use Rattle.cpp_direct.specs.WrittenParts.{opening_bracket, closing_bracket};
-ghost use Rattle.cpp_direct.specs.Written.{Writes, Cuts, added, added_unless, with_argument, with_hidden, AreKeptTo};
+ghost use Rattle.cpp_direct.specs.Written.{Writes, Cuts, added, added_unless, with_argument, with_hidden, AreLeft, EndsBy, IsClosed};
 
 use crate::direct::Direct;
 use crate::grammar::Grammar;
@@ -168,7 +168,7 @@ impl Direct {
     pub(crate) fn leave_out(&mut self, to: u32) -> Option<()>
         requires within { to ≤ length self.old.text.list.items }
         ensures text { OnSome result (self.new.text.list.items ≡ take to self.old.text.list.items) }
-        ensures candidates { OnSome result (AreKeptTo to self.old.candidates.list.items self.new.candidates.list.items) }
+        ensures candidates { OnSome result (AreLeft (EndsBy to) self.old.candidates.list.items self.new.candidates.list.items) }
         ensures open { OnSome result (self.new.waiting ≡ self.old.waiting) }
         ensures scope { OnSome result (self.new.has_scope ≡ self.old.has_scope) }
         ensures at { OnSome result (self.new.at ≡ self.old.at) }
@@ -182,6 +182,11 @@ impl Direct {
 
     /// The arguments that types may name aren't named any more. Candidates that name them are nowhere then.
     pub(crate) fn end_scope(&mut self)
+        ensures candidates { AreLeft IsClosed self.old.candidates.list.items self.new.candidates.list.items }
+        ensures scope { self.new.has_scope ≡ false }
+        ensures text { self.new.text ≡ self.old.text }
+        ensures open { self.new.waiting ≡ self.old.waiting }
+        ensures at { self.new.at ≡ self.old.at }
     {
         self.has_scope = false;
         hide_dependent(&mut self.candidates);
@@ -230,7 +235,7 @@ impl Direct {
 
 /// Candidates that end after a place are nowhere.
 fn hide_after(candidates: &mut Bounded<Candidate>, to: u32)
-    ensures { AreKeptTo to candidates.old.list.items candidates.new.list.items }
+    ensures { AreLeft (EndsBy to) candidates.old.list.items candidates.new.list.items }
 {
     let mut at = 0;
     'candidates: while at < candidates.len() {
@@ -243,6 +248,7 @@ fn hide_after(candidates: &mut Bounded<Candidate>, to: u32)
 
 /// Candidates that name arguments of the function's template are nowhere.
 fn hide_dependent(candidates: &mut Bounded<Candidate>)
+    ensures { AreLeft IsClosed candidates.old.list.items candidates.new.list.items }
 {
     let mut at = 0;
     'candidates: while at < candidates.len() {
