@@ -3,7 +3,7 @@ use Rattle.sym_print.specs.declared.detail.Detail.{Detail}
 use Rattle.cpp_grammar.specs.Unfolding.{byte_of, close}
 use Rattle.cpp_grammar.specs.Meaning.{is_void, meaning, listed_value}
 use Rattle.cpp_direct.specs.Symbol.{detail_of, Symbol}
-use Rattle.cpp_direct.proofs.Kept.{candidate-found, kept-grown, kept-same, kept-written, made-here, piece-found, placed-stays, value-added, value-comes, candidate-inside, kept-as, kept-with}
+use Rattle.cpp_direct.proofs.Kept.{candidate-found, kept-argument, kept-grown, kept-same, kept-written, made-here, piece-found, placed-stays, value-added, value-comes, candidate-inside, kept-as, kept-with}
 use Rattle.cpp_direct.proofs.Listed.{some-elements}
 use Rattle.cpp_direct.proofs.Moves.{hole, eats, byte-opens, next-part, closes, none-fills, number-fills, is_eaten, stands-join, stands-split, expects-empty, open_at, fill, filled-at}
 use Rattle.cpp_direct.proofs.MovesOfTypes.{const-opens, lvalue-opens, rvalue-opens, solid-opens, substitution-opens}
@@ -16,7 +16,7 @@ use Rattle.cpp_direct.specs.Holes.{Opened, StandsAt, Comes, candidate, with_cand
 use Rattle.cpp_direct.specs.Prints.{IsMarkedBy, Names, PrintsAs, PrintsGiven, PrintsMade, PrintAllBy, list_of, made_by, pattern_letters}
 use Rattle.cpp_direct.specs.WriterInvariant.{AreCandidates, EncodedBehind, IsAmong, IsKnown, IsPackOf, IsPackThere, IsPlaced, IsScope, IsSingle, IsWriting, ParametersGoOn, argument_of, in_front_of_next, place_of, Kept}
 use Rattle.cpp_direct.specs.MidStep.{AwaitsType, AreParametersRead, IsFunctionEnded, IsNamedAgain, parameter_digits, AreExpanded, comma_text, expansion_letters, separator}
-use Rattle.cpp_direct.specs.Written.{Writes, added, hidden}
+use Rattle.cpp_direct.specs.Written.{Writes, added, hidden, with_argument}
 use Rattle.cpp_direct.specs.declared.direct.Direct.{Direct}
 use Rattle.cpp_direct.specs.declared.open.Argument.{Argument}
 use Rattle.cpp_direct.specs.declared.open.Candidate.{Candidate}
@@ -133,13 +133,13 @@ scope-named s w all k p a found is single =
 -- ## Parameters
 
 -- the parameter is read, and its argument is written once more
-pub parameter-done : (s : Symbol) (old mid new : Direct) (all : Arguments) (k : ℕ) (p : Argument) (n from : ℕ) → AwaitsType s old → k ≤ 3
+pub parameter-done : (s : Symbol) (old mid new : Direct) (all : Arguments) (k : ℕ) (p : Argument) (n : ℕ) → AwaitsType s old → k ≤ 3
     → StandsAt s.bytes old.at (84 ∷ []) → StandsAt s.bytes (old.at + 1) (parameter_digits k ++ 95 ∷ [])
-    → argument_of (reverse old.waiting.list.items) ≡ Some all → p ≡ place_of all k → IsSingle p → all.encoding ≢ 0 → from ≡ length old.text.list.items
+    → argument_of (reverse old.waiting.list.items) ≡ Some all → p ≡ place_of all k → IsSingle p → all.encoding ≢ 0
     → Writes (record old { at = n }) mid (take (p.to - p.from) (drop p.from old.text.list.items)) → n ≡ old.at + 1 + length (parameter_digits k ++ 95 ∷ [])
-    → new.candidates.list.items ≡ added mid from p.is_reference true → new.text ≡ mid.text → new.waiting ≡ mid.waiting → new.has_scope ≡ mid.has_scope
+    → new.candidates.list.items ≡ with_argument mid p → new.text ≡ mid.text → new.waiting ≡ mid.waiting → new.has_scope ≡ mid.has_scope
     → new.at ≡ mid.at → IsWriting s new (steps.Value p.is_reference true)
-parameter-done s old mid new all k p n from a few letter line found is single real from_is writes at more same_text same_waits same_scope same_at =
+parameter-done s old mid new all k p n a few letter line found is single real writes at more same_text same_waits same_scope same_at =
     let text = old.text.list.items in
     let h = named-placed s old all k p a found is single in
     let bytes = h.0 in
@@ -147,10 +147,12 @@ parameter-done s old mid new all k p n from a few letter line found is single re
     writes.text ∙ ap (λ l. text ++ l) (piece-found text bytes p.from p.to h.2).2 in
     let prints = parameter-given a.scope.names k (record { bytes = bytes; reference = p.is_reference }) h.1 in
     let naming = named-here s old a.kept a.around all a.scoped found real in
-    let open_is : new.waiting ≡ old.waiting = same_waits ∙ writes.waiting in
     let later = with_candidate a.around (parameter k) a.state in
-    value-added s mid new (kept-grown s old mid bytes grown writes.candidates writes.scope a.kept) a.os a.around (parameter k) text bytes from p.is_reference true
-    grown from_is prints (λ e. made-here a.scope a.around (reverse old.waiting.list.items) a.scoped naming) same_text more same_scope (ap (λ v. reverse v.list.items) open_is)
+    value-comes s new
+    (kept-argument s mid new (kept-grown s old mid bytes grown writes.candidates writes.scope a.kept) p bytes (parameter k) a.around
+    (subst (λ l. IsPlaced l p bytes) (sym grown) (placed-stays text bytes p bytes h.2)) prints
+    (made-here a.scope a.around (reverse old.waiting.list.items) a.scoped naming) same_text more same_scope)
+    a.os (parameter k) text bytes p.is_reference true (ap (λ v. v.list.items) same_text ∙ grown) prints (ap (λ v. reverse v.list.items) (same_waits ∙ writes.waiting))
     (λ e. naming)
     (subst (λ n. Comes s a.os (tree (parameter k) true) n later) (sym (same_at ∙ writes.at ∙ at))
     (parameter-comes s a.kind a.around a.os k old.at a.state a.typed few (scope-named s old all k p a found is single) a.awaits

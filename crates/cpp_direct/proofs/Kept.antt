@@ -18,9 +18,9 @@ use Rattle.cpp_direct.specs.declared.open.Open.{Open}
 use Rattle.cpp_direct.specs.declared.open.Step.{Step}
 use Rattle.cpp_direct.specs.declared.direct.Direct.{Direct}
 use Rattle.cpp_direct.specs.Holes.{Comes, Opened, candidate, with_candidate, unless_listed}
-use Rattle.cpp_direct.specs.Prints.{Names, PrintsAs}
+use Rattle.cpp_direct.specs.Prints.{Names, PrintsAs, PrintsGiven}
 use Rattle.cpp_direct.specs.WriterInvariant.{AreCandidates, AreNamed, ArgumentsGoOn, ExpectsType, HasScope, IsCandidate, IsMadeIn, IsNaming, IsNest, IsPlaced, HasSingles, IsScoped, IsTemplate, IsWriting, Keeps, Scope, Stands, argument_of, arguments_in, below, is_within_type, no_scope, of_template, place_of, IsOwn, is_type, IsKnown, nowhere, Kept, IsBetween, AwaitsTypeIn, IsTypeRead}
-use Rattle.cpp_direct.specs.Written.{Writes, Reads, added, added_unless, EndsBy, IsLeft, AreLeft}
+use Rattle.cpp_direct.specs.Written.{Writes, Reads, added, added_unless, with_argument, EndsBy, IsLeft, AreLeft}
 use Rattle.std.specs.Prelude.{slice_set}
 use Rattle.cpp_grammar.specs.Values as values
 use Rattle.cpp_direct.specs.declared.open.Open.TheVariants as opens
@@ -218,6 +218,16 @@ kept-unless s old new kept listed front bytes from t around d written from_is pr
   scope = kept.scope;
   keeps = keeps-unless s old new kept listed front bytes from t around d written from_is prints made_in text added_is scope_same;
 }
+
+-- the text of an argument that may be named became a candidate, which names it
+abbrev pub kept-argument : (s : Symbol) (old new : Direct) (kept : Kept s old) (p : Argument) (bytes : List ℕ) (t : Term) (around : Around)
+    → IsPlaced old.text.list.items p bytes → PrintsGiven (detail_of s) kept.scope.names t bytes p.is_reference → IsMadeIn kept.scope around.encoding
+    → new.text ≡ old.text → new.candidates.list.items ≡ with_argument old p → new.has_scope ≡ old.has_scope → Kept s new
+kept-argument s old new kept p bytes t around placed prints made_in text added_is scope_same =
+    kept-as s old new (with_candidate around t kept.state) kept text added_is scope_same
+    (candidates-more old.text.list.items old.candidates.list.items kept.state.candidates
+    (record { from = p.from; to = p.to; is_reference = p.is_reference; is_dependent = true }) (candidate around t) kept.keeps.candidates
+    (λ ordered. record { bytes = bytes; placed = placed; prints = prints; made_in = λ e. made_in }))
 
 -- ## What waits
 

@@ -739,8 +739,8 @@ impl Direct {
         }
         self.at = read.end;
         self.repeat(argument.from as u32, argument.to as u32)?;
-        self.add_argument(argument)?;
-        self.add_argument(argument)?;
+        self.add_candidate(from, true, true)?;
+        self.add_candidate(from, true, true)?;
         Some(Step::Value {
             is_reference: true,
             is_dependent: true,

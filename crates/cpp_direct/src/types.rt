@@ -293,6 +293,7 @@ impl Direct {
             Open::AddressedFront { mark, to, argument } =>
                 self.addressed_front::<G>(s, mark, to, argument),
             Open::Addressed { mark, to, .. } => self.addressed_parameter::<G>(s, mark, to),
+            Open::Address { .. } => None,
             Open::Lambda { from } => self.lambda_parameter::<G>(s, from),
             Open::Special => self.finish::<G>(s),
             Open::Enumerator => self.enumerator::<G>(s),
