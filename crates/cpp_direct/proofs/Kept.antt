@@ -20,7 +20,7 @@ use Rattle.cpp_direct.specs.declared.direct.Direct.{Direct}
 use Rattle.cpp_direct.specs.Holes.{Comes, Opened, candidate, with_candidate, unless_listed}
 use Rattle.cpp_direct.specs.Prints.{Names, PrintsAs, PrintsGiven}
 use Rattle.cpp_direct.specs.WriterInvariant.{AreCandidates, AreNamed, ArgumentsGoOn, ExpectsType, HasScope, IsCandidate, IsMadeIn, IsNaming, IsNest, IsPlaced, HasSingles, IsScoped, IsTemplate, IsWriting, Keeps, Scope, Stands, argument_of, arguments_in, below, is_within_type, no_scope, of_template, place_of, IsOwn, is_type, IsKnown, nowhere, Kept, IsBetween, AwaitsTypeIn, IsTypeRead}
-use Rattle.cpp_direct.specs.Written.{Writes, Reads, added, added_unless, with_argument, EndsBy, IsLeft, AreLeft}
+use Rattle.cpp_direct.specs.Written.{Writes, Reads, added, added_unless, with_argument, EndsBy, IsClosed, IsLeft, AreLeft}
 use Rattle.std.specs.Prelude.{slice_set}
 use Rattle.cpp_grammar.specs.Values as values
 use Rattle.cpp_direct.specs.declared.open.Open.TheVariants as opens
@@ -470,6 +470,63 @@ candidates-kept s scope text kept rest to [] [] (c ∷ cs) is to_is are p = absu
 candidates-kept s scope text kept rest to [] (n ∷ ns) cs is to_is are p = absurd are
 candidates-kept s scope text kept rest to (k ∷ ks) [] cs is to_is are p = absurd are
 candidates-kept s scope text kept rest to (k ∷ ks) (n ∷ ns) [] is to_is are p = absurd p
+
+-- what a writer keeps where what follows this is taken away, if the arguments that may be named are in it
+abbrev pub kept-cut : (s : Symbol) (old new : Direct) (kept : Kept s old) (left rest : List ℕ) (to : ℕ) → old.text.list.items ≡ left ++ rest → to ≡ length left
+    → new.text.list.items ≡ left → AreLeft (EndsBy to) old.candidates.list.items new.candidates.list.items → new.has_scope ≡ old.has_scope
+    → AreNamed left kept.scope → Kept s new
+kept-cut s old new kept left rest to written to_is left_is are scope_same named = record {
+  state = kept.state;
+  scope = kept.scope;
+  keeps = keeps-as s old new kept.state.candidates left_is refl scope_same
+      (candidates-kept s kept.scope old.text.list.items left rest to old.candidates.list.items new.candidates.list.items kept.state.candidates written to_is are
+      kept.keeps.candidates) named kept.keeps.single kept.keeps.unknown;
+}
+
+-- the front of a text that was taken
+pub front-left : (text left rest : List ℕ) (to : ℕ) → text ≡ left ++ rest → to ≡ length left → take to text ≡ left
+front-left text left rest to written to_is = ap (λ n. take n text) to_is ∙ ap (λ l. take (length left) l) written ∙ take-append_seam left rest
+
+-- a candidate that names no arguments is one where none may be named
+closed-kept : (s : Symbol) (scope : Scope) (text : List ℕ) (k n : Candidate) (c : values.Candidate) → IsLeft IsClosed k n
+    → (k.from ≤ k.to → IsCandidate s scope text k c) → n.from ≤ n.to → IsCandidate s no_scope text n c
+closed-kept s scope text k n c (inl (same, closed)) p ordered =
+    let own = p (subst (λ (m : Candidate). m.from ≤ m.to) same ordered) in
+    subst (λ m. IsCandidate s no_scope text m c) (sym same) (record {
+      bytes = own.bytes;
+      placed = own.placed;
+      prints = subst (λ d. PrintsAs (detail_of s) no_scope.names d c.tree own.bytes k.is_reference) (sym closed)
+          (subst (λ d. PrintsAs (detail_of s) scope.names d c.tree own.bytes k.is_reference) closed own.prints);
+      made_in = λ e. absurd (false≢true (sym closed ∙ e));
+    })
+closed-kept s scope text k n c (inr none) p ordered =
+    let never : 1 ≤ 0 = subst (λ (m : Candidate). m.from ≤ m.to) none ordered in
+    absurd (omega (arith, never))
+
+pub candidates-closed : (s : Symbol) (scope : Scope) (text : List ℕ) (ks ns : List Candidate) (cs : List values.Candidate) → AreLeft IsClosed ks ns
+    → AreCandidates s scope text ks cs → AreCandidates s no_scope text ns cs
+candidates-closed s scope text [] [] [] are p = tt
+candidates-closed s scope text (k ∷ ks) (n ∷ ns) (c ∷ cs) are p =
+    (closed-kept s scope text k n c are.0 p.0, candidates-closed s scope text ks ns cs are.1 p.1)
+candidates-closed s scope text [] [] (c ∷ cs) are p = absurd p
+candidates-closed s scope text [] (n ∷ ns) cs are p = absurd are
+candidates-closed s scope text (k ∷ ks) [] cs are p = absurd are
+candidates-closed s scope text (k ∷ ks) (n ∷ ns) [] are p = absurd p
+
+-- what a writer keeps where arguments aren't named any more, and candidates that name them are nowhere
+abbrev pub kept-closed : (s : Symbol) (old new : Direct) (kept : Kept s old) → AreLeft IsClosed old.candidates.list.items new.candidates.list.items
+    → new.text ≡ old.text → Kept s new
+kept-closed s old new kept are text = record {
+  state = kept.state;
+  scope = no_scope;
+  keeps = record {
+    candidates = subst (λ v. AreCandidates s no_scope v.list.items new.candidates.list.items kept.state.candidates) (sym text)
+        (candidates-closed s kept.scope old.text.list.items old.candidates.list.items new.candidates.list.items kept.state.candidates are kept.keeps.candidates);
+    named = none-named new.text.list.items;
+    single = none-single;
+    unknown = λ e. refl;
+  };
+}
 
 -- ## One after the other
 

@@ -17,7 +17,7 @@ use Rattle.cpp_direct.specs.declared.open.Candidate.{Candidate}
 use Rattle.cpp_direct.specs.declared.open.Mark.{Mark}
 use Rattle.cpp_direct.specs.declared.open.Open.{Open}
 use Rattle.cpp_direct.specs.Prints.{AreSingle, IsGiven, Named, Names, Prints, PrintsAs, PrintsGiven}
-use Rattle.cpp_direct.specs.WriterInvariant.{AreCandidates, HasArguments, IsCandidate, IsMadeIn, IsNaming, IsPlaced, HasSingles, IsScoped, IsSingle, Scope, argument_of, encoding_place, place_of, Kept}
+use Rattle.cpp_direct.specs.WriterInvariant.{AreCandidates, AreNamed, HasArguments, IsCandidate, IsMadeIn, IsNaming, IsPlaced, HasSingles, IsScoped, IsSingle, Keeps, Scope, argument_of, encoding_place, no_scope, place_of, Kept}
 use Rattle.cpp_direct.specs.MidStep.{IsNameEnded, IsNameScoped}
 use Rattle.cpp_direct.proofs.Kept.{encoded-here, piece-found}
 use Rattle.cpp_direct.proofs.MovesOfTypes.{no-pack-named, substituted-open}
@@ -65,7 +65,7 @@ some-same : (t u : Term) → Some t ≡ Some u → t ≡ u
 some-same t u e = cc e
 
 -- the arguments of a name are given in its types
-arguments-given : {detail : Detail} (text : List ℕ) (a : Arguments) (own : Term) → HasArguments detail text a own → IsGiven detail (names_at text a) (types_of own)
+pub arguments-given : {detail : Detail} (text : List ℕ) (a : Arguments) (own : Term) → HasArguments detail text a own → IsGiven detail (names_at text a) (types_of own)
 arguments-given {detail} text a own has number n is =
     let h = has.0 number (text-single text (place_of a number) n is).0 in
     types-given (names_at text a) own h.all h.all_are (λ k m e. one h.all h.all_are k m e) number n is
@@ -108,6 +108,32 @@ candidates-given s scope text (k ∷ ks) (c ∷ cs) p = ((λ e. candidate-given 
 candidates-given s scope text [] (c ∷ cs) p = absurd p
 candidates-given s scope text (k ∷ ks) [] p = absurd p
 
+-- those of a name that was written may be named
+abbrev pub scope_at : (text : List ℕ) → Arguments → Scope
+scope_at text a = record { arguments = a; names = names_at text a }
+
+pub named-there : {detail : Detail} (text : List ℕ) (a : Arguments) (own : Term) → HasArguments detail text a own → AreNamed text (scope_at text a)
+named-there text a own names number single =
+    let h = names.0 number single in
+    (h.bytes, text-there text (place_of a number) h.bytes single h.placed, h.placed)
+
+-- where none may be named before
+pub scope-kept : (s : Symbol) (old new : Direct) (kept : Kept s old) (a : Arguments) (own : Term) → HasArguments (detail_of s) old.text.list.items a own
+    → old.has_scope ≡ false → new.has_scope ≡ true → new.text ≡ old.text → new.candidates ≡ old.candidates
+    → Keeps s (scope_at old.text.list.items a) new kept.state.candidates
+scope-kept s old new kept a own names first now text candidates =
+    let here = old.text.list.items in
+    let scope = scope_at here a in
+    record {
+      candidates = subst (λ v. AreCandidates s scope v.list.items new.candidates.list.items kept.state.candidates) (sym text)
+          (subst (λ v. AreCandidates s scope here v.list.items kept.state.candidates) (sym candidates)
+          (candidates-given s scope here old.candidates.list.items kept.state.candidates
+          (subst (λ (k : Scope). AreCandidates s k here old.candidates.list.items kept.state.candidates) (kept.keeps.unknown first) kept.keeps.candidates)));
+      named = subst (λ v. AreNamed v.list.items scope) (sym text) (named-there here a own names);
+      single = λ number n e. (text-single here (place_of a number) n e).0;
+      unknown = λ e. absurd (false≢true (sym e ∙ now));
+    }
+
 -- The arguments of a name that was read may be named in the types after it.
 pub scope-begins : (s : Symbol) (old new : Direct) (mark : Mark) (is_instance : Bool) (argument a : Arguments) (from : ℕ) → IsNameEnded s old mark is_instance argument from
     → a ≡ record argument { encoding = a.encoding } → (a.encoding ≢ 0 → (from ≡ 0) × (a.encoding ≡ encoding_place s.bytes))
@@ -117,15 +143,8 @@ scope-begins s old new mark is_instance argument a from p same encoded first new
       ended = record {
         kept = record {
           state = p.state;
-          scope = scope;
-          keeps = record {
-            candidates = candidates-given s scope text old.candidates.list.items p.state.candidates
-                (subst (λ (k : Scope). AreCandidates s k text old.candidates.list.items p.state.candidates) (p.keeps.unknown first) p.keeps.candidates);
-            named = λ number single. let h = names.0 number single in
-                (h.bytes, text-there text (place_of a number) h.bytes single h.placed, h.placed);
-            single = λ number n e. (text-single text (place_of a number) n e).0;
-            unknown = λ e. absurd (false≢true (sym e));
-          };
+          scope = scope_at text a;
+          keeps = scope-kept s old (record old { has_scope = true }) p.kept a p.own names first refl refl refl;
         };
         has = p.has;
         no_return = p.no_return;
@@ -140,9 +159,6 @@ scope-begins s old new mark is_instance argument a from p same encoded first new
   where
     text : List ℕ
     text = old.text.list.items
-
-    scope : Scope
-    scope = record { arguments = a; names = names_at text a }
 
     names : HasArguments (detail_of s) text a p.own
     names = subst (λ (k : Arguments). HasArguments (detail_of s) text k p.own) (sym same) (arguments-named text a.encoding argument p.own p.names)

@@ -700,8 +700,8 @@ pub record FirstType (s : Symbol) : Type 0 where
   pub is_reference : Bool
   pub prints : Prints (detail_of s) own bytes is_reference
 
--- A type comes for the last of the open ones, after what is written, or the name of a function. What is open around the address of a
--- function names no arguments yet.
+-- A type comes for the last of the open ones, after what is written, or the name of a function whose address is read. While the types of
+-- that function are read, nothing is named by what is open around them.
 abbrev pub Stands : (s : Symbol) → Scope → List Open → List Opened → (text : List ℕ) → Type 0
 Stands s scope [] os text = ⊥
 Stands s scope (opens.Pointer from ∷ rest) os text = Marks s (outside scope rest (Stands s scope rest)) os text from pointer
@@ -722,7 +722,7 @@ Stands s scope (opens.Enclosing mark from to ∷ rest) os text =
     → ItemsGoOn s nowhere (TypeWithin s (outside scope rest (Stands s scope rest)) h.front) h.make (ts ++ t ∷ []) at st)
     × (to ≡ length (h.front ++ h.name))
 Stands s scope (opens.Address encoding ∷ rest) os text =
-    (v : Value) (at : ℕ) (st : State) → Comes s os v at st → ItemsOf s encoding (AddressWithin s (outside no_scope rest (Stands s no_scope rest)) text) v at st
+    (v : Value) (at : ℕ) (st : State) → Comes s os v at st → ItemsOf s encoding (AddressWithin s (outside scope rest (Stands s scope rest)) text) v at st
 Stands s scope (opens.AddressedFront mark to argument ∷ rest) os text =
     (a : IsAddressed (detail_of s) scope to argument) × (v : Value) × IsNamedSo v a.own mark × (has_return_type a.own ≡ true) × (text ≡ a.front ++ a.name)
     × ((t : Term) (at : ℕ) (st : State) → Comes s os (tree t true) at st
