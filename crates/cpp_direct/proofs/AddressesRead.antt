@@ -273,7 +273,7 @@ front-cut s w shut new mark to argument p same_text same_candidates same_scope s
         returned = r;
         make = λ l. encoding_of p.v (list r l);
         makes = λ t rest. encoding-returned p.v mark p.own p.named_so p.returns r (list t rest);
-        elements = none-print-in (detail_of s) (types_of p.own) 6;
+        elements = none-print-in (detail_of s) (types_of p.own) 3;
       };
       written = left_is;
       goes = subst (λ ws. ItemsGoOn s argument (AddressWithin s (below s no_scope ws) p.front) (λ l. encoding_of p.v (list r l)) [] new.at p.state)
@@ -299,7 +299,7 @@ plain-addressed s w mark to argument p plain = record {
     returned = absent;
     make = λ l. encoding_of p.v l;
     makes = encoding-plain p.v mark p.own p.named_so plain;
-    elements = none-print-in (detail_of s) (types_of p.own) 6;
+    elements = none-print-in (detail_of s) (types_of p.own) 3;
   };
   written = p.written;
   goes = p.goes;
@@ -357,8 +357,8 @@ value-addressed s w is_reference is_dependent mark to argument p found =
     let texts = waits.1 in
     let h = waits.2 in
     let types = types_of h.own in
-    let element : IsElementIn (detail_of s) types 6 v.own v.bytes =
-    type-in types 6 v.own v.bytes is_reference (as-in (detail_of s) p.scope.names is_dependent types v.own v.bytes is_reference h.given v.prints) in
+    let element : IsElementIn (detail_of s) types 3 v.own v.bytes =
+    type-in types 3 v.own v.bytes is_reference (as-in (detail_of s) p.scope.names is_dependent types v.own v.bytes is_reference h.given v.prints) in
     record {
       kept = p.kept;
       rest = last.0;
@@ -372,7 +372,7 @@ value-addressed s w is_reference is_dependent mark to argument p found =
         returned = h.returned;
         make = h.make;
         makes = h.makes;
-        elements = next-prints-in types 6 ts texts v.own v.bytes h.elements element;
+        elements = next-prints-in types 3 ts texts v.own v.bytes h.elements element;
       };
       written = v.written ∙ ap (λ l. l ++ v.bytes) waits.3 ∙ append_assoc (h.front ++ h.name ++ codes "(") (in_front_of_next ts texts) v.bytes;
       goes = waits.4 v.own w.at p.state v.comes;
@@ -435,7 +435,7 @@ parameters-end : (s : Symbol) (w : Direct) (mark : Mark) (to : ℕ) (p : IsAddre
     × AddressWithin s (below s no_scope p.rest) p.front (p.make (list_of p.ts)) w.at p.state
 unfolding no_items may_be_empty
 parameters-end s w mark to p apart = let f = p.has in (
-  made-with f.own f.returned mark p.make f.makes p.ts p.some (parameters-kept (detail_of s) (types_of f.own) 6 p.ts p.texts f.elements apart),
+  made-with f.own f.returned mark p.make f.makes p.ts p.some (parameters-kept (detail_of s) (types_of f.own) 3 p.ts p.texts f.elements apart),
   subst (λ u. AddressWithin s (below s no_scope p.rest) p.front (p.make u) w.at p.state) (list-with-none p.ts)
       (p.goes.onward nothing_there w.at p.state (expects-empty s Kind.Items p.goes.around p.goes.inner w.at p.state p.goes.awaits refl)),
 )
@@ -454,7 +454,7 @@ function-addressed s w shut last mark to p apart text candidates scope_same at w
     let shows : Shows (detail_of s) (function f.own (qualifiers (has_const mark)) (called_on mark) absent (list_of p.ts)) bytes =
     subst (λ x. Shows (detail_of s) (function f.own (qualifiers (has_const mark)) (called_on mark) absent (list_of p.ts)) (b ++ codes "(" ++ l ++ codes ")" ++ x))
     (plain-text mark)
-    (function-shows (has-parameters s whole) f.own b f.prints (list_of p.ts) l (list-in (detail_of s) (types_of f.own) 6 p.ts l (omega arith) f.elements)
+    (function-shows (has-parameters s whole) f.own b f.prints (list_of p.ts) l (list-in (detail_of s) (types_of f.own) 3 p.ts l (omega arith) f.elements)
     (qualifiers (has_const mark)) (called_on mark)) in
     addressed-read s last mark w.at (kept-written s shut last (codes ")") one (kept-same s w shut text candidates scope_same p.kept)) (p.make (list_of p.ts)) p.front bytes
     (ap (λ x. x ++ q) (one.text ∙ ap (λ v. v.list.items ++ codes ")") text ∙ ap (λ x. x ++ codes ")") p.written) ∙ behind-five p.front b (codes "(") l (codes ")") q)

@@ -129,7 +129,7 @@ none-known (suc (suc (suc (suc k)))) o = absurd (omega (arith, o))
 pub none-named : (text : List ℕ) → AreNamed text no_scope
 none-named text number single = absurd (none-known number single.0)
 
-none-single : HasSingles no_scope
+pub none-single : HasSingles no_scope
 none-single number own e = cc e
 
 -- there is no candidate, and nothing may be named

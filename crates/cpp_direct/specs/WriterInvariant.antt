@@ -434,7 +434,7 @@ pub record HasAddressed (detail : Detail) (scope : Scope) (mark : Mark) (to : �
   pub returned : Term
   pub make : Term → Term
   pub makes : (t rest : Term) → make (list t rest) ≡ function own (qualifiers (has_const mark)) (called_on mark) returned (parameters (list t rest))
-  pub elements : PrintAllIn detail (types_of own) 6 ts texts
+  pub elements : PrintAllIn detail (types_of own) 3 ts texts
 
 -- the name of a function that has a return type, and its text
 pub record IsInstance (detail : Detail) (scope : Scope) (text : List ℕ) (argument : Arguments) (mark : Mark) (v : Value) (name : List ℕ) : Type 0 where

@@ -55,7 +55,10 @@ impl Direct {
         requires awaits { AwaitsArgumentOfName (symbol_by G.IS_WIDE G.IS_BARE G.IS_BRIEF s.now) self.old }
         ensures { IfSome result (IsWriting (symbol_by G.IS_WIDE G.IS_BARE G.IS_BRIEF s.now) self.new) }
     {
-        if s.len() > LONGEST_GONE_OVER || !is_address_at(s, self.at) {
+        if s.len() > LONGEST_GONE_OVER {
+            return None;
+        }
+        if !is_address_at(s, self.at) {
             return None;
         }
         let encoding = self.at.checked_add(6)?;
@@ -80,6 +83,7 @@ impl Direct {
         let Open::Address { encoding } = self.waiting.pop()? else {
             return None;
         };
+        // data, or one among the types of another one
         if self.has_scope || byte_at(s, self.at) == b'E' {
             return None;
         }
