@@ -149,7 +149,7 @@ name-addressed s old kept t mark n no_return returns names here is_name =
 -- ## Where its own arguments may be named
 
 -- The name of a function whose address is an argument was read, and written up to a place. Its types may name these arguments.
-pub record IsAddressScoped (s : Symbol) (w : Direct) (mark : Mark) (to : ℕ) (argument : Arguments) : Type 0 where
+pub record IsAddressScoped (s : Symbol) (w : Direct) (mark : Mark) (is_instance : Bool) (to : ℕ) (argument : Arguments) : Type 0 where
   pub kept : Kept s w
   pub open kept use *
   pub addressed : IsAddressed (detail_of s) scope to argument
@@ -157,13 +157,16 @@ pub record IsAddressScoped (s : Symbol) (w : Direct) (mark : Mark) (to : ℕ) (a
   pub v : Value
   pub named_so : IsNamedSo v own mark
   pub written : w.text.list.items ≡ front ++ name
+  pub no_return : is_instance ≡ false → has_return_type own ≡ false
+  pub returns : is_instance ≡ true → has_return_type own ≡ true
   pub goes : ItemsGoOn s argument (AddressWithin s (below s no_scope (reverse w.waiting.list.items)) front) (λ l. encoding_of v l) [] w.at state
 
-pub address-scoped : (s : Symbol) (old new : Direct) (mark : Mark) (to : ℕ) (argument noted : Arguments) (p : IsAddressNamed s old mark)
+pub address-scoped : (s : Symbol) (old new : Direct) (mark : Mark) (is_instance : Bool) (to : ℕ) (argument noted : Arguments) (p : IsAddressNamed s old mark)
     → old.waiting.list.items ≡ new.waiting.list.items ++ opens.Address argument.encoding ∷ [] → old.has_scope ≡ false → new.has_scope ≡ true
     → new.text ≡ old.text → new.candidates ≡ old.candidates → new.at ≡ old.at → argument ≡ record noted { encoding = argument.encoding }
-    → HasArguments (detail_of s) old.text.list.items noted p.own → to ≡ length old.text.list.items → IsAddressScoped s new mark to argument
-address-scoped s old new mark to argument noted p waiting first now text candidates at same noted_there to_is =
+    → HasArguments (detail_of s) old.text.list.items noted p.own → to ≡ length old.text.list.items
+    → is_instance ≡ (old.nest.is_instance && old.nest.has_class) → IsAddressScoped s new mark is_instance to argument
+address-scoped s old new mark is_instance to argument noted p waiting first now text candidates at same noted_there to_is instance_is =
     let here = old.text.list.items in
     let rest = reverse new.waiting.list.items in
     let names : HasArguments (detail_of s) here argument p.own =
@@ -175,7 +178,6 @@ address-scoped s old new mark to argument noted p waiting first now text candida
     (subst (λ ws. Stands s p.scope ws p.os p.front) waits p.stands) in
     let items = taken p.v old.at p.state p.comes in
     let scope = scope_at here argument in
-    let becomes : Term → ℕ → State → Type 0 = AddressWithin s (below s no_scope rest) p.front in
     record {
       kept = record { state = p.state; scope = scope; keeps = scope-kept s old new p.kept argument p.own names first now text candidates };
       addressed = record {
@@ -191,6 +193,8 @@ address-scoped s old new mark to argument noted p waiting first now text candida
       v = p.v;
       named_so = p.named_so;
       written = ap (λ k. k.list.items) text ∙ p.written;
+      no_return = λ e. p.no_return (sym instance_is ∙ e);
+      returns = λ e. p.returns (sym instance_is ∙ e);
       goes = record {
         around = items.around;
         inner = items.inner;
@@ -205,10 +209,10 @@ address-scoped s old new mark to argument noted p waiting first now text candida
 -- ## Return types
 
 -- the return type is expected after the name
-pub front-addressed : (s : Symbol) (w new : Direct) (mark : Mark) (to : ℕ) (argument : Arguments) (p : IsAddressScoped s w mark to argument)
-    → has_return_type p.own ≡ true → new.waiting.list.items ≡ w.waiting.list.items ++ opens.AddressedFront mark to argument ∷ [] → new.text ≡ w.text
+pub front-addressed : (s : Symbol) (w new : Direct) (mark : Mark) (to : ℕ) (argument : Arguments) (p : IsAddressScoped s w mark true to argument)
+    → new.waiting.list.items ≡ w.waiting.list.items ++ opens.AddressedFront mark to argument ∷ [] → new.text ≡ w.text
     → new.candidates ≡ w.candidates → new.has_scope ≡ w.has_scope → new.at ≡ w.at → IsWriting s new steps.Type
-front-addressed s w new mark to argument p returns waiting text candidates scope_same at =
+front-addressed s w new mark to argument p waiting text candidates scope_same at =
     let g = p.goes in
     let rest = reverse w.waiting.list.items in
     let becomes : Term → ℕ → State → Type 0 = AddressWithin s (below s no_scope rest) p.front in
@@ -217,7 +221,7 @@ front-addressed s w new mark to argument p returns waiting text candidates scope
       p.addressed,
       p.v,
       p.named_so,
-      returns,
+      p.returns refl,
       p.written,
       λ t here now comes. parameter-goes_on s argument becomes (λ l. encoding_of p.v l) [] w.at p.state g t here now (element.onward t here now comes),
     ) in
@@ -290,15 +294,15 @@ front-cut s w shut new mark to argument p same_text same_candidates same_scope s
 -- ## Parameters
 
 -- a function without a return type awaits its parameters
-pub plain-addressed : (s : Symbol) (w : Direct) (mark : Mark) (to : ℕ) (argument : Arguments) (p : IsAddressScoped s w mark to argument)
-    → has_return_type p.own ≡ false → AwaitsAddressedParameters s w mark to argument
-plain-addressed s w mark to argument p plain = record {
+pub plain-addressed : (s : Symbol) (w : Direct) (mark : Mark) (to : ℕ) (argument : Arguments) → IsAddressScoped s w mark false to argument
+    → AwaitsAddressedParameters s w mark to argument
+plain-addressed s w mark to argument p = record {
   kept = p.kept;
   has = record {
     is_addressed = p.addressed;
     returned = absent;
     make = λ l. encoding_of p.v l;
-    makes = encoding-plain p.v mark p.own p.named_so plain;
+    makes = encoding-plain p.v mark p.own p.named_so (p.no_return refl);
     elements = none-print-in (detail_of s) (types_of p.own) 3;
   };
   written = p.written;

@@ -319,7 +319,8 @@ impl Direct {
         requires writing { (is_reference : Bool) × IsWriting (symbol_by G.IS_WIDE G.IS_BARE G.IS_BRIEF s.now) self.old (steps.Value is_reference true) }
         ensures { IfSome result (IsWriting (symbol_by G.IS_WIDE G.IS_BARE G.IS_BRIEF s.now) self.new) }
     {
-        match *self.waiting.as_slice().last()? {
+        let entry = *self.waiting.as_slice().last()?;
+        match entry {
             Open::AddressedFront { mark, to, argument } =>
                 self.addressed_front::<G>(s, mark, to, argument),
             Open::Addressed { mark, to, .. } => self.addressed_parameter::<G>(s, mark, to),
