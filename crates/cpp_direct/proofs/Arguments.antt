@@ -16,11 +16,13 @@ use Rattle.cpp_direct.specs.Holes.{Opened, Expects, StandsAt}
 use Rattle.cpp_direct.specs.Prints.{Names, Prints, PrintAll, IsElementAs, PrintAllBy, list_of}
 use Rattle.cpp_direct.specs.WriterInvariant.{AwaitsArgument, Scope, arguments_or_pack, ComeBefore, element_kind, below, HasPack, scoped_in, is_noted, may_name, AreAmong, ArgumentsGoOn, Belongs, EndsNamed, GoesOn, IsAmong, IsKnown, IsScoped, IsTemplate, IsWriting, Stands, extra_of, of_template, in_front_of_next, led_by, list_with, nowhere, place_of, Closes, Kept, IsTypeRead}
 use Rattle.cpp_direct.specs.MidStep.{AreKnown, AwaitsKnownArgument, IsArgumentRead, IsListEnded, IsLiteralRead, KnowsMore, argument_around, argument_entry}
+use Rattle.cpp_direct.specs.MidStepOfAddresses.{AwaitsArgumentOfName}
 use Rattle.cpp_direct.specs.Written.{Writes}
 use Rattle.cpp_direct.proofs.Ending.{next-written}
-use Rattle.cpp_direct.proofs.Kept.{kept-same, kept-written, reverse-last, template-stays, type-comes, none-known, kept-read}
-use Rattle.cpp_direct.proofs.Listed.{pack-ends, list-ends, empty-pack-ends, last-found, element-goes-on, list-kind, pack-goes-on, some-elements, template-listed}
-use Rattle.cpp_direct.proofs.MovesOfLists.{element-awaits}
+use Rattle.cpp_direct.proofs.Kept.{awaited-in, kept-same, kept-written, reverse-last, template-stays, none-known, kept-read}
+use Rattle.cpp_direct.proofs.Listed.{pack-ends, list-ends, empty-pack-ends, last-found, element-goes-on, element-kind, pack-goes-on, some-elements, template-listed}
+use Rattle.cpp_direct.proofs.Moves.{any-argument}
+use Rattle.cpp_direct.proofs.MovesOfLists.{listed-awaits}
 use Rattle.cpp_direct.proofs.PrintedLists.{all-as, next-prints, none-print, type-element, list-more, none-text}
 use Rattle.cpp_direct.proofs.Scopes.{among-stay, element-there, none-scoped}
 use Rattle.cpp_direct.specs.declared.open.Open.TheVariants as opens
@@ -88,11 +90,11 @@ argument-next : (s : Symbol) (old new : Direct) (is_pack : Bool) (from number pl
     → AreAmong (detail_of s) old.text.list.items known (before ++ ts)
     → GoesOn s (arguments_or_pack is_pack before before_text) owner (below s kept.scope rest) front template ts place kept.state
     → reverse new.waiting.list.items ≡ argument_entry is_pack from number known ∷ argument_around is_pack owner rest → new.text ≡ old.text
-    → new.candidates ≡ old.candidates → new.has_scope ≡ old.has_scope → new.at ≡ place → IsWriting s new steps.Type
+    → new.candidates ≡ old.candidates → new.has_scope ≡ old.has_scope → new.at ≡ place → AwaitsArgumentOfName s new
 argument-next s old new is_pack from number place known kept owner rest front template name ts texts before before_text come_before is_template elements
     written from_is number_is among goes opened text candidates scope_same at =
     let listing = arguments_or_pack is_pack before before_text in
-    let element = element-awaits s (element_kind listing) goes.1 goes.0 place kept.state (list-kind listing) goes.4 in
+    let element = listed-awaits s (element_kind listing) goes.1 goes.0 place kept.state (element-kind listing) goes.4 in
     let stands = argument-stands s kept.scope is_pack from number known owner rest element.inner old.text.list.items (
       front,
       template,
@@ -112,15 +114,22 @@ argument-next s old new is_pack from number place known kept owner rest front te
           (λ l there later. Closes s listing owner (below s kept.scope rest) front template l there later)
           ts t place here kept.state now goes (element.onward t here now comes),
     ) in
-    type-comes s old new kept goes.0 element.inner text candidates scope_same opened goes.2
-    (inr (inl (subst (λ n. Expects s Kind.Item goes.0 element.inner n kept.state) (sym at) element.awaits))) stands
-    (argument-scoped kept.scope goes.0 is_pack from number known (argument_around is_pack owner rest))
+    record {
+      kept = kept-same s old new text candidates scope_same kept;
+      awaited = awaited-in s kept.scope old new goes.0 element.inner (ap (λ v. v.list.items) text) opened goes.2 stands
+          (argument-scoped kept.scope goes.0 is_pack from number known (argument_around is_pack owner rest));
+      awaits = subst (λ n. Expects s Kind.Argument goes.0 element.inner n kept.state) (sym at) element.awaits;
+    }
+
+-- it may be a type
+pub argument-type : (s : Symbol) (w : Direct) → AwaitsArgumentOfName s w → IsWriting s w steps.Type
+argument-type s w a = record { kept = a.kept; is_before = (a.awaited, inr (inl (any-argument s a.around a.os w.at a.state a.awaits))) }
 
 -- the first argument does
 pub argument-begins : (s : Symbol) (old new : Direct) (from : ℕ) → IsWriting s old (steps.List true)
     → EndsNamed (reverse old.waiting.list.items) → from ≡ length old.text.list.items
     → new.waiting.list.items ≡ old.waiting.list.items ++ opens.Argument from 0 nowhere ∷ [] → new.text ≡ old.text → new.candidates ≡ old.candidates → new.has_scope ≡ old.has_scope → new.at ≡ old.at
-    → IsWriting s new steps.Type
+    → AwaitsArgumentOfName s new
 argument-begins s old new from p named from_is waits text candidates scope_same at =
     let b = none-read s old p named in
     let entry = opens.Argument from 0 nowhere in
@@ -137,18 +146,19 @@ pub element-begins : (s : Symbol) (old new : Direct) (from : ℕ) → IsWriting 
 element-begins s old new from p named letter from_is waits text candidates scope_same at =
     let b = none-read s old p named in
     let entry = opens.Element from 0 nowhere in
-    argument-next s old new true from 0 (old.at + 1) nowhere b.kept b.owner b.rest b.front b.template b.name [] [] [] [] (none-before (detail_of s) true)
+    argument-type s new
+    (argument-next s old new true from 0 (old.at + 1) nowhere b.kept b.owner b.rest b.front b.template b.name [] [] [] [] (none-before (detail_of s) true)
     b.is_template (none-print (detail_of s) 0)
     (b.written ∙ sym (append-nil (b.front ++ b.name ++ opening_bracket (detail_of s) ++ []))) from_is refl (λ k known. absurd (none-known k known))
     (pack-goes-on s b.owner (below s b.scope b.rest) b.front b.template [] [] old.at b.state b.goes letter)
     (ap reverse waits ∙ reverse-last (old.waiting.list.items ++ opens.Pack ∷ []) entry
-    ∙ ap (λ ws. entry ∷ ws) (reverse-last old.waiting.list.items opens.Pack ∙ ap (λ ws. opens.Pack ∷ ws) b.open_is)) text candidates scope_same at
+    ∙ ap (λ ws. entry ∷ ws) (reverse-last old.waiting.list.items opens.Pack ∙ ap (λ ws. opens.Pack ∷ ws) b.open_is)) text candidates scope_same at)
 
 -- or another one
 pub next-argument-begins : (s : Symbol) (old mid new : Direct) (is_pack : Bool) (last from number : ℕ) (known : Arguments) → AwaitsKnownArgument s old is_pack last known
     → Writes old mid (codes ", ") → from ≡ length mid.text.list.items → number ≡ last + 1
     → new.waiting.list.items ≡ mid.waiting.list.items ++ argument_entry is_pack from number known ∷ [] → new.text ≡ mid.text → new.candidates ≡ mid.candidates
-    → new.has_scope ≡ mid.has_scope → new.at ≡ mid.at → IsWriting s new steps.Type
+    → new.has_scope ≡ mid.has_scope → new.at ≡ mid.at → AwaitsArgumentOfName s new
 next-argument-begins s old mid new is_pack last from number known p writes from_is number_is waits text candidates scope_same at =
     let entry = argument_entry is_pack from number known in
     let led = led_by (detail_of s) (arguments_or_pack is_pack p.before p.before_text) p.front p.name in
@@ -180,7 +190,8 @@ pack-after s old mid new last from number known p letter writes from_is number_i
     let none = p.come_before.none refl in
     let count_is : number ≡ length p.ts = number_is ∙ p.number_is ∙ ap (λ (l : List Term). length (l ++ p.ts)) none in
     let among = among-stay old.text.list.items (codes ", ") known (p.before ++ p.ts) p.among in
-    argument-next s mid new true from number (old.at + 1) now (kept-written s old mid (codes ", ") writes p.kept) p.owner p.rest p.front p.template p.name [] [] p.ts p.texts
+    argument-type s new
+    (argument-next s mid new true from number (old.at + 1) now (kept-written s old mid (codes ", ") writes p.kept) p.owner p.rest p.front p.template p.name [] [] p.ts p.texts
     (record { none = λ e. absurd (false≢true (sym e)); prints = p.elements; count_is = λ e. count_is; no_pack = p.come_before.no_pack })
     (subst (λ l. IsTemplate (detail_of s) p.scope.names p.owner p.front p.template p.name l) (sym writes.text)
     (template-stays (detail_of s) p.scope.names p.owner p.front p.template p.name old.text.list.items (codes ", ") p.is_template))
@@ -195,7 +206,7 @@ pack-after s old mid new last from number known p letter writes from_is number_i
     (pack-goes-on s p.owner (below s p.scope p.rest) p.front p.template p.ts p.texts old.at p.state p.goes letter)
     (ap reverse waits ∙ reverse-last (mid.waiting.list.items ++ opens.Pack ∷ []) entry
     ∙ ap (λ ws. entry ∷ ws) (reverse-last mid.waiting.list.items opens.Pack
-    ∙ ap (λ ws. opens.Pack ∷ ws) (ap (λ v. reverse v.list.items) writes.waiting ∙ p.open_is))) text candidates scope_same at
+    ∙ ap (λ ws. opens.Pack ∷ ws) (ap (λ v. reverse v.list.items) writes.waiting ∙ p.open_is))) text candidates scope_same at)
 
 -- ## What was read
 

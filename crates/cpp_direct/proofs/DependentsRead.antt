@@ -3,7 +3,7 @@ use Rattle.sym_print.specs.declared.detail.Detail.{Detail}
 use Rattle.cpp_grammar.specs.Unfolding.{byte_of, close}
 use Rattle.cpp_grammar.specs.Meaning.{is_void, meaning, listed_value}
 use Rattle.cpp_direct.specs.Symbol.{detail_of, Symbol}
-use Rattle.cpp_direct.proofs.Kept.{candidate-found, kept-grown, kept-same, kept-written, made-here, piece-found, placed-stays, value-added, value-comes, candidate-inside, kept-as, kept-with}
+use Rattle.cpp_direct.proofs.Kept.{candidate-found, kept-argument, kept-grown, kept-same, kept-written, made-here, piece-found, placed-stays, value-added, value-comes, candidate-inside, kept-as, kept-with}
 use Rattle.cpp_direct.proofs.Listed.{some-elements}
 use Rattle.cpp_direct.proofs.Moves.{hole, eats, byte-opens, next-part, closes, none-fills, number-fills, is_eaten, stands-join, stands-split, expects-empty, open_at, fill, filled-at}
 use Rattle.cpp_direct.proofs.MovesOfTypes.{const-opens, lvalue-opens, rvalue-opens, solid-opens, substitution-opens}
@@ -13,10 +13,10 @@ use Rattle.cpp_direct.proofs.NamedArguments.{again-substituted, named-here}
 use Rattle.cpp_direct.specs.declared.open.Mark.{Mark}
 use Rattle.cpp_direct.specs.HolesOfTypes.{as_const}
 use Rattle.cpp_direct.specs.Holes.{Opened, StandsAt, Comes, candidate, with_candidate, Expects, IsReferable, IsTyped}
-use Rattle.cpp_direct.specs.Prints.{IsMarkedBy, Names, PrintsAs, PrintsGiven, PrintsMade, PrintAllBy, list_of, made_by, pattern_letters}
-use Rattle.cpp_direct.specs.WriterInvariant.{AreCandidates, EncodedBehind, IsKnown, IsPackOf, IsPackThere, IsPlaced, IsScope, IsSingle, IsWriting, ParametersGoOn, argument_of, in_front_of_next, place_of, Kept}
+use Rattle.cpp_direct.specs.Prints.{IsMarkedBy, PrintsAs, PrintsGiven, PrintsMade, PrintAllBy, list_of, made_by, pattern_letters}
+use Rattle.cpp_direct.specs.WriterInvariant.{AreCandidates, EncodedBehind, IsKnown, IsPackOf, IsPackThere, IsPlaced, IsScope, IsSingle, IsWriting, ParametersGoOn, argument_of, in_front_of_next, place_of, Kept, Scope}
 use Rattle.cpp_direct.specs.MidStep.{AwaitsType, AreParametersRead, IsFunctionEnded, IsNamedAgain, most_by_digit, parameter_digits, AreExpanded, comma_text, expansion_letters, separator}
-use Rattle.cpp_direct.specs.Written.{Writes, added, hidden}
+use Rattle.cpp_direct.specs.Written.{Writes, added, hidden, with_argument}
 use Rattle.cpp_direct.specs.declared.direct.Direct.{Direct}
 use Rattle.cpp_direct.specs.declared.open.Argument.{Argument}
 use Rattle.cpp_direct.specs.declared.open.Candidate.{Candidate}
@@ -134,13 +134,13 @@ scope-named s w all k a found single = (a.scoped all found).1.1 k single
 -- ## Parameters
 
 -- the parameter is read, and its argument is written once more
-pub parameter-done : (s : Symbol) (old mid new : Direct) (all : Arguments) (k : ℕ) (p : Argument) (n from : ℕ) → AwaitsType s old → k ≤ most_by_digit
+pub parameter-done : (s : Symbol) (old mid new : Direct) (all : Arguments) (k : ℕ) (p : Argument) (n : ℕ) → AwaitsType s old → k ≤ most_by_digit
     → StandsAt s.bytes old.at (84 ∷ []) → StandsAt s.bytes (old.at + 1) (parameter_digits k ++ 95 ∷ [])
-    → argument_of (reverse old.waiting.list.items) ≡ Some all → p ≡ place_of all k → IsSingle all k → all.encoding ≢ 0 → from ≡ length old.text.list.items
+    → argument_of (reverse old.waiting.list.items) ≡ Some all → p ≡ place_of all k → IsSingle all k → all.encoding ≢ 0
     → Writes (record old { at = n }) mid (take (p.to - p.from) (drop p.from old.text.list.items)) → n ≡ old.at + 1 + length (parameter_digits k ++ 95 ∷ [])
-    → new.candidates.list.items ≡ added mid from p.is_reference true → new.text ≡ mid.text → new.waiting ≡ mid.waiting → new.has_scope ≡ mid.has_scope
+    → new.candidates.list.items ≡ with_argument mid p → new.text ≡ mid.text → new.waiting ≡ mid.waiting → new.has_scope ≡ mid.has_scope
     → new.at ≡ mid.at → IsWriting s new (steps.Value p.is_reference true)
-parameter-done s old mid new all k p n from a few letter line found is single real from_is writes at more same_text same_waits same_scope same_at =
+parameter-done s old mid new all k p n a few letter line found is single real writes at more same_text same_waits same_scope same_at =
     let text = old.text.list.items in
     let h = named-placed s old all k p a found is single in
     let bytes = h.0 in
@@ -148,10 +148,12 @@ parameter-done s old mid new all k p n from a few letter line found is single re
     writes.text ∙ ap (λ l. text ++ l) (piece-found text bytes p.from p.to h.2).2 in
     let prints = parameter-given a.scope.names k (record { bytes = bytes; reference = p.is_reference }) h.1 in
     let naming = named-here s old a.kept a.around all a.scoped found real in
-    let open_is : new.waiting ≡ old.waiting = same_waits ∙ writes.waiting in
     let later = with_candidate a.around (parameter k) a.state in
-    value-added s mid new (kept-grown s old mid bytes grown writes.candidates writes.scope a.kept) a.os a.around (parameter k) text bytes from p.is_reference true
-    grown from_is prints (λ e. made-here s a.scope a.around (reverse old.waiting.list.items) a.scoped naming) same_text more same_scope (ap (λ v. reverse v.list.items) open_is)
+    value-comes s new
+    (kept-argument s mid new (kept-grown s old mid bytes grown writes.candidates writes.scope a.kept) p bytes (parameter k) a.around
+    (subst (λ l. IsPlaced l p bytes) (sym grown) (placed-stays text bytes p bytes h.2)) prints
+    (made-here a.scope a.around (reverse old.waiting.list.items) a.scoped naming) same_text more same_scope)
+    a.os (parameter k) text bytes p.is_reference true (ap (λ v. v.list.items) same_text ∙ grown) prints (ap (λ v. reverse v.list.items) (same_waits ∙ writes.waiting))
     (λ e. naming)
     (subst (λ n. Comes s a.os (tree (parameter k) true) n later) (sym (same_at ∙ writes.at ∙ at))
     (parameter-comes s a.kind a.around a.os k old.at a.state a.typed few (scope-named s old all k a found single) a.awaits
@@ -182,7 +184,7 @@ forwarded-done s old mid one new all k p n from a few referable mark letter line
     writes.text ∙ ap (λ l. text ++ l) (piece-found text bytes p.from p.to h.2).2 in
     let listed : one.text.list.items ≡ text ++ bytes = ap (λ v. v.list.items) first.text ∙ grown in
     let naming = named-here s old a.kept a.around all a.scoped found real in
-    let here = made-here s a.scope a.around (reverse old.waiting.list.items) a.scoped naming in
+    let here = made-here a.scope a.around (reverse old.waiting.list.items) a.scoped naming in
     let open_is : new.waiting ≡ old.waiting = second.waits ∙ first.waits ∙ writes.waiting in
     let own = with_candidate a.around (parameter k) a.state in
     let later = with_candidate a.around (rvalue (parameter k)) own in
@@ -222,7 +224,7 @@ dependent-again s w new k all p found real writes =
     let kept = kept-same s (record w { at = p.before }) w refl refl refl a.kept in
     let naming = named-here s w kept a.around all a.scoped found real in
     let named = substitution-opens s a.kind a.around a.os p.before a.state p.digits w.at c.0 a.is_named c.1
-    (again-substituted s a.around open_ c.0 a.state bytes k.is_reference a.keeps.own a.scoped naming (c.2.made_in p.is) prints) a.begins p.letter p.number in
+    (again-substituted s a.around open_ c.0 a.state bytes k.is_reference a.keeps.single a.scoped naming (c.2.made_in p.is) prints) a.begins p.letter p.number in
     let comes : Comes s a.os (tree t true) w.at a.state = named.bare w.at a.state prints.no_function
     (expects-empty s Kind.ArgumentsAlone (after t true a.around) named.inner w.at a.state named.awaits refl) in
     value-comes s new (kept-written s w new (take (k.to - k.from) (drop k.from text)) writes kept) a.os t text bytes k.is_reference true written prints
@@ -479,25 +481,25 @@ expanded-more {detail} pattern before w one two new ts argument number place mar
     }
 
 -- each tree that a pattern makes is a candidate of which nothing is known, and so is the expansion
-trees-hidden : (s : Symbol) (names : Names) (text : List ℕ) (ks : List Candidate) (around : Around) (pattern : Pattern) (k size : ℕ) (st : State)
-    → AreCandidates s names text ks st.candidates
-    → AreCandidates s names text (ks ++ replicate (2 + length (pattern_letters pattern)) hidden) (with_expansion pattern k size around st).candidates
-trees-hidden s names text ks around pattern k size st known = go pattern known
+trees-hidden : (s : Symbol) (scope : Scope) (text : List ℕ) (ks : List Candidate) (around : Around) (pattern : Pattern) (k size : ℕ) (st : State)
+    → AreCandidates s scope text ks st.candidates
+    → AreCandidates s scope text (ks ++ replicate (2 + length (pattern_letters pattern)) hidden) (with_expansion pattern k size around st).candidates
+trees-hidden s scope text ks around pattern k size st known = go pattern known
   where
     p : Term
     p = parameter k
 
-    once : (more : List Candidate) (cs : List values.Candidate) (t : Term) → AreCandidates s names text (ks ++ more) cs
-        → AreCandidates s names text (ks ++ (more ++ hidden ∷ [])) (cs ++ candidate around t ∷ [])
+    once : (more : List Candidate) (cs : List values.Candidate) (t : Term) → AreCandidates s scope text (ks ++ more) cs
+        → AreCandidates s scope text (ks ++ (more ++ hidden ∷ [])) (cs ++ candidate around t ∷ [])
     once more cs t have =
-        subst (λ l. AreCandidates s names text l (cs ++ candidate around t ∷ [])) (append_assoc ks more (hidden ∷ []))
-        (one-hidden s names text (ks ++ more) cs (candidate around t) have)
+        subst (λ l. AreCandidates s scope text l (cs ++ candidate around t ∷ [])) (append_assoc ks more (hidden ∷ []))
+        (one-hidden s scope text (ks ++ more) cs (candidate around t) have)
 
-    first : AreCandidates s names text ks st.candidates → AreCandidates s names text (ks ++ hidden ∷ []) (st.candidates ++ candidate around p ∷ [])
-    first have = one-hidden s names text ks st.candidates (candidate around p) have
+    first : AreCandidates s scope text ks st.candidates → AreCandidates s scope text (ks ++ hidden ∷ []) (st.candidates ++ candidate around p ∷ [])
+    first have = one-hidden s scope text ks st.candidates (candidate around p) have
 
-    go : (pattern : Pattern) → AreCandidates s names text ks st.candidates
-        → AreCandidates s names text (ks ++ replicate (2 + length (pattern_letters pattern)) hidden) (with_expansion pattern k size around st).candidates
+    go : (pattern : Pattern) → AreCandidates s scope text ks st.candidates
+        → AreCandidates s scope text (ks ++ replicate (2 + length (pattern_letters pattern)) hidden) (with_expansion pattern k size around st).candidates
     go patterns.Same have = once (hidden ∷ []) (st.candidates ++ candidate around p ∷ []) (expansion p) (first have)
     go patterns.Lvalue have =
         let two = once (hidden ∷ []) (st.candidates ++ candidate around p ∷ []) (lvalue p) (first have) in
@@ -518,7 +520,7 @@ abbrev expansion-kept : (s : Symbol) (w new : Direct) (around : Around) (pattern
     → new.has_scope ≡ w.has_scope → Kept s new
 expansion-kept s w new around pattern k size kept text candidates scope_ =
     kept-as s w new (with_expansion pattern k size around kept.state) kept text candidates scope_
-    (trees-hidden s kept.scope.names w.text.list.items w.candidates.list.items around pattern k size kept.state kept.keeps.candidates)
+    (trees-hidden s kept.scope w.text.list.items w.candidates.list.items around pattern k size kept.state kept.keeps.candidates)
 
 -- parameters go on after it
 expansion-goes : (s : Symbol) (pattern : Pattern) (w : Direct) (is_first : Bool) (mark : Mark) (start : ℕ) (argument : Arguments)

@@ -1,11 +1,9 @@
 -- Types that are in functions, from their Z to their end.
 use Rattle.std.proofs.Common.{◌≡◌, ◌≢◌, refl, ap, sym, ◌∙◌, subst, inl, inr, ℕ, ◌+◌, List, [], ◌∷◌, ◌++◌, length, reverse, take, ◌≤◌, true, false, arith, codes, length-append, append-nil, append_assoc, Bool}
 use Rattle.std.proofs.lemmas.Bool.{false≢true}
-use Rattle.std.proofs.Math.Seq.{take-append_seam}
 use Rattle.cpp_grammar.specs.declared.kind.Kind.{Kind}
 use Rattle.cpp_grammar.specs.Grammar.{may_be_empty}
 use Rattle.cpp_grammar.specs.Term.{Term, function, alone, source, builtin, nil, list, absent}
-use Rattle.cpp_grammar.specs.Items.{closed}
 use Rattle.cpp_grammar.specs.Parts.{source_text, types_of}
 use Rattle.cpp_grammar.specs.Texts.{builtin_texts, look_up}
 use Rattle.cpp_grammar.specs.Scope.{has_return_type, arguments_of}
@@ -27,13 +25,13 @@ use Rattle.cpp_direct.specs.HolesOfLists.{mark_letters, nest_marks}
 use Rattle.cpp_direct.specs.HolesOfLocals.{Discriminator, IsDiscriminatorAt, IsPieceAt, local_in}
 use Rattle.cpp_direct.specs.Marks.{IsMarkPlace, has_const, called_on, mark_text}
 use Rattle.cpp_direct.specs.Prints.{PrintsName, PrintsPiece, Shows, Encloses, list_of}
-use Rattle.cpp_direct.specs.WriterInvariant.{AreCandidates, AreNamed, Below, IsNesting, IsOwn, IsWriting, ItemsGoOn, Keeps, Scope, Serves, Stands, TypeWithin, below, in_front_of_next, no_scope, nowhere, qualifiers, Kept, HasEnclosing}
+use Rattle.cpp_direct.specs.WriterInvariant.{AreNamed, Below, IsNesting, IsOwn, IsWriting, ItemsGoOn, Scope, Serves, Stands, TypeWithin, below, in_front_of_next, nowhere, qualifiers, Kept, HasEnclosing}
 use Rattle.cpp_direct.specs.MidStep.{AwaitsNamedType, AwaitsNest, IsElementRead}
 use Rattle.cpp_direct.specs.MidStepOfLocals.{AwaitsEnclosingParameters, AwaitsTypeName, IsEnclosingNamed, IsEnclosingParameterRead, IsEnclosingRead}
-use Rattle.cpp_direct.specs.Written.{AreKeptTo, Writes, Reads, added}
+use Rattle.cpp_direct.specs.Written.{AreLeft, EndsBy, Writes, Reads, added}
 use Rattle.cpp_direct.proofs.Ending.{behind-two, behind-three, behind-five, next-written, parameter-goes_on, plain-text, qualifiers-text, void-read}
 use Rattle.cpp_direct.proofs.NamePlaces.{reads-of, reads-then}
-use Rattle.cpp_direct.proofs.Kept.{candidates-kept, kept-read, kept-same, kept-written, none-named, reverse-last, type-comes, value-added}
+use Rattle.cpp_direct.proofs.Kept.{kept-read, kept-same, kept-written, none-named, reverse-last, type-comes, value-added, front-left, kept-cut}
 use Rattle.cpp_direct.proofs.Listed.{some-elements}
 use Rattle.cpp_direct.proofs.Moves.{expects-empty, stands-join}
 use Rattle.cpp_direct.proofs.MovesOfEncodings.{encoding-opens, name-nested, name-source}
@@ -394,27 +392,20 @@ function-within s w last new mark from to p apart one text candidates scope at w
 -- what was written after its name is taken away, where functions are shown by their names alone
 pub function-unwritten : (s : Symbol) (w shut new : Direct) (mark : Mark) (from to : ℕ) (p : IsEnclosingParameterRead s w mark from to)
     → p.texts ≢ codes "void" → w.has_scope ≡ false → shut.text ≡ w.text → shut.candidates ≡ w.candidates → shut.at ≡ w.at
-    → reverse shut.waiting.list.items ≡ p.rest → new.text.list.items ≡ take to shut.text.list.items → AreKeptTo to shut.candidates.list.items new.candidates.list.items
-    → new.waiting ≡ shut.waiting → new.at ≡ shut.at → s.is_bare ≡ true → IsEnclosingRead s new marks.Plain from
-function-unwritten s w shut new mark from to p apart unknown same_text same_candidates same_at waits text kept waiting at bare =
+    → reverse shut.waiting.list.items ≡ p.rest → new.text.list.items ≡ take to shut.text.list.items → AreLeft (EndsBy to) shut.candidates.list.items new.candidates.list.items
+    → new.waiting ≡ shut.waiting → new.has_scope ≡ w.has_scope → new.at ≡ shut.at → s.is_bare ≡ true → IsEnclosingRead s new marks.Plain from
+function-unwritten s w shut new mark from to p apart unknown same_text same_candidates same_at waits text kept waiting scope_same at bare =
     let f = p.has in
     let end = parameters-end s w mark from to p apart in
     let left = p.front ++ p.name in
     let behind = codes "(" ++ p.texts in
     let whole_ : w.text.list.items ≡ left ++ behind = p.written ∙ append_assoc left (codes "(") p.texts in
     let left_is : new.text.list.items ≡ left =
-    text ∙ ap (λ n. take n shut.text.list.items) p.to_is ∙ ap (λ l. take (length left) l) (ap (λ v. v.list.items) same_text ∙ whole_)
-    ∙ take-append_seam left behind in
-    let none : p.scope ≡ no_scope = p.keeps.unknown unknown in
-    let keeps : Keeps s p.scope new p.state.candidates = record {
-      candidates = subst (λ l. AreCandidates s p.scope.names l new.candidates.list.items p.state.candidates) (sym left_is)
-          (candidates-kept s p.scope.names w.text.list.items left behind to w.candidates.list.items new.candidates.list.items p.state.candidates whole_ p.to_is
-          (subst (λ v. AreKeptTo to v.list.items new.candidates.list.items) same_candidates kept) p.keeps.candidates);
-      own = p.keeps.own;
-      named = subst (λ (k : Scope). AreNamed new.text.list.items k) (sym none) (none-named new.text.list.items);
-      unknown = λ e. none;
-    } in
-    enclosing-read s new marks.Plain from w.at (record { state = p.state; scope = p.scope; keeps = keeps }) (p.make (list_of p.ts)) p.front p.name
+    text ∙ front-left shut.text.list.items left behind to (ap (λ v. v.list.items) same_text ∙ whole_) p.to_is in
+    let named : AreNamed left p.scope = subst (λ (k : Scope). AreNamed left k) (sym (p.keeps.unknown unknown)) (none-named left) in
+    let kept_ = kept-cut s w new p.kept left behind to whole_ p.to_is left_is
+    (subst (λ v. AreLeft (EndsBy to) v.list.items new.candidates.list.items) same_candidates kept) scope_same named in
+    enclosing-read s new marks.Plain from w.at kept_ (p.make (list_of p.ts)) p.front p.name
     (append-nil new.text.list.items ∙ left_is) p.from_is
     (subst (λ t. Encloses (detail_of s) t p.name) (sym end.0)
     (name-encloses (has-none s bare) f.own p.name f.prints (qualifiers (has_const mark)) (called_on mark) f.returned (list_of p.ts)))

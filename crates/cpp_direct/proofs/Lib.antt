@@ -1,3 +1,4 @@
+mod AddressesRead
 pub mod Arguments
 pub mod Begins
 pub mod DependentsRead

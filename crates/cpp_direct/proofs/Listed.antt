@@ -202,7 +202,7 @@ type-closed s w new from is_dependent p candidates text waiting scope_same at =
     let prints = instance-as (detail_of s) scope.names is_dependent p.template p.name
     (prints-as (detail_of s) scope.names is_dependent p.template p.name false p.is_template.1) p.ts p.tail p.arguments p.is_tail p.elements in
     value-added s w new p.kept p.owns.0 around t p.front bytes from false is_dependent p.written p.is_template.0 prints
-    (λ named. made-here s scope around (reverse w.waiting.list.items) p.owns.3 (p.owns.4 named)) text candidates scope_same
+    (λ named. made-here scope around (reverse w.waiting.list.items) p.owns.3 (p.owns.4 named)) text candidates scope_same
     (ap (λ v. reverse v.list.items) waiting) p.owns.4
     (subst (λ n. Comes s p.owns.0 (tree t true) n (with_candidate around t p.state)) (sym at) p.owns.2) p.owns.5
 
@@ -270,7 +270,7 @@ first-closed s w new nest p candidates text waiting scope_same at =
     p.elements p.written in
     record {
       kept = kept-with s w now p.kept p.front bytes nest.from t around false nest.is_dependent p.written p.is_template.from_is is_nest.prints
-          (λ named. made-here s scope around (reverse w.waiting.list.items) (p.owns.3 (type-named nest.purpose nest.is_dependent p.is_template.closed named))
+          (λ named. made-here scope around (reverse w.waiting.list.items) (p.owns.3 (type-named nest.purpose nest.is_dependent p.is_template.closed named))
           (p.owns.4 named)) text candidates scope_same;
       is_before = (
         t,
@@ -283,7 +283,7 @@ first-closed s w new nest p candidates text waiting scope_same at =
           is_nest = subst (λ v. IsNest (detail_of s) scope.names p.front bytes v.list.items nest t) (sym text) is_nest;
           scoped = record {
             scoped = λ within. subst (λ v. IsScoped scope around (reverse v.list.items)) (sym waiting) (p.owns.3 within);
-            naming = λ named. subst (λ v. IsNaming s scope (reverse v.list.items)) (sym waiting) (p.owns.4 named);
+            naming = λ named. subst (λ v. IsNaming scope (reverse v.list.items)) (sym waiting) (p.owns.4 named);
           };
           serves = subst (λ v. Serves s nest.purpose (below s scope (reverse v.list.items)) outer p.front) (sym waiting) p.owns.5;
         },

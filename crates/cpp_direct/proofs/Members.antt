@@ -19,7 +19,7 @@ use Rattle.cpp_direct.proofs.Kept.{kept-grown, kept-read, list-begins, OpensArgu
 use Rattle.cpp_direct.proofs.Listed.{IsClosed, element-kind, element-scoped, element-stands}
 use Rattle.cpp_direct.proofs.Moves.{stands-moved}
 use Rattle.cpp_direct.proofs.MovesOfLevels.{level-opens}
-use Rattle.cpp_direct.proofs.MovesOfLists.{argument-awaits}
+use Rattle.cpp_direct.proofs.MovesOfLists.{listed-awaits}
 use Rattle.cpp_direct.proofs.PrintedLevels.{member-as}
 use Rattle.cpp_direct.proofs.PrintedNames.{source-prints}
 use Rattle.cpp_direct.proofs.PrintedNests.{instance-as}
@@ -48,7 +48,7 @@ level-begins s old named new first second at a wide letter first_is first_letter
     let waiting : reverse named.waiting.list.items ≡ reverse old.waiting.list.items = ap (λ v. reverse v.list.items) reads.waiting in
     let behind : second ≡ old.at + 1 + 1 = omega (arith, first_is, second_is) in
     let here : at ≡ old.at + 1 + 1 + 1 = omega (arith, first_is, second_is, at_is) in
-    let element = argument-awaits s (element_kind a.place.listing) a.goes.1 a.goes.0 old.at a.state (element-kind a.place.listing) a.goes.4 in
+    let element = listed-awaits s (element_kind a.place.listing) a.goes.1 a.goes.0 old.at a.state (element-kind a.place.listing) a.goes.4 in
     let o = level-opens s element.inner a.goes.0 old.at a.state name named.at wide a.goes.2 element.awaits letter
     (stands-moved s.bytes first (old.at + 1) (115 ∷ []) first_is first_letter)
     (stands-moved s.bytes second (old.at + 1 + 1) (114 ∷ []) behind second_letter) (subst (λ n. IsNameAt s.bytes n name named.at) here read.1) opening in

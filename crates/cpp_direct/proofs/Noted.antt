@@ -39,7 +39,7 @@ noted-within (opens.LevelArguments is_dependent) noted is = refl
 noted-within _ noted is = absurd is
 
 -- the same may be named below it
-noted-naming : (s : Symbol) (scope : Scope) (o noted : Open) (rest : List Open) → IsDependentNow o noted → IsNaming s scope (o ∷ rest) → IsNaming s scope rest
+noted-naming : (s : Symbol) (scope : Scope) (o noted : Open) (rest : List Open) → IsDependentNow o noted → IsNaming scope (o ∷ rest) → IsNaming scope rest
 noted-naming s scope o noted rest is naming =
     (subst (λ b. elim b [ true ↦ argument_of rest | false ↦ arguments_in o ] ≡ Some scope.arguments) (noted-within o noted is) naming.0, naming.1)
 
@@ -71,7 +71,7 @@ noted-template detail names _ noted front t name text is p = absurd is
 
 -- the same becomes of the instance
 noted-owns : (s : Symbol) (scope : Scope) (o noted : Open) (rest : List Open) (front : List ℕ) (u : Term) (at : ℕ) (st : State) → IsDependentNow o noted
-    → IsNaming s scope rest → Owns s o (below s scope rest) front u at st → Owns s noted (below s scope rest) front u at st
+    → IsNaming scope rest → Owns s o (below s scope rest) front u at st → Owns s noted (below s scope rest) front u at st
 noted-owns s scope (opens.TypeArguments from is_dependent) noted rest front u at st is naming p =
     subst (λ o. Owns s o (below s scope rest) front u at st) (sym is) (p.0, p.1, p.2, p.3, (λ named. naming), p.5)
 noted-owns s scope (opens.NestArguments nest) noted rest front u at st is naming p =

@@ -4,7 +4,7 @@ use Rattle.sym_print.specs.declared.detail.Detail.{Detail}
 use Rattle.sym_print.specs.Details.{has_parameters}
 use Rattle.sym_print.specs.Unfold.{text}
 use Rattle.sym_print.specs.Unshared.{text_of, cost_of}
-use Rattle.cpp_grammar.specs.Term.{Qualifiers, RefQualifier, any_value, Term, function, object, of_name, local, within, source, nil, absent, lambda}
+use Rattle.cpp_grammar.specs.Term.{Qualifiers, RefQualifier, any_value, Term, function, object, of_name, local, within, source, nil, absent, lambda, address_of}
 use Rattle.cpp_grammar.specs.Scope.{is_open, pack_length, first_of}
 use Rattle.cpp_grammar.specs.Texts.{look_up, same_bytes, named_special_texts}
 use Rattle.cpp_grammar.specs.Items.{Form, full, bare, left, piece, Context, closed, right, first}
@@ -163,6 +163,26 @@ local-prints {detail} e b h p n q digit =
         length-append b (codes "::"),
       );
     }) (rw (h.is_closed, q.is_closed) refl) (λ scope. rw (h.packless scope, q.packless scope) refl) q.opening (λ c. refl)
+
+-- ## Addresses
+
+-- The address of a function prints an & and the function.
+pub address-prints : {detail : Detail} (e : Term) (b : List ℕ) → Encloses detail e b → Prints detail (address_of e) (codes "&" ++ b) false
+unfolding parts_in left_parts right_parts piece_parts not_empty is_open pack_length last_piece opening_text besides
+address-prints {detail} e b h =
+    let t = address_of e in
+    let parts = says "&" ∷ as_item bare closed e ∷ [] in
+    own-prints t (codes "&" ++ b) (record {
+      left_text = λ c. text_shown detail left c t parts refl refl
+          ∙ ap (λ l. codes "&" ++ l) (append-nil (text_of (written_of detail bare closed e)) ∙ h.bare_text);
+      cost = λ c. omega (
+        arith,
+        h.bare_cost,
+        cost_shown detail left c t parts refl refl,
+        cost_shown detail right c t [] refl refl,
+        length-append (codes "&") b,
+      );
+    }) refl (λ scope. refl) refl (λ c. refl)
 
 -- ## Encodings before an entity
 

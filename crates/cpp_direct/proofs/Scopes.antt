@@ -123,6 +123,15 @@ pub front-scoped : (scope : Scope) (around : Around) (mark : Mark) (start : ℕ)
     → HasScope p around → IsScoped scope around (opens.Front mark start p ∷ rest)
 front-scoped scope around mark start p rest named h q e = scoped-by scope around p q (cc e) named h
 
+-- and those of a function whose address is read
+pub addressed-scoped : (scope : Scope) (around : Around) (mark : Mark) (to : ℕ) (p : Arguments) (rest : List Open) → scope.arguments ≡ p
+    → HasScope p around → IsScoped scope around (opens.Addressed mark to p ∷ rest)
+addressed-scoped scope around mark to p rest named h q e = scoped-by scope around p q (cc e) named h
+
+pub addressed-front-scoped : (scope : Scope) (around : Around) (mark : Mark) (to : ℕ) (p : Arguments) (rest : List Open) → scope.arguments ≡ p
+    → HasScope p around → IsScoped scope around (opens.AddressedFront mark to p ∷ rest)
+addressed-front-scoped scope around mark to p rest named h q e = scoped-by scope around p q (cc e) named h
+
 -- which encoding is theirs says nothing of where they are
 pub arguments-named : {detail : Detail} (text : List ℕ) (place : ℕ) (a : Arguments) (name : Term) → HasArguments detail text a name
     → HasArguments detail text (record a { encoding = place }) name

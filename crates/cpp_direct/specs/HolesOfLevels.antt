@@ -5,13 +5,7 @@ use Rattle.cpp_grammar.specs.Term.{Term, alone, instance, operation, source}
 use Rattle.cpp_grammar.specs.Values.{State, Around, Value, tree}
 use Rattle.cpp_grammar.specs.Between.{inside, no_items}
 use Rattle.cpp_direct.specs.Symbol.{Symbol}
-use Rattle.cpp_direct.specs.Holes.{Opened, StandsAt, Comes, Expects, IsNameAt, ListGoesOn}
-
--- An element of a list of arguments is expected, which may be an expression.
-pub record AwaitsArgumentAt (s : Symbol) (kind : Kind) (outer : List Opened) (around : Around) (at : ℕ) (st : State) : Type 0 where
-  pub inner : List Opened
-  pub awaits : Expects s Kind.Argument around inner at st
-  pub onward : (t : Term) (at : ℕ) (st : State) → Comes s inner (tree t true) at st → ListGoesOn s kind outer around t at st
+use Rattle.cpp_direct.specs.Holes.{Opened, StandsAt, Comes, Expects, IsNameAt}
 
 -- a template with this name, which isn't looked up
 abbrev pub template_named : (name : List ℕ) → Term

@@ -15,6 +15,7 @@ pub mod Prints
 pub mod WriterInvariant
 pub mod Symbol
 pub mod MidStep
+pub mod MidStepOfAddresses
 pub mod MidStepOfLocals
 pub mod Written
 pub mod WrittenParts

@@ -33,7 +33,7 @@ use Rattle.cpp_direct.specs.HolesOfLevels.{MemberComes}
 use Rattle.cpp_direct.specs.HolesOfTypes.{IsNamedKind, NoReference, TreeOpens}
 use Rattle.cpp_direct.specs.Marks.{has_const, called_on, mark_text}
 use Rattle.cpp_direct.specs.Prints.{NamesClass, Prints, PrintsName, IsElement, PrintAll, Shows, Encloses, sign_text, PrintsAs, PrintsIn, PrintAllAs, IsGiven, PrintAllBy, PrintsMade, pattern_letters}
-use Rattle.cpp_direct.specs.WriterInvariant.{AwaitsItems, Encoded, EncodedBehind, Fronts, IsListing, IsTail, IsTemplate, GoesOn, EnumeratorGoesOn, Owns, ParametersGoOn, Serves, Stands, TakesFunction, opening_text, qualifiers, arguments_or_pack, extra_of, led_by, list_with, in_front_of_next, ComeBefore, AreAmong, HasArguments, HasPack, IsAmong, IsPackOf, IsSingle, IsKnown, IsScoped, is_type, place_of, IsNaming, IsNestScoped, Scope, below, is_noted, may_name, encoding_place, IsNamedSo, IsNesting, Kept, IsBetween, AwaitsTypeIn, HasInstance, HasParameters, IsNestSoFar, FirstType, IsTaken}
+use Rattle.cpp_direct.specs.WriterInvariant.{AwaitsItems, Encoded, EncodedBehind, Fronts, IsListing, IsTail, IsTemplate, GoesOn, EnumeratorGoesOn, Owns, ParametersGoOn, Serves, Stands, TakesFunction, opening_text, qualifiers, arguments_or_pack, extra_of, led_by, list_with, in_front_of_next, ComeBefore, AreAmong, HasArguments, HasPack, IsAmong, IsPackOf, IsSingle, IsKnown, IsMadeIn, IsScoped, is_type, place_of, IsNaming, IsNestScoped, Scope, below, is_noted, may_name, encoding_place, IsNamedSo, IsNesting, Kept, IsBetween, AwaitsTypeIn, HasInstance, HasParameters, IsNestSoFar, FirstType, IsTaken}
 
 -- the digits after the T of a parameter with this number, of which there is one at most
 abbrev pub parameter_digits : (number : ℕ) → List ℕ
@@ -163,8 +163,8 @@ pub record AwaitsMark (s : Symbol) (w : Direct) (mark : List ℕ) (from : ℕ) (
   pub written : w.text.list.items ≡ front ++ bytes
   pub from_is : from ≡ length front
   pub prints : PrintsAs (detail_of s) scope.names is_dependent made (bytes ++ mark) is_reference
-  pub naming : is_dependent ≡ true → IsNaming s scope rest
-  pub made_here : is_dependent ≡ true → made_in.encoding ≡ encoding_place s.bytes
+  pub naming : is_dependent ≡ true → IsNaming scope rest
+  pub made_here : is_dependent ≡ true → IsMadeIn scope made_in.encoding
   pub stands : Stands s scope rest outer front
 
 -- what waits for an argument of a name, or for an element of a pack among them
@@ -372,7 +372,7 @@ pub record AwaitsMember (s : Symbol) (w : Direct) (is_dependent : Bool) : Type 0
   pub bytes : List ℕ
   pub written : w.text.list.items ≡ front ++ bytes
   pub prints : PrintsAs (detail_of s) scope.names is_dependent own bytes false
-  pub naming : is_dependent ≡ true → IsNaming s scope (reverse w.waiting.list.items)
+  pub naming : is_dependent ≡ true → IsNaming scope (reverse w.waiting.list.items)
   pub follows : MemberComes s outer own w.at state
   pub stands : Stands s scope (reverse w.waiting.list.items) outer front
 

@@ -5,7 +5,7 @@ use Rattle.sym_print.specs.Unshared.{text_of, cost_of}
 use Rattle.sym_demangle.specs.Mangled.{StandsFor}
 use Rattle.cpp_grammar.specs.declared.kind.Kind.{Kind}
 use Rattle.cpp_grammar.specs.Answer.{shown, root_item}
-use Rattle.cpp_grammar.specs.Term.{Term, Qualifiers, symbol, function, special, array, pointer, lvalue, rvalue, qualified, instance, within, integer, pack, nil, list, absent}
+use Rattle.cpp_grammar.specs.Term.{Term, Qualifiers, symbol, function, special, array, pointer, lvalue, rvalue, qualified, instance, within, integer, address_of, pack, nil, list, absent}
 use Rattle.cpp_grammar.specs.Parts.{source_text}
 use Rattle.cpp_grammar.specs.Texts.{look_up, special_texts}
 use Rattle.cpp_grammar.specs.Scope.{has_return_type, is_structor, arguments_of, length_if_pack, element, count}
@@ -42,7 +42,7 @@ use Rattle.cpp_direct.specs.Marks.{has_const, called_on}
 use Rattle.cpp_direct.specs.Prints.{Named, Names, IsGiven, Prints, PrintsAs, PrintsName, Shows, Encloses, IsLed, NamesClass, PrintAll, PrintAllAs, PrintAllIn, list_of}
 use Rattle.cpp_grammar.specs.Parts.{types_of}
 
--- ## Candidates
+-- ## Places
 
 -- where the encoding begins that a symbol has after no text
 abbrev pub encoding_place : List ℕ → ℕ
@@ -55,20 +55,6 @@ pub record IsBetween (text : List ℕ) (from to : ℕ) (bytes : List ℕ) : Type
   pub written : text ≡ front ++ bytes ++ back
   pub from_is : from ≡ length front
   pub to_is : to ≡ length front + length bytes
-
--- what a substitution may name prints the text that is at its place; where it names arguments it was made in the symbol's own encoding
-pub record IsCandidate (s : Symbol) (names : Names) (text : List ℕ) (k : Candidate) (c : values.Candidate) : Type 0 where
-  pub bytes : List ℕ
-  pub placed : IsBetween text k.from k.to bytes
-  pub open placed use *
-  pub prints : PrintsAs (detail_of s) names k.is_dependent c.tree bytes k.is_reference
-  pub made_in : k.is_dependent ≡ true → c.encoding ≡ encoding_place s.bytes
-
--- each candidate is so, but for those that end before they begin, of which nothing is known
-abbrev pub AreCandidates : (s : Symbol) → Names → (text : List ℕ) → List Candidate → List values.Candidate → Type 0
-AreCandidates s names text [] [] = Unit {0}
-AreCandidates s names text (k ∷ ks) (c ∷ cs) = (k.from ≤ k.to → IsCandidate s names text k c) × AreCandidates s names text ks cs
-AreCandidates s names text _ _ = ⊥
 
 -- ## Arguments of templates
 
@@ -182,6 +168,8 @@ is_within_type _ = false
 abbrev pub arguments_in : Open → Option Arguments
 arguments_in (opens.Front mark start argument) = Some argument
 arguments_in (opens.Parameters mark start argument) = Some argument
+arguments_in (opens.AddressedFront mark to argument) = Some argument
+arguments_in (opens.Addressed mark to argument) = Some argument
 arguments_in _ = None
 
 -- the arguments that a type may name
@@ -189,7 +177,8 @@ abbrev pub argument_of : List Open → Option Arguments
 argument_of [] = None
 argument_of (o ∷ rest) = elim (is_within_type o) [ true ↦ argument_of rest | false ↦ arguments_in o ]
 
--- What types may name: the arguments of the symbol's own name, where they are known, and their texts.
+-- What types may name: the arguments of the symbol's own name, where they are known, or of the name of a function whose address is
+-- read, and their texts.
 pub record Scope : Type 0 where
   pub arguments : Arguments
   pub names : Names
@@ -205,16 +194,36 @@ AreNamed text scope =
     × (scope.names number ≡ Some (record { bytes = bytes; reference = (place_of scope.arguments number).is_reference }))
     × IsPlaced text (place_of scope.arguments number) bytes
 
--- They are those of the symbol's own encoding, if it is known where theirs begins, and those that have texts are no packs.
-pub record IsScopeOf (s : Symbol) (scope : Scope) : Type 0 where
-  pub encoded : scope.arguments.encoding ≢ 0 → scope.arguments.encoding ≡ encoding_place s.bytes
-  pub single : (number : ℕ) (own : Named) → scope.names number ≡ Some own → IsSingle scope.arguments number
+-- those of them that have texts are no packs
+abbrev pub HasSingles : Scope → Type 0
+HasSingles scope = (number : ℕ) (own : Named) → scope.names number ≡ Some own → IsSingle scope.arguments number
 
--- What a writer keeps: its candidates, and the arguments that types may name, of which none are known before the symbol's own name.
+-- ## Candidates
+
+-- it was made in the encoding whose arguments may be named, and it is known where that begins
+abbrev pub IsMadeIn : Scope → (encoding : ℕ) → Type 0
+IsMadeIn scope encoding = (encoding ≡ scope.arguments.encoding) × (scope.arguments.encoding ≢ 0)
+
+-- What a substitution may name prints the text that is at its place. Where it names arguments they are those that types may name.
+pub record IsCandidate (s : Symbol) (scope : Scope) (text : List ℕ) (k : Candidate) (c : values.Candidate) : Type 0 where
+  pub bytes : List ℕ
+  pub placed : IsBetween text k.from k.to bytes
+  pub open placed use *
+  pub prints : PrintsAs (detail_of s) scope.names k.is_dependent c.tree bytes k.is_reference
+  pub made_in : k.is_dependent ≡ true → IsMadeIn scope c.encoding
+
+-- each candidate is so, but for those that end before they begin, of which nothing is known
+abbrev pub AreCandidates : (s : Symbol) → Scope → (text : List ℕ) → List Candidate → List values.Candidate → Type 0
+AreCandidates s scope text [] [] = Unit {0}
+AreCandidates s scope text (k ∷ ks) (c ∷ cs) = (k.from ≤ k.to → IsCandidate s scope text k c) × AreCandidates s scope text ks cs
+AreCandidates s scope text _ _ = ⊥
+
+-- What a writer keeps: its candidates, and the arguments that types may name, of which none are known before the symbol's own name, but
+-- for those of a function whose address is an argument of that.
 pub record Keeps (s : Symbol) (scope : Scope) (w : Direct) (cs : List values.Candidate) : Type 0 where
-  pub candidates : AreCandidates s scope.names w.text.list.items w.candidates.list.items cs
+  pub candidates : AreCandidates s scope w.text.list.items w.candidates.list.items cs
   pub named : AreNamed w.text.list.items scope
-  pub own : IsScopeOf s scope
+  pub single : HasSingles scope
   pub unknown : w.has_scope ≡ false → scope ≡ no_scope
 
 -- a writer keeps this after it has come so far
@@ -227,9 +236,9 @@ pub record Kept (s : Symbol) (w : Direct) : Type 0 where
 abbrev pub IsScoped : Scope → Around → List Open → Type 0
 IsScoped scope around open_ = (a : Arguments) → argument_of open_ ≡ Some a → (scope.arguments ≡ a) × HasScope a around
 
--- the symbol's own encoding has the arguments that types name here
-abbrev pub IsNaming : (s : Symbol) → Scope → List Open → Type 0
-IsNaming s scope open_ = (argument_of open_ ≡ Some scope.arguments) × (scope.arguments.encoding ≡ encoding_place s.bytes)
+-- types name its arguments here, and it is known where their encoding begins
+abbrev pub IsNaming : Scope → List Open → Type 0
+IsNaming scope open_ = (argument_of open_ ≡ Some scope.arguments) × (scope.arguments.encoding ≢ 0)
 
 -- ## The end
 
@@ -282,6 +291,17 @@ pub record IsShown (s : Symbol) (most : ℕ) (text : List ℕ) : Type 0 where
   pub stands : StandsFor (mangled_of s) s.bytes (Ok whole)
   pub text_is : text_of (shown (detail_of s) (root_item whole)) ≡ text
   pub cost : cost_of (shown (detail_of s) (root_item whole)) ≤ 4 * most
+
+-- The name of an encoding that begins at a place was read, and items may follow. All of them make an encoding, of which something becomes.
+pub record ItemsOf (s : Symbol) (encoding : ℕ) (becomes : Term → (at : ℕ) → State → Type 0) (v : Value) (at : ℕ) (st : State) : Type 0 where
+  pub around : Around
+  pub inner : List Opened
+  pub outside : around.prefix ≡ outermost
+  pub scope_is : around.scope ≡ arguments_of (tree_of v)
+  pub encoding_is : around.encoding ≡ encoding
+  pub no_lambda : around.in_lambda ≡ false
+  pub awaits : Expects s Kind.Items around inner at st
+  pub onward : (l : Value) (at : ℕ) (st : State) → Comes s inner l at st → becomes (encoding_of v (no_items l)) at st
 
 -- ## Names
 
@@ -396,6 +416,27 @@ pub record IsEnclosed (detail : Detail) (from : ℕ) : Type 0 where
   pub bytes : List ℕ
   pub encloses : Encloses detail e bytes
 
+-- The name of a function whose address is an argument is written, up to this place, after a text. The known arguments that it ends in
+-- are at their places in what is written up to there, and are those that types may name.
+pub record IsAddressed (detail : Detail) (scope : Scope) (to : ℕ) (argument : Arguments) : Type 0 where
+  pub front : List ℕ
+  pub name : List ℕ
+  pub own : Term
+  pub prints : PrintsName detail own name
+  pub to_is : to ≡ length (front ++ name)
+  pub given : IsGiven detail scope.names (types_of own)
+  pub named : scope.arguments ≡ argument
+  pub there : AreNamed (front ++ name) scope
+
+-- So are the parameters so far. All parameters make a function that has some return type, or none.
+pub record HasAddressed (detail : Detail) (scope : Scope) (mark : Mark) (to : ℕ) (argument : Arguments) (ts : List Term) (texts : List ℕ) : Type 0 where
+  pub is_addressed : IsAddressed detail scope to argument
+  pub open is_addressed use *
+  pub returned : Term
+  pub make : Term → Term
+  pub makes : (t rest : Term) → make (list t rest) ≡ function own (qualifiers (has_const mark)) (called_on mark) returned (parameters (list t rest))
+  pub elements : PrintAllIn detail (types_of own) 3 ts texts
+
 -- the name of a function that has a return type, and its text
 pub record IsInstance (detail : Detail) (scope : Scope) (text : List ℕ) (argument : Arguments) (mark : Mark) (v : Value) (name : List ℕ) : Type 0 where
   pub own : Term
@@ -438,6 +479,12 @@ TypeWithin s below front e at st =
     × (StandsAt s.bytes at (69 ∷ []) → EntityOpened s (λ t end now. Comes s outer (tree t true) end (with_candidate around t now)) e (at + 1) st)
     × below.waits outer front
 
+-- A function with this tree ends at the place, and its address comes for what is open below, after this text but for its &.
+abbrev pub AddressWithin : (s : Symbol) → Below → (front : List ℕ) → (e : Term) → (at : ℕ) → State → Type 0
+AddressWithin s below front e at st =
+    (outer : List Opened) × (before : List ℕ) × (front ≡ before ++ codes "&")
+    × (StandsAt s.bytes at (69 ∷ 69 ∷ []) → Comes s outer (tree (address_of e) true) (at + 2) st) × below.waits outer before
+
 -- A nested name that comes is what it is read as, and what types may name in it.
 abbrev pub Serves : (s : Symbol) → Purpose → Below → List Opened → (front : List ℕ) → Type 0
 Serves s purposes.Type below os front =
@@ -450,6 +497,11 @@ Serves s (purposes.Name mark) below os front =
 Serves s (purposes.Enclosing mark) below os front =
     (t : Term) (listed : Bool) (at : ℕ) (st : State) → Comes s os (tree t listed) at st
     → ItemsGoOn s nowhere (TypeWithin s below front) (λ l. encoding_of (named t (qualifiers (has_const mark)) (called_on mark)) l) [] at st
+Serves s (purposes.Address mark) below os front =
+    (outer : List Opened)
+    × ((t : Term) (listed : Bool) (at : ℕ) (st : State) → Comes s os (tree t listed) at st
+    → Comes s outer (named t (qualifiers (has_const mark)) (called_on mark)) at st)
+    × below.waits outer front
 
 -- A lambda was read after this tree, as a type in a function before its discriminator, or as a component of a nested name: what becomes
 -- of it.
@@ -644,8 +696,8 @@ TakesFunction (opens.Enclosing mark from to ∷ rest) = Unit {0}
 TakesFunction _ = ⊥
 
 -- what is below, if that waits so
-abbrev pub outside : (s : Symbol) → Scope → List Open → (waits : List Opened → List ℕ → Type 0) → Below
-outside s scope rest waits = record { waits = waits; scoped = λ around. IsScoped scope around rest; naming = IsNaming s scope rest }
+abbrev pub outside : Scope → List Open → (waits : List Opened → List ℕ → Type 0) → Below
+outside scope rest waits = record { waits = waits; scoped = λ around. IsScoped scope around rest; naming = IsNaming scope rest }
 
 -- These take a function type or an array that comes after a text: what waits for it, and what is open around it, where it is made.
 pub record IsTaken (below : Below) (rest : List Open) (front : List ℕ) : Type 0 where
@@ -661,13 +713,14 @@ pub record FirstType (s : Symbol) : Type 0 where
   pub is_reference : Bool
   pub prints : Prints (detail_of s) own bytes is_reference
 
--- A type comes for the last of the open ones, after what is written.
+-- A type comes for the last of the open ones, after what is written, or the name of a function whose address is read. While the types of
+-- that function are read, nothing is named by what is open around them.
 abbrev pub Stands : (s : Symbol) → Scope → List Open → List Opened → (text : List ℕ) → Type 0
 Stands s scope [] os text = ⊥
-Stands s scope (opens.Pointer from ∷ rest) os text = Marks s (outside s scope rest (Stands s scope rest)) os text from pointer
-Stands s scope (opens.Lvalue from ∷ rest) os text = Marks s (outside s scope rest (Stands s scope rest)) os text from lvalue
-Stands s scope (opens.Rvalue from ∷ rest) os text = Marks s (outside s scope rest (Stands s scope rest)) os text from rvalue
-Stands s scope (opens.Const from ∷ rest) os text = Marks s (outside s scope rest (Stands s scope rest)) os text from (qualified (qualifiers true))
+Stands s scope (opens.Pointer from ∷ rest) os text = Marks s (outside scope rest (Stands s scope rest)) os text from pointer
+Stands s scope (opens.Lvalue from ∷ rest) os text = Marks s (outside scope rest (Stands s scope rest)) os text from lvalue
+Stands s scope (opens.Rvalue from ∷ rest) os text = Marks s (outside scope rest (Stands s scope rest)) os text from rvalue
+Stands s scope (opens.Const from ∷ rest) os text = Marks s (outside scope rest (Stands s scope rest)) os text from (qualified (qualifiers true))
 Stands s scope (opens.Front mark start argument ∷ rest) os text =
     (h : HasInstance s scope text mark start argument)
     × ((t : Term) (at : ℕ) (st : State) → Comes s os (tree t true) at st → ParametersGoOn s argument h.lead (encoding_of h.v) (t ∷ []) at st)
@@ -679,24 +732,35 @@ Stands s scope (opens.Enclosing mark from to ∷ rest) os text =
     (ts : List Term) × (texts : List ℕ) × (h : HasEnclosing (detail_of s) mark from ts texts)
     × (text ≡ h.front ++ h.name ++ codes "(" ++ in_front_of_next ts texts)
     × ((t : Term) (at : ℕ) (st : State) → Comes s os (tree t true) at st
-    → ItemsGoOn s nowhere (TypeWithin s (outside s scope rest (Stands s scope rest)) h.front) h.make (ts ++ t ∷ []) at st)
+    → ItemsGoOn s nowhere (TypeWithin s (outside scope rest (Stands s scope rest)) h.front) h.make (ts ++ t ∷ []) at st)
     × (to ≡ length (h.front ++ h.name))
+Stands s scope (opens.Address encoding ∷ rest) os text =
+    (v : Value) (at : ℕ) (st : State) → Comes s os v at st → ItemsOf s encoding (AddressWithin s (outside scope rest (Stands s scope rest)) text) v at st
+Stands s scope (opens.AddressedFront mark to argument ∷ rest) os text =
+    (a : IsAddressed (detail_of s) scope to argument) × (v : Value) × IsNamedSo v a.own mark × (has_return_type a.own ≡ true) × (text ≡ a.front ++ a.name)
+    × ((t : Term) (at : ℕ) (st : State) → Comes s os (tree t true) at st
+    → ItemsGoOn s argument (AddressWithin s (outside no_scope rest (Stands s no_scope rest)) a.front) (λ l. encoding_of v l) (t ∷ []) at st)
+Stands s scope (opens.Addressed mark to argument ∷ rest) os text =
+    (ts : List Term) × (texts : List ℕ) × (h : HasAddressed (detail_of s) scope mark to argument ts texts)
+    × (text ≡ h.front ++ h.name ++ codes "(" ++ in_front_of_next ts texts)
+    × ((t : Term) (at : ℕ) (st : State) → Comes s os (tree t true) at st
+    → ItemsGoOn s argument (AddressWithin s (outside no_scope rest (Stands s no_scope rest)) h.front) h.make (ts ++ t ∷ []) at st)
 Stands s scope (opens.Lambda from nested ∷ rest) os text =
     (h : IsLed (detail_of s) nested from) × (ts : List Term) × (texts : List ℕ) × PrintAll (detail_of s) 0 ts texts
     × (text ≡ h.front ++ (h.bytes ++ codes "::{lambda(") ++ in_front_of_next ts texts)
     × ((t : Term) (at : ℕ) (st : State) → Comes s os (tree t true) at st
-    → ItemsGoOn s nowhere (LambdaWithin s nested (outside s scope rest (Stands s scope rest)) h.front h.e) (λ l. l) (ts ++ t ∷ []) at st)
+    → ItemsGoOn s nowhere (LambdaWithin s nested (outside scope rest (Stands s scope rest)) h.front h.e) (λ l. l) (ts ++ t ∷ []) at st)
 Stands s scope (opens.Returned is_pointer ∷ rest) os text =
-    (k : IsTaken (outside s scope rest (Stands s scope rest)) rest text)
+    (k : IsTaken (outside scope rest (Stands s scope rest)) rest text)
     × ((r : Term) (at : ℕ) (st : State) → Comes s os (tree r true) at st → SignatureGoesOn s k.outer k.made_in is_pointer (λ l. plain_function r l) at st)
 Stands s scope (opens.Signature is_pointer ∷ rest) os text =
-    (front : List ℕ) × (k : IsTaken (outside s scope rest (Stands s scope rest)) rest front) × (first : FirstType s)
+    (front : List ℕ) × (k : IsTaken (outside scope rest (Stands s scope rest)) rest front) × (first : FirstType s)
     × (ts : List Term) × (texts : List ℕ) × PrintAll (detail_of s) 0 ts texts
     × (text ≡ front ++ (first.bytes ++ opening_text is_pointer) ++ in_front_of_next ts texts)
     × ((t : Term) (at : ℕ) (st : State) → Comes s os (tree t true) at st
     → SignatureGoesOn s k.outer k.made_in is_pointer (λ l. plain_function first.own (list_with (ts ++ t ∷ []) l)) at st)
 Stands s scope (opens.Array access from to ∷ rest) os text =
-    (k : IsTaken (outside s scope rest (Stands s scope rest)) rest text)
+    (k : IsTaken (outside scope rest (Stands s scope rest)) rest text)
     × (digits : List ℕ) × (from ≤ to) × (to ≤ length s.bytes) × (take (to - from) (drop from s.bytes) ≡ digits)
     × ((t : Term) (at : ℕ) (st : State) → Comes s os (tree t true) at st
     → Comes s k.outer (tree (accessed access (array (values.normal digits) t)) true) at (with_accessed access k.made_in (array (values.normal digits) t) st))
@@ -705,32 +769,32 @@ Stands s scope (opens.Special ∷ rest) os text =
     × ((t : Term) (at : ℕ) (st : State) → Comes s os (tree t true) at st → Encoded s (special letter t) at)
 Stands s scope (opens.Argument from number known ∷ []) os text = ⊥
 Stands s scope (opens.Argument from number known ∷ owner ∷ rest) os text =
-    AwaitsArgument s scope.names false from number known owner (outside s scope rest (Stands s scope rest)) os text
+    AwaitsArgument s scope.names false from number known owner (outside scope rest (Stands s scope rest)) os text
 Stands s scope (opens.Element from number known ∷ opens.Pack ∷ owner ∷ rest) os text =
-    AwaitsArgument s scope.names true from number known owner (outside s scope rest (Stands s scope rest)) os text
+    AwaitsArgument s scope.names true from number known owner (outside scope rest (Stands s scope rest)) os text
 Stands s scope (opens.Element from number known ∷ rest) os text = ⊥
 Stands s scope (opens.Enumerator ∷ []) os text = ⊥
 Stands s scope (opens.Enumerator ∷ opens.Pack ∷ []) os text = ⊥
 Stands s scope (opens.Enumerator ∷ opens.Pack ∷ owner ∷ rest) os text =
     (before : List Term) × (written : List ℕ) × PrintAllAs (detail_of s) scope.names (is_noted owner) 3 before written
-    × AwaitsEnumerator s scope.names (of_pack before written) owner (outside s scope rest (Stands s scope rest)) os text
-Stands s scope (opens.Enumerator ∷ owner ∷ rest) os text = AwaitsEnumerator s scope.names of_template owner (outside s scope rest (Stands s scope rest)) os text
+    × AwaitsEnumerator s scope.names (of_pack before written) owner (outside scope rest (Stands s scope rest)) os text
+Stands s scope (opens.Enumerator ∷ owner ∷ rest) os text = AwaitsEnumerator s scope.names of_template owner (outside scope rest (Stands s scope rest)) os text
 Stands s scope (opens.Pack ∷ []) os text = ⊥
 Stands s scope (opens.Pack ∷ owner ∷ rest) os text =
     (before : List Term) × (written : List ℕ) × PrintAllAs (detail_of s) scope.names (is_noted owner) 3 before written
-    × AwaitsElementOf s scope.names (of_pack before written) owner (outside s scope rest (Stands s scope rest)) os text
-Stands s scope (owner ∷ rest) os text = AwaitsElementOf s scope.names of_template owner (outside s scope rest (Stands s scope rest)) os text
+    × AwaitsElementOf s scope.names (of_pack before written) owner (outside scope rest (Stands s scope rest)) os text
+Stands s scope (owner ∷ rest) os text = AwaitsElementOf s scope.names of_template owner (outside scope rest (Stands s scope rest)) os text
 
 -- what is open below these
 abbrev pub below : (s : Symbol) → Scope → List Open → Below
-below s scope rest = outside s scope rest (Stands s scope rest)
+below s scope rest = outside scope rest (Stands s scope rest)
 
 -- ## What comes next
 
 -- where a nested name is read that has come so far: what types may name in it, if it is a type
 pub record IsNestScoped (s : Symbol) (scope : Scope) (w : Direct) (around : Around) : Type 0 where
   pub scoped : is_type w.nest.purpose ≡ true → IsScoped scope around (reverse w.waiting.list.items)
-  pub naming : w.nest.is_dependent ≡ true → IsNaming s scope (reverse w.waiting.list.items)
+  pub naming : w.nest.is_dependent ≡ true → IsNaming scope (reverse w.waiting.list.items)
 
 -- of a nested name this was read and written
 pub record IsNestSoFar (s : Symbol) (scope : Scope) (w : Direct) (t : Term) : Type 0 where
@@ -770,7 +834,7 @@ pub record IsTypeRead (s : Symbol) (scope : Scope) (w : Direct) (st : State) (wa
   pub bytes : List ℕ
   pub written : w.text.list.items ≡ front ++ bytes
   pub prints : PrintsAs (detail_of s) scope.names is_dependent own bytes is_reference
-  pub naming : is_dependent ≡ true → IsNaming s scope waits
+  pub naming : is_dependent ≡ true → IsNaming scope waits
   pub comes : Comes s os (tree own true) w.at st
   pub stands : Stands s scope waits os front
 

@@ -1,5 +1,6 @@
 -- What the small functions of a writer do to its lists.
 use Rattle.std.specs.Prelude.{◌≡◌, ◌⊎◌, ℕ, List, [], ◌∷◌, ◌++◌, length, drop, Bool, true, false, ◌≤◌}
+use Rattle.cpp_direct.specs.declared.open.Argument.{Argument}
 use Rattle.cpp_direct.specs.declared.open.Candidate.{Candidate}
 use Rattle.cpp_direct.specs.declared.direct.Direct.{Direct}
 
@@ -39,19 +40,32 @@ abbrev pub added_unless : Direct → (is_listed : Bool) → (from : ℕ) → (is
 added_unless w true from is_dependent = w.candidates.list.items
 added_unless w false from is_dependent = added w from false is_dependent
 
+-- the candidates, and the text of an argument of the function's template
+abbrev pub with_argument : Direct → Argument → List Candidate
+with_argument w argument =
+    w.candidates.list.items ++ record { from = argument.from; to = argument.to; is_reference = argument.is_reference; is_dependent = true } ∷ []
+
 -- a candidate that ends before it begins
 abbrev pub hidden : Candidate
 hidden = record { from = 1; to = 0; is_reference = false; is_dependent = false }
 
--- a candidate is what it was, and its text ends by a place, or it is nowhere
-abbrev pub IsKeptTo : (to : ℕ) → (old new : Candidate) → Type 0
-IsKeptTo to old new = ((new ≡ old) × (old.to ≤ to)) ⊎ (new ≡ hidden)
+-- a candidate is what it was, and is one that stays so, or it is nowhere
+abbrev pub IsLeft : (stays : Candidate → Type 0) → (old new : Candidate) → Type 0
+IsLeft stays old new = ((new ≡ old) × stays old) ⊎ (new ≡ hidden)
 
 -- each of them is
-abbrev pub AreKeptTo : (to : ℕ) → (old new : List Candidate) → Type 0
-AreKeptTo to [] [] = Unit {0}
-AreKeptTo to (k ∷ ks) (n ∷ ns) = IsKeptTo to k n × AreKeptTo to ks ns
-AreKeptTo to _ _ = ⊥
+abbrev pub AreLeft : (stays : Candidate → Type 0) → (old new : List Candidate) → Type 0
+AreLeft stays [] [] = Unit {0}
+AreLeft stays (k ∷ ks) (n ∷ ns) = IsLeft stays k n × AreLeft stays ks ns
+AreLeft stays _ _ = ⊥
+
+-- its text ends by a place
+abbrev pub EndsBy : (to : ℕ) → Candidate → Type 0
+EndsBy to k = k.to ≤ to
+
+-- it names no arguments
+abbrev pub IsClosed : Candidate → Type 0
+IsClosed k = k.is_dependent ≡ false
 
 -- the candidates, and such a one for a function type and for the pointer to it
 abbrev pub with_hidden : Direct → (is_pointer : Bool) → List Candidate

@@ -6,6 +6,7 @@
 //! the bounds that it sets.
 #![tactic(auto)]
 
+mod addresses;
 mod arrays;
 mod direct;
 mod enclosing;

@@ -103,7 +103,10 @@ impl Direct {
             self.push_pair(b',', b' ')?;
         }
         if G::IS_WIDE && byte == b'X' {
-            return self.begin_level::<G>(s);
+            let behind = self.at.checked_add(1)?;
+            if byte_at(s, behind) == b's' {
+                return self.begin_level::<G>(s);
+            }
         }
         match byte {
             b'L' => {

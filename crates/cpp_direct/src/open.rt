@@ -45,7 +45,7 @@ pub struct Arguments {
     /// how many are known
     pub count: u8,
     /// the place where the encoding begins whose types may name them, 0 if this isn't known
-    pub encoding: u8,
+    pub encoding: u16,
     /// whether the last of them is a pack
     pub has_pack: bool,
     /// how many arguments come before it
@@ -74,6 +74,8 @@ pub enum Purpose {
     Name { mark: Mark },
     /// the name of a function in which a type is, with these qualifiers
     Enclosing { mark: Mark },
+    /// the name of a function whose address is an argument, with these qualifiers
+    Address { mark: Mark },
 }
 
 /// A nested name so far: where its text begins, and where that of the class is that a constructor would be named after.
@@ -156,6 +158,22 @@ pub enum Open {
         mark: Mark,
         from: u32,
         to: u32,
+    },
+    /// the name of a function whose address is an argument, of an encoding that begins at this place
+    Address {
+        encoding: u16,
+    },
+    /// the return type of such a function; its name ends at this place
+    AddressedFront {
+        mark: Mark,
+        to: u32,
+        argument: Arguments,
+    },
+    /// its parameters
+    Addressed {
+        mark: Mark,
+        to: u32,
+        argument: Arguments,
     },
     /// the parameters of a lambda that is in a function, whose text begins at this place; or in a nested name, of which it is a
     /// component, and what that one is read as

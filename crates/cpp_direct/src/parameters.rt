@@ -152,6 +152,8 @@ fn arguments_in(entry: Open) -> Option<Arguments>
     match entry {
         Open::Front { argument, .. } => Some(argument),
         Open::Parameters { argument, .. } => Some(argument),
+        Open::AddressedFront { argument, .. } => Some(argument),
+        Open::Addressed { argument, .. } => Some(argument),
         _ => None,
     }
 }
@@ -304,7 +306,7 @@ impl Direct {
             number: 0,
             known: NOWHERE,
         })?;
-        Some(Step::Type)
+        self.argument_at::<G>(s)
     }
 
     /// The first element of a list, which is a literal. Where it is an argument of a name, those after it are known.
@@ -605,7 +607,7 @@ impl Direct {
             number,
             known,
         })?;
-        Some(Step::Type)
+        self.argument_at::<G>(s)
     }
 
     /// A pack comes next, after so many arguments of a name and one more.
@@ -701,9 +703,8 @@ impl Direct {
             return None;
         }
         self.at = read.end;
-        let from = self.text.end();
         self.repeat(argument.from as u32, argument.to as u32)?;
-        self.add_candidate(from, argument.is_reference, true)?;
+        self.add_argument(argument)?;
         Some(Step::Value {
             is_reference: argument.is_reference,
             is_dependent: true,

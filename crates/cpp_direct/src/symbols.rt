@@ -51,7 +51,7 @@ fn has_front(s: &[u8], from: u32) -> bool
 }
 
 /// The place where the encoding begins whose name is written from a place on, 0 if a text comes before it.
-fn encoding_place(s: &[u8], from: u32) -> u8
+fn encoding_place(s: &[u8], from: u32) -> u16
     ensures first { result ≢ 0 → from ≡ 0 }
     ensures is { result ≢ 0 → result ≡ encoding_place s.now }
 {

@@ -1,12 +1,12 @@
 use Rattle.std.proofs.Common.{◌≤◌, ◌++◌, ◌∙◌, inl, inr, refl, ap, arith, false, get_or, subst}
 use Rattle.cpp_direct.specs.declared.open.Candidate.{Candidate}
-use Rattle.cpp_direct.specs.Written.{hidden}
+use Rattle.cpp_direct.specs.Written.{EndsBy, hidden}
 use Rattle.cpp_direct.proofs.Kept.{all-gone, next-there, none-gone, one-gone, set-is}
 use Rattle.cpp_direct.proofs.writing.hide_after.Goals as goal
 use Rattle.cpp_direct.proofs.writing.hide_after.Goals.{then-as_slice-at, else-as_slice-at}
 
 pub candidates-init : goal.candidates-init
-candidates-init c = record { gone = none-gone c.args.to c.args.candidates.now.list.items }
+candidates-init c = record { gone = none-gone (EndsBy c.args.to) c.args.candidates.now.list.items }
 
 pub candidates-preserved : goal.candidates-preserved
 candidates-preserved c =
@@ -15,22 +15,22 @@ candidates-preserved c =
     let old = c.args.candidates.now.list.items in
     let now = c.candidates.candidates.list.items in
     let gone = c.candidates.invariant.gone in
-    let next = next-there to at old now gone (omega (arith, c.candidates-test.true, c.len.ensures)) in
+    let next = next-there (EndsBy to) at old now gone (omega (arith, c.candidates-test.true, c.len.ensures)) in
     let other : Candidate = record { from = 0; to = 0; is_reference = false; is_dependent = false } in
     let within : (get_or c.as_slice.result.now at other).to ≤ to → next.0.to ≤ to =
     λ e. subst (λ (k : Candidate). k.to ≤ to) (ap (λ l. get_or l at other) c.as_slice.ensures ∙ next.3 other) e in
     elim c.if-as_slice-at.branch [
       | then-as_slice-at w ↦ record {
-        gone = one-gone to at old now c.if-as_slice-at.candidates.list.items gone next.0 hidden next.1 next.2 (inr refl)
-            (ap (λ v. v.list.items) w.candidates-is ∙ w.put.ensures.items ∙ set-is to at old now gone next.0 hidden next.1 next.2);
+        gone = one-gone (EndsBy to) at old now c.if-as_slice-at.candidates.list.items gone next.0 hidden next.1 next.2 (inr refl)
+            (ap (λ v. v.list.items) w.candidates-is ∙ w.put.ensures.items ∙ set-is (EndsBy to) at old now gone next.0 hidden next.1 next.2);
       }
       | else-as_slice-at w ↦ record {
-        gone = one-gone to at old now c.if-as_slice-at.candidates.list.items gone next.0 next.0 next.1 next.2 (inl (refl, within w.if-as_slice-at.false))
+        gone = one-gone (EndsBy to) at old now c.if-as_slice-at.candidates.list.items gone next.0 next.0 next.1 next.2 (inl (refl, within w.if-as_slice-at.false))
             (ap (λ v. v.list.items) w.candidates-is ∙ gone.now_is ∙ ap (λ l. gone.new ++ l) next.2);
       }
     ]
 
 pub returns : goal.returns
 returns c =
-    all-gone c.args.to c.candidates.at c.args.candidates.now.list.items c.candidates.candidates.list.items c.candidates.invariant.gone
+    all-gone (EndsBy c.args.to) c.candidates.at c.args.candidates.now.list.items c.candidates.candidates.list.items c.candidates.invariant.gone
     (omega (arith, c.candidates-test.false, c.len.ensures))

@@ -35,5 +35,5 @@ enclosed-requires-clause-read g c =
     refl refl refl
     (popped c.args.self.now.waiting.list.items c.pop-named.new.self.list.items p.rest (opens.Enclosing c.args.mark c.args.from c.args.to) _ refl
     p.open_is c.pop-named.ensures.rest)
-    c.in_ok-leave_out.ensures.text c.in_ok-leave_out.ensures.candidates c.in_ok-leave_out.ensures.open c.in_ok-leave_out.ensures.at
+    c.in_ok-leave_out.ensures.text c.in_ok-leave_out.ensures.candidates c.in_ok-leave_out.ensures.open c.in_ok-leave_out.ensures.scope c.in_ok-leave_out.ensures.at
     (sym c.IS_BARE.ensures ∙ c.if-IS_BARE.true)

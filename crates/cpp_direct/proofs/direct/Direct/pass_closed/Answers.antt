@@ -2,6 +2,7 @@ use Rattle.std.proofs.Common.{Some, true, false, ap, ◌∙◌}
 use Rattle.cpp_direct.specs.Symbol.{symbol_by}
 use Rattle.cpp_direct.specs.declared.open.Open.TheVariants as opens
 use Rattle.cpp_direct.proofs.Handed.{value-element, value-returned, value-signature, value-enumerator, argument-read, special-read, takes-elements}
+use Rattle.cpp_direct.proofs.AddressesRead.{value-addressed, value-addressed-front}
 use Rattle.cpp_direct.proofs.EnclosingFunctions.{parameter-read-within}
 use Rattle.cpp_direct.proofs.LambdasRead.{lambda-parameter-read}
 use Rattle.cpp_direct.proofs.Arguments.{value-argument}
@@ -26,6 +27,16 @@ enclosing_parameter-requires-clause-read g c =
     parameter-read-within (symbol_by g.G.Grammar.IS_WIDE g.G.Grammar.IS_BARE g.G.Grammar.IS_BRIEF c.args.s.now) c.args.self.now c.in-Enclosing.mark c.in-Enclosing.from c.in-Enclosing.to
     (value-element (symbol_by g.G.Grammar.IS_WIDE g.G.Grammar.IS_BARE g.G.Grammar.IS_BRIEF c.args.s.now) c.args.self.now c.args.is_reference (opens.Enclosing c.in-Enclosing.mark c.in-Enclosing.from c.in-Enclosing.to)
     c.requires.writing (c.requires.waits ∙ ap (λ o. Some o) c.in-Enclosing.is))
+
+pub addressed_front-requires-clause-read : goal.addressed_front-requires-clause-read
+addressed_front-requires-clause-read g c =
+    value-addressed-front (symbol_by g.G.Grammar.IS_WIDE g.G.Grammar.IS_BARE g.G.Grammar.IS_BRIEF c.args.s.now) c.args.self.now c.args.is_reference false c.in-AddressedFront.mark c.in-AddressedFront.to c.in-AddressedFront.argument
+    c.requires.writing (c.requires.waits ∙ ap (λ o. Some o) c.in-AddressedFront.is)
+
+pub addressed_parameter-requires-clause-read : goal.addressed_parameter-requires-clause-read
+addressed_parameter-requires-clause-read g c =
+    value-addressed (symbol_by g.G.Grammar.IS_WIDE g.G.Grammar.IS_BARE g.G.Grammar.IS_BRIEF c.args.s.now) c.args.self.now c.args.is_reference false c.in-Addressed.mark c.in-Addressed.to c.in-Addressed.argument
+    c.requires.writing (c.requires.waits ∙ ap (λ o. Some o) c.in-Addressed.is)
 
 pub lambda_parameter-requires-clause-read : goal.lambda_parameter-requires-clause-read
 lambda_parameter-requires-clause-read g c =
@@ -57,4 +68,5 @@ returns-in_default g c =
     argument-read (symbol_by g.G.Grammar.IS_WIDE g.G.Grammar.IS_BARE g.G.Grammar.IS_BRIEF c.args.s.now) c.args.self.now c.args.entry
     (value-element (symbol_by g.G.Grammar.IS_WIDE g.G.Grammar.IS_BARE g.G.Grammar.IS_BRIEF c.args.s.now) c.args.self.now c.args.is_reference c.args.entry c.requires.writing c.requires.waits)
     (takes-elements c.args.entry c.requires.others c.in_default.not-Returned c.in_default.not-Signature c.in_default.not-Special c.in_default.not-Enumerator
-    c.in_default.not-Enclosing c.in_default.not-Argument c.in_default.not-Lambda c.in_default.not-Element c.in_default.not-Array)
+    c.in_default.not-Enclosing c.in_default.not-Argument c.in_default.not-Lambda c.in_default.not-Element c.in_default.not-Array
+    c.in_default.not-Address c.in_default.not-AddressedFront c.in_default.not-Addressed)
