@@ -1,17 +1,17 @@
 -- Addresses of functions, as arguments of a name: from their X to their last E.
-use Rattle.std.proofs.Common.{◌≡◌, ◌≢◌, refl, ap, sym, ◌∙◌, subst, inl, inr, ℕ, ◌+◌, ◌-◌, List, [], ◌∷◌, ◌++◌, length, reverse, take, slice_get, Some, ◌≤◌, true, false, arith, codes, length-append, append-nil, append_assoc, Bool, ◌&&◌}
+use Rattle.std.proofs.Common.{◌≡◌, ◌≢◌, refl, ap, sym, ◌∙◌, subst, inl, inr, ℕ, ◌+◌, ◌-◌, List, [], ◌∷◌, ◌++◌, length, reverse, take, slice_get, Some, true, false, arith, codes, append-nil, append_assoc, Bool, ◌&&◌}
 use Rattle.std.proofs.lemmas.Bool.{false≢true}
 use Rattle.cpp_grammar.specs.declared.kind.Kind.{Kind}
-use Rattle.cpp_grammar.specs.Grammar.{may_be_empty}
-use Rattle.cpp_grammar.specs.Term.{Term, function, builtin, address_of, nil, list, absent}
+use Rattle.cpp_grammar.specs.Term.{Term, function, address_of, list, absent}
 use Rattle.cpp_grammar.specs.Parts.{types_of}
 use Rattle.cpp_grammar.specs.Scope.{has_return_type, arguments_of}
-use Rattle.cpp_grammar.specs.Values.{State, Value, nothing_there, tree, named, tree_of}
+use Rattle.cpp_grammar.specs.Values.{State, Value, tree, named, tree_of}
 use Rattle.cpp_grammar.specs.Between.{in_name, in_types, no_items}
 use Rattle.cpp_grammar.specs.Meaning.{encoding_of}
 use Rattle.cpp_direct.specs.declared.marks.MarkPlace.{MarkPlace}
 use Rattle.cpp_direct.specs.declared.open.Arguments.{Arguments}
 use Rattle.cpp_direct.specs.declared.open.Mark.{Mark}
+use Rattle.cpp_direct.specs.declared.open.Hiding.TheVariants as hidings
 use Rattle.cpp_direct.specs.declared.open.Mark.TheVariants as marks
 use Rattle.cpp_direct.specs.Symbol.{detail_of, Symbol}
 use Rattle.cpp_direct.specs.declared.open.Open.{Open}
@@ -21,25 +21,25 @@ use Rattle.cpp_direct.specs.declared.open.Step.TheVariants as steps
 use Rattle.cpp_direct.specs.declared.direct.Direct.{Direct}
 use Rattle.cpp_direct.specs.Holes.{Opened, StandsAt, Comes, Expects}
 use Rattle.cpp_direct.specs.HolesOfLists.{mark_letters, nest_marks}
-use Rattle.cpp_direct.specs.Marks.{IsMarkPlace, has_const, called_on, mark_text}
-use Rattle.cpp_direct.specs.Prints.{IsElementIn, Shows, Encloses, list_of}
+use Rattle.cpp_direct.specs.Marks.{IsMarkPlace, has_const, called_on}
+use Rattle.cpp_direct.specs.Prints.{IsElementIn}
 use Rattle.cpp_direct.specs.WriterInvariant.{AddressWithin, AreNamed, Below, HasAddressed, HasArguments, IsAddressed, IsNamedSo, IsNesting, IsOwn, IsTypeRead, IsWriting, ItemsGoOn, ItemsOf, Kept, Scope, Serves, Stands, below, in_front_of_next, no_scope, qualifiers}
 use Rattle.cpp_direct.specs.MidStepOfAddresses.{AwaitsAddressedParameters, AwaitsArgumentOfName, IsAddressNamed, IsAddressedFrontRead, IsAddressedParameterRead, IsAddressedRead}
 use Rattle.cpp_direct.specs.MidStep.{AwaitsNest}
-use Rattle.cpp_direct.specs.Written.{AreLeft, EndsBy, IsClosed, Writes}
-use Rattle.cpp_direct.proofs.Ending.{behind-three, behind-five, next-written, parameter-goes_on, plain-text, types-scoped, void-read}
+use Rattle.cpp_direct.specs.Written.{AreLeft, Writes}
+use Rattle.cpp_direct.proofs.Ending.{next-written, parameter-goes_on, types-scoped}
+use Rattle.cpp_direct.proofs.FunctionsWithin.{led-more}
 use Rattle.cpp_direct.proofs.Kept.{front-left, kept-closed, kept-cut, kept-same, kept-written, reverse-last, type-comes, value-comes}
 use Rattle.cpp_direct.proofs.Listed.{last-found, some-elements}
-use Rattle.cpp_direct.proofs.Moves.{expects-empty, stands-join, stands-split}
+use Rattle.cpp_direct.proofs.Moves.{stands-join, stands-split}
 use Rattle.cpp_direct.proofs.MovesOfEncodings.{encoding-opens, name-nested}
 use Rattle.cpp_direct.proofs.MovesOfLists.{address-opens, element-awaits}
 use Rattle.cpp_direct.proofs.NamedArguments.{arguments-given, named-there, scope_at, scope-kept}
 use Rattle.cpp_direct.proofs.Nesting.{nest-comes, closed-prints}
-use Rattle.cpp_direct.proofs.PrintedLists.{list-in, list-with-none, next-prints-in, none-print-in, type-in}
-use Rattle.cpp_direct.proofs.PrintedParts.{has-none, has-parameters}
-use Rattle.cpp_direct.proofs.PrintedLocals.{address-prints, function-encloses, name-encloses, returned-enclosing}
+use Rattle.cpp_direct.proofs.PrintedLists.{none-print-in, type-in}
+use Rattle.cpp_direct.proofs.PrintedLocals.{address-prints}
 use Rattle.cpp_direct.proofs.PrintedNames.{as-name}
-use Rattle.cpp_direct.proofs.PrintedSymbols.{encoding-plain, function-shows, encoding-returned, parameters-kept, void-shows, made-void, made-with}
+use Rattle.cpp_direct.proofs.PrintedSymbols.{encoding-plain, encoding-returned}
 use Rattle.cpp_direct.proofs.PrintedTypes.{as-in}
 use Rattle.cpp_direct.proofs.Scopes.{addressed-front-scoped, addressed-scoped, arguments-named, member-named}
 
@@ -152,7 +152,11 @@ name-addressed s old kept t mark n no_return returns names here is_name =
 pub record IsAddressScoped (s : Symbol) (w : Direct) (mark : Mark) (is_instance : Bool) (to : ℕ) (argument : Arguments) : Type 0 where
   pub kept : Kept s w
   pub open kept use *
-  pub addressed : IsAddressed (detail_of s) scope to argument
+  pub front : List ℕ
+  pub name : List ℕ
+  pub own : Term
+  pub prints : PrintsName (detail_of s) own name
+  pub addressed : IsAddressed (detail_of s) scope to argument own front name
   pub open addressed use *
   pub v : Value
   pub named_so : IsNamedSo v own mark
@@ -180,11 +184,11 @@ address-scoped s old new mark is_instance to argument noted p waiting first now 
     let scope = scope_at here argument in
     record {
       kept = record { state = p.state; scope = scope; keeps = scope-kept s old new p.kept argument p.own names first now text candidates };
+      front = p.front;
+      name = p.name;
+      own = p.own;
+      prints = p.prints;
       addressed = record {
-        front = p.front;
-        name = p.name;
-        own = p.own;
-        prints = p.prints;
         to_is = to_is ∙ ap length p.written;
         given = arguments-given here argument p.own names;
         named = refl;
@@ -218,10 +222,16 @@ front-addressed s w new mark to argument p waiting text candidates scope_same at
     let becomes : Term → ℕ → State → Type 0 = AddressWithin s (below s no_scope rest) p.front in
     let element = element-awaits s Kind.Items g.inner g.around w.at p.state tt g.awaits in
     let stands : Stands s p.scope (opens.AddressedFront mark to argument ∷ rest) element.inner w.text.list.items = (
-      p.addressed,
-      p.v,
-      p.named_so,
-      p.returns refl,
+      record {
+        front = p.front;
+        name = p.name;
+        own = p.own;
+        prints = p.prints;
+        is_addressed = p.addressed;
+        v = p.v;
+        named_so = p.named_so;
+        returns = p.returns refl;
+      },
       p.written,
       λ t here now comes. parameter-goes_on s argument becomes (λ l. encoding_of p.v l) [] w.at p.state g t here now (element.onward t here now comes),
     ) in
@@ -244,24 +254,16 @@ value-addressed-front s w is_reference is_dependent mark to argument p found =
       rest = last.0;
       open_is = last.1;
       addressed = waits.0;
-      v = waits.1;
-      named_so = waits.2;
-      returns = waits.3;
       returned = v.own;
       bytes = v.bytes;
-      written = v.written ∙ ap (λ l. l ++ v.bytes) waits.4;
-      goes = waits.5 v.own w.at p.state v.comes;
+      written = v.written ∙ ap (λ l. l ++ v.bytes) waits.1;
+      goes = waits.2 v.own w.at p.state v.comes;
     }
-
--- the name is within what is written
-pub front-inside : (s : Symbol) (w : Direct) (mark : Mark) (to : ℕ) (argument : Arguments) → IsAddressedFrontRead s w mark to argument
-    → to ≤ length w.text.list.items
-front-inside s w mark to argument p = omega (arith, p.to_is, ap length p.written, length-append (p.front ++ p.name) p.bytes)
 
 -- it is taken away
 pub front-cut : (s : Symbol) (w shut new : Direct) (mark : Mark) (to : ℕ) (argument : Arguments) (p : IsAddressedFrontRead s w mark to argument)
     → shut.text ≡ w.text → shut.candidates ≡ w.candidates → shut.has_scope ≡ w.has_scope → shut.at ≡ w.at → reverse shut.waiting.list.items ≡ p.rest
-    → new.text.list.items ≡ take to shut.text.list.items → AreLeft (EndsBy to) shut.candidates.list.items new.candidates.list.items
+    → new.text.list.items ≡ take to shut.text.list.items → AreLeft (hidings.After to) shut.candidates.list.items new.candidates.list.items
     → new.waiting ≡ shut.waiting → new.has_scope ≡ shut.has_scope → new.at ≡ shut.at → AwaitsAddressedParameters s new mark to argument
 unfolding no_items
 front-cut s w shut new mark to argument p same_text same_candidates same_scope same_at waits text are waiting scope_same at =
@@ -271,13 +273,19 @@ front-cut s w shut new mark to argument p same_text same_candidates same_scope s
     let r = p.returned in
     record {
       kept = kept-cut s w new p.kept left p.bytes to p.written p.to_is left_is
-          (subst (λ v. AreLeft (EndsBy to) v.list.items new.candidates.list.items) same_candidates are) (scope_same ∙ same_scope) p.there;
+          (subst (λ v. AreLeft (hidings.After to) v.list.items new.candidates.list.items) same_candidates are) (scope_same ∙ same_scope) p.there;
       has = record {
-        is_addressed = p.addressed;
-        returned = r;
-        make = λ l. encoding_of p.v (list r l);
-        makes = λ t rest. encoding-returned p.v mark p.own p.named_so p.returns r (list t rest);
-        elements = none-print-in (detail_of s) (types_of p.own) 3;
+        is_led = record {
+          front = p.front;
+          name = p.name;
+          own = p.own;
+          prints = p.prints;
+          returned = r;
+          make = λ l. encoding_of p.v (list r l);
+          makes = λ t rest. encoding-returned p.v mark p.own p.named_so p.returns r (list t rest);
+          elements = none-print-in (detail_of s) (types_of p.own) 3;
+        };
+        is_addressed = p.is_addressed;
       };
       written = left_is;
       goes = subst (λ ws. ItemsGoOn s argument (AddressWithin s (below s no_scope ws) p.front) (λ l. encoding_of p.v (list r l)) [] new.at p.state)
@@ -299,11 +307,17 @@ pub plain-addressed : (s : Symbol) (w : Direct) (mark : Mark) (to : ℕ) (argume
 plain-addressed s w mark to argument p = record {
   kept = p.kept;
   has = record {
+    is_led = record {
+      front = p.front;
+      name = p.name;
+      own = p.own;
+      prints = p.prints;
+      returned = absent;
+      make = λ l. encoding_of p.v l;
+      makes = encoding-plain p.v mark p.own p.named_so (p.no_return refl);
+      elements = none-print-in (detail_of s) (types_of p.own) 3;
+    };
     is_addressed = p.addressed;
-    returned = absent;
-    make = λ l. encoding_of p.v l;
-    makes = encoding-plain p.v mark p.own p.named_so (p.no_return refl);
-    elements = none-print-in (detail_of s) (types_of p.own) 3;
   };
   written = p.written;
   goes = p.goes;
@@ -371,138 +385,16 @@ value-addressed s w is_reference is_dependent mark to argument p found =
       ts = ts ++ v.own ∷ [];
       some = some-elements ts v.own;
       texts = in_front_of_next ts texts ++ v.bytes;
-      has = record {
-        is_addressed = h.is_addressed;
-        returned = h.returned;
-        make = h.make;
-        makes = h.makes;
-        elements = next-prints-in types 3 ts texts v.own v.bytes h.elements element;
-      };
+      has = record { is_led = led-more s h.is_led v.own v.bytes element; is_addressed = h.is_addressed };
       written = v.written ∙ ap (λ l. l ++ v.bytes) waits.3 ∙ append_assoc (h.front ++ h.name ++ codes "(") (in_front_of_next ts texts) v.bytes;
       goes = waits.4 v.own w.at p.state v.comes;
     }
 
 -- ## Ends
 
--- a function was read, and its address is within what is open
-addressed-read : (s : Symbol) (w : Direct) (mark : Mark) (place : ℕ) (kept : Kept s w) (e : Term) (front bytes : List ℕ) {rest : List Open}
-    → w.text.list.items ++ mark_text mark ≡ front ++ bytes → Encloses (detail_of s) e bytes → reverse w.waiting.list.items ≡ rest → w.at ≡ place
-    → AddressWithin s (below s no_scope rest) front e place kept.state → IsAddressedRead s w mark
-addressed-read s w mark place kept e front bytes {rest = rest} written encloses waits at within = record {
-  kept = kept;
-  e = e;
-  front = front;
-  bytes = bytes;
-  encloses = encloses;
-  written = written;
-  within = subst (λ ws. AddressWithin s (below s no_scope ws) front e w.at kept.state) (sym waits)
-      (subst (λ n. AddressWithin s (below s no_scope rest) front e n kept.state) (sym at) within);
-}
-
--- a function with a lone void is read
-pub void-addressed : (s : Symbol) (w here new : Direct) (mark : Mark) (to : ℕ) (argument : Arguments) → AwaitsAddressedParameters s w mark to argument
-    → StandsAt s.bytes w.at (118 ∷ []) → here.text ≡ w.text → here.candidates ≡ w.candidates → here.waiting ≡ w.waiting
-    → here.has_scope ≡ w.has_scope → here.at ≡ w.at + 1 → Writes here new (codes "()") → s.is_bare ≡ false → IsAddressedRead s new mark
-void-addressed s w here new mark to argument p stands text candidates waiting scope at one whole =
-    let f = p.has in
-    let b = p.name in
-    let q = mark_text mark in
-    let e = p.make (list_of (builtin (118 ∷ []) ∷ [])) in
-    let shows : Shows (detail_of s) (function f.own (qualifiers (has_const mark)) (called_on mark) absent nil) (b ++ codes "()" ++ q) =
-    subst (λ l. Shows (detail_of s) (function f.own (qualifiers (has_const mark)) (called_on mark) absent nil) (b ++ codes "()" ++ l)) (plain-text mark)
-    (void-shows (has-parameters s whole) f.own b f.prints (qualifiers (has_const mark)) (called_on mark)) in
-    addressed-read s new mark (w.at + 1) (kept-written s here new (codes "()") one (kept-same s w here text candidates scope p.kept)) e p.front
-    (b ++ codes "()" ++ q)
-    (ap (λ l. l ++ q) (one.text ∙ ap (λ v. v.list.items ++ codes "()") text ∙ ap (λ l. l ++ codes "()") p.written) ∙ behind-three p.front b (codes "()") q)
-    (subst (λ t. Encloses (detail_of s) t (b ++ codes "()" ++ q)) (sym (made-void f.own f.returned mark p.make f.makes))
-    (returned-enclosing (detail_of s) f.own (qualifiers (has_const mark)) (called_on mark) f.returned nil (b ++ codes "()" ++ q)
-    (function-encloses (detail_of s) f.own (qualifiers (has_const mark)) (called_on mark) nil (b ++ codes "()" ++ q) shows)))
-    (ap (λ v. reverse v.list.items) (one.waiting ∙ waiting)) (one.at ∙ at)
-    (void-read s argument (AddressWithin s (below s no_scope (reverse w.waiting.list.items)) p.front) p.make w.at p.state p.goes stands)
-
--- where functions are shown by their names alone, nothing more is written of it
-pub void-unshown : (s : Symbol) (w here : Direct) (mark : Mark) (to : ℕ) (argument : Arguments) → AwaitsAddressedParameters s w mark to argument
-    → StandsAt s.bytes w.at (118 ∷ []) → here.text ≡ w.text → here.candidates ≡ w.candidates → here.waiting ≡ w.waiting
-    → here.has_scope ≡ w.has_scope → here.at ≡ w.at + 1 → s.is_bare ≡ true → IsAddressedRead s here marks.Plain
-void-unshown s w here mark to argument p stands text candidates waiting scope at bare =
-    let f = p.has in
-    addressed-read s here marks.Plain (w.at + 1) (kept-same s w here text candidates scope p.kept) (p.make (list_of (builtin (118 ∷ []) ∷ []))) p.front p.name
-    (append-nil here.text.list.items ∙ ap (λ v. v.list.items) text ∙ p.written)
-    (subst (λ t. Encloses (detail_of s) t p.name) (sym (made-void f.own f.returned mark p.make f.makes))
-    (name-encloses (has-none s bare) f.own p.name f.prints (qualifiers (has_const mark)) (called_on mark) f.returned nil))
-    (ap (λ v. reverse v.list.items) waiting) at
-    (void-read s argument (AddressWithin s (below s no_scope (reverse w.waiting.list.items)) p.front) p.make w.at p.state p.goes stands)
-
--- parameters that aren't a lone void make a function, and its address is within what is open
-parameters-end : (s : Symbol) (w : Direct) (mark : Mark) (to : ℕ) (p : IsAddressedParameterRead s w mark to) → p.texts ≢ codes "void"
-    → (p.make (list_of p.ts) ≡ function p.own (qualifiers (has_const mark)) (called_on mark) p.returned (list_of p.ts))
-    × AddressWithin s (below s no_scope p.rest) p.front (p.make (list_of p.ts)) w.at p.state
-unfolding no_items may_be_empty
-parameters-end s w mark to p apart = let f = p.has in (
-  made-with f.own f.returned mark p.make f.makes p.ts p.some (parameters-kept (detail_of s) (types_of f.own) 3 p.ts p.texts f.elements apart),
-  subst (λ u. AddressWithin s (below s no_scope p.rest) p.front (p.make u) w.at p.state) (list-with-none p.ts)
-      (p.goes.onward nothing_there w.at p.state (expects-empty s Kind.Items p.goes.around p.goes.inner w.at p.state p.goes.awaits refl)),
-)
-
--- a function with its parameters is read, unless they are a lone void
-pub function-addressed : (s : Symbol) (w shut last : Direct) (mark : Mark) (to : ℕ) (p : IsAddressedParameterRead s w mark to) → p.texts ≢ codes "void"
-    → shut.text ≡ w.text → shut.candidates ≡ w.candidates → shut.has_scope ≡ w.has_scope → shut.at ≡ w.at → reverse shut.waiting.list.items ≡ p.rest
-    → Writes shut last (codes ")") → s.is_bare ≡ false → IsAddressedRead s last mark
-function-addressed s w shut last mark to p apart text candidates scope_same at waits one whole =
-    let f = p.has in
-    let b = p.name in
-    let l = p.texts in
-    let q = mark_text mark in
-    let bytes = b ++ codes "(" ++ l ++ codes ")" ++ q in
-    let end = parameters-end s w mark to p apart in
-    let shows : Shows (detail_of s) (function f.own (qualifiers (has_const mark)) (called_on mark) absent (list_of p.ts)) bytes =
-    subst (λ x. Shows (detail_of s) (function f.own (qualifiers (has_const mark)) (called_on mark) absent (list_of p.ts)) (b ++ codes "(" ++ l ++ codes ")" ++ x))
-    (plain-text mark)
-    (function-shows (has-parameters s whole) f.own b f.prints (list_of p.ts) l (list-in (detail_of s) (types_of f.own) 3 p.ts l (omega arith) f.elements)
-    (qualifiers (has_const mark)) (called_on mark)) in
-    addressed-read s last mark w.at (kept-written s shut last (codes ")") one (kept-same s w shut text candidates scope_same p.kept)) (p.make (list_of p.ts)) p.front bytes
-    (ap (λ x. x ++ q) (one.text ∙ ap (λ v. v.list.items ++ codes ")") text ∙ ap (λ x. x ++ codes ")") p.written) ∙ behind-five p.front b (codes "(") l (codes ")") q)
-    (subst (λ t. Encloses (detail_of s) t bytes) (sym end.0)
-    (returned-enclosing (detail_of s) f.own (qualifiers (has_const mark)) (called_on mark) f.returned (list_of p.ts) bytes
-    (function-encloses (detail_of s) f.own (qualifiers (has_const mark)) (called_on mark) (list_of p.ts) bytes shows)))
-    (ap (λ v. reverse v.list.items) one.waiting ∙ waits) (one.at ∙ at) end.1
-
--- the name is within what is written
-pub name-inside : (s : Symbol) (w : Direct) (mark : Mark) (to : ℕ) → IsAddressedParameterRead s w mark to → to ≤ length w.text.list.items
-name-inside s w mark to p =
-    omega (arith, p.to_is, ap length p.written, length-append (p.front ++ p.name ++ codes "(") p.texts, length-append (p.front ++ p.name) (codes "("))
-
--- what was written after it is taken away, where functions are shown by their names alone
-pub function-unshown : (s : Symbol) (w shut new : Direct) (mark : Mark) (to : ℕ) (p : IsAddressedParameterRead s w mark to) → p.texts ≢ codes "void"
-    → shut.text ≡ w.text → shut.candidates ≡ w.candidates → shut.has_scope ≡ w.has_scope → shut.at ≡ w.at → reverse shut.waiting.list.items ≡ p.rest
-    → new.text.list.items ≡ take to shut.text.list.items → AreLeft (EndsBy to) shut.candidates.list.items new.candidates.list.items
-    → new.waiting ≡ shut.waiting → new.has_scope ≡ shut.has_scope → new.at ≡ shut.at → s.is_bare ≡ true → IsAddressedRead s new marks.Plain
-function-unshown s w shut new mark to p apart same_text same_candidates same_scope same_at waits text are waiting scope_same at bare =
-    let f = p.has in
-    let end = parameters-end s w mark to p apart in
-    let left = p.front ++ p.name in
-    let behind = codes "(" ++ p.texts in
-    let whole_ : w.text.list.items ≡ left ++ behind = p.written ∙ append_assoc left (codes "(") p.texts in
-    let left_is : new.text.list.items ≡ left =
-    text ∙ front-left shut.text.list.items left behind to (ap (λ v. v.list.items) same_text ∙ whole_) p.to_is in
-    let kept_ = kept-cut s w new p.kept left behind to whole_ p.to_is left_is
-    (subst (λ v. AreLeft (EndsBy to) v.list.items new.candidates.list.items) same_candidates are) (scope_same ∙ same_scope) p.there in
-    addressed-read s new marks.Plain w.at kept_ (p.make (list_of p.ts)) p.front p.name
-    (append-nil new.text.list.items ∙ left_is)
-    (subst (λ t. Encloses (detail_of s) t p.name) (sym end.0)
-    (name-encloses (has-none s bare) f.own p.name f.prints (qualifiers (has_const mark)) (called_on mark) f.returned (list_of p.ts)))
-    (ap (λ v. reverse v.list.items) waiting ∙ waits) (at ∙ same_at) end.1
-
--- its qualifiers are written
-pub marks-addressed : (s : Symbol) (old new : Direct) (mark : Mark) → IsAddressedRead s old mark → Writes old new (mark_text mark)
-    → IsAddressedRead s new marks.Plain
-marks-addressed s old new mark p writes =
-    addressed-read s new marks.Plain old.at (kept-written s old new (mark_text mark) writes p.kept) p.e p.front p.bytes
-    (append-nil new.text.list.items ∙ writes.text ∙ p.written) p.encloses (ap (λ v. reverse v.list.items) writes.waiting) writes.at p.within
-
 -- Its E is read and that of its address, which comes like a type.
 pub address-ended : (s : Symbol) (w new : Direct) → IsAddressedRead s w marks.Plain → StandsAt s.bytes w.at (69 ∷ 69 ∷ []) → new.text ≡ w.text
-    → AreLeft IsClosed w.candidates.list.items new.candidates.list.items → new.waiting ≡ w.waiting → new.at ≡ w.at + 2 → IsWriting s new (steps.Value false false)
+    → AreLeft hidings.Dependent w.candidates.list.items new.candidates.list.items → new.waiting ≡ w.waiting → new.at ≡ w.at + 2 → IsWriting s new (steps.Value false false)
 address-ended s w new p letters text are waiting at =
     let within = p.within in
     let before = within.1 in

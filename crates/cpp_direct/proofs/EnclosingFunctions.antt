@@ -1,5 +1,5 @@
 -- Types that are in functions, from their Z to their end.
-use Rattle.std.proofs.Common.{◌≡◌, ◌≢◌, refl, ap, sym, ◌∙◌, subst, inl, inr, ℕ, ◌+◌, List, [], ◌∷◌, ◌++◌, length, reverse, take, ◌≤◌, true, false, arith, codes, length-append, append-nil, append_assoc, Bool}
+use Rattle.std.proofs.Common.{◌≡◌, ◌≢◌, refl, ap, sym, ◌∙◌, subst, inl, inr, ℕ, ◌+◌, List, [], ◌∷◌, ◌++◌, length, reverse, true, false, arith, codes, append-nil, append_assoc, Bool}
 use Rattle.std.proofs.lemmas.Bool.{false≢true}
 use Rattle.cpp_grammar.specs.declared.kind.Kind.{Kind}
 use Rattle.cpp_grammar.specs.Grammar.{may_be_empty}
@@ -24,25 +24,25 @@ use Rattle.cpp_direct.specs.Holes.{Opened, StandsAt, Comes, Expects, IsNameAt, w
 use Rattle.cpp_direct.specs.HolesOfLists.{mark_letters, nest_marks}
 use Rattle.cpp_direct.specs.HolesOfLocals.{Discriminator, IsDiscriminatorAt, IsPieceAt, local_in}
 use Rattle.cpp_direct.specs.Marks.{IsMarkPlace, has_const, called_on, mark_text}
-use Rattle.cpp_direct.specs.Prints.{PrintsName, PrintsPiece, Shows, Encloses, list_of}
-use Rattle.cpp_direct.specs.WriterInvariant.{AreNamed, Below, IsNesting, IsOwn, IsWriting, ItemsGoOn, Scope, Serves, Stands, TypeWithin, below, in_front_of_next, nowhere, qualifiers, Kept, HasEnclosing}
+use Rattle.cpp_direct.specs.Prints.{PrintsName, PrintsPiece, Shows}
+use Rattle.cpp_direct.specs.WriterInvariant.{Below, IsNesting, IsOwn, IsWriting, ItemsGoOn, Serves, Stands, TypeWithin, below, in_front_of_next, nowhere, qualifiers, Kept, HasEnclosing}
 use Rattle.cpp_direct.specs.MidStep.{AwaitsNamedType, AwaitsNest, IsElementRead}
 use Rattle.cpp_direct.specs.MidStepOfLocals.{AwaitsEnclosingParameters, AwaitsTypeName, IsEnclosingNamed, IsEnclosingParameterRead, IsEnclosingRead}
-use Rattle.cpp_direct.specs.Written.{AreLeft, EndsBy, Writes, Reads, added}
-use Rattle.cpp_direct.proofs.Ending.{behind-two, behind-three, behind-five, next-written, parameter-goes_on, plain-text, qualifiers-text, void-read}
+use Rattle.cpp_direct.specs.Written.{Writes, Reads, added}
+use Rattle.cpp_direct.proofs.Ending.{behind-two, behind-three, next-written, parameter-goes_on, qualifiers-text}
 use Rattle.cpp_direct.proofs.NamePlaces.{reads-of, reads-then}
-use Rattle.cpp_direct.proofs.Kept.{kept-read, kept-same, kept-written, none-named, reverse-last, type-comes, value-added, front-left, kept-cut}
+use Rattle.cpp_direct.proofs.FunctionsWithin.{led-more}
+use Rattle.cpp_direct.proofs.Kept.{kept-read, kept-same, kept-written, reverse-last, type-comes, value-added}
 use Rattle.cpp_direct.proofs.Listed.{some-elements}
 use Rattle.cpp_direct.proofs.Moves.{expects-empty, stands-join}
 use Rattle.cpp_direct.proofs.MovesOfEncodings.{encoding-opens, name-nested, name-source}
 use Rattle.cpp_direct.proofs.MovesOfLists.{element-awaits}
 use Rattle.cpp_direct.proofs.MovesOfLocals.{local-type-opens, nowhere-scoped}
 use Rattle.cpp_direct.proofs.Nesting.{nest-comes, closed-prints}
-use Rattle.cpp_direct.proofs.PrintedLists.{list-in, list-with-none, element-in, next-prints-in, none-print-in}
-use Rattle.cpp_direct.proofs.PrintedParts.{has-none, has-parameters}
-use Rattle.cpp_direct.proofs.PrintedLocals.{function-encloses, name-encloses, object-enclosing, returned-enclosing, local-prints}
+use Rattle.cpp_direct.proofs.PrintedLists.{element-in, none-print-in}
+use Rattle.cpp_direct.proofs.PrintedLocals.{object-enclosing, local-prints}
 use Rattle.cpp_direct.proofs.PrintedNames.{as-name, source-prints}
-use Rattle.cpp_direct.proofs.PrintedSymbols.{encoding-plain, function-shows, encoding-returned, object-encoded, parameters-kept, void-shows, made-void, made-with}
+use Rattle.cpp_direct.proofs.PrintedSymbols.{encoding-plain, encoding-returned, object-encoded}
 use Rattle.cpp_direct.proofs.Scopes.{none-scoped, has-member, has-plain}
 use Rattle.cpp_direct.proofs.Unmarked.{name-unmarked}
 use Rattle.cpp_direct.proofs.TypesRead.{builtin-listed, no-builtin}
@@ -164,15 +164,17 @@ pub plain-awaits : (s : Symbol) (w : Direct) (mark : Mark) (from : ℕ) → IsEn
 plain-awaits s w mark from p = record {
   kept = p.kept;
   has = record {
-    front = p.lead;
+    is_led = record {
+      front = p.lead;
+      name = p.name;
+      own = p.own;
+      prints = p.prints;
+      returned = absent;
+      make = λ l. encoding_of p.v l;
+      makes = encoding-plain p.v mark p.own p.named_so p.returns;
+      elements = none-print-in (detail_of s) (types_of p.own) 6;
+    };
     from_is = p.from_is;
-    name = p.name;
-    own = p.own;
-    returned = absent;
-    make = λ l. encoding_of p.v l;
-    makes = encoding-plain p.v mark p.own p.named_so p.returns;
-    prints = p.prints;
-    elements = none-print-in (detail_of s) (types_of p.own) 6;
   };
   written = p.written;
   goes = p.goes;
@@ -194,15 +196,17 @@ returned-awaits s w n mark from letter p has stands at_is =
     record {
       kept = kept-same s w (record w { at = n }) refl refl refl p.kept;
       has = record {
-        front = p.lead;
+        is_led = record {
+          front = p.lead;
+          name = p.name;
+          own = p.own;
+          prints = p.prints;
+          returned = r;
+          make = λ l. make (list r l);
+          makes = λ t rest. encoding-returned p.v mark p.own p.named_so p.returns r (list t rest);
+          elements = none-print-in (detail_of s) (types_of p.own) 6;
+        };
         from_is = p.from_is;
-        name = p.name;
-        own = p.own;
-        returned = r;
-        make = λ l. make (list r l);
-        makes = λ t rest. encoding-returned p.v mark p.own p.named_so p.returns r (list t rest);
-        prints = p.prints;
-        elements = none-print-in (detail_of s) (types_of p.own) 6;
       };
       written = p.written;
       goes = subst (λ k. ItemsGoOn s nowhere becomes (λ l. make (list r l)) [] k p.state) (sym at_is)
@@ -269,16 +273,8 @@ parameter-read-within s w mark from to p =
       some = some-elements ts p.read.own;
       texts = in_front_of_next ts texts ++ p.read.bytes;
       has = record {
-        front = h.front;
+        is_led = led-more s h.is_led p.read.own p.read.bytes (element-in (types_of h.own) 6 p.read.own p.read.bytes (p.read.element 6));
         from_is = h.from_is;
-        name = h.name;
-        own = h.own;
-        returned = h.returned;
-        make = h.make;
-        makes = h.makes;
-        prints = h.prints;
-        elements = next-prints-in (types_of h.own) 6 ts texts p.read.own p.read.bytes h.elements
-            (element-in (types_of h.own) 6 p.read.own p.read.bytes (p.read.element 6));
       };
       written = p.read.written ∙ ap (λ l. l ++ p.read.bytes) waits.3 ∙ append_assoc (h.front ++ h.name ++ codes "(") (in_front_of_next ts texts) p.read.bytes;
       to_is = waits.5;
@@ -286,18 +282,6 @@ parameter-read-within s w mark from to p =
     }
 
 -- ## Ends
-
--- a function in which a type is was read, and the type is within it
-enclosing-read : (s : Symbol) (w : Direct) (mark : Mark) (from place : ℕ) (kept : Kept s w) (e : Term) (front bytes : List ℕ) {rest : List Open}
-    → w.text.list.items ++ mark_text mark ≡ front ++ bytes → from ≡ length front → Encloses (detail_of s) e bytes
-    → reverse w.waiting.list.items ≡ rest → w.at ≡ place → TypeWithin s (below s kept.scope rest) front e place kept.state → IsEnclosingRead s w mark from
-enclosing-read s w mark from place kept e front bytes {rest = rest} written from_is encloses waits at within = record {
-  kept = kept;
-  has = record { e = e; front = front; from_is = from_is; bytes = bytes; encloses = encloses };
-  written = written;
-  within = subst (λ ws. TypeWithin s (below s kept.scope ws) front e w.at kept.state) (sym waits)
-      (subst (λ n. TypeWithin s (below s kept.scope rest) front e n kept.state) (sym at) within);
-}
 
 -- a name without items is read
 pub object-within : (s : Symbol) (w : Direct) (mark : Mark) (from : ℕ) → IsEnclosingNamed s w mark false from → IsEnclosingRead s w mark from
@@ -310,118 +294,14 @@ object-within s w mark from p =
     (object-encoded p.v b (subst (λ t. PrintsName (detail_of s) t b) (sym p.named_so.tree_is) p.prints)) in
     record {
       kept = p.kept;
-      has = record {
-        e = encoding_of p.v nil;
-        front = p.lead;
-        from_is = p.from_is;
-        bytes = b ++ q;
-        encloses = object-enclosing (detail_of s) p.v (b ++ q) shows;
-      };
+      e = encoding_of p.v nil;
+      front = p.lead;
+      leads = p.from_is;
+      bytes = b ++ q;
+      encloses = object-enclosing (detail_of s) p.v (b ++ q) shows;
       written = ap (λ l. l ++ q) p.written ∙ behind-two p.lead b q;
       within = p.goes.onward nothing_there w.at p.state (expects-empty s Kind.Items p.goes.around p.goes.inner w.at p.state p.goes.awaits refl);
     }
-
--- a function with a lone void is read
-pub void-within : (s : Symbol) (w here new : Direct) (mark : Mark) (from : ℕ) → AwaitsEnclosingParameters s w mark from
-    → StandsAt s.bytes w.at (118 ∷ []) → here.text ≡ w.text → here.candidates ≡ w.candidates → here.waiting ≡ w.waiting
-    → here.has_scope ≡ w.has_scope → here.at ≡ w.at + 1 → Writes here new (codes "()") → s.is_bare ≡ false → IsEnclosingRead s new mark from
-void-within s w here new mark from p stands text candidates waiting scope at one whole =
-    let f = p.has in
-    let b = p.name in
-    let q = mark_text mark in
-    let e = p.make (list_of (builtin (118 ∷ []) ∷ [])) in
-    let shows : Shows (detail_of s) (function f.own (qualifiers (has_const mark)) (called_on mark) absent nil) (b ++ codes "()" ++ q) =
-    subst (λ l. Shows (detail_of s) (function f.own (qualifiers (has_const mark)) (called_on mark) absent nil) (b ++ codes "()" ++ l)) (plain-text mark)
-    (void-shows (has-parameters s whole) f.own b f.prints (qualifiers (has_const mark)) (called_on mark)) in
-    enclosing-read s new mark from (w.at + 1) (kept-written s here new (codes "()") one (kept-same s w here text candidates scope p.kept)) e p.front
-    (b ++ codes "()" ++ q)
-    (ap (λ l. l ++ q) (one.text ∙ ap (λ v. v.list.items ++ codes "()") text ∙ ap (λ l. l ++ codes "()") p.written) ∙ behind-three p.front b (codes "()") q) p.from_is
-    (subst (λ t. Encloses (detail_of s) t (b ++ codes "()" ++ q)) (sym (made-void f.own f.returned mark p.make f.makes))
-    (returned-enclosing (detail_of s) f.own (qualifiers (has_const mark)) (called_on mark) f.returned nil (b ++ codes "()" ++ q)
-    (function-encloses (detail_of s) f.own (qualifiers (has_const mark)) (called_on mark) nil (b ++ codes "()" ++ q) shows)))
-    (ap (λ v. reverse v.list.items) (one.waiting ∙ waiting)) (one.at ∙ at)
-    (void-read s nowhere (TypeWithin s (below s p.scope (reverse w.waiting.list.items)) p.front) p.make w.at p.state p.goes stands)
-
--- where functions are shown by their names alone, nothing more is written of it
-pub void-unwritten : (s : Symbol) (w here : Direct) (mark : Mark) (from : ℕ) → AwaitsEnclosingParameters s w mark from
-    → StandsAt s.bytes w.at (118 ∷ []) → here.text ≡ w.text → here.candidates ≡ w.candidates → here.waiting ≡ w.waiting
-    → here.has_scope ≡ w.has_scope → here.at ≡ w.at + 1 → s.is_bare ≡ true → IsEnclosingRead s here marks.Plain from
-void-unwritten s w here mark from p stands text candidates waiting scope at bare =
-    let f = p.has in
-    enclosing-read s here marks.Plain from (w.at + 1) (kept-same s w here text candidates scope p.kept) (p.make (list_of (builtin (118 ∷ []) ∷ []))) p.front p.name
-    (append-nil here.text.list.items ∙ ap (λ v. v.list.items) text ∙ p.written) p.from_is
-    (subst (λ t. Encloses (detail_of s) t p.name) (sym (made-void f.own f.returned mark p.make f.makes))
-    (name-encloses (has-none s bare) f.own p.name f.prints (qualifiers (has_const mark)) (called_on mark) f.returned nil))
-    (ap (λ v. reverse v.list.items) waiting) at
-    (void-read s nowhere (TypeWithin s (below s p.scope (reverse w.waiting.list.items)) p.front) p.make w.at p.state p.goes stands)
-
--- parameters that aren't a lone void make a function, and the type is within that
-parameters-end : (s : Symbol) (w : Direct) (mark : Mark) (from to : ℕ) (p : IsEnclosingParameterRead s w mark from to) → p.texts ≢ codes "void"
-    → (p.make (list_of p.ts) ≡ function p.own (qualifiers (has_const mark)) (called_on mark) p.returned (list_of p.ts))
-    × TypeWithin s (below s p.scope p.rest) p.front (p.make (list_of p.ts)) w.at p.state
-unfolding no_items may_be_empty
-parameters-end s w mark from to p apart = let f = p.has in (
-  made-with f.own f.returned mark p.make f.makes p.ts p.some (parameters-kept (detail_of s) (types_of f.own) 6 p.ts p.texts f.elements apart),
-  subst (λ u. TypeWithin s (below s p.scope p.rest) p.front (p.make u) w.at p.state) (list-with-none p.ts)
-      (p.goes.onward nothing_there w.at p.state (expects-empty s Kind.Items p.goes.around p.goes.inner w.at p.state p.goes.awaits refl)),
-)
-
--- a function with its parameters is read, unless they are a lone void
-pub function-within : (s : Symbol) (w last new : Direct) (mark : Mark) (from to : ℕ) (p : IsEnclosingParameterRead s w mark from to)
-    → p.texts ≢ codes "void" → Writes w last (codes ")") → new.text ≡ last.text → new.candidates ≡ last.candidates
-    → new.has_scope ≡ last.has_scope → new.at ≡ last.at → reverse new.waiting.list.items ≡ p.rest → s.is_bare ≡ false → IsEnclosingRead s new mark from
-function-within s w last new mark from to p apart one text candidates scope at waits whole =
-    let f = p.has in
-    let b = p.name in
-    let l = p.texts in
-    let q = mark_text mark in
-    let bytes = b ++ codes "(" ++ l ++ codes ")" ++ q in
-    let end = parameters-end s w mark from to p apart in
-    let shows : Shows (detail_of s) (function f.own (qualifiers (has_const mark)) (called_on mark) absent (list_of p.ts)) bytes =
-    subst (λ x. Shows (detail_of s) (function f.own (qualifiers (has_const mark)) (called_on mark) absent (list_of p.ts)) (b ++ codes "(" ++ l ++ codes ")" ++ x))
-    (plain-text mark)
-    (function-shows (has-parameters s whole) f.own b f.prints (list_of p.ts) l (list-in (detail_of s) (types_of f.own) 6 p.ts l (omega arith) f.elements)
-    (qualifiers (has_const mark)) (called_on mark)) in
-    enclosing-read s new mark from w.at (kept-same s last new text candidates scope (kept-written s w last (codes ")") one p.kept)) (p.make (list_of p.ts)) p.front bytes
-    (ap (λ x. x ++ q) (ap (λ v. v.list.items) text ∙ one.text ∙ ap (λ x. x ++ codes ")") p.written) ∙ behind-five p.front b (codes "(") l (codes ")") q) p.from_is
-    (subst (λ t. Encloses (detail_of s) t bytes) (sym end.0)
-    (returned-enclosing (detail_of s) f.own (qualifiers (has_const mark)) (called_on mark) f.returned (list_of p.ts) bytes
-    (function-encloses (detail_of s) f.own (qualifiers (has_const mark)) (called_on mark) (list_of p.ts) bytes shows)))
-    waits (at ∙ one.at) end.1
-
--- what was written after its name is taken away, where functions are shown by their names alone
-pub function-unwritten : (s : Symbol) (w shut new : Direct) (mark : Mark) (from to : ℕ) (p : IsEnclosingParameterRead s w mark from to)
-    → p.texts ≢ codes "void" → w.has_scope ≡ false → shut.text ≡ w.text → shut.candidates ≡ w.candidates → shut.at ≡ w.at
-    → reverse shut.waiting.list.items ≡ p.rest → new.text.list.items ≡ take to shut.text.list.items → AreLeft (EndsBy to) shut.candidates.list.items new.candidates.list.items
-    → new.waiting ≡ shut.waiting → new.has_scope ≡ w.has_scope → new.at ≡ shut.at → s.is_bare ≡ true → IsEnclosingRead s new marks.Plain from
-function-unwritten s w shut new mark from to p apart unknown same_text same_candidates same_at waits text kept waiting scope_same at bare =
-    let f = p.has in
-    let end = parameters-end s w mark from to p apart in
-    let left = p.front ++ p.name in
-    let behind = codes "(" ++ p.texts in
-    let whole_ : w.text.list.items ≡ left ++ behind = p.written ∙ append_assoc left (codes "(") p.texts in
-    let left_is : new.text.list.items ≡ left =
-    text ∙ front-left shut.text.list.items left behind to (ap (λ v. v.list.items) same_text ∙ whole_) p.to_is in
-    let named : AreNamed left p.scope = subst (λ (k : Scope). AreNamed left k) (sym (p.keeps.unknown unknown)) (none-named left) in
-    let kept_ = kept-cut s w new p.kept left behind to whole_ p.to_is left_is
-    (subst (λ v. AreLeft (EndsBy to) v.list.items new.candidates.list.items) same_candidates kept) scope_same named in
-    enclosing-read s new marks.Plain from w.at kept_ (p.make (list_of p.ts)) p.front p.name
-    (append-nil new.text.list.items ∙ left_is) p.from_is
-    (subst (λ t. Encloses (detail_of s) t p.name) (sym end.0)
-    (name-encloses (has-none s bare) f.own p.name f.prints (qualifiers (has_const mark)) (called_on mark) f.returned (list_of p.ts)))
-    (ap (λ v. reverse v.list.items) waiting ∙ waits) (at ∙ same_at) end.1
-
--- the name is within what is written
-pub name-inside : (s : Symbol) (w : Direct) (mark : Mark) (from to : ℕ) → IsEnclosingParameterRead s w mark from to → to ≤ length w.text.list.items
-name-inside s w mark from to p =
-    omega (arith, p.to_is, ap length p.written, length-append (p.front ++ p.name ++ codes "(") p.texts, length-append (p.front ++ p.name) (codes "("))
-
--- its qualifiers are written
-pub marks-written-within : (s : Symbol) (old new : Direct) (mark : Mark) (from : ℕ) → IsEnclosingRead s old mark from → Writes old new (mark_text mark)
-    → IsEnclosingRead s new marks.Plain from
-marks-written-within s old new mark from p writes =
-    enclosing-read s new marks.Plain from old.at (kept-written s old new (mark_text mark) writes p.kept) p.e p.front p.bytes
-    (append-nil new.text.list.items ∙ writes.text ∙ p.written) p.from_is p.encloses (ap (λ v. reverse v.list.items) writes.waiting) writes.at p.within
 
 -- ## The type
 
@@ -446,7 +326,7 @@ type-within s old pushed read last new from awaits one p n is prints two digit t
     let kept = kept-read s old last (codes "::" ++ n ++ []) whole
     (kept-same s (record old { at = awaits.before }) old refl refl refl a.kept) in
     let named_ = subst (λ k. IsPieceAt s k p read.at) (one.at ∙ awaits.at_is) is in
-    value-added s last new kept w.0 w.1 t a.front bytes from false false written a.from_is shown (λ e. absurd (false≢true e)) text candidates scope
+    value-added s last new kept w.0 w.1 t a.front bytes from false false written a.leads shown (λ e. absurd (false≢true e)) text candidates scope
     (ap (λ v. reverse v.list.items) (waiting ∙ whole.waiting)) (λ e. absurd (false≢true e))
     (subst (λ k. Comes s w.0 (tree t true) k (with_candidate w.1 t a.state)) (sym here)
     (entity.onward p read.at a.state (named_ entity.inner entity.around a.e a.state entity.awaits) digit last.at told)) w.3

@@ -20,11 +20,13 @@ use Rattle.cpp_direct.specs.declared.direct.Direct.{Direct}
 use Rattle.cpp_direct.specs.Holes.{Comes, Opened, candidate, with_candidate, unless_listed}
 use Rattle.cpp_direct.specs.Prints.{Names, PrintsAs, PrintsGiven}
 use Rattle.cpp_direct.specs.WriterInvariant.{AreCandidates, AreNamed, ArgumentsGoOn, ExpectsType, HasScope, IsCandidate, IsMadeIn, IsNaming, IsNest, IsPlaced, HasSingles, IsScoped, IsTemplate, IsWriting, Keeps, Scope, Stands, argument_of, arguments_in, below, is_within_type, no_scope, of_template, place_of, IsOwn, is_type, IsKnown, nowhere, Kept, IsBetween, AwaitsTypeIn, IsTypeRead}
-use Rattle.cpp_direct.specs.Written.{Writes, Reads, added, added_unless, with_argument, EndsBy, IsClosed, IsLeft, AreLeft}
+use Rattle.cpp_direct.specs.Written.{Writes, Reads, added, added_unless, with_argument, IsLeft, AreLeft, Stays}
 use Rattle.std.specs.Prelude.{slice_set}
 use Rattle.cpp_grammar.specs.Values as values
 use Rattle.cpp_direct.specs.declared.open.Open.TheVariants as opens
 use Rattle.cpp_direct.specs.declared.open.Step.TheVariants as steps
+use Rattle.cpp_direct.specs.declared.open.Hiding.{Hiding}
+use Rattle.cpp_direct.specs.declared.open.Hiding.TheVariants as hidings
 
 -- ## Pieces of a text
 
@@ -78,13 +80,18 @@ pub candidate-stays : {s : Symbol} {scope : Scope} (text more : List ℕ) (k : C
 candidate-stays text more k c p =
     record { bytes = p.bytes; placed = placed-moved text more p.bytes refl refl refl p.placed; prints = p.prints; made_in = p.made_in }
 
--- candidates stay so where more is written
+-- candidates are so elsewhere where each is
+pub candidates-as : (s : Symbol) (scope other : Scope) (text new : List ℕ) → ((k : Candidate) (c : values.Candidate) → IsCandidate s scope text k c → IsCandidate s other new k c)
+    → (ks : List Candidate) (cs : List values.Candidate) → AreCandidates s scope text ks cs → AreCandidates s other new ks cs
+candidates-as s scope other text new each [] [] p = tt
+candidates-as s scope other text new each (k ∷ ks) (c ∷ cs) p = ((λ e. each k c (p.0 e)), candidates-as s scope other text new each ks cs p.1)
+candidates-as s scope other text new each [] (c ∷ cs) p = absurd p
+candidates-as s scope other text new each (k ∷ ks) [] p = absurd p
+
+-- they stay so where more is written
 pub candidates-stay : (s : Symbol) (scope : Scope) (text more : List ℕ) (ks : List Candidate) (cs : List values.Candidate) → AreCandidates s scope text ks cs
     → AreCandidates s scope (text ++ more) ks cs
-candidates-stay s scope text more [] [] p = tt
-candidates-stay s scope text more (k ∷ ks) (c ∷ cs) p = ((λ e. candidate-stays text more k c (p.0 e)), candidates-stay s scope text more ks cs p.1)
-candidates-stay s scope text more [] (c ∷ cs) p = absurd p
-candidates-stay s scope text more (k ∷ ks) [] p = absurd p
+candidates-stay s scope text more = candidates-as s scope scope text (text ++ more) (λ k c p. candidate-stays text more k c p)
 
 -- one more
 pub candidates-more : {s : Symbol} {scope : Scope} (text : List ℕ) (ks : List Candidate) (cs : List values.Candidate) (k : Candidate) (c : values.Candidate)
@@ -448,36 +455,38 @@ candidate-kept text kept rest k c is p within =
       made_in = p.made_in;
     }
 
-one-kept : {s : Symbol} {scope : Scope} (text kept rest : List ℕ) (to : ℕ) (k n : Candidate) (c : values.Candidate) → text ≡ kept ++ rest → to ≡ length kept
-    → IsLeft (EndsBy to) k n → (k.from ≤ k.to → IsCandidate s scope text k c) → n.from ≤ n.to → IsCandidate s scope kept n c
-one-kept {s} {scope} text kept rest to k n c is to_is (inl (same, within)) p ordered =
-    subst (λ m. IsCandidate s scope kept m c) (sym same)
-    (candidate-kept text kept rest k c is (p (subst (λ (m : Candidate). m.from ≤ m.to) same ordered)) (omega (arith, within, to_is)))
-one-kept text kept rest to k n c is to_is (inr none) p ordered =
+one-left : {s : Symbol} {hiding : Hiding} (scope left : Scope) (text kept : List ℕ)
+    → ((k : Candidate) (c : values.Candidate) → Stays hiding k → IsCandidate s scope text k c → IsCandidate s left kept k c) → (k n : Candidate) (c : values.Candidate)
+    → IsLeft hiding k n → (k.from ≤ k.to → IsCandidate s scope text k c) → n.from ≤ n.to → IsCandidate s left kept n c
+one-left {s} scope left text kept stay k n c (inl (same, stays)) p ordered =
+    subst (λ m. IsCandidate s left kept m c) (sym same) (stay k c stays (p (subst (λ (m : Candidate). m.from ≤ m.to) same ordered)))
+one-left scope left text kept stay k n c (inr none) p ordered =
     let never : 1 ≤ 0 = subst (λ (m : Candidate). m.from ≤ m.to) none ordered in
     absurd (omega (arith, never))
 
--- So are all, where those that end after it are nowhere.
-pub candidates-kept : (s : Symbol) (scope : Scope) (text kept rest : List ℕ) (to : ℕ) (ks ns : List Candidate) (cs : List values.Candidate) → text ≡ kept ++ rest
-    → to ≡ length kept → AreLeft (EndsBy to) ks ns → AreCandidates s scope text ks cs → AreCandidates s scope kept ns cs
-candidates-kept s scope text kept rest to [] [] [] is to_is are p = tt
-candidates-kept s scope text kept rest to (k ∷ ks) (n ∷ ns) (c ∷ cs) is to_is are p =
-    (one-kept text kept rest to k n c is to_is are.0 p.0, candidates-kept s scope text kept rest to ks ns cs is to_is are.1 p.1)
-candidates-kept s scope text kept rest to [] [] (c ∷ cs) is to_is are p = absurd p
-candidates-kept s scope text kept rest to [] (n ∷ ns) cs is to_is are p = absurd are
-candidates-kept s scope text kept rest to (k ∷ ks) [] cs is to_is are p = absurd are
-candidates-kept s scope text kept rest to (k ∷ ks) (n ∷ ns) [] is to_is are p = absurd p
+-- Where those that don't stay are nowhere, all are candidates if each is that stays.
+candidates-left : (s : Symbol) {hiding : Hiding} (scope left : Scope) (text kept : List ℕ)
+    → ((k : Candidate) (c : values.Candidate) → Stays hiding k → IsCandidate s scope text k c → IsCandidate s left kept k c) → (ks ns : List Candidate) (cs : List values.Candidate)
+    → AreLeft hiding ks ns → AreCandidates s scope text ks cs → AreCandidates s left kept ns cs
+candidates-left s scope left text kept stay [] [] [] are p = tt
+candidates-left s scope left text kept stay (k ∷ ks) (n ∷ ns) (c ∷ cs) are p =
+    (one-left scope left text kept stay k n c are.0 p.0, candidates-left s scope left text kept stay ks ns cs are.1 p.1)
+candidates-left s scope left text kept stay [] [] (c ∷ cs) are p = absurd p
+candidates-left s scope left text kept stay [] (n ∷ ns) cs are p = absurd are
+candidates-left s scope left text kept stay (k ∷ ks) [] cs are p = absurd are
+candidates-left s scope left text kept stay (k ∷ ks) (n ∷ ns) [] are p = absurd p
 
 -- what a writer keeps where what follows this is taken away, if the arguments that may be named are in it
 abbrev pub kept-cut : (s : Symbol) (old new : Direct) (kept : Kept s old) (left rest : List ℕ) (to : ℕ) → old.text.list.items ≡ left ++ rest → to ≡ length left
-    → new.text.list.items ≡ left → AreLeft (EndsBy to) old.candidates.list.items new.candidates.list.items → new.has_scope ≡ old.has_scope
+    → new.text.list.items ≡ left → AreLeft (hidings.After to) old.candidates.list.items new.candidates.list.items → new.has_scope ≡ old.has_scope
     → AreNamed left kept.scope → Kept s new
 kept-cut s old new kept left rest to written to_is left_is are scope_same named = record {
   state = kept.state;
   scope = kept.scope;
   keeps = keeps-as s old new kept.state.candidates left_is refl scope_same
-      (candidates-kept s kept.scope old.text.list.items left rest to old.candidates.list.items new.candidates.list.items kept.state.candidates written to_is are
-      kept.keeps.candidates) named kept.keeps.single kept.keeps.unknown;
+      (candidates-left s kept.scope kept.scope old.text.list.items left
+      (λ k c within own. candidate-kept old.text.list.items left rest k c written own (omega (arith, within, to_is)))
+      old.candidates.list.items new.candidates.list.items kept.state.candidates are kept.keeps.candidates) named kept.keeps.single kept.keeps.unknown;
 }
 
 -- the front of a text that was taken
@@ -485,40 +494,26 @@ pub front-left : (text left rest : List ℕ) (to : ℕ) → text ≡ left ++ res
 front-left text left rest to written to_is = ap (λ n. take n text) to_is ∙ ap (λ l. take (length left) l) written ∙ take-append_seam left rest
 
 -- a candidate that names no arguments is one where none may be named
-closed-kept : (s : Symbol) (scope : Scope) (text : List ℕ) (k n : Candidate) (c : values.Candidate) → IsLeft IsClosed k n
-    → (k.from ≤ k.to → IsCandidate s scope text k c) → n.from ≤ n.to → IsCandidate s no_scope text n c
-closed-kept s scope text k n c (inl (same, closed)) p ordered =
-    let own = p (subst (λ (m : Candidate). m.from ≤ m.to) same ordered) in
-    subst (λ m. IsCandidate s no_scope text m c) (sym same) (record {
-      bytes = own.bytes;
-      placed = own.placed;
-      prints = subst (λ d. PrintsAs (detail_of s) no_scope.names d c.tree own.bytes k.is_reference) (sym closed)
-          (subst (λ d. PrintsAs (detail_of s) scope.names d c.tree own.bytes k.is_reference) closed own.prints);
-      made_in = λ e. absurd (false≢true (sym closed ∙ e));
-    })
-closed-kept s scope text k n c (inr none) p ordered =
-    let never : 1 ≤ 0 = subst (λ (m : Candidate). m.from ≤ m.to) none ordered in
-    absurd (omega (arith, never))
-
-pub candidates-closed : (s : Symbol) (scope : Scope) (text : List ℕ) (ks ns : List Candidate) (cs : List values.Candidate) → AreLeft IsClosed ks ns
-    → AreCandidates s scope text ks cs → AreCandidates s no_scope text ns cs
-candidates-closed s scope text [] [] [] are p = tt
-candidates-closed s scope text (k ∷ ks) (n ∷ ns) (c ∷ cs) are p =
-    (closed-kept s scope text k n c are.0 p.0, candidates-closed s scope text ks ns cs are.1 p.1)
-candidates-closed s scope text [] [] (c ∷ cs) are p = absurd p
-candidates-closed s scope text [] (n ∷ ns) cs are p = absurd are
-candidates-closed s scope text (k ∷ ks) [] cs are p = absurd are
-candidates-closed s scope text (k ∷ ks) (n ∷ ns) [] are p = absurd p
+closed-kept : (s : Symbol) (scope : Scope) (text : List ℕ) (k : Candidate) (c : values.Candidate) → Stays hidings.Dependent k → IsCandidate s scope text k c
+    → IsCandidate s no_scope text k c
+closed-kept s scope text k c closed own = record {
+  bytes = own.bytes;
+  placed = own.placed;
+  prints = subst (λ d. PrintsAs (detail_of s) no_scope.names d c.tree own.bytes k.is_reference) (sym closed)
+      (subst (λ d. PrintsAs (detail_of s) scope.names d c.tree own.bytes k.is_reference) closed own.prints);
+  made_in = λ e. absurd (false≢true (sym closed ∙ e));
+}
 
 -- what a writer keeps where arguments aren't named any more, and candidates that name them are nowhere
-abbrev pub kept-closed : (s : Symbol) (old new : Direct) (kept : Kept s old) → AreLeft IsClosed old.candidates.list.items new.candidates.list.items
+abbrev pub kept-closed : (s : Symbol) (old new : Direct) (kept : Kept s old) → AreLeft hidings.Dependent old.candidates.list.items new.candidates.list.items
     → new.text ≡ old.text → Kept s new
 kept-closed s old new kept are text = record {
   state = kept.state;
   scope = no_scope;
   keeps = record {
     candidates = subst (λ v. AreCandidates s no_scope v.list.items new.candidates.list.items kept.state.candidates) (sym text)
-        (candidates-closed s kept.scope old.text.list.items old.candidates.list.items new.candidates.list.items kept.state.candidates are kept.keeps.candidates);
+        (candidates-left s kept.scope no_scope old.text.list.items old.text.list.items (closed-kept s kept.scope old.text.list.items)
+        old.candidates.list.items new.candidates.list.items kept.state.candidates are kept.keeps.candidates);
     named = none-named new.text.list.items;
     single = none-single;
     unknown = λ e. refl;
@@ -528,20 +523,20 @@ kept-closed s old new kept are text = record {
 -- ## One after the other
 
 -- some were gone over, and these are left
-pub record AreGoneOver (stays : Candidate → Type 0) (at : ℕ) (old now : List Candidate) : Type 0 where
+pub record AreGoneOver (hiding : Hiding) (at : ℕ) (old now : List Candidate) : Type 0 where
   pub done : List Candidate
   pub new : List Candidate
   pub rest : List Candidate
   pub old_is : old ≡ done ++ rest
   pub now_is : now ≡ new ++ rest
   pub at_is : at ≡ length new
-  pub are : AreLeft stays done new
+  pub are : AreLeft hiding done new
 
-kept-more : (stays : Candidate → Type 0) (ks ns : List Candidate) (k n : Candidate) → AreLeft stays ks ns → IsLeft stays k n → AreLeft stays (ks ++ k ∷ []) (ns ++ n ∷ [])
-kept-more stays [] [] k n are is = (is, tt)
-kept-more stays (x ∷ ks) (y ∷ ns) k n are is = (are.0, kept-more stays ks ns k n are.1 is)
-kept-more stays [] (y ∷ ns) k n are is = absurd are
-kept-more stays (x ∷ ks) [] k n are is = absurd are
+kept-more : (hiding : Hiding) (ks ns : List Candidate) (k n : Candidate) → AreLeft hiding ks ns → IsLeft hiding k n → AreLeft hiding (ks ++ k ∷ []) (ns ++ n ∷ [])
+kept-more hiding [] [] k n are is = (is, tt)
+kept-more hiding (x ∷ ks) (y ∷ ns) k n are is = (are.0, kept-more hiding ks ns k n are.1 is)
+kept-more hiding [] (y ∷ ns) k n are is = absurd are
+kept-more hiding (x ∷ ks) [] k n are is = absurd are
 
 set-next : (xs ys : List Candidate) (k n : Candidate) → slice_set (xs ++ k ∷ ys) (length xs) n ≡ xs ++ n ∷ ys
 set-next [] ys k n = refl
@@ -552,13 +547,13 @@ get-next [] ys k other = refl
 get-next (x ∷ xs) ys k other = get-next xs ys k other
 
 -- none was
-pub none-gone : (stays : Candidate → Type 0) (old : List Candidate) → AreGoneOver stays 0 old old
-none-gone stays old = record { done = []; new = []; rest = old; old_is = refl; now_is = refl; at_is = refl; are = tt }
+pub none-gone : (hiding : Hiding) (old : List Candidate) → AreGoneOver hiding 0 old old
+none-gone hiding old = record { done = []; new = []; rest = old; old_is = refl; now_is = refl; at_is = refl; are = tt }
 
 -- the next one is there
-pub next-there : (stays : Candidate → Type 0) (at : ℕ) (old now : List Candidate) (p : AreGoneOver stays at old now) → at < length now
+pub next-there : (hiding : Hiding) (at : ℕ) (old now : List Candidate) (p : AreGoneOver hiding at old now) → at < length now
     → (k : Candidate) × (ys : List Candidate) × (p.rest ≡ k ∷ ys) × ((other : Candidate) → get_or now at other ≡ k)
-next-there stays at old now p below = go p.rest refl
+next-there hiding at old now p below = go p.rest refl
   where
     go : (l : List Candidate) → p.rest ≡ l → (k : Candidate) × (ys : List Candidate) × (p.rest ≡ k ∷ ys) × ((other : Candidate) → get_or now at other ≡ k)
     go [] e = absurd (omega (arith, below, p.at_is, ap length p.now_is, length-append p.new p.rest, ap length e))
@@ -570,30 +565,30 @@ next-there stays at old now p below = go p.rest refl
     )
 
 -- it is gone over
-pub one-gone : (stays : Candidate → Type 0) (at : ℕ) (old now after_ : List Candidate) (p : AreGoneOver stays at old now) (k n : Candidate) (ys : List Candidate) → p.rest ≡ k ∷ ys
-    → IsLeft stays k n → after_ ≡ p.new ++ n ∷ ys → AreGoneOver stays (at + 1) old after_
-one-gone stays at old now after_ p k n ys e is after_is = record {
+pub one-gone : (hiding : Hiding) (at : ℕ) (old now after_ : List Candidate) (p : AreGoneOver hiding at old now) (k n : Candidate) (ys : List Candidate) → p.rest ≡ k ∷ ys
+    → IsLeft hiding k n → after_ ≡ p.new ++ n ∷ ys → AreGoneOver hiding (at + 1) old after_
+one-gone hiding at old now after_ p k n ys e is after_is = record {
   done = p.done ++ k ∷ [];
   new = p.new ++ n ∷ [];
   rest = ys;
   old_is = p.old_is ∙ ap (λ l. p.done ++ l) e ∙ sym (append_assoc p.done (k ∷ []) ys);
   now_is = after_is ∙ sym (append_assoc p.new (n ∷ []) ys);
   at_is = omega (arith, p.at_is, length-append p.new (n ∷ []));
-  are = kept-more stays p.done p.new k n p.are is;
+  are = kept-more hiding p.done p.new k n p.are is;
 }
 
 -- put in its place
-pub set-is : (stays : Candidate → Type 0) (at : ℕ) (old now : List Candidate) (p : AreGoneOver stays at old now) (k n : Candidate) (ys : List Candidate) → p.rest ≡ k ∷ ys
+pub set-is : (hiding : Hiding) (at : ℕ) (old now : List Candidate) (p : AreGoneOver hiding at old now) (k n : Candidate) (ys : List Candidate) → p.rest ≡ k ∷ ys
     → slice_set now at n ≡ p.new ++ n ∷ ys
-set-is stays at old now p k n ys e =
+set-is hiding at old now p k n ys e =
     ap (λ l. slice_set l at n) (p.now_is ∙ ap (λ l. p.new ++ l) e) ∙ ap (λ m. slice_set (p.new ++ k ∷ ys) m n) p.at_is ∙ set-next p.new ys k n
 
 -- all are
-pub all-gone : (stays : Candidate → Type 0) (at : ℕ) (old now : List Candidate) (p : AreGoneOver stays at old now) → length now ≤ at → AreLeft stays old now
-all-gone stays at old now p over = go p.rest refl
+pub all-gone : (hiding : Hiding) (at : ℕ) (old now : List Candidate) (p : AreGoneOver hiding at old now) → length now ≤ at → AreLeft hiding old now
+all-gone hiding at old now p over = go p.rest refl
   where
-    go : (l : List Candidate) → p.rest ≡ l → AreLeft stays old now
+    go : (l : List Candidate) → p.rest ≡ l → AreLeft hiding old now
     go [] e =
-        subst (λ l. AreLeft stays l now) (sym (p.old_is ∙ ap (λ l. p.done ++ l) e ∙ append-nil p.done))
-        (subst (λ l. AreLeft stays p.done l) (sym (p.now_is ∙ ap (λ l. p.new ++ l) e ∙ append-nil p.new)) p.are)
+        subst (λ l. AreLeft hiding l now) (sym (p.old_is ∙ ap (λ l. p.done ++ l) e ∙ append-nil p.done))
+        (subst (λ l. AreLeft hiding p.done l) (sym (p.now_is ∙ ap (λ l. p.new ++ l) e ∙ append-nil p.new)) p.are)
     go (k ∷ ys) e = absurd (omega (arith, over, p.at_is, ap length p.now_is, length-append p.new p.rest, ap length e))

@@ -6,6 +6,7 @@ pub mod Elements
 mod EnclosingFunctions
 pub mod Ending
 pub mod FrontsRead
+mod FunctionsWithin
 pub mod Handed
 pub mod Kept
 mod LambdasRead

@@ -1,6 +1,6 @@
 -- The arguments of the symbol's own name, which its types may name from there on, and their texts.
 use Rattle.sym_print.specs.declared.detail.Detail.{Detail}
-use Rattle.std.proofs.Common.{◌≡◌, ◌≢◌, ℕ, ◌-◌, List, [], ◌∷◌, take, drop, reverse, Bool, Ok, true, false, Option, Some, None, is_some, nat_lt, not, ◌&&◌, ◌||◌, ◌<◌, refl, ap, sym, ◌∙◌, subst}
+use Rattle.std.proofs.Common.{◌≡◌, ◌≢◌, ℕ, ◌-◌, List, take, drop, reverse, Bool, Ok, true, false, Option, Some, None, is_some, nat_lt, not, ◌&&◌, ◌||◌, ◌<◌, refl, ap, sym, ◌∙◌, subst}
 use Rattle.std.proofs.lemmas.Bool.{false≢true, and_parts, lt-ltb, ltb-true}
 use Rattle.cpp_grammar.specs.Parts.{types_of}
 use Rattle.sym_link.specs.Unfold.{found}
@@ -19,7 +19,7 @@ use Rattle.cpp_direct.specs.declared.open.Open.{Open}
 use Rattle.cpp_direct.specs.Prints.{AreSingle, IsGiven, Named, Names, Prints, PrintsAs, PrintsGiven}
 use Rattle.cpp_direct.specs.WriterInvariant.{AreCandidates, AreNamed, HasArguments, IsCandidate, IsMadeIn, IsNaming, IsPlaced, HasSingles, IsScoped, IsSingle, Keeps, Scope, argument_of, encoding_place, no_scope, place_of, Kept}
 use Rattle.cpp_direct.specs.MidStep.{IsNameEnded, IsNameScoped}
-use Rattle.cpp_direct.proofs.Kept.{encoded-here, piece-found}
+use Rattle.cpp_direct.proofs.Kept.{candidates-as, encoded-here, piece-found}
 use Rattle.cpp_direct.proofs.MovesOfTypes.{no-pack-named, substituted-open}
 use Rattle.cpp_direct.proofs.PrintedTypes.{types-given}
 use Rattle.cpp_direct.proofs.Scopes.{arguments-named}
@@ -110,14 +110,6 @@ candidate-given s scope text k c p = record {
     go true e prints = absurd ((p.made_in e).1 refl)
     go false e prints = prints
 
--- and is the same where some may
-candidates-given : (s : Symbol) (scope : Scope) (text : List ℕ) (ks : List Candidate) (cs : List values.Candidate) → AreCandidates s no_scope text ks cs
-    → AreCandidates s scope text ks cs
-candidates-given s scope text [] [] p = tt
-candidates-given s scope text (k ∷ ks) (c ∷ cs) p = ((λ e. candidate-given s scope text k c (p.0 e)), candidates-given s scope text ks cs p.1)
-candidates-given s scope text [] (c ∷ cs) p = absurd p
-candidates-given s scope text (k ∷ ks) [] p = absurd p
-
 -- those of a name that was written may be named
 abbrev pub scope_at : (text : List ℕ) → Arguments → Scope
 scope_at text a = record { arguments = a; names = names_at text a }
@@ -137,7 +129,7 @@ scope-kept s old new kept a own names first now text candidates =
     record {
       candidates = subst (λ v. AreCandidates s scope v.list.items new.candidates.list.items kept.state.candidates) (sym text)
           (subst (λ v. AreCandidates s scope here v.list.items kept.state.candidates) (sym candidates)
-          (candidates-given s scope here old.candidates.list.items kept.state.candidates
+          (candidates-as s no_scope scope here here (candidate-given s scope here) old.candidates.list.items kept.state.candidates
           (subst (λ (k : Scope). AreCandidates s k here old.candidates.list.items kept.state.candidates) (kept.keeps.unknown first) kept.keeps.candidates)));
       named = subst (λ v. AreNamed v.list.items scope) (sym text) (named-there here a own names);
       single = λ number n e. (text-single here a number n e).0;

@@ -12,9 +12,9 @@ use Rattle.cpp_direct.specs.declared.open.Open.{Open}
 use Rattle.cpp_direct.specs.declared.open.Open.TheVariants as opens
 use Rattle.cpp_direct.specs.declared.direct.Direct.{Direct}
 use Rattle.cpp_direct.specs.Holes.{Comes, Expects, Opened}
-use Rattle.cpp_direct.specs.Marks.{mark_text}
-use Rattle.cpp_direct.specs.Prints.{Encloses, PrintsName}
-use Rattle.cpp_direct.specs.WriterInvariant.{AddressWithin, AwaitsTypeIn, HasAddressed, HasArguments, IsAddressed, IsNamedSo, ItemsGoOn, Kept, Stands, below, no_scope}
+use Rattle.cpp_direct.specs.Prints.{PrintsName}
+use Rattle.cpp_direct.specs.MidStepOfLocals.{IsLedFunctionRead}
+use Rattle.cpp_direct.specs.WriterInvariant.{AddressWithin, AwaitsTypeIn, HasAddressed, HasAddressedFront, HasArguments, IsNamedSo, ItemsGoOn, Kept, Stands, below, no_scope}
 
 -- An argument of a name is expected, for which what takes a type is open.
 pub record AwaitsArgumentOfName (s : Symbol) (w : Direct) : Type 0 where
@@ -49,11 +49,8 @@ pub record IsAddressedFrontRead (s : Symbol) (w : Direct) (mark : Mark) (to : �
   pub open kept use *
   pub rest : List Open
   pub open_is : reverse w.waiting.list.items ≡ opens.AddressedFront mark to argument ∷ rest
-  pub addressed : IsAddressed (detail_of s) scope to argument
+  pub addressed : HasAddressedFront (detail_of s) scope mark to argument
   pub open addressed use *
-  pub v : Value
-  pub named_so : IsNamedSo v own mark
-  pub returns : has_return_type own ≡ true
   pub returned : Term
   pub bytes : List ℕ
   pub written : w.text.list.items ≡ front ++ name ++ bytes
@@ -84,12 +81,5 @@ pub record IsAddressedParameterRead (s : Symbol) (w : Direct) (mark : Mark) (to 
   pub goes : ItemsGoOn s argument (AddressWithin s (below s no_scope rest) front) make ts w.at state
 
 -- Such a function was read and written, but for its qualifier.
-pub record IsAddressedRead (s : Symbol) (w : Direct) (mark : Mark) : Type 0 where
-  pub kept : Kept s w
-  pub open kept use *
-  pub e : Term
-  pub front : List ℕ
-  pub bytes : List ℕ
-  pub encloses : Encloses (detail_of s) e bytes
-  pub written : w.text.list.items ++ mark_text mark ≡ front ++ bytes
-  pub within : AddressWithin s (below s no_scope (reverse w.waiting.list.items)) front e w.at state
+abbrev pub IsAddressedRead : (s : Symbol) → (w : Direct) → Mark → Type 0
+IsAddressedRead s w mark = IsLedFunctionRead s w mark (λ front. Unit {0}) (λ scope waits. AddressWithin s (below s no_scope waits))

@@ -2,6 +2,7 @@
 use Rattle.std.specs.Prelude.{◌≡◌, ◌≢◌, ℕ, ◌+◌, List, [], ◌∷◌, ◌++◌, length, reverse, Bool, true, false, cond, Option, codes}
 use Rattle.cpp_grammar.specs.Term.{Term, within}
 use Rattle.cpp_grammar.specs.Scope.{has_return_type}
+use Rattle.cpp_grammar.specs.Values.{State}
 use Rattle.cpp_grammar.specs.Meaning.{encoding_of}
 use Rattle.cpp_direct.specs.Symbol.{detail_of, Symbol}
 use Rattle.cpp_direct.specs.declared.open.Mark.{Mark}
@@ -13,8 +14,8 @@ use Rattle.cpp_direct.specs.declared.direct.Direct.{Direct}
 use Rattle.cpp_direct.specs.Bytes.{is_local, short_numbers}
 use Rattle.cpp_direct.specs.Holes.{StandsAt}
 use Rattle.cpp_direct.specs.Marks.{mark_text}
-use Rattle.cpp_direct.specs.Prints.{IsLed, PrintsPiece, PrintAll}
-use Rattle.cpp_direct.specs.WriterInvariant.{ItemsGoOn, LambdaComes, LambdaWithin, TypeWithin, below, nowhere, Kept, HasEnclosing, IsEnclosed}
+use Rattle.cpp_direct.specs.Prints.{Encloses, IsLed, PrintsPiece, PrintAll}
+use Rattle.cpp_direct.specs.WriterInvariant.{ItemsGoOn, LambdaComes, LambdaWithin, TypeWithin, below, nowhere, Kept, HasEnclosing, Scope}
 use Rattle.cpp_direct.specs.MidStep.{IsEncodingEnded, HasNameSo}
 
 -- ## Local entities
@@ -64,14 +65,24 @@ pub record IsEnclosingParameterRead (s : Symbol) (w : Direct) (mark : Mark) (fro
   pub to_is : to ≡ length (front ++ name)
   pub goes : ItemsGoOn s nowhere (TypeWithin s (below s scope rest) front) make ts w.at state
 
--- Such a function was read and written from a place on, but for its qualifier.
-pub record IsEnclosingRead (s : Symbol) (w : Direct) (mark : Mark) (from : ℕ) : Type 0 where
+-- A function was read and written after a text of which this is so, but for its qualifier. So is this of where it was read and of what is
+-- open.
+pub record IsLedFunctionRead (s : Symbol) (w : Direct) (mark : Mark) (Leads : List ℕ → Type 0)
+    (Within : Scope → List Open → (front : List ℕ) → (e : Term) → (at : ℕ) → State → Type 0) : Type 0 where
   pub kept : Kept s w
   pub open kept use *
-  pub has : IsEnclosed (detail_of s) from
-  pub open has use *
+  pub e : Term
+  pub front : List ℕ
+  pub leads : Leads front
+  pub bytes : List ℕ
+  pub encloses : Encloses (detail_of s) e bytes
   pub written : w.text.list.items ++ mark_text mark ≡ front ++ bytes
-  pub within : TypeWithin s (below s scope (reverse w.waiting.list.items)) front e w.at state
+  pub within : Within scope (reverse w.waiting.list.items) front e w.at state
+
+-- Such a one in which a type is was, from a place on.
+abbrev pub IsEnclosingRead : (s : Symbol) → (w : Direct) → Mark → (from : ℕ) → Type 0
+IsEnclosingRead s w mark from =
+    IsLedFunctionRead s w mark (λ front. from ≡ length front) (λ scope waits. TypeWithin s (below s scope waits))
 
 -- The name of a type is expected after the E of the function that it is in, which was written from a place on.
 pub record AwaitsTypeName (s : Symbol) (w : Direct) (from : ℕ) : Type 0 where

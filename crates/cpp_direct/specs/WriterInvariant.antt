@@ -396,46 +396,49 @@ pub record HasParameters (s : Symbol) (extra : ℕ) (scope : Scope) (text : List
   pub is_function : IsFunction (detail_of s) extra scope text argument mark make ts name texts
   pub fronts : Fronts s.is_bare front start lead name
 
--- The same of a function in which a type is, from a place on. All parameters make one that has some return type, or none.
-pub record HasEnclosing (detail : Detail) (mark : Mark) (from : ℕ) (ts : List Term) (texts : List ℕ) : Type 0 where
+-- They are written after a text. All parameters make a function that has some return type, or none.
+pub record IsLedFunction (detail : Detail) (extra : ℕ) (mark : Mark) (ts : List Term) (texts : List ℕ) : Type 0 where
   pub front : List ℕ
-  pub from_is : from ≡ length front
   pub name : List ℕ
   pub own : Term
+  pub prints : PrintsName detail own name
   pub returned : Term
   pub make : Term → Term
   pub makes : (t rest : Term) → make (list t rest) ≡ function own (qualifiers (has_const mark)) (called_on mark) returned (parameters (list t rest))
-  pub prints : PrintsName detail own name
-  pub elements : PrintAllIn detail (types_of own) 6 ts texts
+  pub elements : PrintAllIn detail (types_of own) extra ts texts
 
--- Such a function with all of them was read, and these bytes are its text from a place on.
-pub record IsEnclosed (detail : Detail) (from : ℕ) : Type 0 where
-  pub e : Term
-  pub front : List ℕ
+-- They are those of a function in which a type is, from a place on.
+pub record HasEnclosing (detail : Detail) (mark : Mark) (from : ℕ) (ts : List Term) (texts : List ℕ) : Type 0 where
+  pub is_led : IsLedFunction detail 6 mark ts texts
+  pub open is_led use *
   pub from_is : from ≡ length front
-  pub bytes : List ℕ
-  pub encloses : Encloses detail e bytes
 
--- The name of a function whose address is an argument is written, up to this place, after a text. The known arguments that it ends in
--- are at their places in what is written up to there, and are those that types may name.
-pub record IsAddressed (detail : Detail) (scope : Scope) (to : ℕ) (argument : Arguments) : Type 0 where
-  pub front : List ℕ
-  pub name : List ℕ
-  pub own : Term
-  pub prints : PrintsName detail own name
+-- The name of a function whose address is an argument is written up to this place. The known arguments that it ends in are at their
+-- places in what is written up to there, and are those that types may name.
+pub record IsAddressed (detail : Detail) (scope : Scope) (to : ℕ) (argument : Arguments) (own : Term) (front name : List ℕ) : Type 0 where
   pub to_is : to ≡ length (front ++ name)
   pub given : IsGiven detail scope.names (types_of own)
   pub named : scope.arguments ≡ argument
   pub there : AreNamed (front ++ name) scope
 
--- So are the parameters so far. All parameters make a function that has some return type, or none.
+-- So are the parameters so far.
 pub record HasAddressed (detail : Detail) (scope : Scope) (mark : Mark) (to : ℕ) (argument : Arguments) (ts : List Term) (texts : List ℕ) : Type 0 where
-  pub is_addressed : IsAddressed detail scope to argument
+  pub is_led : IsLedFunction detail 3 mark ts texts
+  pub open is_led use *
+  pub is_addressed : IsAddressed detail scope to argument own front name
   pub open is_addressed use *
-  pub returned : Term
-  pub make : Term → Term
-  pub makes : (t rest : Term) → make (list t rest) ≡ function own (qualifiers (has_const mark)) (called_on mark) returned (parameters (list t rest))
-  pub elements : PrintAllIn detail (types_of own) 3 ts texts
+
+-- The name alone is, and the function has a return type.
+pub record HasAddressedFront (detail : Detail) (scope : Scope) (mark : Mark) (to : ℕ) (argument : Arguments) : Type 0 where
+  pub front : List ℕ
+  pub name : List ℕ
+  pub own : Term
+  pub prints : PrintsName detail own name
+  pub is_addressed : IsAddressed detail scope to argument own front name
+  pub open is_addressed use *
+  pub v : Value
+  pub named_so : IsNamedSo v own mark
+  pub returns : has_return_type own ≡ true
 
 -- the name of a function that has a return type, and its text
 pub record IsInstance (detail : Detail) (scope : Scope) (text : List ℕ) (argument : Arguments) (mark : Mark) (v : Value) (name : List ℕ) : Type 0 where
@@ -737,9 +740,9 @@ Stands s scope (opens.Enclosing mark from to ∷ rest) os text =
 Stands s scope (opens.Address encoding ∷ rest) os text =
     (v : Value) (at : ℕ) (st : State) → Comes s os v at st → ItemsOf s encoding (AddressWithin s (outside scope rest (Stands s scope rest)) text) v at st
 Stands s scope (opens.AddressedFront mark to argument ∷ rest) os text =
-    (a : IsAddressed (detail_of s) scope to argument) × (v : Value) × IsNamedSo v a.own mark × (has_return_type a.own ≡ true) × (text ≡ a.front ++ a.name)
+    (a : HasAddressedFront (detail_of s) scope mark to argument) × (text ≡ a.front ++ a.name)
     × ((t : Term) (at : ℕ) (st : State) → Comes s os (tree t true) at st
-    → ItemsGoOn s argument (AddressWithin s (outside no_scope rest (Stands s no_scope rest)) a.front) (λ l. encoding_of v l) (t ∷ []) at st)
+    → ItemsGoOn s argument (AddressWithin s (outside no_scope rest (Stands s no_scope rest)) a.front) (λ l. encoding_of a.v l) (t ∷ []) at st)
 Stands s scope (opens.Addressed mark to argument ∷ rest) os text =
     (ts : List Term) × (texts : List ℕ) × (h : HasAddressed (detail_of s) scope mark to argument ts texts)
     × (text ≡ h.front ++ h.name ++ codes "(" ++ in_front_of_next ts texts)

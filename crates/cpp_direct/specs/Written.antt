@@ -2,6 +2,8 @@
 use Rattle.std.specs.Prelude.{◌≡◌, ◌⊎◌, ℕ, List, [], ◌∷◌, ◌++◌, length, drop, Bool, true, false, ◌≤◌}
 use Rattle.cpp_direct.specs.declared.open.Argument.{Argument}
 use Rattle.cpp_direct.specs.declared.open.Candidate.{Candidate}
+use Rattle.cpp_direct.specs.declared.open.Hiding.{Hiding}
+use Rattle.cpp_direct.specs.declared.open.Hiding.TheVariants as hidings
 use Rattle.cpp_direct.specs.declared.direct.Direct.{Direct}
 
 -- a text was written, and nothing else changed
@@ -49,23 +51,20 @@ with_argument w argument =
 abbrev pub hidden : Candidate
 hidden = record { from = 1; to = 0; is_reference = false; is_dependent = false }
 
--- a candidate is what it was, and is one that stays so, or it is nowhere
-abbrev pub IsLeft : (stays : Candidate → Type 0) → (old new : Candidate) → Type 0
-IsLeft stays old new = ((new ≡ old) × stays old) ⊎ (new ≡ hidden)
+-- a candidate stays what it was
+abbrev pub Stays : Hiding → Candidate → Type 0
+Stays (hidings.After to) k = k.to ≤ to
+Stays hidings.Dependent k = k.is_dependent ≡ false
+
+-- it is what it was and stays so, or it is nowhere
+abbrev pub IsLeft : Hiding → (old new : Candidate) → Type 0
+IsLeft hiding old new = ((new ≡ old) × Stays hiding old) ⊎ (new ≡ hidden)
 
 -- each of them is
-abbrev pub AreLeft : (stays : Candidate → Type 0) → (old new : List Candidate) → Type 0
-AreLeft stays [] [] = Unit {0}
-AreLeft stays (k ∷ ks) (n ∷ ns) = IsLeft stays k n × AreLeft stays ks ns
-AreLeft stays _ _ = ⊥
-
--- its text ends by a place
-abbrev pub EndsBy : (to : ℕ) → Candidate → Type 0
-EndsBy to k = k.to ≤ to
-
--- it names no arguments
-abbrev pub IsClosed : Candidate → Type 0
-IsClosed k = k.is_dependent ≡ false
+abbrev pub AreLeft : Hiding → (old new : List Candidate) → Type 0
+AreLeft hiding [] [] = Unit {0}
+AreLeft hiding (k ∷ ks) (n ∷ ns) = IsLeft hiding k n × AreLeft hiding ks ns
+AreLeft hiding _ _ = ⊥
 
 -- the candidates, and such a one for a function type and for the pointer to it
 abbrev pub with_hidden : Direct → (is_pointer : Bool) → List Candidate

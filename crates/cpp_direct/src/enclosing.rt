@@ -132,17 +132,16 @@ impl Direct {
         if self.text.as_slice().ends_with(b"(void") {
             return None;
         }
+        let _open = self.waiting.pop();
         if G::IS_BARE {
             // the arguments that types may name stay where they are
             if self.has_scope {
                 return None;
             }
-            let _named = self.waiting.pop();
             self.leave_out(to)?;
             return self.enclosed::<G>(s, from);
         }
         self.push_byte(b')')?;
-        let _open = self.waiting.pop();
         self.enclosing_ended::<G>(s, mark, from)
     }
 

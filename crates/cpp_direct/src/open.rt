@@ -10,6 +10,15 @@ pub struct Candidate {
     pub is_dependent: bool,
 }
 
+/// Which candidates have no text any more.
+#[derive(Clone, Copy)]
+pub enum Hiding {
+    /// those that end after this place
+    After { to: u32 },
+    /// those that name arguments of the function's template
+    Dependent,
+}
+
 /// An argument of a name, or an element of a pack, and where its text is in what is written.
 #[derive(Clone, Copy)]
 pub struct Argument {

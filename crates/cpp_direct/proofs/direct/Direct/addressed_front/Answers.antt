@@ -1,13 +1,15 @@
 use Rattle.std.proofs.Common.{refl}
 use Rattle.cpp_direct.specs.Symbol.{symbol_by}
 use Rattle.cpp_direct.specs.declared.open.Open.TheVariants as opens
-use Rattle.cpp_direct.proofs.AddressesRead.{front-cut, front-inside}
+use Rattle.cpp_direct.proofs.AddressesRead.{front-cut}
+use Rattle.cpp_direct.proofs.FunctionsWithin.{name-inside}
 use Rattle.cpp_direct.proofs.TypesRead.{popped}
 use Rattle.cpp_direct.proofs.direct.Direct.addressed_front.Goals as goal
 
 pub leave_out-requires : goal.leave_out-requires
 leave_out-requires g c =
-    record { within = front-inside (symbol_by g.G.Grammar.IS_WIDE g.G.Grammar.IS_BARE g.G.Grammar.IS_BRIEF c.args.s.now) c.args.self.now c.args.mark c.args.to c.args.argument c.requires.read }
+    let p = c.requires.read in
+    record { within = name-inside c.args.self.now.text.list.items p.front p.name p.bytes c.args.to p.written p.to_is }
 
 pub addressed_parameters-requires-clause-awaits : goal.addressed_parameters-requires-clause-awaits
 addressed_parameters-requires-clause-awaits g c =
