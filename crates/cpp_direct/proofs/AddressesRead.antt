@@ -282,13 +282,13 @@ front-cut s w shut new mark to argument p same_text same_candidates same_scope s
       written = left_is;
       goes = subst (λ ws. ItemsGoOn s argument (AddressWithin s (below s no_scope ws) p.front) (λ l. encoding_of p.v (list r l)) [] new.at p.state)
           (sym (ap (λ v. reverse v.list.items) waiting ∙ waits)) (record {
-        around = p.goes.around;
-        inner = p.goes.inner;
-        outside = p.goes.outside;
-        scoped = p.goes.scoped;
-        awaits = subst (λ n. Expects s Kind.Items p.goes.around p.goes.inner n p.state) (sym (at ∙ same_at)) p.goes.awaits;
-        onward = p.goes.onward;
-      });
+            around = p.goes.around;
+            inner = p.goes.inner;
+            outside = p.goes.outside;
+            scoped = p.goes.scoped;
+            awaits = subst (λ n. Expects s Kind.Items p.goes.around p.goes.inner n p.state) (sym (at ∙ same_at)) p.goes.awaits;
+            onward = p.goes.onward;
+          });
     }
 
 -- ## Parameters

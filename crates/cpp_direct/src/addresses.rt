@@ -96,11 +96,8 @@ impl Direct {
         if !self.is_function_instance() {
             return self.addressed_parameters::<G>(s, mark, to, argument);
         }
-        self.waiting.push(Open::AddressedFront {
-            mark,
-            to,
-            argument,
-        })?;
+        self.waiting
+            .push(Open::AddressedFront { mark, to, argument })?;
         Some(Step::Type)
     }
 
@@ -145,11 +142,7 @@ impl Direct {
             return self.addressed_marked::<G>(s, mark);
         }
         self.push_byte(b'(')?;
-        self.waiting.push(Open::Addressed {
-            mark,
-            to,
-            argument,
-        })?;
+        self.waiting.push(Open::Addressed { mark, to, argument })?;
         Some(Step::Type)
     }
 

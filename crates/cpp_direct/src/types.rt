@@ -290,8 +290,9 @@ impl Direct {
             Open::Signature { is_pointer } => self.parameter_at::<G>(s, is_pointer, false),
             Open::Array { access, from, to } => self.array_ended::<G>(s, access, from, to),
             Open::Enclosing { mark, from, to } => self.enclosing_parameter::<G>(s, mark, from, to),
-            Open::AddressedFront { mark, to, argument } =>
-                self.addressed_front::<G>(s, mark, to, argument),
+            Open::AddressedFront { mark, to, argument } => self.addressed_front::<G>(
+                s, mark, to, argument,
+            ),
             Open::Addressed { mark, to, .. } => self.addressed_parameter::<G>(s, mark, to),
             Open::Address { .. } => None,
             Open::Lambda { from } => self.lambda_parameter::<G>(s, from),
@@ -321,8 +322,9 @@ impl Direct {
     {
         let entry = *self.waiting.as_slice().last()?;
         match entry {
-            Open::AddressedFront { mark, to, argument } =>
-                self.addressed_front::<G>(s, mark, to, argument),
+            Open::AddressedFront { mark, to, argument } => self.addressed_front::<G>(
+                s, mark, to, argument,
+            ),
             Open::Addressed { mark, to, .. } => self.addressed_parameter::<G>(s, mark, to),
             _ => self.note_dependent::<G>(s),
         }
