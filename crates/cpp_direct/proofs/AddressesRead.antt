@@ -22,12 +22,13 @@ use Rattle.cpp_direct.specs.declared.direct.Direct.{Direct}
 use Rattle.cpp_direct.specs.Holes.{Opened, StandsAt, Comes, Expects}
 use Rattle.cpp_direct.specs.HolesOfLists.{mark_letters, nest_marks}
 use Rattle.cpp_direct.specs.Marks.{IsMarkPlace, has_const, called_on, mark_text}
-use Rattle.cpp_direct.specs.Prints.{IsElementIn, Shows, Encloses, list_of}
-use Rattle.cpp_direct.specs.WriterInvariant.{AddressWithin, AreNamed, Below, HasAddressed, HasArguments, HasScope, IsAddressed, IsNamedSo, IsNesting, IsOwn, IsTypeRead, IsWriting, ItemsGoOn, ItemsOf, Keeps, Kept, Scope, Serves, Stands, below, in_front_of_next, no_scope, qualifiers}
+use Rattle.cpp_direct.specs.Prints.{IsElementIn, Encloses, list_of}
+use Rattle.cpp_direct.specs.WriterInvariant.{AddressWithin, AreNamed, Below, HasAddressed, HasArguments, IsAddressed, IsNamedSo, IsNesting, IsOwn, IsTypeRead, IsWriting, ItemsGoOn, ItemsOf, Kept, Scope, Serves, Stands, below, in_front_of_next, no_scope, qualifiers}
 use Rattle.cpp_direct.specs.MidStepOfAddresses.{AwaitsAddressedParameters, AwaitsArgumentOfName, IsAddressNamed, IsAddressedFrontRead, IsAddressedParameterRead, IsAddressedRead}
 use Rattle.cpp_direct.specs.MidStep.{AwaitsNest}
 use Rattle.cpp_direct.specs.Written.{AreLeft, EndsBy, IsClosed, Writes}
-use Rattle.cpp_direct.proofs.Ending.{behind-two, behind-three, behind-five, next-written, parameter-goes_on, plain-text, types-scoped, void-read}
+use Rattle.cpp_direct.proofs.Ending.{behind-three, behind-five, next-written, parameter-goes_on, types-scoped, void-read}
+use Rattle.cpp_direct.proofs.EnclosingFunctions.{bare-enclosing, list-enclosing, void-enclosing}
 use Rattle.cpp_direct.proofs.Kept.{front-left, kept-closed, kept-cut, kept-same, kept-written, reverse-last, type-comes, value-comes}
 use Rattle.cpp_direct.proofs.Listed.{last-found, some-elements}
 use Rattle.cpp_direct.proofs.Moves.{expects-empty, stands-join, stands-split}
@@ -35,11 +36,10 @@ use Rattle.cpp_direct.proofs.MovesOfEncodings.{encoding-opens, name-nested}
 use Rattle.cpp_direct.proofs.MovesOfLists.{address-opens, element-awaits}
 use Rattle.cpp_direct.proofs.NamedArguments.{arguments-given, named-there, scope_at, scope-kept}
 use Rattle.cpp_direct.proofs.Nesting.{nest-comes, closed-prints}
-use Rattle.cpp_direct.proofs.PrintedLists.{list-in, list-with-none, next-prints-in, none-print-in, type-in}
-use Rattle.cpp_direct.proofs.PrintedParts.{has-none, has-parameters}
-use Rattle.cpp_direct.proofs.PrintedLocals.{address-prints, function-encloses, name-encloses, returned-enclosing}
+use Rattle.cpp_direct.proofs.PrintedLists.{list-with-none, next-prints-in, none-print-in, type-in}
+use Rattle.cpp_direct.proofs.PrintedLocals.{address-prints}
 use Rattle.cpp_direct.proofs.PrintedNames.{as-name}
-use Rattle.cpp_direct.proofs.PrintedSymbols.{encoding-plain, function-shows, encoding-returned, parameters-kept, void-shows, made-void, made-with}
+use Rattle.cpp_direct.proofs.PrintedSymbols.{encoding-plain, encoding-returned, parameters-kept, made-void, made-with}
 use Rattle.cpp_direct.proofs.PrintedTypes.{as-in}
 use Rattle.cpp_direct.proofs.Scopes.{addressed-front-scoped, addressed-scoped, arguments-named, member-named}
 
@@ -407,16 +407,10 @@ void-addressed s w here new mark to argument p stands text candidates waiting sc
     let f = p.has in
     let b = p.name in
     let q = mark_text mark in
-    let e = p.make (list_of (builtin (118 ∷ []) ∷ [])) in
-    let shows : Shows (detail_of s) (function f.own (qualifiers (has_const mark)) (called_on mark) absent nil) (b ++ codes "()" ++ q) =
-    subst (λ l. Shows (detail_of s) (function f.own (qualifiers (has_const mark)) (called_on mark) absent nil) (b ++ codes "()" ++ l)) (plain-text mark)
-    (void-shows (has-parameters s whole) f.own b f.prints (qualifiers (has_const mark)) (called_on mark)) in
-    addressed-read s new mark (w.at + 1) (kept-written s here new (codes "()") one (kept-same s w here text candidates scope p.kept)) e p.front
+    addressed-read s new mark (w.at + 1) (kept-written s here new (codes "()") one (kept-same s w here text candidates scope p.kept)) (p.make (list_of (builtin (118 ∷ []) ∷ []))) p.front
     (b ++ codes "()" ++ q)
     (ap (λ l. l ++ q) (one.text ∙ ap (λ v. v.list.items ++ codes "()") text ∙ ap (λ l. l ++ codes "()") p.written) ∙ behind-three p.front b (codes "()") q)
-    (subst (λ t. Encloses (detail_of s) t (b ++ codes "()" ++ q)) (sym (made-void f.own f.returned mark p.make f.makes))
-    (returned-enclosing (detail_of s) f.own (qualifiers (has_const mark)) (called_on mark) f.returned nil (b ++ codes "()" ++ q)
-    (function-encloses (detail_of s) f.own (qualifiers (has_const mark)) (called_on mark) nil (b ++ codes "()" ++ q) shows)))
+    (void-enclosing s f.own b f.prints mark f.returned p.make f.makes whole)
     (ap (λ v. reverse v.list.items) (one.waiting ∙ waiting)) (one.at ∙ at)
     (void-read s argument (AddressWithin s (below s no_scope (reverse w.waiting.list.items)) p.front) p.make w.at p.state p.goes stands)
 
@@ -428,8 +422,7 @@ void-unshown s w here mark to argument p stands text candidates waiting scope at
     let f = p.has in
     addressed-read s here marks.Plain (w.at + 1) (kept-same s w here text candidates scope p.kept) (p.make (list_of (builtin (118 ∷ []) ∷ []))) p.front p.name
     (append-nil here.text.list.items ∙ ap (λ v. v.list.items) text ∙ p.written)
-    (subst (λ t. Encloses (detail_of s) t p.name) (sym (made-void f.own f.returned mark p.make f.makes))
-    (name-encloses (has-none s bare) f.own p.name f.prints (qualifiers (has_const mark)) (called_on mark) f.returned nil))
+    (bare-enclosing s f.own p.name f.prints mark f.returned nil (p.make (list_of (builtin (118 ∷ []) ∷ []))) (made-void f.own f.returned mark p.make f.makes) bare)
     (ap (λ v. reverse v.list.items) waiting) at
     (void-read s argument (AddressWithin s (below s no_scope (reverse w.waiting.list.items)) p.front) p.make w.at p.state p.goes stands)
 
@@ -455,16 +448,9 @@ function-addressed s w shut last mark to p apart text candidates scope_same at w
     let q = mark_text mark in
     let bytes = b ++ codes "(" ++ l ++ codes ")" ++ q in
     let end = parameters-end s w mark to p apart in
-    let shows : Shows (detail_of s) (function f.own (qualifiers (has_const mark)) (called_on mark) absent (list_of p.ts)) bytes =
-    subst (λ x. Shows (detail_of s) (function f.own (qualifiers (has_const mark)) (called_on mark) absent (list_of p.ts)) (b ++ codes "(" ++ l ++ codes ")" ++ x))
-    (plain-text mark)
-    (function-shows (has-parameters s whole) f.own b f.prints (list_of p.ts) l (list-in (detail_of s) (types_of f.own) 3 p.ts l (omega arith) f.elements)
-    (qualifiers (has_const mark)) (called_on mark)) in
     addressed-read s last mark w.at (kept-written s shut last (codes ")") one (kept-same s w shut text candidates scope_same p.kept)) (p.make (list_of p.ts)) p.front bytes
     (ap (λ x. x ++ q) (one.text ∙ ap (λ v. v.list.items ++ codes ")") text ∙ ap (λ x. x ++ codes ")") p.written) ∙ behind-five p.front b (codes "(") l (codes ")") q)
-    (subst (λ t. Encloses (detail_of s) t bytes) (sym end.0)
-    (returned-enclosing (detail_of s) f.own (qualifiers (has_const mark)) (called_on mark) f.returned (list_of p.ts) bytes
-    (function-encloses (detail_of s) f.own (qualifiers (has_const mark)) (called_on mark) (list_of p.ts) bytes shows)))
+    (list-enclosing s f.own b f.prints mark f.returned 3 (omega arith) p.ts l f.elements (p.make (list_of p.ts)) end.0 whole)
     (ap (λ v. reverse v.list.items) one.waiting ∙ waits) (one.at ∙ at) end.1
 
 -- the name is within what is written
@@ -489,8 +475,7 @@ function-unshown s w shut new mark to p apart same_text same_candidates same_sco
     (subst (λ v. AreLeft (EndsBy to) v.list.items new.candidates.list.items) same_candidates are) (scope_same ∙ same_scope) p.there in
     addressed-read s new marks.Plain w.at kept_ (p.make (list_of p.ts)) p.front p.name
     (append-nil new.text.list.items ∙ left_is)
-    (subst (λ t. Encloses (detail_of s) t p.name) (sym end.0)
-    (name-encloses (has-none s bare) f.own p.name f.prints (qualifiers (has_const mark)) (called_on mark) f.returned (list_of p.ts)))
+    (bare-enclosing s f.own p.name f.prints mark f.returned (list_of p.ts) (p.make (list_of p.ts)) end.0 bare)
     (ap (λ v. reverse v.list.items) waiting ∙ waits) (at ∙ same_at) end.1
 
 -- its qualifiers are written

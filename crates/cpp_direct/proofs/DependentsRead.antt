@@ -13,7 +13,7 @@ use Rattle.cpp_direct.proofs.NamedArguments.{again-substituted, named-here}
 use Rattle.cpp_direct.specs.declared.open.Mark.{Mark}
 use Rattle.cpp_direct.specs.HolesOfTypes.{as_const}
 use Rattle.cpp_direct.specs.Holes.{Opened, StandsAt, Comes, candidate, with_candidate, Expects, IsReferable, IsTyped}
-use Rattle.cpp_direct.specs.Prints.{IsMarkedBy, Names, PrintsAs, PrintsGiven, PrintsMade, PrintAllBy, list_of, made_by, pattern_letters}
+use Rattle.cpp_direct.specs.Prints.{IsMarkedBy, PrintsAs, PrintsGiven, PrintsMade, PrintAllBy, list_of, made_by, pattern_letters}
 use Rattle.cpp_direct.specs.WriterInvariant.{AreCandidates, EncodedBehind, IsAmong, IsKnown, IsPackOf, IsPackThere, IsPlaced, IsScope, Scope, IsSingle, IsWriting, ParametersGoOn, argument_of, in_front_of_next, place_of, Kept}
 use Rattle.cpp_direct.specs.MidStep.{AwaitsType, AreParametersRead, IsFunctionEnded, IsNamedAgain, parameter_digits, AreExpanded, comma_text, expansion_letters, separator}
 use Rattle.cpp_direct.specs.Written.{Writes, added, hidden, with_argument}

@@ -2,7 +2,6 @@
 use Rattle.std.proofs.Common.{◌≡◌, ◌≢◌, refl, ap, sym, ◌∙◌, subst, inl, inr, ℕ, ◌+◌, List, [], ◌∷◌, ◌++◌, length, reverse, take, ◌≤◌, true, false, Option, None, Some, arith, codes, length-append, append-nil, append_assoc, Bool}
 use Rattle.std.specs.Prelude.{decimal}
 use Rattle.std.proofs.lemmas.Bool.{false≢true}
-use Rattle.std.proofs.Math.Seq.{take-append_seam}
 use Rattle.std.proofs.lemmas.Fmt.{decimal_digit}
 use Rattle.cpp_grammar.specs.declared.kind.Kind.{Kind}
 use Rattle.cpp_grammar.specs.Grammar.{may_be_empty}
@@ -14,7 +13,7 @@ use Rattle.cpp_grammar.specs.Scope.{has_return_type, arguments_of}
 use Rattle.cpp_grammar.specs.References.{is_function_type}
 use Rattle.cpp_grammar.specs.Values.{State, Value, local_number, nothing_there, tree, named, tree_of}
 use Rattle.cpp_grammar.specs.Between.{after, in_name, in_types, no_items}
-use Rattle.cpp_grammar.specs.Meaning.{encoding_of}
+use Rattle.cpp_grammar.specs.Meaning.{encoding_of, parameters}
 use Rattle.cpp_direct.specs.declared.marks.MarkPlace.{MarkPlace}
 use Rattle.cpp_direct.specs.declared.open.Mark.{Mark}
 use Rattle.cpp_direct.specs.declared.open.Mark.TheVariants as marks
@@ -29,7 +28,7 @@ use Rattle.cpp_direct.specs.HolesOfLists.{mark_letters, nest_marks}
 use Rattle.cpp_direct.specs.HolesOfLocals.{Discriminator, IsDiscriminatorAt, IsLambdaDigit, IsPieceAt, lambda_digits, lambda_ending, lambda_number, lambda_with, local_in}
 use Rattle.cpp_direct.specs.Bytes.{short_numbers}
 use Rattle.cpp_direct.specs.Marks.{IsMarkPlace, has_const, called_on, mark_text}
-use Rattle.cpp_direct.specs.Prints.{Prints, PrintsName, PrintsPiece, Shows, Encloses, list_of}
+use Rattle.cpp_direct.specs.Prints.{Prints, PrintAllIn, PrintsName, PrintsPiece, Shows, Encloses, list_of}
 use Rattle.cpp_direct.specs.WriterInvariant.{AreNamed, Below, IsNesting, IsOwn, IsWriting, ItemsGoOn, LambdaWithin, Scope, Serves, Stands, TypeWithin, below, in_front_of_next, nowhere, qualifiers, Kept, HasEnclosing}
 use Rattle.cpp_direct.specs.MidStep.{AwaitsNamedType, AwaitsNest, IsElementRead}
 use Rattle.cpp_direct.specs.MidStepOfLocals.{AwaitsEnclosingParameters, AwaitsTypeName, IsEnclosingNamed, IsEnclosingParameterRead, IsEnclosingRead, IsLambdaParameterRead}
@@ -291,6 +290,44 @@ parameter-read-within s w mark from to p =
       goes = waits.4 p.read.own w.at p.read.state p.read.comes;
     }
 
+-- ## Functions before what is in them
+
+-- one with a lone void
+pub void-enclosing : (s : Symbol) (own : Term) (b : List ℕ) → PrintsName (detail_of s) own b → (mark : Mark) (returned : Term) (make : Term → Term)
+    → ((t rest : Term) → make (list t rest) ≡ function own (qualifiers (has_const mark)) (called_on mark) returned (parameters (list t rest)))
+    → s.is_bare ≡ false → Encloses (detail_of s) (make (list_of (builtin (118 ∷ []) ∷ []))) (b ++ codes "()" ++ mark_text mark)
+void-enclosing s own b prints mark returned make makes whole =
+    let q = mark_text mark in
+    let shows : Shows (detail_of s) (function own (qualifiers (has_const mark)) (called_on mark) absent nil) (b ++ codes "()" ++ q) =
+    subst (λ l. Shows (detail_of s) (function own (qualifiers (has_const mark)) (called_on mark) absent nil) (b ++ codes "()" ++ l)) (plain-text mark)
+    (void-shows (has-parameters s whole) own b prints (qualifiers (has_const mark)) (called_on mark)) in
+    subst (λ t. Encloses (detail_of s) t (b ++ codes "()" ++ q)) (sym (made-void own returned mark make makes))
+    (returned-enclosing (detail_of s) own (qualifiers (has_const mark)) (called_on mark) returned nil (b ++ codes "()" ++ q)
+    (function-encloses (detail_of s) own (qualifiers (has_const mark)) (called_on mark) nil (b ++ codes "()" ++ q) shows))
+
+-- one with these parameters
+pub list-enclosing : (s : Symbol) (own : Term) (b : List ℕ) → PrintsName (detail_of s) own b → (mark : Mark) (returned : Term) (extra : ℕ) → extra ≤ 6
+    → (ts : List Term) (l : List ℕ) → PrintAllIn (detail_of s) (types_of own) extra ts l → (e : Term)
+    → e ≡ function own (qualifiers (has_const mark)) (called_on mark) returned (list_of ts) → s.is_bare ≡ false
+    → Encloses (detail_of s) e (b ++ codes "(" ++ l ++ codes ")" ++ mark_text mark)
+list-enclosing s own b prints mark returned extra few ts l elements e is whole =
+    let bytes = b ++ codes "(" ++ l ++ codes ")" ++ mark_text mark in
+    let shows : Shows (detail_of s) (function own (qualifiers (has_const mark)) (called_on mark) absent (list_of ts)) bytes =
+    subst (λ x. Shows (detail_of s) (function own (qualifiers (has_const mark)) (called_on mark) absent (list_of ts)) (b ++ codes "(" ++ l ++ codes ")" ++ x))
+    (plain-text mark)
+    (function-shows (has-parameters s whole) own b prints (list_of ts) l (list-in (detail_of s) (types_of own) extra ts l few elements)
+    (qualifiers (has_const mark)) (called_on mark)) in
+    subst (λ t. Encloses (detail_of s) t bytes) (sym is)
+    (returned-enclosing (detail_of s) own (qualifiers (has_const mark)) (called_on mark) returned (list_of ts) bytes
+    (function-encloses (detail_of s) own (qualifiers (has_const mark)) (called_on mark) (list_of ts) bytes shows))
+
+-- one that is shown by its name alone
+pub bare-enclosing : (s : Symbol) (own : Term) (b : List ℕ) → PrintsName (detail_of s) own b → (mark : Mark) (returned items e : Term)
+    → e ≡ function own (qualifiers (has_const mark)) (called_on mark) returned items → s.is_bare ≡ true → Encloses (detail_of s) e b
+bare-enclosing s own b prints mark returned items e is bare =
+    subst (λ t. Encloses (detail_of s) t b) (sym is)
+    (name-encloses (has-none s bare) own b prints (qualifiers (has_const mark)) (called_on mark) returned items)
+
 -- ## Ends
 
 -- a function in which a type is was read, and the type is within it
@@ -335,16 +372,10 @@ void-within s w here new mark from p stands text candidates waiting scope at one
     let f = p.has in
     let b = p.name in
     let q = mark_text mark in
-    let e = p.make (list_of (builtin (118 ∷ []) ∷ [])) in
-    let shows : Shows (detail_of s) (function f.own (qualifiers (has_const mark)) (called_on mark) absent nil) (b ++ codes "()" ++ q) =
-    subst (λ l. Shows (detail_of s) (function f.own (qualifiers (has_const mark)) (called_on mark) absent nil) (b ++ codes "()" ++ l)) (plain-text mark)
-    (void-shows (has-parameters s whole) f.own b f.prints (qualifiers (has_const mark)) (called_on mark)) in
-    enclosing-read s new mark from (w.at + 1) (kept-written s here new (codes "()") one (kept-same s w here text candidates scope p.kept)) e p.front
+    enclosing-read s new mark from (w.at + 1) (kept-written s here new (codes "()") one (kept-same s w here text candidates scope p.kept)) (p.make (list_of (builtin (118 ∷ []) ∷ []))) p.front
     (b ++ codes "()" ++ q)
     (ap (λ l. l ++ q) (one.text ∙ ap (λ v. v.list.items ++ codes "()") text ∙ ap (λ l. l ++ codes "()") p.written) ∙ behind-three p.front b (codes "()") q) p.from_is
-    (subst (λ t. Encloses (detail_of s) t (b ++ codes "()" ++ q)) (sym (made-void f.own f.returned mark p.make f.makes))
-    (returned-enclosing (detail_of s) f.own (qualifiers (has_const mark)) (called_on mark) f.returned nil (b ++ codes "()" ++ q)
-    (function-encloses (detail_of s) f.own (qualifiers (has_const mark)) (called_on mark) nil (b ++ codes "()" ++ q) shows)))
+    (void-enclosing s f.own b f.prints mark f.returned p.make f.makes whole)
     (ap (λ v. reverse v.list.items) (one.waiting ∙ waiting)) (one.at ∙ at)
     (void-read s nowhere (TypeWithin s (below s p.scope (reverse w.waiting.list.items)) p.front) p.make w.at p.state p.goes stands)
 
@@ -356,8 +387,7 @@ void-unwritten s w here mark from p stands text candidates waiting scope at bare
     let f = p.has in
     enclosing-read s here marks.Plain from (w.at + 1) (kept-same s w here text candidates scope p.kept) (p.make (list_of (builtin (118 ∷ []) ∷ []))) p.front p.name
     (append-nil here.text.list.items ∙ ap (λ v. v.list.items) text ∙ p.written) p.from_is
-    (subst (λ t. Encloses (detail_of s) t p.name) (sym (made-void f.own f.returned mark p.make f.makes))
-    (name-encloses (has-none s bare) f.own p.name f.prints (qualifiers (has_const mark)) (called_on mark) f.returned nil))
+    (bare-enclosing s f.own p.name f.prints mark f.returned nil (p.make (list_of (builtin (118 ∷ []) ∷ []))) (made-void f.own f.returned mark p.make f.makes) bare)
     (ap (λ v. reverse v.list.items) waiting) at
     (void-read s nowhere (TypeWithin s (below s p.scope (reverse w.waiting.list.items)) p.front) p.make w.at p.state p.goes stands)
 
@@ -383,16 +413,9 @@ function-within s w last new mark from to p apart one text candidates scope at w
     let q = mark_text mark in
     let bytes = b ++ codes "(" ++ l ++ codes ")" ++ q in
     let end = parameters-end s w mark from to p apart in
-    let shows : Shows (detail_of s) (function f.own (qualifiers (has_const mark)) (called_on mark) absent (list_of p.ts)) bytes =
-    subst (λ x. Shows (detail_of s) (function f.own (qualifiers (has_const mark)) (called_on mark) absent (list_of p.ts)) (b ++ codes "(" ++ l ++ codes ")" ++ x))
-    (plain-text mark)
-    (function-shows (has-parameters s whole) f.own b f.prints (list_of p.ts) l (list-in (detail_of s) (types_of f.own) 6 p.ts l (omega arith) f.elements)
-    (qualifiers (has_const mark)) (called_on mark)) in
     enclosing-read s new mark from w.at (kept-same s last new text candidates scope (kept-written s w last (codes ")") one p.kept)) (p.make (list_of p.ts)) p.front bytes
     (ap (λ x. x ++ q) (ap (λ v. v.list.items) text ∙ one.text ∙ ap (λ x. x ++ codes ")") p.written) ∙ behind-five p.front b (codes "(") l (codes ")") q) p.from_is
-    (subst (λ t. Encloses (detail_of s) t bytes) (sym end.0)
-    (returned-enclosing (detail_of s) f.own (qualifiers (has_const mark)) (called_on mark) f.returned (list_of p.ts) bytes
-    (function-encloses (detail_of s) f.own (qualifiers (has_const mark)) (called_on mark) (list_of p.ts) bytes shows)))
+    (list-enclosing s f.own b f.prints mark f.returned 6 (omega arith) p.ts l f.elements (p.make (list_of p.ts)) end.0 whole)
     waits (at ∙ one.at) end.1
 
 -- what was written after its name is taken away, where functions are shown by their names alone
@@ -413,8 +436,7 @@ function-unwritten s w shut new mark from to p apart unknown same_text same_cand
     (subst (λ v. AreLeft (EndsBy to) v.list.items new.candidates.list.items) same_candidates kept) scope_same named in
     enclosing-read s new marks.Plain from w.at kept_ (p.make (list_of p.ts)) p.front p.name
     (append-nil new.text.list.items ∙ left_is) p.from_is
-    (subst (λ t. Encloses (detail_of s) t p.name) (sym end.0)
-    (name-encloses (has-none s bare) f.own p.name f.prints (qualifiers (has_const mark)) (called_on mark) f.returned (list_of p.ts)))
+    (bare-enclosing s f.own p.name f.prints mark f.returned (list_of p.ts) (p.make (list_of p.ts)) end.0 bare)
     (ap (λ v. reverse v.list.items) waiting ∙ waits) (at ∙ same_at) end.1
 
 -- the name is within what is written

@@ -21,7 +21,7 @@ use Rattle.cpp_direct.specs.WriterInvariant.{AreCandidates, AreNamed, HasArgumen
 use Rattle.cpp_direct.specs.MidStep.{IsNameEnded, IsNameScoped}
 use Rattle.cpp_direct.proofs.Kept.{encoded-here, piece-found}
 use Rattle.cpp_direct.proofs.MovesOfTypes.{no-pack-named, substituted-open}
-use Rattle.cpp_direct.proofs.PrintedTypes.{given-more, types-given}
+use Rattle.cpp_direct.proofs.PrintedTypes.{types-given}
 use Rattle.cpp_direct.proofs.Scopes.{arguments-named}
 
 -- ## Their texts

@@ -18,7 +18,7 @@ use Rattle.cpp_direct.specs.Bytes.{is_builtin}
 use Rattle.cpp_direct.specs.Holes.{Opened, StandsAt, Comes, Expects, candidate, with_candidate, IsReferable}
 use Rattle.cpp_direct.specs.HolesOfFunctions.{SignatureGoesOn, plain_function, pointed, with_pointed, reference, reference_letter, FunctionOpened}
 use Rattle.cpp_direct.specs.HolesOfTypes.{NoReference, IsQualifiable}
-use Rattle.cpp_direct.specs.Prints.{Names, PrintAll, IsElement}
+use Rattle.cpp_direct.specs.Prints.{PrintAll, IsElement}
 use Rattle.cpp_direct.specs.WriterInvariant.{below, IsScoped, AreCandidates, IsWriting, Marks, Scope, Stands, TakesFunction, opening_text, list_with}
 use Rattle.cpp_direct.specs.MidStep.{AwaitsParameter, AwaitsSignature, IsElementPassed, IsFunctionRead, IsReturned, IsArrayRead, IsElementRead, ElementOf}
 use Rattle.cpp_direct.specs.Written.{Writes, hidden, with_hidden}

@@ -11,6 +11,7 @@ pub mod Letters
 pub mod Marks
 pub mod Names
 pub mod Prints
+pub mod Scoping
 pub mod WriterInvariant
 pub mod Symbol
 pub mod MidStep

@@ -1,9 +1,9 @@
 -- Where a writer is between two of its functions within a step: addresses of functions, as arguments of a name.
-use Rattle.std.specs.Prelude.{◌≡◌, ◌≢◌, ℕ, ◌+◌, List, [], ◌∷◌, ◌++◌, ◌&&◌, reverse, true, false, codes}
+use Rattle.std.specs.Prelude.{◌≡◌, ◌≢◌, ℕ, List, [], ◌∷◌, ◌++◌, ◌&&◌, reverse, true, false, codes}
 use Rattle.cpp_grammar.specs.declared.kind.Kind.{Kind}
 use Rattle.cpp_grammar.specs.Term.{Term}
 use Rattle.cpp_grammar.specs.Scope.{has_return_type}
-use Rattle.cpp_grammar.specs.Values.{Value, tree}
+use Rattle.cpp_grammar.specs.Values.{Value}
 use Rattle.cpp_grammar.specs.Meaning.{encoding_of}
 use Rattle.cpp_direct.specs.Symbol.{detail_of, Symbol}
 use Rattle.cpp_direct.specs.declared.open.Arguments.{Arguments}
