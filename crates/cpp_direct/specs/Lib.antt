@@ -12,6 +12,7 @@ pub mod Letters
 pub mod Marks
 pub mod Names
 pub mod Prints
+pub mod Scoping
 pub mod WriterInvariant
 pub mod Symbol
 pub mod MidStep

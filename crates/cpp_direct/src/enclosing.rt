@@ -20,8 +20,8 @@ use crate::marks::mark_at;
 use crate::open::{Mark, Open, Purpose, Step};
 use crate::tokens::byte_at;
 
-/// The longest symbol that is gone over once more, or its candidates are, at a lambda with parameters or at parameters that aren't
-/// shown, in bytes.
+/// The longest symbol that is gone over once more, or its candidates are, at a lambda with parameters, at parameters that aren't shown
+/// or at the address of a function, in bytes.
 pub(crate) const LONGEST_GONE_OVER: usize = 1_024;
 
 impl Direct {
