@@ -22,7 +22,7 @@ use Rattle.cpp_direct.specs.declared.direct.Direct.{Direct}
 use Rattle.cpp_direct.specs.Holes.{Opened, StandsAt, Comes, Expects}
 use Rattle.cpp_direct.specs.HolesOfLists.{mark_letters, nest_marks}
 use Rattle.cpp_direct.specs.Marks.{IsMarkPlace, has_const, called_on}
-use Rattle.cpp_direct.specs.Prints.{IsElementIn}
+use Rattle.cpp_direct.specs.Prints.{IsElementIn, PrintsName}
 use Rattle.cpp_direct.specs.WriterInvariant.{AddressWithin, AreNamed, Below, HasAddressed, HasArguments, IsAddressed, IsNamedSo, IsNesting, IsOwn, IsTypeRead, IsWriting, ItemsGoOn, ItemsOf, Kept, Scope, Serves, Stands, below, in_front_of_next, no_scope, qualifiers}
 use Rattle.cpp_direct.specs.MidStepOfAddresses.{AwaitsAddressedParameters, AwaitsArgumentOfName, IsAddressNamed, IsAddressedFrontRead, IsAddressedParameterRead, IsAddressedRead}
 use Rattle.cpp_direct.specs.MidStep.{AwaitsNest}

@@ -48,7 +48,7 @@ led-more s {extra = extra} {ts = ts} {texts = texts} f t bytes element = record 
 -- the name is within what is written
 pub name-inside : (text front name rest : List ℕ) (to : ℕ) → text ≡ front ++ name ++ rest → to ≡ length (front ++ name) → to ≤ length text
 name-inside text front name rest to written to_is =
-    omega (arith, to_is, ap length written, length-append (front ++ name) rest, ap length (append_assoc front name rest))
+    omega (arith, to_is, ap length written, length-append (front ++ name) rest)
 
 -- a function was read, and what is open waits for it
 function-read : {s : Symbol} {Leads : List ℕ → Type 0} {Within : WithinOpen} {rest : List Open} (w : Direct) (mark : Mark) (place : ℕ) (kept : Kept s w) (e : Term) (front bytes : List ℕ)

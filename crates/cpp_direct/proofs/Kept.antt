@@ -436,7 +436,7 @@ front-more zero k (x ∷ xs) ys e = absurd (omega (arith, e))
 front-more (suc n) k (x ∷ xs) ys e = ap (λ l. x ∷ l) (front-more n k xs ys (omega (arith, e)))
 
 -- a candidate that ends in the front of a text is one of that
-candidate-kept : {s : Symbol} {scope : Scope} (text kept rest : List ℕ) (k : Candidate) (c : values.Candidate) → text ≡ kept ++ rest → IsCandidate s scope text k c
+pub candidate-kept : {s : Symbol} {scope : Scope} (text kept rest : List ℕ) (k : Candidate) (c : values.Candidate) → text ≡ kept ++ rest → IsCandidate s scope text k c
     → k.to ≤ length kept → IsCandidate s scope kept k c
 candidate-kept text kept rest k c is p within =
     let own = p.front ++ p.bytes in
@@ -455,26 +455,26 @@ candidate-kept text kept rest k c is p within =
       made_in = p.made_in;
     }
 
-one-left : {s : Symbol} {hiding : Hiding} (scope left : Scope) (text kept : List ℕ)
+one-left : {s : Symbol} (hiding : Hiding) (scope left : Scope) (text kept : List ℕ)
     → ((k : Candidate) (c : values.Candidate) → Stays hiding k → IsCandidate s scope text k c → IsCandidate s left kept k c) → (k n : Candidate) (c : values.Candidate)
     → IsLeft hiding k n → (k.from ≤ k.to → IsCandidate s scope text k c) → n.from ≤ n.to → IsCandidate s left kept n c
-one-left {s} scope left text kept stay k n c (inl (same, stays)) p ordered =
+one-left {s} hiding scope left text kept stay k n c (inl (same, stays)) p ordered =
     subst (λ m. IsCandidate s left kept m c) (sym same) (stay k c stays (p (subst (λ (m : Candidate). m.from ≤ m.to) same ordered)))
-one-left scope left text kept stay k n c (inr none) p ordered =
+one-left hiding scope left text kept stay k n c (inr none) p ordered =
     let never : 1 ≤ 0 = subst (λ (m : Candidate). m.from ≤ m.to) none ordered in
     absurd (omega (arith, never))
 
 -- Where those that don't stay are nowhere, all are candidates if each is that stays.
-candidates-left : (s : Symbol) {hiding : Hiding} (scope left : Scope) (text kept : List ℕ)
+pub candidates-left : (s : Symbol) (hiding : Hiding) (scope left : Scope) (text kept : List ℕ)
     → ((k : Candidate) (c : values.Candidate) → Stays hiding k → IsCandidate s scope text k c → IsCandidate s left kept k c) → (ks ns : List Candidate) (cs : List values.Candidate)
     → AreLeft hiding ks ns → AreCandidates s scope text ks cs → AreCandidates s left kept ns cs
-candidates-left s scope left text kept stay [] [] [] are p = tt
-candidates-left s scope left text kept stay (k ∷ ks) (n ∷ ns) (c ∷ cs) are p =
-    (one-left scope left text kept stay k n c are.0 p.0, candidates-left s scope left text kept stay ks ns cs are.1 p.1)
-candidates-left s scope left text kept stay [] [] (c ∷ cs) are p = absurd p
-candidates-left s scope left text kept stay [] (n ∷ ns) cs are p = absurd are
-candidates-left s scope left text kept stay (k ∷ ks) [] cs are p = absurd are
-candidates-left s scope left text kept stay (k ∷ ks) (n ∷ ns) [] are p = absurd p
+candidates-left s hiding scope left text kept stay [] [] [] are p = tt
+candidates-left s hiding scope left text kept stay (k ∷ ks) (n ∷ ns) (c ∷ cs) are p =
+    (one-left hiding scope left text kept stay k n c are.0 p.0, candidates-left s hiding scope left text kept stay ks ns cs are.1 p.1)
+candidates-left s hiding scope left text kept stay [] [] (c ∷ cs) are p = absurd p
+candidates-left s hiding scope left text kept stay [] (n ∷ ns) cs are p = absurd are
+candidates-left s hiding scope left text kept stay (k ∷ ks) [] cs are p = absurd are
+candidates-left s hiding scope left text kept stay (k ∷ ks) (n ∷ ns) [] are p = absurd p
 
 -- what a writer keeps where what follows this is taken away, if the arguments that may be named are in it
 abbrev pub kept-cut : (s : Symbol) (old new : Direct) (kept : Kept s old) (left rest : List ℕ) (to : ℕ) → old.text.list.items ≡ left ++ rest → to ≡ length left
@@ -484,7 +484,7 @@ kept-cut s old new kept left rest to written to_is left_is are scope_same named 
   state = kept.state;
   scope = kept.scope;
   keeps = keeps-as s old new kept.state.candidates left_is refl scope_same
-      (candidates-left s kept.scope kept.scope old.text.list.items left
+      (candidates-left s (hidings.After to) kept.scope kept.scope old.text.list.items left
       (λ k c within own. candidate-kept old.text.list.items left rest k c written own (omega (arith, within, to_is)))
       old.candidates.list.items new.candidates.list.items kept.state.candidates are kept.keeps.candidates) named kept.keeps.single kept.keeps.unknown;
 }
@@ -494,7 +494,7 @@ pub front-left : (text left rest : List ℕ) (to : ℕ) → text ≡ left ++ res
 front-left text left rest to written to_is = ap (λ n. take n text) to_is ∙ ap (λ l. take (length left) l) written ∙ take-append_seam left rest
 
 -- a candidate that names no arguments is one where none may be named
-closed-kept : (s : Symbol) (scope : Scope) (text : List ℕ) (k : Candidate) (c : values.Candidate) → Stays hidings.Dependent k → IsCandidate s scope text k c
+pub closed-kept : (s : Symbol) (scope : Scope) (text : List ℕ) (k : Candidate) (c : values.Candidate) → Stays hidings.Dependent k → IsCandidate s scope text k c
     → IsCandidate s no_scope text k c
 closed-kept s scope text k c closed own = record {
   bytes = own.bytes;
@@ -512,7 +512,7 @@ kept-closed s old new kept are text = record {
   scope = no_scope;
   keeps = record {
     candidates = subst (λ v. AreCandidates s no_scope v.list.items new.candidates.list.items kept.state.candidates) (sym text)
-        (candidates-left s kept.scope no_scope old.text.list.items old.text.list.items (closed-kept s kept.scope old.text.list.items)
+        (candidates-left s hidings.Dependent kept.scope no_scope old.text.list.items old.text.list.items (closed-kept s kept.scope old.text.list.items)
         old.candidates.list.items new.candidates.list.items kept.state.candidates are kept.keeps.candidates);
     named = none-named new.text.list.items;
     single = none-single;

@@ -36,6 +36,9 @@ use Rattle.cpp_direct.specs.HolesOfLevels.{MemberComes}
 use Rattle.cpp_direct.specs.HolesOfLists.{IsSuffix, IsDigitsAt, minus_sign}
 use Rattle.cpp_direct.specs.HolesOfLocals.{Discriminator, EntityOpened, IsDiscriminatorAt, IsEntityAt, IsLambdaDigit, lambda_ending, lambda_with, local_in}
 use Rattle.cpp_direct.specs.Marks.{has_const, called_on}
+use Rattle.cpp_direct.specs.Prints.{Names, IsGiven, Prints, PrintsAs, PrintsName, Shows, Encloses, IsLed, NamesClass, PrintAll, PrintAllAs, PrintAllIn}
+use Rattle.cpp_grammar.specs.Parts.{types_of}
+pub use Rattle.cpp_direct.specs.Scoping.{encoding_place, IsBetween, IsPlaced, nowhere, begin_by, place_of, IsKnown, IsSingle, IsAmong, IsPackOf, IsArgument, HasPack, OwnPack, HasArguments, IsScope, IsPackThere, IsEncodedAt, HasScope, is_type, is_within_type, arguments_in, argument_of, Scope, no_scope, AreNamed, HasSingles, IsMadeIn, IsCandidate, AreCandidates, Keeps, Kept, IsScoped, IsNaming}
 
 -- ## The end
 

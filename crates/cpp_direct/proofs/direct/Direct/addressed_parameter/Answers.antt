@@ -1,4 +1,4 @@
-use Rattle.std.proofs.Common.{arith, codes, refl, sym, ◌∙◌, ◌++◌}
+use Rattle.std.proofs.Common.{append_assoc, arith, codes, refl, sym, ◌∙◌, ◌++◌}
 use Rattle.cpp_direct.specs.Symbol.{symbol_by}
 use Rattle.cpp_direct.specs.declared.open.Open.TheVariants as opens
 use Rattle.cpp_direct.proofs.AddressesRead.{next-addressed}
@@ -14,7 +14,10 @@ returns-then-byte_at-ne69 g c =
 pub leave_out-requires : goal.leave_out-requires
 leave_out-requires g c =
     let p = c.requires.read in
-    record { within = name-inside c.args.self.now.text.list.items p.front p.name (codes "(" ++ p.texts) c.args.to p.written p.to_is }
+    record {
+      within = name-inside c.args.self.now.text.list.items p.front p.name (codes "(" ++ p.texts) c.args.to
+          (p.written ∙ append_assoc (p.front ++ p.name) (codes "(") p.texts) p.to_is;
+    }
 
 pub addressed-requires : goal.addressed-requires
 addressed-requires g c =

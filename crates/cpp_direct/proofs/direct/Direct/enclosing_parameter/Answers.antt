@@ -1,4 +1,4 @@
-use Rattle.std.proofs.Common.{◌++◌, arith, codes, refl, subst, sym, ◌∙◌}
+use Rattle.std.proofs.Common.{append_assoc, ◌++◌, arith, codes, refl, subst, sym, ◌∙◌}
 use Rattle.cpp_direct.specs.Symbol.{symbol_by}
 use Rattle.cpp_direct.specs.declared.open.Open.TheVariants as opens
 use Rattle.cpp_direct.specs.WriterInvariant.{AreNamed, Scope}
@@ -16,30 +16,29 @@ returns-then-byte_at-ne69 g c =
 pub leave_out-requires : goal.leave_out-requires
 leave_out-requires g c =
     let p = c.requires.read in
-    record { within = name-inside c.args.self.now.text.list.items p.front p.name (codes "(" ++ p.texts) c.args.to p.written p.to_is }
-
-pub enclosing_ended-requires : goal.enclosing_ended-requires
-enclosing_ended-requires g c =
-    let p = c.requires.read in
     record {
-      read = function-shown c.args.self.now (record c.args.self.now { waiting = c.pop-open.new.self }) c.push_byte.new.self c.args.mark _ p.kept p.is_led p.from_is p.written p.goes p.some
-          (no-void c.as_slice.result.now (p.front ++ p.name) p.texts (c.as_slice.ensures ∙ p.written) (sym c.ends_with.ensures.value ∙ c.if-ends_with.false)) (omega arith)
-          refl refl refl refl
-          (popped c.args.self.now.waiting.list.items c.pop-open.new.self.list.items p.rest (opens.Enclosing c.args.mark c.args.from c.args.to) _ refl
-          p.open_is c.pop-open.ensures.rest)
-          c.in_ok-push_byte.ensures (sym c.IS_BARE.ensures ∙ c.if-IS_BARE.false);
+      within = name-inside c.args.self.now.text.list.items p.front p.name (codes "(" ++ p.texts) c.args.to
+          (p.written ∙ append_assoc (p.front ++ p.name) (codes "(") p.texts) p.to_is;
     }
 
-pub enclosed-requires : goal.enclosed-requires
-enclosed-requires g c =
+pub enclosing_ended-requires-clause-read : goal.enclosing_ended-requires-clause-read
+enclosing_ended-requires-clause-read g c =
+    let p = c.requires.read in
+    function-shown c.args.self.now (record c.args.self.now { waiting = c.pop-open.new.self }) c.push_byte.new.self c.args.mark _ p.kept p.is_led p.from_is p.written p.goes p.some
+    (no-void c.as_slice.result.now (p.front ++ p.name) p.texts (c.as_slice.ensures ∙ p.written) (sym c.ends_with.ensures.value ∙ c.if-ends_with.false)) (omega arith)
+    refl refl refl refl
+    (popped c.args.self.now.waiting.list.items c.pop-open.new.self.list.items p.rest (opens.Enclosing c.args.mark c.args.from c.args.to) _ refl
+    p.open_is c.pop-open.ensures.rest)
+    c.in_ok-push_byte.ensures (sym c.IS_BARE.ensures ∙ c.if-IS_BARE.false)
+
+pub enclosed-requires-clause-read : goal.enclosed-requires-clause-read
+enclosed-requires-clause-read g c =
     let p = c.requires.read in
     let left = c.in_ok-leave_out.ensures in
-    record {
-      read = function-unshown c.args.self.now (record c.args.self.now { waiting = c.pop-open.new.self }) c.leave_out.new.self c.args.mark c.args.to _ p.kept p.is_led p.from_is p.written p.goes p.some
-          (no-void c.as_slice.result.now (p.front ++ p.name) p.texts (c.as_slice.ensures ∙ p.written) (sym c.ends_with.ensures.value ∙ c.if-ends_with.false)) p.to_is
-          (subst (λ (k : Scope). AreNamed (p.front ++ p.name) k) (sym (p.keeps.unknown c.if-self.false)) (none-named (p.front ++ p.name)))
-          refl refl refl refl
-          (popped c.args.self.now.waiting.list.items c.pop-open.new.self.list.items p.rest (opens.Enclosing c.args.mark c.args.from c.args.to) _ refl
-          p.open_is c.pop-open.ensures.rest)
-          left.text left.candidates left.«open» left.scope left.at (sym c.IS_BARE.ensures ∙ c.if-IS_BARE.true);
-    }
+    function-unshown c.args.self.now (record c.args.self.now { waiting = c.pop-open.new.self }) c.leave_out.new.self c.args.mark c.args.to _ p.kept p.is_led p.from_is p.written p.goes p.some
+    (no-void c.as_slice.result.now (p.front ++ p.name) p.texts (c.as_slice.ensures ∙ p.written) (sym c.ends_with.ensures.value ∙ c.if-ends_with.false)) p.to_is
+    (subst (λ (k : Scope). AreNamed (p.front ++ p.name) k) (sym (p.keeps.unknown c.if-self.false)) (none-named (p.front ++ p.name)))
+    refl refl refl refl
+    (popped c.args.self.now.waiting.list.items c.pop-open.new.self.list.items p.rest (opens.Enclosing c.args.mark c.args.from c.args.to) _ refl
+    p.open_is c.pop-open.ensures.rest)
+    left.text left.candidates left.«open» left.scope left.at (sym c.IS_BARE.ensures ∙ c.if-IS_BARE.true)

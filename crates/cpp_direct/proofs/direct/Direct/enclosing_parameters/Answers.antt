@@ -5,23 +5,19 @@ use Rattle.cpp_direct.proofs.FunctionsWithin.{void-shown, void-unshown}
 use Rattle.cpp_direct.proofs.TypesRead.{there}
 use Rattle.cpp_direct.proofs.direct.Direct.enclosing_parameters.Goals as goal
 
-pub enclosed-requires : goal.enclosed-requires
-enclosed-requires g c =
+pub enclosed-requires-clause-read : goal.enclosed-requires-clause-read
+enclosed-requires-clause-read g c =
     let p = c.requires.awaits in
-    record {
-      read = void-unshown c.args.self.now _ c.args.mark _ p.kept p.is_led p.from_is p.written p.goes
-          (there c.args.s.now c.args.self.now.at c.byte_at.result 118 c.if-byte_at-eq118.true (omega arith) c.byte_at.ensures) c.in_ok-self.ensures.1
-          (sym c.IS_BARE.ensures ∙ c.if-IS_BARE.true);
-    }
+    void-unshown c.args.self.now _ c.args.mark _ p.kept p.is_led p.from_is p.written p.goes
+    (there c.args.s.now c.args.self.now.at c.byte_at.result 118 c.if-byte_at-eq118.true (omega arith) c.byte_at.ensures) c.in_ok-self.ensures.1
+    (sym c.IS_BARE.ensures ∙ c.if-IS_BARE.true)
 
-pub enclosing_ended-requires : goal.enclosing_ended-requires
-enclosing_ended-requires g c =
+pub enclosing_ended-requires-clause-read : goal.enclosing_ended-requires-clause-read
+enclosing_ended-requires-clause-read g c =
     let p = c.requires.awaits in
-    record {
-      read = void-shown c.args.self.now c.push_pair.new.self _ c.args.mark _ p.kept p.is_led p.from_is p.written p.goes
-          (there c.args.s.now c.args.self.now.at c.byte_at.result 118 c.if-byte_at-eq118.true (omega arith) c.byte_at.ensures) c.in_ok-self.ensures.1
-          c.in_ok-push_pair.ensures (sym c.IS_BARE.ensures ∙ c.if-IS_BARE.false);
-    }
+    void-shown c.args.self.now c.push_pair.new.self _ c.args.mark _ p.kept p.is_led p.from_is p.written p.goes
+    (there c.args.s.now c.args.self.now.at c.byte_at.result 118 c.if-byte_at-eq118.true (omega arith) c.byte_at.ensures) c.in_ok-self.ensures.1
+    c.in_ok-push_pair.ensures (sym c.IS_BARE.ensures ∙ c.if-IS_BARE.false)
 
 pub returns : goal.returns
 returns g c =
