@@ -1,6 +1,7 @@
 -- How a symbol ends: its encoding's name, its parameters, and what follows them.
+use Rattle.sym_print.specs.declared.detail.Detail.{Detail}
 use Rattle.cpp_grammar.specs.Scope.{arguments_of}
-use Rattle.std.proofs.Common.{Some, ◌≡◌, ◌≢◌, ◌⊎◌, refl, ap, sym, ◌∙◌, subst, ℕ, ◌+◌, ◌-◌, ◌≤◌, List, [], ◌∷◌, ◌++◌, length, take, drop, reverse, inl, inr, Bool, true, false, nat_eq, arith, codes, append-nil, append_assoc}
+use Rattle.std.proofs.Common.{◌≡◌, ◌≢◌, ◌⊎◌, refl, ap, sym, ◌∙◌, subst, ℕ, ◌+◌, ◌-◌, ◌≤◌, List, [], ◌∷◌, ◌++◌, length, take, drop, reverse, inl, inr, Bool, true, false, nat_eq, arith, codes, append-nil, append_assoc}
 use Rattle.std.specs.List.{ends_with}
 use Rattle.std.specs.Cmp.Lexicographic.{pointwise}
 use Rattle.std.proofs.lemmas.Bool.{false≢true}
@@ -13,7 +14,7 @@ use Rattle.cpp_grammar.specs.Parts.{encoding_text, qualifier_text, ref_text, typ
 use Rattle.cpp_grammar.specs.Between.{no_items}
 use Rattle.cpp_grammar.specs.Items.{is_empty}
 use Rattle.cpp_grammar.specs.Meaning.{encoding_of, is_void}
-use Rattle.cpp_grammar.specs.Values.{State, Value, nothing_there, tree, tree_of, qualifiers_of, ref_of}
+use Rattle.cpp_grammar.specs.Values.{Around, State, Value, nothing_there, tree, tree_of, qualifiers_of, ref_of}
 use Rattle.cpp_direct.specs.Symbol.{Symbol, detail_of}
 use Rattle.cpp_direct.specs.declared.open.Arguments.{Arguments}
 use Rattle.cpp_direct.specs.declared.open.Mark.{Mark}
@@ -26,7 +27,7 @@ use Rattle.cpp_direct.specs.Holes.{Expects, StandsAt, ListGoesOn}
 use Rattle.cpp_direct.specs.HolesOfLists.{IsSuffix}
 use Rattle.cpp_direct.specs.Marks.{has_const, called_on, mark_text}
 use Rattle.cpp_direct.specs.Prints.{PrintsName, Shows, Encloses, list_of}
-use Rattle.cpp_direct.specs.WriterInvariant.{list_with, AwaitsItems, Encoded, EndsBehind, EncodedBehind, Fronts, IsWhole, IsWriting, HasScope, ItemsGoOn, ParametersGoOn, Stands, qualifiers, in_front_of_next, no_scope, IsNamedSo, Kept}
+use Rattle.cpp_direct.specs.WriterInvariant.{list_with, AwaitsItems, Encoded, EndsBehind, EncodedBehind, Fronts, IsWhole, IsWriting, HasArguments, HasScope, IsEncodedAt, ItemsGoOn, ParametersGoOn, Stands, qualifiers, in_front_of_next, no_scope, IsNamedSo, Kept}
 use Rattle.cpp_direct.specs.MidStep.{AreParametersRead, IsNameEnded, IsNameScoped, AwaitsParameters, separator, IsFunctionEnded, IsEncodingEnded, IsSymbolEnded}
 use Rattle.cpp_direct.specs.Written.{Writes, Cuts}
 use Rattle.cpp_direct.proofs.Unmarked.{suffix-unmarked}
@@ -233,23 +234,21 @@ no-text [] from is none = refl
 no-text (b ∷ bs) from is none = absurd (omega (arith, is, none))
 
 -- in the types of an encoding parameters may name the arguments that its name ends in
+pub types-scoped : {detail : Detail} (text : List ℕ) (argument : Arguments) (around : Around) (own : Term) → IsEncodedAt argument.encoding around
+    → around.scope ≡ arguments_of own → HasArguments detail text argument own → HasScope argument around
+types-scoped text argument around own encoded scope_is names = (
+  encoded,
+  λ k o. let n = names.0 k o in record { own = n.own; all = n.all; scope_is = scope_is ∙ n.all_are; there = n.there; no_pack = n.prints.no_pack },
+  λ o. let n = names.1 o in (n.elements, record { all = n.all; scope_is = scope_is ∙ n.all_are; there = n.there }),
+)
+
 pub name-scoped : (s : Symbol) (w : Direct) (mark : Mark) (is_instance : Bool) (argument : Arguments) (from : ℕ)
     (p : IsNameScoped s w mark is_instance argument from) → HasScope argument p.ended.awaits.around
 name-scoped s w mark is_instance argument from p =
-    let e = p.ended in (
-      (λ real. (e.awaits.encoding_is (no-text e.lead from e.from_is (p.encoded real).0) ∙ sym (p.encoded real).1, e.awaits.no_lambda)),
-      (λ k o. let n = e.names.0 k o in record {
-        own = n.own;
-        all = n.all;
-        scope_is = named n.all n.all_are;
-        there = n.there;
-        no_pack = n.prints.no_pack;
-      }),
-      (λ o. let n = e.names.1 o in (n.elements, record { all = n.all; scope_is = named n.all n.all_are; there = n.there })),
-    )
-  where
-    named : (all : Term) → arguments_of p.ended.own ≡ Some all → p.ended.awaits.around.scope ≡ Some all
-    named all is = p.ended.awaits.scope_is ∙ ap arguments_of p.ended.named_so.tree_is ∙ is
+    let e = p.ended in
+    types-scoped w.text.list.items argument e.awaits.around e.own
+    (λ real. (e.awaits.encoding_is (no-text e.lead from e.from_is (p.encoded real).0) ∙ sym (p.encoded real).1, e.awaits.no_lambda))
+    (e.awaits.scope_is ∙ ap arguments_of e.named_so.tree_is) e.names
 
 -- the front of a function that has no return type
 fronts-of : (is_bare : Bool) (front : List ℕ) (start : ℕ) (lead name : List ℕ) → front ≡ lead ++ name → (is_bare ≡ false → start ≡ 0)
@@ -314,7 +313,7 @@ cut-kept s old new start cuts kept = go cuts.candidates
       state = kept.state;
       scope = kept.scope;
       keeps = keeps-as s old new kept.state.candidates (cuts.text ∙ ap (λ n. drop n old.text.list.items) same.0) (ap (λ v. v.list.items) same.1) cuts.scope
-          kept.keeps.candidates kept.keeps.named kept.keeps.own kept.keeps.unknown;
+          kept.keeps.candidates kept.keeps.named kept.keeps.single kept.keeps.unknown;
     }
     go (inr none) = record { state = record kept.state { candidates = [] }; scope = no_scope; keeps = none-kept s new none }
 

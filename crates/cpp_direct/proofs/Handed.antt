@@ -1,5 +1,5 @@
 -- A type was read, and is handed to what waits for it.
-use Rattle.std.proofs.Common.{◌≡◌, ℕ, ◌-◌, length, List, [], ◌∷◌, ◌++◌, reverse, slice_get, Bool, true, false, Some, refl, ap, sym, ◌∙◌, subst, codes, append_assoc}
+use Rattle.std.proofs.Common.{◌≡◌, ℕ, ◌-◌, length, List, [], ◌∷◌, ◌++◌, reverse, slice_get, Bool, true, false, Option, Some, refl, ap, sym, ◌∙◌, subst, codes, append_assoc}
 use Rattle.std.proofs.lemmas.Bool.{false≢true}
 use Rattle.cpp_grammar.specs.Term.{Term, special}
 use Rattle.cpp_grammar.specs.Parts.{types_of}
@@ -10,6 +10,7 @@ use Rattle.cpp_direct.specs.declared.open.Mark.{Mark}
 use Rattle.cpp_direct.specs.declared.open.Open.{Open}
 use Rattle.cpp_direct.specs.declared.open.Open.TheVariants as opens
 use Rattle.cpp_direct.specs.declared.open.Arguments.{Arguments}
+use Rattle.cpp_direct.specs.declared.open.Purpose.{Purpose}
 use Rattle.cpp_direct.specs.declared.open.Step.TheVariants as steps
 use Rattle.cpp_direct.specs.declared.direct.Direct.{Direct}
 use Rattle.cpp_direct.specs.Holes.{Opened, Comes}
@@ -36,7 +37,7 @@ value-marked s w is_reference marked_reference is_dependent entry from made mark
     let last = last-found w.waiting.list.items entry found in
     let v = subst (λ ws. IsTypeRead s p.scope w p.state ws is_reference is_dependent) last.1 p.is_before in
     let marks = stands_as p.scope last.0 v.os v.front v.stands in
-    let naming : is_dependent ≡ true → IsNaming s p.scope last.0 = λ e. let n = v.naming e in (sym (argument_as last.0) ∙ n.0, n.1) in
+    let naming : is_dependent ≡ true → IsNaming p.scope last.0 = λ e. let n = v.naming e in (sym (argument_as last.0) ∙ n.0, n.1) in
     record {
       kept = p.kept;
       entry = entry;
@@ -52,7 +53,7 @@ value-marked s w is_reference marked_reference is_dependent entry from made mark
       from_is = marks.2;
       prints = prints_as p.scope.names v.own v.bytes v.prints;
       naming = naming;
-      made_here = λ e. made-here s p.scope marks.1 last.0 marks.4 (naming e);
+      made_here = λ e. made-here p.scope marks.1 last.0 marks.4 (naming e);
       stands = marks.5;
     }
 
@@ -198,28 +199,33 @@ passed-closed _ p l r c f k = tt
 -- what is none of those that wait for something else
 pub takes-elements : (o : Open) → IsPassedClosed o → ((x : Bool) → o ≡ opens.Returned x → ⊥) → ((x : Bool) → o ≡ opens.Signature x → ⊥)
     → (o ≡ opens.Special → ⊥) → (o ≡ opens.Enumerator → ⊥) → ((x : Mark) (y z : ℕ) → o ≡ opens.Enclosing x y z → ⊥)
-    → ((x y : ℕ) (z : Arguments) → o ≡ opens.Argument x y z → ⊥) → ((x : ℕ) → o ≡ opens.Lambda x → ⊥) → ((x y : ℕ) (z : Arguments) → o ≡ opens.Element x y z → ⊥)
-    → ((x : Access) (y z : ℕ) → o ≡ opens.Array x y z → ⊥) → TakesElements o
-takes-elements (opens.Pointer x) w u g z n m a q e j = absurd w
-takes-elements (opens.Lvalue x) w u g z n m a q e j = absurd w
-takes-elements (opens.Rvalue x) w u g z n m a q e j = absurd w
-takes-elements (opens.Const x) w u g z n m a q e j = absurd w
-takes-elements (opens.Parameters x y v) w u g z n m a q e j = absurd w
-takes-elements (opens.Front x y v) w u g z n m a q e j = absurd w
-takes-elements (opens.Argument x y v) w u g z n m a q e j = absurd (a x y v refl)
-takes-elements (opens.Returned x) w u g z n m a q e j = absurd (u x refl)
-takes-elements (opens.Signature x) w u g z n m a q e j = absurd (g x refl)
-takes-elements (opens.Enclosing x y v) w u g z n m a q e j = absurd (m x y v refl)
-takes-elements (opens.Lambda x) w u g z n m a q e j = absurd (q x refl)
-takes-elements (opens.Array x y v) w u g z n m a q e j = absurd (j x y v refl)
-takes-elements (opens.Element x y v) w u g z n m a q e j = absurd (e x y v refl)
-takes-elements opens.Special w u g z n m a q e j = absurd (z refl)
-takes-elements opens.Enumerator w u g z n m a q e j = absurd (n refl)
-takes-elements opens.Pack w u g z n m a q e j = tt
-takes-elements (opens.TypeArguments x y) w u g z n m a q e j = tt
-takes-elements (opens.NestArguments x) w u g z n m a q e j = tt
-takes-elements (opens.FirstArguments x) w u g z n m a q e j = tt
-takes-elements (opens.NameArguments x) w u g z n m a q e j = tt
+    → ((x y : ℕ) (z : Arguments) → o ≡ opens.Argument x y z → ⊥) → ((x : ℕ) (y : Option Purpose) → o ≡ opens.Lambda x y → ⊥) → ((x y : ℕ) (z : Arguments) → o ≡ opens.Element x y z → ⊥)
+    → ((x : Access) (y z : ℕ) → o ≡ opens.Array x y z → ⊥) → ((x : ℕ) → o ≡ opens.Address x → ⊥)
+    → ((x : Mark) (y : ℕ) (z : Arguments) → o ≡ opens.AddressedFront x y z → ⊥) → ((x : Mark) (y : ℕ) (z : Arguments) → o ≡ opens.Addressed x y z → ⊥) → TakesElements o
+takes-elements (opens.Pointer x) w u g z n m a q e j d f b = absurd w
+takes-elements (opens.Lvalue x) w u g z n m a q e j d f b = absurd w
+takes-elements (opens.Rvalue x) w u g z n m a q e j d f b = absurd w
+takes-elements (opens.Const x) w u g z n m a q e j d f b = absurd w
+takes-elements (opens.Parameters x y v) w u g z n m a q e j d f b = absurd w
+takes-elements (opens.Front x y v) w u g z n m a q e j d f b = absurd w
+takes-elements (opens.Argument x y v) w u g z n m a q e j d f b = absurd (a x y v refl)
+takes-elements (opens.Returned x) w u g z n m a q e j d f b = absurd (u x refl)
+takes-elements (opens.Signature x) w u g z n m a q e j d f b = absurd (g x refl)
+takes-elements (opens.Enclosing x y v) w u g z n m a q e j d f b = absurd (m x y v refl)
+takes-elements (opens.Lambda x y) w u g z n m a q e j d f b = absurd (q x y refl)
+takes-elements (opens.Array x y v) w u g z n m a q e j d f b = absurd (j x y v refl)
+takes-elements (opens.Element x y v) w u g z n m a q e j d f b = absurd (e x y v refl)
+takes-elements (opens.Address x) w u g z n m a q e j d f b = absurd (d x refl)
+takes-elements (opens.AddressedFront x y v) w u g z n m a q e j d f b = absurd (f x y v refl)
+takes-elements (opens.Addressed x y v) w u g z n m a q e j d f b = absurd (b x y v refl)
+takes-elements opens.Special w u g z n m a q e j d f b = absurd (z refl)
+takes-elements opens.Enumerator w u g z n m a q e j d f b = absurd (n refl)
+takes-elements opens.Pack w u g z n m a q e j d f b = tt
+takes-elements (opens.TypeArguments x y) w u g z n m a q e j d f b = tt
+takes-elements (opens.NestArguments x) w u g z n m a q e j d f b = tt
+takes-elements (opens.FirstArguments x) w u g z n m a q e j d f b = tt
+takes-elements (opens.NameArguments x) w u g z n m a q e j d f b = tt
+takes-elements (opens.LevelArguments x) w u g z n m a q e j d f b = tt
 
 -- an element was read
 pub argument-read : (s : Symbol) (w : Direct) (o : Open) → IsElementRead s w o → TakesElements o → IsWriting s w (steps.List false)

@@ -23,7 +23,7 @@ use Rattle.cpp_direct.specs.declared.direct.Direct.{Direct}
 use Rattle.cpp_direct.specs.Holes.{Opened, Comes, IsListKind, ListGoesOn, StandsAt, AwaitsComponent, with_candidate}
 use Rattle.cpp_direct.specs.HolesOfLists.{IsArgumentKind}
 use Rattle.cpp_direct.specs.Prints.{Names, PrintAllAs, PrintsAs, list_of}
-use Rattle.cpp_direct.specs.WriterInvariant.{HasPack, IsKnown, Below, HasArguments, arguments_in, below, IsListing, IsNaming, IsScoped, Scope, scoped_in, is_noted, may_name, IsNest, IsTail, IsTemplate, IsWriting, Owns, Serves, ArgumentsGoOn, AwaitsElementOf, AwaitsEnumerator, Belongs, Closes, ElementsGoOn, EnumeratorGoesOn, GoesOn, Listing, of_template, of_pack, Stands, element_kind, extra_of, led_by, list_with, in_front_of_next, nowhere, Kept}
+use Rattle.cpp_direct.specs.WriterInvariant.{HasPack, Below, HasArguments, arguments_in, below, IsListing, IsNaming, IsScoped, Scope, scoped_in, is_noted, may_name, IsNest, IsTail, IsTemplate, IsWriting, Owns, Serves, ArgumentsGoOn, AwaitsElementOf, AwaitsEnumerator, Belongs, Closes, ElementsGoOn, EnumeratorGoesOn, GoesOn, Listing, of_template, of_pack, Stands, element_kind, extra_of, led_by, list_with, in_front_of_next, nowhere, Kept}
 use Rattle.cpp_direct.specs.MidStep.{AreKnown, IsListEnded, AwaitsNextArgument, IsNameEnded}
 use Rattle.cpp_direct.specs.Written.{Writes, added}
 use Rattle.cpp_direct.proofs.Moves.{expects-empty, stands-split}
@@ -32,7 +32,7 @@ use Rattle.cpp_direct.proofs.PrintedLists.{element-as, list-more, list-with-none
 use Rattle.cpp_direct.proofs.PrintedNames.{as-name}
 use Rattle.cpp_direct.proofs.PrintedNests.{instance-as, instance-prints, instance-class}
 use Rattle.cpp_direct.proofs.PrintedTypes.{prints-as}
-use Rattle.cpp_direct.proofs.Scopes.{there-still, element-there, instance-returns, known-stay, none-scoped, structor-returns, has-plain}
+use Rattle.cpp_direct.proofs.Scopes.{element-there, instance-returns, known-stay, none-scoped, structor-returns, has-plain}
 use Rattle.cpp_direct.proofs.Kept.{kept-grown, kept-same, made-here, scoped-within, template-stays, type-comes, value-added, reverse-last, last-reversed, type-named, none-known, kept-with}
 
 -- ## What is open
@@ -202,7 +202,7 @@ type-closed s w new from is_dependent p candidates text waiting scope_same at =
     let prints = instance-as (detail_of s) scope.names is_dependent p.template p.name
     (prints-as (detail_of s) scope.names is_dependent p.template p.name false p.is_template.1) p.ts p.tail p.arguments p.is_tail p.elements in
     value-added s w new p.kept p.owns.0 around t p.front bytes from false is_dependent p.written p.is_template.0 prints
-    (λ named. made-here s scope around (reverse w.waiting.list.items) p.owns.3 (p.owns.4 named)) text candidates scope_same
+    (λ named. made-here scope around (reverse w.waiting.list.items) p.owns.3 (p.owns.4 named)) text candidates scope_same
     (ap (λ v. reverse v.list.items) waiting) p.owns.4
     (subst (λ n. Comes s p.owns.0 (tree t true) n (with_candidate around t p.state)) (sym at) p.owns.2) p.owns.5
 
@@ -270,7 +270,7 @@ first-closed s w new nest p candidates text waiting scope_same at =
     p.elements p.written in
     record {
       kept = kept-with s w now p.kept p.front bytes nest.from t around false nest.is_dependent p.written p.is_template.from_is is_nest.prints
-          (λ named. made-here s scope around (reverse w.waiting.list.items) (p.owns.3 (type-named nest.purpose nest.is_dependent p.is_template.closed named))
+          (λ named. made-here scope around (reverse w.waiting.list.items) (p.owns.3 (type-named nest.purpose nest.is_dependent p.is_template.closed named))
           (p.owns.4 named)) text candidates scope_same;
       is_before = (
         t,
@@ -283,7 +283,7 @@ first-closed s w new nest p candidates text waiting scope_same at =
           is_nest = subst (λ v. IsNest (detail_of s) scope.names p.front bytes v.list.items nest t) (sym text) is_nest;
           scoped = record {
             scoped = λ within. subst (λ v. IsScoped scope around (reverse v.list.items)) (sym waiting) (p.owns.3 within);
-            naming = λ named. subst (λ v. IsNaming s scope (reverse v.list.items)) (sym waiting) (p.owns.4 named);
+            naming = λ named. subst (λ v. IsNaming scope (reverse v.list.items)) (sym waiting) (p.owns.4 named);
           };
           serves = subst (λ v. Serves s nest.purpose (below s scope (reverse v.list.items)) outer p.front) (sym waiting) p.owns.5;
         },
@@ -399,11 +399,11 @@ pub none-packed : {detail : Detail} (text : List ℕ) (is_first : Bool) (ts : Li
     → AreKnown detail text (record nowhere { has_pack = is_first }) ts (list (pack nil) nil)
 unfolding element count
 none-packed text is_first ts none = (
-  λ k single. absurd (none-known k (subst IsKnown (there-still 0 0 0 is_first nowhere k) single.0)),
+  λ k single. absurd (none-known k single.0),
   λ first. (
     [],
     subst (λ us. HasPack (list_with us (list (pack nil) nil)) 0 []) (sym (none first)) (refl, omega arith),
-    record { size = refl; among = λ k known. absurd (none-known (0 + k) (subst IsKnown (there-still 0 0 0 is_first nowhere (0 + k)) known)) },
+    record { size = refl; among = λ k known. absurd (none-known (0 + k) known) },
   ),
 )
 
@@ -558,6 +558,7 @@ TakesArguments (opens.TypeArguments from is_dependent) = Unit {0}
 TakesArguments (opens.NestArguments nest) = Unit {0}
 TakesArguments (opens.FirstArguments nest) = Unit {0}
 TakesArguments (opens.NameArguments from) = Unit {0}
+TakesArguments (opens.LevelArguments is_dependent) = Unit {0}
 TakesArguments _ = ⊥
 
 -- or is a pack of them
@@ -571,6 +572,7 @@ template-takes detail names (opens.TypeArguments from is_dependent) front t name
 template-takes detail names (opens.NestArguments nest) front t name text is = tt
 template-takes detail names (opens.FirstArguments nest) front t name text is = tt
 template-takes detail names (opens.NameArguments from) front t name text is = tt
+template-takes detail names (opens.LevelArguments is_dependent) front t name text is = tt
 template-takes detail names _ front t name text is = absurd is
 
 argument-stands : (s : Symbol) (scope : Scope) (owner : Open) (rest : List Open) (os : List Opened) (text : List ℕ) → TakesArguments owner
@@ -579,6 +581,7 @@ argument-stands s scope (opens.TypeArguments from is_dependent) rest os text tak
 argument-stands s scope (opens.NestArguments nest) rest os text takes p = p
 argument-stands s scope (opens.FirstArguments nest) rest os text takes p = p
 argument-stands s scope (opens.NameArguments from) rest os text takes p = p
+argument-stands s scope (opens.LevelArguments is_dependent) rest os text takes p = p
 argument-stands s scope _ rest os text takes p = absurd takes
 
 -- they have none that types name
@@ -587,6 +590,7 @@ takes-none (opens.TypeArguments from is_dependent) takes = refl
 takes-none (opens.NestArguments nest) takes = refl
 takes-none (opens.FirstArguments nest) takes = refl
 takes-none (opens.NameArguments from) takes = refl
+takes-none (opens.LevelArguments is_dependent) takes = refl
 takes-none _ takes = absurd takes
 
 -- in arguments types may name what they may name around them, and in a pack nothing
@@ -660,28 +664,38 @@ list-waits s {scope = scope} (opens.TypeArguments from is_dependent) rest os tex
 list-waits s {scope = scope} (opens.NestArguments nest) rest os text takes p = waits-of s scope (opens.NestArguments nest) rest os text p
 list-waits s {scope = scope} (opens.FirstArguments nest) rest os text takes p = waits-of s scope (opens.FirstArguments nest) rest os text p
 list-waits s {scope = scope} (opens.NameArguments from) rest os text takes p = waits-of s scope (opens.NameArguments from) rest os text p
+list-waits s {scope = scope} (opens.LevelArguments is_dependent) rest os text takes p = waits-of s scope (opens.LevelArguments is_dependent) rest os text p
 list-waits s _ rest os text takes p = absurd takes
 
--- an element may be a type
-pub type-expected : (s : Symbol) (w : Direct) → AwaitsNextArgument s w → IsWriting s w steps.Type
-type-expected s w a =
+-- the list waits for an element where one is expected
+pub element-stands : (s : Symbol) (w : Direct) (a : AwaitsNextArgument s w) (os : List Opened)
+    → ((t : Term) (at : ℕ) (st : State) → Comes s os (tree t true) at st → ListGoesOn s (element_kind a.place.listing) a.goes.1 a.goes.0 t at st)
+    → Stands s a.scope (reverse w.waiting.list.items) os w.text.list.items
+element-stands s w a os onward =
     let p = a.place in
     let scope = a.scope in
-    let kind = element_kind p.listing in
-    let element = element-awaits s kind a.goes.1 a.goes.0 w.at a.state (list-kind p.listing) a.goes.4 in
-    type-comes s w w a.kept a.goes.0 element.inner refl refl refl refl a.goes.2 (inr (inl element.awaits))
-    (list-stands s scope (reverse w.waiting.list.items) element.inner w.text.list.items (record {
+    list-stands s scope (reverse w.waiting.list.items) os w.text.list.items (record {
       place = p;
       ts = a.ts;
       texts = a.texts;
       elements = a.elements;
       written = a.written;
       onward = λ t here now comes.
-          element-goes-on s kind (scoped_in p.owner (below s scope p.rest))
+          element-goes-on s (element_kind p.listing) (scoped_in p.owner (below s scope p.rest))
           (λ l there later. Closes s p.listing p.owner (below s scope p.rest) p.front p.template l there later)
-          a.ts t w.at here a.state now a.goes (element.onward t here now comes);
-    }))
-    (list-scoped s scope a.goes.0 (reverse w.waiting.list.items) w.text.list.items p a.goes.3)
+          a.ts t w.at here a.state now a.goes (onward t here now comes);
+    })
+
+-- and its types may name what they may name around it
+pub element-scoped : (s : Symbol) (w : Direct) (a : AwaitsNextArgument s w) → IsScoped a.scope a.goes.0 (reverse w.waiting.list.items)
+element-scoped s w a = list-scoped s a.scope a.goes.0 (reverse w.waiting.list.items) w.text.list.items a.place a.goes.3
+
+-- an element may be a type
+pub type-expected : (s : Symbol) (w : Direct) → AwaitsNextArgument s w → IsWriting s w steps.Type
+type-expected s w a =
+    let element = element-awaits s (element_kind a.place.listing) a.goes.1 a.goes.0 w.at a.state (list-kind a.place.listing) a.goes.4 in
+    type-comes s w w a.kept a.goes.0 element.inner refl refl refl refl a.goes.2 (inr (inl element.awaits)) (element-stands s w a element.inner element.onward)
+    (element-scoped s w a)
 
 -- ## Enumerators
 
@@ -691,6 +705,7 @@ enumerator-in s scope (opens.TypeArguments from is_dependent) rest os text takes
 enumerator-in s scope (opens.NestArguments nest) rest os text takes e = e
 enumerator-in s scope (opens.FirstArguments nest) rest os text takes e = e
 enumerator-in s scope (opens.NameArguments from) rest os text takes e = e
+enumerator-in s scope (opens.LevelArguments is_dependent) rest os text takes e = e
 enumerator-in s scope _ rest os text takes e = absurd takes
 
 -- a list waits for the type of an enumerator

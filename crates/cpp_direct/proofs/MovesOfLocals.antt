@@ -249,11 +249,23 @@ pub record LambdaOpened (s : Symbol) (os : List Opened) (e : Term) (at : ℕ) (s
 pub nowhere-scoped : (around : Around) → HasScope nowhere around
 nowhere-scoped around = (λ placed. absurd (placed refl), λ k single. absurd (none-known k single.0), λ e. cc e)
 
+-- a lambda may be expected as one of these kinds: as a type in a function, or as a component of a name
+abbrev pub IsPieceKind : Kind → Type 0
+IsPieceKind Kind.TypeEntity = Unit {0}
+IsPieceKind Kind.Component = Unit {0}
+IsPieceKind _ = ⊥
+
+piece-taken : (kind : Kind) → IsPieceKind kind → is_eaten kind Production.LocalTypeName 85 ≡ true
+unfolding is_eaten
+piece-taken Kind.TypeEntity is = refl
+piece-taken Kind.Component is = refl
+piece-taken _ is = absurd is
+
 -- a lambda begins in a symbol without long numbers
-pub lambda-opens : (s : Symbol) (os : List Opened) (around : Around) (e : Term) (at : ℕ) (st : State) → short_numbers 0 s.bytes ≡ true
-    → Expects s Kind.TypeEntity (after e true around) os at st → StandsAt s.bytes at (85 ∷ 108 ∷ []) → LambdaOpened s os e (at + 2) st
+pub lambda-opens : (s : Symbol) (kind : Kind) (os : List Opened) (around : Around) (e : Term) (at : ℕ) (st : State) → IsPieceKind kind
+    → short_numbers 0 s.bytes ≡ true → Expects s kind (after e true around) os at st → StandsAt s.bytes at (85 ∷ 108 ∷ []) → LambdaOpened s os e (at + 2) st
 unfolding is_eaten number_of_kind parts_of may_be_empty between opening close unfolding_.behind meaning part byte_of tree_of text_of piece_of letter_of is_there named_so_far extended applied after in_signature
-lambda-opens s os around e at st short expects stands =
+lambda-opens s kind os around e at st is_piece short expects stands =
     let p = Production.LocalTypeName in
     let q = Production.Lambda in
     let here : Around = after e true around in
@@ -261,7 +273,7 @@ lambda-opens s os around e at st short expects stands =
     let item = OfKind (number_of_kind Kind.Item) in
     let todo = OfKind (number_of_kind Kind.Items) ∷ Byte 69 ∷ Number Decimal ∷ [] in
     let places = stands-split s.bytes at (85 ∷ []) (108 ∷ []) stands in
-    let anonymous = byte-opens (eats s Kind.TypeEntity p 85 refl) (hole s Kind.TypeEntity here os at st expects) places.0 refl refl in
+    let anonymous = byte-opens (eats s kind p 85 (piece-taken kind is_piece)) (hole s kind here os at st expects) places.0 refl refl in
     let above = open_at anonymous in
     let needs = opens-where s Kind.Anonymous q 108 (108 ∷ []) here above (at + 1) st refl (omega arith) refl
     (λ f shaped there. lambda-begins s.is_wide s.bytes (at + 1 + 1) (at + 1) st short f shaped there) anonymous.expects places.1 in

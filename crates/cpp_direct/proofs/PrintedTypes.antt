@@ -91,11 +91,6 @@ pub prints-as-given : (detail : Detail) (names : Names) (is_dependent : Bool) (t
 prints-as-given detail names false t b r p = prints-given names t b r p
 prints-as-given detail names true t b r p = p
 
--- and so does what needs none of them.
-pub given-more : {detail : Detail} (names : Names) (t : Term) (b : List ℕ) (r : Bool) → PrintsGiven detail (λ k. None) t b r → PrintsGiven detail names t b r
-given-more names t b r p =
-    made-given names t b r (λ c given. p.prints c (λ k own e. cc e)) (λ arguments single. p.packless arguments (λ k own e. cc e)) p.no_function p.no_pack p.as_prefix p.opening
-
 -- In a context where they do it prints so.
 pub as-in : (detail : Detail) (names : Names) (is_dependent : Bool) (c : Context) (t : Term) (b : List ℕ) (r : Bool) → IsGiven detail names c
     → PrintsAs detail names is_dependent t b r → PrintsIn detail c 3 t b r

@@ -1,6 +1,6 @@
 -- What a parameter of a template may name, and where it is.
 use Rattle.sym_print.specs.declared.detail.Detail.{Detail}
-use Rattle.std.proofs.Common.{◌+◌, ◌≡◌, ℕ, zero, suc, ◌<◌, List, [], ◌∷◌, ◌++◌, length, slice_get, Some, None, is_some, arith, ap, sym, ◌∙◌, subst, refl, Bool, true, false}
+use Rattle.std.proofs.Common.{◌+◌, ◌≡◌, ℕ, zero, suc, ◌<◌, List, [], ◌∷◌, ◌++◌, length, slice_get, Some, None, is_some, arith, ap, sym, ◌∙◌, subst, refl, true, false}
 use Rattle.std.proofs.lemmas.Bool.{false≢true}
 use Rattle.cpp_grammar.specs.Scope.{count, element, arguments_of, before_arguments, has_return_type, is_structor}
 use Rattle.cpp_grammar.specs.Term.{Term, instance}
@@ -15,7 +15,7 @@ use Rattle.cpp_direct.specs.declared.open.Open.TheVariants as opens
 use Rattle.cpp_direct.specs.declared.open.Argument.{Argument}
 use Rattle.cpp_direct.specs.declared.open.Arguments.{Arguments}
 use Rattle.cpp_direct.specs.Marks.{called_on, has_const}
-use Rattle.cpp_direct.specs.WriterInvariant.{nowhere, IsSingle, IsPackOf, IsArgument, IsAmong, AreAmong, HasArguments, HasScope, IsKnown, IsScoped, Scope, argument_of, list_with, place_of, IsNamedSo, qualifiers, HasParameters, IsOwnName}
+use Rattle.cpp_direct.specs.WriterInvariant.{nowhere, IsPackOf, IsAmong, AreAmong, HasArguments, HasScope, IsScoped, Scope, argument_of, list_with, place_of, IsNamedSo, qualifiers, HasParameters, IsOwnName}
 use Rattle.cpp_direct.specs.MidStep.{AreKnown, HasNameSo}
 use Rattle.cpp_direct.proofs.Kept.{none-known, placed-stays}
 use Rattle.cpp_direct.specs.Prints.{PrintAllIn, PrintsName}
@@ -33,7 +33,7 @@ one-stays text more p k ts h = record {
 
 pub pack-stays : {detail : Detail} (text more : List ℕ) (a : Arguments) (ts : List Term) → IsPackOf detail text a ts → IsPackOf detail (text ++ more) a ts
 pack-stays text more a ts h =
-    record { size = h.size; among = λ k known is_pack. one-stays text more (place_of a (a.before + k)) k ts (h.among k known is_pack) }
+    record { size = h.size; among = λ k known. one-stays text more (place_of a (a.before + k)) k ts (h.among k known) }
 
 -- so do the arguments of a name
 pub arguments-stay : {detail : Detail} (text more : List ℕ) (a : Arguments) (name : Term) → HasArguments detail text a name
@@ -62,9 +62,8 @@ pub no-arguments : {detail : Detail} (text : List ℕ) (name : Term) → HasArgu
 no-arguments text name = (λ k single. absurd (none-known k single.0), λ e. cc e)
 
 -- they stay also while they are read
-pub among-stay : {detail : Detail} (text more : List ℕ) (is_pack : Bool) (first : ℕ) (a : Arguments) (ts : List Term) → AreAmong detail text is_pack first a ts
-    → AreAmong detail (text ++ more) is_pack first a ts
-among-stay text more is_pack first a ts known k o = let h = known k o in (one-stays text more (place_of a k) k ts h.0, h.1)
+pub among-stay : {detail : Detail} (text more : List ℕ) (a : Arguments) (ts : List Term) → AreAmong detail text a ts → AreAmong detail (text ++ more) a ts
+among-stay text more a ts known k o = one-stays text more (place_of a k) k ts (known k o)
 
 -- and after the last of them
 pub known-stay : {detail : Detail} (text more : List ℕ) (a : Arguments) (ts : List Term) (tail : Term) → AreKnown detail text a ts tail
@@ -124,36 +123,28 @@ pub front-scoped : (scope : Scope) (around : Around) (mark : Mark) (start : ℕ)
     → HasScope p around → IsScoped scope around (opens.Front mark start p ∷ rest)
 front-scoped scope around mark start p rest named h q e = scoped-by scope around p q (cc e) named h
 
--- which encoding is theirs, whether one of them is a pack, and which one, says nothing of where they are
-pub there-still : (place before size : ℕ) (has : Bool) (a : Arguments) (k : ℕ)
-    → place_of (record a { encoding = place; has_pack = has; before = before; elements = size }) k ≡ place_of a k
-there-still place before size has a zero = refl
-there-still place before size has a (suc zero) = refl
-there-still place before size has a (suc (suc zero)) = refl
-there-still place before size has a (suc (suc (suc zero))) = refl
-there-still place before size has a (suc (suc (suc (suc k)))) = refl
+-- and those of a function whose address is read
+pub addressed-scoped : (scope : Scope) (around : Around) (mark : Mark) (to : ℕ) (p : Arguments) (rest : List Open) → scope.arguments ≡ p
+    → HasScope p around → IsScoped scope around (opens.Addressed mark to p ∷ rest)
+addressed-scoped scope around mark to p rest named h q e = scoped-by scope around p q (cc e) named h
 
+pub addressed-front-scoped : (scope : Scope) (around : Around) (mark : Mark) (to : ℕ) (p : Arguments) (rest : List Open) → scope.arguments ≡ p
+    → HasScope p around → IsScoped scope around (opens.AddressedFront mark to p ∷ rest)
+addressed-front-scoped scope around mark to p rest named h q e = scoped-by scope around p q (cc e) named h
+
+-- which encoding is theirs says nothing of where they are
 pub arguments-named : {detail : Detail} (text : List ℕ) (place : ℕ) (a : Arguments) (name : Term) → HasArguments detail text a name
     → HasArguments detail text (record a { encoding = place }) name
-arguments-named {detail} text place a name has = (
-  λ k o. subst (λ (p : Argument). IsArgument detail text p k name) (sym (same k)) (has.0 k (subst IsSingle (same k) o)),
+arguments-named text place a name has = (
+  has.0,
   λ o. let h = has.1 o in record {
     all = h.all;
     all_are = h.all_are;
     elements = h.elements;
     there = h.there;
-    are = record {
-      size = h.are.size;
-      among = λ k known is_pack.
-          let e = same (a.before + k) in
-          subst (λ (p : Argument). IsAmong detail text p k h.elements) (sym e)
-          (h.are.among k (subst IsKnown e known) (ap (λ (p : Argument). p.is_pack) (sym e) ∙ is_pack));
-    };
+    are = record { size = h.are.size; among = h.are.among };
   },
 )
-  where
-    same : (k : ℕ) → place_of (record a { encoding = place }) k ≡ place_of a k
-    same k = there-still place a.before a.elements a.has_pack a k
 
 -- what may be named in a name may be named in its arguments
 pub scoped-inside : (scope : Scope) (around : Around) (open_ : List Open) → IsScoped scope around open_ → IsScoped scope (inside around) open_

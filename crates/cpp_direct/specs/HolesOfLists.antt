@@ -4,7 +4,7 @@ use Rattle.std.specs.List.{AllByRecursion}
 use Rattle.sym_core.specs.declared.NumberKind.TheVariants.{Digits}
 use Rattle.sym_demangle.specs.Mangled.{StandsFor}
 use Rattle.cpp_grammar.specs.declared.kind.Kind.{Kind}
-use Rattle.cpp_grammar.specs.Term.{RefQualifier, any_value, lvalue_only, rvalue_only, Adjustment, adjusting, Term, symbol, special, thunk, integer, pack}
+use Rattle.cpp_grammar.specs.Term.{RefQualifier, any_value, lvalue_only, rvalue_only, Adjustment, adjusting, Term, symbol, special, thunk, integer, address_of, pack}
 use Rattle.cpp_grammar.specs.Values.{State, Around, Value, tree, named, tree_of, signed_digits}
 use Rattle.cpp_grammar.specs.Between.{in_name, in_types, inside, no_items}
 use Rattle.cpp_grammar.specs.Meaning.{encoding_of}
@@ -59,6 +59,13 @@ pub record EnumeratorOpened (s : Symbol) (kind : Kind) (outer : List Opened) (ar
   pub onward : (t : Term) (at : ℕ) (st : State) → Comes s inner (tree t true) at st → (negative : Bool) (digits : List ℕ) (end : ℕ)
       → StandsAt s.bytes at (minus_sign negative) → IsDigitsAt s.bytes (at + length (minus_sign negative)) digits end → StandsAt s.bytes end (69 ∷ [])
       → ListGoesOn s kind outer around (integer t (signed_digits negative digits)) (end + 1) st
+
+-- After XadL_Z the encoding is expected whose address an argument is, then two E.
+pub record AddressOpened (s : Symbol) (outer : List Opened) (around : Around) (at : ℕ) (st : State) : Type 0 where
+  pub inner : List Opened
+  pub awaits : Expects s Kind.Encoding around inner at st
+  pub onward : (e : Term) (at : ℕ) (st : State) → Comes s inner (tree e true) at st → StandsAt s.bytes at (69 ∷ 69 ∷ [])
+      → Comes s outer (tree (address_of e) true) (at + 2) st
 
 -- ## Encodings
 

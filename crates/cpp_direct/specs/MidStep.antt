@@ -21,7 +21,6 @@ use Rattle.cpp_direct.specs.declared.open.Pattern.{Pattern}
 use Rattle.cpp_direct.specs.declared.open.Purpose.{Purpose}
 use Rattle.cpp_direct.specs.declared.open.Purpose.TheVariants as purposes
 use Rattle.cpp_direct.specs.declared.open.Open.{Open}
-use Rattle.cpp_direct.specs.declared.open.Argument.{Argument}
 use Rattle.cpp_direct.specs.declared.open.Arguments.{Arguments}
 use Rattle.cpp_direct.specs.declared.open.Open.TheVariants as opens
 use Rattle.cpp_direct.specs.declared.direct.Direct.{Direct}
@@ -30,22 +29,26 @@ use Rattle.sym_core.specs.Value.{counted_value}
 use Rattle.sym_core.specs.declared.NumberKind.TheVariants.{Seq36}
 use Rattle.cpp_direct.specs.HolesOfFunctions.{SignatureGoesOn, plain_function, pointed, with_pointed}
 use Rattle.cpp_direct.specs.HolesOfArrays.{accessed, with_accessed}
+use Rattle.cpp_direct.specs.HolesOfLevels.{MemberComes}
 use Rattle.cpp_direct.specs.HolesOfTypes.{IsNamedKind, NoReference, TreeOpens}
 use Rattle.cpp_direct.specs.Marks.{has_const, called_on, mark_text}
 use Rattle.cpp_direct.specs.Prints.{NamesClass, Prints, PrintsName, IsElement, PrintAll, Shows, Encloses, sign_text, PrintsAs, PrintsIn, PrintAllAs, IsGiven, PrintAllBy, PrintsMade, pattern_letters}
-use Rattle.cpp_direct.specs.WriterInvariant.{AwaitsItems, Encoded, EncodedBehind, Fronts, IsListing, IsTail, IsTemplate, GoesOn, EnumeratorGoesOn, Owns, ParametersGoOn, Serves, Stands, TakesFunction, opening_text, qualifiers, arguments_or_pack, extra_of, led_by, list_with, in_front_of_next, ComeBefore, AreAmong, HasArguments, HasPack, IsAmong, IsPackOf, IsSingle, IsKnown, IsScoped, is_type, place_of, IsNaming, IsNestScoped, Scope, below, is_noted, may_name, encoding_place, IsNamedSo, IsNesting, Kept, IsBetween, AwaitsTypeIn, HasInstance, HasParameters, IsNestSoFar, FirstType, IsTaken}
+use Rattle.cpp_direct.specs.WriterInvariant.{AwaitsItems, Encoded, EncodedBehind, Fronts, IsListing, IsTail, IsTemplate, GoesOn, EnumeratorGoesOn, Owns, ParametersGoOn, Serves, Stands, TakesFunction, opening_text, qualifiers, arguments_or_pack, extra_of, led_by, list_with, in_front_of_next, ComeBefore, AreAmong, HasArguments, HasPack, IsAmong, IsPackOf, IsSingle, IsKnown, IsMadeIn, IsScoped, is_type, place_of, IsNaming, IsNestScoped, Scope, below, is_noted, may_name, encoding_place, IsNamedSo, IsNesting, Kept, IsBetween, AwaitsTypeIn, HasInstance, HasParameters, IsNestSoFar, FirstType, IsTaken}
 
--- the digits after the T of a parameter with this number
+-- the digits after the T of a parameter with this number, of which there is one at most
 abbrev pub parameter_digits : (number : ℕ) → List ℕ
 parameter_digits zero = []
-parameter_digits (suc zero) = 48 ∷ []
-parameter_digits (suc (suc zero)) = 49 ∷ []
-parameter_digits _ = 50 ∷ []
+parameter_digits (suc before) = (48 + before) ∷ []
 
--- of these arguments those are known that were known before, and the one with this number, which is this
-abbrev pub KnowsMore : (old new : Arguments) → (number : ℕ) → Argument → Type 0
-KnowsMore old new number p =
-    (k : ℕ) → IsKnown (place_of new k) → ((k ≡ number) × (place_of new k ≡ p)) ⊎ (place_of new k ≡ place_of old k)
+-- that is so up to this number
+abbrev pub most_by_digit : ℕ
+most_by_digit = 10
+
+-- of these arguments those are known that were known before, and the one with this number, which is between these places
+abbrev pub KnowsMore : (old new : Arguments) → (number from to : ℕ) → (is_reference : Bool) → Type 0
+KnowsMore old new number from to is_reference =
+    (k : ℕ) → IsKnown new k
+    → ((k ≡ number) × (place_of new k ≡ record { from = from; to = to; is_reference = is_reference })) ⊎ (IsKnown old k × (place_of new k ≡ place_of old k))
 
 -- nothing is written yet
 pub record IsFresh (w : Direct) : Type 0 where
@@ -160,8 +163,8 @@ pub record AwaitsMark (s : Symbol) (w : Direct) (mark : List ℕ) (from : ℕ) (
   pub written : w.text.list.items ≡ front ++ bytes
   pub from_is : from ≡ length front
   pub prints : PrintsAs (detail_of s) scope.names is_dependent made (bytes ++ mark) is_reference
-  pub naming : is_dependent ≡ true → IsNaming s scope rest
-  pub made_here : is_dependent ≡ true → made_in.encoding ≡ encoding_place s.bytes
+  pub naming : is_dependent ≡ true → IsNaming scope rest
+  pub made_here : is_dependent ≡ true → IsMadeIn scope made_in.encoding
   pub stands : Stands s scope rest outer front
 
 -- what waits for an argument of a name, or for an element of a pack among them
@@ -197,7 +200,7 @@ pub record IsArgumentRead (s : Symbol) (w : Direct) (is_pack : Bool) (from numbe
   pub written : w.text.list.items ≡ (led_by (detail_of s) (arguments_or_pack is_pack before before_text) front name ++ in_front_of_next ts texts) ++ bytes
   pub from_is : from ≡ length (led_by (detail_of s) (arguments_or_pack is_pack before before_text) front name ++ in_front_of_next ts texts)
   pub number_is : number ≡ length (before ++ ts)
-  pub among : AreAmong (detail_of s) w.text.list.items is_pack (length before) known (before ++ ts)
+  pub among : AreAmong (detail_of s) w.text.list.items known (before ++ ts)
   pub prints : Prints (detail_of s) t bytes is_reference
   pub goes : GoesOn s (arguments_or_pack is_pack before before_text) owner (below s scope rest) front template (ts ++ t ∷ []) w.at state
 
@@ -221,7 +224,7 @@ pub record AwaitsKnownArgument (s : Symbol) (w : Direct) (is_pack : Bool) (last 
   pub some : ts ≢ []
   pub written : w.text.list.items ≡ led_by (detail_of s) (arguments_or_pack is_pack before before_text) front name ++ texts
   pub number_is : last + 1 ≡ length (before ++ ts)
-  pub among : AreAmong (detail_of s) w.text.list.items is_pack (length before) known (before ++ ts)
+  pub among : AreAmong (detail_of s) w.text.list.items known (before ++ ts)
   pub goes : GoesOn s (arguments_or_pack is_pack before before_text) owner (below s scope rest) front template ts w.at state
 
 -- the first piece of a nested name is expected
@@ -299,7 +302,7 @@ pub record AwaitsClass (s : Symbol) (w : Direct) : Type 0 where
 -- the known ones among arguments are at their places, and those that are in a pack
 abbrev pub AreKnown : (detail : Detail) (text : List ℕ) → Arguments → List Term → (tail : Term) → Type 0
 AreKnown detail text a ts tail =
-    ((number : ℕ) → IsSingle (place_of a number) → IsAmong detail text (place_of a number) number ts)
+    ((number : ℕ) → IsSingle a number → IsAmong detail text (place_of a number) number ts)
     × (a.has_pack ≡ true → (es : List Term) × HasPack (list_with ts tail) a.before es × IsPackOf detail text a es)
 
 -- The arguments of what was opened last are read and their E, but for their last bracket. Those that are known are at their places.
@@ -358,6 +361,20 @@ pub record AwaitsNumber (s : Symbol) (w : Direct) : Type 0 where
   pub prints : Prints (detail_of s) type bytes is_reference
   pub written : w.text.list.items ≡ led_by (detail_of s) place.listing place.front place.name ++ in_front_of_next ts texts ++ codes "(" ++ bytes
   pub goes : EnumeratorGoesOn s place.listing place.owner (below s scope place.rest) place.front place.template ts type w.at state
+
+-- An instance was read and written of which a member is an element. The member's name is expected, between two Es.
+pub record AwaitsMember (s : Symbol) (w : Direct) (is_dependent : Bool) : Type 0 where
+  pub kept : Kept s w
+  pub open kept use *
+  pub outer : List Opened
+  pub own : Term
+  pub front : List ℕ
+  pub bytes : List ℕ
+  pub written : w.text.list.items ≡ front ++ bytes
+  pub prints : PrintsAs (detail_of s) scope.names is_dependent own bytes false
+  pub naming : is_dependent ≡ true → IsNaming scope (reverse w.waiting.list.items)
+  pub follows : MemberComes s outer own w.at state
+  pub stands : Stands s scope (reverse w.waiting.list.items) outer front
 
 -- A name was written from a place on, and is read as that of a function with this mark, or of data.
 pub record HasNameSo (s : Symbol) (text : List ℕ) (mark : Mark) (from : ℕ) : Type 0 where
@@ -427,6 +444,7 @@ abbrev pub IsDependentNow : (old new : Open) → Type 0
 IsDependentNow (opens.TypeArguments from is_dependent) new = new ≡ opens.TypeArguments from true
 IsDependentNow (opens.NestArguments nest) new = (nest.purpose ≡ purposes.Type) × (new ≡ opens.NestArguments (record nest { is_dependent = true }))
 IsDependentNow (opens.FirstArguments nest) new = (nest.purpose ≡ purposes.Type) × (new ≡ opens.FirstArguments (record nest { is_dependent = true }))
+IsDependentNow (opens.LevelArguments is_dependent) new = new ≡ opens.LevelArguments true
 IsDependentNow _ new = ⊥
 
 -- Of a function these parameters were read, or none where the first one is expected. Each may cost so much more than its text.
@@ -463,7 +481,7 @@ pub record AreExpanded (detail : Detail) (pattern : Pattern) (old new : Direct) 
   pub done : List Term
   pub rest : List Term
   pub all : ts ≡ done ++ rest
-  pub count : (length done ≡ number) ⊎ ((rest ≡ []) × (length ts ≤ number))
+  pub count : length done ≡ number
   pub bytes : List ℕ
   pub prints : PrintAllBy (PrintsMade detail pattern) done bytes
   pub writes : Writes old new bytes

@@ -102,6 +102,12 @@ impl Direct {
         if !is_first {
             self.push_pair(b',', b' ')?;
         }
+        if G::IS_WIDE && byte == b'X' {
+            let behind = self.at.checked_add(1)?;
+            if byte_at(s, behind) == b's' {
+                return self.begin_level::<G>(s);
+            }
+        }
         match byte {
             b'L' => {
                 if is_first {
@@ -212,6 +218,7 @@ impl Direct {
             Open::NameArguments { from } => {
                 self.name_ended::<G>(s, Mark::Plain, true, argument, from)
             }
+            Open::LevelArguments { is_dependent } => self.level_ended::<G>(s, is_dependent),
             _ => None,
         }
     }

@@ -13,7 +13,7 @@ ghost use Rattle.cpp_direct.specs.Symbol.{symbol_by};
 use crate::direct::Direct;
 use crate::grammar::Grammar;
 use crate::marks::mark_at;
-use crate::open::{Argument, Arguments, Mark, Nest, Open, Purpose, Step};
+use crate::open::{Arguments, MOST_KNOWN, Mark, Nest, Open, Purpose, Step};
 use crate::tokens::{byte_at, is_local, is_suffix, may_end};
 
 /// Before the first nested name.
@@ -28,20 +28,12 @@ pub const NO_NEST: Nest = Nest {
     is_dependent: false,
 };
 
-/// An argument that isn't known.
-pub const NO_PLACE: Argument = Argument {
-    from: 1,
-    to: 0,
-    is_pack: false,
-    is_reference: false,
-};
-
 /// No argument that is known.
 pub const NOWHERE: Arguments = Arguments {
-    first: NO_PLACE,
-    second: NO_PLACE,
-    third: NO_PLACE,
-    fourth: NO_PLACE,
+    from: 0,
+    ends: [0; MOST_KNOWN],
+    references: [false; MOST_KNOWN],
+    count: 0,
     encoding: 0,
     has_pack: false,
     before: 0,
