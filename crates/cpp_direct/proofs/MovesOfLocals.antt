@@ -23,7 +23,7 @@ use Rattle.cpp_direct.specs.Symbol.{Symbol}
 use Rattle.cpp_direct.specs.Holes.{cpp_language, Opened, opened, StandsAt, Comes, Expects, IsNameAt}
 use Rattle.sym_direct.specs.Holes as direct
 use Rattle.sym_direct.proofs.Moves as moves
-use Rattle.cpp_direct.specs.HolesOfLocals.{Discriminator, unnumbered, by_digit, by_digits, discriminator_value, IsDiscriminatorAt, IsLambdaDigit, IsPieceAt, LocalOpened, LocalTypeOpened, GuardOpened, lambda_digits, lambda_ending, lambda_with}
+use Rattle.cpp_direct.specs.HolesOfLocals.{Discriminator, unnumbered, by_digit, by_digits, discriminator_value, IsDiscriminatorAt, IsLambdaDigit, IsPieceAt, LocalOpened, LocalTypeOpened, lambda_digits, lambda_ending, lambda_with}
 use Rattle.cpp_direct.specs.Bytes.{short_numbers}
 use Rattle.cpp_direct.specs.WriterInvariant.{HasScope, ItemsGoOn, nowhere}
 use Rattle.cpp_direct.proofs.Kept.{none-known}
@@ -301,23 +301,4 @@ lambda-opens s kind os around e at st is_piece short expects stands =
                 let arguments = next-part p (filled-at end (closes q numbered refl) (omega (arith, ends_))) refl in
                 (closes p (none-fills Kind.MaybeArguments arguments refl) refl).comes;
           };
-    }
-
--- ## Guard variables
-
--- a guard variable begins with GV, and the name is expected of what it guards
-pub guard-opens : (s : Symbol) (os : List Opened) (around : Around) (at : ℕ) (st : State)
-    → Expects s Kind.Encoding around os at st → StandsAt s.bytes at (71 ∷ 86 ∷ []) → GuardOpened s os at (at + 2) st
-unfolding is_eaten is_left number_of_kind parts_of between close unfolding_.behind meaning part byte_of tree_of text_of piece_of letter_of is_there qualifiers_of ref_of
-guard-opens s os around at st expects stands =
-    let p = Production.OtherSpecial in
-    let q = Production.SpecialName in
-    let places = stands-split s.bytes at (71 ∷ []) (86 ∷ []) stands in
-    let mark = chain-opens (leaves s Kind.Encoding p 71 refl) (hole s Kind.Encoding around os at st expects) refl refl in
-    let rest = next-part p (byte-fills (eats s Kind.SpecialMark Production.Mark 71 refl) mark places.0 refl refl) refl in
-    let name = byte-opens (eats s Kind.SpecialAfterG q 86 refl) rest places.1 refl refl in
-    record {
-      inner = open_at name;
-      awaits = (hole-at (at + 2) name (omega arith)).expects;
-      onward = λ v here now comes. (closes p (closes q (fill name v here now comes) refl) refl).comes;
     }

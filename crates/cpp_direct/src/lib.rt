@@ -8,6 +8,7 @@
 
 mod addresses;
 mod arrays;
+mod clones;
 mod direct;
 mod enclosing;
 mod functions;

@@ -100,7 +100,11 @@ impl Direct {
         if is_local(s) {
             return self.begin_local::<G>(s);
         }
-        if byte_at(s, 2) != b'T' {
+        let letter = byte_at(s, 2);
+        if letter == b'G' {
+            return self.begin_clone::<G>(s);
+        }
+        if letter != b'T' {
             self.at = 2;
             return self.begin_encoding::<G>(s);
         }
