@@ -1,5 +1,5 @@
-"""The code of cpp_link for what is done before the parts of a production, and the facts that a function is asked with, from the rows of grammar.py.
-trees.py writes it."""
+"""The code of cpp_link for what is done before the parts of a production, the facts that a function is asked with, and the answers of those
+that hand on what they have no arm for, from the rows of grammar.py. trees.py writes it."""
 import re
 import grammar
 from family_code import Call, Fields, arm, snake
@@ -109,7 +109,7 @@ def passed_on(caller, callee, found, functions):
     """that what is asked with may be asked, and that what it ensures is what is to be ensured: each as one record"""
     lines = [f"pub {callee}-requires : goal.{callee}-requires", f"{callee}-requires c = record {{", *[f"  {of} = c.requires.{of};" for of in ("table", "kept", "first")]]
     for p in others_than(callee, found, functions): lines.append(f"  {snake(p)} = c.{f'in_default.not-{p}' if p in functions[caller] else f'requires.{snake(p)}'};")
-    return [*lines, "}", "", f"pub returns-in_default : goal.returns-in_default", f"returns-in_default c = c.{callee}.ensures"]
+    return [*lines, "}", "", "pub returns-in_default : goal.returns-in_default", f"returns-in_default c = c.{callee}.ensures"]
 
 def shown_piece(made):
     """a piece of a name as a tree and in code, by what is read of the first part; the call that reads it; and that the two are the same, by what that call ensures"""
