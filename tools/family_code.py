@@ -28,15 +28,17 @@ FAMILIES = {
         "CompoundType": ("A rare compound type that isn't a function's.", """Complex RestrictType VolatileType MemberPointer ArrayType AnyArray LengthArray BoundedArray Vector ConvertedConst ConvertedPointer
             ConvertedReference"""),
         "FunctionType": ("A function's type, and its signature.", "Function NoexceptFunction RefEnd Constraint RestEnd LvalueItem RvalueItem RestItem RestLvalue RestRvalue"),
-        "Argument": ("A template's parameter, its declaration, or a rare argument.", """Parameter ParameterArgument PackArgument LiteralArgument LiteralElement AnyElement ArgumentWithT DeclaredArgument
-            LeveledParameter OneLiteral OnePack AnyType ValueOf OfConcept TemplateOf PackOf Declarations"""),
+        "Argument": ("A template's parameter, or a rare argument.", """Parameter ParameterArgument PackArgument LiteralArgument LiteralElement AnyElement ArgumentWithT LeveledParameter OneLiteral
+            OnePack"""),
+        "Declaration": ("The declaration of a template's parameter, or an argument that begins with one.", "DeclaredArgument AnyType ValueOf OfConcept TemplateOf PackOf Declarations"),
     },
     "expression_meaning": {
         "Operation": ("An expression by the first letter of its operator.", """ExpressionA ExpressionC ExpressionD ExpressionE ExpressionF ExpressionG ExpressionI ExpressionL ExpressionM ExpressionN ExpressionO
             ExpressionP ExpressionQ ExpressionR ExpressionS ExpressionT Initializer BracedInitializer"""),
         "Operands": ("An operator's second letter and its operands, or a list of expressions.", """Expression Expressions Unary AddressExpression OfType DestructorName Braces Step Binary Cast Convert Call
-            TypedBraces Conditional New Placed LeftFold RightFold FoldOperand FoldPack Requires RequiresOf RequiredType ExpressionRequirement NoexceptRequirement ResultRequirement TypeRequirement
-            NestedRequirement PackSize ExpandExpression"""),
+            TypedBraces Conditional New Placed"""),
+        "Pack": ("A fold, or what else is made of a pack.", "LeftFold RightFold FoldOperand FoldPack PackSize ExpandExpression"),
+        "Requirement": ("A requires expression, or what it requires.", "Requires RequiresOf RequiredType ExpressionRequirement NoexceptRequirement ResultRequirement TypeRequirement NestedRequirement"),
         "Unresolved": ("A name in an expression, or a parameter.", """Unresolved UnresolvedInType Levels LevelsEnd UnresolvedOperator ParameterExpression SimpleId OperatorReference FunctionParameter
             OuterParameter This ParameterNumber"""),
         "Literal": ("A literal.", "LiteralWithD AddressedLiteral EncodingLiteral BoolLiteral IntegerLiteral NullLiteral CharLiteral"),

@@ -1,5 +1,5 @@
-"""The code of cpp_link for what is done before the parts of a production, and the facts that a function is asked with, from the rows of grammar.py.
-trees.py writes it."""
+"""The code of cpp_link for what is done before the parts of a production, the facts that a function is asked with, and the answers of those
+that hand on what they have no arm for, from the rows of grammar.py. trees.py writes it."""
 import re
 import grammar
 from family_code import Call, Fields, arm, snake
@@ -87,14 +87,67 @@ def arms():
             lines += [f"            Production::{p} => {x}"] if x == ITS_TYPES else arm(p, x)
         yield FILE, function, lines
 
+def others_than(function, found, functions):
+    """the productions that a function is never asked with, since what asks it has arms for them"""
+    before = {"step_second": [], "step_second_of_name": ["step_second"], "step_second_of_piece": ["step_second", "step_second_of_name"]}[function]
+    return [p for p, s in found.items() if s[1] != "quiet" and is_by_hand(s[1])] + [p for b in before for p in functions[b]]
+
 def asked():
     """each function that is asked with what others haven't done, and the facts that the production is none of theirs"""
     found = steps()
     functions = of_function(found)
-    begun = [p for p, s in found.items() if s[1] != "quiet" and is_by_hand(s[1])]
-    for function, before in (("step_second", []), ("step_second_of_name", ["step_second"]), ("step_second_of_piece", ["step_second", "step_second_of_name"])):
-        others = begun + [p for b in before for p in functions[b]]
-        yield FILE, function, [f"        requires {snake(p)} {{ production ≡ productions.{p} → ⊥ }}" for p in others]
+    for function in ("step_second", "step_second_of_name", "step_second_of_piece"):
+        yield FILE, function, [f"        requires {snake(p)} {{ production ≡ productions.{p} → ⊥ }}" for p in others_than(function, found, functions)]
+
+# ## Answers
+
+# what hands on what it has no arm for, and to what
+HANDED = [("step_second", "step_second_of_name"), ("step_second_of_name", "step_second_of_piece")]
+LINKED = "Rattle.cpp_link.proofs.linked.Linked"
+
+def passed_on(caller, callee, found, functions):
+    """that what is asked with may be asked, and that what it ensures is what is to be ensured: each as one record"""
+    lines = [f"pub {callee}-requires : goal.{callee}-requires", f"{callee}-requires c = record {{", *[f"  {of} = c.requires.{of};" for of in ("table", "kept", "first")]]
+    for p in others_than(callee, found, functions): lines.append(f"  {snake(p)} = c.{f'in_default.not-{p}' if p in functions[caller] else f'requires.{snake(p)}'};")
+    return [*lines, "}", "", "pub returns-in_default : goal.returns-in_default", f"returns-in_default c = c.{callee}.ensures"]
+
+def shown_piece(made):
+    """a piece of a name as a tree and in code, by what is read of the first part; the call that reads it; and that the two are the same, by what that call ensures"""
+    if made == "only (piece_at 0)": return "values.piece_of v", "{0}.result", "piece_in", "{0}.ensures.is"
+    if m := re.fullmatch(r"of new_source \((yes|no) ∷ text_at 0 ∷ \[\]\)", made): node, of = "Source", f"source {'true' if m[1] == 'yes' else 'false'}"
+    elif m := re.fullmatch(r"of new_(\w+) \(letter_at 0 ∷ \[\]\)", made): node, of = m[1].capitalize(), m[1]
+    else: node, of = "Operator", f"operator {re.fullmatch(r'of new_operator .fixed ([0-9]+) ∷ letter_at 0 ∷ .*', made)[1]}"
+    read, reads, known = ("text_in", "text_of", "{0}.ensures.is") if node == "Source" else ("letter_of", "letter_of", "({0}.ensures c.args.symbol.now ts)")
+    return f"term.{of} (values.{reads} v)", f"(Piece.{node}{of[len(node):]} {{0}}.result)", read, f"(ap (λ x. term.{of} x) {known})"
+
+def pieces(done):
+    """each arm by which a piece comes after the name so far, as one record"""
+    met = set()
+    def called(name, p):
+        first = name not in met
+        met.add(name)
+        return f"c.{name}" if first else f"c.{name}-in-{p}"
+    for p, step in done.items():
+        tree, piece_, read, same = shown_piece(re.fullmatch(r"becomes \(extending \((.*)\)\) false true false", step)[1])
+        named, extended, prefix, part = (called(name, p) for name in ("named", "extended", "prefix", read))
+        yield from ["", f"pub returns-in-{p} : goal.returns-in-{p}", "unfolding between named_so_far extended piece_of made_before makes_before", f"returns-in-{p} c =",
+            "    let ts = trees_in c.args.symbol.now c.args.self.now.nodes in", "    let v = value_in c.args.symbol.now c.args.self.now.nodes c.args.first in",
+            f"    piece_behind c.args.symbol.now c.args.self.now c.args.place c.args.kept v c.args.production Production.{p} {named}.result {extended}.result",
+            f"    {prefix}.result {piece_.format(part)} ({tree}) c.in-{p}.is {named}.ensures (λ around state. refl)",
+            f"    {prefix}.ensures {same.format(part)} {extended}.ensures.is {extended}.ensures.there refl refl"]
+
+PIECE_IMPORTS = ["use Rattle.std.proofs.Common.{refl, ap, true, false}", "use Rattle.cpp_grammar.specs.declared.production.Production.{Production}", "use Rattle.cpp_term.specs.Term as term",
+    "use Rattle.cpp_term.specs.Values as values", "use Rattle.cpp_term.specs.Between.{between, named_so_far, extended}", "use Rattle.cpp_tree.specs.Nodes.{piece_of}",
+    "use Rattle.cpp_tree.specs.declared.node.Piece.{Piece}", "use Rattle.cpp_link.specs.Parts.{trees_in, value_in}", "use Rattle.cpp_link.specs.Owed.{made_before}", "use Rattle.cpp_link.specs.NodeCount.{makes_before}",
+    "use Rattle.cpp_link.proofs.Pieces.{piece_behind}"]
+
+def answers():
+    """the answers of each function that hands on, and of that which makes a name by a piece: their files, and their lines"""
+    found = steps()
+    functions = of_function(found)
+    def file(function, imports, lines): return f"cpp_link/proofs/linked/Linked/{function}/Answers.antt", [*imports, f"use {LINKED}.{function}.Goals as goal", *lines]
+    for caller, callee in HANDED: yield file(caller, [], ["", *passed_on(caller, callee, found, functions)])
+    yield file("step_second_of_piece", PIECE_IMPORTS, pieces(functions["step_second_of_piece"]))
 
 # ## Which candidates become of a production
 

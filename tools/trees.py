@@ -856,6 +856,7 @@ def files(crates):
     found = families(crates)
     texts = {"cpp_link/specs/Families.antt": family_specs(found), "cpp_link/proofs/FamilyArms.antt": family_laws(found),
              **{f"cpp_link/proofs/linked/Linked/outcome_of_{snake(family)}/Answers.antt": family_answers(family, found[family]) for family in found if family != "Common"},
+             **{path: "\n".join([f"-- {WRITTEN}", *lines]) + "\n" for path, lines in step_code.answers()},
              "cpp_tree/proofs/nodes/Nodes/noted/Answers.antt": node_answers.noted(crates, [node for node, args in noted_nodes()]),
              "cpp_tree/proofs/view/view_of_own/Answers.antt": node_answers.seen(),
              "cpp_link/proofs/linked/Linked/finish_rule/Answers.antt": rare_answers("finish_rule", "finish_rare-requires-clause-rare", "", "c.production_of-production.result", "", UNREAD_IMPORTS, [*UNREAD_ANSWER, *handed_answers()]),

@@ -233,43 +233,37 @@ def layout_codes():
 ENDS = [("PRIMARY", "binds most"), ("UNARY", "an operator before its operand makes")]
 
 def layout_operations():
-    def text(t): return f"texts::OPERATION + {OPERATION_TEXTS.index(t)}" if t else "texts::NONE"
+    def text(t): return f"OPERATION + {OPERATION_TEXTS.index(t)}" if t else "NONE"
     def how(o): return f"Operand::From({o})" if isinstance(o, int) else f"Operand::{HOW[o]}"
-    out = [f"// {WRITTEN} How the operations of expressions are printed, by the codes of their operators.", "#![tactic(auto)]", "", "ghost use Rattle.std.specs.Prelude.{◌≡◌, ◌≤◌, []};", "ghost use Rattle.cpp_grammar.specs.Parts.{printed};",
-           "ghost use Rattle.cpp_term.specs.Parts.{most_of};", "ghost use Rattle.cpp_layout.specs.Operations.{with_code, HasTexts};", "", "use crate::texts;", "use cpp_grammar::operand::Operand;", "",
+    out = [f"// {WRITTEN} How the operations of expressions are printed, by the codes of their operators.", "#![tactic(auto)]", "", "ghost use Rattle.std.specs.Prelude.{◌≡◌, ◌≤◌, []};", "ghost use Rattle.cpp_grammar.specs.Operations.{operations};", "ghost use Rattle.cpp_grammar.specs.Parts.{printed};",
+           "ghost use Rattle.cpp_term.specs.Parts.{most_of};", "ghost use Rattle.cpp_layout.specs.Operations.{with_code, HasTexts, place_of};", "", "use crate::texts::{NONE, OPERATION};", "use cpp_grammar::operand::Operand;", "",
            *[line for name, what in ENDS for line in (f"/// The precedence of what {what}.", f"pub(crate) const {name}: u8 = {words.PRECEDENCES.index(name)};", "")],
            "/// The precedence of an operation, and what is printed: the numbers of texts, and how its operands are.", "#[derive(Clone, Copy)]", "pub struct Operation {",
            "    pub precedence: u8,", "    pub front: u16,", "    pub left: Operand,", "    pub between: u16,", "    pub right: Operand,", "    pub back: u16,", "}", "",
-           "/// One of these parts.", "fn printed_as(", "    precedence: u8,", "    front: u16,", "    left: Operand,", "    between: u16,", "    right: Operand,", "    back: u16,", ") -> Operation",
-           "    ensures { result ≡ record { precedence = precedence; front = front; left = left; between = between; right = right; back = back } }", "{", "    Operation {",
-           "        precedence,", "        front,", "        left,", "        between,", "        right,", "        back,", "    }", "}", "",
-           "/// The operation of two letters.", "pub(crate) fn operation_of(first: u8, second: u8) -> Operation",
-           "    ensures is { with_code (printed first second).code result ≡ printed first second }", "    ensures texts { HasTexts result }", "    ensures few { most_of (with_code [] result) ≤ 7 }", "{",
-           "    match first as u16 * 256 + second as u16 {"]
-    for code, own, front, left, between, right, back in words.OPERATIONS:
-        out += [f"        // {code}", f"        {ord(code[0]) * 256 + ord(code[1])} => printed_as(", *[f"            {value}," for value in (own, text(front), how(left), text(between), how(right), text(back))], "        ),"]
-    out += ["        _ => printed_as(", *[f"            {value}," for value in (0, "texts::NONE", "Operand::NotPrinted", "texts::NONE", "Operand::NotPrinted", "texts::NONE")], "        ),", "    }", "}"]
+           "// A row of `OPERATIONS`: a precedence, and what is printed.", "macro_rules! row {", "    ($precedence:expr => $front:expr, $left:expr, $between:expr, $right:expr, $back:expr) => {", "        Operation {",
+           *[f"            {field}: ${field}," for field in ("precedence", "front", "left", "between", "right", "back")], "        }", "    };", "}", "",
+           "/// The operations in the order of the table, and what is printed where there is none.", f"static OPERATIONS: [Operation; {len(words.OPERATIONS) + 1}] = ["]
+    for code, own, front, left, between, right, back in [*words.OPERATIONS, ("no operation", 0, "", words.NONE, "", words.NONE, "")]:
+        out += [f"    row!({own} => {text(front)}, {how(left)}, {text(between)}, {how(right)}, {text(back)}), // {code}"]
+    out += ["];", "", "/// The place of an operation, by its two letters as one number.", "fn place_of(code: u16) -> usize", "    ensures { result ≡ place_of code operations }", "{", "    match code {",
+            *[f"        {number} => {place}, // {words.OPERATIONS[place][0]}" for place, number in enumerate(operation_numbers())], f"        _ => {len(words.OPERATIONS)},", "    }", "}", "",
+            "/// The operation of two letters.", "pub(crate) fn operation_of(first: u8, second: u8) -> Operation",
+            "    ensures is { with_code (printed first second).code result ≡ printed first second }", "    ensures texts { HasTexts result }", "    ensures few { most_of (with_code [] result) ≤ 7 }", "{",
+            "    OPERATIONS[place_of(first as u16 * 256 + second as u16)]", "}"]
     return "\n".join(out) + "\n"
 
+def operation_numbers():
+    """the codes of the operations, each as one number"""
+    return [ord(code[0]) * 256 + ord(code[1]) for code, *rest in words.OPERATIONS]
+
 def operation_answers():
-    """each arm's operation is the one of the table, and has few parts"""
-    computed = "unfolding printed operation_of_code operations same_bytes builtin_texts operator_texts abbreviation_texts special_texts named_special_texts literal_endings"
-    counted = computed.replace("printed operation_of_code operations same_bytes", "text_part")
-    numbers = [ord(code[0]) * 256 + ord(code[1]) for code, *rest in words.OPERATIONS]
-    both = "c.args.first * 256 + c.args.second"
-    out = [f"-- {WRITTEN}", "use Rattle.std.proofs.Common.{◌≡◌, refl, arith, lit<, ◌+◌, ◌*◌, false}", "use Rattle.std.proofs.lemmas.Bool.{ne_eqb}",
-           "use Rattle.cpp_grammar.specs.Texts.{same_bytes, builtin_texts, operator_texts, abbreviation_texts, special_texts, named_special_texts, literal_endings}",
-           "use Rattle.cpp_grammar.specs.Operations.{operations, operation_of_code}", "use Rattle.cpp_grammar.specs.Parts.{printed}", "use Rattle.cpp_term.specs.Parts.{text_part}",
-           "use Rattle.cpp_layout.proofs.Operating.{printed-by, any_number, none-printed}", "use Rattle.cpp_layout.proofs.operation_rows.operation_of.Goals as goal"]
-    for n in numbers:
-        called = "printed_as" if n == numbers[0] else f"printed_as-in-{n}"
-        out += ["", f"pub returns-in-{n}-clause-is : goal.returns-in-{n}-clause-is", computed,
-                f"returns-in-{n}-clause-is c = printed-by c.args.first c.args.second {n // 256} {n % 256} c.{called}.result c.ranges.second.fits (lit< tt) (omega (arith, c.in-{n}.is)) (rw c.{called}.ensures refl)",
-                "", f"pub returns-in-{n}-clause-few : goal.returns-in-{n}-clause-few", counted, f"returns-in-{n}-clause-few c = rw c.{called}.ensures (omega arith)"]
-    off = ", ".join(f"ne_eqb ({both}) {n} (omega (arith, c.in_default))" for n in numbers)
-    out += ["", "pub returns-in_default-clause-is : goal.returns-in_default-clause-is", "unfolding operations",
-            f"returns-in_default-clause-is c = none-printed c.args.first c.args.second c.printed_as-in_default.result (let n : any_number operations ({both}) ≡ false = rw ({off}) refl in n) (rw c.printed_as-in_default.ensures refl)",
-            "", "pub returns-in_default-clause-few : goal.returns-in_default-clause-few", counted, "returns-in_default-clause-few c = rw c.printed_as-in_default.ensures (omega arith)"]
+    """each arm's place is that of its code in the table"""
+    out = [f"-- {WRITTEN}", "use Rattle.std.proofs.Common.{◌≡◌, refl, arith, false}", "use Rattle.std.proofs.lemmas.Bool.{ne_eqb}", "use Rattle.cpp_grammar.specs.Operations.{operations}",
+           "use Rattle.cpp_layout.specs.Operations.{place_of}", "use Rattle.cpp_layout.proofs.Operating.{any_number, none_placed}", "use Rattle.cpp_layout.proofs.operation_rows.place_of.Goals as goal"]
+    for n in operation_numbers():
+        out += ["", f"pub returns-in-{n} : goal.returns-in-{n}", "unfolding operations place_of", f"returns-in-{n} c = rw c.in-{n}.is refl"]
+    off = ", ".join(f"ne_eqb c.args.code {n} (omega (arith, c.in_default))" for n in operation_numbers())
+    out += ["", "pub returns-in_default : goal.returns-in_default", "unfolding operations", f"returns-in_default c = none_placed c.args.code operations (let none : any_number operations c.args.code ≡ false = rw ({off}) refl in none)"]
     return "\n".join(out) + "\n"
 
 def code_letters():
@@ -365,7 +359,7 @@ def files(productions, rows, skips):
     yield "cpp_layout/src/texts.rt", layout_texts()
     yield "cpp_layout/src/numbered.rt", layout_codes()
     yield "cpp_layout/proofs/CodeLetters.antt", code_letters()
-    yield "cpp_layout/proofs/operation_rows/operation_of/Answers.antt", operation_answers()
+    yield "cpp_layout/proofs/operation_rows/place_of/Answers.antt", operation_answers()
     for name, text in text_answers(): yield f"cpp_layout/proofs/texts/{name}/Answers.antt", text
     for name, text in code_answers(): yield f"cpp_layout/proofs/numbered/{name}/Answers.antt", text
     yield "cpp_direct/specs/Letters.antt", direct_letters()

@@ -28,7 +28,7 @@ fn changed(alloc: Global, s: &[u8], place: usize, change: Change) -> Result<Vec<
     Ok(changed)
 }
 
-/// What is answered for a symbol that is changed at a place: what a field has behind the place and a blank, where it begins so.
+/// What is answered for a symbol that is changed at a place: what a field has after the place and a blank, where it begins so.
 fn answer_at<'a>(
     alloc: Global,
     field: Option<&&'a [u8]>,

@@ -1,13 +1,11 @@
 -- The arguments of a name, as long as they are types, and packs of them.
 use Rattle.sym_print.specs.declared.detail.Detail.{Detail}
-use Rattle.std.proofs.Common.{arith, ◌≡◌, ℕ, zero, suc, ◌+◌, ◌-◌, ◌≤◌, ◌<◌, length, List, [], ◌∷◌, ◌++◌, reverse, slice_get, inr, inl, Bool, true, false, Some, refl, ap, sym, ◌∙◌, subst, codes, append_assoc, append-nil, nat_le, ◌&&◌, ◌⊎◌}
-use Rattle.std.proofs.lemmas.Bool.{false≢true, le-leb, leb-false, leb-true}
+use Rattle.std.proofs.Common.{arith, ◌≡◌, ℕ, zero, suc, ◌+◌, ◌-◌, ◌≤◌, ◌<◌, length, List, [], ◌∷◌, ◌++◌, reverse, slice_get, inr, inl, Bool, true, false, Some, refl, ap, sym, ◌∙◌, subst, codes, append_assoc, append-nil}
+use Rattle.std.proofs.lemmas.Bool.{false≢true}
 use Rattle.std.proofs.lemmas.List.{length-append}
 use Rattle.cpp_grammar.specs.declared.kind.Kind.{Kind}
-use Rattle.cpp_grammar.specs.Grammar.{may_be_empty}
-use Rattle.cpp_grammar.specs.Term.{Term, nil, instance, pack}
-use Rattle.cpp_grammar.specs.Values.{Around, nothing_there}
-use Rattle.cpp_grammar.specs.Between.{no_items}
+use Rattle.cpp_grammar.specs.Term.{list, Term, nil, pack}
+use Rattle.cpp_grammar.specs.Values.{Around}
 use Rattle.cpp_direct.specs.WrittenParts.{opening_bracket}
 use Rattle.cpp_direct.specs.Symbol.{detail_of, Symbol}
 use Rattle.cpp_direct.specs.declared.open.Argument.{Argument}
@@ -15,18 +13,18 @@ use Rattle.cpp_direct.specs.declared.open.Arguments.{Arguments}
 use Rattle.cpp_direct.specs.declared.open.Open.{Open}
 use Rattle.cpp_direct.specs.declared.direct.Direct.{Direct}
 use Rattle.cpp_direct.specs.Holes.{Opened, Expects, StandsAt}
-use Rattle.cpp_direct.specs.Prints.{Names, Prints, PrintAll, PrintAllAs, IsElementAs, PrintAllBy, list_of}
-use Rattle.cpp_direct.specs.WriterInvariant.{AwaitsArgument, Scope, arguments_or_pack, ComeBefore, element_kind, below, scoped_in, is_noted, may_name, AreAmong, ArgumentsGoOn, Belongs, EndsNamed, GoesOn, IsAmong, IsKnown, IsScoped, IsTemplate, IsWriting, Owns, Stands, extra_of, of_template, in_front_of_next, led_by, list_with, nowhere, place_of, Closes, Kept, IsTypeRead}
+use Rattle.cpp_direct.specs.Prints.{Names, Prints, PrintAll, IsElementAs, PrintAllBy, list_of}
+use Rattle.cpp_direct.specs.WriterInvariant.{AwaitsArgument, Scope, arguments_or_pack, ComeBefore, element_kind, below, HasPack, scoped_in, is_noted, may_name, AreAmong, ArgumentsGoOn, Belongs, EndsNamed, GoesOn, IsAmong, IsKnown, IsScoped, IsTemplate, IsWriting, Stands, extra_of, of_template, in_front_of_next, led_by, list_with, nowhere, place_of, Closes, Kept, IsTypeRead}
 use Rattle.cpp_direct.specs.MidStep.{AreKnown, AwaitsKnownArgument, IsArgumentRead, IsListEnded, IsLiteralRead, KnowsMore, argument_around, argument_entry}
+use Rattle.cpp_direct.specs.MidStepOfAddresses.{AwaitsArgumentOfName}
 use Rattle.cpp_direct.specs.Written.{Writes}
 use Rattle.cpp_direct.proofs.Ending.{next-written}
-use Rattle.cpp_direct.proofs.Kept.{kept-same, kept-written, reverse-last, template-stays, type-comes, none-known, kept-read}
-use Rattle.cpp_direct.proofs.Listed.{last-found, element-goes-on, list-kind, pack-goes-on, some-elements, template-listed}
-use Rattle.cpp_direct.proofs.Moves.{expects-empty}
-use Rattle.cpp_direct.proofs.MovesOfLists.{element-awaits}
-use Rattle.cpp_direct.proofs.PrintedLists.{all-as, next-prints, none-print, type-element, pack-element, list-with-none, none-text}
-use Rattle.cpp_grammar.specs.Scope.{count, element}
-use Rattle.cpp_direct.proofs.Scopes.{among-stay, element-there, none-scoped, there-still}
+use Rattle.cpp_direct.proofs.Kept.{awaited-in, kept-same, kept-written, reverse-last, template-stays, none-known, kept-read}
+use Rattle.cpp_direct.proofs.Listed.{pack-ends, list-ends, empty-pack-ends, last-found, element-goes-on, element-kind, pack-goes-on, some-elements, template-listed}
+use Rattle.cpp_direct.proofs.Moves.{any-argument}
+use Rattle.cpp_direct.proofs.MovesOfLists.{listed-awaits}
+use Rattle.cpp_direct.proofs.PrintedLists.{all-as, next-prints, none-print, type-element, list-more, none-text}
+use Rattle.cpp_direct.proofs.Scopes.{among-stay, element-there, none-scoped}
 use Rattle.cpp_direct.specs.declared.open.Open.TheVariants as opens
 use Rattle.cpp_direct.specs.declared.open.Step.TheVariants as steps
 
@@ -75,7 +73,7 @@ argument-stands s scope true from number known owner rest os text p = p
 
 -- nothing comes before the first argument, or before the first element of a pack that is the first argument
 none-before : (detail : Detail) (is_pack : Bool) → ComeBefore detail is_pack nowhere [] []
-none-before detail is_pack = record { none = λ e. refl; prints = none-print detail 3; count_is = λ e. refl }
+none-before detail is_pack = record { none = λ e. refl; prints = none-print detail 3; count_is = λ e. refl; no_pack = refl }
 
 argument-scoped : (scope : Scope) (around : Around) (is_pack : Bool) (from number : ℕ) (known : Arguments) (opened : List Open)
     → IsScoped scope around (argument_entry is_pack from number known ∷ opened)
@@ -89,14 +87,14 @@ argument-next : (s : Symbol) (old new : Direct) (is_pack : Bool) (from number pl
     → PrintAll (detail_of s) (extra_of (arguments_or_pack is_pack before before_text)) ts texts
     → old.text.list.items ≡ led_by (detail_of s) (arguments_or_pack is_pack before before_text) front name ++ in_front_of_next ts texts
     → from ≡ length old.text.list.items → number ≡ length (before ++ ts)
-    → AreAmong (detail_of s) old.text.list.items is_pack (length before) known (before ++ ts)
+    → AreAmong (detail_of s) old.text.list.items known (before ++ ts)
     → GoesOn s (arguments_or_pack is_pack before before_text) owner (below s kept.scope rest) front template ts place kept.state
     → reverse new.waiting.list.items ≡ argument_entry is_pack from number known ∷ argument_around is_pack owner rest → new.text ≡ old.text
-    → new.candidates ≡ old.candidates → new.has_scope ≡ old.has_scope → new.at ≡ place → IsWriting s new steps.Type
+    → new.candidates ≡ old.candidates → new.has_scope ≡ old.has_scope → new.at ≡ place → AwaitsArgumentOfName s new
 argument-next s old new is_pack from number place known kept owner rest front template name ts texts before before_text come_before is_template elements
     written from_is number_is among goes opened text candidates scope_same at =
     let listing = arguments_or_pack is_pack before before_text in
-    let element = element-awaits s (element_kind listing) goes.1 goes.0 place kept.state (list-kind listing) goes.4 in
+    let element = listed-awaits s (element_kind listing) goes.1 goes.0 place kept.state (element-kind listing) goes.4 in
     let stands = argument-stands s kept.scope is_pack from number known owner rest element.inner old.text.list.items (
       front,
       template,
@@ -116,15 +114,22 @@ argument-next s old new is_pack from number place known kept owner rest front te
           (λ l there later. Closes s listing owner (below s kept.scope rest) front template l there later)
           ts t place here kept.state now goes (element.onward t here now comes),
     ) in
-    type-comes s old new kept goes.0 element.inner text candidates scope_same opened goes.2
-    (inr (inl (subst (λ n. Expects s Kind.Item goes.0 element.inner n kept.state) (sym at) element.awaits))) stands
-    (argument-scoped kept.scope goes.0 is_pack from number known (argument_around is_pack owner rest))
+    record {
+      kept = kept-same s old new text candidates scope_same kept;
+      awaited = awaited-in s kept.scope old new goes.0 element.inner (ap (λ v. v.list.items) text) opened goes.2 stands
+          (argument-scoped kept.scope goes.0 is_pack from number known (argument_around is_pack owner rest));
+      awaits = subst (λ n. Expects s Kind.Argument goes.0 element.inner n kept.state) (sym at) element.awaits;
+    }
+
+-- it may be a type
+pub argument-type : (s : Symbol) (w : Direct) → AwaitsArgumentOfName s w → IsWriting s w steps.Type
+argument-type s w a = record { kept = a.kept; is_before = (a.awaited, inr (inl (any-argument s a.around a.os w.at a.state a.awaits))) }
 
 -- the first argument does
 pub argument-begins : (s : Symbol) (old new : Direct) (from : ℕ) → IsWriting s old (steps.List true)
     → EndsNamed (reverse old.waiting.list.items) → from ≡ length old.text.list.items
     → new.waiting.list.items ≡ old.waiting.list.items ++ opens.Argument from 0 nowhere ∷ [] → new.text ≡ old.text → new.candidates ≡ old.candidates → new.has_scope ≡ old.has_scope → new.at ≡ old.at
-    → IsWriting s new steps.Type
+    → AwaitsArgumentOfName s new
 argument-begins s old new from p named from_is waits text candidates scope_same at =
     let b = none-read s old p named in
     let entry = opens.Argument from 0 nowhere in
@@ -141,18 +146,19 @@ pub element-begins : (s : Symbol) (old new : Direct) (from : ℕ) → IsWriting 
 element-begins s old new from p named letter from_is waits text candidates scope_same at =
     let b = none-read s old p named in
     let entry = opens.Element from 0 nowhere in
-    argument-next s old new true from 0 (old.at + 1) nowhere b.kept b.owner b.rest b.front b.template b.name [] [] [] [] (none-before (detail_of s) true)
+    argument-type s new
+    (argument-next s old new true from 0 (old.at + 1) nowhere b.kept b.owner b.rest b.front b.template b.name [] [] [] [] (none-before (detail_of s) true)
     b.is_template (none-print (detail_of s) 0)
     (b.written ∙ sym (append-nil (b.front ++ b.name ++ opening_bracket (detail_of s) ++ []))) from_is refl (λ k known. absurd (none-known k known))
     (pack-goes-on s b.owner (below s b.scope b.rest) b.front b.template [] [] old.at b.state b.goes letter)
     (ap reverse waits ∙ reverse-last (old.waiting.list.items ++ opens.Pack ∷ []) entry
-    ∙ ap (λ ws. entry ∷ ws) (reverse-last old.waiting.list.items opens.Pack ∙ ap (λ ws. opens.Pack ∷ ws) b.open_is)) text candidates scope_same at
+    ∙ ap (λ ws. entry ∷ ws) (reverse-last old.waiting.list.items opens.Pack ∙ ap (λ ws. opens.Pack ∷ ws) b.open_is)) text candidates scope_same at)
 
 -- or another one
 pub next-argument-begins : (s : Symbol) (old mid new : Direct) (is_pack : Bool) (last from number : ℕ) (known : Arguments) → AwaitsKnownArgument s old is_pack last known
     → Writes old mid (codes ", ") → from ≡ length mid.text.list.items → number ≡ last + 1
     → new.waiting.list.items ≡ mid.waiting.list.items ++ argument_entry is_pack from number known ∷ [] → new.text ≡ mid.text → new.candidates ≡ mid.candidates
-    → new.has_scope ≡ mid.has_scope → new.at ≡ mid.at → IsWriting s new steps.Type
+    → new.has_scope ≡ mid.has_scope → new.at ≡ mid.at → AwaitsArgumentOfName s new
 next-argument-begins s old mid new is_pack last from number known p writes from_is number_is waits text candidates scope_same at =
     let entry = argument_entry is_pack from number known in
     let led = led_by (detail_of s) (arguments_or_pack is_pack p.before p.before_text) p.front p.name in
@@ -162,17 +168,10 @@ next-argument-begins s old mid new is_pack last from number known p writes from_
     (template-stays (detail_of s) p.scope.names p.owner p.front p.template p.name old.text.list.items (codes ", ") p.is_template)) p.elements
     (writes.text ∙ ap (λ l. l ++ codes ", ") p.written ∙ append_assoc led p.texts (codes ", ")
     ∙ ap (λ l. led ++ l) (sym (next-written p.ts p.texts p.some))) from_is (number_is ∙ p.number_is)
-    (subst (λ l. AreAmong (detail_of s) l is_pack (length p.before) known (p.before ++ p.ts)) (sym writes.text)
-    (among-stay old.text.list.items (codes ", ") is_pack (length p.before) known (p.before ++ p.ts) p.among)) p.goes
+    (subst (λ l. AreAmong (detail_of s) l known (p.before ++ p.ts)) (sym writes.text)
+    (among-stay old.text.list.items (codes ", ") known (p.before ++ p.ts) p.among)) p.goes
     (ap reverse waits ∙ reverse-last mid.waiting.list.items entry
     ∙ ap (λ ws. entry ∷ ws) (ap (λ v. reverse v.list.items) writes.waiting ∙ p.open_is)) text candidates scope_same (at ∙ writes.at)
-
-not-le : (n m : ℕ) → m < n → nat_le n m ≡ false
-not-le n m lt = go (nat_le n m) refl
-  where
-    go : (b : Bool) → nat_le n m ≡ b → nat_le n m ≡ false
-    go true is = absurd (omega (arith, lt, leb-true n m is))
-    go false is = is
 
 there-below : (ts : List Term) (k : ℕ) (t : Term) → slice_get ts k ≡ Some t → k < length ts
 there-below [] k t e = cc e
@@ -190,9 +189,10 @@ pack-after s old mid new last from number known p letter writes from_is number_i
     let led = p.front ++ p.name ++ opening_bracket (detail_of s) in
     let none = p.come_before.none refl in
     let count_is : number ≡ length p.ts = number_is ∙ p.number_is ∙ ap (λ (l : List Term). length (l ++ p.ts)) none in
-    let among = among-stay old.text.list.items (codes ", ") false (length p.before) known (p.before ++ p.ts) p.among in
-    argument-next s mid new true from number (old.at + 1) now (kept-written s old mid (codes ", ") writes p.kept) p.owner p.rest p.front p.template p.name [] [] p.ts p.texts
-    (record { none = λ e. absurd (false≢true (sym e)); prints = p.elements; count_is = λ e. count_is })
+    let among = among-stay old.text.list.items (codes ", ") known (p.before ++ p.ts) p.among in
+    argument-type s new
+    (argument-next s mid new true from number (old.at + 1) now (kept-written s old mid (codes ", ") writes p.kept) p.owner p.rest p.front p.template p.name [] [] p.ts p.texts
+    (record { none = λ e. absurd (false≢true (sym e)); prints = p.elements; count_is = λ e. count_is; no_pack = p.come_before.no_pack })
     (subst (λ l. IsTemplate (detail_of s) p.scope.names p.owner p.front p.template p.name l) (sym writes.text)
     (template-stays (detail_of s) p.scope.names p.owner p.front p.template p.name old.text.list.items (codes ", ") p.is_template))
     (none-print (detail_of s) 0)
@@ -200,19 +200,13 @@ pack-after s old mid new last from number known p letter writes from_is number_i
     ∙ ap (λ l. led ++ l) (sym (next-written p.ts p.texts p.some)) ∙ sym (append-nil (led ++ in_front_of_next p.ts p.texts)))
     from_is (count_is ∙ ap length (sym (append-nil p.ts)))
     (λ k o.
-    let same = there-still known.encoding number known.elements known k in
-    let h = among k (subst IsKnown same o) in
-    let own : IsAmong (detail_of s) mid.text.list.items (place_of now k) k p.ts =
-    subst (λ (q : Argument). IsAmong (detail_of s) mid.text.list.items q k p.ts) (sym same)
+    subst (λ l. IsAmong (detail_of s) mid.text.list.items (place_of known k) k l) (sym (append-nil p.ts))
     (subst (λ l. IsAmong (detail_of s) l (place_of known k) k p.ts) (sym writes.text)
-    (subst (λ (l : List Term). IsAmong (detail_of s) (old.text.list.items ++ codes ", ") (place_of known k) k (l ++ p.ts)) none h.0)) in (
-      subst (λ l. IsAmong (detail_of s) mid.text.list.items (place_of now k) k l) (sym (append-nil p.ts)) own,
-      ap (λ (q : Argument). q.is_pack) same ∙ h.1 ∙ sym (not-le (length p.ts) k (there-below p.ts k own.own own.there)),
-    ))
+    (subst (λ (l : List Term). IsAmong (detail_of s) (old.text.list.items ++ codes ", ") (place_of known k) k (l ++ p.ts)) none (among k o))))
     (pack-goes-on s p.owner (below s p.scope p.rest) p.front p.template p.ts p.texts old.at p.state p.goes letter)
     (ap reverse waits ∙ reverse-last (mid.waiting.list.items ++ opens.Pack ∷ []) entry
     ∙ ap (λ ws. entry ∷ ws) (reverse-last mid.waiting.list.items opens.Pack
-    ∙ ap (λ ws. opens.Pack ∷ ws) (ap (λ v. reverse v.list.items) writes.waiting ∙ p.open_is))) text candidates scope_same at
+    ∙ ap (λ ws. opens.Pack ∷ ws) (ap (λ v. reverse v.list.items) writes.waiting ∙ p.open_is))) text candidates scope_same at)
 
 -- ## What was read
 
@@ -253,8 +247,8 @@ value-argument s w is_pack is_reference from number known p found =
           written = v.written ∙ ap (λ l. l ++ bytes) waits.10;
           from_is = waits.11 ∙ ap length waits.10;
           number_is = waits.12;
-          among = subst (λ l. AreAmong (detail_of s) l b (length waits.6) known (waits.6 ++ waits.3)) (sym v.written)
-              (among-stay v.front bytes b (length waits.6) known (waits.6 ++ waits.3) waits.13);
+          among = subst (λ l. AreAmong (detail_of s) l known (waits.6 ++ waits.3)) (sym v.written)
+              (among-stay v.front bytes known (waits.6 ++ waits.3) waits.13);
           prints = v.prints;
           goes = waits.14 v.own w.at p.state v.comes;
         }
@@ -304,29 +298,6 @@ literal-argument s old begun new from p named from_is waits text candidates scop
           (subst (λ n. Expects s Kind.ArgumentList b.goes.0 b.goes.1 n b.state) (sym at) b.goes.4));
     }
 
--- with it all print
-read-prints : (s : Symbol) (w : Direct) (is_pack : Bool) (from number : ℕ) (known : Arguments) (is_reference : Bool)
-    (p : IsArgumentRead s w is_pack from number known is_reference)
-    → PrintAll (detail_of s) (extra_of (arguments_or_pack is_pack p.before p.before_text)) (p.ts ++ p.t ∷ []) (in_front_of_next p.ts p.texts ++ p.bytes)
-read-prints s w is_pack from number known is_reference p =
-    let extra = extra_of (arguments_or_pack is_pack p.before p.before_text) in
-    next-prints extra p.ts p.texts p.t p.bytes p.elements (type-element extra p.t p.bytes is_reference p.prints)
-
--- this is the text
-read-written : (s : Symbol) (old new : Direct) (is_pack : Bool) (from number : ℕ) (known : Arguments) (is_reference : Bool)
-    (p : IsArgumentRead s old is_pack from number known is_reference) → new.text ≡ old.text
-    → new.text.list.items ≡ led_by (detail_of s) (arguments_or_pack is_pack p.before p.before_text) p.front p.name ++ (in_front_of_next p.ts p.texts ++ p.bytes)
-read-written s old new is_pack from number known is_reference p text =
-    ap (λ v. v.list.items) text ∙ p.written
-    ∙ append_assoc (led_by (detail_of s) (arguments_or_pack is_pack p.before p.before_text) p.front p.name) (in_front_of_next p.ts p.texts) p.bytes
-
--- and after it is the template that was there before
-read-template : (s : Symbol) (old new : Direct) (is_pack : Bool) (from number : ℕ) (known : Arguments) (is_reference : Bool)
-    (p : IsArgumentRead s old is_pack from number known is_reference) → new.text ≡ old.text
-    → IsTemplate (detail_of s) p.scope.names p.owner p.front p.template p.name new.text.list.items
-read-template s old new is_pack from number known is_reference p text =
-    subst (λ v. IsTemplate (detail_of s) p.scope.names p.owner p.front p.template p.name v.list.items) (sym text) p.is_template
-
 argument-belongs : (detail : Detail) (names : Names) (is_pack : Bool) (known : Arguments) (opened : List Open) (owner : Open) (rest : List Open)
     (before : List Term) (before_text : List ℕ) → ComeBefore detail is_pack known before before_text
     → opened ≡ argument_around is_pack owner rest → Belongs detail names (arguments_or_pack is_pack before before_text) opened owner rest
@@ -335,48 +306,17 @@ argument-belongs detail names true known opened owner rest before before_text co
     (is, all-as detail names (is_noted owner) 3 before before_text come.prints)
 
 -- others may follow, of which nothing is known
-pub argument-passes : (s : Symbol) (old new : Direct) (is_pack : Bool) (from number : ℕ) (known : Arguments) (is_reference : Bool)
-    (p : IsArgumentRead s old is_pack from number known is_reference)
-    → reverse new.waiting.list.items ≡ argument_around is_pack p.owner p.rest → new.text ≡ old.text → new.candidates ≡ old.candidates → new.has_scope ≡ old.has_scope → new.at ≡ old.at
-    → IsWriting s new (steps.List false)
-argument-passes s old new is_pack from number known is_reference p waits text candidates scope_same at =
-    let listing = arguments_or_pack is_pack p.before p.before_text in
-    let ts = p.ts ++ p.t ∷ [] in
-    let texts = in_front_of_next p.ts p.texts ++ p.bytes in
-    record {
-      kept = kept-same s old new text candidates scope_same p.kept;
-      is_before = (
-        record {
-          listing = listing;
-          owner = p.owner;
-          rest = p.rest;
-          belongs = argument-belongs (detail_of s) p.scope.names is_pack known (reverse new.waiting.list.items) p.owner p.rest p.before p.before_text
-              p.come_before waits;
-          front = p.front;
-          template = p.template;
-          name = p.name;
-          is_template = read-template s old new is_pack from number known is_reference p text;
-        },
-        ts,
-        texts,
-        all-as (detail_of s) p.scope.names (may_name listing p.owner) (extra_of listing) ts texts (read-prints s old is_pack from number known is_reference p),
-        read-written s old new is_pack from number known is_reference p text,
-        λ e. absurd (false≢true e),
-        λ e. some-elements p.ts p.t,
-        subst (λ n. GoesOn s listing p.owner (below s p.scope p.rest) p.front p.template ts n p.state) (sym at) p.goes,
-      );
-    }
-
--- also where one was expected of which something would be known
-pub known-passes : (s : Symbol) (w : Direct) (last : ℕ) (known : Arguments) → AwaitsKnownArgument s w false last known → IsWriting s w (steps.List false)
-known-passes s w last known p = record {
+pub known-passes : (s : Symbol) (w : Direct) (is_pack : Bool) (last : ℕ) (known : Arguments) → AwaitsKnownArgument s w is_pack last known
+    → IsWriting s w (steps.List false)
+known-passes s w is_pack last known p = let listing = arguments_or_pack is_pack p.before p.before_text in record {
   kept = p.kept;
   is_before = (
     record {
-      listing = of_template;
+      listing = listing;
       owner = p.owner;
       rest = p.rest;
-      belongs = p.open_is;
+      belongs = argument-belongs (detail_of s) p.scope.names is_pack known (reverse w.waiting.list.items) p.owner p.rest p.before p.before_text p.come_before
+          p.open_is;
       front = p.front;
       template = p.template;
       name = p.name;
@@ -384,7 +324,7 @@ known-passes s w last known p = record {
     },
     p.ts,
     p.texts,
-    all-as (detail_of s) p.scope.names (is_noted p.owner) 3 p.ts p.texts p.elements,
+    all-as (detail_of s) p.scope.names (may_name listing p.owner) (extra_of listing) p.ts p.texts p.elements,
     p.written,
     λ e. absurd (false≢true e),
     λ e. p.some,
@@ -404,74 +344,61 @@ last-there [] t = refl
 last-there (v ∷ ts) t = last-there ts t
 
 -- one more is known
-pub known-more : {detail : Detail} (text : List ℕ) (is_pack : Bool) (first from to number : ℕ) (is_reference : Bool) (place : Argument) (known more : Arguments) (ts : List Term) (t : Term)
+pub known-more : {detail : Detail} (text : List ℕ) (from to number : ℕ) (is_reference : Bool) (known more : Arguments) (ts : List Term) (t : Term)
     (before bytes : List ℕ) → text ≡ before ++ bytes → from ≡ length before → to ≡ length text → number ≡ length ts → Prints detail t bytes is_reference
-    → (IsKnown place → place ≡ record { from = from; to = to; is_pack = is_pack; is_reference = is_reference }) → KnowsMore known more number place
-    → is_pack ≡ (is_pack && nat_le first number)
-    → AreAmong detail text is_pack first known ts → AreAmong detail text is_pack first more (ts ++ t ∷ [])
-known-more {detail} text is_pack first from to number is_reference place known more ts t before bytes written from_is to_is number_is prints place_is knows flag among k o =
+    → KnowsMore known more number from to is_reference → AreAmong detail text known ts → AreAmong detail text more (ts ++ t ∷ [])
+known-more {detail} text from to number is_reference known more ts t before bytes written from_is to_is number_is prints knows among k o =
     elim (knows k o) [
       | inl h ↦
-          subst (λ j. IsAmong detail text (place_of more k) j (ts ++ t ∷ []) × ((place_of more k).is_pack ≡ (is_pack && nat_le first j))) (sym h.0)
-          (subst (λ (q : Argument). IsAmong detail text q number (ts ++ t ∷ []) × (q.is_pack ≡ (is_pack && nat_le first number))) (sym h.1) (here (subst IsKnown h.1 o)))
-      | inr h ↦
-          subst (λ (q : Argument). IsAmong detail text q k (ts ++ t ∷ []) × (q.is_pack ≡ (is_pack && nat_le first k))) (sym h) (there (among k (subst IsKnown h o)))
+          subst (λ j. IsAmong detail text (place_of more k) j (ts ++ t ∷ [])) (sym h.0)
+          (subst (λ (q : Argument). IsAmong detail text q number (ts ++ t ∷ [])) (sym h.1) here)
+      | inr h ↦ subst (λ (q : Argument). IsAmong detail text q k (ts ++ t ∷ [])) (sym h.1) (there (among k h.0))
     ]
   where
-    here : IsKnown place → IsAmong detail text place number (ts ++ t ∷ []) × (place.is_pack ≡ (is_pack && nat_le first number))
-    here e = (
-      record {
-        bytes = bytes;
-        placed = record {
-          front = before;
-          back = [];
-          written = written ∙ sym (append-nil (before ++ bytes));
-          from_is = ap (λ (q : Argument). q.from) (place_is e) ∙ from_is;
-          to_is = ap (λ (q : Argument). q.to) (place_is e) ∙ to_is ∙ ap length written ∙ length-append before bytes;
-        };
-        own = t;
-        there = ap (λ n. slice_get (ts ++ t ∷ []) n) number_is ∙ last-there ts t;
-        prints = subst (λ (q : Argument). Prints detail t bytes q.is_reference) (sym (place_is e)) prints;
-      },
-      ap (λ (q : Argument). q.is_pack) (place_is e) ∙ flag,
-    )
+    here : IsAmong detail text (record { from = from; to = to; is_reference = is_reference }) number (ts ++ t ∷ [])
+    here = record {
+      bytes = bytes;
+      placed = record {
+        front = before;
+        back = [];
+        written = written ∙ sym (append-nil (before ++ bytes));
+        from_is = from_is;
+        to_is = to_is ∙ ap length written ∙ length-append before bytes;
+      };
+      own = t;
+      there = ap (λ n. slice_get (ts ++ t ∷ []) n) number_is ∙ last-there ts t;
+      prints = prints;
+    }
 
-    there : IsAmong detail text (place_of known k) k ts × ((place_of known k).is_pack ≡ (is_pack && nat_le first k))
-        → IsAmong detail text (place_of known k) k (ts ++ t ∷ []) × ((place_of known k).is_pack ≡ (is_pack && nat_le first k))
-    there g = (
-      record {
-        bytes = g.0.bytes;
-        placed = g.0.placed;
-        own = g.0.own;
-        there = earlier-there ts t g.0.own k g.0.there;
-        prints = g.0.prints;
-      },
-      g.1,
-    )
-
-flag-behind : (is_pack : Bool) (before ts : List Term) (number : ℕ) → number ≡ length (before ++ ts) → is_pack ≡ (is_pack && nat_le (length before) number)
-flag-behind false before ts number is = refl
-flag-behind true before ts number is = sym (le-leb (length before) number (omega (arith, is, length-append before ts)))
+    there : IsAmong detail text (place_of known k) k ts → IsAmong detail text (place_of known k) k (ts ++ t ∷ [])
+    there g = record {
+      bytes = g.bytes;
+      placed = g.placed;
+      own = g.own;
+      there = earlier-there ts t g.own k g.there;
+      prints = g.prints;
+    }
 
 -- the one that was read is known
-argument-known : (s : Symbol) (old : Direct) (is_pack : Bool) (from to number : ℕ) (place : Argument) (known more : Arguments) (is_reference : Bool)
-    (p : IsArgumentRead s old is_pack from number known is_reference) → to ≡ length old.text.list.items
-    → (IsKnown place → place ≡ record { from = from; to = to; is_pack = is_pack; is_reference = is_reference }) → KnowsMore known more number place
-    → AreAmong (detail_of s) old.text.list.items is_pack (length p.before) more (p.before ++ (p.ts ++ p.t ∷ []))
-argument-known s old is_pack from to number place known more is_reference p to_is place_is knows =
-    subst (λ l. AreAmong (detail_of s) old.text.list.items is_pack (length p.before) more l) (append_assoc p.before p.ts (p.t ∷ []))
-    (known-more old.text.list.items is_pack (length p.before) from to number is_reference place known more (p.before ++ p.ts) p.t
+argument-known : (s : Symbol) (old : Direct) (is_pack : Bool) (from to number : ℕ) (known more : Arguments) (is_reference : Bool)
+    (p : IsArgumentRead s old is_pack from number known is_reference) → to ≡ length old.text.list.items → KnowsMore known more number from to is_reference
+    → AreAmong (detail_of s) old.text.list.items more (p.before ++ (p.ts ++ p.t ∷ []))
+argument-known s old is_pack from to number known more is_reference p to_is knows =
+    subst (λ l. AreAmong (detail_of s) old.text.list.items more l) (append_assoc p.before p.ts (p.t ∷ []))
+    (known-more old.text.list.items from to number is_reference known more (p.before ++ p.ts) p.t
     (led_by (detail_of s) (arguments_or_pack is_pack p.before p.before_text) p.front p.name ++ in_front_of_next p.ts p.texts) p.bytes p.written p.from_is to_is
-    p.number_is p.prints place_is knows (flag-behind is_pack p.before p.ts number p.number_is) p.among)
+    p.number_is p.prints knows p.among)
 
 -- another one may follow
-pub argument-awaits : (s : Symbol) (old new : Direct) (is_pack : Bool) (from to number : ℕ) (place : Argument) (known more : Arguments) (is_reference : Bool)
+pub argument-awaits : (s : Symbol) (old new : Direct) (is_pack : Bool) (from to number : ℕ) (known more : Arguments) (is_reference : Bool)
     (p : IsArgumentRead s old is_pack from number known is_reference) → reverse new.waiting.list.items ≡ argument_around is_pack p.owner p.rest
     → new.text ≡ old.text → new.candidates ≡ old.candidates → new.has_scope ≡ old.has_scope → new.at ≡ old.at → to ≡ length old.text.list.items
-    → (IsKnown place → place ≡ record { from = from; to = to; is_pack = is_pack; is_reference = is_reference }) → KnowsMore known more number place
-    → more.before ≡ known.before → AwaitsKnownArgument s new is_pack number more
-argument-awaits s old new is_pack from to number place known more is_reference p waits text candidates scope_same at to_is place_is knows same_before =
+    → KnowsMore known more number from to is_reference → (more.before ≡ known.before) × (more.has_pack ≡ known.has_pack)
+    → AwaitsKnownArgument s new is_pack number more
+argument-awaits s old new is_pack from to number known more is_reference p waits text candidates scope_same at to_is knows same =
     let ts = p.ts ++ p.t ∷ [] in
+    let listing = arguments_or_pack is_pack p.before p.before_text in
+    let extra = extra_of listing in
     record {
       kept = kept-same s old new text candidates scope_same p.kept;
       owner = p.owner;
@@ -482,67 +409,75 @@ argument-awaits s old new is_pack from to number place known more is_reference p
       name = p.name;
       ts = ts;
       texts = in_front_of_next p.ts p.texts ++ p.bytes;
-      is_template = read-template s old new is_pack from number known is_reference p text;
+      is_template = subst (λ v. IsTemplate (detail_of s) p.scope.names p.owner p.front p.template p.name v.list.items) (sym text) p.is_template;
       before = p.before;
       before_text = p.before_text;
       come_before = record {
         none = p.come_before.none;
         prints = p.come_before.prints;
-        count_is = λ e. same_before ∙ p.come_before.count_is e;
+        count_is = λ e. same.0 ∙ p.come_before.count_is e;
+        no_pack = same.1 ∙ p.come_before.no_pack;
       };
-      elements = read-prints s old is_pack from number known is_reference p;
+      elements = next-prints extra p.ts p.texts p.t p.bytes p.elements (type-element extra p.t p.bytes is_reference p.prints);
       some = some-elements p.ts p.t;
-      written = read-written s old new is_pack from number known is_reference p text;
+      written = ap (λ v. v.list.items) text ∙ p.written ∙ append_assoc (led_by (detail_of s) listing p.front p.name) (in_front_of_next p.ts p.texts) p.bytes;
       number_is = omega (arith, p.number_is, length-append p.ts (p.t ∷ []), length-append p.before p.ts, length-append p.before ts);
-      among = subst (λ v. AreAmong (detail_of s) v.list.items is_pack (length p.before) more (p.before ++ ts)) (sym text)
-          (argument-known s old is_pack from to number place known more is_reference p to_is place_is knows);
-      goes = subst (λ n. GoesOn s (arguments_or_pack is_pack p.before p.before_text) p.owner (below s p.scope p.rest) p.front p.template ts n p.state) (sym at) p.goes;
+      among = subst (λ v. AreAmong (detail_of s) v.list.items more (p.before ++ ts)) (sym text)
+          (argument-known s old is_pack from to number known more is_reference p to_is knows);
+      goes = subst (λ n. GoesOn s listing p.owner (below s p.scope p.rest) p.front p.template ts n p.state) (sym at) p.goes;
     }
 
--- or it was the last one, and the arguments are these
-arguments-end : (s : Symbol) (old new : Direct) (is_pack : Bool) (from number : ℕ) (known more : Arguments) (is_reference : Bool)
-    (p : IsArgumentRead s old is_pack from number known is_reference) (ts : List Term) (arguments : List ℕ) → reverse new.waiting.list.items ≡ p.owner ∷ p.rest
-    → new.text ≡ old.text → new.candidates ≡ old.candidates → new.has_scope ≡ old.has_scope
-    → PrintAllAs (detail_of s) p.scope.names (is_noted p.owner) 3 ts arguments
-    → new.text.list.items ≡ p.front ++ p.name ++ opening_bracket (detail_of s) ++ arguments
-    → Owns s p.owner (below s p.scope p.rest) p.front (instance p.template (list_with ts nil)) new.at p.state
-    → AreKnown (detail_of s) old.text.list.items more ts nil → IsListEnded s new more
-arguments-end s old new is_pack from number known more is_reference p ts arguments waits text candidates scope_same elements written owns is_known = record {
-  kept = kept-same s old new text candidates scope_same p.kept;
-  owner = p.owner;
-  rest = p.rest;
-  open_is = waits;
-  front = p.front;
-  template = p.template;
-  name = p.name;
-  ts = ts;
-  tail = nil;
-  is_tail = inl refl;
-  arguments = arguments;
-  is_template = read-template s old new is_pack from number known is_reference p text;
-  elements = elements;
-  written = written;
-  owns = owns;
-  known = subst (λ v. AreKnown (detail_of s) v.list.items more ts nil) (sym text) is_known;
-}
+-- ## The end
 
-pub argument-closes : (s : Symbol) (old new : Direct) (from to number : ℕ) (place : Argument) (known more : Arguments) (is_reference : Bool)
-    (p : IsArgumentRead s old false from number known is_reference) → StandsAt s.bytes old.at (69 ∷ []) → reverse new.waiting.list.items ≡ p.owner ∷ p.rest
-    → new.text ≡ old.text → new.candidates ≡ old.candidates → new.has_scope ≡ old.has_scope → new.at ≡ old.at + 1 → to ≡ length old.text.list.items
-    → (IsKnown place → place ≡ record { from = from; to = to; is_pack = false; is_reference = is_reference }) → KnowsMore known more number place
-    → IsListEnded s new more
-unfolding no_items may_be_empty
-argument-closes s old new from to number place known more is_reference p stands waits text candidates scope_same at to_is place_is knows =
-    let ts = p.ts ++ p.t ∷ [] in
-    let among = argument-known s old false from to number place known more is_reference p to_is place_is knows in
-    arguments-end s old new false from number known more is_reference p ts (in_front_of_next p.ts p.texts ++ p.bytes) waits text candidates scope_same
-    (all-as (detail_of s) p.scope.names (is_noted p.owner) 3 ts (in_front_of_next p.ts p.texts ++ p.bytes) (read-prints s old false from number known is_reference p))
-    (read-written s old new false from number known is_reference p text)
-    (subst (λ n. Owns s p.owner (below s p.scope p.rest) p.front (instance p.template (list_with ts nil)) n p.state) (sym at)
-    (p.goes.5 nothing_there old.at p.state (expects-empty s Kind.ArgumentList p.goes.0 p.goes.1 old.at p.state p.goes.4 refl) stands))
-    (λ k o.
-    let h = among k o in
-    inl (h.1, subst (λ (l : List Term). IsAmong (detail_of s) old.text.list.items (place_of more k) k (l ++ ts)) (p.come_before.none refl) h.0))
+-- what is open around arguments is no pack
+no-pack-around : (s : Symbol) (w : Direct) (is_pack : Bool) (last : ℕ) (known : Arguments) (p : AwaitsKnownArgument s w is_pack last known) (opened : List Open)
+    → opened ≡ p.owner ∷ p.rest → (rest : List Open) → opened ≡ opens.Pack ∷ rest → ⊥
+no-pack-around s w is_pack last known p opened is rest e =
+    let same : p.owner ≡ opens.Pack = cc (sym is ∙ e) in
+    subst (λ o. IsTemplate (detail_of s) p.scope.names o p.front p.template p.name w.text.list.items) same p.is_template
+
+-- those that are known so far
+single-known : (s : Symbol) (w : Direct) (last : ℕ) (known : Arguments) (p : AwaitsKnownArgument s w false last known) (k : ℕ) → IsKnown known k
+    → IsAmong (detail_of s) w.text.list.items (place_of known k) k p.ts
+single-known s w last known p k o =
+    subst (λ (l : List Term). IsAmong (detail_of s) w.text.list.items (place_of known k) k (l ++ p.ts)) (p.come_before.none refl) (p.among k o)
+
+-- an argument may be the last one
+pub argument-closes : (s : Symbol) (w : Direct) (last : ℕ) (known : Arguments) → AwaitsKnownArgument s w false last known → StandsAt s.bytes w.at (69 ∷ [])
+    → IsListEnded s (record w { at = w.at + 1 }) known
+unfolding known-passes
+argument-closes s w last known p stands =
+    list-ends s w false known (known-passes s w false last known p) stands (no-pack-around s w false last known p (reverse w.waiting.list.items) p.open_is)
+    (λ k o. single-known s w last known p k o.0, λ e. absurd (false≢true (sym p.come_before.no_pack ∙ e)))
+
+-- or an empty pack
+pub pack-ends-empty : (s : Symbol) (w : Direct) (last before : ℕ) (known : Arguments) → AwaitsKnownArgument s w false last known → before ≡ last + 1
+    → StandsAt s.bytes w.at (74 ∷ 69 ∷ 69 ∷ []) → IsListEnded s (record w { at = w.at + 3 }) (record known { has_pack = true; before = before; elements = 0 })
+unfolding known-passes
+pack-ends-empty s w last before known p before_is stands =
+    empty-pack-ends s w false now (known-passes s w false last known p) stands (no-pack-around s w false last known p (reverse w.waiting.list.items) p.open_is) (
+      λ k o. single-known s w last known p k o.0,
+      λ o. (
+        [],
+        subst (λ n. HasPack (list_with p.ts (list none nil)) n []) (sym count_is) (subst (λ l. HasPack l (length p.ts) []) (list-more p.ts none nil)
+            (element-there (p.ts ++ none ∷ []) nil (length p.ts) none (last-there p.ts none))),
+        record {
+          size = refl;
+          among = λ k known_.
+              let h = single-known s w last known p (before + k) known_ in
+              absurd (omega (arith, there-below p.ts (before + k) h.own h.there, count_is));
+        },
+      ),
+    )
+  where
+    none : Term
+    none = pack nil
+
+    now : Arguments
+    now = record known { has_pack = true; before = before; elements = 0 }
+
+    count_is : before ≡ length p.ts
+    count_is = before_is ∙ p.number_is ∙ ap (λ (l : List Term). length (l ++ p.ts)) (p.come_before.none refl)
 
 front-there : (us es vs : List Term) (k : ℕ) (t : Term) → k < length us → slice_get (us ++ es) k ≡ Some t → slice_get (us ++ vs) k ≡ Some t
 front-there [] es vs k t below e = absurd (omega (arith, below))
@@ -556,93 +491,52 @@ behind-there (u ∷ us) es (suc k) t le e =
     subst (λ n. slice_get es n ≡ Some t) (omega arith) (behind-there us es k t (omega (arith, le)) e)
 
 -- what is known of a pack's elements, and of the arguments before it
-elements-known : (s : Symbol) (old : Direct) (from to number size : ℕ) (place : Argument) (known more : Arguments) (is_reference : Bool)
-    (p : IsArgumentRead s old true from number known is_reference) → to ≡ length old.text.list.items
-    → (IsKnown place → place ≡ record { from = from; to = to; is_pack = true; is_reference = is_reference }) → KnowsMore known more number place
-    → more.before ≡ length p.before → size ≡ number + 1 - more.before
-    → AreKnown (detail_of s) old.text.list.items (record more { elements = size }) (p.before ++ pack (list_of (p.ts ++ p.t ∷ [])) ∷ []) nil
-elements-known s old from to number size place known more is_reference p to_is place_is knows count_is size_is k o =
-    go (nat_le (length p.before) k) refl
+elements-known : (s : Symbol) (w : Direct) (last size : ℕ) (known : Arguments) (p : AwaitsKnownArgument s w true last known) → size ≡ last + 1 - known.before
+    → AreKnown (detail_of s) w.text.list.items (record known { has_pack = true; elements = size }) (p.before ++ pack (list_of p.ts) ∷ []) nil
+elements-known s w last size known p size_is = (
+  λ k o.
+      let h = p.among k o.0 in
+      placed k k all h (front-there p.before p.ts (own ∷ []) k h.own (omega (arith, o.1 refl, count_is)) h.there),
+  λ o. (
+    p.ts,
+    subst (λ n. HasPack (list_with all nil) n p.ts) (sym count_is) (element-there all nil (length p.before) own (last-there p.before own)),
+    record {
+      size = omega (arith, p.number_is, size_is, count_is, length-append p.before p.ts);
+      among = λ k known_.
+          let n = known.before + k in
+          let h = p.among n known_ in
+          placed n k p.ts h (subst (λ m. slice_get p.ts m ≡ Some h.own) (omega (arith, count_is))
+          (behind-there p.before p.ts n h.own (omega (arith, count_is)) h.there));
+    },
+  ),
+)
   where
     text : List ℕ
-    text = old.text.list.items
-
-    es : List Term
-    es = p.ts ++ p.t ∷ []
+    text = w.text.list.items
 
     own : Term
-    own = pack (list_of es)
+    own = pack (list_of p.ts)
 
     all : List Term
     all = p.before ++ own ∷ []
 
-    now : Arguments
-    now = record more { elements = size }
+    count_is : known.before ≡ length p.before
+    count_is = p.come_before.count_is refl
 
-    there : place_of now k ≡ place_of more k
-    there = there-still more.encoding more.before size more k
-
-    h : IsAmong (detail_of s) text (place_of more k) k (p.before ++ es) × ((place_of more k).is_pack ≡ nat_le (length p.before) k)
-    h = argument-known s old true from to number place known more is_reference p to_is place_is knows k (subst IsKnown there o)
-
-    is_there : (element (list_with all nil) (length p.before) ≡ own) × (length p.before < count (list_with all nil))
-    is_there = element-there all nil (length p.before) own (last-there p.before own)
-
-    go : (b : Bool) → nat_le (length p.before) k ≡ b
-        → (((place_of now k).is_pack ≡ false) × IsAmong (detail_of s) text (place_of now k) k all)
-        ⊎ (((place_of now k).is_pack ≡ true) × (us : List Term) × (element (list_with all nil) more.before ≡ pack (list_of us)) × (more.before < count (list_with all nil))
-        × (length us ≡ size) × IsAmong (detail_of s) text (place_of now k) (k - more.before) us)
-    go false is = inl (
-      ap (λ (q : Argument). q.is_pack) there ∙ h.1 ∙ is,
-      subst (λ (q : Argument). IsAmong (detail_of s) text q k all) (sym there) (record {
-        bytes = h.0.bytes;
-        placed = h.0.placed;
-        own = h.0.own;
-        there = front-there p.before es (own ∷ []) k h.0.own (omega (arith, leb-false (length p.before) k is)) h.0.there;
-        prints = h.0.prints;
-      }),
-    )
-    go true is = inr (
-      ap (λ (q : Argument). q.is_pack) there ∙ h.1 ∙ is,
-      es,
-      subst (λ n. element (list_with all nil) n ≡ own) (sym count_is) is_there.0,
-      subst (λ n. n < count (list_with all nil)) (sym count_is) is_there.1,
-      omega (arith, p.number_is, size_is, count_is, length-append p.ts (p.t ∷ []), length-append p.before p.ts),
-      subst (λ (q : Argument). IsAmong (detail_of s) text q (k - more.before) es) (sym there) (record {
-        bytes = h.0.bytes;
-        placed = h.0.placed;
-        own = h.0.own;
-        there = subst (λ n. slice_get es (k - n) ≡ Some h.0.own) (sym count_is)
-            (behind-there p.before es k h.0.own (leb-true (length p.before) k is) h.0.there);
-        prints = h.0.prints;
-      }),
-    )
+    placed : (k j : ℕ) (us : List Term) (h : IsAmong (detail_of s) text (place_of known k) k (p.before ++ p.ts)) → slice_get us j ≡ Some h.own
+        → IsAmong (detail_of s) text (place_of known k) j us
+    placed k j us h is = record { bytes = h.bytes; placed = h.placed; own = h.own; there = is; prints = h.prints }
 
 -- after an element of the pack they end with it
-pub pack-closes : (s : Symbol) (old new : Direct) (from to number size : ℕ) (place : Argument) (known more : Arguments) (is_reference : Bool)
-    (p : IsArgumentRead s old true from number known is_reference)
-    → StandsAt s.bytes old.at (69 ∷ []) → StandsAt s.bytes (old.at + 1) (69 ∷ []) → reverse new.waiting.list.items ≡ p.owner ∷ p.rest → new.text ≡ old.text
-    → new.candidates ≡ old.candidates → new.has_scope ≡ old.has_scope → new.at ≡ old.at + 1 + 1 → to ≡ length old.text.list.items
-    → (IsKnown place → place ≡ record { from = from; to = to; is_pack = true; is_reference = is_reference }) → KnowsMore known more number place
-    → more.before ≡ known.before → size ≡ number + 1 - more.before → IsListEnded s new (record more { elements = size })
-unfolding no_items may_be_empty
-pack-closes s old new from to number size place known more is_reference p ends stands waits text candidates scope_same at to_is place_is knows same_before size_is =
-    let es = p.ts ++ p.t ∷ [] in
-    let own = pack (list_of es) in
-    let all = p.before ++ own ∷ [] in
-    let texts = in_front_of_next p.ts p.texts ++ p.bytes in
-    let led = p.front ++ p.name ++ opening_bracket (detail_of s) in
-    let arguments = in_front_of_next p.before p.before_text ++ texts in
-    let count_is : more.before ≡ length p.before = same_before ∙ p.come_before.count_is refl in
-    let goes = p.goes.5 nothing_there old.at p.state (expects-empty s Kind.PackList p.goes.0 p.goes.1 old.at p.state p.goes.4 refl) ends in
-    let here = goes.5 nothing_there (old.at + 1) p.state (expects-empty s Kind.ArgumentList goes.0 goes.1 (old.at + 1) p.state goes.4 refl) stands in
-    let owns : Owns s p.owner (below s p.scope p.rest) p.front (instance p.template (list_with all nil)) (old.at + 1 + 1) p.state =
-    subst (λ l. Owns s p.owner (below s p.scope p.rest) p.front (instance p.template (list_with (p.before ++ pack l ∷ []) nil)) (old.at + 1 + 1) p.state)
-    (list-with-none es) here in
-    arguments-end s old new true from number known (record more { elements = size }) is_reference p all arguments waits text candidates scope_same
-    (all-as (detail_of s) p.scope.names (is_noted p.owner) 3 all arguments
-    (next-prints 3 p.before p.before_text own texts p.come_before.prints
-    (pack-element es texts (some-elements p.ts p.t) (read-prints s old true from number known is_reference p))))
-    (read-written s old new true from number known is_reference p text ∙ append_assoc led (in_front_of_next p.before p.before_text) texts)
-    (subst (λ n. Owns s p.owner (below s p.scope p.rest) p.front (instance p.template (list_with all nil)) n p.state) (sym at) owns)
-    (elements-known s old from to number size place known more is_reference p to_is place_is knows count_is size_is)
+pub pack-closes : (s : Symbol) (w new : Direct) (last size : ℕ) (known : Arguments) (p : AwaitsKnownArgument s w true last known)
+    → StandsAt s.bytes w.at (69 ∷ []) → StandsAt s.bytes (w.at + 1) (69 ∷ []) → reverse new.waiting.list.items ≡ p.owner ∷ p.rest → new.text ≡ w.text
+    → new.candidates ≡ w.candidates → new.has_scope ≡ w.has_scope → new.at ≡ w.at + 1 + 1 → size ≡ last + 1 - known.before
+    → IsListEnded s new (record known { has_pack = true; elements = size })
+unfolding known-passes pack-ends
+pack-closes s w new last size known p ends stands waits text candidates scope_same at size_is =
+    let now = record known { has_pack = true; elements = size } in
+    let mid : Direct = record new { at = w.at + 1 } in
+    let shut = pack-ends s w mid (known-passes s w true last known p) ends (p.owner ∷ p.rest) p.open_is text candidates scope_same refl waits in
+    subst (λ n. IsListEnded s (record new { at = n }) now) (sym at)
+    (list-ends s mid false now shut stands (no-pack-around s w true last known p (reverse new.waiting.list.items) waits)
+    (subst (λ v. AreKnown (detail_of s) v.list.items now (p.before ++ pack (list_of p.ts) ∷ []) nil) (sym text) (elements-known s w last size known p size_is)))

@@ -1,9 +1,11 @@
 -- The beginnings of symbols, and their answers.
-use Rattle.std.proofs.Common.{◌≡◌, ◌≢◌, ℕ, ◌+◌, inl, length, List, [], ◌∷◌, ◌++◌, reverse, true, false, ◌||◌, nat_eq, refl, ap, sym, subst, ◌∙◌, arith, codes, cond}
+use Rattle.std.proofs.Common.{◌≡◌, ◌≢◌, ◌≤◌, ◌⊎◌, ℕ, ◌+◌, inl, inr, length, List, [], ◌∷◌, ◌++◌, reverse, true, false, ◌||◌, ◌&&◌, nat_eq, refl, ap, sym, subst, ◌∙◌, arith, codes, cond}
+use Rattle.std.proofs.Math.Bool.{or-false}
 use Rattle.std.proofs.lemmas.Bool.{false≢true}
 use Rattle.cpp_grammar.specs.declared.kind.Kind.{Kind}
-use Rattle.cpp_grammar.specs.Term.{Term, Adjustment, non_virtual, by_table, adjusting, special, thunk}
-use Rattle.cpp_grammar.specs.Parts.{thunk_text}
+use Rattle.cpp_grammar.specs.declared.production.Production.{Production}
+use Rattle.cpp_grammar.specs.Term.{Term, Adjustment, non_virtual, by_table, adjusting, special, thunk, clone}
+use Rattle.cpp_grammar.specs.Parts.{thunk_text, clone_text}
 use Rattle.cpp_grammar.specs.Texts.{look_up, special_texts, same_bytes}
 use Rattle.cpp_grammar.specs.Values.{State, Value, tree, named, tree_of, signed_digits}
 use Rattle.cpp_grammar.specs.Between.{in_name, in_types, no_items}
@@ -18,7 +20,7 @@ use Rattle.cpp_direct.specs.declared.open.Step.TheVariants as steps
 use Rattle.cpp_direct.specs.declared.direct.Direct.{Direct}
 use Rattle.cpp_direct.specs.Bytes.{is_local}
 use Rattle.cpp_direct.specs.Holes.{StandsAt, Comes, Expects}
-use Rattle.cpp_direct.specs.HolesOfLists.{SymbolOpened, EncodingOpened, IsOffsetAt, ThunkOpened, mark_letters, nest_marks}
+use Rattle.cpp_direct.specs.HolesOfLists.{SymbolOpened, EncodingOpened, IsOffsetAt, BaseOpened, mark_letters, nest_marks}
 use Rattle.cpp_grammar.specs.Grammar.{among}
 use Rattle.cpp_direct.specs.ItemBytes.{is_special_letter}
 use Rattle.cpp_direct.specs.Letters.{special_letters}
@@ -29,9 +31,9 @@ use Rattle.cpp_direct.specs.MidStep.{IsFresh, AwaitsEncoding, AwaitsNest}
 use Rattle.cpp_direct.specs.Written.{Writes, Reads}
 use Rattle.cpp_direct.proofs.Kept.{kept-same, none-kept}
 use Rattle.cpp_direct.proofs.NamePlaces.{reads-then}
-use Rattle.cpp_direct.proofs.Moves.{stands-join}
-use Rattle.cpp_direct.proofs.MovesOfEncodings.{symbol-starts, encoding-opens, special-opens, thunk-opens, virtual-thunk-opens, name-nested}
-use Rattle.cpp_direct.proofs.PrintedSymbols.{thunk-shows}
+use Rattle.cpp_direct.proofs.Moves.{stands-join, is_eaten}
+use Rattle.cpp_direct.proofs.MovesOfEncodings.{symbol-starts, encoding-opens, special-opens, thunk-opens, virtual-thunk-opens, clone-opens, name-nested}
+use Rattle.cpp_direct.proofs.PrintedSymbols.{thunk-filled, thunk-shows, clone-filled, clone-shows}
 use Rattle.cpp_direct.proofs.Scopes.{none-scoped}
 use Rattle.cpp_direct.proofs.TypesRead.{code_in, codes_in, letter-listed}
 
@@ -48,13 +50,19 @@ encoded-whole s opened_ e at st comes = record {
 whole-behind : (s : Symbol) (lead : List ℕ) (e : Term) (at : ℕ) → is_local s.bytes ≡ false → EndsBehind s lead e at → EncodedBehind s lead e at
 whole-behind s lead e at apart p = record { whole = λ f. p; entity = λ is. absurd (false≢true (sym apart ∙ is)) }
 
--- the third byte tells whether one is
-pub third-tells : (s : List ℕ) (b : ℕ) → StandsAt s 2 (b ∷ []) → is_local s ≡ (nat_eq b 90 || nat_eq b 71)
+no-guard : (b d e : ℕ) → nat_eq b 71 ≡ false → (nat_eq b 90 || ((nat_eq b 71 && nat_eq d 86) && nat_eq e 90)) ≡ nat_eq b 90
+no-guard b d e other = rw other (or-false (nat_eq b 90))
+
+-- the third byte tells whether one is, unless it is a G
+pub third-tells : (s : List ℕ) (b : ℕ) → StandsAt s 2 (b ∷ []) → nat_eq b 71 ≡ false → is_local s ≡ nat_eq b 90
 unfolding is_local
-third-tells (x ∷ y ∷ c ∷ rest) b stands = let same : c ≡ b = cc stands.1 in ap (λ k. nat_eq k 90 || nat_eq k 71) same
-third-tells (x ∷ y ∷ []) b stands = cc stands.1
-third-tells (x ∷ []) b stands = cc stands.1
-third-tells [] b stands = cc stands.1
+third-tells (x ∷ y ∷ c ∷ d ∷ e ∷ rest) b stands other =
+    let same : c ≡ b = cc stands.1 in ap (λ k. nat_eq k 90 || ((nat_eq k 71 && nat_eq d 86) && nat_eq e 90)) same ∙ no-guard b d e other
+third-tells (x ∷ y ∷ c ∷ d ∷ []) b stands other = let same : c ≡ b = cc stands.1 in ap (λ k. nat_eq k 90) same
+third-tells (x ∷ y ∷ c ∷ []) b stands other = let same : c ≡ b = cc stands.1 in ap (λ k. nat_eq k 90) same
+third-tells (x ∷ y ∷ []) b stands other = cc stands.1
+third-tells (x ∷ []) b stands other = cc stands.1
+third-tells [] b stands other = cc stands.1
 
 -- the encoding of a symbol is expected, and nothing is written yet
 pub encoding-awaited : (s : Symbol) (w : Direct) → w.text.list.items ≡ [] → w.candidates.list.items ≡ [] → StandsAt s.bytes 0 (95 ∷ 90 ∷ []) → w.at ≡ 2
@@ -97,31 +105,35 @@ items-await s w p v at st comes =
       onward = λ l here now last. p.onward (encoding_of v (no_items l)) here now (items.onward l here now last);
     }
 
--- ## Thunks
+-- ## Thunks and clones
 
-thunk-text : (by : Adjustment) → thunk_text (adjusting by) ≡ [] → ⊥
-unfolding thunk_text
-thunk-text (non_virtual a) e = cc e
-thunk-text (by_table a b) e = cc e
-
--- the encoding that a thunk calls is expected, after the thunk's text
-thunk-awaited : (s : Symbol) (opened_ : SymbolOpened s) (by : Adjustment) (w : Direct)
-    → is_local s.bytes ≡ false → ThunkOpened s opened_.inner 2 by w.at first_state → w.text.list.items ≡ thunk_text (adjusting by) → w.candidates.list.items ≡ []
+-- the base encoding of a thunk or of a clone is expected, after a text that is shown before it
+base-awaited : (s : Symbol) (opened_ : SymbolOpened s) (made : Term → Term) (k : List ℕ) (w : Direct)
+    → is_local s.bytes ≡ false → BaseOpened s opened_.inner 2 made w.at first_state → w.text.list.items ≡ k → 1 ≤ length k → w.candidates.list.items ≡ []
+    → ((e : Term) (bytes : List ℕ) → Shows (detail_of s) e bytes → Shows (detail_of s) (made e) (k ++ bytes))
     → AwaitsEncoding s w
 unfolding first_state
-thunk-awaited s opened_ by w apart thunk_ text_is no_candidate = record {
+base-awaited s opened_ made k w apart base text_is filled no_candidate shows = record {
   kept = record { state = first_state; scope = no_scope; keeps = none-kept s w no_candidate };
   around = in_name 2;
-  outer = thunk_.inner;
-  begins = λ none. absurd (thunk-text by (sym text_is ∙ none));
-  awaits = thunk_.awaits;
+  outer = base.inner;
+  begins = λ none. absurd (omega (arith, filled, ap length (sym text_is ∙ none)));
+  awaits = base.awaits;
   onward = λ e at st comes.
       whole-behind s w.text.list.items e at apart (record {
-        made = thunk (adjusting by) e;
-        encoded = encoded-whole s opened_ (thunk (adjusting by) e) at st (thunk_.onward e at st comes);
-        shows = λ bytes p. subst (λ l. Shows (detail_of s) (thunk (adjusting by) e) (l ++ bytes)) (sym text_is) (thunk-shows (detail_of s) (adjusting by) e bytes p);
+        made = made e;
+        encoded = encoded-whole s opened_ (made e) at st (base.onward e at st comes);
+        shows = λ bytes p. subst (λ l. Shows (detail_of s) (made e) (l ++ bytes)) (sym text_is) (shows e bytes p);
       });
 }
+
+-- after the bytes of a thunk the base encoding is expected
+thunk-awaited : (s : Symbol) (opened_ : SymbolOpened s) (by : Adjustment) (w : Direct) → StandsAt s.bytes 2 (84 ∷ [])
+    → BaseOpened s opened_.inner 2 (thunk (adjusting by)) w.at first_state → w.text.list.items ≡ thunk_text (adjusting by) → w.candidates.list.items ≡ []
+    → AwaitsEncoding s w
+thunk-awaited s opened_ by w first base text_is no_candidate =
+    base-awaited s opened_ (thunk (adjusting by)) (thunk_text (adjusting by)) w (third-tells s.bytes 84 first refl) base text_is (thunk-filled (adjusting by)) no_candidate
+    (thunk-shows (detail_of s) (adjusting by))
 
 -- what was read without a text and written after it, where nothing was there before
 thunk-written : (old middle new : Direct) (text : List ℕ) → IsFresh old → Reads old middle [] → Writes middle new text
@@ -140,7 +152,7 @@ thunk-begins s old middle new fresh starts first second is reads writes =
     let by = non_virtual (signed_digits is.negative is.digits) in
     let opens = thunk-opens s opened_.inner first_around 2 middle.at first_state opened_.awaits first second is in
     let written = thunk-written old middle new (codes "non-virtual thunk to ") fresh reads writes in
-    thunk-awaited s opened_ by new (third-tells s.bytes 84 first) (subst (λ n. ThunkOpened s opened_.inner 2 by n first_state) (sym writes.at) opens) written.0 written.1
+    thunk-awaited s opened_ by new first (subst (λ n. BaseOpened s opened_.inner 2 (thunk (adjusting by)) n first_state) (sym writes.at) opens) written.0 written.1
 
 -- a virtual one begins
 pub virtual-thunk-begins : (s : Symbol) (old first_ middle new : Direct) → IsFresh old → StandsAt s.bytes 0 (95 ∷ 90 ∷ []) → StandsAt s.bytes 2 (84 ∷ [])
@@ -152,7 +164,23 @@ virtual-thunk-begins s old first_ middle new fresh starts first second is reads 
     let by = by_table (signed_digits is.negative is.digits) (signed_digits is_then.negative is_then.digits) in
     let opens = virtual-thunk-opens s opened_.inner first_around 2 first_.at middle.at first_state opened_.awaits first second is is_then in
     let written = thunk-written old middle new (codes "virtual thunk to ") fresh (reads-then old first_ middle [] [] reads reads_then) writes in
-    thunk-awaited s opened_ by new (third-tells s.bytes 84 first) (subst (λ n. ThunkOpened s opened_.inner 2 by n first_state) (sym writes.at) opens) written.0 written.1
+    thunk-awaited s opened_ by new first (subst (λ n. BaseOpened s opened_.inner 2 (thunk (adjusting by)) n first_state) (sym writes.at) opens) written.0 written.1
+
+clone-eaten : (letter : ℕ) → (letter ≡ 116) ⊎ (letter ≡ 110) → is_eaten Kind.CloneLetter Production.Mark letter ≡ true
+unfolding is_eaten
+clone-eaten letter (inl e) = rw e refl
+clone-eaten letter (inr e) = rw e refl
+
+-- a clone begins
+pub clone-begins : (s : Symbol) (old new : Direct) (letter : ℕ) → IsFresh old → is_local s.bytes ≡ false → s.is_wide ≡ true → (letter ≡ 116) ⊎ (letter ≡ 110)
+    → StandsAt s.bytes 0 (95 ∷ 90 ∷ []) → StandsAt s.bytes 2 (71 ∷ 84 ∷ letter ∷ []) → Writes old new (clone_text letter) → AwaitsEncoding s (record new { at = 5 })
+unfolding clone_text
+clone-begins s old new letter fresh apart wide is starts bytes writes =
+    let opened_ = symbol-starts s starts in
+    base-awaited s opened_ (clone letter) (clone_text letter) (record new { at = 5 }) apart
+    (clone-opens s opened_.inner first_around letter 2 first_state wide (clone-eaten letter is) opened_.awaits bytes)
+    (writes.text ∙ ap (λ l. l ++ clone_text letter) fresh.no_text) (clone-filled (nat_eq letter 116))
+    (ap (λ v. v.list.items) writes.candidates ∙ fresh.no_candidate) (clone-shows (detail_of s) letter)
 
 -- ## Special objects
 

@@ -1,22 +1,22 @@
 -- A type that names an argument of a function's template is read, and so is what expands a pack.
 use Rattle.sym_print.specs.declared.detail.Detail.{Detail}
 use Rattle.cpp_grammar.specs.Unfolding.{byte_of, close}
-use Rattle.cpp_grammar.specs.Meaning.{meaning, listed_value}
+use Rattle.cpp_grammar.specs.Meaning.{is_void, meaning, listed_value}
 use Rattle.cpp_direct.specs.Symbol.{detail_of, Symbol}
-use Rattle.cpp_direct.proofs.Kept.{candidate-found, kept-grown, kept-same, kept-written, made-here, piece-found, placed-stays, value-added, value-comes, candidate-inside, kept-as, kept-with}
+use Rattle.cpp_direct.proofs.Kept.{candidate-found, kept-argument, kept-grown, kept-same, kept-written, made-here, piece-found, placed-stays, value-added, value-comes, candidate-inside, kept-as, kept-with}
 use Rattle.cpp_direct.proofs.Listed.{some-elements}
 use Rattle.cpp_direct.proofs.Moves.{hole, eats, byte-opens, next-part, closes, none-fills, number-fills, is_eaten, stands-join, stands-split, expects-empty, open_at, fill, filled-at}
 use Rattle.cpp_direct.proofs.MovesOfTypes.{const-opens, lvalue-opens, rvalue-opens, solid-opens, substitution-opens}
-use Rattle.cpp_direct.proofs.PrintedExpansions.{expansion-element}
+use Rattle.cpp_direct.proofs.PrintedExpansions.{expansion-element, expansion-empty}
 use Rattle.cpp_direct.proofs.PrintedTypes.{parameter-given, rvalue-given}
 use Rattle.cpp_direct.proofs.NamedArguments.{again-substituted, named-here}
 use Rattle.cpp_direct.specs.declared.open.Mark.{Mark}
 use Rattle.cpp_direct.specs.HolesOfTypes.{as_const}
 use Rattle.cpp_direct.specs.Holes.{Opened, StandsAt, Comes, candidate, with_candidate, Expects, IsReferable, IsTyped}
-use Rattle.cpp_direct.specs.Prints.{IsMarkedBy, Names, PrintsAs, PrintsGiven, PrintsMade, PrintAllBy, list_of, made_by, pattern_letters}
-use Rattle.cpp_direct.specs.WriterInvariant.{AreCandidates, EncodedBehind, HasArguments, IsAmong, IsKnown, IsPlaced, IsScope, IsSingle, IsWriting, ParametersGoOn, argument_of, in_front_of_next, place_of}
-use Rattle.cpp_direct.specs.MidStep.{AwaitsType, IsNamedAgain, IsParameterEnded, parameter_digits, AwaitsNextParameter, AreExpanded, IsPackOf, comma_text, expansion_letters}
-use Rattle.cpp_direct.specs.Written.{Writes, added, hidden}
+use Rattle.cpp_direct.specs.Prints.{IsMarkedBy, PrintsAs, PrintsGiven, PrintsMade, PrintAllBy, list_of, made_by, pattern_letters}
+use Rattle.cpp_direct.specs.WriterInvariant.{AreCandidates, EncodedBehind, IsKnown, IsPackOf, IsPackThere, IsPlaced, IsScope, IsSingle, IsWriting, ParametersGoOn, argument_of, in_front_of_next, place_of, Kept, Scope}
+use Rattle.cpp_direct.specs.MidStep.{AwaitsType, AreParametersRead, IsFunctionEnded, IsNamedAgain, most_by_digit, parameter_digits, AreExpanded, comma_text, expansion_letters, separator}
+use Rattle.cpp_direct.specs.Written.{Writes, added, hidden, with_argument}
 use Rattle.cpp_direct.specs.declared.direct.Direct.{Direct}
 use Rattle.cpp_direct.specs.declared.open.Argument.{Argument}
 use Rattle.cpp_direct.specs.declared.open.Candidate.{Candidate}
@@ -28,24 +28,24 @@ use Rattle.cpp_grammar.specs.Grammar.{may_be_empty, number_of_kind, parts_of}
 use Rattle.cpp_grammar.specs.Parts.{types_of}
 use Rattle.cpp_grammar.specs.References.{appended, is_function_type, with_packs, parameter_named, with_type}
 use Rattle.cpp_grammar.specs.Scope.{element, count, length_if_pack}
-use Rattle.cpp_grammar.specs.Term.{Term, parameter, expansion, lvalue, rvalue, pack}
+use Rattle.cpp_grammar.specs.Term.{Term, parameter, expansion, lvalue, rvalue}
 use Rattle.cpp_grammar.specs.Values.{tree, State, Around, text_of, is_there, letter_of, part, piece_of, tree_of, is_listed}
 use Rattle.cpp_grammar.specs.declared.kind.Kind.{Kind}
 use Rattle.cpp_grammar.specs.declared.production.Production.{Production}
-use Rattle.std.proofs.Common.{◌≡◌, ◌≢◌, ℕ, zero, suc, ◌+◌, ◌-◌, ◌≤◌, ◌<◌, length, List, [], ◌∷◌, ◌++◌, take, drop, reverse, slice_get, true, false, replicate, Some, None, refl, ap, sym, ◌∙◌, subst, arith, append_assoc, append-nil, Ok, codes, inl, inr}
-use Rattle.std.proofs.lemmas.Bool.{lt-ltb}
+use Rattle.std.proofs.Common.{Bool, ◌≡◌, ◌≢◌, ℕ, zero, suc, ◌+◌, ◌-◌, ◌≤◌, ◌<◌, length, List, [], ◌∷◌, ◌++◌, take, drop, reverse, slice_get, true, false, replicate, Some, None, nat_le, ◌&&◌, refl, ap, sym, ◌∙◌, subst, arith, append_assoc, append-nil, Ok, codes}
+use Rattle.std.proofs.lemmas.Bool.{le-leb, lt-ltb}
 use Rattle.std.proofs.lemmas.List.{length-append}
 use Rattle.sym_core.specs.Value.{counted_value}
 use Rattle.sym_core.specs.declared.NumberKind.TheVariants.{Seq36, Decimal}
 use Rattle.sym_core.specs.Token.{Token, IsNumberToken}
-use Rattle.cpp_direct.proofs.Ending.{parameter-goes_on}
+use Rattle.cpp_direct.proofs.Ending.{next-separated, nothing-ended, parameter-goes_on}
 use Rattle.cpp_direct.proofs.MovesOfLists.{element-awaits}
-use Rattle.cpp_direct.proofs.PrintedLists.{next-prints-in, next-prints-by}
+use Rattle.cpp_direct.proofs.PrintedLists.{all-more, next-prints-in, next-prints-by}
+use Rattle.cpp_direct.proofs.Scopes.{parameters-as, pack-stays}
 use Rattle.cpp_direct.proofs.Signatures.{one-hidden}
 use Rattle.cpp_grammar.specs.Unfolding as unfolding_
 use Rattle.cpp_direct.specs.declared.open.Step.TheVariants as steps
 use Rattle.cpp_grammar.specs.Values as values
-use Rattle.cpp_direct.proofs.Scopes.{parameters-as}
 
 -- ## Moves
 
@@ -53,19 +53,17 @@ use Rattle.cpp_direct.proofs.Scopes.{parameters-as}
 abbrev pub parameter_token : ℕ → Token
 parameter_token k = record { before = []; own = parameter_digits k; behind = 95 ∷ [] }
 
-pub parameter-number : (k : ℕ) → IsNumberToken Decimal (parameter_token k)
-parameter-number zero = record { bare = refl; digits = (tt, tt); ends = refl }
-parameter-number (suc zero) = record { bare = refl; digits = ((refl, tt), tt); ends = refl }
-parameter-number (suc (suc zero)) = record { bare = refl; digits = ((refl, tt), tt); ends = refl }
-parameter-number (suc (suc (suc k))) = record { bare = refl; digits = ((refl, tt), tt); ends = refl }
+digit-is : (k : ℕ) → k ≤ 9 → nat_le 48 (48 + k) && nat_le (48 + k) 57 ≡ true
+digit-is k few = ap (λ b. b && nat_le (48 + k) 57) (le-leb 48 (48 + k) (omega arith)) ∙ le-leb (48 + k) 57 (omega (arith, few))
 
-digits-count : (k : ℕ) → k ≤ 3 → index_of (values.text (parameter_digits k)) ≡ k
+pub parameter-number : (k : ℕ) → k ≤ most_by_digit → IsNumberToken Decimal (parameter_token k)
+parameter-number zero few = record { bare = refl; digits = (tt, tt); ends = refl }
+parameter-number (suc k) few = record { bare = refl; digits = ((digit-is k (omega (arith, few)), tt), tt); ends = refl }
+
+digits-count : (k : ℕ) → k ≤ most_by_digit → index_of (values.text (parameter_digits k)) ≡ k
 unfolding index_of text_of
 digits-count zero few = refl
-digits-count (suc zero) few = refl
-digits-count (suc (suc zero)) few = refl
-digits-count (suc (suc (suc zero))) few = refl
-digits-count (suc (suc (suc (suc k)))) few = absurd (omega (arith, few))
+digits-count (suc k) few = omega arith
 
 parameter-found : (around : Around) (k at : ℕ) (st : State) (all : Term) → around.scope ≡ Some all → k < count all → length_if_pack (element all k) ≡ None
     → parameter_named around at k st ≡ Ok (with_candidate around (parameter k) st)
@@ -73,45 +71,47 @@ unfolding parameter_named with_packs appended
 parameter-found around k at st all scope below none = rw (scope, lt-ltb k (count all) below, none, parameter_named) refl
 
 -- in its scope it is a candidate
-parameter-tested : (around : Around) (before k at : ℕ) (st : State) → k ≤ 3 → IsScope before k false around
+parameter-tested : (around : Around) (k at : ℕ) (st : State) → k ≤ most_by_digit → IsScope k around
     → ◌≡◌ {A = Going} (between Production.Parameter around at (values.text (parameter_digits k) ∷ []) st)
     (Ok (record { context = after (parameter k) true around; values = tree (parameter k) true ∷ []; state = with_candidate around (parameter k) st }))
 unfolding between parameter_so_far listed_so_far
-parameter-tested around before k at st few scope =
+parameter-tested around k at st few scope =
     subst (λ n. ◌≡◌ {A = Going} (parameter_so_far around at n [] st)
     (Ok (record { context = after (parameter k) true around; values = tree (parameter k) true ∷ []; state = with_candidate around (parameter k) st })))
     (sym (digits-count k few))
-    (rw (parameter-found around k at st scope.all scope.scope_is (scope.there refl).1 (ap length_if_pack (scope.there refl).0 ∙ scope.no_pack)) refl)
+    (rw (parameter-found around k at st scope.all scope.scope_is scope.there.1 (ap length_if_pack scope.there.0 ∙ scope.no_pack)) refl)
 
 -- a parameter comes, and is a candidate
-pub parameter-comes : (s : Symbol) (kind : Kind) (around : Around) (os : List Opened) (before k at : ℕ) (st : State) → IsTyped kind → k ≤ 3
-    → IsScope before k false around → Expects s kind around os at st → StandsAt s.bytes at (84 ∷ (parameter_digits k ++ 95 ∷ []))
+pub parameter-comes : (s : Symbol) (kind : Kind) (around : Around) (os : List Opened) (k at : ℕ) (st : State) → IsTyped kind → k ≤ most_by_digit
+    → IsScope k around → Expects s kind around os at st → StandsAt s.bytes at (84 ∷ (parameter_digits k ++ 95 ∷ []))
     → Comes s os (tree (parameter k) true) (at + 1 + length (parameter_digits k ++ 95 ∷ [])) (with_candidate around (parameter k) st)
 unfolding is_eaten number_of_kind parts_of may_be_empty between close unfolding_.behind meaning part byte_of tree_of text_of piece_of letter_of is_there applied is_function_type
-parameter-comes s kind around os before k at st typed few scope expects stands =
+parameter-comes s kind around os k at st typed few scope expects stands =
     let p = Production.Parameter in
     let end = at + 1 + length (parameter_digits k ++ 95 ∷ []) in
     let both = stands-split s.bytes at (84 ∷ []) (parameter_digits k ++ 95 ∷ []) stands in
     let solid = solid-opens s kind around os at st typed expects in
     let number = byte-opens (eats s Kind.Solid p 84 refl) (hole s Kind.Solid around solid.inner at st solid.awaits) both.0 refl refl in
-    let arguments = next-part p (number-fills (parameter_token k) number (parameter-number k) both.1) (parameter-tested around before k at st few scope) in
+    let arguments = next-part p (number-fills (parameter_token k) number (parameter-number k few) both.1) (parameter-tested around k at st few scope) in
     solid.passes (parameter k) true end (with_candidate around (parameter k) st) refl (closes p (none-fills Kind.ArgumentsAlone arguments refl) refl).comes
 
--- the digits of a parameter's number come before its line
-pub digit-stands : (s : List ℕ) (at k digit : ℕ) → parameter_digits k ≡ digit ∷ [] → StandsAt s at (digit ∷ []) → StandsAt s (at + 1) (95 ∷ [])
-    → StandsAt s at (parameter_digits k ++ 95 ∷ [])
+-- the digit of a parameter's number comes before its line
+pub digit-stands : (s : List ℕ) (at k digit : ℕ) → digit ≡ 48 + k → StandsAt s at (digit ∷ []) → StandsAt s (at + 1) (95 ∷ [])
+    → StandsAt s at (parameter_digits (k + 1) ++ 95 ∷ [])
 digit-stands s at k digit is first line =
-    subst (λ l. StandsAt s at (l ++ 95 ∷ [])) (sym is) (stands-join s at (digit ∷ []) (95 ∷ []) first line)
+    let next : suc k ≡ k + 1 = omega arith in
+    subst (λ n. StandsAt s at (parameter_digits n ++ 95 ∷ [])) next
+    (stands-join s at ((48 + k) ∷ []) (95 ∷ []) (subst (λ d. StandsAt s at (d ∷ [])) is first) line)
 
 -- ## The argument
 
 -- the argument that a parameter names is at its place
 named-placed : (s : Symbol) (w : Direct) (all : Arguments) (k : ℕ) (p : Argument) (a : AwaitsType s w) → argument_of (reverse w.waiting.list.items) ≡ Some all
-    → p ≡ place_of all k → IsSingle p
+    → p ≡ place_of all k → IsSingle all k
     → (bytes : List ℕ) × (a.scope.names k ≡ Some (record { bytes = bytes; reference = p.is_reference })) × IsPlaced w.text.list.items p bytes
 named-placed s w all k p a found is single =
     let same : p ≡ place_of a.scope.arguments k = is ∙ ap (λ (q : Arguments). place_of q k) (sym (a.scoped all found).0) in
-    let h = a.keeps.named k (subst (λ (q : Argument). IsSingle q) same single) in (
+    let h = a.keeps.named k (subst (λ (q : Arguments). IsSingle q k) (sym (a.scoped all found).0) single) in (
       h.0,
       subst (λ (q : Argument). a.scope.names k ≡ Some (record { bytes = h.0; reference = q.is_reference })) (sym same) h.1,
       subst (λ (q : Argument). IsPlaced w.text.list.items q h.0) (sym same) h.2,
@@ -119,28 +119,28 @@ named-placed s w all k p a found is single =
 
 -- so it can be written once more
 pub argument-inside : (s : Symbol) (w : Direct) (all : Arguments) (k : ℕ) (p : Argument) → AwaitsType s w
-    → argument_of (reverse w.waiting.list.items) ≡ Some all → p ≡ place_of all k → IsSingle p → p.to ≤ length w.text.list.items
+    → argument_of (reverse w.waiting.list.items) ≡ Some all → p ≡ place_of all k → IsSingle all k
+    → (p.from ≤ p.to) × (p.to ≤ length w.text.list.items)
 argument-inside s w all k p a found is single =
     let h = named-placed s w all k p a found is single in
-    (piece-found w.text.list.items h.0 p.from p.to h.2).1
+    let found = piece-found w.text.list.items h.0 p.from p.to h.2 in
+    (found.0, found.1)
 
 -- a parameter may name it
-scope-named : (s : Symbol) (w : Direct) (all : Arguments) (k : ℕ) (p : Argument) (a : AwaitsType s w) → argument_of (reverse w.waiting.list.items) ≡ Some all
-    → p ≡ place_of all k → IsSingle p → IsScope all.before k false a.around
-scope-named s w all k p a found is single =
-    subst (λ j. IsScope all.before k j a.around) (ap (λ (q : Argument). q.is_pack) (sym is) ∙ single.1)
-    ((a.scoped all found).1.1 k (subst (λ (q : Argument). IsKnown q) is single.0))
+scope-named : (s : Symbol) (w : Direct) (all : Arguments) (k : ℕ) (a : AwaitsType s w) → argument_of (reverse w.waiting.list.items) ≡ Some all
+    → IsSingle all k → IsScope k a.around
+scope-named s w all k a found single = (a.scoped all found).1.1 k single
 
 -- ## Parameters
 
 -- the parameter is read, and its argument is written once more
-pub parameter-done : (s : Symbol) (old mid new : Direct) (all : Arguments) (k : ℕ) (p : Argument) (n from : ℕ) → AwaitsType s old → k ≤ 3
+pub parameter-done : (s : Symbol) (old mid new : Direct) (all : Arguments) (k : ℕ) (p : Argument) (n : ℕ) → AwaitsType s old → k ≤ most_by_digit
     → StandsAt s.bytes old.at (84 ∷ []) → StandsAt s.bytes (old.at + 1) (parameter_digits k ++ 95 ∷ [])
-    → argument_of (reverse old.waiting.list.items) ≡ Some all → p ≡ place_of all k → IsSingle p → all.encoding ≢ 0 → from ≡ length old.text.list.items
+    → argument_of (reverse old.waiting.list.items) ≡ Some all → p ≡ place_of all k → IsSingle all k → all.encoding ≢ 0
     → Writes (record old { at = n }) mid (take (p.to - p.from) (drop p.from old.text.list.items)) → n ≡ old.at + 1 + length (parameter_digits k ++ 95 ∷ [])
-    → new.candidates.list.items ≡ added mid from p.is_reference true → new.text ≡ mid.text → new.waiting ≡ mid.waiting → new.has_scope ≡ mid.has_scope
+    → new.candidates.list.items ≡ with_argument mid p → new.text ≡ mid.text → new.waiting ≡ mid.waiting → new.has_scope ≡ mid.has_scope
     → new.at ≡ mid.at → IsWriting s new (steps.Value p.is_reference true)
-parameter-done s old mid new all k p n from a few letter line found is single real from_is writes at more same_text same_waits same_scope same_at =
+parameter-done s old mid new all k p n a few letter line found is single real writes at more same_text same_waits same_scope same_at =
     let text = old.text.list.items in
     let h = named-placed s old all k p a found is single in
     let bytes = h.0 in
@@ -148,13 +148,15 @@ parameter-done s old mid new all k p n from a few letter line found is single re
     writes.text ∙ ap (λ l. text ++ l) (piece-found text bytes p.from p.to h.2).2 in
     let prints = parameter-given a.scope.names k (record { bytes = bytes; reference = p.is_reference }) h.1 in
     let naming = named-here s old a.kept a.around all a.scoped found real in
-    let open_is : new.waiting ≡ old.waiting = same_waits ∙ writes.waiting in
     let later = with_candidate a.around (parameter k) a.state in
-    value-added s mid new (kept-grown s old mid bytes grown writes.candidates writes.scope a.kept) a.os a.around (parameter k) text bytes from p.is_reference true
-    grown from_is prints (λ e. made-here s a.scope a.around (reverse old.waiting.list.items) a.scoped naming) same_text more same_scope (ap (λ v. reverse v.list.items) open_is)
+    value-comes s new
+    (kept-argument s mid new (kept-grown s old mid bytes grown writes.candidates writes.scope a.kept) p bytes (parameter k) a.around
+    (subst (λ l. IsPlaced l p bytes) (sym grown) (placed-stays text bytes p bytes h.2)) prints
+    (made-here a.scope a.around (reverse old.waiting.list.items) a.scoped naming) same_text more same_scope)
+    a.os (parameter k) text bytes p.is_reference true (ap (λ v. v.list.items) same_text ∙ grown) prints (ap (λ v. reverse v.list.items) (same_waits ∙ writes.waiting))
     (λ e. naming)
     (subst (λ n. Comes s a.os (tree (parameter k) true) n later) (sym (same_at ∙ writes.at ∙ at))
-    (parameter-comes s a.kind a.around a.os all.before k old.at a.state a.typed few (scope-named s old all k p a found is single) a.awaits
+    (parameter-comes s a.kind a.around a.os k old.at a.state a.typed few (scope-named s old all k a found single) a.awaits
     (stands-join s.bytes old.at (84 ∷ []) (parameter_digits k ++ 95 ∷ []) letter line))) a.stands
 
 -- what is written from a place on became a candidate, which is a reference and names arguments
@@ -166,9 +168,9 @@ pub record IsListed (old new : Direct) (from : ℕ) : Type 0 where
   pub at : new.at ≡ old.at
 
 -- An rvalue reference to it is read, which is this argument itself where that is a reference.
-pub forwarded-done : (s : Symbol) (old mid one new : Direct) (all : Arguments) (k : ℕ) (p : Argument) (n from : ℕ) (a : AwaitsType s old) → k ≤ 3 → IsReferable a.kind
+pub forwarded-done : (s : Symbol) (old mid one new : Direct) (all : Arguments) (k : ℕ) (p : Argument) (n from : ℕ) (a : AwaitsType s old) → k ≤ most_by_digit → IsReferable a.kind
     → StandsAt s.bytes old.at (79 ∷ []) → StandsAt s.bytes (old.at + 1) (84 ∷ []) → StandsAt s.bytes (old.at + 1 + 1) (parameter_digits k ++ 95 ∷ [])
-    → argument_of (reverse old.waiting.list.items) ≡ Some all → p ≡ place_of all k → IsSingle p → all.encoding ≢ 0 → p.is_reference ≡ true
+    → argument_of (reverse old.waiting.list.items) ≡ Some all → p ≡ place_of all k → IsSingle all k → all.encoding ≢ 0 → p.is_reference ≡ true
     → from ≡ length old.text.list.items → Writes (record old { at = n }) mid (take (p.to - p.from) (drop p.from old.text.list.items))
     → n ≡ old.at + 1 + 1 + length (parameter_digits k ++ 95 ∷ []) → IsListed mid one from → IsListed one new from
     → IsWriting s new (steps.Value true true)
@@ -182,7 +184,7 @@ forwarded-done s old mid one new all k p n from a few referable mark letter line
     writes.text ∙ ap (λ l. text ++ l) (piece-found text bytes p.from p.to h.2).2 in
     let listed : one.text.list.items ≡ text ++ bytes = ap (λ v. v.list.items) first.text ∙ grown in
     let naming = named-here s old a.kept a.around all a.scoped found real in
-    let here = made-here s a.scope a.around (reverse old.waiting.list.items) a.scoped naming in
+    let here = made-here a.scope a.around (reverse old.waiting.list.items) a.scoped naming in
     let open_is : new.waiting ≡ old.waiting = second.waits ∙ first.waits ∙ writes.waiting in
     let own = with_candidate a.around (parameter k) a.state in
     let later = with_candidate a.around (rvalue (parameter k)) own in
@@ -194,7 +196,7 @@ forwarded-done s old mid one new all k p n from a few referable mark letter line
     a.os a.around (rvalue (parameter k)) text bytes from true true listed from_is prints (λ e. here) second.text second.more second.scope (ap (λ v. reverse v.list.items) open_is) (λ e. naming)
     (subst (λ n. Comes s a.os (tree (rvalue (parameter k)) true) n later) (sym (second.at ∙ first.at ∙ writes.at ∙ at))
     (reference.passes (parameter k) (old.at + 1 + 1 + length (parameter_digits k ++ 95 ∷ [])) own
-    (parameter-comes s Kind.Type a.around reference.inner all.before k (old.at + 1) a.state tt few (scope-named s old all k p a found is single) reference.awaits
+    (parameter-comes s Kind.Type a.around reference.inner k (old.at + 1) a.state tt few (scope-named s old all k a found single) reference.awaits
     (stands-join s.bytes (old.at + 1) (84 ∷ []) (parameter_digits k ++ 95 ∷ []) letter line)))) a.stands
 
 -- ## The same once more
@@ -222,7 +224,7 @@ dependent-again s w new k all p found real writes =
     let kept = kept-same s (record w { at = p.before }) w refl refl refl a.kept in
     let naming = named-here s w kept a.around all a.scoped found real in
     let named = substitution-opens s a.kind a.around a.os p.before a.state p.digits w.at c.0 a.is_named c.1
-    (again-substituted s a.around open_ c.0 a.state bytes k.is_reference a.keeps.own a.scoped naming (c.2.made_in p.is) prints) a.begins p.letter p.number in
+    (again-substituted s a.around open_ c.0 a.state bytes k.is_reference a.keeps.single a.scoped naming (c.2.made_in p.is) prints) a.begins p.letter p.number in
     let comes : Comes s a.os (tree t true) w.at a.state = named.bare w.at a.state prints.no_function
     (expects-empty s Kind.ArgumentsAlone (after t true a.around) named.inner w.at a.state named.awaits refl) in
     value-comes s new (kept-written s w new (take (k.to - k.from) (drop k.from text)) writes kept) a.os t text bytes k.is_reference true written prints
@@ -238,20 +240,13 @@ begun st = record st { packs = None }
 abbrev named_many : ℕ → State → State
 named_many n st = record st { packs = Some n }
 
--- a parameter with this number may name a pack of these elements
-pub record IsPackThere (around : Around) (k : ℕ) (ts : List Term) : Type 0 where
-  pub all : Term
-  pub scope_is : around.scope ≡ Some all
-  pub below : k < count all
-  pub pack_is : element all k ≡ pack (list_of ts)
-
 -- it is a candidate there
 pack-found : (around : Around) (k at : ℕ) (st : State) (ts : List Term) → IsPackThere around k ts
     → parameter_named (under_expansion around) at k (begun st) ≡ Ok (with_candidate around (parameter k) (named_many (count (list_of ts)) st))
 unfolding parameter_named with_packs appended under_expansion length_if_pack
-pack-found around k at st ts p = rw (p.scope_is, lt-ltb k (count p.all) p.below, p.pack_is, parameter_named) refl
+pack-found around k at st ts p = rw (p.scope_is, lt-ltb k (count p.all) p.there.1, p.there.0, parameter_named) refl
 
-pack-tested : (around : Around) (k at : ℕ) (st : State) (ts : List Term) → k ≤ 3 → IsPackThere around k ts
+pack-tested : (around : Around) (k at : ℕ) (st : State) (ts : List Term) → k ≤ most_by_digit → IsPackThere around k ts
     → ◌≡◌ {A = Going} (between Production.Parameter (under_expansion around) at (values.text (parameter_digits k) ∷ []) (begun st))
     (Ok (record {
       context = after (parameter k) true (under_expansion around);
@@ -270,7 +265,7 @@ pack-tested around k at st ts few p =
     (rw (pack-found around k at st ts p) refl)
 
 -- the parameter comes
-pack-comes : (s : Symbol) (kind : Kind) (around : Around) (os : List Opened) (k at : ℕ) (st : State) (ts : List Term) → IsTyped kind → k ≤ 3 → IsPackThere around k ts
+pack-comes : (s : Symbol) (kind : Kind) (around : Around) (os : List Opened) (k at : ℕ) (st : State) (ts : List Term) → IsTyped kind → k ≤ most_by_digit → IsPackThere around k ts
     → Expects s kind (under_expansion around) os at (begun st) → StandsAt s.bytes at (84 ∷ (parameter_digits k ++ 95 ∷ []))
     → Comes s os (tree (parameter k) true) (at + 1 + length (parameter_digits k ++ 95 ∷ [])) (with_candidate around (parameter k) (named_many (count (list_of ts)) st))
 unfolding is_eaten number_of_kind parts_of may_be_empty between close unfolding_.behind meaning part byte_of tree_of text_of piece_of letter_of is_there applied is_function_type
@@ -282,7 +277,7 @@ pack-comes s kind around os k at st ts typed few there expects stands =
     let both = stands-split s.bytes at (84 ∷ []) (parameter_digits k ++ 95 ∷ []) stands in
     let solid = solid-opens s kind here os at (begun st) typed expects in
     let number = byte-opens (eats s Kind.Solid p 84 refl) (hole s Kind.Solid here solid.inner at (begun st) solid.awaits) both.0 refl refl in
-    let arguments = next-part p (number-fills (parameter_token k) number (parameter-number k) both.1) (pack-tested around k at st ts few there) in
+    let arguments = next-part p (number-fills (parameter_token k) number (parameter-number k few) both.1) (pack-tested around k at st ts few there) in
     solid.passes (parameter k) true end later refl (closes p (none-fills Kind.ArgumentsAlone arguments refl) refl).comes
 
 -- the trees that a pattern makes of a parameter, one after the other
@@ -298,7 +293,7 @@ with_trees around [] st = st
 with_trees around (t ∷ ts) st = with_trees around ts (with_candidate around t st)
 
 -- what the pattern makes of it comes
-pattern-comes : (s : Symbol) (pattern : Pattern) (around : Around) (os : List Opened) (k at : ℕ) (st : State) (ts : List Term) → k ≤ 3 → IsPackThere around k ts
+pattern-comes : (s : Symbol) (pattern : Pattern) (around : Around) (os : List Opened) (k at : ℕ) (st : State) (ts : List Term) → k ≤ most_by_digit → IsPackThere around k ts
     → Expects s Kind.Type (under_expansion around) os at (begun st) → StandsAt s.bytes at (pattern_letters pattern ++ 84 ∷ (parameter_digits k ++ 95 ∷ []))
     → Comes s os (tree (made_by pattern (parameter k)) true) (at + length (pattern_letters pattern ++ 84 ∷ (parameter_digits k ++ 95 ∷ [])))
     (with_trees around (trees_of pattern (parameter k)) (named_many (count (list_of ts)) st))
@@ -342,7 +337,7 @@ with_expansion pattern k size around st =
     (record (with_trees around (trees_of pattern (parameter k)) (named_many size st)) { packs = st.packs })
 
 -- an expansion comes, where a parameter is expected
-pub expansion-comes : (s : Symbol) (pattern : Pattern) (around : Around) (os : List Opened) (k at : ℕ) (st : State) (ts : List Term) → k ≤ 3 → IsPackThere around k ts
+pub expansion-comes : (s : Symbol) (pattern : Pattern) (around : Around) (os : List Opened) (k at : ℕ) (st : State) (ts : List Term) → k ≤ most_by_digit → IsPackThere around k ts
     → Expects s Kind.Item around os at st → StandsAt s.bytes at (expansion_letters pattern k)
     → Comes s os (tree (expansion (made_by pattern (parameter k))) true) (at + length (expansion_letters pattern k)) (with_expansion pattern k (count (list_of ts)) around st)
 unfolding is_eaten number_of_kind parts_of between close unfolding_.behind meaning part byte_of tree_of text_of piece_of letter_of is_there listed_value with_type is_listed appended under_expansion
@@ -373,40 +368,17 @@ letters-stand s pattern k at second third named digits d b p c letters e t f lin
     (subst (λ n. StandsAt s n (84 ∷ behind)) e
     (stands-join s named (84 ∷ []) behind t (subst (λ n. StandsAt s n behind) f line)))))))
 
-same-elements : (xs ys : List Term) → list_of xs ≡ list_of ys → xs ≡ ys
-same-elements [] [] e = refl
-same-elements [] (y ∷ ys) e = cc e
-same-elements (x ∷ xs) [] e = cc e
-same-elements (x ∷ xs) (y ∷ ys) e =
-    let first : x ≡ y = cc e in
-    let rest : list_of xs ≡ list_of ys = cc e in
-    ap (λ z. z ∷ xs) first ∙ ap (λ zs. y ∷ zs) (same-elements xs ys rest)
-
--- the elements of a function's pack, of which the first one is known
-pub pack-of : {detail : Detail} (text : List ℕ) (argument : Arguments) (name : Term) → (h : HasArguments detail text argument name)
-    → (ordered : IsKnown (place_of argument argument.before)) → (place_of argument argument.before).is_pack ≡ true
-    → IsPackOf detail text argument (h argument.before ordered).elements
-pack-of text argument name h ordered pack_ =
-    let one = h argument.before ordered in
-    let first = one.packed pack_ in
-    record {
-      size = first.3;
-      among = λ k known is_pack.
-          let g = h (argument.before + k) known in
-          let own = g.packed is_pack in
-          let all : one.all ≡ g.all = cc (sym one.all_are ∙ g.all_are) in
-          let packs : pack (list_of g.elements) ≡ pack (list_of one.elements) = sym own.0 ∙ ap (λ l. element l argument.before) (sym all) ∙ first.0 in
-          let lists : list_of g.elements ≡ list_of one.elements = cc packs in
-          let number : argument.before + k - argument.before ≡ k = omega arith in
-          record {
-            bytes = g.bytes;
-            placed = g.placed;
-            own = g.own;
-            there = subst (λ l. slice_get l k ≡ Some g.own) (same-elements g.elements one.elements lists)
-                (subst (λ n. slice_get g.elements n ≡ Some g.own) number own.2);
-            prints = g.prints;
-          };
-    }
+-- nothing is written
+pub none-written : (w : Direct) → Writes w w []
+none-written w = record {
+  text = sym (append-nil w.text.list.items);
+  candidates = refl;
+  waiting = refl;
+  nest = refl;
+  scope = refl;
+  at = refl;
+  rounds = refl;
+}
 
 -- none is written yet
 pub none-expanded : {detail : Detail} (pattern : Pattern) (w : Direct) (ts : List Term) → AreExpanded detail pattern w w ts 0
@@ -414,18 +386,10 @@ none-expanded pattern w ts = record {
   done = [];
   rest = ts;
   all = refl;
-  count = inl refl;
+  count = refl;
   bytes = [];
   prints = ([], tt, refl);
-  writes = record {
-    text = sym (append-nil w.text.list.items);
-    candidates = refl;
-    waiting = refl;
-    nest = refl;
-    scope = refl;
-    at = refl;
-    rounds = refl;
-  };
+  writes = none-written w;
 }
 
 none-left : (l : List Term) → length l ≡ 0 → l ≡ []
@@ -433,12 +397,9 @@ none-left [] e = refl
 none-left (t ∷ ts) e = absurd (omega (arith, e))
 
 -- all were written
-pub all-expanded : {detail : Detail} (pattern : Pattern) (before w : Direct) (ts : List Term) (number : ℕ) → length ts ≤ number → (f : AreExpanded detail pattern before w ts number)
+all-expanded : {detail : Detail} (pattern : Pattern) (before w : Direct) (ts : List Term) (number : ℕ) → length ts ≡ number → (f : AreExpanded detail pattern before w ts number)
     → f.rest ≡ []
-all-expanded pattern before w ts number le f = elim f.count [
-  | inl e ↦ none-left f.rest (omega (arith, le, e, ap length f.all, length-append f.done f.rest))
-  | inr e ↦ e.0
-]
+all-expanded pattern before w ts number all f = none-left f.rest (omega (arith, all, f.count, ap length f.all, length-append f.done f.rest))
 
 nothing-there : (l : List Term) (n : ℕ) (own : Term) → l ≡ [] → slice_get l n ≡ Some own → ⊥
 nothing-there [] n own e at = cc at
@@ -460,96 +421,85 @@ comma-between (d ∷ done) (suc k) bytes e = refl
 -- where an element is
 pub expanded-inside : {detail : Detail} (pattern : Pattern) (before w one : Direct) (ts : List Term) (argument : Arguments) (number : ℕ) (place : Argument)
     → IsPackOf detail before.text.list.items argument ts
-    → AreExpanded detail pattern before w ts number → place ≡ place_of argument (argument.before + number) → place.from ≤ place.to → place.is_pack ≡ true → Writes w one (comma_text number)
-    → place.to ≤ length one.text.list.items
-expanded-inside pattern before w one ts argument number place p f is known is_pack writes =
+    → AreExpanded detail pattern before w ts number → place ≡ place_of argument (argument.before + number) → IsKnown argument (argument.before + number) → Writes w one (comma_text number)
+    → (place.from ≤ place.to) × (place.to ≤ length one.text.list.items)
+expanded-inside pattern before w one ts argument number place p f is known writes =
     let q = place_of argument (argument.before + number) in
-    let h = p.among number (subst IsKnown is known) (ap (λ (k : Argument). k.is_pack) (sym is) ∙ is_pack) in
-    let inside = (piece-found before.text.list.items h.bytes q.from q.to h.placed).1 in
-    omega (
-      arith,
-      ap (λ (k : Argument). k.to) is,
-      inside,
-      ap length writes.text,
-      length-append w.text.list.items (comma_text number),
-      ap length f.writes.text,
-      length-append before.text.list.items f.bytes,
+    let h = p.among number known in
+    let inside = piece-found before.text.list.items h.bytes q.from q.to h.placed in (
+      omega (arith, ap (λ (k : Argument). k.from) is, ap (λ (k : Argument). k.to) is, inside.0),
+      omega (
+        arith,
+        ap (λ (k : Argument). k.to) is,
+        inside.1,
+        ap length writes.text,
+        length-append w.text.list.items (comma_text number),
+        ap length f.writes.text,
+        length-append before.text.list.items f.bytes,
+      ),
     )
 
 -- what the pattern makes of one more is written
 pub expanded-more : {detail : Detail} (pattern : Pattern) (before w one two new : Direct) (ts : List Term) (argument : Arguments) (number : ℕ) (place : Argument) (marks : List ℕ)
-    → IsPackOf detail before.text.list.items argument ts → AreExpanded detail pattern before w ts number → number < argument.elements
-    → place ≡ place_of argument (argument.before + number) → place.from ≤ place.to → place.is_pack ≡ true → Writes w one (comma_text number)
+    → IsPackOf detail before.text.list.items argument ts → AreExpanded detail pattern before w ts number
+    → place ≡ place_of argument (argument.before + number) → IsKnown argument (argument.before + number) → Writes w one (comma_text number)
     → Writes one two (take (place.to - place.from) (drop place.from one.text.list.items)) → IsMarkedBy pattern place.is_reference marks → Writes two new marks
     → AreExpanded detail pattern before new ts (number + 1)
-expanded-more {detail} pattern before w one two new ts argument number place marks p f below is known is_pack comma piece marks_are mark = elim f.count [
-  | inl size ↦ go size
-  | inr over ↦ absurd (omega (arith, over.1, below, p.size))
-]
-  where
-    q : Argument
-    q = place_of argument (argument.before + number)
-
-    h : IsAmong detail before.text.list.items q number ts
-    h = p.among number (subst IsKnown is known) (ap (λ (k : Argument). k.is_pack) (sym is) ∙ is_pack)
-
-    go : length f.done ≡ number → AreExpanded detail pattern before new ts (number + 1)
-    go size =
-        let next = next-one f.done f.rest number h.own size (subst (λ l. slice_get l number ≡ Some h.own) f.all h.there) in
-        let one_is : one.text.list.items ≡ before.text.list.items ++ (f.bytes ++ comma_text number) =
-        comma.text ∙ ap (λ l. l ++ comma_text number) f.writes.text ∙ append_assoc before.text.list.items f.bytes (comma_text number) in
-        let placed = placed-stays before.text.list.items (f.bytes ++ comma_text number) q h.bytes h.placed in
-        let found = piece-found (before.text.list.items ++ (f.bytes ++ comma_text number)) h.bytes q.from q.to placed in
-        let own : take (place.to - place.from) (drop place.from one.text.list.items) ≡ h.bytes =
-        ap (λ (k : Argument). take (k.to - k.from) (drop k.from one.text.list.items)) is ∙ ap (λ l. take (q.to - q.from) (drop q.from l)) one_is ∙ found.2 in
-        let more = h.bytes ++ marks in
-        let all_bytes = in_front_of_next f.done f.bytes ++ more in
-        record {
-          done = f.done ++ h.own ∷ [];
-          rest = next.0;
-          all = f.all ∙ ap (λ l. f.done ++ l) next.1 ∙ sym (append_assoc f.done (h.own ∷ []) next.0);
-          count = inl (omega (arith, size, length-append f.done (h.own ∷ [])));
-          bytes = all_bytes;
-          prints = next-prints-by (PrintsMade detail pattern) f.done f.bytes h.own more f.prints
-              (h.bytes, q.is_reference, marks, h.prints, subst (λ (k : Argument). IsMarkedBy pattern k.is_reference marks) is marks_are, refl);
-          writes = record {
-            text = mark.text ∙ ap (λ l. l ++ marks) (piece.text ∙ ap (λ l. one.text.list.items ++ l) own ∙ ap (λ l. l ++ h.bytes) one_is)
-                ∙ append_assoc (before.text.list.items ++ (f.bytes ++ comma_text number)) h.bytes marks
-                ∙ append_assoc before.text.list.items (f.bytes ++ comma_text number) more
-                ∙ ap (λ l. before.text.list.items ++ (l ++ more)) (sym (comma-between f.done number f.bytes size));
-            candidates = mark.candidates ∙ piece.candidates ∙ comma.candidates ∙ f.writes.candidates;
-            waiting = mark.waiting ∙ piece.waiting ∙ comma.waiting ∙ f.writes.waiting;
-            nest = mark.nest ∙ piece.nest ∙ comma.nest ∙ f.writes.nest;
-            scope = mark.scope ∙ piece.scope ∙ comma.scope ∙ f.writes.scope;
-            at = mark.at ∙ piece.at ∙ comma.at ∙ f.writes.at;
-            rounds = mark.rounds ∙ piece.rounds ∙ comma.rounds ∙ f.writes.rounds;
-          };
-        }
-
-some-there : (ts : List Term) (own : Term) → slice_get ts 0 ≡ Some own → ts ≢ []
-some-there [] own e none = cc e
-some-there (t ∷ ts) own e none = cc none
+expanded-more {detail} pattern before w one two new ts argument number place marks p f is known comma piece marks_are mark =
+    let q = place_of argument (argument.before + number) in
+    let h = p.among number known in
+    let size = f.count in
+    let next = next-one f.done f.rest number h.own size (subst (λ l. slice_get l number ≡ Some h.own) f.all h.there) in
+    let one_is : one.text.list.items ≡ before.text.list.items ++ (f.bytes ++ comma_text number) =
+    comma.text ∙ ap (λ l. l ++ comma_text number) f.writes.text ∙ append_assoc before.text.list.items f.bytes (comma_text number) in
+    let placed = placed-stays before.text.list.items (f.bytes ++ comma_text number) q h.bytes h.placed in
+    let found = piece-found (before.text.list.items ++ (f.bytes ++ comma_text number)) h.bytes q.from q.to placed in
+    let own : take (place.to - place.from) (drop place.from one.text.list.items) ≡ h.bytes =
+    ap (λ (k : Argument). take (k.to - k.from) (drop k.from one.text.list.items)) is ∙ ap (λ l. take (q.to - q.from) (drop q.from l)) one_is ∙ found.2 in
+    let more = h.bytes ++ marks in
+    let all_bytes = in_front_of_next f.done f.bytes ++ more in
+    record {
+      done = f.done ++ h.own ∷ [];
+      rest = next.0;
+      all = f.all ∙ ap (λ l. f.done ++ l) next.1 ∙ sym (append_assoc f.done (h.own ∷ []) next.0);
+      count = omega (arith, size, length-append f.done (h.own ∷ []));
+      bytes = all_bytes;
+      prints = next-prints-by (PrintsMade detail pattern) f.done f.bytes h.own more f.prints
+          (h.bytes, q.is_reference, marks, h.prints, subst (λ (k : Argument). IsMarkedBy pattern k.is_reference marks) is marks_are, refl);
+      writes = record {
+        text = mark.text ∙ ap (λ l. l ++ marks) (piece.text ∙ ap (λ l. one.text.list.items ++ l) own ∙ ap (λ l. l ++ h.bytes) one_is)
+            ∙ append_assoc (before.text.list.items ++ (f.bytes ++ comma_text number)) h.bytes marks
+            ∙ append_assoc before.text.list.items (f.bytes ++ comma_text number) more
+            ∙ ap (λ l. before.text.list.items ++ (l ++ more)) (sym (comma-between f.done number f.bytes size));
+        candidates = mark.candidates ∙ piece.candidates ∙ comma.candidates ∙ f.writes.candidates;
+        waiting = mark.waiting ∙ piece.waiting ∙ comma.waiting ∙ f.writes.waiting;
+        nest = mark.nest ∙ piece.nest ∙ comma.nest ∙ f.writes.nest;
+        scope = mark.scope ∙ piece.scope ∙ comma.scope ∙ f.writes.scope;
+        at = mark.at ∙ piece.at ∙ comma.at ∙ f.writes.at;
+        rounds = mark.rounds ∙ piece.rounds ∙ comma.rounds ∙ f.writes.rounds;
+      };
+    }
 
 -- each tree that a pattern makes is a candidate of which nothing is known, and so is the expansion
-trees-hidden : (s : Symbol) (names : Names) (text : List ℕ) (ks : List Candidate) (around : Around) (pattern : Pattern) (k size : ℕ) (st : State)
-    → AreCandidates s names text ks st.candidates
-    → AreCandidates s names text (ks ++ replicate (2 + length (pattern_letters pattern)) hidden) (with_expansion pattern k size around st).candidates
-trees-hidden s names text ks around pattern k size st known = go pattern known
+trees-hidden : (s : Symbol) (scope : Scope) (text : List ℕ) (ks : List Candidate) (around : Around) (pattern : Pattern) (k size : ℕ) (st : State)
+    → AreCandidates s scope text ks st.candidates
+    → AreCandidates s scope text (ks ++ replicate (2 + length (pattern_letters pattern)) hidden) (with_expansion pattern k size around st).candidates
+trees-hidden s scope text ks around pattern k size st known = go pattern known
   where
     p : Term
     p = parameter k
 
-    once : (more : List Candidate) (cs : List values.Candidate) (t : Term) → AreCandidates s names text (ks ++ more) cs
-        → AreCandidates s names text (ks ++ (more ++ hidden ∷ [])) (cs ++ candidate around t ∷ [])
+    once : (more : List Candidate) (cs : List values.Candidate) (t : Term) → AreCandidates s scope text (ks ++ more) cs
+        → AreCandidates s scope text (ks ++ (more ++ hidden ∷ [])) (cs ++ candidate around t ∷ [])
     once more cs t have =
-        subst (λ l. AreCandidates s names text l (cs ++ candidate around t ∷ [])) (append_assoc ks more (hidden ∷ []))
-        (one-hidden s names text (ks ++ more) cs (candidate around t) have)
+        subst (λ l. AreCandidates s scope text l (cs ++ candidate around t ∷ [])) (append_assoc ks more (hidden ∷ []))
+        (one-hidden s scope text (ks ++ more) cs (candidate around t) have)
 
-    first : AreCandidates s names text ks st.candidates → AreCandidates s names text (ks ++ hidden ∷ []) (st.candidates ++ candidate around p ∷ [])
-    first have = one-hidden s names text ks st.candidates (candidate around p) have
+    first : AreCandidates s scope text ks st.candidates → AreCandidates s scope text (ks ++ hidden ∷ []) (st.candidates ++ candidate around p ∷ [])
+    first have = one-hidden s scope text ks st.candidates (candidate around p) have
 
-    go : (pattern : Pattern) → AreCandidates s names text ks st.candidates
-        → AreCandidates s names text (ks ++ replicate (2 + length (pattern_letters pattern)) hidden) (with_expansion pattern k size around st).candidates
+    go : (pattern : Pattern) → AreCandidates s scope text ks st.candidates
+        → AreCandidates s scope text (ks ++ replicate (2 + length (pattern_letters pattern)) hidden) (with_expansion pattern k size around st).candidates
     go patterns.Same have = once (hidden ∷ []) (st.candidates ++ candidate around p ∷ []) (expansion p) (first have)
     go patterns.Lvalue have =
         let two = once (hidden ∷ []) (st.candidates ++ candidate around p ∷ []) (lvalue p) (first have) in
@@ -564,55 +514,103 @@ trees-hidden s names text ks around pattern k size st known = go pattern known
         let two = once (hidden ∷ []) (st.candidates ++ candidate around p ∷ []) (rvalue p) (first have) in
         once (hidden ∷ hidden ∷ []) ((st.candidates ++ candidate around p ∷ []) ++ candidate around (rvalue p) ∷ []) (expansion (rvalue p)) two
 
--- it is read
-pub expansion-read : (s : Symbol) (pattern : Pattern) (old moved last new : Direct) (mark : Mark) (start : ℕ) (argument : Arguments) (a : AwaitsNextParameter s old mark start argument)
-    → (ordered : IsKnown (place_of argument argument.before)) → (place_of argument argument.before).is_pack ≡ true → argument.elements ≤ 4
-    → argument.before ≤ 3 → StandsAt s.bytes old.at (expansion_letters pattern argument.before)
-    → moved.text ≡ old.text → moved.candidates ≡ old.candidates → moved.waiting ≡ old.waiting → moved.has_scope ≡ old.has_scope
-    → moved.at ≡ old.at + length (expansion_letters pattern argument.before)
-    → AreExpanded (detail_of s) pattern moved last (a.is_function.names argument.before ordered).elements 4
+-- so what is known of the candidates before is known of those with them
+abbrev expansion-kept : (s : Symbol) (w new : Direct) (around : Around) (pattern : Pattern) (k size : ℕ) (kept : Kept s w)
+    → new.text ≡ w.text → new.candidates.list.items ≡ w.candidates.list.items ++ replicate (2 + length (pattern_letters pattern)) hidden
+    → new.has_scope ≡ w.has_scope → Kept s new
+expansion-kept s w new around pattern k size kept text candidates scope_ =
+    kept-as s w new (with_expansion pattern k size around kept.state) kept text candidates scope_
+    (trees-hidden s kept.scope w.text.list.items w.candidates.list.items around pattern k size kept.state kept.keeps.candidates)
+
+-- parameters go on after it
+expansion-goes : (s : Symbol) (pattern : Pattern) (w : Direct) (is_first : Bool) (mark : Mark) (start : ℕ) (argument : Arguments)
+    (a : AreParametersRead s w 3 is_first mark start argument) → argument.has_pack ≡ true → argument.before ≤ most_by_digit
+    → StandsAt s.bytes w.at (expansion_letters pattern argument.before)
+    → (size : ℕ) × ParametersGoOn s argument a.lead a.make (a.ts ++ expansion (made_by pattern (parameter argument.before)) ∷ [])
+    (w.at + length (expansion_letters pattern argument.before)) (with_expansion pattern argument.before size a.goes.around a.state)
+expansion-goes s pattern w is_first mark start argument a has_pack below stands =
+    let k = argument.before in
+    let around = a.goes.around in
+    let packed = a.goes.scoped.2 has_pack in
+    let size = count (list_of packed.0) in
+    let t = expansion (made_by pattern (parameter k)) in
+    let later = with_expansion pattern k size around a.state in
+    let end = w.at + length (expansion_letters pattern k) in
+    let item = element-awaits s Kind.Items a.goes.inner around w.at a.state tt a.goes.awaits in
+    let comes = expansion-comes s pattern around item.inner k w.at a.state packed.0 below packed.1 item.awaits stands in (
+      size,
+      parameter-goes_on s argument (λ x there then_. EncodedBehind s a.lead x there) a.make a.ts w.at a.state a.goes t end later (item.onward t end later comes),
+    )
+
+-- the elements are at their places where a comma is written
+pub pack-separated : (s : Symbol) {extra : ℕ} (w mid : Direct) (is_first : Bool) (mark : Mark) (start : ℕ) (argument : Arguments) (end : ℕ)
+    (a : AreParametersRead s w extra is_first mark start argument) (has_pack : argument.has_pack ≡ true) → Writes (record w { at = end }) mid (separator is_first)
+    → IsPackOf (detail_of s) mid.text.list.items argument (a.is_function.names.1 has_pack).elements
+pack-separated s w mid is_first mark start argument end a has_pack one =
+    let packed = a.is_function.names.1 has_pack in
+    subst (λ l. IsPackOf (detail_of s) l argument packed.elements) (sym one.text)
+    (pack-stays w.text.list.items (separator is_first) argument packed.elements packed.are)
+
+-- it is read, and what it makes of each element is written
+pub expansion-read : (s : Symbol) (pattern : Pattern) (old mid last new : Direct) (is_first : Bool) (mark : Mark) (start : ℕ) (argument : Arguments) (end : ℕ)
+    (a : AreParametersRead s old 3 is_first mark start argument) (has_pack : argument.has_pack ≡ true) → argument.elements ≢ 0
+    → argument.before ≤ most_by_digit → StandsAt s.bytes old.at (expansion_letters pattern argument.before)
+    → end ≡ old.at + length (expansion_letters pattern argument.before) → Writes (record old { at = end }) mid (separator is_first)
+    → AreExpanded (detail_of s) pattern mid last (a.is_function.names.1 has_pack).elements argument.elements
     → new.text ≡ last.text → new.candidates.list.items ≡ last.candidates.list.items ++ replicate (2 + length (pattern_letters pattern)) hidden
     → new.waiting ≡ last.waiting → new.has_scope ≡ last.has_scope → new.at ≡ last.at
-    → IsParameterEnded s new mark start argument
-expansion-read s pattern old moved last new mark start argument a ordered pack_ few below stands same_text same_candidates same_waiting same_scope moved_at fw text candidates waiting scope_ at =
+    → (extra : ℕ) × (extra ≤ 6) × AreParametersRead s new extra false mark start argument
+expansion-read s pattern old mid last new is_first mark start argument end a has_pack some below stands end_is one fw text candidates waiting scope_ at =
     let f = a.is_function in
     let k = argument.before in
-    let n = f.names k ordered in
-    let ts = n.elements in
-    let first = n.packed pack_ in
-    let front = a.front ++ codes "(" in
+    let packed = f.names.1 has_pack in
+    let ts = packed.elements in
     let bytes = fw.bytes in
     let t = expansion (made_by pattern (parameter k)) in
-    let around = a.goes.around in
-    let scope = subst (λ j. IsScope k k j a.goes.around) pack_ (a.goes.scoped.1 k ordered) in
-    let packed = scope.packed refl in
-    let there : IsPackThere around k scope.elements = record { all = scope.all; scope_is = scope.scope_is; below = packed.1; pack_is = packed.0 } in
-    let size = count (list_of scope.elements) in
-    let later = with_expansion pattern k size around a.state in
-    let end = old.at + length (expansion_letters pattern argument.before) in
-    let item = element-awaits s Kind.Items a.goes.inner a.goes.around old.at a.state tt a.goes.awaits in
-    let comes = expansion-comes s pattern a.goes.around item.inner k old.at a.state scope.elements below there item.awaits stands in
-    let goes = parameter-goes_on s argument (λ x there then_. EncodedBehind s a.lead x there) a.make a.ts old.at a.state a.goes t end later
-    (item.onward t end later comes) in
-    let rest = all-expanded pattern moved last ts 4 (omega (arith, few, first.3)) fw in
+    let goes = expansion-goes s pattern old is_first mark start argument a has_pack below stands in
+    let later = with_expansion pattern k goes.0 a.goes.around a.state in
+    let between = separator is_first in
+    let rest = all-expanded pattern mid last ts argument.elements packed.are.size fw in
     let done : fw.done ≡ ts = sym (append-nil fw.done) ∙ ap (λ l. fw.done ++ l) (sym rest) ∙ sym fw.all in
     let prints : PrintAllBy (PrintsMade (detail_of s) pattern) ts bytes = subst (λ l. PrintAllBy (PrintsMade (detail_of s) pattern) l bytes) done fw.prints in
-    let starts : slice_get ts 0 ≡ Some n.own = subst (λ j. slice_get ts j ≡ Some n.own) (omega arith) first.2 in
-    let grown : new.text.list.items ≡ old.text.list.items ++ bytes =
-    ap (λ v. v.list.items) text ∙ fw.writes.text ∙ ap (λ v. v.list.items ++ bytes) same_text in
-    let kept = kept-written s moved last bytes fw.writes (kept-same s old moved same_text same_candidates same_scope a.kept) in
-    let known : AreCandidates s a.scope.names last.text.list.items (last.candidates.list.items ++ replicate (2 + length (pattern_letters pattern)) hidden) later.candidates =
-    trees-hidden s a.scope.names last.text.list.items last.candidates.list.items around pattern k size a.state kept.keeps.candidates in
-    record {
-      kept = kept-as s last new later kept text candidates scope_ known;
-      rest = a.rest;
-      open_is = ap (λ v. reverse v.list.items) (waiting ∙ fw.writes.waiting ∙ same_waiting) ∙ a.open_is;
-      ts = a.ts ++ t ∷ [];
-      some = some-elements a.ts t;
-      texts = in_front_of_next a.ts a.texts ++ bytes;
-      has = parameters-as s old.text.list.items new.text.list.items bytes mark start argument a.has grown
-          (next-prints-in (types_of f.own) 6 a.ts a.texts t bytes f.elements
-          (expansion-element f.own n.all k ts pattern bytes (some-there ts n.own starts) n.all_are first.0 prints));
-      written = grown ∙ ap (λ l. l ++ bytes) a.written ∙ append_assoc front (in_front_of_next a.ts a.texts) bytes;
-      goes = subst (λ j. ParametersGoOn s argument a.lead a.make (a.ts ++ t ∷ []) j later) (sym (at ∙ fw.writes.at ∙ moved_at)) goes;
-    }
+    let grown : new.text.list.items ≡ mid.text.list.items ++ bytes = ap (λ v. v.list.items) text ∙ fw.writes.text in
+    let all_grown : new.text.list.items ≡ old.text.list.items ++ (between ++ bytes) =
+    grown ∙ ap (λ l. l ++ bytes) one.text ∙ append_assoc old.text.list.items between bytes in
+    let kept = kept-written s mid last bytes fw.writes
+    (kept-written s (record old { at = end }) mid between one (kept-same s old (record old { at = end }) refl refl refl a.kept)) in (
+      6,
+      omega arith,
+      record {
+        kept = expansion-kept s last new a.goes.around pattern k goes.0 kept text candidates scope_;
+        rest = a.rest;
+        open_is = ap (λ v. reverse v.list.items) (waiting ∙ fw.writes.waiting ∙ one.waiting) ∙ a.open_is;
+        ts = a.ts ++ t ∷ [];
+        none = λ e. cc e;
+        some = λ e. some-elements a.ts t;
+        texts = in_front_of_next a.ts a.texts ++ bytes;
+        has = parameters-as s old.text.list.items new.text.list.items (between ++ bytes) mark start argument a.has all_grown
+            (next-prints-in (types_of f.own) 6 a.ts a.texts t bytes (all-more (detail_of s) (types_of f.own) 3 6 (omega arith) a.ts a.texts f.elements)
+            (expansion-element f.own packed.all k ts pattern bytes (λ none. some (sym packed.are.size ∙ ap length none)) packed.all_are packed.there.0 prints));
+        written = grown ∙ ap (λ l. l ++ bytes) (next-separated s old is_first mark start argument a mid.text.list.items one.text)
+            ∙ append_assoc (a.front ++ codes "(") (in_front_of_next a.ts a.texts) bytes;
+        goes = subst (λ j. ParametersGoOn s argument a.lead a.make (a.ts ++ t ∷ []) j later) (sym (at ∙ fw.writes.at ∙ one.at ∙ end_is)) goes.1;
+      },
+    )
+
+-- where there is no element the function ends
+pub nothing-read : (s : Symbol) (pattern : Pattern) (old new : Direct) (is_first : Bool) (mark : Mark) (start : ℕ) (argument : Arguments)
+    (a : AreParametersRead s old 3 is_first mark start argument) (has_pack : argument.has_pack ≡ true) → argument.elements ≡ 0
+    → argument.before ≤ most_by_digit → StandsAt s.bytes old.at (expansion_letters pattern argument.before)
+    → new.text ≡ old.text → new.candidates.list.items ≡ old.candidates.list.items ++ replicate (2 + length (pattern_letters pattern)) hidden
+    → new.has_scope ≡ old.has_scope → new.at ≡ old.at + length (expansion_letters pattern argument.before) → IsFunctionEnded s new mark start
+unfolding is_void
+nothing-read s pattern old new is_first mark start argument a has_pack none below stands text candidates scope_ at =
+    let k = argument.before in
+    let f = a.is_function in
+    let packed = f.names.1 has_pack in
+    let t = expansion (made_by pattern (parameter k)) in
+    let goes = expansion-goes s pattern old is_first mark start argument a has_pack below stands in
+    let later = with_expansion pattern k goes.0 a.goes.around a.state in
+    nothing-ended s old new is_first mark start argument a t (expansion-kept s old new a.goes.around pattern k goes.0 a.kept text candidates scope_) text
+    (expansion-empty f.own packed.all k packed.elements pattern (packed.are.size ∙ none) packed.all_are packed.there.0) refl
+    (subst (λ j. ParametersGoOn s argument a.lead a.make (a.ts ++ t ∷ []) j later) (sym at) goes.1)

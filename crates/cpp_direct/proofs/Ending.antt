@@ -1,4 +1,5 @@
 -- How a symbol ends: its encoding's name, its parameters, and what follows them.
+use Rattle.sym_print.specs.declared.detail.Detail.{Detail}
 use Rattle.cpp_grammar.specs.Scope.{arguments_of}
 use Rattle.std.proofs.Common.{◌≡◌, ◌≢◌, ◌⊎◌, refl, ap, sym, ◌∙◌, subst, ℕ, ◌+◌, ◌-◌, ◌≤◌, List, [], ◌∷◌, ◌++◌, length, take, drop, reverse, inl, inr, Bool, true, false, nat_eq, arith, codes, append-nil, append_assoc}
 use Rattle.std.specs.List.{ends_with}
@@ -11,8 +12,9 @@ use Rattle.cpp_grammar.specs.Term.{Term, symbol, function, nil, list, builtin, a
 use Rattle.cpp_grammar.specs.Grammar.{may_be_empty, among}
 use Rattle.cpp_grammar.specs.Parts.{encoding_text, qualifier_text, ref_text, types_of}
 use Rattle.cpp_grammar.specs.Between.{no_items}
-use Rattle.cpp_grammar.specs.Meaning.{encoding_of}
-use Rattle.cpp_grammar.specs.Values.{State, Value, nothing_there, tree, tree_of, qualifiers_of, ref_of}
+use Rattle.cpp_grammar.specs.Items.{is_empty}
+use Rattle.cpp_grammar.specs.Meaning.{encoding_of, is_void}
+use Rattle.cpp_grammar.specs.Values.{Around, State, Value, nothing_there, tree, tree_of, qualifiers_of, ref_of}
 use Rattle.cpp_direct.specs.Symbol.{Symbol, detail_of}
 use Rattle.cpp_direct.specs.declared.open.Arguments.{Arguments}
 use Rattle.cpp_direct.specs.declared.open.Mark.{Mark}
@@ -21,23 +23,23 @@ use Rattle.cpp_direct.specs.declared.open.Open.TheVariants as opens
 use Rattle.cpp_direct.specs.declared.open.Step.TheVariants as steps
 use Rattle.cpp_direct.specs.declared.direct.Direct.{Direct}
 use Rattle.cpp_direct.specs.Bytes.{is_builtin, is_local}
-use Rattle.cpp_direct.specs.Holes.{StandsAt, ListGoesOn}
+use Rattle.cpp_direct.specs.Holes.{Expects, StandsAt, ListGoesOn}
 use Rattle.cpp_direct.specs.HolesOfLists.{IsSuffix}
 use Rattle.cpp_direct.specs.Marks.{has_const, called_on, mark_text}
 use Rattle.cpp_direct.specs.Prints.{PrintsName, Shows, Encloses, list_of}
-use Rattle.cpp_direct.specs.WriterInvariant.{AwaitsItems, Encoded, EndsBehind, EncodedBehind, Fronts, IsWhole, IsWriting, HasScope, ItemsGoOn, ParametersGoOn, Stands, qualifiers, in_front_of_next, no_scope, IsNamedSo, Kept}
-use Rattle.cpp_direct.specs.MidStep.{AwaitsNextParameter, IsNameEnded, IsNameScoped, AwaitsParameters, IsParameterEnded, IsFunctionEnded, IsEncodingEnded, IsSymbolEnded}
+use Rattle.cpp_direct.specs.WriterInvariant.{list_with, AwaitsItems, Encoded, EndsBehind, EncodedBehind, Fronts, IsWhole, IsWriting, HasArguments, HasScope, IsEncodedAt, ItemsGoOn, ParametersGoOn, Stands, qualifiers, in_front_of_next, no_scope, IsNamedSo, Kept}
+use Rattle.cpp_direct.specs.MidStep.{AreParametersRead, IsNameEnded, IsNameScoped, AwaitsParameters, separator, IsFunctionEnded, IsEncodingEnded, IsSymbolEnded}
 use Rattle.cpp_direct.specs.Written.{Writes, Cuts}
 use Rattle.cpp_direct.proofs.Unmarked.{suffix-unmarked}
 use Rattle.cpp_direct.proofs.Kept.{keeps-as, kept-same, kept-written, none-kept, reverse-last, type-comes}
 use Rattle.cpp_direct.proofs.Moves.{expects-empty}
 use Rattle.cpp_direct.proofs.MovesOfLists.{element-awaits}
 use Rattle.cpp_direct.proofs.MovesOfTypes.{builtin-comes}
-use Rattle.cpp_direct.proofs.PrintedLists.{list-with-none, list-more, none-print-in}
+use Rattle.cpp_direct.proofs.PrintedLists.{PrintsItems, list-before, list-in, list-with-none, list-more, none-print-in}
 use Rattle.cpp_direct.proofs.PrintedParts.{has-none, has-parameters}
 use Rattle.cpp_direct.proofs.PrintedLocals.{object-enclosing, function-encloses, name-shows}
 use Rattle.cpp_direct.proofs.Scopes.{parameters-scoped, parameters-as}
-use Rattle.cpp_direct.proofs.PrintedSymbols.{function-shows, void-shows, object-encoded, encoding-plain, made-with, made-void, symbol-text, symbol-cost, suffix-text, suffix-cost, parameters-kept, none_bracketed}
+use Rattle.cpp_direct.proofs.PrintedSymbols.{function-shows, void-shows, object-encoded, encoding-plain, made-with, made-void, parameters-before, symbol-text, symbol-cost, suffix-text, suffix-cost, parameters-kept, none_bracketed}
 
 -- ## The end
 
@@ -173,6 +175,19 @@ pub next-written : (ts : List Term) (l : List ℕ) → ts ≢ [] → in_front_of
 next-written [] l some = absurd (some refl)
 next-written (t ∷ ts) l some = refl
 
+separated : (is_first : Bool) (ts : List Term) (l : List ℕ) → (is_first ≡ true → ts ≡ []) → (is_first ≡ false → ts ≢ [])
+    → l ++ separator is_first ≡ in_front_of_next ts l
+separated true ts l none some = append-nil l ∙ ap (λ us. in_front_of_next us l) (sym (none refl))
+separated false ts l none some = sym (next-written ts l (some refl))
+
+-- what comes before a parameter is the text of those before it
+pub next-separated : (s : Symbol) {extra : ℕ} (w : Direct) (is_first : Bool) (mark : Mark) (start : ℕ) (argument : Arguments)
+    (a : AreParametersRead s w extra is_first mark start argument) (text : List ℕ) → text ≡ w.text.list.items ++ separator is_first
+    → text ≡ a.front ++ codes "(" ++ in_front_of_next a.ts a.texts
+next-separated s w is_first mark start argument a text is =
+    is ∙ ap (λ l. l ++ separator is_first) a.written ∙ append_assoc (a.front ++ codes "(") a.texts (separator is_first)
+    ∙ ap (λ l. a.front ++ codes "(" ++ l) (separated is_first a.ts a.texts a.none a.some)
+
 -- a name is one where parameters go on after none
 pub none-go_on : (s : Symbol) (argument : Arguments) (lead : List ℕ) (v : Value) (at : ℕ) (st : State) (p : AwaitsItems s lead v at st)
     → HasScope argument p.around → ParametersGoOn s argument lead (λ l. encoding_of v l) [] at st
@@ -194,21 +209,24 @@ parameter-goes_on s argument becomes make ts at st p t here now goes = record {
       (p.onward (tree (list t (no_items l)) true) there then_ (goes.passes l there then_ comes));
 }
 
--- a parameter comes next
-pub parameter-expected : (s : Symbol) (w : Direct) (mark : Mark) (start : ℕ) (argument : Arguments) → AwaitsNextParameter s w mark start argument
-    → IsWriting s w steps.Type
-parameter-expected s w mark start argument a =
+-- a parameter comes next, and what is before it is written
+pub parameter-expected : (s : Symbol) (w last : Direct) (is_first : Bool) (mark : Mark) (start : ℕ) (argument : Arguments)
+    → AreParametersRead s w 3 is_first mark start argument → Writes w last (separator is_first) → IsWriting s last steps.Type
+parameter-expected s w last is_first mark start argument a one =
     let p = a.goes in
     let element = element-awaits s Kind.Items p.inner p.around w.at a.state tt p.awaits in
-    let stands : Stands s a.scope (opens.Parameters mark start argument ∷ a.rest) element.inner w.text.list.items = (
+    let between = separator is_first in
+    let stands : Stands s a.scope (opens.Parameters mark start argument ∷ a.rest) element.inner last.text.list.items = (
       a.ts,
       a.texts,
-      a.has,
-      a.written,
+      parameters-as s w.text.list.items last.text.list.items between mark start argument a.has one.text a.is_function.elements,
+      next-separated s w is_first mark start argument a last.text.list.items one.text,
       λ t here now comes. parameter-goes_on s argument (λ e there then_. EncodedBehind s a.lead e there) a.make a.ts w.at a.state p t here now
           (element.onward t here now comes),
     ) in
-    type-comes s w w a.kept p.around element.inner refl refl refl a.open_is p.outside (inr (inl element.awaits)) stands
+    type-comes s last last (kept-written s w last between one a.kept) p.around element.inner refl refl refl
+    (ap (λ v. reverse v.list.items) one.waiting ∙ a.open_is) p.outside
+    (inr (inl (subst (λ n. Expects s Kind.Item p.around element.inner n a.state) (sym one.at) element.awaits))) stands
     (parameters-scoped a.scope p.around mark start argument a.rest a.is_function.named p.scoped)
 
 pub no-text : (l : List ℕ) (from : ℕ) → from ≡ length l → from ≡ 0 → l ≡ []
@@ -216,21 +234,21 @@ no-text [] from is none = refl
 no-text (b ∷ bs) from is none = absurd (omega (arith, is, none))
 
 -- in the types of an encoding parameters may name the arguments that its name ends in
+pub types-scoped : {detail : Detail} (text : List ℕ) (argument : Arguments) (around : Around) (own : Term) → IsEncodedAt argument.encoding around
+    → around.scope ≡ arguments_of own → HasArguments detail text argument own → HasScope argument around
+types-scoped text argument around own encoded scope_is names = (
+  encoded,
+  λ k o. let n = names.0 k o in record { own = n.own; all = n.all; scope_is = scope_is ∙ n.all_are; there = n.there; no_pack = n.prints.no_pack },
+  λ o. let n = names.1 o in (n.elements, record { all = n.all; scope_is = scope_is ∙ n.all_are; there = n.there }),
+)
+
 pub name-scoped : (s : Symbol) (w : Direct) (mark : Mark) (is_instance : Bool) (argument : Arguments) (from : ℕ)
     (p : IsNameScoped s w mark is_instance argument from) → HasScope argument p.ended.awaits.around
 name-scoped s w mark is_instance argument from p =
-    let e = p.ended in (
-      (λ real. (e.awaits.encoding_is (no-text e.lead from e.from_is (p.encoded real).0) ∙ sym (p.encoded real).1, e.awaits.no_lambda)),
-      (λ k o. let n = e.names k o in record {
-        own = n.own;
-        all = n.all;
-        scope_is = e.awaits.scope_is ∙ ap arguments_of e.named_so.tree_is ∙ n.all_are;
-        there = n.there;
-        elements = n.elements;
-        packed = λ is_pack. let h = n.packed is_pack in (h.0, h.1);
-        no_pack = n.prints.no_pack;
-      }),
-    )
+    let e = p.ended in
+    types-scoped w.text.list.items argument e.awaits.around e.own
+    (λ real. (e.awaits.encoding_is (no-text e.lead from e.from_is (p.encoded real).0) ∙ sym (p.encoded real).1, e.awaits.no_lambda))
+    (e.awaits.scope_is ∙ ap arguments_of e.named_so.tree_is) e.names
 
 -- the front of a function that has no return type
 fronts-of : (is_bare : Bool) (front : List ℕ) (start : ℕ) (lead name : List ℕ) → front ≡ lead ++ name → (is_bare ≡ false → start ≡ 0)
@@ -255,7 +273,7 @@ parameters-begin s w mark is_instance argument from start scoped plain none all 
           own = p.own;
           makes = encoding-plain p.v mark p.own p.named_so (p.no_return plain);
           is_own = record { prints = p.prints; names = p.names; given = scoped.given; named = scoped.named };
-          elements = none-print-in (detail_of s) (types_of p.own) 6;
+          elements = none-print-in (detail_of s) (types_of p.own) 3;
         };
         fronts = fronts-of s.is_bare w.text.list.items start p.lead p.name p.written none all;
       };
@@ -268,7 +286,7 @@ pub first-expected : (s : Symbol) (w first last : Direct) (mark : Mark) (start :
     → AwaitsParameters s w mark start argument → Writes w first (codes "(")
     → last.text ≡ first.text → last.candidates ≡ first.candidates → last.has_scope ≡ first.has_scope → last.at ≡ first.at
     → last.waiting.list.items ≡ first.waiting.list.items ++ opens.Parameters mark start argument ∷ []
-    → AwaitsNextParameter s last mark start argument
+    → AreParametersRead s last 3 true mark start argument
 first-expected s w first last mark start argument p one text candidates scope_same at waiting =
     let grown : last.text.list.items ≡ w.text.list.items ++ codes "(" = ap (λ l. l.list.items) text ∙ one.text in
     record {
@@ -276,27 +294,12 @@ first-expected s w first last mark start argument p one text candidates scope_sa
       rest = reverse first.waiting.list.items;
       open_is = ap reverse waiting ∙ reverse-last first.waiting.list.items (opens.Parameters mark start argument);
       ts = [];
+      none = λ e. refl;
+      some = λ e. cc e;
       texts = [];
       has = parameters-as s w.text.list.items last.text.list.items (codes "(") mark start argument p.has grown p.is_function.elements;
       written = grown ∙ ap (λ l. l ++ codes "(") p.written ∙ sym (append-nil (p.front ++ codes "("));
       goes = subst (λ n. ParametersGoOn s argument p.lead p.make [] n p.state) (sym (at ∙ one.at)) p.goes;
-    }
-
--- another parameter comes next
-pub next-expected : (s : Symbol) (w last : Direct) (mark : Mark) (start : ℕ) (argument : Arguments) → IsParameterEnded s w mark start argument → Writes w last (codes ", ")
-    → AwaitsNextParameter s last mark start argument
-next-expected s w last mark start argument p one =
-    let front = p.front ++ codes "(" in
-    record {
-      kept = kept-written s w last (codes ", ") one p.kept;
-      rest = p.rest;
-      open_is = ap (λ l. reverse l.list.items) one.waiting ∙ p.open_is;
-      ts = p.ts;
-      texts = p.texts;
-      has = parameters-as s w.text.list.items last.text.list.items (codes ", ") mark start argument p.has one.text p.is_function.elements;
-      written = one.text ∙ ap (λ l. l ++ codes ", ") p.written ∙ append_assoc front p.texts (codes ", ")
-          ∙ ap (λ l. front ++ l) (sym (next-written p.ts p.texts p.some));
-      goes = subst (λ n. ParametersGoOn s argument p.lead p.make p.ts n p.state) (sym one.at) p.goes;
     }
 
 -- ## What comes before an encoding's text
@@ -310,7 +313,7 @@ cut-kept s old new start cuts kept = go cuts.candidates
       state = kept.state;
       scope = kept.scope;
       keeps = keeps-as s old new kept.state.candidates (cuts.text ∙ ap (λ n. drop n old.text.list.items) same.0) (ap (λ v. v.list.items) same.1) cuts.scope
-          kept.keeps.candidates kept.keeps.named kept.keeps.own kept.keeps.unknown;
+          kept.keeps.candidates kept.keeps.named kept.keeps.single kept.keeps.unknown;
     }
     go (inr none) = record { state = record kept.state { candidates = [] }; scope = no_scope; keeps = none-kept s new none }
 
@@ -369,24 +372,21 @@ void-ended s w first here mark start argument p stands one text candidates scope
       behind = subst (λ n. EncodedBehind s p.lead e n) (omega (arith, at, one.at)) behind;
     }
 
--- and so is a name with its parameters, unless they are a lone void
-pub function-ended : (s : Symbol) (w : Direct) (mark : Mark) (start : ℕ) (argument : Arguments) (p : IsParameterEnded s w mark start argument)
-    → p.texts ≢ codes "void" → IsFunctionEnded s w mark start
-unfolding no_items may_be_empty
-function-ended s w mark start argument p apart =
+-- and so is a name with its parameters, after which something may be that prints nothing
+items-ended : (s : Symbol) {extra : ℕ} (w here : Direct) (is_first : Bool) (mark : Mark) (start : ℕ) (argument : Arguments)
+    (p : AreParametersRead s w extra is_first mark start argument) (items : Term) → here.text ≡ w.text → Kept s here
+    → p.make items ≡ function p.is_function.own (qualifiers (has_const mark)) (called_on mark) absent items
+    → PrintsItems (detail_of s) (types_of p.is_function.own) items p.texts → EncodedBehind s p.lead (p.make items) here.at → IsFunctionEnded s here mark start
+items-ended s w here is_first mark start argument p items text kept is printed behind =
     let f = p.is_function in
-    let e = p.make (list_of p.ts) in
     let b = p.name in
     let l = p.texts in
-    let made = function f.own (qualifiers (has_const mark)) (called_on mark) absent (list_of p.ts) in
-    let is : e ≡ made = made-with f.own absent mark p.make f.makes p.ts p.some (parameters-kept (detail_of s) (types_of f.own) 6 p.ts l f.elements apart) in
-    let behind : EncodedBehind s p.lead e w.at = subst (λ u. EncodedBehind s p.lead (p.make u) w.at) (list-with-none p.ts)
-    (p.goes.onward nothing_there w.at p.state (expects-empty s Kind.Items p.goes.around p.goes.inner w.at p.state p.goes.awaits refl)) in
+    let made = function f.own (qualifiers (has_const mark)) (called_on mark) absent items in
     record {
-      kept = p.kept;
+      kept = kept;
       own = f.own;
-      items = list_of p.ts;
-      e = e;
+      items = items;
+      e = p.make items;
       e_is = is;
       front = p.front;
       lead = p.lead;
@@ -394,12 +394,44 @@ function-ended s w mark start argument p apart =
       texts = l;
       prints = f.prints;
       fronts = p.fronts;
-      written = p.written;
+      written = ap (λ v. v.list.items) text ∙ p.written;
       shows = λ whole. subst (λ t. Shows (detail_of s) t (b ++ codes "(" ++ l ++ codes ")" ++ mark_text mark)) (sym is)
           (subst (λ x. Shows (detail_of s) made (b ++ codes "(" ++ l ++ codes ")" ++ x)) (plain-text mark)
-          (function-shows (has-parameters s whole) f.own b f.prints p.ts l f.elements (qualifiers (has_const mark)) (called_on mark)));
+          (function-shows (has-parameters s whole) f.own b f.prints items l printed (qualifiers (has_const mark)) (called_on mark)));
       behind = behind;
     }
+
+-- unless they are a lone void
+pub function-ended : (s : Symbol) (w : Direct) (mark : Mark) (start : ℕ) (argument : Arguments)
+    → (r : (extra : ℕ) × (extra ≤ 6) × AreParametersRead s w extra false mark start argument) → r.2.texts ≢ codes "void" → IsFunctionEnded s w mark start
+unfolding no_items may_be_empty
+function-ended s w mark start argument r apart =
+    let p = r.2 in
+    let f = p.is_function in
+    items-ended s w w false mark start argument p (list_of p.ts) refl p.kept
+    (made-with f.own absent mark p.make f.makes p.ts (p.some refl) (parameters-kept (detail_of s) (types_of f.own) r.0 p.ts p.texts f.elements apart))
+    (list-in (detail_of s) (types_of f.own) r.0 p.ts p.texts r.1 f.elements)
+    (subst (λ u. EncodedBehind s p.lead (p.make u) w.at) (list-with-none p.ts)
+    (p.goes.onward nothing_there w.at p.state (expects-empty s Kind.Items p.goes.around p.goes.inner w.at p.state p.goes.awaits refl)))
+
+-- also where the last of them prints nothing
+pub nothing-ended : (s : Symbol) (w here : Direct) (is_first : Bool) (mark : Mark) (start : ℕ) (argument : Arguments)
+    (p : AreParametersRead s w 3 is_first mark start argument) (t : Term) (kept : Kept s here)
+    → here.text ≡ w.text → is_empty (types_of p.is_function.own) t ≡ true → is_void t ≡ false
+    → ParametersGoOn s argument p.lead p.make (p.ts ++ t ∷ []) here.at kept.state → IsFunctionEnded s here mark start
+unfolding no_items may_be_empty
+nothing-ended s w here is_first mark start argument p t kept text none apart goes =
+    let f = p.is_function in
+    items-ended s w here is_first mark start argument p (list_with p.ts (list t nil)) text kept (made p.ts)
+    (list-before (detail_of s) (types_of f.own) p.ts t p.texts none f.elements)
+    (subst (λ u. EncodedBehind s p.lead (p.make u) here.at) (list-more p.ts t nil)
+    (goes.onward nothing_there here.at kept.state (expects-empty s Kind.Items goes.around goes.inner here.at kept.state goes.awaits refl)))
+  where
+    made : (ts : List Term) → p.make (list_with ts (list t nil))
+        ≡ function p.is_function.own (qualifiers (has_const mark)) (called_on mark) absent (list_with ts (list t nil))
+    made [] = p.is_function.makes t nil ∙ ap (function p.is_function.own (qualifiers (has_const mark)) (called_on mark) absent) (parameters-before [] t apart)
+    made (u ∷ us) = p.is_function.makes u (list_with us (list t nil))
+        ∙ ap (function p.is_function.own (qualifiers (has_const mark)) (called_on mark) absent) (parameters-before (u ∷ us) t apart)
 
 -- a function is an encoding once its last bracket is written, and what comes before its text is taken away
 pub function-closed : (s : Symbol) (w last new : Direct) (mark : Mark) (start : ℕ) → IsFunctionEnded s w mark start → s.is_bare ≡ false

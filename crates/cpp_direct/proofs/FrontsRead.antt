@@ -117,7 +117,7 @@ front-leads s w last mark start to argument p front lead keeps is_own fronts wri
           own = is.own;
           makes = λ t rest. refl;
           is_own = is_own;
-          elements = none-print-in (detail_of s) (types_of is.own) 6;
+          elements = none-print-in (detail_of s) (types_of is.own) 3;
         };
         fronts = fronts;
       };

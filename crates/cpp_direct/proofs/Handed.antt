@@ -1,5 +1,5 @@
 -- A type was read, and is handed to what waits for it.
-use Rattle.std.proofs.Common.{◌≡◌, ℕ, ◌-◌, length, List, [], ◌∷◌, ◌++◌, reverse, slice_get, Bool, true, false, Some, refl, ap, sym, ◌∙◌, subst, codes, append_assoc}
+use Rattle.std.proofs.Common.{◌≡◌, ℕ, ◌-◌, length, List, [], ◌∷◌, ◌++◌, reverse, slice_get, Bool, true, false, Option, Some, refl, ap, sym, ◌∙◌, subst, codes, append_assoc}
 use Rattle.std.proofs.lemmas.Bool.{false≢true}
 use Rattle.cpp_grammar.specs.Term.{Term, special}
 use Rattle.cpp_grammar.specs.Parts.{types_of}
@@ -10,16 +10,17 @@ use Rattle.cpp_direct.specs.declared.open.Mark.{Mark}
 use Rattle.cpp_direct.specs.declared.open.Open.{Open}
 use Rattle.cpp_direct.specs.declared.open.Open.TheVariants as opens
 use Rattle.cpp_direct.specs.declared.open.Arguments.{Arguments}
+use Rattle.cpp_direct.specs.declared.open.Purpose.{Purpose}
 use Rattle.cpp_direct.specs.declared.open.Step.TheVariants as steps
 use Rattle.cpp_direct.specs.declared.direct.Direct.{Direct}
 use Rattle.cpp_direct.specs.Holes.{Opened, Comes}
 use Rattle.cpp_direct.specs.Prints.{Names, PrintsAs, IsElementIn, Shows}
 use Rattle.cpp_direct.specs.WriterInvariant.{FirstType, IsNaming, IsTemplate, IsWriting, Marks, AwaitsEnumerator, Belongs, Listing, Scope, of_template, of_pack, Stands, below, opening_text, extra_of, led_by, in_front_of_next, argument_of, Kept, IsTypeRead}
-use Rattle.cpp_direct.specs.MidStep.{AwaitsMark, AwaitsNumber, AwaitsSignature, IsElementRead, IsFrontRead, IsParameterEnded, IsPassedClosed, IsReturned, IsSymbolEnded}
+use Rattle.cpp_direct.specs.MidStep.{AwaitsMark, AwaitsNumber, AwaitsSignature, IsElementRead, IsFrontRead, AreParametersRead, IsPassedClosed, IsReturned, IsSymbolEnded}
 use Rattle.cpp_direct.proofs.Elements.{element-added}
 use Rattle.cpp_direct.proofs.Listed.{TakesElements, last-found, list-waits, some-elements}
-use Rattle.cpp_direct.proofs.PrintedLists.{element-in, next-prints, next-prints-in, type-element}
-use Rattle.cpp_direct.proofs.PrintedTypes.{as-in, type-element-in}
+use Rattle.cpp_direct.proofs.PrintedLists.{element-in, next-prints, next-prints-in, type-element, type-in}
+use Rattle.cpp_direct.proofs.PrintedTypes.{as-in}
 use Rattle.cpp_direct.proofs.PrintedSymbols.{special-shows}
 use Rattle.cpp_direct.proofs.Kept.{made-here, template-stays}
 use Rattle.cpp_direct.proofs.Scopes.{parameters-as}
@@ -36,7 +37,7 @@ value-marked s w is_reference marked_reference is_dependent entry from made mark
     let last = last-found w.waiting.list.items entry found in
     let v = subst (λ ws. IsTypeRead s p.scope w p.state ws is_reference is_dependent) last.1 p.is_before in
     let marks = stands_as p.scope last.0 v.os v.front v.stands in
-    let naming : is_dependent ≡ true → IsNaming s p.scope last.0 = λ e. let n = v.naming e in (sym (argument_as last.0) ∙ n.0, n.1) in
+    let naming : is_dependent ≡ true → IsNaming p.scope last.0 = λ e. let n = v.naming e in (sym (argument_as last.0) ∙ n.0, n.1) in
     record {
       kept = p.kept;
       entry = entry;
@@ -52,7 +53,7 @@ value-marked s w is_reference marked_reference is_dependent entry from made mark
       from_is = marks.2;
       prints = prints_as p.scope.names v.own v.bytes v.prints;
       naming = naming;
-      made_here = λ e. made-here s p.scope marks.1 last.0 marks.4 (naming e);
+      made_here = λ e. made-here p.scope marks.1 last.0 marks.4 (naming e);
       stands = marks.5;
     }
 
@@ -86,8 +87,8 @@ value-element s w is_reference o p found =
 pub parameter-got : (s : Symbol) (w : Direct) (mark : Mark) (start : ℕ) (argument : Arguments) (kept : Kept s w) (rest : List Open) (os : List Opened) (t : Term)
     (front bytes : List ℕ) (waits : Stands s kept.scope (opens.Parameters mark start argument ∷ rest) os front)
     → reverse w.waiting.list.items ≡ opens.Parameters mark start argument ∷ rest
-    → w.text.list.items ≡ front ++ bytes → Comes s os (tree t true) w.at kept.state → IsElementIn (detail_of s) (types_of waits.2.is_function.own) 6 t bytes
-    → IsParameterEnded s w mark start argument
+    → w.text.list.items ≡ front ++ bytes → Comes s os (tree t true) w.at kept.state → IsElementIn (detail_of s) (types_of waits.2.is_function.own) 3 t bytes
+    → AreParametersRead s w 3 false mark start argument
 parameter-got s w mark start argument kept opened_ os t front bytes waits open_is written comes element =
     let ts = waits.0 in
     let texts = waits.1 in
@@ -96,31 +97,32 @@ parameter-got s w mark start argument kept opened_ os t front bytes waits open_i
       rest = opened_;
       open_is = open_is;
       ts = ts ++ t ∷ [];
-      some = some-elements ts t;
+      none = λ e. cc e;
+      some = λ e. some-elements ts t;
       texts = in_front_of_next ts texts ++ bytes;
       has = parameters-as s front w.text.list.items bytes mark start argument waits.2 written
-          (next-prints-in (types_of f.own) 6 ts texts t bytes f.elements element);
+          (next-prints-in (types_of f.own) 3 ts texts t bytes f.elements element);
       written = written ∙ ap (λ l. l ++ bytes) waits.3 ∙ append_assoc (waits.2.front ++ codes "(") (in_front_of_next ts texts) bytes;
       goes = waits.4 t w.at kept.state comes;
     }
 
 pub parameter-read : (s : Symbol) (w : Direct) (mark : Mark) (start : ℕ) (argument : Arguments) → IsElementRead s w (opens.Parameters mark start argument)
-    → IsParameterEnded s w mark start argument
+    → AreParametersRead s w 3 false mark start argument
 parameter-read s w mark start argument p =
     parameter-got s w mark start argument p.read.kept p.rest p.read.os p.read.own p.read.front p.read.bytes p.read.stands p.open_is p.read.written p.read.comes
-    (element-in (types_of p.read.stands.2.is_function.own) 6 p.read.own p.read.bytes (p.read.element 6))
+    (element-in (types_of p.read.stands.2.is_function.own) 3 p.read.own p.read.bytes (p.read.element 3))
 
 -- it is a type
 pub value-parameter : (s : Symbol) (w : Direct) (is_reference is_dependent : Bool) (mark : Mark) (start : ℕ) (argument : Arguments)
     → IsWriting s w (steps.Value is_reference is_dependent)
-    → slice_get w.waiting.list.items (length w.waiting.list.items - 1) ≡ Some (opens.Parameters mark start argument) → IsParameterEnded s w mark start argument
+    → slice_get w.waiting.list.items (length w.waiting.list.items - 1) ≡ Some (opens.Parameters mark start argument) → AreParametersRead s w 3 false mark start argument
 value-parameter s w is_reference is_dependent mark start argument p found =
     let last = last-found w.waiting.list.items (opens.Parameters mark start argument) found in
     let v = subst (λ ws. IsTypeRead s p.scope w p.state ws is_reference is_dependent) last.1 p.is_before in
     let f = v.stands.2.is_function in
     let types = types_of f.own in
     parameter-got s w mark start argument p.kept last.0 v.os v.own v.front v.bytes v.stands last.1 v.written v.comes
-    (type-element-in types v.own v.bytes is_reference (as-in (detail_of s) p.scope.names is_dependent types v.own v.bytes is_reference f.given v.prints))
+    (type-in types 3 v.own v.bytes is_reference (as-in (detail_of s) p.scope.names is_dependent types v.own v.bytes is_reference f.given v.prints))
 
 -- what a special object is of was read
 pub special-read : (s : Symbol) (w : Direct) → IsElementRead s w opens.Special → IsSymbolEnded s w
@@ -197,28 +199,33 @@ passed-closed _ p l r c f k = tt
 -- what is none of those that wait for something else
 pub takes-elements : (o : Open) → IsPassedClosed o → ((x : Bool) → o ≡ opens.Returned x → ⊥) → ((x : Bool) → o ≡ opens.Signature x → ⊥)
     → (o ≡ opens.Special → ⊥) → (o ≡ opens.Enumerator → ⊥) → ((x : Mark) (y z : ℕ) → o ≡ opens.Enclosing x y z → ⊥)
-    → ((x y : ℕ) (z : Arguments) → o ≡ opens.Argument x y z → ⊥) → ((x : ℕ) → o ≡ opens.Lambda x → ⊥) → ((x y : ℕ) (z : Arguments) → o ≡ opens.Element x y z → ⊥)
-    → ((x : Access) (y z : ℕ) → o ≡ opens.Array x y z → ⊥) → TakesElements o
-takes-elements (opens.Pointer x) w u g z n m a q e j = absurd w
-takes-elements (opens.Lvalue x) w u g z n m a q e j = absurd w
-takes-elements (opens.Rvalue x) w u g z n m a q e j = absurd w
-takes-elements (opens.Const x) w u g z n m a q e j = absurd w
-takes-elements (opens.Parameters x y v) w u g z n m a q e j = absurd w
-takes-elements (opens.Front x y v) w u g z n m a q e j = absurd w
-takes-elements (opens.Argument x y v) w u g z n m a q e j = absurd (a x y v refl)
-takes-elements (opens.Returned x) w u g z n m a q e j = absurd (u x refl)
-takes-elements (opens.Signature x) w u g z n m a q e j = absurd (g x refl)
-takes-elements (opens.Enclosing x y v) w u g z n m a q e j = absurd (m x y v refl)
-takes-elements (opens.Lambda x) w u g z n m a q e j = absurd (q x refl)
-takes-elements (opens.Array x y v) w u g z n m a q e j = absurd (j x y v refl)
-takes-elements (opens.Element x y v) w u g z n m a q e j = absurd (e x y v refl)
-takes-elements opens.Special w u g z n m a q e j = absurd (z refl)
-takes-elements opens.Enumerator w u g z n m a q e j = absurd (n refl)
-takes-elements opens.Pack w u g z n m a q e j = tt
-takes-elements (opens.TypeArguments x y) w u g z n m a q e j = tt
-takes-elements (opens.NestArguments x) w u g z n m a q e j = tt
-takes-elements (opens.FirstArguments x) w u g z n m a q e j = tt
-takes-elements (opens.NameArguments x) w u g z n m a q e j = tt
+    → ((x y : ℕ) (z : Arguments) → o ≡ opens.Argument x y z → ⊥) → ((x : ℕ) (y : Option Purpose) → o ≡ opens.Lambda x y → ⊥) → ((x y : ℕ) (z : Arguments) → o ≡ opens.Element x y z → ⊥)
+    → ((x : Access) (y z : ℕ) → o ≡ opens.Array x y z → ⊥) → ((x : ℕ) → o ≡ opens.Address x → ⊥)
+    → ((x : Mark) (y : ℕ) (z : Arguments) → o ≡ opens.AddressedFront x y z → ⊥) → ((x : Mark) (y : ℕ) (z : Arguments) → o ≡ opens.Addressed x y z → ⊥) → TakesElements o
+takes-elements (opens.Pointer x) w u g z n m a q e j d f b = absurd w
+takes-elements (opens.Lvalue x) w u g z n m a q e j d f b = absurd w
+takes-elements (opens.Rvalue x) w u g z n m a q e j d f b = absurd w
+takes-elements (opens.Const x) w u g z n m a q e j d f b = absurd w
+takes-elements (opens.Parameters x y v) w u g z n m a q e j d f b = absurd w
+takes-elements (opens.Front x y v) w u g z n m a q e j d f b = absurd w
+takes-elements (opens.Argument x y v) w u g z n m a q e j d f b = absurd (a x y v refl)
+takes-elements (opens.Returned x) w u g z n m a q e j d f b = absurd (u x refl)
+takes-elements (opens.Signature x) w u g z n m a q e j d f b = absurd (g x refl)
+takes-elements (opens.Enclosing x y v) w u g z n m a q e j d f b = absurd (m x y v refl)
+takes-elements (opens.Lambda x y) w u g z n m a q e j d f b = absurd (q x y refl)
+takes-elements (opens.Array x y v) w u g z n m a q e j d f b = absurd (j x y v refl)
+takes-elements (opens.Element x y v) w u g z n m a q e j d f b = absurd (e x y v refl)
+takes-elements (opens.Address x) w u g z n m a q e j d f b = absurd (d x refl)
+takes-elements (opens.AddressedFront x y v) w u g z n m a q e j d f b = absurd (f x y v refl)
+takes-elements (opens.Addressed x y v) w u g z n m a q e j d f b = absurd (b x y v refl)
+takes-elements opens.Special w u g z n m a q e j d f b = absurd (z refl)
+takes-elements opens.Enumerator w u g z n m a q e j d f b = absurd (n refl)
+takes-elements opens.Pack w u g z n m a q e j d f b = tt
+takes-elements (opens.TypeArguments x y) w u g z n m a q e j d f b = tt
+takes-elements (opens.NestArguments x) w u g z n m a q e j d f b = tt
+takes-elements (opens.FirstArguments x) w u g z n m a q e j d f b = tt
+takes-elements (opens.NameArguments x) w u g z n m a q e j d f b = tt
+takes-elements (opens.LevelArguments x) w u g z n m a q e j d f b = tt
 
 -- an element was read
 pub argument-read : (s : Symbol) (w : Direct) (o : Open) → IsElementRead s w o → TakesElements o → IsWriting s w (steps.List false)

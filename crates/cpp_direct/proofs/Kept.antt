@@ -1,13 +1,12 @@
 -- What a writer keeps while its text and its lists grow.
 use Rattle.sym_print.specs.declared.detail.Detail.{Detail}
-use Rattle.std.proofs.Common.{◌≡◌, ◌≢◌, ℕ, zero, suc, ◌+◌, ◌-◌, ◌≤◌, length, List, [], ◌∷◌, ◌++◌, take, drop, reverse, slice_get, Bool, true, false, Option, Some, None, is_some, refl, ap, sym, ◌∙◌, subst, arith, append_assoc, append-nil, ◌<◌, inl, inr, get_or, length-append, cond}
+use Rattle.std.proofs.Common.{◌≡◌, ◌≢◌, ℕ, zero, suc, ◌+◌, ◌-◌, ◌≤◌, length, List, [], ◌∷◌, ◌++◌, take, drop, reverse, slice_get, Bool, true, false, Option, Some, None, is_some, refl, ap, sym, ◌∙◌, subst, arith, append_assoc, append-nil, ◌<◌, inl, inr, get_or, length-append}
 use Rattle.std.specs.Option.{IfSome, OnSome}
 use Rattle.std.proofs.lemmas.Bool.{false≢true}
 use Rattle.std.proofs.lemmas.List.{reverse-append, reverse-reverse}
 use Rattle.std.proofs.Math.Seq.{drop-append_seam, take-append_seam}
 use Rattle.cpp_grammar.specs.Term.{Term}
 use Rattle.cpp_grammar.specs.Values.{State, Around, tree, outermost}
-use Rattle.cpp_direct.specs.Bytes.{is_local}
 use Rattle.cpp_direct.specs.WrittenParts.{opening_bracket}
 use Rattle.cpp_direct.specs.Symbol.{detail_of, Symbol}
 use Rattle.cpp_direct.specs.declared.open.Candidate.{Candidate}
@@ -19,13 +18,15 @@ use Rattle.cpp_direct.specs.declared.open.Open.{Open}
 use Rattle.cpp_direct.specs.declared.open.Step.{Step}
 use Rattle.cpp_direct.specs.declared.direct.Direct.{Direct}
 use Rattle.cpp_direct.specs.Holes.{Comes, Opened, candidate, with_candidate, unless_listed}
-use Rattle.cpp_direct.specs.Prints.{Names, PrintsAs}
-use Rattle.cpp_direct.specs.WriterInvariant.{AreCandidates, AreNamed, ArgumentsGoOn, ExpectsType, HasScope, IsCandidate, IsNaming, IsNest, IsPlaced, IsScopeOf, IsScoped, IsTemplate, IsWriting, Keeps, Scope, Stands, argument_of, arguments_in, below, encoding_place, is_within_type, no_scope, of_template, place_of, IsOwn, is_type, IsKnown, nowhere, Kept, IsBetween, AwaitsTypeIn, IsTypeRead}
-use Rattle.cpp_direct.specs.Written.{Writes, Reads, added, added_unless, IsKeptTo, AreKeptTo}
+use Rattle.cpp_direct.specs.Prints.{Names, PrintsAs, PrintsGiven}
+use Rattle.cpp_direct.specs.WriterInvariant.{AreCandidates, AreNamed, ArgumentsGoOn, ExpectsType, HasScope, IsCandidate, IsMadeIn, IsNaming, IsNest, IsPlaced, HasSingles, IsScoped, IsTemplate, IsWriting, Keeps, Scope, Stands, argument_of, arguments_in, below, is_within_type, no_scope, of_template, place_of, IsOwn, is_type, IsKnown, nowhere, Kept, IsBetween, AwaitsTypeIn, IsTypeRead}
+use Rattle.cpp_direct.specs.Written.{Writes, Reads, added, added_unless, with_argument, IsLeft, AreLeft, Stays}
 use Rattle.std.specs.Prelude.{slice_set}
 use Rattle.cpp_grammar.specs.Values as values
 use Rattle.cpp_direct.specs.declared.open.Open.TheVariants as opens
 use Rattle.cpp_direct.specs.declared.open.Step.TheVariants as steps
+use Rattle.cpp_direct.specs.declared.open.Hiding.{Hiding}
+use Rattle.cpp_direct.specs.declared.open.Hiding.TheVariants as hidings
 
 -- ## Pieces of a text
 
@@ -74,33 +75,38 @@ placed-last front bytes from to written from_is to_is = record {
 -- ## Candidates
 
 -- a candidate stays one where more is written
-pub candidate-stays : {s : Symbol} {names : Names} (text more : List ℕ) (k : Candidate) (c : values.Candidate) → IsCandidate s names text k c
-    → IsCandidate s names (text ++ more) k c
+pub candidate-stays : {s : Symbol} {scope : Scope} (text more : List ℕ) (k : Candidate) (c : values.Candidate) → IsCandidate s scope text k c
+    → IsCandidate s scope (text ++ more) k c
 candidate-stays text more k c p =
     record { bytes = p.bytes; placed = placed-moved text more p.bytes refl refl refl p.placed; prints = p.prints; made_in = p.made_in }
 
--- candidates stay so where more is written
-pub candidates-stay : (s : Symbol) (names : Names) (text more : List ℕ) (ks : List Candidate) (cs : List values.Candidate) → AreCandidates s names text ks cs
-    → AreCandidates s names (text ++ more) ks cs
-candidates-stay s names text more [] [] p = tt
-candidates-stay s names text more (k ∷ ks) (c ∷ cs) p = ((λ e. candidate-stays text more k c (p.0 e)), candidates-stay s names text more ks cs p.1)
-candidates-stay s names text more [] (c ∷ cs) p = absurd p
-candidates-stay s names text more (k ∷ ks) [] p = absurd p
+-- candidates are so elsewhere where each is
+pub candidates-as : (s : Symbol) (scope other : Scope) (text new : List ℕ) → ((k : Candidate) (c : values.Candidate) → IsCandidate s scope text k c → IsCandidate s other new k c)
+    → (ks : List Candidate) (cs : List values.Candidate) → AreCandidates s scope text ks cs → AreCandidates s other new ks cs
+candidates-as s scope other text new each [] [] p = tt
+candidates-as s scope other text new each (k ∷ ks) (c ∷ cs) p = ((λ e. each k c (p.0 e)), candidates-as s scope other text new each ks cs p.1)
+candidates-as s scope other text new each [] (c ∷ cs) p = absurd p
+candidates-as s scope other text new each (k ∷ ks) [] p = absurd p
+
+-- they stay so where more is written
+pub candidates-stay : (s : Symbol) (scope : Scope) (text more : List ℕ) (ks : List Candidate) (cs : List values.Candidate) → AreCandidates s scope text ks cs
+    → AreCandidates s scope (text ++ more) ks cs
+candidates-stay s scope text more = candidates-as s scope scope text (text ++ more) (λ k c p. candidate-stays text more k c p)
 
 -- one more
-pub candidates-more : {s : Symbol} {names : Names} (text : List ℕ) (ks : List Candidate) (cs : List values.Candidate) (k : Candidate) (c : values.Candidate)
-    → AreCandidates s names text ks cs → (k.from ≤ k.to → IsCandidate s names text k c) → AreCandidates s names text (ks ++ k ∷ []) (cs ++ c ∷ [])
+pub candidates-more : {s : Symbol} {scope : Scope} (text : List ℕ) (ks : List Candidate) (cs : List values.Candidate) (k : Candidate) (c : values.Candidate)
+    → AreCandidates s scope text ks cs → (k.from ≤ k.to → IsCandidate s scope text k c) → AreCandidates s scope text (ks ++ k ∷ []) (cs ++ c ∷ [])
 candidates-more text [] [] k c p is = (is, tt)
 candidates-more text (x ∷ ks) (y ∷ cs) k c p is = (p.0, candidates-more text ks cs k c p.1 is)
 candidates-more text [] (y ∷ cs) k c p is = absurd p
 candidates-more text (x ∷ ks) [] k c p is = absurd p
 
 -- what is written from a place on becomes a candidate
-pub candidates-added : (s : Symbol) (names : Names) (text : List ℕ) (ks : List Candidate) (cs : List values.Candidate) (front bytes : List ℕ) (from : ℕ) (t : Term) (around : Around) (r d : Bool)
-    → AreCandidates s names text ks cs → text ≡ front ++ bytes → from ≡ length front → PrintsAs (detail_of s) names d t bytes r
-    → (d ≡ true → around.encoding ≡ encoding_place s.bytes)
-    → AreCandidates s names text (ks ++ record { from = from; to = length text; is_reference = r; is_dependent = d } ∷ []) (cs ++ candidate around t ∷ [])
-candidates-added s names text ks cs front bytes from t around r d p written from_is prints made_in =
+pub candidates-added : (s : Symbol) (scope : Scope) (text : List ℕ) (ks : List Candidate) (cs : List values.Candidate) (front bytes : List ℕ) (from : ℕ) (t : Term) (around : Around) (r d : Bool)
+    → AreCandidates s scope text ks cs → text ≡ front ++ bytes → from ≡ length front → PrintsAs (detail_of s) scope.names d t bytes r
+    → (d ≡ true → IsMadeIn scope around.encoding)
+    → AreCandidates s scope text (ks ++ record { from = from; to = length text; is_reference = r; is_dependent = d } ∷ []) (cs ++ candidate around t ∷ [])
+candidates-added s scope text ks cs front bytes from t around r d p written from_is prints made_in =
     candidates-more text ks cs (record { from = from; to = length text; is_reference = r; is_dependent = d }) (candidate around t) p (λ ordered. record {
       bytes = bytes;
       placed = placed-last front bytes from (length text) written from_is refl;
@@ -119,49 +125,45 @@ pub named-stays : (text more : List ℕ) (scope : Scope) → AreNamed text scope
 named-stays text more scope named = λ number single. let n = named number single in (n.0, n.1, placed-stays text more (place_of scope.arguments number) n.0 n.2)
 
 -- none is known
-pub none-known : (k : ℕ) → IsKnown (place_of nowhere k) → ⊥
-none-known zero o = absurd (omega (arith, o))
-none-known (suc zero) o = absurd (omega (arith, o))
-none-known (suc (suc zero)) o = absurd (omega (arith, o))
-none-known (suc (suc (suc zero))) o = absurd (omega (arith, o))
-none-known (suc (suc (suc (suc k)))) o = absurd (omega (arith, o))
+pub none-known : (k : ℕ) → IsKnown nowhere k → ⊥
+none-known k o = omega (arith, o)
 
 -- and nothing may be named
 pub none-named : (text : List ℕ) → AreNamed text no_scope
 none-named text number single = absurd (none-known number single.0)
 
-none-own : (s : Symbol) → IsScopeOf s no_scope
-none-own s = record { encoded = λ real. absurd (real refl); single = λ number own e. cc e }
+pub none-single : HasSingles no_scope
+none-single number own e = cc e
 
 -- there is no candidate, and nothing may be named
 pub none-kept : (s : Symbol) (w : Direct) → w.candidates.list.items ≡ [] → Keeps s no_scope w []
 none-kept s w none = record {
-  candidates = subst (λ ks. AreCandidates s no_scope.names w.text.list.items ks []) (sym none) tt;
+  candidates = subst (λ ks. AreCandidates s no_scope w.text.list.items ks []) (sym none) tt;
   named = none-named w.text.list.items;
-  own = none-own s;
+  single = none-single;
   unknown = λ e. refl;
 }
 
 -- what is there has this text and these candidates
 pub keeps-as : (s : Symbol) {scope : Scope} (old new : Direct) (cs : List values.Candidate) {text : List ℕ} {ks : List Candidate}
     → new.text.list.items ≡ text → new.candidates.list.items ≡ ks → new.has_scope ≡ old.has_scope
-    → AreCandidates s scope.names text ks cs → AreNamed text scope → IsScopeOf s scope → (old.has_scope ≡ false → scope ≡ no_scope)
+    → AreCandidates s scope text ks cs → AreNamed text scope → HasSingles scope → (old.has_scope ≡ false → scope ≡ no_scope)
     → Keeps s scope new cs
-keeps-as s {scope = scope} old new cs {text = text} text_is candidates_are scope_same candidates named own unknown = record {
-  candidates = subst (λ l. AreCandidates s scope.names l new.candidates.list.items cs) (sym text_is)
-      (subst (λ ks. AreCandidates s scope.names text ks cs) (sym candidates_are) candidates);
+keeps-as s {scope = scope} old new cs {text = text} text_is candidates_are scope_same candidates named single unknown = record {
+  candidates = subst (λ l. AreCandidates s scope l new.candidates.list.items cs) (sym text_is)
+      (subst (λ ks. AreCandidates s scope text ks cs) (sym candidates_are) candidates);
   named = subst (λ l. AreNamed l scope) (sym text_is) named;
-  own = own;
+  single = single;
   unknown = λ none. unknown (sym scope_same ∙ none);
 }
 
 -- other candidates are there
 abbrev pub kept-as : (s : Symbol) (old new : Direct) (st : State) (kept : Kept s old) {ks : List Candidate} → new.text ≡ old.text
-    → new.candidates.list.items ≡ ks → new.has_scope ≡ old.has_scope → AreCandidates s kept.scope.names old.text.list.items ks st.candidates → Kept s new
+    → new.candidates.list.items ≡ ks → new.has_scope ≡ old.has_scope → AreCandidates s kept.scope old.text.list.items ks st.candidates → Kept s new
 kept-as s old new st kept text candidates scope_same are = record {
   state = st;
   scope = kept.scope;
-  keeps = keeps-as s old new st.candidates (ap (λ v. v.list.items) text) candidates scope_same are kept.keeps.named kept.keeps.own kept.keeps.unknown;
+  keeps = keeps-as s old new st.candidates (ap (λ v. v.list.items) text) candidates scope_same are kept.keeps.named kept.keeps.single kept.keeps.unknown;
 }
 
 -- nothing was written
@@ -177,8 +179,8 @@ kept-grown s old new bytes text candidates scope_same kept = record {
   state = kept.state;
   scope = kept.scope;
   keeps = keeps-as s old new kept.state.candidates text (ap (λ v. v.list.items) candidates) scope_same
-      (candidates-stay s kept.scope.names old.text.list.items bytes old.candidates.list.items kept.state.candidates kept.keeps.candidates)
-      (named-stays old.text.list.items bytes kept.scope kept.keeps.named) kept.keeps.own kept.keeps.unknown;
+      (candidates-stay s kept.scope old.text.list.items bytes old.candidates.list.items kept.state.candidates kept.keeps.candidates)
+      (named-stays old.text.list.items bytes kept.scope kept.keeps.named) kept.keeps.single kept.keeps.unknown;
 }
 
 -- a text was written
@@ -192,16 +194,16 @@ kept-read s old new bytes reads kept = kept-grown s old new bytes reads.text rea
 -- what is written from a place on became a candidate
 abbrev pub kept-with : (s : Symbol) (old new : Direct) (kept : Kept s old) (front bytes : List ℕ) (from : ℕ) (t : Term) (around : Around) (r d : Bool)
     → old.text.list.items ≡ front ++ bytes → from ≡ length front → PrintsAs (detail_of s) kept.scope.names d t bytes r
-    → (d ≡ true → around.encoding ≡ encoding_place s.bytes)
+    → (d ≡ true → IsMadeIn kept.scope around.encoding)
     → new.text ≡ old.text → new.candidates.list.items ≡ added old from r d → new.has_scope ≡ old.has_scope → Kept s new
 kept-with s old new kept front bytes from t around r d written from_is prints made_in text added_is scope_same =
     kept-as s old new (with_candidate around t kept.state) kept text added_is scope_same
-    (candidates-added s kept.scope.names old.text.list.items old.candidates.list.items kept.state.candidates front bytes from t around r d kept.keeps.candidates
+    (candidates-added s kept.scope old.text.list.items old.candidates.list.items kept.state.candidates front bytes from t around r d kept.keeps.candidates
     written from_is prints made_in)
 
 pub keeps-unless : (s : Symbol) (old new : Direct) (kept : Kept s old) (listed : Bool) (front bytes : List ℕ) (from : ℕ) (t : Term) (around : Around) (d : Bool)
     → old.text.list.items ≡ front ++ bytes → from ≡ length front → (listed ≡ false → PrintsAs (detail_of s) kept.scope.names d t bytes false)
-    → (d ≡ true → around.encoding ≡ encoding_place s.bytes)
+    → (d ≡ true → IsMadeIn kept.scope around.encoding)
     → new.text ≡ old.text → new.candidates.list.items ≡ added_unless old listed from d → new.has_scope ≡ old.has_scope
     → Keeps s kept.scope new (unless_listed listed around t kept.state).candidates
 keeps-unless s old new kept true front bytes from t around d written from_is prints made_in text added_is scope_same =
@@ -212,13 +214,23 @@ keeps-unless s old new kept false front bytes from t around d written from_is pr
 -- the same unless it is one already
 abbrev pub kept-unless : (s : Symbol) (old new : Direct) (kept : Kept s old) (listed : Bool) (front bytes : List ℕ) (from : ℕ) (t : Term) (around : Around) (d : Bool)
     → old.text.list.items ≡ front ++ bytes → from ≡ length front → (listed ≡ false → PrintsAs (detail_of s) kept.scope.names d t bytes false)
-    → (d ≡ true → around.encoding ≡ encoding_place s.bytes)
+    → (d ≡ true → IsMadeIn kept.scope around.encoding)
     → new.text ≡ old.text → new.candidates.list.items ≡ added_unless old listed from d → new.has_scope ≡ old.has_scope → Kept s new
 kept-unless s old new kept listed front bytes from t around d written from_is prints made_in text added_is scope_same = record {
   state = unless_listed listed around t kept.state;
   scope = kept.scope;
   keeps = keeps-unless s old new kept listed front bytes from t around d written from_is prints made_in text added_is scope_same;
 }
+
+-- the text of an argument that may be named became a candidate, which names it
+abbrev pub kept-argument : (s : Symbol) (old new : Direct) (kept : Kept s old) (p : Argument) (bytes : List ℕ) (t : Term) (around : Around)
+    → IsPlaced old.text.list.items p bytes → PrintsGiven (detail_of s) kept.scope.names t bytes p.is_reference → IsMadeIn kept.scope around.encoding
+    → new.text ≡ old.text → new.candidates.list.items ≡ with_argument old p → new.has_scope ≡ old.has_scope → Kept s new
+kept-argument s old new kept p bytes t around placed prints made_in text added_is scope_same =
+    kept-as s old new (with_candidate around t kept.state) kept text added_is scope_same
+    (candidates-more old.text.list.items old.candidates.list.items kept.state.candidates
+    (record { from = p.from; to = p.to; is_reference = p.is_reference; is_dependent = true }) (candidate around t) kept.keeps.candidates
+    (λ ordered. record { bytes = bytes; placed = placed; prints = prints; made_in = λ e. made_in }))
 
 -- ## What waits
 
@@ -247,7 +259,7 @@ type-comes s old new kept around os text candidates scope_same waits outside exp
 -- a type was read
 pub value-comes : (s : Symbol) (w : Direct) (kept : Kept s w) (os : List Opened) (t : Term) (front bytes : List ℕ) (r d : Bool) {ws : List Open}
     → w.text.list.items ≡ front ++ bytes → PrintsAs (detail_of s) kept.scope.names d t bytes r → reverse w.waiting.list.items ≡ ws
-    → (d ≡ true → IsNaming s kept.scope ws) → Comes s os (tree t true) w.at kept.state → Stands s kept.scope ws os front → IsWriting s w (steps.Value r d)
+    → (d ≡ true → IsNaming kept.scope ws) → Comes s os (tree t true) w.at kept.state → Stands s kept.scope ws os front → IsWriting s w (steps.Value r d)
 value-comes s w kept os t front bytes r d written prints waits naming comes stands = record {
   kept = kept;
   is_before = subst (λ ws. IsTypeRead s kept.scope w kept.state ws r d) (sym waits) (record {
@@ -266,8 +278,8 @@ value-comes s w kept os t front bytes r d written prints waits naming comes stan
 -- it became a candidate
 pub value-added : (s : Symbol) (old new : Direct) (kept : Kept s old) (os : List Opened) (around : Around) (t : Term) (front bytes : List ℕ) (from : ℕ) (r d : Bool)
     {ws : List Open} → old.text.list.items ≡ front ++ bytes → from ≡ length front → PrintsAs (detail_of s) kept.scope.names d t bytes r
-    → (d ≡ true → around.encoding ≡ encoding_place s.bytes) → new.text ≡ old.text → new.candidates.list.items ≡ added old from r d → new.has_scope ≡ old.has_scope
-    → reverse new.waiting.list.items ≡ ws → (d ≡ true → IsNaming s kept.scope ws) → Comes s os (tree t true) new.at (with_candidate around t kept.state)
+    → (d ≡ true → IsMadeIn kept.scope around.encoding) → new.text ≡ old.text → new.candidates.list.items ≡ added old from r d → new.has_scope ≡ old.has_scope
+    → reverse new.waiting.list.items ≡ ws → (d ≡ true → IsNaming kept.scope ws) → Comes s os (tree t true) new.at (with_candidate around t kept.state)
     → Stands s kept.scope ws os front → IsWriting s new (steps.Value r d)
 value-added s old new kept os around t front bytes from r d written from_is prints made_in text added_is scope_same waits naming comes stands =
     value-comes s new (kept-with s old new kept front bytes from t around r d written from_is prints made_in text added_is scope_same) os t front bytes r d
@@ -282,33 +294,23 @@ scoped-within scope around o rest none scoped a found = go (is_within_type o) re
     go true is e = scoped is a e
     go false is e = absurd (false≢true (ap is_some (sym none ∙ e)))
 
--- in the symbol's own encoding, and in none of its lambdas, types may name its arguments
-pub encoded-here : (s : Symbol) (scope : Scope) (around : Around) (open_ : List Open) → IsScoped scope around open_ → IsNaming s scope open_
-    → (around.encoding ≡ encoding_place s.bytes) × (around.in_lambda ≡ false)
-encoded-here s scope around open_ scoped naming =
-    let h = (scoped scope.arguments naming.0).1.0 not_none in
-    (h.0 ∙ naming.1, h.1)
-  where
-    place : (b : Bool) (n : ℕ) → n ≡ cond b 3 2 → n ≢ 0
-    place true n is none = absurd (omega (arith, is, none))
-    place false n is none = absurd (omega (arith, is, none))
+-- in their encoding, and in none of its lambdas, types may name arguments
+pub encoded-here : (scope : Scope) (around : Around) (open_ : List Open) → IsScoped scope around open_ → IsNaming scope open_
+    → (around.encoding ≡ scope.arguments.encoding) × (around.in_lambda ≡ false)
+encoded-here scope around open_ scoped naming = (scoped scope.arguments naming.0).1.0 naming.1
 
-    not_none : scope.arguments.encoding ≢ 0
-    not_none = place (is_local s.bytes) scope.arguments.encoding naming.1
-
-pub made-here : (s : Symbol) (scope : Scope) (around : Around) (open_ : List Open) → IsScoped scope around open_ → IsNaming s scope open_
-    → around.encoding ≡ encoding_place s.bytes
-made-here s scope around open_ scoped naming = (encoded-here s scope around open_ scoped naming).0
+pub made-here : (scope : Scope) (around : Around) (open_ : List Open) → IsScoped scope around open_ → IsNaming scope open_ → IsMadeIn scope around.encoding
+made-here scope around open_ scoped naming = ((encoded-here scope around open_ scoped naming).0, naming.1)
 
 -- what a substitution names
-pub candidate-found : {s : Symbol} {names : Names} (text : List ℕ) (ks : List Candidate) (cs : List values.Candidate) (n : ℕ) (k : Candidate)
-    → AreCandidates s names text ks cs → k.from ≤ k.to → slice_get ks n ≡ Some k → (c : values.Candidate) × (slice_get cs n ≡ Some c) × IsCandidate s names text k c
+pub candidate-found : {s : Symbol} {scope : Scope} (text : List ℕ) (ks : List Candidate) (cs : List values.Candidate) (n : ℕ) (k : Candidate)
+    → AreCandidates s scope text ks cs → k.from ≤ k.to → slice_get ks n ≡ Some k → (c : values.Candidate) × (slice_get cs n ≡ Some c) × IsCandidate s scope text k c
 candidate-found text [] cs n k p ordered found = absurd (false≢true (ap is_some found))
 candidate-found text (x ∷ ks) [] n k p ordered found = absurd p
-candidate-found {s} {names} text (x ∷ ks) (y ∷ cs) zero k p ordered found = (y, refl, (subst (λ o. Named o) found p.0) ordered)
+candidate-found {s} {scope} text (x ∷ ks) (y ∷ cs) zero k p ordered found = (y, refl, (subst (λ o. Named o) found p.0) ordered)
   where
     Named : Option Candidate → Type 0
-    Named (Some z) = z.from ≤ z.to → IsCandidate s names text z y
+    Named (Some z) = z.from ≤ z.to → IsCandidate s scope text z y
     Named None = ⊥
 candidate-found text (x ∷ ks) (y ∷ cs) (suc n) k p ordered found = candidate-found text ks cs n k p.1 ordered found
 
@@ -337,6 +339,7 @@ pub type-named : (purpose : Purpose) (d : Bool) → (IsOwn purpose → d ≡ fal
 type-named purposes.Type d closed e = refl
 type-named (purposes.Name mark) d closed e = absurd (false≢true (sym (closed tt) ∙ e))
 type-named (purposes.Enclosing mark) d closed e = absurd (false≢true (sym (closed tt) ∙ e))
+type-named (purposes.Address mark) d closed e = absurd (false≢true (sym (closed tt) ∙ e))
 
 -- a nested name stays one where more is written
 pub nest-stays : {detail : Detail} {names : Names} (front bytes text more : List ℕ) (nest : Nest) (t : Term) → IsNest detail names front bytes text nest t
@@ -359,6 +362,7 @@ template-stays detail names (opens.TypeArguments from is_dependent) front t name
 template-stays detail names (opens.NestArguments nest) front t name text more p = (nest-stays front name text more nest t p.0, p.1, p.2)
 template-stays detail names (opens.FirstArguments nest) front t name text more p = nest-stays front name text more nest t p
 template-stays detail names (opens.NameArguments from) front t name text more p = p
+template-stays detail names (opens.LevelArguments is_dependent) front t name text more p = p
 template-stays detail names _ front t name text more p = p
 
 -- ## Lists
@@ -432,8 +436,8 @@ front-more zero k (x ∷ xs) ys e = absurd (omega (arith, e))
 front-more (suc n) k (x ∷ xs) ys e = ap (λ l. x ∷ l) (front-more n k xs ys (omega (arith, e)))
 
 -- a candidate that ends in the front of a text is one of that
-candidate-kept : {s : Symbol} {names : Names} (text kept rest : List ℕ) (k : Candidate) (c : values.Candidate) → text ≡ kept ++ rest → IsCandidate s names text k c
-    → k.to ≤ length kept → IsCandidate s names kept k c
+pub candidate-kept : {s : Symbol} {scope : Scope} (text kept rest : List ℕ) (k : Candidate) (c : values.Candidate) → text ≡ kept ++ rest → IsCandidate s scope text k c
+    → k.to ≤ length kept → IsCandidate s scope kept k c
 candidate-kept text kept rest k c is p within =
     let own = p.front ++ p.bytes in
     let more = length kept - length own in
@@ -451,43 +455,88 @@ candidate-kept text kept rest k c is p within =
       made_in = p.made_in;
     }
 
-one-kept : {s : Symbol} {names : Names} (text kept rest : List ℕ) (to : ℕ) (k n : Candidate) (c : values.Candidate) → text ≡ kept ++ rest → to ≡ length kept
-    → IsKeptTo to k n → (k.from ≤ k.to → IsCandidate s names text k c) → n.from ≤ n.to → IsCandidate s names kept n c
-one-kept {s} {names} text kept rest to k n c is to_is (inl (same, within)) p ordered =
-    subst (λ m. IsCandidate s names kept m c) (sym same)
-    (candidate-kept text kept rest k c is (p (subst (λ (m : Candidate). m.from ≤ m.to) same ordered)) (omega (arith, within, to_is)))
-one-kept text kept rest to k n c is to_is (inr none) p ordered =
+one-left : {s : Symbol} (hiding : Hiding) (scope left : Scope) (text kept : List ℕ)
+    → ((k : Candidate) (c : values.Candidate) → Stays hiding k → IsCandidate s scope text k c → IsCandidate s left kept k c) → (k n : Candidate) (c : values.Candidate)
+    → IsLeft hiding k n → (k.from ≤ k.to → IsCandidate s scope text k c) → n.from ≤ n.to → IsCandidate s left kept n c
+one-left {s} hiding scope left text kept stay k n c (inl (same, stays)) p ordered =
+    subst (λ m. IsCandidate s left kept m c) (sym same) (stay k c stays (p (subst (λ (m : Candidate). m.from ≤ m.to) same ordered)))
+one-left hiding scope left text kept stay k n c (inr none) p ordered =
     let never : 1 ≤ 0 = subst (λ (m : Candidate). m.from ≤ m.to) none ordered in
     absurd (omega (arith, never))
 
--- So are all, where those that end after it are nowhere.
-pub candidates-kept : (s : Symbol) (names : Names) (text kept rest : List ℕ) (to : ℕ) (ks ns : List Candidate) (cs : List values.Candidate) → text ≡ kept ++ rest
-    → to ≡ length kept → AreKeptTo to ks ns → AreCandidates s names text ks cs → AreCandidates s names kept ns cs
-candidates-kept s names text kept rest to [] [] [] is to_is are p = tt
-candidates-kept s names text kept rest to (k ∷ ks) (n ∷ ns) (c ∷ cs) is to_is are p =
-    (one-kept text kept rest to k n c is to_is are.0 p.0, candidates-kept s names text kept rest to ks ns cs is to_is are.1 p.1)
-candidates-kept s names text kept rest to [] [] (c ∷ cs) is to_is are p = absurd p
-candidates-kept s names text kept rest to [] (n ∷ ns) cs is to_is are p = absurd are
-candidates-kept s names text kept rest to (k ∷ ks) [] cs is to_is are p = absurd are
-candidates-kept s names text kept rest to (k ∷ ks) (n ∷ ns) [] is to_is are p = absurd p
+-- Where those that don't stay are nowhere, all are candidates if each is that stays.
+pub candidates-left : (s : Symbol) (hiding : Hiding) (scope left : Scope) (text kept : List ℕ)
+    → ((k : Candidate) (c : values.Candidate) → Stays hiding k → IsCandidate s scope text k c → IsCandidate s left kept k c) → (ks ns : List Candidate) (cs : List values.Candidate)
+    → AreLeft hiding ks ns → AreCandidates s scope text ks cs → AreCandidates s left kept ns cs
+candidates-left s hiding scope left text kept stay [] [] [] are p = tt
+candidates-left s hiding scope left text kept stay (k ∷ ks) (n ∷ ns) (c ∷ cs) are p =
+    (one-left hiding scope left text kept stay k n c are.0 p.0, candidates-left s hiding scope left text kept stay ks ns cs are.1 p.1)
+candidates-left s hiding scope left text kept stay [] [] (c ∷ cs) are p = absurd p
+candidates-left s hiding scope left text kept stay [] (n ∷ ns) cs are p = absurd are
+candidates-left s hiding scope left text kept stay (k ∷ ks) [] cs are p = absurd are
+candidates-left s hiding scope left text kept stay (k ∷ ks) (n ∷ ns) [] are p = absurd p
+
+-- what a writer keeps where what follows this is taken away, if the arguments that may be named are in it
+abbrev pub kept-cut : (s : Symbol) (old new : Direct) (kept : Kept s old) (left rest : List ℕ) (to : ℕ) → old.text.list.items ≡ left ++ rest → to ≡ length left
+    → new.text.list.items ≡ left → AreLeft (hidings.After to) old.candidates.list.items new.candidates.list.items → new.has_scope ≡ old.has_scope
+    → AreNamed left kept.scope → Kept s new
+kept-cut s old new kept left rest to written to_is left_is are scope_same named = record {
+  state = kept.state;
+  scope = kept.scope;
+  keeps = keeps-as s old new kept.state.candidates left_is refl scope_same
+      (candidates-left s (hidings.After to) kept.scope kept.scope old.text.list.items left
+      (λ k c within own. candidate-kept old.text.list.items left rest k c written own (omega (arith, within, to_is)))
+      old.candidates.list.items new.candidates.list.items kept.state.candidates are kept.keeps.candidates) named kept.keeps.single kept.keeps.unknown;
+}
+
+-- the front of a text that was taken
+pub front-left : (text left rest : List ℕ) (to : ℕ) → text ≡ left ++ rest → to ≡ length left → take to text ≡ left
+front-left text left rest to written to_is = ap (λ n. take n text) to_is ∙ ap (λ l. take (length left) l) written ∙ take-append_seam left rest
+
+-- a candidate that names no arguments is one where none may be named
+pub closed-kept : (s : Symbol) (scope : Scope) (text : List ℕ) (k : Candidate) (c : values.Candidate) → Stays hidings.Dependent k → IsCandidate s scope text k c
+    → IsCandidate s no_scope text k c
+closed-kept s scope text k c closed own = record {
+  bytes = own.bytes;
+  placed = own.placed;
+  prints = subst (λ d. PrintsAs (detail_of s) no_scope.names d c.tree own.bytes k.is_reference) (sym closed)
+      (subst (λ d. PrintsAs (detail_of s) scope.names d c.tree own.bytes k.is_reference) closed own.prints);
+  made_in = λ e. absurd (false≢true (sym closed ∙ e));
+}
+
+-- what a writer keeps where arguments aren't named any more, and candidates that name them are nowhere
+abbrev pub kept-closed : (s : Symbol) (old new : Direct) (kept : Kept s old) → AreLeft hidings.Dependent old.candidates.list.items new.candidates.list.items
+    → new.text ≡ old.text → Kept s new
+kept-closed s old new kept are text = record {
+  state = kept.state;
+  scope = no_scope;
+  keeps = record {
+    candidates = subst (λ v. AreCandidates s no_scope v.list.items new.candidates.list.items kept.state.candidates) (sym text)
+        (candidates-left s hidings.Dependent kept.scope no_scope old.text.list.items old.text.list.items (closed-kept s kept.scope old.text.list.items)
+        old.candidates.list.items new.candidates.list.items kept.state.candidates are kept.keeps.candidates);
+    named = none-named new.text.list.items;
+    single = none-single;
+    unknown = λ e. refl;
+  };
+}
 
 -- ## One after the other
 
 -- some were gone over, and these are left
-pub record AreGoneOver (to at : ℕ) (old now : List Candidate) : Type 0 where
+pub record AreGoneOver (hiding : Hiding) (at : ℕ) (old now : List Candidate) : Type 0 where
   pub done : List Candidate
   pub new : List Candidate
   pub rest : List Candidate
   pub old_is : old ≡ done ++ rest
   pub now_is : now ≡ new ++ rest
   pub at_is : at ≡ length new
-  pub are : AreKeptTo to done new
+  pub are : AreLeft hiding done new
 
-kept-more : (to : ℕ) (ks ns : List Candidate) (k n : Candidate) → AreKeptTo to ks ns → IsKeptTo to k n → AreKeptTo to (ks ++ k ∷ []) (ns ++ n ∷ [])
-kept-more to [] [] k n are is = (is, tt)
-kept-more to (x ∷ ks) (y ∷ ns) k n are is = (are.0, kept-more to ks ns k n are.1 is)
-kept-more to [] (y ∷ ns) k n are is = absurd are
-kept-more to (x ∷ ks) [] k n are is = absurd are
+kept-more : (hiding : Hiding) (ks ns : List Candidate) (k n : Candidate) → AreLeft hiding ks ns → IsLeft hiding k n → AreLeft hiding (ks ++ k ∷ []) (ns ++ n ∷ [])
+kept-more hiding [] [] k n are is = (is, tt)
+kept-more hiding (x ∷ ks) (y ∷ ns) k n are is = (are.0, kept-more hiding ks ns k n are.1 is)
+kept-more hiding [] (y ∷ ns) k n are is = absurd are
+kept-more hiding (x ∷ ks) [] k n are is = absurd are
 
 set-next : (xs ys : List Candidate) (k n : Candidate) → slice_set (xs ++ k ∷ ys) (length xs) n ≡ xs ++ n ∷ ys
 set-next [] ys k n = refl
@@ -498,13 +547,13 @@ get-next [] ys k other = refl
 get-next (x ∷ xs) ys k other = get-next xs ys k other
 
 -- none was
-pub none-gone : (to : ℕ) (old : List Candidate) → AreGoneOver to 0 old old
-none-gone to old = record { done = []; new = []; rest = old; old_is = refl; now_is = refl; at_is = refl; are = tt }
+pub none-gone : (hiding : Hiding) (old : List Candidate) → AreGoneOver hiding 0 old old
+none-gone hiding old = record { done = []; new = []; rest = old; old_is = refl; now_is = refl; at_is = refl; are = tt }
 
 -- the next one is there
-pub next-there : (to at : ℕ) (old now : List Candidate) (p : AreGoneOver to at old now) → at < length now
+pub next-there : (hiding : Hiding) (at : ℕ) (old now : List Candidate) (p : AreGoneOver hiding at old now) → at < length now
     → (k : Candidate) × (ys : List Candidate) × (p.rest ≡ k ∷ ys) × ((other : Candidate) → get_or now at other ≡ k)
-next-there to at old now p below = go p.rest refl
+next-there hiding at old now p below = go p.rest refl
   where
     go : (l : List Candidate) → p.rest ≡ l → (k : Candidate) × (ys : List Candidate) × (p.rest ≡ k ∷ ys) × ((other : Candidate) → get_or now at other ≡ k)
     go [] e = absurd (omega (arith, below, p.at_is, ap length p.now_is, length-append p.new p.rest, ap length e))
@@ -516,30 +565,30 @@ next-there to at old now p below = go p.rest refl
     )
 
 -- it is gone over
-pub one-gone : (to at : ℕ) (old now after_ : List Candidate) (p : AreGoneOver to at old now) (k n : Candidate) (ys : List Candidate) → p.rest ≡ k ∷ ys
-    → IsKeptTo to k n → after_ ≡ p.new ++ n ∷ ys → AreGoneOver to (at + 1) old after_
-one-gone to at old now after_ p k n ys e is after_is = record {
+pub one-gone : (hiding : Hiding) (at : ℕ) (old now after_ : List Candidate) (p : AreGoneOver hiding at old now) (k n : Candidate) (ys : List Candidate) → p.rest ≡ k ∷ ys
+    → IsLeft hiding k n → after_ ≡ p.new ++ n ∷ ys → AreGoneOver hiding (at + 1) old after_
+one-gone hiding at old now after_ p k n ys e is after_is = record {
   done = p.done ++ k ∷ [];
   new = p.new ++ n ∷ [];
   rest = ys;
   old_is = p.old_is ∙ ap (λ l. p.done ++ l) e ∙ sym (append_assoc p.done (k ∷ []) ys);
   now_is = after_is ∙ sym (append_assoc p.new (n ∷ []) ys);
   at_is = omega (arith, p.at_is, length-append p.new (n ∷ []));
-  are = kept-more to p.done p.new k n p.are is;
+  are = kept-more hiding p.done p.new k n p.are is;
 }
 
 -- put in its place
-pub set-is : (to at : ℕ) (old now : List Candidate) (p : AreGoneOver to at old now) (k n : Candidate) (ys : List Candidate) → p.rest ≡ k ∷ ys
+pub set-is : (hiding : Hiding) (at : ℕ) (old now : List Candidate) (p : AreGoneOver hiding at old now) (k n : Candidate) (ys : List Candidate) → p.rest ≡ k ∷ ys
     → slice_set now at n ≡ p.new ++ n ∷ ys
-set-is to at old now p k n ys e =
+set-is hiding at old now p k n ys e =
     ap (λ l. slice_set l at n) (p.now_is ∙ ap (λ l. p.new ++ l) e) ∙ ap (λ m. slice_set (p.new ++ k ∷ ys) m n) p.at_is ∙ set-next p.new ys k n
 
 -- all are
-pub all-gone : (to at : ℕ) (old now : List Candidate) (p : AreGoneOver to at old now) → length now ≤ at → AreKeptTo to old now
-all-gone to at old now p over = go p.rest refl
+pub all-gone : (hiding : Hiding) (at : ℕ) (old now : List Candidate) (p : AreGoneOver hiding at old now) → length now ≤ at → AreLeft hiding old now
+all-gone hiding at old now p over = go p.rest refl
   where
-    go : (l : List Candidate) → p.rest ≡ l → AreKeptTo to old now
+    go : (l : List Candidate) → p.rest ≡ l → AreLeft hiding old now
     go [] e =
-        subst (λ l. AreKeptTo to l now) (sym (p.old_is ∙ ap (λ l. p.done ++ l) e ∙ append-nil p.done))
-        (subst (λ l. AreKeptTo to p.done l) (sym (p.now_is ∙ ap (λ l. p.new ++ l) e ∙ append-nil p.new)) p.are)
+        subst (λ l. AreLeft hiding l now) (sym (p.old_is ∙ ap (λ l. p.done ++ l) e ∙ append-nil p.done))
+        (subst (λ l. AreLeft hiding p.done l) (sym (p.now_is ∙ ap (λ l. p.new ++ l) e ∙ append-nil p.new)) p.are)
     go (k ∷ ys) e = absurd (omega (arith, over, p.at_is, ap length p.now_is, length-append p.new p.rest, ap length e))

@@ -1,3 +1,4 @@
+mod AddressesRead
 pub mod Arguments
 pub mod Begins
 pub mod DependentsRead
@@ -5,12 +6,16 @@ pub mod Elements
 mod EnclosingFunctions
 pub mod Ending
 pub mod FrontsRead
+mod FunctionsWithin
 pub mod Handed
 pub mod Kept
+mod LambdasRead
 pub mod LettersTested
+pub mod Members
 pub mod Listed
 pub mod Moves
 pub mod MovesOfEncodings
+pub mod MovesOfLevels
 pub mod MovesOfLists
 pub mod MovesOfLocals
 pub mod MovesOfNests
@@ -23,6 +28,7 @@ pub mod Nesting
 pub mod Noted
 pub mod PrintedExpansions
 pub mod PrintedFunctions
+pub mod PrintedLevels
 pub mod PrintedLists
 pub mod PrintedLocals
 pub mod PrintedNames

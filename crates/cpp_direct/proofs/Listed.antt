@@ -1,4 +1,5 @@
 -- A writer at the end of arguments or a pack, and between two elements.
+use Rattle.cpp_direct.specs.declared.open.Arguments.{Arguments}
 use Rattle.sym_print.specs.declared.detail.Detail.{Detail}
 use Rattle.std.proofs.Common.{◌≡◌, ◌≢◌, inl, inr, ℕ, ◌+◌, ◌-◌, length, List, [], ◌∷◌, ◌++◌, reverse, slice_get, get_or, Bool, true, false, Some, None, refl, ap, sym, ◌∙◌, subst, arith, codes, append_assoc, append-nil}
 use Rattle.std.proofs.lemmas.Bool.{false≢true}
@@ -8,7 +9,7 @@ use Rattle.std.proofs.Math.Seq.{get_or-append_seam}
 use Rattle.cpp_grammar.specs.declared.kind.Kind.{Kind}
 use Rattle.cpp_grammar.specs.Grammar.{may_be_empty}
 use Rattle.cpp_grammar.specs.Term.{Term, nil, list, instance, pack}
-use Rattle.cpp_grammar.specs.Scope.{arguments_of}
+use Rattle.cpp_grammar.specs.Scope.{element, count, arguments_of}
 use Rattle.cpp_grammar.specs.Values.{Around, State, tree, nothing_there, tree_of}
 use Rattle.cpp_grammar.specs.Between.{no_items}
 use Rattle.cpp_direct.specs.WrittenParts.{opening_bracket, closing_bracket}
@@ -22,7 +23,7 @@ use Rattle.cpp_direct.specs.declared.direct.Direct.{Direct}
 use Rattle.cpp_direct.specs.Holes.{Opened, Comes, IsListKind, ListGoesOn, StandsAt, AwaitsComponent, with_candidate}
 use Rattle.cpp_direct.specs.HolesOfLists.{IsArgumentKind}
 use Rattle.cpp_direct.specs.Prints.{Names, PrintAllAs, PrintsAs, list_of}
-use Rattle.cpp_direct.specs.WriterInvariant.{Below, HasArguments, arguments_in, below, IsListing, IsNaming, IsScoped, Scope, scoped_in, is_noted, may_name, IsNest, IsTail, IsTemplate, IsWriting, Owns, Serves, ArgumentsGoOn, AwaitsElementOf, AwaitsEnumerator, Belongs, Closes, ElementsGoOn, EnumeratorGoesOn, GoesOn, Listing, of_template, of_pack, Stands, element_kind, extra_of, led_by, list_with, in_front_of_next, nowhere, Kept}
+use Rattle.cpp_direct.specs.WriterInvariant.{HasPack, Below, HasArguments, arguments_in, below, IsListing, IsNaming, IsScoped, Scope, scoped_in, is_noted, may_name, IsNest, IsTail, IsTemplate, IsWriting, Owns, Serves, ArgumentsGoOn, AwaitsElementOf, AwaitsEnumerator, Belongs, Closes, ElementsGoOn, EnumeratorGoesOn, GoesOn, Listing, of_template, of_pack, Stands, element_kind, extra_of, led_by, list_with, in_front_of_next, nowhere, Kept}
 use Rattle.cpp_direct.specs.MidStep.{AreKnown, IsListEnded, AwaitsNextArgument, IsNameEnded}
 use Rattle.cpp_direct.specs.Written.{Writes, added}
 use Rattle.cpp_direct.proofs.Moves.{expects-empty, stands-split}
@@ -176,30 +177,18 @@ closed-by s old mid new x owner p writes same candidates scope_same at items is 
 closed-arguments : (s : Symbol) (w : Direct) (owner : Open) (p : IsClosed s w owner)
     → HasArguments (detail_of s) w.text.list.items w.argument (instance p.template (list_with p.ts p.tail))
 unfolding arguments_of
-closed-arguments s w owner p k known = elim (p.known k known) [
-  | inl h ↦ record {
-    bytes = h.1.bytes;
-    placed = h.1.placed;
-    own = h.1.own;
+closed-arguments s w owner p = (
+  λ k o. let h = p.known.0 k o in record {
+    bytes = h.bytes;
+    placed = h.placed;
+    own = h.own;
     all = list_with p.ts p.tail;
     all_are = refl;
-    there = λ e. element-there p.ts p.tail k h.1.own h.1.there;
-    elements = [];
-    packed = λ e. absurd (false≢true (sym h.0 ∙ e));
-    prints = h.1.prints;
-  }
-  | inr h ↦ record {
-    bytes = h.5.bytes;
-    placed = h.5.placed;
-    own = h.5.own;
-    all = list_with p.ts p.tail;
-    all_are = refl;
-    there = λ e. absurd (false≢true (sym e ∙ h.0));
-    elements = h.1;
-    packed = λ e. (h.2, h.3, h.5.there, h.4);
-    prints = h.5.prints;
-  }
-]
+    there = element-there p.ts p.tail k h.own h.there;
+    prints = h.prints;
+  },
+  λ o. let h = p.known.1 o in record { all = list_with p.ts p.tail; all_are = refl; elements = h.0; there = h.1; are = h.2 },
+)
 
 -- the arguments of a type
 pub type-closed : (s : Symbol) (w new : Direct) (from : ℕ) (is_dependent : Bool) → IsClosed s w (opens.TypeArguments from is_dependent)
@@ -213,7 +202,7 @@ type-closed s w new from is_dependent p candidates text waiting scope_same at =
     let prints = instance-as (detail_of s) scope.names is_dependent p.template p.name
     (prints-as (detail_of s) scope.names is_dependent p.template p.name false p.is_template.1) p.ts p.tail p.arguments p.is_tail p.elements in
     value-added s w new p.kept p.owns.0 around t p.front bytes from false is_dependent p.written p.is_template.0 prints
-    (λ named. made-here s scope around (reverse w.waiting.list.items) p.owns.3 (p.owns.4 named)) text candidates scope_same
+    (λ named. made-here scope around (reverse w.waiting.list.items) p.owns.3 (p.owns.4 named)) text candidates scope_same
     (ap (λ v. reverse v.list.items) waiting) p.owns.4
     (subst (λ n. Comes s p.owns.0 (tree t true) n (with_candidate around t p.state)) (sym at) p.owns.2) p.owns.5
 
@@ -281,7 +270,7 @@ first-closed s w new nest p candidates text waiting scope_same at =
     p.elements p.written in
     record {
       kept = kept-with s w now p.kept p.front bytes nest.from t around false nest.is_dependent p.written p.is_template.from_is is_nest.prints
-          (λ named. made-here s scope around (reverse w.waiting.list.items) (p.owns.3 (type-named nest.purpose nest.is_dependent p.is_template.closed named))
+          (λ named. made-here scope around (reverse w.waiting.list.items) (p.owns.3 (type-named nest.purpose nest.is_dependent p.is_template.closed named))
           (p.owns.4 named)) text candidates scope_same;
       is_before = (
         t,
@@ -294,7 +283,7 @@ first-closed s w new nest p candidates text waiting scope_same at =
           is_nest = subst (λ v. IsNest (detail_of s) scope.names p.front bytes v.list.items nest t) (sym text) is_nest;
           scoped = record {
             scoped = λ within. subst (λ v. IsScoped scope around (reverse v.list.items)) (sym waiting) (p.owns.3 within);
-            naming = λ named. subst (λ v. IsNaming s scope (reverse v.list.items)) (sym waiting) (p.owns.4 named);
+            naming = λ named. subst (λ v. IsNaming scope (reverse v.list.items)) (sym waiting) (p.owns.4 named);
           };
           serves = subst (λ v. Serves s nest.purpose (below s scope (reverse v.list.items)) outer p.front) (sym waiting) p.owns.5;
         },
@@ -337,18 +326,22 @@ template-listed s {scope = scope} w st p ts texts text no_pack elements written 
     go of_template belongs elements written goes = (belongs, elements, written, goes)
     go (of_pack before more) belongs elements written goes = absurd (no_pack (p.owner ∷ p.rest) belongs.0)
 
+-- what is open last is no pack
+pub no-pack : (w : Direct) (owner : Open) → slice_get w.waiting.list.items (length w.waiting.list.items - 1) ≡ Some owner → (owner ≡ opens.Pack → ⊥)
+    → (rest : List Open) → reverse w.waiting.list.items ≡ opens.Pack ∷ rest → ⊥
+no-pack w owner found other rest e = other (cc (sym (last-found w.waiting.list.items owner found).1 ∙ e))
+
 -- The arguments of a name end, which are no pack, with these after their elements.
-ended-so : (s : Symbol) (w : Direct) (first : Bool) (owner : Open) (to : ℕ) (tail : Term) → IsTail tail → (p : IsWriting s w (steps.List first))
-    → slice_get w.waiting.list.items (length w.waiting.list.items - 1) ≡ Some owner → (owner ≡ opens.Pack → ⊥)
+ended-so : (s : Symbol) (w : Direct) (first : Bool) (to : ℕ) (tail : Term) (argument : Arguments) → IsTail tail → (p : IsWriting s w (steps.List first))
+    → ((rest : List Open) → reverse w.waiting.list.items ≡ opens.Pack ∷ rest → ⊥)
     → ((o : Open) (rest : List Open) (front : List ℕ) (template : Term) → ArgumentsGoOn s o (below s p.scope rest) front template p.is_before.1 w.at p.state
     → Owns s o (below s p.scope rest) front (instance template (list_with p.is_before.1 tail)) to p.state)
-    → IsListEnded s (record w { at = to }) nowhere
-ended-so s w first owner to tail is_tail p found other owns =
+    → AreKnown (detail_of s) w.text.list.items argument p.is_before.1 tail → IsListEnded s (record w { at = to }) argument
+ended-so s w first to tail argument is_tail p apart owns are_known =
     let place = p.is_before.0 in
     let ts = p.is_before.1 in
     let texts = p.is_before.2 in
-    let last = last-found w.waiting.list.items owner found in
-    let a = template-listed s w p.state place ts texts texts (λ rest e. other (cc (sym last.1 ∙ e))) p.is_before.3 p.is_before.4 p.is_before.7 in
+    let a = template-listed s w p.state place ts texts texts apart p.is_before.3 p.is_before.4 p.is_before.7 in
     record {
       kept = kept-same s w (record w { at = to }) refl refl refl p.kept;
       owner = place.owner;
@@ -364,30 +357,33 @@ ended-so s w first owner to tail is_tail p found other owns =
       is_template = place.is_template;
       elements = a.1;
       written = a.2;
-      known = λ k o. absurd (none-known k o);
+      known = are_known;
       owns = owns place.owner place.rest place.front place.template a.3;
     }
 
+-- what is known of arguments of which nothing is
+pub nothing-known : {detail : Detail} (text : List ℕ) (ts : List Term) (tail : Term) → AreKnown detail text nowhere ts tail
+nothing-known text ts tail = (λ k single. absurd (none-known k single.0), λ e. cc e)
+
 -- an E ends the arguments
-pub list-ends : (s : Symbol) (w : Direct) (first : Bool) (owner : Open) → IsWriting s w (steps.List first) → StandsAt s.bytes w.at (69 ∷ [])
-    → slice_get w.waiting.list.items (length w.waiting.list.items - 1) ≡ Some owner → (owner ≡ opens.Pack → ⊥)
-    → IsListEnded s (record w { at = w.at + 1 }) nowhere
+pub list-ends : (s : Symbol) (w : Direct) (first : Bool) (argument : Arguments) (p : IsWriting s w (steps.List first)) → StandsAt s.bytes w.at (69 ∷ [])
+    → ((rest : List Open) → reverse w.waiting.list.items ≡ opens.Pack ∷ rest → ⊥)
+    → AreKnown (detail_of s) w.text.list.items argument p.is_before.1 nil → IsListEnded s (record w { at = w.at + 1 }) argument
 unfolding no_items may_be_empty
-list-ends s w first owner p stands found other =
-    ended-so s w first owner (w.at + 1) nil (inl refl) p found other (λ o rest front template goes.
-    goes.5 nothing_there w.at p.state (expects-empty s Kind.ArgumentList goes.0 goes.1 w.at p.state goes.4 refl) stands)
+list-ends s w first argument p stands apart are_known =
+    ended-so s w first (w.at + 1) nil argument (inl refl) p apart (λ o rest front template goes.
+    goes.5 nothing_there w.at p.state (expects-empty s Kind.ArgumentList goes.0 goes.1 w.at p.state goes.4 refl) stands) are_known
 
 -- a pack of nothing and an E end them too
-pub empty-pack-ends : (s : Symbol) (w : Direct) (first : Bool) (owner : Open) → IsWriting s w (steps.List first)
-    → StandsAt s.bytes w.at (74 ∷ 69 ∷ 69 ∷ [])
-    → slice_get w.waiting.list.items (length w.waiting.list.items - 1) ≡ Some owner → (owner ≡ opens.Pack → ⊥)
-    → IsListEnded s (record w { at = w.at + 3 }) nowhere
+pub empty-pack-ends : (s : Symbol) (w : Direct) (first : Bool) (argument : Arguments) (p : IsWriting s w (steps.List first))
+    → StandsAt s.bytes w.at (74 ∷ 69 ∷ 69 ∷ []) → ((rest : List Open) → reverse w.waiting.list.items ≡ opens.Pack ∷ rest → ⊥)
+    → AreKnown (detail_of s) w.text.list.items argument p.is_before.1 (list (pack nil) nil) → IsListEnded s (record w { at = w.at + 3 }) argument
 unfolding no_items may_be_empty tree_of
-empty-pack-ends s w first owner p stands found other =
+empty-pack-ends s w first argument p stands apart are_known =
     let ts = p.is_before.1 in
     let begins = stands-split s.bytes w.at (74 ∷ []) (69 ∷ 69 ∷ []) stands in
     let ends = stands-split s.bytes (w.at + 1) (69 ∷ []) (69 ∷ []) begins.1 in
-    ended-so s w first owner (w.at + 3) (list (pack nil) nil) (inr refl) p found other (λ o rest front template goes.
+    ended-so s w first (w.at + 3) (list (pack nil) nil) argument (inr refl) p apart (λ o rest front template goes.
     let opened = pack-opens s goes.1 goes.0 w.at p.state goes.4 begins.0 in
     let more = opened.onward nothing_there (w.at + 1) p.state
     (expects-empty s Kind.PackList goes.0 opened.inner (w.at + 1) p.state opened.awaits refl) ends.0 in
@@ -396,23 +392,32 @@ empty-pack-ends s w first owner p stands found other =
     subst (λ k. Owns s o (below s p.scope rest) front (instance template (list_with ts (list (pack nil) nil))) k p.state) (omega arith)
     (subst (λ l. Owns s o (below s p.scope rest) front (instance template l) (w.at + 1 + 1 + 1) p.state) (list-more ts (pack nil) nil)
     (behind.5 nothing_there (w.at + 1 + 1) p.state
-    (expects-empty s Kind.ArgumentList behind.0 behind.1 (w.at + 1 + 1) p.state behind.4 refl) ends.1)))
+    (expects-empty s Kind.ArgumentList behind.0 behind.1 (w.at + 1 + 1) p.state behind.4 refl) ends.1))) are_known
+
+-- where it is all, it is known
+pub none-packed : {detail : Detail} (text : List ℕ) (is_first : Bool) (ts : List Term) → (is_first ≡ true → ts ≡ [])
+    → AreKnown detail text (record nowhere { has_pack = is_first }) ts (list (pack nil) nil)
+unfolding element count
+none-packed text is_first ts none = (
+  λ k single. absurd (none-known k single.0),
+  λ first. (
+    [],
+    subst (λ us. HasPack (list_with us (list (pack nil) nil)) 0 []) (sym (none first)) (refl, omega arith),
+    record { size = refl; among = λ k known. absurd (none-known (0 + k) known) },
+  ),
+)
 
 -- an E ends a pack, which is an argument
-pub pack-ends : (s : Symbol) (w new : Direct) → IsWriting s w (steps.List false) → StandsAt s.bytes w.at (69 ∷ [])
-    → slice_get w.waiting.list.items (length w.waiting.list.items - 1) ≡ Some opens.Pack
+unfoldable pub pack-ends : (s : Symbol) (w new : Direct) → IsWriting s w (steps.List false) → StandsAt s.bytes w.at (69 ∷ [])
+    → (rest : List Open) → reverse w.waiting.list.items ≡ opens.Pack ∷ rest
     → new.text ≡ w.text → new.candidates ≡ w.candidates → new.has_scope ≡ w.has_scope → new.at ≡ w.at + 1
-    → ((opened : List Open) → reverse w.waiting.list.items ≡ opens.Pack ∷ opened → reverse new.waiting.list.items ≡ opened)
-    → IsWriting s new (steps.List false)
+    → reverse new.waiting.list.items ≡ rest → IsWriting s new (steps.List false)
 unfolding no_items may_be_empty
-pack-ends s w new p stands found text candidates scope_same at popped = go p.is_before.0.listing refl
+pack-ends s w new p stands rest last text candidates scope_same at now = go p.is_before.0.listing refl
   where
-    last : (rest : List Open) × (reverse w.waiting.list.items ≡ opens.Pack ∷ rest)
-    last = last-found w.waiting.list.items opens.Pack found
-
     go : (l : Listing) → p.is_before.0.listing ≡ l → IsWriting s new (steps.List false)
     go of_template is = absurd (no-template p.is_before.0.owner p.is_before.0.is_template
-        (cc (sym last.1 ∙ subst (λ l. Belongs (detail_of s) p.scope.names l (reverse w.waiting.list.items) p.is_before.0.owner p.is_before.0.rest) is p.is_before.0.belongs)))
+        (cc (sym last ∙ subst (λ l. Belongs (detail_of s) p.scope.names l (reverse w.waiting.list.items) p.is_before.0.owner p.is_before.0.rest) is p.is_before.0.belongs)))
       where
         no-template : (o : Open) → IsTemplate (detail_of s) p.scope.names o p.is_before.0.front p.is_before.0.template p.is_before.0.name w.text.list.items → opens.Pack ≡ o → ⊥
         no-template o t e = subst (λ x. IsTemplate (detail_of s) p.scope.names x p.is_before.0.front p.is_before.0.template p.is_before.0.name w.text.list.items) (sym e) t
@@ -433,7 +438,7 @@ pack-ends s w new p stands found text candidates scope_same at popped = go p.is_
               listing = of_template;
               owner = place.owner;
               rest = place.rest;
-              belongs = popped (place.owner ∷ place.rest) belongs.0;
+              belongs = now ∙ cc (sym last ∙ belongs.0);
               front = place.front;
               template = place.template;
               name = place.name;
@@ -553,6 +558,7 @@ TakesArguments (opens.TypeArguments from is_dependent) = Unit {0}
 TakesArguments (opens.NestArguments nest) = Unit {0}
 TakesArguments (opens.FirstArguments nest) = Unit {0}
 TakesArguments (opens.NameArguments from) = Unit {0}
+TakesArguments (opens.LevelArguments is_dependent) = Unit {0}
 TakesArguments _ = ⊥
 
 -- or is a pack of them
@@ -566,6 +572,7 @@ template-takes detail names (opens.TypeArguments from is_dependent) front t name
 template-takes detail names (opens.NestArguments nest) front t name text is = tt
 template-takes detail names (opens.FirstArguments nest) front t name text is = tt
 template-takes detail names (opens.NameArguments from) front t name text is = tt
+template-takes detail names (opens.LevelArguments is_dependent) front t name text is = tt
 template-takes detail names _ front t name text is = absurd is
 
 argument-stands : (s : Symbol) (scope : Scope) (owner : Open) (rest : List Open) (os : List Opened) (text : List ℕ) → TakesArguments owner
@@ -574,6 +581,7 @@ argument-stands s scope (opens.TypeArguments from is_dependent) rest os text tak
 argument-stands s scope (opens.NestArguments nest) rest os text takes p = p
 argument-stands s scope (opens.FirstArguments nest) rest os text takes p = p
 argument-stands s scope (opens.NameArguments from) rest os text takes p = p
+argument-stands s scope (opens.LevelArguments is_dependent) rest os text takes p = p
 argument-stands s scope _ rest os text takes p = absurd takes
 
 -- they have none that types name
@@ -582,6 +590,7 @@ takes-none (opens.TypeArguments from is_dependent) takes = refl
 takes-none (opens.NestArguments nest) takes = refl
 takes-none (opens.FirstArguments nest) takes = refl
 takes-none (opens.NameArguments from) takes = refl
+takes-none (opens.LevelArguments is_dependent) takes = refl
 takes-none _ takes = absurd takes
 
 -- in arguments types may name what they may name around them, and in a pack nothing
@@ -655,28 +664,38 @@ list-waits s {scope = scope} (opens.TypeArguments from is_dependent) rest os tex
 list-waits s {scope = scope} (opens.NestArguments nest) rest os text takes p = waits-of s scope (opens.NestArguments nest) rest os text p
 list-waits s {scope = scope} (opens.FirstArguments nest) rest os text takes p = waits-of s scope (opens.FirstArguments nest) rest os text p
 list-waits s {scope = scope} (opens.NameArguments from) rest os text takes p = waits-of s scope (opens.NameArguments from) rest os text p
+list-waits s {scope = scope} (opens.LevelArguments is_dependent) rest os text takes p = waits-of s scope (opens.LevelArguments is_dependent) rest os text p
 list-waits s _ rest os text takes p = absurd takes
 
--- an element may be a type
-pub type-expected : (s : Symbol) (w : Direct) → AwaitsNextArgument s w → IsWriting s w steps.Type
-type-expected s w a =
+-- the list waits for an element where one is expected
+pub element-stands : (s : Symbol) (w : Direct) (a : AwaitsNextArgument s w) (os : List Opened)
+    → ((t : Term) (at : ℕ) (st : State) → Comes s os (tree t true) at st → ListGoesOn s (element_kind a.place.listing) a.goes.1 a.goes.0 t at st)
+    → Stands s a.scope (reverse w.waiting.list.items) os w.text.list.items
+element-stands s w a os onward =
     let p = a.place in
     let scope = a.scope in
-    let kind = element_kind p.listing in
-    let element = element-awaits s kind a.goes.1 a.goes.0 w.at a.state (list-kind p.listing) a.goes.4 in
-    type-comes s w w a.kept a.goes.0 element.inner refl refl refl refl a.goes.2 (inr (inl element.awaits))
-    (list-stands s scope (reverse w.waiting.list.items) element.inner w.text.list.items (record {
+    list-stands s scope (reverse w.waiting.list.items) os w.text.list.items (record {
       place = p;
       ts = a.ts;
       texts = a.texts;
       elements = a.elements;
       written = a.written;
       onward = λ t here now comes.
-          element-goes-on s kind (scoped_in p.owner (below s scope p.rest))
+          element-goes-on s (element_kind p.listing) (scoped_in p.owner (below s scope p.rest))
           (λ l there later. Closes s p.listing p.owner (below s scope p.rest) p.front p.template l there later)
-          a.ts t w.at here a.state now a.goes (element.onward t here now comes);
-    }))
-    (list-scoped s scope a.goes.0 (reverse w.waiting.list.items) w.text.list.items p a.goes.3)
+          a.ts t w.at here a.state now a.goes (onward t here now comes);
+    })
+
+-- and its types may name what they may name around it
+pub element-scoped : (s : Symbol) (w : Direct) (a : AwaitsNextArgument s w) → IsScoped a.scope a.goes.0 (reverse w.waiting.list.items)
+element-scoped s w a = list-scoped s a.scope a.goes.0 (reverse w.waiting.list.items) w.text.list.items a.place a.goes.3
+
+-- an element may be a type
+pub type-expected : (s : Symbol) (w : Direct) → AwaitsNextArgument s w → IsWriting s w steps.Type
+type-expected s w a =
+    let element = element-awaits s (element_kind a.place.listing) a.goes.1 a.goes.0 w.at a.state (list-kind a.place.listing) a.goes.4 in
+    type-comes s w w a.kept a.goes.0 element.inner refl refl refl refl a.goes.2 (inr (inl element.awaits)) (element-stands s w a element.inner element.onward)
+    (element-scoped s w a)
 
 -- ## Enumerators
 
@@ -686,6 +705,7 @@ enumerator-in s scope (opens.TypeArguments from is_dependent) rest os text takes
 enumerator-in s scope (opens.NestArguments nest) rest os text takes e = e
 enumerator-in s scope (opens.FirstArguments nest) rest os text takes e = e
 enumerator-in s scope (opens.NameArguments from) rest os text takes e = e
+enumerator-in s scope (opens.LevelArguments is_dependent) rest os text takes e = e
 enumerator-in s scope _ rest os text takes e = absurd takes
 
 -- a list waits for the type of an enumerator

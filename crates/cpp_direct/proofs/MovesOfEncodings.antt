@@ -15,8 +15,8 @@ use Rattle.cpp_grammar.specs.declared.production.Production.{Production}
 use Rattle.cpp_grammar.specs.KindNumbers.{SYMBOL}
 use Rattle.cpp_grammar.specs.Grammar.{in_ranges, among, is_in, pick, alternatives, number_of_kind, choose, may_be_empty, parts_of, is_chain}
 use Rattle.cpp_grammar.specs.Table.{rule_of}
-use Rattle.cpp_grammar.specs.Term.{RefQualifier, any_value, lvalue_only, rvalue_only, non_virtual, by_table, Term, symbol, alone, in_std, operator, source}
-use Rattle.cpp_grammar.specs.Values.{State, outermost, Around, Value, nothing_there, letter, piece, text, tree, tree_of, text_of, signed_of, signed_digits, is_there, mark_of, letter_of, part, piece_of}
+use Rattle.cpp_grammar.specs.Term.{RefQualifier, any_value, lvalue_only, rvalue_only, non_virtual, by_table, adjusting, Term, symbol, thunk, clone, alone, in_std, operator, source}
+use Rattle.cpp_grammar.specs.Values.{State, outermost, Around, Value, nothing_there, letter, piece, text, tree, tree_of, text_of, qualifiers_of, ref_of, signed_of, signed_digits, is_there, mark_of, letter_of, part, piece_of}
 use Rattle.cpp_grammar.specs.Between.{in_name, applied, named_so_far, between, extended}
 use Rattle.cpp_grammar.specs.Unfolding.{first_around, first_state, first_tree, unfold_cpp, byte_of, close, opening}
 use Rattle.cpp_grammar.specs.Meaning.{meaning}
@@ -25,9 +25,10 @@ use Rattle.cpp_direct.specs.Symbol.{Symbol, mangled_of}
 use Rattle.cpp_direct.specs.Holes.{cpp_language, Opened, opened, StandsAt, Comes, Expects, IsNameAt, Named}
 use Rattle.sym_direct.specs.Holes as direct
 use Rattle.cpp_direct.specs.ItemBytes.{is_special_letter, is_suffix_byte}
-use Rattle.cpp_direct.specs.HolesOfLists.{const_letter, EncodingOpened, SpecialOpened, IsOffsetAt, ThunkOpened, nest_marks, NestOpened, IsSuffix, SymbolOpened}
+use Rattle.cpp_direct.specs.HolesOfLocals.{GuardOpened}
+use Rattle.cpp_direct.specs.HolesOfLists.{const_letter, EncodingOpened, SpecialOpened, IsOffsetAt, BaseOpened, nest_marks, NestOpened, IsSuffix, SymbolOpened}
 use Rattle.cpp_direct.specs.Letters.{special_letters}
-use Rattle.cpp_direct.proofs.Moves.{Hole, Filled, hole, open_at, fill, filled-at, hole-at, chosen-byte, eats, leaves, is_eaten, byte-opens, chain-opens, byte-fills, next-part, closes, none-fills, fixed-fills, name-fills, first-named, is_left, stands-split}
+use Rattle.cpp_direct.proofs.Moves.{Hole, Filled, hole, open_at, fill, filled-at, hole-at, chosen-byte, eats, eats-widely, leaves, is_eaten, is_eaten_widely, byte-opens, chain-opens, byte-fills, next-part, closes, none-fills, fixed-fills, name-fills, first-named, is_left, stands-split}
 use Rattle.cpp_direct.proofs.LettersTested.{each_passes, tested, IsOperator}
 use Rattle.cpp_direct.proofs.MovesOfNests.{named-by, named-outside, operator-fills}
 use Rattle.cpp_direct.proofs.MovesOfLists.{integer-fills}
@@ -81,7 +82,7 @@ special-opens s os around b at st is expects stands =
 -- a thunk begins with a T, an h and an offset, and the encoding is expected that it calls
 pub thunk-opens : (s : Symbol) (os : List Opened) (around : Around) (at end : ℕ) (st : State) → Expects s Kind.Encoding around os at st
     → StandsAt s.bytes at (84 ∷ []) → StandsAt s.bytes (at + 1) (104 ∷ []) → (is : IsOffsetAt s.bytes (at + 1 + 1) end)
-    → ThunkOpened s os at (non_virtual (signed_digits is.negative is.digits)) end st
+    → BaseOpened s os at (thunk (adjusting (non_virtual (signed_digits is.negative is.digits)))) end st
 unfolding is_eaten number_of_kind parts_of between close unfolding_.behind meaning part byte_of tree_of text_of piece_of letter_of is_there signed_of
 thunk-opens s os around at end st expects first second is =
     let p = Production.NonVirtualThunk in
@@ -97,7 +98,7 @@ thunk-opens s os around at end st expects first second is =
 -- a virtual one begins with a T, a v and two offsets
 pub virtual-thunk-opens : (s : Symbol) (os : List Opened) (around : Around) (at middle end : ℕ) (st : State) → Expects s Kind.Encoding around os at st
     → StandsAt s.bytes at (84 ∷ []) → StandsAt s.bytes (at + 1) (118 ∷ []) → (is : IsOffsetAt s.bytes (at + 1 + 1) middle) (then_ : IsOffsetAt s.bytes middle end)
-    → ThunkOpened s os at (by_table (signed_digits is.negative is.digits) (signed_digits then_.negative then_.digits)) end st
+    → BaseOpened s os at (thunk (adjusting (by_table (signed_digits is.negative is.digits) (signed_digits then_.negative then_.digits)))) end st
 unfolding is_eaten number_of_kind parts_of between close unfolding_.behind meaning part byte_of tree_of text_of piece_of letter_of is_there signed_of
 virtual-thunk-opens s os around at middle end st expects first second is then_ =
     let p = Production.VirtualThunk in
@@ -110,6 +111,48 @@ virtual-thunk-opens s os around at middle end st expects first second is then_ =
       inner = open_at encoding;
       awaits = encoding.expects;
       onward = λ e here now comes. (closes Production.Special (closes p (fill encoding (tree e true) here now comes) refl) refl).comes;
+    }
+
+-- ## After a G
+
+-- what comes after the G of a special name
+other-expected : (s : Symbol) (os : List Opened) (around : Around) (at : ℕ) (st : State) → Expects s Kind.Encoding around os at st → StandsAt s.bytes at (71 ∷ [])
+    → Hole s (OfKind (number_of_kind Kind.SpecialAfterG)) (in_name at)
+    (opened (standing (rule_of Production.OtherSpecial) [] at around st) (letter 71 ∷ []) [] ∷ os) (at + 1) st
+unfolding is_eaten is_left number_of_kind parts_of between close unfolding_.behind meaning part byte_of tree_of text_of piece_of letter_of is_there
+other-expected s os around at st expects stands =
+    let p = Production.OtherSpecial in
+    let mark = chain-opens (leaves s Kind.Encoding p 71 refl) (hole s Kind.Encoding around os at st expects) refl refl in
+    next-part p (byte-fills (eats s Kind.SpecialMark Production.Mark 71 refl) mark stands refl refl) refl
+
+-- a guard variable begins with GV, and the name is expected of what it guards
+pub guard-opens : (s : Symbol) (os : List Opened) (around : Around) (at : ℕ) (st : State)
+    → Expects s Kind.Encoding around os at st → StandsAt s.bytes at (71 ∷ 86 ∷ []) → GuardOpened s os at (at + 2) st
+unfolding is_eaten number_of_kind parts_of between close unfolding_.behind meaning part byte_of tree_of text_of piece_of letter_of is_there qualifiers_of ref_of
+guard-opens s os around at st expects stands =
+    let q = Production.SpecialName in
+    let places = stands-split s.bytes at (71 ∷ []) (86 ∷ []) stands in
+    let name = byte-opens (eats s Kind.SpecialAfterG q 86 refl) (other-expected s os around at st expects places.0) places.1 refl refl in
+    record {
+      inner = open_at name;
+      awaits = (hole-at (at + 2) name (omega arith)).expects;
+      onward = λ v here now comes. (closes Production.OtherSpecial (closes q (fill name v here now comes) refl) refl).comes;
+    }
+
+-- by the wide grammar a clone begins with GT and its letter, and the encoding is expected of which it is one
+pub clone-opens : (s : Symbol) (os : List Opened) (around : Around) (b at : ℕ) (st : State) → s.is_wide ≡ true → is_eaten Kind.CloneLetter Production.Mark b ≡ true
+    → Expects s Kind.Encoding around os at st → StandsAt s.bytes at (71 ∷ 84 ∷ b ∷ []) → BaseOpened s os at (clone b) (at + 3) st
+unfolding is_eaten is_eaten_widely number_of_kind parts_of between close unfolding_.behind meaning part byte_of tree_of text_of piece_of letter_of is_there
+clone-opens s os around b at st wide is expects stands =
+    let q = Production.Clone in
+    let places = stands-split s.bytes at (71 ∷ []) (84 ∷ b ∷ []) stands in
+    let two = stands-split s.bytes (at + 1) (84 ∷ []) (b ∷ []) places.1 in
+    let kind = byte-opens (eats-widely s Kind.SpecialAfterG q 84 wide refl) (other-expected s os around at st expects places.0) two.0 refl refl in
+    let encoding = next-part q (byte-fills (eats s Kind.CloneLetter Production.Mark b is) kind two.1 refl refl) refl in
+    record {
+      inner = open_at encoding;
+      awaits = (hole-at (at + 3) encoding (omega arith)).expects;
+      onward = λ e here now comes. (closes Production.OtherSpecial (closes q (fill encoding (tree e true) here now comes) refl) refl).comes;
     }
 
 -- ## Names

@@ -14,15 +14,16 @@ use Rattle.cpp_grammar.specs.Values.{State, Around, signed, tree, tree_of, is_li
 use Rattle.cpp_grammar.specs.References.{appended, with_type, with_prefix}
 use Rattle.cpp_grammar.specs.Between.{Going, between, after, inside, no_items}
 use Rattle.cpp_grammar.specs.Meaning.{meaning}
+use Rattle.cpp_grammar.specs.Standing.{ends_arguments, enclosed_argument, is_code, operation_by, operation_or_address}
 use Rattle.cpp_grammar.specs.Unfolding as unfolding_
 use Rattle.cpp_grammar.specs.Unfolding.{cpp, close, byte_of}
 use Rattle.cpp_direct.specs.Symbol.{Symbol, table_by}
-use Rattle.cpp_direct.specs.Holes.{Opened, opened, StandsAt, Comes, Expects, unless_listed, IsListKind, ListGoesOn, AwaitsElement, with_candidate}
+use Rattle.cpp_direct.specs.Holes.{Opened, opened, StandsAt, Comes, Expects, unless_listed, IsListKind, ListGoesOn, AwaitsElement, AwaitsElementAs, with_candidate}
 use Rattle.cpp_direct.specs.ItemBytes.{is_integer_letter}
 use Rattle.cpp_direct.specs.Letters.{integer_letters}
 use Rattle.cpp_direct.proofs.LettersTested.{each_passes, tested}
-use Rattle.cpp_direct.specs.HolesOfLists.{ArgumentsOpened, IsArgumentKind, LiteralOpened, PackOpened, EnumeratorOpened, IsDigitsAt, minus_sign}
-use Rattle.cpp_direct.proofs.Moves.{any-list, any-argument, Hole, Filled, hole, open_at, fill, eats, leaves, is_eaten, byte-opens, chain-opens, byte-fills, next-part, closes, fixed-fills, is_left, stands-split, digits-fill}
+use Rattle.cpp_direct.specs.HolesOfLists.{AddressOpened, ArgumentsOpened, IsArgumentKind, LiteralOpened, PackOpened, EnumeratorOpened, IsDigitsAt, minus_sign}
+use Rattle.cpp_direct.proofs.Moves.{any-list, any-argument, Hole, Filled, hole, open_at, fill, eats, leaves, is_eaten, byte-opens, chain-opens, byte-fills, next-part, closes, fixed-fills, is_left, stands-split, digits-fill, filled-at, hole-at}
 
 -- ## Arguments
 
@@ -57,26 +58,41 @@ goes-on : {s : Symbol} {kind : Kind} {around : Around} {inner outer : List Opene
     → ListGoesOn s kind outer around t at st
 goes-on {inner = inner} t h closed = record { inner = inner; awaits = h.expects; passes = λ l to now comes. (closed l to now (fill h l to now comes)).comes }
 
+-- an element of a list of arguments is expected
+pub listed-awaits : (s : Symbol) (kind : Kind) (os : List Opened) (around : Around) (at : ℕ) (st : State)
+    → IsArgumentKind kind → Expects s kind around os at st → AwaitsElementAs s Kind.Argument kind os around at st
+unfolding is_eaten is_left number_of_kind parts_of between close unfolding_.behind meaning part byte_of tree_of text_of piece_of letter_of is_there
+listed-awaits s Kind.ArgumentList os around at st is expects =
+    let p = Production.AnyArgument in
+    let one = chain-opens (leaves s Kind.ArgumentList p 80 refl) (hole s Kind.ArgumentList around os at st expects) refl refl in
+    record {
+      inner = open_at one;
+      awaits = one.expects;
+      onward = λ t here now comes. goes-on t (next-part p (fill one (tree t true) here now comes) refl) (λ l to later last. closes p last refl);
+    }
+listed-awaits s Kind.PackList os around at st is expects =
+    let p = Production.AnyElement in
+    let one = chain-opens (leaves s Kind.PackList p 80 refl) (hole s Kind.PackList around os at st expects) refl refl in
+    record {
+      inner = open_at one;
+      awaits = one.expects;
+      onward = λ t here now comes. goes-on t (next-part p (fill one (tree t true) here now comes) refl) (λ l to later last. closes p last refl);
+    }
+listed-awaits s _ os around at st is expects = absurd is
+
+-- one that is a type
+type-awaits : (s : Symbol) (kind : Kind) (os : List Opened) (around : Around) (at : ℕ) (st : State) → AwaitsElementAs s Kind.Argument kind os around at st
+    → AwaitsElement s kind os around at st
+type-awaits s kind os around at st e = record { inner = e.inner; awaits = any-argument s around e.inner at st e.awaits; onward = e.onward }
+
 -- an element of a list of arguments or items is expected, which is a type
 pub element-awaits : (s : Symbol) (kind : Kind) (os : List Opened) (around : Around) (at : ℕ) (st : State)
     → IsListKind kind → Expects s kind around os at st → AwaitsElement s kind os around at st
 unfolding is_eaten is_left number_of_kind parts_of between close unfolding_.behind meaning part byte_of tree_of text_of piece_of letter_of is_there
 element-awaits s Kind.ArgumentList os around at st list_kind expects =
-    let p = Production.AnyArgument in
-    let one = chain-opens (leaves s Kind.ArgumentList p 80 refl) (hole s Kind.ArgumentList around os at st expects) refl refl in
-    record {
-      inner = open_at one;
-      awaits = any-argument s around (open_at one) at st one.expects;
-      onward = λ t here now comes. goes-on t (next-part p (fill one (tree t true) here now comes) refl) (λ l to later last. closes p last refl);
-    }
+    type-awaits s Kind.ArgumentList os around at st (listed-awaits s Kind.ArgumentList os around at st tt expects)
 element-awaits s Kind.PackList os around at st list_kind expects =
-    let p = Production.AnyElement in
-    let one = chain-opens (leaves s Kind.PackList p 80 refl) (hole s Kind.PackList around os at st expects) refl refl in
-    record {
-      inner = open_at one;
-      awaits = any-argument s around (open_at one) at st one.expects;
-      onward = λ t here now comes. goes-on t (next-part p (fill one (tree t true) here now comes) refl) (λ l to later last. closes p last refl);
-    }
+    type-awaits s Kind.PackList os around at st (listed-awaits s Kind.PackList os around at st tt expects)
 element-awaits s Kind.Items os around at st list_kind expects =
     let p = Production.Items in
     let one = chain-opens (leaves s Kind.Items p 80 refl) (hole s Kind.Items around os at st expects) refl refl in
@@ -248,4 +264,38 @@ enumerator-opens s kind os around at st is expects stands =
       onward = λ t here now comes negative digits end minus digits_there ended.
           let number = next-part p (fill type (tree t true) here now comes) refl in
           literal.onward (integer t (signed_digits negative digits)) end now (closes p (integer-fills negative digits end number minus digits_there) refl).comes ended;
+    }
+
+-- ## Addresses
+
+-- an argument begins that is the address of what an encoding names
+pub address-opens : (s : Symbol) (os : List Opened) (around : Around) (at : ℕ) (st : State) → Expects s Kind.Argument around os at st
+    → StandsAt s.bytes at (88 ∷ 97 ∷ 100 ∷ 76 ∷ 95 ∷ 90 ∷ []) → AddressOpened s os around (at + 6) st
+unfolding is_eaten number_of_kind parts_of between close unfolding_.behind meaning part byte_of tree_of text_of piece_of letter_of is_there operation_by operation_or_address is_code
+    enclosed_argument ends_arguments
+address-opens s os around at st expects stands =
+    let x = Production.Expression in
+    let a = Production.ExpressionA in
+    let d = Production.AddressExpression in
+    let l = Production.AddressedLiteral in
+    let e = Production.EncodingLiteral in
+    let first = stands-split s.bytes at (88 ∷ []) (97 ∷ 100 ∷ 76 ∷ 95 ∷ 90 ∷ []) stands in
+    let second = stands-split s.bytes (at + 1) (97 ∷ []) (100 ∷ 76 ∷ 95 ∷ 90 ∷ []) first.1 in
+    let third = stands-split s.bytes (at + 1 + 1) (100 ∷ []) (76 ∷ 95 ∷ 90 ∷ []) second.1 in
+    let fourth = stands-split s.bytes (at + 1 + 1 + 1) (76 ∷ []) (95 ∷ 90 ∷ []) third.1 in
+    let fifth = stands-split s.bytes (at + 1 + 1 + 1 + 1) (95 ∷ []) (90 ∷ []) fourth.1 in
+    let one = byte-opens (eats s Kind.Argument x 88 refl) (hole s Kind.Argument around os at st expects) first.0 refl refl in
+    let two = byte-opens (eats s Kind.Expression a 97 refl) one second.0 refl refl in
+    let three = byte-opens (eats s Kind.ExpressionAfterA d 100 refl) two third.0 refl refl in
+    let four = byte-opens (eats s Kind.AddressedExpression l 76 refl) three fourth.0 refl refl in
+    let five = byte-opens (eats s Kind.AddressedLiteral e 95 refl) four fifth.0 refl refl in
+    let six = hole-at (at + 6) (next-part e (fixed-fills five fifth.1) refl) (omega arith) in
+    record {
+      inner = open_at six;
+      awaits = six.expects;
+      onward = λ t here now comes ends.
+          let both = stands-split s.bytes here (69 ∷ []) (69 ∷ []) ends in
+          let literal = next-part l (closes e (fill six (tree t true) here now comes) refl) refl in
+          let expression = closes a (closes d (closes l (fixed-fills literal both.0) refl) refl) refl in
+          (filled-at (here + 2) (closes x (fixed-fills (next-part x expression refl) both.1) refl) (omega arith)).comes;
     }

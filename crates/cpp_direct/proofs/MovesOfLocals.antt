@@ -23,7 +23,7 @@ use Rattle.cpp_direct.specs.Symbol.{Symbol}
 use Rattle.cpp_direct.specs.Holes.{cpp_language, Opened, opened, StandsAt, Comes, Expects, IsNameAt}
 use Rattle.sym_direct.specs.Holes as direct
 use Rattle.sym_direct.proofs.Moves as moves
-use Rattle.cpp_direct.specs.HolesOfLocals.{Discriminator, unnumbered, by_digit, by_digits, discriminator_value, IsDiscriminatorAt, IsLambdaDigit, IsPieceAt, LocalOpened, LocalTypeOpened, GuardOpened, lambda_digits, lambda_ending, lambda_with}
+use Rattle.cpp_direct.specs.HolesOfLocals.{Discriminator, unnumbered, by_digit, by_digits, discriminator_value, IsDiscriminatorAt, IsLambdaDigit, IsPieceAt, LocalOpened, LocalTypeOpened, lambda_digits, lambda_ending, lambda_with}
 use Rattle.cpp_direct.specs.Bytes.{short_numbers}
 use Rattle.cpp_direct.specs.WriterInvariant.{HasScope, ItemsGoOn, nowhere}
 use Rattle.cpp_direct.proofs.Kept.{none-known}
@@ -247,13 +247,25 @@ pub record LambdaOpened (s : Symbol) (os : List Opened) (e : Term) (at : ℕ) (s
 
 -- no parameter names an argument there
 pub nowhere-scoped : (around : Around) → HasScope nowhere around
-nowhere-scoped around = ((λ placed. absurd (placed refl)), (λ k known. absurd (none-known k known)))
+nowhere-scoped around = (λ placed. absurd (placed refl), λ k single. absurd (none-known k single.0), λ e. cc e)
+
+-- a lambda may be expected as one of these kinds: as a type in a function, or as a component of a name
+abbrev pub IsPieceKind : Kind → Type 0
+IsPieceKind Kind.TypeEntity = Unit {0}
+IsPieceKind Kind.Component = Unit {0}
+IsPieceKind _ = ⊥
+
+piece-taken : (kind : Kind) → IsPieceKind kind → is_eaten kind Production.LocalTypeName 85 ≡ true
+unfolding is_eaten
+piece-taken Kind.TypeEntity is = refl
+piece-taken Kind.Component is = refl
+piece-taken _ is = absurd is
 
 -- a lambda begins in a symbol without long numbers
-pub lambda-opens : (s : Symbol) (os : List Opened) (around : Around) (e : Term) (at : ℕ) (st : State) → short_numbers 0 s.bytes ≡ true
-    → Expects s Kind.TypeEntity (after e true around) os at st → StandsAt s.bytes at (85 ∷ 108 ∷ []) → LambdaOpened s os e (at + 2) st
+pub lambda-opens : (s : Symbol) (kind : Kind) (os : List Opened) (around : Around) (e : Term) (at : ℕ) (st : State) → IsPieceKind kind
+    → short_numbers 0 s.bytes ≡ true → Expects s kind (after e true around) os at st → StandsAt s.bytes at (85 ∷ 108 ∷ []) → LambdaOpened s os e (at + 2) st
 unfolding is_eaten number_of_kind parts_of may_be_empty between opening close unfolding_.behind meaning part byte_of tree_of text_of piece_of letter_of is_there named_so_far extended applied after in_signature
-lambda-opens s os around e at st short expects stands =
+lambda-opens s kind os around e at st is_piece short expects stands =
     let p = Production.LocalTypeName in
     let q = Production.Lambda in
     let here : Around = after e true around in
@@ -261,7 +273,7 @@ lambda-opens s os around e at st short expects stands =
     let item = OfKind (number_of_kind Kind.Item) in
     let todo = OfKind (number_of_kind Kind.Items) ∷ Byte 69 ∷ Number Decimal ∷ [] in
     let places = stands-split s.bytes at (85 ∷ []) (108 ∷ []) stands in
-    let anonymous = byte-opens (eats s Kind.TypeEntity p 85 refl) (hole s Kind.TypeEntity here os at st expects) places.0 refl refl in
+    let anonymous = byte-opens (eats s kind p 85 (piece-taken kind is_piece)) (hole s kind here os at st expects) places.0 refl refl in
     let above = open_at anonymous in
     let needs = opens-where s Kind.Anonymous q 108 (108 ∷ []) here above (at + 1) st refl (omega arith) refl
     (λ f shaped there. lambda-begins s.is_wide s.bytes (at + 1 + 1) (at + 1) st short f shaped there) anonymous.expects places.1 in
@@ -289,23 +301,4 @@ lambda-opens s os around e at st short expects stands =
                 let arguments = next-part p (filled-at end (closes q numbered refl) (omega (arith, ends_))) refl in
                 (closes p (none-fills Kind.MaybeArguments arguments refl) refl).comes;
           };
-    }
-
--- ## Guard variables
-
--- a guard variable begins with GV, and the name is expected of what it guards
-pub guard-opens : (s : Symbol) (os : List Opened) (around : Around) (at : ℕ) (st : State)
-    → Expects s Kind.Encoding around os at st → StandsAt s.bytes at (71 ∷ 86 ∷ []) → GuardOpened s os at (at + 2) st
-unfolding is_eaten is_left number_of_kind parts_of between close unfolding_.behind meaning part byte_of tree_of text_of piece_of letter_of is_there qualifiers_of ref_of
-guard-opens s os around at st expects stands =
-    let p = Production.OtherSpecial in
-    let q = Production.SpecialName in
-    let places = stands-split s.bytes at (71 ∷ []) (86 ∷ []) stands in
-    let mark = chain-opens (leaves s Kind.Encoding p 71 refl) (hole s Kind.Encoding around os at st expects) refl refl in
-    let rest = next-part p (byte-fills (eats s Kind.SpecialMark Production.Mark 71 refl) mark places.0 refl refl) refl in
-    let name = byte-opens (eats s Kind.SpecialAfterG q 86 refl) rest places.1 refl refl in
-    record {
-      inner = open_at name;
-      awaits = (hole-at (at + 2) name (omega arith)).expects;
-      onward = λ v here now comes. (closes p (closes q (fill name v here now comes) refl) refl).comes;
     }

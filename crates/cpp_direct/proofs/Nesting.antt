@@ -3,7 +3,7 @@ use Rattle.sym_print.specs.declared.detail.Detail.{Detail}
 use Rattle.cpp_direct.specs.WrittenParts.{opening_bracket}
 use Rattle.cpp_direct.specs.declared.open.Arguments.{Arguments}
 use Rattle.cpp_direct.proofs.Unmarked.{name-unmarked}
-use Rattle.cpp_direct.proofs.Scopes.{scoped-inside, has-member}
+use Rattle.cpp_direct.proofs.Scopes.{no-arguments, scoped-inside, has-member}
 use Rattle.std.proofs.Common.{◌≡◌, ◌≢◌, ℕ, ◌+◌, ◌-◌, ◌≤◌, List, [], ◌∷◌, ◌++◌, length, take, drop, reverse, slice_get, Bool, true, false, Some, refl, ap, sym, ◌∙◌, subst, arith, codes, append-nil, append_assoc, ◌&&◌, Ok}
 use Rattle.std.proofs.lemmas.Bool.{false≢true}
 use Rattle.sym_core.specs.declared.NumberKind.TheVariants.{Seq36}
@@ -33,11 +33,11 @@ use Rattle.cpp_direct.specs.Holes.{Opened, Comes, StandsAt, IsNameAt, IsSeqAt, S
 use Rattle.cpp_direct.specs.HolesOfNests.{IsRest, IsFirstRest}
 use Rattle.cpp_direct.specs.Names.{tag_text}
 use Rattle.cpp_direct.specs.Prints.{Names, Prints, PrintsAs, NamesClass}
-use Rattle.cpp_direct.specs.WriterInvariant.{HasArguments, IsNaming, IsNest, IsNestScoped, IsNesting, IsOwn, IsScoped, Scope, Serves, IsWriting, below, encoding_place, is_type, IsKnown, nowhere, place_of, IsScopeOf, argument_of, Kept, IsNestSoFar}
+use Rattle.cpp_direct.specs.WriterInvariant.{HasArguments, IsMadeIn, IsNaming, IsNest, IsNestScoped, IsNesting, IsOwn, IsScoped, Scope, Serves, IsWriting, below, is_type, nowhere, HasSingles, argument_of, Kept, IsNestSoFar}
 use Rattle.cpp_direct.specs.MidStep.{AwaitsNest, IsNestKnown, IsNestNamed, IsNameEnded, IsOperatorRead}
 use Rattle.cpp_direct.specs.Written.{Reads, added, added_unless}
 use Rattle.cpp_direct.proofs.Moves.{alone-arguments, any-tail, expects-empty, stands-join, comes-moved}
-use Rattle.cpp_direct.proofs.Kept.{kept-grown, kept-read, kept-same, made-here, candidate-found, piece-found, nest-stays, value-comes, Lists, OpensArguments, list-begins, type-named, none-known, kept-unless, kept-with, placed-last, placed-moved}
+use Rattle.cpp_direct.proofs.Kept.{kept-grown, kept-read, kept-same, made-here, candidate-found, piece-found, nest-stays, value-comes, Lists, OpensArguments, list-begins, type-named, kept-unless, kept-with, placed-last, placed-moved}
 use Rattle.cpp_direct.proofs.MovesOfLists.{arguments-open}
 use Rattle.cpp_direct.proofs.MovesOfTypes.{substituted-so}
 use Rattle.cpp_direct.proofs.NamedArguments.{again-substituted, named-here}
@@ -54,16 +54,16 @@ pub nest-scoped : (s : Symbol) {scope : Scope} (old new : Direct) (around : Arou
     → new.nest.purpose ≡ old.nest.purpose → new.nest.is_dependent ≡ old.nest.is_dependent → IsNestScoped s scope old around → IsNestScoped s scope new around
 nest-scoped s {scope} old new around waiting_is purpose_same dependent_same n = record {
   scoped = λ e. subst (λ (o : List Open). IsScoped scope around (reverse o)) (sym waiting_is) (n.scoped (ap is_type (sym purpose_same) ∙ e));
-  naming = λ e. subst (λ (o : List Open). IsNaming s scope (reverse o)) (sym waiting_is) (n.naming (sym dependent_same ∙ e));
+  naming = λ e. subst (λ (o : List Open). IsNaming scope (reverse o)) (sym waiting_is) (n.naming (sym dependent_same ∙ e));
 }
 
 -- where one begins they name what they may
 nest-placed : (s : Symbol) {scope : Scope} (old new : Direct) (around : Around) (purpose : Purpose)
     → (is_type purpose ≡ true → IsScoped scope around (reverse old.waiting.list.items)) → new.waiting ≡ old.waiting → new.nest.purpose ≡ purpose
-    → (new.nest.is_dependent ≡ true → IsNaming s scope (reverse old.waiting.list.items)) → IsNestScoped s scope new around
+    → (new.nest.is_dependent ≡ true → IsNaming scope (reverse old.waiting.list.items)) → IsNestScoped s scope new around
 nest-placed s {scope} old new around purpose scoped waiting_is purpose_is naming = record {
   scoped = λ e. subst (λ o. IsScoped scope around (reverse o.list.items)) (sym waiting_is) (scoped (ap is_type (sym purpose_is) ∙ e));
-  naming = λ e. subst (λ o. IsNaming s scope (reverse o.list.items)) (sym waiting_is) (naming e);
+  naming = λ e. subst (λ o. IsNaming scope (reverse o.list.items)) (sym waiting_is) (naming e);
 }
 
 -- it is written further, or something else changed
@@ -82,11 +82,11 @@ nest-further s {scope} old new n u bytes written waiting_is purpose_same depende
       (subst (λ (p : Purpose). Serves s p (below s scope (reverse old.waiting.list.items)) n.outer n.front) (sym purpose_same) n.serves);
 }
 
--- one that names any is in the symbol's own encoding
+-- one that names any is in their encoding
 nest-here : (s : Symbol) {scope : Scope} (w : Direct) (around : Around) → IsNestScoped s scope w around → (IsOwn w.nest.purpose → w.nest.is_dependent ≡ false)
-    → w.nest.is_dependent ≡ true → around.encoding ≡ encoding_place s.bytes
+    → w.nest.is_dependent ≡ true → IsMadeIn scope around.encoding
 nest-here s {scope} w around n closed e =
-    made-here s scope around (reverse w.waiting.list.items) (n.scoped (type-named w.nest.purpose w.nest.is_dependent closed e)) (n.naming e)
+    made-here scope around (reverse w.waiting.list.items) (n.scoped (type-named w.nest.purpose w.nest.is_dependent closed e)) (n.naming e)
 
 -- what names none prints its text anywhere
 pub closed-prints : {detail : Detail} (names : Names) {d : Bool} {t : Term} {bytes : List ℕ} → d ≡ false → PrintsAs detail names d t bytes false → Prints detail t bytes false
@@ -321,7 +321,7 @@ type-ended s old new kept t n here is_type lists =
     let later = unless_listed listed serves.1 t kept.state in
     value-comes s new
     (kept-unless s old new kept listed n.front n.bytes old.nest.from t serves.1 d n.written n.is_nest.from_is (λ e. n.is_nest.prints)
-    (λ e. made-here s kept.scope serves.1 open_ serves.3 (n.scoped.naming e)) lists.text lists.candidates lists.scope)
+    (λ e. made-here kept.scope serves.1 open_ serves.3 (n.scoped.naming e)) lists.text lists.candidates lists.scope)
     serves.0 t n.front n.bytes false d (text_is ∙ n.written) n.is_nest.prints
     (ap reverse waiting_is) n.scoped.naming
     (comes-moved s serves.0 (tree t true) (old.at + 1) new.at later (sym lists.at)
@@ -331,7 +331,7 @@ type-ended s old new kept t n here is_type lists =
 pub arguments-noted : {detail : Detail} (b : Bool) (text : List ℕ) (a r : Arguments) (t : Term) → (b ≡ true → r ≡ a) → (b ≡ false → r ≡ nowhere)
     → (b ≡ true → HasArguments detail text a t) → HasArguments detail text r t
 arguments-noted {detail} true text a r t known none has = subst (λ (k : Arguments). HasArguments detail text k t) (sym (known refl)) (has refl)
-arguments-noted {detail} false text a r t known none has = λ k o. absurd (none-known k (subst (λ (q : Arguments). IsKnown (place_of q k)) (none refl) o))
+arguments-noted {detail} false text a r t known none has = subst (λ (k : Arguments). HasArguments detail text k t) (sym (none refl)) (no-arguments text t)
 
 -- it is the name of the encoding
 pub name-comes : (s : Symbol) (old : Direct) (kept : Kept s old) (t : Term) (mark : Mark) (is_function : Bool) (argument_ : Arguments)
@@ -366,7 +366,7 @@ operator-ends s w mark p here is_name =
       has = has-member s w.text.list.items mark w.nest.from t p.front p.bytes p.written p.from_is p.prints;
       no_return = λ e. p.no_return;
       returns = λ e. absurd (false≢true e);
-      names = λ k o. absurd (none-known k o);
+      names = no-arguments w.text.list.items p.own;
       awaits = serves t false (w.at + 1) st
           (goes.passes (tree t false) (w.at + 1) st (nest-end s goes.inner p.around t false w.at st goes.awaits here));
     }
@@ -389,7 +389,7 @@ class-nest {detail} names text front before class nest t written from_is class_f
 }
 
 -- one that a reference stands for
-classless-nest : {detail : Detail} (names : Names) (front bytes : List ℕ) (nest : Nest) (t : Term) → nest.from ≡ length front → nest.class_from ≡ length front
+pub classless-nest : {detail : Detail} (names : Names) (front bytes : List ℕ) (nest : Nest) (t : Term) → nest.from ≡ length front → nest.class_from ≡ length front
     → nest.class_to ≡ length front → nest.has_class ≡ false → (IsOwn nest.purpose → nest.is_dependent ≡ false) → PrintsAs detail names nest.is_dependent t bytes false
     → IsNest detail names front bytes (front ++ bytes) nest t
 classless-nest {detail} names front bytes nest t from_is class_from class_to none closed prints = record {
@@ -412,7 +412,7 @@ classless-nest {detail} names front bytes nest t from_is class_from class_to non
 -- a first piece was read
 abbrev first-so-far : (s : Symbol) (old new : Direct) (purpose : Purpose) (a : AwaitsNest s old purpose) (t : Term) (bytes : List ℕ)
     → new.text.list.items ≡ old.text.list.items ++ bytes → new.waiting ≡ old.waiting → new.nest.purpose ≡ purpose
-    → (new.nest.is_dependent ≡ true → IsNaming s a.scope (reverse old.waiting.list.items))
+    → (new.nest.is_dependent ≡ true → IsNaming a.scope (reverse old.waiting.list.items))
     → IsNest (detail_of s) a.scope.names old.text.list.items bytes new.text.list.items new.nest t → IsNestSoFar s a.scope new t
 first-so-far s old new purpose a t bytes text_is waiting_is purpose_is naming is_nest = record {
   around = a.around;
@@ -428,7 +428,7 @@ first-so-far s old new purpose a t bytes text_is waiting_is purpose_is naming is
 
 first-nesting : (s : Symbol) (old new : Direct) (purpose : Purpose) (a : AwaitsNest s old purpose) (kind : Kind) (t : Term) (bytes : List ℕ)
     → new.text.list.items ≡ old.text.list.items ++ bytes → new.waiting ≡ old.waiting → new.nest.purpose ≡ purpose
-    → (new.nest.is_dependent ≡ true → IsNaming s a.scope (reverse old.waiting.list.items))
+    → (new.nest.is_dependent ≡ true → IsNaming a.scope (reverse old.waiting.list.items))
     → IsNest (detail_of s) a.scope.names old.text.list.items bytes (old.text.list.items ++ bytes) new.nest t
     → NestGoesOn s kind a.outer a.around t new.nest.is_listed new.at a.state → IsNesting s a.scope kind new t a.state
 first-nesting s old new purpose a kind t bytes text_is waiting_is purpose_is naming is_nest goes = record {
@@ -457,7 +457,7 @@ nest-begins s old new purpose a t bytes text_is candidates_are waiting_is scope_
 -- and after one that an S stands for
 known-begins : (s : Symbol) (old new : Direct) (purpose : Purpose) (a : AwaitsNest s old purpose) (t : Term) (bytes : List ℕ)
     → new.text.list.items ≡ old.text.list.items ++ bytes → new.candidates ≡ old.candidates → new.waiting ≡ old.waiting → new.has_scope ≡ old.has_scope
-    → new.nest.purpose ≡ purpose → (new.nest.is_dependent ≡ true → IsNaming s a.scope (reverse old.waiting.list.items))
+    → new.nest.purpose ≡ purpose → (new.nest.is_dependent ≡ true → IsNaming a.scope (reverse old.waiting.list.items))
     → IsNest (detail_of s) a.scope.names old.text.list.items bytes (old.text.list.items ++ bytes) new.nest t → new.nest.is_listed ≡ true
     → new.nest.has_class ≡ false
     → NestGoesOn s Kind.NestRestOrEnd a.outer a.around t new.nest.is_listed new.at a.state → IsNestKnown s new
@@ -520,11 +520,12 @@ own-closed purpose false typed own = refl
 own-closed purposes.Type true typed own = absurd own
 own-closed (purposes.Name mark) true typed own = absurd (false≢true (typed refl))
 own-closed (purposes.Enclosing mark) true typed own = absurd (false≢true (typed refl))
+own-closed (purposes.Address mark) true typed own = absurd (false≢true (typed refl))
 
 -- what a reference stands for may be named here
 named-again : (s : Symbol) {scope : Scope} (around : Around) (open_ : List Open) (c : values.Candidate) (st : State) (bytes : List ℕ) (d : Bool)
-    → PrintsAs (detail_of s) scope.names d c.tree bytes false → IsScopeOf s scope → (d ≡ true → IsScoped scope around open_)
-    → (d ≡ true → IsNaming s scope open_) → (d ≡ true → c.encoding ≡ encoding_place s.bytes) → (place : ℕ)
+    → PrintsAs (detail_of s) scope.names d c.tree bytes false → HasSingles scope → (d ≡ true → IsScoped scope around open_)
+    → (d ≡ true → IsNaming scope open_) → (d ≡ true → IsMadeIn scope c.encoding) → (place : ℕ)
     → substituted around place (Some c) st ≡ Ok (found (tree c.tree true) st)
 named-again s around open_ c st bytes false prints own scoped naming made place = substituted-so around place c st prints.is_closed prints.packless
 named-again s around open_ c st bytes true prints own scoped naming made place =
@@ -547,13 +548,13 @@ reference-begins s old mid purpose digits k a here is ordered found_ plain typed
     let piece = piece-found old.text.list.items it.bytes k.from k.to it.placed in
     let prints = subst (λ r. PrintsAs (detail_of s) a.scope.names k.is_dependent c.tree it.bytes r) plain it.prints in
     let scoped : k.is_dependent ≡ true → IsScoped a.scope a.around (reverse old.waiting.list.items) = λ e. a.scoped (typed e) in
-    let naming : k.is_dependent ≡ true → IsNaming s a.scope (reverse old.waiting.list.items) =
+    let naming : k.is_dependent ≡ true → IsNaming a.scope (reverse old.waiting.list.items) =
     λ e. let n = known e in named-here s old a.kept a.around n.0 (scoped e) n.1 n.2 in
     known-begins s old (record mid { nest = nest }) purpose a c.tree it.bytes (text_is ∙ ap (λ l. old.text.list.items ++ l) piece.2) candidates_are
     waiting_is scope_same refl naming
     (classless-nest a.scope.names old.text.list.items it.bytes nest c.tree from_is from_is from_is refl (own-closed purpose k.is_dependent typed) prints)
     refl refl (nest-substitution s a.outer a.around old.at a.state digits mid.at c a.awaits here is one.1
-    (named-again s a.around (reverse old.waiting.list.items) c a.state it.bytes k.is_dependent prints a.keeps.own scoped naming it.made_in))
+    (named-again s a.around (reverse old.waiting.list.items) c a.state it.bytes k.is_dependent prints a.keeps.single scoped naming it.made_in))
 
 -- a name in std begins a nested one
 pub std-begins : (s : Symbol) (old mid : Direct) (purpose : Purpose) (before : ℕ) (name : List ℕ)

@@ -27,6 +27,7 @@ noted-now : (o noted : Open) → IsDependentNow o noted → is_noted noted ≡ t
 noted-now (opens.TypeArguments from is_dependent) noted is = ap is_noted is
 noted-now (opens.NestArguments nest) noted is = ap is_noted is.1
 noted-now (opens.FirstArguments nest) noted is = ap is_noted is.1
+noted-now (opens.LevelArguments is_dependent) noted is = ap is_noted is
 noted-now _ noted is = absurd is
 
 -- which is in a type
@@ -34,10 +35,11 @@ noted-within : (o noted : Open) → IsDependentNow o noted → is_within_type o 
 noted-within (opens.TypeArguments from is_dependent) noted is = refl
 noted-within (opens.NestArguments nest) noted is = ap is_type is.0
 noted-within (opens.FirstArguments nest) noted is = ap is_type is.0
+noted-within (opens.LevelArguments is_dependent) noted is = refl
 noted-within _ noted is = absurd is
 
 -- the same may be named below it
-noted-naming : (s : Symbol) (scope : Scope) (o noted : Open) (rest : List Open) → IsDependentNow o noted → IsNaming s scope (o ∷ rest) → IsNaming s scope rest
+noted-naming : (s : Symbol) (scope : Scope) (o noted : Open) (rest : List Open) → IsDependentNow o noted → IsNaming scope (o ∷ rest) → IsNaming scope rest
 noted-naming s scope o noted rest is naming =
     (subst (λ b. elim b [ true ↦ argument_of rest | false ↦ arguments_in o ] ≡ Some scope.arguments) (noted-within o noted is) naming.0, naming.1)
 
@@ -63,17 +65,21 @@ noted-template detail names (opens.NestArguments nest) noted front t name text i
     subst (λ o. IsTemplate detail names o front t name text) (sym is.1) (noted-nest front name text nest t is.0 p.0, p.1, p.2)
 noted-template detail names (opens.FirstArguments nest) noted front t name text is p =
     subst (λ o. IsTemplate detail names o front t name text) (sym is.1) (noted-nest front name text nest t is.0 p)
+noted-template detail names (opens.LevelArguments is_dependent) noted front t name text is p =
+    subst (λ o. IsTemplate detail names o front t name text) (sym is) p
 noted-template detail names _ noted front t name text is p = absurd is
 
 -- the same becomes of the instance
 noted-owns : (s : Symbol) (scope : Scope) (o noted : Open) (rest : List Open) (front : List ℕ) (u : Term) (at : ℕ) (st : State) → IsDependentNow o noted
-    → IsNaming s scope rest → Owns s o (below s scope rest) front u at st → Owns s noted (below s scope rest) front u at st
+    → IsNaming scope rest → Owns s o (below s scope rest) front u at st → Owns s noted (below s scope rest) front u at st
 noted-owns s scope (opens.TypeArguments from is_dependent) noted rest front u at st is naming p =
     subst (λ o. Owns s o (below s scope rest) front u at st) (sym is) (p.0, p.1, p.2, p.3, (λ named. naming), p.5)
 noted-owns s scope (opens.NestArguments nest) noted rest front u at st is naming p =
     subst (λ o. Owns s o (below s scope rest) front u at st) (sym is.1) (p.0, p.1, p.2, p.3, (λ named. naming), p.5)
 noted-owns s scope (opens.FirstArguments nest) noted rest front u at st is naming p =
     subst (λ o. Owns s o (below s scope rest) front u at st) (sym is.1) (p.0, p.1, p.2, p.3, (λ named. naming), p.5)
+noted-owns s scope (opens.LevelArguments is_dependent) noted rest front u at st is naming p =
+    subst (λ o. Owns s o (below s scope rest) front u at st) (sym is) (p.0, p.1, (λ named. naming), p.3)
 noted-owns s scope _ noted rest front u at st is naming p = absurd is
 
 -- a type was awaited as an argument
@@ -82,6 +88,7 @@ noted-awaits : (s : Symbol) (scope : Scope) (o noted : Open) (rest : List Open) 
 noted-awaits s scope (opens.TypeArguments from is_dependent) noted rest os text is p = p
 noted-awaits s scope (opens.NestArguments nest) noted rest os text is p = p
 noted-awaits s scope (opens.FirstArguments nest) noted rest os text is p = p
+noted-awaits s scope (opens.LevelArguments is_dependent) noted rest os text is p = p
 noted-awaits s scope _ noted rest os text is p = absurd is
 
 one-written : (text front led before bytes : List ℕ) → text ≡ front ++ bytes → front ≡ led ++ before → text ≡ led ++ (before ++ bytes)

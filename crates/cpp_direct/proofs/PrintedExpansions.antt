@@ -210,3 +210,10 @@ expansion-element {detail} name all k ts pattern bytes some e pack_is printed =
     go [] texts some_ packed each_ = absurd (some_ refl)
     go (t ∷ us) [] some_ packed each_ = absurd each_
     go (t ∷ us) (b ∷ texts) some_ packed each_ = expanded (types_of name) k pattern t us b texts packed each_.0 each_.1
+
+-- Where the pack is empty, so is the expansion.
+pub expansion-empty : (name all : Term) (k : ℕ) (ts : List Term) (pattern : Pattern) → length ts ≡ 0 → arguments_of name ≡ Some all
+    → element all k ≡ pack (list_of ts) → is_empty (types_of name) (expansion (made_by pattern (parameter k))) ≡ true
+unfolding types_of is_empty is_none_of
+expansion-empty name all k ts pattern none e pack_is =
+    ap is_none_of (packs-are (types_of name) k ts pattern (record { all = all; scope_is = e; pack_is = pack_is }) ∙ ap (λ n. Some n) (count-of ts ∙ none))

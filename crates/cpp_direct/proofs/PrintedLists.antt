@@ -36,55 +36,52 @@ first-is c e rest filled = rw (filled, first_parts) refl
 element-text : (l r x b y : List ℕ) → l ++ r ≡ b → x ≡ y → l ++ (r ++ x) ≡ b ++ y
 element-text l r x b y e f = sym (append_assoc l r x) ∙ ap (λ k. k ++ x) e ∙ ap (λ k. b ++ k) f
 
--- After the elements of a list this comes, and prints nothing. It may cost so much.
-record EndsList (detail : Detail) (most : ℕ) (tail : Term) : Type 0 where
-  first_text : (c : Context) → text_of (shown_by detail (list_part first c tail)) ≡ []
-  first_cost : (c : Context) → cost_of (shown_by detail (list_part first c tail)) ≤ 1 + most
-  more_text : (c : Context) → text_of (shown_by detail (list_part more c tail)) ≡ []
-  more_cost : (c : Context) → cost_of (shown_by detail (list_part more c tail)) ≤ 1 + most
-  closed : is_open tail ≡ false
-  packless : (scope : Term) → pack_length scope tail ≡ None
+-- After the elements of a list this comes, and prints nothing there. It may cost so much.
+record EndsList (detail : Detail) (c : Context) (most : ℕ) (tail : Term) : Type 0 where
+  first_text : text_of (shown_by detail (list_part first c tail)) ≡ []
+  first_cost : cost_of (shown_by detail (list_part first c tail)) ≤ 1 + most
+  more_text : text_of (shown_by detail (list_part more c tail)) ≡ []
+  more_cost : cost_of (shown_by detail (list_part more c tail)) ≤ 1 + most
 
-ends-bare : {detail : Detail} → EndsList detail 0 nil
-unfolding list_part parts_in not_empty is_open pack_length
-ends-bare = record {
-  first_text = λ c. refl;
-  first_cost = λ c. omega arith;
-  more_text = λ c. refl;
-  more_cost = λ c. omega arith;
-  closed = refl;
-  packless = λ scope. refl;
-}
+ends-bare : {detail : Detail} (c : Context) (most : ℕ) → EndsList detail c most nil
+unfolding list_part parts_in not_empty
+ends-bare c most = record { first_text = refl; first_cost = omega arith; more_text = refl; more_cost = omega arith }
 
-ends-list : {detail : Detail} (tail : Term) → IsTail tail → EndsList detail 1 tail
-unfolding list_part first_parts more_parts parts_in not_empty is_empty is_open pack_length first_of
-ends-list {detail} tail (inl is) = subst (EndsList detail 1) (sym is) (record {
-  first_text = λ c. refl;
-  first_cost = λ c. omega arith;
-  more_text = λ c. refl;
-  more_cost = λ c. omega arith;
-  closed = refl;
-  packless = λ scope. refl;
-})
-ends-list {detail} tail (inr is) = let l = list (pack nil) nil in subst (EndsList detail 1) (sym is) (record {
-  first_text = λ c. append-nil (text_of (written_of detail first c l)) ∙ text_shown detail first c l [] refl refl;
-  first_cost = λ c. omega (arith, cost_shown detail first c l [] refl refl);
-  more_text = λ c. append-nil (text_of (written_of detail more c l)) ∙ text_shown detail more c l [] refl refl;
-  more_cost = λ c. omega (arith, cost_shown detail more c l [] refl refl);
-  closed = refl;
-  packless = λ scope. refl;
-})
+-- an element that is empty there does
+ends-nothing : {detail : Detail} (c : Context) (t : Term) → is_empty c t ≡ true → EndsList detail c 1 (list t nil)
+unfolding list_part first_parts more_parts parts_in not_empty
+ends-nothing {detail} c t none =
+    let l = list t nil in
+    let first_is : first_parts c l ≡ [] = rw (none, first_parts) refl in
+    let more_is : more_parts c l ≡ [] = rw (none, more_parts) refl in
+    record {
+      first_text = append-nil (text_of (written_of detail first c l)) ∙ text_shown detail first c l [] first_is refl;
+      first_cost = omega (arith, cost_shown detail first c l [] first_is refl);
+      more_text = append-nil (text_of (written_of detail more c l)) ∙ text_shown detail more c l [] more_is refl;
+      more_cost = omega (arith, cost_shown detail more c l [] more_is refl);
+    }
+
+ends-list : {detail : Detail} (c : Context) (tail : Term) → IsTail tail → EndsList detail c 1 tail
+unfolding is_empty
+ends-list {detail} c tail (inl is) = subst (EndsList detail c 1) (sym is) (ends-bare c 1)
+ends-list {detail} c tail (inr is) = subst (EndsList detail c 1) (sym is) (ends-nothing c (pack nil) refl)
+
+-- no parameter is free in it, and it names no packs
+tail-closed : (tail : Term) → IsTail tail → (is_open tail ≡ false) × ((scope : Term) → pack_length scope tail ≡ None)
+unfolding is_open pack_length first_of
+tail-closed tail (inl is) = rw is (refl, λ scope. refl)
+tail-closed tail (inr is) = rw is (refl, λ scope. refl)
 
 -- an element anywhere is one in a context
 pub element-in : {detail : Detail} (c : Context) (extra : ℕ) (t : Term) (b : List ℕ) → IsElement detail extra t b → IsElementIn detail c extra t b
 element-in c extra t b p = record { both_texts = p.both_texts c; cost = p.cost c; filled = p.filled c; void = p.void }
 
-more-shown : {detail : Detail} (c : Context) (extra : ℕ) (ts : List Term) (tail : Term) (texts : List (List ℕ)) (most : ℕ) → EndsList detail most tail
+more-shown : {detail : Detail} (c : Context) (extra : ℕ) (ts : List Term) (tail : Term) (texts : List (List ℕ)) (most : ℕ) → EndsList detail c most tail
     → PrintEachIn detail c extra ts texts
     → (text_of (shown_by detail (list_part more c (list_with ts tail))) ≡ further texts)
     × (extra ≤ 6 → cost_of (shown_by detail (list_part more c (list_with ts tail))) ≤ 1 + most + 4 * length (further texts))
 unfolding list_part parts_in not_empty
-more-shown {detail} c extra [] tail [] most ends each = (ends.more_text c, λ few. omega (arith, ends.more_cost c))
+more-shown {detail} c extra [] tail [] most ends each = (ends.more_text, λ few. omega (arith, ends.more_cost))
 more-shown {detail} c extra (t ∷ ts) tail (b ∷ bs) most ends each =
     let l = list t (list_with ts tail) in
     let parts = says ", " ∷ as_item left c t ∷ as_item right c t ∷ list_part more c (list_with ts tail) in
@@ -106,12 +103,12 @@ more-shown {detail} c extra (t ∷ ts) tail (b ∷ bs) most ends each =
 more-shown {detail} c extra [] tail (b ∷ bs) most ends each = elim each [ ]
 more-shown {detail} c extra (t ∷ ts) tail [] most ends each = elim each [ ]
 
-first-shown : {detail : Detail} (c : Context) (extra : ℕ) (ts : List Term) (tail : Term) (texts : List (List ℕ)) (most : ℕ) → EndsList detail most tail
+first-shown : {detail : Detail} (c : Context) (extra : ℕ) (ts : List Term) (tail : Term) (texts : List (List ℕ)) (most : ℕ) → EndsList detail c most tail
     → PrintEachIn detail c extra ts texts
     → (text_of (shown_by detail (list_part first c (list_with ts tail))) ≡ joined texts)
     × (extra ≤ 6 → cost_of (shown_by detail (list_part first c (list_with ts tail))) ≤ 1 + most + extra + 4 * length (joined texts))
 unfolding list_part parts_in not_empty
-first-shown {detail} c extra [] tail [] most ends each = (ends.first_text c, λ few. omega (arith, ends.first_cost c))
+first-shown {detail} c extra [] tail [] most ends each = (ends.first_text, λ few. omega (arith, ends.first_cost))
 first-shown {detail} c extra (t ∷ ts) tail (b ∷ bs) most ends each =
     let l = list t (list_with ts tail) in
     let parts = as_item left c t ∷ as_item right c t ∷ list_part more c (list_with ts tail) in
@@ -153,6 +150,11 @@ each-by by so follows (t ∷ ts) [] each = elim each [ ]
 all-by : (by so : Term → List ℕ → Type 0) → ((t : Term) (b : List ℕ) → by t b → so t b) → (ts : List Term) (l : List ℕ) → PrintAllBy by ts l → PrintAllBy so ts l
 all-by by so follows ts l all = (all.0, each-by by so follows ts all.0 all.1, all.2)
 
+-- What may cost so much may cost more.
+pub all-more : (detail : Detail) (c : Context) (few most : ℕ) → few ≤ most → (ts : List Term) (l : List ℕ) → PrintAllIn detail c few ts l → PrintAllIn detail c most ts l
+all-more detail c few most le ts l all = all-by (IsElementIn detail c few) (IsElementIn detail c most)
+    (λ t b p. record { both_texts = p.both_texts; cost = omega (arith, p.cost, le); filled = p.filled; void = p.void }) ts l all
+
 -- What print anywhere print in a context.
 pub all-in : (detail : Detail) (c : Context) (extra : ℕ) (ts : List Term) (l : List ℕ) → PrintAll detail extra ts l → PrintAllIn detail c extra ts l
 all-in detail c extra ts l all = all-by (IsElement detail extra) (IsElementIn detail c extra) (λ t b p. element-in c extra t b p) ts l all
@@ -160,25 +162,43 @@ all-in detail c extra ts l all = all-by (IsElement detail extra) (IsElementIn de
 -- What a list prints in a context whose last elements may be nothing,
 pub list-text-before : (detail : Detail) (c : Context) (extra : ℕ) (ts : List Term) (tail : Term) (l : List ℕ) → IsTail tail → PrintAllIn detail c extra ts l
     → text_of (shown_by detail (list_part first c (list_with ts tail))) ≡ l
-list-text-before detail c extra ts tail l is all = (first-shown c extra ts tail all.0 1 (ends-list tail is) all.1).0 ∙ all.2
+list-text-before detail c extra ts tail l is all = (first-shown c extra ts tail all.0 1 (ends-list c tail is) all.1).0 ∙ all.2
 
 -- at a cost that its text bounds
 pub list-cost-before : (detail : Detail) (c : Context) (extra : ℕ) (ts : List Term) (tail : Term) (l : List ℕ) → extra ≤ 6 → IsTail tail
     → PrintAllIn detail c extra ts l → cost_of (shown_by detail (list_part first c (list_with ts tail))) ≤ 2 + extra + 4 * length l
-list-cost-before detail c extra ts tail l few is all = omega (arith, (first-shown c extra ts tail all.0 1 (ends-list tail is) all.1).1 few, ap length all.2)
+list-cost-before detail c extra ts tail l few is all = omega (arith, (first-shown c extra ts tail all.0 1 (ends-list c tail is) all.1).1 few, ap length all.2)
 
 -- What a list prints in a context,
 pub list-text-in : (detail : Detail) (c : Context) (extra : ℕ) (ts : List Term) (l : List ℕ) → PrintAllIn detail c extra ts l
     → text_of (shown_by detail (list_part first c (list_of ts))) ≡ l
 list-text-in detail c extra ts l all =
-    subst (λ k. text_of (shown_by detail (list_part first c k)) ≡ l) (list-with-none ts) ((first-shown c extra ts nil all.0 0 ends-bare all.1).0 ∙ all.2)
+    subst (λ k. text_of (shown_by detail (list_part first c k)) ≡ l) (list-with-none ts) ((first-shown c extra ts nil all.0 0 (ends-bare c 0) all.1).0 ∙ all.2)
 
 -- at a cost that its text bounds
 pub list-cost-in : (detail : Detail) (c : Context) (extra : ℕ) (ts : List Term) (l : List ℕ) → extra ≤ 6 → PrintAllIn detail c extra ts l
     → cost_of (shown_by detail (list_part first c (list_of ts))) ≤ 1 + extra + 4 * length l
 list-cost-in detail c extra ts l few all =
     subst (λ k. cost_of (shown_by detail (list_part first c k)) ≤ 1 + extra + 4 * length l) (list-with-none ts)
-    (omega (arith, (first-shown c extra ts nil all.0 0 ends-bare all.1).1 few, ap length all.2))
+    (omega (arith, (first-shown c extra ts nil all.0 0 (ends-bare c 0) all.1).1 few, ap length all.2))
+
+-- What the items of a function print in a context, at a cost that leaves room for the rest of it.
+abbrev pub PrintsItems : (detail : Detail) → Context → (items : Term) → (l : List ℕ) → Type 0
+PrintsItems detail c items l =
+    (text_of (shown_by detail (list_part first c items)) ≡ l) × (cost_of (shown_by detail (list_part first c items)) ≤ 7 + 4 * length l)
+
+pub list-in : (detail : Detail) (c : Context) (extra : ℕ) (ts : List Term) (l : List ℕ) → extra ≤ 6 → PrintAllIn detail c extra ts l
+    → PrintsItems detail c (list_of ts) l
+list-in detail c extra ts l few all = (list-text-in detail c extra ts l all, omega (arith, list-cost-in detail c extra ts l few all, few))
+
+-- also where the last of them is empty there
+pub list-before : (detail : Detail) (c : Context) (ts : List Term) (t : Term) (l : List ℕ) → is_empty c t ≡ true → PrintAllIn detail c 3 ts l
+    → PrintsItems detail c (list_with ts (list t nil)) l
+list-before detail c ts t l none all =
+    let shown = first-shown c 3 ts (list t nil) all.0 1 (ends-nothing c t none) all.1 in (
+      shown.0 ∙ all.2,
+      omega (arith, shown.1 (omega arith), ap length all.2),
+    )
 
 -- What a list prints,
 pub list-text : (detail : Detail) (c : Context) (extra : ℕ) (ts : List Term) (l : List ℕ) → PrintAll detail extra ts l
@@ -192,35 +212,34 @@ list-cost detail c extra ts l few all = list-cost-in detail c extra ts l few (al
 
 -- ## What else is known of a list
 
-each-closed : {detail : Detail} (extra : ℕ) (ts : List Term) (tail : Term) (texts : List (List ℕ)) (most : ℕ) → EndsList detail most tail
+each-closed : (detail : Detail) (extra : ℕ) (ts : List Term) (tail : Term) (texts : List (List ℕ)) → is_open tail ≡ false
     → PrintEach detail extra ts texts
     → is_open (list_with ts tail) ≡ false
 unfolding is_open
-each-closed extra [] tail [] most ends each = ends.closed
-each-closed extra (t ∷ ts) tail (b ∷ bs) most ends each = rw (each.0.is_closed, each-closed extra ts tail bs most ends each.1) refl
-each-closed extra [] tail (b ∷ bs) most ends each = elim each [ ]
-each-closed extra (t ∷ ts) tail [] most ends each = elim each [ ]
+each-closed detail extra [] tail [] none each = none
+each-closed detail extra (t ∷ ts) tail (b ∷ bs) none each = rw (each.0.is_closed, each-closed detail extra ts tail bs none each.1) refl
+each-closed detail extra [] tail (b ∷ bs) none each = elim each [ ]
+each-closed detail extra (t ∷ ts) tail [] none each = elim each [ ]
 
-each-packless : {detail : Detail} (scope : Term) (by : Term → List ℕ → Type 0) → ((t : Term) (b : List ℕ) → by t b → pack_length scope t ≡ None)
-    → (ts : List Term) (tail : Term) (texts : List (List ℕ)) (most : ℕ) → EndsList detail most tail → PrintEachBy by ts texts
+each-packless : (scope : Term) (by : Term → List ℕ → Type 0) → ((t : Term) (b : List ℕ) → by t b → pack_length scope t ≡ None)
+    → (ts : List Term) (tail : Term) (texts : List (List ℕ)) → pack_length scope tail ≡ None → PrintEachBy by ts texts
     → pack_length scope (list_with ts tail) ≡ None
 unfolding pack_length first_of
-each-packless scope by none [] tail [] most ends each = ends.packless scope
-each-packless {detail = detail} scope by none (t ∷ ts) tail (b ∷ bs) most ends each =
-    rw (none t b each.0, each-packless {detail = detail} scope by none ts tail bs most ends each.1) refl
-each-packless scope by none [] tail (b ∷ bs) most ends each = elim each [ ]
-each-packless scope by none (t ∷ ts) tail [] most ends each = elim each [ ]
+each-packless scope by none [] tail [] ends each = ends
+each-packless scope by none (t ∷ ts) tail (b ∷ bs) ends each = rw (none t b each.0, each-packless scope by none ts tail bs ends each.1) refl
+each-packless scope by none [] tail (b ∷ bs) ends each = elim each [ ]
+each-packless scope by none (t ∷ ts) tail [] ends each = elim each [ ]
 
 -- No parameter is free in a list of such trees.
 pub list-closed : (detail : Detail) (extra : ℕ) (ts : List Term) (tail : Term) (l : List ℕ) → IsTail tail → PrintAll detail extra ts l
     → is_open (list_with ts tail) ≡ false
-list-closed detail extra ts tail l is all = each-closed extra ts tail all.0 1 (ends-list tail is) all.1
+list-closed detail extra ts tail l is all = each-closed detail extra ts tail all.0 (tail-closed tail is).0 all.1
 
 -- It names no packs.
 pub list-packless : (detail : Detail) (scope : Term) (extra : ℕ) (ts : List Term) (tail : Term) (l : List ℕ) → IsTail tail → PrintAll detail extra ts l
     → pack_length scope (list_with ts tail) ≡ None
 list-packless detail scope extra ts tail l is all =
-    each-packless {detail = detail} scope (IsElement detail extra) (λ t b p. p.packless scope) ts tail all.0 1 (ends-list tail is) all.1
+    each-packless scope (IsElement detail extra) (λ t b p. p.packless scope) ts tail all.0 ((tail-closed tail is).1 scope) all.1
 
 -- ## Elements are read one after the other
 
@@ -236,11 +255,11 @@ type-element extra t b r p = record {
 }
 
 -- What prints in a context prints so as an element there.
-pub type-in : {detail : Detail} (c : Context) (extra most : ℕ) → extra ≤ most → (t : Term) (b : List ℕ) (r : Bool) → PrintsIn detail c extra t b r
-    → IsElementIn detail c most t b
-type-in c extra most few t b r p = record {
+pub type-in : {detail : Detail} (c : Context) (extra : ℕ) (t : Term) (b : List ℕ) (r : Bool) → PrintsIn detail c extra t b r
+    → IsElementIn detail c extra t b
+type-in c extra t b r p = record {
   both_texts = rw (p.left_text, p.right_text) (append-nil b);
-  cost = omega (arith, p.cost, few);
+  cost = p.cost;
   filled = p.filled;
   void = p.void;
 }
@@ -365,14 +384,14 @@ all-as-in detail names is_dependent c extra ts l given all =
 pub list-packless-as : (detail : Detail) (names : Names) (is_dependent : Bool) (arguments : Term) (extra : ℕ) (ts : List Term) (tail : Term) (l : List ℕ)
     → AreSingle names arguments → IsTail tail → PrintAllAs detail names is_dependent extra ts l → pack_length arguments (list_with ts tail) ≡ None
 list-packless-as detail names is_dependent arguments extra ts tail l single is all =
-    each-packless {detail = detail} arguments (IsElementAs detail names is_dependent extra) (λ t b p. (element-given detail names is_dependent extra t b p).packless arguments single)
-    ts tail all.0 1 (ends-list tail is) all.1
+    each-packless arguments (IsElementAs detail names is_dependent extra) (λ t b p. (element-given detail names is_dependent extra t b p).packless arguments single)
+    ts tail all.0 ((tail-closed tail is).1 arguments) all.1
 
 -- A type is an element.
 pub type-element-as : (detail : Detail) (names : Names) (is_dependent : Bool) (t : Term) (b : List ℕ) (r : Bool) → PrintsAs detail names is_dependent t b r
     → IsElementAs detail names is_dependent 3 t b
 type-element-as detail names false t b r p = type-element 3 t b r p
-type-element-as detail names true t b r p = record { prints = λ c given. type-in c 3 3 (omega arith) t b r (p.prints c given); packless = p.packless }
+type-element-as detail names true t b r p = record { prints = λ c given. type-in c 3 t b r (p.prints c given); packless = p.packless }
 
 -- One more element prints after those before it.
 pub next-prints-as : (detail : Detail) (names : Names) (is_dependent : Bool) (extra : ℕ) (ts : List Term) (l : List ℕ) (t : Term) (b : List ℕ)

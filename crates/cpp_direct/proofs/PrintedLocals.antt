@@ -4,10 +4,10 @@ use Rattle.sym_print.specs.declared.detail.Detail.{Detail}
 use Rattle.sym_print.specs.Details.{has_parameters}
 use Rattle.sym_print.specs.Unfold.{text}
 use Rattle.sym_print.specs.Unshared.{text_of, cost_of}
-use Rattle.cpp_grammar.specs.Term.{Qualifiers, RefQualifier, any_value, Term, function, object, of_name, local, within, source, nil, absent, lambda}
+use Rattle.cpp_grammar.specs.Term.{Qualifiers, RefQualifier, any_value, Term, function, object, of_name, local, within, source, nil, absent, lambda, address_of}
 use Rattle.cpp_grammar.specs.Scope.{is_open, pack_length, first_of}
 use Rattle.cpp_grammar.specs.Texts.{look_up, same_bytes, named_special_texts}
-use Rattle.cpp_grammar.specs.Items.{full, bare, left, piece, Context, closed, right, first}
+use Rattle.cpp_grammar.specs.Items.{Form, full, bare, left, piece, Context, closed, right, first}
 use Rattle.cpp_grammar.specs.Values.{Value, unqualified, tree_of, qualifiers_of, ref_of}
 use Rattle.cpp_grammar.specs.Meaning.{encoding_of}
 use Rattle.cpp_grammar.specs.Parts.{as_item, says, text_part, source_text, prefix_item, within_parts, qualifier_text, ref_text, encoding_text, function_bare, function_full, full_parts, bare_parts, left_parts, entity_of, parts_in, not_empty, list_part, opening_text, piece_parts, right_parts, last_piece}
@@ -104,23 +104,44 @@ lambda-list-prints {detail} ts l all number digits is plain =
       opening = refl;
     }
 
-within-text : {detail : Detail} (c : Context) (e : Term) (b : List ℕ) → Encloses detail e b → (p : Term) (n : List ℕ) → PrintsPiece detail p n
+within-text : {detail : Detail} (c : Context) (form : Form) (context : Context) (e : Term) (b : List ℕ) → prefix_item c e ≡ as_item form context e
+    → text_of (written_of detail form context e) ≡ b → (p : Term) (n : List ℕ) → PrintsPiece detail p n
     → text_of (written_of detail left c (within e p)) ≡ b ++ codes "::" ++ n
 unfolding parts_in left_parts not_empty
-within-text {detail} c e b h p n q =
-    text_shown detail left c (within e p) (as_item bare closed e ∷ says "::" ∷ as_item piece c p ∷ [])
-    (q.as_component c e ∙ ap (λ i. i ∷ says "::" ∷ as_item piece c p ∷ []) (h.as_prefix c)) refl
-    ∙ joins (text_of (written_of detail bare closed e)) (codes "::") (text_of (written_of detail piece c p)) b n h.bare_text (q.piece_text c)
+within-text {detail} c form context e b prefix text_is p n q =
+    text_shown detail left c (within e p) (as_item form context e ∷ says "::" ∷ as_item piece c p ∷ [])
+    (q.as_component c e ∙ ap (λ i. i ∷ says "::" ∷ as_item piece c p ∷ []) prefix) refl
+    ∙ joins (text_of (written_of detail form context e)) (codes "::") (text_of (written_of detail piece c p)) b n text_is (q.piece_text c)
 
-within-cost : {detail : Detail} (c : Context) (e : Term) (b : List ℕ) → Encloses detail e b → (p : Term) (n : List ℕ) → PrintsPiece detail p n
-    → cost_of (written_of detail left c (within e p)) ≡ cost_of (written_of detail bare closed e) + 3 + cost_of (written_of detail piece c p)
+within-cost : {detail : Detail} (c : Context) (form : Form) (context : Context) (e : Term) → prefix_item c e ≡ as_item form context e
+    → (p : Term) (n : List ℕ) → PrintsPiece detail p n
+    → cost_of (written_of detail left c (within e p)) ≡ cost_of (written_of detail form context e) + 3 + cost_of (written_of detail piece c p)
 unfolding parts_in left_parts not_empty
-within-cost {detail} c e b h p n q =
+within-cost {detail} c form context e prefix p n q =
     omega (
       arith,
-      cost_shown detail left c (within e p) (as_item bare closed e ∷ says "::" ∷ as_item piece c p ∷ [])
-          (q.as_component c e ∙ ap (λ i. i ∷ says "::" ∷ as_item piece c p ∷ []) (h.as_prefix c)) refl,
+      cost_shown detail left c (within e p) (as_item form context e ∷ says "::" ∷ as_item piece c p ∷ [])
+          (q.as_component c e ∙ ap (λ i. i ∷ says "::" ∷ as_item piece c p ∷ []) prefix) refl,
     )
+
+-- A component of a name prints the name so far and its own.
+pub component-prints : {detail : Detail} (t : Term) (b : List ℕ) → Prints detail t b false → (p : Term) (n : List ℕ) → PrintsPiece detail p n
+    → Prints detail (within t p) (b ++ codes "::" ++ n) false
+unfolding parts_in right_parts not_empty is_open pack_length last_piece besides first_of
+component-prints {detail} t b h p n q =
+    let w = within t p in
+    own-prints w (b ++ codes "::" ++ n) (record {
+      left_text = λ c. within-text c left c t b (h.as_prefix c) (h.left_text c) p n q;
+      cost = λ c. omega (
+        arith,
+        h.cost c,
+        q.piece_cost c,
+        within-cost c left c t (h.as_prefix c) p n q,
+        cost_shown detail right c w [] refl refl,
+        length-append (b ++ codes "::") n,
+        length-append b (codes "::"),
+      );
+    }) (rw (h.is_closed, q.is_closed) refl) (λ scope. rw (h.packless scope, q.packless scope) refl) q.opening (λ c. refl)
 
 -- A type in a function prints the function and its own name.
 pub local-prints : {detail : Detail} (e : Term) (b : List ℕ) → Encloses detail e b → (p : Term) (n : List ℕ) → PrintsPiece detail p n → (digit : Discriminator)
@@ -130,18 +151,38 @@ local-prints {detail} e b h p n q digit =
     let t = local_in e p digit in
     own-prints t (b ++ codes "::" ++ n) (record {
       left_text = λ c. text_shown detail left c t (as_item left c (within e p) ∷ []) refl refl ∙ append-nil (text_of (written_of detail left c (within e p)))
-          ∙ within-text c e b h p n q;
+          ∙ within-text c bare closed e b (h.as_prefix c) h.bare_text p n q;
       cost = λ c. omega (
         arith,
         h.bare_cost,
         q.piece_cost c,
-        within-cost c e b h p n q,
+        within-cost c bare closed e (h.as_prefix c) p n q,
         cost_shown detail left c t (as_item left c (within e p) ∷ []) refl refl,
         cost_shown detail right c t [] refl refl,
         length-append (b ++ codes "::") n,
         length-append b (codes "::"),
       );
     }) (rw (h.is_closed, q.is_closed) refl) (λ scope. rw (h.packless scope, q.packless scope) refl) q.opening (λ c. refl)
+
+-- ## Addresses
+
+-- The address of a function prints an & and the function.
+pub address-prints : {detail : Detail} (e : Term) (b : List ℕ) → Encloses detail e b → Prints detail (address_of e) (codes "&" ++ b) false
+unfolding parts_in left_parts right_parts piece_parts not_empty is_open pack_length last_piece opening_text besides
+address-prints {detail} e b h =
+    let t = address_of e in
+    let parts = says "&" ∷ as_item bare closed e ∷ [] in
+    own-prints t (codes "&" ++ b) (record {
+      left_text = λ c. text_shown detail left c t parts refl refl
+          ∙ ap (λ l. codes "&" ++ l) (append-nil (text_of (written_of detail bare closed e)) ∙ h.bare_text);
+      cost = λ c. omega (
+        arith,
+        h.bare_cost,
+        cost_shown detail left c t parts refl refl,
+        cost_shown detail right c t [] refl refl,
+        length-append (codes "&") b,
+      );
+    }) refl (λ scope. refl) refl (λ c. refl)
 
 -- ## Encodings before an entity
 

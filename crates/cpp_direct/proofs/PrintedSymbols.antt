@@ -1,25 +1,26 @@
 -- Encodings of which the text is known, and the symbols that they are.
-use Rattle.std.proofs.Common.{◌≡◌, ◌≢◌, refl, ap, sym, ◌∙◌, ℕ, ◌*◌, ◌≤◌, List, [], ◌∷◌, ◌++◌, length, Bool, true, false, ◌&&◌, arith, codes, length-append, append-nil, append_assoc, subst}
+use Rattle.std.proofs.Common.{◌≡◌, ◌≢◌, refl, ap, sym, ◌∙◌, ℕ, ◌*◌, ◌≤◌, List, [], ◌∷◌, ◌++◌, length, Bool, true, false, ◌&&◌, arith, codes, nat_eq, length-append, append-nil, append_assoc, subst}
 use Rattle.sym_print.specs.declared.detail.Detail.{Detail}
 use Rattle.sym_print.specs.Details.{has_arguments, has_parameters}
 use Rattle.sym_print.specs.Unfold.{text}
 use Rattle.sym_print.specs.Unshared.{text_of, cost_of}
-use Rattle.cpp_grammar.specs.Term.{Qualifiers, RefQualifier, non_virtual, by_table, Thunk, adjusting, covariant, Term, symbol, function, object, special, thunk, builtin, nil, list, absent}
+use Rattle.cpp_grammar.specs.Term.{Qualifiers, RefQualifier, non_virtual, by_table, Thunk, adjusting, covariant, Term, symbol, function, object, special, thunk, clone, builtin, nil, list, absent}
 use Rattle.cpp_grammar.specs.Scope.{has_return_type}
 use Rattle.cpp_grammar.specs.Texts.{look_up, special_texts}
 use Rattle.cpp_grammar.specs.Items.{root, full, left, right, first, Context, closed}
 use Rattle.cpp_grammar.specs.Values.{Value, tree_of, qualifiers_of, ref_of}
 use Rattle.cpp_grammar.specs.Meaning.{is_void, is_nil, parameters, encoding_of}
-use Rattle.cpp_grammar.specs.Parts.{as_item, says, text_part, list_part, types_of, encoding_text, function_bare, function_full, thunk_text, full_parts, left_parts, root_parts, parts_in, not_empty}
+use Rattle.cpp_grammar.specs.Parts.{as_item, says, text_part, list_part, types_of, encoding_text, function_bare, function_full, thunk_text, clone_text, full_parts, left_parts, root_parts, parts_in, not_empty}
 use Rattle.cpp_grammar.specs.Answer.{shown, root_item}
 use Rattle.cpp_direct.specs.declared.open.Mark.{Mark}
 use Rattle.cpp_direct.specs.Marks.{has_const, called_on}
 use Rattle.cpp_direct.specs.Prints.{written_of, PrintsName, PrintsIn, IsElement, Shows, list_of, joined, PrintEachIn, PrintAllIn}
-use Rattle.cpp_direct.specs.WriterInvariant.{qualifiers, plain_encoding, IsNamedSo}
-use Rattle.cpp_direct.specs.WrittenParts.{IsUnmarked, written}
+use Rattle.cpp_direct.specs.WriterInvariant.{qualifiers, list_with, plain_encoding, IsNamedSo}
+use Rattle.std.proofs.lemmas.Bool.{false≢true}
+use Rattle.cpp_direct.specs.WrittenParts.{IsUnmarked, written, written_in, unmarked_parts}
 use Rattle.cpp_direct.proofs.Unmarked.{length-unmarked, qualifiers-unmarked, special-unmarked, thunk-unmarked, unmarked-same}
 use Rattle.cpp_direct.proofs.PrintedParts.{shown_by, text_shown, cost_shown, first_shown, first_cost_shown, text_append, cost_append, part-text, part-cost, length-filled}
-use Rattle.cpp_direct.proofs.PrintedLists.{list-text-in, list-cost-in, none-print-in}
+use Rattle.cpp_direct.proofs.PrintedLists.{PrintsItems, list-in, none-print-in}
 
 -- ## Functions
 
@@ -34,26 +35,26 @@ unfolding parts_in full_parts function_full
 plain_parts detail shown name q ref items = ap (λ b. function_full b name q ref absent items) shown
 
 -- A function that has no return type prints its name, its parameters and its qualifiers.
-pub function-shows : {detail : Detail} → has_parameters detail ≡ true → (name : Term) (b : List ℕ) → PrintsName detail name b → (ts : List Term) (l : List ℕ)
-    → PrintAllIn detail (types_of name) 6 ts l
+pub function-shows : {detail : Detail} → has_parameters detail ≡ true → (name : Term) (b : List ℕ) → PrintsName detail name b → (items : Term) (l : List ℕ)
+    → PrintsItems detail (types_of name) items l
     → (q : Qualifiers) (ref : RefQualifier)
-    → Shows detail (function name q ref absent (list_of ts)) (b ++ codes "(" ++ l ++ codes ")" ++ encoding_text q ref)
+    → Shows detail (function name q ref absent items) (b ++ codes "(" ++ l ++ codes ")" ++ encoding_text q ref)
 unfolding parts_in full_parts function_full function_bare not_empty
-function-shows {detail} shown name b p ts l all q ref =
+function-shows {detail} shown name b p items l all q ref =
     let c = types_of name in
-    let f = function name q ref absent (list_of ts) in
-    let front = as_item left closed name ∷ says "(" ∷ list_part first c (list_of ts) in
+    let f = function name q ref absent items in
+    let front = as_item left closed name ∷ says "(" ∷ list_part first c items in
     let behind = says ")" ∷ text_part (encoding_text q ref) in
-    let is = plain_parts detail shown name q ref (list_of ts) in
+    let is = plain_parts detail shown name q ref items in
     record {
       shown_text = text_shown detail full closed f (front ++ behind) is refl ∙ text_append detail front behind
-          ∙ signed_text (text_of (written_of detail left closed name)) (text_of (shown_by detail (list_part first c (list_of ts))))
+          ∙ signed_text (text_of (written_of detail left closed name)) (text_of (shown_by detail (list_part first c items)))
           (text_of (shown_by detail (text_part (encoding_text q ref)))) b l (encoding_text q ref) (p.left_text closed)
-          (list-text-in detail c 6 ts l all) (part-text detail (encoding_text q ref) (qualifiers-unmarked q ref));
+          all.0 (part-text detail (encoding_text q ref) (qualifiers-unmarked q ref));
       shown_cost = omega (
         arith,
         p.cost closed,
-        list-cost-in detail c 6 ts l (omega arith) all,
+        all.1,
         cost_shown detail full closed f (front ++ behind) is refl,
         cost_append detail front behind,
         part-cost detail (encoding_text q ref),
@@ -156,30 +157,50 @@ special-shows {detail} letter filled t b p =
       );
     }
 
-thunk-filled : (kind : Thunk) → 1 ≤ length (thunk_text kind)
+pub thunk-filled : (kind : Thunk) → 1 ≤ length (thunk_text kind)
 unfolding thunk_text
 thunk-filled (adjusting (non_virtual a)) = omega arith
 thunk-filled (adjusting (by_table a b)) = omega arith
 thunk-filled (covariant a b) = omega arith
 
--- A thunk prints what it is, and the encoding that it calls.
-pub thunk-shows : (d : Detail) (kind : Thunk) (e : Term) (b : List ℕ) → Shows d e b → Shows d (thunk kind e) (thunk_text kind ++ b)
-unfolding parts_in full_parts not_empty
-thunk-shows d kind e b p =
-    let k = thunk_text kind in
+-- What prints a text and an encoding shows them.
+led-shows : (d : Detail) (made : Term) (k : List ℕ) (e : Term) (b : List ℕ) → parts_in d closed full made ≡ text k ∷ as_item full closed e ∷ []
+    → written_in d closed full made ≡ unmarked_parts (has_arguments d) (parts_in d closed full made) → IsUnmarked k → 1 ≤ length k → Shows d e b
+    → Shows d made (k ++ b)
+unfolding not_empty
+led-shows d made k e b is same plain filled p =
     let behind = as_item full closed e ∷ [] in
     record {
-      shown_text = text_shown d full closed (thunk kind e) (text k ∷ behind) refl refl ∙ first_shown d k behind (thunk-unmarked kind)
+      shown_text = text_shown d full closed made (text k ∷ behind) is same ∙ first_shown d k behind plain
           ∙ ap (λ s. k ++ s) (append-nil (text_of (written_of d full closed e)) ∙ p.shown_text);
       shown_cost = omega (
         arith,
         p.shown_cost,
-        cost_shown d full closed (thunk kind e) (text k ∷ behind) refl refl,
+        cost_shown d full closed made (text k ∷ behind) is same,
         first_cost_shown d k behind,
-        thunk-filled kind,
+        filled,
         length-append k b,
       );
     }
+
+-- A thunk prints what it is, and the encoding that it calls.
+pub thunk-shows : (d : Detail) (kind : Thunk) (e : Term) (b : List ℕ) → Shows d e b → Shows d (thunk kind e) (thunk_text kind ++ b)
+unfolding parts_in full_parts not_empty
+thunk-shows d kind e b p = led-shows d (thunk kind e) (thunk_text kind) e b refl refl (thunk-unmarked kind) (thunk-filled kind) p
+
+clone-plain : (b : Bool) → IsUnmarked (elim b [ true ↦ codes "transaction clone for " | false ↦ codes "non-transaction clone for " ])
+clone-plain true = refl
+clone-plain false = refl
+
+pub clone-filled : (b : Bool) → 1 ≤ length {A = ℕ} (elim b [ true ↦ codes "transaction clone for " | false ↦ codes "non-transaction clone for " ])
+clone-filled true = omega arith
+clone-filled false = omega arith
+
+-- So does a clone.
+pub clone-shows : (d : Detail) (letter : ℕ) (e : Term) (b : List ℕ) → Shows d e b → Shows d (clone letter e) (clone_text letter ++ b)
+unfolding parts_in full_parts not_empty clone_text
+clone-shows d letter e b p =
+    led-shows d (clone letter e) (clone_text letter) e b refl refl (clone-plain (nat_eq letter 116)) (clone-filled (nat_eq letter 116)) p
 
 -- ## Which encoding a name and its items make
 
@@ -204,6 +225,13 @@ parameters-kept detail c extra (t ∷ []) l all apart = parameters-same t nil (�
     go [] each is e = elim each [ ]
     go (b ∷ []) each is e = apart (sym is ∙ each.0.void e)
     go (b ∷ d ∷ bs) each is e = elim each.1 [ ]
+
+-- nor are those of which the last one is none
+pub parameters-before : (ts : List Term) (t : Term) → is_void t ≡ false → parameters (list_with ts (list t nil)) ≡ list_with ts (list t nil)
+unfolding parameters is_nil
+parameters-before [] t apart = parameters-same t nil (λ e f. false≢true (sym apart ∙ e))
+parameters-before (u ∷ []) t apart = parameters-same u (list t nil) (λ e f. cc f)
+parameters-before (u ∷ v ∷ ts) t apart = parameters-same u (list_with (v ∷ ts) (list t nil)) (λ e f. cc f)
 
 plain-items : (v : Value) → has_return_type (tree_of v) ≡ false → (t rest : Term)
     → encoding_of v (list t rest) ≡ function (tree_of v) (qualifiers_of v) (ref_of v) absent (parameters (list t rest))
@@ -254,7 +282,7 @@ pub void-shows : {detail : Detail} → has_parameters detail ≡ true → (name 
     → Shows detail (function name q ref absent nil) (b ++ codes "()" ++ encoding_text q ref)
 void-shows {detail} shown name b p q ref =
     subst (λ l. Shows detail (function name q ref absent nil) l) (none_bracketed b (encoding_text q ref))
-    (function-shows shown name b p [] [] (none-print-in detail (types_of name) 6) q ref)
+    (function-shows shown name b p nil [] (list-in detail (types_of name) 6 [] [] (omega arith) (none-print-in detail (types_of name) 6)) q ref)
 
 -- Without items it shows the name.
 pub object-encoded : {detail : Detail} (v : Value) (b : List ℕ) → PrintsName detail (tree_of v) b

@@ -6,7 +6,7 @@ use Rattle.sym_print.specs.Details.{has_arguments}
 use Rattle.sym_print.specs.Unfold.{text}
 use Rattle.cpp_direct.specs.WrittenParts.{IsUnmarked, unmarked_parts, written_in}
 use Rattle.cpp_direct.proofs.PrintedParts.{text_shown, cost_shown, alone_shown, first_cost_shown}
-use Rattle.cpp_direct.specs.Prints.{Prints, PrintsIn, PrintsGiven, PrintsAs, Named, Names, IsGiven, AreSingle, EndsAsInteger, written_of, IsElementIn}
+use Rattle.cpp_direct.specs.Prints.{Prints, PrintsIn, PrintsGiven, PrintsAs, Named, Names, IsGiven, AreSingle, EndsAsInteger, written_of}
 use Rattle.cpp_grammar.specs.Items.{closed, Form, left, right, low, Context, Head, lref, collapsed, head_with, head, is_reference, is_funarr, is_empty, argument, head_closed, indexed}
 use Rattle.cpp_grammar.specs.Meaning.{is_void}
 use Rattle.cpp_grammar.specs.Parts.{as_item, says, text_part, qualifier_text, prefix_item, last_piece, opening_text, marked_parts, reference_parts, qualified_left, qualified_right, closing_right, left_parts, right_parts, parts_in, not_empty, is_plain_integer, types_of}
@@ -15,7 +15,6 @@ use Rattle.cpp_grammar.specs.Scope.{is_open, pack_length, length_if_pack, argume
 use Rattle.cpp_grammar.specs.Term.{Qualifiers, Term, function_type, pointer, lvalue, rvalue, qualified, parameter}
 use Rattle.std.proofs.Common.{◌≡◌, refl, ap, ◌∙◌, ℕ, ◌+◌, ◌*◌, ◌≤◌, List, [], ◌∷◌, ◌++◌, length, Bool, true, false, None, arith, codes, length-append, sym, subst, append-nil, Some}
 use Rattle.sym_print.specs.Unshared.{text_of, cost_of}
-use Rattle.cpp_direct.proofs.PrintedLists.{type-in}
 
 marked : (c : Context) (t : Term) (mark : String) → is_funarr (head c t) ≡ false → marked_parts c t mark ≡ as_item left c t ∷ says mark ∷ []
 unfolding marked_parts
@@ -92,19 +91,10 @@ pub prints-as-given : (detail : Detail) (names : Names) (is_dependent : Bool) (t
 prints-as-given detail names false t b r p = prints-given names t b r p
 prints-as-given detail names true t b r p = p
 
--- and so does what needs none of them.
-pub given-more : {detail : Detail} (names : Names) (t : Term) (b : List ℕ) (r : Bool) → PrintsGiven detail (λ k. None) t b r → PrintsGiven detail names t b r
-given-more names t b r p =
-    made-given names t b r (λ c given. p.prints c (λ k own e. cc e)) (λ arguments single. p.packless arguments (λ k own e. cc e)) p.no_function p.no_pack p.as_prefix p.opening
-
 -- In a context where they do it prints so.
 pub as-in : (detail : Detail) (names : Names) (is_dependent : Bool) (c : Context) (t : Term) (b : List ℕ) (r : Bool) → IsGiven detail names c
     → PrintsAs detail names is_dependent t b r → PrintsIn detail c 3 t b r
 as-in detail names is_dependent c t b r given p = (prints-as-given detail names is_dependent t b r p).prints c given
-
--- So it is one of a function's parameters.
-pub type-element-in : {detail : Detail} (c : Context) (t : Term) (b : List ℕ) (r : Bool) → PrintsIn detail c 3 t b r → IsElementIn detail c 6 t b
-type-element-in c t b r p = type-in c 3 6 (omega arith) t b r p
 
 -- The types of a function's name are such a context if its arguments have these texts.
 pub types-given : {detail : Detail} (names : Names) (name all : Term) → arguments_of name ≡ Some all

@@ -1,6 +1,6 @@
 -- What a parameter of a template may name, and where it is.
 use Rattle.sym_print.specs.declared.detail.Detail.{Detail}
-use Rattle.std.proofs.Common.{◌≡◌, ℕ, zero, suc, ◌<◌, ◌-◌, List, [], ◌∷◌, ◌++◌, length, slice_get, Some, None, is_some, arith, ap, sym, ◌∙◌, subst, refl, inl, inr, Bool, true, false}
+use Rattle.std.proofs.Common.{◌+◌, ◌≡◌, ℕ, zero, suc, ◌<◌, List, [], ◌∷◌, ◌++◌, length, slice_get, Some, None, is_some, arith, ap, sym, ◌∙◌, subst, refl, true, false}
 use Rattle.std.proofs.lemmas.Bool.{false≢true}
 use Rattle.cpp_grammar.specs.Scope.{count, element, arguments_of, before_arguments, has_return_type, is_structor}
 use Rattle.cpp_grammar.specs.Term.{Term, instance}
@@ -15,28 +15,13 @@ use Rattle.cpp_direct.specs.declared.open.Open.TheVariants as opens
 use Rattle.cpp_direct.specs.declared.open.Argument.{Argument}
 use Rattle.cpp_direct.specs.declared.open.Arguments.{Arguments}
 use Rattle.cpp_direct.specs.Marks.{called_on, has_const}
-use Rattle.cpp_direct.specs.WriterInvariant.{IsArgument, IsAmong, AreAmong, HasArguments, HasScope, IsKnown, IsScope, IsScoped, Scope, argument_of, list_with, place_of, IsNamedSo, qualifiers, HasParameters, IsOwnName}
+use Rattle.cpp_direct.specs.WriterInvariant.{nowhere, IsPackOf, IsAmong, AreAmong, HasArguments, HasScope, IsScoped, Scope, argument_of, list_with, place_of, IsNamedSo, qualifiers, HasParameters, IsOwnName}
 use Rattle.cpp_direct.specs.MidStep.{AreKnown, HasNameSo}
-use Rattle.cpp_direct.proofs.Kept.{placed-stays}
+use Rattle.cpp_direct.proofs.Kept.{none-known, placed-stays}
 use Rattle.cpp_direct.specs.Prints.{PrintAllIn, PrintsName}
 use Rattle.cpp_direct.specs.Symbol.{Symbol, detail_of}
 
--- the arguments of a name stay at their places where more is written
-pub arguments-stay : {detail : Detail} (text more : List ℕ) (a : Arguments) (name : Term) → HasArguments detail text a name
-    → HasArguments detail (text ++ more) a name
-arguments-stay text more a name has k o = let h = has k o in record {
-  bytes = h.bytes;
-  placed = placed-stays text more (place_of a k) h.bytes h.placed;
-  own = h.own;
-  all = h.all;
-  all_are = h.all_are;
-  there = h.there;
-  elements = h.elements;
-  packed = h.packed;
-  prints = h.prints;
-}
-
--- also while they are read
+-- trees stay at their places where more is written
 one-stays : {detail : Detail} (text more : List ℕ) (p : Argument) (k : ℕ) (ts : List Term) → IsAmong detail text p k ts → IsAmong detail (text ++ more) p k ts
 one-stays text more p k ts h = record {
   bytes = h.bytes;
@@ -46,17 +31,47 @@ one-stays text more p k ts h = record {
   prints = h.prints;
 }
 
-pub among-stay : {detail : Detail} (text more : List ℕ) (is_pack : Bool) (first : ℕ) (a : Arguments) (ts : List Term) → AreAmong detail text is_pack first a ts
-    → AreAmong detail (text ++ more) is_pack first a ts
-among-stay text more is_pack first a ts known k o = let h = known k o in (one-stays text more (place_of a k) k ts h.0, h.1)
+pub pack-stays : {detail : Detail} (text more : List ℕ) (a : Arguments) (ts : List Term) → IsPackOf detail text a ts → IsPackOf detail (text ++ more) a ts
+pack-stays text more a ts h =
+    record { size = h.size; among = λ k known. one-stays text more (place_of a (a.before + k)) k ts (h.among k known) }
+
+-- so do the arguments of a name
+pub arguments-stay : {detail : Detail} (text more : List ℕ) (a : Arguments) (name : Term) → HasArguments detail text a name
+    → HasArguments detail (text ++ more) a name
+arguments-stay text more a name has = (
+  λ k o. let h = has.0 k o in record {
+    bytes = h.bytes;
+    placed = placed-stays text more (place_of a k) h.bytes h.placed;
+    own = h.own;
+    all = h.all;
+    all_are = h.all_are;
+    there = h.there;
+    prints = h.prints;
+  },
+  λ o. let h = has.1 o in record {
+    all = h.all;
+    all_are = h.all_are;
+    elements = h.elements;
+    there = h.there;
+    are = pack-stays text more a h.elements h.are;
+  },
+)
+
+-- of none that are known nothing is to be said
+pub no-arguments : {detail : Detail} (text : List ℕ) (name : Term) → HasArguments detail text nowhere name
+no-arguments text name = (λ k single. absurd (none-known k single.0), λ e. cc e)
+
+-- they stay also while they are read
+pub among-stay : {detail : Detail} (text more : List ℕ) (a : Arguments) (ts : List Term) → AreAmong detail text a ts → AreAmong detail (text ++ more) a ts
+among-stay text more a ts known k o = one-stays text more (place_of a k) k ts (known k o)
 
 -- and after the last of them
 pub known-stay : {detail : Detail} (text more : List ℕ) (a : Arguments) (ts : List Term) (tail : Term) → AreKnown detail text a ts tail
     → AreKnown detail (text ++ more) a ts tail
-known-stay text more a ts tail known k o = elim (known k o) [
-  | inl h ↦ inl (h.0, one-stays text more (place_of a k) k ts h.1)
-  | inr h ↦ inr (h.0, h.1, h.2, h.3, h.4, one-stays text more (place_of a k) (k - a.before) h.1 h.5)
-]
+known-stay text more a ts tail known = (
+  λ k o. one-stays text more (place_of a k) k ts (known.0 k o),
+  λ o. let h = known.1 o in (h.0, h.1, pack-stays text more a h.0 h.2),
+)
 
 -- an element of the list of elements
 pub element-there : (ts : List Term) (tail : Term) (k : ℕ) (t : Term) → slice_get ts k ≡ Some t
@@ -77,9 +92,9 @@ name-stays {detail} text new more a own name grown p = record {
 }
 
 -- with its parameters
-abbrev pub parameters-as : (s : Symbol) {scope : Scope} (text new more : List ℕ) (mark : Mark) (start : ℕ) (a : Arguments) {ts us : List Term} {texts more_texts : List ℕ}
-    (p : HasParameters s scope text mark start a ts texts) → new ≡ text ++ more → PrintAllIn (detail_of s) (types_of p.is_function.own) 6 us more_texts
-    → HasParameters s scope new mark start a us more_texts
+abbrev pub parameters-as : (s : Symbol) {extra more_extra : ℕ} {scope : Scope} (text new more : List ℕ) (mark : Mark) (start : ℕ) (a : Arguments) {ts us : List Term} {texts more_texts : List ℕ}
+    (p : HasParameters s extra scope text mark start a ts texts) → new ≡ text ++ more → PrintAllIn (detail_of s) (types_of p.is_function.own) more_extra us more_texts
+    → HasParameters s more_extra scope new mark start a us more_texts
 parameters-as s text new more mark start a p grown elements = record {
   front = p.front;
   lead = p.lead;
@@ -108,39 +123,41 @@ pub front-scoped : (scope : Scope) (around : Around) (mark : Mark) (start : ℕ)
     → HasScope p around → IsScoped scope around (opens.Front mark start p ∷ rest)
 front-scoped scope around mark start p rest named h q e = scoped-by scope around p q (cc e) named h
 
--- which encoding is theirs, where a pack is and how many elements it has says nothing of where they are
-pub there-still : (place before size : ℕ) (a : Arguments) (k : ℕ)
-    → place_of (record a { encoding = place; before = before; elements = size }) k ≡ place_of a k
-there-still place before size a zero = refl
-there-still place before size a (suc zero) = refl
-there-still place before size a (suc (suc zero)) = refl
-there-still place before size a (suc (suc (suc zero))) = refl
-there-still place before size a (suc (suc (suc (suc k)))) = refl
+-- and those of a function whose address is read
+pub addressed-scoped : (scope : Scope) (around : Around) (mark : Mark) (to : ℕ) (p : Arguments) (rest : List Open) → scope.arguments ≡ p
+    → HasScope p around → IsScoped scope around (opens.Addressed mark to p ∷ rest)
+addressed-scoped scope around mark to p rest named h q e = scoped-by scope around p q (cc e) named h
 
+pub addressed-front-scoped : (scope : Scope) (around : Around) (mark : Mark) (to : ℕ) (p : Arguments) (rest : List Open) → scope.arguments ≡ p
+    → HasScope p around → IsScoped scope around (opens.AddressedFront mark to p ∷ rest)
+addressed-front-scoped scope around mark to p rest named h q e = scoped-by scope around p q (cc e) named h
+
+-- which encoding is theirs says nothing of where they are
 pub arguments-named : {detail : Detail} (text : List ℕ) (place : ℕ) (a : Arguments) (name : Term) → HasArguments detail text a name
     → HasArguments detail text (record a { encoding = place }) name
-arguments-named {detail} text place a name has k o =
-    let same = there-still place a.before a.elements a k in
-    subst (λ (p : Argument). IsArgument detail text a.before a.elements p k name) (sym same) (has k (subst IsKnown same o))
-
-scope-inside : (before number : ℕ) (is_pack : Bool) (around : Around) → IsScope before number is_pack around → IsScope before number is_pack (inside around)
-unfolding inside
-scope-inside before number is_pack around h = record {
-  own = h.own;
-  all = h.all;
-  scope_is = h.scope_is;
-  there = h.there;
-  elements = h.elements;
-  packed = h.packed;
-  no_pack = h.no_pack;
-}
+arguments-named text place a name has = (
+  has.0,
+  λ o. let h = has.1 o in record {
+    all = h.all;
+    all_are = h.all_are;
+    elements = h.elements;
+    there = h.there;
+    are = record { size = h.are.size; among = h.are.among };
+  },
+)
 
 -- what may be named in a name may be named in its arguments
 pub scoped-inside : (scope : Scope) (around : Around) (open_ : List Open) → IsScoped scope around open_ → IsScoped scope (inside around) open_
 unfolding inside
 scoped-inside scope around open_ scoped a found =
-    let h = scoped a found in
-    (h.0, (h.1.0, λ k known. scope-inside a.before k (place_of a k).is_pack around (h.1.1 k known)))
+    let h = scoped a found in (
+      h.0,
+      (
+        h.1.0,
+        λ k single. let n = h.1.1 k single in record { own = n.own; all = n.all; scope_is = n.scope_is; there = n.there; no_pack = n.no_pack },
+        λ has_pack. let n = h.1.2 has_pack in (n.0, record { all = n.1.all; scope_is = n.1.scope_is; there = n.1.there }),
+      ),
+    )
 
 -- elsewhere none does
 pub none-scoped : (scope : Scope) (around : Around) (open_ : List Open) → argument_of open_ ≡ None → IsScoped scope around open_

@@ -1,5 +1,5 @@
 -- A writer within a function type: where it begins, after its return type, between its parameters, and after it; and within an array.
-use Rattle.std.proofs.Common.{◌≡◌, ◌≢◌, inl, inr, ℕ, ◌+◌, ◌-◌, length, List, [], ◌∷◌, ◌++◌, reverse, Bool, true, false, Option, refl, ap, sym, take, ◌∙◌, subst, arith, codes, append_assoc, append-nil, nat_eq, if◌then◌else◌, ◌≤◌, drop, slice_get, Some}
+use Rattle.std.proofs.Common.{◌≡◌, ◌≢◌, inl, inr, ℕ, ◌+◌, ◌-◌, length, List, [], ◌∷◌, ◌++◌, reverse, Bool, true, false, Option, refl, ap, sym, take, ◌∙◌, subst, arith, codes, append_assoc, append-nil, nat_eq, ◌≤◌, drop, slice_get, Some, if◌then◌else◌}
 use Rattle.std.specs.List.{ends_with}
 use Rattle.std.specs.Option.{OnSome, IfSome}
 use Rattle.std.proofs.lemmas.Bool.{false≢true}
@@ -18,7 +18,7 @@ use Rattle.cpp_direct.specs.Bytes.{is_builtin}
 use Rattle.cpp_direct.specs.Holes.{Opened, StandsAt, Comes, Expects, candidate, with_candidate, IsReferable}
 use Rattle.cpp_direct.specs.HolesOfFunctions.{SignatureGoesOn, plain_function, pointed, with_pointed, reference, reference_letter, FunctionOpened}
 use Rattle.cpp_direct.specs.HolesOfTypes.{NoReference, IsQualifiable}
-use Rattle.cpp_direct.specs.Prints.{Names, PrintAll, IsElement}
+use Rattle.cpp_direct.specs.Prints.{PrintAll, IsElement}
 use Rattle.cpp_direct.specs.WriterInvariant.{below, IsScoped, AreCandidates, IsWriting, Marks, Scope, Stands, TakesFunction, opening_text, list_with}
 use Rattle.cpp_direct.specs.MidStep.{AwaitsParameter, AwaitsSignature, IsElementPassed, IsFunctionRead, IsReturned, IsArrayRead, IsElementRead, ElementOf}
 use Rattle.cpp_direct.specs.Written.{Writes, hidden, with_hidden}
@@ -268,9 +268,9 @@ void-closed s old new is_pointer a stands text candidates scope_same waits at =
 -- ## Handed on
 
 -- one more candidate of which nothing is known
-pub one-hidden : (s : Symbol) (names : Names) (text : List ℕ) (ks : List Candidate) (cs : List values.Candidate) (c : values.Candidate)
-    → AreCandidates s names text ks cs → AreCandidates s names text (ks ++ hidden ∷ []) (cs ++ c ∷ [])
-one-hidden s names text ks cs c p = candidates-more text ks cs hidden c p (λ ordered. absurd (omega (arith, ordered)))
+pub one-hidden : (s : Symbol) (scope : Scope) (text : List ℕ) (ks : List Candidate) (cs : List values.Candidate) (c : values.Candidate)
+    → AreCandidates s scope text ks cs → AreCandidates s scope text (ks ++ hidden ∷ []) (cs ++ c ∷ [])
+one-hidden s scope text ks cs c p = candidates-more text ks cs hidden c p (λ ordered. absurd (omega (arith, ordered)))
 
 -- one more candidate of which nothing is known, or two
 abbrev hidden_behind : (is_marked : Bool) → List Candidate → List Candidate
@@ -278,22 +278,22 @@ hidden_behind true ks = (ks ++ hidden ∷ []) ++ hidden ∷ []
 hidden_behind false ks = ks ++ hidden ∷ []
 
 -- it becomes a candidate, and so does what points or refers to it
-hidden-accessed : (s : Symbol) (names : Names) (access : Access) (ks : List Candidate) (text : List ℕ) (made_in : Around) (t : Term) (st : State)
-    → AreCandidates s names text ks st.candidates
-    → AreCandidates s names text (hidden_behind (is_marked access) ks) (with_accessed access made_in t st).candidates
-hidden-accessed s names accesses.Plain ks text made_in t st p = one-hidden s names text ks st.candidates (candidate made_in t) p
-hidden-accessed s names accesses.Pointer ks text made_in t st p =
-    one-hidden s names text (ks ++ hidden ∷ []) (with_candidate made_in t st).candidates (candidate made_in (pointer t))
-    (one-hidden s names text ks st.candidates (candidate made_in t) p)
-hidden-accessed s names accesses.Lvalue ks text made_in t st p =
-    one-hidden s names text (ks ++ hidden ∷ []) (with_candidate made_in t st).candidates (candidate made_in (lvalue t))
-    (one-hidden s names text ks st.candidates (candidate made_in t) p)
+hidden-accessed : (s : Symbol) (scope : Scope) (access : Access) (ks : List Candidate) (text : List ℕ) (made_in : Around) (t : Term) (st : State)
+    → AreCandidates s scope text ks st.candidates
+    → AreCandidates s scope text (hidden_behind (is_marked access) ks) (with_accessed access made_in t st).candidates
+hidden-accessed s scope accesses.Plain ks text made_in t st p = one-hidden s scope text ks st.candidates (candidate made_in t) p
+hidden-accessed s scope accesses.Pointer ks text made_in t st p =
+    one-hidden s scope text (ks ++ hidden ∷ []) (with_candidate made_in t st).candidates (candidate made_in (pointer t))
+    (one-hidden s scope text ks st.candidates (candidate made_in t) p)
+hidden-accessed s scope accesses.Lvalue ks text made_in t st p =
+    one-hidden s scope text (ks ++ hidden ∷ []) (with_candidate made_in t st).candidates (candidate made_in (lvalue t))
+    (one-hidden s scope text ks st.candidates (candidate made_in t) p)
 
-hidden-candidates : (s : Symbol) (names : Names) (w : Direct) (is_pointer : Bool) (text : List ℕ) (made_in : Around) (t : Term) (st : State)
-    → AreCandidates s names text w.candidates.list.items st.candidates
-    → AreCandidates s names text (with_hidden w is_pointer) (with_pointed is_pointer made_in t st).candidates
-hidden-candidates s names w true text made_in t st p = hidden-accessed s names accesses.Pointer w.candidates.list.items text made_in t st p
-hidden-candidates s names w false text made_in t st p = hidden-accessed s names accesses.Plain w.candidates.list.items text made_in t st p
+hidden-candidates : (s : Symbol) (scope : Scope) (w : Direct) (is_pointer : Bool) (text : List ℕ) (made_in : Around) (t : Term) (st : State)
+    → AreCandidates s scope text w.candidates.list.items st.candidates
+    → AreCandidates s scope text (with_hidden w is_pointer) (with_pointed is_pointer made_in t st).candidates
+hidden-candidates s scope w true text made_in t st p = hidden-accessed s scope accesses.Pointer w.candidates.list.items text made_in t st p
+hidden-candidates s scope w false text made_in t st p = hidden-accessed s scope accesses.Plain w.candidates.list.items text made_in t st p
 
 -- they are added to the candidates as they were
 pub hidden-behind : (old new : Direct) (is_pointer : Bool) → new.candidates ≡ old.candidates → with_hidden new is_pointer ≡ with_hidden old is_pointer
@@ -319,7 +319,7 @@ function-handed s old new is_pointer p text candidates scope_same waits at =
     record {
       read = record {
         kept = kept-as s grown new then_ kept refl candidates scope_same
-            (hidden-candidates s p.scope.names old is_pointer new.text.list.items p.taker.made_in p.made p.state kept.keeps.candidates);
+            (hidden-candidates s p.scope old is_pointer new.text.list.items p.taker.made_in p.made p.state kept.keeps.candidates);
         os = p.taker.outer;
         own = own;
         front = p.taker.front;
@@ -344,6 +344,7 @@ takes-as-element o rest ws is takes apart no_special within = go o (subst TakesF
     go (opens.NestArguments nest) takes apart z m = tt
     go (opens.FirstArguments nest) takes apart z m = tt
     go (opens.NameArguments from) takes apart z m = tt
+    go (opens.LevelArguments is_dependent) takes apart z m = tt
     go opens.Pack takes apart z m = tt
     go (opens.Parameters x y w) takes apart z m = absurd (apart x y w refl)
     go opens.Special takes apart z m = absurd (z refl)
@@ -434,7 +435,7 @@ array-written s readable w begun first second third last access from to p size t
     record {
       read = record {
         kept = kept-as s third last then_ there same_text (more ∙ with-hidden third (is_marked access)) same_scope
-            (hidden-accessed s p.scope.names access third.candidates.list.items third.text.list.items p.taker.made_in own p.state there.keeps.candidates);
+            (hidden-accessed s p.scope access third.candidates.list.items third.text.list.items p.taker.made_in own p.state there.keeps.candidates);
         os = p.taker.outer;
         own = whole;
         front = p.taker.front;

@@ -1,5 +1,6 @@
 -- Names of encodings that are in no class, and of local entities: where a writer is after them.
 use Rattle.cpp_direct.proofs.Unmarked.{name-unmarked}
+use Rattle.cpp_direct.proofs.Scopes.{no-arguments}
 use Rattle.std.proofs.Common.{◌≡◌, ◌≢◌, ℕ, ◌+◌, length, List, [], ◌∷◌, ◌++◌, Bool, true, false, not, cond, refl, ap, sym, subst, ◌∙◌, arith, append_assoc, codes, ◌≤◌, append-nil}
 use Rattle.std.proofs.lemmas.Bool.{false≢true}
 use Rattle.cpp_grammar.specs.declared.kind.Kind.{Kind}
@@ -11,18 +12,19 @@ use Rattle.cpp_grammar.specs.Values.{State, piece, tree, tree_of, qualifiers_of,
 use Rattle.cpp_grammar.specs.Between.{after, in_name, inside, no_items, with_tag, in_types}
 use Rattle.cpp_direct.specs.Symbol.{detail_of, Symbol}
 use Rattle.cpp_direct.specs.declared.direct.Direct.{Direct}
+use Rattle.cpp_direct.specs.Bytes.{is_local}
 use Rattle.cpp_direct.specs.Holes.{StandsAt, Comes, IsNameAt, Named, IsTagAt}
 use Rattle.cpp_direct.specs.Names.{IsOperatorAt, is_angle, operator_text, tag_text}
 use Rattle.cpp_direct.specs.Prints.{Prints, PrintsName, Shows}
 use Rattle.cpp_direct.specs.WriterInvariant.{IsWriting, nowhere, no_scope, EntityBehind, Kept}
 use Rattle.cpp_direct.specs.MidStep.{AwaitsEncoding, AwaitsSource, HasName, IsNameEnded, IsUnscoped, IsFresh, IsSymbolEnded}
 use Rattle.cpp_direct.specs.Written.{Writes, Reads, added}
-use Rattle.cpp_direct.proofs.Begins.{encoding-expected, items-await, encoded-whole, third-tells}
+use Rattle.cpp_direct.proofs.Begins.{encoding-expected, items-await, encoded-whole}
 use Rattle.cpp_direct.proofs.Moves.{alone-arguments, expects-empty, stands-join}
 use Rattle.cpp_direct.proofs.PrintedNests.{tagged-names, tagged-prints}
-use Rattle.cpp_direct.proofs.Kept.{kept-grown, kept-read, kept-same, none-kept, Lists, OpensArguments, list-begins, none-known, kept-with}
+use Rattle.cpp_direct.proofs.Kept.{kept-grown, kept-read, kept-same, none-kept, Lists, OpensArguments, list-begins, kept-with}
 use Rattle.cpp_direct.proofs.NamePlaces.{reads-then, reads-of, reads-begun}
-use Rattle.cpp_direct.proofs.MovesOfEncodings.{name-source, name-internal, name-operator, name-std, operator-piece-comes, symbol-starts, encoding-opens}
+use Rattle.cpp_direct.proofs.MovesOfEncodings.{name-source, name-internal, name-operator, name-std, operator-piece-comes, symbol-starts, encoding-opens, guard-opens}
 use Rattle.cpp_direct.proofs.MovesOfLists.{arguments-open}
 use Rattle.cpp_direct.proofs.MovesOfNests.{piece-comes, tag-follows}
 use Rattle.cpp_direct.proofs.LettersTested.{operator-listed}
@@ -33,7 +35,7 @@ use Rattle.cpp_direct.specs.HolesOfLists.{SymbolOpened, EncodingOpened, IsDigits
 use Rattle.cpp_direct.specs.HolesOfLocals.{Discriminator, unnumbered, by_digit, by_digits, discriminator_value, IsDiscriminatorAt, IsEntityAt, entity_in, LocalOpened, GuardOpened}
 use Rattle.cpp_direct.specs.MidStepOfLocals.{AwaitsEntity}
 use Rattle.cpp_direct.proofs.Ending.{behind-three}
-use Rattle.cpp_direct.proofs.MovesOfLocals.{local-opens, guard-opens}
+use Rattle.cpp_direct.proofs.MovesOfLocals.{local-opens}
 use Rattle.cpp_direct.proofs.PrintedLocals.{entity-shows, guard-shows}
 use Rattle.cpp_direct.specs.declared.open.Mark.TheVariants as marks
 use Rattle.cpp_direct.specs.declared.open.Open.TheVariants as opens
@@ -176,7 +178,7 @@ unscoped-bare s w from takes p = record {
   has = has-plain s w.text.list.items from p.own p.front p.bytes p.written p.from_is p.names;
   no_return = λ e. p.no_return;
   returns = λ e. absurd (false≢true e);
-  names = λ k o. absurd (none-known k o);
+  names = no-arguments w.text.list.items p.own;
   awaits = p.has.bare w.at p.state
       (expects-empty s Kind.MaybeArguments (after p.own false (in_name p.encoding)) p.has.inner w.at p.state p.has.awaits refl);
 }
@@ -242,10 +244,10 @@ object-comes s opened_ encoding_ v at st comes =
     items.onward nothing_there at st (expects-empty s Kind.Items (in_types 2 (tree_of v)) items.inner at st items.awaits refl)
 
 -- the encoding is expected that a local entity is in
-pub local-begins : (s : Symbol) (w : Direct) → IsFresh w → StandsAt s.bytes 0 (95 ∷ 90 ∷ []) → StandsAt s.bytes 2 (90 ∷ [])
+pub local-begins : (s : Symbol) (w : Direct) → IsFresh w → is_local s.bytes ≡ true → StandsAt s.bytes 0 (95 ∷ 90 ∷ []) → StandsAt s.bytes 2 (90 ∷ [])
     → AwaitsEncoding s (record w { at = 3 })
 unfolding tree_of qualifiers_of ref_of first_state
-local-begins s w fresh starts letter =
+local-begins s w fresh is_there starts letter =
     let opened_ = symbol-starts s starts in
     let encoding_ = encoding-opens s opened_.inner first_around 2 first_state opened_.awaits in
     let here : LocalOpened s encoding_.inner (in_name 2) 3 first_state = local-opens s encoding_.inner (in_name 2) 2 first_state encoding_.awaits letter in
@@ -253,10 +255,10 @@ local-begins s w fresh starts letter =
       kept = record { state = first_state; scope = no_scope; keeps = none-kept s (record w { at = 3 }) fresh.no_candidate };
       around = in_name 2;
       outer = here.inner;
-      begins = λ none. sym (ap (λ b. cond b 3 2) (third-tells s.bytes 90 letter));
+      begins = λ none. sym (ap (λ b. cond b 3 2) is_there);
       awaits = here.awaits;
       onward = λ e at st comes. record {
-        whole = λ apart. absurd (false≢true (sym apart ∙ third-tells s.bytes 90 letter));
+        whole = λ apart. absurd (false≢true (sym apart ∙ is_there));
         entity = λ there internal name digit end is.
             let t = entity_in e internal name digit in
             let made = object t unqualified any_value in
@@ -275,10 +277,10 @@ guard-text : codes "guard variable for " ≡ [] → ⊥
 guard-text e = cc e
 
 -- the same of a guard variable
-pub guard-begins : (s : Symbol) (old new : Direct) → IsFresh old → StandsAt s.bytes 0 (95 ∷ 90 ∷ []) → StandsAt s.bytes 2 (71 ∷ 86 ∷ []) → StandsAt s.bytes 2 (71 ∷ [])
+pub guard-begins : (s : Symbol) (old new : Direct) → IsFresh old → is_local s.bytes ≡ true → StandsAt s.bytes 0 (95 ∷ 90 ∷ []) → StandsAt s.bytes 2 (71 ∷ 86 ∷ [])
     → StandsAt s.bytes 4 (90 ∷ []) → Writes old new (codes "guard variable for ") → AwaitsEncoding s (record new { at = 5 })
 unfolding tree_of qualifiers_of ref_of first_state
-guard-begins s old new fresh starts marks letter stands writes =
+guard-begins s old new fresh is_there starts marks stands writes =
     let opened_ = symbol-starts s starts in
     let guard_ : GuardOpened s opened_.inner 2 4 first_state = guard-opens s opened_.inner first_around 2 first_state opened_.awaits marks in
     let here : LocalOpened s guard_.inner (in_name 2) 5 first_state = local-opens s guard_.inner (in_name 2) 4 first_state guard_.awaits stands in
@@ -294,7 +296,7 @@ guard-begins s old new fresh starts marks letter stands writes =
       begins = λ none. absurd (guard-text (sym text_is ∙ none));
       awaits = here.awaits;
       onward = λ e at st comes. record {
-        whole = λ apart. absurd (false≢true (sym apart ∙ third-tells s.bytes 71 letter));
+        whole = λ apart. absurd (false≢true (sym apart ∙ is_there));
         entity = λ there internal name digit end is.
             let t = entity_in e internal name digit in
             let made = of_name 86 t unqualified any_value in

@@ -21,7 +21,8 @@ unfoldable pub short_numbers : (run : ℕ) → List ℕ → Bool
 short_numbers run [] = true
 short_numbers run (b ∷ bs) = elim (is_decimal_digit b) [ true ↦ nat_lt run 19 && short_numbers (run + 1) bs | false ↦ short_numbers 0 bs ]
 
--- a symbol that names a local entity, or something special of one, has a Z or a G after its _Z
+-- a symbol that names a local entity has a Z after its _Z; one that names the guard variable of one has GVZ there
 unfoldable pub is_local : List ℕ → Bool
-is_local (a ∷ b ∷ c ∷ rest) = nat_eq c 90 || nat_eq c 71
+is_local (a ∷ b ∷ c ∷ d ∷ e ∷ rest) = nat_eq c 90 || ((nat_eq c 71 && nat_eq d 86) && nat_eq e 90)
+is_local (a ∷ b ∷ c ∷ rest) = nat_eq c 90
 is_local _ = false

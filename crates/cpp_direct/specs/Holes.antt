@@ -169,8 +169,12 @@ pub record ListGoesOn (s : Symbol) (kind : Kind) (outer : List Opened) (around :
   pub awaits : Expects s kind around inner at st
   pub passes : (l : Value) (at : ℕ) (st : State) → Comes s inner l at st → Comes s outer (tree (list t (no_items l)) true) at st
 
--- An element of a list is expected, which is a type.
-pub record AwaitsElement (s : Symbol) (kind : Kind) (outer : List Opened) (around : Around) (at : ℕ) (st : State) : Type 0 where
+-- An element of a list is expected, which is read as this.
+pub record AwaitsElementAs (s : Symbol) (as_kind kind : Kind) (outer : List Opened) (around : Around) (at : ℕ) (st : State) : Type 0 where
   pub inner : List Opened
-  pub awaits : Expects s Kind.Item around inner at st
+  pub awaits : Expects s as_kind around inner at st
   pub onward : (t : Term) (at : ℕ) (st : State) → Comes s inner (tree t true) at st → ListGoesOn s kind outer around t at st
+
+-- one that is a type
+abbrev pub AwaitsElement : (s : Symbol) (kind : Kind) (outer : List Opened) (around : Around) (at : ℕ) (st : State) → Type 0
+AwaitsElement s kind outer around at st = AwaitsElementAs s Kind.Item kind outer around at st

@@ -4,7 +4,7 @@ use Rattle.std.specs.List.{AllByRecursion}
 use Rattle.sym_core.specs.declared.NumberKind.TheVariants.{Digits}
 use Rattle.sym_demangle.specs.Mangled.{StandsFor}
 use Rattle.cpp_grammar.specs.declared.kind.Kind.{Kind}
-use Rattle.cpp_grammar.specs.Term.{RefQualifier, any_value, lvalue_only, rvalue_only, Adjustment, adjusting, Term, symbol, special, thunk, integer, pack}
+use Rattle.cpp_grammar.specs.Term.{RefQualifier, any_value, lvalue_only, rvalue_only, Term, symbol, special, integer, address_of, pack}
 use Rattle.cpp_grammar.specs.Values.{State, Around, Value, tree, named, tree_of, signed_digits}
 use Rattle.cpp_grammar.specs.Between.{in_name, in_types, inside, no_items}
 use Rattle.cpp_grammar.specs.Meaning.{encoding_of}
@@ -60,6 +60,13 @@ pub record EnumeratorOpened (s : Symbol) (kind : Kind) (outer : List Opened) (ar
       → StandsAt s.bytes at (minus_sign negative) → IsDigitsAt s.bytes (at + length (minus_sign negative)) digits end → StandsAt s.bytes end (69 ∷ [])
       → ListGoesOn s kind outer around (integer t (signed_digits negative digits)) (end + 1) st
 
+-- After XadL_Z the encoding is expected whose address an argument is, then two E.
+pub record AddressOpened (s : Symbol) (outer : List Opened) (around : Around) (at : ℕ) (st : State) : Type 0 where
+  pub inner : List Opened
+  pub awaits : Expects s Kind.Encoding around inner at st
+  pub onward : (e : Term) (at : ℕ) (st : State) → Comes s inner (tree e true) at st → StandsAt s.bytes at (69 ∷ 69 ∷ [])
+      → Comes s outer (tree (address_of e) true) (at + 2) st
+
 -- ## Encodings
 
 -- The items of an encoding with this name are expected; there may be none.
@@ -90,12 +97,11 @@ pub record IsOffsetAt (s : List ℕ) (at : ℕ) (end : ℕ) : Type 0 where
   pub line : StandsAt s behind (95 ∷ [])
   pub ends : end ≡ behind + 1
 
--- The encoding is expected that a thunk calls, which begins at a place.
-pub record ThunkOpened (s : Symbol) (outer : List Opened) (encoding : ℕ) (by : Adjustment) (at : ℕ) (st : State) : Type 0 where
+-- The base encoding of one that begins at a place is expected, of a thunk or of a clone, and this is made of it.
+pub record BaseOpened (s : Symbol) (outer : List Opened) (encoding : ℕ) (made : Term → Term) (at : ℕ) (st : State) : Type 0 where
   pub inner : List Opened
   pub awaits : Expects s Kind.Encoding (in_name encoding) inner at st
-  pub onward : (e : Term) (at : ℕ) (st : State) → Comes s inner (tree e true) at st
-      → Comes s outer (tree (thunk (adjusting by) e) true) at st
+  pub onward : (e : Term) (at : ℕ) (st : State) → Comes s inner (tree e true) at st → Comes s outer (tree (made e) true) at st
 
 -- the letter of a function that is const
 abbrev pub const_letter : (const : Bool) → List ℕ

@@ -2,6 +2,7 @@ pub mod Bytes
 pub mod Holes
 pub mod HolesOfArrays
 pub mod HolesOfFunctions
+pub mod HolesOfLevels
 pub mod HolesOfLists
 pub mod HolesOfLocals
 pub mod HolesOfNests
@@ -11,9 +12,11 @@ pub mod Letters
 pub mod Marks
 pub mod Names
 pub mod Prints
+pub mod Scoping
 pub mod WriterInvariant
 pub mod Symbol
 pub mod MidStep
+pub mod MidStepOfAddresses
 pub mod MidStepOfLocals
 pub mod Written
 pub mod WrittenParts

@@ -1,14 +1,14 @@
 -- Where a writer is between two of its functions, within a step.
-use Rattle.std.specs.Prelude.{◌≡◌, ◌≢◌, ◌⊎◌, ℕ, zero, suc, ◌+◌, List, [], ◌∷◌, ◌++◌, length, reverse, ◌≤◌, ◌<◌, Bool, true, false, cond, Some, codes, ◌-◌, take, drop, slice_get}
+use Rattle.std.specs.Prelude.{◌≡◌, ◌≢◌, ◌⊎◌, ℕ, zero, suc, ◌+◌, List, [], ◌∷◌, ◌++◌, length, reverse, ◌≤◌, Bool, true, false, cond, Some, codes, ◌-◌, take, drop, slice_get}
 use Rattle.cpp_direct.specs.Written.{Reads, Writes}
 use Rattle.cpp_direct.specs.HolesOfLists.{IsArgumentKind}
 use Rattle.cpp_direct.specs.WrittenParts.{IsUnmarked, opening_bracket}
 use Rattle.sym_print.specs.declared.detail.Detail.{Detail}
 use Rattle.cpp_grammar.specs.declared.kind.Kind.{Kind}
-use Rattle.cpp_grammar.specs.Term.{Term, Signed, absent, array, function, instance, builtin, pack}
+use Rattle.cpp_grammar.specs.Term.{Term, Signed, absent, array, function, instance, builtin}
 use Rattle.cpp_grammar.specs.Texts.{look_up, builtin_texts, literal_endings}
 use Rattle.cpp_grammar.specs.Parts.{is_plain_integer, types_of}
-use Rattle.cpp_grammar.specs.Scope.{count, element, has_return_type, is_structor}
+use Rattle.cpp_grammar.specs.Scope.{has_return_type, is_structor}
 use Rattle.cpp_grammar.specs.Between.{after, in_name, with_tag}
 use Rattle.cpp_grammar.specs.Meaning.{encoding_of}
 use Rattle.cpp_grammar.specs.Values as values
@@ -21,7 +21,6 @@ use Rattle.cpp_direct.specs.declared.open.Pattern.{Pattern}
 use Rattle.cpp_direct.specs.declared.open.Purpose.{Purpose}
 use Rattle.cpp_direct.specs.declared.open.Purpose.TheVariants as purposes
 use Rattle.cpp_direct.specs.declared.open.Open.{Open}
-use Rattle.cpp_direct.specs.declared.open.Argument.{Argument}
 use Rattle.cpp_direct.specs.declared.open.Arguments.{Arguments}
 use Rattle.cpp_direct.specs.declared.open.Open.TheVariants as opens
 use Rattle.cpp_direct.specs.declared.direct.Direct.{Direct}
@@ -30,22 +29,26 @@ use Rattle.sym_core.specs.Value.{counted_value}
 use Rattle.sym_core.specs.declared.NumberKind.TheVariants.{Seq36}
 use Rattle.cpp_direct.specs.HolesOfFunctions.{SignatureGoesOn, plain_function, pointed, with_pointed}
 use Rattle.cpp_direct.specs.HolesOfArrays.{accessed, with_accessed}
+use Rattle.cpp_direct.specs.HolesOfLevels.{MemberComes}
 use Rattle.cpp_direct.specs.HolesOfTypes.{IsNamedKind, NoReference, TreeOpens}
 use Rattle.cpp_direct.specs.Marks.{has_const, called_on, mark_text}
-use Rattle.cpp_direct.specs.Prints.{NamesClass, Prints, PrintsName, IsElement, PrintAll, Shows, Encloses, sign_text, PrintsAs, PrintsIn, PrintAllAs, IsGiven, list_of, PrintAllBy, PrintsMade, pattern_letters}
-use Rattle.cpp_direct.specs.WriterInvariant.{AwaitsItems, Encoded, EncodedBehind, Fronts, IsListing, IsTail, IsTemplate, GoesOn, EnumeratorGoesOn, Owns, ParametersGoOn, Serves, Stands, TakesFunction, opening_text, qualifiers, arguments_or_pack, extra_of, led_by, list_with, in_front_of_next, ComeBefore, IsAmong, AreAmong, HasArguments, IsKnown, IsScoped, is_type, place_of, IsNaming, IsNestScoped, Scope, below, is_noted, may_name, encoding_place, IsNamedSo, IsNesting, Kept, IsBetween, AwaitsTypeIn, HasInstance, HasParameters, IsNestSoFar, FirstType, IsTaken}
+use Rattle.cpp_direct.specs.Prints.{NamesClass, Prints, PrintsName, IsElement, PrintAll, Shows, Encloses, sign_text, PrintsAs, PrintsIn, PrintAllAs, IsGiven, PrintAllBy, PrintsMade, pattern_letters}
+use Rattle.cpp_direct.specs.WriterInvariant.{AwaitsItems, Encoded, EncodedBehind, Fronts, IsListing, IsTail, IsTemplate, GoesOn, EnumeratorGoesOn, Owns, ParametersGoOn, Serves, Stands, TakesFunction, opening_text, qualifiers, arguments_or_pack, extra_of, led_by, list_with, in_front_of_next, ComeBefore, AreAmong, HasArguments, HasPack, IsAmong, IsPackOf, IsSingle, IsKnown, IsMadeIn, IsScoped, is_type, place_of, IsNaming, IsNestScoped, Scope, below, is_noted, may_name, encoding_place, IsNamedSo, IsNesting, Kept, IsBetween, AwaitsTypeIn, HasInstance, HasParameters, IsNestSoFar, FirstType, IsTaken}
 
--- the digits after the T of a parameter with this number
+-- the digits after the T of a parameter with this number, of which there is one at most
 abbrev pub parameter_digits : (number : ℕ) → List ℕ
 parameter_digits zero = []
-parameter_digits (suc zero) = 48 ∷ []
-parameter_digits (suc (suc zero)) = 49 ∷ []
-parameter_digits _ = 50 ∷ []
+parameter_digits (suc before) = (48 + before) ∷ []
 
--- of these arguments those are known that were known before, and the one with this number, which is this
-abbrev pub KnowsMore : (old new : Arguments) → (number : ℕ) → Argument → Type 0
-KnowsMore old new number p =
-    (k : ℕ) → IsKnown (place_of new k) → ((k ≡ number) × (place_of new k ≡ p)) ⊎ (place_of new k ≡ place_of old k)
+-- that is so up to this number
+abbrev pub most_by_digit : ℕ
+most_by_digit = 10
+
+-- of these arguments those are known that were known before, and the one with this number, which is between these places
+abbrev pub KnowsMore : (old new : Arguments) → (number from to : ℕ) → (is_reference : Bool) → Type 0
+KnowsMore old new number from to is_reference =
+    (k : ℕ) → IsKnown new k
+    → ((k ≡ number) × (place_of new k ≡ record { from = from; to = to; is_reference = is_reference })) ⊎ (IsKnown old k × (place_of new k ≡ place_of old k))
 
 -- nothing is written yet
 pub record IsFresh (w : Direct) : Type 0 where
@@ -160,8 +163,8 @@ pub record AwaitsMark (s : Symbol) (w : Direct) (mark : List ℕ) (from : ℕ) (
   pub written : w.text.list.items ≡ front ++ bytes
   pub from_is : from ≡ length front
   pub prints : PrintsAs (detail_of s) scope.names is_dependent made (bytes ++ mark) is_reference
-  pub naming : is_dependent ≡ true → IsNaming s scope rest
-  pub made_here : is_dependent ≡ true → made_in.encoding ≡ encoding_place s.bytes
+  pub naming : is_dependent ≡ true → IsNaming scope rest
+  pub made_here : is_dependent ≡ true → IsMadeIn scope made_in.encoding
   pub stands : Stands s scope rest outer front
 
 -- what waits for an argument of a name, or for an element of a pack among them
@@ -197,7 +200,7 @@ pub record IsArgumentRead (s : Symbol) (w : Direct) (is_pack : Bool) (from numbe
   pub written : w.text.list.items ≡ (led_by (detail_of s) (arguments_or_pack is_pack before before_text) front name ++ in_front_of_next ts texts) ++ bytes
   pub from_is : from ≡ length (led_by (detail_of s) (arguments_or_pack is_pack before before_text) front name ++ in_front_of_next ts texts)
   pub number_is : number ≡ length (before ++ ts)
-  pub among : AreAmong (detail_of s) w.text.list.items is_pack (length before) known (before ++ ts)
+  pub among : AreAmong (detail_of s) w.text.list.items known (before ++ ts)
   pub prints : Prints (detail_of s) t bytes is_reference
   pub goes : GoesOn s (arguments_or_pack is_pack before before_text) owner (below s scope rest) front template (ts ++ t ∷ []) w.at state
 
@@ -221,7 +224,7 @@ pub record AwaitsKnownArgument (s : Symbol) (w : Direct) (is_pack : Bool) (last 
   pub some : ts ≢ []
   pub written : w.text.list.items ≡ led_by (detail_of s) (arguments_or_pack is_pack before before_text) front name ++ texts
   pub number_is : last + 1 ≡ length (before ++ ts)
-  pub among : AreAmong (detail_of s) w.text.list.items is_pack (length before) known (before ++ ts)
+  pub among : AreAmong (detail_of s) w.text.list.items known (before ++ ts)
   pub goes : GoesOn s (arguments_or_pack is_pack before before_text) owner (below s scope rest) front template ts w.at state
 
 -- the first piece of a nested name is expected
@@ -296,12 +299,11 @@ pub record AwaitsClass (s : Symbol) (w : Direct) : Type 0 where
   pub structor : is_structor own ≡ true
   pub serves : Serves s w.nest.purpose (below s scope (reverse w.waiting.list.items)) outer front
 
--- the known ones among arguments are at their places, and of a pack its elements
+-- the known ones among arguments are at their places, and those that are in a pack
 abbrev pub AreKnown : (detail : Detail) (text : List ℕ) → Arguments → List Term → (tail : Term) → Type 0
 AreKnown detail text a ts tail =
-    (number : ℕ) → IsKnown (place_of a number) → (((place_of a number).is_pack ≡ false) × IsAmong detail text (place_of a number) number ts)
-    ⊎ (((place_of a number).is_pack ≡ true) × (es : List Term) × (element (list_with ts tail) a.before ≡ pack (list_of es)) × (a.before < count (list_with ts tail))
-    × (length es ≡ a.elements) × IsAmong detail text (place_of a number) (number - a.before) es)
+    ((number : ℕ) → IsSingle a number → IsAmong detail text (place_of a number) number ts)
+    × (a.has_pack ≡ true → (es : List Term) × HasPack (list_with ts tail) a.before es × IsPackOf detail text a es)
 
 -- The arguments of what was opened last are read and their E, but for their last bracket. Those that are known are at their places.
 pub record IsListEnded (s : Symbol) (w : Direct) (argument : Arguments) : Type 0 where
@@ -360,6 +362,20 @@ pub record AwaitsNumber (s : Symbol) (w : Direct) : Type 0 where
   pub written : w.text.list.items ≡ led_by (detail_of s) place.listing place.front place.name ++ in_front_of_next ts texts ++ codes "(" ++ bytes
   pub goes : EnumeratorGoesOn s place.listing place.owner (below s scope place.rest) place.front place.template ts type w.at state
 
+-- An instance was read and written of which a member is an element. The member's name is expected, between two Es.
+pub record AwaitsMember (s : Symbol) (w : Direct) (is_dependent : Bool) : Type 0 where
+  pub kept : Kept s w
+  pub open kept use *
+  pub outer : List Opened
+  pub own : Term
+  pub front : List ℕ
+  pub bytes : List ℕ
+  pub written : w.text.list.items ≡ front ++ bytes
+  pub prints : PrintsAs (detail_of s) scope.names is_dependent own bytes false
+  pub naming : is_dependent ≡ true → IsNaming scope (reverse w.waiting.list.items)
+  pub follows : MemberComes s outer own w.at state
+  pub stands : Stands s scope (reverse w.waiting.list.items) outer front
+
 -- A name was written from a place on, and is read as that of a function with this mark, or of data.
 pub record HasNameSo (s : Symbol) (text : List ℕ) (mark : Mark) (from : ℕ) : Type 0 where
   pub own : Term
@@ -408,7 +424,7 @@ pub record IsFrontRead (s : Symbol) (w : Direct) (mark : Mark) (start : ℕ) (ar
 pub record AwaitsParameters (s : Symbol) (w : Direct) (mark : Mark) (start : ℕ) (argument : Arguments) : Type 0 where
   pub kept : Kept s w
   pub open kept use *
-  pub has : HasParameters s scope w.text.list.items mark start argument [] []
+  pub has : HasParameters s 3 scope w.text.list.items mark start argument [] []
   pub open has use *
   pub written : w.text.list.items ≡ front
   pub goes : ParametersGoOn s argument lead make [] w.at state
@@ -428,30 +444,33 @@ abbrev pub IsDependentNow : (old new : Open) → Type 0
 IsDependentNow (opens.TypeArguments from is_dependent) new = new ≡ opens.TypeArguments from true
 IsDependentNow (opens.NestArguments nest) new = (nest.purpose ≡ purposes.Type) × (new ≡ opens.NestArguments (record nest { is_dependent = true }))
 IsDependentNow (opens.FirstArguments nest) new = (nest.purpose ≡ purposes.Type) × (new ≡ opens.FirstArguments (record nest { is_dependent = true }))
+IsDependentNow (opens.LevelArguments is_dependent) new = new ≡ opens.LevelArguments true
 IsDependentNow _ new = ⊥
 
--- A parameter of a function is expected.
-pub record AwaitsNextParameter (s : Symbol) (w : Direct) (mark : Mark) (start : ℕ) (argument : Arguments) : Type 0 where
+-- Of a function these parameters were read, or none where the first one is expected. Each may cost so much more than its text.
+pub record AreParametersRead (s : Symbol) (w : Direct) (extra : ℕ) (is_first : Bool) (mark : Mark) (start : ℕ) (argument : Arguments) : Type 0 where
   pub kept : Kept s w
   pub open kept use *
   pub rest : List Open
   pub open_is : reverse w.waiting.list.items ≡ opens.Parameters mark start argument ∷ rest
   pub ts : List Term
+  pub none : is_first ≡ true → ts ≡ []
+  pub some : is_first ≡ false → ts ≢ []
   pub texts : List ℕ
-  pub has : HasParameters s scope w.text.list.items mark start argument ts texts
+  pub has : HasParameters s extra scope w.text.list.items mark start argument ts texts
   pub open has use *
-  pub written : w.text.list.items ≡ front ++ codes "(" ++ in_front_of_next ts texts
+  pub written : w.text.list.items ≡ front ++ codes "(" ++ texts
   pub goes : ParametersGoOn s argument lead make ts w.at state
+
+-- what comes before an element of a list, the first one or another one
+abbrev pub separator : (is_first : Bool) → List ℕ
+separator true = []
+separator false = codes ", "
 
 -- what comes before the element of a list with this number
 abbrev pub comma_text : (number : ℕ) → List ℕ
 comma_text zero = []
 comma_text (suc k) = codes ", "
-
--- a pack has these elements, and the known ones are at their places
-pub record IsPackOf (detail : Detail) (text : List ℕ) (a : Arguments) (ts : List Term) : Type 0 where
-  pub size : length ts ≡ a.elements
-  pub among : (k : ℕ) → IsKnown (place_of a (a.before + k)) → (place_of a (a.before + k)).is_pack ≡ true → IsAmong detail text (place_of a (a.before + k)) k ts
 
 -- the letters of an expansion
 abbrev pub expansion_letters : Pattern → (number : ℕ) → List ℕ
@@ -462,24 +481,10 @@ pub record AreExpanded (detail : Detail) (pattern : Pattern) (old new : Direct) 
   pub done : List Term
   pub rest : List Term
   pub all : ts ≡ done ++ rest
-  pub count : (length done ≡ number) ⊎ ((rest ≡ []) × (length ts ≤ number))
+  pub count : length done ≡ number
   pub bytes : List ℕ
   pub prints : PrintAllBy (PrintsMade detail pattern) done bytes
   pub writes : Writes old new bytes
-
--- A parameter of a function was read.
-pub record IsParameterEnded (s : Symbol) (w : Direct) (mark : Mark) (start : ℕ) (argument : Arguments) : Type 0 where
-  pub kept : Kept s w
-  pub open kept use *
-  pub rest : List Open
-  pub open_is : reverse w.waiting.list.items ≡ opens.Parameters mark start argument ∷ rest
-  pub ts : List Term
-  pub some : ts ≢ []
-  pub texts : List ℕ
-  pub has : HasParameters s scope w.text.list.items mark start argument ts texts
-  pub open has use *
-  pub written : w.text.list.items ≡ front ++ codes "(" ++ texts
-  pub goes : ParametersGoOn s argument lead make ts w.at state
 
 -- A function was read and written but for its last bracket and its qualifiers.
 pub record IsFunctionEnded (s : Symbol) (w : Direct) (mark : Mark) (start : ℕ) : Type 0 where

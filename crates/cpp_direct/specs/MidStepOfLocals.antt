@@ -1,19 +1,21 @@
 -- Where a writer is between two of its functions within a step: local entities, and types in functions.
-use Rattle.std.specs.Prelude.{◌≡◌, ◌≢◌, ℕ, ◌+◌, List, [], ◌∷◌, ◌++◌, length, reverse, Bool, true, cond, codes}
-use Rattle.cpp_grammar.specs.Term.{Term}
+use Rattle.std.specs.Prelude.{◌≡◌, ◌≢◌, ℕ, ◌+◌, List, [], ◌∷◌, ◌++◌, length, reverse, Bool, true, false, cond, Option, codes}
+use Rattle.cpp_grammar.specs.Term.{Term, within}
 use Rattle.cpp_grammar.specs.Scope.{has_return_type}
+use Rattle.cpp_grammar.specs.Values.{State}
 use Rattle.cpp_grammar.specs.Meaning.{encoding_of}
 use Rattle.cpp_direct.specs.Symbol.{detail_of, Symbol}
 use Rattle.cpp_direct.specs.declared.open.Mark.{Mark}
 use Rattle.cpp_direct.specs.declared.open.Mark.TheVariants as marks
+use Rattle.cpp_direct.specs.declared.open.Purpose.{Purpose}
 use Rattle.cpp_direct.specs.declared.open.Open.{Open}
 use Rattle.cpp_direct.specs.declared.open.Open.TheVariants as opens
 use Rattle.cpp_direct.specs.declared.direct.Direct.{Direct}
-use Rattle.cpp_direct.specs.Bytes.{is_local}
+use Rattle.cpp_direct.specs.Bytes.{is_local, short_numbers}
 use Rattle.cpp_direct.specs.Holes.{StandsAt}
 use Rattle.cpp_direct.specs.Marks.{mark_text}
-use Rattle.cpp_direct.specs.Prints.{PrintAll}
-use Rattle.cpp_direct.specs.WriterInvariant.{ItemsGoOn, LambdaWithin, TypeWithin, below, nowhere, Kept, HasEnclosing, IsEnclosed}
+use Rattle.cpp_direct.specs.Prints.{Encloses, IsLed, PrintsPiece, PrintAll}
+use Rattle.cpp_direct.specs.WriterInvariant.{ItemsGoOn, LambdaComes, LambdaWithin, TypeWithin, below, nowhere, Kept, HasEnclosing, Scope}
 use Rattle.cpp_direct.specs.MidStep.{IsEncodingEnded, HasNameSo}
 
 -- ## Local entities
@@ -63,14 +65,24 @@ pub record IsEnclosingParameterRead (s : Symbol) (w : Direct) (mark : Mark) (fro
   pub to_is : to ≡ length (front ++ name)
   pub goes : ItemsGoOn s nowhere (TypeWithin s (below s scope rest) front) make ts w.at state
 
--- Such a function was read and written from a place on, but for its qualifier.
-pub record IsEnclosingRead (s : Symbol) (w : Direct) (mark : Mark) (from : ℕ) : Type 0 where
+-- A function was read and written after a text of which this is so, but for its qualifier. So is this of where it was read and of what is
+-- open.
+pub record IsLedFunctionRead (s : Symbol) (w : Direct) (mark : Mark) (Leads : List ℕ → Type 0)
+    (Within : Scope → List Open → (front : List ℕ) → (e : Term) → (at : ℕ) → State → Type 0) : Type 0 where
   pub kept : Kept s w
   pub open kept use *
-  pub has : IsEnclosed (detail_of s) from
-  pub open has use *
+  pub e : Term
+  pub front : List ℕ
+  pub leads : Leads front
+  pub bytes : List ℕ
+  pub encloses : Encloses (detail_of s) e bytes
   pub written : w.text.list.items ++ mark_text mark ≡ front ++ bytes
-  pub within : TypeWithin s (below s scope (reverse w.waiting.list.items)) front e w.at state
+  pub within : Within scope (reverse w.waiting.list.items) front e w.at state
+
+-- Such a one in which a type is was, from a place on.
+abbrev pub IsEnclosingRead : (s : Symbol) → (w : Direct) → Mark → (from : ℕ) → Type 0
+IsEnclosingRead s w mark from =
+    IsLedFunctionRead s w mark (λ front. from ≡ length front) (λ scope waits. TypeWithin s (below s scope waits))
 
 -- The name of a type is expected after the E of the function that it is in, which was written from a place on.
 pub record AwaitsTypeName (s : Symbol) (w : Direct) (from : ℕ) : Type 0 where
@@ -79,17 +91,42 @@ pub record AwaitsTypeName (s : Symbol) (w : Direct) (from : ℕ) : Type 0 where
   pub letter : StandsAt s.bytes before (69 ∷ [])
   pub at_is : w.at ≡ before + 1
 
--- A parameter of a lambda was read, which is a type that is in a function.
-pub record IsLambdaParameterRead (s : Symbol) (w : Direct) (from : ℕ) : Type 0 where
+-- ## Lambdas
+
+-- The parameters of a lambda are open, after its first bytes, which are at the place.
+pub record IsLambdaOpened (s : List ℕ) (old new : Direct) (from : ℕ) (nested : Option Purpose) : Type 0 where
+  pub short : short_numbers 0 s ≡ true
+  pub stands : StandsAt s old.at (85 ∷ 108 ∷ [])
+  pub text : new.text.list.items ≡ old.text.list.items ++ codes "::{lambda("
+  pub candidates : new.candidates ≡ old.candidates
+  pub scope : new.has_scope ≡ old.has_scope
+  pub at : new.at ≡ old.at + 2
+  pub waiting : new.waiting.list.items ≡ old.waiting.list.items ++ opens.Lambda from nested ∷ []
+
+-- A parameter of a lambda was read, which is a type that is in a function, or a component of a nested name.
+pub record IsLambdaParameterRead (s : Symbol) (w : Direct) (from : ℕ) (nested : Option Purpose) : Type 0 where
   pub kept : Kept s w
   pub open kept use *
   pub rest : List Open
-  pub open_is : reverse w.waiting.list.items ≡ opens.Lambda from ∷ rest
-  pub has : IsEnclosed (detail_of s) from
+  pub open_is : reverse w.waiting.list.items ≡ opens.Lambda from nested ∷ rest
+  pub has : IsLed (detail_of s) nested from
   pub open has use *
   pub ts : List Term
   pub some : ts ≢ []
   pub texts : List ℕ
   pub elements : PrintAll (detail_of s) 0 ts texts
   pub written : w.text.list.items ≡ front ++ (bytes ++ codes "::{lambda(") ++ texts
-  pub goes : ItemsGoOn s nowhere (LambdaWithin s (below s scope rest) front e) (λ l. l) ts w.at state
+  pub goes : ItemsGoOn s nowhere (LambdaWithin s nested (below s scope rest) front e) (λ l. l) ts w.at state
+
+-- A lambda was read, and written after what it is in.
+pub record IsLambdaRead (s : Symbol) (w : Direct) (from : ℕ) (nested : Option Purpose) : Type 0 where
+  pub kept : Kept s w
+  pub open kept use *
+  pub has : IsLed (detail_of s) nested from
+  pub open has use *
+  pub own : Term
+  pub name : List ℕ
+  pub prints : PrintsPiece (detail_of s) own name
+  pub returns : has_return_type (within e own) ≡ false
+  pub written : w.text.list.items ≡ front ++ (bytes ++ codes "::" ++ name)
+  pub comes : LambdaComes s nested (below s scope (reverse w.waiting.list.items)) front e own w.at state

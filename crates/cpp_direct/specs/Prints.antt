@@ -11,6 +11,7 @@ use Rattle.cpp_grammar.specs.Parts.{as_item, says, prefix_item, within_parts, la
 use Rattle.cpp_direct.specs.WrittenParts.{written}
 use Rattle.cpp_direct.specs.HolesOfTypes.{as_const}
 use Rattle.cpp_direct.specs.declared.open.Pattern.{Pattern}
+use Rattle.cpp_direct.specs.declared.open.Purpose.{Purpose}
 use Rattle.cpp_direct.specs.declared.open.Pattern.TheVariants as patterns
 
 -- what is written of a tree in a form, wherever it is, in a detail
@@ -147,6 +148,19 @@ pub record Encloses (detail : Detail) (t : Term) (bytes : List ℕ) : Type 0 whe
   pub bare_cost : 1 + cost_of (written_of detail bare closed t) ≤ 4 * length bytes
   pub is_closed : is_open t ≡ false
   pub packless : (scope : Term) → pack_length scope t ≡ None
+
+-- what comes before a lambda has this text: the function that it is in, or the name so far of which it is a component
+abbrev pub Leads : (detail : Detail) → (nested : Option Purpose) → Term → (bytes : List ℕ) → Type 0
+Leads detail None e bytes = Encloses detail e bytes
+Leads detail (Some purpose) e bytes = Prints detail e bytes false
+
+-- Such a text is written, from a place on.
+pub record IsLed (detail : Detail) (nested : Option Purpose) (from : ℕ) : Type 0 where
+  pub e : Term
+  pub front : List ℕ
+  pub from_is : from ≡ length front
+  pub bytes : List ℕ
+  pub leads : Leads detail nested e bytes
 
 -- the sign of a number
 abbrev pub sign_text : Signed → List ℕ

@@ -1,14 +1,14 @@
 -- What a writer's lists say while a symbol is read: what is open waits for what comes next, and what was written is its text.
 use Rattle.sym_print.specs.declared.detail.Detail.{Detail}
-use Rattle.std.specs.Prelude.{◌≡◌, ◌≢◌, ◌⊎◌, ℕ, zero, suc, ◌+◌, ◌*◌, ◌≤◌, ◌<◌, List, [], ◌∷◌, ◌++◌, ◌-◌, length, take, drop, reverse, slice_get, Bool, true, false, cond, Option, Some, None, Ok, codes, ◌&&◌, nat_le}
+use Rattle.std.specs.Prelude.{◌≡◌, ◌≢◌, ◌⊎◌, ℕ, ◌+◌, ◌*◌, ◌≤◌, List, [], ◌∷◌, ◌++◌, ◌-◌, length, take, drop, reverse, Bool, true, false, Option, Some, None, Ok, codes, ◌&&◌}
 use Rattle.sym_print.specs.Unshared.{text_of, cost_of}
 use Rattle.sym_demangle.specs.Mangled.{StandsFor}
 use Rattle.cpp_grammar.specs.declared.kind.Kind.{Kind}
 use Rattle.cpp_grammar.specs.Answer.{shown, root_item}
-use Rattle.cpp_grammar.specs.Term.{Term, Qualifiers, symbol, function, special, array, pointer, lvalue, rvalue, qualified, instance, integer, pack, nil, list, absent}
+use Rattle.cpp_grammar.specs.Term.{Term, Qualifiers, symbol, function, special, array, pointer, lvalue, rvalue, qualified, instance, within, integer, address_of, pack, nil, list, absent}
 use Rattle.cpp_grammar.specs.Parts.{source_text}
 use Rattle.cpp_grammar.specs.Texts.{look_up, special_texts}
-use Rattle.cpp_grammar.specs.Scope.{has_return_type, is_structor, arguments_of, length_if_pack, element, count}
+use Rattle.cpp_grammar.specs.Scope.{has_return_type, is_structor, arguments_of}
 use Rattle.cpp_grammar.specs.References.{is_function_type}
 use Rattle.cpp_grammar.specs.Values as values
 use Rattle.cpp_grammar.specs.Values.{State, Around, Value, tree, named, outermost, tree_of, qualifiers_of, ref_of, signed_digits}
@@ -16,13 +16,11 @@ use Rattle.cpp_grammar.specs.Between.{no_items}
 use Rattle.cpp_grammar.specs.Meaning.{parameters, encoding_of}
 use Rattle.cpp_direct.specs.WrittenParts.{written, opening_bracket}
 use Rattle.cpp_direct.specs.Symbol.{Symbol, detail_of, mangled_of}
-use Rattle.cpp_direct.specs.declared.open.Candidate.{Candidate}
 use Rattle.cpp_direct.specs.declared.open.Nest.{Nest}
 use Rattle.cpp_direct.specs.declared.open.Mark.{Mark}
 use Rattle.cpp_direct.specs.declared.open.Purpose.{Purpose}
 use Rattle.cpp_direct.specs.declared.open.Purpose.TheVariants as purposes
 use Rattle.cpp_direct.specs.declared.open.Open.{Open}
-use Rattle.cpp_direct.specs.declared.open.Argument.{Argument}
 use Rattle.cpp_direct.specs.declared.open.Arguments.{Arguments}
 use Rattle.cpp_direct.specs.declared.open.Open.TheVariants as opens
 use Rattle.cpp_direct.specs.declared.open.Step.{Step}
@@ -34,174 +32,13 @@ use Rattle.cpp_direct.specs.HolesOfFunctions.{SignatureGoesOn, plain_function}
 use Rattle.cpp_direct.specs.HolesOfArrays.{accessed, with_accessed}
 use Rattle.cpp_direct.specs.HolesOfTypes.{NoReference}
 use Rattle.cpp_direct.specs.HolesOfNests.{IsFirstRest}
+use Rattle.cpp_direct.specs.HolesOfLevels.{MemberComes}
 use Rattle.cpp_direct.specs.HolesOfLists.{IsSuffix, IsDigitsAt, minus_sign}
 use Rattle.cpp_direct.specs.HolesOfLocals.{Discriminator, EntityOpened, IsDiscriminatorAt, IsEntityAt, IsLambdaDigit, lambda_ending, lambda_with, local_in}
 use Rattle.cpp_direct.specs.Marks.{has_const, called_on}
-use Rattle.cpp_direct.specs.Prints.{Named, Names, IsGiven, Prints, PrintsAs, PrintsName, Shows, Encloses, NamesClass, PrintAll, PrintAllAs, PrintAllIn, list_of}
+use Rattle.cpp_direct.specs.Prints.{Names, IsGiven, Prints, PrintsAs, PrintsName, Shows, Encloses, IsLed, NamesClass, PrintAll, PrintAllAs, PrintAllIn}
 use Rattle.cpp_grammar.specs.Parts.{types_of}
-
--- ## Candidates
-
--- where the encoding begins that a symbol has after no text
-abbrev pub encoding_place : List ℕ → ℕ
-encoding_place s = cond (is_local s) 3 2
-
--- these bytes of a text are between two places
-pub record IsBetween (text : List ℕ) (from to : ℕ) (bytes : List ℕ) : Type 0 where
-  pub front : List ℕ
-  pub back : List ℕ
-  pub written : text ≡ front ++ bytes ++ back
-  pub from_is : from ≡ length front
-  pub to_is : to ≡ length front + length bytes
-
--- what a substitution may name prints the text that is at its place; where it names arguments it was made in the symbol's own encoding
-pub record IsCandidate (s : Symbol) (names : Names) (text : List ℕ) (k : Candidate) (c : values.Candidate) : Type 0 where
-  pub bytes : List ℕ
-  pub placed : IsBetween text k.from k.to bytes
-  pub open placed use *
-  pub prints : PrintsAs (detail_of s) names k.is_dependent c.tree bytes k.is_reference
-  pub made_in : k.is_dependent ≡ true → c.encoding ≡ encoding_place s.bytes
-
--- each candidate is so, but for those that end before they begin, of which nothing is known
-abbrev pub AreCandidates : (s : Symbol) → Names → (text : List ℕ) → List Candidate → List values.Candidate → Type 0
-AreCandidates s names text [] [] = Unit {0}
-AreCandidates s names text (k ∷ ks) (c ∷ cs) = (k.from ≤ k.to → IsCandidate s names text k c) × AreCandidates s names text ks cs
-AreCandidates s names text _ _ = ⊥
-
--- ## Arguments of templates
-
--- this text is at a place
-abbrev pub IsPlaced : (text : List ℕ) → Argument → (bytes : List ℕ) → Type 0
-IsPlaced text p bytes = IsBetween text p.from p.to bytes
-
--- what is nowhere
-abbrev pub no_place : Argument
-no_place = record { from = 1; to = 0; is_pack = false; is_reference = false }
-
-abbrev pub nowhere : Arguments
-nowhere = record { first = no_place; second = no_place; third = no_place; fourth = no_place; encoding = 0; before = 0; elements = 0 }
-
--- the argument with this number
-abbrev pub place_of : Arguments → (number : ℕ) → Argument
-place_of a zero = a.first
-place_of a (suc zero) = a.second
-place_of a (suc (suc zero)) = a.third
-place_of a (suc (suc (suc zero))) = a.fourth
-place_of a _ = no_place
-
--- what is somewhere
-abbrev pub IsKnown : Argument → Type 0
-IsKnown p = p.from ≤ p.to
-
--- The argument of a name with this number is at a place. Where one of them is a pack, after so many and with so many elements, these
--- are in its place.
-pub record IsArgument (detail : Detail) (text : List ℕ) (before size : ℕ) (p : Argument) (number : ℕ) (name : Term) : Type 0 where
-  pub bytes : List ℕ
-  pub placed : IsPlaced text p bytes
-  pub own : Term
-  pub all : Term
-  pub all_are : arguments_of name ≡ Some all
-  pub there : p.is_pack ≡ false → (element all number ≡ own) × (number < count all)
-  pub elements : List Term
-  pub packed : p.is_pack ≡ true → (element all before ≡ pack (list_of elements)) × (before < count all)
-      × (slice_get elements (number - before) ≡ Some own) × (length elements ≡ size)
-  pub prints : Prints detail own bytes p.is_reference
-
--- the known arguments of a name are at their places
-abbrev pub HasArguments : (detail : Detail) (text : List ℕ) → Arguments → (name : Term) → Type 0
-HasArguments detail text a name = (number : ℕ) → IsKnown (place_of a number) → IsArgument detail text a.before a.elements (place_of a number) number name
-
--- a parameter may name that argument here, or the pack that comes after so many
-pub record IsScope (before number : ℕ) (is_pack : Bool) (around : Around) : Type 0 where
-  pub own : Term
-  pub all : Term
-  pub scope_is : around.scope ≡ Some all
-  pub there : is_pack ≡ false → (element all number ≡ own) × (number < count all)
-  pub elements : List Term
-  pub packed : is_pack ≡ true → (element all before ≡ pack (list_of elements)) × (before < count all)
-  pub no_pack : length_if_pack own ≡ None
-
--- if the place is known, the innermost encoding begins there, and none of its lambdas is read
-abbrev pub IsEncodedAt : (place : ℕ) → Around → Type 0
-IsEncodedAt place around = place ≢ 0 → (around.encoding ≡ place) × (around.in_lambda ≡ false)
-
--- parameters may name the known arguments here
-abbrev pub HasScope : Arguments → Around → Type 0
-HasScope a around =
-    IsEncodedAt a.encoding around × ((number : ℕ) → IsKnown (place_of a number) → IsScope a.before number (place_of a number).is_pack around)
-
--- a nested name is a type
-abbrev pub is_type : Purpose → Bool
-is_type purposes.Type = true
-is_type _ = false
-
--- what is in it is in a type
-abbrev pub is_within_type : Open → Bool
-is_within_type (opens.Pointer from) = true
-is_within_type (opens.Lvalue from) = true
-is_within_type (opens.Rvalue from) = true
-is_within_type (opens.Const from) = true
-is_within_type (opens.TypeArguments from is_dependent) = true
-is_within_type (opens.NestArguments nest) = is_type nest.purpose
-is_within_type (opens.FirstArguments nest) = is_type nest.purpose
-is_within_type _ = false
-
--- the arguments that its types may name
-abbrev pub arguments_in : Open → Option Arguments
-arguments_in (opens.Front mark start argument) = Some argument
-arguments_in (opens.Parameters mark start argument) = Some argument
-arguments_in _ = None
-
--- the arguments that a type may name
-abbrev pub argument_of : List Open → Option Arguments
-argument_of [] = None
-argument_of (o ∷ rest) = elim (is_within_type o) [ true ↦ argument_of rest | false ↦ arguments_in o ]
-
--- it is known, and no pack
-abbrev pub IsSingle : Argument → Type 0
-IsSingle p = IsKnown p × (p.is_pack ≡ false)
-
--- What types may name: the arguments of the symbol's own name, where they are known, and their texts.
-pub record Scope : Type 0 where
-  pub arguments : Arguments
-  pub names : Names
-
--- nothing
-abbrev pub no_scope : Scope
-no_scope = record { arguments = nowhere; names = λ number. None }
-
--- the arguments that may be named have these texts at their places
-abbrev pub AreNamed : (text : List ℕ) → Scope → Type 0
-AreNamed text scope =
-    (number : ℕ) → IsSingle (place_of scope.arguments number) → (bytes : List ℕ)
-    × (scope.names number ≡ Some (record { bytes = bytes; reference = (place_of scope.arguments number).is_reference }))
-    × IsPlaced text (place_of scope.arguments number) bytes
-
--- They are those of the symbol's own encoding, if it is known where theirs begins, and those that have texts are no packs.
-pub record IsScopeOf (s : Symbol) (scope : Scope) : Type 0 where
-  pub encoded : scope.arguments.encoding ≢ 0 → scope.arguments.encoding ≡ encoding_place s.bytes
-  pub single : (number : ℕ) (own : Named) → scope.names number ≡ Some own → IsSingle (place_of scope.arguments number)
-
--- What a writer keeps: its candidates, and the arguments that types may name, of which none are known before the symbol's own name.
-pub record Keeps (s : Symbol) (scope : Scope) (w : Direct) (cs : List values.Candidate) : Type 0 where
-  pub candidates : AreCandidates s scope.names w.text.list.items w.candidates.list.items cs
-  pub named : AreNamed w.text.list.items scope
-  pub own : IsScopeOf s scope
-  pub unknown : w.has_scope ≡ false → scope ≡ no_scope
-
--- a writer keeps this after it has come so far
-pub record Kept (s : Symbol) (w : Direct) : Type 0 where
-  pub state : State
-  pub scope : Scope
-  pub keeps : Keeps s scope w state.candidates
-
--- if there are any, parameters may name them
-abbrev pub IsScoped : Scope → Around → List Open → Type 0
-IsScoped scope around open_ = (a : Arguments) → argument_of open_ ≡ Some a → (scope.arguments ≡ a) × HasScope a around
-
--- the symbol's own encoding has the arguments that types name here
-abbrev pub IsNaming : (s : Symbol) → Scope → List Open → Type 0
-IsNaming s scope open_ = (argument_of open_ ≡ Some scope.arguments) × (scope.arguments.encoding ≡ encoding_place s.bytes)
+pub use Rattle.cpp_direct.specs.Scoping.{encoding_place, IsBetween, IsPlaced, nowhere, begin_by, place_of, IsKnown, IsSingle, IsAmong, IsPackOf, IsArgument, HasPack, OwnPack, HasArguments, IsScope, IsPackThere, IsEncodedAt, HasScope, is_type, is_within_type, arguments_in, argument_of, Scope, no_scope, AreNamed, HasSingles, IsMadeIn, IsCandidate, AreCandidates, Keeps, Kept, IsScoped, IsNaming}
 
 -- ## The end
 
@@ -254,6 +91,17 @@ pub record IsShown (s : Symbol) (most : ℕ) (text : List ℕ) : Type 0 where
   pub stands : StandsFor (mangled_of s) s.bytes (Ok whole)
   pub text_is : text_of (shown (detail_of s) (root_item whole)) ≡ text
   pub cost : cost_of (shown (detail_of s) (root_item whole)) ≤ 4 * most
+
+-- The name of an encoding that begins at a place was read, and items may follow. All of them make an encoding, of which something becomes.
+pub record ItemsOf (s : Symbol) (encoding : ℕ) (becomes : Term → (at : ℕ) → State → Type 0) (v : Value) (at : ℕ) (st : State) : Type 0 where
+  pub around : Around
+  pub inner : List Opened
+  pub outside : around.prefix ≡ outermost
+  pub scope_is : around.scope ≡ arguments_of (tree_of v)
+  pub encoding_is : around.encoding ≡ encoding
+  pub no_lambda : around.in_lambda ≡ false
+  pub awaits : Expects s Kind.Items around inner at st
+  pub onward : (l : Value) (at : ℕ) (st : State) → Comes s inner l at st → becomes (encoding_of v (no_items l)) at st
 
 -- ## Names
 
@@ -323,13 +171,14 @@ pub record IsOwnName (detail : Detail) (scope : Scope) (text : List ℕ) (argume
   pub given : IsGiven detail scope.names (types_of own)
   pub named : scope.arguments ≡ argument
 
--- A function's name and the parameters so far, with their texts. All parameters make a function that has no return type.
-pub record IsFunction (detail : Detail) (scope : Scope) (text : List ℕ) (argument : Arguments) (mark : Mark) (make : Term → Term) (ts : List Term) (name texts : List ℕ) : Type 0 where
+-- A function's name and the parameters so far, with their texts, and what each may cost beyond its text. All parameters make a
+-- function that has no return type.
+pub record IsFunction (detail : Detail) (extra : ℕ) (scope : Scope) (text : List ℕ) (argument : Arguments) (mark : Mark) (make : Term → Term) (ts : List Term) (name texts : List ℕ) : Type 0 where
   pub own : Term
   pub makes : (t rest : Term) → make (list t rest) ≡ plain_encoding mark own (list t rest)
   pub is_own : IsOwnName detail scope text argument own name
   pub open is_own use *
-  pub elements : PrintAllIn detail (types_of own) 6 ts texts
+  pub elements : PrintAllIn detail (types_of own) extra ts texts
 
 -- What is written of a function before its parameters. Its text begins at this place in it. Where functions are shown by their names
 -- alone, it ends there.
@@ -339,33 +188,57 @@ Fronts true front start lead name =
     (aside : List ℕ) × (front ≡ lead ++ name ++ aside) × (start ≡ length (lead ++ name))
 
 -- A function's name and the parameters so far are written, and what comes before them.
-pub record HasParameters (s : Symbol) (scope : Scope) (text : List ℕ) (mark : Mark) (start : ℕ) (argument : Arguments) (ts : List Term) (texts : List ℕ) : Type 0 where
+pub record HasParameters (s : Symbol) (extra : ℕ) (scope : Scope) (text : List ℕ) (mark : Mark) (start : ℕ) (argument : Arguments) (ts : List Term) (texts : List ℕ) : Type 0 where
   pub front : List ℕ
   pub lead : List ℕ
   pub make : Term → Term
   pub name : List ℕ
-  pub is_function : IsFunction (detail_of s) scope text argument mark make ts name texts
+  pub is_function : IsFunction (detail_of s) extra scope text argument mark make ts name texts
   pub fronts : Fronts s.is_bare front start lead name
 
--- The same of a function in which a type is, from a place on. All parameters make one that has some return type, or none.
-pub record HasEnclosing (detail : Detail) (mark : Mark) (from : ℕ) (ts : List Term) (texts : List ℕ) : Type 0 where
+-- They are written after a text. All parameters make a function that has some return type, or none.
+pub record IsLedFunction (detail : Detail) (extra : ℕ) (mark : Mark) (ts : List Term) (texts : List ℕ) : Type 0 where
   pub front : List ℕ
-  pub from_is : from ≡ length front
   pub name : List ℕ
   pub own : Term
+  pub prints : PrintsName detail own name
   pub returned : Term
   pub make : Term → Term
   pub makes : (t rest : Term) → make (list t rest) ≡ function own (qualifiers (has_const mark)) (called_on mark) returned (parameters (list t rest))
-  pub prints : PrintsName detail own name
-  pub elements : PrintAllIn detail (types_of own) 6 ts texts
+  pub elements : PrintAllIn detail (types_of own) extra ts texts
 
--- Such a function with all of them was read, and these bytes are its text from a place on.
-pub record IsEnclosed (detail : Detail) (from : ℕ) : Type 0 where
-  pub e : Term
-  pub front : List ℕ
+-- They are those of a function in which a type is, from a place on.
+pub record HasEnclosing (detail : Detail) (mark : Mark) (from : ℕ) (ts : List Term) (texts : List ℕ) : Type 0 where
+  pub is_led : IsLedFunction detail 6 mark ts texts
+  pub open is_led use *
   pub from_is : from ≡ length front
-  pub bytes : List ℕ
-  pub encloses : Encloses detail e bytes
+
+-- The name of a function whose address is an argument is written up to this place. The known arguments that it ends in are at their
+-- places in what is written up to there, and are those that types may name.
+pub record IsAddressed (detail : Detail) (scope : Scope) (to : ℕ) (argument : Arguments) (own : Term) (front name : List ℕ) : Type 0 where
+  pub to_is : to ≡ length (front ++ name)
+  pub given : IsGiven detail scope.names (types_of own)
+  pub named : scope.arguments ≡ argument
+  pub there : AreNamed (front ++ name) scope
+
+-- So are the parameters so far.
+pub record HasAddressed (detail : Detail) (scope : Scope) (mark : Mark) (to : ℕ) (argument : Arguments) (ts : List Term) (texts : List ℕ) : Type 0 where
+  pub is_led : IsLedFunction detail 3 mark ts texts
+  pub open is_led use *
+  pub is_addressed : IsAddressed detail scope to argument own front name
+  pub open is_addressed use *
+
+-- The name alone is, and the function has a return type.
+pub record HasAddressedFront (detail : Detail) (scope : Scope) (mark : Mark) (to : ℕ) (argument : Arguments) : Type 0 where
+  pub front : List ℕ
+  pub name : List ℕ
+  pub own : Term
+  pub prints : PrintsName detail own name
+  pub is_addressed : IsAddressed detail scope to argument own front name
+  pub open is_addressed use *
+  pub v : Value
+  pub named_so : IsNamedSo v own mark
+  pub returns : has_return_type own ≡ true
 
 -- the name of a function that has a return type, and its text
 pub record IsInstance (detail : Detail) (scope : Scope) (text : List ℕ) (argument : Arguments) (mark : Mark) (v : Value) (name : List ℕ) : Type 0 where
@@ -409,14 +282,11 @@ TypeWithin s below front e at st =
     × (StandsAt s.bytes at (69 ∷ []) → EntityOpened s (λ t end now. Comes s outer (tree t true) end (with_candidate around t now)) e (at + 1) st)
     × below.waits outer front
 
--- The same of the parameters of a lambda, which is such a type, before the E after them.
-abbrev pub LambdaWithin : (s : Symbol) → Below → (front : List ℕ) → (e : Term) → (items : Term) → (at : ℕ) → State → Type 0
-LambdaWithin s below front e items at st =
-    (outer : List Opened) × (around : Around)
-    × ((number : Option ℕ) (middle : ℕ) (digit : Discriminator) (end : ℕ) → IsLambdaDigit number → StandsAt s.bytes at (lambda_ending number)
-    → middle ≡ at + length (lambda_ending number) → IsDiscriminatorAt s.bytes middle digit end
-    → Comes s outer (tree (local_in e (lambda_with items number) digit) true) end (with_candidate around (local_in e (lambda_with items number) digit) st))
-    × below.waits outer front
+-- A function with this tree ends at the place, and its address comes for what is open below, after this text but for its &.
+abbrev pub AddressWithin : (s : Symbol) → Below → (front : List ℕ) → (e : Term) → (at : ℕ) → State → Type 0
+AddressWithin s below front e at st =
+    (outer : List Opened) × (before : List ℕ) × (front ≡ before ++ codes "&")
+    × (StandsAt s.bytes at (69 ∷ 69 ∷ []) → Comes s outer (tree (address_of e) true) (at + 2) st) × below.waits outer before
 
 -- A nested name that comes is what it is read as, and what types may name in it.
 abbrev pub Serves : (s : Symbol) → Purpose → Below → List Opened → (front : List ℕ) → Type 0
@@ -430,6 +300,29 @@ Serves s (purposes.Name mark) below os front =
 Serves s (purposes.Enclosing mark) below os front =
     (t : Term) (listed : Bool) (at : ℕ) (st : State) → Comes s os (tree t listed) at st
     → ItemsGoOn s nowhere (TypeWithin s below front) (λ l. encoding_of (named t (qualifiers (has_const mark)) (called_on mark)) l) [] at st
+Serves s (purposes.Address mark) below os front =
+    (outer : List Opened)
+    × ((t : Term) (listed : Bool) (at : ℕ) (st : State) → Comes s os (tree t listed) at st
+    → Comes s outer (named t (qualifiers (has_const mark)) (called_on mark)) at st)
+    × below.waits outer front
+
+-- A lambda was read after this tree, as a type in a function before its discriminator, or as a component of a nested name: what becomes
+-- of it.
+abbrev pub LambdaComes : (s : Symbol) → (nested : Option Purpose) → Below → (front : List ℕ) → (e : Term) → (lambda : Term) → (at : ℕ) → State → Type 0
+LambdaComes s None below front e p at st =
+    (outer : List Opened) × (around : Around)
+    × ((digit : Discriminator) (end : ℕ) → IsDiscriminatorAt s.bytes at digit end
+    → Comes s outer (tree (local_in e p digit) true) end (with_candidate around (local_in e p digit) st))
+    × below.waits outer front
+LambdaComes s (Some purpose) below front e p at st =
+    (outer : List Opened) × (around : Around) × NestGoesOn s Kind.NestTail outer around (within e p) false at st
+    × (is_type purpose ≡ true → below.scoped around) × Serves s purpose below outer front
+
+-- Its parameters were read, before the E after them.
+abbrev pub LambdaWithin : (s : Symbol) → (nested : Option Purpose) → Below → (front : List ℕ) → (e : Term) → (items : Term) → (at : ℕ) → State → Type 0
+LambdaWithin s nested below front e items at st =
+    (number : Option ℕ) (end : ℕ) → IsLambdaDigit number → StandsAt s.bytes at (lambda_ending number) → end ≡ at + length (lambda_ending number)
+    → LambdaComes s nested below front e (lambda_with items number) end st
 
 -- An instance is read, after this text: what becomes of it.
 abbrev pub Owns : (s : Symbol) → Open → Below → (front : List ℕ) → Term → (at : ℕ) → State → Type 0
@@ -443,6 +336,8 @@ Owns s (opens.FirstArguments nest) below front u at st =
     (around : Around) × (outer : List Opened) × AwaitsComponent s outer around u at (with_candidate around u st)
     × scoped_in (opens.FirstArguments nest) below around × (nest.is_dependent ≡ true → below.naming) × Serves s nest.purpose below outer front
 Owns s (opens.NameArguments from) below front u at st = AwaitsItems s front (tree u false) at st
+Owns s (opens.LevelArguments is_dependent) below front u at st =
+    (outer : List Opened) × MemberComes s outer u at st × (is_dependent ≡ true → below.naming) × below.waits outer front
 Owns s _ below front u at st = ⊥
 
 -- elements go on after these, up to an E, and what becomes of the list that they make
@@ -476,6 +371,7 @@ abbrev pub is_noted : Open → Bool
 is_noted (opens.TypeArguments from is_dependent) = is_dependent
 is_noted (opens.NestArguments nest) = nest.is_dependent
 is_noted (opens.FirstArguments nest) = nest.is_dependent
+is_noted (opens.LevelArguments is_dependent) = is_dependent
 is_noted _ = false
 
 -- whether elements of the list may do so
@@ -499,19 +395,9 @@ abbrev pub GoesOn : (s : Symbol) → Listing → Open → Below → (front : Lis
 GoesOn s listing owner below front template ts at st =
     ElementsGoOn s (element_kind listing) (scoped_in owner below) (λ l now then. Closes s listing owner below front template l now then) ts at st
 
--- Arguments are these elements, and what is known of them so far. The one with this number is at a place.
-pub record IsAmong (detail : Detail) (text : List ℕ) (p : Argument) (number : ℕ) (ts : List Term) : Type 0 where
-  pub bytes : List ℕ
-  pub placed : IsPlaced text p bytes
-  pub own : Term
-  pub there : slice_get ts number ≡ Some own
-  pub prints : Prints detail own bytes p.is_reference
-
--- those that are known are arguments, and in a pack those from this number on are its elements
-abbrev pub AreAmong : (detail : Detail) (text : List ℕ) → (is_pack : Bool) (first : ℕ) → Arguments → List Term → Type 0
-AreAmong detail text is_pack first a ts =
-    (number : ℕ) → IsKnown (place_of a number)
-    → IsAmong detail text (place_of a number) number ts × ((place_of a number).is_pack ≡ (is_pack && nat_le first number))
+-- those that are known are among these
+abbrev pub AreAmong : (detail : Detail) (text : List ℕ) → Arguments → List Term → Type 0
+AreAmong detail text a ts = (number : ℕ) → IsKnown a number → IsAmong detail text (place_of a number) number ts
 
 -- this template comes before the arguments
 abbrev pub IsTemplate : (detail : Detail) → Names → Open → (front : List ℕ) → Term → (name : List ℕ) → (text : List ℕ) → Type 0
@@ -522,6 +408,7 @@ IsTemplate detail names (opens.NestArguments nest) front template name text =
 IsTemplate detail names (opens.FirstArguments nest) front template name text = IsNest detail names front name text nest template
 IsTemplate detail names (opens.NameArguments from) front template name text =
     (from ≡ length front) × Prints detail template name false × (is_structor template ≡ false)
+IsTemplate detail names (opens.LevelArguments is_dependent) front template name text = Prints detail template name false
 IsTemplate detail names _ front template name text = ⊥
 
 -- a type comes as an element
@@ -537,11 +424,12 @@ abbrev pub arguments_or_pack : (is_pack : Bool) → (before : List Term) → (wr
 arguments_or_pack false before written = of_template
 arguments_or_pack true before written = of_pack before written
 
--- these arguments come before a pack, and before other arguments none does
+-- these arguments come before a pack, and before other arguments none does; none of them ends in a pack so far
 pub record ComeBefore (detail : Detail) (is_pack : Bool) (known : Arguments) (before : List Term) (written : List ℕ) : Type 0 where
   pub none : is_pack ≡ false → before ≡ []
   pub prints : PrintAll detail 3 before written
   pub count_is : is_pack ≡ true → known.before ≡ length before
+  pub no_pack : known.has_pack ≡ false
 
 -- a type comes as an argument of a name with this number, or as an element of such a pack
 abbrev pub AwaitsArgument : (s : Symbol) → Names → (is_pack : Bool) → (from number : ℕ) → (known : Arguments) → (owner : Open) → Below → List Opened
@@ -551,7 +439,7 @@ AwaitsArgument s names is_pack from number known owner below os text =
     × (before : List Term) × (written : List ℕ) × ComeBefore (detail_of s) is_pack known before written
     × PrintAll (detail_of s) (extra_of (arguments_or_pack is_pack before written)) ts elements
     × (text ≡ led_by (detail_of s) (arguments_or_pack is_pack before written) front name ++ in_front_of_next ts elements) × (from ≡ length text)
-    × (number ≡ length (before ++ ts)) × AreAmong (detail_of s) text is_pack (length before) known (before ++ ts)
+    × (number ≡ length (before ++ ts)) × AreAmong (detail_of s) text known (before ++ ts)
     × ((t : Term) (at : ℕ) (st : State) → Comes s os (tree t true) at st
     → GoesOn s (arguments_or_pack is_pack before written) owner below front template (ts ++ t ∷ []) at st)
 
@@ -603,6 +491,7 @@ TakesFunction (opens.TypeArguments from is_dependent ∷ rest) = Unit {0}
 TakesFunction (opens.NestArguments nest ∷ rest) = Unit {0}
 TakesFunction (opens.FirstArguments nest ∷ rest) = Unit {0}
 TakesFunction (opens.NameArguments from ∷ rest) = Unit {0}
+TakesFunction (opens.LevelArguments is_dependent ∷ rest) = Unit {0}
 TakesFunction (opens.Pack ∷ rest) = Unit {0}
 TakesFunction (opens.Parameters mark start argument ∷ rest) = Unit {0}
 TakesFunction (opens.Special ∷ rest) = Unit {0}
@@ -610,8 +499,8 @@ TakesFunction (opens.Enclosing mark from to ∷ rest) = Unit {0}
 TakesFunction _ = ⊥
 
 -- what is below, if that waits so
-abbrev pub outside : (s : Symbol) → Scope → List Open → (waits : List Opened → List ℕ → Type 0) → Below
-outside s scope rest waits = record { waits = waits; scoped = λ around. IsScoped scope around rest; naming = IsNaming s scope rest }
+abbrev pub outside : Scope → List Open → (waits : List Opened → List ℕ → Type 0) → Below
+outside scope rest waits = record { waits = waits; scoped = λ around. IsScoped scope around rest; naming = IsNaming scope rest }
 
 -- These take a function type or an array that comes after a text: what waits for it, and what is open around it, where it is made.
 pub record IsTaken (below : Below) (rest : List Open) (front : List ℕ) : Type 0 where
@@ -627,42 +516,54 @@ pub record FirstType (s : Symbol) : Type 0 where
   pub is_reference : Bool
   pub prints : Prints (detail_of s) own bytes is_reference
 
--- A type comes for the last of the open ones, after what is written.
+-- A type comes for the last of the open ones, after what is written, or the name of a function whose address is read. While the types of
+-- that function are read, nothing is named by what is open around them.
 abbrev pub Stands : (s : Symbol) → Scope → List Open → List Opened → (text : List ℕ) → Type 0
 Stands s scope [] os text = ⊥
-Stands s scope (opens.Pointer from ∷ rest) os text = Marks s (outside s scope rest (Stands s scope rest)) os text from pointer
-Stands s scope (opens.Lvalue from ∷ rest) os text = Marks s (outside s scope rest (Stands s scope rest)) os text from lvalue
-Stands s scope (opens.Rvalue from ∷ rest) os text = Marks s (outside s scope rest (Stands s scope rest)) os text from rvalue
-Stands s scope (opens.Const from ∷ rest) os text = Marks s (outside s scope rest (Stands s scope rest)) os text from (qualified (qualifiers true))
+Stands s scope (opens.Pointer from ∷ rest) os text = Marks s (outside scope rest (Stands s scope rest)) os text from pointer
+Stands s scope (opens.Lvalue from ∷ rest) os text = Marks s (outside scope rest (Stands s scope rest)) os text from lvalue
+Stands s scope (opens.Rvalue from ∷ rest) os text = Marks s (outside scope rest (Stands s scope rest)) os text from rvalue
+Stands s scope (opens.Const from ∷ rest) os text = Marks s (outside scope rest (Stands s scope rest)) os text from (qualified (qualifiers true))
 Stands s scope (opens.Front mark start argument ∷ rest) os text =
     (h : HasInstance s scope text mark start argument)
     × ((t : Term) (at : ℕ) (st : State) → Comes s os (tree t true) at st → ParametersGoOn s argument h.lead (encoding_of h.v) (t ∷ []) at st)
 Stands s scope (opens.Parameters mark start argument ∷ rest) os text =
-    (ts : List Term) × (texts : List ℕ) × (p : HasParameters s scope text mark start argument ts texts)
+    (ts : List Term) × (texts : List ℕ) × (p : HasParameters s 3 scope text mark start argument ts texts)
     × (text ≡ p.front ++ codes "(" ++ in_front_of_next ts texts)
     × ((t : Term) (at : ℕ) (st : State) → Comes s os (tree t true) at st → ParametersGoOn s argument p.lead p.make (ts ++ t ∷ []) at st)
 Stands s scope (opens.Enclosing mark from to ∷ rest) os text =
     (ts : List Term) × (texts : List ℕ) × (h : HasEnclosing (detail_of s) mark from ts texts)
     × (text ≡ h.front ++ h.name ++ codes "(" ++ in_front_of_next ts texts)
     × ((t : Term) (at : ℕ) (st : State) → Comes s os (tree t true) at st
-    → ItemsGoOn s nowhere (TypeWithin s (outside s scope rest (Stands s scope rest)) h.front) h.make (ts ++ t ∷ []) at st)
+    → ItemsGoOn s nowhere (TypeWithin s (outside scope rest (Stands s scope rest)) h.front) h.make (ts ++ t ∷ []) at st)
     × (to ≡ length (h.front ++ h.name))
-Stands s scope (opens.Lambda from ∷ rest) os text =
-    (h : IsEnclosed (detail_of s) from) × (ts : List Term) × (texts : List ℕ) × PrintAll (detail_of s) 0 ts texts
+Stands s scope (opens.Address encoding ∷ rest) os text =
+    (v : Value) (at : ℕ) (st : State) → Comes s os v at st → ItemsOf s encoding (AddressWithin s (outside scope rest (Stands s scope rest)) text) v at st
+Stands s scope (opens.AddressedFront mark to argument ∷ rest) os text =
+    (a : HasAddressedFront (detail_of s) scope mark to argument) × (text ≡ a.front ++ a.name)
+    × ((t : Term) (at : ℕ) (st : State) → Comes s os (tree t true) at st
+    → ItemsGoOn s argument (AddressWithin s (outside no_scope rest (Stands s no_scope rest)) a.front) (λ l. encoding_of a.v l) (t ∷ []) at st)
+Stands s scope (opens.Addressed mark to argument ∷ rest) os text =
+    (ts : List Term) × (texts : List ℕ) × (h : HasAddressed (detail_of s) scope mark to argument ts texts)
+    × (text ≡ h.front ++ h.name ++ codes "(" ++ in_front_of_next ts texts)
+    × ((t : Term) (at : ℕ) (st : State) → Comes s os (tree t true) at st
+    → ItemsGoOn s argument (AddressWithin s (outside no_scope rest (Stands s no_scope rest)) h.front) h.make (ts ++ t ∷ []) at st)
+Stands s scope (opens.Lambda from nested ∷ rest) os text =
+    (h : IsLed (detail_of s) nested from) × (ts : List Term) × (texts : List ℕ) × PrintAll (detail_of s) 0 ts texts
     × (text ≡ h.front ++ (h.bytes ++ codes "::{lambda(") ++ in_front_of_next ts texts)
     × ((t : Term) (at : ℕ) (st : State) → Comes s os (tree t true) at st
-    → ItemsGoOn s nowhere (LambdaWithin s (outside s scope rest (Stands s scope rest)) h.front h.e) (λ l. l) (ts ++ t ∷ []) at st)
+    → ItemsGoOn s nowhere (LambdaWithin s nested (outside scope rest (Stands s scope rest)) h.front h.e) (λ l. l) (ts ++ t ∷ []) at st)
 Stands s scope (opens.Returned is_pointer ∷ rest) os text =
-    (k : IsTaken (outside s scope rest (Stands s scope rest)) rest text)
+    (k : IsTaken (outside scope rest (Stands s scope rest)) rest text)
     × ((r : Term) (at : ℕ) (st : State) → Comes s os (tree r true) at st → SignatureGoesOn s k.outer k.made_in is_pointer (λ l. plain_function r l) at st)
 Stands s scope (opens.Signature is_pointer ∷ rest) os text =
-    (front : List ℕ) × (k : IsTaken (outside s scope rest (Stands s scope rest)) rest front) × (first : FirstType s)
+    (front : List ℕ) × (k : IsTaken (outside scope rest (Stands s scope rest)) rest front) × (first : FirstType s)
     × (ts : List Term) × (texts : List ℕ) × PrintAll (detail_of s) 0 ts texts
     × (text ≡ front ++ (first.bytes ++ opening_text is_pointer) ++ in_front_of_next ts texts)
     × ((t : Term) (at : ℕ) (st : State) → Comes s os (tree t true) at st
     → SignatureGoesOn s k.outer k.made_in is_pointer (λ l. plain_function first.own (list_with (ts ++ t ∷ []) l)) at st)
 Stands s scope (opens.Array access from to ∷ rest) os text =
-    (k : IsTaken (outside s scope rest (Stands s scope rest)) rest text)
+    (k : IsTaken (outside scope rest (Stands s scope rest)) rest text)
     × (digits : List ℕ) × (from ≤ to) × (to ≤ length s.bytes) × (take (to - from) (drop from s.bytes) ≡ digits)
     × ((t : Term) (at : ℕ) (st : State) → Comes s os (tree t true) at st
     → Comes s k.outer (tree (accessed access (array (values.normal digits) t)) true) at (with_accessed access k.made_in (array (values.normal digits) t) st))
@@ -671,32 +572,32 @@ Stands s scope (opens.Special ∷ rest) os text =
     × ((t : Term) (at : ℕ) (st : State) → Comes s os (tree t true) at st → Encoded s (special letter t) at)
 Stands s scope (opens.Argument from number known ∷ []) os text = ⊥
 Stands s scope (opens.Argument from number known ∷ owner ∷ rest) os text =
-    AwaitsArgument s scope.names false from number known owner (outside s scope rest (Stands s scope rest)) os text
+    AwaitsArgument s scope.names false from number known owner (outside scope rest (Stands s scope rest)) os text
 Stands s scope (opens.Element from number known ∷ opens.Pack ∷ owner ∷ rest) os text =
-    AwaitsArgument s scope.names true from number known owner (outside s scope rest (Stands s scope rest)) os text
+    AwaitsArgument s scope.names true from number known owner (outside scope rest (Stands s scope rest)) os text
 Stands s scope (opens.Element from number known ∷ rest) os text = ⊥
 Stands s scope (opens.Enumerator ∷ []) os text = ⊥
 Stands s scope (opens.Enumerator ∷ opens.Pack ∷ []) os text = ⊥
 Stands s scope (opens.Enumerator ∷ opens.Pack ∷ owner ∷ rest) os text =
     (before : List Term) × (written : List ℕ) × PrintAllAs (detail_of s) scope.names (is_noted owner) 3 before written
-    × AwaitsEnumerator s scope.names (of_pack before written) owner (outside s scope rest (Stands s scope rest)) os text
-Stands s scope (opens.Enumerator ∷ owner ∷ rest) os text = AwaitsEnumerator s scope.names of_template owner (outside s scope rest (Stands s scope rest)) os text
+    × AwaitsEnumerator s scope.names (of_pack before written) owner (outside scope rest (Stands s scope rest)) os text
+Stands s scope (opens.Enumerator ∷ owner ∷ rest) os text = AwaitsEnumerator s scope.names of_template owner (outside scope rest (Stands s scope rest)) os text
 Stands s scope (opens.Pack ∷ []) os text = ⊥
 Stands s scope (opens.Pack ∷ owner ∷ rest) os text =
     (before : List Term) × (written : List ℕ) × PrintAllAs (detail_of s) scope.names (is_noted owner) 3 before written
-    × AwaitsElementOf s scope.names (of_pack before written) owner (outside s scope rest (Stands s scope rest)) os text
-Stands s scope (owner ∷ rest) os text = AwaitsElementOf s scope.names of_template owner (outside s scope rest (Stands s scope rest)) os text
+    × AwaitsElementOf s scope.names (of_pack before written) owner (outside scope rest (Stands s scope rest)) os text
+Stands s scope (owner ∷ rest) os text = AwaitsElementOf s scope.names of_template owner (outside scope rest (Stands s scope rest)) os text
 
 -- what is open below these
 abbrev pub below : (s : Symbol) → Scope → List Open → Below
-below s scope rest = outside s scope rest (Stands s scope rest)
+below s scope rest = outside scope rest (Stands s scope rest)
 
 -- ## What comes next
 
 -- where a nested name is read that has come so far: what types may name in it, if it is a type
 pub record IsNestScoped (s : Symbol) (scope : Scope) (w : Direct) (around : Around) : Type 0 where
   pub scoped : is_type w.nest.purpose ≡ true → IsScoped scope around (reverse w.waiting.list.items)
-  pub naming : w.nest.is_dependent ≡ true → IsNaming s scope (reverse w.waiting.list.items)
+  pub naming : w.nest.is_dependent ≡ true → IsNaming scope (reverse w.waiting.list.items)
 
 -- of a nested name this was read and written
 pub record IsNestSoFar (s : Symbol) (scope : Scope) (w : Direct) (t : Term) : Type 0 where
@@ -736,7 +637,7 @@ pub record IsTypeRead (s : Symbol) (scope : Scope) (w : Direct) (st : State) (wa
   pub bytes : List ℕ
   pub written : w.text.list.items ≡ front ++ bytes
   pub prints : PrintsAs (detail_of s) scope.names is_dependent own bytes is_reference
-  pub naming : is_dependent ≡ true → IsNaming s scope waits
+  pub naming : is_dependent ≡ true → IsNaming scope waits
   pub comes : Comes s os (tree own true) w.at st
   pub stands : Stands s scope waits os front
 

@@ -1,6 +1,9 @@
 -- What the small functions of a writer do to its lists.
 use Rattle.std.specs.Prelude.{◌≡◌, ◌⊎◌, ℕ, List, [], ◌∷◌, ◌++◌, length, drop, Bool, true, false, ◌≤◌}
+use Rattle.cpp_direct.specs.declared.open.Argument.{Argument}
 use Rattle.cpp_direct.specs.declared.open.Candidate.{Candidate}
+use Rattle.cpp_direct.specs.declared.open.Hiding.{Hiding}
+use Rattle.cpp_direct.specs.declared.open.Hiding.TheVariants as hidings
 use Rattle.cpp_direct.specs.declared.direct.Direct.{Direct}
 
 -- a text was written, and nothing else changed
@@ -39,19 +42,29 @@ abbrev pub added_unless : Direct → (is_listed : Bool) → (from : ℕ) → (is
 added_unless w true from is_dependent = w.candidates.list.items
 added_unless w false from is_dependent = added w from false is_dependent
 
+-- the candidates, and the text of an argument of the function's template
+abbrev pub with_argument : Direct → Argument → List Candidate
+with_argument w argument =
+    w.candidates.list.items ++ record { from = argument.from; to = argument.to; is_reference = argument.is_reference; is_dependent = true } ∷ []
+
 -- a candidate that ends before it begins
 abbrev pub hidden : Candidate
 hidden = record { from = 1; to = 0; is_reference = false; is_dependent = false }
 
--- a candidate is what it was, and its text ends by a place, or it is nowhere
-abbrev pub IsKeptTo : (to : ℕ) → (old new : Candidate) → Type 0
-IsKeptTo to old new = ((new ≡ old) × (old.to ≤ to)) ⊎ (new ≡ hidden)
+-- a candidate stays what it was
+abbrev pub Stays : Hiding → Candidate → Type 0
+Stays (hidings.After to) k = k.to ≤ to
+Stays hidings.Dependent k = k.is_dependent ≡ false
+
+-- it is what it was and stays so, or it is nowhere
+abbrev pub IsLeft : Hiding → (old new : Candidate) → Type 0
+IsLeft hiding old new = ((new ≡ old) × Stays hiding old) ⊎ (new ≡ hidden)
 
 -- each of them is
-abbrev pub AreKeptTo : (to : ℕ) → (old new : List Candidate) → Type 0
-AreKeptTo to [] [] = Unit {0}
-AreKeptTo to (k ∷ ks) (n ∷ ns) = IsKeptTo to k n × AreKeptTo to ks ns
-AreKeptTo to _ _ = ⊥
+abbrev pub AreLeft : Hiding → (old new : List Candidate) → Type 0
+AreLeft hiding [] [] = Unit {0}
+AreLeft hiding (k ∷ ks) (n ∷ ns) = IsLeft hiding k n × AreLeft hiding ks ns
+AreLeft hiding _ _ = ⊥
 
 -- the candidates, and such a one for a function type and for the pointer to it
 abbrev pub with_hidden : Direct → (is_pointer : Bool) → List Candidate

@@ -22,7 +22,8 @@ pub struct Direct {
     /// the arguments of the name that was read last: the first of them, if they are types, but no function types and no arrays, where
     /// the first may be a literal, or the elements of a pack of such types, if this is the only one
     pub(crate) argument: Arguments,
-    /// whether the arguments of the symbol's own name are known, which types may name
+    /// whether the arguments of the symbol's own name are known, which types may name, or while its types are read those of a function
+    /// whose address is an argument
     pub(crate) has_scope: bool,
     pub(crate) at: usize,
     /// the steps that the last symbol took

@@ -1,16 +1,16 @@
 // Types that are in the body of a function.
 
-ghost use Rattle.std.specs.Prelude.{◌≡◌, ◌+◌, ◌∷◌, ◌++◌, [], ℕ, List, length, Option, true, false, codes};
+ghost use Rattle.std.specs.Prelude.{◌+◌, ◌∷◌, [], ℕ, List, true, false};
 ghost use Rattle.std.specs.Option.{OnSome, IfSome};
 ghost use Rattle.cpp_grammar.specs.Term.{Term};
 ghost use Rattle.cpp_direct.specs.Names.{IsReadable};
 ghost use Rattle.cpp_direct.specs.declared.open.Mark.TheVariants as marks;
 ghost use Rattle.cpp_direct.specs.Holes.{StandsAt};
-ghost use Rattle.cpp_direct.specs.HolesOfLocals.{IsLambdaDigit, IsPieceAt, lambda_digits, lambda_number};
+ghost use Rattle.cpp_direct.specs.HolesOfLocals.{IsPieceAt};
 ghost use Rattle.cpp_direct.specs.Prints.{PrintsPiece};
 ghost use Rattle.cpp_direct.specs.WriterInvariant.{IsWriting};
 ghost use Rattle.cpp_direct.specs.MidStep.{AwaitsNamedType};
-ghost use Rattle.cpp_direct.specs.MidStepOfLocals.{AwaitsEnclosingParameters, AwaitsTypeName, IsEnclosingNamed, IsEnclosingParameterRead, IsEnclosingRead, IsLambdaParameterRead};
+ghost use Rattle.cpp_direct.specs.MidStepOfLocals.{AwaitsEnclosingParameters, AwaitsTypeName, IsEnclosingNamed, IsEnclosingParameterRead, IsEnclosingRead};
 ghost use Rattle.cpp_direct.specs.Written.{Reads};
 ghost use Rattle.cpp_direct.specs.Symbol.{detail_by, symbol_by};
 
@@ -18,11 +18,11 @@ use crate::direct::Direct;
 use crate::grammar::Grammar;
 use crate::marks::mark_at;
 use crate::open::{Mark, Open, Purpose, Step};
-use crate::tokens::{are_numbers_short, byte_at};
+use crate::tokens::byte_at;
 
-/// The longest symbol that is gone over once more, or its candidates are, at a lambda with parameters or at parameters that aren't
-/// shown, in bytes.
-const LONGEST_GONE_OVER: usize = 1_024;
+/// The longest symbol that is gone over once more, or its candidates are, at a lambda with parameters, at parameters that aren't shown
+/// or at the address of a function, in bytes.
+pub(crate) const LONGEST_GONE_OVER: usize = 1_024;
 
 impl Direct {
     /// Reads the first bytes of a type that is in a function, up to the first type in that one's name.
@@ -132,17 +132,16 @@ impl Direct {
         if self.text.as_slice().ends_with(b"(void") {
             return None;
         }
+        let _open = self.waiting.pop();
         if G::IS_BARE {
             // the arguments that types may name stay where they are
             if self.has_scope {
                 return None;
             }
-            let _named = self.waiting.pop();
             self.leave_out(to)?;
             return self.enclosed::<G>(s, from);
         }
         self.push_byte(b')')?;
-        let _open = self.waiting.pop();
         self.enclosing_ended::<G>(s, mark, from)
     }
 
@@ -204,92 +203,5 @@ impl Direct {
             return self.lambda::<G>(s);
         }
         self.name(s)
-    }
-
-    /// Reads a lambda without parameters, one of the first nine of a function.
-    // <closure-type-name> ::= Ul <lambda-sig> E [<nonnegative number>] _
-    fn lambda<G: Grammar>(&mut self, s: &[u8]) -> Option<()>
-        requires letter { StandsAt s.now self.old.at (85 ∷ []) }
-        ensures { OnSome result ((p : Term) × (n : List ℕ) × IsPieceAt (symbol_by G.IS_WIDE G.IS_BARE G.IS_BRIEF s.now) self.old.at p self.new.at × PrintsPiece (detail_by G.IS_BARE G.IS_BRIEF) p n × Reads self.old self.new n) }
-    {
-        let second = byte_at(s, self.at.checked_add(1)?);
-        let third = byte_at(s, self.at.checked_add(2)?);
-        let fourth = byte_at(s, self.at.checked_add(3)?);
-        if second != b'l' || third != b'v' || fourth != b'E' {
-            return None;
-        }
-        self.at = self.at.checked_add(4)?;
-        self.push(b"{lambda()#")?;
-        self.lambda_number(s)
-    }
-
-    /// Reads the number of a lambda, one of the first nine, and writes it and what follows it.
-    // <closure-type-name> ::= Ul <lambda-sig> E [<nonnegative number>] _
-    fn lambda_number(&mut self, s: &[u8]) -> Option<()>
-        ensures { OnSome result ((number : Option ℕ) × IsLambdaDigit number × StandsAt s.now self.old.at (lambda_digits number ++ 95 ∷ [])
-            × (self.new.at ≡ self.old.at + length (lambda_digits number ++ 95 ∷ []))
-            × Reads self.old self.new (lambda_number number ++ codes "}")) }
-    {
-        let digit = byte_at(s, self.at);
-        self.at = self.at.checked_add(1)?;
-        if digit == b'_' {
-            return self.push(b"1}");
-        }
-        if digit < b'0' || b'7' < digit {
-            return None;
-        }
-        if byte_at(s, self.at) != b'_' {
-            return None;
-        }
-        self.at = self.at.checked_add(1)?;
-        self.push_pair(digit + 2, b'}')
-    }
-
-    /// Begins a lambda that has parameters, in a symbol that isn't a long one: each lambda goes over it once more.
-    // <closure-type-name> ::= Ul <lambda-sig> E [<nonnegative number>] _
-    fn begin_lambda<G: Grammar>(&mut self, s: &[u8], from: u32) -> Option<Step>
-        requires awaits { AwaitsTypeName (symbol_by G.IS_WIDE G.IS_BARE G.IS_BRIEF s.now) self.old from }
-        requires letter { StandsAt s.now self.old.at (85 ∷ []) }
-        ensures { IfSome result (IsWriting (symbol_by G.IS_WIDE G.IS_BARE G.IS_BRIEF s.now) self.new) }
-    {
-        self.at = self.at.checked_add(1)?;
-        if byte_at(s, self.at) != b'l' {
-            return None;
-        }
-        // its number is tested before its parameters, and isn't known yet
-        if s.len() > LONGEST_GONE_OVER || !are_numbers_short(s) {
-            return None;
-        }
-        self.at = self.at.checked_add(1)?;
-        self.push(b"::{lambda(")?;
-        self.waiting.push(Open::Lambda { from })?;
-        Some(Step::Type)
-    }
-
-    /// A parameter of a lambda is read: another one follows, or the lambda's end.
-    // <lambda-sig> ::= <parameter type>+
-    pub(crate) fn lambda_parameter<G: Grammar>(&mut self, s: &[u8], from: u32) -> Option<Step>
-        requires fits { IsReadable s.now }
-        requires read { IsLambdaParameterRead (symbol_by G.IS_WIDE G.IS_BARE G.IS_BRIEF s.now) self.old from }
-        ensures { IfSome result (IsWriting (symbol_by G.IS_WIDE G.IS_BARE G.IS_BRIEF s.now) self.new) }
-    {
-        if byte_at(s, self.at) != b'E' {
-            self.push_pair(b',', b' ')?;
-            return Some(Step::Type);
-        }
-        // a lone void is no parameter
-        if self.text.as_slice().ends_with(b"(void") {
-            return None;
-        }
-        self.at = self.at.checked_add(1)?;
-        self.push_pair(b')', b'#')?;
-        self.lambda_number(s)?;
-        let _open = self.waiting.pop();
-        self.discriminator(s)?;
-        self.add_candidate(from, false, false)?;
-        Some(Step::Value {
-            is_reference: false,
-            is_dependent: false,
-        })
     }
 }

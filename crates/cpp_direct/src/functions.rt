@@ -25,6 +25,7 @@ impl Direct {
             Some(Open::NestArguments { .. }) => true,
             Some(Open::FirstArguments { .. }) => true,
             Some(Open::NameArguments { .. }) => true,
+            Some(Open::LevelArguments { .. }) => true,
             Some(Open::Pack) => true,
             Some(Open::Parameters { .. }) => true,
             Some(Open::Enclosing { .. }) => true,

@@ -6,12 +6,16 @@
 //! the bounds that it sets.
 #![tactic(auto)]
 
+mod addresses;
 mod arrays;
+mod clones;
 mod direct;
 mod enclosing;
 mod functions;
 mod grammar;
+mod lambdas;
 mod letters;
+mod levels;
 mod lists;
 mod locals;
 mod marks;

@@ -102,6 +102,12 @@ impl Direct {
         if !is_first {
             self.push_pair(b',', b' ')?;
         }
+        if G::IS_WIDE && byte == b'X' {
+            let behind = self.at.checked_add(1)?;
+            if byte_at(s, behind) == b's' {
+                return self.begin_level::<G>(s);
+            }
+        }
         match byte {
             b'L' => {
                 if is_first {
@@ -135,10 +141,10 @@ impl Direct {
     /// Reads a pack of nothing, for which nothing is written, at the end of arguments.
     // <template-arg> ::= J <template-arg>* E
     #[inline(never)]
-    fn empty_pack<G: Grammar>(&mut self, s: &[u8], _is_first: bool) -> Option<Step>
+    fn empty_pack<G: Grammar>(&mut self, s: &[u8], is_first: bool) -> Option<Step>
         requires fits { IsReadable s.now }
         requires letters { StandsAt s.now self.old.at (74 ∷ 69 ∷ []) }
-        requires writing { IsWriting (symbol_by G.IS_WIDE G.IS_BARE G.IS_BRIEF s.now) self.old (steps.List _is_first) }
+        requires writing { IsWriting (symbol_by G.IS_WIDE G.IS_BARE G.IS_BRIEF s.now) self.old (steps.List is_first) }
         ensures { IfSome result (IsWriting (symbol_by G.IS_WIDE G.IS_BARE G.IS_BRIEF s.now) self.new) }
     {
         self.at = self.at.checked_add(2)?;
@@ -148,7 +154,13 @@ impl Direct {
         self.at = self.at.checked_add(1)?;
         match *self.waiting.as_slice().last()? {
             Open::Pack => None,
-            _ => self.close_list::<G>(s, NOWHERE),
+            _ => self.close_list::<G>(
+                s,
+                Arguments {
+                    has_pack: is_first,
+                    ..NOWHERE
+                },
+            ),
         }
     }
 
@@ -206,6 +218,7 @@ impl Direct {
             Open::NameArguments { from } => {
                 self.name_ended::<G>(s, Mark::Plain, true, argument, from)
             }
+            Open::LevelArguments { is_dependent } => self.level_ended::<G>(s, is_dependent),
             _ => None,
         }
     }

@@ -24,6 +24,7 @@ impl Direct {
     pub(crate) fn begin_local<G: Grammar>(&mut self, s: &[u8]) -> Option<Step>
         requires fits { IsReadable s.now }
         requires fresh { IsFresh self.old }
+        requires local { is_local s.now ≡ true }
         requires starts { StandsAt s.now 0 (95 ∷ 90 ∷ []) }
         ensures { IfSome result (IsWriting (symbol_by G.IS_WIDE G.IS_BARE G.IS_BRIEF s.now) self.new) }
     {
@@ -39,6 +40,7 @@ impl Direct {
     fn begin_guard<G: Grammar>(&mut self, s: &[u8]) -> Option<Step>
         requires fits { IsReadable s.now }
         requires fresh { IsFresh self.old }
+        requires local { is_local s.now ≡ true }
         requires starts { StandsAt s.now 0 (95 ∷ 90 ∷ []) }
         ensures { IfSome result (IsWriting (symbol_by G.IS_WIDE G.IS_BARE G.IS_BRIEF s.now) self.new) }
     {

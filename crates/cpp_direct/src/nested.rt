@@ -252,14 +252,14 @@ impl Direct {
     }
 
     /// Whether it ends in the arguments of a function that is no constructor or destructor.
-    fn is_function_instance(&self) -> bool
+    pub(crate) fn is_function_instance(&self) -> bool
         ensures { result ≡ self.now.nest.is_instance && self.now.nest.has_class }
     {
         self.nest.is_instance && self.nest.has_class
     }
 
     /// The arguments that it ends in, those of them that are known.
-    fn noted(&self) -> Arguments
+    pub(crate) fn noted(&self) -> Arguments
         ensures known { self.now.nest.is_instance ≡ true → result ≡ self.now.argument }
         ensures none { self.now.nest.is_instance ≡ false → result ≡ nowhere }
     {
@@ -296,6 +296,7 @@ impl Direct {
                 }
                 self.enclosing_named::<G>(s, mark, self.nest.from)
             }
+            Purpose::Address { mark } => self.addressed_named::<G>(s, mark),
         }
     }
 
@@ -312,6 +313,7 @@ impl Direct {
             b'C' => self.constructor::<G>(s),
             b'D' => self.destructor::<G>(s),
             b'L' => self.source::<G>(s, true),
+            b'U' => self.begin_component::<G>(s),
             b'a'..=b'z' => self.operator::<G>(s),
             _ => self.source::<G>(s, false),
         }

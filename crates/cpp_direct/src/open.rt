@@ -10,15 +10,25 @@ pub struct Candidate {
     pub is_dependent: bool,
 }
 
-/// An argument of a name, or an element of a pack, and where its text is in what is written. One that ends before it begins is
-/// nowhere.
+/// Which candidates have no text any more.
+#[derive(Clone, Copy)]
+pub enum Hiding {
+    /// those that end after this place
+    After { to: u32 },
+    /// those that name arguments of the function's template
+    Dependent,
+}
+
+/// An argument of a name, or an element of a pack, and where its text is in what is written.
 #[derive(Clone, Copy)]
 pub struct Argument {
     pub from: u16,
     pub to: u16,
-    pub is_pack: bool,
     pub is_reference: bool,
 }
+
+/// How many arguments of a name may be known, with the elements of a pack in its place.
+pub const MOST_KNOWN: usize = 8;
 
 /// The qualifiers of a member function: whether it is const, and what it may be called on.
 #[derive(Clone, Copy)]
@@ -31,19 +41,26 @@ pub enum Mark {
     ConstRvalue,
 }
 
-/// The first arguments of a name, those of them that are known. If one of them is a pack, its elements are in its place.
+/// The first arguments of a name, those of them that are known. If one of them is a pack, its elements are in its place. Between the
+/// texts of two of them are a comma and a space.
 #[derive(Clone, Copy)]
 pub struct Arguments {
-    pub first: Argument,
-    pub second: Argument,
-    pub third: Argument,
-    pub fourth: Argument,
+    /// where the text of the first one begins
+    pub from: u16,
+    /// where the text of each of them ends
+    pub ends: [u16; MOST_KNOWN],
+    /// whether it is a reference
+    pub references: [bool; MOST_KNOWN],
+    /// how many are known
+    pub count: u8,
     /// the place where the encoding begins whose types may name them, 0 if this isn't known
     pub encoding: u16,
-    /// how many arguments come before the pack
-    pub before: u16,
-    /// how many elements the pack has, 0 if there is none
-    pub elements: u16,
+    /// whether the last of them is a pack
+    pub has_pack: bool,
+    /// how many arguments come before it
+    pub before: u8,
+    /// and how many elements it has
+    pub elements: u8,
 }
 
 /// What a parameter that expands a pack makes of each of its types.
@@ -66,6 +83,8 @@ pub enum Purpose {
     Name { mark: Mark },
     /// the name of a function in which a type is, with these qualifiers
     Enclosing { mark: Mark },
+    /// the name of a function whose address is an argument, with these qualifiers
+    Address { mark: Mark },
 }
 
 /// A nested name so far: where its text begins, and where that of the class is that a constructor would be named after.
@@ -125,6 +144,11 @@ pub enum Open {
     NameArguments {
         from: u32,
     },
+    /// the arguments of a name of which a member is an argument of what was opened before, and whether one of them names an argument
+    /// of the function's template
+    LevelArguments {
+        is_dependent: bool,
+    },
     /// the return type of a function, which is written after its name; what was written up to this place is no part of the text
     Front {
         mark: Mark,
@@ -144,9 +168,27 @@ pub enum Open {
         from: u32,
         to: u32,
     },
-    /// the parameters of a lambda that is in a function, whose text begins at this place
+    /// the name of a function whose address is an argument, of an encoding that begins at this place
+    Address {
+        encoding: u16,
+    },
+    /// the return type of such a function; its name ends at this place
+    AddressedFront {
+        mark: Mark,
+        to: u32,
+        argument: Arguments,
+    },
+    /// its parameters
+    Addressed {
+        mark: Mark,
+        to: u32,
+        argument: Arguments,
+    },
+    /// the parameters of a lambda that is in a function, whose text begins at this place; or in a nested name, of which it is a
+    /// component, and what that one is read as
     Lambda {
         from: u32,
+        nested: Option<Purpose>,
     },
     /// the name of a special symbol
     Special,
@@ -168,7 +210,7 @@ pub enum Open {
     /// an argument of a name, so many after the first one, whose text begins at this place: an element of what was opened before
     Argument {
         from: u32,
-        number: u16,
+        number: u8,
         known: Arguments,
     },
     /// the elements of a pack, an argument of what was opened before
@@ -176,7 +218,7 @@ pub enum Open {
     /// an element of a pack that is the first argument of a name, so many after the first one, whose text begins at this place
     Element {
         from: u32,
-        number: u16,
+        number: u8,
         known: Arguments,
     },
     /// the number of an enumerator, an element of what was opened before

@@ -10,81 +10,76 @@ ghost use Rattle.cpp_direct.specs.Names.{IsReadable};
 ghost use Rattle.cpp_direct.specs.Prints.{IsMarkedBy, pattern_letters};
 ghost use Rattle.cpp_direct.specs.declared.open.Step.TheVariants as steps;
 ghost use Rattle.cpp_direct.specs.Holes.{StandsAt};
-ghost use Rattle.cpp_direct.specs.WriterInvariant.{EndsNamed, IsWriting, argument_of, arguments_in, is_type, is_within_type, place_of};
-ghost use Rattle.cpp_direct.specs.MidStep.{AwaitsType, AwaitsKnownArgument, AwaitsNextParameter, IsArgumentRead, IsNamedAgain, AreExpanded, IsPackOf, comma_text, expansion_letters, KnowsMore, parameter_digits};
+ghost use Rattle.cpp_direct.specs.WriterInvariant.{EndsNamed, IsKnown, IsPackOf, IsSingle, IsWriting, argument_of, arguments_in, begin_by, is_type, is_within_type, place_of};
+ghost use Rattle.cpp_direct.specs.MidStep.{AwaitsType, AwaitsKnownArgument, AreParametersRead, IsArgumentRead, IsNamedAgain, AreExpanded, comma_text, expansion_letters, separator, KnowsMore, most_by_digit, parameter_digits};
 ghost use Rattle.cpp_direct.specs.Symbol.{symbol_by};
 ghost use Rattle.cpp_direct.specs.Written.{Writes, hidden};
 
 use crate::direct::Direct;
 use crate::grammar::Grammar;
 use crate::lists::is_enumerator_at;
-use crate::open::{Argument, Arguments, Candidate, Mark, Open, Pattern, Purpose, Step};
-use crate::symbols::{NO_PLACE, NOWHERE};
+use crate::open::{Argument, Arguments, Candidate, MOST_KNOWN, Mark, Open, Pattern, Purpose, Step};
+use crate::symbols::NOWHERE;
 use crate::tokens::{byte_at, may_end};
 
-/// The place, unless it is nowhere.
-fn known(place: Argument) -> Option<Argument>
-    ensures is { IfSome result (λ p. p ≡ place) }
-    ensures ordered { IfSome result (λ p. p.from ≤ p.to) }
-{
-    if place.to < place.from {
-        return None;
-    }
-    Some(place)
-}
-
-/// An argument with a text that is from one place to another one.
-fn placed(from: u32, to: u32, is_pack: bool, is_reference: bool) -> Argument
-    ensures { result.from ≤ result.to
-        → result ≡ record { from = from; to = to; is_pack = is_pack; is_reference = is_reference } }
-{
-    if from > 65_535 || to > 65_535 {
-        return NO_PLACE;
-    }
-    Argument {
-        from: from as u16,
-        to: to as u16,
-        is_pack,
-        is_reference,
-    }
-}
-
 impl Arguments {
-    /// The argument with this number, if it is known.
-    fn at(self, number: u16) -> Argument
-        ensures { result.from ≤ result.to → result ≡ place_of self number }
+    /// Where the text of the argument with this number begins, if those before it are known. A comma and a space are between them.
+    fn begin(&self, number: u8) -> Option<u16>
+        ensures { IfSome result (λ from. from ≡ begin_by self.now.from self.now.ends number) }
     {
-        match number {
-            0 => self.first,
-            1 => self.second,
-            2 => self.third,
-            3 => self.fourth,
-            _ => NO_PLACE,
-        }
+        let Some(before) = number.checked_sub(1) else {
+            return Some(self.from);
+        };
+        self.ends.get(before as usize)?.checked_add(2)
     }
 
-    /// The same, and the argument with this number is known.
-    fn with(self, number: u16, place: Argument) -> Arguments
-        ensures more { KnowsMore self result number place }
-        ensures before { result.before ≡ self.before }
+    /// The argument with this number, if it is known.
+    fn at(&self, number: u8) -> Option<Argument>
+        ensures known { IfSome result (λ p. IsKnown self.now number) }
+        ensures is { IfSome result (λ p. p ≡ place_of self.now number) }
     {
-        match number {
-            0 => Arguments {
-                first: place,
-                ..self
-            },
-            1 => Arguments {
-                second: place,
-                ..self
-            },
-            2 => Arguments {
-                third: place,
-                ..self
-            },
-            3 => Arguments {
-                fourth: place,
-                ..self
-            },
+        if number >= self.count {
+            return None;
+        }
+        Some(Argument {
+            from: self.begin(number)?,
+            to: *self.ends.get(number as usize)?,
+            is_reference: *self.references.get(number as usize)?,
+        })
+    }
+
+    /// The argument with this number, if it is known and no element of the pack.
+    fn single(&self, number: u8) -> Option<Argument>
+        ensures known { IfSome result (λ p. IsSingle self.now number) }
+        ensures is { IfSome result (λ p. p ≡ place_of self.now number) }
+    {
+        if self.has_pack && number >= self.before {
+            return None;
+        }
+        self.at(number)
+    }
+
+    /// The same, and the argument with this number is known, if those before it are: its text is from one place to another one.
+    fn with(self, number: u8, from: u32, to: u32, is_reference: bool) -> Arguments
+        ensures more { KnowsMore self result number from to is_reference }
+        ensures rest { (result.before ≡ self.before) × (result.has_pack ≡ self.has_pack) }
+    {
+        let place = number as usize;
+        if number != self.count || place >= MOST_KNOWN || from > 65_535 || to > 65_535 {
+            return self;
+        }
+        let mut more = Arguments {
+            count: number + 1,
+            ..self
+        };
+        more.ends[place] = to as u16;
+        more.references[place] = is_reference;
+        if number == 0 {
+            more.from = from as u16;
+            return more;
+        }
+        match self.begin(number) {
+            Some(begin) if begin as u32 == from => more,
             _ => self,
         }
     }
@@ -93,7 +88,7 @@ impl Arguments {
 /// The number that follows the T of a parameter, one digit at most, and the place after it.
 #[derive(Clone, Copy)]
 struct ParameterNumber {
-    number: u16,
+    number: u8,
     end: usize,
 }
 
@@ -101,26 +96,23 @@ struct ParameterNumber {
 fn parameter_number(s: &[u8], at: usize) -> Option<ParameterNumber>
     ensures stands { IfSome result (λ n. StandsAt s.now at (parameter_digits n.number ++ 95 ∷ [])) }
     ensures end { IfSome result (λ n. n.end ≡ at + length (parameter_digits n.number ++ 95 ∷ [])) }
-    ensures few { IfSome result (λ n. n.number ≤ 3) }
+    ensures few { IfSome result (λ n. n.number ≤ most_by_digit) }
 {
     let behind = at.checked_add(1)?;
-    let number = match byte_at(s, at) {
-        b'_' => {
-            return Some(ParameterNumber {
-                number: 0,
-                end: behind,
-            });
-        }
-        b'0' => 1,
-        b'1' => 2,
-        b'2' => 3,
-        _ => return None,
-    };
-    if byte_at(s, behind) != b'_' {
+    let byte = byte_at(s, at);
+    if byte == b'_' {
+        return Some(ParameterNumber {
+            number: 0,
+            end: behind,
+        });
+    }
+    if byte < b'0' || byte > b'9' || byte_at(s, behind) != b'_' {
         return None;
     }
-    let end = behind.checked_add(1)?;
-    Some(ParameterNumber { number, end })
+    Some(ParameterNumber {
+        number: byte - b'0' + 1,
+        end: behind.checked_add(1)?,
+    })
 }
 
 /// Among how many levels of types a type that names an argument of the function's template may be: marks, and arguments of types.
@@ -138,6 +130,7 @@ fn is_within_type(entry: Open) -> bool
         Open::TypeArguments { .. } => true,
         Open::NestArguments { nest } => is_type(nest.purpose),
         Open::FirstArguments { nest } => is_type(nest.purpose),
+        Open::LevelArguments { .. } => true,
         _ => false,
     }
 }
@@ -159,6 +152,8 @@ fn arguments_in(entry: Open) -> Option<Arguments>
     match entry {
         Open::Front { argument, .. } => Some(argument),
         Open::Parameters { argument, .. } => Some(argument),
+        Open::AddressedFront { argument, .. } => Some(argument),
+        Open::Addressed { argument, .. } => Some(argument),
         _ => None,
     }
 }
@@ -189,11 +184,14 @@ fn pattern_at(s: &[u8], at: usize) -> Option<PatternPlace>
 {
     let behind = at.checked_add(1)?;
     match byte_at(s, at) {
+        // <type> ::= O <type>
         b'O' => Some(PatternPlace {
             pattern: Pattern::Rvalue,
             end: behind,
         }),
+        // <type> ::= R <type>
         b'R' => {
+            // <CV-qualifiers> ::= [r] [V] [K]
             if byte_at(s, behind) != b'K' {
                 return Some(PatternPlace {
                     pattern: Pattern::Lvalue,
@@ -217,7 +215,7 @@ fn pattern_at(s: &[u8], at: usize) -> Option<PatternPlace>
 #[derive(Clone, Copy)]
 struct Expansion {
     pattern: Pattern,
-    number: u16,
+    number: u8,
     end: usize,
 }
 
@@ -226,13 +224,14 @@ struct Expansion {
 fn expansion_at(s: &[u8], at: usize) -> Option<Expansion>
     ensures stands { IfSome result (λ e. StandsAt s.now at (expansion_letters e.pattern e.number)) }
     ensures end { IfSome result (λ e. e.end ≡ at + length (expansion_letters e.pattern e.number)) }
-    ensures few { IfSome result (λ e. e.number ≤ 3) }
+    ensures few { IfSome result (λ e. e.number ≤ most_by_digit) }
 {
     let second = at.checked_add(1)?;
     if byte_at(s, at) != b'D' || byte_at(s, second) != b'p' {
         return None;
     }
     let read = pattern_at(s, second.checked_add(1)?)?;
+    // <template-param> ::= T_ | T <parameter-2 non-negative number> _
     if byte_at(s, read.end) != b'T' {
         return None;
     }
@@ -307,7 +306,7 @@ impl Direct {
             number: 0,
             known: NOWHERE,
         })?;
-        Some(Step::Type)
+        self.argument_at::<G>(s)
     }
 
     /// The first element of a list, which is a literal. Where it is an argument of a name, those after it are known.
@@ -362,6 +361,26 @@ impl Direct {
         Some(Step::Type)
     }
 
+    /// An argument of a name is read, or an element of a pack among them, so many after the first one: where its text is becomes
+    /// known.
+    #[inline(always)]
+    fn note_argument<G: Grammar>(
+        &mut self,
+        _s: &[u8],
+        _is_pack: bool,
+        from: u32,
+        number: u8,
+        known: Arguments,
+        is_reference: bool,
+    ) -> Arguments
+        requires read { IsArgumentRead (symbol_by G.IS_WIDE G.IS_BARE G.IS_BRIEF _s.now) self.old _is_pack from number known is_reference }
+        ensures { AwaitsKnownArgument (symbol_by G.IS_WIDE G.IS_BARE G.IS_BRIEF _s.now) self.new _is_pack number result }
+    {
+        let _entry = self.waiting.pop();
+        let to = self.text.end();
+        known.with(number, from, to, is_reference)
+    }
+
     /// An element of a pack is read, so many after the first argument of a name: others follow, or the end of the pack, and
     /// after it that of the arguments.
     // <template-arg> ::= J <template-arg>* E
@@ -369,7 +388,7 @@ impl Direct {
         &mut self,
         s: &[u8],
         from: u32,
-        number: u16,
+        number: u8,
         known: Arguments,
         is_reference: bool,
     ) -> Option<Step>
@@ -377,14 +396,12 @@ impl Direct {
         requires read { IsArgumentRead (symbol_by G.IS_WIDE G.IS_BARE G.IS_BRIEF s.now) self.old true from number known is_reference }
         ensures { IfSome result (IsWriting (symbol_by G.IS_WIDE G.IS_BARE G.IS_BRIEF s.now) self.new) }
     {
-        let _element = self.waiting.pop();
+        let more = self.note_argument::<G>(s, true, from, number, known, is_reference);
         let byte = byte_at(s, self.at);
         // a literal isn't known, nor is what follows it
         if byte == b'L' || is_element_at(s, self.at) {
             return Some(Step::List { is_first: false });
         }
-        let to = self.text.end();
-        let more = known.with(number, placed(from, to, true, is_reference));
         if byte != b'E' {
             return self.next_element::<G>(s, number, more);
         }
@@ -395,12 +412,19 @@ impl Direct {
         let _pack = self.waiting.pop();
         self.at = behind.checked_add(1)?;
         let elements = number.checked_add(1)?.checked_sub(more.before)?;
-        self.close_list::<G>(s, Arguments { elements, ..more })
+        self.close_list::<G>(
+            s,
+            Arguments {
+                has_pack: true,
+                elements,
+                ..more
+            },
+        )
     }
 
     /// An element of a pack comes next, after so many others.
     // <template-arg> ::= J <template-arg>* E
-    fn next_element<G: Grammar>(&mut self, s: &[u8], before: u16, known: Arguments) -> Option<Step>
+    fn next_element<G: Grammar>(&mut self, s: &[u8], before: u8, known: Arguments) -> Option<Step>
         requires fits { IsReadable s.now }
         requires awaits { AwaitsKnownArgument (symbol_by G.IS_WIDE G.IS_BARE G.IS_BRIEF s.now) self.old true before known }
         ensures { IfSome result (IsWriting (symbol_by G.IS_WIDE G.IS_BARE G.IS_BRIEF s.now) self.new) }
@@ -416,63 +440,88 @@ impl Direct {
         Some(Step::Type)
     }
 
-    /// A parameter of a function comes next.
+    /// A parameter of a function comes next, the first one or another one.
     #[inline(always)]
     pub(crate) fn next_parameter<G: Grammar>(
         &mut self,
         s: &[u8],
+        is_first: bool,
         mark: Mark,
         start: u32,
         argument: Arguments,
     ) -> Option<Step>
         requires fits { IsReadable s.now }
-        requires awaits { AwaitsNextParameter (symbol_by G.IS_WIDE G.IS_BARE G.IS_BRIEF s.now) self.old mark start argument }
+        requires awaits { AreParametersRead (symbol_by G.IS_WIDE G.IS_BARE G.IS_BRIEF s.now) self.old 3 is_first mark start argument }
         ensures { IfSome result (IsWriting (symbol_by G.IS_WIDE G.IS_BARE G.IS_BRIEF s.now) self.new) }
     {
-        if argument.elements != 0 {
-            return self.expansion::<G>(s, mark, start, argument);
+        if argument.has_pack {
+            return self.expansion::<G>(s, is_first, mark, start, argument);
         }
+        self.separate(is_first)?;
         Some(Step::Type)
     }
 
-    /// The last parameter may be one that expands the pack that is among the arguments of the function's template.
+    /// Writes what comes before an element of a list, the first one or another one.
+    #[inline(always)]
+    fn separate(&mut self, is_first: bool) -> Option<()>
+        ensures { OnSome result (Writes self.old self.new (separator is_first)) }
+    {
+        if is_first {
+            return Some(());
+        }
+        self.push_pair(b',', b' ')
+    }
+
+    /// The last parameter may be one that expands the pack that is among the arguments of the function's template. Nothing is written
+    /// of an empty one.
     // <type> ::= Dp <type>
     #[inline(never)]
     fn expansion<G: Grammar>(
         &mut self,
         s: &[u8],
+        is_first: bool,
         mark: Mark,
         start: u32,
         argument: Arguments,
     ) -> Option<Step>
         requires fits { IsReadable s.now }
-        requires awaits { AwaitsNextParameter (symbol_by G.IS_WIDE G.IS_BARE G.IS_BRIEF s.now) self.old mark start argument }
+        requires has_pack { argument.has_pack ≡ true }
+        requires awaits { AreParametersRead (symbol_by G.IS_WIDE G.IS_BARE G.IS_BRIEF s.now) self.old 3 is_first mark start argument }
         ensures { IfSome result (IsWriting (symbol_by G.IS_WIDE G.IS_BARE G.IS_BRIEF s.now) self.new) }
     {
         let Some(read) = expansion_at(s, self.at) else {
+            self.separate(is_first)?;
             return Some(Step::Type);
         };
-        let first = argument.at(argument.before);
-        if first.to < first.from || !first.is_pack {
-            return None;
-        }
-        if read.number != argument.before
-            || argument.elements > 4
-            || !may_end(byte_at(s, read.end))
-        {
+        if read.number != argument.before || !may_end(byte_at(s, read.end)) {
             return None;
         }
         self.at = read.end;
-        self.expand(argument, read.pattern, 0)?;
-        self.expand(argument, read.pattern, 1)?;
-        self.expand(argument, read.pattern, 2)?;
-        self.expand(argument, read.pattern, 3)?;
+        if argument.elements == 0 {
+            self.add_expansion(read.pattern)?;
+            return self.close::<G>(s, mark, start);
+        }
+        self.separate(is_first)?;
+        self.expand_all(argument, read.pattern)?;
         self.add_expansion(read.pattern)?;
         self.close_parameters::<G>(s, mark, start, argument)
     }
 
+    /// Writes what a pattern makes of each element of a pack.
+    // <type> ::= Dp <type>
+    fn expand_all(&mut self, argument: Arguments, pattern: Pattern) -> Option<()>
+        requires pack { (detail : Detail) × (ts : List Term) × IsPackOf detail self.old.text.list.items argument ts }
+        ensures { OnSome result ((detail : Detail) (ts : List Term) → IsPackOf detail self.old.text.list.items argument ts
+            → AreExpanded detail pattern self.old self.new ts argument.elements) }
+    {
+        'elements: for number in 0..argument.elements {
+            self.expand(argument, pattern, number)?;
+        }
+        Some(())
+    }
+
     /// Writes what comes before the element of a list with this number.
-    fn comma(&mut self, number: u16) -> Option<()>
+    fn comma(&mut self, number: u8) -> Option<()>
         ensures { OnSome result (Writes self.old self.new (comma_text number)) }
     {
         match number {
@@ -483,19 +532,12 @@ impl Direct {
 
     /// Writes what a pattern makes of the element of a pack with this number, after those before it.
     // <type> ::= Dp <type>
-    fn expand(&mut self, argument: Arguments, pattern: Pattern, number: u16) -> Option<()>
-        requires few { number ≤ 3 }
+    fn expand(&mut self, argument: Arguments, pattern: Pattern, number: u8) -> Option<()>
         requires before { (detail : Detail) × (before : Direct) × (ts : List Term) × IsPackOf detail before.text.list.items argument ts × AreExpanded detail pattern before self.old ts number }
         ensures { OnSome result ((detail : Detail) (before : Direct) (ts : List Term) → IsPackOf detail before.text.list.items argument ts
             → AreExpanded detail pattern before self.old ts number → AreExpanded detail pattern before self.new ts (number + 1)) }
     {
-        if number >= argument.elements {
-            return Some(());
-        }
-        let place = known(argument.at(argument.before.checked_add(number)?))?;
-        if !place.is_pack {
-            return None;
-        }
+        let place = argument.at(argument.before.checked_add(number)?)?;
         let marks = marks_of(pattern, place.is_reference)?;
         self.comma(number)?;
         self.repeat(place.from as u32, place.to as u32)?;
@@ -526,7 +568,7 @@ impl Direct {
         &mut self,
         s: &[u8],
         from: u32,
-        number: u16,
+        number: u8,
         known: Arguments,
         is_reference: bool,
     ) -> Option<Step>
@@ -534,14 +576,12 @@ impl Direct {
         requires read { IsArgumentRead (symbol_by G.IS_WIDE G.IS_BARE G.IS_BRIEF s.now) self.old false from number known is_reference }
         ensures { IfSome result (IsWriting (symbol_by G.IS_WIDE G.IS_BARE G.IS_BRIEF s.now) self.new) }
     {
-        let _open = self.waiting.pop();
+        let more = self.note_argument::<G>(s, false, from, number, known, is_reference);
         let byte = byte_at(s, self.at);
         // a literal isn't known, nor is what follows it
         if byte == b'L' || is_element_at(s, self.at) {
             return Some(Step::List { is_first: false });
         }
-        let to = self.text.end();
-        let more = known.with(number, placed(from, to, false, is_reference));
         if byte == b'J' {
             return self.next_pack::<G>(s, number, more);
         }
@@ -554,7 +594,7 @@ impl Direct {
 
     /// An argument of a name comes next, after so many others.
     // <template-args> ::= I <template-arg>* E
-    fn next_argument<G: Grammar>(&mut self, s: &[u8], before: u16, known: Arguments) -> Option<Step>
+    fn next_argument<G: Grammar>(&mut self, s: &[u8], before: u8, known: Arguments) -> Option<Step>
         requires fits { IsReadable s.now }
         requires awaits { AwaitsKnownArgument (symbol_by G.IS_WIDE G.IS_BARE G.IS_BRIEF s.now) self.old false before known }
         ensures { IfSome result (IsWriting (symbol_by G.IS_WIDE G.IS_BARE G.IS_BRIEF s.now) self.new) }
@@ -567,13 +607,13 @@ impl Direct {
             number,
             known,
         })?;
-        Some(Step::Type)
+        self.argument_at::<G>(s)
     }
 
     /// A pack comes next, after so many arguments of a name and one more.
     // <template-arg> ::= J <template-arg>* E
     #[inline(never)]
-    fn next_pack<G: Grammar>(&mut self, s: &[u8], last: u16, known: Arguments) -> Option<Step>
+    fn next_pack<G: Grammar>(&mut self, s: &[u8], last: u8, known: Arguments) -> Option<Step>
         requires fits { IsReadable s.now }
         requires letter { StandsAt s.now self.old.at (74 ∷ []) }
         requires awaits { AwaitsKnownArgument (symbol_by G.IS_WIDE G.IS_BARE G.IS_BRIEF s.now) self.old false last known }
@@ -581,8 +621,11 @@ impl Direct {
     {
         let behind = self.at.checked_add(1)?;
         let byte = byte_at(s, behind);
+        if byte == b'E' {
+            return self.last_pack_empty::<G>(s, last, known);
+        }
         // a literal isn't known, nor is what follows it
-        if byte == b'E' || byte == b'L' || is_element_at(s, behind) {
+        if byte == b'L' || is_element_at(s, behind) {
             return Some(Step::List { is_first: false });
         }
         self.push_pair(b',', b' ')?;
@@ -599,6 +642,32 @@ impl Direct {
             },
         })?;
         Some(Step::Type)
+    }
+
+    /// An empty pack comes next, after so many arguments of a name and one more. It is the last one, or others follow, of which
+    /// nothing is known.
+    // <template-arg> ::= J <template-arg>* E
+    fn last_pack_empty<G: Grammar>(&mut self, s: &[u8], last: u8, known: Arguments) -> Option<Step>
+        requires fits { IsReadable s.now }
+        requires letters { StandsAt s.now self.old.at (74 ∷ 69 ∷ []) }
+        requires awaits { AwaitsKnownArgument (symbol_by G.IS_WIDE G.IS_BARE G.IS_BRIEF s.now) self.old false last known }
+        ensures { IfSome result (IsWriting (symbol_by G.IS_WIDE G.IS_BARE G.IS_BRIEF s.now) self.new) }
+    {
+        let end = self.at.checked_add(2)?;
+        if byte_at(s, end) != b'E' {
+            return Some(Step::List { is_first: false });
+        }
+        self.at = end.checked_add(1)?;
+        let before = last.checked_add(1)?;
+        self.close_list::<G>(
+            s,
+            Arguments {
+                has_pack: true,
+                before,
+                elements: 0,
+                ..known
+            },
+        )
     }
 
     /// The arguments that types may name in what is open, if it is few levels within the types of a function.
@@ -628,15 +697,14 @@ impl Direct {
     {
         let read = parameter_number(s, self.at.checked_add(1)?)?;
         let named = self.argument()?;
-        let argument = known(named.at(read.number))?;
         // a pack is named in what is expanded alone
-        if argument.is_pack || named.encoding == 0 {
+        let argument = named.single(read.number)?;
+        if named.encoding == 0 {
             return None;
         }
         self.at = read.end;
-        let from = self.text.end();
         self.repeat(argument.from as u32, argument.to as u32)?;
-        self.add_candidate(from, argument.is_reference, true)?;
+        self.add_argument(argument)?;
         Some(Step::Value {
             is_reference: argument.is_reference,
             is_dependent: true,
@@ -659,8 +727,8 @@ impl Direct {
         }
         let read = parameter_number(s, behind.checked_add(1)?)?;
         let named = self.argument()?;
-        let argument = known(named.at(read.number))?;
-        if argument.is_pack || named.encoding == 0 {
+        let argument = named.single(read.number)?;
+        if named.encoding == 0 {
             return None;
         }
         if !argument.is_reference {

@@ -1,19 +1,19 @@
 // A symbol from its first byte to its last.
 
-ghost use Rattle.std.specs.Prelude.{◌≡◌, ◌≢◌, ◌+◌, ◌∷◌, [], length, true, false};
+ghost use Rattle.std.specs.Prelude.{◌≡◌, ◌≢◌, ◌≤◌, ◌+◌, ◌∷◌, ℕ, [], length, true, false};
 ghost use Rattle.std.specs.Option.{IfSome, OnSome};
 ghost use Rattle.cpp_direct.specs.declared.open.Mark.TheVariants as marks;
 ghost use Rattle.cpp_direct.specs.Holes.{StandsAt};
 ghost use Rattle.cpp_direct.specs.Names.{IsReadable};
 ghost use Rattle.cpp_direct.specs.WriterInvariant.{IsWriting, encoding_place};
 ghost use Rattle.cpp_direct.specs.Bytes.{is_local};
-ghost use Rattle.cpp_direct.specs.MidStep.{IsFresh, AwaitsEncoding, IsNameEnded, IsNameScoped, IsFrontRead, AwaitsParameters, IsParameterEnded, IsEncodingEnded, IsFunctionEnded, IsSymbolEnded};
+ghost use Rattle.cpp_direct.specs.MidStep.{IsFresh, AwaitsEncoding, IsNameEnded, IsNameScoped, IsFrontRead, AwaitsParameters, AreParametersRead, IsEncodingEnded, IsFunctionEnded, IsSymbolEnded};
 ghost use Rattle.cpp_direct.specs.Symbol.{symbol_by};
 
 use crate::direct::Direct;
 use crate::grammar::Grammar;
 use crate::marks::mark_at;
-use crate::open::{Argument, Arguments, Mark, Nest, Open, Purpose, Step};
+use crate::open::{Arguments, MOST_KNOWN, Mark, Nest, Open, Purpose, Step};
 use crate::tokens::{byte_at, is_local, is_suffix, may_end};
 
 /// Before the first nested name.
@@ -28,21 +28,14 @@ pub const NO_NEST: Nest = Nest {
     is_dependent: false,
 };
 
-/// An argument that isn't known.
-pub const NO_PLACE: Argument = Argument {
-    from: 1,
-    to: 0,
-    is_pack: false,
-    is_reference: false,
-};
-
 /// No argument that is known.
 pub const NOWHERE: Arguments = Arguments {
-    first: NO_PLACE,
-    second: NO_PLACE,
-    third: NO_PLACE,
-    fourth: NO_PLACE,
+    from: 0,
+    ends: [0; MOST_KNOWN],
+    references: [false; MOST_KNOWN],
+    count: 0,
     encoding: 0,
+    has_pack: false,
     before: 0,
     elements: 0,
 };
@@ -107,7 +100,11 @@ impl Direct {
         if is_local(s) {
             return self.begin_local::<G>(s);
         }
-        if byte_at(s, 2) != b'T' {
+        let letter = byte_at(s, 2);
+        if letter == b'G' {
+            return self.begin_clone::<G>(s);
+        }
+        if letter != b'T' {
             self.at = 2;
             return self.begin_encoding::<G>(s);
         }
@@ -324,7 +321,7 @@ impl Direct {
             start,
             argument,
         })?;
-        self.next_parameter::<G>(s, mark, start, argument)
+        self.next_parameter::<G>(s, true, mark, start, argument)
     }
 
     /// A parameter is read: another one follows, or the end of the encoding.
@@ -336,13 +333,11 @@ impl Direct {
         argument: Arguments,
     ) -> Option<Step>
         requires fits { IsReadable s.now }
-        requires ended { IsParameterEnded (symbol_by G.IS_WIDE G.IS_BARE G.IS_BRIEF s.now) self.old mark start argument }
+        requires ended { AreParametersRead (symbol_by G.IS_WIDE G.IS_BARE G.IS_BRIEF s.now) self.old 3 false mark start argument }
         ensures { IfSome result (IsWriting (symbol_by G.IS_WIDE G.IS_BARE G.IS_BRIEF s.now) self.new) }
     {
-        let byte = byte_at(s, self.at);
-        if !may_end(byte) {
-            self.push_pair(b',', b' ')?;
-            return self.next_parameter::<G>(s, mark, start, argument);
+        if !may_end(byte_at(s, self.at)) {
+            return self.next_parameter::<G>(s, false, mark, start, argument);
         }
         self.close_parameters::<G>(s, mark, start, argument)
     }
@@ -358,7 +353,7 @@ impl Direct {
         _argument: Arguments,
     ) -> Option<Step>
         requires fits { IsReadable s.now }
-        requires ended { IsParameterEnded (symbol_by G.IS_WIDE G.IS_BARE G.IS_BRIEF s.now) self.old mark start _argument }
+        requires ended { (extra : ℕ) × (extra ≤ 6) × AreParametersRead (symbol_by G.IS_WIDE G.IS_BARE G.IS_BRIEF s.now) self.old extra false mark start _argument }
         ensures { IfSome result (IsWriting (symbol_by G.IS_WIDE G.IS_BARE G.IS_BRIEF s.now) self.new) }
     {
         // a lone void is no parameter
@@ -370,7 +365,7 @@ impl Direct {
 
     /// A function is read, and written but for its last bracket. Where functions are shown by their names alone, what follows its
     /// name is taken away.
-    fn close<G: Grammar>(&mut self, s: &[u8], mark: Mark, start: u32) -> Option<Step>
+    pub(crate) fn close<G: Grammar>(&mut self, s: &[u8], mark: Mark, start: u32) -> Option<Step>
         requires fits { IsReadable s.now }
         requires ended { IsFunctionEnded (symbol_by G.IS_WIDE G.IS_BARE G.IS_BRIEF s.now) self.old mark start }
         ensures { IfSome result (IsWriting (symbol_by G.IS_WIDE G.IS_BARE G.IS_BRIEF s.now) self.new) }

@@ -26,14 +26,15 @@ pub fn byte_at(s: &[u8], at: usize) -> u8
     if at < s.len() { s[at] } else { 0 }
 }
 
-/// Whether a symbol has a Z or a G after its _Z: it may name a local entity, or something special of one.
+/// Whether a symbol has a Z or GVZ after its _Z: it may name a local entity, or the guard variable of one.
 #[inline(always)]
 #[tactic(auto, unfolding(crate::specs::Bytes::is_local))]
 pub fn is_local(s: &[u8]) -> bool
     ensures { result ≡ is_local s.now }
 {
     match s {
-        [_, _, byte, ..] => *byte == b'Z' || *byte == b'G',
+        [_, _, b'Z', ..] => true,
+        [_, _, b'G', b'V', b'Z', ..] => true,
         _ => false,
     }
 }

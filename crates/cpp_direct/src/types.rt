@@ -42,6 +42,7 @@ fn dependent(entry: Open) -> Option<Open>
         Open::FirstArguments { nest } => Some(Open::FirstArguments {
             nest: dependent_nest(nest)?,
         }),
+        Open::LevelArguments { .. } => Some(Open::LevelArguments { is_dependent: true }),
         _ => None,
     }
 }
@@ -290,7 +291,12 @@ impl Direct {
             Open::Signature { is_pointer } => self.parameter_at::<G>(s, is_pointer, false),
             Open::Array { access, from, to } => self.array_ended::<G>(s, access, from, to),
             Open::Enclosing { mark, from, to } => self.enclosing_parameter::<G>(s, mark, from, to),
-            Open::Lambda { from } => self.lambda_parameter::<G>(s, from),
+            Open::Lambda { from, nested } => self.lambda_parameter::<G>(s, from, nested),
+            Open::AddressedFront { mark, to, argument } => self.addressed_front::<G>(
+                s, mark, to, argument,
+            ),
+            Open::Addressed { mark, to, .. } => self.addressed_parameter::<G>(s, mark, to),
+            Open::Address { .. } => None,
             Open::Special => self.finish::<G>(s),
             Open::Enumerator => self.enumerator::<G>(s),
             Open::Argument {
@@ -310,7 +316,25 @@ impl Direct {
     /// Hands on a type that names arguments of the function's template, which the arguments of a type may do.
     // <template-arg> ::= <type>
     #[inline(never)]
-    fn pass_dependent<G: Grammar>(&mut self, _s: &[u8]) -> Option<Step>
+    fn pass_dependent<G: Grammar>(&mut self, s: &[u8]) -> Option<Step>
+        requires fits { IsReadable s.now }
+        requires writing { (is_reference : Bool) × IsWriting (symbol_by G.IS_WIDE G.IS_BARE G.IS_BRIEF s.now) self.old (steps.Value is_reference true) }
+        ensures { IfSome result (IsWriting (symbol_by G.IS_WIDE G.IS_BARE G.IS_BRIEF s.now) self.new) }
+    {
+        let entry = *self.waiting.as_slice().last()?;
+        match entry {
+            Open::AddressedFront { mark, to, argument } => self.addressed_front::<G>(
+                s, mark, to, argument,
+            ),
+            Open::Addressed { mark, to, .. } => self.addressed_parameter::<G>(s, mark, to),
+            _ => self.note_dependent::<G>(s),
+        }
+    }
+
+    /// One of the arguments of a type names arguments of the function's template.
+    // <template-arg> ::= <type>
+    #[inline(always)]
+    fn note_dependent<G: Grammar>(&mut self, _s: &[u8]) -> Option<Step>
         requires writing { (is_reference : Bool) × IsWriting (symbol_by G.IS_WIDE G.IS_BARE G.IS_BRIEF _s.now) self.old (steps.Value is_reference true) }
         ensures { IfSome result (IsWriting (symbol_by G.IS_WIDE G.IS_BARE G.IS_BRIEF _s.now) self.new) }
     {

@@ -1,15 +1,16 @@
 // The text and the candidates, as they grow.
 
-ghost use Rattle.std.specs.Prelude.{◌≡◌, ◌+◌, ◌-◌, ◌≤◌, ◌∷◌, ◌++◌, [], length, take, drop, true, if◌then◌else◌};
+ghost use Rattle.std.specs.Prelude.{◌≡◌, ◌+◌, ◌-◌, ◌≤◌, ◌∷◌, ◌++◌, [], length, take, drop, true, false, if◌then◌else◌};
 ghost use Rattle.std.specs.Option.{OnSome, IfSome};
 ghost use Rattle.cpp_direct.specs.declared.open.Step.TheVariants as steps;
 ghost use Rattle.cpp_direct.specs.Symbol.{detail_by};
 ghost use Rattle.cpp_direct.specs.WrittenParts.{opening_bracket, closing_bracket};
-ghost use Rattle.cpp_direct.specs.Written.{Writes, Cuts, added, added_unless, with_hidden, AreKeptTo};
+ghost use Rattle.cpp_direct.specs.Written.{Writes, Cuts, added, added_unless, with_argument, with_hidden, AreLeft, Stays};
+ghost use Rattle.cpp_direct.specs.declared.open.Hiding.TheVariants as hidings;
 
 use crate::direct::Direct;
 use crate::grammar::Grammar;
-use crate::open::{Candidate, Open, Step};
+use crate::open::{Argument, Candidate, Hiding, Open, Step};
 use sym_direct::{Bounded, CLOSES, OPENS};
 
 /// A candidate whose text is nowhere: it ends before it begins.
@@ -82,6 +83,25 @@ impl Direct {
         })
     }
 
+    /// The text of an argument of the function's template becomes a candidate, which names this.
+    #[inline(always)]
+    pub(crate) fn add_argument(&mut self, argument: Argument) -> Option<()>
+        ensures candidates { OnSome result (self.new.candidates.list.items ≡ with_argument self.old argument) }
+        ensures text { self.new.text ≡ self.old.text }
+        ensures open { self.new.waiting ≡ self.old.waiting }
+        ensures nest { self.new.nest ≡ self.old.nest }
+        ensures scope { self.new.has_scope ≡ self.old.has_scope }
+        ensures at { self.new.at ≡ self.old.at }
+        ensures rounds { self.new.rounds ≡ self.old.rounds }
+    {
+        self.candidates.push(Candidate {
+            from: argument.from as u32,
+            to: argument.to as u32,
+            is_reference: argument.is_reference,
+            is_dependent: true,
+        })
+    }
+
     /// A function type becomes a candidate, and so does the pointer to it, if it is one. Their texts are nowhere.
     pub(crate) fn add_hidden(&mut self, is_pointer: bool) -> Option<()>
         ensures candidates { OnSome result (self.new.candidates.list.items ≡ with_hidden self.old is_pointer) }
@@ -149,7 +169,7 @@ impl Direct {
     pub(crate) fn leave_out(&mut self, to: u32) -> Option<()>
         requires within { to ≤ length self.old.text.list.items }
         ensures text { OnSome result (self.new.text.list.items ≡ take to self.old.text.list.items) }
-        ensures candidates { OnSome result (AreKeptTo to self.old.candidates.list.items self.new.candidates.list.items) }
+        ensures candidates { OnSome result (AreLeft (hidings.After to) self.old.candidates.list.items self.new.candidates.list.items) }
         ensures open { OnSome result (self.new.waiting ≡ self.old.waiting) }
         ensures scope { OnSome result (self.new.has_scope ≡ self.old.has_scope) }
         ensures at { OnSome result (self.new.at ≡ self.old.at) }
@@ -157,8 +177,20 @@ impl Direct {
         let end = self.text.end();
         self.repeat(0, to)?;
         self.text.drop_first(end as usize);
-        hide_after(&mut self.candidates, to);
+        hide(&mut self.candidates, Hiding::After { to });
         Some(())
+    }
+
+    /// The arguments that types may name aren't named any more. Candidates that name them are nowhere then.
+    pub(crate) fn end_scope(&mut self)
+        ensures candidates { AreLeft hidings.Dependent self.old.candidates.list.items self.new.candidates.list.items }
+        ensures scope { self.new.has_scope ≡ false }
+        ensures text { self.new.text ≡ self.old.text }
+        ensures open { self.new.waiting ≡ self.old.waiting }
+        ensures at { self.new.at ≡ self.old.at }
+    {
+        self.has_scope = false;
+        hide(&mut self.candidates, Hiding::Dependent);
     }
 
     /// Opens what waits for a type.
@@ -202,13 +234,25 @@ impl Direct {
     }
 }
 
-/// Candidates that end after a place are nowhere.
-fn hide_after(candidates: &mut Bounded<Candidate>, to: u32)
-    ensures { AreKeptTo to candidates.old.list.items candidates.new.list.items }
+/// Whether a candidate is what it was.
+#[inline(always)]
+fn stays(hiding: Hiding, candidate: Candidate) -> bool
+    ensures { result ≡ true → Stays hiding candidate }
+{
+    match hiding {
+        Hiding::After { to } => candidate.to <= to,
+        Hiding::Dependent => !candidate.is_dependent,
+    }
+}
+
+/// Candidates that don't stay what they were are nowhere.
+#[inline(always)]
+fn hide(candidates: &mut Bounded<Candidate>, hiding: Hiding)
+    ensures { AreLeft hiding candidates.old.list.items candidates.new.list.items }
 {
     let mut at = 0;
     'candidates: while at < candidates.len() {
-        if candidates.as_slice()[at].to > to {
+        if !stays(hiding, candidates.as_slice()[at]) {
             candidates.put(at, HIDDEN);
         }
         at += 1;

@@ -133,7 +133,7 @@ pub data Gain : Type 0 where
   nothing : Gain
   -- the name so far
   the_prefix : Gain
-  -- the type that a part is, unless it is listed; and if it isn't a function type, which is none where qualifiers are behind it
+  -- the type that a part is, unless it is listed; and if it isn't a function type, which is none where qualifiers follow it
   type_of : ℕ → Gain
   unqualified_of : ℕ → Gain
   -- what the production stands for
@@ -147,7 +147,7 @@ pub data Before : Type 0 where
   becomes : Made → (is_in is_name is_candidate : Bool) → Before
   -- the first part is the number of a parameter, which is tested at the place, or at the T before it; it may be the name so far
   tests : (after_t is_name : Bool) → Before
-  -- the first part is an M behind the name so far
+  -- the first part is an M after the name so far
   holds : Before
   -- what the reading of the ABI's grammar refuses
   unread : Before

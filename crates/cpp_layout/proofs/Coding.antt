@@ -8,7 +8,7 @@ use Rattle.cpp_layout.proofs.CodeLetters.{builtin_letters, d_letters, abbreviati
 use Rattle.cpp_layout.specs.Texts.{fixed_text, texts, operator_letter, operator_code}
 use Rattle.cpp_layout.specs.declared.texts.TheConstants.{COUNT, NONE, OPERATOR, OPERATORS, OPERATOR_ALONE}
 
-abbrev all_below : (ℕ → Bool) → ℕ → Bool
+abbrev pub all_below : (ℕ → Bool) → ℕ → Bool
 all_below p zero = true
 all_below p (suc n) = all_below p n && p n
 

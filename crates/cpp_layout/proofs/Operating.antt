@@ -1,59 +1,132 @@
 -- The operations of code are those of the table.
-use Rattle.std.proofs.Common.{◌≡◌, refl, sym, ap, ◌∙◌, subst, arith, append-nil, ℕ, ◌+◌, ◌*◌, ◌<◌, List, [], ◌∷◌, ◌++◌, length, Bool, true, false, nat_eq, ◌||◌, Some, None}
+use Rattle.std.proofs.Common.{◌≡◌, refl, ap, ◌∙◌, subst, arith, append-nil, ℕ, zero, suc, ◌+◌, ◌*◌, ◌<◌, ◌≤◌, List, [], ◌∷◌, ◌++◌, length, drop, get_or, slice_get, Bool, true, false, nat_eq, nat_lt, ◌&&◌, ◌||◌, Option, Some, None, inl, inr}
 use Rattle.std.specs.Prelude.{nat_le}
-use Rattle.std.proofs.lemmas.Bool.{true≢false, eq-eqb, or_parts}
-use Rattle.cpp_grammar.specs.Texts.{same_bytes}
+use Rattle.std.proofs.lemmas.Bool.{and_parts, or_parts, eq-eqb, ne_eqb, ltb-true}
+use Rattle.std.proofs.lemmas.Bool.Decides.{eqb_tells}
+use Rattle.std.proofs.lemmas.Option.{slice_get_within}
+use Rattle.cpp_grammar.specs.Texts.{same_bytes, builtin_texts, operator_texts, abbreviation_texts, special_texts, named_special_texts, literal_endings}
 use Rattle.cpp_grammar.specs.Operations as table
 use Rattle.cpp_grammar.specs.declared.operand.Operand.{Operand}
 use Rattle.cpp_grammar.specs.Operations.{operations, operation_of_code}
 use Rattle.cpp_grammar.specs.Items as heads
 use Rattle.cpp_grammar.specs.Parts.{printed, no_operation}
-use Rattle.cpp_grammar.proofs.Chosen.{either}
 use Rattle.cpp_layout.specs.declared.operation_rows.Operation.{Operation}
-use Rattle.cpp_layout.specs.Operations.{with_code}
-use Rattle.cpp_layout.proofs.Coding.{same_bytes_sound}
+use Rattle.cpp_layout.specs.declared.operation_rows.TheConstants.{OPERATIONS}
+use Rattle.cpp_layout.specs.Operations.{with_code, number_of, place_of, HasTexts}
+use Rattle.cpp_layout.proofs.Coding.{all_below, holds_below}
 use Rattle.sym_print.specs.Unfold.{PartOf}
 use Rattle.cpp_term.specs.Items as items
 use Rattle.cpp_term.specs.Term.{Term}
-use Rattle.cpp_term.specs.Parts.{text_part, as_item, says, precedence_of, operand_parts, operation_parts}
+use Rattle.cpp_term.specs.Parts.{text_part, as_item, says, precedence_of, operand_parts, operation_parts, most_of}
 use Rattle.cpp_layout.specs.Texts.{fixed_text}
-use Rattle.cpp_layout.specs.declared.texts.TheConstants.{LEFT, RIGHT}
+use Rattle.cpp_layout.specs.declared.texts.TheConstants.{COUNT, LEFT, RIGHT}
 use Rattle.cpp_layout.specs.Layout.{text_if}
 
--- an operation of code is this one of the table
-abbrev Is : Operation → table.Operation → Type 0
-Is r o = with_code o.code r ≡ o
-
--- of the same two letters
-pub printed-by : (a b c d : ℕ) (r : Operation) → b < 256 → d < 256 → a * 256 + b ≡ c * 256 + d → Is r (printed c d) → Is r (printed a b)
-printed-by a b c d r less more same is =
-    let e : c ≡ a = omega (arith, less, more, same) in
-    let f : d ≡ b = omega (arith, less, more, same) in
-    subst (λ x. Is r (printed a x)) f (subst (λ x. Is r (printed x d)) e is)
-
--- a code as one number
-abbrev number_of : List ℕ → ℕ
-number_of (a ∷ b ∷ []) = a * 256 + b
-number_of _ = 65536
+-- ## The places of codes
 
 abbrev pub any_number : List table.Operation → ℕ → Bool
 any_number [] n = false
 any_number (o ∷ os) n = nat_eq n (number_of o.code) || any_number os n
 
-apart : (a b : ℕ) (o : table.Operation) → nat_eq (a * 256 + b) (number_of o.code) ≡ false → same_bytes (a ∷ b ∷ []) o.code ≡ true → ⊥
-apart a b o off is = true≢false (sym (eq-eqb (a * 256 + b) (number_of o.code) (ap number_of (same_bytes_sound (a ∷ b ∷ []) o.code is))) ∙ off)
+-- what has none of the codes is past the last place
+pub none_placed : (n : ℕ) (os : List table.Operation) → any_number os n ≡ false → length os ≡ place_of n os
+unfolding place_of
+none_placed n [] none = refl
+none_placed n (o ∷ os) none =
+    let others = or_parts (nat_eq n (number_of o.code)) (any_number os n) none in
+    rw (place_of, others.0) (ap suc (none_placed n os others.1))
 
-none-of : (a b : ℕ) (os : List table.Operation) → any_number os (a * 256 + b) ≡ false → operation_of_code (a ∷ b ∷ []) os ≡ None
-unfolding operation_of_code
-none-of a b [] e = refl
-none-of a b (o ∷ os) e =
-    let others = or_parts (nat_eq (a * 256 + b) (number_of o.code)) (any_number os (a * 256 + b)) e in
-    either (λ found. found ≡ None) (same_bytes (a ∷ b ∷ []) o.code) (Some o) (operation_of_code (a ∷ b ∷ []) os) (λ is. absurd (apart a b o others.0 is)) (λ is. none-of a b os others.1)
+-- ## The rows of code
 
--- what has none of the codes
-pub none-printed : (a b : ℕ) (r : Operation) → any_number operations (a * 256 + b) ≡ false → Is r no_operation → Is r (printed a b)
+-- the operations of the table, and that of a code that isn't in it
+abbrev rows : List table.Operation
+rows = operations ++ no_operation ∷ []
+
+-- operations of code as those of the table, with their codes
+abbrev coded : List table.Operation → List Operation → List table.Operation
+coded (p ∷ ps) (o ∷ os) = with_code p.code o ∷ coded ps os
+coded _ _ = []
+
+-- a code has two letters
+abbrev is_pair : List ℕ → Bool
+is_pair (first ∷ second ∷ []) = nat_lt second 256
+is_pair _ = false
+
+abbrev all_pairs : List table.Operation → Bool
+all_pairs [] = true
+all_pairs (o ∷ os) = is_pair o.code && all_pairs os
+
+same-test : (a b : ℕ) (code : List ℕ) → b < 256 → is_pair code ≡ true → nat_eq (a * 256 + b) (number_of code) ≡ same_bytes (a ∷ b ∷ []) code
+unfolding same_bytes
+same-test a b (c ∷ d ∷ []) less pair = elim (eqb_tells (a * 256 + b) (c * 256 + d)) [
+  | inl same ↦ rw (same.0, eq-eqb a c (omega (arith, same.1, less, small)), eq-eqb b d (omega (arith, same.1, less, small))) refl
+  | inr other ↦ elim (eqb_tells a c) [
+    | inl first ↦ rw (other.0, first.0, ne_eqb b d (λ second. other.1 (omega (arith, first.1, second)))) refl
+    | inr first ↦ rw (other.0, first.0) refl
+  ]
+]
+  where
+    small : d < 256
+    small = ltb-true d 256 pair
+same-test a b [] less pair = cc pair
+same-test a b (c ∷ []) less pair = cc pair
+same-test a b (c ∷ d ∷ e ∷ l) less pair = cc pair
+
+-- at a code's place is its operation
+found-at : (a b : ℕ) (os : List table.Operation) → b < 256 → all_pairs os ≡ true
+    → slice_get (os ++ no_operation ∷ []) (place_of (a * 256 + b) os) ≡ Some (elim (operation_of_code (a ∷ b ∷ []) os) [ Some o ↦ o | None ↦ no_operation ])
+unfolding operation_of_code place_of
+found-at a b [] less pairs = refl
+found-at a b (o ∷ os) less pairs =
+    let parts = and_parts (is_pair o.code) (all_pairs os) pairs in
+    by (nat_eq (a * 256 + b) (number_of o.code)) (same_bytes (a ∷ b ∷ []) o.code) (same-test a b o.code less parts.0) (found-at a b os less parts.1)
+  where
+    by : (s t : Bool) → s ≡ t → slice_get (os ++ no_operation ∷ []) (place_of (a * 256 + b) os) ≡ Some (elim (operation_of_code (a ∷ b ∷ []) os) [ Some o ↦ o | None ↦ no_operation ])
+        → slice_get (o ∷ (os ++ no_operation ∷ [])) (elim s [ true ↦ 0 | false ↦ suc (place_of (a * 256 + b) os) ])
+        ≡ Some (elim (elim t as (λ _. Option table.Operation) [ true ↦ Some o | false ↦ operation_of_code (a ∷ b ∷ []) os ]) [ Some o ↦ o | None ↦ no_operation ])
+    by true true e rest = refl
+    by false false e rest = rest
+    by true false e rest = cc e
+    by false true e rest = cc e
+
+row-at : (ps : List table.Operation) (os : List Operation) (k : ℕ) (p : table.Operation) (d : Operation) → coded ps os ≡ ps → slice_get ps k ≡ Some p → with_code p.code (get_or os k d) ≡ p
+row-at [] os k p d same is = cc is
+row-at (q ∷ ps) [] k p d same is = cc same
+row-at (q ∷ ps) (o ∷ os) zero p d same is =
+    let here : q ≡ p = cc is in
+    subst (λ x. with_code x.code o ≡ x) here (ap (λ l. get_or l 0 q) same)
+row-at (q ∷ ps) (o ∷ os) (suc k) p d same is = row-at ps os k p d (ap (λ l. drop 1 l) same) is
+
+all-pairs : all_pairs operations ≡ true
+unfolding operations
+all-pairs = refl
+
+pub operation_placed : (a b k : ℕ) → b < 256 → k ≡ place_of (a * 256 + b) operations → slice_get rows k ≡ Some (printed a b)
 unfolding printed
-none-printed a b r e is = subst (λ o. Is r (elim o [ Some p ↦ p | None ↦ no_operation ])) (sym (none-of a b operations e)) is
+operation_placed a b k less is = ap (λ n. slice_get rows n) is ∙ found-at a b operations less all-pairs
+
+pub row_there : (k : ℕ) (p : table.Operation) → slice_get rows k ≡ Some p → k < length OPERATIONS
+unfolding operations
+row_there k p is = slice_get_within rows k p is
+
+all-coded : coded rows OPERATIONS ≡ rows
+unfolding operations builtin_texts operator_texts abbreviation_texts special_texts named_special_texts literal_endings
+all-coded = refl
+
+pub row_coded : (k : ℕ) (p : table.Operation) (d : Operation) → slice_get rows k ≡ Some p → with_code p.code (get_or OPERATIONS k d) ≡ p
+row_coded k p d is = row-at rows OPERATIONS k p d all-coded is
+
+-- a number of each row
+each-below : (number : Operation → ℕ) (bound k : ℕ) (d : Operation) → all_below (λ n. nat_lt (number (get_or OPERATIONS n d)) bound) (length OPERATIONS) ≡ true
+    → k < length OPERATIONS → number (get_or OPERATIONS k d) < bound
+each-below number bound k d all less = ltb-true (number (get_or OPERATIONS k d)) bound (holds_below (λ n. nat_lt (number (get_or OPERATIONS n d)) bound) (length OPERATIONS) k all less)
+
+pub row_texts : (k : ℕ) (d : Operation) → k < length OPERATIONS → HasTexts (get_or OPERATIONS k d)
+row_texts k d less = (each-below (λ o. o.front) COUNT k d refl less, each-below (λ o. o.between) COUNT k d refl less, each-below (λ o. o.back) COUNT k d refl less)
+
+pub row_few : (k : ℕ) (d : Operation) → k < length OPERATIONS → most_of (with_code [] (get_or OPERATIONS k d)) ≤ 7
+unfolding text_part builtin_texts operator_texts abbreviation_texts special_texts named_special_texts literal_endings
+row_few k d less = omega (arith, each-below (λ o. most_of (with_code [] o)) 8 k d refl less)
 
 -- ## Parts
 

@@ -1,5 +1,5 @@
 -- The operations of code as those of the table.
-use Rattle.std.specs.Prelude.{ℕ, ◌<◌, List}
+use Rattle.std.specs.Prelude.{ℕ, suc, ◌+◌, ◌*◌, ◌<◌, List, [], ◌∷◌, true, false, nat_eq}
 use Rattle.cpp_grammar.specs.Operations as table
 use Rattle.cpp_layout.specs.declared.operation_rows.Operation.{Operation}
 use Rattle.cpp_layout.specs.declared.texts.TheConstants.{COUNT}
@@ -13,3 +13,13 @@ with_code code o =
 -- its texts are numbers that there are
 abbrev pub HasTexts : Operation → Type 0
 HasTexts o = (o.front < COUNT) × (o.between < COUNT) × (o.back < COUNT)
+
+-- a code of two letters as one number
+abbrev pub number_of : List ℕ → ℕ
+number_of (first ∷ second ∷ []) = first * 256 + second
+number_of _ = 65536
+
+-- the place of the first operation with this number, or that after the last one
+unfoldable pub place_of : ℕ → List table.Operation → ℕ
+place_of number [] = 0
+place_of number (o ∷ rest) = elim (nat_eq number (number_of o.code)) [ true ↦ 0 | false ↦ suc (place_of number rest) ]

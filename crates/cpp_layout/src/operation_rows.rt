@@ -2,11 +2,12 @@
 #![tactic(auto)]
 
 ghost use Rattle.std.specs.Prelude.{◌≡◌, ◌≤◌, []};
+ghost use Rattle.cpp_grammar.specs.Operations.{operations};
 ghost use Rattle.cpp_grammar.specs.Parts.{printed};
 ghost use Rattle.cpp_term.specs.Parts.{most_of};
-ghost use Rattle.cpp_layout.specs.Operations.{with_code, HasTexts};
+ghost use Rattle.cpp_layout.specs.Operations.{with_code, HasTexts, place_of};
 
-use crate::texts;
+use crate::texts::{NONE, OPERATION};
 use cpp_grammar::operand::Operand;
 
 /// The precedence of what binds most.
@@ -26,24 +27,199 @@ pub struct Operation {
     pub back: u16,
 }
 
-/// One of these parts.
-fn printed_as(
-    precedence: u8,
-    front: u16,
-    left: Operand,
-    between: u16,
-    right: Operand,
-    back: u16,
-) -> Operation
-    ensures { result ≡ record { precedence = precedence; front = front; left = left; between = between; right = right; back = back } }
+// A row of `OPERATIONS`: a precedence, and what is printed.
+macro_rules! row {
+    ($precedence:expr => $front:expr, $left:expr, $between:expr, $right:expr, $back:expr) => {
+        Operation {
+            precedence: $precedence,
+            front: $front,
+            left: $left,
+            between: $between,
+            right: $right,
+            back: $back,
+        }
+    };
+}
+
+/// The operations in the order of the table, and what is printed where there is none.
+static OPERATIONS: [Operation; 85] = [
+    row!(2 => OPERATION + 0, Operand::From(2), NONE, Operand::NotPrinted, NONE), // ps
+    row!(2 => OPERATION + 1, Operand::From(2), NONE, Operand::NotPrinted, NONE), // ng
+    row!(2 => OPERATION + 2, Operand::From(2), NONE, Operand::NotPrinted, NONE), // ad
+    row!(2 => OPERATION + 3, Operand::From(2), NONE, Operand::NotPrinted, NONE), // de
+    row!(2 => OPERATION + 4, Operand::From(2), NONE, Operand::NotPrinted, NONE), // co
+    row!(2 => OPERATION + 5, Operand::From(2), NONE, Operand::NotPrinted, NONE), // nt
+    row!(2 => OPERATION + 6, Operand::From(2), NONE, Operand::NotPrinted, NONE), // aw
+    row!(2 => OPERATION + 7, Operand::From(2), NONE, Operand::NotPrinted, NONE), // dl
+    row!(2 => OPERATION + 8, Operand::From(2), NONE, Operand::NotPrinted, NONE), // da
+    row!(17 => OPERATION + 9, Operand::From(18), NONE, Operand::NotPrinted, NONE), // tw
+    row!(0 => OPERATION + 10, Operand::AsItIs, NONE, Operand::NotPrinted, NONE), // gs
+    row!(2 => OPERATION + 11, Operand::From(2), NONE, Operand::NotPrinted, NONE), // p_
+    row!(2 => OPERATION + 12, Operand::From(2), NONE, Operand::NotPrinted, NONE), // m_
+    row!(1 => NONE, Operand::From(2), OPERATION + 11, Operand::NotPrinted, NONE), // pp
+    row!(1 => NONE, Operand::From(2), OPERATION + 12, Operand::NotPrinted, NONE), // mm
+    row!(4 => NONE, Operand::From(5), OPERATION + 13, Operand::From(4), NONE), // ds
+    row!(4 => NONE, Operand::From(5), OPERATION + 14, Operand::From(4), NONE), // pm
+    row!(5 => NONE, Operand::From(6), OPERATION + 15, Operand::From(5), NONE), // ml
+    row!(5 => NONE, Operand::From(6), OPERATION + 16, Operand::From(5), NONE), // dv
+    row!(5 => NONE, Operand::From(6), OPERATION + 17, Operand::From(5), NONE), // rm
+    row!(6 => NONE, Operand::From(7), OPERATION + 18, Operand::From(6), NONE), // pl
+    row!(6 => NONE, Operand::From(7), OPERATION + 19, Operand::From(6), NONE), // mi
+    row!(7 => NONE, Operand::From(8), OPERATION + 20, Operand::From(7), NONE), // ls
+    row!(8 => NONE, Operand::From(9), OPERATION + 21, Operand::From(8), NONE), // ss
+    row!(9 => NONE, Operand::From(10), OPERATION + 22, Operand::From(9), NONE), // lt
+    row!(9 => NONE, Operand::From(10), OPERATION + 23, Operand::From(9), NONE), // le
+    row!(9 => NONE, Operand::From(10), OPERATION + 24, Operand::From(9), NONE), // ge
+    row!(10 => NONE, Operand::From(11), OPERATION + 25, Operand::From(10), NONE), // eq
+    row!(10 => NONE, Operand::From(11), OPERATION + 26, Operand::From(10), NONE), // ne
+    row!(11 => NONE, Operand::From(12), OPERATION + 27, Operand::From(11), NONE), // an
+    row!(12 => NONE, Operand::From(13), OPERATION + 28, Operand::From(12), NONE), // eo
+    row!(13 => NONE, Operand::From(14), OPERATION + 29, Operand::From(13), NONE), // or
+    row!(14 => NONE, Operand::From(15), OPERATION + 30, Operand::From(14), NONE), // aa
+    row!(15 => NONE, Operand::From(16), OPERATION + 31, Operand::From(15), NONE), // oo
+    row!(18 => NONE, Operand::From(10), OPERATION + 32, Operand::From(9), NONE), // gt
+    row!(18 => NONE, Operand::From(8), OPERATION + 33, Operand::From(7), NONE), // rs
+    row!(18 => NONE, Operand::AsItIs, OPERATION + 34, Operand::From(18), NONE), // cm
+    row!(17 => NONE, Operand::From(15), OPERATION + 35, Operand::From(18), NONE), // aS
+    row!(17 => NONE, Operand::From(15), OPERATION + 36, Operand::From(18), NONE), // pL
+    row!(17 => NONE, Operand::From(15), OPERATION + 37, Operand::From(18), NONE), // mI
+    row!(17 => NONE, Operand::From(15), OPERATION + 38, Operand::From(18), NONE), // mL
+    row!(17 => NONE, Operand::From(15), OPERATION + 39, Operand::From(18), NONE), // dV
+    row!(17 => NONE, Operand::From(15), OPERATION + 40, Operand::From(18), NONE), // rM
+    row!(17 => NONE, Operand::From(15), OPERATION + 41, Operand::From(18), NONE), // aN
+    row!(17 => NONE, Operand::From(15), OPERATION + 42, Operand::From(18), NONE), // oR
+    row!(17 => NONE, Operand::From(15), OPERATION + 43, Operand::From(18), NONE), // eO
+    row!(17 => NONE, Operand::From(15), OPERATION + 44, Operand::From(18), NONE), // lS
+    row!(17 => NONE, Operand::From(15), OPERATION + 45, Operand::From(18), NONE), // rS
+    row!(1 => NONE, Operand::From(1), OPERATION + 46, Operand::AsItIs, OPERATION + 47), // ix
+    row!(1 => NONE, Operand::From(2), OPERATION + 48, Operand::From(1), NONE), // dt
+    row!(1 => NONE, Operand::From(2), OPERATION + 49, Operand::From(1), NONE), // pt
+    row!(16 => NONE, Operand::From(16), OPERATION + 50, Operand::AsItIs, NONE), // qu
+    row!(0 => NONE, Operand::AsItIs, OPERATION + 51, Operand::From(18), NONE), // q:
+    row!(1 => NONE, Operand::AsItIs, OPERATION + 52, Operand::AsList, OPERATION + 53), // cl
+    row!(3 => OPERATION + 52, Operand::AsType, OPERATION + 54, Operand::AsItIs, OPERATION + 53), // cv
+    row!(3 => OPERATION + 52, Operand::AsType, OPERATION + 54, Operand::AsList, OPERATION + 53), // c_
+    row!(0 => NONE, Operand::AsType, OPERATION + 55, Operand::AsList, OPERATION + 56), // tl
+    row!(0 => OPERATION + 55, Operand::AsList, OPERATION + 56, Operand::NotPrinted, NONE), // il
+    row!(1 => OPERATION + 57, Operand::AsType, OPERATION + 58, Operand::AsItIs, OPERATION + 53), // dc
+    row!(1 => OPERATION + 59, Operand::AsType, OPERATION + 58, Operand::AsItIs, OPERATION + 53), // sc
+    row!(1 => OPERATION + 60, Operand::AsType, OPERATION + 58, Operand::AsItIs, OPERATION + 53), // cc
+    row!(1 => OPERATION + 61, Operand::AsType, OPERATION + 58, Operand::AsItIs, OPERATION + 53), // rc
+    row!(2 => OPERATION + 62, Operand::AsType, OPERATION + 53, Operand::NotPrinted, NONE), // ti
+    row!(2 => OPERATION + 62, Operand::AsItIs, OPERATION + 53, Operand::NotPrinted, NONE), // te
+    row!(2 => OPERATION + 63, Operand::AsType, OPERATION + 53, Operand::NotPrinted, NONE), // st
+    row!(2 => OPERATION + 63, Operand::AsItIs, OPERATION + 53, Operand::NotPrinted, NONE), // sz
+    row!(2 => OPERATION + 64, Operand::AsType, OPERATION + 53, Operand::NotPrinted, NONE), // at
+    row!(2 => OPERATION + 64, Operand::AsItIs, OPERATION + 53, Operand::NotPrinted, NONE), // az
+    row!(2 => OPERATION + 65, Operand::AsItIs, OPERATION + 53, Operand::NotPrinted, NONE), // nx
+    row!(0 => OPERATION + 66, Operand::AsItIs, OPERATION + 53, Operand::NotPrinted, NONE), // sZ
+    row!(0 => NONE, Operand::AsItIs, OPERATION + 10, Operand::AsItIs, NONE), // sr
+    row!(0 => OPERATION + 67, Operand::NotPrinted, NONE, Operand::NotPrinted, NONE), // fT
+    row!(0 => OPERATION + 52, Operand::AsItIs, OPERATION + 53, Operand::NotPrinted, NONE), // ()
+    row!(0 => OPERATION + 4, Operand::AsType, NONE, Operand::NotPrinted, NONE), // dn
+    row!(1 => OPERATION + 52, Operand::AsItIs, OPERATION + 54, Operand::AsList, OPERATION + 53), // cp
+    row!(2 => OPERATION + 68, Operand::AsItIs, OPERATION + 69, Operand::AsItIs, NONE), // nw
+    row!(2 => OPERATION + 70, Operand::AsItIs, OPERATION + 69, Operand::AsItIs, NONE), // na
+    row!(0 => OPERATION + 52, Operand::AsList, OPERATION + 53, Operand::NotPrinted, NONE), // n(
+    row!(0 => NONE, Operand::AsType, NONE, Operand::AsItIs, NONE), // n_
+    row!(0 => OPERATION + 52, Operand::AsList, OPERATION + 53, Operand::NotPrinted, NONE), // pi
+    row!(0 => OPERATION + 71, Operand::AsItIs, OPERATION + 53, Operand::NotPrinted, NONE), // fl
+    row!(0 => OPERATION + 52, Operand::AsItIs, OPERATION + 72, Operand::NotPrinted, NONE), // fr
+    row!(0 => OPERATION + 73, Operand::NotPrinted, NONE, Operand::NotPrinted, NONE), // rq
+    row!(0 => OPERATION + 74, Operand::NotPrinted, NONE, Operand::NotPrinted, NONE), // rQ
+    row!(0 => NONE, Operand::NotPrinted, NONE, Operand::NotPrinted, NONE), // no operation
+];
+
+/// The place of an operation, by its two letters as one number.
+fn place_of(code: u16) -> usize
+    ensures { result ≡ place_of code operations }
 {
-    Operation {
-        precedence,
-        front,
-        left,
-        between,
-        right,
-        back,
+    match code {
+        28787 => 0, // ps
+        28263 => 1, // ng
+        24932 => 2, // ad
+        25701 => 3, // de
+        25455 => 4, // co
+        28276 => 5, // nt
+        24951 => 6, // aw
+        25708 => 7, // dl
+        25697 => 8, // da
+        29815 => 9, // tw
+        26483 => 10, // gs
+        28767 => 11, // p_
+        27999 => 12, // m_
+        28784 => 13, // pp
+        28013 => 14, // mm
+        25715 => 15, // ds
+        28781 => 16, // pm
+        28012 => 17, // ml
+        25718 => 18, // dv
+        29293 => 19, // rm
+        28780 => 20, // pl
+        28009 => 21, // mi
+        27763 => 22, // ls
+        29555 => 23, // ss
+        27764 => 24, // lt
+        27749 => 25, // le
+        26469 => 26, // ge
+        25969 => 27, // eq
+        28261 => 28, // ne
+        24942 => 29, // an
+        25967 => 30, // eo
+        28530 => 31, // or
+        24929 => 32, // aa
+        28527 => 33, // oo
+        26484 => 34, // gt
+        29299 => 35, // rs
+        25453 => 36, // cm
+        24915 => 37, // aS
+        28748 => 38, // pL
+        27977 => 39, // mI
+        27980 => 40, // mL
+        25686 => 41, // dV
+        29261 => 42, // rM
+        24910 => 43, // aN
+        28498 => 44, // oR
+        25935 => 45, // eO
+        27731 => 46, // lS
+        29267 => 47, // rS
+        27000 => 48, // ix
+        25716 => 49, // dt
+        28788 => 50, // pt
+        29045 => 51, // qu
+        28986 => 52, // q:
+        25452 => 53, // cl
+        25462 => 54, // cv
+        25439 => 55, // c_
+        29804 => 56, // tl
+        26988 => 57, // il
+        25699 => 58, // dc
+        29539 => 59, // sc
+        25443 => 60, // cc
+        29283 => 61, // rc
+        29801 => 62, // ti
+        29797 => 63, // te
+        29556 => 64, // st
+        29562 => 65, // sz
+        24948 => 66, // at
+        24954 => 67, // az
+        28280 => 68, // nx
+        29530 => 69, // sZ
+        29554 => 70, // sr
+        26196 => 71, // fT
+        10281 => 72, // ()
+        25710 => 73, // dn
+        25456 => 74, // cp
+        28279 => 75, // nw
+        28257 => 76, // na
+        28200 => 77, // n(
+        28255 => 78, // n_
+        28777 => 79, // pi
+        26220 => 80, // fl
+        26226 => 81, // fr
+        29297 => 82, // rq
+        29265 => 83, // rQ
+        _ => 84,
     }
 }
 
@@ -53,770 +229,5 @@ pub(crate) fn operation_of(first: u8, second: u8) -> Operation
     ensures texts { HasTexts result }
     ensures few { most_of (with_code [] result) ≤ 7 }
 {
-    match first as u16 * 256 + second as u16 {
-        // ps
-        28787 => printed_as(
-            2,
-            texts::OPERATION + 0,
-            Operand::From(2),
-            texts::NONE,
-            Operand::NotPrinted,
-            texts::NONE,
-        ),
-        // ng
-        28263 => printed_as(
-            2,
-            texts::OPERATION + 1,
-            Operand::From(2),
-            texts::NONE,
-            Operand::NotPrinted,
-            texts::NONE,
-        ),
-        // ad
-        24932 => printed_as(
-            2,
-            texts::OPERATION + 2,
-            Operand::From(2),
-            texts::NONE,
-            Operand::NotPrinted,
-            texts::NONE,
-        ),
-        // de
-        25701 => printed_as(
-            2,
-            texts::OPERATION + 3,
-            Operand::From(2),
-            texts::NONE,
-            Operand::NotPrinted,
-            texts::NONE,
-        ),
-        // co
-        25455 => printed_as(
-            2,
-            texts::OPERATION + 4,
-            Operand::From(2),
-            texts::NONE,
-            Operand::NotPrinted,
-            texts::NONE,
-        ),
-        // nt
-        28276 => printed_as(
-            2,
-            texts::OPERATION + 5,
-            Operand::From(2),
-            texts::NONE,
-            Operand::NotPrinted,
-            texts::NONE,
-        ),
-        // aw
-        24951 => printed_as(
-            2,
-            texts::OPERATION + 6,
-            Operand::From(2),
-            texts::NONE,
-            Operand::NotPrinted,
-            texts::NONE,
-        ),
-        // dl
-        25708 => printed_as(
-            2,
-            texts::OPERATION + 7,
-            Operand::From(2),
-            texts::NONE,
-            Operand::NotPrinted,
-            texts::NONE,
-        ),
-        // da
-        25697 => printed_as(
-            2,
-            texts::OPERATION + 8,
-            Operand::From(2),
-            texts::NONE,
-            Operand::NotPrinted,
-            texts::NONE,
-        ),
-        // tw
-        29815 => printed_as(
-            17,
-            texts::OPERATION + 9,
-            Operand::From(18),
-            texts::NONE,
-            Operand::NotPrinted,
-            texts::NONE,
-        ),
-        // gs
-        26483 => printed_as(
-            0,
-            texts::OPERATION + 10,
-            Operand::AsItIs,
-            texts::NONE,
-            Operand::NotPrinted,
-            texts::NONE,
-        ),
-        // p_
-        28767 => printed_as(
-            2,
-            texts::OPERATION + 11,
-            Operand::From(2),
-            texts::NONE,
-            Operand::NotPrinted,
-            texts::NONE,
-        ),
-        // m_
-        27999 => printed_as(
-            2,
-            texts::OPERATION + 12,
-            Operand::From(2),
-            texts::NONE,
-            Operand::NotPrinted,
-            texts::NONE,
-        ),
-        // pp
-        28784 => printed_as(
-            1,
-            texts::NONE,
-            Operand::From(2),
-            texts::OPERATION + 11,
-            Operand::NotPrinted,
-            texts::NONE,
-        ),
-        // mm
-        28013 => printed_as(
-            1,
-            texts::NONE,
-            Operand::From(2),
-            texts::OPERATION + 12,
-            Operand::NotPrinted,
-            texts::NONE,
-        ),
-        // ds
-        25715 => printed_as(
-            4,
-            texts::NONE,
-            Operand::From(5),
-            texts::OPERATION + 13,
-            Operand::From(4),
-            texts::NONE,
-        ),
-        // pm
-        28781 => printed_as(
-            4,
-            texts::NONE,
-            Operand::From(5),
-            texts::OPERATION + 14,
-            Operand::From(4),
-            texts::NONE,
-        ),
-        // ml
-        28012 => printed_as(
-            5,
-            texts::NONE,
-            Operand::From(6),
-            texts::OPERATION + 15,
-            Operand::From(5),
-            texts::NONE,
-        ),
-        // dv
-        25718 => printed_as(
-            5,
-            texts::NONE,
-            Operand::From(6),
-            texts::OPERATION + 16,
-            Operand::From(5),
-            texts::NONE,
-        ),
-        // rm
-        29293 => printed_as(
-            5,
-            texts::NONE,
-            Operand::From(6),
-            texts::OPERATION + 17,
-            Operand::From(5),
-            texts::NONE,
-        ),
-        // pl
-        28780 => printed_as(
-            6,
-            texts::NONE,
-            Operand::From(7),
-            texts::OPERATION + 18,
-            Operand::From(6),
-            texts::NONE,
-        ),
-        // mi
-        28009 => printed_as(
-            6,
-            texts::NONE,
-            Operand::From(7),
-            texts::OPERATION + 19,
-            Operand::From(6),
-            texts::NONE,
-        ),
-        // ls
-        27763 => printed_as(
-            7,
-            texts::NONE,
-            Operand::From(8),
-            texts::OPERATION + 20,
-            Operand::From(7),
-            texts::NONE,
-        ),
-        // ss
-        29555 => printed_as(
-            8,
-            texts::NONE,
-            Operand::From(9),
-            texts::OPERATION + 21,
-            Operand::From(8),
-            texts::NONE,
-        ),
-        // lt
-        27764 => printed_as(
-            9,
-            texts::NONE,
-            Operand::From(10),
-            texts::OPERATION + 22,
-            Operand::From(9),
-            texts::NONE,
-        ),
-        // le
-        27749 => printed_as(
-            9,
-            texts::NONE,
-            Operand::From(10),
-            texts::OPERATION + 23,
-            Operand::From(9),
-            texts::NONE,
-        ),
-        // ge
-        26469 => printed_as(
-            9,
-            texts::NONE,
-            Operand::From(10),
-            texts::OPERATION + 24,
-            Operand::From(9),
-            texts::NONE,
-        ),
-        // eq
-        25969 => printed_as(
-            10,
-            texts::NONE,
-            Operand::From(11),
-            texts::OPERATION + 25,
-            Operand::From(10),
-            texts::NONE,
-        ),
-        // ne
-        28261 => printed_as(
-            10,
-            texts::NONE,
-            Operand::From(11),
-            texts::OPERATION + 26,
-            Operand::From(10),
-            texts::NONE,
-        ),
-        // an
-        24942 => printed_as(
-            11,
-            texts::NONE,
-            Operand::From(12),
-            texts::OPERATION + 27,
-            Operand::From(11),
-            texts::NONE,
-        ),
-        // eo
-        25967 => printed_as(
-            12,
-            texts::NONE,
-            Operand::From(13),
-            texts::OPERATION + 28,
-            Operand::From(12),
-            texts::NONE,
-        ),
-        // or
-        28530 => printed_as(
-            13,
-            texts::NONE,
-            Operand::From(14),
-            texts::OPERATION + 29,
-            Operand::From(13),
-            texts::NONE,
-        ),
-        // aa
-        24929 => printed_as(
-            14,
-            texts::NONE,
-            Operand::From(15),
-            texts::OPERATION + 30,
-            Operand::From(14),
-            texts::NONE,
-        ),
-        // oo
-        28527 => printed_as(
-            15,
-            texts::NONE,
-            Operand::From(16),
-            texts::OPERATION + 31,
-            Operand::From(15),
-            texts::NONE,
-        ),
-        // gt
-        26484 => printed_as(
-            18,
-            texts::NONE,
-            Operand::From(10),
-            texts::OPERATION + 32,
-            Operand::From(9),
-            texts::NONE,
-        ),
-        // rs
-        29299 => printed_as(
-            18,
-            texts::NONE,
-            Operand::From(8),
-            texts::OPERATION + 33,
-            Operand::From(7),
-            texts::NONE,
-        ),
-        // cm
-        25453 => printed_as(
-            18,
-            texts::NONE,
-            Operand::AsItIs,
-            texts::OPERATION + 34,
-            Operand::From(18),
-            texts::NONE,
-        ),
-        // aS
-        24915 => printed_as(
-            17,
-            texts::NONE,
-            Operand::From(15),
-            texts::OPERATION + 35,
-            Operand::From(18),
-            texts::NONE,
-        ),
-        // pL
-        28748 => printed_as(
-            17,
-            texts::NONE,
-            Operand::From(15),
-            texts::OPERATION + 36,
-            Operand::From(18),
-            texts::NONE,
-        ),
-        // mI
-        27977 => printed_as(
-            17,
-            texts::NONE,
-            Operand::From(15),
-            texts::OPERATION + 37,
-            Operand::From(18),
-            texts::NONE,
-        ),
-        // mL
-        27980 => printed_as(
-            17,
-            texts::NONE,
-            Operand::From(15),
-            texts::OPERATION + 38,
-            Operand::From(18),
-            texts::NONE,
-        ),
-        // dV
-        25686 => printed_as(
-            17,
-            texts::NONE,
-            Operand::From(15),
-            texts::OPERATION + 39,
-            Operand::From(18),
-            texts::NONE,
-        ),
-        // rM
-        29261 => printed_as(
-            17,
-            texts::NONE,
-            Operand::From(15),
-            texts::OPERATION + 40,
-            Operand::From(18),
-            texts::NONE,
-        ),
-        // aN
-        24910 => printed_as(
-            17,
-            texts::NONE,
-            Operand::From(15),
-            texts::OPERATION + 41,
-            Operand::From(18),
-            texts::NONE,
-        ),
-        // oR
-        28498 => printed_as(
-            17,
-            texts::NONE,
-            Operand::From(15),
-            texts::OPERATION + 42,
-            Operand::From(18),
-            texts::NONE,
-        ),
-        // eO
-        25935 => printed_as(
-            17,
-            texts::NONE,
-            Operand::From(15),
-            texts::OPERATION + 43,
-            Operand::From(18),
-            texts::NONE,
-        ),
-        // lS
-        27731 => printed_as(
-            17,
-            texts::NONE,
-            Operand::From(15),
-            texts::OPERATION + 44,
-            Operand::From(18),
-            texts::NONE,
-        ),
-        // rS
-        29267 => printed_as(
-            17,
-            texts::NONE,
-            Operand::From(15),
-            texts::OPERATION + 45,
-            Operand::From(18),
-            texts::NONE,
-        ),
-        // ix
-        27000 => printed_as(
-            1,
-            texts::NONE,
-            Operand::From(1),
-            texts::OPERATION + 46,
-            Operand::AsItIs,
-            texts::OPERATION + 47,
-        ),
-        // dt
-        25716 => printed_as(
-            1,
-            texts::NONE,
-            Operand::From(2),
-            texts::OPERATION + 48,
-            Operand::From(1),
-            texts::NONE,
-        ),
-        // pt
-        28788 => printed_as(
-            1,
-            texts::NONE,
-            Operand::From(2),
-            texts::OPERATION + 49,
-            Operand::From(1),
-            texts::NONE,
-        ),
-        // qu
-        29045 => printed_as(
-            16,
-            texts::NONE,
-            Operand::From(16),
-            texts::OPERATION + 50,
-            Operand::AsItIs,
-            texts::NONE,
-        ),
-        // q:
-        28986 => printed_as(
-            0,
-            texts::NONE,
-            Operand::AsItIs,
-            texts::OPERATION + 51,
-            Operand::From(18),
-            texts::NONE,
-        ),
-        // cl
-        25452 => printed_as(
-            1,
-            texts::NONE,
-            Operand::AsItIs,
-            texts::OPERATION + 52,
-            Operand::AsList,
-            texts::OPERATION + 53,
-        ),
-        // cv
-        25462 => printed_as(
-            3,
-            texts::OPERATION + 52,
-            Operand::AsType,
-            texts::OPERATION + 54,
-            Operand::AsItIs,
-            texts::OPERATION + 53,
-        ),
-        // c_
-        25439 => printed_as(
-            3,
-            texts::OPERATION + 52,
-            Operand::AsType,
-            texts::OPERATION + 54,
-            Operand::AsList,
-            texts::OPERATION + 53,
-        ),
-        // tl
-        29804 => printed_as(
-            0,
-            texts::NONE,
-            Operand::AsType,
-            texts::OPERATION + 55,
-            Operand::AsList,
-            texts::OPERATION + 56,
-        ),
-        // il
-        26988 => printed_as(
-            0,
-            texts::OPERATION + 55,
-            Operand::AsList,
-            texts::OPERATION + 56,
-            Operand::NotPrinted,
-            texts::NONE,
-        ),
-        // dc
-        25699 => printed_as(
-            1,
-            texts::OPERATION + 57,
-            Operand::AsType,
-            texts::OPERATION + 58,
-            Operand::AsItIs,
-            texts::OPERATION + 53,
-        ),
-        // sc
-        29539 => printed_as(
-            1,
-            texts::OPERATION + 59,
-            Operand::AsType,
-            texts::OPERATION + 58,
-            Operand::AsItIs,
-            texts::OPERATION + 53,
-        ),
-        // cc
-        25443 => printed_as(
-            1,
-            texts::OPERATION + 60,
-            Operand::AsType,
-            texts::OPERATION + 58,
-            Operand::AsItIs,
-            texts::OPERATION + 53,
-        ),
-        // rc
-        29283 => printed_as(
-            1,
-            texts::OPERATION + 61,
-            Operand::AsType,
-            texts::OPERATION + 58,
-            Operand::AsItIs,
-            texts::OPERATION + 53,
-        ),
-        // ti
-        29801 => printed_as(
-            2,
-            texts::OPERATION + 62,
-            Operand::AsType,
-            texts::OPERATION + 53,
-            Operand::NotPrinted,
-            texts::NONE,
-        ),
-        // te
-        29797 => printed_as(
-            2,
-            texts::OPERATION + 62,
-            Operand::AsItIs,
-            texts::OPERATION + 53,
-            Operand::NotPrinted,
-            texts::NONE,
-        ),
-        // st
-        29556 => printed_as(
-            2,
-            texts::OPERATION + 63,
-            Operand::AsType,
-            texts::OPERATION + 53,
-            Operand::NotPrinted,
-            texts::NONE,
-        ),
-        // sz
-        29562 => printed_as(
-            2,
-            texts::OPERATION + 63,
-            Operand::AsItIs,
-            texts::OPERATION + 53,
-            Operand::NotPrinted,
-            texts::NONE,
-        ),
-        // at
-        24948 => printed_as(
-            2,
-            texts::OPERATION + 64,
-            Operand::AsType,
-            texts::OPERATION + 53,
-            Operand::NotPrinted,
-            texts::NONE,
-        ),
-        // az
-        24954 => printed_as(
-            2,
-            texts::OPERATION + 64,
-            Operand::AsItIs,
-            texts::OPERATION + 53,
-            Operand::NotPrinted,
-            texts::NONE,
-        ),
-        // nx
-        28280 => printed_as(
-            2,
-            texts::OPERATION + 65,
-            Operand::AsItIs,
-            texts::OPERATION + 53,
-            Operand::NotPrinted,
-            texts::NONE,
-        ),
-        // sZ
-        29530 => printed_as(
-            0,
-            texts::OPERATION + 66,
-            Operand::AsItIs,
-            texts::OPERATION + 53,
-            Operand::NotPrinted,
-            texts::NONE,
-        ),
-        // sr
-        29554 => printed_as(
-            0,
-            texts::NONE,
-            Operand::AsItIs,
-            texts::OPERATION + 10,
-            Operand::AsItIs,
-            texts::NONE,
-        ),
-        // fT
-        26196 => printed_as(
-            0,
-            texts::OPERATION + 67,
-            Operand::NotPrinted,
-            texts::NONE,
-            Operand::NotPrinted,
-            texts::NONE,
-        ),
-        // ()
-        10281 => printed_as(
-            0,
-            texts::OPERATION + 52,
-            Operand::AsItIs,
-            texts::OPERATION + 53,
-            Operand::NotPrinted,
-            texts::NONE,
-        ),
-        // dn
-        25710 => printed_as(
-            0,
-            texts::OPERATION + 4,
-            Operand::AsType,
-            texts::NONE,
-            Operand::NotPrinted,
-            texts::NONE,
-        ),
-        // cp
-        25456 => printed_as(
-            1,
-            texts::OPERATION + 52,
-            Operand::AsItIs,
-            texts::OPERATION + 54,
-            Operand::AsList,
-            texts::OPERATION + 53,
-        ),
-        // nw
-        28279 => printed_as(
-            2,
-            texts::OPERATION + 68,
-            Operand::AsItIs,
-            texts::OPERATION + 69,
-            Operand::AsItIs,
-            texts::NONE,
-        ),
-        // na
-        28257 => printed_as(
-            2,
-            texts::OPERATION + 70,
-            Operand::AsItIs,
-            texts::OPERATION + 69,
-            Operand::AsItIs,
-            texts::NONE,
-        ),
-        // n(
-        28200 => printed_as(
-            0,
-            texts::OPERATION + 52,
-            Operand::AsList,
-            texts::OPERATION + 53,
-            Operand::NotPrinted,
-            texts::NONE,
-        ),
-        // n_
-        28255 => printed_as(
-            0,
-            texts::NONE,
-            Operand::AsType,
-            texts::NONE,
-            Operand::AsItIs,
-            texts::NONE,
-        ),
-        // pi
-        28777 => printed_as(
-            0,
-            texts::OPERATION + 52,
-            Operand::AsList,
-            texts::OPERATION + 53,
-            Operand::NotPrinted,
-            texts::NONE,
-        ),
-        // fl
-        26220 => printed_as(
-            0,
-            texts::OPERATION + 71,
-            Operand::AsItIs,
-            texts::OPERATION + 53,
-            Operand::NotPrinted,
-            texts::NONE,
-        ),
-        // fr
-        26226 => printed_as(
-            0,
-            texts::OPERATION + 52,
-            Operand::AsItIs,
-            texts::OPERATION + 72,
-            Operand::NotPrinted,
-            texts::NONE,
-        ),
-        // rq
-        29297 => printed_as(
-            0,
-            texts::OPERATION + 73,
-            Operand::NotPrinted,
-            texts::NONE,
-            Operand::NotPrinted,
-            texts::NONE,
-        ),
-        // rQ
-        29265 => printed_as(
-            0,
-            texts::OPERATION + 74,
-            Operand::NotPrinted,
-            texts::NONE,
-            Operand::NotPrinted,
-            texts::NONE,
-        ),
-        _ => printed_as(
-            0,
-            texts::NONE,
-            Operand::NotPrinted,
-            texts::NONE,
-            Operand::NotPrinted,
-            texts::NONE,
-        ),
-    }
+    OPERATIONS[place_of(first as u16 * 256 + second as u16)]
 }

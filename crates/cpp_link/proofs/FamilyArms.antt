@@ -336,10 +336,29 @@ pub argument : (p : Production) → family_of p ≡ Family.Argument
     → (p ≡ Production.LiteralElement → ⊥)
     → (p ≡ Production.AnyElement → ⊥)
     → (p ≡ Production.ArgumentWithT → ⊥)
-    → (p ≡ Production.DeclaredArgument → ⊥)
     → (p ≡ Production.LeveledParameter → ⊥)
     → (p ≡ Production.OneLiteral → ⊥)
     → (p ≡ Production.OnePack → ⊥)
+    → ⊥
+unfolding family_of
+argument Production.Parameter is n0 n1 n2 n3 n4 n5 n6 n7 n8 n9 = n0 refl
+argument Production.ParameterArgument is n0 n1 n2 n3 n4 n5 n6 n7 n8 n9 = n1 refl
+argument Production.PackArgument is n0 n1 n2 n3 n4 n5 n6 n7 n8 n9 = n2 refl
+argument Production.LiteralArgument is n0 n1 n2 n3 n4 n5 n6 n7 n8 n9 = n3 refl
+argument Production.LiteralElement is n0 n1 n2 n3 n4 n5 n6 n7 n8 n9 = n4 refl
+argument Production.AnyElement is n0 n1 n2 n3 n4 n5 n6 n7 n8 n9 = n5 refl
+argument Production.ArgumentWithT is n0 n1 n2 n3 n4 n5 n6 n7 n8 n9 = n6 refl
+argument Production.LeveledParameter is n0 n1 n2 n3 n4 n5 n6 n7 n8 n9 = n7 refl
+argument Production.OneLiteral is n0 n1 n2 n3 n4 n5 n6 n7 n8 n9 = n8 refl
+argument Production.OnePack is n0 n1 n2 n3 n4 n5 n6 n7 n8 n9 = n9 refl
+argument _ is n0 n1 n2 n3 n4 n5 n6 n7 n8 n9 = subst IsArgument (sym is) tt
+
+abbrev IsDeclaration : Family → Type 0
+IsDeclaration Family.Declaration = Unit {0}
+IsDeclaration _ = ⊥
+
+pub declaration : (p : Production) → family_of p ≡ Family.Declaration
+    → (p ≡ Production.DeclaredArgument → ⊥)
     → (p ≡ Production.AnyType → ⊥)
     → (p ≡ Production.ValueOf → ⊥)
     → (p ≡ Production.OfConcept → ⊥)
@@ -348,24 +367,14 @@ pub argument : (p : Production) → family_of p ≡ Family.Argument
     → (p ≡ Production.Declarations → ⊥)
     → ⊥
 unfolding family_of
-argument Production.Parameter is n0 n1 n2 n3 n4 n5 n6 n7 n8 n9 n10 n11 n12 n13 n14 n15 n16 = n0 refl
-argument Production.ParameterArgument is n0 n1 n2 n3 n4 n5 n6 n7 n8 n9 n10 n11 n12 n13 n14 n15 n16 = n1 refl
-argument Production.PackArgument is n0 n1 n2 n3 n4 n5 n6 n7 n8 n9 n10 n11 n12 n13 n14 n15 n16 = n2 refl
-argument Production.LiteralArgument is n0 n1 n2 n3 n4 n5 n6 n7 n8 n9 n10 n11 n12 n13 n14 n15 n16 = n3 refl
-argument Production.LiteralElement is n0 n1 n2 n3 n4 n5 n6 n7 n8 n9 n10 n11 n12 n13 n14 n15 n16 = n4 refl
-argument Production.AnyElement is n0 n1 n2 n3 n4 n5 n6 n7 n8 n9 n10 n11 n12 n13 n14 n15 n16 = n5 refl
-argument Production.ArgumentWithT is n0 n1 n2 n3 n4 n5 n6 n7 n8 n9 n10 n11 n12 n13 n14 n15 n16 = n6 refl
-argument Production.DeclaredArgument is n0 n1 n2 n3 n4 n5 n6 n7 n8 n9 n10 n11 n12 n13 n14 n15 n16 = n7 refl
-argument Production.LeveledParameter is n0 n1 n2 n3 n4 n5 n6 n7 n8 n9 n10 n11 n12 n13 n14 n15 n16 = n8 refl
-argument Production.OneLiteral is n0 n1 n2 n3 n4 n5 n6 n7 n8 n9 n10 n11 n12 n13 n14 n15 n16 = n9 refl
-argument Production.OnePack is n0 n1 n2 n3 n4 n5 n6 n7 n8 n9 n10 n11 n12 n13 n14 n15 n16 = n10 refl
-argument Production.AnyType is n0 n1 n2 n3 n4 n5 n6 n7 n8 n9 n10 n11 n12 n13 n14 n15 n16 = n11 refl
-argument Production.ValueOf is n0 n1 n2 n3 n4 n5 n6 n7 n8 n9 n10 n11 n12 n13 n14 n15 n16 = n12 refl
-argument Production.OfConcept is n0 n1 n2 n3 n4 n5 n6 n7 n8 n9 n10 n11 n12 n13 n14 n15 n16 = n13 refl
-argument Production.TemplateOf is n0 n1 n2 n3 n4 n5 n6 n7 n8 n9 n10 n11 n12 n13 n14 n15 n16 = n14 refl
-argument Production.PackOf is n0 n1 n2 n3 n4 n5 n6 n7 n8 n9 n10 n11 n12 n13 n14 n15 n16 = n15 refl
-argument Production.Declarations is n0 n1 n2 n3 n4 n5 n6 n7 n8 n9 n10 n11 n12 n13 n14 n15 n16 = n16 refl
-argument _ is n0 n1 n2 n3 n4 n5 n6 n7 n8 n9 n10 n11 n12 n13 n14 n15 n16 = subst IsArgument (sym is) tt
+declaration Production.DeclaredArgument is n0 n1 n2 n3 n4 n5 n6 = n0 refl
+declaration Production.AnyType is n0 n1 n2 n3 n4 n5 n6 = n1 refl
+declaration Production.ValueOf is n0 n1 n2 n3 n4 n5 n6 = n2 refl
+declaration Production.OfConcept is n0 n1 n2 n3 n4 n5 n6 = n3 refl
+declaration Production.TemplateOf is n0 n1 n2 n3 n4 n5 n6 = n4 refl
+declaration Production.PackOf is n0 n1 n2 n3 n4 n5 n6 = n5 refl
+declaration Production.Declarations is n0 n1 n2 n3 n4 n5 n6 = n6 refl
+declaration _ is n0 n1 n2 n3 n4 n5 n6 = subst IsDeclaration (sym is) tt
 
 abbrev IsOperation : Family → Type 0
 IsOperation Family.Operation = Unit {0}
@@ -433,10 +442,52 @@ pub operands : (p : Production) → family_of p ≡ Family.Operands
     → (p ≡ Production.Conditional → ⊥)
     → (p ≡ Production.New → ⊥)
     → (p ≡ Production.Placed → ⊥)
+    → ⊥
+unfolding family_of
+operands Production.Expression is n0 n1 n2 n3 n4 n5 n6 n7 n8 n9 n10 n11 n12 n13 n14 n15 = n0 refl
+operands Production.Expressions is n0 n1 n2 n3 n4 n5 n6 n7 n8 n9 n10 n11 n12 n13 n14 n15 = n1 refl
+operands Production.Unary is n0 n1 n2 n3 n4 n5 n6 n7 n8 n9 n10 n11 n12 n13 n14 n15 = n2 refl
+operands Production.AddressExpression is n0 n1 n2 n3 n4 n5 n6 n7 n8 n9 n10 n11 n12 n13 n14 n15 = n3 refl
+operands Production.OfType is n0 n1 n2 n3 n4 n5 n6 n7 n8 n9 n10 n11 n12 n13 n14 n15 = n4 refl
+operands Production.DestructorName is n0 n1 n2 n3 n4 n5 n6 n7 n8 n9 n10 n11 n12 n13 n14 n15 = n5 refl
+operands Production.Braces is n0 n1 n2 n3 n4 n5 n6 n7 n8 n9 n10 n11 n12 n13 n14 n15 = n6 refl
+operands Production.Step is n0 n1 n2 n3 n4 n5 n6 n7 n8 n9 n10 n11 n12 n13 n14 n15 = n7 refl
+operands Production.Binary is n0 n1 n2 n3 n4 n5 n6 n7 n8 n9 n10 n11 n12 n13 n14 n15 = n8 refl
+operands Production.Cast is n0 n1 n2 n3 n4 n5 n6 n7 n8 n9 n10 n11 n12 n13 n14 n15 = n9 refl
+operands Production.Convert is n0 n1 n2 n3 n4 n5 n6 n7 n8 n9 n10 n11 n12 n13 n14 n15 = n10 refl
+operands Production.Call is n0 n1 n2 n3 n4 n5 n6 n7 n8 n9 n10 n11 n12 n13 n14 n15 = n11 refl
+operands Production.TypedBraces is n0 n1 n2 n3 n4 n5 n6 n7 n8 n9 n10 n11 n12 n13 n14 n15 = n12 refl
+operands Production.Conditional is n0 n1 n2 n3 n4 n5 n6 n7 n8 n9 n10 n11 n12 n13 n14 n15 = n13 refl
+operands Production.New is n0 n1 n2 n3 n4 n5 n6 n7 n8 n9 n10 n11 n12 n13 n14 n15 = n14 refl
+operands Production.Placed is n0 n1 n2 n3 n4 n5 n6 n7 n8 n9 n10 n11 n12 n13 n14 n15 = n15 refl
+operands _ is n0 n1 n2 n3 n4 n5 n6 n7 n8 n9 n10 n11 n12 n13 n14 n15 = subst IsOperands (sym is) tt
+
+abbrev IsPack : Family → Type 0
+IsPack Family.Pack = Unit {0}
+IsPack _ = ⊥
+
+pub pack : (p : Production) → family_of p ≡ Family.Pack
     → (p ≡ Production.LeftFold → ⊥)
     → (p ≡ Production.RightFold → ⊥)
     → (p ≡ Production.FoldOperand → ⊥)
     → (p ≡ Production.FoldPack → ⊥)
+    → (p ≡ Production.PackSize → ⊥)
+    → (p ≡ Production.ExpandExpression → ⊥)
+    → ⊥
+unfolding family_of
+pack Production.LeftFold is n0 n1 n2 n3 n4 n5 = n0 refl
+pack Production.RightFold is n0 n1 n2 n3 n4 n5 = n1 refl
+pack Production.FoldOperand is n0 n1 n2 n3 n4 n5 = n2 refl
+pack Production.FoldPack is n0 n1 n2 n3 n4 n5 = n3 refl
+pack Production.PackSize is n0 n1 n2 n3 n4 n5 = n4 refl
+pack Production.ExpandExpression is n0 n1 n2 n3 n4 n5 = n5 refl
+pack _ is n0 n1 n2 n3 n4 n5 = subst IsPack (sym is) tt
+
+abbrev IsRequirement : Family → Type 0
+IsRequirement Family.Requirement = Unit {0}
+IsRequirement _ = ⊥
+
+pub requirement : (p : Production) → family_of p ≡ Family.Requirement
     → (p ≡ Production.Requires → ⊥)
     → (p ≡ Production.RequiresOf → ⊥)
     → (p ≡ Production.RequiredType → ⊥)
@@ -445,41 +496,17 @@ pub operands : (p : Production) → family_of p ≡ Family.Operands
     → (p ≡ Production.ResultRequirement → ⊥)
     → (p ≡ Production.TypeRequirement → ⊥)
     → (p ≡ Production.NestedRequirement → ⊥)
-    → (p ≡ Production.PackSize → ⊥)
-    → (p ≡ Production.ExpandExpression → ⊥)
     → ⊥
 unfolding family_of
-operands Production.Expression is n0 n1 n2 n3 n4 n5 n6 n7 n8 n9 n10 n11 n12 n13 n14 n15 n16 n17 n18 n19 n20 n21 n22 n23 n24 n25 n26 n27 n28 n29 = n0 refl
-operands Production.Expressions is n0 n1 n2 n3 n4 n5 n6 n7 n8 n9 n10 n11 n12 n13 n14 n15 n16 n17 n18 n19 n20 n21 n22 n23 n24 n25 n26 n27 n28 n29 = n1 refl
-operands Production.Unary is n0 n1 n2 n3 n4 n5 n6 n7 n8 n9 n10 n11 n12 n13 n14 n15 n16 n17 n18 n19 n20 n21 n22 n23 n24 n25 n26 n27 n28 n29 = n2 refl
-operands Production.AddressExpression is n0 n1 n2 n3 n4 n5 n6 n7 n8 n9 n10 n11 n12 n13 n14 n15 n16 n17 n18 n19 n20 n21 n22 n23 n24 n25 n26 n27 n28 n29 = n3 refl
-operands Production.OfType is n0 n1 n2 n3 n4 n5 n6 n7 n8 n9 n10 n11 n12 n13 n14 n15 n16 n17 n18 n19 n20 n21 n22 n23 n24 n25 n26 n27 n28 n29 = n4 refl
-operands Production.DestructorName is n0 n1 n2 n3 n4 n5 n6 n7 n8 n9 n10 n11 n12 n13 n14 n15 n16 n17 n18 n19 n20 n21 n22 n23 n24 n25 n26 n27 n28 n29 = n5 refl
-operands Production.Braces is n0 n1 n2 n3 n4 n5 n6 n7 n8 n9 n10 n11 n12 n13 n14 n15 n16 n17 n18 n19 n20 n21 n22 n23 n24 n25 n26 n27 n28 n29 = n6 refl
-operands Production.Step is n0 n1 n2 n3 n4 n5 n6 n7 n8 n9 n10 n11 n12 n13 n14 n15 n16 n17 n18 n19 n20 n21 n22 n23 n24 n25 n26 n27 n28 n29 = n7 refl
-operands Production.Binary is n0 n1 n2 n3 n4 n5 n6 n7 n8 n9 n10 n11 n12 n13 n14 n15 n16 n17 n18 n19 n20 n21 n22 n23 n24 n25 n26 n27 n28 n29 = n8 refl
-operands Production.Cast is n0 n1 n2 n3 n4 n5 n6 n7 n8 n9 n10 n11 n12 n13 n14 n15 n16 n17 n18 n19 n20 n21 n22 n23 n24 n25 n26 n27 n28 n29 = n9 refl
-operands Production.Convert is n0 n1 n2 n3 n4 n5 n6 n7 n8 n9 n10 n11 n12 n13 n14 n15 n16 n17 n18 n19 n20 n21 n22 n23 n24 n25 n26 n27 n28 n29 = n10 refl
-operands Production.Call is n0 n1 n2 n3 n4 n5 n6 n7 n8 n9 n10 n11 n12 n13 n14 n15 n16 n17 n18 n19 n20 n21 n22 n23 n24 n25 n26 n27 n28 n29 = n11 refl
-operands Production.TypedBraces is n0 n1 n2 n3 n4 n5 n6 n7 n8 n9 n10 n11 n12 n13 n14 n15 n16 n17 n18 n19 n20 n21 n22 n23 n24 n25 n26 n27 n28 n29 = n12 refl
-operands Production.Conditional is n0 n1 n2 n3 n4 n5 n6 n7 n8 n9 n10 n11 n12 n13 n14 n15 n16 n17 n18 n19 n20 n21 n22 n23 n24 n25 n26 n27 n28 n29 = n13 refl
-operands Production.New is n0 n1 n2 n3 n4 n5 n6 n7 n8 n9 n10 n11 n12 n13 n14 n15 n16 n17 n18 n19 n20 n21 n22 n23 n24 n25 n26 n27 n28 n29 = n14 refl
-operands Production.Placed is n0 n1 n2 n3 n4 n5 n6 n7 n8 n9 n10 n11 n12 n13 n14 n15 n16 n17 n18 n19 n20 n21 n22 n23 n24 n25 n26 n27 n28 n29 = n15 refl
-operands Production.LeftFold is n0 n1 n2 n3 n4 n5 n6 n7 n8 n9 n10 n11 n12 n13 n14 n15 n16 n17 n18 n19 n20 n21 n22 n23 n24 n25 n26 n27 n28 n29 = n16 refl
-operands Production.RightFold is n0 n1 n2 n3 n4 n5 n6 n7 n8 n9 n10 n11 n12 n13 n14 n15 n16 n17 n18 n19 n20 n21 n22 n23 n24 n25 n26 n27 n28 n29 = n17 refl
-operands Production.FoldOperand is n0 n1 n2 n3 n4 n5 n6 n7 n8 n9 n10 n11 n12 n13 n14 n15 n16 n17 n18 n19 n20 n21 n22 n23 n24 n25 n26 n27 n28 n29 = n18 refl
-operands Production.FoldPack is n0 n1 n2 n3 n4 n5 n6 n7 n8 n9 n10 n11 n12 n13 n14 n15 n16 n17 n18 n19 n20 n21 n22 n23 n24 n25 n26 n27 n28 n29 = n19 refl
-operands Production.Requires is n0 n1 n2 n3 n4 n5 n6 n7 n8 n9 n10 n11 n12 n13 n14 n15 n16 n17 n18 n19 n20 n21 n22 n23 n24 n25 n26 n27 n28 n29 = n20 refl
-operands Production.RequiresOf is n0 n1 n2 n3 n4 n5 n6 n7 n8 n9 n10 n11 n12 n13 n14 n15 n16 n17 n18 n19 n20 n21 n22 n23 n24 n25 n26 n27 n28 n29 = n21 refl
-operands Production.RequiredType is n0 n1 n2 n3 n4 n5 n6 n7 n8 n9 n10 n11 n12 n13 n14 n15 n16 n17 n18 n19 n20 n21 n22 n23 n24 n25 n26 n27 n28 n29 = n22 refl
-operands Production.ExpressionRequirement is n0 n1 n2 n3 n4 n5 n6 n7 n8 n9 n10 n11 n12 n13 n14 n15 n16 n17 n18 n19 n20 n21 n22 n23 n24 n25 n26 n27 n28 n29 = n23 refl
-operands Production.NoexceptRequirement is n0 n1 n2 n3 n4 n5 n6 n7 n8 n9 n10 n11 n12 n13 n14 n15 n16 n17 n18 n19 n20 n21 n22 n23 n24 n25 n26 n27 n28 n29 = n24 refl
-operands Production.ResultRequirement is n0 n1 n2 n3 n4 n5 n6 n7 n8 n9 n10 n11 n12 n13 n14 n15 n16 n17 n18 n19 n20 n21 n22 n23 n24 n25 n26 n27 n28 n29 = n25 refl
-operands Production.TypeRequirement is n0 n1 n2 n3 n4 n5 n6 n7 n8 n9 n10 n11 n12 n13 n14 n15 n16 n17 n18 n19 n20 n21 n22 n23 n24 n25 n26 n27 n28 n29 = n26 refl
-operands Production.NestedRequirement is n0 n1 n2 n3 n4 n5 n6 n7 n8 n9 n10 n11 n12 n13 n14 n15 n16 n17 n18 n19 n20 n21 n22 n23 n24 n25 n26 n27 n28 n29 = n27 refl
-operands Production.PackSize is n0 n1 n2 n3 n4 n5 n6 n7 n8 n9 n10 n11 n12 n13 n14 n15 n16 n17 n18 n19 n20 n21 n22 n23 n24 n25 n26 n27 n28 n29 = n28 refl
-operands Production.ExpandExpression is n0 n1 n2 n3 n4 n5 n6 n7 n8 n9 n10 n11 n12 n13 n14 n15 n16 n17 n18 n19 n20 n21 n22 n23 n24 n25 n26 n27 n28 n29 = n29 refl
-operands _ is n0 n1 n2 n3 n4 n5 n6 n7 n8 n9 n10 n11 n12 n13 n14 n15 n16 n17 n18 n19 n20 n21 n22 n23 n24 n25 n26 n27 n28 n29 = subst IsOperands (sym is) tt
+requirement Production.Requires is n0 n1 n2 n3 n4 n5 n6 n7 = n0 refl
+requirement Production.RequiresOf is n0 n1 n2 n3 n4 n5 n6 n7 = n1 refl
+requirement Production.RequiredType is n0 n1 n2 n3 n4 n5 n6 n7 = n2 refl
+requirement Production.ExpressionRequirement is n0 n1 n2 n3 n4 n5 n6 n7 = n3 refl
+requirement Production.NoexceptRequirement is n0 n1 n2 n3 n4 n5 n6 n7 = n4 refl
+requirement Production.ResultRequirement is n0 n1 n2 n3 n4 n5 n6 n7 = n5 refl
+requirement Production.TypeRequirement is n0 n1 n2 n3 n4 n5 n6 n7 = n6 refl
+requirement Production.NestedRequirement is n0 n1 n2 n3 n4 n5 n6 n7 = n7 refl
+requirement _ is n0 n1 n2 n3 n4 n5 n6 n7 = subst IsRequirement (sym is) tt
 
 abbrev IsUnresolved : Family → Type 0
 IsUnresolved Family.Unresolved = Unit {0}

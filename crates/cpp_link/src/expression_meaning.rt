@@ -194,6 +194,34 @@ impl Linked {
                 },
                 true,
             ),
+            _ => unreachable!(),
+        }
+    }
+
+    /// A fold, or what else is made of a pack.
+    #[tactic(auto, unfolding(crate::specs::LinkReading::link_meaning, cpp_term::specs::Meaning::meaning, cpp_term::specs::Meaning::listed_value, cpp_term::specs::Meaning::with_item, cpp_term::specs::Values::tree_of, cpp_term::specs::Values::is_there, crate::specs::Parts::around_of, crate::specs::Parts::outcome_value, crate::specs::Parts::value_of, cpp_tree::specs::Nodes::tree_of, cpp_tree::specs::Nodes::piece_of, cpp_tree::specs::Nodes::thunk_of, cpp_tree::specs::Nodes::adjustment_of, crate::specs::Owed::made_at_end, crate::specs::Closes::ends_of, crate::specs::Making::nodes_of_outcome, crate::specs::NodeCount::makes_at_end))]
+    #[inline(never)]
+    pub(crate) fn outcome_of_pack(
+        &self,
+        symbol: &[u8],
+        production: Production,
+        place: u32,
+        kept: Surroundings,
+        parts: &[Part],
+    ) -> Outcome
+        requires family { family_of production ≡ Family.Pack }
+        requires fits { FitsSymbol symbol.now }
+        requires place { place < length symbol.now }
+        requires table { IsTable (over symbol.now self.now.nodes) }
+        requires there { AreThere symbol.now (length self.now.nodes.nodes) parts.now }
+        requires prefix { IsPrefixThere (length self.now.nodes.nodes) (name_of kept) }
+        ensures is { outcome_value symbol.now self.now.nodes result ≡ link_meaning symbol.now production (slice_index symbol.now place) place (around_of (trees_in symbol.now self.now.nodes) kept) (values_in symbol.now self.now.nodes parts.now) }
+        ensures there { IsOutcomeThere symbol.now (length self.now.nodes.thunks) (length self.now.nodes.nodes) result }
+        ensures nodes { nodes_of_outcome result ≤ ends_of production parts.now }
+        ensures makes { nodes_of_outcome result ≡ makes_at_end production (values_in symbol.now self.now.nodes parts.now) }
+    {
+        let byte = symbol[place as usize];
+        match production {
             // <fold-expr> ::= fl <operator-name> <expression> | fr <operator-name> <expression>
             Production::LeftFold => Outcome::MadeOperand {
                 letter: byte,
@@ -225,6 +253,44 @@ impl Linked {
                 true,
             ),
             Production::FoldPack => made(Node::Expansion(self.tree(symbol, parts, 0)), true),
+            // <expression> ::= sZ <template-param> | sZ <function-param>
+            Production::PackSize => Outcome::MadeOperand {
+                letter: byte,
+                left: None,
+                node: Node::Expansion(self.tree(symbol, parts, 0)),
+            },
+            // <expression> ::= sp <expression>
+            Production::ExpandExpression => {
+                made(Node::Expansion(self.tree(symbol, parts, 0)), true)
+            }
+            _ => unreachable!(),
+        }
+    }
+
+    /// A requires expression, or what it requires.
+    #[tactic(auto, unfolding(crate::specs::LinkReading::link_meaning, cpp_term::specs::Meaning::meaning, cpp_term::specs::Meaning::listed_value, cpp_term::specs::Meaning::with_item, cpp_term::specs::Values::tree_of, cpp_term::specs::Values::is_there, crate::specs::Parts::around_of, crate::specs::Parts::outcome_value, crate::specs::Parts::value_of, cpp_tree::specs::Nodes::tree_of, cpp_tree::specs::Nodes::piece_of, cpp_tree::specs::Nodes::thunk_of, cpp_tree::specs::Nodes::adjustment_of, crate::specs::Owed::made_at_end, crate::specs::Closes::ends_of, crate::specs::Making::nodes_of_outcome, crate::specs::NodeCount::makes_at_end))]
+    #[inline(never)]
+    pub(crate) fn outcome_of_requirement(
+        &self,
+        symbol: &[u8],
+        production: Production,
+        place: u32,
+        kept: Surroundings,
+        parts: &[Part],
+    ) -> Outcome
+        requires family { family_of production ≡ Family.Requirement }
+        requires fits { FitsSymbol symbol.now }
+        requires place { place < length symbol.now }
+        requires table { IsTable (over symbol.now self.now.nodes) }
+        requires there { AreThere symbol.now (length self.now.nodes.nodes) parts.now }
+        requires prefix { IsPrefixThere (length self.now.nodes.nodes) (name_of kept) }
+        ensures is { outcome_value symbol.now self.now.nodes result ≡ link_meaning symbol.now production (slice_index symbol.now place) place (around_of (trees_in symbol.now self.now.nodes) kept) (values_in symbol.now self.now.nodes parts.now) }
+        ensures there { IsOutcomeThere symbol.now (length self.now.nodes.thunks) (length self.now.nodes.nodes) result }
+        ensures nodes { nodes_of_outcome result ≤ ends_of production parts.now }
+        ensures makes { nodes_of_outcome result ≡ makes_at_end production (values_in symbol.now self.now.nodes parts.now) }
+    {
+        let byte = symbol[place as usize];
+        match production {
             // what is required isn't in the tree
             Production::Requires => Outcome::Given(Part::Pair {
                 letter: byte,
@@ -243,16 +309,6 @@ impl Linked {
             Production::ResultRequirement => Outcome::Given(Part::Letter(byte)),
             Production::TypeRequirement => Outcome::Given(Part::Letter(byte)),
             Production::NestedRequirement => Outcome::Given(Part::Letter(byte)),
-            // <expression> ::= sZ <template-param> | sZ <function-param>
-            Production::PackSize => Outcome::MadeOperand {
-                letter: byte,
-                left: None,
-                node: Node::Expansion(self.tree(symbol, parts, 0)),
-            },
-            // <expression> ::= sp <expression>
-            Production::ExpandExpression => {
-                made(Node::Expansion(self.tree(symbol, parts, 0)), true)
-            }
             _ => unreachable!(),
         }
     }

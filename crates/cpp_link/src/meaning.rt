@@ -113,8 +113,15 @@ impl Linked {
                 symbol, production, place, kept, parts,
             ),
             Family::Argument => self.outcome_of_argument(symbol, production, place, kept, parts),
+            Family::Declaration => self.outcome_of_declaration(
+                symbol, production, place, kept, parts,
+            ),
             Family::Operation => self.outcome_of_operation(symbol, production, place, kept, parts),
             Family::Operands => self.outcome_of_operands(symbol, production, place, kept, parts),
+            Family::Pack => self.outcome_of_pack(symbol, production, place, kept, parts),
+            Family::Requirement => self.outcome_of_requirement(
+                symbol, production, place, kept, parts,
+            ),
             Family::Unresolved => self.outcome_of_unresolved(
                 symbol, production, place, kept, parts,
             ),

@@ -143,6 +143,7 @@ impl Linked {
         ensures bad { IfErr result (λ e. e ≡ refusals.Memory → ⊥) }
     {
         match production {
+            // <data-member-prefix> ::= <prefix> M
             Production::Holder => {
                 let name = self.prefix_node(symbol, kept);
                 if self.is_instance(symbol, name) {
@@ -150,6 +151,7 @@ impl Linked {
                 }
                 Ok(self.listed_name(Node::Holder(name)))
             }
+            // <template-args> ::= I <template-arg>* E, of a constructor that is inherited
             Production::OwnArguments => {
                 let base = self.prefix_node(symbol, kept);
                 Ok(Step::Go {
@@ -158,6 +160,7 @@ impl Linked {
                     packs: self.packs,
                 })
             }
+            // <template-param> ::= T_ | T <parameter number> _
             _ => {
                 let digits = self.text(symbol, parts, 0);
                 let is_argument = is_parameter_argument(production);
@@ -182,7 +185,9 @@ impl Linked {
         ensures there { IsThereBelow (length self.now.nodes.nodes) result }
     {
         match production {
+            // <data-member-prefix> ::= <prefix> M
             Production::Holder => Some(self.node(symbol, self.given(symbol, parts, 0))),
+            // <ctor-dtor-name> ::= CI1 <base class type> | CI2 <base class type>
             Production::OwnArguments => Some(self.prefix_node(symbol, kept)),
             _ => None,
         }

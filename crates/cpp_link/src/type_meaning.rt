@@ -253,7 +253,7 @@ impl Linked {
         }
     }
 
-    /// A template's parameter, its declaration, or a rare argument.
+    /// A template's parameter, or a rare argument.
     #[tactic(auto, unfolding(crate::specs::LinkReading::link_meaning, cpp_term::specs::Meaning::meaning, cpp_term::specs::Meaning::listed_value, cpp_term::specs::Meaning::with_item, cpp_term::specs::Values::tree_of, cpp_term::specs::Values::is_there, crate::specs::Parts::around_of, crate::specs::Parts::outcome_value, crate::specs::Parts::value_of, cpp_tree::specs::Nodes::tree_of, cpp_tree::specs::Nodes::piece_of, cpp_tree::specs::Nodes::thunk_of, cpp_tree::specs::Nodes::adjustment_of, crate::specs::Owed::made_at_end, crate::specs::Closes::ends_of, crate::specs::Making::nodes_of_outcome, crate::specs::NodeCount::makes_at_end))]
     #[inline(never)]
     pub(crate) fn outcome_of_argument(
@@ -275,7 +275,6 @@ impl Linked {
         ensures nodes { nodes_of_outcome result ≤ ends_of production parts.now }
         ensures makes { nodes_of_outcome result ≡ makes_at_end production (values_in symbol.now self.now.nodes parts.now) }
     {
-        let byte = symbol[place as usize];
         match production {
             // <template-param> ::= T_ | T <parameter number> _
             Production::Parameter => self.applied(symbol, parts, true),
@@ -313,14 +312,42 @@ impl Linked {
             ),
             // <template-arg> ::= <template-param> [<template-args>] | <template-param-decl> <template-arg>
             Production::ArgumentWithT => tree(self.tree(symbol, parts, 0), true),
-            // <template-arg> ::= <template-param-decl> <template-arg>, after the T; what is declared of it isn't in the tree
-            Production::DeclaredArgument => tree(self.tree(symbol, parts, 1), true),
             // <template-param> ::= TL <level> _ _ | TL <level> _ <parameter number> _, after the T
             Production::LeveledParameter => Outcome::Given(self.given(symbol, parts, 1)),
             // <template-arg> ::= <expr-primary>
             Production::OneLiteral => Outcome::Given(self.given(symbol, parts, 0)),
             // <template-arg> ::= J <template-arg>* E, after a <template-param-decl>
             Production::OnePack => made(Node::Pack(self.list(symbol, parts, 0)), true),
+            _ => unreachable!(),
+        }
+    }
+
+    /// The declaration of a template's parameter, or an argument that begins with one.
+    #[tactic(auto, unfolding(crate::specs::LinkReading::link_meaning, cpp_term::specs::Meaning::meaning, cpp_term::specs::Meaning::listed_value, cpp_term::specs::Meaning::with_item, cpp_term::specs::Values::tree_of, cpp_term::specs::Values::is_there, crate::specs::Parts::around_of, crate::specs::Parts::outcome_value, crate::specs::Parts::value_of, cpp_tree::specs::Nodes::tree_of, cpp_tree::specs::Nodes::piece_of, cpp_tree::specs::Nodes::thunk_of, cpp_tree::specs::Nodes::adjustment_of, crate::specs::Owed::made_at_end, crate::specs::Closes::ends_of, crate::specs::Making::nodes_of_outcome, crate::specs::NodeCount::makes_at_end))]
+    #[inline(never)]
+    pub(crate) fn outcome_of_declaration(
+        &self,
+        symbol: &[u8],
+        production: Production,
+        place: u32,
+        kept: Surroundings,
+        parts: &[Part],
+    ) -> Outcome
+        requires family { family_of production ≡ Family.Declaration }
+        requires fits { FitsSymbol symbol.now }
+        requires place { place < length symbol.now }
+        requires table { IsTable (over symbol.now self.now.nodes) }
+        requires there { AreThere symbol.now (length self.now.nodes.nodes) parts.now }
+        requires prefix { IsPrefixThere (length self.now.nodes.nodes) (name_of kept) }
+        ensures is { outcome_value symbol.now self.now.nodes result ≡ link_meaning symbol.now production (slice_index symbol.now place) place (around_of (trees_in symbol.now self.now.nodes) kept) (values_in symbol.now self.now.nodes parts.now) }
+        ensures there { IsOutcomeThere symbol.now (length self.now.nodes.thunks) (length self.now.nodes.nodes) result }
+        ensures nodes { nodes_of_outcome result ≤ ends_of production parts.now }
+        ensures makes { nodes_of_outcome result ≡ makes_at_end production (values_in symbol.now self.now.nodes parts.now) }
+    {
+        let byte = symbol[place as usize];
+        match production {
+            // <template-arg> ::= <template-param-decl> <template-arg>, after the T; what is declared of it isn't in the tree
+            Production::DeclaredArgument => tree(self.tree(symbol, parts, 1), true),
             // <template-param-decl> ::= Ty
             Production::AnyType => Outcome::Given(Part::Letter(byte)),
             // <template-param-decl> ::= Tn <type>

@@ -11,6 +11,7 @@ pub mod nodes;
 mod notes;
 pub mod tree_production;
 pub mod view;
+mod words;
 
 pub use laws::{
     equal_trees_have_equal_views, fields_make_the_tree, open_trees_have_free_parameters,

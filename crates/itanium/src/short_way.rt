@@ -30,8 +30,8 @@ const ROUNDS_A_BYTE: usize = 8;
 /// Whatever is answered, at most eight bytes for each of the symbol's and a kilobyte are written, at most eight steps for each
 /// byte are taken, and no list has more entries than the symbol has bytes: no list has room for more. Text and candidates only
 /// grow, up to the end of a function: of an instance of a function template what was written up to its return type is taken away,
-/// and of one that is shown by its name what was written after that. Arguments that aren't shown are written, too, and left out
-/// at the end.
+/// of one whose address is an argument the return type, and of one that is shown by its name what was written after that.
+/// Arguments that aren't shown are written, too, and left out at the end.
 // at each call, which knows what is written and mostly the grammar, so that the others' steps aren't there
 #[inline(always)]
 pub fn write(direct: &mut Direct, s: &[u8], limit: u32, is_wide: bool, detail: Detail) -> bool

@@ -12,7 +12,7 @@ pub enum Target {
     Constant(u32),
 }
 
-/// The number by which a reference names a place of a symbol, as in `B0_`: it counts the bytes behind `_R`.
+/// The number by which a reference names a place of a symbol, as in `B0_`: it counts the bytes after `_R`.
 pub fn number_of(place: u64) -> u64
     ensures value { result ≡ place - 2 }
     ensures names { 2 ≤ place → (at : At) → referred at result ≡ ended_at at.ended place }

@@ -355,7 +355,7 @@ closes-naming p m form row closed byte around at began vs s =
     closes-as p closed byte around at began vs s
     ∙ ap (λ r. Ok (found (meant r.form byte around vs) (state_after r around began (meant r.form byte around vs) vs s))) row
 
--- the first part, and the second behind the tree
+-- the first part, and the second after the tree
 pub record Named (p : Production) (m : Made) (x y : Sym) (around : Around) (place : ℕ) (inner : Found (List Value) State) (old : State) (bytes : ℕ)
     : Type 0 where
   pub value : Value

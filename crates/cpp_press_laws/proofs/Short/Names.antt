@@ -141,7 +141,7 @@ going-by-row p m x row parts is closed pays around at old v new b here small all
     (closes-naming p m (handed 1) row closed o.byte around at old (tree t false ∷ w.value ∷ []) w.after)
     (record { few = omega (arith, o.sum, n.sum, n.first.few, paid.few, g.few, w.sum, w.onward.1); known = g.known; kept = tt; small = g.small })
 
--- a piece behind the name so far, or in std
+-- a piece after the name so far, or in std
 piece-paid : {p : Production} {granted : ℕ} {x : Sym} {around : Around} {v : Value} {s : State} {bytes : ℕ} (u : Term) → SmallPrefix around.prefix
     → 2 + size u + 9 + credit_of x around ≤ cost_of x around v s bytes + 8 * cond (is_chain p) 0 1 + granted
     → NamePaid p granted x around v s bytes (extended around.prefix u)

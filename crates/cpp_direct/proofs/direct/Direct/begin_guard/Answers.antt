@@ -13,5 +13,5 @@ begin_encoding-requires-clause-awaits g c =
     (c.byte_at-else-byte_at-ne71.ensures (λ e. omega (arith, e, c.if-byte_at-ne86.false))) in
     let third = subst (λ b. StandsAt s.bytes 4 (b ∷ [])) c.if-byte_at-ne90.false
     (c.byte_at-else-byte_at-ne86.ensures (λ e. omega (arith, e, c.if-byte_at-ne90.false))) in
-    guard-begins s c.args.self.now c.push.new.self c.requires.fresh c.requires.starts (stands-join s.bytes 2 (71 ∷ []) (86 ∷ []) letter second) letter third
+    guard-begins s c.args.self.now c.push.new.self c.requires.fresh c.requires.local c.requires.starts (stands-join s.bytes 2 (71 ∷ []) (86 ∷ []) letter second) third
     c.in_ok-push.ensures

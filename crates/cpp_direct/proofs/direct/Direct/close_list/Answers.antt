@@ -3,6 +3,7 @@ use Rattle.cpp_direct.specs.Symbol.{symbol_by}
 use Rattle.cpp_direct.specs.declared.open.Open.TheVariants as opens
 use Rattle.cpp_direct.specs.declared.direct.Direct.{Direct}
 use Rattle.cpp_direct.proofs.Listed.{closed-by, type-closed, nest-closed, first-closed, name-closed}
+use Rattle.cpp_direct.proofs.Members.{level-closed}
 use Rattle.cpp_direct.proofs.direct.Direct.close_list.Goals as goal
 
 pub name_ended-requires-clause-ended : goal.name_ended-requires-clause-ended
@@ -37,3 +38,10 @@ returns-in_ok-add_candidate-in-FirstArguments g c =
     c.in_ok-add_candidate-in-FirstArguments.ensures.candidates c.add_candidate-in-FirstArguments.ensures.text
     c.add_candidate-in-FirstArguments.ensures.open c.add_candidate-in-FirstArguments.ensures.scope
     c.add_candidate-in-FirstArguments.ensures.at
+
+pub level_ended-requires-clause-awaits : goal.level_ended-requires-clause-awaits
+level_ended-requires-clause-awaits g c =
+    let w : Direct = record c.end_arguments.new.self { waiting = c.pop.new.self; argument = c.args.argument } in
+    level-closed (symbol_by g.G.Grammar.IS_WIDE g.G.Grammar.IS_BARE g.G.Grammar.IS_BRIEF c.args.s.now) w c.in-LevelArguments.is_dependent
+    (closed-by (symbol_by g.G.Grammar.IS_WIDE g.G.Grammar.IS_BARE g.G.Grammar.IS_BRIEF c.args.s.now) c.args.self.now c.end_arguments.new.self w c.in_ok-from.field-0 (opens.LevelArguments c.in-LevelArguments.is_dependent)
+    c.requires.ended c.in_ok-end_arguments.ensures refl refl refl refl c.in_ok-from.ensures.items c.in-LevelArguments.is)

@@ -7,8 +7,8 @@ use Rattle.cpp_direct.proofs.direct.Direct.first_type.Goals as goal
 pub returns-then-not-is_named : goal.returns-then-not-is_named
 returns-then-not-is_named g c = type-expected (symbol_by g.G.Grammar.IS_WIDE g.G.Grammar.IS_BARE g.G.Grammar.IS_BRIEF c.args.s.now) _ (first-expected (symbol_by g.G.Grammar.IS_WIDE g.G.Grammar.IS_BARE g.G.Grammar.IS_BRIEF c.args.s.now) c.args.self.now _ true c.requires.writing refl refl)
 
-pub returns : goal.returns
-returns g c =
+pub argument_at-requires-clause-awaits : goal.argument_at-requires-clause-awaits
+argument_at-requires-clause-awaits g c =
     argument-begins (symbol_by g.G.Grammar.IS_WIDE g.G.Grammar.IS_BARE g.G.Grammar.IS_BRIEF c.args.s.now) c.args.self.now _ c.end-from.result c.requires.writing (c.is_named.ensures c.if-not-is_named.false)
     c.end-from.ensures c.in_ok-push.ensures.items refl refl refl refl
 

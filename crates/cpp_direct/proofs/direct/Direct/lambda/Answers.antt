@@ -2,7 +2,7 @@ use Rattle.std.proofs.Common.{◌∷◌, ◌++◌, [], append_assoc, arith, code
 use Rattle.cpp_direct.specs.Symbol.{symbol_by}
 use Rattle.cpp_direct.specs.HolesOfLocals.{lambda_digits, lambda_number}
 use Rattle.cpp_direct.specs.Written.{Reads}
-use Rattle.cpp_direct.proofs.EnclosingFunctions.{lambda-stands, lambda-told}
+use Rattle.cpp_direct.proofs.LambdasRead.{lambda-stands, lambda-told}
 use Rattle.cpp_direct.proofs.NamePlaces.{reads-then, reads-written, some-by}
 use Rattle.cpp_direct.proofs.TypesRead.{there}
 use Rattle.cpp_direct.proofs.direct.Direct.lambda.Goals as goal

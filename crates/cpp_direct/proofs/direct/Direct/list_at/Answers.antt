@@ -37,6 +37,15 @@ begin_pack-requires-clause-awaits g c = elim c.if-not-is_first.branch [
       first-expected (symbol_by g.G.Grammar.IS_WIDE g.G.Grammar.IS_BARE g.G.Grammar.IS_BRIEF c.args.s.now) c.args.self.now c.if-not-is_first.self c.args.is_first c.requires.writing w.if-not-is_first.false w.self-is
 ]
 
+pub begin_level-requires-clause-awaits : goal.begin_level-requires-clause-awaits
+begin_level-requires-clause-awaits g c = elim c.if-not-is_first.branch [
+  | then-not-is_first+in_ok-push_pair w ↦
+      another-expected (symbol_by g.G.Grammar.IS_WIDE g.G.Grammar.IS_BARE g.G.Grammar.IS_BRIEF c.args.s.now) c.args.self.now w.push_pair.new.self c.if-not-is_first.self c.args.is_first c.requires.writing w.if-not-is_first.true
+      w.in_ok-push_pair.ensures w.self-is
+  | else-not-is_first w ↦
+      first-expected (symbol_by g.G.Grammar.IS_WIDE g.G.Grammar.IS_BARE g.G.Grammar.IS_BRIEF c.args.s.now) c.args.self.now c.if-not-is_first.self c.args.is_first c.requires.writing w.if-not-is_first.false w.self-is
+]
+
 pub returns-else-is_first-3 : goal.returns-else-is_first-3
 returns-else-is_first-3 g c = type-expected (symbol_by g.G.Grammar.IS_WIDE g.G.Grammar.IS_BARE g.G.Grammar.IS_BRIEF c.args.s.now) c.if-not-is_first.self (elim c.if-not-is_first.branch [
   | then-not-is_first+in_ok-push_pair w ↦

@@ -4,6 +4,8 @@ use Rattle.cpp_direct.specs.WriterInvariant.{IsOwn, IsWriting}
 use Rattle.cpp_direct.specs.declared.open.Step.TheVariants as steps
 use Rattle.cpp_direct.specs.MidStep.{IsNameEnded}
 use Rattle.cpp_direct.specs.MidStepOfLocals.{IsEnclosingNamed}
+use Rattle.cpp_direct.specs.MidStepOfAddresses.{IsAddressNamed}
+use Rattle.cpp_direct.proofs.AddressesRead.{name-addressed}
 use Rattle.cpp_direct.proofs.EnclosingFunctions.{name-within}
 use Rattle.cpp_direct.proofs.Nesting.{arguments-noted, type-ended, name-comes}
 use Rattle.cpp_direct.proofs.direct.Direct.nest_ended.Goals as goal
@@ -36,6 +38,15 @@ enclosing_named-requires-clause-named g c =
     subst (λ n. IsEnclosingNamed (symbol_by g.G.Grammar.IS_WIDE g.G.Grammar.IS_BARE g.G.Grammar.IS_BRIEF c.args.s.now) (record old { at = n }) c.in-Enclosing.mark false old.nest.from) (sym c.in_ok-self.ensures.1)
     (name-within (symbol_by g.G.Grammar.IS_WIDE g.G.Grammar.IS_BARE g.G.Grammar.IS_BRIEF c.args.s.now) old writing.kept before.0 c.in-Enclosing.mark false before.1 (before.2 (subst IsOwn (sym c.in-Enclosing.is) tt) (sym c.is_function_instance.ensures ∙ c.if-is_function_instance.false)) c.requires.end
     c.in-Enclosing.is)
+
+pub addressed_named-requires-clause-named : goal.addressed_named-requires-clause-named
+addressed_named-requires-clause-named g c =
+    let s = symbol_by g.G.Grammar.IS_WIDE g.G.Grammar.IS_BARE g.G.Grammar.IS_BRIEF c.args.s.now in
+    let old = c.args.self.now in
+    let writing = c.requires.writing in
+    let before = writing.is_before in
+    subst (λ n. IsAddressNamed s (record old { at = n }) c.in-Address.mark) (sym c.in_ok-self.ensures.1)
+    (name-addressed s old writing.kept before.0 c.in-Address.mark before.1 before.2 before.3 before.4 c.requires.end c.in-Address.is)
 
 pub returns-in_ok-add_unless-in-Type : goal.returns-in_ok-add_unless-in-Type
 returns-in_ok-add_unless-in-Type g c =

@@ -16,15 +16,10 @@ front_ended-requires-clause-ended g c =
     value-front (symbol_by g.G.Grammar.IS_WIDE g.G.Grammar.IS_BARE g.G.Grammar.IS_BRIEF c.args.s.now) c.args.self.now c.args.is_reference c.args.is_dependent c.in-Front.mark c.in-Front.start
     c.in-Front.argument c.requires.writing (waits-last _ _ _ _ c.as_slice.ensures c.in_ok-entry.ensures.value c.in-Front.is)
 
-pub pass_dependent-requires : goal.pass_dependent-requires
-pass_dependent-requires g c =
+pub pass_dependent-requires-clause-writing : goal.pass_dependent-requires-clause-writing
+pass_dependent-requires-clause-writing g c =
     let s = symbol_by g.G.Grammar.IS_WIDE g.G.Grammar.IS_BARE g.G.Grammar.IS_BRIEF c.args.s.now in
-    record {
-      writing = (
-        c.args.is_reference,
-        subst (λ d. IsWriting s c.args.self.now (steps.Value c.args.is_reference d)) c.if-is_dependent.true c.requires.writing,
-      );
-    }
+    (c.args.is_reference, subst (λ d. IsWriting s c.args.self.now (steps.Value c.args.is_reference d)) c.if-is_dependent.true c.requires.writing)
 
 pub pass_closed-requires-clause-writing : goal.pass_closed-requires-clause-writing
 pass_closed-requires-clause-writing g c =

@@ -2,7 +2,9 @@ use Rattle.std.proofs.Common.{Some, true, false, ap, ◌∙◌}
 use Rattle.cpp_direct.specs.Symbol.{symbol_by}
 use Rattle.cpp_direct.specs.declared.open.Open.TheVariants as opens
 use Rattle.cpp_direct.proofs.Handed.{value-element, value-returned, value-signature, value-enumerator, argument-read, special-read, takes-elements}
-use Rattle.cpp_direct.proofs.EnclosingFunctions.{lambda-parameter-read, parameter-read-within}
+use Rattle.cpp_direct.proofs.AddressesRead.{value-addressed, value-addressed-front}
+use Rattle.cpp_direct.proofs.EnclosingFunctions.{parameter-read-within}
+use Rattle.cpp_direct.proofs.LambdasRead.{lambda-parameter-read}
 use Rattle.cpp_direct.proofs.Arguments.{value-argument}
 use Rattle.cpp_direct.proofs.Signatures.{value-array}
 use Rattle.cpp_direct.proofs.direct.Direct.pass_closed.Goals as goal
@@ -26,10 +28,20 @@ enclosing_parameter-requires-clause-read g c =
     (value-element (symbol_by g.G.Grammar.IS_WIDE g.G.Grammar.IS_BARE g.G.Grammar.IS_BRIEF c.args.s.now) c.args.self.now c.args.is_reference (opens.Enclosing c.in-Enclosing.mark c.in-Enclosing.from c.in-Enclosing.to)
     c.requires.writing (c.requires.waits ∙ ap (λ o. Some o) c.in-Enclosing.is))
 
+pub addressed_front-requires-clause-read : goal.addressed_front-requires-clause-read
+addressed_front-requires-clause-read g c =
+    value-addressed-front (symbol_by g.G.Grammar.IS_WIDE g.G.Grammar.IS_BARE g.G.Grammar.IS_BRIEF c.args.s.now) c.args.self.now c.args.is_reference false c.in-AddressedFront.mark c.in-AddressedFront.to c.in-AddressedFront.argument
+    c.requires.writing (c.requires.waits ∙ ap (λ o. Some o) c.in-AddressedFront.is)
+
+pub addressed_parameter-requires-clause-read : goal.addressed_parameter-requires-clause-read
+addressed_parameter-requires-clause-read g c =
+    value-addressed (symbol_by g.G.Grammar.IS_WIDE g.G.Grammar.IS_BARE g.G.Grammar.IS_BRIEF c.args.s.now) c.args.self.now c.args.is_reference false c.in-Addressed.mark c.in-Addressed.to c.in-Addressed.argument
+    c.requires.writing (c.requires.waits ∙ ap (λ o. Some o) c.in-Addressed.is)
+
 pub lambda_parameter-requires-clause-read : goal.lambda_parameter-requires-clause-read
 lambda_parameter-requires-clause-read g c =
-    lambda-parameter-read (symbol_by g.G.Grammar.IS_WIDE g.G.Grammar.IS_BARE g.G.Grammar.IS_BRIEF c.args.s.now) c.args.self.now c.in-Lambda.from
-    (value-element (symbol_by g.G.Grammar.IS_WIDE g.G.Grammar.IS_BARE g.G.Grammar.IS_BRIEF c.args.s.now) c.args.self.now c.args.is_reference (opens.Lambda c.in-Lambda.from) c.requires.writing
+    lambda-parameter-read (symbol_by g.G.Grammar.IS_WIDE g.G.Grammar.IS_BARE g.G.Grammar.IS_BRIEF c.args.s.now) c.args.self.now c.in-Lambda.from c.in-Lambda.nested
+    (value-element (symbol_by g.G.Grammar.IS_WIDE g.G.Grammar.IS_BARE g.G.Grammar.IS_BRIEF c.args.s.now) c.args.self.now c.args.is_reference (opens.Lambda c.in-Lambda.from c.in-Lambda.nested) c.requires.writing
     (c.requires.waits ∙ ap (λ o. Some o) c.in-Lambda.is))
 
 pub finish-requires : goal.finish-requires
@@ -56,4 +68,5 @@ returns-in_default g c =
     argument-read (symbol_by g.G.Grammar.IS_WIDE g.G.Grammar.IS_BARE g.G.Grammar.IS_BRIEF c.args.s.now) c.args.self.now c.args.entry
     (value-element (symbol_by g.G.Grammar.IS_WIDE g.G.Grammar.IS_BARE g.G.Grammar.IS_BRIEF c.args.s.now) c.args.self.now c.args.is_reference c.args.entry c.requires.writing c.requires.waits)
     (takes-elements c.args.entry c.requires.others c.in_default.not-Returned c.in_default.not-Signature c.in_default.not-Special c.in_default.not-Enumerator
-    c.in_default.not-Enclosing c.in_default.not-Argument c.in_default.not-Lambda c.in_default.not-Element c.in_default.not-Array)
+    c.in_default.not-Enclosing c.in_default.not-Argument c.in_default.not-Lambda c.in_default.not-Element c.in_default.not-Array
+    c.in_default.not-Address c.in_default.not-AddressedFront c.in_default.not-Addressed)

@@ -1,10 +1,15 @@
-use Rattle.std.proofs.Common.{refl}
+use Rattle.std.proofs.Common.{true}
 use Rattle.cpp_direct.specs.Symbol.{symbol_by}
-use Rattle.cpp_direct.proofs.Noted.{listed-noted}
+use Rattle.cpp_direct.proofs.AddressesRead.{value-addressed, value-addressed-front}
+use Rattle.cpp_direct.proofs.Listed.{waits-last}
 use Rattle.cpp_direct.proofs.direct.Direct.pass_dependent.Goals as goal
 
-pub returns : goal.returns
-returns g c =
-    listed-noted (symbol_by g.G.Grammar.IS_WIDE g.G.Grammar.IS_BARE g.G.Grammar.IS_BRIEF c.args._s.now) c.args.self.now _ c.requires.writing.0
-    c.pop.new.self.list.items c.in_ok-pop.field-0 c.in_ok-entry.entry c.requires.writing.1 c.in_ok-pop.ensures.items c.in_ok-entry.ensures
-    c.in_ok-push.ensures.items refl refl refl refl
+pub addressed_front-requires-clause-read : goal.addressed_front-requires-clause-read
+addressed_front-requires-clause-read g c =
+    value-addressed-front (symbol_by g.G.Grammar.IS_WIDE g.G.Grammar.IS_BARE g.G.Grammar.IS_BRIEF c.args.s.now) c.args.self.now c.requires.writing.0 true c.in-AddressedFront.mark c.in-AddressedFront.to c.in-AddressedFront.argument c.requires.writing.1
+    (waits-last _ _ _ _ c.as_slice.ensures c.in_ok-entry.ensures.value c.in-AddressedFront.is)
+
+pub addressed_parameter-requires-clause-read : goal.addressed_parameter-requires-clause-read
+addressed_parameter-requires-clause-read g c =
+    value-addressed (symbol_by g.G.Grammar.IS_WIDE g.G.Grammar.IS_BARE g.G.Grammar.IS_BRIEF c.args.s.now) c.args.self.now c.requires.writing.0 true c.in-Addressed.mark c.in-Addressed.to c.in-Addressed.argument c.requires.writing.1
+    (waits-last _ _ _ _ c.as_slice.ensures c.in_ok-entry.ensures.value c.in-Addressed.is)

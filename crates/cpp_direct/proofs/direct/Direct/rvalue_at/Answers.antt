@@ -1,7 +1,6 @@
 use Rattle.std.proofs.Common.{◌+◌, ◌++◌, ◌∷◌, [], length, ◌∙◌, ap, subst, arith, inl, inr}
 use Rattle.cpp_direct.specs.Symbol.{symbol_by}
 use Rattle.cpp_direct.specs.Holes.{IsReferable, StandsAt}
-use Rattle.cpp_direct.specs.WriterInvariant.{IsKnown}
 use Rattle.cpp_direct.specs.MidStep.{parameter_digits}
 use Rattle.cpp_direct.proofs.DependentsRead.{argument-inside, forwarded-done}
 use Rattle.cpp_direct.proofs.TypesRead.{rvalue-opened, there}
@@ -19,20 +18,21 @@ returns-then-not-argument g c =
     rvalue-opened (symbol_by g.G.Grammar.IS_WIDE g.G.Grammar.IS_BARE g.G.Grammar.IS_BRIEF c.args.s.now) c.args.self.now c.open_type-then-not-argument.new.self c.open_type-then-not-argument.result c.end-from.result
     c.requires.awaits c.end-from.ensures c.requires.letter called.step called.open called.at called.text called.candidates called.scope
 
+pub repeat-requires-clause-from : goal.repeat-requires-clause-from
+repeat-requires-clause-from g c =
+    (argument-inside (symbol_by g.G.Grammar.IS_WIDE g.G.Grammar.IS_BARE g.G.Grammar.IS_BRIEF c.args.s.now) c.args.self.now c.in_ok-named.named c.in_ok-read.read.number c.in_ok-argument.argument c.requires.awaits
+    c.in_ok-named.ensures c.in_ok-argument.ensures.is c.in_ok-argument.ensures.known).0
+
 pub repeat-requires-clause-to : goal.repeat-requires-clause-to
 repeat-requires-clause-to g c =
-    let is = c.in_ok-argument.ensures.is in
-    let known = c.in_ok-argument.ensures.ordered in
-    argument-inside (symbol_by g.G.Grammar.IS_WIDE g.G.Grammar.IS_BARE g.G.Grammar.IS_BRIEF c.args.s.now) c.args.self.now c.in_ok-named.named c.in_ok-read.read.number c.in_ok-argument.argument c.requires.awaits
-    c.in_ok-named.ensures (is ∙ c.at.ensures (subst IsKnown is known)) (known, c.if-argument.false)
+    (argument-inside (symbol_by g.G.Grammar.IS_WIDE g.G.Grammar.IS_BARE g.G.Grammar.IS_BRIEF c.args.s.now) c.args.self.now c.in_ok-named.named c.in_ok-read.read.number c.in_ok-argument.argument c.requires.awaits
+    c.in_ok-named.ensures c.in_ok-argument.ensures.is c.in_ok-argument.ensures.known).1
 
 pub returns : goal.returns
 returns g c =
     let s = symbol_by g.G.Grammar.IS_WIDE g.G.Grammar.IS_BARE g.G.Grammar.IS_BRIEF c.args.s.now in
     let old = c.args.self.now in
     let k = c.in_ok-read.read.number in
-    let is = c.in_ok-argument.ensures.is in
-    let known = c.in_ok-argument.ensures.ordered in
     let here = c.in_ok-behind.ensures.1 in
     let line = c.in_ok-checked_add.ensures.1 ∙ ap (λ n. n + 1) here in
     let first = c.add_candidate.ensures in
@@ -45,7 +45,7 @@ returns g c =
     c.requires.awaits c.in_ok-read.ensures.few refers c.requires.letter
     (subst (λ n. StandsAt s.bytes n (84 ∷ [])) here (there s.bytes c.in_ok-behind.behind c.byte_at.result 84 c.if-byte_at-ne84.false (omega arith) c.byte_at.ensures))
     (subst (λ n. StandsAt s.bytes n (parameter_digits k ++ 95 ∷ [])) line c.in_ok-read.ensures.stands)
-    c.in_ok-named.ensures (is ∙ c.at.ensures (subst IsKnown is known)) (known, c.if-argument.false) c.if-named-eq0.false c.if-not-argument.false c.end-from.ensures
+    c.in_ok-named.ensures c.in_ok-argument.ensures.is c.in_ok-argument.ensures.known c.if-named-eq0.false c.if-not-argument.false c.end-from.ensures
     c.in_ok-repeat.ensures (c.in_ok-read.ensures.end ∙ ap (λ n. n + length (parameter_digits k ++ 95 ∷ [])) line)
     (record { more = c.in_ok-add_candidate.ensures.candidates; text = first.text; waits = first.open; scope = first.scope; at = first.at })
     (record { more = c.in_ok-add_candidate-2.ensures.candidates; text = second.text; waits = second.open; scope = second.scope; at = second.at })

@@ -11,13 +11,6 @@ unreachable-requires c = argument c.args.production c.requires.family
     c.in_default.not-LiteralElement
     c.in_default.not-AnyElement
     c.in_default.not-ArgumentWithT
-    c.in_default.not-DeclaredArgument
     c.in_default.not-LeveledParameter
     c.in_default.not-OneLiteral
     c.in_default.not-OnePack
-    c.in_default.not-AnyType
-    c.in_default.not-ValueOf
-    c.in_default.not-OfConcept
-    c.in_default.not-TemplateOf
-    c.in_default.not-PackOf
-    c.in_default.not-Declarations

@@ -20,17 +20,3 @@ unreachable-requires c = operands c.args.production c.requires.family
     c.in_default.not-Conditional
     c.in_default.not-New
     c.in_default.not-Placed
-    c.in_default.not-LeftFold
-    c.in_default.not-RightFold
-    c.in_default.not-FoldOperand
-    c.in_default.not-FoldPack
-    c.in_default.not-Requires
-    c.in_default.not-RequiresOf
-    c.in_default.not-RequiredType
-    c.in_default.not-ExpressionRequirement
-    c.in_default.not-NoexceptRequirement
-    c.in_default.not-ResultRequirement
-    c.in_default.not-TypeRequirement
-    c.in_default.not-NestedRequirement
-    c.in_default.not-PackSize
-    c.in_default.not-ExpandExpression

@@ -1,10 +1,10 @@
 -- The candidates up to a place were gone over.
 use Rattle.std.proofs.Common.{◌-◌, length}
 use Rattle.cpp_direct.proofs.Kept.{AreGoneOver}
-use Rattle.cpp_direct.proofs.writing.hide_after.Given as goal
+use Rattle.cpp_direct.proofs.writing.hide.Given as goal
 
 abbrev pub invariant-candidates : goal.invariant-candidates
-invariant-candidates l = record { gone : AreGoneOver l.to l.at l.fn.candidates.list.items l.candidates.list.items }
+invariant-candidates l = record { gone : AreGoneOver l.hiding l.at l.fn.candidates.list.items l.candidates.list.items }
 
 abbrev pub decreases-candidates : goal.decreases-candidates
 decreases-candidates l = length l.candidates.list.items - l.at

@@ -1,0 +1,285 @@
+-- Lambdas: types in functions, and components of nested names.
+use Rattle.std.proofs.Common.{◌≡◌, ◌≢◌, refl, ap, sym, ◌∙◌, subst, inl, inr, ℕ, ◌+◌, List, [], ◌∷◌, ◌++◌, length, reverse, true, false, Option, None, Some, arith, codes, append-nil, append_assoc}
+use Rattle.std.specs.Prelude.{decimal}
+use Rattle.std.proofs.lemmas.Bool.{false≢true}
+use Rattle.std.proofs.lemmas.Fmt.{decimal_digit}
+use Rattle.cpp_grammar.specs.declared.kind.Kind.{Kind}
+use Rattle.cpp_grammar.specs.Grammar.{may_be_empty}
+use Rattle.cpp_grammar.specs.Term.{Term, within, lambda, nil, list}
+use Rattle.cpp_grammar.specs.Items.{closed}
+use Rattle.cpp_grammar.specs.Scope.{has_return_type, arguments_of}
+use Rattle.cpp_grammar.specs.Values.{State, Around, Value, local_number, nothing_there, tree}
+use Rattle.cpp_grammar.specs.Between.{after, no_items}
+use Rattle.cpp_direct.specs.Symbol.{detail_of, Symbol}
+use Rattle.cpp_direct.specs.declared.open.Open.TheVariants as opens
+use Rattle.cpp_direct.specs.declared.open.Purpose.{Purpose}
+use Rattle.cpp_direct.specs.declared.open.Step.TheVariants as steps
+use Rattle.cpp_direct.specs.declared.direct.Direct.{Direct}
+use Rattle.cpp_direct.specs.Holes.{Opened, StandsAt, Comes, Expects, with_candidate}
+use Rattle.cpp_direct.specs.HolesOfLocals.{Discriminator, IsDiscriminatorAt, IsLambdaDigit, IsPieceAt, lambda_digits, lambda_ending, lambda_number, lambda_with, local_in}
+use Rattle.cpp_direct.specs.Prints.{IsLed, PrintsPiece, list_of}
+use Rattle.cpp_direct.specs.WriterInvariant.{IsNest, IsWriting, ItemsGoOn, LambdaComes, LambdaWithin, Stands, below, in_front_of_next, nowhere, Kept}
+use Rattle.cpp_direct.specs.MidStep.{IsElementRead}
+use Rattle.cpp_direct.specs.MidStepOfLocals.{AwaitsTypeName, IsLambdaOpened, IsLambdaParameterRead, IsLambdaRead}
+use Rattle.cpp_direct.specs.Written.{Writes, Reads, added}
+use Rattle.cpp_direct.proofs.Ending.{behind-five, next-written, parameter-goes_on}
+use Rattle.cpp_direct.proofs.Kept.{kept-grown, kept-read, kept-same, kept-written, reverse-last, type-comes, value-added}
+use Rattle.cpp_direct.proofs.Listed.{some-elements}
+use Rattle.cpp_direct.proofs.Moves.{expects-empty, stands-join}
+use Rattle.cpp_direct.proofs.MovesOfLists.{element-awaits}
+use Rattle.cpp_direct.proofs.MovesOfLocals.{IsPieceKind, LambdaEnds, lambda-opens, lambda-piece, lambda_bytes, number-is}
+use Rattle.cpp_direct.proofs.Nesting.{classless-nest, closed-prints}
+use Rattle.cpp_direct.proofs.PrintedLists.{list-with-none, all-in, next-prints, none-print}
+use Rattle.cpp_direct.proofs.PrintedLocals.{lambda-prints, lambda-list-prints, local-prints, component-prints}
+use Rattle.cpp_direct.proofs.PrintedSymbols.{parameters-kept}
+use Rattle.cpp_direct.proofs.Scopes.{none-scoped}
+use Rattle.cpp_direct.specs.WrittenParts.{IsUnmarked}
+use Rattle.cpp_direct.proofs.Unmarked.{is-no-mark, more-unmarked}
+
+-- ## Their bytes
+
+-- its first bytes are there
+pub lambda-stands : (s : List ℕ) (at second third fourth fifth : ℕ) (rest : List ℕ) → StandsAt s at (85 ∷ []) → second ≡ at + 1 → StandsAt s second (108 ∷ [])
+    → third ≡ at + 2 → StandsAt s third (118 ∷ []) → fourth ≡ at + 3 → StandsAt s fourth (69 ∷ []) → fifth ≡ at + 4 → StandsAt s fifth rest
+    → StandsAt s at (85 ∷ 108 ∷ 118 ∷ 69 ∷ rest)
+lambda-stands s at second third fourth fifth rest u b l c v d e f more =
+    stands-join s at (85 ∷ []) (108 ∷ 118 ∷ 69 ∷ rest) u
+    (stands-join s (at + 1) (108 ∷ []) (118 ∷ 69 ∷ rest) (subst (λ k. StandsAt s k (108 ∷ [])) b l)
+    (stands-join s (at + 1 + 1) (118 ∷ []) (69 ∷ rest) (subst (λ k. StandsAt s k (118 ∷ [])) (omega (arith, c)) v)
+    (stands-join s (at + 1 + 1 + 1) (69 ∷ []) rest (subst (λ k. StandsAt s k (69 ∷ [])) (omega (arith, d)) e)
+    (subst (λ k. StandsAt s k rest) (omega (arith, f)) more))))
+
+number-text : (digit : Option ℕ) → IsLambdaDigit digit → decimal (local_number (lambda_digits digit)) ≡ lambda_number digit
+unfolding local_number
+number-text None is = decimal_digit 1 (omega arith)
+number-text (Some d) is =
+    let n = local_number (d ∷ []) in
+    decimal_digit n (number-is (Some d) is) ∙ ap (λ k. k ∷ []) (omega (arith, is.0))
+
+lambda-unmarked : (digit : Option ℕ) → IsLambdaDigit digit → IsUnmarked (lambda_number digit)
+lambda-unmarked None is = refl
+lambda-unmarked (Some d) is = more-unmarked (d + 2) [] (is-no-mark (d + 2) (λ e. omega (arith, is.0, e)) (λ e. omega (arith, is.0, e))) refl
+
+-- it is read, and written
+pub lambda-told : (s : Symbol) (old new : Direct) (digit : Option ℕ) → IsLambdaDigit digit → StandsAt s.bytes old.at (85 ∷ lambda_bytes (lambda_digits digit))
+    → new.at ≡ old.at + length (85 ∷ lambda_bytes (lambda_digits digit)) → Reads old new (codes "{lambda()#" ++ lambda_number digit ++ codes "}")
+    → (p : Term) × (n : List ℕ) × IsPieceAt s old.at p new.at × PrintsPiece (detail_of s) p n × Reads old new n
+lambda-told s old new digit is stands ends reads = (
+  lambda nil (local_number (lambda_digits digit)),
+  codes "{lambda()#" ++ lambda_number digit ++ codes "}",
+  lambda-piece s old.at digit new.at is stands ends,
+  lambda-prints (local_number (lambda_digits digit)) (lambda_number digit) (number-text digit is) (lambda-unmarked digit is),
+  reads,
+)
+
+-- its first bytes are there, with parameters
+abbrev lambda_front : List ℕ
+lambda_front = codes "::{lambda("
+
+whole-text : (f b l n : List ℕ) → ((f ++ (b ++ lambda_front)) ++ l) ++ codes ")#" ++ (n ++ codes "}")
+    ≡ f ++ (b ++ codes "::" ++ (codes "{lambda(" ++ l ++ codes ")#" ++ n ++ codes "}"))
+whole-text f b l n =
+    let x = codes "{lambda(" ++ l ++ codes ")#" ++ n ++ codes "}" in
+    sym (append_assoc (f ++ (b ++ lambda_front) ++ l ++ codes ")#") n (codes "}"))
+    ∙ behind-five f (b ++ lambda_front) l (codes ")#") n (codes "}")
+    ∙ ap (λ k. f ++ k) (behind-five b lambda_front l (codes ")#") n (codes "}") ∙ sym (append_assoc b (codes "::") x))
+
+-- its bracket is by itself
+pub lambda-bracket : (f b l : List ℕ) → (f ++ (b ++ codes "::{lambda(")) ++ l ≡ (f ++ (b ++ codes "::{lambda")) ++ codes "(" ++ l
+lambda-bracket f b l =
+    ap (λ k. k ++ l) (ap (λ k. f ++ k) (sym (append_assoc b (codes "::{lambda") (codes "(")))
+    ∙ sym (append_assoc f (b ++ codes "::{lambda") (codes "(")))
+
+-- ## Their parameters
+
+-- the first one comes next
+begun : (s : Symbol) (old new : Direct) (from : ℕ) (nested : Option Purpose) (kept : Kept s old) (h : IsLed (detail_of s) nested from)
+    → old.text.list.items ≡ h.front ++ h.bytes → (kind : Kind) → IsPieceKind kind → (os : List Opened) (around : Around)
+    → Expects s kind (after h.e true around) os old.at kept.state
+    → ((items : Term) (at : ℕ) (st : State) → LambdaEnds s os h.e items at st
+    → LambdaWithin s nested (below s kept.scope (reverse old.waiting.list.items)) h.front h.e items at st)
+    → IsLambdaOpened s.bytes old new from nested → IsWriting s new steps.Type
+begun s old new from nested kept h written kind is os around expects becomes entry =
+    let first = lambda-opens s kind os around h.e old.at kept.state is entry.short expects entry.stands in
+    let rest = reverse old.waiting.list.items in
+    let waits = ap reverse entry.waiting ∙ reverse-last old.waiting.list.items (opens.Lambda from nested) in
+    let told : new.text.list.items ≡ h.front ++ (h.bytes ++ lambda_front) ++ [] =
+    entry.text ∙ ap (λ l. l ++ lambda_front) written ∙ append_assoc h.front h.bytes lambda_front ∙ sym (append-nil (h.front ++ (h.bytes ++ lambda_front))) in
+    let stands_ : Stands s kept.scope (opens.Lambda from nested ∷ rest) first.inner new.text.list.items = (
+      h,
+      [],
+      [],
+      none-print (detail_of s) 0,
+      told,
+      λ t here now comes.
+          let g = first.onward t here now comes in
+          record {
+            around = g.around;
+            inner = g.inner;
+            outside = g.outside;
+            scoped = g.scoped;
+            awaits = g.awaits;
+            onward = λ l there then_ last. becomes (list t (no_items l)) there then_ (g.onward l there then_ last);
+          },
+    ) in
+    type-comes s new new (kept-grown s old new lambda_front entry.text entry.candidates entry.scope kept) first.around first.inner refl refl refl waits
+    first.outside (inr (inl (subst (λ k. Expects s Kind.Item first.around first.inner k kept.state) (sym entry.at) first.awaits))) stands_
+    (none-scoped kept.scope first.around (opens.Lambda from nested ∷ rest) refl)
+
+-- of a lambda in a function,
+pub begun-in-function : (s : Symbol) (old new : Direct) (from : ℕ) → AwaitsTypeName s old from → IsLambdaOpened s.bytes old new from None
+    → IsWriting s new steps.Type
+begun-in-function s old new from a entry =
+    let r = a.read in
+    let w = r.within in
+    let entity = w.2 a.letter in
+    begun s old new from None (kept-same s (record old { at = a.before }) old refl refl refl r.kept)
+    (record { e = r.e; front = r.front; from_is = r.leads; bytes = r.bytes; leads = r.encloses })
+    (sym (append-nil old.text.list.items) ∙ r.written) Kind.TypeEntity tt entity.inner entity.around
+    (subst (λ k. Expects s Kind.TypeEntity (after r.e true entity.around) entity.inner k r.state) (sym a.at_is) entity.awaits)
+    (λ items at st ends number end is ending ends_. (
+      w.0,
+      w.1,
+      λ digit last told. entity.onward (lambda_with items number) end st (ends number end is ending ends_) digit last told,
+      w.3,
+    )) entry
+
+-- and of one in a nested name
+pub begun-in-name : (s : Symbol) (old new : Direct) → IsWriting s old steps.Component → old.nest.is_dependent ≡ false
+    → IsLambdaOpened s.bytes old new old.nest.from (Some old.nest.purpose) → IsWriting s new steps.Type
+begun-in-name s old new p closed_ entry =
+    let t = p.is_before.0 in
+    let n = p.is_before.1 in
+    let a = p.is_before.2 in
+    begun s old new old.nest.from (Some old.nest.purpose) p.kept
+    (record { e = t; front = n.front; from_is = n.is_nest.from_is; bytes = n.bytes; leads = closed-prints p.scope.names closed_ n.is_nest.prints })
+    n.written Kind.Component tt a.inner n.around a.awaits
+    (λ items at st ends number end is ending ends_. (
+      n.outer,
+      n.around,
+      a.onward (within t (lambda_with items number)) end st (ends number end is ending ends_),
+      n.scoped.scoped,
+      n.serves,
+    )) entry
+
+-- a parameter is read
+pub lambda-parameter-read : (s : Symbol) (w : Direct) (from : ℕ) (nested : Option Purpose) → IsElementRead s w (opens.Lambda from nested)
+    → IsLambdaParameterRead s w from nested
+lambda-parameter-read s w from nested p =
+    let waits = p.read.stands in
+    let h = waits.0 in
+    let ts = waits.1 in
+    let texts = waits.2 in
+    record {
+      kept = p.read.kept;
+      rest = p.rest;
+      open_is = p.open_is;
+      has = h;
+      ts = ts ++ p.read.own ∷ [];
+      some = some-elements ts p.read.own;
+      texts = in_front_of_next ts texts ++ p.read.bytes;
+      elements = next-prints 0 ts texts p.read.own p.read.bytes waits.3 (p.read.element 0);
+      written = p.read.written ∙ ap (λ l. l ++ p.read.bytes) waits.4 ∙ append_assoc (h.front ++ (h.bytes ++ lambda_front)) (in_front_of_next ts texts) p.read.bytes;
+      goes = waits.5 p.read.own w.at p.read.state p.read.comes;
+    }
+
+-- another one comes next
+pub lambda-next : (s : Symbol) (w last : Direct) (from : ℕ) (nested : Option Purpose) → IsLambdaParameterRead s w from nested → Writes w last (codes ", ")
+    → IsWriting s last steps.Type
+lambda-next s w last from nested p one =
+    let led = p.front ++ (p.bytes ++ lambda_front) in
+    let becomes = LambdaWithin s nested (below s p.scope p.rest) p.front p.e in
+    let waits = ap (λ l. reverse l.list.items) one.waiting ∙ p.open_is in
+    let goes = subst (λ n. ItemsGoOn s nowhere becomes (λ l. l) p.ts n p.state) (sym one.at) p.goes in
+    let element = element-awaits s Kind.Items goes.inner goes.around last.at p.state tt goes.awaits in
+    let stands_ : Stands s p.scope (opens.Lambda from nested ∷ p.rest) element.inner last.text.list.items = (
+      p.has,
+      p.ts,
+      p.texts,
+      p.elements,
+      one.text ∙ ap (λ l. l ++ codes ", ") p.written ∙ append_assoc led p.texts (codes ", ") ∙ ap (λ l. led ++ l) (sym (next-written p.ts p.texts p.some)),
+      λ t here now comes. parameter-goes_on s nowhere becomes (λ l. l) p.ts last.at p.state goes t here now (element.onward t here now comes),
+    ) in
+    type-comes s last last (kept-written s w last (codes ", ") one p.kept) goes.around element.inner refl refl refl waits goes.outside
+    (inr (inl element.awaits)) stands_ (none-scoped p.scope goes.around (opens.Lambda from nested ∷ p.rest) refl)
+
+-- ## Their end
+
+-- it is read
+pub lambda-ended : (s : Symbol) (w : Direct) (next : ℕ) (pushed numbered new : Direct) (from : ℕ) (nested : Option Purpose)
+    (p : IsLambdaParameterRead s w from nested) → p.texts ≢ codes "void" → StandsAt s.bytes w.at (69 ∷ []) → next ≡ w.at + 1
+    → Writes (record w { at = next }) pushed (codes ")#") → (number : Option ℕ) → IsLambdaDigit number → StandsAt s.bytes pushed.at (lambda_digits number ++ 95 ∷ [])
+    → numbered.at ≡ pushed.at + length (lambda_digits number ++ 95 ∷ []) → Reads pushed numbered (lambda_number number ++ codes "}")
+    → new.text ≡ numbered.text → new.candidates ≡ numbered.candidates → new.has_scope ≡ numbered.has_scope → new.at ≡ numbered.at
+    → reverse new.waiting.list.items ≡ p.rest → IsLambdaRead s new from nested
+unfolding no_items may_be_empty has_return_type arguments_of
+lambda-ended s w next pushed numbered new from nested p apart ends at one number is digits_ numbered_at two text candidates scope here waits =
+    let becomes = LambdaWithin s nested (below s p.scope p.rest) p.front p.e in
+    let items = list_of p.ts in
+    let num = lambda_number number in
+    let n = local_number (lambda_digits number) in
+    let ended_ : becomes items w.at p.state = subst (λ u. becomes u w.at p.state) (list-with-none p.ts)
+    (p.goes.onward nothing_there w.at p.state (expects-empty s Kind.Items p.goes.around p.goes.inner w.at p.state p.goes.awaits refl)) in
+    let same : lambda items n ≡ lambda_with items number = ap (λ k. lambda k n) (sym (parameters-kept (detail_of s) closed 0 p.ts p.texts (all-in (detail_of s) closed 0 p.ts p.texts p.elements) apart)) in
+    let name : List ℕ = codes "{lambda(" ++ p.texts ++ codes ")#" ++ num ++ codes "}" in
+    let place : pushed.at ≡ w.at + 1 = one.at ∙ at in
+    let ending : StandsAt s.bytes w.at (lambda_ending number) =
+    stands-join s.bytes w.at (69 ∷ []) (lambda_digits number ++ 95 ∷ []) ends (subst (λ k. StandsAt s.bytes k (lambda_digits number ++ 95 ∷ [])) place digits_) in
+    record {
+      kept = kept-same s numbered new text candidates scope (kept-read s pushed numbered (num ++ codes "}") two
+          (kept-written s (record w { at = next }) pushed (codes ")#") one (kept-same s w (record w { at = next }) refl refl refl p.kept)));
+      has = p.has;
+      own = lambda_with items number;
+      name = name;
+      prints = subst (λ u. PrintsPiece (detail_of s) u name) same
+          (lambda-list-prints p.ts p.texts p.elements n num (number-text number is) (lambda-unmarked number is));
+      returns = refl;
+      written = ap (λ v. v.list.items) text ∙ two.text ∙ ap (λ l. l ++ (num ++ codes "}")) (one.text ∙ ap (λ l. l ++ codes ")#") p.written)
+          ∙ whole-text p.front p.bytes p.texts num;
+      comes = subst (λ o. LambdaComes s nested (below s p.scope o) p.front p.e (lambda_with items number) new.at p.state) (sym waits)
+          (ended_ number new.at is ending (omega (arith, here, numbered_at, place)));
+    }
+
+-- one in a function comes as a type, after its discriminator
+pub ended-in-function : (s : Symbol) (old last new : Direct) (from : ℕ) → IsLambdaRead s old from None
+    → (digit : Discriminator) → IsDiscriminatorAt s.bytes old.at digit last.at → Reads old last []
+    → new.candidates.list.items ≡ added last from false false → new.text ≡ last.text → new.waiting ≡ last.waiting
+    → new.has_scope ≡ last.has_scope → new.at ≡ last.at → IsWriting s new (steps.Value false false)
+ended-in-function s old last new from p digit is read candidates text waiting scope here =
+    let t = local_in p.e p.own digit in
+    let w = p.comes in
+    value-added s last new (kept-read s old last [] read p.kept) w.0 w.1 t p.front (p.bytes ++ codes "::" ++ p.name) from false false
+    (read.text ∙ append-nil old.text.list.items ∙ p.written) p.from_is (local-prints p.e p.bytes p.leads p.own p.name p.prints digit)
+    (λ e. absurd (false≢true e)) text candidates scope (ap (λ v. reverse v.list.items) (waiting ∙ read.waiting)) (λ e. absurd (false≢true e))
+    (subst (λ k. Comes s w.0 (tree t true) k (with_candidate w.1 t p.state)) (sym here) (w.2 digit last.at is)) w.3
+
+-- after one in a nested name this goes on
+pub ended-in-name : (s : Symbol) (w : Direct) (from : ℕ) (purpose : Purpose) → IsLambdaRead s w from (Some purpose)
+    → IsWriting s (record w { nest = record { from = from; class_from = from; class_to = from; purpose = purpose; is_listed = false; has_class = false; is_instance = false; is_dependent = false } }) steps.Tail
+ended-in-name s w from purpose p =
+    let bytes = p.bytes ++ codes "::" ++ p.name in
+    let new : Direct = record w { nest = record { from = from; class_from = from; class_to = from; purpose = purpose; is_listed = false; has_class = false; is_instance = false; is_dependent = false } } in
+    record {
+      kept = kept-same s w new refl refl refl p.kept;
+      is_before = (
+        within p.e p.own,
+        record {
+          so_far = record {
+            around = p.comes.1;
+            outer = p.comes.0;
+            front = p.front;
+            bytes = bytes;
+            written = p.written;
+            is_nest = subst (λ l. IsNest (detail_of s) p.scope.names p.front bytes l new.nest (within p.e p.own)) (sym p.written)
+                (classless-nest p.scope.names p.front bytes new.nest (within p.e p.own) p.from_is p.from_is p.from_is refl (λ own. refl)
+                (component-prints p.e p.bytes p.leads p.own p.name p.prints));
+            scoped = record { scoped = p.comes.3; naming = λ e. absurd (false≢true e) };
+            serves = p.comes.4;
+          };
+          goes = p.comes.2;
+        },
+        (λ own e. p.returns),
+        (λ e. absurd (false≢true e)),
+        (λ e. absurd (false≢true e)),
+      );
+    }

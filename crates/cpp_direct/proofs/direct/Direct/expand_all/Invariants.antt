@@ -1,0 +1,11 @@
+-- Of so many elements of the pack what the pattern makes of them is written.
+use Rattle.std.proofs.Common.{List}
+use Rattle.cpp_grammar.specs.Term.{Term}
+use Rattle.sym_print.specs.declared.detail.Detail.{Detail}
+use Rattle.cpp_direct.specs.MidStep.{AreExpanded}
+use Rattle.cpp_direct.specs.WriterInvariant.{IsPackOf}
+use Rattle.cpp_direct.proofs.direct.Direct.expand_all.Given as goal
+
+abbrev pub invariant-elements : goal.invariant-elements
+invariant-elements l =
+    (detail : Detail) (ts : List Term) → IsPackOf detail l.fn.self.text.list.items l.argument ts → AreExpanded detail l.pattern l.fn.self l.self ts l.number

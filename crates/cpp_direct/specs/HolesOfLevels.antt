@@ -1,0 +1,29 @@
+-- What is expected of an argument that is a member of an instance of a template, by names that aren't looked up.
+use Rattle.std.specs.Prelude.{ℕ, ◌+◌, List, [], ◌∷◌, true, false}
+use Rattle.cpp_grammar.specs.declared.kind.Kind.{Kind}
+use Rattle.cpp_grammar.specs.Term.{Term, alone, instance, operation, source}
+use Rattle.cpp_grammar.specs.Values.{State, Around, Value, tree}
+use Rattle.cpp_grammar.specs.Between.{inside, no_items}
+use Rattle.cpp_direct.specs.Symbol.{Symbol}
+use Rattle.cpp_direct.specs.Holes.{Opened, StandsAt, Comes, Expects, IsNameAt}
+
+-- a template with this name, which isn't looked up
+abbrev pub template_named : (name : List ℕ) → Term
+template_named name = alone (source false name)
+
+-- what has this name in an instance: sr is the operator with the letters 115 and 114
+abbrev pub member_of : (instance : Term) → (name : List ℕ) → Term
+member_of u name = operation 115 114 u (alone (source false name))
+
+-- An E, the name of a member of this instance and an E are expected, and the member comes.
+abbrev pub MemberComes : (s : Symbol) → List Opened → (instance : Term) → (at : ℕ) → State → Type 0
+MemberComes s os u at st =
+    (name : List ℕ) (end : ℕ) → StandsAt s.bytes at (69 ∷ []) → IsNameAt s.bytes (at + 1) name end → StandsAt s.bytes end (69 ∷ [])
+    → Comes s os (tree (member_of u name) true) (end + 1) st
+
+-- After the name of a template and an I arguments are expected; after their E a member of the instance is.
+pub record LevelOpened (s : Symbol) (outer : List Opened) (around : Around) (name : List ℕ) (at : ℕ) (st : State) : Type 0 where
+  pub inner : List Opened
+  pub awaits : Expects s Kind.ArgumentList (inside around) inner at st
+  pub onward : (l : Value) (at : ℕ) (st : State) → Comes s inner l at st → StandsAt s.bytes at (69 ∷ [])
+      → MemberComes s outer (instance (template_named name) (no_items l)) (at + 1) st

@@ -1,0 +1,217 @@
+-- What types may name while a symbol is read: the arguments of a name and where they are, and the candidates of substitutions.
+use Rattle.sym_print.specs.declared.detail.Detail.{Detail}
+use Rattle.std.specs.Prelude.{◌≡◌, ◌≢◌, ℕ, zero, suc, ◌+◌, ◌≤◌, ◌<◌, List, [], ◌∷◌, ◌++◌, length, replicate, get_or, slice_get, Bool, true, false, cond, Option, Some, None}
+use Rattle.cpp_grammar.specs.Term.{Term, pack}
+use Rattle.cpp_grammar.specs.Scope.{arguments_of, length_if_pack, element, count}
+use Rattle.cpp_grammar.specs.Values as values
+use Rattle.cpp_grammar.specs.Values.{State, Around, named}
+use Rattle.cpp_direct.specs.Symbol.{Symbol, detail_of}
+use Rattle.cpp_direct.specs.declared.open.Candidate.{Candidate}
+use Rattle.cpp_direct.specs.declared.open.Purpose.{Purpose}
+use Rattle.cpp_direct.specs.declared.open.Purpose.TheVariants as purposes
+use Rattle.cpp_direct.specs.declared.open.Open.{Open}
+use Rattle.cpp_direct.specs.declared.open.TheConstants.{MOST_KNOWN}
+use Rattle.cpp_direct.specs.declared.open.Argument.{Argument}
+use Rattle.cpp_direct.specs.declared.open.Arguments.{Arguments}
+use Rattle.cpp_direct.specs.declared.open.Open.TheVariants as opens
+use Rattle.cpp_direct.specs.declared.direct.Direct.{Direct}
+use Rattle.cpp_direct.specs.Bytes.{is_local}
+use Rattle.cpp_direct.specs.Prints.{Named, Names, Prints, PrintsAs, list_of}
+
+-- ## Places
+
+-- where the encoding begins that a symbol has after no text
+abbrev pub encoding_place : List ℕ → ℕ
+encoding_place s = cond (is_local s) 3 2
+
+-- these bytes of a text are between two places
+pub record IsBetween (text : List ℕ) (from to : ℕ) (bytes : List ℕ) : Type 0 where
+  pub front : List ℕ
+  pub back : List ℕ
+  pub written : text ≡ front ++ bytes ++ back
+  pub from_is : from ≡ length front
+  pub to_is : to ≡ length front + length bytes
+
+-- ## Arguments of templates
+
+-- this text is at a place
+abbrev pub IsPlaced : (text : List ℕ) → Argument → (bytes : List ℕ) → Type 0
+IsPlaced text p bytes = IsBetween text p.from p.to bytes
+
+-- of no argument it is known where it is
+abbrev pub nowhere : Arguments
+nowhere = record { from = 0; ends = replicate MOST_KNOWN 0; references = replicate MOST_KNOWN false; count = 0; encoding = 0; has_pack = false; before = 0; elements = 0 }
+
+-- where the text with this number begins: the first one at a place, and any other after the end of that before it, a comma and a space
+abbrev pub begin_by : (from : ℕ) → (ends : List ℕ) → (number : ℕ) → ℕ
+begin_by from ends zero = from
+begin_by from ends (suc before) = get_or ends before 0 + 2
+
+-- the argument with this number
+abbrev pub place_of : Arguments → (number : ℕ) → Argument
+place_of a number = record { from = begin_by a.from a.ends number; to = get_or a.ends number 0; is_reference = get_or a.references number false }
+
+-- it is known
+abbrev pub IsKnown : Arguments → (number : ℕ) → Type 0
+IsKnown a number = number < a.count
+
+-- it is known, and no element of the pack
+abbrev pub IsSingle : Arguments → (number : ℕ) → Type 0
+IsSingle a number = IsKnown a number × (a.has_pack ≡ true → number < a.before)
+
+-- what has this number among trees is at a place
+pub record IsAmong (detail : Detail) (text : List ℕ) (p : Argument) (number : ℕ) (ts : List Term) : Type 0 where
+  pub bytes : List ℕ
+  pub placed : IsPlaced text p bytes
+  pub own : Term
+  pub there : slice_get ts number ≡ Some own
+  pub prints : Prints detail own bytes p.is_reference
+
+-- a pack has these elements, and the known ones are at their places
+pub record IsPackOf (detail : Detail) (text : List ℕ) (a : Arguments) (ts : List Term) : Type 0 where
+  pub size : length ts ≡ a.elements
+  pub among : (k : ℕ) → IsKnown a (a.before + k) → IsAmong detail text (place_of a (a.before + k)) k ts
+
+-- The argument of a name with this number is at a place.
+pub record IsArgument (detail : Detail) (text : List ℕ) (p : Argument) (number : ℕ) (name : Term) : Type 0 where
+  pub bytes : List ℕ
+  pub placed : IsPlaced text p bytes
+  pub own : Term
+  pub all : Term
+  pub all_are : arguments_of name ≡ Some all
+  pub there : (element all number ≡ own) × (number < count all)
+  pub prints : Prints detail own bytes p.is_reference
+
+-- among arguments the one with this number is a pack of these elements
+abbrev pub HasPack : (all : Term) → (number : ℕ) → List Term → Type 0
+HasPack all number ts = (element all number ≡ pack (list_of ts)) × (number < count all)
+
+-- a name's arguments have a pack, which is known
+pub record OwnPack (detail : Detail) (text : List ℕ) (a : Arguments) (name : Term) : Type 0 where
+  pub all : Term
+  pub all_are : arguments_of name ≡ Some all
+  pub elements : List Term
+  pub there : HasPack all a.before elements
+  pub are : IsPackOf detail text a elements
+
+-- the known arguments of a name are at their places, and those of them that are in a pack
+abbrev pub HasArguments : (detail : Detail) (text : List ℕ) → Arguments → (name : Term) → Type 0
+HasArguments detail text a name =
+    ((number : ℕ) → IsSingle a number → IsArgument detail text (place_of a number) number name) × (a.has_pack ≡ true → OwnPack detail text a name)
+
+-- a parameter may name that argument here
+pub record IsScope (number : ℕ) (around : Around) : Type 0 where
+  pub own : Term
+  pub all : Term
+  pub scope_is : around.scope ≡ Some all
+  pub there : (element all number ≡ own) × (number < count all)
+  pub no_pack : length_if_pack own ≡ None
+
+-- a parameter may name a pack of these elements
+pub record IsPackThere (around : Around) (number : ℕ) (ts : List Term) : Type 0 where
+  pub all : Term
+  pub scope_is : around.scope ≡ Some all
+  pub there : HasPack all number ts
+
+-- if the place is known, the innermost encoding begins there, and none of its lambdas is read
+abbrev pub IsEncodedAt : (place : ℕ) → Around → Type 0
+IsEncodedAt place around = place ≢ 0 → (around.encoding ≡ place) × (around.in_lambda ≡ false)
+
+-- parameters may name the known arguments here, and the pack
+abbrev pub HasScope : Arguments → Around → Type 0
+HasScope a around =
+    IsEncodedAt a.encoding around × ((number : ℕ) → IsSingle a number → IsScope number around)
+    × (a.has_pack ≡ true → (ts : List Term) × IsPackThere around a.before ts)
+
+-- a nested name is a type
+abbrev pub is_type : Purpose → Bool
+is_type purposes.Type = true
+is_type _ = false
+
+-- what is in it is in a type
+abbrev pub is_within_type : Open → Bool
+is_within_type (opens.Pointer from) = true
+is_within_type (opens.Lvalue from) = true
+is_within_type (opens.Rvalue from) = true
+is_within_type (opens.Const from) = true
+is_within_type (opens.TypeArguments from is_dependent) = true
+is_within_type (opens.NestArguments nest) = is_type nest.purpose
+is_within_type (opens.FirstArguments nest) = is_type nest.purpose
+is_within_type (opens.LevelArguments is_dependent) = true
+is_within_type _ = false
+
+-- the arguments that its types may name
+abbrev pub arguments_in : Open → Option Arguments
+arguments_in (opens.Front mark start argument) = Some argument
+arguments_in (opens.Parameters mark start argument) = Some argument
+arguments_in (opens.AddressedFront mark to argument) = Some argument
+arguments_in (opens.Addressed mark to argument) = Some argument
+arguments_in _ = None
+
+-- the arguments that a type may name
+abbrev pub argument_of : List Open → Option Arguments
+argument_of [] = None
+argument_of (o ∷ rest) = elim (is_within_type o) [ true ↦ argument_of rest | false ↦ arguments_in o ]
+
+-- What types may name: the arguments of the symbol's own name, where they are known, or of the name of a function whose address is
+-- read, and their texts.
+pub record Scope : Type 0 where
+  pub arguments : Arguments
+  pub names : Names
+
+-- nothing
+abbrev pub no_scope : Scope
+no_scope = record { arguments = nowhere; names = λ number. None }
+
+-- the arguments that may be named have these texts at their places
+abbrev pub AreNamed : (text : List ℕ) → Scope → Type 0
+AreNamed text scope =
+    (number : ℕ) → IsSingle scope.arguments number → (bytes : List ℕ)
+    × (scope.names number ≡ Some (record { bytes = bytes; reference = (place_of scope.arguments number).is_reference }))
+    × IsPlaced text (place_of scope.arguments number) bytes
+
+-- those of them that have texts are no packs
+abbrev pub HasSingles : Scope → Type 0
+HasSingles scope = (number : ℕ) (own : Named) → scope.names number ≡ Some own → IsSingle scope.arguments number
+
+-- ## Candidates
+
+-- it was made in the encoding whose arguments may be named, and it is known where that begins
+abbrev pub IsMadeIn : Scope → (encoding : ℕ) → Type 0
+IsMadeIn scope encoding = (encoding ≡ scope.arguments.encoding) × (scope.arguments.encoding ≢ 0)
+
+-- What a substitution may name prints the text that is at its place. Where it names arguments they are those that types may name.
+pub record IsCandidate (s : Symbol) (scope : Scope) (text : List ℕ) (k : Candidate) (c : values.Candidate) : Type 0 where
+  pub bytes : List ℕ
+  pub placed : IsBetween text k.from k.to bytes
+  pub open placed use *
+  pub prints : PrintsAs (detail_of s) scope.names k.is_dependent c.tree bytes k.is_reference
+  pub made_in : k.is_dependent ≡ true → IsMadeIn scope c.encoding
+
+-- each candidate is so, but for those that end before they begin, of which nothing is known
+abbrev pub AreCandidates : (s : Symbol) → Scope → (text : List ℕ) → List Candidate → List values.Candidate → Type 0
+AreCandidates s scope text [] [] = Unit {0}
+AreCandidates s scope text (k ∷ ks) (c ∷ cs) = (k.from ≤ k.to → IsCandidate s scope text k c) × AreCandidates s scope text ks cs
+AreCandidates s scope text _ _ = ⊥
+
+-- What a writer keeps: its candidates, and the arguments that types may name, of which none are known before the symbol's own name, but
+-- for those of a function whose address is an argument of that.
+pub record Keeps (s : Symbol) (scope : Scope) (w : Direct) (cs : List values.Candidate) : Type 0 where
+  pub candidates : AreCandidates s scope w.text.list.items w.candidates.list.items cs
+  pub named : AreNamed w.text.list.items scope
+  pub single : HasSingles scope
+  pub unknown : w.has_scope ≡ false → scope ≡ no_scope
+
+-- a writer keeps this after it has come so far
+pub record Kept (s : Symbol) (w : Direct) : Type 0 where
+  pub state : State
+  pub scope : Scope
+  pub keeps : Keeps s scope w state.candidates
+
+-- if there are any, parameters may name them
+abbrev pub IsScoped : Scope → Around → List Open → Type 0
+IsScoped scope around open_ = (a : Arguments) → argument_of open_ ≡ Some a → (scope.arguments ≡ a) × HasScope a around
+
+-- types name its arguments here, and it is known where their encoding begins
+abbrev pub IsNaming : Scope → List Open → Type 0
+IsNaming scope open_ = (argument_of open_ ≡ Some scope.arguments) × (scope.arguments.encoding ≢ 0)

@@ -1,0 +1,50 @@
+-- A piece of a name comes after the name so far.
+use Rattle.std.proofs.Common.{◌≡◌, sym, ◌∙◌, ap, subst, lit<, ℕ, List, [], ◌∷◌, length, get_or, true, false}
+use Rattle.cpp_grammar.specs.declared.production.Production.{Production}
+use Rattle.cpp_term.specs.Term as term
+use Rattle.cpp_term.specs.Values as values
+use Rattle.cpp_term.specs.Between.{between, extended, named_so_far}
+use Rattle.cpp_tree.specs.declared.node.Node.{Node}
+use Rattle.cpp_tree.specs.declared.node.Piece.{Piece}
+use Rattle.cpp_tree.specs.Nodes.{piece_of, IsBelow}
+use Rattle.cpp_references.specs.declared.around.Prefix.{Prefix}
+use Rattle.cpp_references.specs.declared.around.Surroundings.{Surroundings}
+use Rattle.cpp_link.specs.declared.linked.Linked.{Linked}
+use Rattle.cpp_link.specs.declared.part.Step.{Step}
+use Rattle.cpp_link.specs.Owed.{made_before}
+use Rattle.cpp_link.specs.NodeCount.{makes_before}
+use Rattle.cpp_link.specs.Parts.{trees_in, tree_of_node, around_of, prefix_of, name_of, IsStepThere}
+use Rattle.cpp_link.specs.Reads.{goes_on, behind_first, named_if, appended_if}
+use Rattle.cpp_link.specs.Stepping.{IsStepOf, nodes_of_step}
+
+module _ (s : List ℕ) (l : Linked) (place : ℕ) (kept : Surroundings) (v : values.Value) where
+  -- all that is ensured of a step after the first part
+  abbrev IsBehindFirst : Production → Step → Type 0
+  IsBehindFirst p step = record {
+    is : (cs : List values.Candidate) → between p (around_of (trees_in s l.nodes) kept) place (v ∷ []) (record { candidates = cs; packs = l.packs }) ≡ goes_on s l.nodes kept (v ∷ []) cs l.packs step;
+    there : IsStepThere s (length l.nodes.thunks) (length l.nodes.nodes) step;
+    of : IsStepOf p 1 step;
+    makes : nodes_of_step step ≡ makes_before p (v ∷ []);
+  }
+
+  -- the name of this production is the one so far with this piece
+  abbrev Extends : Production → term.Term → Type 0
+  Extends p piece = (around : values.Around) (state : values.State) → between p around place (v ∷ []) state ≡ named_so_far around (extended around.prefix piece) [] state
+
+  pub piece_behind : (p q : Production) (step : Step) (node : Node) (prefix : Prefix) (made : Piece) (piece : term.Term) → p ≡ q → step ≡ Step.Made node false true false l.packs → Extends q piece
+      → prefix ≡ name_of kept → piece_of s (trees_in s l.nodes) made ≡ piece → tree_of_node s l.nodes node ≡ extended (prefix_of (trees_in s l.nodes) prefix) (piece_of s (trees_in s l.nodes) made)
+      → IsBelow s (length l.nodes.thunks) (length l.nodes.nodes) node → get_or (made_before q) 1 0 ≡ 1 → 1 ≡ makes_before q (v ∷ []) → IsBehindFirst p step
+  unfolding goes_on behind_first named_if appended_if named_so_far around_of
+  piece_behind p q step node prefix made piece is steps begins before same tree there owed makes =
+      let ts = trees_in s l.nodes in
+      let around = around_of ts kept in
+      let extends : tree_of_node s l.nodes node ≡ extended (prefix_of ts (name_of kept)) piece =
+      tree ∙ ap (λ x. extended (prefix_of ts x) (piece_of s ts made)) before ∙ ap (λ x. extended (prefix_of ts (name_of kept)) x) same in
+      let behind : IsBehindFirst q (Step.Made node false true false l.packs) =
+      record {
+        is = λ cs. let state : values.State = record { candidates = cs; packs = l.packs } in begins around state ∙ ap (λ t. named_so_far around t [] state) (sym extends);
+        there = there;
+        of = (lit< tt, owed);
+        makes = makes;
+      } in
+      subst (λ x. IsBehindFirst x step) (sym is) (subst (λ x. IsBehindFirst q x) (sym steps) behind)

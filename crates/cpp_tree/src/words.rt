@@ -1,0 +1,147 @@
+// What is noted of a node by what is noted of its parts: what another argument changes of it, and what its two words tell.
+#![tactic(auto)]
+
+ghost use Rattle.std.specs.Prelude.{◌≡◌, ℕ, Bool, Some, Option, false, not};
+ghost use Rattle.cpp_tree.specs.declared.node.Node.{Node};
+ghost use Rattle.cpp_tree.specs.declared.node.Free.{Free};
+ghost use Rattle.cpp_tree.specs.declared.node.ByArgument.{ByArgument};
+ghost use Rattle.cpp_tree.specs.Compact.{class_kept, arguments_kept, returns_kept, kept, with_elements, with_head, with_arguments};
+ghost use Rattle.cpp_tree.specs.Notes.{itself, passed, joined, of_cell, of_head, collapses_from, collapses, is_structor_node};
+
+use crate::compact::Words;
+use crate::node::{ByArgument, HeadFrom, Node};
+
+/// What another argument changes of a tree over one: its packs.
+#[inline(always)]
+#[tactic(auto, unfolding(crate::specs::Notes::passed))]
+pub(crate) fn passed(part: ByArgument) -> ByArgument
+    ensures { result ≡ passed part }
+{
+    ByArgument {
+        is_bare: part.is_bare,
+        head: HeadFrom::Own,
+        empty_with: false,
+        empty_without: false,
+    }
+}
+
+/// And of a tree over two.
+#[inline(always)]
+#[tactic(auto, unfolding(crate::specs::Notes::joined))]
+pub(crate) fn joined(one: ByArgument, other: ByArgument) -> ByArgument
+    ensures { result ≡ joined one other }
+{
+    ByArgument {
+        is_bare: one.is_bare | other.is_bare,
+        head: HeadFrom::Own,
+        empty_with: false,
+        empty_without: false,
+    }
+}
+
+/// And of a cell of a list.
+#[inline(always)]
+pub(crate) fn of_cell(one: ByArgument, other: ByArgument) -> ByArgument
+    ensures { result ≡ of_cell one other }
+{
+    ByArgument {
+        is_bare: one.is_bare | other.is_bare,
+        head: HeadFrom::Own,
+        empty_with: one.empty_with & other.empty_with,
+        empty_without: one.empty_without & other.empty_without,
+    }
+}
+
+/// And of a type with the head of another.
+#[inline(always)]
+pub(crate) fn of_head(head: HeadFrom, part: ByArgument) -> ByArgument
+    ensures { result ≡ of_head head part }
+{
+    ByArgument {
+        is_bare: part.is_bare,
+        head,
+        empty_with: false,
+        empty_without: false,
+    }
+}
+
+/// Where the head of a reference to an rvalue of a type is from.
+#[inline(always)]
+#[tactic(auto, unfolding(crate::specs::Notes::collapses_from))]
+pub(crate) fn collapsed_from(head: HeadFrom) -> HeadFrom
+    ensures { result ≡ collapses_from head }
+{
+    match head {
+        HeadFrom::Own => HeadFrom::Own,
+        _ => HeadFrom::Collapsed,
+    }
+}
+
+/// What two words tell of a reference to an rvalue of a type.
+#[inline(always)]
+#[tactic(auto, unfolding(crate::specs::Compact::class_kept, crate::specs::Compact::arguments_kept, crate::specs::Compact::untagged_kept, crate::specs::Compact::returns_kept, crate::specs::Compact::count_kept, crate::specs::Compact::run_kept, crate::specs::Compact::has_pack_kept, crate::specs::Notes::collapses))]
+pub(crate) fn collapsed(words: Words) -> Words
+    ensures { (n : Node) (packs : Option ℕ) (free : Free) (is_empty : Bool) (l : ByArgument) (first second : ℕ) → kept n packs free is_empty l result first second ≡ with_head n packs free is_empty l (collapses (class_kept words first second)) }
+{
+    match words {
+        Words::Lvalue => Words::Lvalue,
+        Words::OfElement => Words::CollapsedOfElement,
+        Words::CollapsedOfElement => Words::CollapsedOfElement,
+        _ => Words::Rvalue,
+    }
+}
+
+/// What two words tell of a type with the head of a type.
+#[inline(always)]
+#[tactic(auto, unfolding(crate::specs::Compact::class_kept, crate::specs::Compact::arguments_kept, crate::specs::Compact::untagged_kept, crate::specs::Compact::returns_kept, crate::specs::Compact::count_kept, crate::specs::Compact::run_kept, crate::specs::Compact::has_pack_kept))]
+pub(crate) fn of_type(words: Words) -> Words
+    ensures { (n : Node) (packs : Option ℕ) (free : Free) (is_empty : Bool) (l : ByArgument) (first second : ℕ) → kept n packs free is_empty l result first second ≡ with_head n packs free is_empty l (class_kept words first second) }
+{
+    match words {
+        Words::Arguments => Words::Plain,
+        Words::ReturningArguments => Words::Plain,
+        Words::Tagged => Words::Plain,
+        Words::Elements => Words::Plain,
+        Words::ElementsWithPack => Words::Plain,
+        _ => words,
+    }
+}
+
+/// What two words tell of a name that ends in a name.
+#[inline(always)]
+#[tactic(auto, unfolding(crate::specs::Compact::class_kept, crate::specs::Compact::arguments_kept, crate::specs::Compact::untagged_kept, crate::specs::Compact::returns_kept, crate::specs::Compact::count_kept, crate::specs::Compact::run_kept, crate::specs::Compact::has_pack_kept))]
+pub(crate) fn of_name(words: Words) -> Words
+    ensures { (n : Node) (packs : Option ℕ) (free : Free) (l : ByArgument) (first second : ℕ) → kept n packs free false l result first second ≡ with_arguments n packs free l (arguments_kept words first second) (returns_kept words) }
+{
+    match words {
+        Words::Arguments => Words::Arguments,
+        Words::ReturningArguments => Words::ReturningArguments,
+        _ => Words::Plain,
+    }
+}
+
+/// What two words tell of an instance of a template.
+#[inline(always)]
+#[tactic(auto, unfolding(crate::specs::Nodes::under_kept, crate::specs::Compact::class_kept, crate::specs::Compact::arguments_kept, crate::specs::Compact::untagged_kept, crate::specs::Compact::returns_kept, crate::specs::Compact::count_kept, crate::specs::Compact::run_kept, crate::specs::Compact::has_pack_kept))]
+pub(crate) fn of_instance(template: Node) -> Words
+    ensures { (n : Node) (packs : Option ℕ) (free : Free) (l : ByArgument) (first : ℕ) → kept n packs free false l result first 0 ≡ with_arguments n packs free l (Some (itself first)) (not (is_structor_node template)) }
+{
+    if template.is_structor() {
+        Words::Arguments
+    } else {
+        Words::ReturningArguments
+    }
+}
+
+/// What two words tell of the elements of a list, by whether a pack is among them.
+#[inline(always)]
+#[tactic(auto, unfolding(crate::specs::Compact::class_kept, crate::specs::Compact::arguments_kept, crate::specs::Compact::untagged_kept, crate::specs::Compact::returns_kept, crate::specs::Compact::count_kept, crate::specs::Compact::run_kept, crate::specs::Compact::has_pack_kept))]
+pub(crate) fn of_elements(has_pack: bool) -> Words
+    ensures { (n : Node) (packs : Option ℕ) (free : Free) (is_empty : Bool) (l : ByArgument) (first second : ℕ) → kept n packs free is_empty l result first second ≡ with_elements n packs free is_empty l first second has_pack }
+{
+    if has_pack {
+        Words::ElementsWithPack
+    } else {
+        Words::Elements
+    }
+}
