@@ -156,7 +156,7 @@ pub record IsAddressScoped (s : Symbol) (w : Direct) (mark : Mark) (is_instance 
   pub name : List ℕ
   pub own : Term
   pub prints : PrintsName (detail_of s) own name
-  pub addressed : IsAddressed (detail_of s) scope to argument own front name
+  pub addressed : IsAddressed s scope to argument own front name
   pub open addressed use *
   pub v : Value
   pub named_so : IsNamedSo v own mark
@@ -178,7 +178,7 @@ address-scoped s old new mark is_instance to argument noted p waiting first now 
     let waits : reverse old.waiting.list.items ≡ opens.Address argument.encoding ∷ rest =
     ap reverse waiting ∙ reverse-last new.waiting.list.items (opens.Address argument.encoding) in
     let taken : Stands s no_scope (opens.Address argument.encoding ∷ rest) p.os p.front =
-    subst (λ (k : Scope). Stands s k (opens.Address argument.encoding ∷ rest) p.os p.front) (p.keeps.unknown first)
+    subst (λ (k : Scope). Stands s k (opens.Address argument.encoding ∷ rest) p.os p.front) (p.keeps.unknown first).0
     (subst (λ ws. Stands s p.scope ws p.os p.front) waits p.stands) in
     let items = taken p.v old.at p.state p.comes in
     let scope = scope_at here argument in
@@ -193,6 +193,7 @@ address-scoped s old new mark is_instance to argument noted p waiting first now 
         given = arguments-given here argument p.own names;
         named = refl;
         there = subst (λ l. AreNamed l scope) p.written (named-there here argument p.own names);
+        typed = (p.keeps.unknown first).1;
       };
       v = p.v;
       named_so = p.named_so;
@@ -325,7 +326,7 @@ plain-addressed s w mark to argument p = record {
 
 -- a parameter comes next after these
 parameter-expected : (s : Symbol) (last : Direct) (kept : Kept s last) (mark : Mark) (to : ℕ) (argument : Arguments) (rest : List Open) (ts : List Term) (texts : List ℕ)
-    (h : HasAddressed (detail_of s) kept.scope mark to argument ts texts) → reverse last.waiting.list.items ≡ opens.Addressed mark to argument ∷ rest
+    (h : HasAddressed s kept.scope mark to argument ts texts) → reverse last.waiting.list.items ≡ opens.Addressed mark to argument ∷ rest
     → last.text.list.items ≡ h.front ++ h.name ++ codes "(" ++ in_front_of_next ts texts
     → ItemsGoOn s argument (AddressWithin s (below s no_scope rest) h.front) h.make ts last.at kept.state → IsWriting s last steps.Type
 parameter-expected s last kept mark to argument rest ts texts h waits written goes =
@@ -400,6 +401,6 @@ address-ended s w new p letters text are waiting at =
     let before = within.1 in
     let written : new.text.list.items ≡ before ++ (codes "&" ++ p.bytes) =
     ap (λ v. v.list.items) text ∙ sym (append-nil w.text.list.items) ∙ p.written ∙ ap (λ l. l ++ p.bytes) within.2 ∙ append_assoc before (codes "&") p.bytes in
-    value-comes s new (kept-closed s w new p.kept are text) within.0 (address_of p.e) before (codes "&" ++ p.bytes) false false written
+    value-comes s new (kept-closed s w new p.kept are text p.leads) within.0 (address_of p.e) before (codes "&" ++ p.bytes) false false written
     (address-prints p.e p.bytes p.encloses) (ap (λ v. reverse v.list.items) waiting) (λ e. absurd (false≢true e))
     (subst (λ n. Comes s within.0 (tree (address_of p.e) true) n p.state) (sym at) (within.3 letters)) within.4

@@ -27,7 +27,7 @@ use Rattle.cpp_direct.specs.Holes.{Expects, StandsAt, ListGoesOn}
 use Rattle.cpp_direct.specs.HolesOfLists.{IsSuffix}
 use Rattle.cpp_direct.specs.Marks.{has_const, called_on, mark_text}
 use Rattle.cpp_direct.specs.Prints.{PrintsName, Shows, Encloses, list_of}
-use Rattle.cpp_direct.specs.WriterInvariant.{list_with, AwaitsItems, Encoded, EndsBehind, EncodedBehind, Fronts, IsWhole, IsWriting, HasArguments, HasScope, IsEncodedAt, ItemsGoOn, ParametersGoOn, Stands, qualifiers, in_front_of_next, no_scope, IsNamedSo, Kept}
+use Rattle.cpp_direct.specs.WriterInvariant.{list_with, TakesItems, Encoded, EndsBehind, EncodedBehind, Fronts, IsWhole, IsWriting, HasArguments, HasScope, IsEncodedAt, ItemsGoOn, ParametersGoOn, Stands, qualifiers, in_front_of_next, no_scope, IsNamedSo, Kept}
 use Rattle.cpp_direct.specs.MidStep.{AreParametersRead, IsNameEnded, IsNameScoped, AwaitsParameters, separator, IsFunctionEnded, IsEncodingEnded, IsSymbolEnded}
 use Rattle.cpp_direct.specs.Written.{Writes, Cuts}
 use Rattle.cpp_direct.proofs.Unmarked.{suffix-unmarked}
@@ -149,12 +149,9 @@ behind-five lead a b c d q =
 -- a name without items is an encoding
 pub object-ended : (s : Symbol) (w : Direct) (mark : Mark) (is_instance : Bool) (argument_ : Arguments) (from : ℕ)
     → IsNameEnded s w mark is_instance argument_ from → IsEncodingEnded s w mark
-unfolding no_items may_be_empty
 object-ended s w mark is_instance argument_ from p =
     let b = p.name in
     let q = mark_text mark in
-    let behind : EncodedBehind s p.lead (encoding_of p.v nil) w.at = p.awaits.onward nothing_there w.at p.state
-    (expects-empty s Kind.Items p.awaits.around p.awaits.inner w.at p.state p.awaits.awaits refl) in
     let shows : Shows (detail_of s) (encoding_of p.v nil) (b ++ q) =
     subst (λ l. Shows (detail_of s) (encoding_of p.v nil) (b ++ l)) (qualifiers-text p.v mark p.own p.named_so)
     (object-encoded p.v b (subst (λ t. PrintsName (detail_of s) t b) (sym p.named_so.tree_is) p.prints)) in
@@ -166,7 +163,7 @@ object-ended s w mark is_instance argument_ from p =
       written = ap (λ l. l ++ q) p.written ∙ behind-two p.lead b q;
       shows = shows;
       encloses = object-enclosing (detail_of s) p.v (b ++ q) shows;
-      behind = behind;
+      behind = p.awaits.ends;
     }
 
 -- ## Parameters
@@ -189,7 +186,7 @@ next-separated s w is_first mark start argument a text is =
     ∙ ap (λ l. a.front ++ codes "(" ++ l) (separated is_first a.ts a.texts a.none a.some)
 
 -- a name is one where parameters go on after none
-pub none-go_on : (s : Symbol) (argument : Arguments) (lead : List ℕ) (v : Value) (at : ℕ) (st : State) (p : AwaitsItems s lead v at st)
+pub none-go_on : (s : Symbol) (argument : Arguments) (lead : List ℕ) (v : Value) (at : ℕ) (st : State) (p : TakesItems s lead v at st)
     → HasScope argument p.around → ParametersGoOn s argument lead (λ l. encoding_of v l) [] at st
 none-go_on s argument lead v at st p scoped =
     record { around = p.around; inner = p.inner; outside = p.outside; scoped = scoped; awaits = p.awaits; onward = p.onward }
@@ -243,12 +240,12 @@ types-scoped text argument around own encoded scope_is names = (
 )
 
 pub name-scoped : (s : Symbol) (w : Direct) (mark : Mark) (is_instance : Bool) (argument : Arguments) (from : ℕ)
-    (p : IsNameScoped s w mark is_instance argument from) → HasScope argument p.ended.awaits.around
+    (p : IsNameScoped s w mark is_instance argument from) → HasScope argument p.items.around
 name-scoped s w mark is_instance argument from p =
     let e = p.ended in
-    types-scoped w.text.list.items argument e.awaits.around e.own
-    (λ real. (e.awaits.encoding_is (no-text e.lead from e.from_is (p.encoded real).0) ∙ sym (p.encoded real).1, e.awaits.no_lambda))
-    (e.awaits.scope_is ∙ ap arguments_of e.named_so.tree_is) e.names
+    types-scoped w.text.list.items argument p.items.around e.own
+    (λ real. (p.items.encoding_is (no-text e.lead from e.from_is (p.encoded real).0) ∙ sym (p.encoded real).1, p.items.no_lambda))
+    (p.items.scope_is ∙ ap arguments_of e.named_so.tree_is) e.names
 
 -- the front of a function that has no return type
 fronts-of : (is_bare : Bool) (front : List ℕ) (start : ℕ) (lead name : List ℕ) → front ≡ lead ++ name → (is_bare ≡ false → start ≡ 0)
@@ -278,7 +275,7 @@ parameters-begin s w mark is_instance argument from start scoped plain none all 
         fronts = fronts-of s.is_bare w.text.list.items start p.lead p.name p.written none all;
       };
       written = refl;
-      goes = none-go_on s argument p.lead p.v w.at p.state p.awaits (name-scoped s w mark is_instance argument from scoped);
+      goes = none-go_on s argument p.lead p.v w.at p.state scoped.items (name-scoped s w mark is_instance argument from scoped);
     }
 
 -- the first parameter comes next
@@ -315,7 +312,7 @@ cut-kept s old new start cuts kept = go cuts.candidates
       keeps = keeps-as s old new kept.state.candidates (cuts.text ∙ ap (λ n. drop n old.text.list.items) same.0) (ap (λ v. v.list.items) same.1) cuts.scope
           kept.keeps.candidates kept.keeps.named kept.keeps.single kept.keeps.unknown;
     }
-    go (inr none) = record { state = record kept.state { candidates = [] }; scope = no_scope; keeps = none-kept s new none }
+    go (inr none) = record { state = record kept.state { candidates = [] }; scope = no_scope; keeps = none-kept s new none (λ e. (kept.keeps.unknown (sym cuts.scope ∙ e)).1) }
 
 -- and the text is what came after it
 cut-text : (old new : Direct) (start : ℕ) (aside text : List ℕ) → Cuts old new start → start ≡ length aside → old.text.list.items ≡ aside ++ text

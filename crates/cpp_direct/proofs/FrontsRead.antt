@@ -52,7 +52,7 @@ front-begins s w new mark argument from start scoped apart start_is text candida
       start_is = start_is;
     } in
     let goes : ParametersGoOn s argument p.lead (λ l. encoding_of p.v l) [] w.at p.state =
-    none-go_on s argument p.lead p.v w.at p.state p.awaits (name-scoped s w mark true argument from scoped) in
+    none-go_on s argument p.lead p.v w.at p.state scoped.items (name-scoped s w mark true argument from scoped) in
     let element = element-awaits s Kind.Items goes.inner goes.around w.at p.state tt goes.awaits in
     let stands : Stands s p.scope (opens.Front mark start argument ∷ reverse w.waiting.list.items) element.inner w.text.list.items = (
       has,

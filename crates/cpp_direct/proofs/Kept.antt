@@ -7,6 +7,7 @@ use Rattle.std.proofs.lemmas.List.{reverse-append, reverse-reverse}
 use Rattle.std.proofs.Math.Seq.{drop-append_seam, take-append_seam}
 use Rattle.cpp_grammar.specs.Term.{Term}
 use Rattle.cpp_grammar.specs.Values.{State, Around, tree, outermost}
+use Rattle.cpp_direct.specs.Bytes.{is_object}
 use Rattle.cpp_direct.specs.WrittenParts.{opening_bracket}
 use Rattle.cpp_direct.specs.Symbol.{detail_of, Symbol}
 use Rattle.cpp_direct.specs.declared.open.Candidate.{Candidate}
@@ -136,18 +137,18 @@ pub none-single : HasSingles no_scope
 none-single number own e = cc e
 
 -- there is no candidate, and nothing may be named
-pub none-kept : (s : Symbol) (w : Direct) → w.candidates.list.items ≡ [] → Keeps s no_scope w []
-none-kept s w none = record {
+pub none-kept : (s : Symbol) (w : Direct) → w.candidates.list.items ≡ [] → (w.has_scope ≡ false → is_object s.bytes ≡ false) → Keeps s no_scope w []
+none-kept s w none typed = record {
   candidates = subst (λ ks. AreCandidates s no_scope w.text.list.items ks []) (sym none) tt;
   named = none-named w.text.list.items;
   single = none-single;
-  unknown = λ e. refl;
+  unknown = λ e. (refl, typed e);
 }
 
 -- what is there has this text and these candidates
 pub keeps-as : (s : Symbol) {scope : Scope} (old new : Direct) (cs : List values.Candidate) {text : List ℕ} {ks : List Candidate}
     → new.text.list.items ≡ text → new.candidates.list.items ≡ ks → new.has_scope ≡ old.has_scope
-    → AreCandidates s scope text ks cs → AreNamed text scope → HasSingles scope → (old.has_scope ≡ false → scope ≡ no_scope)
+    → AreCandidates s scope text ks cs → AreNamed text scope → HasSingles scope → (old.has_scope ≡ false → (scope ≡ no_scope) × (is_object s.bytes ≡ false))
     → Keeps s scope new cs
 keeps-as s {scope = scope} old new cs {text = text} text_is candidates_are scope_same candidates named single unknown = record {
   candidates = subst (λ l. AreCandidates s scope l new.candidates.list.items cs) (sym text_is)
@@ -506,8 +507,8 @@ closed-kept s scope text k c closed own = record {
 
 -- what a writer keeps where arguments aren't named any more, and candidates that name them are nowhere
 abbrev pub kept-closed : (s : Symbol) (old new : Direct) (kept : Kept s old) → AreLeft hidings.Dependent old.candidates.list.items new.candidates.list.items
-    → new.text ≡ old.text → Kept s new
-kept-closed s old new kept are text = record {
+    → new.text ≡ old.text → is_object s.bytes ≡ false → Kept s new
+kept-closed s old new kept are text typed = record {
   state = kept.state;
   scope = no_scope;
   keeps = record {
@@ -516,7 +517,7 @@ kept-closed s old new kept are text = record {
         old.candidates.list.items new.candidates.list.items kept.state.candidates are kept.keeps.candidates);
     named = none-named new.text.list.items;
     single = none-single;
-    unknown = λ e. refl;
+    unknown = λ e. (refl, typed);
   };
 }
 

@@ -130,7 +130,7 @@ scope-kept s old new kept a own names first now text candidates =
       candidates = subst (λ v. AreCandidates s scope v.list.items new.candidates.list.items kept.state.candidates) (sym text)
           (subst (λ v. AreCandidates s scope here v.list.items kept.state.candidates) (sym candidates)
           (candidates-as s no_scope scope here here (candidate-given s scope here) old.candidates.list.items kept.state.candidates
-          (subst (λ (k : Scope). AreCandidates s k here old.candidates.list.items kept.state.candidates) (kept.keeps.unknown first) kept.keeps.candidates)));
+          (subst (λ (k : Scope). AreCandidates s k here old.candidates.list.items kept.state.candidates) (kept.keeps.unknown first).0 kept.keeps.candidates)));
       named = subst (λ v. AreNamed v.list.items scope) (sym text) (named-there here a own names);
       single = λ number n e. (text-single here a number n e).0;
       unknown = λ e. absurd (false≢true (sym e ∙ now));
@@ -156,6 +156,7 @@ scope-begins s old new mark is_instance argument a from p same encoded first new
       };
       given = arguments-given text a p.own names;
       named = refl;
+      items = p.awaits.items (p.keeps.unknown first).1;
       encoded = encoded;
     })
   where

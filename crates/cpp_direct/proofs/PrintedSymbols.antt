@@ -4,9 +4,9 @@ use Rattle.sym_print.specs.declared.detail.Detail.{Detail}
 use Rattle.sym_print.specs.Details.{has_arguments, has_parameters}
 use Rattle.sym_print.specs.Unfold.{text}
 use Rattle.sym_print.specs.Unshared.{text_of, cost_of}
-use Rattle.cpp_grammar.specs.Term.{Qualifiers, RefQualifier, non_virtual, by_table, Thunk, adjusting, covariant, Term, symbol, function, object, special, thunk, clone, builtin, nil, list, absent}
+use Rattle.cpp_grammar.specs.Term.{Qualifiers, RefQualifier, non_virtual, by_table, Thunk, adjusting, covariant, Term, symbol, function, object, special, of_name, thunk, clone, builtin, nil, list, absent}
 use Rattle.cpp_grammar.specs.Scope.{has_return_type}
-use Rattle.cpp_grammar.specs.Texts.{look_up, special_texts}
+use Rattle.cpp_grammar.specs.Texts.{look_up, same_bytes, special_texts, named_special_texts}
 use Rattle.cpp_grammar.specs.Items.{root, full, left, right, first, Context, closed}
 use Rattle.cpp_grammar.specs.Values.{Value, tree_of, qualifiers_of, ref_of}
 use Rattle.cpp_grammar.specs.Meaning.{is_void, is_nil, parameters, encoding_of}
@@ -201,6 +201,26 @@ pub clone-shows : (d : Detail) (letter : ℕ) (e : Term) (b : List ℕ) → Show
 unfolding parts_in full_parts not_empty clone_text
 clone-shows d letter e b p =
     led-shows d (clone letter e) (clone_text letter) e b refl refl (clone-plain (nat_eq letter 116)) (clone-filled (nat_eq letter 116)) p
+
+-- A guard variable prints what it is, and the object that it guards.
+pub guarded-shows : (d : Detail) (name : Term) (q : Qualifiers) (ref : RefQualifier) (b : List ℕ) → Shows d (object name q ref) b
+    → Shows d (of_name 86 name q ref) (codes "guard variable for " ++ b)
+unfolding look_up same_bytes named_special_texts parts_in full_parts not_empty
+guarded-shows d name q ref b p =
+    let k : List ℕ = codes "guard variable for " in
+    let ps = as_item left closed name ∷ text_part (encoding_text q ref) in
+    record {
+      shown_text = text_shown d full closed (of_name 86 name q ref) (text k ∷ ps) refl refl ∙ first_shown d k ps refl
+          ∙ ap (λ s. k ++ s) (sym (text_shown d full closed (object name q ref) ps refl refl) ∙ p.shown_text);
+      shown_cost = omega (
+        arith,
+        p.shown_cost,
+        cost_shown d full closed (of_name 86 name q ref) (text k ∷ ps) refl refl,
+        cost_shown d full closed (object name q ref) ps refl refl,
+        first_cost_shown d k ps,
+        length-append k b,
+      );
+    }
 
 -- ## Which encoding a name and its items make
 

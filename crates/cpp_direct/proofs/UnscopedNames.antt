@@ -12,7 +12,7 @@ use Rattle.cpp_grammar.specs.Values.{State, piece, tree, tree_of, qualifiers_of,
 use Rattle.cpp_grammar.specs.Between.{after, in_name, inside, no_items, with_tag, in_types}
 use Rattle.cpp_direct.specs.Symbol.{detail_of, Symbol}
 use Rattle.cpp_direct.specs.declared.direct.Direct.{Direct}
-use Rattle.cpp_direct.specs.Bytes.{is_local}
+use Rattle.cpp_direct.specs.Bytes.{is_local, is_object}
 use Rattle.cpp_direct.specs.Holes.{StandsAt, Comes, IsNameAt, Named, IsTagAt}
 use Rattle.cpp_direct.specs.Names.{IsOperatorAt, is_angle, operator_text, tag_text}
 use Rattle.cpp_direct.specs.Prints.{Prints, PrintsName, Shows}
@@ -243,6 +243,10 @@ object-comes s opened_ encoding_ v at st comes =
     let items = encoding_.onward v at st comes in
     items.onward nothing_there at st (expects-empty s Kind.Items (in_types 2 (tree_of v)) items.inner at st items.awaits refl)
 
+-- that is no object
+local-typed : (s : List ℕ) → is_local s ≡ true → is_object s ≡ false
+local-typed s is = rw is refl
+
 -- the encoding is expected that a local entity is in
 pub local-begins : (s : Symbol) (w : Direct) → IsFresh w → is_local s.bytes ≡ true → StandsAt s.bytes 0 (95 ∷ 90 ∷ []) → StandsAt s.bytes 2 (90 ∷ [])
     → AwaitsEncoding s (record w { at = 3 })
@@ -252,7 +256,7 @@ local-begins s w fresh is_there starts letter =
     let encoding_ = encoding-opens s opened_.inner first_around 2 first_state opened_.awaits in
     let here : LocalOpened s encoding_.inner (in_name 2) 3 first_state = local-opens s encoding_.inner (in_name 2) 2 first_state encoding_.awaits letter in
     record {
-      kept = record { state = first_state; scope = no_scope; keeps = none-kept s (record w { at = 3 }) fresh.no_candidate };
+      kept = record { state = first_state; scope = no_scope; keeps = none-kept s (record w { at = 3 }) fresh.no_candidate (λ e. local-typed s.bytes is_there) };
       around = in_name 2;
       outer = here.inner;
       begins = λ none. sym (ap (λ b. cond b 3 2) is_there);
@@ -289,7 +293,7 @@ guard-begins s old new fresh is_there starts marks stands writes =
       kept = record {
         state = first_state;
         scope = no_scope;
-        keeps = none-kept s (record new { at = 5 }) (ap (λ v. v.list.items) writes.candidates ∙ fresh.no_candidate);
+        keeps = none-kept s (record new { at = 5 }) (ap (λ v. v.list.items) writes.candidates ∙ fresh.no_candidate) (λ e. local-typed s.bytes is_there);
       };
       around = in_name 2;
       outer = here.inner;

@@ -37,7 +37,7 @@ enclosed-requires-clause-read g c =
     let left = c.in_ok-leave_out.ensures in
     function-unshown c.args.self.now (record c.args.self.now { waiting = c.pop-open.new.self }) c.leave_out.new.self c.args.mark c.args.to _ p.kept p.is_led p.from_is p.written p.goes p.some
     (no-void c.as_slice.result.now (p.front ++ p.name) p.texts (c.as_slice.ensures ∙ p.written) (sym c.ends_with.ensures.value ∙ c.if-ends_with.false)) p.to_is
-    (subst (λ (k : Scope). AreNamed (p.front ++ p.name) k) (sym (p.keeps.unknown c.if-self.false)) (none-named (p.front ++ p.name)))
+    (subst (λ (k : Scope). AreNamed (p.front ++ p.name) k) (sym (p.keeps.unknown c.if-self.false).0) (none-named (p.front ++ p.name)))
     refl refl refl refl
     (popped c.args.self.now.waiting.list.items c.pop-open.new.self.list.items p.rest (opens.Enclosing c.args.mark c.args.from c.args.to) _ refl
     p.open_is c.pop-open.ensures.rest)
