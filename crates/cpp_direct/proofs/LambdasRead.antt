@@ -8,7 +8,7 @@ use Rattle.cpp_grammar.specs.Grammar.{may_be_empty}
 use Rattle.cpp_grammar.specs.Term.{Term, within, lambda, nil, list}
 use Rattle.cpp_grammar.specs.Items.{closed}
 use Rattle.cpp_grammar.specs.Scope.{has_return_type, arguments_of}
-use Rattle.cpp_grammar.specs.Values.{State, Around, Value, local_number, nothing_there, tree}
+use Rattle.cpp_grammar.specs.Values.{State, Around, local_number, nothing_there, tree}
 use Rattle.cpp_grammar.specs.Between.{after, no_items}
 use Rattle.cpp_direct.specs.Symbol.{detail_of, Symbol}
 use Rattle.cpp_direct.specs.declared.open.Open.TheVariants as opens

@@ -1,7 +1,7 @@
 -- What a member of an instance prints, whose names aren't looked up.
 use Rattle.sym_print.specs.declared.detail.Detail.{Detail}
 use Rattle.std.proofs.Common.{◌≡◌, ◌≢◌, refl, ◌∙◌, ℕ, List, [], ◌∷◌, ◌++◌, Bool, true, false, arith, codes, length-append}
-use Rattle.sym_print.specs.Unshared.{text_of, cost_of}
+use Rattle.sym_print.specs.Unshared.{text_of}
 use Rattle.cpp_grammar.specs.Term.{Term, alone, source}
 use Rattle.cpp_grammar.specs.Scope.{is_open, pack_length, length_if_pack, first_of}
 use Rattle.cpp_grammar.specs.References.{is_function_type}

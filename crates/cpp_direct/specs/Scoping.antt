@@ -195,7 +195,7 @@ AreCandidates s scope text (k ∷ ks) (c ∷ cs) = (k.from ≤ k.to → IsCandid
 AreCandidates s scope text _ _ = ⊥
 
 -- What a writer keeps: its candidates, and the arguments that types may name, of which none are known before the symbol's own name, but
--- for those of a function whose address is an argument of that.
+-- for those of a function whose address is an argument of that. After an object's name there are no types.
 pub record Keeps (s : Symbol) (scope : Scope) (w : Direct) (cs : List values.Candidate) : Type 0 where
   pub candidates : AreCandidates s scope w.text.list.items w.candidates.list.items cs
   pub named : AreNamed w.text.list.items scope
