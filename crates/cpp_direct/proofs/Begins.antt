@@ -118,7 +118,8 @@ name-awaited s w p = record {
 
 -- the base encoding of a thunk or of a clone is expected, after a text that is shown before it
 base-awaited : (s : Symbol) (opened_ : SymbolOpened s) (made : Term → Term) (k : List ℕ) (w : Direct)
-    → is_local s.bytes ≡ false → is_guard s.bytes ≡ false → BaseOpened s opened_.inner 2 made w.at first_state → w.text.list.items ≡ k → 1 ≤ length k → w.candidates.list.items ≡ []
+    → is_local s.bytes ≡ false → is_guard s.bytes ≡ false → BaseOpened s opened_.inner 2 made w.at first_state
+    → w.text.list.items ≡ k → 1 ≤ length k → w.candidates.list.items ≡ []
     → ((e : Term) (bytes : List ℕ) → Shows (detail_of s) e bytes → Shows (detail_of s) (made e) (k ++ bytes))
     → AwaitsEncoding s w
 unfolding first_state
@@ -165,7 +166,8 @@ thunk-begins s old middle new fresh apart other starts first second is reads wri
     thunk-awaited s opened_ by new apart other (subst (λ n. BaseOpened s opened_.inner 2 (thunk (adjusting by)) n first_state) (sym writes.at) opens) written.0 written.1
 
 -- a virtual one begins
-pub virtual-thunk-begins : (s : Symbol) (old first_ middle new : Direct) → IsFresh old → is_local s.bytes ≡ false → is_guard s.bytes ≡ false → StandsAt s.bytes 0 (95 ∷ 90 ∷ []) → StandsAt s.bytes 2 (84 ∷ [])
+pub virtual-thunk-begins : (s : Symbol) (old first_ middle new : Direct) → IsFresh old → is_local s.bytes ≡ false → is_guard s.bytes ≡ false
+    → StandsAt s.bytes 0 (95 ∷ 90 ∷ []) → StandsAt s.bytes 2 (84 ∷ [])
     → StandsAt s.bytes 3 (118 ∷ []) → IsOffsetAt s.bytes 4 first_.at → Reads old first_ [] → IsOffsetAt s.bytes first_.at middle.at → Reads first_ middle []
     → Writes middle new (codes "virtual thunk to ") → AwaitsEncoding s new
 unfolding thunk_text
@@ -182,7 +184,8 @@ clone-eaten letter (inl e) = rw e refl
 clone-eaten letter (inr e) = rw e refl
 
 -- a clone begins
-pub clone-begins : (s : Symbol) (old new : Direct) (letter : ℕ) → IsFresh old → is_local s.bytes ≡ false → is_guard s.bytes ≡ false → s.is_wide ≡ true → (letter ≡ 116) ⊎ (letter ≡ 110)
+pub clone-begins : (s : Symbol) (old new : Direct) (letter : ℕ) → IsFresh old → is_local s.bytes ≡ false → is_guard s.bytes ≡ false
+    → s.is_wide ≡ true → (letter ≡ 116) ⊎ (letter ≡ 110)
     → StandsAt s.bytes 0 (95 ∷ 90 ∷ []) → StandsAt s.bytes 2 (71 ∷ 84 ∷ letter ∷ []) → Writes old new (clone_text letter) → AwaitsEncoding s (record new { at = 5 })
 unfolding clone_text
 clone-begins s old new letter fresh apart other wide is starts bytes writes =
@@ -210,7 +213,8 @@ special-stands s letter filled first there =
     stands-join s 2 (84 ∷ []) (letter ∷ []) first (there (λ e. filled (ap (λ l. look_up (l ∷ []) special_texts) e ∙ no-special)))
 
 -- a special object begins
-pub special-begins : (s : Symbol) (w : Direct) (letter : ℕ) → is_local s.bytes ≡ false → is_guard s.bytes ≡ false → StandsAt s.bytes 0 (95 ∷ 90 ∷ []) → StandsAt s.bytes 2 (84 ∷ letter ∷ []) → w.at ≡ 4
+pub special-begins : (s : Symbol) (w : Direct) (letter : ℕ) → is_local s.bytes ≡ false → is_guard s.bytes ≡ false
+    → StandsAt s.bytes 0 (95 ∷ 90 ∷ []) → StandsAt s.bytes 2 (84 ∷ letter ∷ []) → w.at ≡ 4
     → w.text.list.items ≡ look_up (letter ∷ []) special_texts → look_up (letter ∷ []) special_texts ≢ [] → w.candidates.list.items ≡ []
     → w.waiting.list.items ≡ opens.Special ∷ [] → IsWriting s w steps.Type
 unfolding in_name first_state
