@@ -2,6 +2,7 @@
 use Rattle.sym_print.specs.declared.detail.Detail.{Detail}
 use Rattle.std.proofs.Common.{arith, ◌≡◌, ℕ, zero, suc, ◌+◌, ◌-◌, ◌≤◌, ◌<◌, length, List, [], ◌∷◌, ◌++◌, reverse, slice_get, inr, inl, Bool, true, false, Some, refl, ap, sym, ◌∙◌, subst, codes, append_assoc, append-nil}
 use Rattle.std.proofs.lemmas.Bool.{false≢true}
+use Rattle.std.proofs.lemmas.Option.{slice_get_within}
 use Rattle.std.proofs.lemmas.List.{length-append}
 use Rattle.cpp_grammar.specs.declared.kind.Kind.{Kind}
 use Rattle.cpp_grammar.specs.Term.{list, Term, nil, pack}
@@ -172,11 +173,6 @@ next-argument-begins s old mid new is_pack last from number known p writes from_
     (among-stay old.text.list.items (codes ", ") known (p.before ++ p.ts) p.among)) p.goes
     (ap reverse waits ∙ reverse-last mid.waiting.list.items entry
     ∙ ap (λ ws. entry ∷ ws) (ap (λ v. reverse v.list.items) writes.waiting ∙ p.open_is)) text candidates scope_same (at ∙ writes.at)
-
-there-below : (ts : List Term) (k : ℕ) (t : Term) → slice_get ts k ≡ Some t → k < length ts
-there-below [] k t e = cc e
-there-below (u ∷ ts) zero t e = omega arith
-there-below (u ∷ ts) (suc k) t e = omega (arith, there-below ts k t e)
 
 -- or the first element of a pack that comes after others
 pub pack-after : (s : Symbol) (old mid new : Direct) (last from number : ℕ) (known : Arguments) → AwaitsKnownArgument s old false last known
@@ -465,7 +461,7 @@ pack-ends-empty s w last before known p before_is stands =
           size = refl;
           among = λ k known_.
               let h = single-known s w last known p (before + k) known_ in
-              absurd (omega (arith, there-below p.ts (before + k) h.own h.there, count_is));
+              absurd (omega (arith, slice_get_within p.ts (before + k) h.own h.there, count_is));
         },
       ),
     )

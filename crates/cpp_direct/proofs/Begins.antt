@@ -35,7 +35,8 @@ use Rattle.cpp_direct.proofs.Moves.{stands-join, is_eaten, expects-empty}
 use Rattle.cpp_direct.proofs.MovesOfEncodings.{symbol-starts, encoding-opens, special-opens, thunk-opens, virtual-thunk-opens, clone-opens, guard-opens, name-nested}
 use Rattle.cpp_direct.proofs.PrintedSymbols.{thunk-filled, thunk-shows, clone-filled, clone-shows, guarded-shows, encoding-object}
 use Rattle.cpp_direct.proofs.Scopes.{none-scoped}
-use Rattle.cpp_direct.proofs.TypesRead.{code_in, codes_in, letter-listed}
+use Rattle.cpp_direct.proofs.LettersTested.{codes_pass}
+use Rattle.cpp_direct.proofs.TypesRead.{code_in, letter-listed}
 
 -- ## Encodings
 
@@ -199,7 +200,7 @@ clone-begins s old new letter fresh apart other wide is starts bytes writes =
 
 -- a letter that has a text as that of a special object is one
 special-known : (letter : ℕ) → look_up (letter ∷ []) special_texts ≢ [] → is_special_letter letter ≡ true
-unfolding is_special_letter special_texts code_in codes_in among
+unfolding is_special_letter special_texts code_in codes_pass among
 special-known letter there = letter-listed special_texts special_letters letter refl there
 
 no-special : look_up (0 ∷ []) special_texts ≡ []

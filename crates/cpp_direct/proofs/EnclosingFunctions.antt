@@ -1,5 +1,5 @@
 -- Types that are in functions, from their Z to their end.
-use Rattle.std.proofs.Common.{◌≡◌, ◌≢◌, refl, ap, sym, ◌∙◌, subst, inl, inr, ℕ, ◌+◌, List, [], ◌∷◌, ◌++◌, length, reverse, true, false, arith, codes, append-nil, append_assoc, Bool}
+use Rattle.std.proofs.Common.{◌≡◌, ◌≢◌, refl, ap, sym, ◌∙◌, subst, ℕ, ◌+◌, List, [], ◌∷◌, ◌++◌, length, reverse, true, false, arith, codes, append-nil, append_assoc, Bool}
 use Rattle.std.proofs.lemmas.Bool.{false≢true}
 use Rattle.cpp_grammar.specs.declared.kind.Kind.{Kind}
 use Rattle.cpp_grammar.specs.Grammar.{may_be_empty}
@@ -29,17 +29,17 @@ use Rattle.cpp_direct.specs.WriterInvariant.{Below, IsNesting, IsOwn, IsWriting,
 use Rattle.cpp_direct.specs.MidStep.{AwaitsNamedType, AwaitsNest, IsElementRead}
 use Rattle.cpp_direct.specs.MidStepOfLocals.{AwaitsEnclosingParameters, AwaitsTypeName, IsEnclosingNamed, IsEnclosingParameterRead, IsEnclosingRead}
 use Rattle.cpp_direct.specs.Written.{Writes, Reads, added}
-use Rattle.cpp_direct.proofs.Ending.{behind-two, behind-three, next-written, parameter-goes_on, qualifiers-text}
+use Rattle.cpp_direct.proofs.Ending.{behind-two, behind-three, item-comes, next-written, parameter-goes_on, qualifiers-text}
 use Rattle.cpp_direct.proofs.NamePlaces.{reads-of, reads-then}
-use Rattle.cpp_direct.proofs.FunctionsWithin.{led-more}
-use Rattle.cpp_direct.proofs.Kept.{kept-read, kept-same, kept-written, reverse-last, type-comes, value-added}
+use Rattle.cpp_direct.proofs.FunctionsWithin.{led-by, led-more}
+use Rattle.cpp_direct.proofs.Kept.{kept-read, kept-same, kept-written, reverse-last, value-added}
 use Rattle.cpp_direct.proofs.Listed.{some-elements}
 use Rattle.cpp_direct.proofs.Moves.{expects-empty, stands-join}
 use Rattle.cpp_direct.proofs.MovesOfEncodings.{encoding-opens, name-nested, name-source}
 use Rattle.cpp_direct.proofs.MovesOfLists.{element-awaits}
 use Rattle.cpp_direct.proofs.MovesOfLocals.{local-type-opens, nowhere-scoped}
 use Rattle.cpp_direct.proofs.Nesting.{nest-comes, closed-prints}
-use Rattle.cpp_direct.proofs.PrintedLists.{element-in, none-print-in}
+use Rattle.cpp_direct.proofs.PrintedLists.{element-in}
 use Rattle.cpp_direct.proofs.PrintedLocals.{object-enclosing, local-prints}
 use Rattle.cpp_direct.proofs.PrintedNames.{as-name, source-prints}
 use Rattle.cpp_direct.proofs.PrintedSymbols.{encoding-plain, encoding-returned, object-encoded}
@@ -164,16 +164,7 @@ pub plain-awaits : (s : Symbol) (w : Direct) (mark : Mark) (from : ℕ) → IsEn
 plain-awaits s w mark from p = record {
   kept = p.kept;
   has = record {
-    is_led = record {
-      front = p.lead;
-      name = p.name;
-      own = p.own;
-      prints = p.prints;
-      returned = absent;
-      make = λ l. encoding_of p.v l;
-      makes = encoding-plain p.v mark p.own p.named_so p.returns;
-      elements = none-print-in (detail_of s) (types_of p.own) 6;
-    };
+    is_led = led-by s 6 mark p.own absent (λ l. encoding_of p.v l) p.lead p.name p.prints (encoding-plain p.v mark p.own p.named_so p.returns);
     from_is = p.from_is;
   };
   written = p.written;
@@ -196,16 +187,8 @@ returned-awaits s w n mark from letter p has stands at_is =
     record {
       kept = kept-same s w (record w { at = n }) refl refl refl p.kept;
       has = record {
-        is_led = record {
-          front = p.lead;
-          name = p.name;
-          own = p.own;
-          prints = p.prints;
-          returned = r;
-          make = λ l. make (list r l);
-          makes = λ t rest. encoding-returned p.v mark p.own p.named_so p.returns r (list t rest);
-          elements = none-print-in (detail_of s) (types_of p.own) 6;
-        };
+        is_led = led-by s 6 mark p.own r (λ l. make (list r l)) p.lead p.name p.prints
+            (λ t rest. encoding-returned p.v mark p.own p.named_so p.returns r (list t rest));
         from_is = p.from_is;
       };
       written = p.written;
@@ -219,18 +202,9 @@ parameter-expected : (s : Symbol) (w : Direct) (kept : Kept s w) (mark : Mark) (
     → w.text.list.items ≡ h.front ++ h.name ++ codes "(" ++ in_front_of_next ts texts
     → ItemsGoOn s nowhere (TypeWithin s (below s kept.scope rest) h.front) h.make ts w.at kept.state → to ≡ length (h.front ++ h.name) → IsWriting s w steps.Type
 parameter-expected s w kept mark from to rest ts texts h open_is written p to_is =
-    let element = element-awaits s Kind.Items p.inner p.around w.at kept.state tt p.awaits in
-    let stands : Stands s kept.scope (opens.Enclosing mark from to ∷ rest) element.inner w.text.list.items = (
-      ts,
-      texts,
-      h,
-      written,
-      λ t here now comes.
-          parameter-goes_on s nowhere (TypeWithin s (below s kept.scope rest) h.front) h.make ts w.at kept.state p t here now (element.onward t here now comes),
-      to_is,
-    ) in
-    type-comes s w w kept p.around element.inner refl refl refl open_is p.outside (inr (inl element.awaits)) stands
-    (none-scoped kept.scope p.around (opens.Enclosing mark from to ∷ rest) refl)
+    let entry = opens.Enclosing mark from to in
+    item-comes s w w kept nowhere (TypeWithin s (below s kept.scope rest) h.front) h.make ts w.at p (entry ∷ rest) refl refl refl refl open_is
+    (λ os onward. (ts, texts, h, written, onward, to_is)) (none-scoped kept.scope p.around (entry ∷ rest) refl)
 
 -- the first one comes next
 pub first-within : (s : Symbol) (w first last : Direct) (mark : Mark) (from to : ℕ) → AwaitsEnclosingParameters s w mark from

@@ -2,10 +2,11 @@
 use Rattle.std.proofs.Common.{◌≡◌, ◌≢◌, refl, ap, sym, ◌∙◌, subst, ℕ, ◌+◌, ◌≤◌, List, [], ◌∷◌, ◌++◌, length, reverse, take, true, false, arith, codes, length-append, append-nil, append_assoc}
 use Rattle.cpp_grammar.specs.declared.kind.Kind.{Kind}
 use Rattle.cpp_grammar.specs.Grammar.{may_be_empty}
-use Rattle.cpp_grammar.specs.Term.{Term, function, builtin, nil, absent}
+use Rattle.cpp_grammar.specs.Term.{Term, function, builtin, nil, absent, list}
 use Rattle.cpp_grammar.specs.Parts.{types_of}
 use Rattle.cpp_grammar.specs.Values.{State, nothing_there}
 use Rattle.cpp_grammar.specs.Between.{no_items}
+use Rattle.cpp_grammar.specs.Meaning.{parameters}
 use Rattle.cpp_direct.specs.declared.open.Arguments.{Arguments}
 use Rattle.cpp_direct.specs.declared.open.Mark.{Mark}
 use Rattle.cpp_direct.specs.declared.open.Hiding.TheVariants as hidings
@@ -15,14 +16,14 @@ use Rattle.cpp_direct.specs.declared.open.Open.{Open}
 use Rattle.cpp_direct.specs.declared.direct.Direct.{Direct}
 use Rattle.cpp_direct.specs.Holes.{StandsAt}
 use Rattle.cpp_direct.specs.Marks.{has_const, called_on, mark_text}
-use Rattle.cpp_direct.specs.Prints.{Shows, Encloses, IsElementIn, list_of}
+use Rattle.cpp_direct.specs.Prints.{PrintsName, Shows, Encloses, IsElementIn, list_of}
 use Rattle.cpp_direct.specs.WriterInvariant.{AreNamed, IsLedFunction, ItemsGoOn, Kept, Scope, in_front_of_next, qualifiers}
 use Rattle.cpp_direct.specs.MidStepOfLocals.{IsLedFunctionRead}
 use Rattle.cpp_direct.specs.Written.{AreLeft, Writes}
 use Rattle.cpp_direct.proofs.Ending.{behind-three, behind-five, plain-text, void-read}
 use Rattle.cpp_direct.proofs.Kept.{front-left, kept-cut, kept-same, kept-written}
 use Rattle.cpp_direct.proofs.Moves.{expects-empty}
-use Rattle.cpp_direct.proofs.PrintedLists.{list-in, list-with-none, next-prints-in}
+use Rattle.cpp_direct.proofs.PrintedLists.{list-in, list-with-none, next-prints-in, none-print-in}
 use Rattle.cpp_direct.proofs.PrintedParts.{has-none, has-parameters}
 use Rattle.cpp_direct.proofs.PrintedLocals.{function-encloses, name-encloses, returned-enclosing}
 use Rattle.cpp_direct.proofs.PrintedSymbols.{function-shows, parameters-kept, void-shows, made-void, made-with}
@@ -31,7 +32,22 @@ use Rattle.cpp_direct.proofs.PrintedSymbols.{function-shows, parameters-kept, vo
 abbrev pub WithinOpen : Type 1
 WithinOpen = Scope → List Open → (front : List ℕ) → (e : Term) → (at : ℕ) → State → Type 0
 
--- one more parameter is there
+-- no parameter is there yet
+abbrev pub led-by : (s : Symbol) (extra : ℕ) (mark : Mark) (own returned : Term) (make : Term → Term) (front name : List ℕ) → PrintsName (detail_of s) own name
+    → ((t rest : Term) → make (list t rest) ≡ function own (qualifiers (has_const mark)) (called_on mark) returned (parameters (list t rest)))
+    → IsLedFunction (detail_of s) extra mark [] []
+led-by s extra mark own returned make front name prints makes = record {
+  front = front;
+  name = name;
+  own = own;
+  prints = prints;
+  returned = returned;
+  make = make;
+  makes = makes;
+  elements = none-print-in (detail_of s) (types_of own) extra;
+}
+
+-- one more is
 abbrev pub led-more : (s : Symbol) {extra : ℕ} {mark : Mark} {ts : List Term} {texts : List ℕ} (f : IsLedFunction (detail_of s) extra mark ts texts) (t : Term) (bytes : List ℕ)
     → IsElementIn (detail_of s) (types_of f.own) extra t bytes → IsLedFunction (detail_of s) extra mark (ts ++ t ∷ []) (in_front_of_next ts texts ++ bytes)
 led-more s {extra = extra} {ts = ts} {texts = texts} f t bytes element = record {

@@ -220,12 +220,7 @@ takes-elements (opens.AddressedFront x y v) w u g z n m a q e j d f b = absurd (
 takes-elements (opens.Addressed x y v) w u g z n m a q e j d f b = absurd (b x y v refl)
 takes-elements opens.Special w u g z n m a q e j d f b = absurd (z refl)
 takes-elements opens.Enumerator w u g z n m a q e j d f b = absurd (n refl)
-takes-elements opens.Pack w u g z n m a q e j d f b = tt
-takes-elements (opens.TypeArguments x y) w u g z n m a q e j d f b = tt
-takes-elements (opens.NestArguments x) w u g z n m a q e j d f b = tt
-takes-elements (opens.FirstArguments x) w u g z n m a q e j d f b = tt
-takes-elements (opens.NameArguments x) w u g z n m a q e j d f b = tt
-takes-elements (opens.LevelArguments x) w u g z n m a q e j d f b = tt
+takes-elements _ w u g z n m a q e j d f b = tt
 
 -- an element was read
 pub argument-read : (s : Symbol) (w : Direct) (o : Open) → IsElementRead s w o → TakesElements o → IsWriting s w (steps.List false)

@@ -18,15 +18,14 @@ use Rattle.cpp_direct.specs.declared.direct.Direct.{Direct}
 use Rattle.cpp_direct.specs.Holes.{Opened, StandsAt, Comes, Expects, with_candidate}
 use Rattle.cpp_direct.specs.HolesOfLocals.{Discriminator, IsDiscriminatorAt, IsLambdaDigit, IsPieceAt, lambda_digits, lambda_ending, lambda_number, lambda_with, local_in}
 use Rattle.cpp_direct.specs.Prints.{IsLed, PrintsPiece, list_of}
-use Rattle.cpp_direct.specs.WriterInvariant.{IsNest, IsWriting, ItemsGoOn, LambdaComes, LambdaWithin, Stands, below, in_front_of_next, nowhere, Kept}
+use Rattle.cpp_direct.specs.WriterInvariant.{IsNest, IsWriting, LambdaComes, LambdaWithin, Stands, below, in_front_of_next, nowhere, Kept}
 use Rattle.cpp_direct.specs.MidStep.{IsElementRead}
 use Rattle.cpp_direct.specs.MidStepOfLocals.{AwaitsTypeName, IsLambdaOpened, IsLambdaParameterRead, IsLambdaRead}
 use Rattle.cpp_direct.specs.Written.{Writes, Reads, added}
-use Rattle.cpp_direct.proofs.Ending.{behind-five, next-written, parameter-goes_on}
+use Rattle.cpp_direct.proofs.Ending.{behind-five, item-comes, next-written}
 use Rattle.cpp_direct.proofs.Kept.{kept-grown, kept-read, kept-same, kept-written, reverse-last, type-comes, value-added}
 use Rattle.cpp_direct.proofs.Listed.{some-elements}
 use Rattle.cpp_direct.proofs.Moves.{expects-empty, stands-join}
-use Rattle.cpp_direct.proofs.MovesOfLists.{element-awaits}
 use Rattle.cpp_direct.proofs.MovesOfLocals.{IsPieceKind, LambdaEnds, lambda-opens, lambda-piece, lambda_bytes, number-is}
 use Rattle.cpp_direct.proofs.Nesting.{classless-nest, closed-prints}
 use Rattle.cpp_direct.proofs.PrintedLists.{list-with-none, all-in, next-prints, none-print}
@@ -189,19 +188,16 @@ pub lambda-next : (s : Symbol) (w last : Direct) (from : ℕ) (nested : Option P
 lambda-next s w last from nested p one =
     let led = p.front ++ (p.bytes ++ lambda_front) in
     let becomes = LambdaWithin s nested (below s p.scope p.rest) p.front p.e in
-    let waits = ap (λ l. reverse l.list.items) one.waiting ∙ p.open_is in
-    let goes = subst (λ n. ItemsGoOn s nowhere becomes (λ l. l) p.ts n p.state) (sym one.at) p.goes in
-    let element = element-awaits s Kind.Items goes.inner goes.around last.at p.state tt goes.awaits in
-    let stands_ : Stands s p.scope (opens.Lambda from nested ∷ p.rest) element.inner last.text.list.items = (
+    let entry = opens.Lambda from nested in
+    item-comes s last last (kept-written s w last (codes ", ") one p.kept) nowhere becomes (λ l. l) p.ts w.at p.goes (entry ∷ p.rest) refl refl refl one.at
+    (ap (λ l. reverse l.list.items) one.waiting ∙ p.open_is) (λ os onward. (
       p.has,
       p.ts,
       p.texts,
       p.elements,
       one.text ∙ ap (λ l. l ++ codes ", ") p.written ∙ append_assoc led p.texts (codes ", ") ∙ ap (λ l. led ++ l) (sym (next-written p.ts p.texts p.some)),
-      λ t here now comes. parameter-goes_on s nowhere becomes (λ l. l) p.ts last.at p.state goes t here now (element.onward t here now comes),
-    ) in
-    type-comes s last last (kept-written s w last (codes ", ") one p.kept) goes.around element.inner refl refl refl waits goes.outside
-    (inr (inl element.awaits)) stands_ (none-scoped p.scope goes.around (opens.Lambda from nested ∷ p.rest) refl)
+      onward,
+    )) (none-scoped p.scope p.goes.around (entry ∷ p.rest) refl)
 
 -- ## Their end
 

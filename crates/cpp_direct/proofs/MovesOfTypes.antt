@@ -1,5 +1,5 @@
 -- Moves within types, arrays and function types: a byte or a name is read, and a type opens, or one comes.
-use Rattle.std.proofs.lemmas.Bool.{eqb-false}
+use Rattle.std.proofs.lemmas.Bool.{eq-eqb}
 use Rattle.std.proofs.Common.{◌≡◌, ℕ, ◌+◌, ◌-◌, List, [], ◌∷◌, slice_get, Bool, true, false, ◌&&◌, ◌||◌, not, nat_eq, Option, Some, None, Result, Ok, Err, refl, ap, subst, ◌∙◌, arith, length, sym}
 use Rattle.sym_core.specs.declared.refusal.Refusal.{Refusal}
 use Rattle.sym_core.specs.declared.refusal.Refusal.TheVariants.{BadReference}
@@ -373,19 +373,12 @@ and-false true = refl
 and-false false = refl
 
 -- one that names parameters, in the encoding that it was made in
-same-place : (n : ℕ) → nat_eq n n ≡ true
-same-place n = go (nat_eq n n) refl
-  where
-    go : (b : Bool) → nat_eq n n ≡ b → nat_eq n n ≡ true
-    go true is = is
-    go false is = absurd (eqb-false n n is refl)
-
 pub substituted-open : (around : Around) (place : ℕ) (c : Candidate) (st : State) → c.encoding ≡ around.encoding → around.in_lambda ≡ false
     → packs_in around.scope c.tree ≡ None → substituted around place (Some c) st ≡ Ok (found (tree c.tree true) st)
 unfolding substituted with_packs
 substituted-open around place c st made plain none =
     ap (λ l. whole (is_open c.tree) l (nat_eq c.encoding around.encoding) (packs_in around.scope c.tree)) plain
-    ∙ ap (λ b. whole (is_open c.tree) false b (packs_in around.scope c.tree)) (ap (λ n. nat_eq n around.encoding) made ∙ same-place around.encoding)
+    ∙ ap (λ b. whole (is_open c.tree) false b (packs_in around.scope c.tree)) (ap (λ n. nat_eq n around.encoding) made ∙ eq-eqb around.encoding around.encoding refl)
     ∙ ap (λ b. gated b (packs_in around.scope c.tree)) (and-false (is_open c.tree)) ∙ ap (gated false) none
   where
     gated : Bool → Option ℕ → Result (Found Value State) Refusal

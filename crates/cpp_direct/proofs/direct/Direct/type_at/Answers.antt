@@ -37,8 +37,9 @@ rvalue_at-requires-clause-awaits g c = awaits-type (symbol_by g.G.Grammar.IS_WID
 pub returns-else-is_plain-3 : goal.returns-else-is_plain-3
 returns-else-is_plain-3 g c =
     let called = c.open_type-in-75.ensures in
-    const-opened (symbol_by g.G.Grammar.IS_WIDE g.G.Grammar.IS_BARE g.G.Grammar.IS_BRIEF c.args.s.now) c.args.self.now c.open_type-in-75.new.self c.open_type-in-75.result c.end-from.result c.args.is_plain
-    c.requires.writing c.if-is_plain-3.false c.end-from.ensures
+    const-opened (symbol_by g.G.Grammar.IS_WIDE g.G.Grammar.IS_BARE g.G.Grammar.IS_BRIEF c.args.s.now) c.args.self.now c.open_type-in-75.new.self c.open_type-in-75.result c.end-from.result
+    (subst (λ p. IsWriting (symbol_by g.G.Grammar.IS_WIDE g.G.Grammar.IS_BARE g.G.Grammar.IS_BRIEF c.args.s.now) c.args.self.now (if p then steps.Plain else steps.Type)) c.if-is_plain-3.false c.requires.writing)
+    c.end-from.ensures
     (there c.args.s.now c.args.self.now.at c.byte_at.result 75 c.in-75.is (omega arith) c.byte_at.ensures)
     called.step called.open called.at called.text called.candidates called.scope
 
