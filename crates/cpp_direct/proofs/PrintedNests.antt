@@ -480,7 +480,7 @@ again-tagged {detail} false t b p before tag class first_plain plain n =
     (λ c. text_shown detail base c (tagged false own tag) (piece_parts c (own_piece (without_tags t))) refl refl
     ∙ sym (text_shown detail base c own (piece_parts c (own_piece (without_tags t))) refl refl))
     (λ c. omega (
-    arith,
-    cost_shown detail base c (tagged false own tag) (piece_parts c (own_piece (without_tags t))) refl refl,
-    cost_shown detail base c own (piece_parts c (own_piece (without_tags t))) refl refl,
+      arith,
+      cost_shown detail base c (tagged false own tag) (piece_parts c (own_piece (without_tags t))) refl refl,
+      cost_shown detail base c own (piece_parts c (own_piece (without_tags t))) refl refl,
     ))

@@ -1,5 +1,4 @@
 use Rattle.std.proofs.Common.{append_assoc, arith, codes, refl, sym, ◌∙◌, ◌++◌}
-use Rattle.cpp_direct.specs.Symbol.{symbol_by}
 use Rattle.cpp_direct.specs.declared.open.Open.TheVariants as opens
 use Rattle.cpp_direct.proofs.AddressesRead.{next-addressed}
 use Rattle.cpp_direct.proofs.Ending.{no-void}
@@ -9,7 +8,7 @@ use Rattle.cpp_direct.proofs.direct.Direct.addressed_parameter.Goals as goal
 
 pub returns-then-byte_at-ne69 : goal.returns-then-byte_at-ne69
 returns-then-byte_at-ne69 g c =
-    next-addressed (symbol_by g.G.Grammar.IS_WIDE g.G.Grammar.IS_BARE g.G.Grammar.IS_BRIEF c.args.s.now) c.args.self.now c.push_pair.new.self c.args.mark c.args.to c.requires.read c.in_ok-push_pair.ensures
+    next-addressed _ c.args.self.now c.push_pair.new.self c.args.mark c.args.to c.requires.read c.in_ok-push_pair.ensures
 
 pub leave_out-requires : goal.leave_out-requires
 leave_out-requires g c =

@@ -1,5 +1,4 @@
 use Rattle.std.proofs.Common.{arith, refl, sym, ◌∙◌}
-use Rattle.cpp_direct.specs.Symbol.{symbol_by}
 use Rattle.cpp_direct.proofs.AddressesRead.{first-addressed}
 use Rattle.cpp_direct.proofs.FunctionsWithin.{void-shown, void-unshown}
 use Rattle.cpp_direct.proofs.TypesRead.{there}
@@ -25,5 +24,5 @@ addressed_marked-requires g c =
 
 pub returns : goal.returns
 returns g c =
-    first-addressed (symbol_by g.G.Grammar.IS_WIDE g.G.Grammar.IS_BARE g.G.Grammar.IS_BRIEF c.args.s.now) c.args.self.now c.push_byte.new.self _ c.args.mark c.args.to c.args.argument c.requires.awaits c.in_ok-push_byte.ensures
+    first-addressed _ c.args.self.now c.push_byte.new.self _ c.args.mark c.args.to c.args.argument c.requires.awaits c.in_ok-push_byte.ensures
     c.in_ok-push.ensures.items refl refl refl refl
