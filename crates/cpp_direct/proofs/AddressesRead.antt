@@ -1,24 +1,20 @@
 -- Addresses of functions, as arguments of a name: from their X to their last E.
-use Rattle.std.proofs.Common.{◌≡◌, ◌≢◌, refl, ap, sym, ◌∙◌, subst, ℕ, ◌+◌, ◌-◌, List, [], ◌∷◌, ◌++◌, length, reverse, take, slice_get, Some, true, false, arith, codes, append-nil, append_assoc, Bool, ◌&&◌}
+use Rattle.std.proofs.Common.{◌≡◌, refl, ap, sym, ◌∙◌, subst, ℕ, ◌+◌, ◌-◌, List, [], ◌∷◌, ◌++◌, length, reverse, take, slice_get, Some, true, false, arith, codes, append-nil, append_assoc, Bool, ◌&&◌}
 use Rattle.std.proofs.lemmas.Bool.{false≢true}
 use Rattle.cpp_grammar.specs.declared.kind.Kind.{Kind}
-use Rattle.cpp_grammar.specs.Term.{Term, function, address_of, list, absent}
+use Rattle.cpp_grammar.specs.Term.{Term, address_of, list, absent}
 use Rattle.cpp_grammar.specs.Parts.{types_of}
 use Rattle.cpp_grammar.specs.Scope.{has_return_type, arguments_of}
 use Rattle.cpp_grammar.specs.Values.{State, Value, tree, named, tree_of}
 use Rattle.cpp_grammar.specs.Between.{in_name, in_types, no_items}
 use Rattle.cpp_grammar.specs.Meaning.{encoding_of}
-use Rattle.cpp_direct.specs.declared.marks.MarkPlace.{MarkPlace}
-use Rattle.cpp_direct.specs.declared.open.Arguments.{Arguments}
-use Rattle.cpp_direct.specs.declared.open.Mark.{Mark}
+use Rattle.cpp_direct.specs.WriterTypes.{Arguments, Direct, Mark, MarkPlace, Open}
 use Rattle.cpp_direct.specs.declared.open.Hiding.TheVariants as hidings
 use Rattle.cpp_direct.specs.declared.open.Mark.TheVariants as marks
 use Rattle.cpp_direct.specs.Symbol.{detail_of, Symbol}
-use Rattle.cpp_direct.specs.declared.open.Open.{Open}
 use Rattle.cpp_direct.specs.declared.open.Open.TheVariants as opens
 use Rattle.cpp_direct.specs.declared.open.Purpose.TheVariants as purposes
 use Rattle.cpp_direct.specs.declared.open.Step.TheVariants as steps
-use Rattle.cpp_direct.specs.declared.direct.Direct.{Direct}
 use Rattle.cpp_direct.specs.Holes.{Opened, StandsAt, Comes, Expects}
 use Rattle.cpp_direct.specs.HolesOfLists.{mark_letters, nest_marks}
 use Rattle.cpp_direct.specs.Marks.{IsMarkPlace, has_const, called_on}

@@ -10,18 +10,13 @@ use Rattle.cpp_direct.proofs.MovesOfTypes.{const-opens, lvalue-opens, rvalue-ope
 use Rattle.cpp_direct.proofs.PrintedExpansions.{expansion-element, expansion-empty}
 use Rattle.cpp_direct.proofs.PrintedTypes.{parameter-given, rvalue-given}
 use Rattle.cpp_direct.proofs.NamedArguments.{again-substituted, named-here}
-use Rattle.cpp_direct.specs.declared.open.Mark.{Mark}
+use Rattle.cpp_direct.specs.WriterTypes.{Argument, Arguments, Candidate, Direct, Mark, Pattern}
 use Rattle.cpp_direct.specs.HolesOfTypes.{as_const, TypeOpens}
 use Rattle.cpp_direct.specs.Holes.{Opened, StandsAt, Comes, candidate, with_candidate, Expects, IsReferable, IsTyped}
 use Rattle.cpp_direct.specs.Prints.{IsMarkedBy, PrintsAs, PrintsGiven, PrintsMade, PrintAllBy, list_of, made_by, pattern_letters}
 use Rattle.cpp_direct.specs.WriterInvariant.{AreCandidates, EncodedBehind, IsKnown, IsPackOf, IsPackThere, IsPlaced, IsScope, IsSingle, IsWriting, ParametersGoOn, argument_of, in_front_of_next, place_of, Kept, Scope}
 use Rattle.cpp_direct.specs.MidStep.{AwaitsType, AreParametersRead, IsFunctionEnded, IsNamedAgain, most_by_digit, parameter_digits, AreExpanded, comma_text, expansion_letters, separator}
 use Rattle.cpp_direct.specs.Written.{Writes, added, hidden, with_argument}
-use Rattle.cpp_direct.specs.declared.direct.Direct.{Direct}
-use Rattle.cpp_direct.specs.declared.open.Argument.{Argument}
-use Rattle.cpp_direct.specs.declared.open.Candidate.{Candidate}
-use Rattle.cpp_direct.specs.declared.open.Arguments.{Arguments}
-use Rattle.cpp_direct.specs.declared.open.Pattern.{Pattern}
 use Rattle.cpp_direct.specs.declared.open.Pattern.TheVariants as patterns
 use Rattle.cpp_grammar.specs.Between.{Going, between, after, applied, listed_so_far, parameter_so_far, index_of, under_expansion}
 use Rattle.cpp_grammar.specs.Grammar.{may_be_empty, number_of_kind, parts_of}

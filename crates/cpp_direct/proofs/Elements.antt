@@ -11,7 +11,7 @@ use Rattle.cpp_grammar.specs.Term.{Term, builtin, boolean, integer, Signed}
 use Rattle.cpp_grammar.specs.Texts.{look_up, builtin_texts, literal_endings}
 use Rattle.cpp_grammar.specs.Grammar.{among}
 use Rattle.cpp_grammar.specs.Values.{normal, signed_digits, is_zero}
-use Rattle.cpp_direct.specs.declared.direct.Direct.{Direct}
+use Rattle.cpp_direct.specs.WriterTypes.{Direct, Open}
 use Rattle.cpp_direct.specs.Holes.{StandsAt, ListGoesOn}
 use Rattle.cpp_direct.specs.HolesOfLists.{IsDigitsAt, minus_sign, IsOffsetAt}
 use Rattle.cpp_direct.specs.ItemBytes.{is_integer_letter}
@@ -32,7 +32,6 @@ use Rattle.cpp_direct.proofs.Unmarked.{digits-unmarked}
 use Rattle.cpp_direct.proofs.PrintedNames.{boolean-prints, plain-integer-prints, cast-integer-prints, normal-filled, enumerator-prints, not-integer, normal-unmarked}
 use Rattle.cpp_direct.proofs.NamePlaces.{reads-then}
 use Rattle.std.proofs.lemmas.List.{length-drop, drop_more}
-use Rattle.cpp_direct.specs.declared.open.Open.{Open}
 use Rattle.cpp_direct.specs.declared.open.Open.TheVariants as opens
 use Rattle.cpp_direct.specs.declared.open.Step.TheVariants as steps
 

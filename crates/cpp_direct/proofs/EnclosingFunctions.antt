@@ -3,7 +3,7 @@ use Rattle.std.proofs.Common.{◌≡◌, ◌≢◌, refl, ap, sym, ◌∙◌, su
 use Rattle.std.proofs.lemmas.Bool.{false≢true}
 use Rattle.cpp_grammar.specs.declared.kind.Kind.{Kind}
 use Rattle.cpp_grammar.specs.Grammar.{may_be_empty}
-use Rattle.cpp_grammar.specs.Term.{Term, function, alone, source, builtin, nil, list, absent}
+use Rattle.cpp_grammar.specs.Term.{Term, alone, source, builtin, nil, list, absent}
 use Rattle.cpp_grammar.specs.Parts.{source_text, types_of}
 use Rattle.cpp_grammar.specs.Texts.{builtin_texts, look_up}
 use Rattle.cpp_grammar.specs.Scope.{has_return_type, arguments_of}
@@ -11,21 +11,18 @@ use Rattle.cpp_grammar.specs.References.{is_function_type}
 use Rattle.cpp_grammar.specs.Values.{State, Value, nothing_there, tree, named, tree_of}
 use Rattle.cpp_grammar.specs.Between.{after, in_name, in_types, no_items}
 use Rattle.cpp_grammar.specs.Meaning.{encoding_of}
-use Rattle.cpp_direct.specs.declared.marks.MarkPlace.{MarkPlace}
-use Rattle.cpp_direct.specs.declared.open.Mark.{Mark}
+use Rattle.cpp_direct.specs.WriterTypes.{Direct, Mark, MarkPlace, Open}
 use Rattle.cpp_direct.specs.declared.open.Mark.TheVariants as marks
 use Rattle.cpp_direct.specs.Symbol.{detail_of, Symbol}
-use Rattle.cpp_direct.specs.declared.open.Open.{Open}
 use Rattle.cpp_direct.specs.declared.open.Open.TheVariants as opens
 use Rattle.cpp_direct.specs.declared.open.Purpose.TheVariants as purposes
 use Rattle.cpp_direct.specs.declared.open.Step.TheVariants as steps
-use Rattle.cpp_direct.specs.declared.direct.Direct.{Direct}
 use Rattle.cpp_direct.specs.Holes.{Opened, StandsAt, Comes, Expects, IsNameAt, with_candidate}
 use Rattle.cpp_direct.specs.HolesOfLists.{mark_letters, nest_marks}
 use Rattle.cpp_direct.specs.HolesOfLocals.{Discriminator, IsDiscriminatorAt, IsPieceAt, local_in}
 use Rattle.cpp_direct.specs.Marks.{IsMarkPlace, has_const, called_on, mark_text}
 use Rattle.cpp_direct.specs.Prints.{PrintsName, PrintsPiece, Shows}
-use Rattle.cpp_direct.specs.WriterInvariant.{Below, IsNesting, IsOwn, IsWriting, ItemsGoOn, Serves, Stands, TypeWithin, below, in_front_of_next, nowhere, qualifiers, Kept, HasEnclosing}
+use Rattle.cpp_direct.specs.WriterInvariant.{Below, IsNesting, IsOwn, IsWriting, ItemsGoOn, Serves, TypeWithin, below, in_front_of_next, nowhere, qualifiers, Kept, HasEnclosing}
 use Rattle.cpp_direct.specs.MidStep.{AwaitsNamedType, AwaitsNest, IsElementRead}
 use Rattle.cpp_direct.specs.MidStepOfLocals.{AwaitsEnclosingParameters, AwaitsTypeName, IsEnclosingNamed, IsEnclosingParameterRead, IsEnclosingRead}
 use Rattle.cpp_direct.specs.Written.{Writes, Reads, added}

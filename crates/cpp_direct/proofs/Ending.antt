@@ -16,13 +16,10 @@ use Rattle.cpp_grammar.specs.Items.{is_empty}
 use Rattle.cpp_grammar.specs.Meaning.{encoding_of, is_void}
 use Rattle.cpp_grammar.specs.Values.{Around, State, Value, nothing_there, tree, tree_of, qualifiers_of, ref_of}
 use Rattle.cpp_direct.specs.Symbol.{Symbol, detail_of}
-use Rattle.cpp_direct.specs.declared.open.Arguments.{Arguments}
-use Rattle.cpp_direct.specs.declared.open.Mark.{Mark}
+use Rattle.cpp_direct.specs.WriterTypes.{Arguments, Direct, Mark, Open}
 use Rattle.cpp_direct.specs.declared.open.Mark.TheVariants as marks
-use Rattle.cpp_direct.specs.declared.open.Open.{Open}
 use Rattle.cpp_direct.specs.declared.open.Open.TheVariants as opens
 use Rattle.cpp_direct.specs.declared.open.Step.TheVariants as steps
-use Rattle.cpp_direct.specs.declared.direct.Direct.{Direct}
 use Rattle.cpp_direct.specs.Bytes.{is_builtin, is_local}
 use Rattle.cpp_direct.specs.Holes.{Comes, Expects, ListGoesOn, Opened, StandsAt}
 use Rattle.cpp_direct.specs.HolesOfLists.{IsSuffix}

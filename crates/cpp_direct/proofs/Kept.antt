@@ -1,6 +1,6 @@
 -- What a writer keeps while its text and its lists grow.
 use Rattle.sym_print.specs.declared.detail.Detail.{Detail}
-use Rattle.std.proofs.Common.{◌≡◌, ◌≢◌, ℕ, zero, suc, ◌+◌, ◌-◌, ◌≤◌, length, List, [], ◌∷◌, ◌++◌, take, drop, reverse, slice_get, Bool, true, false, Option, Some, None, is_some, refl, ap, sym, ◌∙◌, subst, arith, append_assoc, append-nil, ◌<◌, inl, inr, get_or, length-append}
+use Rattle.std.proofs.Common.{◌≡◌, ℕ, zero, suc, ◌+◌, ◌-◌, ◌≤◌, length, List, [], ◌∷◌, ◌++◌, take, drop, reverse, slice_get, Bool, true, false, Option, Some, None, is_some, refl, ap, sym, ◌∙◌, subst, arith, append_assoc, append-nil, ◌<◌, inl, inr, get_or, length-append}
 use Rattle.std.specs.Option.{IfSome, OnSome}
 use Rattle.std.proofs.lemmas.Bool.{false≢true}
 use Rattle.std.proofs.lemmas.List.{reverse-append, reverse-reverse}
@@ -10,14 +10,8 @@ use Rattle.cpp_grammar.specs.Values.{State, Around, tree, outermost}
 use Rattle.cpp_direct.specs.Bytes.{is_object}
 use Rattle.cpp_direct.specs.WrittenParts.{opening_bracket}
 use Rattle.cpp_direct.specs.Symbol.{detail_of, Symbol}
-use Rattle.cpp_direct.specs.declared.open.Candidate.{Candidate}
-use Rattle.cpp_direct.specs.declared.open.Argument.{Argument}
-use Rattle.cpp_direct.specs.declared.open.Nest.{Nest}
-use Rattle.cpp_direct.specs.declared.open.Purpose.{Purpose}
+use Rattle.cpp_direct.specs.WriterTypes.{Argument, Candidate, Direct, Hiding, Nest, Open, Purpose, Step}
 use Rattle.cpp_direct.specs.declared.open.Purpose.TheVariants as purposes
-use Rattle.cpp_direct.specs.declared.open.Open.{Open}
-use Rattle.cpp_direct.specs.declared.open.Step.{Step}
-use Rattle.cpp_direct.specs.declared.direct.Direct.{Direct}
 use Rattle.cpp_direct.specs.Holes.{Comes, Opened, candidate, with_candidate, unless_listed}
 use Rattle.cpp_direct.specs.Prints.{Names, PrintsAs, PrintsGiven}
 use Rattle.cpp_direct.specs.WriterInvariant.{AreCandidates, AreNamed, ArgumentsGoOn, ExpectsType, HasScope, IsCandidate, IsMadeIn, IsNaming, IsNest, IsPlaced, HasSingles, IsScoped, IsTemplate, IsWriting, Keeps, Scope, Stands, argument_of, arguments_in, below, is_within_type, no_scope, of_template, place_of, IsOwn, is_type, IsKnown, nowhere, Kept, IsBetween, AwaitsTypeIn, IsTypeRead}
@@ -26,7 +20,6 @@ use Rattle.std.specs.Prelude.{slice_set}
 use Rattle.cpp_grammar.specs.Values as values
 use Rattle.cpp_direct.specs.declared.open.Open.TheVariants as opens
 use Rattle.cpp_direct.specs.declared.open.Step.TheVariants as steps
-use Rattle.cpp_direct.specs.declared.open.Hiding.{Hiding}
 use Rattle.cpp_direct.specs.declared.open.Hiding.TheVariants as hidings
 
 -- ## Pieces of a text

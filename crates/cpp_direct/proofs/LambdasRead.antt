@@ -12,9 +12,8 @@ use Rattle.cpp_grammar.specs.Values.{State, Around, local_number, nothing_there,
 use Rattle.cpp_grammar.specs.Between.{after, no_items}
 use Rattle.cpp_direct.specs.Symbol.{detail_of, Symbol}
 use Rattle.cpp_direct.specs.declared.open.Open.TheVariants as opens
-use Rattle.cpp_direct.specs.declared.open.Purpose.{Purpose}
+use Rattle.cpp_direct.specs.WriterTypes.{Direct, Purpose}
 use Rattle.cpp_direct.specs.declared.open.Step.TheVariants as steps
-use Rattle.cpp_direct.specs.declared.direct.Direct.{Direct}
 use Rattle.cpp_direct.specs.Holes.{Opened, StandsAt, Comes, Expects, with_candidate}
 use Rattle.cpp_direct.specs.HolesOfLocals.{Discriminator, IsDiscriminatorAt, IsLambdaDigit, IsPieceAt, lambda_digits, lambda_ending, lambda_number, lambda_with, local_in}
 use Rattle.cpp_direct.specs.Prints.{IsLed, PrintsPiece, list_of}

@@ -1,5 +1,5 @@
 -- A writer at the end of arguments or a pack, and between two elements.
-use Rattle.cpp_direct.specs.declared.open.Arguments.{Arguments}
+use Rattle.cpp_direct.specs.WriterTypes.{Arguments, Direct, Nest, Open}
 use Rattle.sym_print.specs.declared.detail.Detail.{Detail}
 use Rattle.std.proofs.Common.{◌≡◌, ◌≢◌, inl, inr, ℕ, ◌+◌, ◌-◌, length, List, [], ◌∷◌, ◌++◌, reverse, slice_get, get_or, Bool, true, false, Some, None, refl, ap, sym, ◌∙◌, subst, arith, codes, append_assoc, append-nil}
 use Rattle.std.proofs.lemmas.Bool.{false≢true}
@@ -15,11 +15,8 @@ use Rattle.cpp_grammar.specs.Between.{no_items}
 use Rattle.cpp_direct.specs.WrittenParts.{opening_bracket, closing_bracket}
 use Rattle.cpp_direct.specs.Symbol.{detail_of, Symbol}
 use Rattle.cpp_direct.specs.declared.open.Mark.TheVariants as marks
-use Rattle.cpp_direct.specs.declared.open.Nest.{Nest}
-use Rattle.cpp_direct.specs.declared.open.Open.{Open}
 use Rattle.cpp_direct.specs.declared.open.Open.TheVariants as opens
 use Rattle.cpp_direct.specs.declared.open.Step.TheVariants as steps
-use Rattle.cpp_direct.specs.declared.direct.Direct.{Direct}
 use Rattle.cpp_direct.specs.Holes.{Opened, Comes, IsListKind, ListGoesOn, StandsAt, AwaitsComponent, with_candidate}
 use Rattle.cpp_direct.specs.HolesOfLists.{IsArgumentKind}
 use Rattle.cpp_direct.specs.Prints.{Names, PrintAllAs, PrintsAs, list_of}
@@ -575,14 +572,16 @@ template-takes detail names (opens.NameArguments from) front t name text is = tt
 template-takes detail names (opens.LevelArguments is_dependent) front t name text is = tt
 template-takes detail names _ front t name text is = absurd is
 
-argument-stands : (s : Symbol) (scope : Scope) (owner : Open) (rest : List Open) (os : List Opened) (text : List ℕ) → TakesArguments owner
-    → AwaitsElementOf s scope.names of_template owner (below s scope rest) os text → Stands s scope (owner ∷ rest) os text
-argument-stands s scope (opens.TypeArguments from is_dependent) rest os text takes p = p
-argument-stands s scope (opens.NestArguments nest) rest os text takes p = p
-argument-stands s scope (opens.FirstArguments nest) rest os text takes p = p
-argument-stands s scope (opens.NameArguments from) rest os text takes p = p
-argument-stands s scope (opens.LevelArguments is_dependent) rest os text takes p = p
-argument-stands s scope _ rest os text takes p = absurd takes
+-- they wait for an element of theirs
+arguments-stand : (s : Symbol) (scope : Scope) (owner : Open) (rest : List Open) (os : List Opened) (text : List ℕ) → TakesArguments owner
+    → (AwaitsElementOf s scope.names of_template owner (below s scope rest) os text → Stands s scope (owner ∷ rest) os text)
+    × (Stands s scope (owner ∷ rest) os text → AwaitsElementOf s scope.names of_template owner (below s scope rest) os text)
+arguments-stand s scope (opens.TypeArguments from is_dependent) rest os text takes = (λ p. p, λ p. p)
+arguments-stand s scope (opens.NestArguments nest) rest os text takes = (λ p. p, λ p. p)
+arguments-stand s scope (opens.FirstArguments nest) rest os text takes = (λ p. p, λ p. p)
+arguments-stand s scope (opens.NameArguments from) rest os text takes = (λ p. p, λ p. p)
+arguments-stand s scope (opens.LevelArguments is_dependent) rest os text takes = (λ p. p, λ p. p)
+arguments-stand s scope _ rest os text takes = absurd takes
 
 -- they have none that types name
 takes-none : (o : Open) → TakesArguments o → arguments_in o ≡ None
@@ -615,8 +614,8 @@ list-stands s scope opened os text w =
         → AwaitsElementOf s scope.names l w.place.owner (below s scope w.place.rest) os text → Stands s scope opened os text
     go of_template is awaits =
         let p = w.place in
-        subst (λ ws. Stands s scope ws os text) (sym is) (argument-stands s scope p.owner p.rest os text
-        (template-takes (detail_of s) scope.names p.owner p.front p.template p.name text p.is_template) awaits)
+        subst (λ ws. Stands s scope ws os text) (sym is) ((arguments-stand s scope p.owner p.rest os text
+        (template-takes (detail_of s) scope.names p.owner p.front p.template p.name text p.is_template)).0 awaits)
     go (of_pack before written) is awaits = subst (λ ws. Stands s scope ws os text) (sym is.0) (before, written, is.1, awaits)
 
 waits-of : (s : Symbol) (scope : Scope) (owner : Open) (rest : List Open) (os : List Opened) (text : List ℕ)
@@ -660,12 +659,7 @@ list-waits s opens.Pack (owner ∷ rest) os text takes p = record {
   written = p.3.7;
   onward = p.3.8;
 }
-list-waits s {scope = scope} (opens.TypeArguments from is_dependent) rest os text takes p = waits-of s scope (opens.TypeArguments from is_dependent) rest os text p
-list-waits s {scope = scope} (opens.NestArguments nest) rest os text takes p = waits-of s scope (opens.NestArguments nest) rest os text p
-list-waits s {scope = scope} (opens.FirstArguments nest) rest os text takes p = waits-of s scope (opens.FirstArguments nest) rest os text p
-list-waits s {scope = scope} (opens.NameArguments from) rest os text takes p = waits-of s scope (opens.NameArguments from) rest os text p
-list-waits s {scope = scope} (opens.LevelArguments is_dependent) rest os text takes p = waits-of s scope (opens.LevelArguments is_dependent) rest os text p
-list-waits s _ rest os text takes p = absurd takes
+list-waits s {scope = scope} o rest os text takes p = waits-of s scope o rest os text ((arguments-stand s scope o rest os text takes).1 p)
 
 -- the list waits for an element where one is expected
 pub element-stands : (s : Symbol) (w : Direct) (a : AwaitsNextArgument s w) (os : List Opened)

@@ -8,12 +8,8 @@ use Rattle.cpp_grammar.specs.Values.{Around, tree, tree_of, qualifiers_of, ref_o
 use Rattle.cpp_grammar.specs.Values as values
 use Rattle.cpp_grammar.specs.Between.{inside}
 use Rattle.cpp_grammar.specs.Parts.{types_of}
-use Rattle.cpp_direct.specs.declared.open.Mark.{Mark}
+use Rattle.cpp_direct.specs.WriterTypes.{Argument, Arguments, Mark, Open}
 use Rattle.cpp_direct.specs.declared.open.Mark.TheVariants as marks
-use Rattle.cpp_direct.specs.declared.open.Open.{Open}
-use Rattle.cpp_direct.specs.declared.open.Open.TheVariants as opens
-use Rattle.cpp_direct.specs.declared.open.Argument.{Argument}
-use Rattle.cpp_direct.specs.declared.open.Arguments.{Arguments}
 use Rattle.cpp_direct.specs.Marks.{called_on, has_const}
 use Rattle.cpp_direct.specs.WriterInvariant.{nowhere, IsPackOf, IsAmong, AreAmong, HasArguments, HasScope, IsScoped, Scope, argument_of, arguments_in, is_within_type, list_with, place_of, IsNamedSo, qualifiers, HasParameters, IsOwnName}
 use Rattle.cpp_direct.specs.MidStep.{AreKnown, HasNameSo}

@@ -8,12 +8,7 @@ use Rattle.cpp_grammar.specs.Term.{Term, builtin, nil, list, pointer, array, lva
 use Rattle.cpp_grammar.specs.Values.{Around, State, tree, outermost}
 use Rattle.cpp_grammar.specs.declared.kind.Kind.{Kind}
 use Rattle.cpp_direct.specs.Symbol.{detail_of, Symbol}
-use Rattle.cpp_direct.specs.declared.open.Mark.{Mark}
-use Rattle.cpp_direct.specs.declared.open.Candidate.{Candidate}
-use Rattle.cpp_direct.specs.declared.open.Open.{Open}
-use Rattle.cpp_direct.specs.declared.open.Arguments.{Arguments}
-use Rattle.cpp_direct.specs.declared.open.Step.{Step}
-use Rattle.cpp_direct.specs.declared.direct.Direct.{Direct}
+use Rattle.cpp_direct.specs.WriterTypes.{Access, Arguments, Candidate, Direct, Mark, Open, Step}
 use Rattle.cpp_direct.specs.Bytes.{is_builtin}
 use Rattle.cpp_direct.specs.Holes.{Opened, StandsAt, Comes, Expects, candidate, with_candidate, IsReferable}
 use Rattle.cpp_direct.specs.HolesOfFunctions.{SignatureGoesOn, plain_function, pointed, with_pointed, reference, reference_letter, FunctionOpened}
@@ -32,7 +27,6 @@ use Rattle.cpp_direct.proofs.PrintedFunctions.{function-element, void-function-e
 use Rattle.cpp_direct.proofs.PrintedLists.{list-more, none-print, none-text}
 use Rattle.cpp_direct.proofs.Scopes.{none-scoped}
 use Rattle.cpp_direct.proofs.TypesRead.{by-step, given, popped, whole-awaited}
-use Rattle.cpp_direct.specs.declared.open.Access.{Access}
 use Rattle.cpp_direct.specs.HolesOfArrays.{IsSizeAt, access_letters, accessed, array_opening, is_marked, with_accessed}
 use Rattle.sym_core.specs.declared.NameClass.TheVariants.{Cpp}
 use Rattle.sym_core.specs.Token.{is_name_byte}

@@ -29,7 +29,7 @@ use Rattle.cpp_direct.proofs.MovesOfLists.{arguments-open}
 use Rattle.cpp_direct.proofs.MovesOfNests.{piece-comes, tag-follows}
 use Rattle.cpp_direct.proofs.LettersTested.{operator-listed}
 use Rattle.cpp_direct.proofs.PrintedNames.{as-name, source-prints, std-prints, operator-names, operator-prints, std-operator-names, std-operator-prints}
-use Rattle.cpp_grammar.specs.Meaning.{encoding_of, discriminator_of}
+use Rattle.cpp_grammar.specs.Meaning.{encoding_of}
 use Rattle.cpp_grammar.specs.Unfolding.{first_around, first_state}
 use Rattle.cpp_direct.specs.HolesOfLists.{SymbolOpened, EncodingOpened, IsDigitsAt}
 use Rattle.cpp_direct.specs.HolesOfLocals.{Discriminator, unnumbered, by_digit, by_digits, IsDiscriminatorAt, IsEntityAt, entity_in, LocalOpened, GuardOpened}

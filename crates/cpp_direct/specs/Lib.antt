@@ -14,6 +14,7 @@ pub mod Names
 pub mod Prints
 pub mod Scoping
 pub mod WriterInvariant
+pub mod WriterTypes
 pub mod Symbol
 pub mod MidStep
 pub mod MidStepOfAddresses

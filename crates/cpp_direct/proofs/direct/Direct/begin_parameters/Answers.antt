@@ -16,5 +16,4 @@ pub next_parameter-requires-clause-awaits : goal.next_parameter-requires-clause-
 next_parameter-requires-clause-awaits g c =
     let w = c.args.self.now in
     first-expected _ w c.push_byte.new.self _ c.args.mark c.args.start c.args.argument c.requires.awaits
-    c.in_ok-push_byte.ensures refl refl refl refl
-    c.in_ok-push.ensures.items
+    c.in_ok-push_byte.ensures refl refl refl refl c.in_ok-push.ensures.items

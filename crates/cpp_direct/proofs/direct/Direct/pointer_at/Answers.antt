@@ -15,11 +15,9 @@ begin_function-requires-clause-letters g c =
 
 pub returns : goal.returns
 returns g c =
-    pointer-opened _ c.args.self.now c.open_type.new.self c.open_type.result c.end-from.result
-    c.requires.awaits c.end-from.ensures
-    c.requires.letter
-    c.open_type.ensures.step c.open_type.ensures.open c.open_type.ensures.at c.open_type.ensures.text c.open_type.ensures.candidates
-    c.open_type.ensures.scope
+    pointer-opened _ c.args.self.now c.open_type.new.self c.open_type.result c.end-from.result c.requires.awaits
+    c.end-from.ensures c.requires.letter c.open_type.ensures.step c.open_type.ensures.open c.open_type.ensures.at
+    c.open_type.ensures.text c.open_type.ensures.candidates c.open_type.ensures.scope
 
 pub begin_array-requires-clause-letters : goal.begin_array-requires-clause-letters
 begin_array-requires-clause-letters g c =
