@@ -410,9 +410,8 @@ expanded-inside pattern before w one ts argument number place p f is known write
         ap (λ (k : Argument). k.to) is,
         inside.1,
         ap length writes.text,
-        length-append w.text.list.items (comma_text number),
+        length-append {A = ℕ},
         ap length f.writes.text,
-        length-append before.text.list.items f.bytes,
       ),
     )
 

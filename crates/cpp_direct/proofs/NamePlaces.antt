@@ -297,14 +297,7 @@ name-placed s at place h le = record {
     own = own-found (IsName Cpp) s at place h le
 
     same : place.end ≡ place.to
-    same = omega (
-      arith,
-      h.end,
-      h.to,
-      length-append (h.token.before ++ h.token.own) h.token.behind,
-      length-append h.token.before h.token.own,
-      ap length h.is.ends,
-    )
+    same = omega (arith, h.end, h.to, length-append {A = ℕ}, ap length h.is.ends)
 
 -- a name was read and written
 pub name-read : (s : List ℕ) (old middle new : Direct) (place : NamePlace) (bytes : List ℕ) → IsNamePlace s old.at place

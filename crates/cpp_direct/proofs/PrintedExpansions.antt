@@ -122,8 +122,7 @@ one-more {detail} c k ts pattern m b l q packed lt p n =
         cost_shown detail (expand (suc m)) c t qs refl refl,
         p.cost,
         n.1,
-        length-append (codes ", ") (b ++ l),
-        length-append b l,
+        length-append {A = ℕ},
       ),
     )
 

@@ -42,8 +42,7 @@ member-in {detail} c extra u b p name filled plain =
       own.cost c,
       cost_shown detail left c m ps (member-parts detail c u name) refl,
       cost_shown detail right c m [] refl refl,
-      length-append (b ++ codes "::") x,
-      length-append b (codes "::"),
+      length-append {A = ℕ},
     )) (omega (arith, length-append (b ++ codes "::") x, length-append b (codes "::"))) refl
 
 -- A member prints its instance, colons and its name anywhere, or where parameters name arguments with these texts.

@@ -92,8 +92,7 @@ component-prints {detail} t b h p n q =
         q.piece_cost c,
         within-cost detail c left c t (h.as_prefix c) p (q.as_component c t),
         cost_shown detail right c w [] refl refl,
-        length-append (b ++ codes "::") n,
-        length-append b (codes "::"),
+        length-append {A = ℕ},
       );
     }) (rw (h.is_closed, q.is_closed) refl) (λ scope. rw (h.packless scope, q.packless scope) refl) q.opening (λ c. refl)
 
@@ -113,8 +112,7 @@ local-prints {detail} e b h p n q digit =
         within-cost detail c bare closed e (h.as_prefix c) p (q.as_component c e),
         cost_shown detail left c t (as_item left c (within e p) ∷ []) refl refl,
         cost_shown detail right c t [] refl refl,
-        length-append (b ++ codes "::") n,
-        length-append b (codes "::"),
+        length-append {A = ℕ},
       );
     }) (rw (h.is_closed, q.is_closed) refl) (λ scope. rw (h.packless scope, q.packless scope) refl) q.opening (λ c. refl)
 

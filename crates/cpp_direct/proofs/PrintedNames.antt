@@ -399,8 +399,7 @@ plain-integer-prints {detail} letter plain n filled digits_plain =
         part-cost detail ending,
         cost_shown detail right c i [] refl refl,
         length-filled n.digits filled,
-        length-append (sign_text n ++ n.digits) ending,
-        length-append (sign_text n) n.digits,
+        length-append {A = ℕ},
       );
     }) refl (λ scope. refl) refl (λ c. refl)
 

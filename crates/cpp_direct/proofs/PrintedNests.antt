@@ -117,8 +117,7 @@ within-in {detail} c extra t b prints prefix p x is =
       is.piece_cost c,
       cost_shown detail right c w [] refl refl,
       is.filled,
-      length-append (b ++ codes "::") x,
-      length-append b (codes "::"),
+      length-append {A = ℕ},
     )) (omega (arith, length-append (b ++ codes "::") x, length-append b (codes "::"))) refl
 
 -- and names something by them.
@@ -162,8 +161,7 @@ within-class {detail} t b prints p x is = let w = within t p in record {
     cost_shown detail base c w (text x ∷ []) (is.base_is c t) refl,
     first_cost_shown detail x [],
     ap length (within-text detail c left c t b (prints.left_text c) (prints.as_prefix c) p x (is.within_is c t) (is.piece_text c)),
-    length-append (b ++ codes "::") x,
-    length-append b (codes "::"),
+    length-append {A = ℕ},
   );
 }
 
@@ -184,8 +182,7 @@ constructor-prints {detail} t b class p n digit =
         ap length (p.left_text c),
         cost_shown detail right c w [] refl refl,
         cost_shown detail left c w (as_item left c t ∷ says "::" ∷ as_item base c t ∷ []) refl refl,
-        length-append (b ++ codes "::") class,
-        length-append b (codes "::"),
+        length-append {A = ℕ},
       );
     }) (rw p.is_closed refl) (λ scope. rw (p.packless scope) refl) refl (λ c. refl)
 
@@ -204,8 +201,7 @@ destructor-prints {detail} t b class p n digit =
         ap length (p.left_text c),
         cost_shown detail right c w [] refl refl,
         cost_shown detail left c w (as_item left c t ∷ says "::~" ∷ as_item base c t ∷ []) refl refl,
-        length-append (b ++ codes "::~") class,
-        length-append b (codes "::~"),
+        length-append {A = ℕ},
       );
     }) (rw p.is_closed refl) (λ scope. rw (p.packless scope) refl) refl (λ c. refl)
 
@@ -272,16 +268,8 @@ instance-in {detail} c extra t b p opening ts tail l is all =
       p.cost,
       instance-cost detail c t opening ts tail l is all,
       cost_shown detail right c i [] refl refl,
-      length-append (b ++ opening_bracket detail ++ l) (closing_bracket detail),
-      length-append (b ++ opening_bracket detail) l,
-      length-append b (opening_bracket detail),
-    )) (omega (
-      arith,
-      p.some,
-      length-append (b ++ opening_bracket detail ++ l) (closing_bracket detail),
-      length-append (b ++ opening_bracket detail) l,
-      length-append b (opening_bracket detail),
-    )) refl
+      length-append {A = ℕ},
+    )) (omega (arith, p.some, length-append {A = ℕ})) refl
 
 -- anywhere,
 pub instance-prints : {detail : Detail} (t : Term) (b : List ℕ) → Prints detail t b false
@@ -321,9 +309,7 @@ instance-class {detail} t b class p n ts tail l is all = let i = instance t (lis
     cost_shown detail right c i [] refl refl,
     cost_shown detail base c i (as_item base c t ∷ []) refl refl,
     ap length (instance-text detail c t b (p.left_text c) p.opening ts tail l is (all-in detail c 3 ts l all)),
-    length-append (b ++ opening_bracket detail ++ l) (closing_bracket detail),
-    length-append (b ++ opening_bracket detail) l,
-    length-append b (opening_bracket detail),
+    length-append {A = ℕ},
   );
 }
 

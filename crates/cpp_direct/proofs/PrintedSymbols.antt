@@ -58,10 +58,7 @@ function-shows {detail} shown name b p items l all q ref =
         cost_shown detail full closed f (front ++ behind) is refl,
         cost_append detail front behind,
         part-cost detail (encoding_text q ref),
-        length-append (b ++ codes "(" ++ l ++ codes ")") (encoding_text q ref),
-        length-append (b ++ codes "(" ++ l) (codes ")"),
-        length-append (b ++ codes "(") l,
-        length-append b (codes "("),
+        length-append {A = ℕ},
       );
     }
 
@@ -110,8 +107,7 @@ front-shows {detail} shown name q ref items l shows r b is_reference p =
         cost_shown detail full closed plain middle plain_is refl,
         cost_append detail (front ++ middle) behind,
         cost_append detail front middle,
-        length-append (b ++ codes " ") l,
-        length-append b (codes " "),
+        length-append {A = ℕ},
       );
     }
 
@@ -344,7 +340,5 @@ suffix-cost d e b s c rest =
       s.shown_cost,
       cost_shown d root closed (symbol e (c ∷ rest)) (as_item full closed e ∷ says " (" ∷ text (c ∷ rest) ∷ says ")" ∷ []) refl refl,
       length-unmarked (has_arguments d) rest,
-      length-append (b ++ codes " (" ++ (c ∷ rest)) (codes ")"),
-      length-append (b ++ codes " (") (c ∷ rest),
-      length-append b (codes " ("),
+      length-append {A = ℕ},
     )
