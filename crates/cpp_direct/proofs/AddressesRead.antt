@@ -8,15 +8,13 @@ use Rattle.cpp_grammar.specs.Scope.{has_return_type, arguments_of}
 use Rattle.cpp_grammar.specs.Values.{State, Value, tree, named, tree_of}
 use Rattle.cpp_grammar.specs.Between.{in_name, in_types, no_items}
 use Rattle.cpp_grammar.specs.Meaning.{encoding_of}
-use Rattle.cpp_direct.specs.WriterTypes.{Arguments, Direct, Mark, MarkPlace, Open}
 use Rattle.cpp_direct.specs.declared.open.Hiding.TheVariants as hidings
 use Rattle.cpp_direct.specs.declared.open.Mark.TheVariants as marks
-use Rattle.cpp_direct.specs.Symbol.{detail_of, Symbol}
 use Rattle.cpp_direct.specs.declared.open.Open.TheVariants as opens
+use Rattle.cpp_direct.specs.WriterTypes.{Arguments, Direct, Mark, MarkPlace, Open, Symbol, detail_of}
 use Rattle.cpp_direct.specs.declared.open.Purpose.TheVariants as purposes
 use Rattle.cpp_direct.specs.declared.open.Step.TheVariants as steps
-use Rattle.cpp_direct.specs.Holes.{Opened, StandsAt, Comes, Expects}
-use Rattle.cpp_direct.specs.HolesOfLists.{mark_letters, nest_marks}
+use Rattle.cpp_direct.specs.AllHoles.{Comes, Expects, Opened, StandsAt, mark_letters, nest_marks}
 use Rattle.cpp_direct.specs.Marks.{IsMarkPlace, has_const, called_on}
 use Rattle.cpp_direct.specs.Prints.{IsElementIn, PrintsName}
 use Rattle.cpp_direct.specs.WriterInvariant.{AddressWithin, AreNamed, Below, HasAddressed, HasAddressedFront, HasArguments, IsAddressed, IsNamedSo, IsNesting, IsOwn, IsTypeRead, IsWriting, ItemsGoOn, ItemsOf, Kept, Scope, Serves, Stands, below, in_front_of_next, no_scope, qualifiers}

@@ -10,15 +10,12 @@ use Rattle.cpp_grammar.specs.Values.{State, Value, nothing_there, tree, named, t
 use Rattle.cpp_grammar.specs.Between.{in_name, in_types, no_items}
 use Rattle.cpp_grammar.specs.Meaning.{encoding_of}
 use Rattle.cpp_grammar.specs.Unfolding.{first_around, first_state}
-use Rattle.cpp_direct.specs.Symbol.{Symbol, detail_of}
-use Rattle.cpp_direct.specs.WriterTypes.{Direct, Mark, MarkPlace}
+use Rattle.cpp_direct.specs.WriterTypes.{Direct, Mark, MarkPlace, Symbol, detail_of}
 use Rattle.cpp_direct.specs.declared.open.Purpose.TheVariants as purposes
 use Rattle.cpp_direct.specs.declared.open.Open.TheVariants as opens
 use Rattle.cpp_direct.specs.declared.open.Step.TheVariants as steps
 use Rattle.cpp_direct.specs.Bytes.{is_local, is_guard, is_object}
-use Rattle.cpp_direct.specs.Holes.{StandsAt, Comes, Expects}
-use Rattle.cpp_direct.specs.HolesOfLocals.{GuardOpened}
-use Rattle.cpp_direct.specs.HolesOfLists.{SymbolOpened, EncodingOpened, ItemsOpened, IsOffsetAt, BaseOpened, mark_letters, nest_marks}
+use Rattle.cpp_direct.specs.AllHoles.{BaseOpened, Comes, EncodingOpened, Expects, GuardOpened, IsOffsetAt, ItemsOpened, StandsAt, SymbolOpened, mark_letters, nest_marks}
 use Rattle.cpp_grammar.specs.Grammar.{among, may_be_empty}
 use Rattle.cpp_direct.specs.ItemBytes.{is_special_letter}
 use Rattle.cpp_direct.specs.Letters.{special_letters}

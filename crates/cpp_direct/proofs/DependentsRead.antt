@@ -2,7 +2,7 @@
 use Rattle.sym_print.specs.declared.detail.Detail.{Detail}
 use Rattle.cpp_grammar.specs.Unfolding.{byte_of, close}
 use Rattle.cpp_grammar.specs.Meaning.{is_void, meaning, listed_value}
-use Rattle.cpp_direct.specs.Symbol.{detail_of, Symbol}
+use Rattle.cpp_direct.specs.WriterTypes.{Argument, Arguments, Candidate, Direct, Mark, Pattern, Symbol, detail_of}
 use Rattle.cpp_direct.proofs.Kept.{candidate-found, kept-argument, kept-grown, kept-same, kept-written, made-here, piece-found, placed-stays, value-added, value-comes, candidate-inside, kept-as, kept-with}
 use Rattle.cpp_direct.proofs.Listed.{some-elements}
 use Rattle.cpp_direct.proofs.Moves.{hole, eats, byte-opens, next-part, closes, none-fills, number-fills, is_eaten, stands-join, stands-split, expects-empty, open_at, fill, filled-at}
@@ -10,9 +10,7 @@ use Rattle.cpp_direct.proofs.MovesOfTypes.{const-opens, lvalue-opens, rvalue-ope
 use Rattle.cpp_direct.proofs.PrintedExpansions.{expansion-element, expansion-empty}
 use Rattle.cpp_direct.proofs.PrintedTypes.{parameter-given, rvalue-given}
 use Rattle.cpp_direct.proofs.NamedArguments.{again-substituted, named-here}
-use Rattle.cpp_direct.specs.WriterTypes.{Argument, Arguments, Candidate, Direct, Mark, Pattern}
-use Rattle.cpp_direct.specs.HolesOfTypes.{as_const, TypeOpens}
-use Rattle.cpp_direct.specs.Holes.{Opened, StandsAt, Comes, candidate, with_candidate, Expects, IsReferable, IsTyped}
+use Rattle.cpp_direct.specs.AllHoles.{Comes, Expects, IsReferable, IsTyped, Opened, StandsAt, TypeOpens, as_const, candidate, with_candidate}
 use Rattle.cpp_direct.specs.Prints.{IsMarkedBy, PrintsAs, PrintsGiven, PrintsMade, PrintAllBy, list_of, made_by, pattern_letters}
 use Rattle.cpp_direct.specs.WriterInvariant.{AreCandidates, EncodedBehind, IsKnown, IsPackOf, IsPackThere, IsPlaced, IsScope, IsSingle, IsWriting, ParametersGoOn, argument_of, in_front_of_next, place_of, Kept, Scope}
 use Rattle.cpp_direct.specs.MidStep.{AwaitsType, AreParametersRead, IsFunctionEnded, IsNamedAgain, most_by_digit, parameter_digits, AreExpanded, comma_text, expansion_letters, separator}

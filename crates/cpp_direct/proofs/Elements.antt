@@ -3,17 +3,14 @@ use Rattle.sym_print.specs.declared.detail.Detail.{Detail}
 use Rattle.std.proofs.Common.{◌≡◌, ◌≢◌, ℕ, ◌+◌, ◌⊎◌, List, [], ◌∷◌, ◌++◌, length, reverse, nat_eq, Bool, true, false, cond, refl, ap, sym, subst, ◌∙◌, arith, codes, append_assoc, append-nil, drop, inl, inr, ◌<◌, ◌≤◌, get_or, not, ◌&&◌}
 use Rattle.std.proofs.lemmas.Bool.{false≢true, ne_eqb}
 use Rattle.std.specs.List.{ends_with}
-use Rattle.cpp_direct.specs.Symbol.{detail_of, Symbol}
-use Rattle.cpp_direct.specs.HolesOfTypes.{TreeOpens}
+use Rattle.cpp_direct.specs.WriterTypes.{Direct, Open, Symbol, detail_of}
+use Rattle.cpp_direct.specs.AllHoles.{IsDigitsAt, IsOffsetAt, ListGoesOn, StandsAt, TreeOpens, minus_sign}
 use Rattle.cpp_grammar.specs.declared.kind.Kind.{Kind}
 use Rattle.cpp_grammar.specs.Parts.{is_plain_integer}
 use Rattle.cpp_grammar.specs.Term.{Term, builtin, boolean, integer, Signed}
 use Rattle.cpp_grammar.specs.Texts.{look_up, builtin_texts, literal_endings}
 use Rattle.cpp_grammar.specs.Grammar.{among}
 use Rattle.cpp_grammar.specs.Values.{normal, signed_digits, is_zero}
-use Rattle.cpp_direct.specs.WriterTypes.{Direct, Open}
-use Rattle.cpp_direct.specs.Holes.{StandsAt, ListGoesOn}
-use Rattle.cpp_direct.specs.HolesOfLists.{IsDigitsAt, minus_sign, IsOffsetAt}
 use Rattle.cpp_direct.specs.ItemBytes.{is_integer_letter}
 use Rattle.cpp_direct.specs.Prints.{Prints, sign_text, EndsAsInteger, IsElement, PrintAllAs}
 use Rattle.cpp_direct.specs.WriterInvariant.{below, scoped_in, may_name, Closes, GoesOn, IsWriting, element_kind, extra_of, led_by, in_front_of_next, IsListing, Kept}

@@ -11,15 +11,12 @@ use Rattle.cpp_grammar.specs.References.{is_function_type}
 use Rattle.cpp_grammar.specs.Values.{State, Value, nothing_there, tree, named, tree_of}
 use Rattle.cpp_grammar.specs.Between.{after, in_name, in_types, no_items}
 use Rattle.cpp_grammar.specs.Meaning.{encoding_of}
-use Rattle.cpp_direct.specs.WriterTypes.{Direct, Mark, MarkPlace, Open}
 use Rattle.cpp_direct.specs.declared.open.Mark.TheVariants as marks
-use Rattle.cpp_direct.specs.Symbol.{detail_of, Symbol}
 use Rattle.cpp_direct.specs.declared.open.Open.TheVariants as opens
+use Rattle.cpp_direct.specs.WriterTypes.{Direct, Mark, MarkPlace, Open, Symbol, detail_of}
 use Rattle.cpp_direct.specs.declared.open.Purpose.TheVariants as purposes
 use Rattle.cpp_direct.specs.declared.open.Step.TheVariants as steps
-use Rattle.cpp_direct.specs.Holes.{Opened, StandsAt, Comes, Expects, IsNameAt, with_candidate}
-use Rattle.cpp_direct.specs.HolesOfLists.{mark_letters, nest_marks}
-use Rattle.cpp_direct.specs.HolesOfLocals.{Discriminator, IsDiscriminatorAt, IsPieceAt, local_in}
+use Rattle.cpp_direct.specs.AllHoles.{Comes, Discriminator, Expects, IsDiscriminatorAt, IsNameAt, IsPieceAt, Opened, StandsAt, local_in, mark_letters, nest_marks, with_candidate}
 use Rattle.cpp_direct.specs.Marks.{IsMarkPlace, has_const, called_on, mark_text}
 use Rattle.cpp_direct.specs.Prints.{PrintsName, PrintsPiece, Shows}
 use Rattle.cpp_direct.specs.WriterInvariant.{Below, IsNesting, IsOwn, IsWriting, ItemsGoOn, Serves, TypeWithin, below, in_front_of_next, nowhere, qualifiers, Kept, HasEnclosing}

@@ -15,14 +15,12 @@ use Rattle.cpp_grammar.specs.Between.{no_items}
 use Rattle.cpp_grammar.specs.Items.{is_empty}
 use Rattle.cpp_grammar.specs.Meaning.{encoding_of, is_void}
 use Rattle.cpp_grammar.specs.Values.{Around, State, Value, nothing_there, tree, tree_of, qualifiers_of, ref_of}
-use Rattle.cpp_direct.specs.Symbol.{Symbol, detail_of}
-use Rattle.cpp_direct.specs.WriterTypes.{Arguments, Direct, Mark, Open}
+use Rattle.cpp_direct.specs.WriterTypes.{Arguments, Direct, Mark, Open, Symbol, detail_of}
 use Rattle.cpp_direct.specs.declared.open.Mark.TheVariants as marks
 use Rattle.cpp_direct.specs.declared.open.Open.TheVariants as opens
 use Rattle.cpp_direct.specs.declared.open.Step.TheVariants as steps
 use Rattle.cpp_direct.specs.Bytes.{is_builtin, is_local}
-use Rattle.cpp_direct.specs.Holes.{Comes, Expects, ListGoesOn, Opened, StandsAt}
-use Rattle.cpp_direct.specs.HolesOfLists.{IsSuffix}
+use Rattle.cpp_direct.specs.AllHoles.{Comes, Expects, IsSuffix, ListGoesOn, Opened, StandsAt}
 use Rattle.cpp_direct.specs.Marks.{has_const, called_on, mark_text}
 use Rattle.cpp_direct.specs.Prints.{PrintsName, Shows, Encloses, list_of}
 use Rattle.cpp_direct.specs.WriterInvariant.{list_with, HasParameters, Scope, TakesItems, Encoded, EndsBehind, EncodedBehind, Fronts, IsWhole, IsScoped, IsWriting, HasArguments, HasScope, IsEncodedAt, ItemsGoOn, ParametersGoOn, Stands, qualifiers, in_front_of_next, no_scope, IsNamedSo, Kept}

@@ -9,8 +9,7 @@ use Rattle.cpp_grammar.specs.Term.{Term, list}
 use Rattle.cpp_grammar.specs.Between.{no_items}
 use Rattle.cpp_grammar.specs.Meaning.{parameters, encoding_of}
 use Rattle.cpp_grammar.specs.Values.{Value}
-use Rattle.cpp_direct.specs.Symbol.{Symbol, detail_of}
-use Rattle.cpp_direct.specs.WriterTypes.{Arguments, Direct, Mark}
+use Rattle.cpp_direct.specs.WriterTypes.{Arguments, Direct, Mark, Symbol, detail_of}
 use Rattle.cpp_direct.specs.Marks.{has_const, called_on}
 use Rattle.cpp_direct.specs.declared.open.Open.TheVariants as opens
 use Rattle.cpp_grammar.specs.Parts.{types_of}

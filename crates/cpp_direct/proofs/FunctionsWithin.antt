@@ -7,11 +7,10 @@ use Rattle.cpp_grammar.specs.Parts.{types_of}
 use Rattle.cpp_grammar.specs.Values.{State, nothing_there}
 use Rattle.cpp_grammar.specs.Between.{no_items}
 use Rattle.cpp_grammar.specs.Meaning.{parameters}
-use Rattle.cpp_direct.specs.WriterTypes.{Arguments, Direct, Mark, Open}
 use Rattle.cpp_direct.specs.declared.open.Hiding.TheVariants as hidings
 use Rattle.cpp_direct.specs.declared.open.Mark.TheVariants as marks
-use Rattle.cpp_direct.specs.Symbol.{detail_of, Symbol}
 use Rattle.cpp_direct.specs.Holes.{StandsAt}
+use Rattle.cpp_direct.specs.WriterTypes.{Arguments, Direct, Mark, Open, Symbol, detail_of}
 use Rattle.cpp_direct.specs.Marks.{has_const, called_on, mark_text}
 use Rattle.cpp_direct.specs.Prints.{PrintsName, Shows, Encloses, IsElementIn, list_of}
 use Rattle.cpp_direct.specs.WriterInvariant.{AreNamed, IsLedFunction, ItemsGoOn, Kept, Scope, in_front_of_next, qualifiers}

@@ -4,8 +4,7 @@ use Rattle.std.proofs.lemmas.Bool.{false≢true}
 use Rattle.cpp_grammar.specs.Term.{Term, special}
 use Rattle.cpp_grammar.specs.Parts.{types_of}
 use Rattle.cpp_grammar.specs.Values.{tree}
-use Rattle.cpp_direct.specs.Symbol.{detail_of, Symbol}
-use Rattle.cpp_direct.specs.WriterTypes.{Access, Arguments, Direct, Mark, Open, Purpose}
+use Rattle.cpp_direct.specs.WriterTypes.{Access, Arguments, Direct, Mark, Open, Purpose, Symbol, detail_of}
 use Rattle.cpp_direct.specs.declared.open.Open.TheVariants as opens
 use Rattle.cpp_direct.specs.declared.open.Step.TheVariants as steps
 use Rattle.cpp_direct.specs.Holes.{Opened, Comes}

@@ -10,12 +10,10 @@ use Rattle.cpp_grammar.specs.Items.{closed}
 use Rattle.cpp_grammar.specs.Scope.{has_return_type, arguments_of}
 use Rattle.cpp_grammar.specs.Values.{State, Around, local_number, nothing_there, tree}
 use Rattle.cpp_grammar.specs.Between.{after, no_items}
-use Rattle.cpp_direct.specs.Symbol.{detail_of, Symbol}
+use Rattle.cpp_direct.specs.WriterTypes.{Direct, Purpose, Symbol, detail_of}
 use Rattle.cpp_direct.specs.declared.open.Open.TheVariants as opens
-use Rattle.cpp_direct.specs.WriterTypes.{Direct, Purpose}
 use Rattle.cpp_direct.specs.declared.open.Step.TheVariants as steps
-use Rattle.cpp_direct.specs.Holes.{Opened, StandsAt, Comes, Expects, with_candidate}
-use Rattle.cpp_direct.specs.HolesOfLocals.{Discriminator, IsDiscriminatorAt, IsLambdaDigit, IsPieceAt, lambda_digits, lambda_ending, lambda_number, lambda_with, local_in}
+use Rattle.cpp_direct.specs.AllHoles.{Comes, Discriminator, Expects, IsDiscriminatorAt, IsLambdaDigit, IsPieceAt, Opened, StandsAt, lambda_digits, lambda_ending, lambda_number, lambda_with, local_in, with_candidate}
 use Rattle.cpp_direct.specs.Prints.{IsLed, PrintsPiece, list_of}
 use Rattle.cpp_direct.specs.WriterInvariant.{IsNest, IsWriting, LambdaComes, LambdaWithin, Stands, below, in_front_of_next, nowhere, Kept}
 use Rattle.cpp_direct.specs.MidStep.{IsElementRead}

@@ -23,15 +23,12 @@ use Rattle.cpp_direct.specs.Bytes.{is_builtin, is_builtin_with_d, is_abbreviated
 use Rattle.cpp_direct.specs.Letters.{builtin_letters, builtin_letters_with_d, abbreviation_letters}
 use Rattle.cpp_direct.proofs.Moves.{alone-arguments, stands-split, Hole, Filled, hole, open_at, fill, filled-at, eats, leaves, is_eaten, is_left, byte-opens, chain-opens, byte-fills, next-part, closes, none-fills, name-fills, first-named, came, digits-fill}
 use Rattle.cpp_direct.proofs.LettersTested.{each_passes, tested}
-use Rattle.cpp_direct.specs.Holes.{Opened, StandsAt, Comes, Expects, IsNameAt, IsSeqAt, IsReferable, IsTyped, TypeNamed, unless_listed, with_candidate, opened, ReadsRest}
-use Rattle.cpp_direct.specs.HolesOfTypes.{as_const, IsQualifiable, TypeOpens, TreePasses, TreeOpens, NameOpens, IsNamedKind}
+use Rattle.cpp_direct.specs.AllHoles.{ArrayOpened, Comes, Expects, FunctionOpened, IsNameAt, IsNamedKind, IsQualifiable, IsReferable, IsSeqAt, IsSizeAt, IsTyped, NameOpens, Opened, ParameterOpened, ReadsRest, ReferenceOpened, SignatureGoesOn, StandsAt, TreeOpens, TreePasses, TypeNamed, TypeOpens, access_letters, as_const, opened, plain_function, reference, reference_letter, unless_listed, with_candidate}
 use Rattle.cpp_direct.specs.declared.open.Access.{Access}
-use Rattle.cpp_direct.specs.HolesOfArrays.{IsSizeAt, ArrayOpened, access_letters}
 use Rattle.sym_shape.specs.declared.rule.Sym.{Sym}
 use Rattle.sym_shape.specs.Tree.{Forest, nothing, grown, AreTrees}
 use Rattle.cpp_grammar.specs.Table.{rule_of}
 use Rattle.cpp_grammar.proofs.ClosedTrees.{at_number}
-use Rattle.cpp_direct.specs.HolesOfFunctions.{plain_function, SignatureGoesOn, FunctionOpened, ParameterOpened, ReferenceOpened, reference, reference_letter}
 use Rattle.cpp_grammar.specs.Unfolding as unfolding_
 use Rattle.cpp_grammar.specs.Values as values
 use Rattle.cpp_direct.specs.declared.open.Access.TheVariants as accesses

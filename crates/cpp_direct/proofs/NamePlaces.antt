@@ -14,7 +14,7 @@ use Rattle.cpp_direct.specs.declared.direct.Direct.{Direct}
 use Rattle.cpp_direct.specs.declared.names.NamePlace.{NamePlace}
 use Rattle.sym_direct.proofs.Moves.{stands-join}
 use Rattle.cpp_direct.proofs.Kept.{piece-found}
-use Rattle.cpp_direct.specs.Holes.{StandsAt, IsNameAt, IsTagAt, IsNumberAt}
+use Rattle.cpp_direct.specs.AllHoles.{IsDigitsAt, IsNameAt, IsNumberAt, IsTagAt, StandsAt}
 use Rattle.cpp_direct.specs.Names.{IsLengthRead, IsNamePlace, tag_text}
 use Rattle.cpp_direct.specs.Written.{Writes, Reads}
 use Rattle.cpp_direct.specs.Marks.{IsMarkPlace}
@@ -24,7 +24,6 @@ use Rattle.std.specs.Result.{result_ok}
 use Rattle.sym_core.specs.declared.NumberKind.{NumberKind}
 use Rattle.sym_core.specs.declared.NumberKind.TheVariants.{Digits}
 use Rattle.cpp_grammar.specs.Values.{signed_digits}
-use Rattle.cpp_direct.specs.HolesOfLists.{IsDigitsAt}
 use Rattle.cpp_direct.specs.MidStep.{number_text}
 use Rattle.cpp_direct.specs.declared.open.Mark.TheVariants as marks
 

@@ -9,8 +9,7 @@ use Rattle.cpp_grammar.specs.Scope.{arguments_of, element, length_if_pack}
 use Rattle.cpp_grammar.specs.Term.{Term}
 use Rattle.cpp_grammar.specs.Values as values
 use Rattle.cpp_grammar.specs.Values.{Around, State, tree}
-use Rattle.cpp_direct.specs.Symbol.{Symbol, detail_of}
-use Rattle.cpp_direct.specs.WriterTypes.{Argument, Arguments, Candidate, Direct, Mark, Open}
+use Rattle.cpp_direct.specs.WriterTypes.{Argument, Arguments, Candidate, Direct, Mark, Open, Symbol, detail_of}
 use Rattle.cpp_direct.specs.Prints.{AreSingle, IsGiven, Named, Names, Prints, PrintsAs, PrintsGiven}
 use Rattle.cpp_direct.specs.WriterInvariant.{AreCandidates, AreNamed, HasArguments, IsCandidate, IsMadeIn, IsNaming, IsPlaced, HasSingles, IsScoped, IsSingle, Keeps, Scope, argument_of, encoding_place, no_scope, place_of, Kept}
 use Rattle.cpp_direct.specs.MidStep.{IsNameEnded, IsNameScoped}

@@ -8,16 +8,15 @@ use Rattle.cpp_grammar.specs.Values.{Around, tree, tree_of, qualifiers_of, ref_o
 use Rattle.cpp_grammar.specs.Values as values
 use Rattle.cpp_grammar.specs.Between.{inside}
 use Rattle.cpp_grammar.specs.Parts.{types_of}
-use Rattle.cpp_direct.specs.WriterTypes.{Argument, Arguments, Mark, Open}
 use Rattle.cpp_direct.specs.declared.open.Mark.TheVariants as marks
 use Rattle.cpp_direct.specs.Marks.{called_on, has_const}
 use Rattle.cpp_direct.specs.WriterInvariant.{nowhere, IsPackOf, IsAmong, AreAmong, HasArguments, HasScope, IsScoped, Scope, argument_of, arguments_in, is_within_type, list_with, place_of, IsNamedSo, qualifiers, HasParameters, IsOwnName}
 use Rattle.cpp_direct.specs.MidStep.{AreKnown, HasNameSo}
 use Rattle.cpp_direct.proofs.Kept.{none-known, placed-stays}
 use Rattle.cpp_direct.specs.Prints.{PrintAllIn, PrintsName}
-use Rattle.cpp_direct.specs.Symbol.{Symbol, detail_of}
-
 -- trees stay at their places where more is written
+use Rattle.cpp_direct.specs.WriterTypes.{Argument, Arguments, Mark, Open, Symbol, detail_of}
+
 one-stays : {detail : Detail} (text more : List ℕ) (p : Argument) (k : ℕ) (ts : List Term) → IsAmong detail text p k ts → IsAmong detail (text ++ more) p k ts
 one-stays text more p k ts h = record {
   bytes = h.bytes;

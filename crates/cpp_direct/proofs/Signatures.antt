@@ -7,12 +7,9 @@ use Rattle.cpp_grammar.specs.Grammar.{among}
 use Rattle.cpp_grammar.specs.Term.{Term, builtin, nil, list, pointer, array, lvalue}
 use Rattle.cpp_grammar.specs.Values.{Around, State, tree, outermost}
 use Rattle.cpp_grammar.specs.declared.kind.Kind.{Kind}
-use Rattle.cpp_direct.specs.Symbol.{detail_of, Symbol}
-use Rattle.cpp_direct.specs.WriterTypes.{Access, Arguments, Candidate, Direct, Mark, Open, Step}
+use Rattle.cpp_direct.specs.WriterTypes.{Access, Arguments, Candidate, Direct, Mark, Open, Step, Symbol, detail_of}
 use Rattle.cpp_direct.specs.Bytes.{is_builtin}
-use Rattle.cpp_direct.specs.Holes.{Opened, StandsAt, Comes, Expects, candidate, with_candidate, IsReferable}
-use Rattle.cpp_direct.specs.HolesOfFunctions.{SignatureGoesOn, plain_function, pointed, with_pointed, reference, reference_letter, FunctionOpened}
-use Rattle.cpp_direct.specs.HolesOfTypes.{NoReference, IsQualifiable}
+use Rattle.cpp_direct.specs.AllHoles.{Comes, Expects, FunctionOpened, IsQualifiable, IsReferable, IsSizeAt, NoReference, Opened, SignatureGoesOn, StandsAt, access_letters, accessed, array_opening, candidate, is_marked, plain_function, pointed, reference, reference_letter, with_accessed, with_candidate, with_pointed}
 use Rattle.cpp_direct.specs.Prints.{PrintAll, IsElement}
 use Rattle.cpp_direct.specs.WriterInvariant.{below, IsScoped, AreCandidates, IsWriting, Marks, Scope, Stands, TakesFunction, opening_text, list_with}
 use Rattle.cpp_direct.specs.MidStep.{AwaitsParameter, AwaitsSignature, IsElementPassed, IsFunctionRead, IsReturned, IsArrayRead, IsElementRead, ElementOf}
@@ -27,7 +24,6 @@ use Rattle.cpp_direct.proofs.PrintedFunctions.{function-element, void-function-e
 use Rattle.cpp_direct.proofs.PrintedLists.{list-more, none-print, none-text}
 use Rattle.cpp_direct.proofs.Scopes.{none-scoped}
 use Rattle.cpp_direct.proofs.TypesRead.{by-step, given, popped, whole-awaited}
-use Rattle.cpp_direct.specs.HolesOfArrays.{IsSizeAt, access_letters, accessed, array_opening, is_marked, with_accessed}
 use Rattle.sym_core.specs.declared.NameClass.TheVariants.{Cpp}
 use Rattle.sym_core.specs.Token.{is_name_byte}
 use Rattle.cpp_direct.specs.Names.{IsReadable}

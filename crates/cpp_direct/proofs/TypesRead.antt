@@ -14,15 +14,13 @@ use Rattle.cpp_grammar.specs.Texts.{Naming, look_up, builtin_texts, abbreviation
 use Rattle.cpp_grammar.specs.Parts.{source_text}
 use Rattle.cpp_grammar.specs.Values.{State, tree}
 use Rattle.cpp_grammar.specs.Between.{after, inside, no_items}
-use Rattle.cpp_direct.specs.Symbol.{detail_of, Symbol}
+use Rattle.cpp_direct.specs.WriterTypes.{Candidate, Direct, Open, Step, Symbol, detail_of}
 use Rattle.cpp_direct.specs.Bytes.{is_builtin, is_builtin_with_d, is_abbreviated}
 use Rattle.cpp_direct.specs.Letters.{builtin_letters, builtin_letters_with_d, abbreviation_letters}
-use Rattle.cpp_direct.specs.WriterTypes.{Candidate, Direct, Open, Step}
 use Rattle.cpp_direct.specs.declared.open.Open.TheVariants as opens
 use Rattle.cpp_direct.specs.declared.open.Purpose.TheVariants as purposes
 use Rattle.cpp_direct.specs.declared.open.Step.TheVariants as steps
-use Rattle.cpp_direct.specs.Holes.{StandsAt, Comes, Expects, IsReferable, IsNameAt, IsSeqAt, TypeNamed, with_candidate, unless_listed}
-use Rattle.cpp_direct.specs.HolesOfTypes.{IsQualifiable, TypeOpens}
+use Rattle.cpp_direct.specs.AllHoles.{Comes, Expects, IsNameAt, IsQualifiable, IsReferable, IsSeqAt, StandsAt, TypeNamed, TypeOpens, unless_listed, with_candidate}
 use Rattle.cpp_direct.specs.Prints.{Prints, PrintsAs}
 use Rattle.cpp_direct.specs.WriterInvariant.{IsScoped, IsWriting, Marks, Stands, below, Kept}
 use Rattle.cpp_direct.specs.MidStep.{AwaitsType, AwaitsNamedType, AwaitsNest, IsNamedAgain, IsTypeNamed, AwaitsMark}

@@ -10,10 +10,9 @@ use Rattle.cpp_grammar.specs.Parts.{source_text}
 use Rattle.cpp_grammar.specs.Scope.{has_return_type, arguments_of, is_structor}
 use Rattle.cpp_grammar.specs.Values.{State, piece, tree, tree_of, qualifiers_of, ref_of, Value, nothing_there, named, unqualified}
 use Rattle.cpp_grammar.specs.Between.{after, in_name, inside, no_items, with_tag, in_types}
-use Rattle.cpp_direct.specs.Symbol.{detail_of, Symbol}
-use Rattle.cpp_direct.specs.declared.direct.Direct.{Direct}
+use Rattle.cpp_direct.specs.WriterTypes.{Direct, Symbol, detail_of}
 use Rattle.cpp_direct.specs.Bytes.{is_local, is_object}
-use Rattle.cpp_direct.specs.Holes.{Comes, IsNameAt, IsTagAt, Named, Opened, StandsAt}
+use Rattle.cpp_direct.specs.AllHoles.{Comes, Discriminator, EncodingOpened, GuardOpened, IsDigitsAt, IsDiscriminatorAt, IsEntityAt, IsNameAt, IsTagAt, LocalOpened, Named, Opened, StandsAt, SymbolOpened, by_digit, by_digits, entity_in, unnumbered}
 use Rattle.cpp_direct.specs.Names.{IsOperatorAt, is_angle, operator_text, tag_text}
 use Rattle.cpp_direct.specs.Prints.{Prints, PrintsName, Shows}
 use Rattle.cpp_direct.specs.WriterInvariant.{IsWriting, encoding_place, nowhere, no_scope, EntityBehind, Kept}
@@ -31,8 +30,6 @@ use Rattle.cpp_direct.proofs.LettersTested.{operator-listed}
 use Rattle.cpp_direct.proofs.PrintedNames.{as-name, source-prints, std-prints, operator-names, operator-prints, std-operator-names, std-operator-prints}
 use Rattle.cpp_grammar.specs.Meaning.{encoding_of}
 use Rattle.cpp_grammar.specs.Unfolding.{first_around, first_state}
-use Rattle.cpp_direct.specs.HolesOfLists.{SymbolOpened, EncodingOpened, IsDigitsAt}
-use Rattle.cpp_direct.specs.HolesOfLocals.{Discriminator, unnumbered, by_digit, by_digits, IsDiscriminatorAt, IsEntityAt, entity_in, LocalOpened, GuardOpened}
 use Rattle.cpp_direct.specs.MidStepOfLocals.{AwaitsEntity}
 use Rattle.cpp_direct.proofs.Ending.{behind-three}
 use Rattle.cpp_direct.proofs.MovesOfLocals.{local-opens}

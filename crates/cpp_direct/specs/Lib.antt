@@ -1,3 +1,4 @@
+pub mod AllHoles
 pub mod Bytes
 pub mod Holes
 pub mod HolesOfArrays

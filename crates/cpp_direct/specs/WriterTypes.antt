@@ -1,4 +1,5 @@
--- The types of a writer and of what it keeps, as its code declares them.
+-- The types of a writer and of what it keeps, as its code declares them, and the symbol that it reads.
+pub use Rattle.cpp_direct.specs.Symbol.{Symbol, detail_of}
 pub use Rattle.cpp_direct.specs.declared.direct.Direct.{Direct}
 pub use Rattle.cpp_direct.specs.declared.marks.MarkPlace.{MarkPlace}
 pub use Rattle.cpp_direct.specs.declared.open.Access.{Access}
