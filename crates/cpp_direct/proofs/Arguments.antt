@@ -7,10 +7,9 @@ use Rattle.std.proofs.lemmas.List.{length-append}
 use Rattle.cpp_grammar.specs.declared.kind.Kind.{Kind}
 use Rattle.cpp_grammar.specs.Term.{list, Term, nil, pack}
 use Rattle.cpp_grammar.specs.Values.{Around}
-use Rattle.cpp_direct.specs.WrittenParts.{opening_bracket}
 use Rattle.cpp_direct.specs.WriterTypes.{Argument, Arguments, Direct, Open, Symbol, detail_of}
 use Rattle.cpp_direct.specs.Holes.{Opened, Expects, StandsAt}
-use Rattle.cpp_direct.specs.Prints.{Names, Prints, PrintAll, IsElementAs, PrintAllBy, list_of}
+use Rattle.cpp_direct.specs.Prints.{Names, Prints, PrintAll, IsElementAs, PrintAllBy, list_of, opening_bracket}
 use Rattle.cpp_direct.specs.WriterInvariant.{AwaitsArgument, Scope, arguments_or_pack, ComeBefore, element_kind, below, HasPack, scoped_in, is_noted, may_name, AreAmong, ArgumentsGoOn, Belongs, EndsNamed, GoesOn, IsAmong, IsKnown, IsScoped, IsTemplate, IsWriting, Stands, extra_of, of_template, in_front_of_next, led_by, list_with, nowhere, place_of, Closes, Kept, IsTypeRead}
 use Rattle.cpp_direct.specs.MidStep.{AreKnown, AwaitsKnownArgument, IsArgumentRead, IsListEnded, IsLiteralRead, KnowsMore, argument_around, argument_entry}
 use Rattle.cpp_direct.specs.MidStepOfAddresses.{AwaitsArgumentOfName}

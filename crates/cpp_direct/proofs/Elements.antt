@@ -12,7 +12,7 @@ use Rattle.cpp_grammar.specs.Texts.{look_up, builtin_texts, literal_endings}
 use Rattle.cpp_grammar.specs.Grammar.{among}
 use Rattle.cpp_grammar.specs.Values.{normal, signed_digits, is_zero}
 use Rattle.cpp_direct.specs.ItemBytes.{is_integer_letter}
-use Rattle.cpp_direct.specs.Prints.{Prints, sign_text, EndsAsInteger, IsElement, PrintAllAs}
+use Rattle.cpp_direct.specs.Prints.{Prints, sign_text, EndsAsInteger, IsElement, PrintAllAs, IsUnmarked}
 use Rattle.cpp_direct.specs.WriterInvariant.{below, scoped_in, may_name, Closes, GoesOn, IsWriting, element_kind, extra_of, led_by, in_front_of_next, IsListing, Kept}
 use Rattle.cpp_direct.specs.MidStep.{AwaitsNextArgument, IsLiteralRead, truth_text, number_text, integer_text, AwaitsNumber, AwaitsNamedType}
 use Rattle.cpp_direct.specs.Written.{Reads, Writes}
@@ -24,7 +24,6 @@ use Rattle.cpp_direct.proofs.Moves.{stands-join}
 use Rattle.cpp_direct.proofs.MovesOfLists.{bool-element, integer-element, enumerator-opens}
 use Rattle.cpp_direct.proofs.LettersTested.{integer-there}
 use Rattle.cpp_direct.proofs.PrintedLists.{element-as, next-prints-as, type-element}
-use Rattle.cpp_direct.specs.WrittenParts.{IsUnmarked}
 use Rattle.cpp_direct.proofs.Unmarked.{digits-unmarked}
 use Rattle.cpp_direct.proofs.PrintedNames.{boolean-prints, plain-integer-prints, cast-integer-prints, normal-filled, enumerator-prints, not-integer, normal-unmarked}
 use Rattle.cpp_direct.proofs.NamePlaces.{reads-then}

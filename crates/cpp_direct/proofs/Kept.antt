@@ -8,11 +8,10 @@ use Rattle.std.proofs.Math.Seq.{drop-append_seam, take-append_seam}
 use Rattle.cpp_grammar.specs.Term.{Term}
 use Rattle.cpp_grammar.specs.Values.{State, Around, tree, outermost}
 use Rattle.cpp_direct.specs.Bytes.{is_object}
-use Rattle.cpp_direct.specs.WrittenParts.{opening_bracket}
 use Rattle.cpp_direct.specs.WriterTypes.{Argument, Candidate, Direct, Hiding, Nest, Open, Purpose, Step, Symbol, detail_of}
 use Rattle.cpp_direct.specs.declared.open.Purpose.TheVariants as purposes
 use Rattle.cpp_direct.specs.Holes.{Comes, Opened, candidate, with_candidate, unless_listed}
-use Rattle.cpp_direct.specs.Prints.{Names, PrintsAs, PrintsGiven}
+use Rattle.cpp_direct.specs.Prints.{Names, PrintsAs, PrintsGiven, opening_bracket}
 use Rattle.cpp_direct.specs.WriterInvariant.{AreCandidates, AreNamed, ArgumentsGoOn, ExpectsType, HasScope, IsCandidate, IsMadeIn, IsNaming, IsNest, IsPlaced, HasSingles, IsScoped, IsTemplate, IsWriting, Keeps, Scope, Stands, argument_of, arguments_in, below, is_within_type, no_scope, of_template, place_of, IsOwn, is_type, IsKnown, nowhere, Kept, IsBetween, AwaitsTypeIn, IsTypeRead}
 use Rattle.cpp_direct.specs.Written.{Writes, Reads, added, added_unless, with_argument, IsLeft, AreLeft, Stays}
 use Rattle.std.specs.Prelude.{slice_set}

@@ -14,7 +14,7 @@ use Rattle.cpp_direct.specs.WriterTypes.{Direct, Purpose, Symbol, detail_of}
 use Rattle.cpp_direct.specs.declared.open.Open.TheVariants as opens
 use Rattle.cpp_direct.specs.declared.open.Step.TheVariants as steps
 use Rattle.cpp_direct.specs.AllHoles.{Comes, Discriminator, Expects, IsDiscriminatorAt, IsLambdaDigit, IsPieceAt, Opened, StandsAt, lambda_digits, lambda_ending, lambda_number, lambda_with, local_in, with_candidate}
-use Rattle.cpp_direct.specs.Prints.{IsLed, PrintsPiece, list_of}
+use Rattle.cpp_direct.specs.Prints.{IsLed, PrintsPiece, list_of, IsUnmarked}
 use Rattle.cpp_direct.specs.WriterInvariant.{IsNest, IsWriting, LambdaComes, LambdaWithin, Stands, below, in_front_of_next, nowhere, Kept}
 use Rattle.cpp_direct.specs.MidStep.{IsElementRead}
 use Rattle.cpp_direct.specs.MidStepOfLocals.{AwaitsTypeName, IsLambdaOpened, IsLambdaParameterRead, IsLambdaRead}
@@ -29,7 +29,6 @@ use Rattle.cpp_direct.proofs.PrintedLists.{list-with-none, all-in, next-prints, 
 use Rattle.cpp_direct.proofs.PrintedLocals.{lambda-prints, lambda-list-prints, local-prints, component-prints}
 use Rattle.cpp_direct.proofs.PrintedSymbols.{parameters-kept}
 use Rattle.cpp_direct.proofs.Scopes.{none-scoped}
-use Rattle.cpp_direct.specs.WrittenParts.{IsUnmarked}
 use Rattle.cpp_direct.proofs.Unmarked.{is-no-mark, more-unmarked}
 
 -- ## Their bytes

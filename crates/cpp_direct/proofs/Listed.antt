@@ -11,13 +11,12 @@ use Rattle.cpp_grammar.specs.Term.{Term, nil, list, instance, pack}
 use Rattle.cpp_grammar.specs.Scope.{element, count, arguments_of}
 use Rattle.cpp_grammar.specs.Values.{Around, State, tree, nothing_there, tree_of}
 use Rattle.cpp_grammar.specs.Between.{no_items}
-use Rattle.cpp_direct.specs.WrittenParts.{opening_bracket, closing_bracket}
 use Rattle.cpp_direct.specs.declared.open.Mark.TheVariants as marks
 use Rattle.cpp_direct.specs.WriterTypes.{Arguments, Direct, Nest, Open, Symbol, detail_of}
 use Rattle.cpp_direct.specs.declared.open.Open.TheVariants as opens
 use Rattle.cpp_direct.specs.declared.open.Step.TheVariants as steps
 use Rattle.cpp_direct.specs.AllHoles.{AwaitsComponent, Comes, IsArgumentKind, IsListKind, ListGoesOn, Opened, StandsAt, with_candidate}
-use Rattle.cpp_direct.specs.Prints.{Names, PrintAllAs, PrintsAs, list_of}
+use Rattle.cpp_direct.specs.Prints.{Names, PrintAllAs, PrintsAs, list_of, opening_bracket, closing_bracket}
 use Rattle.cpp_direct.specs.WriterInvariant.{HasPack, Below, HasArguments, arguments_in, below, IsListing, IsNaming, IsScoped, Scope, scoped_in, is_noted, may_name, IsNest, IsTail, IsTemplate, IsWriting, Owns, Serves, ArgumentsGoOn, AwaitsElementOf, AwaitsEnumerator, Belongs, Closes, ElementsGoOn, EnumeratorGoesOn, GoesOn, Listing, of_template, of_pack, Stands, element_kind, extra_of, led_by, list_with, in_front_of_next, nowhere, Kept}
 use Rattle.cpp_direct.specs.MidStep.{AreKnown, IsListEnded, AwaitsNextArgument, IsNameEnded}
 use Rattle.cpp_direct.specs.Written.{Writes, added}

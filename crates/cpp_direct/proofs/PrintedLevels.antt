@@ -10,8 +10,7 @@ use Rattle.cpp_grammar.specs.Operations.{operations, operation_of_code}
 use Rattle.cpp_grammar.specs.Items.{left, right, Context}
 use Rattle.cpp_grammar.specs.Parts.{as_item, says, source_text, prefix_item, last_piece, opening_text, left_parts, right_parts, parts_in, not_empty, operation_parts, operand_parts, printed, text_part}
 use Rattle.cpp_direct.specs.HolesOfLevels.{member_of}
-use Rattle.cpp_direct.specs.Prints.{written_of, Prints, PrintsIn, PrintsAs, Names}
-use Rattle.cpp_direct.specs.WrittenParts.{IsUnmarked}
+use Rattle.cpp_direct.specs.Prints.{written_of, Prints, PrintsIn, PrintsAs, Names, IsUnmarked}
 use Rattle.cpp_direct.proofs.PrintedParts.{text_shown, cost_shown}
 use Rattle.cpp_direct.proofs.PrintedNames.{besides, own-in, own-prints, source-prints}
 use Rattle.cpp_direct.proofs.PrintedNests.{joins}

@@ -10,8 +10,7 @@ use Rattle.cpp_grammar.specs.Items.{full, bare, left, piece, Context, closed, ri
 use Rattle.cpp_grammar.specs.Values.{Value, unqualified, tree_of, qualifiers_of, ref_of}
 use Rattle.cpp_grammar.specs.Meaning.{encoding_of}
 use Rattle.cpp_grammar.specs.Parts.{as_item, says, source_text, prefix_item, within_parts, qualifier_text, ref_text, encoding_text, function_bare, function_full, full_parts, bare_parts, left_parts, entity_of, parts_in, not_empty, list_part, opening_text, piece_parts, right_parts, last_piece}
-use Rattle.cpp_direct.specs.Prints.{written_of, PrintsName, Shows, Encloses, Prints, PrintsPiece, PrintAll, list_of}
-use Rattle.cpp_direct.specs.WrittenParts.{IsUnmarked}
+use Rattle.cpp_direct.specs.Prints.{written_of, PrintsName, Shows, Encloses, Prints, PrintsPiece, PrintAll, list_of, IsUnmarked}
 use Rattle.cpp_direct.proofs.PrintedParts.{shown_by, writes_parts, text_shown, cost_shown, first_shown, first_cost_shown, text_append, cost_append}
 use Rattle.cpp_direct.proofs.PrintedNames.{as-name, besides, own-prints}
 use Rattle.cpp_direct.proofs.PrintedNests.{IsPiece, source-opening, source-piece, within-cost, within-text}

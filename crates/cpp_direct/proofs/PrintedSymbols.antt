@@ -14,10 +14,9 @@ use Rattle.cpp_grammar.specs.Parts.{as_item, says, text_part, list_part, types_o
 use Rattle.cpp_grammar.specs.Answer.{shown, root_item}
 use Rattle.cpp_direct.specs.declared.open.Mark.{Mark}
 use Rattle.cpp_direct.specs.Marks.{has_const, called_on}
-use Rattle.cpp_direct.specs.Prints.{written_of, PrintsName, PrintsIn, IsElement, Shows, list_of, joined, PrintEachIn, PrintAllIn}
+use Rattle.cpp_direct.specs.Prints.{written_of, PrintsName, PrintsIn, IsElement, Shows, list_of, joined, PrintEachIn, PrintAllIn, IsUnmarked, written, written_in, unmarked_parts}
 use Rattle.cpp_direct.specs.WriterInvariant.{qualifiers, list_with, plain_encoding, IsNamedSo}
 use Rattle.std.proofs.lemmas.Bool.{false≢true}
-use Rattle.cpp_direct.specs.WrittenParts.{IsUnmarked, written, written_in, unmarked_parts}
 use Rattle.cpp_direct.proofs.Unmarked.{length-unmarked, qualifiers-unmarked, special-unmarked, thunk-unmarked, unmarked-same}
 use Rattle.cpp_direct.proofs.PrintedParts.{shown_by, text_shown, cost_shown, first_shown, first_cost_shown, text_append, cost_append, part-text, part-cost, length-filled}
 use Rattle.cpp_direct.proofs.PrintedLists.{PrintsItems, list-in, none-print-in}

@@ -10,7 +10,7 @@ use Rattle.cpp_grammar.specs.declared.kind.Kind.{Kind}
 use Rattle.cpp_direct.specs.WriterTypes.{Access, Arguments, Candidate, Direct, Mark, Open, Step, Symbol, detail_of}
 use Rattle.cpp_direct.specs.Bytes.{is_builtin}
 use Rattle.cpp_direct.specs.AllHoles.{Comes, Expects, FunctionOpened, IsQualifiable, IsReferable, IsSizeAt, NoReference, Opened, SignatureGoesOn, StandsAt, access_letters, accessed, array_opening, candidate, is_marked, plain_function, pointed, reference, reference_letter, with_accessed, with_candidate, with_pointed}
-use Rattle.cpp_direct.specs.Prints.{PrintAll, IsElement}
+use Rattle.cpp_direct.specs.Prints.{PrintAll, IsElement, IsUnmarked}
 use Rattle.cpp_direct.specs.WriterInvariant.{below, IsScoped, AreCandidates, IsWriting, Marks, Scope, Stands, TakesFunction, opening_text, list_with}
 use Rattle.cpp_direct.specs.MidStep.{AwaitsParameter, AwaitsSignature, IsElementPassed, IsFunctionRead, IsReturned, IsArrayRead, IsElementRead, ElementOf}
 use Rattle.cpp_direct.specs.Written.{Writes, hidden, with_hidden}
@@ -27,7 +27,6 @@ use Rattle.cpp_direct.proofs.TypesRead.{by-step, given, popped, whole-awaited}
 use Rattle.sym_core.specs.declared.NameClass.TheVariants.{Cpp}
 use Rattle.sym_core.specs.Token.{is_name_byte}
 use Rattle.cpp_direct.specs.Names.{IsReadable}
-use Rattle.cpp_direct.specs.WrittenParts.{IsUnmarked}
 use Rattle.cpp_direct.proofs.Unmarked.{each-unmarked, name-byte}
 use Rattle.cpp_direct.proofs.NamePlaces.{all-reached, own-each}
 use Rattle.cpp_direct.proofs.PrintedNames.{normal-unmarked}
@@ -323,23 +322,18 @@ function-handed s old new is_pointer p text candidates scope_same waits at =
     }
 
 -- what takes a function type, and isn't parameters or a special object, takes elements
-pub takes-as-element : (o : Open) (rest ws : List Open) → ws ≡ o ∷ rest → TakesFunction ws
-    → ((x : Mark) (y : ℕ) (z : Arguments) → o ≡ opens.Parameters x y z → ⊥)
+pub takes-as-element : (o : Open) (rest : List Open) → TakesFunction (o ∷ rest) → ((x : Mark) (y : ℕ) (z : Arguments) → o ≡ opens.Parameters x y z → ⊥)
     → (o ≡ opens.Special → ⊥) → ((x : Mark) (y t : ℕ) → o ≡ opens.Enclosing x y t → ⊥) → TakesElements o
-takes-as-element o rest ws is takes apart no_special within = go o (subst TakesFunction is takes) apart no_special within
-  where
-    go : (o : Open) → TakesFunction (o ∷ rest) → ((x : Mark) (y : ℕ) (z : Arguments) → o ≡ opens.Parameters x y z → ⊥) → (o ≡ opens.Special → ⊥)
-        → ((x : Mark) (y t : ℕ) → o ≡ opens.Enclosing x y t → ⊥) → TakesElements o
-    go (opens.TypeArguments from is_dependent) takes apart z m = tt
-    go (opens.NestArguments nest) takes apart z m = tt
-    go (opens.FirstArguments nest) takes apart z m = tt
-    go (opens.NameArguments from) takes apart z m = tt
-    go (opens.LevelArguments is_dependent) takes apart z m = tt
-    go opens.Pack takes apart z m = tt
-    go (opens.Parameters x y w) takes apart z m = absurd (apart x y w refl)
-    go opens.Special takes apart z m = absurd (z refl)
-    go (opens.Enclosing x y t) takes apart z m = absurd (m x y t refl)
-    go _ takes apart z m = absurd takes
+takes-as-element (opens.TypeArguments from is_dependent) rest takes apart z m = tt
+takes-as-element (opens.NestArguments nest) rest takes apart z m = tt
+takes-as-element (opens.FirstArguments nest) rest takes apart z m = tt
+takes-as-element (opens.NameArguments from) rest takes apart z m = tt
+takes-as-element (opens.LevelArguments is_dependent) rest takes apart z m = tt
+takes-as-element opens.Pack rest takes apart z m = tt
+takes-as-element (opens.Parameters x y w) rest takes apart z m = absurd (apart x y w refl)
+takes-as-element opens.Special rest takes apart z m = absurd (z refl)
+takes-as-element (opens.Enclosing x y t) rest takes apart z m = absurd (m x y t refl)
+takes-as-element _ rest takes apart z m = absurd takes
 
 -- ## The beginning of an array
 

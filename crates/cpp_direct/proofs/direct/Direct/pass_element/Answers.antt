@@ -1,5 +1,6 @@
-use Rattle.std.proofs.Common.{refl}
+use Rattle.std.proofs.Common.{refl, subst}
 use Rattle.cpp_direct.specs.declared.open.Open.TheVariants as opens
+use Rattle.cpp_direct.specs.WriterInvariant.{TakesFunction}
 use Rattle.cpp_direct.proofs.Signatures.{passed-on, takes-as-element}
 use Rattle.cpp_direct.proofs.EnclosingFunctions.{parameter-read-within}
 use Rattle.cpp_direct.proofs.Handed.{argument-read, parameter-read, special-read}
@@ -29,4 +30,4 @@ returns-in_default g c =
     let p = c.requires.passed in
     let read = passed-on _ c.args.self.now o p (waits-last _ _ _ _ c.as_slice.ensures c.in_ok-mark.ensures.value refl) in
     argument-read _ c.args.self.now o read
-    (takes-as-element o read.rest _ read.open_is p.takes c.in_default.not-Parameters c.in_default.not-Special c.in_default.not-Enclosing)
+    (takes-as-element o read.rest (subst TakesFunction read.open_is p.takes) c.in_default.not-Parameters c.in_default.not-Special c.in_default.not-Enclosing)
