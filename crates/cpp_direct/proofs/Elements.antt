@@ -383,8 +383,4 @@ enumerator-read s old begun pushed middle new a other text candidates scope_same
   where
     rejoined : (f b t s d : List ℕ)
         → (f ++ b ++ codes "(" ++ t) ++ (codes ")" ++ (s ++ d)) ≡ f ++ (b ++ (codes "(" ++ t ++ codes ")" ++ s ++ d))
-    rejoined f b t s d =
-        ap (λ l. l ++ (codes ")" ++ (s ++ d))) (append_assoc (f ++ b) (codes "(") t ∙ append_assoc f b (codes "(" ++ t))
-        ∙ append_assoc f (b ++ (codes "(" ++ t)) (codes ")" ++ (s ++ d))
-        ∙ ap (λ l. f ++ l) (append_assoc b (codes "(" ++ t) (codes ")" ++ (s ++ d))
-        ∙ ap (λ l. b ++ l) (sym (append_assoc (codes "(" ++ t) (codes ")") (s ++ d)) ∙ sym (append_assoc (codes "(" ++ t ++ codes ")") s d)))
+    rejoined f b t s d = simp append_assoc

@@ -19,7 +19,7 @@ use Rattle.cpp_direct.specs.WriterInvariant.{IsNest, IsWriting, LambdaComes, Lam
 use Rattle.cpp_direct.specs.MidStep.{IsElementRead}
 use Rattle.cpp_direct.specs.MidStepOfLocals.{AwaitsTypeName, IsLambdaOpened, IsLambdaParameterRead, IsLambdaRead}
 use Rattle.cpp_direct.specs.Written.{Writes, Reads, added}
-use Rattle.cpp_direct.proofs.Ending.{behind-five, item-comes, next-written}
+use Rattle.cpp_direct.proofs.Ending.{item-comes, next-written}
 use Rattle.cpp_direct.proofs.Kept.{kept-grown, kept-read, kept-same, kept-written, reverse-last, type-comes, value-added}
 use Rattle.cpp_direct.proofs.Listed.{some-elements}
 use Rattle.cpp_direct.proofs.Moves.{expects-empty, stands-join}
@@ -73,17 +73,11 @@ lambda_front = codes "::{lambda("
 
 whole-text : (f b l n : List ℕ) → ((f ++ (b ++ lambda_front)) ++ l) ++ codes ")#" ++ (n ++ codes "}")
     ≡ f ++ (b ++ codes "::" ++ (codes "{lambda(" ++ l ++ codes ")#" ++ n ++ codes "}"))
-whole-text f b l n =
-    let x = codes "{lambda(" ++ l ++ codes ")#" ++ n ++ codes "}" in
-    sym (append_assoc (f ++ (b ++ lambda_front) ++ l ++ codes ")#") n (codes "}"))
-    ∙ behind-five f (b ++ lambda_front) l (codes ")#") n (codes "}")
-    ∙ ap (λ k. f ++ k) (behind-five b lambda_front l (codes ")#") n (codes "}") ∙ sym (append_assoc b (codes "::") x))
+whole-text f b l n = simp append_assoc
 
 -- its bracket is by itself
 pub lambda-bracket : (f b l : List ℕ) → (f ++ (b ++ codes "::{lambda(")) ++ l ≡ (f ++ (b ++ codes "::{lambda")) ++ codes "(" ++ l
-lambda-bracket f b l =
-    ap (λ k. k ++ l) (ap (λ k. f ++ k) (sym (append_assoc b (codes "::{lambda") (codes "(")))
-    ∙ sym (append_assoc f (b ++ codes "::{lambda") (codes "(")))
+lambda-bracket f b l = simp append_assoc
 
 -- ## Their parameters
 

@@ -66,9 +66,7 @@ right-cost detail c r ts l all =
 -- ## What it is as an element
 
 sections : (b s o l k : List ℕ) → (b ++ s) ++ (o ++ l ++ k) ≡ b ++ (s ++ o) ++ l ++ k
-sections b s o l k =
-    sym (append_assoc (b ++ s) (o ++ l) k) ∙ ap (λ m. m ++ k) (sym (append_assoc (b ++ s) o l))
-    ∙ ap (λ m. m ++ l ++ k) (append_assoc b s o)
+sections b s o l k = simp append_assoc
 
 around_text : (x y b l o e : List ℕ) → x ≡ b ++ codes " " → y ≡ o ++ l ++ e → x ++ y ≡ b ++ (codes " " ++ o) ++ l ++ e
 around_text x y b l o e left_is right_is =

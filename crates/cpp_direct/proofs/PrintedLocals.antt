@@ -35,8 +35,7 @@ piece-prints p x is opening = record {
 
 list-bracketed : (x d l t : List ℕ) → x ≡ l → d ≡ t
     → (codes "{lambda(" ++ x) ++ (codes ")#" ++ (d ++ codes "}")) ≡ codes "{lambda(" ++ l ++ codes ")#" ++ t ++ codes "}"
-list-bracketed x d l t e f =
-    rw (e, f) (sym (append_assoc (codes "{lambda(" ++ l) (codes ")#") (t ++ codes "}")) ∙ sym (append_assoc (codes "{lambda(" ++ l ++ codes ")#") t (codes "}")))
+list-bracketed x d l t e f = rw (e, f) (simp append_assoc)
 
 -- a lambda prints its parameters and its number
 pub lambda-list-prints : {detail : Detail} (ts : List Term) (l : List ℕ) → PrintAll detail 0 ts l → (number : ℕ) (digits : List ℕ) → decimal number ≡ digits → IsUnmarked digits

@@ -433,9 +433,7 @@ array-written s readable w begun first second third last access from to p size t
     }
   where
     joined : (f b o d e : List ℕ) → f ++ b ++ o ++ d ++ e ≡ f ++ (b ++ o ++ d ++ e)
-    joined f b o d e =
-        ap (λ l. l ++ o ++ d ++ e) refl ∙ ap (λ l. l ++ d ++ e) (append_assoc f b o) ∙ ap (λ l. l ++ e) (append_assoc f (b ++ o) d)
-        ∙ append_assoc f (b ++ o ++ d) e
+    joined f b o d e = simp append_assoc
 
 -- ## An array handed on
 
