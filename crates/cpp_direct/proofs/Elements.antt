@@ -376,11 +376,7 @@ enumerator-read s old begun pushed middle new a other text candidates scope_same
     (kept-grown s old new more wrote (ended.2.candidates ∙ read.4.candidates ∙ writes.candidates ∙ candidates)
     (ended.2.scope ∙ read.4.scope ∙ writes.scope ∙ scope_same) a.kept) p more a.ts a.texts t own a.elements (type-element (extra_of p.listing) t own false prints)
     (ap (λ v. reverse v.list.items) (ended.2.waiting ∙ read.4.waiting ∙ writes.waiting) ∙ waits) wrote
-    (ap (λ l. l ++ more) a.written ∙ rejoined front before a.bytes (sign_text n) n.digits)
+    (ap (λ l. l ++ more) a.written ∙ simp append_assoc)
     (subst (λ k. GoesOn s p.listing p.owner (below s a.scope p.rest) p.front p.template (a.ts ++ t ∷ []) k a.state) (sym ended.1)
     (a.goes negative ds middle.at (subst (λ k. StandsAt s.bytes k (minus_sign negative)) here read.2)
     (subst (λ k. IsDigitsAt s.bytes (k + length (minus_sign negative)) ds middle.at) here read.3) ended.0))
-  where
-    rejoined : (f b t s d : List ℕ)
-        → (f ++ b ++ codes "(" ++ t) ++ (codes ")" ++ (s ++ d)) ≡ f ++ (b ++ (codes "(" ++ t ++ codes ")" ++ s ++ d))
-    rejoined f b t s d = simp append_assoc

@@ -23,7 +23,7 @@ use Rattle.cpp_direct.specs.WriterInvariant.{Below, IsNesting, IsOwn, IsWriting,
 use Rattle.cpp_direct.specs.MidStep.{AwaitsNamedType, AwaitsNest, IsElementRead}
 use Rattle.cpp_direct.specs.MidStepOfLocals.{AwaitsEnclosingParameters, AwaitsTypeName, IsEnclosingNamed, IsEnclosingParameterRead, IsEnclosingRead}
 use Rattle.cpp_direct.specs.Written.{Writes, Reads, added}
-use Rattle.cpp_direct.proofs.Ending.{behind-two, behind-three, item-comes, next-written, parameter-goes_on, qualifiers-text}
+use Rattle.cpp_direct.proofs.Ending.{item-comes, next-written, parameter-goes_on, qualifiers-text}
 use Rattle.cpp_direct.proofs.NamePlaces.{reads-of, reads-then}
 use Rattle.cpp_direct.proofs.FunctionsWithin.{led-by, led-more}
 use Rattle.cpp_direct.proofs.Kept.{kept-read, kept-same, kept-written, reverse-last, value-added}
@@ -267,7 +267,7 @@ object-within s w mark from p =
       leads = p.from_is;
       bytes = b ++ q;
       encloses = object-enclosing (detail_of s) p.v (b ++ q) shows;
-      written = ap (λ l. l ++ q) p.written ∙ behind-two p.lead b q;
+      written = ap (λ l. l ++ q) p.written ∙ simp append_assoc;
       within = p.goes.onward nothing_there w.at p.state (expects-empty s Kind.Items p.goes.around p.goes.inner w.at p.state p.goes.awaits refl);
     }
 
@@ -289,7 +289,7 @@ type-within s old pushed read last new from awaits one p n is prints two digit t
     let old_written : old.text.list.items ≡ a.front ++ a.bytes = sym (append-nil old.text.list.items) ∙ a.written in
     let written : last.text.list.items ≡ a.front ++ bytes =
     whole.text ∙ ap (λ l. old.text.list.items ++ l) (append-nil (codes "::" ++ n)) ∙ sym (append_assoc old.text.list.items (codes "::") n)
-    ∙ ap (λ l. l ++ codes "::" ++ n) old_written ∙ behind-three a.front a.bytes (codes "::") n in
+    ∙ ap (λ l. l ++ codes "::" ++ n) old_written ∙ simp append_assoc in
     let shown = local-prints a.e a.bytes a.encloses p n prints digit in
     let kept = kept-read s old last (codes "::" ++ n ++ []) whole
     (kept-same s (record old { at = awaits.before }) old refl refl refl a.kept) in

@@ -131,16 +131,6 @@ plain-text marks.ConstRvalue = refl
 pub qualifiers-text : (v : Value) (mark : Mark) (own : Term) → IsNamedSo v own mark → encoding_text (qualifiers_of v) (ref_of v) ≡ mark_text mark
 qualifiers-text v mark own is = rw (is.qualifiers_are, is.mark_is) (plain-text mark)
 
--- what follows a text is written in two or more pieces
-pub behind-two : (lead a q : List ℕ) → lead ++ a ++ q ≡ lead ++ (a ++ q)
-behind-two lead a q = append_assoc lead a q
-
-pub behind-three : (lead a b q : List ℕ) → lead ++ a ++ b ++ q ≡ lead ++ (a ++ b ++ q)
-behind-three lead a b q = ap (λ l. l ++ q) (behind-two lead a b) ∙ append_assoc lead (a ++ b) q
-
-pub behind-five : (lead a b c d q : List ℕ) → lead ++ a ++ b ++ c ++ d ++ q ≡ lead ++ (a ++ b ++ c ++ d ++ q)
-behind-five lead a b c d q = simp append_assoc
-
 -- a name without items is an encoding
 pub object-ended : (s : Symbol) (w : Direct) (mark : Mark) (is_instance : Bool) (argument_ : Arguments) (from : ℕ)
     → IsNameEnded s w mark is_instance argument_ from → IsEncodingEnded s w mark
@@ -155,7 +145,7 @@ object-ended s w mark is_instance argument_ from p =
       e = encoding_of p.v nil;
       lead = p.lead;
       bytes = b ++ q;
-      written = ap (λ l. l ++ q) p.written ∙ behind-two p.lead b q;
+      written = ap (λ l. l ++ q) p.written ∙ simp append_assoc;
       shows = shows;
       encloses = object-enclosing (detail_of s) p.v (b ++ q) shows;
       behind = p.awaits.ends;
@@ -423,14 +413,14 @@ function-closed s w last new mark start p whole_ one cuts =
     let left_over : new.text.list.items ≡ p.lead ++ b ++ codes "(" ++ l ++ codes ")" =
     cut-text last new start fronts.0 (p.lead ++ b ++ codes "(" ++ l ++ codes ")") cuts fronts.2
     (one.text ∙ ap (λ x. x ++ codes ")") p.written ∙ ap (λ x. x ++ codes "(" ++ l ++ codes ")") fronts.1
-    ∙ behind-five fronts.0 p.lead b (codes "(") l (codes ")")) in
+    ∙ simp append_assoc) in
     let text = b ++ codes "(" ++ l ++ codes ")" ++ q in
     record {
       kept = cut-kept s last new start cuts (kept-written s w last (codes ")") one p.kept);
       e = p.e;
       lead = p.lead;
       bytes = text;
-      written = ap (λ x. x ++ q) left_over ∙ behind-five p.lead b (codes "(") l (codes ")") q;
+      written = ap (λ x. x ++ q) left_over ∙ simp append_assoc;
       shows = p.shows whole_;
       encloses = subst (λ t. Encloses (detail_of s) t text) (sym p.e_is)
           (function-encloses (detail_of s) p.own (qualifiers (has_const mark)) (called_on mark) p.items text
@@ -447,7 +437,7 @@ function-named s w last new mark start end p bare end_is one cuts =
     let named = p.lead ++ p.name in
     let behind_ = fronts.0 ++ codes "(" ++ p.texts in
     let whole_ : w.text.list.items ≡ named ++ behind_ =
-    p.written ∙ ap (λ x. x ++ codes "(" ++ p.texts) fronts.1 ∙ behind-three named fronts.0 (codes "(") p.texts in
+    p.written ∙ ap (λ x. x ++ codes "(" ++ p.texts) fronts.1 ∙ simp append_assoc in
     let again : take (start - 0) (drop 0 w.text.list.items) ≡ named =
     ap (λ n. take n w.text.list.items) (omega (arith, fronts.2)) ∙ ap (λ l. take (length named) l) whole_ ∙ take-append_seam named behind_ in
     let left_over : new.text.list.items ≡ named =

@@ -16,7 +16,7 @@ use Rattle.cpp_direct.specs.Prints.{PrintsName, Shows, Encloses, IsElementIn, li
 use Rattle.cpp_direct.specs.WriterInvariant.{AreNamed, IsLedFunction, ItemsGoOn, Kept, Scope, in_front_of_next, qualifiers}
 use Rattle.cpp_direct.specs.MidStepOfLocals.{IsLedFunctionRead}
 use Rattle.cpp_direct.specs.Written.{AreLeft, Writes}
-use Rattle.cpp_direct.proofs.Ending.{behind-three, behind-five, plain-text, void-read}
+use Rattle.cpp_direct.proofs.Ending.{plain-text, void-read}
 use Rattle.cpp_direct.proofs.Kept.{front-left, kept-cut, kept-same, kept-written}
 use Rattle.cpp_direct.proofs.Moves.{expects-empty}
 use Rattle.cpp_direct.proofs.PrintedLists.{list-in, list-with-none, next-prints-in, none-print-in}
@@ -94,7 +94,7 @@ void-shown {s = s} {Within = Within} w new n mark argument kept f leads written 
     (void-shows (has-parameters s whole) f.own b f.prints (qualifiers (has_const mark)) (called_on mark)) in
     function-read new mark (w.at + 1) (kept-written s (record w { at = n }) new (codes "()") one (kept-same s w (record w { at = n }) refl refl refl kept))
     (f.make (list_of (builtin (118 ∷ []) ∷ []))) f.front (b ++ codes "()" ++ q) leads
-    (ap (λ l. l ++ q) (one.text ∙ ap (λ l. l ++ codes "()") written) ∙ behind-three f.front b (codes "()") q)
+    (ap (λ l. l ++ q) (one.text ∙ ap (λ l. l ++ codes "()") written) ∙ simp append_assoc)
     (subst (λ t. Encloses (detail_of s) t (b ++ codes "()" ++ q)) (sym (made-void f.own f.returned mark f.make f.makes))
     (returned-enclosing (detail_of s) f.own (qualifiers (has_const mark)) (called_on mark) f.returned nil (b ++ codes "()" ++ q)
     (function-encloses (detail_of s) f.own (qualifiers (has_const mark)) (called_on mark) nil (b ++ codes "()" ++ q) shows)))
@@ -144,7 +144,7 @@ function-shown {s = s} {Within = Within} {rest = rest} {extra = extra} {ts = ts}
     (qualifiers (has_const mark)) (called_on mark)) in
     function-read last mark w.at (kept-written s shut last (codes ")") one (kept-same s w shut text candidates scope_same kept)) (f.make (list_of ts)) f.front bytes leads
     (ap (λ x. x ++ q) (one.text ∙ ap (λ v. v.list.items ++ codes ")") text ∙ ap (λ x. x ++ codes ")") written)
-    ∙ behind-five f.front b (codes "(") texts (codes ")") q)
+    ∙ simp append_assoc)
     (subst (λ t. Encloses (detail_of s) t bytes) (sym end.0)
     (returned-enclosing (detail_of s) f.own (qualifiers (has_const mark)) (called_on mark) f.returned (list_of ts) bytes
     (function-encloses (detail_of s) f.own (qualifiers (has_const mark)) (called_on mark) (list_of ts) bytes shows)))

@@ -71,10 +71,6 @@ lambda-told s old new digit is stands ends reads = (
 abbrev lambda_front : List ℕ
 lambda_front = codes "::{lambda("
 
-whole-text : (f b l n : List ℕ) → ((f ++ (b ++ lambda_front)) ++ l) ++ codes ")#" ++ (n ++ codes "}")
-    ≡ f ++ (b ++ codes "::" ++ (codes "{lambda(" ++ l ++ codes ")#" ++ n ++ codes "}"))
-whole-text f b l n = simp append_assoc
-
 -- its bracket is by itself
 pub lambda-bracket : (f b l : List ℕ) → (f ++ (b ++ codes "::{lambda(")) ++ l ≡ (f ++ (b ++ codes "::{lambda")) ++ codes "(" ++ l
 lambda-bracket f b l = simp append_assoc
@@ -221,7 +217,7 @@ lambda-ended s w next pushed numbered new from nested p apart ends at one number
           (lambda-list-prints p.ts p.texts p.elements n num (number-text number is) (lambda-unmarked number is));
       returns = refl;
       written = ap (λ v. v.list.items) text ∙ two.text ∙ ap (λ l. l ++ (num ++ codes "}")) (one.text ∙ ap (λ l. l ++ codes ")#") p.written)
-          ∙ whole-text p.front p.bytes p.texts num;
+          ∙ simp append_assoc;
       comes = subst (λ o. LambdaComes s nested (below s p.scope o) p.front p.e (lambda_with items number) new.at p.state) (sym waits)
           (ended_ number new.at is ending (omega (arith, here, numbered_at, place)));
     }

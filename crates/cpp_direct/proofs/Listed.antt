@@ -133,9 +133,6 @@ pub record IsClosed (s : Symbol) (w : Direct) (owner : Open) : Type 0 where
   pub owns : Owns s owner (below s scope (reverse w.waiting.list.items)) front (instance template (list_with ts tail)) w.at state
   pub known : AreKnown (detail_of s) w.text.list.items w.argument ts tail
 
-closing : (o e a b d : List ℕ) → (a ++ b ++ o ++ d) ++ e ≡ a ++ (b ++ o ++ d ++ e)
-closing o e a b d = ap (λ l. l ++ d ++ e) (append_assoc a b o) ∙ ap (λ l. l ++ e) (append_assoc a (b ++ o) d) ∙ append_assoc a (b ++ o ++ d) e
-
 -- the last bracket is written, and what was opened last is taken away
 pub closed-by : (s : Symbol) (old mid new : Direct) (x owner : Open) → IsListEnded s old new.argument → Writes old mid (closing_bracket (detail_of s))
     → new.text ≡ mid.text → new.candidates ≡ mid.candidates → new.has_scope ≡ mid.has_scope → new.at ≡ mid.at
@@ -160,7 +157,7 @@ closed-by s old mid new x owner p writes same candidates scope_same at items is 
           (subst (λ o. IsTemplate (detail_of s) scope.names o p.front p.template p.name (old.text.list.items ++ closing_bracket (detail_of s))) last.0
           (template-stays (detail_of s) scope.names p.owner p.front p.template p.name old.text.list.items (closing_bracket (detail_of s)) p.is_template));
       elements = subst (λ o. PrintAllAs (detail_of s) scope.names (is_noted o) 3 p.ts p.arguments) last.0 p.elements;
-      written = text ∙ ap (λ l. l ++ closing_bracket (detail_of s)) p.written ∙ closing (opening_bracket (detail_of s)) (closing_bracket (detail_of s)) p.front p.name p.arguments;
+      written = text ∙ ap (λ l. l ++ closing_bracket (detail_of s)) p.written ∙ simp append_assoc;
       owns = subst (λ n. Owns s owner (below s scope (reverse new.waiting.list.items)) p.front made n p.state) (sym (at ∙ writes.at))
           (subst (λ r. Owns s owner (below s scope r) p.front made old.at p.state) last.1
           (subst (λ o. Owns s o (below s scope p.rest) p.front made old.at p.state) last.0 p.owns));

@@ -410,7 +410,7 @@ array-written s readable w begun first second third last access from to p size t
     let grown : third.text.list.items ≡ p.taker.front ++ bytes =
     three.text ∙ ap (λ l. l ++ codes "]") (two.text ∙ ap (λ l. first.text.list.items ++ l) is
     ∙ ap (λ l. l ++ digits) (one.text ∙ ap (λ v. v.list.items ++ opening) text ∙ ap (λ l. l ++ opening) p.written))
-    ∙ joined p.taker.front p.first.bytes opening digits (codes "]") in
+    ∙ simp append_assoc in
     let written : last.text.list.items ≡ p.taker.front ++ bytes = ap (λ v. v.list.items) same_text ∙ grown in
     let open_is : reverse last.waiting.list.items ≡ p.taker.rest =
     ap (λ v. reverse v.list.items) (same_waits ∙ three.waiting ∙ two.waiting ∙ one.waiting) ∙ waits in
@@ -431,9 +431,6 @@ array-written s readable w begun first second third last access from to p size t
       };
       takes = subst TakesFunction (sym open_is) p.taker.takes;
     }
-  where
-    joined : (f b o d e : List ℕ) → f ++ b ++ o ++ d ++ e ≡ f ++ (b ++ o ++ d ++ e)
-    joined f b o d e = simp append_assoc
 
 -- ## An array handed on
 

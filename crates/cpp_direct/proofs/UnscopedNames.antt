@@ -31,7 +31,6 @@ use Rattle.cpp_direct.proofs.PrintedNames.{as-name, source-prints, std-prints, o
 use Rattle.cpp_grammar.specs.Meaning.{encoding_of}
 use Rattle.cpp_grammar.specs.Unfolding.{first_around, first_state}
 use Rattle.cpp_direct.specs.MidStepOfLocals.{AwaitsEntity}
-use Rattle.cpp_direct.proofs.Ending.{behind-three}
 use Rattle.cpp_direct.proofs.MovesOfLocals.{local-opens}
 use Rattle.cpp_direct.proofs.PrintedLocals.{entity-shows}
 use Rattle.cpp_direct.proofs.PrintedSymbols.{guarded-shows}
@@ -321,7 +320,7 @@ entity-ended s internal old pushed read last p one name is_name filled two digit
     let whole = reads-then old read last (codes "::" ++ n) [] (reads-then old pushed read (codes "::") n (reads-of old pushed (codes "::") one) two) three in
     let written : last.text.list.items ≡ e.lead ++ (e.bytes ++ codes "::" ++ n) =
     whole.text ∙ ap (λ l. old.text.list.items ++ l) (append-nil (codes "::" ++ n)) ∙ sym (append_assoc old.text.list.items (codes "::") n)
-    ∙ ap (λ l. l ++ codes "::" ++ n) (sym (append-nil old.text.list.items) ∙ e.written) ∙ behind-three e.lead e.bytes (codes "::") n in
+    ∙ ap (λ l. l ++ codes "::" ++ n) (sym (append-nil old.text.list.items) ∙ e.written) ∙ simp append_assoc in
     record {
       kept = kept-grown s (record old { at = p.before }) last (codes "::" ++ n ++ []) whole.text whole.candidates whole.scope e.kept;
       e = behind.made;
