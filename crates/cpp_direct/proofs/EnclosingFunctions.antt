@@ -295,7 +295,7 @@ enclosing-read : (s : Symbol) (w : Direct) (mark : Mark) (from place : ℕ) (kep
     → reverse w.waiting.list.items ≡ rest → w.at ≡ place → TypeWithin s (below s kept.scope rest) front e place kept.state → IsEnclosingRead s w mark from
 enclosing-read s w mark from place kept e front bytes {rest = rest} written from_is encloses waits at within = record {
   kept = kept;
-  has = record { e = e; front = front; from_is = from_is; bytes = bytes; encloses = encloses };
+  has = record { e = e; front = front; from_is = from_is; bytes = bytes; leads = encloses };
   written = written;
   within = subst (λ ws. TypeWithin s (below s kept.scope ws) front e w.at kept.state) (sym waits)
       (subst (λ n. TypeWithin s (below s kept.scope rest) front e n kept.state) (sym at) within);
@@ -317,7 +317,7 @@ object-within s w mark from p =
         front = p.lead;
         from_is = p.from_is;
         bytes = b ++ q;
-        encloses = object-enclosing (detail_of s) p.v (b ++ q) shows;
+        leads = object-enclosing (detail_of s) p.v (b ++ q) shows;
       };
       written = ap (λ l. l ++ q) p.written ∙ behind-two p.lead b q;
       within = p.goes.onward nothing_there w.at p.state (expects-empty s Kind.Items p.goes.around p.goes.inner w.at p.state p.goes.awaits refl);
@@ -430,7 +430,7 @@ pub marks-written-within : (s : Symbol) (old new : Direct) (mark : Mark) (from :
     → IsEnclosingRead s new marks.Plain from
 marks-written-within s old new mark from p writes =
     enclosing-read s new marks.Plain from old.at (kept-written s old new (mark_text mark) writes p.kept) p.e p.front p.bytes
-    (append-nil new.text.list.items ∙ writes.text ∙ p.written) p.from_is p.encloses (ap (λ v. reverse v.list.items) writes.waiting) writes.at p.within
+    (append-nil new.text.list.items ∙ writes.text ∙ p.written) p.from_is p.leads (ap (λ v. reverse v.list.items) writes.waiting) writes.at p.within
 
 -- ## The type
 
@@ -451,7 +451,7 @@ type-within s old pushed read last new from awaits one p n is prints two digit t
     let written : last.text.list.items ≡ a.front ++ bytes =
     whole.text ∙ ap (λ l. old.text.list.items ++ l) (append-nil (codes "::" ++ n)) ∙ sym (append_assoc old.text.list.items (codes "::") n)
     ∙ ap (λ l. l ++ codes "::" ++ n) old_written ∙ behind-three a.front a.bytes (codes "::") n in
-    let shown = local-prints a.e a.bytes a.encloses p n prints digit in
+    let shown = local-prints a.e a.bytes a.leads p n prints digit in
     let kept = kept-read s old last (codes "::" ++ n ++ []) whole
     (kept-same s (record old { at = awaits.before }) old refl refl refl a.kept) in
     let named_ = subst (λ k. IsPieceAt s k p read.at) (one.at ∙ awaits.at_is) is in

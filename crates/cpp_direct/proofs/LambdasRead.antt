@@ -133,8 +133,7 @@ begun-in-function s old new from a entry =
     let r = a.read in
     let w = r.within in
     let entity = w.2 a.letter in
-    begun s old new from None (kept-same s (record old { at = a.before }) old refl refl refl r.kept)
-    (record { e = r.e; front = r.front; from_is = r.from_is; bytes = r.bytes; leads = r.encloses })
+    begun s old new from None (kept-same s (record old { at = a.before }) old refl refl refl r.kept) r.has
     (sym (append-nil old.text.list.items) ∙ r.written) Kind.TypeEntity tt entity.inner entity.around
     (subst (λ k. Expects s Kind.TypeEntity (after r.e true entity.around) entity.inner k r.state) (sym a.at_is) entity.awaits)
     (λ items at st ends number end is ending ends_. (

@@ -1,5 +1,5 @@
 -- Where a writer is between two of its functions within a step: local entities, and types in functions.
-use Rattle.std.specs.Prelude.{◌≡◌, ◌≢◌, ℕ, ◌+◌, List, [], ◌∷◌, ◌++◌, length, reverse, Bool, true, false, cond, Option, codes}
+use Rattle.std.specs.Prelude.{◌≡◌, ◌≢◌, ℕ, ◌+◌, List, [], ◌∷◌, ◌++◌, length, reverse, Bool, true, false, cond, Option, None, codes}
 use Rattle.cpp_grammar.specs.Term.{Term, within}
 use Rattle.cpp_grammar.specs.Scope.{has_return_type}
 use Rattle.cpp_grammar.specs.Meaning.{encoding_of}
@@ -14,7 +14,7 @@ use Rattle.cpp_direct.specs.Bytes.{is_local, short_numbers}
 use Rattle.cpp_direct.specs.Holes.{StandsAt}
 use Rattle.cpp_direct.specs.Marks.{mark_text}
 use Rattle.cpp_direct.specs.Prints.{IsLed, PrintsPiece, PrintAll}
-use Rattle.cpp_direct.specs.WriterInvariant.{ItemsGoOn, LambdaComes, LambdaWithin, TypeWithin, below, nowhere, Kept, HasEnclosing, IsEnclosed}
+use Rattle.cpp_direct.specs.WriterInvariant.{ItemsGoOn, LambdaComes, LambdaWithin, TypeWithin, below, nowhere, Kept, HasEnclosing}
 use Rattle.cpp_direct.specs.MidStep.{IsEncodingEnded, HasNameSo}
 
 -- ## Local entities
@@ -68,7 +68,7 @@ pub record IsEnclosingParameterRead (s : Symbol) (w : Direct) (mark : Mark) (fro
 pub record IsEnclosingRead (s : Symbol) (w : Direct) (mark : Mark) (from : ℕ) : Type 0 where
   pub kept : Kept s w
   pub open kept use *
-  pub has : IsEnclosed (detail_of s) from
+  pub has : IsLed (detail_of s) None from
   pub open has use *
   pub written : w.text.list.items ++ mark_text mark ≡ front ++ bytes
   pub within : TypeWithin s (below s scope (reverse w.waiting.list.items)) front e w.at state

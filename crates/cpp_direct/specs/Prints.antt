@@ -149,7 +149,8 @@ pub record Encloses (detail : Detail) (t : Term) (bytes : List ℕ) : Type 0 whe
   pub is_closed : is_open t ≡ false
   pub packless : (scope : Term) → pack_length scope t ≡ None
 
--- what comes before a lambda has this text: the function that it is in, or the name so far of which it is a component
+-- what comes before a type that is in a function, or before a lambda that is a component of a nested name, has this text: the function,
+-- or the name so far
 abbrev pub Leads : (detail : Detail) → (nested : Option Purpose) → Term → (bytes : List ℕ) → Type 0
 Leads detail None e bytes = Encloses detail e bytes
 Leads detail (Some purpose) e bytes = Prints detail e bytes false

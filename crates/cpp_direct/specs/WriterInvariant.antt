@@ -387,14 +387,6 @@ pub record HasEnclosing (detail : Detail) (mark : Mark) (from : ℕ) (ts : List 
   pub prints : PrintsName detail own name
   pub elements : PrintAllIn detail (types_of own) 6 ts texts
 
--- Such a function with all of them was read, and these bytes are its text from a place on.
-pub record IsEnclosed (detail : Detail) (from : ℕ) : Type 0 where
-  pub e : Term
-  pub front : List ℕ
-  pub from_is : from ≡ length front
-  pub bytes : List ℕ
-  pub encloses : Encloses detail e bytes
-
 -- the name of a function that has a return type, and its text
 pub record IsInstance (detail : Detail) (scope : Scope) (text : List ℕ) (argument : Arguments) (mark : Mark) (v : Value) (name : List ℕ) : Type 0 where
   pub own : Term
