@@ -24,6 +24,7 @@ pub struct Direct {
     pub(crate) argument: Arguments,
     /// whether the arguments of the symbol's own name are known, which types may name
     pub(crate) has_scope: bool,
+    pub(crate) is_member: bool,
     pub(crate) at: usize,
     /// the steps that the last symbol took
     pub(crate) rounds: usize,
@@ -39,6 +40,7 @@ impl Direct {
             nest: NO_NEST,
             argument: NOWHERE,
             has_scope: false,
+            is_member: false,
             at: 0,
             rounds: 0,
         }
@@ -82,6 +84,7 @@ impl Direct {
         self.candidates.begin(entries);
         self.waiting.begin(entries);
         self.has_scope = false;
+        self.is_member = false;
     }
 
     /// A symbol is done, after so many steps: the candidates and what was open are forgotten.

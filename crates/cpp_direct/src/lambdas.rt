@@ -87,7 +87,7 @@ impl Direct {
 
     /// Opens the parameters of a lambda, in a symbol that isn't a long one: each lambda goes over it once more.
     // <closure-type-name> ::= Ul <lambda-sig> E [<nonnegative number>] _
-    fn open_lambda(&mut self, s: &[u8], from: u32, nested: Option<Purpose>) -> Option<()>
+    pub(crate) fn open_lambda(&mut self, s: &[u8], from: u32, nested: Option<Purpose>) -> Option<()>
         requires { StandsAt s.now self.old.at (85 ∷ []) }
         ensures { OnSome result (IsLambdaOpened s.now self.old self.new from nested) }
     {

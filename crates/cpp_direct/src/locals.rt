@@ -15,8 +15,10 @@ ghost use Rattle.cpp_direct.specs.Symbol.{symbol_by};
 
 use crate::direct::Direct;
 use crate::grammar::Grammar;
-use crate::open::Step;
-use crate::tokens::byte_at;
+use crate::open::{Mark, Nest, Purpose, Step};
+use crate::marks::mark_at;
+use crate::symbols::NOWHERE;
+use crate::tokens::{byte_at, may_end};
 
 impl Direct {
     /// The first bytes of the symbol of a local entity, or of its guard variable.
@@ -67,6 +69,45 @@ impl Direct {
             return self.entity_name::<G>(s, true);
         }
         self.entity_name::<G>(s, false)
+    }
+
+    pub(crate) fn member<G: Grammar>(&mut self, s: &[u8], from: u32) -> Option<Step>
+    {
+        if byte_at(s, 2) != b'Z' {
+            return None;
+        }
+        self.at = self.at.checked_add(2)?;
+        let place = mark_at(s, self.at)?;
+        self.at = place.end;
+        self.is_member = true;
+        if byte_at(s, self.at) == b'U' {
+            let behind = byte_at(s, self.at.checked_add(2)?);
+            if behind == b'v' {
+                self.push_pair(b':', b':')?;
+                self.lambda::<G>(s)?;
+                self.nest = Nest { from, class_from: from, class_to: from, purpose: Purpose::Member { mark: place.mark }, is_listed: false, has_class: false, is_instance: false, is_dependent: false };
+                return Some(Step::Tail);
+            }
+            self.open_lambda(s, from, Some(Purpose::Member { mark: place.mark }))?;
+            return Some(Step::Type);
+        }
+        let class_from = self.text.end();
+        self.push_pair(b':', b':')?;
+        self.name(s)?;
+        self.nest = Nest { from, class_from: class_from + 2, class_to: self.text.end(), purpose: Purpose::Member { mark: place.mark }, is_listed: false, has_class: true, is_instance: false, is_dependent: false };
+        self.nest_named::<G>(s)
+    }
+
+    pub(crate) fn member_named<G: Grammar>(&mut self, s: &[u8], mark: Mark, from: u32) -> Option<Step>
+    {
+        if self.nest.is_instance && self.nest.has_class { return None; }
+        if may_end(byte_at(s, self.at)) {
+            self.push_mark(mark)?;
+            self.cut(from)?;
+            return self.finish::<G>(s);
+        }
+        let start = if G::IS_BARE { self.text.end() } else { from };
+        self.begin_parameters::<G>(s, mark, start, NOWHERE)
     }
 
     /// The name of a local entity, after the L of internal linkage or without one.

@@ -168,7 +168,7 @@ impl Direct {
     /// The name of a component is read. Arguments may come after it, and by the wide grammar a tag before them.
     // <unqualified-name> ::= <unqualified-name> <abi-tags>
     #[inline(always)]
-    fn nest_named<G: Grammar>(&mut self, s: &[u8]) -> Option<Step>
+    pub(crate) fn nest_named<G: Grammar>(&mut self, s: &[u8]) -> Option<Step>
         requires fits { IsReadable s.now }
         requires named { IsNestNamed (symbol_by G.IS_WIDE G.IS_BARE G.IS_BRIEF s.now) self.old }
         ensures { IfSome result (IsWriting (symbol_by G.IS_WIDE G.IS_BARE G.IS_BRIEF s.now) self.new) }
@@ -290,6 +290,7 @@ impl Direct {
                 let is_function = self.is_function_instance();
                 self.name_ended::<G>(s, mark, is_function, argument, self.nest.from)
             }
+            Purpose::Member { mark } => self.member_named::<G>(s, mark, self.nest.from),
             Purpose::Enclosing { mark } => {
                 if self.is_function_instance() {
                     return self.enclosing_instance::<G>(s, mark, self.nest.from);

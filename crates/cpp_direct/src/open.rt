@@ -68,6 +68,7 @@ pub enum Purpose {
     Name { mark: Mark },
     /// the name of a function in which a type is, with these qualifiers
     Enclosing { mark: Mark },
+    Member { mark: Mark },
 }
 
 /// A nested name so far: where its text begins, and where that of the class is that a constructor would be named after.

@@ -302,7 +302,7 @@ impl Direct {
     /// Reads the parameters of a function up to the first type in them. Its text begins at a place.
     // <bare-function-type> ::= <parameter type>+ | v
     #[inline(always)]
-    fn begin_parameters<G: Grammar>(
+    pub(crate) fn begin_parameters<G: Grammar>(
         &mut self,
         s: &[u8],
         mark: Mark,
@@ -375,12 +375,25 @@ impl Direct {
         ensures { IfSome result (IsWriting (symbol_by G.IS_WIDE G.IS_BARE G.IS_BRIEF s.now) self.new) }
     {
         if G::IS_BARE {
+            if self.is_member {
+                let end = self.text.end();
+                self.repeat(self.nest.from, start)?;
+                self.cut(end)?;
+                return self.finish::<G>(s);
+            }
             let end = self.text.end();
             self.repeat(0, start)?;
+            if is_local(s) && byte_at(s, self.at) == b'E' && byte_at(s, self.at + 1) == b'N' {
+                return self.member::<G>(s, end);
+            }
             self.cut(end)?;
             return self.encoded::<G>(s);
         }
         self.push_byte(b')')?;
+        if is_local(s) && !self.is_member && byte_at(s, self.at) == b'E' && byte_at(s, self.at + 1) == b'N' {
+            self.push_mark(mark)?;
+            return self.member::<G>(s, start);
+        }
         self.cut(start)?;
         self.end::<G>(s, mark)
     }
@@ -401,7 +414,7 @@ impl Direct {
         requires ended { IsEncodingEnded (symbol_by G.IS_WIDE G.IS_BARE G.IS_BRIEF s.now) self.old marks.Plain }
         ensures { IfSome result (IsWriting (symbol_by G.IS_WIDE G.IS_BARE G.IS_BRIEF s.now) self.new) }
     {
-        if is_local(s) {
+        if is_local(s) && !self.is_member {
             return self.entity::<G>(s);
         }
         self.finish::<G>(s)
