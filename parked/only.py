@@ -9,7 +9,7 @@ if len(sys.argv)==3:
     gt.time_functions(crate,tree)
 else:
     for f in sys.argv[3:]:
-        k='/tmp/only_kept'; shutil.rmtree(k,ignore_errors=True); os.mkdir(k)
+        k='/tmp/only_kept.%d'%os.getpid(); shutil.rmtree(k,ignore_errors=True); os.mkdir(k)
         b=gt.processor_seconds()
         r=subprocess.run(gt.words_of_check(crate,tree,k)+["--only",f],cwd=tree/'crates'/crate,stdout=subprocess.PIPE,stderr=subprocess.STDOUT,text=True)
         print(f,round(gt.processor_seconds()-b,1),r.stdout.strip().splitlines()[-1][:80],flush=True)
