@@ -1,47 +1,41 @@
 -- Addresses of functions, as arguments of a name: from their X to their last E.
-use Rattle.std.proofs.Common.{◌≡◌, ◌≢◌, refl, ap, sym, ◌∙◌, subst, inl, inr, ℕ, ◌+◌, ◌-◌, List, [], ◌∷◌, ◌++◌, length, reverse, take, slice_get, Some, true, false, arith, codes, append-nil, append_assoc, Bool, ◌&&◌}
+use Rattle.std.proofs.Common.{◌≡◌, refl, ap, sym, ◌∙◌, subst, ℕ, ◌+◌, ◌-◌, List, [], ◌∷◌, ◌++◌, length, reverse, take, slice_get, Some, true, false, arith, codes, append-nil, append_assoc, Bool, ◌&&◌}
 use Rattle.std.proofs.lemmas.Bool.{false≢true}
 use Rattle.cpp_grammar.specs.declared.kind.Kind.{Kind}
-use Rattle.cpp_grammar.specs.Term.{Term, function, address_of, list, absent}
+use Rattle.cpp_grammar.specs.Term.{Term, address_of, list, absent}
 use Rattle.cpp_grammar.specs.Parts.{types_of}
 use Rattle.cpp_grammar.specs.Scope.{has_return_type, arguments_of}
 use Rattle.cpp_grammar.specs.Values.{State, Value, tree, named, tree_of}
 use Rattle.cpp_grammar.specs.Between.{in_name, in_types, no_items}
 use Rattle.cpp_grammar.specs.Meaning.{encoding_of}
-use Rattle.cpp_direct.specs.declared.marks.MarkPlace.{MarkPlace}
-use Rattle.cpp_direct.specs.declared.open.Arguments.{Arguments}
-use Rattle.cpp_direct.specs.declared.open.Mark.{Mark}
 use Rattle.cpp_direct.specs.declared.open.Hiding.TheVariants as hidings
 use Rattle.cpp_direct.specs.declared.open.Mark.TheVariants as marks
-use Rattle.cpp_direct.specs.Symbol.{detail_of, Symbol}
-use Rattle.cpp_direct.specs.declared.open.Open.{Open}
 use Rattle.cpp_direct.specs.declared.open.Open.TheVariants as opens
+use Rattle.cpp_direct.specs.WriterTypes.{Arguments, Direct, Mark, MarkPlace, Open, Symbol, detail_of}
 use Rattle.cpp_direct.specs.declared.open.Purpose.TheVariants as purposes
 use Rattle.cpp_direct.specs.declared.open.Step.TheVariants as steps
-use Rattle.cpp_direct.specs.declared.direct.Direct.{Direct}
-use Rattle.cpp_direct.specs.Holes.{Opened, StandsAt, Comes, Expects}
-use Rattle.cpp_direct.specs.HolesOfLists.{mark_letters, nest_marks}
+use Rattle.cpp_direct.specs.AllHoles.{Comes, Expects, Opened, StandsAt, mark_letters, nest_marks}
 use Rattle.cpp_direct.specs.Marks.{IsMarkPlace, has_const, called_on}
 use Rattle.cpp_direct.specs.Prints.{IsElementIn, PrintsName}
-use Rattle.cpp_direct.specs.WriterInvariant.{AddressWithin, AreNamed, Below, HasAddressed, HasArguments, IsAddressed, IsNamedSo, IsNesting, IsOwn, IsTypeRead, IsWriting, ItemsGoOn, ItemsOf, Kept, Scope, Serves, Stands, below, in_front_of_next, no_scope, qualifiers}
+use Rattle.cpp_direct.specs.WriterInvariant.{AddressWithin, AreNamed, Below, HasAddressed, HasAddressedFront, HasArguments, IsAddressed, IsNamedSo, IsNesting, IsOwn, IsTypeRead, IsWriting, ItemsGoOn, ItemsOf, Kept, Scope, Serves, Stands, below, in_front_of_next, no_scope, qualifiers}
 use Rattle.cpp_direct.specs.MidStepOfAddresses.{AwaitsAddressedParameters, AwaitsArgumentOfName, IsAddressNamed, IsAddressedFrontRead, IsAddressedParameterRead, IsAddressedRead}
 use Rattle.cpp_direct.specs.MidStep.{AwaitsNest}
 use Rattle.cpp_direct.specs.Written.{AreLeft, Writes}
-use Rattle.cpp_direct.proofs.Ending.{next-written, parameter-goes_on, types-scoped}
-use Rattle.cpp_direct.proofs.FunctionsWithin.{led-more}
-use Rattle.cpp_direct.proofs.Kept.{front-left, kept-closed, kept-cut, kept-same, kept-written, reverse-last, type-comes, value-comes}
+use Rattle.cpp_direct.proofs.Ending.{item-comes, next-written, types-scoped}
+use Rattle.cpp_direct.proofs.FunctionsWithin.{led-by, led-more}
+use Rattle.cpp_direct.proofs.Kept.{front-left, kept-closed, kept-cut, kept-same, kept-written, reverse-last, value-comes}
 use Rattle.cpp_direct.proofs.Listed.{last-found, some-elements}
 use Rattle.cpp_direct.proofs.Moves.{stands-join, stands-split}
 use Rattle.cpp_direct.proofs.MovesOfEncodings.{encoding-opens, name-nested}
-use Rattle.cpp_direct.proofs.MovesOfLists.{address-opens, element-awaits}
+use Rattle.cpp_direct.proofs.MovesOfLists.{address-opens}
 use Rattle.cpp_direct.proofs.NamedArguments.{arguments-given, named-there, scope_at, scope-kept}
 use Rattle.cpp_direct.proofs.Nesting.{nest-comes, closed-prints}
-use Rattle.cpp_direct.proofs.PrintedLists.{none-print-in, type-in}
+use Rattle.cpp_direct.proofs.PrintedLists.{type-in}
 use Rattle.cpp_direct.proofs.PrintedLocals.{address-prints}
 use Rattle.cpp_direct.proofs.PrintedNames.{as-name}
 use Rattle.cpp_direct.proofs.PrintedSymbols.{encoding-plain, encoding-returned}
 use Rattle.cpp_direct.proofs.PrintedTypes.{as-in}
-use Rattle.cpp_direct.proofs.Scopes.{addressed-front-scoped, addressed-scoped, arguments-named, member-named}
+use Rattle.cpp_direct.proofs.Scopes.{arguments-named, entry-scoped, member-named}
 
 -- ## Names
 
@@ -156,7 +150,7 @@ pub record IsAddressScoped (s : Symbol) (w : Direct) (mark : Mark) (is_instance 
   pub name : List ℕ
   pub own : Term
   pub prints : PrintsName (detail_of s) own name
-  pub addressed : IsAddressed (detail_of s) scope to argument own front name
+  pub addressed : IsAddressed s scope to argument own front name
   pub open addressed use *
   pub v : Value
   pub named_so : IsNamedSo v own mark
@@ -178,7 +172,7 @@ address-scoped s old new mark is_instance to argument noted p waiting first now 
     let waits : reverse old.waiting.list.items ≡ opens.Address argument.encoding ∷ rest =
     ap reverse waiting ∙ reverse-last new.waiting.list.items (opens.Address argument.encoding) in
     let taken : Stands s no_scope (opens.Address argument.encoding ∷ rest) p.os p.front =
-    subst (λ (k : Scope). Stands s k (opens.Address argument.encoding ∷ rest) p.os p.front) (p.keeps.unknown first)
+    subst (λ (k : Scope). Stands s k (opens.Address argument.encoding ∷ rest) p.os p.front) (p.keeps.unknown first).0
     (subst (λ ws. Stands s p.scope ws p.os p.front) waits p.stands) in
     let items = taken p.v old.at p.state p.comes in
     let scope = scope_at here argument in
@@ -193,6 +187,7 @@ address-scoped s old new mark is_instance to argument noted p waiting first now 
         given = arguments-given here argument p.own names;
         named = refl;
         there = subst (λ l. AreNamed l scope) p.written (named-there here argument p.own names);
+        typed = (p.keeps.unknown first).1;
       };
       v = p.v;
       named_so = p.named_so;
@@ -220,25 +215,19 @@ front-addressed s w new mark to argument p waiting text candidates scope_same at
     let g = p.goes in
     let rest = reverse w.waiting.list.items in
     let becomes : Term → ℕ → State → Type 0 = AddressWithin s (below s no_scope rest) p.front in
-    let element = element-awaits s Kind.Items g.inner g.around w.at p.state tt g.awaits in
-    let stands : Stands s p.scope (opens.AddressedFront mark to argument ∷ rest) element.inner w.text.list.items = (
-      record {
-        front = p.front;
-        name = p.name;
-        own = p.own;
-        prints = p.prints;
-        is_addressed = p.addressed;
-        v = p.v;
-        named_so = p.named_so;
-        returns = p.returns refl;
-      },
-      p.written,
-      λ t here now comes. parameter-goes_on s argument becomes (λ l. encoding_of p.v l) [] w.at p.state g t here now (element.onward t here now comes),
-    ) in
-    type-comes s w new p.kept g.around element.inner text candidates scope_same
-    (ap reverse waiting ∙ reverse-last w.waiting.list.items (opens.AddressedFront mark to argument)) g.outside
-    (inr (inl (subst (λ n. Expects s Kind.Item g.around element.inner n p.state) (sym at) element.awaits))) stands
-    (addressed-front-scoped p.scope g.around mark to argument rest p.named g.scoped)
+    let has : HasAddressedFront s p.scope mark to argument = record {
+      front = p.front;
+      name = p.name;
+      own = p.own;
+      prints = p.prints;
+      is_addressed = p.addressed;
+      v = p.v;
+      named_so = p.named_so;
+      returns = p.returns refl;
+    } in
+    item-comes s w new p.kept argument becomes (λ l. encoding_of p.v l) [] w.at g (opens.AddressedFront mark to argument ∷ rest) text candidates scope_same at
+    (ap reverse waiting ∙ reverse-last w.waiting.list.items (opens.AddressedFront mark to argument)) (λ os onward. (has, p.written, onward))
+    (entry-scoped p.scope g.around (opens.AddressedFront mark to argument) argument rest refl refl p.named g.scoped)
 
 -- it is read
 pub value-addressed-front : (s : Symbol) (w : Direct) (is_reference is_dependent : Bool) (mark : Mark) (to : ℕ) (argument : Arguments)
@@ -275,16 +264,8 @@ front-cut s w shut new mark to argument p same_text same_candidates same_scope s
       kept = kept-cut s w new p.kept left p.bytes to p.written p.to_is left_is
           (subst (λ v. AreLeft (hidings.After to) v.list.items new.candidates.list.items) same_candidates are) (scope_same ∙ same_scope) p.there;
       has = record {
-        is_led = record {
-          front = p.front;
-          name = p.name;
-          own = p.own;
-          prints = p.prints;
-          returned = r;
-          make = λ l. encoding_of p.v (list r l);
-          makes = λ t rest. encoding-returned p.v mark p.own p.named_so p.returns r (list t rest);
-          elements = none-print-in (detail_of s) (types_of p.own) 3;
-        };
+        is_led = led-by s 3 mark p.own r (λ l. encoding_of p.v (list r l)) p.front p.name p.prints
+            (λ t rest. encoding-returned p.v mark p.own p.named_so p.returns r (list t rest));
         is_addressed = p.is_addressed;
       };
       written = left_is;
@@ -307,16 +288,7 @@ pub plain-addressed : (s : Symbol) (w : Direct) (mark : Mark) (to : ℕ) (argume
 plain-addressed s w mark to argument p = record {
   kept = p.kept;
   has = record {
-    is_led = record {
-      front = p.front;
-      name = p.name;
-      own = p.own;
-      prints = p.prints;
-      returned = absent;
-      make = λ l. encoding_of p.v l;
-      makes = encoding-plain p.v mark p.own p.named_so (p.no_return refl);
-      elements = none-print-in (detail_of s) (types_of p.own) 3;
-    };
+    is_led = led-by s 3 mark p.own absent (λ l. encoding_of p.v l) p.front p.name p.prints (encoding-plain p.v mark p.own p.named_so (p.no_return refl));
     is_addressed = p.addressed;
   };
   written = p.written;
@@ -325,21 +297,12 @@ plain-addressed s w mark to argument p = record {
 
 -- a parameter comes next after these
 parameter-expected : (s : Symbol) (last : Direct) (kept : Kept s last) (mark : Mark) (to : ℕ) (argument : Arguments) (rest : List Open) (ts : List Term) (texts : List ℕ)
-    (h : HasAddressed (detail_of s) kept.scope mark to argument ts texts) → reverse last.waiting.list.items ≡ opens.Addressed mark to argument ∷ rest
+    (h : HasAddressed s kept.scope mark to argument ts texts) → reverse last.waiting.list.items ≡ opens.Addressed mark to argument ∷ rest
     → last.text.list.items ≡ h.front ++ h.name ++ codes "(" ++ in_front_of_next ts texts
     → ItemsGoOn s argument (AddressWithin s (below s no_scope rest) h.front) h.make ts last.at kept.state → IsWriting s last steps.Type
 parameter-expected s last kept mark to argument rest ts texts h waits written goes =
-    let becomes : Term → ℕ → State → Type 0 = AddressWithin s (below s no_scope rest) h.front in
-    let element = element-awaits s Kind.Items goes.inner goes.around last.at kept.state tt goes.awaits in
-    let stands : Stands s kept.scope (opens.Addressed mark to argument ∷ rest) element.inner last.text.list.items = (
-      ts,
-      texts,
-      h,
-      written,
-      λ t here now comes. parameter-goes_on s argument becomes h.make ts last.at kept.state goes t here now (element.onward t here now comes),
-    ) in
-    type-comes s last last kept goes.around element.inner refl refl refl waits goes.outside (inr (inl element.awaits)) stands
-    (addressed-scoped kept.scope goes.around mark to argument rest h.named goes.scoped)
+    item-comes s last last kept argument (AddressWithin s (below s no_scope rest) h.front) h.make ts last.at goes (opens.Addressed mark to argument ∷ rest) refl refl refl refl
+    waits (λ os onward. (ts, texts, h, written, onward)) (entry-scoped kept.scope goes.around (opens.Addressed mark to argument) argument rest refl refl h.named goes.scoped)
 
 -- the first one does
 pub first-addressed : (s : Symbol) (w first last : Direct) (mark : Mark) (to : ℕ) (argument : Arguments) → AwaitsAddressedParameters s w mark to argument
@@ -400,6 +363,6 @@ address-ended s w new p letters text are waiting at =
     let before = within.1 in
     let written : new.text.list.items ≡ before ++ (codes "&" ++ p.bytes) =
     ap (λ v. v.list.items) text ∙ sym (append-nil w.text.list.items) ∙ p.written ∙ ap (λ l. l ++ p.bytes) within.2 ∙ append_assoc before (codes "&") p.bytes in
-    value-comes s new (kept-closed s w new p.kept are text) within.0 (address_of p.e) before (codes "&" ++ p.bytes) false false written
+    value-comes s new (kept-closed s w new p.kept are text p.leads) within.0 (address_of p.e) before (codes "&" ++ p.bytes) false false written
     (address-prints p.e p.bytes p.encloses) (ap (λ v. reverse v.list.items) waiting) (λ e. absurd (false≢true e))
     (subst (λ n. Comes s within.0 (tree (address_of p.e) true) n p.state) (sym at) (within.3 letters)) within.4

@@ -2,18 +2,14 @@
 use Rattle.sym_print.specs.declared.detail.Detail.{Detail}
 use Rattle.std.proofs.Common.{arith, ◌≡◌, ℕ, zero, suc, ◌+◌, ◌-◌, ◌≤◌, ◌<◌, length, List, [], ◌∷◌, ◌++◌, reverse, slice_get, inr, inl, Bool, true, false, Some, refl, ap, sym, ◌∙◌, subst, codes, append_assoc, append-nil}
 use Rattle.std.proofs.lemmas.Bool.{false≢true}
+use Rattle.std.proofs.lemmas.Option.{slice_get_within}
 use Rattle.std.proofs.lemmas.List.{length-append}
 use Rattle.cpp_grammar.specs.declared.kind.Kind.{Kind}
 use Rattle.cpp_grammar.specs.Term.{list, Term, nil, pack}
 use Rattle.cpp_grammar.specs.Values.{Around}
-use Rattle.cpp_direct.specs.WrittenParts.{opening_bracket}
-use Rattle.cpp_direct.specs.Symbol.{detail_of, Symbol}
-use Rattle.cpp_direct.specs.declared.open.Argument.{Argument}
-use Rattle.cpp_direct.specs.declared.open.Arguments.{Arguments}
-use Rattle.cpp_direct.specs.declared.open.Open.{Open}
-use Rattle.cpp_direct.specs.declared.direct.Direct.{Direct}
+use Rattle.cpp_direct.specs.WriterTypes.{Argument, Arguments, Direct, Open, Symbol, detail_of}
 use Rattle.cpp_direct.specs.Holes.{Opened, Expects, StandsAt}
-use Rattle.cpp_direct.specs.Prints.{Names, Prints, PrintAll, IsElementAs, PrintAllBy, list_of}
+use Rattle.cpp_direct.specs.Prints.{Names, Prints, PrintAll, IsElementAs, PrintAllBy, list_of, opening_bracket}
 use Rattle.cpp_direct.specs.WriterInvariant.{AwaitsArgument, Scope, arguments_or_pack, ComeBefore, element_kind, below, HasPack, scoped_in, is_noted, may_name, AreAmong, ArgumentsGoOn, Belongs, EndsNamed, GoesOn, IsAmong, IsKnown, IsScoped, IsTemplate, IsWriting, Stands, extra_of, of_template, in_front_of_next, led_by, list_with, nowhere, place_of, Closes, Kept, IsTypeRead}
 use Rattle.cpp_direct.specs.MidStep.{AreKnown, AwaitsKnownArgument, IsArgumentRead, IsListEnded, IsLiteralRead, KnowsMore, argument_around, argument_entry}
 use Rattle.cpp_direct.specs.MidStepOfAddresses.{AwaitsArgumentOfName}
@@ -172,11 +168,6 @@ next-argument-begins s old mid new is_pack last from number known p writes from_
     (among-stay old.text.list.items (codes ", ") known (p.before ++ p.ts) p.among)) p.goes
     (ap reverse waits ∙ reverse-last mid.waiting.list.items entry
     ∙ ap (λ ws. entry ∷ ws) (ap (λ v. reverse v.list.items) writes.waiting ∙ p.open_is)) text candidates scope_same (at ∙ writes.at)
-
-there-below : (ts : List Term) (k : ℕ) (t : Term) → slice_get ts k ≡ Some t → k < length ts
-there-below [] k t e = cc e
-there-below (u ∷ ts) zero t e = omega arith
-there-below (u ∷ ts) (suc k) t e = omega (arith, there-below ts k t e)
 
 -- or the first element of a pack that comes after others
 pub pack-after : (s : Symbol) (old mid new : Direct) (last from number : ℕ) (known : Arguments) → AwaitsKnownArgument s old false last known
@@ -465,7 +456,7 @@ pack-ends-empty s w last before known p before_is stands =
           size = refl;
           among = λ k known_.
               let h = single-known s w last known p (before + k) known_ in
-              absurd (omega (arith, there-below p.ts (before + k) h.own h.there, count_is));
+              absurd (omega (arith, slice_get_within p.ts (before + k) h.own h.there, count_is));
         },
       ),
     )

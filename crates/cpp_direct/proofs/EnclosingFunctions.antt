@@ -1,9 +1,9 @@
 -- Types that are in functions, from their Z to their end.
-use Rattle.std.proofs.Common.{◌≡◌, ◌≢◌, refl, ap, sym, ◌∙◌, subst, inl, inr, ℕ, ◌+◌, List, [], ◌∷◌, ◌++◌, length, reverse, true, false, arith, codes, append-nil, append_assoc, Bool}
+use Rattle.std.proofs.Common.{◌≡◌, ◌≢◌, refl, ap, sym, ◌∙◌, subst, ℕ, ◌+◌, List, [], ◌∷◌, ◌++◌, length, reverse, true, false, arith, codes, append-nil, append_assoc, Bool}
 use Rattle.std.proofs.lemmas.Bool.{false≢true}
 use Rattle.cpp_grammar.specs.declared.kind.Kind.{Kind}
 use Rattle.cpp_grammar.specs.Grammar.{may_be_empty}
-use Rattle.cpp_grammar.specs.Term.{Term, function, alone, source, builtin, nil, list, absent}
+use Rattle.cpp_grammar.specs.Term.{Term, alone, source, builtin, nil, list, absent}
 use Rattle.cpp_grammar.specs.Parts.{source_text, types_of}
 use Rattle.cpp_grammar.specs.Texts.{builtin_texts, look_up}
 use Rattle.cpp_grammar.specs.Scope.{has_return_type, arguments_of}
@@ -11,35 +11,29 @@ use Rattle.cpp_grammar.specs.References.{is_function_type}
 use Rattle.cpp_grammar.specs.Values.{State, Value, nothing_there, tree, named, tree_of}
 use Rattle.cpp_grammar.specs.Between.{after, in_name, in_types, no_items}
 use Rattle.cpp_grammar.specs.Meaning.{encoding_of}
-use Rattle.cpp_direct.specs.declared.marks.MarkPlace.{MarkPlace}
-use Rattle.cpp_direct.specs.declared.open.Mark.{Mark}
 use Rattle.cpp_direct.specs.declared.open.Mark.TheVariants as marks
-use Rattle.cpp_direct.specs.Symbol.{detail_of, Symbol}
-use Rattle.cpp_direct.specs.declared.open.Open.{Open}
 use Rattle.cpp_direct.specs.declared.open.Open.TheVariants as opens
+use Rattle.cpp_direct.specs.WriterTypes.{Direct, Mark, MarkPlace, Open, Symbol, detail_of}
 use Rattle.cpp_direct.specs.declared.open.Purpose.TheVariants as purposes
 use Rattle.cpp_direct.specs.declared.open.Step.TheVariants as steps
-use Rattle.cpp_direct.specs.declared.direct.Direct.{Direct}
-use Rattle.cpp_direct.specs.Holes.{Opened, StandsAt, Comes, Expects, IsNameAt, with_candidate}
-use Rattle.cpp_direct.specs.HolesOfLists.{mark_letters, nest_marks}
-use Rattle.cpp_direct.specs.HolesOfLocals.{Discriminator, IsDiscriminatorAt, IsPieceAt, local_in}
+use Rattle.cpp_direct.specs.AllHoles.{Comes, Discriminator, Expects, IsDiscriminatorAt, IsNameAt, IsPieceAt, Opened, StandsAt, local_in, mark_letters, nest_marks, with_candidate}
 use Rattle.cpp_direct.specs.Marks.{IsMarkPlace, has_const, called_on, mark_text}
 use Rattle.cpp_direct.specs.Prints.{PrintsName, PrintsPiece, Shows}
-use Rattle.cpp_direct.specs.WriterInvariant.{Below, IsNesting, IsOwn, IsWriting, ItemsGoOn, Serves, Stands, TypeWithin, below, in_front_of_next, nowhere, qualifiers, Kept, HasEnclosing}
+use Rattle.cpp_direct.specs.WriterInvariant.{Below, IsNesting, IsOwn, IsWriting, ItemsGoOn, Serves, TypeWithin, below, in_front_of_next, nowhere, qualifiers, Kept, HasEnclosing}
 use Rattle.cpp_direct.specs.MidStep.{AwaitsNamedType, AwaitsNest, IsElementRead}
 use Rattle.cpp_direct.specs.MidStepOfLocals.{AwaitsEnclosingParameters, AwaitsTypeName, IsEnclosingNamed, IsEnclosingParameterRead, IsEnclosingRead}
 use Rattle.cpp_direct.specs.Written.{Writes, Reads, added}
-use Rattle.cpp_direct.proofs.Ending.{behind-two, behind-three, next-written, parameter-goes_on, qualifiers-text}
+use Rattle.cpp_direct.proofs.Ending.{item-comes, next-written, parameter-goes_on, qualifiers-text}
 use Rattle.cpp_direct.proofs.NamePlaces.{reads-of, reads-then}
-use Rattle.cpp_direct.proofs.FunctionsWithin.{led-more}
-use Rattle.cpp_direct.proofs.Kept.{kept-read, kept-same, kept-written, reverse-last, type-comes, value-added}
+use Rattle.cpp_direct.proofs.FunctionsWithin.{led-by, led-more}
+use Rattle.cpp_direct.proofs.Kept.{kept-read, kept-same, kept-written, reverse-last, value-added}
 use Rattle.cpp_direct.proofs.Listed.{some-elements}
 use Rattle.cpp_direct.proofs.Moves.{expects-empty, stands-join}
 use Rattle.cpp_direct.proofs.MovesOfEncodings.{encoding-opens, name-nested, name-source}
 use Rattle.cpp_direct.proofs.MovesOfLists.{element-awaits}
 use Rattle.cpp_direct.proofs.MovesOfLocals.{local-type-opens, nowhere-scoped}
 use Rattle.cpp_direct.proofs.Nesting.{nest-comes, closed-prints}
-use Rattle.cpp_direct.proofs.PrintedLists.{element-in, none-print-in}
+use Rattle.cpp_direct.proofs.PrintedLists.{element-in}
 use Rattle.cpp_direct.proofs.PrintedLocals.{object-enclosing, local-prints}
 use Rattle.cpp_direct.proofs.PrintedNames.{as-name, source-prints}
 use Rattle.cpp_direct.proofs.PrintedSymbols.{encoding-plain, encoding-returned, object-encoded}
@@ -164,16 +158,7 @@ pub plain-awaits : (s : Symbol) (w : Direct) (mark : Mark) (from : ℕ) → IsEn
 plain-awaits s w mark from p = record {
   kept = p.kept;
   has = record {
-    is_led = record {
-      front = p.lead;
-      name = p.name;
-      own = p.own;
-      prints = p.prints;
-      returned = absent;
-      make = λ l. encoding_of p.v l;
-      makes = encoding-plain p.v mark p.own p.named_so p.returns;
-      elements = none-print-in (detail_of s) (types_of p.own) 6;
-    };
+    is_led = led-by s 6 mark p.own absent (λ l. encoding_of p.v l) p.lead p.name p.prints (encoding-plain p.v mark p.own p.named_so p.returns);
     from_is = p.from_is;
   };
   written = p.written;
@@ -196,16 +181,8 @@ returned-awaits s w n mark from letter p has stands at_is =
     record {
       kept = kept-same s w (record w { at = n }) refl refl refl p.kept;
       has = record {
-        is_led = record {
-          front = p.lead;
-          name = p.name;
-          own = p.own;
-          prints = p.prints;
-          returned = r;
-          make = λ l. make (list r l);
-          makes = λ t rest. encoding-returned p.v mark p.own p.named_so p.returns r (list t rest);
-          elements = none-print-in (detail_of s) (types_of p.own) 6;
-        };
+        is_led = led-by s 6 mark p.own r (λ l. make (list r l)) p.lead p.name p.prints
+            (λ t rest. encoding-returned p.v mark p.own p.named_so p.returns r (list t rest));
         from_is = p.from_is;
       };
       written = p.written;
@@ -219,18 +196,9 @@ parameter-expected : (s : Symbol) (w : Direct) (kept : Kept s w) (mark : Mark) (
     → w.text.list.items ≡ h.front ++ h.name ++ codes "(" ++ in_front_of_next ts texts
     → ItemsGoOn s nowhere (TypeWithin s (below s kept.scope rest) h.front) h.make ts w.at kept.state → to ≡ length (h.front ++ h.name) → IsWriting s w steps.Type
 parameter-expected s w kept mark from to rest ts texts h open_is written p to_is =
-    let element = element-awaits s Kind.Items p.inner p.around w.at kept.state tt p.awaits in
-    let stands : Stands s kept.scope (opens.Enclosing mark from to ∷ rest) element.inner w.text.list.items = (
-      ts,
-      texts,
-      h,
-      written,
-      λ t here now comes.
-          parameter-goes_on s nowhere (TypeWithin s (below s kept.scope rest) h.front) h.make ts w.at kept.state p t here now (element.onward t here now comes),
-      to_is,
-    ) in
-    type-comes s w w kept p.around element.inner refl refl refl open_is p.outside (inr (inl element.awaits)) stands
-    (none-scoped kept.scope p.around (opens.Enclosing mark from to ∷ rest) refl)
+    let entry = opens.Enclosing mark from to in
+    item-comes s w w kept nowhere (TypeWithin s (below s kept.scope rest) h.front) h.make ts w.at p (entry ∷ rest) refl refl refl refl open_is
+    (λ os onward. (ts, texts, h, written, onward, to_is)) (none-scoped kept.scope p.around (entry ∷ rest) refl)
 
 -- the first one comes next
 pub first-within : (s : Symbol) (w first last : Direct) (mark : Mark) (from to : ℕ) → AwaitsEnclosingParameters s w mark from
@@ -299,7 +267,7 @@ object-within s w mark from p =
       leads = p.from_is;
       bytes = b ++ q;
       encloses = object-enclosing (detail_of s) p.v (b ++ q) shows;
-      written = ap (λ l. l ++ q) p.written ∙ behind-two p.lead b q;
+      written = ap (λ l. l ++ q) p.written ∙ simp append_assoc;
       within = p.goes.onward nothing_there w.at p.state (expects-empty s Kind.Items p.goes.around p.goes.inner w.at p.state p.goes.awaits refl);
     }
 
@@ -321,7 +289,7 @@ type-within s old pushed read last new from awaits one p n is prints two digit t
     let old_written : old.text.list.items ≡ a.front ++ a.bytes = sym (append-nil old.text.list.items) ∙ a.written in
     let written : last.text.list.items ≡ a.front ++ bytes =
     whole.text ∙ ap (λ l. old.text.list.items ++ l) (append-nil (codes "::" ++ n)) ∙ sym (append_assoc old.text.list.items (codes "::") n)
-    ∙ ap (λ l. l ++ codes "::" ++ n) old_written ∙ behind-three a.front a.bytes (codes "::") n in
+    ∙ ap (λ l. l ++ codes "::" ++ n) old_written ∙ simp append_assoc in
     let shown = local-prints a.e a.bytes a.encloses p n prints digit in
     let kept = kept-read s old last (codes "::" ++ n ++ []) whole
     (kept-same s (record old { at = awaits.before }) old refl refl refl a.kept) in

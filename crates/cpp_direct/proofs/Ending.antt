@@ -15,19 +15,15 @@ use Rattle.cpp_grammar.specs.Between.{no_items}
 use Rattle.cpp_grammar.specs.Items.{is_empty}
 use Rattle.cpp_grammar.specs.Meaning.{encoding_of, is_void}
 use Rattle.cpp_grammar.specs.Values.{Around, State, Value, nothing_there, tree, tree_of, qualifiers_of, ref_of}
-use Rattle.cpp_direct.specs.Symbol.{Symbol, detail_of}
-use Rattle.cpp_direct.specs.declared.open.Arguments.{Arguments}
-use Rattle.cpp_direct.specs.declared.open.Mark.{Mark}
+use Rattle.cpp_direct.specs.WriterTypes.{Arguments, Direct, Mark, Open, Symbol, detail_of}
 use Rattle.cpp_direct.specs.declared.open.Mark.TheVariants as marks
 use Rattle.cpp_direct.specs.declared.open.Open.TheVariants as opens
 use Rattle.cpp_direct.specs.declared.open.Step.TheVariants as steps
-use Rattle.cpp_direct.specs.declared.direct.Direct.{Direct}
 use Rattle.cpp_direct.specs.Bytes.{is_builtin, is_local}
-use Rattle.cpp_direct.specs.Holes.{Expects, StandsAt, ListGoesOn}
-use Rattle.cpp_direct.specs.HolesOfLists.{IsSuffix}
+use Rattle.cpp_direct.specs.AllHoles.{Comes, Expects, IsSuffix, ListGoesOn, Opened, StandsAt}
 use Rattle.cpp_direct.specs.Marks.{has_const, called_on, mark_text}
 use Rattle.cpp_direct.specs.Prints.{PrintsName, Shows, Encloses, list_of}
-use Rattle.cpp_direct.specs.WriterInvariant.{list_with, AwaitsItems, Encoded, EndsBehind, EncodedBehind, Fronts, IsWhole, IsWriting, HasArguments, HasScope, IsEncodedAt, ItemsGoOn, ParametersGoOn, Stands, qualifiers, in_front_of_next, no_scope, IsNamedSo, Kept}
+use Rattle.cpp_direct.specs.WriterInvariant.{list_with, HasParameters, Scope, TakesItems, Encoded, EndsBehind, EncodedBehind, Fronts, IsWhole, IsScoped, IsWriting, HasArguments, HasScope, IsEncodedAt, ItemsGoOn, ParametersGoOn, Stands, qualifiers, in_front_of_next, no_scope, IsNamedSo, Kept}
 use Rattle.cpp_direct.specs.MidStep.{AreParametersRead, IsNameEnded, IsNameScoped, AwaitsParameters, separator, IsFunctionEnded, IsEncodingEnded, IsSymbolEnded}
 use Rattle.cpp_direct.specs.Written.{Writes, Cuts}
 use Rattle.cpp_direct.proofs.Unmarked.{suffix-unmarked}
@@ -38,8 +34,8 @@ use Rattle.cpp_direct.proofs.MovesOfTypes.{builtin-comes}
 use Rattle.cpp_direct.proofs.PrintedLists.{PrintsItems, list-before, list-in, list-with-none, list-more, none-print-in}
 use Rattle.cpp_direct.proofs.PrintedParts.{has-none, has-parameters}
 use Rattle.cpp_direct.proofs.PrintedLocals.{object-enclosing, function-encloses, name-shows}
-use Rattle.cpp_direct.proofs.Scopes.{parameters-scoped, parameters-as}
-use Rattle.cpp_direct.proofs.PrintedSymbols.{function-shows, void-shows, object-encoded, encoding-plain, made-with, made-void, parameters-before, symbol-text, symbol-cost, suffix-text, suffix-cost, parameters-kept, none_bracketed}
+use Rattle.cpp_direct.proofs.Scopes.{entry-scoped, parameters-as}
+use Rattle.cpp_direct.proofs.PrintedSymbols.{function-shows, object-encoded, encoding-plain, made-with, made-void, parameters-before, symbol-text, symbol-cost, suffix-text, suffix-cost, parameters-kept}
 
 -- ## The end
 
@@ -135,26 +131,12 @@ plain-text marks.ConstRvalue = refl
 pub qualifiers-text : (v : Value) (mark : Mark) (own : Term) → IsNamedSo v own mark → encoding_text (qualifiers_of v) (ref_of v) ≡ mark_text mark
 qualifiers-text v mark own is = rw (is.qualifiers_are, is.mark_is) (plain-text mark)
 
--- what follows a text is written in two or more pieces
-pub behind-two : (lead a q : List ℕ) → lead ++ a ++ q ≡ lead ++ (a ++ q)
-behind-two lead a q = append_assoc lead a q
-
-pub behind-three : (lead a b q : List ℕ) → lead ++ a ++ b ++ q ≡ lead ++ (a ++ b ++ q)
-behind-three lead a b q = ap (λ l. l ++ q) (behind-two lead a b) ∙ append_assoc lead (a ++ b) q
-
-pub behind-five : (lead a b c d q : List ℕ) → lead ++ a ++ b ++ c ++ d ++ q ≡ lead ++ (a ++ b ++ c ++ d ++ q)
-behind-five lead a b c d q =
-    ap (λ l. l ++ d ++ q) (behind-three lead a b c) ∙ ap (λ l. l ++ q) (append_assoc lead (a ++ b ++ c) d) ∙ append_assoc lead (a ++ b ++ c ++ d) q
-
 -- a name without items is an encoding
 pub object-ended : (s : Symbol) (w : Direct) (mark : Mark) (is_instance : Bool) (argument_ : Arguments) (from : ℕ)
     → IsNameEnded s w mark is_instance argument_ from → IsEncodingEnded s w mark
-unfolding no_items may_be_empty
 object-ended s w mark is_instance argument_ from p =
     let b = p.name in
     let q = mark_text mark in
-    let behind : EncodedBehind s p.lead (encoding_of p.v nil) w.at = p.awaits.onward nothing_there w.at p.state
-    (expects-empty s Kind.Items p.awaits.around p.awaits.inner w.at p.state p.awaits.awaits refl) in
     let shows : Shows (detail_of s) (encoding_of p.v nil) (b ++ q) =
     subst (λ l. Shows (detail_of s) (encoding_of p.v nil) (b ++ l)) (qualifiers-text p.v mark p.own p.named_so)
     (object-encoded p.v b (subst (λ t. PrintsName (detail_of s) t b) (sym p.named_so.tree_is) p.prints)) in
@@ -163,10 +145,10 @@ object-ended s w mark is_instance argument_ from p =
       e = encoding_of p.v nil;
       lead = p.lead;
       bytes = b ++ q;
-      written = ap (λ l. l ++ q) p.written ∙ behind-two p.lead b q;
+      written = ap (λ l. l ++ q) p.written ∙ simp append_assoc;
       shows = shows;
       encloses = object-enclosing (detail_of s) p.v (b ++ q) shows;
-      behind = behind;
+      behind = p.awaits.ends;
     }
 
 -- ## Parameters
@@ -189,7 +171,7 @@ next-separated s w is_first mark start argument a text is =
     ∙ ap (λ l. a.front ++ codes "(" ++ l) (separated is_first a.ts a.texts a.none a.some)
 
 -- a name is one where parameters go on after none
-pub none-go_on : (s : Symbol) (argument : Arguments) (lead : List ℕ) (v : Value) (at : ℕ) (st : State) (p : AwaitsItems s lead v at st)
+pub none-go_on : (s : Symbol) (argument : Arguments) (lead : List ℕ) (v : Value) (at : ℕ) (st : State) (p : TakesItems s lead v at st)
     → HasScope argument p.around → ParametersGoOn s argument lead (λ l. encoding_of v l) [] at st
 none-go_on s argument lead v at st p scoped =
     record { around = p.around; inner = p.inner; outside = p.outside; scoped = scoped; awaits = p.awaits; onward = p.onward }
@@ -209,25 +191,33 @@ parameter-goes_on s argument becomes make ts at st p t here now goes = record {
       (p.onward (tree (list t (no_items l)) true) there then_ (goes.passes l there then_ comes));
 }
 
--- a parameter comes next, and what is before it is written
+-- a parameter comes next, for what is open so once the parameter is taken
+pub item-comes : (s : Symbol) (old new : Direct) (kept : Kept s old) (argument : Arguments) (becomes : Term → (at : ℕ) → State → Type 0) (make : Term → Term) (ts : List Term) (at : ℕ)
+    (goes : ItemsGoOn s argument becomes make ts at kept.state) (ws : List Open) → new.text ≡ old.text → new.candidates ≡ old.candidates → new.has_scope ≡ old.has_scope
+    → new.at ≡ at → reverse new.waiting.list.items ≡ ws
+    → ((os : List Opened) → ((t : Term) (here : ℕ) (now : State) → Comes s os (tree t true) here now → ItemsGoOn s argument becomes make (ts ++ t ∷ []) here now)
+    → Stands s kept.scope ws os old.text.list.items)
+    → IsScoped kept.scope goes.around ws → IsWriting s new steps.Type
+item-comes s old new kept argument becomes make ts at goes ws text candidates scope_same at_is waits stands scoped =
+    let element = element-awaits s Kind.Items goes.inner goes.around at kept.state tt goes.awaits in
+    type-comes s old new kept goes.around element.inner text candidates scope_same waits goes.outside
+    (inr (inl (subst (λ n. Expects s Kind.Item goes.around element.inner n kept.state) (sym at_is) element.awaits)))
+    (stands element.inner (λ t here now comes. parameter-goes_on s argument becomes make ts at kept.state goes t here now (element.onward t here now comes)))
+    scoped
+
+-- what is before it is written
 pub parameter-expected : (s : Symbol) (w last : Direct) (is_first : Bool) (mark : Mark) (start : ℕ) (argument : Arguments)
     → AreParametersRead s w 3 is_first mark start argument → Writes w last (separator is_first) → IsWriting s last steps.Type
 parameter-expected s w last is_first mark start argument a one =
-    let p = a.goes in
-    let element = element-awaits s Kind.Items p.inner p.around w.at a.state tt p.awaits in
     let between = separator is_first in
-    let stands : Stands s a.scope (opens.Parameters mark start argument ∷ a.rest) element.inner last.text.list.items = (
+    item-comes s last last (kept-written s w last between one a.kept) argument (λ e there then_. EncodedBehind s a.lead e there) a.make a.ts w.at a.goes
+    (opens.Parameters mark start argument ∷ a.rest) refl refl refl one.at (ap (λ v. reverse v.list.items) one.waiting ∙ a.open_is) (λ os onward. (
       a.ts,
       a.texts,
       parameters-as s w.text.list.items last.text.list.items between mark start argument a.has one.text a.is_function.elements,
       next-separated s w is_first mark start argument a last.text.list.items one.text,
-      λ t here now comes. parameter-goes_on s argument (λ e there then_. EncodedBehind s a.lead e there) a.make a.ts w.at a.state p t here now
-          (element.onward t here now comes),
-    ) in
-    type-comes s last last (kept-written s w last between one a.kept) p.around element.inner refl refl refl
-    (ap (λ v. reverse v.list.items) one.waiting ∙ a.open_is) p.outside
-    (inr (inl (subst (λ n. Expects s Kind.Item p.around element.inner n a.state) (sym one.at) element.awaits))) stands
-    (parameters-scoped a.scope p.around mark start argument a.rest a.is_function.named p.scoped)
+      onward,
+    )) (entry-scoped a.scope a.goes.around (opens.Parameters mark start argument) argument a.rest refl refl a.is_function.named a.goes.scoped)
 
 pub no-text : (l : List ℕ) (from : ℕ) → from ≡ length l → from ≡ 0 → l ≡ []
 no-text [] from is none = refl
@@ -243,12 +233,12 @@ types-scoped text argument around own encoded scope_is names = (
 )
 
 pub name-scoped : (s : Symbol) (w : Direct) (mark : Mark) (is_instance : Bool) (argument : Arguments) (from : ℕ)
-    (p : IsNameScoped s w mark is_instance argument from) → HasScope argument p.ended.awaits.around
+    (p : IsNameScoped s w mark is_instance argument from) → HasScope argument p.items.around
 name-scoped s w mark is_instance argument from p =
     let e = p.ended in
-    types-scoped w.text.list.items argument e.awaits.around e.own
-    (λ real. (e.awaits.encoding_is (no-text e.lead from e.from_is (p.encoded real).0) ∙ sym (p.encoded real).1, e.awaits.no_lambda))
-    (e.awaits.scope_is ∙ ap arguments_of e.named_so.tree_is) e.names
+    types-scoped w.text.list.items argument p.items.around e.own
+    (λ real. (p.items.encoding_is (no-text e.lead from e.from_is (p.encoded real).0) ∙ sym (p.encoded real).1, p.items.no_lambda))
+    (p.items.scope_is ∙ ap arguments_of e.named_so.tree_is) e.names
 
 -- the front of a function that has no return type
 fronts-of : (is_bare : Bool) (front : List ℕ) (start : ℕ) (lead name : List ℕ) → front ≡ lead ++ name → (is_bare ≡ false → start ≡ 0)
@@ -278,7 +268,7 @@ parameters-begin s w mark is_instance argument from start scoped plain none all 
         fronts = fronts-of s.is_bare w.text.list.items start p.lead p.name p.written none all;
       };
       written = refl;
-      goes = none-go_on s argument p.lead p.v w.at p.state p.awaits (name-scoped s w mark is_instance argument from scoped);
+      goes = none-go_on s argument p.lead p.v w.at p.state scoped.items (name-scoped s w mark is_instance argument from scoped);
     }
 
 -- the first parameter comes next
@@ -315,7 +305,7 @@ cut-kept s old new start cuts kept = go cuts.candidates
       keeps = keeps-as s old new kept.state.candidates (cuts.text ∙ ap (λ n. drop n old.text.list.items) same.0) (ap (λ v. v.list.items) same.1) cuts.scope
           kept.keeps.candidates kept.keeps.named kept.keeps.single kept.keeps.unknown;
     }
-    go (inr none) = record { state = record kept.state { candidates = [] }; scope = no_scope; keeps = none-kept s new none }
+    go (inr none) = record { state = record kept.state { candidates = [] }; scope = no_scope; keeps = none-kept s new none (λ e. (kept.keeps.unknown (sym cuts.scope ∙ e)).1) }
 
 -- and the text is what came after it
 cut-text : (old new : Direct) (start : ℕ) (aside text : List ℕ) → Cuts old new start → start ≡ length aside → old.text.list.items ≡ aside ++ text
@@ -336,7 +326,34 @@ void-read s argument becomes make at st p stands =
     p.onward (tree (list t nil) true) (at + 1) st
     (goes.passes nothing_there (at + 1) st (expects-empty s Kind.Items p.around goes.inner (at + 1) st goes.awaits refl))
 
--- a name with a lone void is a function
+-- a name with its parameters is a function, after which something may be that prints nothing
+items-ended : (s : Symbol) {scope : Scope} {extra : ℕ} {ts : List Term} {texts text : List ℕ} (here : Direct) (mark : Mark) (start : ℕ) (argument : Arguments)
+    (p : HasParameters s extra scope text mark start argument ts texts) (shown : List ℕ) (e items : Term) → here.text.list.items ≡ p.front ++ codes "(" ++ shown → Kept s here
+    → e ≡ function p.is_function.own (qualifiers (has_const mark)) (called_on mark) absent items
+    → PrintsItems (detail_of s) (types_of p.is_function.own) items shown → EncodedBehind s p.lead e here.at → IsFunctionEnded s here mark start
+items-ended s here mark start argument p shown e items written kept is printed behind =
+    let f = p.is_function in
+    let made = function f.own (qualifiers (has_const mark)) (called_on mark) absent items in
+    record {
+      kept = kept;
+      own = f.own;
+      items = items;
+      e = e;
+      e_is = is;
+      front = p.front;
+      lead = p.lead;
+      name = p.name;
+      texts = shown;
+      prints = f.prints;
+      fronts = p.fronts;
+      written = written;
+      shows = λ whole. subst (λ t. Shows (detail_of s) t (p.name ++ codes "(" ++ shown ++ codes ")" ++ mark_text mark)) (sym is)
+          (subst (λ x. Shows (detail_of s) made (p.name ++ codes "(" ++ shown ++ codes ")" ++ x)) (plain-text mark)
+          (function-shows (has-parameters s whole) f.own p.name f.prints items shown printed (qualifiers (has_const mark)) (called_on mark)));
+      behind = behind;
+    }
+
+-- one with a lone void is a function without parameters
 pub void-ended : (s : Symbol) (w first here : Direct) (mark : Mark) (start : ℕ) (argument : Arguments) → AwaitsParameters s w mark start argument
     → StandsAt s.bytes w.at (118 ∷ [])
     → Writes w first (codes "(") → here.text ≡ first.text → here.candidates ≡ first.candidates → here.has_scope ≡ first.has_scope
@@ -344,71 +361,22 @@ pub void-ended : (s : Symbol) (w first here : Direct) (mark : Mark) (start : ℕ
     → IsFunctionEnded s here mark start
 void-ended s w first here mark start argument p stands one text candidates scope_same at =
     let f = p.is_function in
-    let b = p.name in
-    let q = mark_text mark in
     let e = p.make (list_of (builtin (118 ∷ []) ∷ [])) in
-    let made = function f.own (qualifiers (has_const mark)) (called_on mark) absent nil in
-    let is : e ≡ made = made-void f.own absent mark p.make f.makes in
-    let behind : EncodedBehind s p.lead e (w.at + 1) =
-    void-read s argument (λ u there then_. EncodedBehind s p.lead u there) p.make w.at p.state p.goes stands in
-    let shows : s.is_bare ≡ false → Shows (detail_of s) made (b ++ codes "()" ++ q) =
-    λ whole. subst (λ l. Shows (detail_of s) made (b ++ codes "()" ++ l)) (plain-text mark)
-    (void-shows (has-parameters s whole) f.own b f.prints (qualifiers (has_const mark)) (called_on mark)) in
-    record {
-      kept = kept-same s first here text candidates scope_same (kept-written s w first (codes "(") one p.kept);
-      own = f.own;
-      items = nil;
-      e = e;
-      e_is = is;
-      front = p.front;
-      lead = p.lead;
-      name = b;
-      texts = [];
-      prints = f.prints;
-      fronts = p.fronts;
-      written = ap (λ l. l.list.items) text ∙ one.text ∙ ap (λ l. l ++ codes "(") p.written ∙ sym (append-nil (p.front ++ codes "("));
-      shows = λ whole. subst (λ t. Shows (detail_of s) t (b ++ codes "(" ++ [] ++ codes ")" ++ q)) (sym is)
-          (subst (λ l. Shows (detail_of s) made l) (sym (none_bracketed b q)) (shows whole));
-      behind = subst (λ n. EncodedBehind s p.lead e n) (omega (arith, at, one.at)) behind;
-    }
+    items-ended s here mark start argument p.has [] e nil
+    (ap (λ l. l.list.items) text ∙ one.text ∙ ap (λ l. l ++ codes "(") p.written ∙ sym (append-nil (p.front ++ codes "(")))
+    (kept-same s first here text candidates scope_same (kept-written s w first (codes "(") one p.kept)) (made-void f.own absent mark p.make f.makes)
+    (list-in (detail_of s) (types_of f.own) 3 [] [] (omega arith) f.elements)
+    (subst (λ n. EncodedBehind s p.lead e n) (omega (arith, at, one.at))
+    (void-read s argument (λ u there then_. EncodedBehind s p.lead u there) p.make w.at p.state p.goes stands))
 
--- and so is a name with its parameters, after which something may be that prints nothing
-items-ended : (s : Symbol) {extra : ℕ} (w here : Direct) (is_first : Bool) (mark : Mark) (start : ℕ) (argument : Arguments)
-    (p : AreParametersRead s w extra is_first mark start argument) (items : Term) → here.text ≡ w.text → Kept s here
-    → p.make items ≡ function p.is_function.own (qualifiers (has_const mark)) (called_on mark) absent items
-    → PrintsItems (detail_of s) (types_of p.is_function.own) items p.texts → EncodedBehind s p.lead (p.make items) here.at → IsFunctionEnded s here mark start
-items-ended s w here is_first mark start argument p items text kept is printed behind =
-    let f = p.is_function in
-    let b = p.name in
-    let l = p.texts in
-    let made = function f.own (qualifiers (has_const mark)) (called_on mark) absent items in
-    record {
-      kept = kept;
-      own = f.own;
-      items = items;
-      e = p.make items;
-      e_is = is;
-      front = p.front;
-      lead = p.lead;
-      name = b;
-      texts = l;
-      prints = f.prints;
-      fronts = p.fronts;
-      written = ap (λ v. v.list.items) text ∙ p.written;
-      shows = λ whole. subst (λ t. Shows (detail_of s) t (b ++ codes "(" ++ l ++ codes ")" ++ mark_text mark)) (sym is)
-          (subst (λ x. Shows (detail_of s) made (b ++ codes "(" ++ l ++ codes ")" ++ x)) (plain-text mark)
-          (function-shows (has-parameters s whole) f.own b f.prints items l printed (qualifiers (has_const mark)) (called_on mark)));
-      behind = behind;
-    }
-
--- unless they are a lone void
+-- those that aren't a lone void are its parameters
 pub function-ended : (s : Symbol) (w : Direct) (mark : Mark) (start : ℕ) (argument : Arguments)
     → (r : (extra : ℕ) × (extra ≤ 6) × AreParametersRead s w extra false mark start argument) → r.2.texts ≢ codes "void" → IsFunctionEnded s w mark start
 unfolding no_items may_be_empty
 function-ended s w mark start argument r apart =
     let p = r.2 in
     let f = p.is_function in
-    items-ended s w w false mark start argument p (list_of p.ts) refl p.kept
+    items-ended s w mark start argument p.has p.texts (p.make (list_of p.ts)) (list_of p.ts) p.written p.kept
     (made-with f.own absent mark p.make f.makes p.ts (p.some refl) (parameters-kept (detail_of s) (types_of f.own) r.0 p.ts p.texts f.elements apart))
     (list-in (detail_of s) (types_of f.own) r.0 p.ts p.texts r.1 f.elements)
     (subst (λ u. EncodedBehind s p.lead (p.make u) w.at) (list-with-none p.ts)
@@ -422,7 +390,8 @@ pub nothing-ended : (s : Symbol) (w here : Direct) (is_first : Bool) (mark : Mar
 unfolding no_items may_be_empty
 nothing-ended s w here is_first mark start argument p t kept text none apart goes =
     let f = p.is_function in
-    items-ended s w here is_first mark start argument p (list_with p.ts (list t nil)) text kept (made p.ts)
+    let items = list_with p.ts (list t nil) in
+    items-ended s here mark start argument p.has p.texts (p.make items) items (ap (λ v. v.list.items) text ∙ p.written) kept (made p.ts)
     (list-before (detail_of s) (types_of f.own) p.ts t p.texts none f.elements)
     (subst (λ u. EncodedBehind s p.lead (p.make u) here.at) (list-more p.ts t nil)
     (goes.onward nothing_there here.at kept.state (expects-empty s Kind.Items goes.around goes.inner here.at kept.state goes.awaits refl)))
@@ -444,14 +413,14 @@ function-closed s w last new mark start p whole_ one cuts =
     let left_over : new.text.list.items ≡ p.lead ++ b ++ codes "(" ++ l ++ codes ")" =
     cut-text last new start fronts.0 (p.lead ++ b ++ codes "(" ++ l ++ codes ")") cuts fronts.2
     (one.text ∙ ap (λ x. x ++ codes ")") p.written ∙ ap (λ x. x ++ codes "(" ++ l ++ codes ")") fronts.1
-    ∙ behind-five fronts.0 p.lead b (codes "(") l (codes ")")) in
+    ∙ simp append_assoc) in
     let text = b ++ codes "(" ++ l ++ codes ")" ++ q in
     record {
       kept = cut-kept s last new start cuts (kept-written s w last (codes ")") one p.kept);
       e = p.e;
       lead = p.lead;
       bytes = text;
-      written = ap (λ x. x ++ q) left_over ∙ behind-five p.lead b (codes "(") l (codes ")") q;
+      written = ap (λ x. x ++ q) left_over ∙ simp append_assoc;
       shows = p.shows whole_;
       encloses = subst (λ t. Encloses (detail_of s) t text) (sym p.e_is)
           (function-encloses (detail_of s) p.own (qualifiers (has_const mark)) (called_on mark) p.items text
@@ -468,7 +437,7 @@ function-named s w last new mark start end p bare end_is one cuts =
     let named = p.lead ++ p.name in
     let behind_ = fronts.0 ++ codes "(" ++ p.texts in
     let whole_ : w.text.list.items ≡ named ++ behind_ =
-    p.written ∙ ap (λ x. x ++ codes "(" ++ p.texts) fronts.1 ∙ behind-three named fronts.0 (codes "(") p.texts in
+    p.written ∙ ap (λ x. x ++ codes "(" ++ p.texts) fronts.1 ∙ simp append_assoc in
     let again : take (start - 0) (drop 0 w.text.list.items) ≡ named =
     ap (λ n. take n w.text.list.items) (omega (arith, fronts.2)) ∙ ap (λ l. take (length named) l) whole_ ∙ take-append_seam named behind_ in
     let left_over : new.text.list.items ≡ named =

@@ -1,7 +1,7 @@
 -- Functions that have a return type: it is read after the name, and written before it.
 use Rattle.cpp_direct.proofs.PrintedParts.{has-none, has-parameters}
 use Rattle.cpp_direct.proofs.PrintedLocals.{returned-enclosing, returned-shows}
-use Rattle.std.proofs.Common.{◌≡◌, refl, ap, sym, ◌∙◌, subst, ℕ, ◌-◌, List, [], ◌∷◌, ◌++◌, length, take, drop, reverse, inl, inr, Bool, true, false, arith, codes, append_assoc}
+use Rattle.std.proofs.Common.{◌≡◌, refl, ap, sym, ◌∙◌, subst, ℕ, ◌-◌, List, [], ◌∷◌, ◌++◌, length, take, drop, reverse, Bool, true, false, arith, codes, append_assoc}
 use Rattle.std.proofs.lemmas.Bool.{false≢true}
 use Rattle.std.proofs.Math.Seq.{take-append_seam}
 use Rattle.cpp_grammar.specs.declared.kind.Kind.{Kind}
@@ -9,25 +9,21 @@ use Rattle.cpp_grammar.specs.Term.{Term, list}
 use Rattle.cpp_grammar.specs.Between.{no_items}
 use Rattle.cpp_grammar.specs.Meaning.{parameters, encoding_of}
 use Rattle.cpp_grammar.specs.Values.{Value}
-use Rattle.cpp_direct.specs.Symbol.{Symbol, detail_of}
-use Rattle.cpp_direct.specs.declared.open.Mark.{Mark}
+use Rattle.cpp_direct.specs.WriterTypes.{Arguments, Direct, Mark, Symbol, detail_of}
 use Rattle.cpp_direct.specs.Marks.{has_const, called_on}
 use Rattle.cpp_direct.specs.declared.open.Open.TheVariants as opens
-use Rattle.cpp_direct.specs.declared.open.Arguments.{Arguments}
 use Rattle.cpp_grammar.specs.Parts.{types_of}
 use Rattle.cpp_direct.specs.declared.open.Step.TheVariants as steps
-use Rattle.cpp_direct.specs.declared.direct.Direct.{Direct}
 use Rattle.cpp_direct.specs.Bytes.{is_local}
 use Rattle.cpp_direct.specs.Holes.{Expects}
 use Rattle.cpp_direct.specs.Prints.{PrintsIn, Shows, Encloses}
-use Rattle.cpp_direct.specs.WriterInvariant.{EncodedBehind, Fronts, IsWriting, IsInstance, Keeps, ParametersGoOn, Scope, Stands, qualifiers, plain_encoding, HasInstance, IsOwnName}
+use Rattle.cpp_direct.specs.WriterInvariant.{EncodedBehind, Fronts, IsWriting, IsInstance, Keeps, ParametersGoOn, Scope, qualifiers, plain_encoding, HasInstance, IsOwnName}
 use Rattle.cpp_direct.specs.MidStep.{IsNameScoped, IsFrontRead, AwaitsParameters}
 use Rattle.cpp_direct.specs.Written.{Writes}
-use Rattle.cpp_direct.proofs.Ending.{name-scoped, no-text, none-go_on, parameter-goes_on}
-use Rattle.cpp_direct.proofs.Kept.{kept-same, kept-written, reverse-last, type-comes}
-use Rattle.cpp_direct.proofs.MovesOfLists.{element-awaits}
+use Rattle.cpp_direct.proofs.Ending.{item-comes, name-scoped, no-text, none-go_on}
+use Rattle.cpp_direct.proofs.Kept.{kept-same, kept-written, reverse-last}
 use Rattle.cpp_direct.proofs.PrintedLists.{none-print-in}
-use Rattle.cpp_direct.proofs.Scopes.{front-scoped, name-stays}
+use Rattle.cpp_direct.proofs.Scopes.{entry-scoped, name-stays}
 use Rattle.cpp_direct.proofs.PrintedSymbols.{encoding-returned, front-shows}
 
 -- the return type of a function is expected after its name
@@ -52,17 +48,11 @@ front-begins s w new mark argument from start scoped apart start_is text candida
       start_is = start_is;
     } in
     let goes : ParametersGoOn s argument p.lead (λ l. encoding_of p.v l) [] w.at p.state =
-    none-go_on s argument p.lead p.v w.at p.state p.awaits (name-scoped s w mark true argument from scoped) in
-    let element = element-awaits s Kind.Items goes.inner goes.around w.at p.state tt goes.awaits in
-    let stands : Stands s p.scope (opens.Front mark start argument ∷ reverse w.waiting.list.items) element.inner w.text.list.items = (
-      has,
-      λ t here now comes. parameter-goes_on s argument (λ e there then_. EncodedBehind s p.lead e there) (λ l. encoding_of p.v l) [] w.at p.state goes
-          t here now (element.onward t here now comes),
-    ) in
-    let open_is = ap reverse waiting ∙ reverse-last w.waiting.list.items (opens.Front mark start argument) in
-    type-comes s w new p.kept goes.around element.inner text candidates scope_same open_is goes.outside
-    (inr (inl (subst (λ n. Expects s Kind.Item goes.around element.inner n p.state) (sym at) element.awaits))) stands
-    (front-scoped p.scope goes.around mark start argument (reverse w.waiting.list.items) scoped.named goes.scoped)
+    none-go_on s argument p.lead p.v w.at p.state scoped.items (name-scoped s w mark true argument from scoped) in
+    let rest = reverse w.waiting.list.items in
+    item-comes s w new p.kept argument (λ e there then_. EncodedBehind s p.lead e there) (λ l. encoding_of p.v l) [] w.at goes (opens.Front mark start argument ∷ rest)
+    text candidates scope_same at (ap reverse waiting ∙ reverse-last w.waiting.list.items (opens.Front mark start argument)) (λ os onward. (has, onward))
+    (entry-scoped p.scope goes.around (opens.Front mark start argument) argument rest refl refl scoped.named goes.scoped)
 
 -- it is read still where something else changes
 pub front-same : (s : Symbol) (w new : Direct) (mark : Mark) (start : ℕ) (argument : Arguments) → IsFrontRead s w mark start argument

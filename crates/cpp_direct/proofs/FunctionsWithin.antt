@@ -2,27 +2,24 @@
 use Rattle.std.proofs.Common.{◌≡◌, ◌≢◌, refl, ap, sym, ◌∙◌, subst, ℕ, ◌+◌, ◌≤◌, List, [], ◌∷◌, ◌++◌, length, reverse, take, true, false, arith, codes, length-append, append-nil, append_assoc}
 use Rattle.cpp_grammar.specs.declared.kind.Kind.{Kind}
 use Rattle.cpp_grammar.specs.Grammar.{may_be_empty}
-use Rattle.cpp_grammar.specs.Term.{Term, function, builtin, nil, absent}
+use Rattle.cpp_grammar.specs.Term.{Term, function, builtin, nil, absent, list}
 use Rattle.cpp_grammar.specs.Parts.{types_of}
 use Rattle.cpp_grammar.specs.Values.{State, nothing_there}
 use Rattle.cpp_grammar.specs.Between.{no_items}
-use Rattle.cpp_direct.specs.declared.open.Arguments.{Arguments}
-use Rattle.cpp_direct.specs.declared.open.Mark.{Mark}
+use Rattle.cpp_grammar.specs.Meaning.{parameters}
 use Rattle.cpp_direct.specs.declared.open.Hiding.TheVariants as hidings
 use Rattle.cpp_direct.specs.declared.open.Mark.TheVariants as marks
-use Rattle.cpp_direct.specs.Symbol.{detail_of, Symbol}
-use Rattle.cpp_direct.specs.declared.open.Open.{Open}
-use Rattle.cpp_direct.specs.declared.direct.Direct.{Direct}
 use Rattle.cpp_direct.specs.Holes.{StandsAt}
+use Rattle.cpp_direct.specs.WriterTypes.{Arguments, Direct, Mark, Open, Symbol, detail_of}
 use Rattle.cpp_direct.specs.Marks.{has_const, called_on, mark_text}
-use Rattle.cpp_direct.specs.Prints.{Shows, Encloses, IsElementIn, list_of}
+use Rattle.cpp_direct.specs.Prints.{PrintsName, Shows, Encloses, IsElementIn, list_of}
 use Rattle.cpp_direct.specs.WriterInvariant.{AreNamed, IsLedFunction, ItemsGoOn, Kept, Scope, in_front_of_next, qualifiers}
 use Rattle.cpp_direct.specs.MidStepOfLocals.{IsLedFunctionRead}
 use Rattle.cpp_direct.specs.Written.{AreLeft, Writes}
-use Rattle.cpp_direct.proofs.Ending.{behind-three, behind-five, plain-text, void-read}
+use Rattle.cpp_direct.proofs.Ending.{plain-text, void-read}
 use Rattle.cpp_direct.proofs.Kept.{front-left, kept-cut, kept-same, kept-written}
 use Rattle.cpp_direct.proofs.Moves.{expects-empty}
-use Rattle.cpp_direct.proofs.PrintedLists.{list-in, list-with-none, next-prints-in}
+use Rattle.cpp_direct.proofs.PrintedLists.{list-in, list-with-none, next-prints-in, none-print-in}
 use Rattle.cpp_direct.proofs.PrintedParts.{has-none, has-parameters}
 use Rattle.cpp_direct.proofs.PrintedLocals.{function-encloses, name-encloses, returned-enclosing}
 use Rattle.cpp_direct.proofs.PrintedSymbols.{function-shows, parameters-kept, void-shows, made-void, made-with}
@@ -31,7 +28,22 @@ use Rattle.cpp_direct.proofs.PrintedSymbols.{function-shows, parameters-kept, vo
 abbrev pub WithinOpen : Type 1
 WithinOpen = Scope → List Open → (front : List ℕ) → (e : Term) → (at : ℕ) → State → Type 0
 
--- one more parameter is there
+-- no parameter is there yet
+abbrev pub led-by : (s : Symbol) (extra : ℕ) (mark : Mark) (own returned : Term) (make : Term → Term) (front name : List ℕ) → PrintsName (detail_of s) own name
+    → ((t rest : Term) → make (list t rest) ≡ function own (qualifiers (has_const mark)) (called_on mark) returned (parameters (list t rest)))
+    → IsLedFunction (detail_of s) extra mark [] []
+led-by s extra mark own returned make front name prints makes = record {
+  front = front;
+  name = name;
+  own = own;
+  prints = prints;
+  returned = returned;
+  make = make;
+  makes = makes;
+  elements = none-print-in (detail_of s) (types_of own) extra;
+}
+
+-- one more is
 abbrev pub led-more : (s : Symbol) {extra : ℕ} {mark : Mark} {ts : List Term} {texts : List ℕ} (f : IsLedFunction (detail_of s) extra mark ts texts) (t : Term) (bytes : List ℕ)
     → IsElementIn (detail_of s) (types_of f.own) extra t bytes → IsLedFunction (detail_of s) extra mark (ts ++ t ∷ []) (in_front_of_next ts texts ++ bytes)
 led-more s {extra = extra} {ts = ts} {texts = texts} f t bytes element = record {
@@ -82,7 +94,7 @@ void-shown {s = s} {Within = Within} w new n mark argument kept f leads written 
     (void-shows (has-parameters s whole) f.own b f.prints (qualifiers (has_const mark)) (called_on mark)) in
     function-read new mark (w.at + 1) (kept-written s (record w { at = n }) new (codes "()") one (kept-same s w (record w { at = n }) refl refl refl kept))
     (f.make (list_of (builtin (118 ∷ []) ∷ []))) f.front (b ++ codes "()" ++ q) leads
-    (ap (λ l. l ++ q) (one.text ∙ ap (λ l. l ++ codes "()") written) ∙ behind-three f.front b (codes "()") q)
+    (ap (λ l. l ++ q) (one.text ∙ ap (λ l. l ++ codes "()") written) ∙ simp append_assoc)
     (subst (λ t. Encloses (detail_of s) t (b ++ codes "()" ++ q)) (sym (made-void f.own f.returned mark f.make f.makes))
     (returned-enclosing (detail_of s) f.own (qualifiers (has_const mark)) (called_on mark) f.returned nil (b ++ codes "()" ++ q)
     (function-encloses (detail_of s) f.own (qualifiers (has_const mark)) (called_on mark) nil (b ++ codes "()" ++ q) shows)))
@@ -132,7 +144,7 @@ function-shown {s = s} {Within = Within} {rest = rest} {extra = extra} {ts = ts}
     (qualifiers (has_const mark)) (called_on mark)) in
     function-read last mark w.at (kept-written s shut last (codes ")") one (kept-same s w shut text candidates scope_same kept)) (f.make (list_of ts)) f.front bytes leads
     (ap (λ x. x ++ q) (one.text ∙ ap (λ v. v.list.items ++ codes ")") text ∙ ap (λ x. x ++ codes ")") written)
-    ∙ behind-five f.front b (codes "(") texts (codes ")") q)
+    ∙ simp append_assoc)
     (subst (λ t. Encloses (detail_of s) t bytes) (sym end.0)
     (returned-enclosing (detail_of s) f.own (qualifiers (has_const mark)) (called_on mark) f.returned (list_of ts) bytes
     (function-encloses (detail_of s) f.own (qualifiers (has_const mark)) (called_on mark) (list_of ts) bytes shows)))

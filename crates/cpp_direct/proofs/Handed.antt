@@ -4,15 +4,9 @@ use Rattle.std.proofs.lemmas.Bool.{false≢true}
 use Rattle.cpp_grammar.specs.Term.{Term, special}
 use Rattle.cpp_grammar.specs.Parts.{types_of}
 use Rattle.cpp_grammar.specs.Values.{tree}
-use Rattle.cpp_direct.specs.Symbol.{detail_of, Symbol}
-use Rattle.cpp_direct.specs.declared.open.Access.{Access}
-use Rattle.cpp_direct.specs.declared.open.Mark.{Mark}
-use Rattle.cpp_direct.specs.declared.open.Open.{Open}
+use Rattle.cpp_direct.specs.WriterTypes.{Access, Arguments, Direct, Mark, Open, Purpose, Symbol, detail_of}
 use Rattle.cpp_direct.specs.declared.open.Open.TheVariants as opens
-use Rattle.cpp_direct.specs.declared.open.Arguments.{Arguments}
-use Rattle.cpp_direct.specs.declared.open.Purpose.{Purpose}
 use Rattle.cpp_direct.specs.declared.open.Step.TheVariants as steps
-use Rattle.cpp_direct.specs.declared.direct.Direct.{Direct}
 use Rattle.cpp_direct.specs.Holes.{Opened, Comes}
 use Rattle.cpp_direct.specs.Prints.{Names, PrintsAs, IsElementIn, Shows}
 use Rattle.cpp_direct.specs.WriterInvariant.{FirstType, IsNaming, IsTemplate, IsWriting, Marks, AwaitsEnumerator, Belongs, Listing, Scope, of_template, of_pack, Stands, below, opening_text, extra_of, led_by, in_front_of_next, argument_of, Kept, IsTypeRead}
@@ -220,12 +214,7 @@ takes-elements (opens.AddressedFront x y v) w u g z n m a q e j d f b = absurd (
 takes-elements (opens.Addressed x y v) w u g z n m a q e j d f b = absurd (b x y v refl)
 takes-elements opens.Special w u g z n m a q e j d f b = absurd (z refl)
 takes-elements opens.Enumerator w u g z n m a q e j d f b = absurd (n refl)
-takes-elements opens.Pack w u g z n m a q e j d f b = tt
-takes-elements (opens.TypeArguments x y) w u g z n m a q e j d f b = tt
-takes-elements (opens.NestArguments x) w u g z n m a q e j d f b = tt
-takes-elements (opens.FirstArguments x) w u g z n m a q e j d f b = tt
-takes-elements (opens.NameArguments x) w u g z n m a q e j d f b = tt
-takes-elements (opens.LevelArguments x) w u g z n m a q e j d f b = tt
+takes-elements _ w u g z n m a q e j d f b = tt
 
 -- an element was read
 pub argument-read : (s : Symbol) (w : Direct) (o : Open) → IsElementRead s w o → TakesElements o → IsWriting s w (steps.List false)

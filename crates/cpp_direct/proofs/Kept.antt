@@ -1,31 +1,23 @@
 -- What a writer keeps while its text and its lists grow.
 use Rattle.sym_print.specs.declared.detail.Detail.{Detail}
-use Rattle.std.proofs.Common.{◌≡◌, ◌≢◌, ℕ, zero, suc, ◌+◌, ◌-◌, ◌≤◌, length, List, [], ◌∷◌, ◌++◌, take, drop, reverse, slice_get, Bool, true, false, Option, Some, None, is_some, refl, ap, sym, ◌∙◌, subst, arith, append_assoc, append-nil, ◌<◌, inl, inr, get_or, length-append}
+use Rattle.std.proofs.Common.{◌≡◌, ℕ, zero, suc, ◌+◌, ◌-◌, ◌≤◌, length, List, [], ◌∷◌, ◌++◌, take, drop, reverse, slice_get, Bool, true, false, Option, Some, None, is_some, refl, ap, sym, ◌∙◌, subst, arith, append_assoc, append-nil, ◌<◌, inl, inr, get_or, length-append}
 use Rattle.std.specs.Option.{IfSome, OnSome}
 use Rattle.std.proofs.lemmas.Bool.{false≢true}
 use Rattle.std.proofs.lemmas.List.{reverse-append, reverse-reverse}
 use Rattle.std.proofs.Math.Seq.{drop-append_seam, take-append_seam}
 use Rattle.cpp_grammar.specs.Term.{Term}
 use Rattle.cpp_grammar.specs.Values.{State, Around, tree, outermost}
-use Rattle.cpp_direct.specs.WrittenParts.{opening_bracket}
-use Rattle.cpp_direct.specs.Symbol.{detail_of, Symbol}
-use Rattle.cpp_direct.specs.declared.open.Candidate.{Candidate}
-use Rattle.cpp_direct.specs.declared.open.Argument.{Argument}
-use Rattle.cpp_direct.specs.declared.open.Nest.{Nest}
-use Rattle.cpp_direct.specs.declared.open.Purpose.{Purpose}
+use Rattle.cpp_direct.specs.Bytes.{is_object}
+use Rattle.cpp_direct.specs.WriterTypes.{Argument, Candidate, Direct, Hiding, Nest, Open, Purpose, Step, Symbol, detail_of}
 use Rattle.cpp_direct.specs.declared.open.Purpose.TheVariants as purposes
-use Rattle.cpp_direct.specs.declared.open.Open.{Open}
-use Rattle.cpp_direct.specs.declared.open.Step.{Step}
-use Rattle.cpp_direct.specs.declared.direct.Direct.{Direct}
 use Rattle.cpp_direct.specs.Holes.{Comes, Opened, candidate, with_candidate, unless_listed}
-use Rattle.cpp_direct.specs.Prints.{Names, PrintsAs, PrintsGiven}
+use Rattle.cpp_direct.specs.Prints.{Names, PrintsAs, PrintsGiven, opening_bracket}
 use Rattle.cpp_direct.specs.WriterInvariant.{AreCandidates, AreNamed, ArgumentsGoOn, ExpectsType, HasScope, IsCandidate, IsMadeIn, IsNaming, IsNest, IsPlaced, HasSingles, IsScoped, IsTemplate, IsWriting, Keeps, Scope, Stands, argument_of, arguments_in, below, is_within_type, no_scope, of_template, place_of, IsOwn, is_type, IsKnown, nowhere, Kept, IsBetween, AwaitsTypeIn, IsTypeRead}
 use Rattle.cpp_direct.specs.Written.{Writes, Reads, added, added_unless, with_argument, IsLeft, AreLeft, Stays}
 use Rattle.std.specs.Prelude.{slice_set}
 use Rattle.cpp_grammar.specs.Values as values
 use Rattle.cpp_direct.specs.declared.open.Open.TheVariants as opens
 use Rattle.cpp_direct.specs.declared.open.Step.TheVariants as steps
-use Rattle.cpp_direct.specs.declared.open.Hiding.{Hiding}
 use Rattle.cpp_direct.specs.declared.open.Hiding.TheVariants as hidings
 
 -- ## Pieces of a text
@@ -136,18 +128,18 @@ pub none-single : HasSingles no_scope
 none-single number own e = cc e
 
 -- there is no candidate, and nothing may be named
-pub none-kept : (s : Symbol) (w : Direct) → w.candidates.list.items ≡ [] → Keeps s no_scope w []
-none-kept s w none = record {
+pub none-kept : (s : Symbol) (w : Direct) → w.candidates.list.items ≡ [] → (w.has_scope ≡ false → is_object s.bytes ≡ false) → Keeps s no_scope w []
+none-kept s w none typed = record {
   candidates = subst (λ ks. AreCandidates s no_scope w.text.list.items ks []) (sym none) tt;
   named = none-named w.text.list.items;
   single = none-single;
-  unknown = λ e. refl;
+  unknown = λ e. (refl, typed e);
 }
 
 -- what is there has this text and these candidates
 pub keeps-as : (s : Symbol) {scope : Scope} (old new : Direct) (cs : List values.Candidate) {text : List ℕ} {ks : List Candidate}
     → new.text.list.items ≡ text → new.candidates.list.items ≡ ks → new.has_scope ≡ old.has_scope
-    → AreCandidates s scope text ks cs → AreNamed text scope → HasSingles scope → (old.has_scope ≡ false → scope ≡ no_scope)
+    → AreCandidates s scope text ks cs → AreNamed text scope → HasSingles scope → (old.has_scope ≡ false → (scope ≡ no_scope) × (is_object s.bytes ≡ false))
     → Keeps s scope new cs
 keeps-as s {scope = scope} old new cs {text = text} text_is candidates_are scope_same candidates named single unknown = record {
   candidates = subst (λ l. AreCandidates s scope l new.candidates.list.items cs) (sym text_is)
@@ -506,8 +498,8 @@ closed-kept s scope text k c closed own = record {
 
 -- what a writer keeps where arguments aren't named any more, and candidates that name them are nowhere
 abbrev pub kept-closed : (s : Symbol) (old new : Direct) (kept : Kept s old) → AreLeft hidings.Dependent old.candidates.list.items new.candidates.list.items
-    → new.text ≡ old.text → Kept s new
-kept-closed s old new kept are text = record {
+    → new.text ≡ old.text → is_object s.bytes ≡ false → Kept s new
+kept-closed s old new kept are text typed = record {
   state = kept.state;
   scope = no_scope;
   keeps = record {
@@ -516,7 +508,7 @@ kept-closed s old new kept are text = record {
         old.candidates.list.items new.candidates.list.items kept.state.candidates are kept.keeps.candidates);
     named = none-named new.text.list.items;
     single = none-single;
-    unknown = λ e. refl;
+    unknown = λ e. (refl, typed);
   };
 }
 

@@ -1,5 +1,4 @@
 -- A writer at the end of arguments or a pack, and between two elements.
-use Rattle.cpp_direct.specs.declared.open.Arguments.{Arguments}
 use Rattle.sym_print.specs.declared.detail.Detail.{Detail}
 use Rattle.std.proofs.Common.{◌≡◌, ◌≢◌, inl, inr, ℕ, ◌+◌, ◌-◌, length, List, [], ◌∷◌, ◌++◌, reverse, slice_get, get_or, Bool, true, false, Some, None, refl, ap, sym, ◌∙◌, subst, arith, codes, append_assoc, append-nil}
 use Rattle.std.proofs.lemmas.Bool.{false≢true}
@@ -12,17 +11,12 @@ use Rattle.cpp_grammar.specs.Term.{Term, nil, list, instance, pack}
 use Rattle.cpp_grammar.specs.Scope.{element, count, arguments_of}
 use Rattle.cpp_grammar.specs.Values.{Around, State, tree, nothing_there, tree_of}
 use Rattle.cpp_grammar.specs.Between.{no_items}
-use Rattle.cpp_direct.specs.WrittenParts.{opening_bracket, closing_bracket}
-use Rattle.cpp_direct.specs.Symbol.{detail_of, Symbol}
 use Rattle.cpp_direct.specs.declared.open.Mark.TheVariants as marks
-use Rattle.cpp_direct.specs.declared.open.Nest.{Nest}
-use Rattle.cpp_direct.specs.declared.open.Open.{Open}
+use Rattle.cpp_direct.specs.WriterTypes.{Arguments, Direct, Nest, Open, Symbol, detail_of}
 use Rattle.cpp_direct.specs.declared.open.Open.TheVariants as opens
 use Rattle.cpp_direct.specs.declared.open.Step.TheVariants as steps
-use Rattle.cpp_direct.specs.declared.direct.Direct.{Direct}
-use Rattle.cpp_direct.specs.Holes.{Opened, Comes, IsListKind, ListGoesOn, StandsAt, AwaitsComponent, with_candidate}
-use Rattle.cpp_direct.specs.HolesOfLists.{IsArgumentKind}
-use Rattle.cpp_direct.specs.Prints.{Names, PrintAllAs, PrintsAs, list_of}
+use Rattle.cpp_direct.specs.AllHoles.{AwaitsComponent, Comes, IsArgumentKind, IsListKind, ListGoesOn, Opened, StandsAt, with_candidate}
+use Rattle.cpp_direct.specs.Prints.{Names, PrintAllAs, PrintsAs, list_of, opening_bracket, closing_bracket}
 use Rattle.cpp_direct.specs.WriterInvariant.{HasPack, Below, HasArguments, arguments_in, below, IsListing, IsNaming, IsScoped, Scope, scoped_in, is_noted, may_name, IsNest, IsTail, IsTemplate, IsWriting, Owns, Serves, ArgumentsGoOn, AwaitsElementOf, AwaitsEnumerator, Belongs, Closes, ElementsGoOn, EnumeratorGoesOn, GoesOn, Listing, of_template, of_pack, Stands, element_kind, extra_of, led_by, list_with, in_front_of_next, nowhere, Kept}
 use Rattle.cpp_direct.specs.MidStep.{AreKnown, IsListEnded, AwaitsNextArgument, IsNameEnded}
 use Rattle.cpp_direct.specs.Written.{Writes, added}
@@ -139,9 +133,6 @@ pub record IsClosed (s : Symbol) (w : Direct) (owner : Open) : Type 0 where
   pub owns : Owns s owner (below s scope (reverse w.waiting.list.items)) front (instance template (list_with ts tail)) w.at state
   pub known : AreKnown (detail_of s) w.text.list.items w.argument ts tail
 
-closing : (o e a b d : List ℕ) → (a ++ b ++ o ++ d) ++ e ≡ a ++ (b ++ o ++ d ++ e)
-closing o e a b d = ap (λ l. l ++ d ++ e) (append_assoc a b o) ∙ ap (λ l. l ++ e) (append_assoc a (b ++ o) d) ∙ append_assoc a (b ++ o ++ d) e
-
 -- the last bracket is written, and what was opened last is taken away
 pub closed-by : (s : Symbol) (old mid new : Direct) (x owner : Open) → IsListEnded s old new.argument → Writes old mid (closing_bracket (detail_of s))
     → new.text ≡ mid.text → new.candidates ≡ mid.candidates → new.has_scope ≡ mid.has_scope → new.at ≡ mid.at
@@ -166,7 +157,7 @@ closed-by s old mid new x owner p writes same candidates scope_same at items is 
           (subst (λ o. IsTemplate (detail_of s) scope.names o p.front p.template p.name (old.text.list.items ++ closing_bracket (detail_of s))) last.0
           (template-stays (detail_of s) scope.names p.owner p.front p.template p.name old.text.list.items (closing_bracket (detail_of s)) p.is_template));
       elements = subst (λ o. PrintAllAs (detail_of s) scope.names (is_noted o) 3 p.ts p.arguments) last.0 p.elements;
-      written = text ∙ ap (λ l. l ++ closing_bracket (detail_of s)) p.written ∙ closing (opening_bracket (detail_of s)) (closing_bracket (detail_of s)) p.front p.name p.arguments;
+      written = text ∙ ap (λ l. l ++ closing_bracket (detail_of s)) p.written ∙ simp append_assoc;
       owns = subst (λ n. Owns s owner (below s scope (reverse new.waiting.list.items)) p.front made n p.state) (sym (at ∙ writes.at))
           (subst (λ r. Owns s owner (below s scope r) p.front made old.at p.state) last.1
           (subst (λ o. Owns s o (below s scope p.rest) p.front made old.at p.state) last.0 p.owns));
@@ -575,14 +566,16 @@ template-takes detail names (opens.NameArguments from) front t name text is = tt
 template-takes detail names (opens.LevelArguments is_dependent) front t name text is = tt
 template-takes detail names _ front t name text is = absurd is
 
-argument-stands : (s : Symbol) (scope : Scope) (owner : Open) (rest : List Open) (os : List Opened) (text : List ℕ) → TakesArguments owner
-    → AwaitsElementOf s scope.names of_template owner (below s scope rest) os text → Stands s scope (owner ∷ rest) os text
-argument-stands s scope (opens.TypeArguments from is_dependent) rest os text takes p = p
-argument-stands s scope (opens.NestArguments nest) rest os text takes p = p
-argument-stands s scope (opens.FirstArguments nest) rest os text takes p = p
-argument-stands s scope (opens.NameArguments from) rest os text takes p = p
-argument-stands s scope (opens.LevelArguments is_dependent) rest os text takes p = p
-argument-stands s scope _ rest os text takes p = absurd takes
+-- they wait for an element of theirs
+arguments-stand : (s : Symbol) (scope : Scope) (owner : Open) (rest : List Open) (os : List Opened) (text : List ℕ) → TakesArguments owner
+    → (AwaitsElementOf s scope.names of_template owner (below s scope rest) os text → Stands s scope (owner ∷ rest) os text)
+    × (Stands s scope (owner ∷ rest) os text → AwaitsElementOf s scope.names of_template owner (below s scope rest) os text)
+arguments-stand s scope (opens.TypeArguments from is_dependent) rest os text takes = (λ p. p, λ p. p)
+arguments-stand s scope (opens.NestArguments nest) rest os text takes = (λ p. p, λ p. p)
+arguments-stand s scope (opens.FirstArguments nest) rest os text takes = (λ p. p, λ p. p)
+arguments-stand s scope (opens.NameArguments from) rest os text takes = (λ p. p, λ p. p)
+arguments-stand s scope (opens.LevelArguments is_dependent) rest os text takes = (λ p. p, λ p. p)
+arguments-stand s scope _ rest os text takes = absurd takes
 
 -- they have none that types name
 takes-none : (o : Open) → TakesArguments o → arguments_in o ≡ None
@@ -615,8 +608,8 @@ list-stands s scope opened os text w =
         → AwaitsElementOf s scope.names l w.place.owner (below s scope w.place.rest) os text → Stands s scope opened os text
     go of_template is awaits =
         let p = w.place in
-        subst (λ ws. Stands s scope ws os text) (sym is) (argument-stands s scope p.owner p.rest os text
-        (template-takes (detail_of s) scope.names p.owner p.front p.template p.name text p.is_template) awaits)
+        subst (λ ws. Stands s scope ws os text) (sym is) ((arguments-stand s scope p.owner p.rest os text
+        (template-takes (detail_of s) scope.names p.owner p.front p.template p.name text p.is_template)).0 awaits)
     go (of_pack before written) is awaits = subst (λ ws. Stands s scope ws os text) (sym is.0) (before, written, is.1, awaits)
 
 waits-of : (s : Symbol) (scope : Scope) (owner : Open) (rest : List Open) (os : List Opened) (text : List ℕ)
@@ -660,12 +653,7 @@ list-waits s opens.Pack (owner ∷ rest) os text takes p = record {
   written = p.3.7;
   onward = p.3.8;
 }
-list-waits s {scope = scope} (opens.TypeArguments from is_dependent) rest os text takes p = waits-of s scope (opens.TypeArguments from is_dependent) rest os text p
-list-waits s {scope = scope} (opens.NestArguments nest) rest os text takes p = waits-of s scope (opens.NestArguments nest) rest os text p
-list-waits s {scope = scope} (opens.FirstArguments nest) rest os text takes p = waits-of s scope (opens.FirstArguments nest) rest os text p
-list-waits s {scope = scope} (opens.NameArguments from) rest os text takes p = waits-of s scope (opens.NameArguments from) rest os text p
-list-waits s {scope = scope} (opens.LevelArguments is_dependent) rest os text takes p = waits-of s scope (opens.LevelArguments is_dependent) rest os text p
-list-waits s _ rest os text takes p = absurd takes
+list-waits s {scope = scope} o rest os text takes p = waits-of s scope o rest os text ((arguments-stand s scope o rest os text takes).1 p)
 
 -- the list waits for an element where one is expected
 pub element-stands : (s : Symbol) (w : Direct) (a : AwaitsNextArgument s w) (os : List Opened)

@@ -6,12 +6,10 @@ use Rattle.cpp_grammar.specs.Parts.{source_text}
 use Rattle.cpp_grammar.specs.Values.{tree}
 use Rattle.cpp_grammar.specs.Between.{inside}
 use Rattle.cpp_direct.specs.WrittenParts.{opening_bracket, closing_bracket}
-use Rattle.cpp_direct.specs.Symbol.{detail_of, Symbol}
+use Rattle.cpp_direct.specs.WriterTypes.{Direct, Symbol, detail_of}
 use Rattle.cpp_direct.specs.declared.open.Open.TheVariants as opens
 use Rattle.cpp_direct.specs.declared.open.Step.TheVariants as steps
-use Rattle.cpp_direct.specs.declared.direct.Direct.{Direct}
-use Rattle.cpp_direct.specs.Holes.{Comes, StandsAt, IsNameAt}
-use Rattle.cpp_direct.specs.HolesOfLevels.{member_of, template_named}
+use Rattle.cpp_direct.specs.AllHoles.{Comes, IsNameAt, StandsAt, member_of, template_named}
 use Rattle.cpp_direct.specs.WriterInvariant.{IsScoped, IsWriting, Stands, element_kind, list_with}
 use Rattle.cpp_direct.specs.MidStep.{AwaitsMember, AwaitsNextArgument}
 use Rattle.cpp_direct.specs.Written.{Reads, Writes}

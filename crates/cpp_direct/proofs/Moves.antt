@@ -27,6 +27,7 @@ use Rattle.cpp_direct.proofs.LettersTested.{is_small, small, takes, taken}
 use Rattle.cpp_direct.proofs.Tables as tables
 use Rattle.sym_direct.specs.Holes as direct
 use Rattle.sym_direct.proofs.Moves as moves
+pub use Rattle.sym_direct.proofs.Moves.{stands-join, stands-none, stands-split}
 
 -- ## Kinds
 
@@ -48,18 +49,6 @@ takes-wide s kind p byte taken wide chosen small takes =
     tables.takes-wide s.is_wide kind (number_of_kind kind) byte p taken wide (kind-at kind) chosen small takes
 
 -- ## Bytes at a place
-
--- what is there in two pieces is there as one
-pub stands-join : (s : List ℕ) (at : ℕ) (a b : List ℕ) → StandsAt s at a → StandsAt s (at + length a) b → StandsAt s at (a ++ b)
-stands-join s at a b first second = moves.stands-join s at a b first second
-
--- what is there as one is there in two pieces
-pub stands-split : (s : List ℕ) (at : ℕ) (a b : List ℕ) → StandsAt s at (a ++ b) → StandsAt s at a × StandsAt s (at + length a) b
-stands-split s at a b whole = moves.stands-split s at a b whole
-
--- nothing is anywhere
-pub stands-none : (s : List ℕ) (at : ℕ) → StandsAt s at []
-stands-none s at = moves.stands-none s at
 
 -- places are compared
 pub stands-moved : (s : List ℕ) (at to : ℕ) (bytes : List ℕ) → at ≡ to → StandsAt s at bytes → StandsAt s to bytes

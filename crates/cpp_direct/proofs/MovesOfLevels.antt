@@ -9,9 +9,8 @@ use Rattle.cpp_grammar.specs.Meaning.{meaning, operation_by, enclosed_argument, 
 use Rattle.cpp_grammar.specs.Unfolding as unfolding_
 use Rattle.cpp_grammar.specs.Unfolding.{close, byte_of}
 use Rattle.cpp_direct.specs.Symbol.{Symbol}
-use Rattle.cpp_direct.specs.Holes.{Opened, StandsAt, Expects, IsNameAt}
-use Rattle.cpp_direct.specs.HolesOfLevels.{LevelOpened, template_named}
-use Rattle.cpp_direct.proofs.Moves.{hole, open_at, fill, came, eats, leaves, eats-widely, is_eaten, is_eaten_widely, is_left, byte-opens, chain-opens, next-part, closes, fixed-fills, name-fills, none-fills}
+use Rattle.cpp_direct.specs.AllHoles.{Expects, IsNameAt, LevelOpened, Opened, StandsAt, template_named}
+use Rattle.cpp_direct.proofs.Moves.{hole, open_at, came, eats, leaves, eats-widely, is_eaten, is_eaten_widely, is_left, byte-opens, chain-opens, next-part, closes, fixed-fills, name-fills, none-fills}
 use Rattle.cpp_direct.proofs.MovesOfLists.{arguments-open}
 
 -- a name that isn't looked up becomes a name so far

@@ -20,15 +20,13 @@ use Rattle.cpp_grammar.specs.Meaning.{meaning, parameters, is_void, is_nil, list
 use Rattle.cpp_grammar.specs.Unfolding as unfolding_
 use Rattle.cpp_grammar.specs.Unfolding.{cpp, opening, close, byte_of, last_token, number_tested}
 use Rattle.cpp_direct.specs.Symbol.{Symbol}
-use Rattle.cpp_direct.specs.Holes.{cpp_language, Opened, opened, StandsAt, Comes, Expects, IsNameAt}
+use Rattle.cpp_direct.specs.AllHoles.{Comes, Discriminator, Expects, IsDiscriminatorAt, IsLambdaDigit, IsNameAt, IsNamedKind, IsPieceAt, LocalOpened, LocalTypeOpened, Opened, StandsAt, by_digit, by_digits, cpp_language, discriminator_value, lambda_digits, lambda_ending, lambda_with, opened, unnumbered}
 use Rattle.sym_direct.specs.Holes as direct
 use Rattle.sym_direct.proofs.Moves as moves
-use Rattle.cpp_direct.specs.HolesOfLocals.{Discriminator, unnumbered, by_digit, by_digits, discriminator_value, IsDiscriminatorAt, IsLambdaDigit, IsPieceAt, LocalOpened, LocalTypeOpened, lambda_digits, lambda_ending, lambda_with}
 use Rattle.cpp_direct.specs.Bytes.{short_numbers}
 use Rattle.cpp_direct.specs.WriterInvariant.{HasScope, ItemsGoOn, nowhere}
 use Rattle.cpp_direct.proofs.Kept.{none-known}
 use Rattle.cpp_direct.proofs.ShortNumbers.{lambda-begins}
-use Rattle.cpp_direct.specs.HolesOfTypes.{IsNamedKind}
 use Rattle.cpp_direct.proofs.MovesOfTypes.{named-taken}
 use Rattle.cpp_direct.proofs.Moves.{stands-split, kind-at, reads-rule, joins, none-left, opens-where, needs-next, hole, open_at, fill, filled-at, hole-at, eats, leaves, chosen-byte, is_left, byte-opens, chain-opens, byte-fills, next-part, closes, none-fills, fixed-fills, name-fills, number-fills, is_eaten, digits-fill}
 use Rattle.cpp_direct.proofs.Tables.{empty-by, names-by}

@@ -18,12 +18,11 @@ use Rattle.cpp_grammar.specs.Meaning.{meaning}
 use Rattle.cpp_grammar.specs.Unfolding as unfolding_
 use Rattle.cpp_direct.specs.Symbol.{Symbol}
 use Rattle.cpp_direct.specs.Bytes.{is_abbreviated}
-use Rattle.cpp_direct.specs.Holes.{Opened, opened, StandsAt, Comes, Expects, IsNameAt, IsSeqAt, NestGoesOn, NestNamed, bare_name, with_candidate, unless_listed, SamePasses, Named, AwaitsComponent, IsTagAt}
+use Rattle.cpp_direct.specs.AllHoles.{AwaitsArguments, AwaitsComponent, AwaitsInstance, Comes, Expects, IsFirstRest, IsNameAt, IsRest, IsSeqAt, IsTagAt, Named, NestGoesOn, NestNamed, Opened, SamePasses, StandsAt, bare_name, opened, unless_listed, with_candidate}
 use Rattle.cpp_direct.proofs.Moves.{alone-rest, stands-split, Hole, Filled, hole, open_at, fill, filled-at, eats, leaves, byte-opens, chain-opens, next-part, closes, name-fills, first-named, is_eaten, is_left, any-list, Taken, eats-widely, chosen-byte, byte-fills, fixed-fills, is_eaten_widely}
 use Rattle.cpp_direct.proofs.MovesOfTypes.{abbreviation-fills, substitution-fills}
 use Rattle.std.proofs.lemmas.Bool.{le-leb, lt-ltb}
 use Rattle.cpp_direct.specs.Names.{IsConstructorDigit, IsDestructorDigit}
-use Rattle.cpp_direct.specs.HolesOfNests.{IsRest, IsFirstRest, AwaitsArguments, AwaitsInstance}
 use Rattle.cpp_direct.proofs.LettersTested.{IsOperator}
 
 -- ## Pieces

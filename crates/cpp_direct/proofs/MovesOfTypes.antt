@@ -1,5 +1,5 @@
 -- Moves within types, arrays and function types: a byte or a name is read, and a type opens, or one comes.
-use Rattle.std.proofs.lemmas.Bool.{eqb-false}
+use Rattle.std.proofs.lemmas.Bool.{eq-eqb}
 use Rattle.std.proofs.Common.{◌≡◌, ℕ, ◌+◌, ◌-◌, List, [], ◌∷◌, slice_get, Bool, true, false, ◌&&◌, ◌||◌, not, nat_eq, Option, Some, None, Result, Ok, Err, refl, ap, subst, ◌∙◌, arith, length, sym}
 use Rattle.sym_core.specs.declared.refusal.Refusal.{Refusal}
 use Rattle.sym_core.specs.declared.refusal.Refusal.TheVariants.{BadReference}
@@ -23,15 +23,12 @@ use Rattle.cpp_direct.specs.Bytes.{is_builtin, is_builtin_with_d, is_abbreviated
 use Rattle.cpp_direct.specs.Letters.{builtin_letters, builtin_letters_with_d, abbreviation_letters}
 use Rattle.cpp_direct.proofs.Moves.{alone-arguments, stands-split, Hole, Filled, hole, open_at, fill, filled-at, eats, leaves, is_eaten, is_left, byte-opens, chain-opens, byte-fills, next-part, closes, none-fills, name-fills, first-named, came, digits-fill}
 use Rattle.cpp_direct.proofs.LettersTested.{each_passes, tested}
-use Rattle.cpp_direct.specs.Holes.{Opened, StandsAt, Comes, Expects, IsNameAt, IsSeqAt, IsReferable, IsTyped, TypeNamed, unless_listed, with_candidate, opened, ReadsRest}
-use Rattle.cpp_direct.specs.HolesOfTypes.{as_const, IsQualifiable, TypeOpens, TreePasses, TreeOpens, NameOpens, IsNamedKind}
+use Rattle.cpp_direct.specs.AllHoles.{ArrayOpened, Comes, Expects, FunctionOpened, IsNameAt, IsNamedKind, IsQualifiable, IsReferable, IsSeqAt, IsSizeAt, IsTyped, NameOpens, Opened, ParameterOpened, ReadsRest, ReferenceOpened, SignatureGoesOn, StandsAt, TreeOpens, TreePasses, TypeNamed, TypeOpens, access_letters, as_const, opened, plain_function, reference, reference_letter, unless_listed, with_candidate}
 use Rattle.cpp_direct.specs.declared.open.Access.{Access}
-use Rattle.cpp_direct.specs.HolesOfArrays.{IsSizeAt, ArrayOpened, access_letters}
 use Rattle.sym_shape.specs.declared.rule.Sym.{Sym}
 use Rattle.sym_shape.specs.Tree.{Forest, nothing, grown, AreTrees}
 use Rattle.cpp_grammar.specs.Table.{rule_of}
 use Rattle.cpp_grammar.proofs.ClosedTrees.{at_number}
-use Rattle.cpp_direct.specs.HolesOfFunctions.{plain_function, SignatureGoesOn, FunctionOpened, ParameterOpened, ReferenceOpened, reference, reference_letter}
 use Rattle.cpp_grammar.specs.Unfolding as unfolding_
 use Rattle.cpp_grammar.specs.Values as values
 use Rattle.cpp_direct.specs.declared.open.Access.TheVariants as accesses
@@ -373,19 +370,12 @@ and-false true = refl
 and-false false = refl
 
 -- one that names parameters, in the encoding that it was made in
-same-place : (n : ℕ) → nat_eq n n ≡ true
-same-place n = go (nat_eq n n) refl
-  where
-    go : (b : Bool) → nat_eq n n ≡ b → nat_eq n n ≡ true
-    go true is = is
-    go false is = absurd (eqb-false n n is refl)
-
 pub substituted-open : (around : Around) (place : ℕ) (c : Candidate) (st : State) → c.encoding ≡ around.encoding → around.in_lambda ≡ false
     → packs_in around.scope c.tree ≡ None → substituted around place (Some c) st ≡ Ok (found (tree c.tree true) st)
 unfolding substituted with_packs
 substituted-open around place c st made plain none =
     ap (λ l. whole (is_open c.tree) l (nat_eq c.encoding around.encoding) (packs_in around.scope c.tree)) plain
-    ∙ ap (λ b. whole (is_open c.tree) false b (packs_in around.scope c.tree)) (ap (λ n. nat_eq n around.encoding) made ∙ same-place around.encoding)
+    ∙ ap (λ b. whole (is_open c.tree) false b (packs_in around.scope c.tree)) (ap (λ n. nat_eq n around.encoding) made ∙ eq-eqb around.encoding around.encoding refl)
     ∙ ap (λ b. gated b (packs_in around.scope c.tree)) (and-false (is_open c.tree)) ∙ ap (gated false) none
   where
     gated : Bool → Option ℕ → Result (Found Value State) Refusal

@@ -14,7 +14,7 @@ use Rattle.cpp_direct.specs.declared.direct.Direct.{Direct}
 use Rattle.cpp_direct.specs.declared.names.NamePlace.{NamePlace}
 use Rattle.sym_direct.proofs.Moves.{stands-join}
 use Rattle.cpp_direct.proofs.Kept.{piece-found}
-use Rattle.cpp_direct.specs.Holes.{StandsAt, IsNameAt, IsTagAt, IsNumberAt}
+use Rattle.cpp_direct.specs.AllHoles.{IsDigitsAt, IsNameAt, IsNumberAt, IsTagAt, StandsAt}
 use Rattle.cpp_direct.specs.Names.{IsLengthRead, IsNamePlace, tag_text}
 use Rattle.cpp_direct.specs.Written.{Writes, Reads}
 use Rattle.cpp_direct.specs.Marks.{IsMarkPlace}
@@ -24,7 +24,6 @@ use Rattle.std.specs.Result.{result_ok}
 use Rattle.sym_core.specs.declared.NumberKind.{NumberKind}
 use Rattle.sym_core.specs.declared.NumberKind.TheVariants.{Digits}
 use Rattle.cpp_grammar.specs.Values.{signed_digits}
-use Rattle.cpp_direct.specs.HolesOfLists.{IsDigitsAt}
 use Rattle.cpp_direct.specs.MidStep.{number_text}
 use Rattle.cpp_direct.specs.declared.open.Mark.TheVariants as marks
 
@@ -297,14 +296,7 @@ name-placed s at place h le = record {
     own = own-found (IsName Cpp) s at place h le
 
     same : place.end ≡ place.to
-    same = omega (
-      arith,
-      h.end,
-      h.to,
-      length-append (h.token.before ++ h.token.own) h.token.behind,
-      length-append h.token.before h.token.own,
-      ap length h.is.ends,
-    )
+    same = omega (arith, h.end, h.to, length-append {A = ℕ}, ap length h.is.ends)
 
 -- a name was read and written
 pub name-read : (s : List ℕ) (old middle new : Direct) (place : NamePlace) (bytes : List ℕ) → IsNamePlace s old.at place

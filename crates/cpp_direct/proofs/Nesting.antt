@@ -1,7 +1,5 @@
 -- Nested names are read and written from left to right.
 use Rattle.sym_print.specs.declared.detail.Detail.{Detail}
-use Rattle.cpp_direct.specs.WrittenParts.{opening_bracket}
-use Rattle.cpp_direct.specs.declared.open.Arguments.{Arguments}
 use Rattle.cpp_direct.proofs.Unmarked.{name-unmarked}
 use Rattle.cpp_direct.proofs.Scopes.{no-arguments, scoped-inside, has-member}
 use Rattle.std.proofs.Common.{◌≡◌, ◌≢◌, ℕ, ◌+◌, ◌-◌, ◌≤◌, List, [], ◌∷◌, ◌++◌, length, take, drop, reverse, slice_get, Bool, true, false, Some, refl, ap, sym, ◌∙◌, subst, arith, codes, append-nil, append_assoc, ◌&&◌, Ok}
@@ -19,20 +17,13 @@ use Rattle.cpp_grammar.specs.References.{is_function_type, substituted}
 use Rattle.cpp_grammar.specs.Scope.{has_return_type, arguments_of, is_structor}
 use Rattle.cpp_grammar.specs.Values.{State, Around, tree, named}
 use Rattle.cpp_grammar.specs.Between.{with_tag, after, inside, no_items}
-use Rattle.cpp_direct.specs.Symbol.{detail_of, Symbol}
-use Rattle.cpp_direct.specs.declared.open.Mark.{Mark}
-use Rattle.cpp_direct.specs.declared.open.Candidate.{Candidate}
-use Rattle.cpp_direct.specs.declared.open.Nest.{Nest}
-use Rattle.cpp_direct.specs.declared.open.Purpose.{Purpose}
 use Rattle.cpp_direct.specs.declared.open.Purpose.TheVariants as purposes
-use Rattle.cpp_direct.specs.declared.open.Open.{Open}
+use Rattle.cpp_direct.specs.WriterTypes.{Arguments, Candidate, Direct, Mark, Nest, Open, Purpose, Symbol, detail_of}
 use Rattle.cpp_direct.specs.declared.open.Open.TheVariants as opens
 use Rattle.cpp_direct.specs.declared.open.Step.TheVariants as steps
-use Rattle.cpp_direct.specs.declared.direct.Direct.{Direct}
-use Rattle.cpp_direct.specs.Holes.{Opened, Comes, StandsAt, IsNameAt, IsSeqAt, SamePasses, NestGoesOn, AwaitsComponent, with_candidate, unless_listed, IsTagAt}
-use Rattle.cpp_direct.specs.HolesOfNests.{IsRest, IsFirstRest}
+use Rattle.cpp_direct.specs.AllHoles.{AwaitsComponent, Comes, IsFirstRest, IsNameAt, IsRest, IsSeqAt, IsTagAt, NestGoesOn, Opened, SamePasses, StandsAt, unless_listed, with_candidate}
 use Rattle.cpp_direct.specs.Names.{tag_text}
-use Rattle.cpp_direct.specs.Prints.{Names, Prints, PrintsAs, NamesClass}
+use Rattle.cpp_direct.specs.Prints.{Names, Prints, PrintsAs, NamesClass, opening_bracket}
 use Rattle.cpp_direct.specs.WriterInvariant.{HasArguments, IsMadeIn, IsNaming, IsNest, IsNestScoped, IsNesting, IsOwn, IsScoped, Scope, Serves, IsWriting, below, is_type, nowhere, HasSingles, argument_of, Kept, IsNestSoFar}
 use Rattle.cpp_direct.specs.MidStep.{AwaitsNest, IsNestKnown, IsNestNamed, IsNameEnded, IsOperatorRead}
 use Rattle.cpp_direct.specs.Written.{Reads, added, added_unless}

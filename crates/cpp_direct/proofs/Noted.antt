@@ -5,16 +5,12 @@ use Rattle.std.proofs.lemmas.Bool.{false≢true}
 use Rattle.cpp_grammar.specs.Term.{Term, instance}
 use Rattle.cpp_grammar.specs.Values.{State}
 use Rattle.cpp_grammar.specs.Between.{no_items}
-use Rattle.cpp_direct.specs.WrittenParts.{opening_bracket}
-use Rattle.cpp_direct.specs.Symbol.{detail_of, Symbol}
-use Rattle.cpp_direct.specs.declared.open.Nest.{Nest}
+use Rattle.cpp_direct.specs.WriterTypes.{Direct, Nest, Open, Symbol, detail_of}
 use Rattle.cpp_direct.specs.declared.open.Purpose.TheVariants as purposes
-use Rattle.cpp_direct.specs.declared.open.Open.{Open}
 use Rattle.cpp_direct.specs.declared.open.Open.TheVariants as opens
 use Rattle.cpp_direct.specs.declared.open.Step.TheVariants as steps
-use Rattle.cpp_direct.specs.declared.direct.Direct.{Direct}
 use Rattle.cpp_direct.specs.Holes.{Opened}
-use Rattle.cpp_direct.specs.Prints.{Names, PrintAllAs}
+use Rattle.cpp_direct.specs.Prints.{Names, PrintAllAs, opening_bracket}
 use Rattle.cpp_direct.specs.WriterInvariant.{arguments_in, below, IsNaming, IsOwn, Scope, argument_of, is_noted, is_type, is_within_type, IsNest, IsTemplate, IsWriting, Owns, ArgumentsGoOn, AwaitsElementOf, of_template, Stands, list_with, in_front_of_next, IsTypeRead}
 use Rattle.cpp_direct.specs.MidStep.{IsDependentNow}
 use Rattle.cpp_direct.proofs.PrintedLists.{all-given, next-prints-as, type-element-as}

@@ -95,8 +95,7 @@ more-shown {detail} c extra (t ∷ ts) tail (b ∷ bs) most ends each =
         later.1 few,
         few,
         each.0.cost,
-        length-append b (further bs),
-        length-append (codes ", ") (b ++ further bs),
+        length-append {A = ℕ},
         cost_shown detail more c l parts is refl,
       ),
     )

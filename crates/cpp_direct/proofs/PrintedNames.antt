@@ -13,8 +13,7 @@ use Rattle.cpp_grammar.specs.Items.{Item, left, right, base, piece, closed, Cont
 use Rattle.cpp_grammar.specs.Meaning.{is_void}
 use Rattle.cpp_grammar.specs.Parts.{as_item, says, source_text, prefix_item, last_piece, opening_text, piece_parts, left_parts, right_parts, base_parts, parts_in, not_empty, is_plain_integer, text_part, sign_part, builtin_code, integer_parts}
 use Rattle.cpp_direct.specs.Names.{is_angle, operator_text}
-use Rattle.cpp_direct.specs.Prints.{written_of, EndsAsInteger, Prints, PrintsIn, PrintsName, NamesClass, sign_text}
-use Rattle.cpp_direct.specs.WrittenParts.{IsUnmarked, unmarked_parts, written_in}
+use Rattle.cpp_direct.specs.Prints.{written_of, EndsAsInteger, Prints, PrintsIn, PrintsName, NamesClass, sign_text, IsUnmarked, unmarked_parts, written_in}
 use Rattle.cpp_direct.proofs.Unmarked.{source-unmarked, operator-unmarked, abbreviation-unmarked, builtin-unmarked, truth-unmarked, ending-unmarked, rest-unmarked}
 use Rattle.cpp_direct.proofs.PrintedParts.{text_shown, cost_shown, alone_shown, first_cost_shown, length-filled, shown_by, first_shown, text_append, cost_append, part-text, part-cost}
 use Rattle.cpp_direct.proofs.PrintedTypes.{made-prints}
@@ -399,8 +398,7 @@ plain-integer-prints {detail} letter plain n filled digits_plain =
         part-cost detail ending,
         cost_shown detail right c i [] refl refl,
         length-filled n.digits filled,
-        length-append (sign_text n ++ n.digits) ending,
-        length-append (sign_text n) n.digits,
+        length-append {A = ℕ},
       );
     }) refl (λ scope. refl) refl (λ c. refl)
 

@@ -4,9 +4,8 @@ use Prim.Native.String.{String}
 use Rattle.std.proofs.lemmas.Bool.{false≢true}
 use Rattle.sym_print.specs.Details.{has_arguments}
 use Rattle.sym_print.specs.Unfold.{text}
-use Rattle.cpp_direct.specs.WrittenParts.{IsUnmarked, unmarked_parts, written_in}
 use Rattle.cpp_direct.proofs.PrintedParts.{text_shown, cost_shown, alone_shown, first_cost_shown}
-use Rattle.cpp_direct.specs.Prints.{Prints, PrintsIn, PrintsGiven, PrintsAs, Named, Names, IsGiven, AreSingle, EndsAsInteger, written_of}
+use Rattle.cpp_direct.specs.Prints.{Prints, PrintsIn, PrintsGiven, PrintsAs, Named, Names, IsGiven, AreSingle, EndsAsInteger, written_of, IsUnmarked, unmarked_parts, written_in}
 use Rattle.cpp_grammar.specs.Items.{closed, Form, left, right, low, Context, Head, lref, collapsed, head_with, head, is_reference, is_funarr, is_empty, argument, head_closed, indexed}
 use Rattle.cpp_grammar.specs.Meaning.{is_void}
 use Rattle.cpp_grammar.specs.Parts.{as_item, says, text_part, qualifier_text, prefix_item, last_piece, opening_text, marked_parts, reference_parts, qualified_left, qualified_right, closing_right, left_parts, right_parts, parts_in, not_empty, is_plain_integer, types_of}

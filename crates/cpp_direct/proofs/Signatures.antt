@@ -7,18 +7,10 @@ use Rattle.cpp_grammar.specs.Grammar.{among}
 use Rattle.cpp_grammar.specs.Term.{Term, builtin, nil, list, pointer, array, lvalue}
 use Rattle.cpp_grammar.specs.Values.{Around, State, tree, outermost}
 use Rattle.cpp_grammar.specs.declared.kind.Kind.{Kind}
-use Rattle.cpp_direct.specs.Symbol.{detail_of, Symbol}
-use Rattle.cpp_direct.specs.declared.open.Mark.{Mark}
-use Rattle.cpp_direct.specs.declared.open.Candidate.{Candidate}
-use Rattle.cpp_direct.specs.declared.open.Open.{Open}
-use Rattle.cpp_direct.specs.declared.open.Arguments.{Arguments}
-use Rattle.cpp_direct.specs.declared.open.Step.{Step}
-use Rattle.cpp_direct.specs.declared.direct.Direct.{Direct}
+use Rattle.cpp_direct.specs.WriterTypes.{Access, Arguments, Candidate, Direct, Mark, Open, Step, Symbol, detail_of}
 use Rattle.cpp_direct.specs.Bytes.{is_builtin}
-use Rattle.cpp_direct.specs.Holes.{Opened, StandsAt, Comes, Expects, candidate, with_candidate, IsReferable}
-use Rattle.cpp_direct.specs.HolesOfFunctions.{SignatureGoesOn, plain_function, pointed, with_pointed, reference, reference_letter, FunctionOpened}
-use Rattle.cpp_direct.specs.HolesOfTypes.{NoReference, IsQualifiable}
-use Rattle.cpp_direct.specs.Prints.{PrintAll, IsElement}
+use Rattle.cpp_direct.specs.AllHoles.{Comes, Expects, FunctionOpened, IsQualifiable, IsReferable, IsSizeAt, NoReference, Opened, SignatureGoesOn, StandsAt, access_letters, accessed, array_opening, candidate, is_marked, plain_function, pointed, reference, reference_letter, with_accessed, with_candidate, with_pointed}
+use Rattle.cpp_direct.specs.Prints.{PrintAll, IsElement, IsUnmarked}
 use Rattle.cpp_direct.specs.WriterInvariant.{below, IsScoped, AreCandidates, IsWriting, Marks, Scope, Stands, TakesFunction, opening_text, list_with}
 use Rattle.cpp_direct.specs.MidStep.{AwaitsParameter, AwaitsSignature, IsElementPassed, IsFunctionRead, IsReturned, IsArrayRead, IsElementRead, ElementOf}
 use Rattle.cpp_direct.specs.Written.{Writes, hidden, with_hidden}
@@ -32,12 +24,9 @@ use Rattle.cpp_direct.proofs.PrintedFunctions.{function-element, void-function-e
 use Rattle.cpp_direct.proofs.PrintedLists.{list-more, none-print, none-text}
 use Rattle.cpp_direct.proofs.Scopes.{none-scoped}
 use Rattle.cpp_direct.proofs.TypesRead.{by-step, given, popped, whole-awaited}
-use Rattle.cpp_direct.specs.declared.open.Access.{Access}
-use Rattle.cpp_direct.specs.HolesOfArrays.{IsSizeAt, access_letters, accessed, array_opening, is_marked, with_accessed}
 use Rattle.sym_core.specs.declared.NameClass.TheVariants.{Cpp}
 use Rattle.sym_core.specs.Token.{is_name_byte}
 use Rattle.cpp_direct.specs.Names.{IsReadable}
-use Rattle.cpp_direct.specs.WrittenParts.{IsUnmarked}
 use Rattle.cpp_direct.proofs.Unmarked.{each-unmarked, name-byte}
 use Rattle.cpp_direct.proofs.NamePlaces.{all-reached, own-each}
 use Rattle.cpp_direct.proofs.PrintedNames.{normal-unmarked}
@@ -333,23 +322,18 @@ function-handed s old new is_pointer p text candidates scope_same waits at =
     }
 
 -- what takes a function type, and isn't parameters or a special object, takes elements
-pub takes-as-element : (o : Open) (rest ws : List Open) → ws ≡ o ∷ rest → TakesFunction ws
-    → ((x : Mark) (y : ℕ) (z : Arguments) → o ≡ opens.Parameters x y z → ⊥)
+pub takes-as-element : (o : Open) (rest : List Open) → TakesFunction (o ∷ rest) → ((x : Mark) (y : ℕ) (z : Arguments) → o ≡ opens.Parameters x y z → ⊥)
     → (o ≡ opens.Special → ⊥) → ((x : Mark) (y t : ℕ) → o ≡ opens.Enclosing x y t → ⊥) → TakesElements o
-takes-as-element o rest ws is takes apart no_special within = go o (subst TakesFunction is takes) apart no_special within
-  where
-    go : (o : Open) → TakesFunction (o ∷ rest) → ((x : Mark) (y : ℕ) (z : Arguments) → o ≡ opens.Parameters x y z → ⊥) → (o ≡ opens.Special → ⊥)
-        → ((x : Mark) (y t : ℕ) → o ≡ opens.Enclosing x y t → ⊥) → TakesElements o
-    go (opens.TypeArguments from is_dependent) takes apart z m = tt
-    go (opens.NestArguments nest) takes apart z m = tt
-    go (opens.FirstArguments nest) takes apart z m = tt
-    go (opens.NameArguments from) takes apart z m = tt
-    go (opens.LevelArguments is_dependent) takes apart z m = tt
-    go opens.Pack takes apart z m = tt
-    go (opens.Parameters x y w) takes apart z m = absurd (apart x y w refl)
-    go opens.Special takes apart z m = absurd (z refl)
-    go (opens.Enclosing x y t) takes apart z m = absurd (m x y t refl)
-    go _ takes apart z m = absurd takes
+takes-as-element (opens.TypeArguments from is_dependent) rest takes apart z m = tt
+takes-as-element (opens.NestArguments nest) rest takes apart z m = tt
+takes-as-element (opens.FirstArguments nest) rest takes apart z m = tt
+takes-as-element (opens.NameArguments from) rest takes apart z m = tt
+takes-as-element (opens.LevelArguments is_dependent) rest takes apart z m = tt
+takes-as-element opens.Pack rest takes apart z m = tt
+takes-as-element (opens.Parameters x y w) rest takes apart z m = absurd (apart x y w refl)
+takes-as-element opens.Special rest takes apart z m = absurd (z refl)
+takes-as-element (opens.Enclosing x y t) rest takes apart z m = absurd (m x y t refl)
+takes-as-element _ rest takes apart z m = absurd takes
 
 -- ## The beginning of an array
 
@@ -426,7 +410,7 @@ array-written s readable w begun first second third last access from to p size t
     let grown : third.text.list.items ≡ p.taker.front ++ bytes =
     three.text ∙ ap (λ l. l ++ codes "]") (two.text ∙ ap (λ l. first.text.list.items ++ l) is
     ∙ ap (λ l. l ++ digits) (one.text ∙ ap (λ v. v.list.items ++ opening) text ∙ ap (λ l. l ++ opening) p.written))
-    ∙ joined p.taker.front p.first.bytes opening digits (codes "]") in
+    ∙ simp append_assoc in
     let written : last.text.list.items ≡ p.taker.front ++ bytes = ap (λ v. v.list.items) same_text ∙ grown in
     let open_is : reverse last.waiting.list.items ≡ p.taker.rest =
     ap (λ v. reverse v.list.items) (same_waits ∙ three.waiting ∙ two.waiting ∙ one.waiting) ∙ waits in
@@ -447,11 +431,6 @@ array-written s readable w begun first second third last access from to p size t
       };
       takes = subst TakesFunction (sym open_is) p.taker.takes;
     }
-  where
-    joined : (f b o d e : List ℕ) → f ++ b ++ o ++ d ++ e ≡ f ++ (b ++ o ++ d ++ e)
-    joined f b o d e =
-        ap (λ l. l ++ o ++ d ++ e) refl ∙ ap (λ l. l ++ d ++ e) (append_assoc f b o) ∙ ap (λ l. l ++ e) (append_assoc f (b ++ o) d)
-        ∙ append_assoc f (b ++ o ++ d) e
 
 -- ## An array handed on
 

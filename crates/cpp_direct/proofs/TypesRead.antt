@@ -1,10 +1,10 @@
 -- A writer reads a type, or the first bytes of one.
-use Rattle.std.proofs.Common.{◌≡◌, ◌≢◌, inl, inr, ℕ, ◌+◌, ◌-◌, ◌≤◌, List, [], ◌∷◌, ◌++◌, length, take, drop, reverse, slice_get, Bool, true, false, ◌&&◌, nat_eq, Option, Some, None, codes, refl, ap, sym, subst, ◌∙◌, arith, append_assoc, append-nil, if◌then◌else◌}
+use Rattle.std.proofs.Common.{◌≡◌, ◌≢◌, inl, inr, ℕ, ◌+◌, ◌-◌, ◌≤◌, List, [], ◌∷◌, ◌++◌, length, take, drop, reverse, slice_get, Bool, true, false, Option, Some, None, codes, refl, ap, sym, subst, ◌∙◌, arith, append_assoc, append-nil, if◌then◌else◌}
 use Rattle.std.proofs.lemmas.List.{length-append, reverse-reverse}
 use Rattle.std.proofs.Math.Seq.{take-append_seam}
 use Rattle.std.specs.Option.{OnSome, IfSome}
 use Rattle.std.specs.Bool.{◌==◌}
-use Rattle.std.proofs.lemmas.Bool.{false≢true, eqb-true, and_parts}
+use Rattle.std.proofs.lemmas.Bool.{false≢true}
 use Rattle.sym_core.specs.declared.NumberKind.TheVariants.{Seq36}
 use Rattle.sym_core.specs.Value.{counted_value}
 use Rattle.cpp_grammar.specs.declared.kind.Kind.{Kind}
@@ -14,18 +14,13 @@ use Rattle.cpp_grammar.specs.Texts.{Naming, look_up, builtin_texts, abbreviation
 use Rattle.cpp_grammar.specs.Parts.{source_text}
 use Rattle.cpp_grammar.specs.Values.{State, tree}
 use Rattle.cpp_grammar.specs.Between.{after, inside, no_items}
-use Rattle.cpp_direct.specs.Symbol.{detail_of, Symbol}
+use Rattle.cpp_direct.specs.WriterTypes.{Candidate, Direct, Open, Step, Symbol, detail_of}
 use Rattle.cpp_direct.specs.Bytes.{is_builtin, is_builtin_with_d, is_abbreviated}
 use Rattle.cpp_direct.specs.Letters.{builtin_letters, builtin_letters_with_d, abbreviation_letters}
-use Rattle.cpp_direct.specs.declared.open.Candidate.{Candidate}
-use Rattle.cpp_direct.specs.declared.open.Open.{Open}
 use Rattle.cpp_direct.specs.declared.open.Open.TheVariants as opens
 use Rattle.cpp_direct.specs.declared.open.Purpose.TheVariants as purposes
-use Rattle.cpp_direct.specs.declared.open.Step.{Step}
 use Rattle.cpp_direct.specs.declared.open.Step.TheVariants as steps
-use Rattle.cpp_direct.specs.declared.direct.Direct.{Direct}
-use Rattle.cpp_direct.specs.Holes.{StandsAt, Comes, Expects, IsReferable, IsNameAt, IsSeqAt, TypeNamed, with_candidate, unless_listed}
-use Rattle.cpp_direct.specs.HolesOfTypes.{IsQualifiable, TypeOpens}
+use Rattle.cpp_direct.specs.AllHoles.{Comes, Expects, IsNameAt, IsQualifiable, IsReferable, IsSeqAt, StandsAt, TypeNamed, TypeOpens, unless_listed, with_candidate}
 use Rattle.cpp_direct.specs.Prints.{Prints, PrintsAs}
 use Rattle.cpp_direct.specs.WriterInvariant.{IsScoped, IsWriting, Marks, Stands, below, Kept}
 use Rattle.cpp_direct.specs.MidStep.{AwaitsType, AwaitsNamedType, AwaitsNest, IsNamedAgain, IsTypeNamed, AwaitsMark}
@@ -36,7 +31,7 @@ use Rattle.cpp_direct.proofs.Kept.{candidate-found, kept-grown, kept-same, last-
 use Rattle.cpp_direct.proofs.Moves.{expects-empty, stands-join}
 use Rattle.cpp_direct.proofs.MovesOfLists.{arguments-open}
 use Rattle.cpp_direct.proofs.MovesOfTypes.{solid-opens, builtin-comes, builtin-with-d-comes, pointer-opens, lvalue-opens, rvalue-opens, const-opens, source-opens, std-opens, abbreviation-opens, substitution-opens, substituted-so, nested-type-opens}
-use Rattle.cpp_direct.proofs.LettersTested.{each_passes, tested, is_filled, filled}
+use Rattle.cpp_direct.proofs.LettersTested.{code-listed, codes_pass, each_passes, tested, is_filled, filled}
 use Rattle.cpp_direct.proofs.PrintedNames.{source-prints, std-prints, abbreviation-prints, builtin-prints, builtin-with-d-prints}
 
 -- ## What calls give
@@ -132,31 +127,14 @@ unfoldable pub code_in : List ℕ → List ℕ → Bool
 code_in (c ∷ []) cs = among cs c
 code_in _ cs = true
 
-unfoldable pub codes_in : List Naming → List ℕ → Bool
-codes_in [] cs = true
-codes_in (n ∷ rest) cs = code_in n.code cs && codes_in rest cs
-
-pub letter-listed : (table : List Naming) (cs : List ℕ) (letter : ℕ) → codes_in table cs ≡ true → look_up (letter ∷ []) table ≢ []
+pub letter-listed : (table : List Naming) (cs : List ℕ) (letter : ℕ) → codes_pass (λ code. code_in code cs) table ≡ true → look_up (letter ∷ []) table ≢ []
     → among cs letter ≡ true
-unfolding look_up same_bytes code_in codes_in
-letter-listed [] cs letter all has = absurd (has refl)
-letter-listed (n ∷ rest) cs letter all has =
-    let both = and_parts (code_in n.code cs) (codes_in rest cs) all in
-    go n.code both.0 (same_bytes (letter ∷ []) n.code) refl has (letter-listed rest cs letter both.1)
-  where
-    go : (code : List ℕ) → code_in code cs ≡ true → (b : Bool) → same_bytes (letter ∷ []) code ≡ b
-        → ◌≢◌ {A = List ℕ} (elim b [ true ↦ n.text | false ↦ look_up (letter ∷ []) rest ]) []
-        → (look_up (letter ∷ []) rest ≢ [] → among cs letter ≡ true)
-        → among cs letter ≡ true
-    go code has_code false same filled later = later filled
-    go [] has_code true same filled later = absurd (false≢true same)
-    go (c ∷ []) has_code true same filled later =
-        subst (λ l. among cs l ≡ true) (sym (eqb-true letter c ((and_parts (nat_eq letter c) true same).0))) has_code
-    go (c ∷ d ∷ ds) has_code true same filled later = absurd (false≢true ((and_parts (nat_eq letter c) false same).1))
+unfolding code_in
+letter-listed table cs letter all has = code-listed table (λ code. code_in code cs) (letter ∷ []) all has
 
 -- a letter with such a text is one of these
 pub builtin-listed : (letter : ℕ) → look_up (letter ∷ []) builtin_texts ≢ [] → is_builtin letter ≡ true
-unfolding is_builtin builtin_texts code_in codes_in among
+unfolding is_builtin builtin_texts code_in codes_pass among
 builtin-listed letter has = letter-listed builtin_texts builtin_letters letter refl has
 
 -- a letter of these has a text after a D
@@ -167,7 +145,7 @@ builtin-with-d-text letter is =
 
 -- and so is one of an abbreviation
 pub abbreviation-listed : (letter : ℕ) → look_up (letter ∷ []) abbreviation_texts ≢ [] → is_abbreviated letter ≡ true
-unfolding is_abbreviated abbreviation_texts code_in codes_in among
+unfolding is_abbreviated abbreviation_texts code_in codes_pass among
 abbreviation-listed letter has = letter-listed abbreviation_texts abbreviation_letters letter refl has
 
 pub no-builtin : (letter : ℕ) → is_builtin letter ≡ true → letter ≢ 0
@@ -387,13 +365,14 @@ rvalue-opened s old new o from a begins stands is waits at text candidates scope
     type-opened s old new o (opens.Rvalue from) from rvalue a (rvalue-opens s a.kind a.around a.os old.at a.state referable a.awaits stands) begins
     (λ m. m) a.scoped is waits at text candidates scope
 
--- a plain type is expected, where one with a qualifier may be
-plain-opened : (s : Symbol) (old new : Direct) (o : Option Step) (from : ℕ) (a : AwaitsType s old) → IsQualifiable a.kind
-    → from ≡ length old.text.list.items
+-- a plain type is expected after a K, where a whole one is
+pub const-opened : (s : Symbol) (old new : Direct) (o : Option Step) (from : ℕ) → IsWriting s old steps.Type → from ≡ length old.text.list.items
     → StandsAt s.bytes old.at (75 ∷ []) → IfSome o (λ next. next ≡ steps.Plain) → OnSome o (new.waiting.list.items ≡ old.waiting.list.items ++ opens.Const from ∷ [])
     → OnSome o (new.at ≡ old.at + 1) → new.text ≡ old.text → new.candidates ≡ old.candidates → new.has_scope ≡ old.has_scope → IfSome o (IsWriting s new)
-plain-opened s old new o from a may begins stands is waits at text candidates scope =
-    let t = const-opens s a.kind a.around a.os old.at a.state may a.awaits stands in
+const-opened s old new o from p begins stands is waits at text candidates scope =
+    let whole = whole-awaited s old p in
+    let a = whole.0 in
+    let t = const-opens s a.kind a.around a.os old.at a.state whole.1 a.awaits stands in
     by-step o steps.Plain (IsWriting s new) is (λ e.
     let open_is : reverse new.waiting.list.items ≡ opens.Const from ∷ reverse old.waiting.list.items
     = ap reverse (given _ o steps.Plain e waits) ∙ reverse-last old.waiting.list.items (opens.Const from) in
@@ -404,16 +383,6 @@ plain-opened s old new o from a may begins stands is waits at text candidates sc
         subst (λ k. Expects s Kind.Plain a.around t.inner k a.state) (sym (given _ o steps.Plain e at)) t.awaits,
       );
     })
-
--- after a K
-pub const-opened : (s : Symbol) (old new : Direct) (o : Option Step) (from : ℕ) (is_plain : Bool)
-    → IsWriting s old (if is_plain then steps.Plain else steps.Type) → is_plain ≡ false → from ≡ length old.text.list.items
-    → StandsAt s.bytes old.at (75 ∷ []) → IfSome o (λ next. next ≡ steps.Plain) → OnSome o (new.waiting.list.items ≡ old.waiting.list.items ++ opens.Const from ∷ [])
-    → OnSome o (new.at ≡ old.at + 1) → new.text ≡ old.text → new.candidates ≡ old.candidates → new.has_scope ≡ old.has_scope → IfSome o (IsWriting s new)
-const-opened s old new o from true p plain begins stands is waits at text candidates scope = absurd (false≢true (sym plain))
-const-opened s old new o from false p plain begins stands is waits at text candidates scope =
-    let whole = whole-awaited s old p in
-    plain-opened s old new o from whole.0 whole.1 begins stands is waits at text candidates scope
 
 -- a nested name is expected after an N
 pub nest-awaited : (s : Symbol) (old : Direct) (n : ℕ) → AwaitsNamedType s old → n ≡ old.at + 1 → StandsAt s.bytes old.at (78 ∷ [])

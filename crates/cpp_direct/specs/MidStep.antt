@@ -33,7 +33,7 @@ use Rattle.cpp_direct.specs.HolesOfLevels.{MemberComes}
 use Rattle.cpp_direct.specs.HolesOfTypes.{IsNamedKind, NoReference, TreeOpens}
 use Rattle.cpp_direct.specs.Marks.{has_const, called_on, mark_text}
 use Rattle.cpp_direct.specs.Prints.{NamesClass, Prints, PrintsName, IsElement, PrintAll, Shows, Encloses, sign_text, PrintsAs, PrintsIn, PrintAllAs, IsGiven, PrintAllBy, PrintsMade, pattern_letters}
-use Rattle.cpp_direct.specs.WriterInvariant.{AwaitsItems, Encoded, EncodedBehind, Fronts, IsListing, IsTail, IsTemplate, GoesOn, EnumeratorGoesOn, Owns, ParametersGoOn, Serves, Stands, TakesFunction, opening_text, qualifiers, arguments_or_pack, extra_of, led_by, list_with, in_front_of_next, ComeBefore, AreAmong, HasArguments, HasPack, IsAmong, IsPackOf, IsSingle, IsKnown, IsMadeIn, IsScoped, is_type, place_of, IsNaming, IsNestScoped, Scope, below, is_noted, may_name, encoding_place, IsNamedSo, IsNesting, Kept, IsBetween, AwaitsTypeIn, HasInstance, HasParameters, IsNestSoFar, FirstType, IsTaken}
+use Rattle.cpp_direct.specs.WriterInvariant.{AwaitsItems, TakesItems, Encoded, EncodedBehind, Fronts, IsListing, IsTail, IsTemplate, GoesOn, EnumeratorGoesOn, Owns, ParametersGoOn, Serves, Stands, TakesFunction, opening_text, qualifiers, arguments_or_pack, extra_of, led_by, list_with, in_front_of_next, ComeBefore, AreAmong, HasArguments, HasPack, IsAmong, IsPackOf, IsSingle, IsKnown, IsMadeIn, IsScoped, is_type, place_of, IsNaming, IsNestScoped, Scope, below, is_noted, may_name, encoding_place, IsNamedSo, IsNesting, Kept, IsBetween, AwaitsTypeIn, HasInstance, HasParameters, IsNestSoFar, FirstType, IsTaken}
 
 -- the digits after the T of a parameter with this number, of which there is one at most
 abbrev pub parameter_digits : (number : ℕ) → List ℕ
@@ -65,6 +65,15 @@ pub record AwaitsEncoding (s : Symbol) (w : Direct) : Type 0 where
   pub begins : w.text.list.items ≡ [] → w.at ≡ encoding_place s.bytes
   pub awaits : Expects s Kind.Encoding around outer w.at state
   pub onward : (e : Term) (at : ℕ) (st : State) → Comes s outer (tree e true) at st → EncodedBehind s w.text.list.items e at
+
+-- its name is expected, or that of an object
+pub record AwaitsName (s : Symbol) (w : Direct) : Type 0 where
+  pub kept : Kept s w
+  pub open kept use *
+  pub encoding : ℕ
+  pub outer : List Opened
+  pub awaits : Expects s Kind.CompleteName (in_name encoding) outer w.at state
+  pub onward : (v : Value) (at : ℕ) (st : State) → Comes s outer v at st → AwaitsItems s w.text.list.items v at st
 
 -- the name of an encoding that began before is expected, after the L of internal linkage or without
 pub record AwaitsSource (s : Symbol) (w : Direct) (is_internal : Bool) : Type 0 where
@@ -404,6 +413,7 @@ pub record IsNameScoped (s : Symbol) (w : Direct) (mark : Mark) (is_instance : B
   pub ended : IsNameEnded s w mark is_instance argument from
   pub given : IsGiven (detail_of s) ended.scope.names (types_of ended.own)
   pub named : ended.scope.arguments ≡ argument
+  pub items : TakesItems s ended.lead ended.v w.at ended.state
   pub encoded : argument.encoding ≢ 0 → (from ≡ 0) × (argument.encoding ≡ encoding_place s.bytes)
 
 -- The return type of a function was read, and comes after the function's name and what is written before it.

@@ -5,6 +5,7 @@ use Rattle.cpp_grammar.specs.Term.{Term}
 use Rattle.cpp_grammar.specs.Scope.{has_return_type}
 use Rattle.cpp_grammar.specs.Values.{Value}
 use Rattle.cpp_grammar.specs.Meaning.{encoding_of}
+use Rattle.cpp_direct.specs.Bytes.{is_object}
 use Rattle.cpp_direct.specs.Symbol.{detail_of, Symbol}
 use Rattle.cpp_direct.specs.declared.open.Arguments.{Arguments}
 use Rattle.cpp_direct.specs.declared.open.Mark.{Mark}
@@ -49,7 +50,7 @@ pub record IsAddressedFrontRead (s : Symbol) (w : Direct) (mark : Mark) (to : �
   pub open kept use *
   pub rest : List Open
   pub open_is : reverse w.waiting.list.items ≡ opens.AddressedFront mark to argument ∷ rest
-  pub addressed : HasAddressedFront (detail_of s) scope mark to argument
+  pub addressed : HasAddressedFront s scope mark to argument
   pub open addressed use *
   pub returned : Term
   pub bytes : List ℕ
@@ -60,7 +61,7 @@ pub record IsAddressedFrontRead (s : Symbol) (w : Direct) (mark : Mark) (to : �
 pub record AwaitsAddressedParameters (s : Symbol) (w : Direct) (mark : Mark) (to : ℕ) (argument : Arguments) : Type 0 where
   pub kept : Kept s w
   pub open kept use *
-  pub has : HasAddressed (detail_of s) scope mark to argument [] []
+  pub has : HasAddressed s scope mark to argument [] []
   pub open has use *
   pub written : w.text.list.items ≡ front ++ name
   pub goes : ItemsGoOn s argument (AddressWithin s (below s no_scope (reverse w.waiting.list.items)) front) make [] w.at state
@@ -75,11 +76,11 @@ pub record IsAddressedParameterRead (s : Symbol) (w : Direct) (mark : Mark) (to 
   pub ts : List Term
   pub some : ts ≢ []
   pub texts : List ℕ
-  pub has : HasAddressed (detail_of s) scope mark to argument ts texts
+  pub has : HasAddressed s scope mark to argument ts texts
   pub open has use *
   pub written : w.text.list.items ≡ front ++ name ++ codes "(" ++ texts
   pub goes : ItemsGoOn s argument (AddressWithin s (below s no_scope rest) front) make ts w.at state
 
--- Such a function was read and written, but for its qualifier.
+-- Such a function was read and written, but for its qualifier. It is in no object's name.
 abbrev pub IsAddressedRead : (s : Symbol) → (w : Direct) → Mark → Type 0
-IsAddressedRead s w mark = IsLedFunctionRead s w mark (λ front. Unit {0}) (λ scope waits. AddressWithin s (below s no_scope waits))
+IsAddressedRead s w mark = IsLedFunctionRead s w mark (λ front. is_object s.bytes ≡ false) (λ scope waits. AddressWithin s (below s no_scope waits))

@@ -26,7 +26,7 @@ use Rattle.cpp_direct.specs.declared.open.Open.TheVariants as opens
 use Rattle.cpp_direct.specs.declared.open.Step.{Step}
 use Rattle.cpp_direct.specs.declared.open.Step.TheVariants as steps
 use Rattle.cpp_direct.specs.declared.direct.Direct.{Direct}
-use Rattle.cpp_direct.specs.Bytes.{is_local}
+use Rattle.cpp_direct.specs.Bytes.{is_local, is_object}
 use Rattle.cpp_direct.specs.Holes.{Opened, Comes, Expects, StandsAt, TypePasses, NestGoesOn, AwaitsComponent, with_candidate, unless_listed}
 use Rattle.cpp_direct.specs.HolesOfFunctions.{SignatureGoesOn, plain_function}
 use Rattle.cpp_direct.specs.HolesOfArrays.{accessed, with_accessed}
@@ -68,7 +68,7 @@ pub record EncodedBehind (s : Symbol) (lead : List ℕ) (e : Term) (at : ℕ) : 
       → EntityBehind s lead e name end
 
 -- the name of an encoding after a text was read, and items may follow
-pub record AwaitsItems (s : Symbol) (lead : List ℕ) (v : Value) (at : ℕ) (st : State) : Type 0 where
+pub record TakesItems (s : Symbol) (lead : List ℕ) (v : Value) (at : ℕ) (st : State) : Type 0 where
   pub around : Around
   pub inner : List Opened
   pub outside : around.prefix ≡ outermost
@@ -77,6 +77,11 @@ pub record AwaitsItems (s : Symbol) (lead : List ℕ) (v : Value) (at : ℕ) (st
   pub no_lambda : around.in_lambda ≡ false
   pub awaits : Expects s Kind.Items around inner at st
   pub onward : (l : Value) (at : ℕ) (st : State) → Comes s inner l at st → EncodedBehind s lead (encoding_of v (no_items l)) at
+
+-- the name of an encoding after a text was read, or of the symbol's object, after which no items follow
+pub record AwaitsItems (s : Symbol) (lead : List ℕ) (v : Value) (at : ℕ) (st : State) : Type 0 where
+  pub ends : EncodedBehind s lead (encoding_of v nil) at
+  pub items : is_object s.bytes ≡ false → TakesItems s lead v at st
 
 -- This text is written of the whole symbol.
 pub record IsWhole (s : Symbol) (text : List ℕ) : Type 0 where
@@ -214,27 +219,28 @@ pub record HasEnclosing (detail : Detail) (mark : Mark) (from : ℕ) (ts : List 
   pub from_is : from ≡ length front
 
 -- The name of a function whose address is an argument is written up to this place. The known arguments that it ends in are at their
--- places in what is written up to there, and are those that types may name.
-pub record IsAddressed (detail : Detail) (scope : Scope) (to : ℕ) (argument : Arguments) (own : Term) (front name : List ℕ) : Type 0 where
+-- places in what is written up to there, and are those that types may name. It is in no object's name.
+pub record IsAddressed (s : Symbol) (scope : Scope) (to : ℕ) (argument : Arguments) (own : Term) (front name : List ℕ) : Type 0 where
   pub to_is : to ≡ length (front ++ name)
-  pub given : IsGiven detail scope.names (types_of own)
+  pub given : IsGiven (detail_of s) scope.names (types_of own)
   pub named : scope.arguments ≡ argument
   pub there : AreNamed (front ++ name) scope
+  pub typed : is_object s.bytes ≡ false
 
 -- So are the parameters so far.
-pub record HasAddressed (detail : Detail) (scope : Scope) (mark : Mark) (to : ℕ) (argument : Arguments) (ts : List Term) (texts : List ℕ) : Type 0 where
-  pub is_led : IsLedFunction detail 3 mark ts texts
+pub record HasAddressed (s : Symbol) (scope : Scope) (mark : Mark) (to : ℕ) (argument : Arguments) (ts : List Term) (texts : List ℕ) : Type 0 where
+  pub is_led : IsLedFunction (detail_of s) 3 mark ts texts
   pub open is_led use *
-  pub is_addressed : IsAddressed detail scope to argument own front name
+  pub is_addressed : IsAddressed s scope to argument own front name
   pub open is_addressed use *
 
 -- The name alone is, and the function has a return type.
-pub record HasAddressedFront (detail : Detail) (scope : Scope) (mark : Mark) (to : ℕ) (argument : Arguments) : Type 0 where
+pub record HasAddressedFront (s : Symbol) (scope : Scope) (mark : Mark) (to : ℕ) (argument : Arguments) : Type 0 where
   pub front : List ℕ
   pub name : List ℕ
   pub own : Term
-  pub prints : PrintsName detail own name
-  pub is_addressed : IsAddressed detail scope to argument own front name
+  pub prints : PrintsName (detail_of s) own name
+  pub is_addressed : IsAddressed s scope to argument own front name
   pub open is_addressed use *
   pub v : Value
   pub named_so : IsNamedSo v own mark
@@ -540,11 +546,11 @@ Stands s scope (opens.Enclosing mark from to ∷ rest) os text =
 Stands s scope (opens.Address encoding ∷ rest) os text =
     (v : Value) (at : ℕ) (st : State) → Comes s os v at st → ItemsOf s encoding (AddressWithin s (outside scope rest (Stands s scope rest)) text) v at st
 Stands s scope (opens.AddressedFront mark to argument ∷ rest) os text =
-    (a : HasAddressedFront (detail_of s) scope mark to argument) × (text ≡ a.front ++ a.name)
+    (a : HasAddressedFront s scope mark to argument) × (text ≡ a.front ++ a.name)
     × ((t : Term) (at : ℕ) (st : State) → Comes s os (tree t true) at st
     → ItemsGoOn s argument (AddressWithin s (outside no_scope rest (Stands s no_scope rest)) a.front) (λ l. encoding_of a.v l) (t ∷ []) at st)
 Stands s scope (opens.Addressed mark to argument ∷ rest) os text =
-    (ts : List Term) × (texts : List ℕ) × (h : HasAddressed (detail_of s) scope mark to argument ts texts)
+    (ts : List Term) × (texts : List ℕ) × (h : HasAddressed s scope mark to argument ts texts)
     × (text ≡ h.front ++ h.name ++ codes "(" ++ in_front_of_next ts texts)
     × ((t : Term) (at : ℕ) (st : State) → Comes s os (tree t true) at st
     → ItemsGoOn s argument (AddressWithin s (outside no_scope rest (Stands s no_scope rest)) h.front) h.make (ts ++ t ∷ []) at st)

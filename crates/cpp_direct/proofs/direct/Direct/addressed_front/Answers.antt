@@ -1,5 +1,4 @@
 use Rattle.std.proofs.Common.{refl}
-use Rattle.cpp_direct.specs.Symbol.{symbol_by}
 use Rattle.cpp_direct.specs.declared.open.Open.TheVariants as opens
 use Rattle.cpp_direct.proofs.AddressesRead.{front-cut}
 use Rattle.cpp_direct.proofs.FunctionsWithin.{name-inside}
@@ -15,7 +14,7 @@ pub addressed_parameters-requires-clause-awaits : goal.addressed_parameters-requ
 addressed_parameters-requires-clause-awaits g c =
     let p = c.requires.read in
     let left = c.in_ok-leave_out.ensures in
-    front-cut (symbol_by g.G.Grammar.IS_WIDE g.G.Grammar.IS_BARE g.G.Grammar.IS_BRIEF c.args.s.now) c.args.self.now (record c.args.self.now { waiting = c.pop-open.new.self }) c.leave_out.new.self c.args.mark c.args.to c.args.argument p
+    front-cut _ c.args.self.now (record c.args.self.now { waiting = c.pop-open.new.self }) c.leave_out.new.self c.args.mark c.args.to c.args.argument p
     refl refl refl refl
     (popped c.args.self.now.waiting.list.items c.pop-open.new.self.list.items p.rest (opens.AddressedFront c.args.mark c.args.to c.args.argument) _ refl
     p.open_is c.pop-open.ensures.rest)

@@ -1,5 +1,4 @@
 use Rattle.std.proofs.Common.{append_assoc, arith, codes, refl, sym, ◌∙◌, ◌++◌}
-use Rattle.cpp_direct.specs.Symbol.{symbol_by}
 use Rattle.cpp_direct.specs.declared.open.Open.TheVariants as opens
 use Rattle.cpp_direct.proofs.AddressesRead.{next-addressed}
 use Rattle.cpp_direct.proofs.Ending.{no-void}
@@ -9,7 +8,7 @@ use Rattle.cpp_direct.proofs.direct.Direct.addressed_parameter.Goals as goal
 
 pub returns-then-byte_at-ne69 : goal.returns-then-byte_at-ne69
 returns-then-byte_at-ne69 g c =
-    next-addressed (symbol_by g.G.Grammar.IS_WIDE g.G.Grammar.IS_BARE g.G.Grammar.IS_BRIEF c.args.s.now) c.args.self.now c.push_pair.new.self c.args.mark c.args.to c.requires.read c.in_ok-push_pair.ensures
+    next-addressed _ c.args.self.now c.push_pair.new.self c.args.mark c.args.to c.requires.read c.in_ok-push_pair.ensures
 
 pub leave_out-requires : goal.leave_out-requires
 leave_out-requires g c =
@@ -24,7 +23,7 @@ addressed-requires g c =
     let p = c.requires.read in
     let left = c.in_ok-leave_out.ensures in
     record {
-      read = function-unshown c.args.self.now (record c.args.self.now { waiting = c.pop-open.new.self }) c.leave_out.new.self c.args.mark c.args.to p.argument p.kept p.is_led tt p.written p.goes p.some
+      read = function-unshown c.args.self.now (record c.args.self.now { waiting = c.pop-open.new.self }) c.leave_out.new.self c.args.mark c.args.to p.argument p.kept p.is_led p.typed p.written p.goes p.some
           (no-void c.as_slice.result.now (p.front ++ p.name) p.texts (c.as_slice.ensures ∙ p.written) (sym c.ends_with.ensures.value ∙ c.if-ends_with.false)) p.to_is p.there
           refl refl refl refl
           (popped c.args.self.now.waiting.list.items c.pop-open.new.self.list.items p.rest (opens.Addressed c.args.mark c.args.to p.argument) _ refl
@@ -36,7 +35,7 @@ pub addressed_marked-requires : goal.addressed_marked-requires
 addressed_marked-requires g c =
     let p = c.requires.read in
     record {
-      read = function-shown c.args.self.now (record c.args.self.now { waiting = c.pop-open.new.self }) c.push_byte.new.self c.args.mark p.argument p.kept p.is_led tt p.written p.goes p.some
+      read = function-shown c.args.self.now (record c.args.self.now { waiting = c.pop-open.new.self }) c.push_byte.new.self c.args.mark p.argument p.kept p.is_led p.typed p.written p.goes p.some
           (no-void c.as_slice.result.now (p.front ++ p.name) p.texts (c.as_slice.ensures ∙ p.written) (sym c.ends_with.ensures.value ∙ c.if-ends_with.false)) (omega arith)
           refl refl refl refl
           (popped c.args.self.now.waiting.list.items c.pop-open.new.self.list.items p.rest (opens.Addressed c.args.mark c.args.to p.argument) _ refl

@@ -6,7 +6,7 @@ use Rattle.cpp_direct.proofs.Arguments.{argument-closes, known-passes}
 use Rattle.cpp_direct.proofs.direct.Direct.argument_ended.Goals as goal
 
 pub returns-then-byte-eq76 : goal.returns-then-byte-eq76
-returns-then-byte-eq76 g c = known-passes (symbol_by g.G.Grammar.IS_WIDE g.G.Grammar.IS_BARE g.G.Grammar.IS_BRIEF c.args.s.now) c.note_argument-more.new.self false c.args.number c.note_argument-more.result c.note_argument-more.ensures
+returns-then-byte-eq76 g c = known-passes _ c.note_argument-more.new.self false c.args.number c.note_argument-more.result c.note_argument-more.ensures
 
 pub close_list-requires-clause-ended : goal.close_list-requires-clause-ended
 close_list-requires-clause-ended g c =

@@ -13,4 +13,4 @@ begin_encoding-requires-clause-awaits g c =
     let second = subst (λ b. StandsAt s.bytes 1 (b ∷ [])) c.if-byte_at-ne90.false
     (c.byte_at-else-byte_at-ne95.ensures (λ e. omega (arith, e, c.if-byte_at-ne90.false))) in
     encoding-awaited s (record c.args.self.now { at = 2 }) fresh.no_text fresh.no_candidate (stands-join s.bytes 0 (95 ∷ []) (90 ∷ []) first second) refl
-    (sym c.is_local.ensures ∙ c.if-is_local.false)
+    (sym c.is_local.ensures ∙ c.if-is_local.false) (sym c.is_guard.ensures ∙ c.if-is_guard.false)

@@ -13,5 +13,7 @@ begin_encoding-requires-clause-awaits g c =
     let is = c.in_ok-text.ensures in
     let second = there s.bytes 3 c.byte_at.result 84 c.if-byte_at-ne84.false (omega arith) c.byte_at.ensures in
     let last = c.byte_at-2.ensures (λ e. elim is.0 [ inl f ↦ omega (arith, e, f) | inr f ↦ omega (arith, e, f) ]) in
-    clone-begins s c.args.self.now c.push.new.self letter c.requires.fresh c.requires.apart (sym c.IS_WIDE.ensures ∙ c.if-not-IS_WIDE.false) is.0 c.requires.starts
-    (stands-join s.bytes 2 (71 ∷ []) (84 ∷ letter ∷ []) c.requires.first (stands-join s.bytes 3 (84 ∷ []) (letter ∷ []) second last)) (subst (λ l. Writes c.args.self.now c.push.new.self l) is.1 c.in_ok-push.ensures)
+    clone-begins s c.args.self.now c.push.new.self letter c.requires.fresh c.requires.apart c.requires.other
+    (sym c.IS_WIDE.ensures ∙ c.if-not-IS_WIDE.false) is.0 c.requires.starts
+    (stands-join s.bytes 2 (71 ∷ []) (84 ∷ letter ∷ []) c.requires.first (stands-join s.bytes 3 (84 ∷ []) (letter ∷ []) second last))
+    (subst (λ l. Writes c.args.self.now c.push.new.self l) is.1 c.in_ok-push.ensures)

@@ -7,7 +7,7 @@ use Rattle.cpp_direct.proofs.direct.Direct.begin_enclosing.Goals as goal
 pub enclosing_named-requires-clause-named : goal.enclosing_named-requires-clause-named
 enclosing_named-requires-clause-named g c =
     let read = c.in_ok-name.ensures in
-    source-within (symbol_by g.G.Grammar.IS_WIDE g.G.Grammar.IS_BARE g.G.Grammar.IS_BRIEF c.args.s.now) c.args.self.now (record c.args.self.now { at = c.in_ok-self.field-0 }) c.name.new.self read.0 c.end-from.result
+    source-within _ c.args.self.now (record c.args.self.now { at = c.in_ok-self.field-0 }) c.name.new.self read.0 c.end-from.result
     c.requires.awaits c.requires.letter refl refl refl refl c.in_ok-self.ensures.1 read.1 read.2 read.3 c.end-from.ensures
 
 pub nest_at-requires-clause-awaits : goal.nest_at-requires-clause-awaits

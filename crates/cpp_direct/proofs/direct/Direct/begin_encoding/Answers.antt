@@ -1,6 +1,11 @@
 use Rattle.std.proofs.Common.{arith}
 use Rattle.std.proofs.lemmas.Bool.{false≢true}
+use Rattle.cpp_direct.proofs.Begins.{name-awaited}
 use Rattle.cpp_direct.proofs.direct.Direct.begin_encoding.Goals as goal
+
+pub begin_nested-requires-clause-awaits : goal.begin_nested-requires-clause-awaits
+begin_nested-requires-clause-awaits g c =
+    name-awaited _ c.args.self.now c.requires.awaits
 
 pub begin_name-requires-in_default-clause-awaits : goal.begin_name-requires-in_default-clause-awaits
 begin_name-requires-in_default-clause-awaits g c = record {

@@ -1,6 +1,5 @@
 use Rattle.std.proofs.Common.{◌+◌, ◌≤◌, ◌∷◌, [], refl, arith, subst}
-use Rattle.cpp_direct.specs.Holes.{StandsAt}
-use Rattle.cpp_direct.specs.HolesOfLists.{IsDigitsAt}
+use Rattle.cpp_direct.specs.AllHoles.{IsDigitsAt, StandsAt}
 use Rattle.cpp_direct.proofs.UnscopedNames.{none-told, digit-told, digits-told}
 use Rattle.cpp_direct.proofs.NamePlaces.{reads-begun, some-by}
 use Rattle.cpp_direct.proofs.Moves.{stands-moved}

@@ -7,10 +7,10 @@ use Rattle.cpp_direct.proofs.TypesRead.{popped, there}
 use Rattle.cpp_direct.proofs.direct.Direct.element_ended.Goals as goal
 
 pub returns-then-byte-eq76 : goal.returns-then-byte-eq76
-returns-then-byte-eq76 g c = known-passes (symbol_by g.G.Grammar.IS_WIDE g.G.Grammar.IS_BARE g.G.Grammar.IS_BRIEF c.args.s.now) c.note_argument-more.new.self true c.args.number c.note_argument-more.result c.note_argument-more.ensures
+returns-then-byte-eq76 g c = known-passes _ c.note_argument-more.new.self true c.args.number c.note_argument-more.result c.note_argument-more.ensures
 
 pub returns-then-byte_at-ne69 : goal.returns-then-byte_at-ne69
-returns-then-byte_at-ne69 g c = known-passes (symbol_by g.G.Grammar.IS_WIDE g.G.Grammar.IS_BARE g.G.Grammar.IS_BRIEF c.args.s.now) c.note_argument-more.new.self true c.args.number c.note_argument-more.result c.note_argument-more.ensures
+returns-then-byte_at-ne69 g c = known-passes _ c.note_argument-more.new.self true c.args.number c.note_argument-more.result c.note_argument-more.ensures
 
 pub close_list-requires-clause-ended : goal.close_list-requires-clause-ended
 close_list-requires-clause-ended g c =

@@ -1,5 +1,4 @@
 use Rattle.std.proofs.Common.{arith, refl, sym, ◌∙◌}
-use Rattle.cpp_direct.specs.Symbol.{symbol_by}
 use Rattle.cpp_direct.proofs.EnclosingFunctions.{first-within}
 use Rattle.cpp_direct.proofs.FunctionsWithin.{void-shown, void-unshown}
 use Rattle.cpp_direct.proofs.TypesRead.{there}
@@ -21,5 +20,5 @@ enclosing_ended-requires-clause-read g c =
 
 pub returns : goal.returns
 returns g c =
-    first-within (symbol_by g.G.Grammar.IS_WIDE g.G.Grammar.IS_BARE g.G.Grammar.IS_BRIEF c.args.s.now) c.args.self.now c.push_byte.new.self _ c.args.mark c.args.from c.end-to.result c.requires.awaits c.in_ok-push_byte.ensures
+    first-within _ c.args.self.now c.push_byte.new.self _ c.args.mark c.args.from c.end-to.result c.requires.awaits c.in_ok-push_byte.ensures
     refl refl refl refl c.in_ok-push.ensures.items c.end-to.ensures

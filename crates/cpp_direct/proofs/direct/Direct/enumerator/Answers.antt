@@ -1,6 +1,5 @@
 use Rattle.std.proofs.Common.{◌≡◌, nat_eq, false, codes, refl, sym, subst, ◌∙◌}
 use Rattle.std.specs.List.{ends_with}
-use Rattle.cpp_direct.specs.Symbol.{symbol_by}
 use Rattle.cpp_direct.specs.declared.direct.Direct.{Direct}
 use Rattle.cpp_direct.specs.declared.open.Open.TheVariants as opens
 use Rattle.cpp_direct.proofs.TypesRead.{popped}
@@ -12,8 +11,7 @@ returns g c =
     let old = c.args.self.now in
     let a = c.requires.awaits in
     let w : Direct = record old { waiting = c.pop-open.new.self } in
-    enumerator-read (symbol_by g.G.Grammar.IS_WIDE g.G.Grammar.IS_BARE g.G.Grammar.IS_BRIEF c.args.s.now) old w c.push.new.self c.number.new.self c.literal_ended.new.self a
-    (record {
+    enumerator-read _ old w c.push.new.self c.number.new.self c.literal_ended.new.self a (record {
       int = subst (λ l. ends_with nat_eq l (codes "(int") ≡ false) c.as_slice.ensures (sym c.ends_with.ensures.value ∙ c.if-ends_with.false);
       blank_int = subst (λ l. ends_with nat_eq l (codes " int") ≡ false) c.as_slice-2.ensures (sym c.ends_with-2.ensures.value ∙ c.if-ends_with-2.false);
       long = subst (λ l. ends_with nat_eq l (codes "(long") ≡ false) c.as_slice-3.ensures (sym c.ends_with-3.ensures.value ∙ c.if-ends_with-3.false);

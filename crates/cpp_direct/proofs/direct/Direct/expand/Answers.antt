@@ -4,19 +4,13 @@ use Rattle.cpp_direct.proofs.DependentsRead.{expanded-inside, expanded-more}
 use Rattle.cpp_direct.proofs.NamePlaces.{some-by}
 use Rattle.cpp_direct.proofs.direct.Direct.expand.Goals as goal
 
-pub repeat-requires-clause-from : goal.repeat-requires-clause-from
-repeat-requires-clause-from c =
+pub repeat-requires : goal.repeat-requires
+repeat-requires c =
     let q = c.requires.before in
-    (expanded-inside c.args.pattern q.1 c.args.self.now c.comma.new.self q.2 c.args.argument c.args.number c.in_ok-place.place q.3 q.4
+    let is = expanded-inside c.args.pattern q.1 c.args.self.now c.comma.new.self q.2 c.args.argument c.args.number c.in_ok-place.place q.3 q.4
     (c.in_ok-place.ensures.is ∙ ap (λ k. place_of c.args.argument k) c.in_ok-checked_add.ensures.1)
-    (subst (λ k. IsKnown c.args.argument k) c.in_ok-checked_add.ensures.1 c.in_ok-place.ensures.known) c.in_ok-comma.ensures).0
-
-pub repeat-requires-clause-to : goal.repeat-requires-clause-to
-repeat-requires-clause-to c =
-    let q = c.requires.before in
-    (expanded-inside c.args.pattern q.1 c.args.self.now c.comma.new.self q.2 c.args.argument c.args.number c.in_ok-place.place q.3 q.4
-    (c.in_ok-place.ensures.is ∙ ap (λ k. place_of c.args.argument k) c.in_ok-checked_add.ensures.1)
-    (subst (λ k. IsKnown c.args.argument k) c.in_ok-checked_add.ensures.1 c.in_ok-place.ensures.known) c.in_ok-comma.ensures).1
+    (subst (λ k. IsKnown c.args.argument k) c.in_ok-checked_add.ensures.1 c.in_ok-place.ensures.known) c.in_ok-comma.ensures in
+    record { from = is.0; to = is.1 }
 
 pub returns : goal.returns
 returns c =

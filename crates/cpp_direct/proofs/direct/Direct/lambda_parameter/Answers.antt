@@ -8,7 +8,7 @@ use Rattle.cpp_direct.proofs.direct.Direct.lambda_parameter.Goals as goal
 
 pub returns-then-byte_at-ne69 : goal.returns-then-byte_at-ne69
 returns-then-byte_at-ne69 g c =
-    lambda-next (symbol_by g.G.Grammar.IS_WIDE g.G.Grammar.IS_BARE g.G.Grammar.IS_BRIEF c.args.s.now) c.args.self.now c.push_pair.new.self c.args.from c.args.nested c.requires.read c.in_ok-push_pair.ensures
+    lambda-next _ c.args.self.now c.push_pair.new.self c.args.from c.args.nested c.requires.read c.in_ok-push_pair.ensures
 
 pub lambda_ended-requires-clause-read : goal.lambda_ended-requires-clause-read
 lambda_ended-requires-clause-read g c =

@@ -7,7 +7,7 @@ use Rattle.cpp_direct.proofs.Moves.{stands-join}
 use Rattle.cpp_direct.proofs.direct.Direct.last_pack_empty.Goals as goal
 
 pub returns-then-byte_at-ne69 : goal.returns-then-byte_at-ne69
-returns-then-byte_at-ne69 g c = known-passes (symbol_by g.G.Grammar.IS_WIDE g.G.Grammar.IS_BARE g.G.Grammar.IS_BRIEF c.args.s.now) c.args.self.now false c.args.last c.args.known c.requires.awaits
+returns-then-byte_at-ne69 g c = known-passes _ c.args.self.now false c.args.last c.args.known c.requires.awaits
 
 pub close_list-requires-clause-ended : goal.close_list-requires-clause-ended
 close_list-requires-clause-ended g c =

@@ -16,7 +16,7 @@ name_ended-requires-clause-ended g c =
     let writing = c.requires.writing in
     let before = writing.is_before in
     subst (λ n. IsNameEnded (symbol_by g.G.Grammar.IS_WIDE g.G.Grammar.IS_BARE g.G.Grammar.IS_BRIEF c.args.s.now) (record old { at = n }) c.in-Name.mark c.is_function_instance-is_function.result c.noted-argument.result old.nest.from) (sym c.in_ok-self.ensures.1)
-    (name-comes (symbol_by g.G.Grammar.IS_WIDE g.G.Grammar.IS_BARE g.G.Grammar.IS_BRIEF c.args.s.now) old writing.kept before.0 c.in-Name.mark c.is_function_instance-is_function.result c.noted-argument.result
+    (name-comes _ old writing.kept before.0 c.in-Name.mark c.is_function_instance-is_function.result c.noted-argument.result
     before.1 (λ e. before.2 (subst IsOwn (sym c.in-Name.is) tt) (sym c.is_function_instance-is_function.ensures ∙ e))
     (λ e. before.3 (sym c.is_function_instance-is_function.ensures ∙ e))
     (arguments-noted old.nest.is_instance old.text.list.items old.argument c.noted-argument.result before.0 c.noted-argument.ensures.known
@@ -28,7 +28,7 @@ enclosing_instance-requires-clause-named g c =
     let writing = c.requires.writing in
     let before = writing.is_before in
     subst (λ n. IsEnclosingNamed (symbol_by g.G.Grammar.IS_WIDE g.G.Grammar.IS_BARE g.G.Grammar.IS_BRIEF c.args.s.now) (record old { at = n }) c.in-Enclosing.mark true old.nest.from) (sym c.in_ok-self.ensures.1)
-    (name-within (symbol_by g.G.Grammar.IS_WIDE g.G.Grammar.IS_BARE g.G.Grammar.IS_BRIEF c.args.s.now) old writing.kept before.0 c.in-Enclosing.mark true before.1 (before.3 (sym c.is_function_instance.ensures ∙ c.if-is_function_instance.true)) c.requires.end c.in-Enclosing.is)
+    (name-within _ old writing.kept before.0 c.in-Enclosing.mark true before.1 (before.3 (sym c.is_function_instance.ensures ∙ c.if-is_function_instance.true)) c.requires.end c.in-Enclosing.is)
 
 pub enclosing_named-requires-clause-named : goal.enclosing_named-requires-clause-named
 enclosing_named-requires-clause-named g c =
@@ -36,7 +36,7 @@ enclosing_named-requires-clause-named g c =
     let writing = c.requires.writing in
     let before = writing.is_before in
     subst (λ n. IsEnclosingNamed (symbol_by g.G.Grammar.IS_WIDE g.G.Grammar.IS_BARE g.G.Grammar.IS_BRIEF c.args.s.now) (record old { at = n }) c.in-Enclosing.mark false old.nest.from) (sym c.in_ok-self.ensures.1)
-    (name-within (symbol_by g.G.Grammar.IS_WIDE g.G.Grammar.IS_BARE g.G.Grammar.IS_BRIEF c.args.s.now) old writing.kept before.0 c.in-Enclosing.mark false before.1 (before.2 (subst IsOwn (sym c.in-Enclosing.is) tt) (sym c.is_function_instance.ensures ∙ c.if-is_function_instance.false)) c.requires.end
+    (name-within _ old writing.kept before.0 c.in-Enclosing.mark false before.1 (before.2 (subst IsOwn (sym c.in-Enclosing.is) tt) (sym c.is_function_instance.ensures ∙ c.if-is_function_instance.false)) c.requires.end
     c.in-Enclosing.is)
 
 pub addressed_named-requires-clause-named : goal.addressed_named-requires-clause-named

@@ -20,11 +20,11 @@ pub parameter-requires : goal.parameter-requires
 parameter-requires g c = elim c.if-not-is_first.branch [
   | then-not-is_first+in_ok-push_pair w ↦
       subst (λ d. AwaitsParameter (symbol_by g.G.Grammar.IS_WIDE g.G.Grammar.IS_BARE g.G.Grammar.IS_BRIEF c.args.s.now) d c.args.is_pointer) (sym w.self-is)
-      (another-next (symbol_by g.G.Grammar.IS_WIDE g.G.Grammar.IS_BARE g.G.Grammar.IS_BRIEF c.args.s.now) c.args.self.now w.push_pair.new.self c.args.is_pointer
+      (another-next _ c.args.self.now w.push_pair.new.self c.args.is_pointer
       (subst (λ b. AwaitsSignature (symbol_by g.G.Grammar.IS_WIDE g.G.Grammar.IS_BARE g.G.Grammar.IS_BRIEF c.args.s.now) c.args.self.now c.args.is_pointer b) w.if-not-is_first.true c.requires.awaits)
       w.in_ok-push_pair.ensures)
   | else-not-is_first w ↦
       subst (λ d. AwaitsParameter (symbol_by g.G.Grammar.IS_WIDE g.G.Grammar.IS_BARE g.G.Grammar.IS_BRIEF c.args.s.now) d c.args.is_pointer) (sym w.self-is)
-      (first-next (symbol_by g.G.Grammar.IS_WIDE g.G.Grammar.IS_BARE g.G.Grammar.IS_BRIEF c.args.s.now) c.args.self.now c.args.is_pointer
+      (first-next _ c.args.self.now c.args.is_pointer
       (subst (λ b. AwaitsSignature (symbol_by g.G.Grammar.IS_WIDE g.G.Grammar.IS_BARE g.G.Grammar.IS_BRIEF c.args.s.now) c.args.self.now c.args.is_pointer b) w.if-not-is_first.false c.requires.awaits))
 ]

@@ -25,6 +25,6 @@ pub components_at-requires-clause-writing : goal.components_at-requires-clause-w
 components_at-requires-clause-writing g c =
     let writing = c.requires.writing in
     let added = c.in_ok-add_unless.ensures in
-    component-next (symbol_by g.G.Grammar.IS_WIDE g.G.Grammar.IS_BARE g.G.Grammar.IS_BRIEF c.args.s.now) writing.is_before.1 c.args.self.now c.add_unless.new.self writing.kept writing.is_before.0
+    component-next _ writing.is_before.1 c.args.self.now c.add_unless.new.self writing.kept writing.is_before.0
     (first-is-rest writing.is_before.1 writing.is_before.2) writing.is_before.3
     (record { candidates = added.candidates; text = added.text; waiting = added.«open»; nest = added.nest; scope = added.scope; at = added.at })

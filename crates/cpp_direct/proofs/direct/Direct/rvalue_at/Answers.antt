@@ -9,24 +9,20 @@ use Rattle.cpp_direct.proofs.direct.Direct.rvalue_at.Goals as goal
 pub returns-then-byte_at-ne84 : goal.returns-then-byte_at-ne84
 returns-then-byte_at-ne84 g c =
     let called = c.open_type.ensures in
-    rvalue-opened (symbol_by g.G.Grammar.IS_WIDE g.G.Grammar.IS_BARE g.G.Grammar.IS_BRIEF c.args.s.now) c.args.self.now c.open_type.new.self c.open_type.result c.end-from.result
+    rvalue-opened _ c.args.self.now c.open_type.new.self c.open_type.result c.end-from.result
     c.requires.awaits c.end-from.ensures c.requires.letter called.step called.open called.at called.text called.candidates called.scope
 
 pub returns-then-not-argument : goal.returns-then-not-argument
 returns-then-not-argument g c =
     let called = c.open_type-then-not-argument.ensures in
-    rvalue-opened (symbol_by g.G.Grammar.IS_WIDE g.G.Grammar.IS_BARE g.G.Grammar.IS_BRIEF c.args.s.now) c.args.self.now c.open_type-then-not-argument.new.self c.open_type-then-not-argument.result c.end-from.result
+    rvalue-opened _ c.args.self.now c.open_type-then-not-argument.new.self c.open_type-then-not-argument.result c.end-from.result
     c.requires.awaits c.end-from.ensures c.requires.letter called.step called.open called.at called.text called.candidates called.scope
 
-pub repeat-requires-clause-from : goal.repeat-requires-clause-from
-repeat-requires-clause-from g c =
-    (argument-inside (symbol_by g.G.Grammar.IS_WIDE g.G.Grammar.IS_BARE g.G.Grammar.IS_BRIEF c.args.s.now) c.args.self.now c.in_ok-named.named c.in_ok-read.read.number c.in_ok-argument.argument c.requires.awaits
-    c.in_ok-named.ensures c.in_ok-argument.ensures.is c.in_ok-argument.ensures.known).0
-
-pub repeat-requires-clause-to : goal.repeat-requires-clause-to
-repeat-requires-clause-to g c =
-    (argument-inside (symbol_by g.G.Grammar.IS_WIDE g.G.Grammar.IS_BARE g.G.Grammar.IS_BRIEF c.args.s.now) c.args.self.now c.in_ok-named.named c.in_ok-read.read.number c.in_ok-argument.argument c.requires.awaits
-    c.in_ok-named.ensures c.in_ok-argument.ensures.is c.in_ok-argument.ensures.known).1
+pub repeat-requires : goal.repeat-requires
+repeat-requires g c =
+    let is = argument-inside _ c.args.self.now c.in_ok-named.named c.in_ok-read.read.number c.in_ok-argument.argument c.requires.awaits
+    c.in_ok-named.ensures c.in_ok-argument.ensures.is c.in_ok-argument.ensures.known in
+    record { from = is.0; to = is.1 }
 
 pub returns : goal.returns
 returns g c =

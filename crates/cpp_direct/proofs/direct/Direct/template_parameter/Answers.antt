@@ -5,15 +5,11 @@ use Rattle.cpp_direct.specs.MidStep.{parameter_digits}
 use Rattle.cpp_direct.proofs.DependentsRead.{argument-inside, parameter-done}
 use Rattle.cpp_direct.proofs.direct.Direct.template_parameter.Goals as goal
 
-pub repeat-requires-clause-from : goal.repeat-requires-clause-from
-repeat-requires-clause-from g c =
-    (argument-inside (symbol_by g.G.Grammar.IS_WIDE g.G.Grammar.IS_BARE g.G.Grammar.IS_BRIEF c.args.s.now) c.args.self.now c.in_ok-named.named c.in_ok-read.read.number c.in_ok-argument.argument c.requires.awaits
-    c.in_ok-named.ensures c.in_ok-argument.ensures.is c.in_ok-argument.ensures.known).0
-
-pub repeat-requires-clause-to : goal.repeat-requires-clause-to
-repeat-requires-clause-to g c =
-    (argument-inside (symbol_by g.G.Grammar.IS_WIDE g.G.Grammar.IS_BARE g.G.Grammar.IS_BRIEF c.args.s.now) c.args.self.now c.in_ok-named.named c.in_ok-read.read.number c.in_ok-argument.argument c.requires.awaits
-    c.in_ok-named.ensures c.in_ok-argument.ensures.is c.in_ok-argument.ensures.known).1
+pub repeat-requires : goal.repeat-requires
+repeat-requires g c =
+    let is = argument-inside _ c.args.self.now c.in_ok-named.named c.in_ok-read.read.number c.in_ok-argument.argument c.requires.awaits
+    c.in_ok-named.ensures c.in_ok-argument.ensures.is c.in_ok-argument.ensures.known in
+    record { from = is.0; to = is.1 }
 
 pub returns : goal.returns
 returns g c =

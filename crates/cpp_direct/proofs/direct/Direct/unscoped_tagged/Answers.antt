@@ -7,7 +7,7 @@ use Rattle.cpp_direct.proofs.UnscopedNames.{unscoped-argued, unscoped-bare}
 use Rattle.cpp_direct.proofs.direct.Direct.unscoped_tagged.Goals as goal
 
 pub name_ended-requires-clause-ended : goal.name_ended-requires-clause-ended
-name_ended-requires-clause-ended g c = unscoped-bare (symbol_by g.G.Grammar.IS_WIDE g.G.Grammar.IS_BARE g.G.Grammar.IS_BRIEF c.args.s.now) c.args.self.now c.args.from c.args.takes c.requires.named
+name_ended-requires-clause-ended g c = unscoped-bare _ c.args.self.now c.args.from c.args.takes c.requires.named
 
 pub returns : goal.returns
 returns g c =
