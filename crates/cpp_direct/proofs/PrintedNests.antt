@@ -1,21 +1,21 @@
 -- Names in other names, constructors and destructors, names with arguments, and names with tags.
 use Rattle.sym_print.specs.declared.detail.Detail.{Detail}
-use Rattle.std.proofs.Common.{◌≡◌, ◌≢◌, refl, ap, sym, ◌∙◌, ℕ, ◌+◌, ◌*◌, ◌≤◌, List, [], ◌∷◌, ◌++◌, length, drop, Bool, true, false, None, arith, codes, length-append, append-nil, append_assoc}
+use Rattle.std.proofs.Common.{◌≡◌, ◌≢◌, refl, ap, sym, ◌∙◌, ℕ, ◌+◌, ◌*◌, ◌≤◌, List, [], ◌∷◌, ◌++◌, length, Bool, true, false, None, arith, codes, length-append, append-nil, append_assoc}
 use Rattle.sym_print.specs.Details.{has_arguments}
 use Rattle.sym_print.specs.Unfold.{text}
 use Rattle.sym_print.specs.Unshared.{text_of, cost_of}
-use Rattle.cpp_grammar.specs.Term.{Term, within, instance, source, operator, constructor, destructor, in_std, tagged, abbreviation}
+use Rattle.cpp_grammar.specs.Term.{Term, within, instance, source, operator, constructor, destructor, in_std, tagged}
 use Rattle.cpp_grammar.specs.Scope.{is_open, pack_length, length_if_pack, first_of, is_structor, without_tags}
 use Rattle.cpp_grammar.specs.References.{is_function_type}
-use Rattle.cpp_grammar.specs.Texts.{look_up, operator_texts, abbreviation_texts}
+use Rattle.cpp_grammar.specs.Texts.{look_up, operator_texts}
 use Rattle.cpp_grammar.specs.Items.{Form, left, right, base, piece, first, Context}
 use Rattle.cpp_grammar.specs.Parts.{as_item, says, list_part, source_text, prefix_item, last_piece, opening_text, own_piece, piece_parts, within_parts, base_within, base_tagged, instance_parts, left_parts, right_parts, base_parts, parts_in, not_empty, is_plain_integer}
 use Rattle.cpp_direct.specs.Names.{is_angle, operator_text, tag_text}
-use Rattle.cpp_direct.specs.Prints.{written_of, written_in, unmarked_parts, Prints, PrintsIn, PrintsAs, Names, PrintsName, NamesClass, PrintAll, PrintAllIn, PrintAllAs, IsUnmarked, opening_byte, closing_byte, opening_bracket, closing_bracket, written_instance}
+use Rattle.cpp_direct.specs.Prints.{written_of, Prints, PrintsIn, PrintsAs, Names, PrintsName, NamesClass, PrintAll, PrintAllIn, PrintAllAs, IsUnmarked, opening_byte, closing_byte, opening_bracket, closing_bracket, written_instance}
 use Rattle.cpp_direct.specs.WriterInvariant.{IsTail, list_with}
-use Rattle.cpp_direct.proofs.PrintedParts.{printed_by, shown_by, text_shown, cost_shown, alone_shown, first_cost_shown, writes_parts, text-append, cost-append, list-unmarked, first_shown}
+use Rattle.cpp_direct.proofs.PrintedParts.{printed_by, shown_by, text_shown, cost_shown, first_cost_shown, writes_parts, text-append, cost-append, list-unmarked, first_shown}
 use Rattle.cpp_direct.proofs.Unmarked.{source-unmarked, operator-unmarked}
-use Rattle.cpp_direct.proofs.PrintedNames.{besides, own-in, own-prints, source-filled, piece-text, piece-cost, operator-text, operator-cost, std-prints, as-name, abbreviation-prints}
+use Rattle.cpp_direct.proofs.PrintedNames.{besides, own-in, own-prints, source-filled, piece-text, piece-cost, operator-text, operator-cost, std-prints, as-name, base-names}
 use Rattle.cpp_direct.proofs.PrintedLists.{list-text-before, list-cost-before, list-closed, list-packless, list-packless-as, all-in, all-as-in}
 use Rattle.cpp_direct.proofs.PrintedTypes.{prints-in, made-prints, made-given}
 use Rattle.cpp_grammar.specs.Between.{with_tag}
@@ -143,31 +143,6 @@ within-as detail names false t b prints p x is opening = within-prints t b print
 within-as detail names true t b prints p x is opening =
     made-given names (within t p) (b ++ codes "::" ++ x) false (λ c given. within-in c 3 t b (prints.prints c given) (prints.as_prefix c) p x is)
     (λ arguments single. rw (prints.packless arguments single, is.packless arguments) refl) refl refl (λ c. refl) opening
-
--- What names something, and is one text at the base, names its class by that.
-base-names : {detail : Detail} (t : Term) (b class : List ℕ) → PrintsName detail t b → ((c : Context) → parts_in detail c base t ≡ text class ∷ [])
-    → ((c : Context) → written_in detail c base t ≡ unmarked_parts (has_arguments detail) (parts_in detail c base t)) → IsUnmarked class
-    → NamesClass detail t class
-unfolding not_empty
-base-names {detail} t b class n base_is written plain = record {
-  base_text = λ c. text_shown detail base c t (text class ∷ []) (base_is c) (written c) ∙ alone_shown detail class plain;
-  base_cost = λ c. omega (
-    arith,
-    n.cost c,
-    ap length (n.left_text c),
-    cost_shown detail base c t (text class ∷ []) (base_is c) (written c),
-    first_cost_shown detail class [],
-  );
-}
-
--- An abbreviation names its class by what follows `std::`.
-pub abbreviation-class : {detail : Detail} (letter : ℕ) → look_up (letter ∷ []) abbreviation_texts ≢ []
-    → IsUnmarked (drop 5 (look_up (letter ∷ []) abbreviation_texts))
-    → NamesClass detail (abbreviation letter) (drop 5 (look_up (letter ∷ []) abbreviation_texts))
-unfolding parts_in base_parts
-abbreviation-class letter there plain =
-    let b = look_up (letter ∷ []) abbreviation_texts in
-    base-names (abbreviation letter) b (drop 5 b) (as-name (abbreviation letter) b false (abbreviation-prints letter there)) (λ c. refl) (λ c. refl) plain
 
 -- It names its class without what it is in.
 pub within-class : {detail : Detail} (t : Term) (b : List ℕ) → Prints detail t b false → (p : Term) (x : List ℕ) → IsPiece detail p x
@@ -399,10 +374,9 @@ tagged-as detail names true of_structor t b p tag plain =
 
 -- one in another name
 pub within-tagged : {detail : Detail} (t : Term) (b : List ℕ) → Prints detail t b false → (p : Term) (x : List ℕ) → IsPiece detail p x
-    → opening_text p ≡ codes "<" → (tag : List ℕ) → IsUnmarked tag
-    → NamesClass detail (with_tag (within t p) tag) x
+    → (tag : List ℕ) → IsUnmarked tag → NamesClass detail (with_tag (within t p) tag) x
 unfolding with_tag parts_in base_parts base_tagged not_empty
-within-tagged {detail} t b prints p x is opening tag plain =
+within-tagged t b prints p x is tag plain =
     let own : Term = within t p in
     let bytes = b ++ codes "::" ++ x in
     base-names (with_tag own tag) (bytes ++ tag_text tag) x (tagged-names (is_structor own) own bytes (within-names t b prints p x is) tag plain)
@@ -412,7 +386,7 @@ within-tagged {detail} t b prints p x is opening tag plain =
 pub std-tagged : {detail : Detail} (internal : Bool) (name : List ℕ) → name ≢ [] → IsUnmarked name → (tag : List ℕ) → IsUnmarked tag
     → NamesClass detail (with_tag (in_std (source internal name)) tag) (source_text name)
 unfolding with_tag parts_in base_parts base_tagged own_piece without_tags is_structor piece_parts not_empty
-std-tagged {detail} internal name filled plain tag tag_plain =
+std-tagged internal name filled plain tag tag_plain =
     let own : Term = in_std (source internal name) in
     let b = codes "std::" ++ source_text name in
     base-names (with_tag own tag) (b ++ tag_text tag) (source_text name)

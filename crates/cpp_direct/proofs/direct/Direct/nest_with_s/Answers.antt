@@ -68,7 +68,7 @@ nest_known-requires-2 g c =
     let text_is = c.abbreviation_text-text.ensures in
     let class_from = c.in_ok-checked_add.field-0 in
     let known : Nest → Type 0 = λ n. IsNestKnown (symbol_by g.G.Grammar.IS_WIDE g.G.Grammar.IS_BARE g.G.Grammar.IS_BRIEF c.args.s.now)
-        (record c.push.new.self { nest = record n { class_from = class_from; class_to = c.end.result; has_class = true } }) in
+    (record c.push.new.self { nest = record n { class_from = class_from; class_to = c.end.result; has_class = true } }) in
     subst known (sym c.listed_nest.ensures)
     (abbreviation-begins _ old c.push.new.self c.args.purpose letter c.requires.awaits c.requires.letter
     (λ some. subst (λ n. StandsAt c.args.s.now n (letter ∷ [])) c.in_ok-self.ensures.1 (c.byte_at-letter.ensures some))
