@@ -83,7 +83,7 @@ number-comes s kind around os k at st later typed few named expects stands =
     let solid = solid-opens s kind around os at st typed expects in
     let number = byte-opens (eats s Kind.Solid p 84 refl) (hole s Kind.Solid around solid.inner at st solid.awaits) both.0 refl refl in
     let arguments = next-part p (number-fills (parameter_token k) number (parameter-number k few) both.1) (number-tested around k at st later few (named at)) in
-    solid.passes (parameter k) true (at + 1 + length (parameter_digits k ++ 95 ∷ [])) later refl (closes p (none-fills Kind.ArgumentsAlone arguments refl) refl).comes
+    solid.onward (parameter k) true (at + 1 + length (parameter_digits k ++ 95 ∷ [])) later refl (closes p (none-fills Kind.ArgumentsAlone arguments refl) refl).comes
 
 -- in its scope it is a candidate
 pub parameter-comes : (s : Symbol) (kind : Kind) (around : Around) (os : List Opened) (k at : ℕ) (st : State) → IsTyped kind → k ≤ most_by_digit
@@ -193,7 +193,7 @@ forwarded-done s old mid one new all k p n from a few referable mark letter line
     (parameter-given a.scope.names k (record { bytes = bytes; reference = true }) named) (λ e. here) first.text first.more first.scope)
     a.os a.around (rvalue (parameter k)) text bytes from true true listed from_is prints (λ e. here) second.text second.more second.scope (ap (λ v. reverse v.list.items) open_is) (λ e. naming)
     (subst (λ n. Comes s a.os (tree (rvalue (parameter k)) true) n later) (sym (second.at ∙ first.at ∙ writes.at ∙ at))
-    (reference.passes (parameter k) (old.at + 1 + 1 + length (parameter_digits k ++ 95 ∷ [])) own
+    (reference.onward (parameter k) (old.at + 1 + 1 + length (parameter_digits k ++ 95 ∷ [])) own
     (parameter-comes s Kind.Type a.around reference.inner k (old.at + 1) a.state tt few (scope-named s old all k a found single) reference.awaits
     (stands-join s.bytes (old.at + 1) (84 ∷ []) (parameter_digits k ++ 95 ∷ []) letter line)))) a.stands
 
@@ -276,7 +276,7 @@ marked-comes s byte made around os k at st ts few there opens stands =
     let o = opens both.0 in
     let own = with_candidate around (parameter k) (named_many (count (list_of ts)) st) in
     subst (λ n. Comes s os (tree (made (parameter k)) true) n (with_candidate around (made (parameter k)) own)) (omega arith)
-    (o.passes (parameter k) (at + 1 + 1 + length (parameter_digits k ++ 95 ∷ [])) own
+    (o.onward (parameter k) (at + 1 + 1 + length (parameter_digits k ++ 95 ∷ [])) own
     (pack-comes s Kind.Type around o.inner k (at + 1) st ts tt few there o.awaits both.1))
 
 -- what the pattern makes of it comes
@@ -300,8 +300,8 @@ pattern-comes s patterns.ConstLvalue around os k at st ts few there expects stan
     let const_ = with_candidate around (as_const (parameter k)) own in
     let end = at + 1 + 1 + 1 + length (parameter_digits k ++ 95 ∷ []) in
     subst (λ n. Comes s os (tree (lvalue (as_const (parameter k))) true) n (with_candidate around (lvalue (as_const (parameter k))) const_)) (omega arith)
-    (o.passes (as_const (parameter k)) end const_
-    (c.passes (parameter k) end own (pack-comes s Kind.Plain around c.inner k (at + 1 + 1) st ts tt few there c.awaits rest.1)))
+    (o.onward (as_const (parameter k)) end const_
+    (c.onward (parameter k) end own (pack-comes s Kind.Plain around c.inner k (at + 1 + 1) st ts tt few there c.awaits rest.1)))
 pattern-comes s patterns.Rvalue around os k at st ts few there expects stands =
     marked-comes s 79 rvalue around os k at st ts few there (λ first. rvalue-opens s Kind.Type (under_expansion around) os at (begun st) tt expects first) stands
 

@@ -84,7 +84,7 @@ element-goes-on s kind scoped closes ts t before at earlier st goes g = (
   goes.3,
   g.awaits,
   λ l there now comes ended. subst (λ u. closes u (there + 1) now) (sym (list-more ts t (no_items l)))
-      (goes.5 (tree (list t (no_items l)) true) there now (g.passes l there now comes) ended),
+      (goes.5 (tree (list t (no_items l)) true) there now (g.onward l there now comes) ended),
 )
 
 -- a list is open still where more is written

@@ -16,8 +16,7 @@ use Rattle.cpp_direct.specs.Written.{Reads, Writes}
 use Rattle.cpp_direct.proofs.Kept.{kept-grown, kept-read, list-begins, OpensArguments, value-comes}
 use Rattle.cpp_direct.proofs.Listed.{IsClosed, element-kind, element-scoped, element-stands}
 use Rattle.cpp_direct.proofs.Moves.{stands-moved}
-use Rattle.cpp_direct.proofs.MovesOfLevels.{level-opens}
-use Rattle.cpp_direct.proofs.MovesOfLists.{listed-awaits}
+use Rattle.cpp_direct.proofs.MovesOfLists.{level-opens, listed-awaits}
 use Rattle.cpp_direct.proofs.PrintedLevels.{member-as}
 use Rattle.cpp_direct.proofs.PrintedNames.{source-prints}
 use Rattle.cpp_direct.proofs.PrintedNests.{instance-as}

@@ -337,7 +337,7 @@ type-opened s old new o entry from made a t begins stands scoped is waits at tex
     type-comes s old new a.kept a.around t.inner text candidates scope
     (ap reverse (given _ o steps.Type e waits) ∙ reverse-last old.waiting.list.items entry) a.outside
     (inl (subst (λ k. Expects s Kind.Type a.around t.inner k a.state) (sym (given _ o steps.Type e at)) t.awaits))
-    (stands (a.os, a.around, begins, t.passes, a.scoped, a.stands)) scoped)
+    (stands (a.os, a.around, begins, t.onward, a.scoped, a.stands)) scoped)
 
 -- after a P
 pub pointer-opened : (s : Symbol) (old new : Direct) (o : Option Step) (from : ℕ) → AwaitsType s old → from ≡ length old.text.list.items
@@ -379,7 +379,7 @@ const-opened s old new o from p begins stands is waits at text candidates scope 
     record {
       kept = kept-same s old new text candidates scope a.kept;
       is_before = (
-        awaited-in s a.scope old new a.around t.inner (ap (λ v. v.list.items) text) open_is a.outside (a.os, a.around, begins, t.passes, a.scoped, a.stands) a.scoped,
+        awaited-in s a.scope old new a.around t.inner (ap (λ v. v.list.items) text) open_is a.outside (a.os, a.around, begins, t.onward, a.scoped, a.stands) a.scoped,
         subst (λ k. Expects s Kind.Plain a.around t.inner k a.state) (sym (given _ o steps.Plain e at)) t.awaits,
       );
     })
@@ -396,5 +396,5 @@ nest-awaited s old n a at stands =
       outer = t.inner;
       awaits = subst (λ k. Expects s Kind.Nest a.around t.inner k a.state) (sym at) t.awaits;
       scoped = λ within. a.scoped;
-      serves = (a.os, a.around, t.passes, a.scoped, a.stands);
+      serves = (a.os, a.around, t.onward, a.scoped, a.stands);
     }
