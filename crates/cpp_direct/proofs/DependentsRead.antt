@@ -6,7 +6,7 @@ use Rattle.cpp_direct.specs.WriterTypes.{Argument, Arguments, Candidate, Direct,
 use Rattle.cpp_direct.proofs.Kept.{candidate-found, kept-argument, kept-grown, kept-same, kept-written, made-here, piece-found, placed-stays, value-added, value-comes, candidate-inside, kept-as, kept-with}
 use Rattle.cpp_direct.proofs.Listed.{some-elements}
 use Rattle.cpp_direct.proofs.Moves.{hole, eats, byte-opens, next-part, closes, none-fills, number-fills, is_eaten, stands-join, stands-split, expects-empty, open_at, fill, filled-at}
-use Rattle.cpp_direct.proofs.MovesOfTypes.{const-opens, lvalue-opens, rvalue-opens, solid-opens, substitution-opens}
+use Rattle.cpp_direct.proofs.MovesOfTypes.{const-opens, reference-type-opens, solid-opens, substitution-opens}
 use Rattle.cpp_direct.proofs.PrintedExpansions.{expansion-element, expansion-empty}
 use Rattle.cpp_direct.proofs.PrintedTypes.{parameter-given, rvalue-given}
 use Rattle.cpp_direct.proofs.NamedArguments.{again-substituted, named-here}
@@ -186,7 +186,7 @@ forwarded-done s old mid one new all k p n from a few referable mark letter line
     let open_is : new.waiting ≡ old.waiting = second.waits ∙ first.waits ∙ writes.waiting in
     let own = with_candidate a.around (parameter k) a.state in
     let later = with_candidate a.around (rvalue (parameter k)) own in
-    let reference = rvalue-opens s a.kind a.around a.os old.at a.state referable a.awaits mark in
+    let reference = reference-type-opens s a.kind false a.around a.os old.at a.state referable a.awaits mark in
     let prints = rvalue-given a.scope.names k bytes named in
     value-added s one new
     (kept-with s mid one (kept-grown s old mid bytes grown writes.candidates writes.scope a.kept) text bytes from (parameter k) a.around true true grown from_is
@@ -289,12 +289,12 @@ pattern-comes s patterns.Same around os k at st ts few there expects stands =
     subst (λ n. Comes s os (tree (parameter k) true) n (with_candidate around (parameter k) (named_many (count (list_of ts)) st))) (omega arith)
     (pack-comes s Kind.Type around os k at st ts tt few there expects stands)
 pattern-comes s patterns.Lvalue around os k at st ts few there expects stands =
-    marked-comes s 82 lvalue around os k at st ts few there (λ first. lvalue-opens s Kind.Type (under_expansion around) os at (begun st) tt expects first) stands
+    marked-comes s 82 lvalue around os k at st ts few there (λ first. reference-type-opens s Kind.Type true (under_expansion around) os at (begun st) tt expects first) stands
 pattern-comes s patterns.ConstLvalue around os k at st ts few there expects stands =
     let letters = 84 ∷ (parameter_digits k ++ 95 ∷ []) in
     let both = stands-split s.bytes at (82 ∷ []) (75 ∷ letters) stands in
     let rest = stands-split s.bytes (at + 1) (75 ∷ []) letters both.1 in
-    let o = lvalue-opens s Kind.Type (under_expansion around) os at (begun st) tt expects both.0 in
+    let o = reference-type-opens s Kind.Type true (under_expansion around) os at (begun st) tt expects both.0 in
     let c = const-opens s Kind.Type (under_expansion around) o.inner (at + 1) (begun st) tt o.awaits rest.0 in
     let own = with_candidate around (parameter k) (named_many (count (list_of ts)) st) in
     let const_ = with_candidate around (as_const (parameter k)) own in
@@ -303,7 +303,7 @@ pattern-comes s patterns.ConstLvalue around os k at st ts few there expects stan
     (o.onward (as_const (parameter k)) end const_
     (c.onward (parameter k) end own (pack-comes s Kind.Plain around c.inner k (at + 1 + 1) st ts tt few there c.awaits rest.1)))
 pattern-comes s patterns.Rvalue around os k at st ts few there expects stands =
-    marked-comes s 79 rvalue around os k at st ts few there (λ first. rvalue-opens s Kind.Type (under_expansion around) os at (begun st) tt expects first) stands
+    marked-comes s 79 rvalue around os k at st ts few there (λ first. reference-type-opens s Kind.Type false (under_expansion around) os at (begun st) tt expects first) stands
 
 -- the candidates after it
 abbrev pub with_expansion : Pattern → (k size : ℕ) → Around → State → State

@@ -1,8 +1,7 @@
 -- What a writer keeps while its text and its lists grow.
 use Rattle.sym_print.specs.declared.detail.Detail.{Detail}
-use Rattle.std.proofs.Common.{◌≡◌, ℕ, zero, suc, ◌+◌, ◌-◌, ◌≤◌, length, List, [], ◌∷◌, ◌++◌, take, drop, reverse, slice_get, Bool, true, false, Option, Some, None, is_some, refl, ap, sym, ◌∙◌, subst, arith, append_assoc, append-nil, ◌<◌, inl, inr, get_or, length-append}
+use Rattle.std.proofs.Common.{◌≡◌, ℕ, zero, suc, ◌+◌, ◌-◌, ◌≤◌, length, List, [], ◌∷◌, ◌++◌, take, drop, reverse, slice_get, Bool, true, false, Option, Some, None, refl, ap, sym, ◌∙◌, subst, arith, append_assoc, append-nil, ◌<◌, inl, inr, get_or, length-append}
 use Rattle.std.specs.Option.{IfSome, OnSome}
-use Rattle.std.proofs.lemmas.Bool.{false≢true}
 use Rattle.std.proofs.lemmas.List.{reverse-append, reverse-reverse}
 use Rattle.std.proofs.Math.Seq.{drop-append_seam, take-append_seam}
 use Rattle.cpp_grammar.specs.Term.{Term}
@@ -284,7 +283,7 @@ scoped-within scope around o rest none scoped a found = go (is_within_type o) re
   where
     go : (within : Bool) → is_within_type o ≡ within → elim within [ true ↦ argument_of rest | false ↦ arguments_in o ] ≡ Some a → (scope.arguments ≡ a) × HasScope a around
     go true is e = scoped is a e
-    go false is e = absurd (false≢true (ap is_some (sym none ∙ e)))
+    go false is e = cc (sym none ∙ e)
 
 -- in their encoding, and in none of its lambdas, types may name arguments
 pub encoded-here : (scope : Scope) (around : Around) (open_ : List Open) → IsScoped scope around open_ → IsNaming scope open_
@@ -297,7 +296,7 @@ made-here scope around open_ scoped naming = ((encoded-here scope around open_ s
 -- what a substitution names
 pub candidate-found : {s : Symbol} {scope : Scope} (text : List ℕ) (ks : List Candidate) (cs : List values.Candidate) (n : ℕ) (k : Candidate)
     → AreCandidates s scope text ks cs → k.from ≤ k.to → slice_get ks n ≡ Some k → (c : values.Candidate) × (slice_get cs n ≡ Some c) × IsCandidate s scope text k c
-candidate-found text [] cs n k p ordered found = absurd (false≢true (ap is_some found))
+candidate-found text [] cs n k p ordered found = cc found
 candidate-found text (x ∷ ks) [] n k p ordered found = absurd p
 candidate-found {s} {scope} text (x ∷ ks) (y ∷ cs) zero k p ordered found = (y, refl, (subst (λ o. Named o) found p.0) ordered)
   where
@@ -329,9 +328,9 @@ last-reversed xs rest x e = sym (reverse-reverse xs) ∙ ap reverse e ∙ revers
 -- the name of a function or of data names none
 pub type-named : (purpose : Purpose) (d : Bool) → (IsOwn purpose → d ≡ false) → d ≡ true → is_type purpose ≡ true
 type-named purposes.Type d closed e = refl
-type-named (purposes.Name mark) d closed e = absurd (false≢true (sym (closed tt) ∙ e))
-type-named (purposes.Enclosing mark) d closed e = absurd (false≢true (sym (closed tt) ∙ e))
-type-named (purposes.Address mark) d closed e = absurd (false≢true (sym (closed tt) ∙ e))
+type-named (purposes.Name mark) d closed e = cc (sym (closed tt) ∙ e)
+type-named (purposes.Enclosing mark) d closed e = cc (sym (closed tt) ∙ e)
+type-named (purposes.Address mark) d closed e = cc (sym (closed tt) ∙ e)
 
 -- a nested name stays one where more is written
 pub nest-stays : {detail : Detail} {names : Names} (front bytes text more : List ℕ) (nest : Nest) (t : Term) → IsNest detail names front bytes text nest t
@@ -405,7 +404,7 @@ list-begins s old mid new ks kept owner front name t lists opening_ template wri
         ([], tt, refl),
         text_is ∙ ap (λ l. l ++ bracket) written ∙ sym (append-nil (front ++ name ++ bracket)),
         (λ e. refl),
-        (λ e. absurd (false≢true (sym e))),
+        (λ e. cc e),
         subst (λ n. ArgumentsGoOn s owner (below s kept.scope (reverse old.waiting.list.items)) front t [] n kept.state) (sym at_is) goes,
       );
     }
@@ -493,7 +492,7 @@ closed-kept s scope text k c closed own = record {
   placed = own.placed;
   prints = subst (λ d. PrintsAs (detail_of s) no_scope.names d c.tree own.bytes k.is_reference) (sym closed)
       (subst (λ d. PrintsAs (detail_of s) scope.names d c.tree own.bytes k.is_reference) closed own.prints);
-  made_in = λ e. absurd (false≢true (sym closed ∙ e));
+  made_in = λ e. cc (sym closed ∙ e);
 }
 
 -- what a writer keeps where arguments aren't named any more, and candidates that name them are nowhere

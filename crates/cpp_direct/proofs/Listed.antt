@@ -1,7 +1,6 @@
 -- A writer at the end of arguments or a pack, and between two elements.
 use Rattle.sym_print.specs.declared.detail.Detail.{Detail}
 use Rattle.std.proofs.Common.{◌≡◌, ◌≢◌, inl, inr, ℕ, ◌+◌, ◌-◌, length, List, [], ◌∷◌, ◌++◌, reverse, slice_get, get_or, Bool, true, false, Some, None, refl, ap, sym, ◌∙◌, subst, arith, codes, append_assoc, append-nil}
-use Rattle.std.proofs.lemmas.Bool.{false≢true}
 use Rattle.std.proofs.lemmas.List.{length-append, reverse-reverse}
 use Rattle.std.proofs.lemmas.Option.{slice_get_within, get_or_from_slice_get}
 use Rattle.std.proofs.Math.Seq.{get_or-append_seam}
@@ -291,7 +290,7 @@ name-closed s w from p =
       kept = p.kept;
       has = has-plain s w.text.list.items from t p.front bytes p.written p.is_template.0
           (as-name t bytes false (instance-prints p.template p.name p.is_template.1 p.ts p.tail p.arguments p.is_tail p.elements));
-      no_return = λ h. absurd (false≢true (sym h));
+      no_return = λ h. cc h;
       returns = λ h. instance-returns p.template (list_with p.ts p.tail) p.is_template.2;
       names = closed-arguments s w (opens.NameArguments from) p;
       awaits = p.owns;
@@ -300,22 +299,15 @@ name-closed s w from p =
 -- ## Between elements
 
 -- What is read of a list is read of arguments, if the list is no pack.
-pub template-listed : (s : Symbol) {scope : Scope} (w : Direct) (st : State) (p : IsListing (detail_of s) scope.names (reverse w.waiting.list.items) w.text.list.items)
-    (ts : List Term) (texts text : List ℕ) → ((rest : List Open) → reverse w.waiting.list.items ≡ opens.Pack ∷ rest → ⊥)
-    → PrintAllAs (detail_of s) scope.names (may_name p.listing p.owner) (extra_of p.listing) ts texts
-    → w.text.list.items ≡ led_by (detail_of s) p.listing p.front p.name ++ text → GoesOn s p.listing p.owner (below s scope p.rest) p.front p.template ts w.at st
-    → (reverse w.waiting.list.items ≡ p.owner ∷ p.rest) × PrintAllAs (detail_of s) scope.names (is_noted p.owner) 3 ts texts
-    × (w.text.list.items ≡ p.front ++ p.name ++ opening_bracket (detail_of s) ++ text) × ArgumentsGoOn s p.owner (below s scope p.rest) p.front p.template ts w.at st
-template-listed s {scope = scope} w st p ts texts text no_pack elements written goes = go p.listing p.belongs elements written goes
-  where
-    go : (l : Listing) → Belongs (detail_of s) scope.names l (reverse w.waiting.list.items) p.owner p.rest
-        → PrintAllAs (detail_of s) scope.names (may_name l p.owner) (extra_of l) ts texts
-        → w.text.list.items ≡ led_by (detail_of s) l p.front p.name ++ text → GoesOn s l p.owner (below s scope p.rest) p.front p.template ts w.at st
-        → (reverse w.waiting.list.items ≡ p.owner ∷ p.rest) × PrintAllAs (detail_of s) scope.names (is_noted p.owner) 3 ts texts
-        × (w.text.list.items ≡ p.front ++ p.name ++ opening_bracket (detail_of s) ++ text)
-        × ArgumentsGoOn s p.owner (below s scope p.rest) p.front p.template ts w.at st
-    go of_template belongs elements written goes = (belongs, elements, written, goes)
-    go (of_pack before more) belongs elements written goes = absurd (no_pack (p.owner ∷ p.rest) belongs.0)
+pub template-listed : (s : Symbol) (scope : Scope) (w : Direct) (st : State) (l : Listing) (owner : Open) (rest : List Open) (front : List ℕ) (template : Term)
+    (name : List ℕ) (ts : List Term) (texts text : List ℕ) → ((others : List Open) → reverse w.waiting.list.items ≡ opens.Pack ∷ others → ⊥)
+    → Belongs (detail_of s) scope.names l (reverse w.waiting.list.items) owner rest → PrintAllAs (detail_of s) scope.names (may_name l owner) (extra_of l) ts texts
+    → w.text.list.items ≡ led_by (detail_of s) l front name ++ text → GoesOn s l owner (below s scope rest) front template ts w.at st
+    → (reverse w.waiting.list.items ≡ owner ∷ rest) × PrintAllAs (detail_of s) scope.names (is_noted owner) 3 ts texts
+    × (w.text.list.items ≡ front ++ name ++ opening_bracket (detail_of s) ++ text) × ArgumentsGoOn s owner (below s scope rest) front template ts w.at st
+template-listed s scope w st of_template owner rest front template name ts texts text no_pack belongs elements written goes = (belongs, elements, written, goes)
+template-listed s scope w st (of_pack before more) owner rest front template name ts texts text no_pack belongs elements written goes =
+    absurd (no_pack (owner ∷ rest) belongs.0)
 
 -- what is open last is no pack
 pub no-pack : (w : Direct) (owner : Open) → slice_get w.waiting.list.items (length w.waiting.list.items - 1) ≡ Some owner → (owner ≡ opens.Pack → ⊥)
@@ -332,7 +324,8 @@ ended-so s w first to tail argument is_tail p apart owns are_known =
     let place = p.is_before.0 in
     let ts = p.is_before.1 in
     let texts = p.is_before.2 in
-    let a = template-listed s w p.state place ts texts texts apart p.is_before.3 p.is_before.4 p.is_before.7 in
+    let a = template-listed s p.scope w p.state place.listing place.owner place.rest place.front place.template place.name ts texts texts apart
+    place.belongs p.is_before.3 p.is_before.4 p.is_before.7 in
     record {
       kept = kept-same s w (record w { at = to }) refl refl refl p.kept;
       owner = place.owner;
@@ -440,7 +433,7 @@ pack-ends s w new p stands rest last text candidates scope_same at now = go p.is
             next-prints-as (detail_of s) p.scope.names (is_noted place.owner) 3 before written made texts belongs.1
                 (element-as (detail_of s) p.scope.names (is_noted place.owner) 3 made texts (pack-element us texts (p.is_before.6 refl) us_print)),
             same ∙ us_written ∙ append_assoc (place.front ++ place.name ++ opening_bracket (detail_of s)) (in_front_of_next before written) texts,
-            λ e. absurd (false≢true e),
+            λ e. cc e,
             λ e. some-elements before made,
             subst (λ n. ArgumentsGoOn s place.owner (below s p.scope place.rest) place.front place.template (before ++ made ∷ []) n p.state) (sym at)
                 (subst (λ l. ArgumentsGoOn s place.owner (below s p.scope place.rest) place.front place.template (before ++ pack l ∷ []) (w.at + 1) p.state)
@@ -508,7 +501,8 @@ pub pack-begins : (s : Symbol) (old new : Direct) (owner : Open) → AwaitsNextA
 pack-begins s old new owner a stands found other waits at text candidates scope_same =
     let p = a.place in
     let last = last-found old.waiting.list.items owner found in
-    let l = template-listed s old a.state p a.ts a.texts (in_front_of_next a.ts a.texts) (λ rest e. other (cc (sym last.1 ∙ e))) a.elements a.written a.goes in
+    let l = template-listed s a.scope old a.state p.listing p.owner p.rest p.front p.template p.name a.ts a.texts (in_front_of_next a.ts a.texts)
+    (λ rest e. other (cc (sym last.1 ∙ e))) p.belongs a.elements a.written a.goes in
     record {
       kept = kept-same s old new text candidates scope_same a.kept;
       is_before = (
@@ -527,7 +521,7 @@ pack-begins s old new owner a stands found other waits at text candidates scope_
         none-print (detail_of s) 0,
         ap (λ v. v.list.items) text ∙ l.2 ∙ sym (append-nil (p.front ++ p.name ++ opening_bracket (detail_of s) ++ in_front_of_next a.ts a.texts)),
         (λ e. refl),
-        (λ e. absurd (false≢true (sym e))),
+        (λ e. cc e),
         subst (λ n. GoesOn s (of_pack a.ts a.texts) p.owner (below s a.scope p.rest) p.front p.template [] n a.state) (sym at)
             (pack-goes-on s p.owner (below s a.scope p.rest) p.front p.template a.ts a.texts old.at a.state l.3 stands),
       );
@@ -566,25 +560,17 @@ template-takes detail names (opens.NameArguments from) front t name text is = tt
 template-takes detail names (opens.LevelArguments is_dependent) front t name text is = tt
 template-takes detail names _ front t name text is = absurd is
 
--- they wait for an element of theirs
+-- an element of theirs is awaited as what is open stands, they have no arguments that types name, and the type of an enumerator is awaited so
 arguments-stand : (s : Symbol) (scope : Scope) (owner : Open) (rest : List Open) (os : List Opened) (text : List ℕ) → TakesArguments owner
     → (AwaitsElementOf s scope.names of_template owner (below s scope rest) os text → Stands s scope (owner ∷ rest) os text)
-    × (Stands s scope (owner ∷ rest) os text → AwaitsElementOf s scope.names of_template owner (below s scope rest) os text)
-arguments-stand s scope (opens.TypeArguments from is_dependent) rest os text takes = (λ p. p, λ p. p)
-arguments-stand s scope (opens.NestArguments nest) rest os text takes = (λ p. p, λ p. p)
-arguments-stand s scope (opens.FirstArguments nest) rest os text takes = (λ p. p, λ p. p)
-arguments-stand s scope (opens.NameArguments from) rest os text takes = (λ p. p, λ p. p)
-arguments-stand s scope (opens.LevelArguments is_dependent) rest os text takes = (λ p. p, λ p. p)
+    × (Stands s scope (owner ∷ rest) os text → AwaitsElementOf s scope.names of_template owner (below s scope rest) os text) × (arguments_in owner ≡ None)
+    × (AwaitsEnumerator s scope.names of_template owner (below s scope rest) os text → Stands s scope (opens.Enumerator ∷ owner ∷ rest) os text)
+arguments-stand s scope (opens.TypeArguments from is_dependent) rest os text takes = (λ p. p, λ p. p, refl, λ e. e)
+arguments-stand s scope (opens.NestArguments nest) rest os text takes = (λ p. p, λ p. p, refl, λ e. e)
+arguments-stand s scope (opens.FirstArguments nest) rest os text takes = (λ p. p, λ p. p, refl, λ e. e)
+arguments-stand s scope (opens.NameArguments from) rest os text takes = (λ p. p, λ p. p, refl, λ e. e)
+arguments-stand s scope (opens.LevelArguments is_dependent) rest os text takes = (λ p. p, λ p. p, refl, λ e. e)
 arguments-stand s scope _ rest os text takes = absurd takes
-
--- they have none that types name
-takes-none : (o : Open) → TakesArguments o → arguments_in o ≡ None
-takes-none (opens.TypeArguments from is_dependent) takes = refl
-takes-none (opens.NestArguments nest) takes = refl
-takes-none (opens.FirstArguments nest) takes = refl
-takes-none (opens.NameArguments from) takes = refl
-takes-none (opens.LevelArguments is_dependent) takes = refl
-takes-none _ takes = absurd takes
 
 -- in arguments types may name what they may name around them, and in a pack nothing
 list-scoped : (s : Symbol) (scope : Scope) (around : Around) (opened : List Open) (text : List ℕ) (p : IsListing (detail_of s) scope.names opened text)
@@ -594,7 +580,7 @@ list-scoped s scope around opened text p scoped = go p.listing p.belongs
     go : (l : Listing) → Belongs (detail_of s) scope.names l opened p.owner p.rest → IsScoped scope around opened
     go of_template is =
         subst (λ ws. IsScoped scope around ws) (sym is) (scoped-within scope around p.owner p.rest
-        (takes-none p.owner (template-takes (detail_of s) scope.names p.owner p.front p.template p.name text p.is_template)) scoped)
+        (arguments-stand s scope p.owner p.rest [] text (template-takes (detail_of s) scope.names p.owner p.front p.template p.name text p.is_template)).2 scoped)
     go (of_pack before written) is =
         subst (λ ws. IsScoped scope around ws) (sym is.0) (none-scoped scope around (opens.Pack ∷ p.owner ∷ p.rest) refl)
 
@@ -687,15 +673,6 @@ type-expected s w a =
 
 -- ## Enumerators
 
-enumerator-in : (s : Symbol) (scope : Scope) (o : Open) (rest : List Open) (os : List Opened) (text : List ℕ) → TakesArguments o
-    → AwaitsEnumerator s scope.names of_template o (below s scope rest) os text → Stands s scope (opens.Enumerator ∷ o ∷ rest) os text
-enumerator-in s scope (opens.TypeArguments from is_dependent) rest os text takes e = e
-enumerator-in s scope (opens.NestArguments nest) rest os text takes e = e
-enumerator-in s scope (opens.FirstArguments nest) rest os text takes e = e
-enumerator-in s scope (opens.NameArguments from) rest os text takes e = e
-enumerator-in s scope (opens.LevelArguments is_dependent) rest os text takes e = e
-enumerator-in s scope _ rest os text takes e = absurd takes
-
 -- a list waits for the type of an enumerator
 pub enumerator-stands : (s : Symbol) (scope : Scope) (opened : List Open) (text : List ℕ) (os : List Opened) (p : IsListing (detail_of s) scope.names opened text)
     (ts : List Term) (texts : List ℕ) → PrintAllAs (detail_of s) scope.names (may_name p.listing p.owner) (extra_of p.listing) ts texts
@@ -709,7 +686,7 @@ enumerator-stands s scope opened text os p ts texts elements written onward =
     go : (l : Listing) → Belongs (detail_of s) scope.names l opened p.owner p.rest → AwaitsEnumerator s scope.names l p.owner (below s scope p.rest) os text
         → Stands s scope (opens.Enumerator ∷ opened) os text
     go of_template is awaits =
-        subst (λ ws. Stands s scope (opens.Enumerator ∷ ws) os text) (sym is) (enumerator-in s scope p.owner p.rest os text
-        (template-takes (detail_of s) scope.names p.owner p.front p.template p.name text p.is_template) awaits)
+        subst (λ ws. Stands s scope (opens.Enumerator ∷ ws) os text) (sym is) ((arguments-stand s scope p.owner p.rest os text
+        (template-takes (detail_of s) scope.names p.owner p.front p.template p.name text p.is_template)).3 awaits)
     go (of_pack before written) is awaits =
         subst (λ ws. Stands s scope (opens.Enumerator ∷ ws) os text) (sym is.0) (before, written, is.1, awaits)

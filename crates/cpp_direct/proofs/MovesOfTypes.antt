@@ -11,7 +11,7 @@ use Rattle.sym_link.specs.Unfold.{found, standing}
 use Rattle.cpp_grammar.specs.declared.kind.Kind.{Kind}
 use Rattle.cpp_grammar.specs.declared.production.Production.{Production}
 use Rattle.cpp_grammar.specs.Grammar.{number_of_kind, may_be_empty, parts_of}
-use Rattle.cpp_grammar.specs.Term.{Term, alone, in_std, abbreviation, source, builtin, pointer, lvalue, rvalue, instance, array, any_value, list, nil}
+use Rattle.cpp_grammar.specs.Term.{Term, alone, in_std, abbreviation, source, builtin, pointer, instance, array, any_value, list, nil}
 use Rattle.cpp_grammar.specs.Scope.{is_open, pack_length}
 use Rattle.cpp_grammar.specs.Values.{Candidate, State, outermost, Around, Value, nothing_there, text, tree, tree_of, text_of, is_listed, part, is_there, letter_of, piece_of, ref_of, signature}
 use Rattle.cpp_grammar.specs.References.{appended, is_function_type, with_type, with_unqualified, with_packs, packs_in, substituted}
@@ -170,15 +170,6 @@ pointer-opens s kind around os at st typed expects stands =
     let type = byte-opens (eats s Kind.Solid p 80 refl) (hole-of solid) stands refl refl in
     awaited type (λ t end now comes. solid.onward (pointer t) false end now refl (closes p (fill type (tree t true) end now comes) refl).comes)
 
-referring-opens : (s : Symbol) (kind : Kind) (around : Around) (os : List Opened) (at : ℕ) (st : State) (byte : ℕ) (made : Term → Term)
-    → is_eaten kind Production.ReferenceType byte ≡ true → ((t : Term) → reference_to byte (tree t true) ≡ tree (made t) false)
-    → Expects s kind around os at st → StandsAt s.bytes at (byte ∷ []) → TypeOpens s Kind.Type os around made (at + 1) st
-unfolding is_eaten number_of_kind parts_of between close unfolding_.behind meaning part byte_of tree_of text_of piece_of letter_of is_there listed_value appended
-referring-opens s kind around os at st byte made taken makes expects stands =
-    let p = Production.ReferenceType in
-    let type = byte-opens (eats s kind p byte taken) (hole s kind around os at st expects) stands refl refl in
-    awaited type (λ t end now comes. (closes p (fill type (tree t true) end now comes) (rw (makes t) refl)).comes)
-
 reference-taken : (k : Kind) → IsReferable k
     → (is_eaten k Production.ReferenceType 82 ≡ true) × (is_eaten k Production.ReferenceType 79 ≡ true)
 unfolding is_eaten
@@ -187,19 +178,18 @@ reference-taken Kind.Item typed = (refl, refl)
 reference-taken Kind.Plain typed = (refl, refl)
 reference-taken _ typed = absurd typed
 
--- a type is expected after an R
-pub lvalue-opens : (s : Symbol) (kind : Kind) (around : Around) (os : List Opened) (at : ℕ) (st : State) → IsReferable kind
-    → Expects s kind around os at st → StandsAt s.bytes at (82 ∷ []) → TypeOpens s Kind.Type os around lvalue (at + 1) st
-unfolding reference_to tree_of
-lvalue-opens s kind around os at st typed expects stands =
-    referring-opens s kind around os at st 82 lvalue (reference-taken kind typed).0 (λ t. refl) expects stands
-
--- and after an O
-pub rvalue-opens : (s : Symbol) (kind : Kind) (around : Around) (os : List Opened) (at : ℕ) (st : State) → IsReferable kind
-    → Expects s kind around os at st → StandsAt s.bytes at (79 ∷ []) → TypeOpens s Kind.Type os around rvalue (at + 1) st
-unfolding reference_to tree_of
-rvalue-opens s kind around os at st typed expects stands =
-    referring-opens s kind around os at st 79 rvalue (reference-taken kind typed).1 (λ t. refl) expects stands
+-- a type is expected after an R, and after an O
+pub reference-type-opens : (s : Symbol) (kind : Kind) (is_lvalue : Bool) (around : Around) (os : List Opened) (at : ℕ) (st : State) → IsReferable kind
+    → Expects s kind around os at st → StandsAt s.bytes at (reference_letter is_lvalue ∷ []) → TypeOpens s Kind.Type os around (reference is_lvalue) (at + 1) st
+unfolding is_eaten number_of_kind parts_of between close unfolding_.behind meaning part byte_of tree_of text_of piece_of letter_of is_there listed_value appended reference_to
+reference-type-opens s kind true around os at st typed expects stands =
+    let p = Production.ReferenceType in
+    let type = byte-opens (eats s kind p 82 (reference-taken kind typed).0) (hole s kind around os at st expects) stands refl refl in
+    awaited type (λ t end now comes. (closes p (fill type (tree t true) end now comes) refl).comes)
+reference-type-opens s kind false around os at st typed expects stands =
+    let p = Production.ReferenceType in
+    let type = byte-opens (eats s kind p 79 (reference-taken kind typed).1) (hole s kind around os at st expects) stands refl refl in
+    awaited type (λ t end now comes. (closes p (fill type (tree t true) end now comes) refl).comes)
 
 -- a plain type is expected after a K
 pub const-opens : (s : Symbol) (kind : Kind) (around : Around) (os : List Opened) (at : ℕ) (st : State) → IsQualifiable kind
@@ -425,7 +415,7 @@ array-opens s accesses.Pointer kind os around at st digits end whole referable e
         (f.onward u here now comes))
 array-opens s accesses.Lvalue kind os around at st digits end whole referable expects stands is =
     let both = stands-split s.bytes at (82 ∷ []) (65 ∷ []) stands in
-    let o = lvalue-opens s kind around os at st (referable refl) expects both.0 in
+    let o = reference-type-opens s kind true around os at st (referable refl) expects both.0 in
     let f = plain-array-opens s Kind.Type o.inner around (at + 1) st digits end tt o.awaits both.1
     (subst (λ k. IsSizeAt s.bytes k digits end) (omega arith) is) in
     awaited (hole-of f) (λ u here now comes. o.onward (array (values.normal digits) u) here (with_candidate around (array (values.normal digits) u) now)

@@ -2,7 +2,6 @@
 use Rattle.std.proofs.Common.{◌≡◌, ◌≢◌, inl, inr, ℕ, ◌+◌, ◌-◌, length, List, [], ◌∷◌, ◌++◌, reverse, Bool, true, false, Option, refl, ap, sym, take, ◌∙◌, subst, arith, codes, append_assoc, append-nil, nat_eq, ◌≤◌, drop, slice_get, Some, if◌then◌else◌}
 use Rattle.std.specs.List.{ends_with}
 use Rattle.std.specs.Option.{OnSome, IfSome}
-use Rattle.std.proofs.lemmas.Bool.{false≢true}
 use Rattle.cpp_grammar.specs.Grammar.{among}
 use Rattle.cpp_grammar.specs.Term.{Term, builtin, nil, list, pointer, array, lvalue}
 use Rattle.cpp_grammar.specs.Values.{Around, State, tree, outermost}
@@ -23,7 +22,7 @@ use Rattle.cpp_direct.proofs.MovesOfTypes.{parameter-opens, reference-opens, sig
 use Rattle.cpp_direct.proofs.PrintedFunctions.{function-element, void-function-element, array-element}
 use Rattle.cpp_direct.proofs.PrintedLists.{list-more, none-print, none-text}
 use Rattle.cpp_direct.proofs.Scopes.{none-scoped}
-use Rattle.cpp_direct.proofs.TypesRead.{by-step, given, popped, whole-awaited}
+use Rattle.cpp_direct.proofs.TypesRead.{by-step, given, popped, reference_entry, whole-awaited}
 use Rattle.sym_core.specs.declared.NameClass.TheVariants.{Cpp}
 use Rattle.sym_core.specs.Token.{is_name_byte}
 use Rattle.cpp_direct.specs.Names.{IsReadable}
@@ -73,7 +72,7 @@ signature-begins s old new is_pointer p text candidates scope_same waits at =
       first = p.first;
       ts = [];
       none = λ e. refl;
-      some = λ e. absurd (false≢true (sym e));
+      some = λ e. cc e;
       texts = [];
       elements = none-print (detail_of s) 0;
       written = text ∙ ap (λ l. l ++ opening) p.written ∙ append_assoc p.taker.front p.first.bytes opening ∙ sym (append-nil (p.taker.front ++ (p.first.bytes ++ opening)));
@@ -154,11 +153,7 @@ pub no-reference : (s : List ℕ) (at b : ℕ) → (b ≢ 0 → StandsAt s at (b
 no-reference s at b stands some other another =
     ((λ p. other (same-byte s at b 82 (stands some) p)), λ p. another (same-byte s at b 79 (stands some) p))
 
--- what waits for what a reference is to
-abbrev pub reference_entry : (is_lvalue : Bool) → (from : ℕ) → Open
-reference_entry true from = opens.Lvalue from
-reference_entry false from = opens.Rvalue from
-
+-- what waits for what a reference is to stands there
 reference-stands : (s : Symbol) (scope : Scope) (is_lvalue : Bool) (rest : List Open) (os : List Opened) (text : List ℕ) (from : ℕ)
     → Marks s (below s scope rest) os text from (reference is_lvalue) → Stands s scope (reference_entry is_lvalue from ∷ rest) os text
 reference-stands s scope true rest os text from marks = marks

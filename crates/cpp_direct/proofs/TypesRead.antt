@@ -4,7 +4,6 @@ use Rattle.std.proofs.lemmas.List.{length-append, reverse-reverse}
 use Rattle.std.proofs.Math.Seq.{take-append_seam}
 use Rattle.std.specs.Option.{OnSome, IfSome}
 use Rattle.std.specs.Bool.{◌==◌}
-use Rattle.std.proofs.lemmas.Bool.{false≢true}
 use Rattle.sym_core.specs.declared.NumberKind.TheVariants.{Seq36}
 use Rattle.sym_core.specs.Value.{counted_value}
 use Rattle.cpp_grammar.specs.declared.kind.Kind.{Kind}
@@ -20,7 +19,7 @@ use Rattle.cpp_direct.specs.Letters.{builtin_letters, builtin_letters_with_d, ab
 use Rattle.cpp_direct.specs.declared.open.Open.TheVariants as opens
 use Rattle.cpp_direct.specs.declared.open.Purpose.TheVariants as purposes
 use Rattle.cpp_direct.specs.declared.open.Step.TheVariants as steps
-use Rattle.cpp_direct.specs.AllHoles.{Comes, Expects, IsNameAt, IsQualifiable, IsReferable, IsSeqAt, StandsAt, TypeNamed, TypeOpens, unless_listed, with_candidate}
+use Rattle.cpp_direct.specs.AllHoles.{Comes, Expects, IsNameAt, IsQualifiable, IsReferable, IsSeqAt, StandsAt, TypeNamed, TypeOpens, reference_letter, unless_listed, with_candidate}
 use Rattle.cpp_direct.specs.Prints.{Prints, PrintsAs}
 use Rattle.cpp_direct.specs.WriterInvariant.{IsScoped, IsWriting, Marks, Stands, below, Kept}
 use Rattle.cpp_direct.specs.MidStep.{AwaitsType, AwaitsNamedType, AwaitsNest, IsNamedAgain, IsTypeNamed, AwaitsMark}
@@ -30,7 +29,7 @@ use Rattle.cpp_direct.proofs.Scopes.{scoped-inside}
 use Rattle.cpp_direct.proofs.Kept.{candidate-found, kept-grown, kept-same, last-reversed, piece-found, reverse-last, type-comes, value-added, value-comes, Lists, OpensArguments, list-begins, kept-unless, awaited-in}
 use Rattle.cpp_direct.proofs.Moves.{expects-empty, stands-join}
 use Rattle.cpp_direct.proofs.MovesOfLists.{arguments-open}
-use Rattle.cpp_direct.proofs.MovesOfTypes.{solid-opens, builtin-comes, builtin-with-d-comes, pointer-opens, lvalue-opens, rvalue-opens, const-opens, source-opens, std-opens, abbreviation-opens, substitution-opens, substituted-so, nested-type-opens}
+use Rattle.cpp_direct.proofs.MovesOfTypes.{solid-opens, builtin-comes, builtin-with-d-comes, pointer-opens, reference-type-opens, const-opens, source-opens, std-opens, abbreviation-opens, substitution-opens, substituted-so, nested-type-opens}
 use Rattle.cpp_direct.proofs.LettersTested.{code-listed, codes_pass, each_passes, tested, is_filled, filled}
 use Rattle.cpp_direct.proofs.PrintedNames.{source-prints, std-prints, abbreviation-prints, builtin-prints, builtin-with-d-prints}
 
@@ -42,7 +41,7 @@ there s at b d is some stands = subst (λ k. StandsAt s at (k ∷ [])) is (stand
 
 -- a text that isn't empty
 pub some-text : (text same : List ℕ) → text ≡ same → false ≡ (length text == 0) → same ≢ []
-some-text text same is filled none = false≢true (filled ∙ ap (λ l. length l == 0) (is ∙ none))
+some-text text same is filled none = cc (filled ∙ ap (λ l. length l == 0) (is ∙ none))
 
 -- a step that is this one, if there is one
 pub by-step : (o : Option Step) (step : Step) (P : Step → Type 0) → IfSome o (λ next. next ≡ step) → (o ≡ Some step → P step) → IfSome o P
@@ -83,7 +82,7 @@ abbrev named-kept : (s : Symbol) (old new : Direct) (from : ℕ) (listed r : Boo
     → new.candidates.list.items ≡ added_unless old listed from false → new.has_scope ≡ old.has_scope → Kept s new
 named-kept s old new from listed r a text candidates scope =
     kept-unless s old new a.kept listed a.front a.bytes from a.own a.around false a.written a.from_is
-    (λ e. subst (λ b. Prints (detail_of s) a.own a.bytes b) (a.no_reference e) a.prints) (λ e. absurd (false≢true e)) text candidates scope
+    (λ e. subst (λ b. Prints (detail_of s) a.own a.bytes b) (a.no_reference e) a.prints) (λ e. cc e) text candidates scope
 
 -- nothing comes after the name of a type
 pub bare-done : (s : Symbol) (old new : Direct) (from : ℕ) (listed r : Bool) → IsTypeNamed s old from listed r
@@ -93,7 +92,7 @@ unfolding may_be_empty
 bare-done s old new from listed r a waits text candidates scope at =
     let state : State = unless_listed listed a.around a.own a.state in
     value-comes s new (named-kept s old new from listed r a text candidates scope) a.outer a.own a.front a.bytes r false
-    (ap (λ v. v.list.items) text ∙ a.written) a.prints (ap (λ v. reverse v.list.items) waits) (λ e. absurd (false≢true e))
+    (ap (λ v. v.list.items) text ∙ a.written) a.prints (ap (λ v. reverse v.list.items) waits) (λ e. cc e)
     (subst (λ k. Comes s a.outer (tree a.own true) k state) (sym at) (a.named.bare old.at a.state a.prints.no_function
     (expects-empty s Kind.ArgumentsAlone (after a.own listed a.around) a.named.inner old.at a.state a.named.awaits refl))) a.stands
 
@@ -116,7 +115,7 @@ argued-done s old mid new from listed r named none stands lists opening_ =
         a.around,
         a.named.argued (no_items l) (here + 1) now (o.onward l here now comes ended),
         a.scoped,
-        λ e. absurd (false≢true e),
+        λ e. cc e,
         a.stands,
       )),
     )
@@ -150,11 +149,11 @@ abbreviation-listed letter has = letter-listed abbreviation_texts abbreviation_l
 
 pub no-builtin : (letter : ℕ) → is_builtin letter ≡ true → letter ≢ 0
 unfolding is_builtin among
-no-builtin letter is none = absurd (false≢true (subst (λ l. is_builtin l ≡ true) none is))
+no-builtin letter is none = let clash : false ≡ true = subst (λ l. is_builtin l ≡ true) none is in cc clash
 
 no-abbreviation : (letter : ℕ) → is_abbreviated letter ≡ true → letter ≢ 0
 unfolding is_abbreviated among
-no-abbreviation letter is none = absurd (false≢true (subst (λ l. is_abbreviated l ≡ true) none is))
+no-abbreviation letter is none = let clash : false ≡ true = subst (λ l. is_abbreviated l ≡ true) none is in cc clash
 
 -- ## Types
 
@@ -181,7 +180,7 @@ value-done : (s : Symbol) (old new : Direct) (a : AwaitsType s old) (t : Term) (
     → Comes s a.os (tree t true) new.at a.state → IsWriting s new (steps.Value false false)
 value-done s old new a t bytes prints text candidates waits scope comes =
     value-comes s new (kept-grown s old new bytes text candidates scope a.kept) a.os t old.text.list.items bytes false false text prints
-    (ap (λ v. reverse v.list.items) waits) (λ e. absurd (false≢true e)) comes a.stands
+    (ap (λ v. reverse v.list.items) waits) (λ e. cc e) comes a.stands
 
 -- a builtin type is read
 pub builtin-done : (s : Symbol) (old new : Direct) (letter : ℕ) → AwaitsType s old → (letter ≢ 0 → StandsAt s.bytes old.at (letter ∷ []))
@@ -197,7 +196,7 @@ builtin-done s old new letter a stands has text candidates waits scope at =
 
 no-builtin-with-d : (letter : ℕ) → is_builtin_with_d letter ≡ true → letter ≢ 0
 unfolding is_builtin_with_d among
-no-builtin-with-d letter is none = absurd (false≢true (subst (λ l. is_builtin_with_d l ≡ true) none is))
+no-builtin-with-d letter is none = let clash : false ≡ true = subst (λ l. is_builtin_with_d l ≡ true) none is in cc clash
 
 -- and so is one with a code of two letters
 pub builtin-with-d-done : (s : Symbol) (old new : Direct) (letter : ℕ) → AwaitsType s old → StandsAt s.bytes old.at (68 ∷ [])
@@ -299,7 +298,7 @@ substitution-named s old mid new n from digits k a stands is ordered found reads
     (substitution-opens s a.kind a.around a.os old.at a.state digits new.at c.0 a.is_named c.1
     (λ place. substituted-so a.around place c.0 a.state prints.is_closed prints.packless) a.begins stands
     (subst (λ n. IsSeqAt s.bytes (old.at + 1) digits n) (sym writes.at) is))
-    (writes.candidates ∙ reads.candidates) (writes.scope ∙ reads.scope) written begins prints (λ e. absurd (false≢true (sym e))) (writes.waiting ∙ reads.waiting)
+    (writes.candidates ∙ reads.candidates) (writes.scope ∙ reads.scope) written begins prints (λ e. cc e) (writes.waiting ∙ reads.waiting)
 
 -- one that names an argument
 pub named-again : (s : Symbol) (old new : Direct) (n : ℕ) (digits : List ℕ) (k : Candidate) → AwaitsNamedType s old → StandsAt s.bytes old.at (83 ∷ [])
@@ -347,22 +346,23 @@ pointer-opened s old new o from a begins stands is waits at text candidates scop
     type-opened s old new o (opens.Pointer from) from pointer a (pointer-opens s a.kind a.around a.os old.at a.state a.typed a.awaits stands) begins
     (λ m. m) a.scoped is waits at text candidates scope
 
--- after an R
-pub lvalue-opened : (s : Symbol) (old new : Direct) (o : Option Step) (from : ℕ) → AwaitsType s old → from ≡ length old.text.list.items
-    → StandsAt s.bytes old.at (82 ∷ []) → IfSome o (λ next. next ≡ steps.Type) → OnSome o (new.waiting.list.items ≡ old.waiting.list.items ++ opens.Lvalue from ∷ [])
-    → OnSome o (new.at ≡ old.at + 1) → new.text ≡ old.text → new.candidates ≡ old.candidates → new.has_scope ≡ old.has_scope → IfSome o (IsWriting s new)
-lvalue-opened s old new o from a begins stands is waits at text candidates scope =
-    let referable : IsReferable a.kind = elim a.referable [ inl may ↦ may | inr none ↦ absurd (none.0 stands) ] in
-    type-opened s old new o (opens.Lvalue from) from lvalue a (lvalue-opens s a.kind a.around a.os old.at a.state referable a.awaits stands) begins
-    (λ m. m) a.scoped is waits at text candidates scope
+-- what waits for what a reference is to
+abbrev pub reference_entry : (is_lvalue : Bool) → (from : ℕ) → Open
+reference_entry true from = opens.Lvalue from
+reference_entry false from = opens.Rvalue from
 
--- and after an O
-pub rvalue-opened : (s : Symbol) (old new : Direct) (o : Option Step) (from : ℕ) → AwaitsType s old → from ≡ length old.text.list.items
-    → StandsAt s.bytes old.at (79 ∷ []) → IfSome o (λ next. next ≡ steps.Type) → OnSome o (new.waiting.list.items ≡ old.waiting.list.items ++ opens.Rvalue from ∷ [])
+-- after an R, and after an O
+pub reference-opened : (s : Symbol) (old new : Direct) (o : Option Step) (is_lvalue : Bool) (from : ℕ) (a : AwaitsType s old) → from ≡ length old.text.list.items
+    → StandsAt s.bytes old.at (reference_letter is_lvalue ∷ []) → IfSome o (λ next. next ≡ steps.Type)
+    → OnSome o (new.waiting.list.items ≡ old.waiting.list.items ++ reference_entry is_lvalue from ∷ [])
     → OnSome o (new.at ≡ old.at + 1) → new.text ≡ old.text → new.candidates ≡ old.candidates → new.has_scope ≡ old.has_scope → IfSome o (IsWriting s new)
-rvalue-opened s old new o from a begins stands is waits at text candidates scope =
-    let referable : IsReferable a.kind = elim a.referable [ inl may ↦ may | inr none ↦ absurd (none.1 stands) ] in
-    type-opened s old new o (opens.Rvalue from) from rvalue a (rvalue-opens s a.kind a.around a.os old.at a.state referable a.awaits stands) begins
+reference-opened s old new o true from a begins stands is waits at text candidates scope =
+    let may : IsReferable a.kind = elim a.referable [ inl is_one ↦ is_one | inr none ↦ absurd (none.0 stands) ] in
+    type-opened s old new o (opens.Lvalue from) from lvalue a (reference-type-opens s a.kind true a.around a.os old.at a.state may a.awaits stands) begins
+    (λ m. m) a.scoped is waits at text candidates scope
+reference-opened s old new o false from a begins stands is waits at text candidates scope =
+    let may : IsReferable a.kind = elim a.referable [ inl is_one ↦ is_one | inr none ↦ absurd (none.1 stands) ] in
+    type-opened s old new o (opens.Rvalue from) from rvalue a (reference-type-opens s a.kind false a.around a.os old.at a.state may a.awaits stands) begins
     (λ m. m) a.scoped is waits at text candidates scope
 
 -- a plain type is expected after a K, where a whole one is

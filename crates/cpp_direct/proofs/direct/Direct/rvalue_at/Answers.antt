@@ -3,19 +3,19 @@ use Rattle.cpp_direct.specs.Symbol.{symbol_by}
 use Rattle.cpp_direct.specs.Holes.{IsReferable, StandsAt}
 use Rattle.cpp_direct.specs.MidStep.{parameter_digits}
 use Rattle.cpp_direct.proofs.DependentsRead.{argument-inside, forwarded-done}
-use Rattle.cpp_direct.proofs.TypesRead.{rvalue-opened, there}
+use Rattle.cpp_direct.proofs.TypesRead.{reference-opened, there}
 use Rattle.cpp_direct.proofs.direct.Direct.rvalue_at.Goals as goal
 
 pub returns-then-byte_at-ne84 : goal.returns-then-byte_at-ne84
 returns-then-byte_at-ne84 g c =
     let called = c.open_type.ensures in
-    rvalue-opened _ c.args.self.now c.open_type.new.self c.open_type.result c.end-from.result
+    reference-opened _ c.args.self.now c.open_type.new.self c.open_type.result false c.end-from.result
     c.requires.awaits c.end-from.ensures c.requires.letter called.step called.open called.at called.text called.candidates called.scope
 
 pub returns-then-not-argument : goal.returns-then-not-argument
 returns-then-not-argument g c =
     let called = c.open_type-then-not-argument.ensures in
-    rvalue-opened _ c.args.self.now c.open_type-then-not-argument.new.self c.open_type-then-not-argument.result c.end-from.result
+    reference-opened _ c.args.self.now c.open_type-then-not-argument.new.self c.open_type-then-not-argument.result false c.end-from.result
     c.requires.awaits c.end-from.ensures c.requires.letter called.step called.open called.at called.text called.candidates called.scope
 
 pub repeat-requires : goal.repeat-requires

@@ -3,7 +3,7 @@ use Rattle.cpp_direct.specs.Symbol.{symbol_by}
 use Rattle.cpp_direct.specs.WriterInvariant.{IsWriting}
 use Rattle.cpp_direct.specs.declared.open.Step.TheVariants as steps
 use Rattle.cpp_direct.proofs.Moves.{stands-join}
-use Rattle.cpp_direct.proofs.TypesRead.{awaits-type, names-awaited, there, lvalue-opened, const-opened}
+use Rattle.cpp_direct.proofs.TypesRead.{awaits-type, names-awaited, there, reference-opened, const-opened}
 use Rattle.cpp_direct.proofs.direct.Direct.type_at.Goals as goal
 
 pub named_type-requires-clause-awaits : goal.named_type-requires-clause-awaits
@@ -19,7 +19,7 @@ builtin-requires-clause-awaits g c = awaits-type _ c.args.self.now c.args.is_pla
 pub returns-else-not-is_plain : goal.returns-else-not-is_plain
 returns-else-not-is_plain g c =
     let called = c.open_type.ensures in
-    lvalue-opened _ c.args.self.now c.open_type.new.self c.open_type.result c.end-from.result
+    reference-opened _ c.args.self.now c.open_type.new.self c.open_type.result true c.end-from.result
     (awaits-type _ c.args.self.now c.args.is_plain c.requires.writing) c.end-from.ensures
     (there c.args.s.now c.args.self.now.at c.byte_at.result 82 c.in-82.is (omega arith) c.byte_at.ensures)
     called.step called.open called.at called.text called.candidates called.scope
