@@ -14,7 +14,7 @@ use Rattle.cpp_direct.specs.AllHoles.{Comes, Expects, IsReferable, IsTyped, Open
 use Rattle.cpp_direct.specs.Prints.{IsMarkedBy, PrintsAs, PrintsGiven, PrintsMade, PrintAllBy, list_of, made_by, pattern_letters}
 use Rattle.cpp_direct.specs.WriterInvariant.{AreCandidates, EncodedBehind, IsKnown, IsPackOf, IsPackThere, IsPlaced, IsScope, IsSingle, IsWriting, ParametersGoOn, argument_of, in_front_of_next, place_of, Kept, Scope}
 use Rattle.cpp_direct.specs.MidStep.{AwaitsType, AreParametersRead, IsFunctionEnded, IsNamedAgain, most_by_digit, parameter_digits, AreExpanded, comma_text, expansion_letters, separator}
-use Rattle.cpp_direct.specs.Written.{Writes, added, hidden, with_argument}
+use Rattle.cpp_direct.specs.Written.{Writes, added, hidden, with_argument, Lists}
 use Rattle.cpp_direct.specs.declared.open.Pattern.TheVariants as patterns
 use Rattle.cpp_grammar.specs.Between.{Going, between, after, applied, listed_so_far, parameter_so_far, index_of, under_expansion}
 use Rattle.cpp_grammar.specs.Grammar.{may_be_empty, number_of_kind, parts_of}
@@ -157,20 +157,12 @@ parameter-done s old mid new all k p n a few letter line found is single real wr
     (parameter-comes s a.kind a.around a.os k old.at a.state a.typed few (scope-named s old all k a found single) a.awaits
     (stands-join s.bytes old.at (84 ∷ []) (parameter_digits k ++ 95 ∷ []) letter line))) a.stands
 
--- what is written from a place on became a candidate, which is a reference and names arguments
-pub record IsListed (old new : Direct) (from : ℕ) : Type 0 where
-  pub more : new.candidates.list.items ≡ added old from true true
-  pub text : new.text ≡ old.text
-  pub waits : new.waiting ≡ old.waiting
-  pub scope : new.has_scope ≡ old.has_scope
-  pub at : new.at ≡ old.at
-
 -- An rvalue reference to it is read, which is this argument itself where that is a reference.
 pub forwarded-done : (s : Symbol) (old mid one new : Direct) (all : Arguments) (k : ℕ) (p : Argument) (n from : ℕ) (a : AwaitsType s old) → k ≤ most_by_digit → IsReferable a.kind
     → StandsAt s.bytes old.at (79 ∷ []) → StandsAt s.bytes (old.at + 1) (84 ∷ []) → StandsAt s.bytes (old.at + 1 + 1) (parameter_digits k ++ 95 ∷ [])
     → argument_of (reverse old.waiting.list.items) ≡ Some all → p ≡ place_of all k → IsSingle all k → all.encoding ≢ 0 → p.is_reference ≡ true
     → from ≡ length old.text.list.items → Writes (record old { at = n }) mid (take (p.to - p.from) (drop p.from old.text.list.items))
-    → n ≡ old.at + 1 + 1 + length (parameter_digits k ++ 95 ∷ []) → IsListed mid one from → IsListed one new from
+    → n ≡ old.at + 1 + 1 + length (parameter_digits k ++ 95 ∷ []) → Lists mid one (added mid from true true) → Lists one new (added one from true true)
     → IsWriting s new (steps.Value true true)
 forwarded-done s old mid one new all k p n from a few referable mark letter line found is single real refers from_is writes at first second =
     let text = old.text.list.items in
@@ -183,15 +175,15 @@ forwarded-done s old mid one new all k p n from a few referable mark letter line
     let listed : one.text.list.items ≡ text ++ bytes = ap (λ v. v.list.items) first.text ∙ grown in
     let naming = named-here s old a.kept a.around all a.scoped found real in
     let here = made-here a.scope a.around (reverse old.waiting.list.items) a.scoped naming in
-    let open_is : new.waiting ≡ old.waiting = second.waits ∙ first.waits ∙ writes.waiting in
+    let open_is : new.waiting ≡ old.waiting = second.waiting ∙ first.waiting ∙ writes.waiting in
     let own = with_candidate a.around (parameter k) a.state in
     let later = with_candidate a.around (rvalue (parameter k)) own in
     let reference = reference-type-opens s a.kind false a.around a.os old.at a.state referable a.awaits mark in
     let prints = rvalue-given a.scope.names k bytes named in
     value-added s one new
     (kept-with s mid one (kept-grown s old mid bytes grown writes.candidates writes.scope a.kept) text bytes from (parameter k) a.around true true grown from_is
-    (parameter-given a.scope.names k (record { bytes = bytes; reference = true }) named) (λ e. here) first.text first.more first.scope)
-    a.os a.around (rvalue (parameter k)) text bytes from true true listed from_is prints (λ e. here) second.text second.more second.scope (ap (λ v. reverse v.list.items) open_is) (λ e. naming)
+    (parameter-given a.scope.names k (record { bytes = bytes; reference = true }) named) (λ e. here) first.text first.candidates first.scope)
+    a.os a.around (rvalue (parameter k)) text bytes from true true listed from_is prints (λ e. here) second.text second.candidates second.scope (ap (λ v. reverse v.list.items) open_is) (λ e. naming)
     (subst (λ n. Comes s a.os (tree (rvalue (parameter k)) true) n later) (sym (second.at ∙ first.at ∙ writes.at ∙ at))
     (reference.onward (parameter k) (old.at + 1 + 1 + length (parameter_digits k ++ 95 ∷ [])) own
     (parameter-comes s Kind.Type a.around reference.inner k (old.at + 1) a.state tt few (scope-named s old all k a found single) reference.awaits

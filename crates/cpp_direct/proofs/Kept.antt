@@ -1,7 +1,7 @@
 -- What a writer keeps while its text and its lists grow.
 use Rattle.sym_print.specs.declared.detail.Detail.{Detail}
 use Rattle.std.proofs.Common.{◌≡◌, ℕ, zero, suc, ◌+◌, ◌-◌, ◌≤◌, length, List, [], ◌∷◌, ◌++◌, take, drop, reverse, slice_get, Bool, true, false, Option, Some, None, refl, ap, sym, ◌∙◌, subst, arith, append_assoc, append-nil, ◌<◌, inl, inr, get_or, length-append}
-use Rattle.std.specs.Option.{IfSome, OnSome}
+use Rattle.std.specs.Option.{IfSome}
 use Rattle.std.proofs.lemmas.List.{reverse-append, reverse-reverse}
 use Rattle.std.proofs.Math.Seq.{drop-append_seam, take-append_seam}
 use Rattle.cpp_grammar.specs.Term.{Term}
@@ -12,7 +12,7 @@ use Rattle.cpp_direct.specs.declared.open.Purpose.TheVariants as purposes
 use Rattle.cpp_direct.specs.Holes.{Comes, Opened, candidate, with_candidate, unless_listed}
 use Rattle.cpp_direct.specs.Prints.{Names, PrintsAs, PrintsGiven, opening_bracket}
 use Rattle.cpp_direct.specs.WriterInvariant.{AreCandidates, AreNamed, ArgumentsGoOn, ExpectsType, HasScope, IsCandidate, IsMadeIn, IsNaming, IsNest, IsPlaced, HasSingles, IsScoped, IsTemplate, IsWriting, Keeps, Scope, Stands, argument_of, arguments_in, below, is_within_type, no_scope, of_template, place_of, IsOwn, is_type, IsKnown, nowhere, Kept, IsBetween, AwaitsTypeIn, IsTypeRead}
-use Rattle.cpp_direct.specs.Written.{Writes, Reads, added, added_unless, with_argument, IsLeft, AreLeft, Stays}
+use Rattle.cpp_direct.specs.Written.{Writes, Reads, Lists, OpensArguments, added, added_unless, with_argument, IsLeft, AreLeft, Stays}
 use Rattle.std.specs.Prelude.{slice_set}
 use Rattle.cpp_grammar.specs.Values as values
 use Rattle.cpp_direct.specs.declared.open.Open.TheVariants as opens
@@ -358,23 +358,6 @@ template-stays detail names _ front t name text more p = p
 
 -- ## Lists
 
--- the candidates are these, and nothing else changed
-pub record Lists (old new : Direct) (ks : List Candidate) : Type 0 where
-  pub candidates : new.candidates.list.items ≡ ks
-  pub text : new.text ≡ old.text
-  pub waiting : new.waiting ≡ old.waiting
-  pub nest : new.nest ≡ old.nest
-  pub scope : new.has_scope ≡ old.has_scope
-  pub at : new.at ≡ old.at
-
--- arguments were opened
-pub record OpensArguments (detail : Detail) (old new : Direct) (owner : Open) : Type 0 where
-  pub text : new.text.list.items ≡ old.text.list.items ++ opening_bracket detail
-  pub waiting : new.waiting.list.items ≡ old.waiting.list.items ++ owner ∷ []
-  pub at : new.at ≡ old.at + 1
-  pub candidates : new.candidates ≡ old.candidates
-  pub scope : new.has_scope ≡ old.has_scope
-
 -- arguments begin after a name
 pub list-begins : (s : Symbol) (old mid new : Direct) (ks : List Candidate) (kept : Kept s mid) (owner : Open) (front name : List ℕ) (t : Term)
     → Lists old mid ks → OpensArguments (detail_of s) mid new owner
@@ -409,14 +392,10 @@ list-begins s old mid new ks kept owner front name t lists opening_ template wri
       );
     }
 
--- what opening arguments says where there was memory
-pub opened-by : (s : Symbol) (r : Option Step) (old new : Direct) (owner : Open) → IfSome r (λ next. next ≡ steps.List true)
-    → OnSome r (new.waiting.list.items ≡ old.waiting.list.items ++ owner ∷ []) → OnSome r (new.at ≡ old.at + 1)
-    → OnSome r (new.text.list.items ≡ old.text.list.items ++ opening_bracket (detail_of s)) → OnSome r (new.candidates ≡ old.candidates)
-    → OnSome r (new.has_scope ≡ old.has_scope) → (OpensArguments (detail_of s) old new owner → IsWriting s new (steps.List true)) → IfSome r (IsWriting s new)
-opened-by s None old new owner step waiting at text candidates scope_same goes = tt
-opened-by s (Some next) old new owner step waiting at text candidates scope_same goes =
-    subst (λ x. IsWriting s new x) (sym step) (goes (record { text = text; waiting = waiting; at = at; candidates = candidates; scope = scope_same }))
+-- what was opened, where there was memory, is what comes next
+pub opened-so : (r : Option Step) (step : Step) (A : Type 0) (P : Step → Type 0) → IfSome r (λ next. (next ≡ step) × A) → (A → P step) → IfSome r P
+opened-so None step A P is goes = tt
+opened-so (Some next) step A P is goes = subst P (sym is.0) (goes is.1)
 
 -- ## Where what was written after a place is taken away
 

@@ -18,7 +18,7 @@ use Rattle.cpp_direct.specs.AllHoles.{AwaitsComponent, Comes, IsArgumentKind, Is
 use Rattle.cpp_direct.specs.Prints.{Names, PrintAllAs, PrintsAs, list_of, opening_bracket, closing_bracket}
 use Rattle.cpp_direct.specs.WriterInvariant.{HasPack, Below, HasArguments, arguments_in, below, IsListing, IsNaming, IsScoped, Scope, scoped_in, is_noted, may_name, IsNest, IsTail, IsTemplate, IsWriting, Owns, Serves, ArgumentsGoOn, AwaitsElementOf, AwaitsEnumerator, Belongs, Closes, ElementsGoOn, EnumeratorGoesOn, GoesOn, Listing, of_template, of_pack, Stands, element_kind, extra_of, led_by, list_with, in_front_of_next, nowhere, Kept}
 use Rattle.cpp_direct.specs.MidStep.{AreKnown, IsListEnded, AwaitsNextArgument, IsNameEnded}
-use Rattle.cpp_direct.specs.Written.{Writes, added}
+use Rattle.cpp_direct.specs.Written.{Writes, added, Lists, OpensEntry}
 use Rattle.cpp_direct.proofs.Moves.{expects-empty, stands-split}
 use Rattle.cpp_direct.proofs.MovesOfLists.{element-awaits, pack-opens}
 use Rattle.cpp_direct.proofs.PrintedLists.{element-as, list-more, list-with-none, next-prints-as, none-print, pack-element}
@@ -182,9 +182,8 @@ closed-arguments s w owner p = (
 
 -- the arguments of a type
 pub type-closed : (s : Symbol) (w new : Direct) (from : ℕ) (is_dependent : Bool) → IsClosed s w (opens.TypeArguments from is_dependent)
-    → new.candidates.list.items ≡ added w from false is_dependent → new.text ≡ w.text → new.waiting ≡ w.waiting → new.has_scope ≡ w.has_scope → new.at ≡ w.at
-    → IsWriting s new (steps.Value false is_dependent)
-type-closed s w new from is_dependent p candidates text waiting scope_same at =
+    → Lists w new (added w from false is_dependent) → IsWriting s new (steps.Value false is_dependent)
+type-closed s w new from is_dependent p lists =
     let scope = p.scope in
     let t = instance p.template (list_with p.ts p.tail) in
     let bytes = p.name ++ opening_bracket (detail_of s) ++ p.arguments ++ closing_bracket (detail_of s) in
@@ -192,9 +191,9 @@ type-closed s w new from is_dependent p candidates text waiting scope_same at =
     let prints = instance-as (detail_of s) scope.names is_dependent p.template p.name
     (prints-as (detail_of s) scope.names is_dependent p.template p.name false p.is_template.1) p.ts p.tail p.arguments p.is_tail p.elements in
     value-added s w new p.kept p.owns.0 around t p.front bytes from false is_dependent p.written p.is_template.0 prints
-    (λ named. made-here scope around (reverse w.waiting.list.items) p.owns.3 (p.owns.4 named)) text candidates scope_same
-    (ap (λ v. reverse v.list.items) waiting) p.owns.4
-    (subst (λ n. Comes s p.owns.0 (tree t true) n (with_candidate around t p.state)) (sym at) p.owns.2) p.owns.5
+    (λ named. made-here scope around (reverse w.waiting.list.items) p.owns.3 (p.owns.4 named)) lists.text lists.candidates lists.scope
+    (ap (λ v. reverse v.list.items) lists.waiting) p.owns.4
+    (subst (λ n. Comes s p.owns.0 (tree t true) n (with_candidate around t p.state)) (sym lists.at) p.owns.2) p.owns.5
 
 instance-nest : {detail : Detail} (names : Names) (front name text : List ℕ) (nest : Nest) (is_listed is_instance : Bool) (t : Term) (ts : List Term) (tail : Term) (l : List ℕ)
     → IsTail tail → IsNest detail names front name text nest t → PrintAllAs detail names nest.is_dependent 3 ts l
@@ -245,9 +244,8 @@ nest-closed s w nest p =
 
 -- the arguments of the first piece of a nested name
 pub first-closed : (s : Symbol) (w new : Direct) (nest : Nest) → IsClosed s w (opens.FirstArguments nest)
-    → new.candidates.list.items ≡ added w nest.from false nest.is_dependent → new.text ≡ w.text → new.waiting ≡ w.waiting → new.has_scope ≡ w.has_scope
-    → new.at ≡ w.at → IsWriting s (record new { nest = nest }) steps.Component
-first-closed s w new nest p candidates text waiting scope_same at =
+    → Lists w new (added w nest.from false nest.is_dependent) → IsWriting s (record new { nest = nest }) steps.Component
+first-closed s w new nest p lists =
     let scope = p.scope in
     let t = instance p.template (list_with p.ts p.tail) in
     let bytes = p.name ++ opening_bracket (detail_of s) ++ p.arguments ++ closing_bracket (detail_of s) in
@@ -261,7 +259,7 @@ first-closed s w new nest p candidates text waiting scope_same at =
     record {
       kept = kept-with s w now p.kept p.front bytes nest.from t around false nest.is_dependent p.written p.is_template.from_is is_nest.prints
           (λ named. made-here scope around (reverse w.waiting.list.items) (p.owns.3 (type-named nest.purpose nest.is_dependent p.is_template.closed named))
-          (p.owns.4 named)) text candidates scope_same;
+          (p.owns.4 named)) lists.text lists.candidates lists.scope;
       is_before = (
         t,
         record {
@@ -269,15 +267,15 @@ first-closed s w new nest p candidates text waiting scope_same at =
           outer = outer;
           front = p.front;
           bytes = bytes;
-          written = subst (λ v. v.list.items ≡ p.front ++ bytes) (sym text) p.written;
-          is_nest = subst (λ v. IsNest (detail_of s) scope.names p.front bytes v.list.items nest t) (sym text) is_nest;
+          written = subst (λ v. v.list.items ≡ p.front ++ bytes) (sym lists.text) p.written;
+          is_nest = subst (λ v. IsNest (detail_of s) scope.names p.front bytes v.list.items nest t) (sym lists.text) is_nest;
           scoped = record {
-            scoped = λ within. subst (λ v. IsScoped scope around (reverse v.list.items)) (sym waiting) (p.owns.3 within);
-            naming = λ named. subst (λ v. IsNaming scope (reverse v.list.items)) (sym waiting) (p.owns.4 named);
+            scoped = λ within. subst (λ v. IsScoped scope around (reverse v.list.items)) (sym lists.waiting) (p.owns.3 within);
+            naming = λ named. subst (λ v. IsNaming scope (reverse v.list.items)) (sym lists.waiting) (p.owns.4 named);
           };
-          serves = subst (λ v. Serves s nest.purpose (below s scope (reverse v.list.items)) outer p.front) (sym waiting) p.owns.5;
+          serves = subst (λ v. Serves s nest.purpose (below s scope (reverse v.list.items)) outer p.front) (sym lists.waiting) p.owns.5;
         },
-        subst (λ n. AwaitsComponent s outer around t n state) (sym at) p.owns.2,
+        subst (λ n. AwaitsComponent s outer around t n state) (sym lists.at) p.owns.2,
       );
     }
 
@@ -496,33 +494,32 @@ pack-goes-on s owner below_ front template ts texts at st goes stands =
 -- a pack begins
 pub pack-begins : (s : Symbol) (old new : Direct) (owner : Open) → AwaitsNextArgument s old → StandsAt s.bytes old.at (74 ∷ [])
     → slice_get old.waiting.list.items (length old.waiting.list.items - 1) ≡ Some owner → (owner ≡ opens.Pack → ⊥)
-    → new.waiting.list.items ≡ old.waiting.list.items ++ opens.Pack ∷ [] → new.at ≡ old.at + 1 → new.text ≡ old.text → new.candidates ≡ old.candidates
-    → new.has_scope ≡ old.has_scope → IsWriting s new (steps.List true)
-pack-begins s old new owner a stands found other waits at text candidates scope_same =
+    → OpensEntry old new opens.Pack → IsWriting s new (steps.List true)
+pack-begins s old new owner a stands found other entered =
     let p = a.place in
     let last = last-found old.waiting.list.items owner found in
     let l = template-listed s a.scope old a.state p.listing p.owner p.rest p.front p.template p.name a.ts a.texts (in_front_of_next a.ts a.texts)
     (λ rest e. other (cc (sym last.1 ∙ e))) p.belongs a.elements a.written a.goes in
     record {
-      kept = kept-same s old new text candidates scope_same a.kept;
+      kept = kept-same s old new entered.text entered.candidates entered.scope a.kept;
       is_before = (
         record {
           listing = of_pack a.ts a.texts;
           owner = p.owner;
           rest = p.rest;
-          belongs = (ap reverse waits ∙ reverse-last old.waiting.list.items opens.Pack ∙ ap (λ ws. opens.Pack ∷ ws) l.0, l.1);
+          belongs = (ap reverse entered.waiting ∙ reverse-last old.waiting.list.items opens.Pack ∙ ap (λ ws. opens.Pack ∷ ws) l.0, l.1);
           front = p.front;
           template = p.template;
           name = p.name;
-          is_template = subst (λ v. IsTemplate (detail_of s) a.scope.names p.owner p.front p.template p.name v.list.items) (sym text) p.is_template;
+          is_template = subst (λ v. IsTemplate (detail_of s) a.scope.names p.owner p.front p.template p.name v.list.items) (sym entered.text) p.is_template;
         },
         [],
         [],
         none-print (detail_of s) 0,
-        ap (λ v. v.list.items) text ∙ l.2 ∙ sym (append-nil (p.front ++ p.name ++ opening_bracket (detail_of s) ++ in_front_of_next a.ts a.texts)),
+        ap (λ v. v.list.items) entered.text ∙ l.2 ∙ sym (append-nil (p.front ++ p.name ++ opening_bracket (detail_of s) ++ in_front_of_next a.ts a.texts)),
         (λ e. refl),
         (λ e. cc e),
-        subst (λ n. GoesOn s (of_pack a.ts a.texts) p.owner (below s a.scope p.rest) p.front p.template [] n a.state) (sym at)
+        subst (λ n. GoesOn s (of_pack a.ts a.texts) p.owner (below s a.scope p.rest) p.front p.template [] n a.state) (sym entered.at)
             (pack-goes-on s p.owner (below s a.scope p.rest) p.front p.template a.ts a.texts old.at a.state l.3 stands),
       );
     }

@@ -12,8 +12,8 @@ use Rattle.cpp_direct.specs.declared.open.Step.TheVariants as steps
 use Rattle.cpp_direct.specs.AllHoles.{Comes, IsNameAt, StandsAt, member_of, template_named}
 use Rattle.cpp_direct.specs.WriterInvariant.{IsScoped, IsWriting, Stands, element_kind, list_with}
 use Rattle.cpp_direct.specs.MidStep.{AwaitsMember, AwaitsNextArgument}
-use Rattle.cpp_direct.specs.Written.{Reads, Writes}
-use Rattle.cpp_direct.proofs.Kept.{kept-grown, kept-read, list-begins, OpensArguments, value-comes}
+use Rattle.cpp_direct.specs.Written.{Reads, Writes, OpensArguments}
+use Rattle.cpp_direct.proofs.Kept.{kept-grown, kept-read, list-begins, value-comes}
 use Rattle.cpp_direct.proofs.Listed.{IsClosed, element-kind, element-scoped, element-stands}
 use Rattle.cpp_direct.proofs.Moves.{stands-moved}
 use Rattle.cpp_direct.proofs.MovesOfLists.{level-opens, listed-awaits}

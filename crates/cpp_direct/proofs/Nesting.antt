@@ -26,9 +26,9 @@ use Rattle.cpp_direct.specs.Names.{tag_text}
 use Rattle.cpp_direct.specs.Prints.{Names, Prints, PrintsAs, NamesClass, opening_bracket}
 use Rattle.cpp_direct.specs.WriterInvariant.{HasArguments, IsMadeIn, IsNaming, IsNest, IsNestScoped, IsNesting, IsOwn, IsScoped, Scope, Serves, IsWriting, below, is_type, nowhere, HasSingles, argument_of, Kept, IsNestSoFar}
 use Rattle.cpp_direct.specs.MidStep.{AwaitsNest, IsNestKnown, IsNestNamed, IsNameEnded, IsOperatorRead}
-use Rattle.cpp_direct.specs.Written.{Reads, added, added_unless}
+use Rattle.cpp_direct.specs.Written.{Reads, added, added_unless, Lists, OpensArguments}
 use Rattle.cpp_direct.proofs.Moves.{alone-arguments, any-tail, expects-empty, stands-join, comes-moved}
-use Rattle.cpp_direct.proofs.Kept.{kept-grown, kept-read, kept-same, made-here, candidate-found, piece-found, nest-stays, value-comes, Lists, OpensArguments, list-begins, type-named, kept-unless, kept-with, placed-last, placed-moved}
+use Rattle.cpp_direct.proofs.Kept.{kept-grown, kept-read, kept-same, made-here, candidate-found, piece-found, nest-stays, value-comes, list-begins, type-named, kept-unless, kept-with, placed-last, placed-moved}
 use Rattle.cpp_direct.proofs.MovesOfLists.{arguments-open}
 use Rattle.cpp_direct.proofs.MovesOfTypes.{substituted-so}
 use Rattle.cpp_direct.proofs.NamedArguments.{again-substituted, named-here}

@@ -1,8 +1,7 @@
 -- A writer reads a type, or the first bytes of one.
-use Rattle.std.proofs.Common.{◌≡◌, ◌≢◌, inl, inr, ℕ, ◌+◌, ◌-◌, ◌≤◌, List, [], ◌∷◌, ◌++◌, length, take, drop, reverse, slice_get, Bool, true, false, Option, Some, None, codes, refl, ap, sym, subst, ◌∙◌, arith, append_assoc, append-nil, if◌then◌else◌}
+use Rattle.std.proofs.Common.{◌≡◌, ◌≢◌, inl, inr, ℕ, ◌+◌, ◌-◌, ◌≤◌, List, [], ◌∷◌, ◌++◌, length, take, drop, reverse, slice_get, Bool, true, false, Some, codes, refl, ap, sym, subst, ◌∙◌, arith, append_assoc, append-nil, if◌then◌else◌}
 use Rattle.std.proofs.lemmas.List.{length-append, reverse-reverse}
 use Rattle.std.proofs.Math.Seq.{take-append_seam}
-use Rattle.std.specs.Option.{OnSome, IfSome}
 use Rattle.std.specs.Bool.{◌==◌}
 use Rattle.sym_core.specs.declared.NumberKind.TheVariants.{Seq36}
 use Rattle.sym_core.specs.Value.{counted_value}
@@ -13,7 +12,7 @@ use Rattle.cpp_grammar.specs.Texts.{Naming, look_up, builtin_texts, abbreviation
 use Rattle.cpp_grammar.specs.Parts.{source_text}
 use Rattle.cpp_grammar.specs.Values.{State, tree}
 use Rattle.cpp_grammar.specs.Between.{after, inside, no_items}
-use Rattle.cpp_direct.specs.WriterTypes.{Candidate, Direct, Open, Step, Symbol, detail_of}
+use Rattle.cpp_direct.specs.WriterTypes.{Candidate, Direct, Open, Symbol, detail_of}
 use Rattle.cpp_direct.specs.Bytes.{is_builtin, is_builtin_with_d, is_abbreviated}
 use Rattle.cpp_direct.specs.Letters.{builtin_letters, builtin_letters_with_d, abbreviation_letters}
 use Rattle.cpp_direct.specs.declared.open.Open.TheVariants as opens
@@ -23,10 +22,10 @@ use Rattle.cpp_direct.specs.AllHoles.{Comes, Expects, IsNameAt, IsQualifiable, I
 use Rattle.cpp_direct.specs.Prints.{Prints, PrintsAs}
 use Rattle.cpp_direct.specs.WriterInvariant.{IsScoped, IsWriting, Marks, Stands, below, Kept}
 use Rattle.cpp_direct.specs.MidStep.{AwaitsType, AwaitsNamedType, AwaitsNest, IsNamedAgain, IsTypeNamed, AwaitsMark}
-use Rattle.cpp_direct.specs.Written.{Reads, Writes, added, added_unless}
+use Rattle.cpp_direct.specs.Written.{Reads, Writes, Lists, OpensEntry, added, added_unless, OpensArguments}
 use Rattle.cpp_direct.proofs.Unmarked.{name-unmarked}
 use Rattle.cpp_direct.proofs.Scopes.{scoped-inside}
-use Rattle.cpp_direct.proofs.Kept.{candidate-found, kept-grown, kept-same, last-reversed, piece-found, reverse-last, type-comes, value-added, value-comes, Lists, OpensArguments, list-begins, kept-unless, awaited-in}
+use Rattle.cpp_direct.proofs.Kept.{candidate-found, kept-grown, kept-same, last-reversed, piece-found, reverse-last, type-comes, value-added, value-comes, list-begins, kept-unless, awaited-in}
 use Rattle.cpp_direct.proofs.Moves.{expects-empty, stands-join}
 use Rattle.cpp_direct.proofs.MovesOfLists.{arguments-open}
 use Rattle.cpp_direct.proofs.MovesOfTypes.{solid-opens, builtin-comes, builtin-with-d-comes, pointer-opens, reference-type-opens, const-opens, source-opens, std-opens, abbreviation-opens, substitution-opens, substituted-so, nested-type-opens}
@@ -43,15 +42,6 @@ there s at b d is some stands = subst (λ k. StandsAt s at (k ∷ [])) is (stand
 pub some-text : (text same : List ℕ) → text ≡ same → false ≡ (length text == 0) → same ≢ []
 some-text text same is filled none = cc (filled ∙ ap (λ l. length l == 0) (is ∙ none))
 
--- a step that is this one, if there is one
-pub by-step : (o : Option Step) (step : Step) (P : Step → Type 0) → IfSome o (λ next. next ≡ step) → (o ≡ Some step → P step) → IfSome o P
-by-step None step P is make = tt
-by-step (Some next) step P is make = subst P (sym is) (make (ap Some is))
-
--- what holds if there is something
-pub given : (A : Type 0) (o : Option Step) (step : Step) → o ≡ Some step → OnSome o A → A
-given A o step is have = subst (λ x. OnSome x A) is have
-
 -- what is open without its last
 pub popped : (xs ys rest : List Open) (x : Open) (n : ℕ) → n ≡ length xs → reverse xs ≡ x ∷ rest → ys ≡ take (n - 1) xs → reverse ys ≡ rest
 popped xs ys rest x n size e is =
@@ -66,34 +56,32 @@ popped xs ys rest x n size e is =
 pub mark-answer : (s : Symbol) (old mid new : Direct) (mark : List ℕ) (from : ℕ) (r d : Bool) (a : AwaitsMark s old mark from r d)
     → reverse mid.waiting.list.items ≡ a.rest → mid.text.list.items ≡ old.text.list.items ++ mark → mid.candidates ≡ old.candidates
     → mid.has_scope ≡ old.has_scope → mid.at ≡ old.at
-    → new.candidates.list.items ≡ added mid from r d → new.text ≡ mid.text → new.waiting ≡ mid.waiting → new.has_scope ≡ mid.has_scope → new.at ≡ mid.at
-    → IsWriting s new (steps.Value r d)
-mark-answer s old mid new mark from r d a waits text candidates scope at more same_text same_waits same_scope same_at =
+    → Lists mid new (added mid from r d) → IsWriting s new (steps.Value r d)
+mark-answer s old mid new mark from r d a waits text candidates scope at lists =
     let marked : mid.text.list.items ≡ a.front ++ (a.bytes ++ mark) = text ∙ ap (λ l. l ++ mark) a.written ∙ append_assoc a.front a.bytes mark in
-    let open_is : reverse new.waiting.list.items ≡ a.rest = ap (λ v. reverse v.list.items) same_waits ∙ waits in
+    let open_is : reverse new.waiting.list.items ≡ a.rest = ap (λ v. reverse v.list.items) lists.waiting ∙ waits in
     value-added s mid new (kept-grown s old mid mark text candidates scope a.kept) a.outer a.made_in a.made a.front (a.bytes ++ mark) from r d
-    marked a.from_is a.prints a.made_here same_text more same_scope open_is a.naming
-    (subst (λ k. Comes s a.outer (tree a.made true) k (with_candidate a.made_in a.made a.state)) (sym (same_at ∙ at)) a.comes) a.stands
+    marked a.from_is a.prints a.made_here lists.text lists.candidates lists.scope open_is a.naming
+    (subst (λ k. Comes s a.outer (tree a.made true) k (with_candidate a.made_in a.made a.state)) (sym (lists.at ∙ at)) a.comes) a.stands
 
 -- ## Names of types
 
 -- it became a candidate, unless it was one
-abbrev named-kept : (s : Symbol) (old new : Direct) (from : ℕ) (listed r : Bool) (a : IsTypeNamed s old from listed r) → new.text ≡ old.text
-    → new.candidates.list.items ≡ added_unless old listed from false → new.has_scope ≡ old.has_scope → Kept s new
-named-kept s old new from listed r a text candidates scope =
+abbrev named-kept : (s : Symbol) (old new : Direct) (from : ℕ) (listed r : Bool) (a : IsTypeNamed s old from listed r)
+    → Lists old new (added_unless old listed from false) → Kept s new
+named-kept s old new from listed r a lists =
     kept-unless s old new a.kept listed a.front a.bytes from a.own a.around false a.written a.from_is
-    (λ e. subst (λ b. Prints (detail_of s) a.own a.bytes b) (a.no_reference e) a.prints) (λ e. cc e) text candidates scope
+    (λ e. subst (λ b. Prints (detail_of s) a.own a.bytes b) (a.no_reference e) a.prints) (λ e. cc e) lists.text lists.candidates lists.scope
 
 -- nothing comes after the name of a type
 pub bare-done : (s : Symbol) (old new : Direct) (from : ℕ) (listed r : Bool) → IsTypeNamed s old from listed r
-    → new.waiting ≡ old.waiting → new.text ≡ old.text → new.candidates.list.items ≡ added_unless old listed from false → new.has_scope ≡ old.has_scope
-    → new.at ≡ old.at → IsWriting s new (steps.Value r false)
+    → Lists old new (added_unless old listed from false) → IsWriting s new (steps.Value r false)
 unfolding may_be_empty
-bare-done s old new from listed r a waits text candidates scope at =
+bare-done s old new from listed r a lists =
     let state : State = unless_listed listed a.around a.own a.state in
-    value-comes s new (named-kept s old new from listed r a text candidates scope) a.outer a.own a.front a.bytes r false
-    (ap (λ v. v.list.items) text ∙ a.written) a.prints (ap (λ v. reverse v.list.items) waits) (λ e. cc e)
-    (subst (λ k. Comes s a.outer (tree a.own true) k state) (sym at) (a.named.bare old.at a.state a.prints.no_function
+    value-comes s new (named-kept s old new from listed r a lists) a.outer a.own a.front a.bytes r false
+    (ap (λ v. v.list.items) lists.text ∙ a.written) a.prints (ap (λ v. reverse v.list.items) lists.waiting) (λ e. cc e)
+    (subst (λ k. Comes s a.outer (tree a.own true) k state) (sym lists.at) (a.named.bare old.at a.state a.prints.no_function
     (expects-empty s Kind.ArgumentsAlone (after a.own listed a.around) a.named.inner old.at a.state a.named.awaits refl))) a.stands
 
 -- and arguments do
@@ -103,7 +91,7 @@ unfolding inside
 argued-done s old mid new from listed r named none stands lists opening_ =
     let a = subst (λ b. IsTypeNamed s old from listed b) none named in
     let o = arguments-open s a.named.inner a.around a.own listed old.at a.state a.named.awaits (subst (λ n. StandsAt s.bytes n (73 ∷ [])) lists.at stands) in
-    list-begins s old mid new (added_unless old listed from false) (named-kept s old mid from listed false a lists.text lists.candidates lists.scope)
+    list-begins s old mid new (added_unless old listed from false) (named-kept s old mid from listed false a lists)
     (opens.TypeArguments from false) a.front a.bytes a.own lists opening_ (a.from_is, a.prints) a.written (
       inside a.around,
       o.inner,
@@ -325,26 +313,23 @@ named-again s old new n digits k a stands is ordered found reads dependent = rec
 -- ## Types within types
 
 -- a type within another one is expected
-pub type-opened : (s : Symbol) (old new : Direct) (o : Option Step) (entry : Open) (from : ℕ) (made : Term → Term) (a : AwaitsType s old)
+pub type-opened : (s : Symbol) (old new : Direct) (entry : Open) (from : ℕ) (made : Term → Term) (a : AwaitsType s old)
     (t : TypeOpens s Kind.Type a.os a.around made (old.at + 1) a.state) → from ≡ length old.text.list.items
     → (Marks s (below s a.scope (reverse old.waiting.list.items)) t.inner old.text.list.items from made
     → Stands s a.scope (entry ∷ reverse old.waiting.list.items) t.inner old.text.list.items)
-    → IsScoped a.scope a.around (entry ∷ reverse old.waiting.list.items)
-    → IfSome o (λ next. next ≡ steps.Type) → OnSome o (new.waiting.list.items ≡ old.waiting.list.items ++ entry ∷ []) → OnSome o (new.at ≡ old.at + 1)
-    → new.text ≡ old.text → new.candidates ≡ old.candidates → new.has_scope ≡ old.has_scope → IfSome o (IsWriting s new)
-type-opened s old new o entry from made a t begins stands scoped is waits at text candidates scope = by-step o steps.Type (IsWriting s new) is (λ e.
-    type-comes s old new a.kept a.around t.inner text candidates scope
-    (ap reverse (given _ o steps.Type e waits) ∙ reverse-last old.waiting.list.items entry) a.outside
-    (inl (subst (λ k. Expects s Kind.Type a.around t.inner k a.state) (sym (given _ o steps.Type e at)) t.awaits))
-    (stands (a.os, a.around, begins, t.onward, a.scoped, a.stands)) scoped)
+    → IsScoped a.scope a.around (entry ∷ reverse old.waiting.list.items) → OpensEntry old new entry → IsWriting s new steps.Type
+type-opened s old new entry from made a t begins stands scoped entered =
+    type-comes s old new a.kept a.around t.inner entered.text entered.candidates entered.scope
+    (ap reverse entered.waiting ∙ reverse-last old.waiting.list.items entry) a.outside
+    (inl (subst (λ k. Expects s Kind.Type a.around t.inner k a.state) (sym entered.at) t.awaits))
+    (stands (a.os, a.around, begins, t.onward, a.scoped, a.stands)) scoped
 
 -- after a P
-pub pointer-opened : (s : Symbol) (old new : Direct) (o : Option Step) (from : ℕ) → AwaitsType s old → from ≡ length old.text.list.items
-    → StandsAt s.bytes old.at (80 ∷ []) → IfSome o (λ next. next ≡ steps.Type) → OnSome o (new.waiting.list.items ≡ old.waiting.list.items ++ opens.Pointer from ∷ [])
-    → OnSome o (new.at ≡ old.at + 1) → new.text ≡ old.text → new.candidates ≡ old.candidates → new.has_scope ≡ old.has_scope → IfSome o (IsWriting s new)
-pointer-opened s old new o from a begins stands is waits at text candidates scope =
-    type-opened s old new o (opens.Pointer from) from pointer a (pointer-opens s a.kind a.around a.os old.at a.state a.typed a.awaits stands) begins
-    (λ m. m) a.scoped is waits at text candidates scope
+pub pointer-opened : (s : Symbol) (old new : Direct) (from : ℕ) → AwaitsType s old → from ≡ length old.text.list.items
+    → StandsAt s.bytes old.at (80 ∷ []) → OpensEntry old new (opens.Pointer from) → IsWriting s new steps.Type
+pointer-opened s old new from a begins stands entered =
+    type-opened s old new (opens.Pointer from) from pointer a (pointer-opens s a.kind a.around a.os old.at a.state a.typed a.awaits stands) begins
+    (λ m. m) a.scoped entered
 
 -- what waits for what a reference is to
 abbrev pub reference_entry : (is_lvalue : Bool) → (from : ℕ) → Open
@@ -352,37 +337,33 @@ reference_entry true from = opens.Lvalue from
 reference_entry false from = opens.Rvalue from
 
 -- after an R, and after an O
-pub reference-opened : (s : Symbol) (old new : Direct) (o : Option Step) (is_lvalue : Bool) (from : ℕ) (a : AwaitsType s old) → from ≡ length old.text.list.items
-    → StandsAt s.bytes old.at (reference_letter is_lvalue ∷ []) → IfSome o (λ next. next ≡ steps.Type)
-    → OnSome o (new.waiting.list.items ≡ old.waiting.list.items ++ reference_entry is_lvalue from ∷ [])
-    → OnSome o (new.at ≡ old.at + 1) → new.text ≡ old.text → new.candidates ≡ old.candidates → new.has_scope ≡ old.has_scope → IfSome o (IsWriting s new)
-reference-opened s old new o true from a begins stands is waits at text candidates scope =
+pub reference-opened : (s : Symbol) (old new : Direct) (is_lvalue : Bool) (from : ℕ) (a : AwaitsType s old) → from ≡ length old.text.list.items
+    → StandsAt s.bytes old.at (reference_letter is_lvalue ∷ []) → OpensEntry old new (reference_entry is_lvalue from) → IsWriting s new steps.Type
+reference-opened s old new true from a begins stands entered =
     let may : IsReferable a.kind = elim a.referable [ inl is_one ↦ is_one | inr none ↦ absurd (none.0 stands) ] in
-    type-opened s old new o (opens.Lvalue from) from lvalue a (reference-type-opens s a.kind true a.around a.os old.at a.state may a.awaits stands) begins
-    (λ m. m) a.scoped is waits at text candidates scope
-reference-opened s old new o false from a begins stands is waits at text candidates scope =
+    type-opened s old new (opens.Lvalue from) from lvalue a (reference-type-opens s a.kind true a.around a.os old.at a.state may a.awaits stands) begins
+    (λ m. m) a.scoped entered
+reference-opened s old new false from a begins stands entered =
     let may : IsReferable a.kind = elim a.referable [ inl is_one ↦ is_one | inr none ↦ absurd (none.1 stands) ] in
-    type-opened s old new o (opens.Rvalue from) from rvalue a (reference-type-opens s a.kind false a.around a.os old.at a.state may a.awaits stands) begins
-    (λ m. m) a.scoped is waits at text candidates scope
+    type-opened s old new (opens.Rvalue from) from rvalue a (reference-type-opens s a.kind false a.around a.os old.at a.state may a.awaits stands) begins
+    (λ m. m) a.scoped entered
 
 -- a plain type is expected after a K, where a whole one is
-pub const-opened : (s : Symbol) (old new : Direct) (o : Option Step) (from : ℕ) → IsWriting s old steps.Type → from ≡ length old.text.list.items
-    → StandsAt s.bytes old.at (75 ∷ []) → IfSome o (λ next. next ≡ steps.Plain) → OnSome o (new.waiting.list.items ≡ old.waiting.list.items ++ opens.Const from ∷ [])
-    → OnSome o (new.at ≡ old.at + 1) → new.text ≡ old.text → new.candidates ≡ old.candidates → new.has_scope ≡ old.has_scope → IfSome o (IsWriting s new)
-const-opened s old new o from p begins stands is waits at text candidates scope =
+pub const-opened : (s : Symbol) (old new : Direct) (from : ℕ) → IsWriting s old steps.Type → from ≡ length old.text.list.items
+    → StandsAt s.bytes old.at (75 ∷ []) → OpensEntry old new (opens.Const from) → IsWriting s new steps.Plain
+const-opened s old new from p begins stands entered =
     let whole = whole-awaited s old p in
     let a = whole.0 in
     let t = const-opens s a.kind a.around a.os old.at a.state whole.1 a.awaits stands in
-    by-step o steps.Plain (IsWriting s new) is (λ e.
     let open_is : reverse new.waiting.list.items ≡ opens.Const from ∷ reverse old.waiting.list.items
-    = ap reverse (given _ o steps.Plain e waits) ∙ reverse-last old.waiting.list.items (opens.Const from) in
+    = ap reverse entered.waiting ∙ reverse-last old.waiting.list.items (opens.Const from) in
     record {
-      kept = kept-same s old new text candidates scope a.kept;
+      kept = kept-same s old new entered.text entered.candidates entered.scope a.kept;
       is_before = (
-        awaited-in s a.scope old new a.around t.inner (ap (λ v. v.list.items) text) open_is a.outside (a.os, a.around, begins, t.onward, a.scoped, a.stands) a.scoped,
-        subst (λ k. Expects s Kind.Plain a.around t.inner k a.state) (sym (given _ o steps.Plain e at)) t.awaits,
+        awaited-in s a.scope old new a.around t.inner (ap (λ v. v.list.items) entered.text) open_is a.outside (a.os, a.around, begins, t.onward, a.scoped, a.stands) a.scoped,
+        subst (λ k. Expects s Kind.Plain a.around t.inner k a.state) (sym entered.at) t.awaits,
       );
-    })
+    }
 
 -- a nested name is expected after an N
 pub nest-awaited : (s : Symbol) (old : Direct) (n : ℕ) → AwaitsNamedType s old → n ≡ old.at + 1 → StandsAt s.bytes old.at (78 ∷ [])

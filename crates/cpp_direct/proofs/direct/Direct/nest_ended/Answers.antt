@@ -3,6 +3,7 @@ use Rattle.cpp_direct.specs.Symbol.{symbol_by}
 use Rattle.cpp_direct.specs.WriterInvariant.{IsOwn, IsWriting}
 use Rattle.cpp_direct.specs.declared.open.Step.TheVariants as steps
 use Rattle.cpp_direct.specs.MidStep.{IsNameEnded}
+use Rattle.cpp_direct.specs.Written.{Lists, added_unless}
 use Rattle.cpp_direct.specs.MidStepOfLocals.{IsEnclosingNamed}
 use Rattle.cpp_direct.specs.MidStepOfAddresses.{IsAddressNamed}
 use Rattle.cpp_direct.proofs.AddressesRead.{name-addressed}
@@ -52,15 +53,9 @@ pub returns-in_ok-add_unless-in-Type : goal.returns-in_ok-add_unless-in-Type
 returns-in_ok-add_unless-in-Type g c =
     let writing = c.requires.writing in
     let before = writing.is_before in
+    let old = c.args.self.now in
     let added = c.in_ok-add_unless-in-Type.ensures in
     let s = symbol_by g.G.Grammar.IS_WIDE g.G.Grammar.IS_BARE g.G.Grammar.IS_BRIEF c.args.s.now in
     subst (λ n. IsWriting s c.add_unless.new.self (steps.Value false n.is_dependent)) (sym added.nest)
     (type-ended s c.args.self.now c.add_unless.new.self writing.kept before.0 before.1 c.requires.end c.in-Type.is
-    (record {
-      candidates = added.candidates;
-      text = added.text;
-      waiting = added.«open»;
-      nest = added.nest;
-      scope = added.scope;
-      at = added.at ∙ c.in_ok-self.ensures.1;
-    }))
+    (subst (λ n. Lists (record old { at = n }) c.add_unless.new.self (added_unless old old.nest.is_listed old.nest.from old.nest.is_dependent)) c.in_ok-self.ensures.1 added))
