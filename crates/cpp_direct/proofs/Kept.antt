@@ -65,12 +65,6 @@ placed-last front bytes from to written from_is to_is = record {
 
 -- ## Candidates
 
--- a candidate stays one where more is written
-pub candidate-stays : {s : Symbol} {scope : Scope} (text more : List ℕ) (k : Candidate) (c : values.Candidate) → IsCandidate s scope text k c
-    → IsCandidate s scope (text ++ more) k c
-candidate-stays text more k c p =
-    record { bytes = p.bytes; placed = placed-moved text more p.bytes refl refl refl p.placed; prints = p.prints; made_in = p.made_in }
-
 -- candidates are so elsewhere where each is
 pub candidates-as : (s : Symbol) (scope other : Scope) (text new : List ℕ) → ((k : Candidate) (c : values.Candidate) → IsCandidate s scope text k c → IsCandidate s other new k c)
     → (ks : List Candidate) (cs : List values.Candidate) → AreCandidates s scope text ks cs → AreCandidates s other new ks cs
@@ -82,7 +76,8 @@ candidates-as s scope other text new each (k ∷ ks) [] p = absurd p
 -- they stay so where more is written
 pub candidates-stay : (s : Symbol) (scope : Scope) (text more : List ℕ) (ks : List Candidate) (cs : List values.Candidate) → AreCandidates s scope text ks cs
     → AreCandidates s scope (text ++ more) ks cs
-candidates-stay s scope text more = candidates-as s scope scope text (text ++ more) (λ k c p. candidate-stays text more k c p)
+candidates-stay s scope text more = candidates-as s scope scope text (text ++ more) (λ k c p.
+    record { bytes = p.bytes; placed = placed-moved text more p.bytes refl refl refl p.placed; prints = p.prints; made_in = p.made_in })
 
 -- one more
 pub candidates-more : {s : Symbol} {scope : Scope} (text : List ℕ) (ks : List Candidate) (cs : List values.Candidate) (k : Candidate) (c : values.Candidate)
@@ -110,10 +105,6 @@ candidates-added s scope text ks cs front bytes from t around r d p written from
 -- a text is in its place still where more is written
 pub placed-stays : (text more : List ℕ) (p : Argument) (bytes : List ℕ) → IsPlaced text p bytes → IsPlaced (text ++ more) p bytes
 placed-stays text more p bytes h = placed-moved text more bytes refl refl refl h
-
--- so are the arguments that may be named
-pub named-stays : (text more : List ℕ) (scope : Scope) → AreNamed text scope → AreNamed (text ++ more) scope
-named-stays text more scope named = λ number single. let n = named number single in (n.0, n.1, placed-stays text more (place_of scope.arguments number) n.0 n.2)
 
 -- none is known
 pub none-known : (k : ℕ) → IsKnown nowhere k → ⊥
@@ -171,7 +162,8 @@ kept-grown s old new bytes text candidates scope_same kept = record {
   scope = kept.scope;
   keeps = keeps-as s old new kept.state.candidates text (ap (λ v. v.list.items) candidates) scope_same
       (candidates-stay s kept.scope old.text.list.items bytes old.candidates.list.items kept.state.candidates kept.keeps.candidates)
-      (named-stays old.text.list.items bytes kept.scope kept.keeps.named) kept.keeps.single kept.keeps.unknown;
+      (λ number single. let n = kept.keeps.named number single in (n.0, n.1, placed-moved old.text.list.items bytes n.0 refl refl refl n.2))
+      kept.keeps.single kept.keeps.unknown;
 }
 
 -- a text was written

@@ -65,7 +65,8 @@ special-opens s os around b at st is expects stands =
     let p = Production.SpecialType in
     let places = stands-split s.bytes at (84 ∷ []) (b ∷ []) stands in
     let type = byte-opens (eats s Kind.Special p b (special-eaten b is)) (special-expected s os around at st expects places.0) places.1 refl refl in
-    awaited (hole-at (at + 2) type (omega arith)) (λ t here now comes. (closes Production.Special (closes p (fill type (tree t true) here now comes) refl) refl).comes)
+    awaited (hole-at (at + 2) type (omega arith))
+    (λ t here now comes. (closes Production.Special (closes p (fill type (tree t true) here now comes) refl) refl).comes)
 
 -- ## Thunks
 
@@ -79,7 +80,8 @@ thunk-opens s os around at end st expects first second is =
     let number = byte-opens (eats s Kind.Special p 104 refl) (special-expected s os around at st expects first) second refl refl in
     let line = next-part p (integer-fills is.negative is.digits is.behind number is.minus is.number) refl in
     let encoding = next-part p (filled-at end (fixed-fills line is.line) (sym is.ends)) refl in
-    awaited encoding (λ e here now comes. (closes Production.Special (closes p (fill encoding (tree e true) here now comes) refl) refl).comes)
+    awaited encoding
+    (λ e here now comes. (closes Production.Special (closes p (fill encoding (tree e true) here now comes) refl) refl).comes)
 
 -- a virtual one begins with a T, a v and two offsets
 pub virtual-thunk-opens : (s : Symbol) (os : List Opened) (around : Around) (at middle end : ℕ) (st : State) → Expects s Kind.Encoding around os at st
@@ -93,7 +95,8 @@ virtual-thunk-opens s os around at middle end st expects first second is then_ =
     let other = next-part p (filled-at middle (fixed-fills line is.line) (sym is.ends)) refl in
     let other_line = next-part p (integer-fills then_.negative then_.digits then_.behind other then_.minus then_.number) refl in
     let encoding = next-part p (filled-at end (fixed-fills other_line then_.line) (sym then_.ends)) refl in
-    awaited encoding (λ e here now comes. (closes Production.Special (closes p (fill encoding (tree e true) here now comes) refl) refl).comes)
+    awaited encoding
+    (λ e here now comes. (closes Production.Special (closes p (fill encoding (tree e true) here now comes) refl) refl).comes)
 
 -- ## After a G
 
@@ -115,7 +118,8 @@ guard-opens s os around at st expects stands =
     let q = Production.SpecialName in
     let places = stands-split s.bytes at (71 ∷ []) (86 ∷ []) stands in
     let name = byte-opens (eats s Kind.SpecialAfterG q 86 refl) (other-expected s os around at st expects places.0) places.1 refl refl in
-    awaited (hole-at (at + 2) name (omega arith)) (λ v here now comes. (closes Production.OtherSpecial (closes q (fill name v here now comes) refl) refl).comes)
+    awaited (hole-at (at + 2) name (omega arith))
+    (λ v here now comes. (closes Production.OtherSpecial (closes q (fill name v here now comes) refl) refl).comes)
 
 -- by the wide grammar a clone begins with GT and its letter, and the encoding is expected of which it is one
 pub clone-opens : (s : Symbol) (os : List Opened) (around : Around) (b at : ℕ) (st : State) → s.is_wide ≡ true → is_eaten Kind.CloneLetter Production.Mark b ≡ true
@@ -127,7 +131,8 @@ clone-opens s os around b at st wide is expects stands =
     let two = stands-split s.bytes (at + 1) (84 ∷ []) (b ∷ []) places.1 in
     let kind = byte-opens (eats-widely s Kind.SpecialAfterG q 84 wide refl) (other-expected s os around at st expects places.0) two.0 refl refl in
     let encoding = next-part q (byte-fills (eats s Kind.CloneLetter Production.Mark b is) kind two.1 refl refl) refl in
-    awaited (hole-at (at + 3) encoding (omega arith)) (λ e here now comes. (closes Production.OtherSpecial (closes q (fill encoding (tree e true) here now comes) refl) refl).comes)
+    awaited (hole-at (at + 3) encoding (omega arith))
+    (λ e here now comes. (closes Production.OtherSpecial (closes q (fill encoding (tree e true) here now comes) refl) refl).comes)
 
 -- ## Names
 

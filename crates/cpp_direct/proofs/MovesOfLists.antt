@@ -41,7 +41,8 @@ arguments-open s os around t listed at st expects stands =
     let p = Production.Arguments in
     let first = byte-opens (eats s Kind.ArgumentsAlone p 73 refl) (hole s Kind.ArgumentsAlone (after t listed around) os at st expects) stands refl
     (prefix-listed t listed around at st) in
-    awaited (fewer (lists-by s.is_wide) first) (λ l here now comes ended. (closes p (fixed-fills (next-part p (fill first l here now comes) refl) ended) refl).comes)
+    awaited (fewer (lists-by s.is_wide) first)
+    (λ l here now comes ended. (closes p (fixed-fills (next-part p (fill first l here now comes) refl) ended) refl).comes)
 
 -- ## Elements
 
@@ -59,11 +60,13 @@ unfolding is_eaten is_left number_of_kind parts_of between close unfolding_.behi
 listed-awaits s Kind.ArgumentList os around at st is expects =
     let p = Production.AnyArgument in
     let one = chain-opens (leaves s Kind.ArgumentList p 80 refl) (hole s Kind.ArgumentList around os at st expects) refl refl in
-    awaited one (λ t here now comes. goes-on t (next-part p (fill one (tree t true) here now comes) refl) (λ l to later last. closes p last refl))
+    awaited one
+    (λ t here now comes. goes-on t (next-part p (fill one (tree t true) here now comes) refl) (λ l to later last. closes p last refl))
 listed-awaits s Kind.PackList os around at st is expects =
     let p = Production.AnyElement in
     let one = chain-opens (leaves s Kind.PackList p 80 refl) (hole s Kind.PackList around os at st expects) refl refl in
-    awaited one (λ t here now comes. goes-on t (next-part p (fill one (tree t true) here now comes) refl) (λ l to later last. closes p last refl))
+    awaited one
+    (λ t here now comes. goes-on t (next-part p (fill one (tree t true) here now comes) refl) (λ l to later last. closes p last refl))
 listed-awaits s _ os around at st is expects = absurd is
 
 -- one that is a type
@@ -82,7 +85,8 @@ element-awaits s Kind.PackList os around at st list_kind expects =
 element-awaits s Kind.Items os around at st list_kind expects =
     let p = Production.Items in
     let one = chain-opens (leaves s Kind.Items p 80 refl) (hole s Kind.Items around os at st expects) refl refl in
-    awaited one (λ t here now comes. goes-on t (next-part p (fill one (tree t true) here now comes) refl) (λ l to later last. closes p last refl))
+    awaited one
+    (λ t here now comes. goes-on t (next-part p (fill one (tree t true) here now comes) refl) (λ l to later last. closes p last refl))
 element-awaits s _ os around at st list_kind expects = absurd list_kind
 
 -- an argument that is a literal begins with an L, and ends with an E
@@ -259,7 +263,7 @@ level-opens s os around at st name end wide first expects x e r is opening =
     let template = chain-opens (leaves s Kind.Level id 48 refl) levels refl refl in
     let arguments = next-part id (name-fills name end template is) (named-so around name (at + 1 + 1 + 1) st first) in
     let o = arguments-open s (open_at arguments) around (template_named name) true end st arguments.expects opening in
-    awaited (hole-of o) (λ l here now comes ended member behind begins named ends.
+    awaited {os = o.inner} (hole-of o) (λ l here now comes ended member behind begins named ends.
         let own = closes id (came s (open_at arguments) (tree (no_items l) true) (here + 1) now (o.onward l here now comes ended)) refl in
         let rest = byte-opens (eats s Kind.MoreLevels Production.LevelsEnd 69 refl) (next-part level own refl) begins refl refl in
         let last = chain-opens (leaves s Kind.UnresolvedName id 48 refl) rest refl refl in

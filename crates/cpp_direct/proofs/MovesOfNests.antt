@@ -141,7 +141,8 @@ component-awaits s kind os around t listed at st is expects =
     (opened (standing (rule_of p) [] at (after t listed around) st) [] (OfKind (number_of_kind Kind.NestTail) ∷ []) ∷ os) at (unless_listed listed around t st) =
     chain-opens (leaves s kind p 48 (rest-left kind is)) (hole s kind (after t listed around) os at st expects) refl
     (rw (prefix-appended around t listed st) refl) in
-    awaited component (λ u to later comes. goes-on (next-part p (fill component (tree u false) to later comes) refl) (λ v onto now f. closes p f refl))
+    awaited component
+    (λ u to later comes. goes-on (next-part p (fill component (tree u false) to later comes) refl) (λ v onto now f. closes p f refl))
 
 -- arguments of the name so far
 first-arguments : (s : Symbol) (os : List Opened) (around : Around) (t : Term) (listed : Bool) (at : ℕ) (st : State)
@@ -178,7 +179,7 @@ instance-arguments s os around t listed at st expects stands =
 -- what is awaited within what comes is awaited of it
 pub component-outside : (s : Symbol) (inner outer : List Opened) (around : Around) (t : Term) (at : ℕ) (st : State)
     → SamePasses s inner outer → AwaitsComponent s inner around t at st → AwaitsComponent s outer around t at st
-component-outside s inner outer around t at st passes a = awaited (hole-of a) (λ u to later comes.
+component-outside s inner outer around t at st passes a = awaited {os = a.inner} (hole-of a) (λ u to later comes.
     let g = a.onward u to later comes in
     record { inner = g.inner; awaits = g.awaits; passes = λ v onto newer came. passes v onto newer (g.passes v onto newer came) })
 
@@ -188,7 +189,7 @@ known-arguments : (s : Symbol) (os : List Opened) (around : Around) (t : Term) (
     → AwaitsArguments s os around t listed at st
 known-arguments s os around t listed at st expects stands =
     let begun = instance-arguments s os around t listed at st expects stands in
-    awaited (hole-of begun) (λ l to later comes ended.
+    awaited {os = begun.inner} (hole-of begun) (λ l to later comes ended.
         let u : Term = instance t (no_items l) in
         let g = begun.onward l to later comes ended in
         component-outside s g.inner os around u (to + 1) (with_candidate around u later) g.passes

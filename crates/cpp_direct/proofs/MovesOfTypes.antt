@@ -75,10 +75,11 @@ unfolding is_eaten is_left number_of_kind parts_of between close unfolding_.behi
 whole-opens s kind around os at st whole expects =
     let p = Production.PlainType in
     let solid = chain-opens (leaves s kind p 80 (whole-taken kind whole).0) (hole s kind around os at st expects) refl refl in
-    awaited solid (λ t listed end now comes. (closes p (fill solid (tree t listed) end now comes) (plain-closes around at st t listed now)).comes)
+    awaited solid
+    (λ t listed end now comes. (closes p (fill solid (tree t listed) end now comes) (plain-closes around at st t listed now)).comes)
 
 any-tree : (s : Symbol) (os : List Opened) (around : Around) (at : ℕ) (st : State) → WholeOpens s os around at st → TreeOpens s Kind.Solid os around at st
-any-tree s os around at st w = awaited (hole-of w) (λ t listed end now other comes. w.onward t listed end now comes)
+any-tree s os around at st w = awaited {os = w.inner} (hole-of w) (λ t listed end now other comes. w.onward t listed end now comes)
 
 -- a solid type is expected where a type is
 pub solid-opens : (s : Symbol) (kind : Kind) (around : Around) (os : List Opened) (at : ℕ) (st : State) → IsTyped kind
@@ -168,7 +169,8 @@ pointer-opens s kind around os at st typed expects stands =
     let p = Production.Pointer in
     let solid = solid-opens s kind around os at st typed expects in
     let type = byte-opens (eats s Kind.Solid p 80 refl) (hole-of solid) stands refl refl in
-    awaited type (λ t end now comes. solid.onward (pointer t) false end now refl (closes p (fill type (tree t true) end now comes) refl).comes)
+    awaited type
+    (λ t end now comes. solid.onward (pointer t) false end now refl (closes p (fill type (tree t true) end now comes) refl).comes)
 
 reference-taken : (k : Kind) → IsReferable k
     → (is_eaten k Production.ReferenceType 82 ≡ true) × (is_eaten k Production.ReferenceType 79 ≡ true)
@@ -383,7 +385,8 @@ unfolding is_eaten number_of_kind parts_of between close unfolding_.behind meani
 nested-type-opens s kind around os at st is_named solid stands =
     let p = Production.NestedType in
     let nest = byte-opens (eats s kind p 78 (named-taken kind is_named).2) (hole s kind around solid.inner at st solid.awaits) stands refl refl in
-    awaited nest (λ t listed end now other comes. solid.onward t listed end now other (closes p (fill nest (tree t listed) end now comes) refl).comes)
+    awaited nest
+    (λ t listed end now other comes. solid.onward t listed end now other (closes p (fill nest (tree t listed) end now comes) refl).comes)
 
 -- ## Arrays
 
@@ -411,14 +414,16 @@ array-opens s accesses.Pointer kind os around at st digits end whole referable e
     let o = pointer-opens s kind around os at st (typed kind whole) expects both.0 in
     let f = plain-array-opens s Kind.Type o.inner around (at + 1) st digits end tt o.awaits both.1
     (subst (λ k. IsSizeAt s.bytes k digits end) (omega arith) is) in
-    awaited (hole-of f) (λ u here now comes. o.onward (array (values.normal digits) u) here (with_candidate around (array (values.normal digits) u) now)
+    awaited {os = f.inner} (hole-of f)
+    (λ u here now comes. o.onward (array (values.normal digits) u) here (with_candidate around (array (values.normal digits) u) now)
         (f.onward u here now comes))
 array-opens s accesses.Lvalue kind os around at st digits end whole referable expects stands is =
     let both = stands-split s.bytes at (82 ∷ []) (65 ∷ []) stands in
     let o = reference-type-opens s kind true around os at st (referable refl) expects both.0 in
     let f = plain-array-opens s Kind.Type o.inner around (at + 1) st digits end tt o.awaits both.1
     (subst (λ k. IsSizeAt s.bytes k digits end) (omega arith) is) in
-    awaited (hole-of f) (λ u here now comes. o.onward (array (values.normal digits) u) here (with_candidate around (array (values.normal digits) u) now)
+    awaited {os = f.inner} (hole-of f)
+    (λ u here now comes. o.onward (array (values.normal digits) u) here (with_candidate around (array (values.normal digits) u) now)
         (f.onward u here now comes))
 
 -- ## Function types
