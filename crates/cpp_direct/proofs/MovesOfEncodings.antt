@@ -42,8 +42,8 @@ encoding-opens s os around at st expects =
     let p = Production.Encoding in
     let name = chain-opens (leaves s Kind.Encoding p 48 refl) (hole s Kind.Encoding around os at st expects) refl refl in
     awaited name (λ v here now comes.
-        let items = next-part p (fill name v here now comes) refl in
-        awaited items (λ l there then_ last. (closes p (fill items l there then_ last) refl).comes))
+    let items = next-part p (fill name v here now comes) refl in
+    awaited items (λ l there then_ last. (closes p (fill items l there then_ last) refl).comes))
 
 -- the letter of a special object
 special-eaten : (b : ℕ) → is_special_letter b ≡ true → is_eaten Kind.Special Production.SpecialType b ≡ true

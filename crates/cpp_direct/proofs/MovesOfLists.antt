@@ -98,12 +98,12 @@ literal-opens s Kind.ArgumentList os around at st is expects stands =
     let p = Production.LiteralArgument in
     let one = byte-opens (eats s Kind.ArgumentList p 76 refl) (hole s Kind.ArgumentList around os at st expects) stands refl refl in
     awaited one (λ t here now comes ended.
-        goes-on t (next-part p (fixed-fills (next-part p (fill one (tree t true) here now comes) refl) ended) refl) (λ l to later last. closes p last refl))
+    goes-on t (next-part p (fixed-fills (next-part p (fill one (tree t true) here now comes) refl) ended) refl) (λ l to later last. closes p last refl))
 literal-opens s Kind.PackList os around at st is expects stands =
     let p = Production.LiteralElement in
     let one = byte-opens (eats s Kind.PackList p 76 refl) (hole s Kind.PackList around os at st expects) stands refl refl in
     awaited one (λ t here now comes ended.
-        goes-on t (next-part p (fixed-fills (next-part p (fill one (tree t true) here now comes) refl) ended) refl) (λ l to later last. closes p last refl))
+    goes-on t (next-part p (fixed-fills (next-part p (fill one (tree t true) here now comes) refl) ended) refl) (λ l to later last. closes p last refl))
 literal-opens s _ os around at st is expects stands = absurd is
 
 -- an argument that is a pack begins with a J, and ends with an E
@@ -114,7 +114,7 @@ pack-opens s os around at st expects stands =
     let p = Production.PackArgument in
     let one = byte-opens (eats s Kind.ArgumentList p 74 refl) (hole s Kind.ArgumentList around os at st expects) stands refl refl in
     awaited one (λ l here now comes ended.
-        goes-on (pack (no_items l)) (next-part p (fixed-fills (next-part p (fill one l here now comes) refl) ended) refl) (λ x to later last. closes p last refl))
+    goes-on (pack (no_items l)) (next-part p (fixed-fills (next-part p (fill one l here now comes) refl) ended) refl) (λ x to later last. closes p last refl))
 
 -- ## Literals
 
@@ -233,10 +233,10 @@ address-opens s os around at st expects stands =
     let five = byte-opens (eats s Kind.AddressedLiteral e 95 refl) four fifth.0 refl refl in
     let six = hole-at (at + 6) (next-part e (fixed-fills five fifth.1) refl) (omega arith) in
     awaited six (λ t here now comes ends.
-        let both = stands-split s.bytes here (69 ∷ []) (69 ∷ []) ends in
-        let literal = next-part l (closes e (fill six (tree t true) here now comes) refl) refl in
-        let expression = closes a (closes d (closes l (fixed-fills literal both.0) refl) refl) refl in
-        (filled-at (here + 2) (closes x (fixed-fills (next-part x expression refl) both.1) refl) (omega arith)).comes)
+    let both = stands-split s.bytes here (69 ∷ []) (69 ∷ []) ends in
+    let literal = next-part l (closes e (fill six (tree t true) here now comes) refl) refl in
+    let expression = closes a (closes d (closes l (fixed-fills literal both.0) refl) refl) refl in
+    (filled-at (here + 2) (closes x (fixed-fills (next-part x expression refl) both.1) refl) (omega arith)).comes)
 
 -- ## Members of instances of templates
 
@@ -264,10 +264,10 @@ level-opens s os around at st name end wide first expects x e r is opening =
     let arguments = next-part id (name-fills name end template is) (named-so around name (at + 1 + 1 + 1) st first) in
     let o = arguments-open s (open_at arguments) around (template_named name) true end st arguments.expects opening in
     awaited {os = o.inner} (hole-of o) (λ l here now comes ended member behind begins named ends.
-        let own = closes id (came s (open_at arguments) (tree (no_items l) true) (here + 1) now (o.onward l here now comes ended)) refl in
-        let rest = byte-opens (eats s Kind.MoreLevels Production.LevelsEnd 69 refl) (next-part level own refl) begins refl refl in
-        let last = chain-opens (leaves s Kind.UnresolvedName id 48 refl) rest refl refl in
-        let none = none-fills Kind.ArgumentsAlone (next-part id (name-fills member behind last named) (named-so around member (here + 1 + 1) now first)) refl in
-        let whole = closes level (closes Production.LevelsEnd (closes id none refl) refl) refl in
-        let value = closes Production.ExpressionS (closes Production.Unresolved whole refl) refl in
-        (closes Production.Expression (fixed-fills (next-part Production.Expression value refl) ends) refl).comes)
+    let own = closes id (came s (open_at arguments) (tree (no_items l) true) (here + 1) now (o.onward l here now comes ended)) refl in
+    let rest = byte-opens (eats s Kind.MoreLevels Production.LevelsEnd 69 refl) (next-part level own refl) begins refl refl in
+    let last = chain-opens (leaves s Kind.UnresolvedName id 48 refl) rest refl refl in
+    let none = none-fills Kind.ArgumentsAlone (next-part id (name-fills member behind last named) (named-so around member (here + 1 + 1) now first)) refl in
+    let whole = closes level (closes Production.LevelsEnd (closes id none refl) refl) refl in
+    let value = closes Production.ExpressionS (closes Production.Unresolved whole refl) refl in
+    (closes Production.Expression (fixed-fills (next-part Production.Expression value refl) ends) refl).comes)

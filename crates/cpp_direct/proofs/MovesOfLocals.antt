@@ -98,11 +98,11 @@ local-opens s os around at st expects stands =
     let p = Production.LocalName in
     let encoding = byte-opens (eats s Kind.CompleteName p 90 refl) (hole s Kind.CompleteName around os at st expects) stands refl refl in
     awaited encoding (λ e here now comes internal name digit end is.
-        let entity = next-part p (fixed-fills (next-part p (fill encoding (tree e true) here now comes) refl) is.first) refl in
-        let named_ = name-comes s (open_at entity) around e (here + 1) internal name is.middle now entity.expects is.letter is.is_name in
-        let last = next-part p (fill entity (tree (within e (source internal name)) false) is.middle now named_) refl in
-        let told = discriminator-comes s (open_at last) (after e true around) is.middle digit end now last.expects is.discriminator in
-        (closes p (fill last (discriminator_value digit) end now told) refl).comes)
+    let entity = next-part p (fixed-fills (next-part p (fill encoding (tree e true) here now comes) refl) is.first) refl in
+    let named_ = name-comes s (open_at entity) around e (here + 1) internal name is.middle now entity.expects is.letter is.is_name in
+    let last = next-part p (fill entity (tree (within e (source internal name)) false) is.middle now named_) refl in
+    let told = discriminator-comes s (open_at last) (after e true around) is.middle digit end now last.expects is.discriminator in
+    (closes p (fill last (discriminator_value digit) end now told) refl).comes)
 
 -- ## Types in functions
 
@@ -208,16 +208,16 @@ local-type-opens s kind os around at st named_ expects stands =
     let p = Production.LocalType in
     let encoding = byte-opens (eats s kind p 90 (named-taken kind named_).3) (hole s kind around os at st expects) stands refl refl in
     awaited encoding (λ e here now comes closed.
-        let entity = next-part p (fixed-fills (next-part p (fill encoding (tree e true) here now comes) refl) closed) refl in
-        record {
-          around = around;
-          inner = open_at entity;
-          awaits = entity.expects;
-          onward = λ n middle then_ named digit end told.
-              let last = next-part p (fill entity (tree (within e n) false) middle then_ named) refl in
-              let came_ = discriminator-comes s (open_at last) (after e true around) middle digit end then_ last.expects told in
-              (closes p (fill last (discriminator_value digit) end then_ came_) refl).comes;
-        })
+    let entity = next-part p (fixed-fills (next-part p (fill encoding (tree e true) here now comes) refl) closed) refl in
+    record {
+      around = around;
+      inner = open_at entity;
+      awaits = entity.expects;
+      onward = λ n middle then_ named digit end told.
+          let last = next-part p (fill entity (tree (within e n) false) middle then_ named) refl in
+          let came_ = discriminator-comes s (open_at last) (after e true around) middle digit end then_ last.expects told in
+          (closes p (fill last (discriminator_value digit) end then_ came_) refl).comes;
+    })
 
 -- ## Lambdas
 

@@ -158,8 +158,8 @@ first-arguments s os around t listed at st expects stands =
     byte-opens (eats s Kind.NestRestAlone p 73 refl) (hole s Kind.NestRestAlone (after t listed around) os at st expects) stands refl
     (rw (prefix-appended around t listed st) refl) in
     awaited (fewer (lists-by s.is_wide) arguments) (λ l to later comes ended.
-        let next = next-part p (fixed-fills (next-part p (fill arguments l to later comes) refl) ended) refl in
-        awaited next (λ w onto newer came. goes-on (next-part p (fill next (tree w false) onto newer came) refl) (λ v to now f. closes p f refl)))
+    let next = next-part p (fixed-fills (next-part p (fill arguments l to later comes) refl) ended) refl in
+    awaited next (λ w onto newer came. goes-on (next-part p (fill next (tree w false) onto newer came) refl) (λ v to now f. closes p f refl)))
 
 -- arguments of a name that an S stands for, after which it may end by the wide grammar
 pub instance-arguments : (s : Symbol) (os : List Opened) (around : Around) (t : Term) (listed : Bool) (at : ℕ) (st : State)
@@ -174,7 +174,7 @@ instance-arguments s os around t listed at st expects stands =
     byte-opens (eats s Kind.NestRestOrEnd p 73 refl) (hole s Kind.NestRestOrEnd (after t listed around) os at st expects) stands refl
     (rw (prefix-appended around t listed st) refl) in
     awaited (fewer (lists-by s.is_wide) arguments) (λ l to later comes ended.
-        goes-on (next-part p (fixed-fills (next-part p (fill arguments l to later comes) refl) ended) refl) (λ v onto now f. closes p f refl))
+    goes-on (next-part p (fixed-fills (next-part p (fill arguments l to later comes) refl) ended) refl) (λ v onto now f. closes p f refl))
 
 -- what is awaited within what comes is awaited of it
 pub component-outside : (s : Symbol) (inner outer : List Opened) (around : Around) (t : Term) (at : ℕ) (st : State)
@@ -190,10 +190,10 @@ known-arguments : (s : Symbol) (os : List Opened) (around : Around) (t : Term) (
 known-arguments s os around t listed at st expects stands =
     let begun = instance-arguments s os around t listed at st expects stands in
     awaited {os = begun.inner} (hole-of begun) (λ l to later comes ended.
-        let u : Term = instance t (no_items l) in
-        let g = begun.onward l to later comes ended in
-        component-outside s g.inner os around u (to + 1) (with_candidate around u later) g.passes
-        (component-awaits s Kind.NestMoreOrEnd g.inner around u false (to + 1) later tt g.awaits))
+    let u : Term = instance t (no_items l) in
+    let g = begun.onward l to later comes ended in
+    component-outside s g.inner os around u (to + 1) (with_candidate around u later) g.passes
+    (component-awaits s Kind.NestMoreOrEnd g.inner around u false (to + 1) later tt g.awaits))
 
 -- arguments of the first piece of a name
 pub any-arguments : (s : Symbol) (kind : Kind) (os : List Opened) (around : Around) (t : Term) (listed : Bool) (at : ℕ) (st : State) → IsFirstRest kind

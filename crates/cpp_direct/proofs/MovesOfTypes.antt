@@ -89,7 +89,7 @@ solid-opens s Kind.Plain around os at st typed expects =
     let p = Production.QualifiedPlain in
     let solid = chain-opens (leaves s Kind.Plain p 80 refl) (hole s Kind.Plain around os at st expects) refl refl in
     awaited solid (λ t listed end now other comes.
-        (closes p (fill solid (tree t listed) end now comes) (qualified-closes around at st t listed now other)).comes)
+    (closes p (fill solid (tree t listed) end now comes) (qualified-closes around at st t listed now other)).comes)
 solid-opens s Kind.Type around os at st typed expects = any-tree s os around at st (whole-opens s Kind.Type around os at st tt expects)
 solid-opens s Kind.Item around os at st typed expects = any-tree s os around at st (whole-opens s Kind.Item around os at st tt expects)
 solid-opens s Kind.ItemButRef around os at st typed expects = any-tree s os around at st (whole-opens s Kind.ItemButRef around os at st tt expects)
@@ -260,10 +260,10 @@ name-with-s-opens s kind around os at st is_named solid stands =
     let p = Production.TypeWithS in
     let name = byte-opens (eats s kind p 83 (named-taken kind is_named).1) (hole s kind around solid.inner at st solid.awaits) stands refl refl in
     awaited name (λ t listed end now comes.
-        let rest = next-part p (fill name (tree t listed) end now comes) refl in
-        named-so s around os (open_at rest) t listed end now solid.inner solid.onward rest.expects
-        (λ later onward had. (closes p (fill rest nothing_there later onward had) (listed-kept t listed onward)).comes)
-        (λ a later onward had. (closes p (fill rest (tree a true) later onward had) (listed-lost (instance t a) listed onward)).comes))
+    let rest = next-part p (fill name (tree t listed) end now comes) refl in
+    named-so s around os (open_at rest) t listed end now solid.inner solid.onward rest.expects
+    (λ later onward had. (closes p (fill rest nothing_there later onward had) (listed-kept t listed onward)).comes)
+    (λ a later onward had. (closes p (fill rest (tree a true) later onward had) (listed-lost (instance t a) listed onward)).comes))
 
 -- a name of std
 pub std-opens : (s : Symbol) (kind : Kind) (around : Around) (os : List Opened) (at : ℕ) (st : State) (name : List ℕ) (end : ℕ) → IsNamedKind kind
@@ -401,7 +401,7 @@ plain-array-opens s kind os around at st digits end whole expects stands is =
     let rest = byte-opens (eats s Kind.AnyArray Production.AnyArray 65 refl) any stands refl refl in
     let type = next-part p (digits-fill digits end (chain-opens (leaves s Kind.ArrayRest p 48 refl) rest refl refl) is) refl in
     awaited type (λ u here now comes. w.onward (array (values.normal digits) u) false here now
-        (closes Production.ArrayType (closes Production.AnyArray (closes p (fill type (tree u true) here now comes) refl) refl) refl).comes)
+    (closes Production.ArrayType (closes Production.AnyArray (closes p (fill type (tree u true) here now comes) refl) refl) refl).comes)
 
 -- the same where the array is pointed or referred to
 pub array-opens : (s : Symbol) (access : Access) (kind : Kind) (os : List Opened) (around : Around) (at : ℕ) (st : State) (digits : List ℕ) (end : ℕ)
@@ -416,7 +416,7 @@ array-opens s accesses.Pointer kind os around at st digits end whole referable e
     (subst (λ k. IsSizeAt s.bytes k digits end) (omega arith) is) in
     awaited {os = f.inner} (hole-of f)
     (λ u here now comes. o.onward (array (values.normal digits) u) here (with_candidate around (array (values.normal digits) u) now)
-        (f.onward u here now comes))
+    (f.onward u here now comes))
 array-opens s accesses.Lvalue kind os around at st digits end whole referable expects stands is =
     let both = stands-split s.bytes at (82 ∷ []) (65 ∷ []) stands in
     let o = reference-type-opens s kind true around os at st (referable refl) expects both.0 in
@@ -424,7 +424,7 @@ array-opens s accesses.Lvalue kind os around at st digits end whole referable ex
     (subst (λ k. IsSizeAt s.bytes k digits end) (omega arith) is) in
     awaited {os = f.inner} (hole-of f)
     (λ u here now comes. o.onward (array (values.normal digits) u) here (with_candidate around (array (values.normal digits) u) now)
-        (f.onward u here now comes))
+    (f.onward u here now comes))
 
 -- ## Function types
 
@@ -438,14 +438,14 @@ function-opens s kind os around at st whole outside expects stands =
     let linkage = byte-opens (eats s Kind.Solid p 70 refl) (hole-of w) stands refl refl in
     let type = next-part p (none-fills Kind.MaybeCLinkage linkage refl) refl in
     awaited type (λ r here now comes.
-        let rest = next-part p (fill type (tree r true) here now comes) refl in
-        record {
-          around = around;
-          outside = outside;
-          inner = open_at rest;
-          awaits = rest.expects;
-          passes = λ l there then_ last. w.onward (plain_function r l) false there then_ (closes p (fill rest (signature l any_value) there then_ last) refl).comes;
-        })
+    let rest = next-part p (fill type (tree r true) here now comes) refl in
+    record {
+      around = around;
+      outside = outside;
+      inner = open_at rest;
+      awaits = rest.expects;
+      passes = λ l there then_ last. w.onward (plain_function r l) false there then_ (closes p (fill rest (signature l any_value) there then_ last) refl).comes;
+    })
 
 -- and after PF that of one that is pointed to
 pub pointed-function-opens : (s : Symbol) (kind : Kind) (os : List Opened) (around : Around) (at : ℕ) (st : State) → IsQualifiable kind
