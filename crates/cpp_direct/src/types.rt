@@ -6,8 +6,8 @@ ghost use Rattle.cpp_direct.specs.Names.{IsReadable};
 ghost use Rattle.cpp_direct.specs.declared.open.Step.TheVariants as steps;
 ghost use Rattle.cpp_direct.specs.declared.open.Purpose.TheVariants as purposes;
 ghost use Rattle.cpp_direct.specs.Holes.{StandsAt};
-ghost use Rattle.cpp_direct.specs.WriterInvariant.{IsWriting};
-ghost use Rattle.cpp_direct.specs.MidStep.{AwaitsType, AwaitsNamedType, IsTypeNamed, AwaitsMark, IsDependentNow, IsPassedClosed};
+ghost use Rattle.cpp_direct.specs.WriterInvariant.{IsWriting, TakesElements};
+ghost use Rattle.cpp_direct.specs.MidStep.{AwaitsType, AwaitsNamedType, IsTypeNamed, AwaitsMark, IsDependentNow};
 ghost use Rattle.cpp_direct.specs.Symbol.{symbol_by};
 
 use crate::direct::Direct;
@@ -44,6 +44,22 @@ fn dependent(entry: Open) -> Option<Open>
         }),
         Open::LevelArguments { .. } => Some(Open::LevelArguments { is_dependent: true }),
         _ => None,
+    }
+}
+
+/// Whether what is open are arguments or a pack of them, which go on after an element.
+#[inline(always)]
+pub(crate) fn takes_elements(entry: Open) -> bool
+    ensures { result ≡ true → TakesElements entry }
+{
+    match entry {
+        Open::TypeArguments { .. } => true,
+        Open::NestArguments { .. } => true,
+        Open::FirstArguments { .. } => true,
+        Open::NameArguments { .. } => true,
+        Open::LevelArguments { .. } => true,
+        Open::Pack => true,
+        _ => false,
     }
 }
 
@@ -283,7 +299,6 @@ impl Direct {
         requires fits { IsReadable s.now }
         requires writing { IsWriting (symbol_by G.IS_WIDE G.IS_BARE G.IS_BRIEF s.now) self.old (steps.Value is_reference false) }
         requires waits { slice_get self.old.waiting.list.items (length self.old.waiting.list.items - 1) ≡ Some entry }
-        requires others { IsPassedClosed entry }
         ensures { IfSome result (IsWriting (symbol_by G.IS_WIDE G.IS_BARE G.IS_BRIEF s.now) self.new) }
     {
         match entry {
@@ -309,7 +324,12 @@ impl Direct {
                 number,
                 known,
             } => self.element_ended::<G>(s, from, number, known, is_reference),
-            _ => Some(Step::List { is_first: false }),
+            _ => {
+                if !takes_elements(entry) {
+                    return None;
+                }
+                Some(Step::List { is_first: false })
+            }
         }
     }
 

@@ -1,6 +1,6 @@
 use Rattle.std.proofs.Common.{Some, true, false, ap, ◌∙◌}
 use Rattle.cpp_direct.specs.declared.open.Open.TheVariants as opens
-use Rattle.cpp_direct.proofs.Handed.{value-element, value-returned, value-signature, value-enumerator, argument-read, special-read, takes-elements}
+use Rattle.cpp_direct.proofs.Handed.{value-element, value-returned, value-signature, value-enumerator, argument-read, special-read}
 use Rattle.cpp_direct.proofs.AddressesRead.{value-addressed, value-addressed-front}
 use Rattle.cpp_direct.proofs.EnclosingFunctions.{parameter-read-within}
 use Rattle.cpp_direct.proofs.LambdasRead.{lambda-parameter-read}
@@ -66,6 +66,4 @@ pub returns-in_default : goal.returns-in_default
 returns-in_default g c =
     argument-read _ c.args.self.now c.args.entry
     (value-element _ c.args.self.now c.args.is_reference c.args.entry c.requires.writing c.requires.waits)
-    (takes-elements c.args.entry c.requires.others c.in_default.not-Returned c.in_default.not-Signature c.in_default.not-Special c.in_default.not-Enumerator
-    c.in_default.not-Enclosing c.in_default.not-Argument c.in_default.not-Lambda c.in_default.not-Element c.in_default.not-Array
-    c.in_default.not-Address c.in_default.not-AddressedFront c.in_default.not-Addressed)
+    (c.takes_elements.ensures c.if-not-takes_elements.false)
