@@ -50,7 +50,7 @@ level-begins s old named new first second at a wide letter first_is first_letter
     (stands-moved s.bytes first (old.at + 1) (115 ∷ []) first_is first_letter)
     (stands-moved s.bytes second (old.at + 1 + 1) (114 ∷ []) behind second_letter) (subst (λ n. IsNameAt s.bytes n name named.at) here read.1) opening in
     list-begins s named named new named.candidates.list.items (kept-read s old named bytes reads a.kept) (opens.LevelArguments false) front bytes
-    (template_named name) (record { candidates = refl; text = refl; waiting = refl; nest = refl; scope = refl; at = refl }) begins
+    (template_named name) (record { candidates = refl; text = refl; waiting = refl; nest = refl; scope = refl; at = refl; rounds = refl }) begins
     (source-prints false name read.2 (name-unmarked s.bytes at name named.at read.1)) reads.text (
       inside a.goes.0,
       o.inner,

@@ -3,6 +3,7 @@ use Rattle.std.proofs.Common.{◌≡◌, ◌≢◌, inl, inr, ℕ, ◌+◌, ◌-
 use Rattle.std.proofs.lemmas.List.{length-append, reverse-reverse}
 use Rattle.std.proofs.Math.Seq.{take-append_seam}
 use Rattle.std.specs.Bool.{◌==◌}
+use Rattle.std.proofs.lemmas.Bool.{false≢true}
 use Rattle.sym_core.specs.declared.NumberKind.TheVariants.{Seq36}
 use Rattle.sym_core.specs.Value.{counted_value}
 use Rattle.cpp_grammar.specs.declared.kind.Kind.{Kind}
@@ -71,7 +72,7 @@ abbrev named-kept : (s : Symbol) (old new : Direct) (from : ℕ) (listed r : Boo
     → Lists old new (added_unless old listed from false) → Kept s new
 named-kept s old new from listed r a lists =
     kept-unless s old new a.kept listed a.front a.bytes from a.own a.around false a.written a.from_is
-    (λ e. subst (λ b. Prints (detail_of s) a.own a.bytes b) (a.no_reference e) a.prints) (λ e. cc e) lists.text lists.candidates lists.scope
+    (λ e. subst (λ b. Prints (detail_of s) a.own a.bytes b) (a.no_reference e) a.prints) (λ e. absurd (false≢true e)) lists.text lists.candidates lists.scope
 
 -- nothing comes after the name of a type
 pub bare-done : (s : Symbol) (old new : Direct) (from : ℕ) (listed r : Bool) → IsTypeNamed s old from listed r
