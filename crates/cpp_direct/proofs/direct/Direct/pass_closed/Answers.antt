@@ -62,8 +62,8 @@ element_ended-requires-clause-read g c =
     value-argument _ c.args.self.now true c.args.is_reference c.in-Element.from c.in-Element.number c.in-Element.known
     c.requires.writing (c.requires.waits ∙ ap (λ o. Some o) c.in-Element.is)
 
-pub returns-in_default : goal.returns-in_default
-returns-in_default g c =
+pub returns-else-not-takes_elements : goal.returns-else-not-takes_elements
+returns-else-not-takes_elements g c =
     argument-read _ c.args.self.now c.args.entry
     (value-element _ c.args.self.now c.args.is_reference c.args.entry c.requires.writing c.requires.waits)
     (c.takes_elements.ensures c.if-not-takes_elements.false)

@@ -1,4 +1,4 @@
-use Rattle.std.proofs.Common.{◌+◌, ◌++◌, ◌∷◌, [], length, ◌∙◌, ap, subst, arith, inl, inr}
+use Rattle.std.proofs.Common.{◌+◌, ◌++◌, ◌∷◌, [], length, false, ◌∙◌, ap, subst, arith, inl, inr}
 use Rattle.cpp_direct.specs.Symbol.{symbol_by}
 use Rattle.cpp_direct.specs.Holes.{IsReferable, StandsAt}
 use Rattle.cpp_direct.specs.MidStep.{parameter_digits}

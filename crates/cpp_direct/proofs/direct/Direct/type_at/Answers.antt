@@ -1,4 +1,4 @@
-use Rattle.std.proofs.Common.{◌∷◌, [], arith, subst, if◌then◌else◌}
+use Rattle.std.proofs.Common.{◌∷◌, [], true, arith, subst, if◌then◌else◌}
 use Rattle.cpp_direct.specs.Symbol.{symbol_by}
 use Rattle.cpp_direct.specs.WriterInvariant.{IsWriting}
 use Rattle.cpp_direct.specs.declared.open.Step.TheVariants as steps

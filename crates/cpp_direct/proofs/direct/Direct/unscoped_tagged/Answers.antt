@@ -1,5 +1,4 @@
 use Rattle.std.proofs.Common.{true, arith}
-use Rattle.cpp_direct.specs.Symbol.{symbol_by}
 use Rattle.cpp_direct.specs.declared.open.Step.TheVariants as steps
 use Rattle.cpp_direct.specs.WriterInvariant.{IsWriting}
 use Rattle.cpp_direct.proofs.Kept.{opened-so}
@@ -12,9 +11,8 @@ name_ended-requires-clause-ended g c = unscoped-bare _ c.args.self.now c.args.fr
 
 pub returns : goal.returns
 returns g c =
-    let s = symbol_by g.G.Grammar.IS_WIDE g.G.Grammar.IS_BARE g.G.Grammar.IS_BRIEF c.args.s.now in
     let old = c.args.self.now in
-    opened-so c.open_arguments.result (steps.List true) _ (IsWriting s c.open_arguments.new.self) c.open_arguments.ensures
-    (unscoped-argued s old c.add_candidate.new.self c.open_arguments.new.self c.args.from c.args.takes c.requires.named c.if-not-takes.false
-    (there s.bytes old.at c.byte_at.result 73 c.if-byte_at-ne73.false (omega arith) c.byte_at.ensures)
+    opened-so c.open_arguments.result (steps.List true) _ (IsWriting _ c.open_arguments.new.self) c.open_arguments.ensures
+    (unscoped-argued _ old c.add_candidate.new.self c.open_arguments.new.self c.args.from c.args.takes c.requires.named c.if-not-takes.false
+    (there c.args.s.now old.at c.byte_at.result 73 c.if-byte_at-ne73.false (omega arith) c.byte_at.ensures)
     c.in_ok-add_candidate.ensures)
