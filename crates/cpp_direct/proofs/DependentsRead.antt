@@ -25,9 +25,11 @@ use Rattle.cpp_grammar.specs.Term.{Term, parameter, expansion, lvalue, rvalue}
 use Rattle.cpp_grammar.specs.Values.{tree, State, Around, text_of, is_there, letter_of, part, piece_of, tree_of, is_listed}
 use Rattle.cpp_grammar.specs.declared.kind.Kind.{Kind}
 use Rattle.cpp_grammar.specs.declared.production.Production.{Production}
-use Rattle.std.proofs.Common.{Bool, ◌≡◌, ◌≢◌, ℕ, zero, suc, ◌+◌, ◌-◌, ◌≤◌, ◌<◌, length, List, [], ◌∷◌, ◌++◌, take, drop, reverse, slice_get, true, false, replicate, Some, None, nat_le, ◌&&◌, refl, ap, sym, ◌∙◌, subst, arith, append_assoc, append-nil, Ok, codes}
+use Rattle.std.proofs.Common.{Bool, ◌≡◌, ◌≢◌, ℕ, zero, suc, ◌+◌, ◌-◌, ◌≤◌, ◌<◌, length, List, [], ◌∷◌, ◌++◌, take, drop, reverse, slice_get, get_or, true, false, replicate, Some, None, nat_le, ◌&&◌, refl, ap, sym, ◌∙◌, subst, arith, append_assoc, append-nil, Ok, codes}
 use Rattle.std.proofs.lemmas.Bool.{le-leb, lt-ltb}
 use Rattle.std.proofs.lemmas.List.{length-append}
+use Rattle.std.proofs.lemmas.Option.{slice_get_within, get_or_from_slice_get}
+use Rattle.std.proofs.Math.Seq.{get_or-append_seam}
 use Rattle.sym_core.specs.Value.{counted_value}
 use Rattle.sym_core.specs.declared.NumberKind.TheVariants.{Seq36, Decimal}
 use Rattle.sym_core.specs.Token.{Token, IsNumberToken}
@@ -368,16 +370,11 @@ all-expanded : {detail : Detail} (pattern : Pattern) (before w : Direct) (ts : L
     → f.rest ≡ []
 all-expanded pattern before w ts number all f = none-left f.rest (omega (arith, all, f.count, ap length f.all, length-append f.done f.rest))
 
-nothing-there : (l : List Term) (n : ℕ) (own : Term) → l ≡ [] → slice_get l n ≡ Some own → ⊥
-nothing-there [] n own e at = cc at
-nothing-there (t ∷ ts) n own e at = cc e
-
 next-one : (done rest : List Term) (n : ℕ) (own : Term) → length done ≡ n → slice_get (done ++ rest) n ≡ Some own → (more : List Term) × (rest ≡ own ∷ more)
-next-one [] [] n own size at = absurd (nothing-there [] n own refl at)
-next-one [] (t ∷ rest) zero own size at = let e : t ≡ own = cc at in (rest, ap (λ u. u ∷ rest) e)
-next-one [] (t ∷ rest) (suc n) own size at = absurd (omega (arith, size))
-next-one (d ∷ done) rest zero own size at = absurd (omega (arith, size))
-next-one (d ∷ done) rest (suc n) own size at = next-one done rest n own (omega (arith, size)) at
+next-one done [] n own size at = absurd (omega (arith, size, slice_get_within (done ++ []) n own at, length-append done []))
+next-one done (t ∷ more) n own size at =
+    (more, ap (λ u. u ∷ more) (sym (get_or-append_seam done t more own) ∙ ap (λ k. get_or (done ++ t ∷ more) k own) size
+    ∙ get_or_from_slice_get (done ++ t ∷ more) n own own at))
 
 comma-between : (done : List Term) (number : ℕ) (bytes : List ℕ) → length done ≡ number → in_front_of_next done bytes ≡ bytes ++ comma_text number
 comma-between [] zero bytes e = sym (append-nil bytes)

@@ -3,7 +3,7 @@ use Rattle.sym_print.specs.declared.detail.Detail.{Detail}
 use Rattle.std.proofs.Common.{◌≡◌, ℕ, zero, suc, ◌+◌, ◌-◌, ◌≤◌, length, List, [], ◌∷◌, ◌++◌, take, drop, reverse, slice_get, Bool, true, false, Option, Some, None, refl, ap, sym, ◌∙◌, subst, arith, append_assoc, append-nil, ◌<◌, inl, inr, get_or, length-append}
 use Rattle.std.specs.Option.{IfSome}
 use Rattle.std.proofs.lemmas.List.{reverse-append, reverse-reverse}
-use Rattle.std.proofs.Math.Seq.{drop-append_seam, take-append_seam}
+use Rattle.std.proofs.Math.Seq.{drop-append_seam, take-append-add, take-append_seam}
 use Rattle.cpp_grammar.specs.Term.{Term}
 use Rattle.cpp_grammar.specs.Values.{State, Around, tree, outermost}
 use Rattle.cpp_direct.specs.Bytes.{is_object}
@@ -11,7 +11,7 @@ use Rattle.cpp_direct.specs.WriterTypes.{Argument, Candidate, Direct, Hiding, Ne
 use Rattle.cpp_direct.specs.declared.open.Purpose.TheVariants as purposes
 use Rattle.cpp_direct.specs.Holes.{Comes, Opened, candidate, with_candidate, unless_listed}
 use Rattle.cpp_direct.specs.Prints.{Names, PrintsAs, PrintsGiven, opening_bracket}
-use Rattle.cpp_direct.specs.WriterInvariant.{AreCandidates, AreNamed, ArgumentsGoOn, ExpectsType, HasScope, IsCandidate, IsMadeIn, IsNaming, IsNest, IsPlaced, HasSingles, IsScoped, IsTemplate, IsWriting, Keeps, Scope, Stands, argument_of, arguments_in, below, is_within_type, no_scope, of_template, place_of, IsOwn, is_type, IsKnown, nowhere, Kept, IsBetween, AwaitsTypeIn, IsTypeRead}
+use Rattle.cpp_direct.specs.WriterInvariant.{AreCandidates, AreNamed, ArgumentsGoOn, ExpectsType, HasScope, IsCandidate, IsMadeIn, IsNaming, IsNest, IsPlaced, HasSingles, IsScoped, IsTemplate, IsWriting, Keeps, Scope, Stands, argument_of, arguments_in, below, is_within_type, no_scope, of_template, IsOwn, is_type, IsKnown, nowhere, Kept, IsBetween, AwaitsTypeIn, IsTypeRead}
 use Rattle.cpp_direct.specs.Written.{Writes, Reads, Lists, OpensArguments, added, added_unless, with_argument, IsLeft, AreLeft, Stays}
 use Rattle.std.specs.Prelude.{slice_set}
 use Rattle.cpp_grammar.specs.Values as values
@@ -391,25 +391,20 @@ opened-so (Some next) step A P is goes = subst P (sym is.0) (goes is.1)
 
 -- ## Where what was written after a place is taken away
 
--- the front of a text is more than what it begins with
-front-more : (n k : ℕ) (xs ys : List ℕ) → n ≡ length xs + k → take n (xs ++ ys) ≡ xs ++ take k ys
-front-more n k [] ys e = ap (λ m. take m ys) (omega (arith, e))
-front-more zero k (x ∷ xs) ys e = absurd (omega (arith, e))
-front-more (suc n) k (x ∷ xs) ys e = ap (λ l. x ∷ l) (front-more n k xs ys (omega (arith, e)))
-
 -- a candidate that ends in the front of a text is one of that
 pub candidate-kept : {s : Symbol} {scope : Scope} (text kept rest : List ℕ) (k : Candidate) (c : values.Candidate) → text ≡ kept ++ rest → IsCandidate s scope text k c
     → k.to ≤ length kept → IsCandidate s scope kept k c
 candidate-kept text kept rest k c is p within =
     let own = p.front ++ p.bytes in
     let more = length kept - length own in
+    let fits : length kept ≡ length own + more = omega (arith, within, p.to_is, length-append p.front p.bytes) in
     record {
       bytes = p.bytes;
       placed = record {
         front = p.front;
         back = take more p.back;
         written = sym (take-append_seam kept rest) ∙ ap (λ l. take (length kept) l) (sym is ∙ p.written)
-            ∙ front-more (length kept) more own p.back (omega (arith, within, p.to_is, length-append p.front p.bytes));
+            ∙ ap (λ n. take n (own ++ p.back)) fits ∙ take-append-add own p.back more;
         from_is = p.from_is;
         to_is = p.to_is;
       };
@@ -484,73 +479,26 @@ kept-closed s old new kept are text typed = record {
 
 -- ## One after the other
 
--- some were gone over, and these are left
-pub record AreGoneOver (hiding : Hiding) (at : ℕ) (old now : List Candidate) : Type 0 where
-  pub done : List Candidate
-  pub new : List Candidate
-  pub rest : List Candidate
-  pub old_is : old ≡ done ++ rest
-  pub now_is : now ≡ new ++ rest
-  pub at_is : at ≡ length new
-  pub are : AreLeft hiding done new
+-- those before a place were gone over, and the others are as they were
+abbrev pub AreGoneOver : (hiding : Hiding) → (at : ℕ) → (old now : List Candidate) → Type 0
+AreGoneOver hiding zero old now = now ≡ old
+AreGoneOver hiding (suc at) (k ∷ old) (n ∷ now) = IsLeft hiding k n × AreGoneOver hiding at old now
+AreGoneOver hiding (suc at) _ _ = ⊥
 
-kept-more : (hiding : Hiding) (ks ns : List Candidate) (k n : Candidate) → AreLeft hiding ks ns → IsLeft hiding k n → AreLeft hiding (ks ++ k ∷ []) (ns ++ n ∷ [])
-kept-more hiding [] [] k n are is = (is, tt)
-kept-more hiding (x ∷ ks) (y ∷ ns) k n are is = (are.0, kept-more hiding ks ns k n are.1 is)
-kept-more hiding [] (y ∷ ns) k n are is = absurd are
-kept-more hiding (x ∷ ks) [] k n are is = absurd are
+-- so is the next one
+pub one-gone : (hiding : Hiding) (at : ℕ) (old now : List Candidate) (n other : Candidate) → AreGoneOver hiding at old now → at < length now
+    → IsLeft hiding (get_or now at other) n → AreGoneOver hiding (suc at) old (slice_set now at n)
+one-gone hiding zero (k ∷ old) (m ∷ now) n other gone below is = (subst (λ x. IsLeft hiding x n) (cc gone) is, cc gone)
+one-gone hiding zero [] (m ∷ now) n other gone below is = cc gone
+one-gone hiding (suc at) (k ∷ old) (m ∷ now) n other gone below is = (gone.0, one-gone hiding at old now n other gone.1 (omega (arith, below)) is)
+one-gone hiding (suc at) [] (m ∷ now) n other gone below is = absurd gone
+one-gone hiding at old [] n other gone below is = absurd (omega (arith, below))
 
-set-next : (xs ys : List Candidate) (k n : Candidate) → slice_set (xs ++ k ∷ ys) (length xs) n ≡ xs ++ n ∷ ys
-set-next [] ys k n = refl
-set-next (x ∷ xs) ys k n = ap (λ l. x ∷ l) (set-next xs ys k n)
-
-get-next : (xs ys : List Candidate) (k other : Candidate) → get_or (xs ++ k ∷ ys) (length xs) other ≡ k
-get-next [] ys k other = refl
-get-next (x ∷ xs) ys k other = get-next xs ys k other
-
--- none was
-pub none-gone : (hiding : Hiding) (old : List Candidate) → AreGoneOver hiding 0 old old
-none-gone hiding old = record { done = []; new = []; rest = old; old_is = refl; now_is = refl; at_is = refl; are = tt }
-
--- the next one is there
-pub next-there : (hiding : Hiding) (at : ℕ) (old now : List Candidate) (p : AreGoneOver hiding at old now) → at < length now
-    → (k : Candidate) × (ys : List Candidate) × (p.rest ≡ k ∷ ys) × ((other : Candidate) → get_or now at other ≡ k)
-next-there hiding at old now p below = go p.rest refl
-  where
-    go : (l : List Candidate) → p.rest ≡ l → (k : Candidate) × (ys : List Candidate) × (p.rest ≡ k ∷ ys) × ((other : Candidate) → get_or now at other ≡ k)
-    go [] e = absurd (omega (arith, below, p.at_is, ap length p.now_is, length-append p.new p.rest, ap length e))
-    go (k ∷ ys) e = (
-      k,
-      ys,
-      e,
-      λ other. ap (λ l. get_or l at other) (p.now_is ∙ ap (λ l. p.new ++ l) e) ∙ ap (λ n. get_or (p.new ++ k ∷ ys) n other) p.at_is ∙ get-next p.new ys k other,
-    )
-
--- it is gone over
-pub one-gone : (hiding : Hiding) (at : ℕ) (old now after_ : List Candidate) (p : AreGoneOver hiding at old now) (k n : Candidate) (ys : List Candidate) → p.rest ≡ k ∷ ys
-    → IsLeft hiding k n → after_ ≡ p.new ++ n ∷ ys → AreGoneOver hiding (at + 1) old after_
-one-gone hiding at old now after_ p k n ys e is after_is = record {
-  done = p.done ++ k ∷ [];
-  new = p.new ++ n ∷ [];
-  rest = ys;
-  old_is = p.old_is ∙ ap (λ l. p.done ++ l) e ∙ sym (append_assoc p.done (k ∷ []) ys);
-  now_is = after_is ∙ sym (append_assoc p.new (n ∷ []) ys);
-  at_is = omega (arith, p.at_is, length-append p.new (n ∷ []));
-  are = kept-more hiding p.done p.new k n p.are is;
-}
-
--- put in its place
-pub set-is : (hiding : Hiding) (at : ℕ) (old now : List Candidate) (p : AreGoneOver hiding at old now) (k n : Candidate) (ys : List Candidate) → p.rest ≡ k ∷ ys
-    → slice_set now at n ≡ p.new ++ n ∷ ys
-set-is hiding at old now p k n ys e =
-    ap (λ l. slice_set l at n) (p.now_is ∙ ap (λ l. p.new ++ l) e) ∙ ap (λ m. slice_set (p.new ++ k ∷ ys) m n) p.at_is ∙ set-next p.new ys k n
-
--- all are
-pub all-gone : (hiding : Hiding) (at : ℕ) (old now : List Candidate) (p : AreGoneOver hiding at old now) → length now ≤ at → AreLeft hiding old now
-all-gone hiding at old now p over = go p.rest refl
-  where
-    go : (l : List Candidate) → p.rest ≡ l → AreLeft hiding old now
-    go [] e =
-        subst (λ l. AreLeft hiding l now) (sym (p.old_is ∙ ap (λ l. p.done ++ l) e ∙ append-nil p.done))
-        (subst (λ l. AreLeft hiding p.done l) (sym (p.now_is ∙ ap (λ l. p.new ++ l) e ∙ append-nil p.new)) p.are)
-    go (k ∷ ys) e = absurd (omega (arith, over, p.at_is, ap length p.now_is, length-append p.new p.rest, ap length e))
+-- and so are all at the end
+pub all-gone : (hiding : Hiding) (at : ℕ) (old now : List Candidate) → AreGoneOver hiding at old now → length now ≤ at → AreLeft hiding old now
+all-gone hiding zero [] [] gone over = tt
+all-gone hiding zero (k ∷ old) [] gone over = cc gone
+all-gone hiding zero old (n ∷ now) gone over = absurd (omega (arith, over))
+all-gone hiding (suc at) (k ∷ old) (n ∷ now) gone over = (gone.0, all-gone hiding at old now gone.1 (omega (arith, over)))
+all-gone hiding (suc at) [] now gone over = absurd gone
+all-gone hiding (suc at) (k ∷ old) [] gone over = absurd gone

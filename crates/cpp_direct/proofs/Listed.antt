@@ -1,9 +1,8 @@
 -- A writer at the end of arguments or a pack, and between two elements.
 use Rattle.sym_print.specs.declared.detail.Detail.{Detail}
-use Rattle.std.proofs.Common.{◌≡◌, ◌≢◌, inl, inr, ℕ, ◌+◌, ◌-◌, length, List, [], ◌∷◌, ◌++◌, reverse, slice_get, get_or, Bool, true, false, Some, None, refl, ap, sym, ◌∙◌, subst, arith, codes, append_assoc, append-nil}
-use Rattle.std.proofs.lemmas.List.{length-append, reverse-reverse}
+use Rattle.std.proofs.Common.{◌≡◌, ◌≢◌, inl, inr, ℕ, ◌+◌, ◌-◌, ◌<◌, length, List, [], ◌∷◌, ◌++◌, reverse, slice_get, get_or, Bool, true, false, Some, None, refl, ap, sym, ◌∙◌, subst, arith, codes, append_assoc, append-nil}
+use Rattle.std.proofs.lemmas.List.{length-reverse, get_or-reverse}
 use Rattle.std.proofs.lemmas.Option.{slice_get_within, get_or_from_slice_get}
-use Rattle.std.proofs.Math.Seq.{get_or-append_seam}
 use Rattle.cpp_grammar.specs.declared.kind.Kind.{Kind}
 use Rattle.cpp_grammar.specs.Grammar.{may_be_empty}
 use Rattle.cpp_grammar.specs.Term.{Term, nil, list, instance, pack}
@@ -26,7 +25,7 @@ use Rattle.cpp_direct.proofs.PrintedNames.{as-name}
 use Rattle.cpp_direct.proofs.PrintedNests.{instance-as, instance-prints, instance-class}
 use Rattle.cpp_direct.proofs.PrintedTypes.{prints-as}
 use Rattle.cpp_direct.proofs.Scopes.{element-there, instance-returns, known-stay, none-scoped, structor-returns, has-plain}
-use Rattle.cpp_direct.proofs.Kept.{kept-grown, kept-same, made-here, scoped-within, template-stays, type-comes, value-added, reverse-last, last-reversed, type-named, none-known, kept-with}
+use Rattle.cpp_direct.proofs.Kept.{kept-grown, kept-same, made-here, scoped-within, template-stays, type-comes, value-added, reverse-last, type-named, none-known, kept-with}
 
 -- ## What is open
 
@@ -34,15 +33,15 @@ use Rattle.cpp_direct.proofs.Kept.{kept-grown, kept-same, made-here, scoped-with
 pub last-found : (xs : List Open) (x : Open) → slice_get xs (length xs - 1) ≡ Some x → (rest : List Open) × (reverse xs ≡ x ∷ rest)
 last-found xs x found = go (reverse xs) refl
   where
+    some : 0 < length xs
+    some = omega (arith, slice_get_within xs (length xs - 1) x found)
+
     go : (r : List Open) → reverse xs ≡ r → (rest : List Open) × (reverse xs ≡ x ∷ rest)
-    go [] e = absurd (omega (arith, slice_get_within xs (length xs - 1) x found, ap length (sym (reverse-reverse xs) ∙ ap reverse e)))
-    go (y ∷ rest) e = (rest, e ∙ ap (λ z. z ∷ rest) (last-is rest y (last-reversed xs rest y e)))
-      where
-        last-is : (rest : List Open) (y : Open) → xs ≡ reverse rest ++ y ∷ [] → y ≡ x
-        last-is rest y is =
-            let place : length (reverse rest) ≡ length xs - 1 = omega (arith, ap length is, length-append (reverse rest) (y ∷ [])) in
-            sym (get_or-append_seam (reverse rest) y [] y) ∙ ap (λ l. get_or l (length (reverse rest)) y) (sym is)
-            ∙ ap (λ n. get_or xs n y) place ∙ get_or_from_slice_get xs (length xs - 1) x y found
+    go [] e = absurd (omega (arith, some, length-reverse xs, ap length e))
+    go (y ∷ rest) e =
+        let same : length xs - 1 - 0 ≡ length xs - 1 = omega arith in
+        (rest, e ∙ ap (λ z. z ∷ rest) (sym (ap (λ l. get_or l 0 y) e) ∙ get_or-reverse xs 0 y some ∙ ap (λ n. get_or xs n y) same
+        ∙ get_or_from_slice_get xs (length xs - 1) x y found))
 
 -- the same, and what was open before it, where it is taken away
 opened-last : (ws ps : List Open) (x owner : Open) (rest : List Open) → reverse ws ≡ owner ∷ rest → ws ≡ ps ++ x ∷ []

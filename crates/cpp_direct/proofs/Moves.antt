@@ -20,7 +20,7 @@ use Rattle.cpp_grammar.proofs.ClosedTrees.{at_number, its_symbols}
 use Rattle.cpp_direct.proofs.Tables.{takes-by, empty-by, names-by, arguments-by, tails-by, item-by}
 use Rattle.cpp_direct.specs.Symbol.{Symbol, table_by}
 use Rattle.cpp_direct.specs.Holes.{cpp_language, Awaits, Opened, opened, ReadsRest, StandsAt, Comes, Needs, ExpectsSym, Expects, IsNameAt, IsNumberAt}
-use Rattle.std.proofs.lemmas.Bool.{false≢true, and_parts}
+use Rattle.std.proofs.lemmas.Bool.{false≢true, and_parts, not-true}
 use Rattle.sym_core.specs.Token.{Token, bytes_of, IsNumberToken}
 use Rattle.sym_core.specs.declared.NumberKind.{NumberKind}
 use Rattle.cpp_grammar.specs.Term.{Term, alone}
@@ -278,10 +278,6 @@ pub chosen-byte : (s : Symbol) (kind : Kind) (p : Production) (byte : ℕ) → c
     → ((f : Forest) (at : ℕ) (st : State) → opening p f at st ≡ Ok st) → Taken s kind p (byte ∷ [])
 chosen-byte s kind p byte chosen below chain begun =
     record { takes_rule = takes-it s kind p byte (byte ∷ []) chosen below (rw chain refl); begins = begun }
-
-not-true : (b : Bool) → not b ≡ true → b ≡ false
-not-true true is = absurd (false≢true is)
-not-true false is = refl
 
 -- so a production is taken and its byte eaten
 pub eats : (s : Symbol) (kind : Kind) (p : Production) (byte : ℕ) → is_eaten kind p byte ≡ true → Taken s kind p (byte ∷ [])

@@ -1,5 +1,6 @@
 -- Moves within types, arrays and function types: a byte or a name is read, and a type opens, or one comes.
 use Rattle.std.proofs.lemmas.Bool.{eq-eqb}
+use Rattle.std.proofs.Math.Bool.{and-false}
 use Rattle.std.proofs.Common.{◌≡◌, ℕ, ◌+◌, ◌-◌, List, [], ◌∷◌, slice_get, Bool, true, false, ◌&&◌, ◌||◌, not, nat_eq, Option, Some, None, Result, Ok, Err, refl, ap, subst, ◌∙◌, arith, length}
 use Rattle.sym_core.specs.declared.refusal.Refusal.{Refusal}
 use Rattle.sym_core.specs.declared.refusal.Refusal.TheVariants.{BadReference}
@@ -329,10 +330,6 @@ substituted-so around place c st closed none = ap (λ o. whole o (packs_in aroun
       | true ↦ Err (BadReference place)
       | false ↦ with_packs place around.in_expansion packs st >>= λ s. Ok (found (tree c.tree true) s)
     ]
-
-and-false : (b : Bool) → (b && false) ≡ false
-and-false true = refl
-and-false false = refl
 
 -- one that names parameters, in the encoding that it was made in
 pub substituted-open : (around : Around) (place : ℕ) (c : Candidate) (st : State) → c.encoding ≡ around.encoding → around.in_lambda ≡ false
