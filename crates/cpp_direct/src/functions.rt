@@ -146,6 +146,9 @@ impl Direct {
         ensures { IfSome result (IsWriting (symbol_by G.IS_WIDE G.IS_BARE G.IS_BRIEF s.now) self.new) }
     {
         let entry = *self.waiting.as_slice().last()?;
+        if takes_elements(entry) {
+            return Some(Step::List { is_first: false });
+        }
         match entry {
             Open::Parameters {
                 mark,
@@ -154,12 +157,7 @@ impl Direct {
             } => self.parameter_ended::<G>(s, mark, start, argument),
             Open::Enclosing { mark, from, to } => self.enclosing_parameter::<G>(s, mark, from, to),
             Open::Special => self.finish::<G>(s),
-            _ => {
-                if !takes_elements(entry) {
-                    return None;
-                }
-                Some(Step::List { is_first: false })
-            }
+            _ => None,
         }
     }
 }

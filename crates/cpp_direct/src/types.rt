@@ -271,6 +271,13 @@ impl Direct {
         ensures { IfSome result (IsWriting (symbol_by G.IS_WIDE G.IS_BARE G.IS_BRIEF s.now) self.new) }
     {
         let entry = *self.waiting.as_slice().last()?;
+        // most types are elements
+        if takes_elements(entry) {
+            if is_dependent {
+                return self.pass_dependent::<G>(s);
+            }
+            return Some(Step::List { is_first: false });
+        }
         match entry {
             Open::Pointer { .. } | Open::Lvalue { .. } | Open::Rvalue { .. } | Open::Const { .. } =>
                 self.pass_to_mark::<G>(s, entry, is_reference, is_dependent),
@@ -286,14 +293,14 @@ impl Direct {
             } => self.front_ended::<G>(s, mark, start, argument),
             _ => {
                 if is_dependent {
-                    return self.pass_dependent::<G>(s);
+                    return None;
                 }
                 self.pass_closed::<G>(s, entry, is_reference)
             }
         }
     }
 
-    /// Hands on a type that names no argument of the function's template.
+    /// Hands on a type that is no element and names no argument of the function's template.
     #[inline(always)]
     fn pass_closed<G: Grammar>(&mut self, s: &[u8], entry: Open, is_reference: bool) -> Option<Step>
         requires fits { IsReadable s.now }
@@ -324,12 +331,7 @@ impl Direct {
                 number,
                 known,
             } => self.element_ended::<G>(s, from, number, known, is_reference),
-            _ => {
-                if !takes_elements(entry) {
-                    return None;
-                }
-                Some(Step::List { is_first: false })
-            }
+            _ => None,
         }
     }
 

@@ -1,6 +1,6 @@
 use Rattle.std.proofs.Common.{Some, true, false, ap, ◌∙◌}
 use Rattle.cpp_direct.specs.declared.open.Open.TheVariants as opens
-use Rattle.cpp_direct.proofs.Handed.{value-element, value-returned, value-signature, value-enumerator, argument-read, special-read}
+use Rattle.cpp_direct.proofs.Handed.{value-element, value-returned, value-signature, value-enumerator, special-read}
 use Rattle.cpp_direct.proofs.AddressesRead.{value-addressed, value-addressed-front}
 use Rattle.cpp_direct.proofs.EnclosingFunctions.{parameter-read-within}
 use Rattle.cpp_direct.proofs.LambdasRead.{lambda-parameter-read}
@@ -61,9 +61,3 @@ pub element_ended-requires-clause-read : goal.element_ended-requires-clause-read
 element_ended-requires-clause-read g c =
     value-argument _ c.args.self.now true c.args.is_reference c.in-Element.from c.in-Element.number c.in-Element.known
     c.requires.writing (c.requires.waits ∙ ap (λ o. Some o) c.in-Element.is)
-
-pub returns-else-not-takes_elements : goal.returns-else-not-takes_elements
-returns-else-not-takes_elements g c =
-    argument-read _ c.args.self.now c.args.entry
-    (value-element _ c.args.self.now c.args.is_reference c.args.entry c.requires.writing c.requires.waits)
-    (c.takes_elements.ensures c.if-not-takes_elements.false)

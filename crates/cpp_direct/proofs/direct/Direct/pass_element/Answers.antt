@@ -23,8 +23,8 @@ finish-requires g c =
     special-read _ c.args.self.now (passed-on _ c.args.self.now opens.Special c.requires.passed
     (waits-last _ _ _ _ c.as_slice.ensures c.in_ok-entry.ensures.value c.in-Special.is))
 
-pub returns-else-not-takes_elements : goal.returns-else-not-takes_elements
-returns-else-not-takes_elements g c =
+pub returns-then-takes_elements : goal.returns-then-takes_elements
+returns-then-takes_elements g c =
     let o = c.in_ok-entry.field-0.now in
     argument-read _ c.args.self.now o (passed-on _ c.args.self.now o c.requires.passed (waits-last _ _ _ _ c.as_slice.ensures c.in_ok-entry.ensures.value refl))
-    (c.takes_elements.ensures c.if-not-takes_elements.false)
+    (c.takes_elements.ensures c.if-takes_elements.true)
