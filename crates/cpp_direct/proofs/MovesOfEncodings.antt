@@ -45,11 +45,6 @@ encoding-opens s os around at st expects =
     let items = next-part p (fill name v here now comes) refl in
     awaited items (λ l there then_ last. (closes p (fill items l there then_ last) refl).comes))
 
--- the letter of a special object
-special-eaten : (b : ℕ) → is_special_letter b ≡ true → is_eaten Kind.Special Production.SpecialType b ≡ true
-unfolding is_eaten is_special_letter each_passes
-special-eaten b is = tested special_letters (λ c. is_eaten Kind.Special Production.SpecialType c) refl b is
-
 -- what comes after the T of a special name
 special-expected : (s : Symbol) (os : List Opened) (around : Around) (at : ℕ) (st : State) → Expects s Kind.Encoding around os at st → StandsAt s.bytes at (84 ∷ [])
     → Hole s (OfKind (number_of_kind Kind.Special)) (in_name at) (opened (standing (rule_of Production.Special) (84 ∷ []) at around st) [] [] ∷ os) (at + 1) st
@@ -60,11 +55,11 @@ special-expected s os around at st expects stands =
 -- a special object begins with a T and its letter, and its type is expected
 pub special-opens : (s : Symbol) (os : List Opened) (around : Around) (b at : ℕ) (st : State) → is_special_letter b ≡ true
     → Expects s Kind.Encoding around os at st → StandsAt s.bytes at (84 ∷ b ∷ []) → SpecialOpened s os at b (at + 2) st
-unfolding is_eaten number_of_kind parts_of between close unfolding_.behind meaning part byte_of tree_of text_of piece_of letter_of is_there
+unfolding is_eaten number_of_kind parts_of between close unfolding_.behind meaning part byte_of tree_of text_of piece_of letter_of is_there is_special_letter each_passes
 special-opens s os around b at st is expects stands =
     let p = Production.SpecialType in
     let places = stands-split s.bytes at (84 ∷ []) (b ∷ []) stands in
-    let type = byte-opens (eats s Kind.Special p b (special-eaten b is)) (special-expected s os around at st expects places.0) places.1 refl refl in
+    let type = byte-opens (eats s Kind.Special p b (tested special_letters (λ c. is_eaten Kind.Special p c) refl b is)) (special-expected s os around at st expects places.0) places.1 refl refl in
     awaited (hole-at (at + 2) type (omega arith))
     (λ t here now comes. (closes Production.Special (closes p (fill type (tree t true) here now comes) refl) refl).comes)
 

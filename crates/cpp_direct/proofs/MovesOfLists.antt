@@ -118,12 +118,6 @@ pack-opens s os around at st expects stands =
 
 -- ## Literals
 
--- a bit of a boolean
-bit-eaten : (d : ℕ) → (d ≡ 48) ⊎ (d ≡ 49) → is_eaten Kind.Bit Production.Mark d ≡ true
-unfolding is_eaten
-bit-eaten d (inl same) = ap (is_eaten Kind.Bit Production.Mark) same
-bit-eaten d (inr same) = ap (is_eaten Kind.Bit Production.Mark) same
-
 -- an argument that is a boolean
 pub bool-element : (s : Symbol) (kind : Kind) (os : List Opened) (around : Around) (d at : ℕ) (st : State) → IsArgumentKind kind → (d ≡ 48) ⊎ (d ≡ 49)
     → Expects s kind around os at st → StandsAt s.bytes at (76 ∷ 98 ∷ d ∷ 69 ∷ [])
@@ -135,17 +129,13 @@ bool-element s kind os around d at st is bit expects stands =
     let second = stands-split s.bytes (at + 1) (98 ∷ []) (d ∷ 69 ∷ []) first.1 in
     let third = stands-split s.bytes (at + 1 + 1) (d ∷ []) (69 ∷ []) second.1 in
     let literal = literal-opens s kind os around at st is expects first.0 in
+    let taken : is_eaten Kind.Bit Production.Mark d ≡ true = elim bit [ inl e ↦ ap (is_eaten Kind.Bit Production.Mark) e | inr e ↦ ap (is_eaten Kind.Bit Production.Mark) e ] in
     let digit = byte-opens (eats s Kind.Literal p 98 refl) (hole s Kind.Literal around literal.inner (at + 1) st literal.awaits) second.0 refl refl in
     subst (λ n. ListGoesOn s kind os around (boolean (nat_eq d 49)) n st) (omega arith)
     (literal.onward (boolean (nat_eq d 49)) (at + 1 + 1 + 1) st
-    (closes p (byte-fills (eats s Kind.Bit Production.Mark d (bit-eaten d bit)) digit third.0 refl refl) refl).comes third.1)
+    (closes p (byte-fills (eats s Kind.Bit Production.Mark d taken) digit third.0 refl refl) refl).comes third.1)
 
 -- ## Integers
-
--- a letter of a builtin type, where the type of a literal is expected
-integer-eaten : (b : ℕ) → is_integer_letter b ≡ true → is_eaten Kind.LiteralType Production.Builtin b ≡ true
-unfolding is_eaten is_integer_letter each_passes
-integer-eaten b is = tested integer_letters (λ c. is_eaten Kind.LiteralType Production.Builtin c) refl b is
 
 -- an integer
 pub integer-fills : {s : Symbol} {around : Around} {os : List Opened} {at : ℕ} {st : State} (negative : Bool) (digits : List ℕ) (end : ℕ)
@@ -165,7 +155,7 @@ pub integer-element : (s : Symbol) (kind : Kind) (os : List Opened) (around : Ar
     → IsArgumentKind kind → is_integer_letter b ≡ true → Expects s kind around os at st → StandsAt s.bytes at (76 ∷ b ∷ minus_sign negative)
     → IsDigitsAt s.bytes (at + length (76 ∷ b ∷ minus_sign negative)) digits end → StandsAt s.bytes end (69 ∷ [])
     → ListGoesOn s kind os around (integer (builtin (b ∷ [])) (signed_digits negative digits)) (end + 1) st
-unfolding is_eaten is_left number_of_kind parts_of between close unfolding_.behind meaning part byte_of tree_of text_of piece_of letter_of is_there with_type is_listed signed_of
+unfolding is_eaten is_left number_of_kind parts_of between close unfolding_.behind meaning part byte_of tree_of text_of piece_of letter_of is_there with_type is_listed signed_of is_integer_letter each_passes
 integer-element s kind os around b negative digits at end st kind_is letter_is expects stands is ended =
     let p = Production.IntegerLiteral in
     let first = stands-split s.bytes at (76 ∷ []) (b ∷ minus_sign negative) stands in
@@ -173,7 +163,7 @@ integer-element s kind os around b negative digits at end st kind_is letter_is e
     let literal = literal-opens s kind os around at st kind_is expects first.0 in
     let behind_type : at + length (76 ∷ b ∷ minus_sign negative) ≡ at + 1 + 1 + length (minus_sign negative) = omega arith in
     let type = chain-opens (leaves s Kind.Literal p 80 refl) (hole s Kind.Literal around literal.inner (at + 1) st literal.awaits) refl refl in
-    let number = next-part p (byte-fills (eats s Kind.LiteralType Production.Builtin b (integer-eaten b letter_is)) type second.0 refl refl) refl in
+    let number = next-part p (byte-fills (eats s Kind.LiteralType Production.Builtin b (tested integer_letters (λ c. is_eaten Kind.LiteralType Production.Builtin c) refl b letter_is)) type second.0 refl refl) refl in
     literal.onward (integer (builtin (b ∷ [])) (signed_digits negative digits)) end st
     (closes p (integer-fills negative digits end number second.1 (subst (λ n. IsDigitsAt s.bytes n digits end) behind_type is)) refl).comes ended
 

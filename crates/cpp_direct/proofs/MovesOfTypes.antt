@@ -1,6 +1,6 @@
 -- Moves within types, arrays and function types: a byte or a name is read, and a type opens, or one comes.
 use Rattle.std.proofs.lemmas.Bool.{eq-eqb}
-use Rattle.std.proofs.Math.Bool.{and-false}
+use Rattle.std.proofs.Math.Bool.{and-false, and-true}
 use Rattle.std.proofs.Common.{◌≡◌, ℕ, ◌+◌, ◌-◌, List, [], ◌∷◌, slice_get, Bool, true, false, ◌&&◌, ◌||◌, not, nat_eq, Option, Some, None, Result, Ok, Err, refl, ap, subst, ◌∙◌, arith, length}
 use Rattle.sym_core.specs.declared.refusal.Refusal.{Refusal}
 use Rattle.sym_core.specs.declared.refusal.Refusal.TheVariants.{BadReference}
@@ -98,18 +98,14 @@ solid-opens s _ around os at st typed expects = absurd typed
 
 -- ## Builtin types
 
-builtin-eaten : (byte : ℕ) → is_builtin byte ≡ true → is_eaten Kind.Solid Production.Builtin byte ≡ true
-unfolding is_eaten is_builtin each_passes
-builtin-eaten byte is = tested builtin_letters (λ b. is_eaten Kind.Solid Production.Builtin b) refl byte is
-
 -- a builtin type comes, which is no candidate
 pub builtin-comes : (s : Symbol) (kind : Kind) (around : Around) (os : List Opened) (at : ℕ) (st : State) (b : ℕ) → IsTyped kind
     → is_builtin b ≡ true → Expects s kind around os at st → StandsAt s.bytes at (b ∷ []) → Comes s os (tree (builtin (b ∷ [])) true) (at + 1) st
-unfolding is_eaten number_of_kind parts_of between close unfolding_.behind meaning part byte_of tree_of text_of piece_of letter_of is_there is_function_type
+unfolding is_eaten number_of_kind parts_of between close unfolding_.behind meaning part byte_of tree_of text_of piece_of letter_of is_there is_function_type is_builtin each_passes
 builtin-comes s kind around os at st b typed is expects stands =
     let solid = solid-opens s kind around os at st typed expects in
     solid.onward (builtin (b ∷ [])) true (at + 1) st refl
-    (byte-fills (eats s Kind.Solid Production.Builtin b (builtin-eaten b is)) (hole-of solid) stands refl refl).comes
+    (byte-fills (eats s Kind.Solid Production.Builtin b (tested builtin_letters (λ c. is_eaten Kind.Solid Production.Builtin c) refl b is)) (hole-of solid) stands refl refl).comes
 
 builtin-with-d-taken : (byte : ℕ) → is_builtin_with_d byte ≡ true
     → (is_eaten Kind.AfterD Production.BuiltinWithD byte ≡ true) × (is_left Kind.ItemAfterD Production.ItemIsType byte ≡ true)
@@ -243,16 +239,6 @@ source-opens s kind around os at st name end is_named first solid is =
     (λ later now comes. (closes p (fill rest nothing_there later now comes) refl).comes)
     (λ a later now comes. (closes p (fill rest (tree a true) later now comes) refl).comes)
 
-listed-kept : (t : Term) (listed : Bool) (st : State)
-    → ◌≡◌ {A = Result (Found Value State) Refusal} (Ok (found (tree t (listed && true)) st)) (Ok (found (tree t listed) st))
-listed-kept t true st = refl
-listed-kept t false st = refl
-
-listed-lost : (t : Term) (listed : Bool) (st : State)
-    → ◌≡◌ {A = Result (Found Value State) Refusal} (Ok (found (tree t (listed && false)) st)) (Ok (found (tree t false) st))
-listed-lost t true st = refl
-listed-lost t false st = refl
-
 -- a name after an S
 pub name-with-s-opens : (s : Symbol) (kind : Kind) (around : Around) (os : List Opened) (at : ℕ) (st : State) → IsNamedKind kind
     → TreeOpens s kind os around at st → StandsAt s.bytes at (83 ∷ []) → NameOpens s Kind.TypeAfterS os around (at + 1) st
@@ -263,8 +249,8 @@ name-with-s-opens s kind around os at st is_named solid stands =
     awaited name (λ t listed end now comes.
     let rest = next-part p (fill name (tree t listed) end now comes) refl in
     named-so s around os (open_at rest) t listed end now solid.inner solid.onward rest.expects
-    (λ later onward had. (closes p (fill rest nothing_there later onward had) (listed-kept t listed onward)).comes)
-    (λ a later onward had. (closes p (fill rest (tree a true) later onward had) (listed-lost (instance t a) listed onward)).comes))
+    (λ later onward had. (closes p (fill rest nothing_there later onward had) (rw (and-true listed) refl)).comes)
+    (λ a later onward had. (closes p (fill rest (tree a true) later onward had) (rw (and-false listed) refl)).comes))
 
 -- a name of std
 pub std-opens : (s : Symbol) (kind : Kind) (around : Around) (os : List Opened) (at : ℕ) (st : State) (name : List ℕ) (end : ℕ) → IsNamedKind kind
@@ -282,16 +268,14 @@ std-opens s kind around os at st name end is_named solid stands is =
     let tagless = none-fills Kind.MaybeTags (next-part p named refl) refl in
     w.onward (in_std (source false name)) false end st (closes Production.TypeInStd (closes p tagless refl) refl).comes
 
-abbreviation-eaten : (byte : ℕ) → is_abbreviated byte ≡ true → is_eaten Kind.Abbreviation Production.Abbreviation byte ≡ true
-unfolding is_eaten is_abbreviated each_passes
-abbreviation-eaten byte is = tested abbreviation_letters (λ b. is_eaten Kind.Abbreviation Production.Abbreviation b) refl byte is
-
 -- one of the letters after an S that stand for a name of std
 pub abbreviation-fills : {s : Symbol} {around : Around} {os : List Opened} {at : ℕ} {st : State} (letter : ℕ) → is_abbreviated letter ≡ true
     → Hole s (OfKind (number_of_kind Kind.Abbreviation)) around os at st → StandsAt s.bytes at (letter ∷ [])
     → Filled s os (tree (abbreviation letter) true) (at + 1) st
-unfolding is_eaten number_of_kind parts_of between close unfolding_.behind meaning part byte_of tree_of text_of piece_of letter_of is_there
-abbreviation-fills {s = s} letter is h stands = byte-fills (eats s Kind.Abbreviation Production.Abbreviation letter (abbreviation-eaten letter is)) h stands refl refl
+unfolding is_eaten number_of_kind parts_of between close unfolding_.behind meaning part byte_of tree_of text_of piece_of letter_of is_there is_abbreviated each_passes
+abbreviation-fills {s = s} letter is h stands =
+    let p = Production.Abbreviation in
+    byte-fills (eats s Kind.Abbreviation p letter (tested abbreviation_letters (λ c. is_eaten Kind.Abbreviation p c) refl letter is)) h stands refl refl
 
 -- an abbreviation or a substitution is the name of a type, after its S
 behind-s-named : (s : Symbol) (kind : Kind) (around : Around) (os : List Opened) (at : ℕ) (st : State) (t : Term) (end : ℕ) → IsNamedKind kind
