@@ -44,7 +44,8 @@ none-read : (s : Symbol) (w : Direct) → IsWriting s w (steps.List true) → En
 none-read s w p named =
     let place = p.is_before.0 in
     let ts_is : p.is_before.1 ≡ [] = p.is_before.5 refl in
-    let a = template-listed s w p.state place p.is_before.1 p.is_before.2 p.is_before.2 (λ rest e. subst (λ ws. EndsNamed ws) e named) p.is_before.3 p.is_before.4
+    let a = template-listed s p.scope w p.state place.listing place.owner place.rest place.front place.template place.name p.is_before.1 p.is_before.2 p.is_before.2
+    (λ rest e. subst (λ ws. EndsNamed ws) e named) place.belongs p.is_before.3 p.is_before.4
     p.is_before.7 in
     let by = IsElementAs (detail_of s) p.scope.names (is_noted place.owner) 3 in
     record {

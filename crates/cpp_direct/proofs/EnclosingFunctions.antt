@@ -77,7 +77,7 @@ name-opens s w a letter =
                 inner = entity.inner;
                 awaits = entity.awaits;
                 onward = λ p middle now comes_ digit end told.
-                    a.begins.passes (local_in e p digit) false end now refl (entity.onward p middle now comes_ digit end told);
+                    a.begins.onward (local_in e p digit) false end now refl (entity.onward p middle now comes_ digit end told);
               },
           a.stands,
         );

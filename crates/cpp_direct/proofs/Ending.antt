@@ -188,7 +188,7 @@ parameter-goes_on s argument becomes make ts at st p t here now goes = record {
   outside = p.outside;
   awaits = goes.awaits;
   onward = λ l there then_ comes. subst (λ u. becomes (make u) there then_) (sym (list-more ts t (no_items l)))
-      (p.onward (tree (list t (no_items l)) true) there then_ (goes.passes l there then_ comes));
+      (p.onward (tree (list t (no_items l)) true) there then_ (goes.onward l there then_ comes));
 }
 
 -- a parameter comes next, for what is open so once the parameter is taken
@@ -324,7 +324,7 @@ void-read s argument becomes make at st p stands =
     let element = element-awaits s Kind.Items p.inner p.around at st tt p.awaits in
     let goes = element.onward t (at + 1) st (builtin-comes s Kind.Item p.around element.inner at st 118 tt refl element.awaits stands) in
     p.onward (tree (list t nil) true) (at + 1) st
-    (goes.passes nothing_there (at + 1) st (expects-empty s Kind.Items p.around goes.inner (at + 1) st goes.awaits refl))
+    (goes.onward nothing_there (at + 1) st (expects-empty s Kind.Items p.around goes.inner (at + 1) st goes.awaits refl))
 
 -- a name with its parameters is a function, after which something may be that prints nothing
 items-ended : (s : Symbol) {scope : Scope} {extra : ℕ} {ts : List Term} {texts text : List ℕ} (here : Direct) (mark : Mark) (start : ℕ) (argument : Arguments)

@@ -15,7 +15,6 @@ pub mod Members
 pub mod Listed
 pub mod Moves
 pub mod MovesOfEncodings
-pub mod MovesOfLevels
 pub mod MovesOfLists
 pub mod MovesOfLocals
 pub mod MovesOfNests

@@ -30,10 +30,10 @@ use Rattle.cpp_direct.specs.Prints.{Names, Prints, PrintsAs, NamesClass, opening
 use Rattle.cpp_direct.specs.WrittenParts.{IsUnmarked, is_unmarked}
 use Rattle.cpp_direct.specs.WriterInvariant.{HasArguments, IsMadeIn, IsNaming, IsNest, IsNestScoped, IsNesting, IsOwn, IsScoped, Scope, Serves, IsWriting, below, is_type, nowhere, HasSingles, argument_of, Kept, IsNestSoFar}
 use Rattle.cpp_direct.specs.MidStep.{AwaitsNest, IsNestKnown, IsNestNamed, IsNameEnded, IsOperatorRead}
-use Rattle.cpp_direct.specs.Written.{Reads, added, added_unless}
+use Rattle.cpp_direct.specs.Written.{Reads, added, added_unless, Lists, OpensArguments}
 use Rattle.cpp_direct.proofs.LettersTested.{each_passes, tested}
 use Rattle.cpp_direct.proofs.Moves.{alone-arguments, any-tail, expects-empty, stands-join, comes-moved}
-use Rattle.cpp_direct.proofs.Kept.{kept-grown, kept-read, kept-same, made-here, candidate-found, piece-found, nest-stays, value-comes, Lists, OpensArguments, list-begins, type-named, kept-unless, kept-with, placed-last, placed-moved}
+use Rattle.cpp_direct.proofs.Kept.{kept-grown, kept-read, kept-same, made-here, candidate-found, piece-found, nest-stays, value-comes, list-begins, type-named, kept-unless, kept-with, placed-last, placed-moved}
 use Rattle.cpp_direct.proofs.MovesOfLists.{arguments-open}
 use Rattle.cpp_direct.proofs.MovesOfTypes.{substituted-so}
 use Rattle.cpp_direct.proofs.NamedArguments.{again-substituted, named-here}
@@ -217,7 +217,7 @@ known-opens s old new n wide is_type here opening_ =
     let begun = instance-arguments s g.inner m.around n.own true old.at n.state g.awaits here in
     let not_own : IsOwn old.nest.purpose → ⊥ = λ own. subst IsOwn is_type own in
     list-begins s old old new old.candidates.list.items n.kept (opens.NestArguments old.nest) m.front m.bytes n.own
-    (record { candidates = refl; text = refl; waiting = refl; nest = refl; scope = refl; at = refl }) opening_ (
+    (record { candidates = refl; text = refl; waiting = refl; nest = refl; scope = refl; at = refl; rounds = refl }) opening_ (
       nest-stays m.front m.bytes old.text.list.items (opening_bracket (detail_of s)) old.nest n.own m.is_nest,
       (λ own. absurd (not_own own)),
       n.no_structor,

@@ -234,9 +234,7 @@ operator-names {detail} a b =
 pub operator-prints : {detail : Detail} (a b : ℕ) → is_angle a b ≡ false → Prints detail (alone (operator a b)) (operator_text a b) false
 unfolding parts_in left_parts right_parts piece_parts not_empty is_open pack_length last_piece opening_text besides
 operator-prints {detail} a b plain =
-    let t = alone (operator a b) in
-    let n = operator-names a b in
-    own-prints t (operator_text a b) n refl (λ scope. refl) (rw plain refl) (λ c. refl)
+    own-prints (alone (operator a b)) (operator_text a b) (operator-names a b) refl (λ scope. refl) (rw plain refl) (λ c. refl)
 
 -- The same in std.
 pub std-operator-names : {detail : Detail} (a b : ℕ) → PrintsName detail (in_std (operator a b)) (codes "std::" ++ operator_text a b)
@@ -247,9 +245,7 @@ std-operator-names {detail} a b =
 pub std-operator-prints : {detail : Detail} (a b : ℕ) → is_angle a b ≡ false → Prints detail (in_std (operator a b)) (codes "std::" ++ operator_text a b) false
 unfolding parts_in left_parts right_parts piece_parts not_empty is_open pack_length last_piece opening_text besides
 std-operator-prints {detail} a b plain =
-    let t = in_std (operator a b) in
-    let n = std-operator-names a b in
-    own-prints t (codes "std::" ++ operator_text a b) n refl (λ scope. refl) (rw plain refl) (λ c. refl)
+    own-prints (in_std (operator a b)) (codes "std::" ++ operator_text a b) (std-operator-names a b) refl (λ scope. refl) (rw plain refl) (λ c. refl)
 
 -- It names its class without std.
 pub std-class : {detail : Detail} (internal : Bool) (name : List ℕ) → name ≢ [] → IsUnmarked name → NamesClass detail (in_std (source internal name)) (source_text name)

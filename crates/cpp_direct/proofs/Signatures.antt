@@ -1,29 +1,27 @@
 -- A writer within a function type: where it begins, after its return type, between its parameters, and after it; and within an array.
-use Rattle.std.proofs.Common.{◌≡◌, ◌≢◌, inl, inr, ℕ, ◌+◌, ◌-◌, length, List, [], ◌∷◌, ◌++◌, reverse, Bool, true, false, Option, refl, ap, sym, take, ◌∙◌, subst, arith, codes, append_assoc, append-nil, nat_eq, ◌≤◌, drop, slice_get, Some, if◌then◌else◌}
+use Rattle.std.proofs.Common.{◌≡◌, ◌≢◌, inl, inr, ℕ, ◌+◌, ◌-◌, length, List, [], ◌∷◌, ◌++◌, reverse, Bool, true, false, refl, ap, sym, take, ◌∙◌, subst, arith, codes, append_assoc, append-nil, nat_eq, ◌≤◌, drop, slice_get, Some, if◌then◌else◌}
 use Rattle.std.specs.List.{ends_with}
-use Rattle.std.specs.Option.{OnSome, IfSome}
-use Rattle.std.proofs.lemmas.Bool.{false≢true}
 use Rattle.cpp_grammar.specs.Grammar.{among}
 use Rattle.cpp_grammar.specs.Term.{Term, builtin, nil, list, pointer, array, lvalue}
 use Rattle.cpp_grammar.specs.Values.{Around, State, tree, outermost}
 use Rattle.cpp_grammar.specs.declared.kind.Kind.{Kind}
-use Rattle.cpp_direct.specs.WriterTypes.{Access, Arguments, Candidate, Direct, Mark, Open, Step, Symbol, detail_of}
+use Rattle.cpp_direct.specs.WriterTypes.{Access, Candidate, Direct, Open, Symbol, detail_of}
 use Rattle.cpp_direct.specs.Bytes.{is_builtin}
 use Rattle.cpp_direct.specs.AllHoles.{Comes, Expects, FunctionOpened, IsQualifiable, IsReferable, IsSizeAt, NoReference, Opened, SignatureGoesOn, StandsAt, access_letters, accessed, array_opening, candidate, is_marked, plain_function, pointed, reference, reference_letter, with_accessed, with_candidate, with_pointed}
 use Rattle.cpp_direct.specs.Prints.{PrintAll, IsElement, IsUnmarked}
 use Rattle.cpp_direct.specs.WriterInvariant.{below, IsScoped, AreCandidates, IsWriting, Marks, Scope, Stands, TakesFunction, opening_text, list_with}
 use Rattle.cpp_direct.specs.MidStep.{AwaitsParameter, AwaitsSignature, IsElementPassed, IsFunctionRead, IsReturned, IsArrayRead, IsElementRead, ElementOf}
-use Rattle.cpp_direct.specs.Written.{Writes, hidden, with_hidden}
+use Rattle.cpp_direct.specs.Written.{Writes, hidden, with_hidden, OpensEntry}
 use Rattle.cpp_direct.proofs.Ending.{no-void}
 use Rattle.cpp_direct.proofs.Handed.{first-type, value-element}
 use Rattle.cpp_direct.proofs.Kept.{kept-grown, kept-same, kept-written, candidates-more, reverse-last, type-comes, kept-as}
-use Rattle.cpp_direct.proofs.Listed.{TakesElements, last-found, comma, in-front}
+use Rattle.cpp_direct.proofs.Listed.{last-found, comma, in-front}
 use Rattle.cpp_direct.proofs.Moves.{stands-split}
 use Rattle.cpp_direct.proofs.MovesOfTypes.{parameter-opens, reference-opens, signature-ends, builtin-comes, function-opens, pointed-function-opens, array-opens}
 use Rattle.cpp_direct.proofs.PrintedFunctions.{function-element, void-function-element, array-element}
 use Rattle.cpp_direct.proofs.PrintedLists.{list-more, none-print, none-text}
 use Rattle.cpp_direct.proofs.Scopes.{none-scoped}
-use Rattle.cpp_direct.proofs.TypesRead.{by-step, given, popped, whole-awaited}
+use Rattle.cpp_direct.proofs.TypesRead.{popped, reference_entry, whole-awaited}
 use Rattle.sym_core.specs.declared.NameClass.TheVariants.{Cpp}
 use Rattle.sym_core.specs.Token.{is_name_byte}
 use Rattle.cpp_direct.specs.Names.{IsReadable}
@@ -73,7 +71,7 @@ signature-begins s old new is_pointer p text candidates scope_same waits at =
       first = p.first;
       ts = [];
       none = λ e. refl;
-      some = λ e. absurd (false≢true (sym e));
+      some = λ e. cc e;
       texts = [];
       elements = none-print (detail_of s) 0;
       written = text ∙ ap (λ l. l ++ opening) p.written ∙ append_assoc p.taker.front p.first.bytes opening ∙ sym (append-nil (p.taker.front ++ (p.first.bytes ++ opening)));
@@ -154,11 +152,7 @@ pub no-reference : (s : List ℕ) (at b : ℕ) → (b ≢ 0 → StandsAt s at (b
 no-reference s at b stands some other another =
     ((λ p. other (same-byte s at b 82 (stands some) p)), λ p. another (same-byte s at b 79 (stands some) p))
 
--- what waits for what a reference is to
-abbrev pub reference_entry : (is_lvalue : Bool) → (from : ℕ) → Open
-reference_entry true from = opens.Lvalue from
-reference_entry false from = opens.Rvalue from
-
+-- what waits for what a reference is to stands there
 reference-stands : (s : Symbol) (scope : Scope) (is_lvalue : Bool) (rest : List Open) (os : List Opened) (text : List ℕ) (from : ℕ)
     → Marks s (below s scope rest) os text from (reference is_lvalue) → Stands s scope (reference_entry is_lvalue from ∷ rest) os text
 reference-stands s scope true rest os text from marks = marks
@@ -171,26 +165,20 @@ reference-scoped scope around true from is_pointer rest = none-scoped scope arou
 reference-scoped scope around false from is_pointer rest = none-scoped scope around (opens.Rvalue from ∷ opens.Signature is_pointer ∷ rest) refl
 
 -- a parameter comes that is a reference
-pub reference-comes : (s : Symbol) (old new : Direct) (o : Option Step) (is_pointer is_lvalue : Bool) (from : ℕ) → AwaitsParameter s old is_pointer
-    → from ≡ length old.text.list.items → StandsAt s.bytes old.at (reference_letter is_lvalue ∷ []) → IfSome o (λ next. next ≡ steps.Type)
-    → OnSome o (new.waiting.list.items ≡ old.waiting.list.items ++ reference_entry is_lvalue from ∷ []) → OnSome o (new.at ≡ old.at + 1)
-    → new.text ≡ old.text → new.candidates ≡ old.candidates → new.has_scope ≡ old.has_scope → IfSome o (IsWriting s new)
-reference-comes s old new o is_pointer is_lvalue from a begins stands is waits at text candidates scope_same =
-    by-step o steps.Type (IsWriting s new) is
-    (λ e. go (given _ o steps.Type e waits) (given _ o steps.Type e at))
-  where
-    go : new.waiting.list.items ≡ old.waiting.list.items ++ reference_entry is_lvalue from ∷ [] → new.at ≡ old.at + 1 → IsWriting s new steps.Type
-    go waits at =
-        let p = reference-opens s a.taker.outer a.taker.made_in is_pointer is_lvalue (λ l. plain_function a.first.own (list_with a.ts l)) old.at a.state a.goes stands in
-        let entry = reference_entry is_lvalue from in
-        let turned : reverse new.waiting.list.items ≡ entry ∷ opens.Signature is_pointer ∷ a.taker.rest =
-        ap reverse waits ∙ reverse-last old.waiting.list.items entry ∙ ap (λ ws. entry ∷ ws) a.open_is in
-        let whole = signature-stands s old is_pointer a p.whole p.onward in
-        type-comes s old new a.kept p.around p.inner text candidates scope_same turned p.outside
-        (inl (subst (λ n. Expects s Kind.Type p.around p.inner n a.state) (sym at) p.awaits))
-        (reference-stands s a.scope is_lvalue (opens.Signature is_pointer ∷ a.taker.rest) p.inner old.text.list.items from
-        (p.whole, p.around, begins, p.passes, none-scoped a.scope p.around (opens.Signature is_pointer ∷ a.taker.rest) refl, whole))
-        (reference-scoped a.scope p.around is_lvalue from is_pointer a.taker.rest)
+pub reference-comes : (s : Symbol) (old new : Direct) (is_pointer is_lvalue : Bool) (from : ℕ) → AwaitsParameter s old is_pointer
+    → from ≡ length old.text.list.items → StandsAt s.bytes old.at (reference_letter is_lvalue ∷ [])
+    → OpensEntry old new (reference_entry is_lvalue from) → IsWriting s new steps.Type
+reference-comes s old new is_pointer is_lvalue from a begins stands entered =
+    let p = reference-opens s a.taker.outer a.taker.made_in is_pointer is_lvalue (λ l. plain_function a.first.own (list_with a.ts l)) old.at a.state a.goes stands in
+    let entry = reference_entry is_lvalue from in
+    let turned : reverse new.waiting.list.items ≡ entry ∷ opens.Signature is_pointer ∷ a.taker.rest =
+    ap reverse entered.waiting ∙ reverse-last old.waiting.list.items entry ∙ ap (λ ws. entry ∷ ws) a.open_is in
+    let whole = signature-stands s old is_pointer a p.whole p.onward in
+    type-comes s old new a.kept p.around p.inner entered.text entered.candidates entered.scope turned p.outside
+    (inl (subst (λ n. Expects s Kind.Type p.around p.inner n a.state) (sym entered.at) p.awaits))
+    (reference-stands s a.scope is_lvalue (opens.Signature is_pointer ∷ a.taker.rest) p.inner old.text.list.items from
+    (p.whole, p.around, begins, p.passes, none-scoped a.scope p.around (opens.Signature is_pointer ∷ a.taker.rest) refl, whole))
+    (reference-scoped a.scope p.around is_lvalue from is_pointer a.taker.rest)
 
 -- ## The end
 
@@ -320,20 +308,6 @@ function-handed s old new is_pointer p text candidates scope_same waits at =
       };
       takes = subst TakesFunction (sym waits) p.taker.takes;
     }
-
--- what takes a function type, and isn't parameters or a special object, takes elements
-pub takes-as-element : (o : Open) (rest : List Open) → TakesFunction (o ∷ rest) → ((x : Mark) (y : ℕ) (z : Arguments) → o ≡ opens.Parameters x y z → ⊥)
-    → (o ≡ opens.Special → ⊥) → ((x : Mark) (y t : ℕ) → o ≡ opens.Enclosing x y t → ⊥) → TakesElements o
-takes-as-element (opens.TypeArguments from is_dependent) rest takes apart z m = tt
-takes-as-element (opens.NestArguments nest) rest takes apart z m = tt
-takes-as-element (opens.FirstArguments nest) rest takes apart z m = tt
-takes-as-element (opens.NameArguments from) rest takes apart z m = tt
-takes-as-element (opens.LevelArguments is_dependent) rest takes apart z m = tt
-takes-as-element opens.Pack rest takes apart z m = tt
-takes-as-element (opens.Parameters x y w) rest takes apart z m = absurd (apart x y w refl)
-takes-as-element opens.Special rest takes apart z m = absurd (z refl)
-takes-as-element (opens.Enclosing x y t) rest takes apart z m = absurd (m x y t refl)
-takes-as-element _ rest takes apart z m = absurd takes
 
 -- ## The beginning of an array
 

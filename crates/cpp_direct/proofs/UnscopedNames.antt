@@ -17,11 +17,11 @@ use Rattle.cpp_direct.specs.Names.{IsOperatorAt, is_angle, operator_text, tag_te
 use Rattle.cpp_direct.specs.Prints.{Prints, PrintsName, Shows}
 use Rattle.cpp_direct.specs.WriterInvariant.{IsWriting, encoding_place, nowhere, no_scope, EntityBehind, Kept}
 use Rattle.cpp_direct.specs.MidStep.{AwaitsEncoding, AwaitsSource, HasName, IsNameEnded, IsUnscoped, IsFresh, IsSymbolEnded}
-use Rattle.cpp_direct.specs.Written.{Writes, Reads, added}
+use Rattle.cpp_direct.specs.Written.{Writes, Reads, added, Lists, OpensArguments}
 use Rattle.cpp_direct.proofs.Begins.{encoding-expected, items-await, encoded-whole}
 use Rattle.cpp_direct.proofs.Moves.{alone-arguments, expects-empty, stands-join}
 use Rattle.cpp_direct.proofs.PrintedNests.{tagged-names, tagged-prints}
-use Rattle.cpp_direct.proofs.Kept.{kept-grown, kept-read, kept-same, none-kept, Lists, OpensArguments, list-begins, kept-with}
+use Rattle.cpp_direct.proofs.Kept.{kept-grown, kept-read, kept-same, none-kept, list-begins, kept-with}
 use Rattle.cpp_direct.proofs.NamePlaces.{reads-then, reads-of, reads-begun}
 use Rattle.cpp_direct.proofs.MovesOfEncodings.{name-source, name-internal, name-operator, name-std, operator-piece-comes, symbol-starts, encoding-opens, guard-opens}
 use Rattle.cpp_direct.proofs.MovesOfLists.{arguments-open}

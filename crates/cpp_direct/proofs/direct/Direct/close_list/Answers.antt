@@ -18,8 +18,7 @@ returns-in_ok-add_candidate-in-TypeArguments g c =
     type-closed _ w c.add_candidate.new.self c.in-TypeArguments.from c.in-TypeArguments.is_dependent
     (closed-by _ c.args.self.now c.end_arguments.new.self w c.in_ok-from.field-0 (opens.TypeArguments c.in-TypeArguments.from c.in-TypeArguments.is_dependent)
     c.requires.ended c.in_ok-end_arguments.ensures refl refl refl refl c.in_ok-from.ensures.items c.in-TypeArguments.is)
-    c.in_ok-add_candidate-in-TypeArguments.ensures.candidates c.add_candidate.ensures.text c.add_candidate.ensures.open c.add_candidate.ensures.scope
-    c.add_candidate.ensures.at
+    c.in_ok-add_candidate-in-TypeArguments.ensures
 
 pub returns-in-NestArguments : goal.returns-in-NestArguments
 returns-in-NestArguments g c =
@@ -34,9 +33,7 @@ returns-in_ok-add_candidate-in-FirstArguments g c =
     first-closed _ w c.add_candidate-in-FirstArguments.new.self c.in-FirstArguments.nest
     (closed-by _ c.args.self.now c.end_arguments.new.self w c.in_ok-from.field-0 (opens.FirstArguments c.in-FirstArguments.nest)
     c.requires.ended c.in_ok-end_arguments.ensures refl refl refl refl c.in_ok-from.ensures.items c.in-FirstArguments.is)
-    c.in_ok-add_candidate-in-FirstArguments.ensures.candidates c.add_candidate-in-FirstArguments.ensures.text
-    c.add_candidate-in-FirstArguments.ensures.open c.add_candidate-in-FirstArguments.ensures.scope
-    c.add_candidate-in-FirstArguments.ensures.at
+    c.in_ok-add_candidate-in-FirstArguments.ensures
 
 pub level_ended-requires-clause-awaits : goal.level_ended-requires-clause-awaits
 level_ended-requires-clause-awaits g c =

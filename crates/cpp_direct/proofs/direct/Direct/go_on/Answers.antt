@@ -5,7 +5,5 @@ use Rattle.cpp_direct.proofs.direct.Direct.go_on.Goals as goal
 pub returns : goal.returns
 returns g c =
     let writing = c.requires in
-    let added = c.in_ok-add_unless.ensures in
     component-next _ Kind.NestTail c.args.self.now c.add_unless.new.self writing.kept writing.is_before.0 tt
-    writing.is_before.1
-    (record { candidates = added.candidates; text = added.text; waiting = added.«open»; nest = added.nest; scope = added.scope; at = added.at })
+    writing.is_before.1 c.in_ok-add_unless.ensures

@@ -10,5 +10,5 @@ returns g c =
     ∙ popped c.args.self.now.waiting.list.items c.pop-open.new.self.list.items c.requires.rest c.requires.entry _ refl
     c.requires.open_is
     c.pop-open.ensures.rest)
-    c.in_ok-push_short.ensures.text c.in_ok-push_short.ensures.candidates c.in_ok-push_short.ensures.scope c.in_ok-push_short.ensures.at c.in_ok-add_candidate.ensures.candidates
-    c.add_candidate.ensures.text c.add_candidate.ensures.open c.add_candidate.ensures.scope c.add_candidate.ensures.at
+    c.in_ok-push_short.ensures.text c.in_ok-push_short.ensures.candidates c.in_ok-push_short.ensures.scope c.in_ok-push_short.ensures.at
+    c.in_ok-add_candidate.ensures

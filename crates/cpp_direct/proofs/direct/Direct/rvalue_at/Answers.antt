@@ -1,22 +1,24 @@
-use Rattle.std.proofs.Common.{◌+◌, ◌++◌, ◌∷◌, [], length, ◌∙◌, ap, subst, arith, inl, inr}
+use Rattle.std.proofs.Common.{◌+◌, ◌++◌, ◌∷◌, [], length, false, ◌∙◌, ap, subst, arith, inl, inr}
 use Rattle.cpp_direct.specs.Symbol.{symbol_by}
 use Rattle.cpp_direct.specs.Holes.{IsReferable, StandsAt}
 use Rattle.cpp_direct.specs.MidStep.{parameter_digits}
+use Rattle.cpp_direct.specs.WriterInvariant.{IsWriting}
+use Rattle.cpp_direct.specs.declared.open.Step.TheVariants as steps
+use Rattle.cpp_direct.proofs.Kept.{opened-so}
 use Rattle.cpp_direct.proofs.DependentsRead.{argument-inside, forwarded-done}
-use Rattle.cpp_direct.proofs.TypesRead.{rvalue-opened, there}
+use Rattle.cpp_direct.proofs.TypesRead.{reference-opened, there}
 use Rattle.cpp_direct.proofs.direct.Direct.rvalue_at.Goals as goal
 
 pub returns-then-byte_at-ne84 : goal.returns-then-byte_at-ne84
 returns-then-byte_at-ne84 g c =
-    let called = c.open_type.ensures in
-    rvalue-opened _ c.args.self.now c.open_type.new.self c.open_type.result c.end-from.result
-    c.requires.awaits c.end-from.ensures c.requires.letter called.step called.open called.at called.text called.candidates called.scope
+    opened-so c.open_type.result steps.Type _ (IsWriting _ c.open_type.new.self) c.open_type.ensures
+    (reference-opened _ c.args.self.now c.open_type.new.self false c.end-from.result c.requires.awaits c.end-from.ensures c.requires.letter)
 
 pub returns-then-not-argument : goal.returns-then-not-argument
 returns-then-not-argument g c =
-    let called = c.open_type-then-not-argument.ensures in
-    rvalue-opened _ c.args.self.now c.open_type-then-not-argument.new.self c.open_type-then-not-argument.result c.end-from.result
-    c.requires.awaits c.end-from.ensures c.requires.letter called.step called.open called.at called.text called.candidates called.scope
+    let opened = c.open_type-then-not-argument in
+    opened-so opened.result steps.Type _ (IsWriting _ opened.new.self) opened.ensures
+    (reference-opened _ c.args.self.now opened.new.self false c.end-from.result c.requires.awaits c.end-from.ensures c.requires.letter)
 
 pub repeat-requires : goal.repeat-requires
 repeat-requires g c =
@@ -31,8 +33,6 @@ returns g c =
     let k = c.in_ok-read.read.number in
     let here = c.in_ok-behind.ensures.1 in
     let line = c.in_ok-checked_add.ensures.1 ∙ ap (λ n. n + 1) here in
-    let first = c.add_candidate.ensures in
-    let second = c.add_candidate-2.ensures in
     let refers : IsReferable c.requires.awaits.kind = elim c.requires.awaits.referable [
       | inl may ↦ may
       | inr none ↦ absurd (none.1 c.requires.letter)
@@ -43,5 +43,4 @@ returns g c =
     (subst (λ n. StandsAt s.bytes n (parameter_digits k ++ 95 ∷ [])) line c.in_ok-read.ensures.stands)
     c.in_ok-named.ensures c.in_ok-argument.ensures.is c.in_ok-argument.ensures.known c.if-named-eq0.false c.if-not-argument.false c.end-from.ensures
     c.in_ok-repeat.ensures (c.in_ok-read.ensures.end ∙ ap (λ n. n + length (parameter_digits k ++ 95 ∷ [])) line)
-    (record { more = c.in_ok-add_candidate.ensures.candidates; text = first.text; waits = first.open; scope = first.scope; at = first.at })
-    (record { more = c.in_ok-add_candidate-2.ensures.candidates; text = second.text; waits = second.open; scope = second.scope; at = second.at })
+    c.in_ok-add_candidate.ensures c.in_ok-add_candidate-2.ensures

@@ -1,9 +1,10 @@
-use Rattle.std.proofs.Common.{◌∷◌, [], arith, subst, if◌then◌else◌}
+use Rattle.std.proofs.Common.{◌∷◌, [], true, arith, subst, if◌then◌else◌}
 use Rattle.cpp_direct.specs.Symbol.{symbol_by}
 use Rattle.cpp_direct.specs.WriterInvariant.{IsWriting}
 use Rattle.cpp_direct.specs.declared.open.Step.TheVariants as steps
+use Rattle.cpp_direct.proofs.Kept.{opened-so}
 use Rattle.cpp_direct.proofs.Moves.{stands-join}
-use Rattle.cpp_direct.proofs.TypesRead.{awaits-type, names-awaited, there, lvalue-opened, const-opened}
+use Rattle.cpp_direct.proofs.TypesRead.{awaits-type, names-awaited, there, reference-opened, const-opened}
 use Rattle.cpp_direct.proofs.direct.Direct.type_at.Goals as goal
 
 pub named_type-requires-clause-awaits : goal.named_type-requires-clause-awaits
@@ -18,11 +19,9 @@ builtin-requires-clause-awaits g c = awaits-type _ c.args.self.now c.args.is_pla
 
 pub returns-else-not-is_plain : goal.returns-else-not-is_plain
 returns-else-not-is_plain g c =
-    let called = c.open_type.ensures in
-    lvalue-opened _ c.args.self.now c.open_type.new.self c.open_type.result c.end-from.result
-    (awaits-type _ c.args.self.now c.args.is_plain c.requires.writing) c.end-from.ensures
-    (there c.args.s.now c.args.self.now.at c.byte_at.result 82 c.in-82.is (omega arith) c.byte_at.ensures)
-    called.step called.open called.at called.text called.candidates called.scope
+    opened-so c.open_type.result steps.Type _ (IsWriting _ c.open_type.new.self) c.open_type.ensures
+    (reference-opened _ c.args.self.now c.open_type.new.self true c.end-from.result (awaits-type _ c.args.self.now c.args.is_plain c.requires.writing) c.end-from.ensures
+    (there c.args.s.now c.args.self.now.at c.byte_at.result 82 c.in-82.is (omega arith) c.byte_at.ensures))
 
 pub begin_array-requires-clause-letters : goal.begin_array-requires-clause-letters
 begin_array-requires-clause-letters g c =
@@ -36,12 +35,11 @@ rvalue_at-requires-clause-awaits g c = awaits-type _ c.args.self.now c.args.is_p
 
 pub returns-else-is_plain-3 : goal.returns-else-is_plain-3
 returns-else-is_plain-3 g c =
-    let called = c.open_type-in-75.ensures in
-    const-opened _ c.args.self.now c.open_type-in-75.new.self c.open_type-in-75.result c.end-from.result
+    opened-so c.open_type-in-75.result steps.Plain _ (IsWriting _ c.open_type-in-75.new.self) c.open_type-in-75.ensures
+    (const-opened _ c.args.self.now c.open_type-in-75.new.self c.end-from.result
     (subst (λ p. IsWriting (symbol_by g.G.Grammar.IS_WIDE g.G.Grammar.IS_BARE g.G.Grammar.IS_BRIEF c.args.s.now) c.args.self.now (if p then steps.Plain else steps.Type)) c.if-is_plain-3.false c.requires.writing)
     c.end-from.ensures
-    (there c.args.s.now c.args.self.now.at c.byte_at.result 75 c.in-75.is (omega arith) c.byte_at.ensures)
-    called.step called.open called.at called.text called.candidates called.scope
+    (there c.args.s.now c.args.self.now.at c.byte_at.result 75 c.in-75.is (omega arith) c.byte_at.ensures))
 
 pub template_parameter-requires-clause-awaits : goal.template_parameter-requires-clause-awaits
 template_parameter-requires-clause-awaits g c = awaits-type _ c.args.self.now c.args.is_plain c.requires.writing
