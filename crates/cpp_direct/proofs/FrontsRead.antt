@@ -1,22 +1,22 @@
 -- Functions that have a return type: it is read after the name, and written before it.
 use Rattle.cpp_direct.proofs.PrintedParts.{has-none, has-parameters}
 use Rattle.cpp_direct.proofs.PrintedLocals.{returned-enclosing, returned-shows}
-use Rattle.std.proofs.Common.{◌≡◌, refl, ap, sym, ◌∙◌, subst, ℕ, ◌-◌, List, [], ◌∷◌, ◌++◌, length, take, drop, reverse, Bool, true, false, arith, codes, append_assoc}
+use Rattle.std.proofs.Common.{◌≡◌, refl, ap, sym, ◌∙◌, subst, ℕ, ◌-◌, List, [], ◌∷◌, ◌++◌, length, take, drop, reverse, true, false, arith, codes, append_assoc}
 use Rattle.std.proofs.lemmas.Bool.{false≢true}
 use Rattle.std.proofs.Math.Seq.{take-append_seam}
 use Rattle.cpp_grammar.specs.declared.kind.Kind.{Kind}
-use Rattle.cpp_grammar.specs.Term.{Term, list}
+use Rattle.cpp_grammar.specs.Term.{Term, function, list}
 use Rattle.cpp_grammar.specs.Between.{no_items}
 use Rattle.cpp_grammar.specs.Meaning.{parameters, encoding_of}
 use Rattle.cpp_grammar.specs.Values.{Value}
 use Rattle.cpp_direct.specs.WriterTypes.{Arguments, Direct, Mark, Symbol, detail_of}
 use Rattle.cpp_direct.specs.Marks.{has_const, called_on}
 use Rattle.cpp_direct.specs.declared.open.Open.TheVariants as opens
-use Rattle.cpp_grammar.specs.Parts.{types_of}
+use Rattle.cpp_grammar.specs.Parts.{source_text, types_of}
 use Rattle.cpp_direct.specs.declared.open.Step.TheVariants as steps
 use Rattle.cpp_direct.specs.Bytes.{is_local}
 use Rattle.cpp_direct.specs.Holes.{Expects}
-use Rattle.cpp_direct.specs.Prints.{PrintsIn, Shows, Encloses}
+use Rattle.cpp_direct.specs.Prints.{Shows, Encloses}
 use Rattle.cpp_direct.specs.WriterInvariant.{EncodedBehind, Fronts, IsWriting, IsInstance, Keeps, ParametersGoOn, Scope, qualifiers, plain_encoding, HasInstance, IsOwnName}
 use Rattle.cpp_direct.specs.MidStep.{IsNameScoped, IsFrontRead, AwaitsParameters}
 use Rattle.cpp_direct.specs.Written.{Writes}
@@ -69,22 +69,31 @@ front-same s w new mark start argument p text candidates scope_same at = record 
   goes = subst (λ n. ParametersGoOn s argument p.lead (encoding_of p.v) (p.returned ∷ []) n p.state) (sym at) p.goes;
 }
 
--- a function's return type comes before what it shows without one
-turned : (s : Symbol) (scope : Scope) (argument : Arguments) (mark : Mark) (v : Value) (name text : List ℕ) (is : IsInstance (detail_of s) scope text argument mark v name)
-    (r : Term) (b : List ℕ) (is_reference : Bool) → PrintsIn (detail_of s) (types_of is.own) 3 r b is_reference → (items : Term) (at : ℕ) → s.is_bare ≡ false
-    → is_local s.bytes ≡ false → EncodedBehind s [] (encoding_of v (list r items)) at
-    → EncodedBehind s (b ++ codes " ") (plain_encoding mark is.own items) at
-turned s scope argument mark v name text is r b is_reference prints items at whole_ apart p = record {
-  whole = λ e. let w = p.whole e in record {
-    made = w.made;
-    encoded = w.encoded;
-    shows = λ bytes shows. w.shows (b ++ codes " " ++ bytes)
-        (subst (λ t. Shows (detail_of s) t (b ++ codes " " ++ bytes))
-        (sym (encoding-returned v mark is.own is.named_so is.returns r items))
-        (front-shows (has-parameters s whole_) is.own (qualifiers (has_const mark)) (called_on mark) (parameters items) bytes shows r b is_reference prints));
-  };
-  entity = λ e. absurd (false≢true (sym apart ∙ e));
-}
+-- An encoding that has a return type ends what the one without it does: where no local entity is, after what comes of the type. Before an
+-- entity a function shows no return type.
+returned-behind : (s : Symbol) {scope : Scope} {argument : Arguments} {mark : Mark} {v : Value} {name text : List ℕ} (is : IsInstance (detail_of s) scope text argument mark v name)
+    (r items : Term) (at : ℕ) (lead front : List ℕ) → (is_local s.bytes ≡ true → front ≡ lead)
+    → (is_local s.bytes ≡ false → (bytes : List ℕ) → Shows (detail_of s) (plain_encoding mark is.own items) bytes
+    → (shown : List ℕ) × (lead ++ shown ≡ front ++ bytes) × Shows (detail_of s) (function is.own (qualifiers (has_const mark)) (called_on mark) r (parameters items)) shown)
+    → EncodedBehind s lead (encoding_of v (list r items)) at → EncodedBehind s front (plain_encoding mark is.own items) at
+returned-behind s {mark = mark} {v = v} is r items at lead front hidden shown p =
+    let same = sym (encoding-returned v mark is.own is.named_so is.returns r items) in
+    record {
+      whole = λ e. let w = p.whole e in record {
+        made = w.made;
+        encoded = w.encoded;
+        shows = λ bytes shows. let q = shown e bytes shows in
+            subst (λ l. Shows (detail_of s) w.made l) q.1 (w.shows q.0 (subst (λ t. Shows (detail_of s) t q.0) same q.2));
+      };
+      entity = λ e internal called digit end told. let w = p.entity e internal called digit end told in record {
+        made = w.made;
+        encoded = w.encoded;
+        shows = λ bytes encloses.
+            subst (λ l. Shows (detail_of s) w.made (l ++ (bytes ++ codes "::" ++ source_text called))) (sym (hidden e))
+            (w.shows bytes (subst (λ t. Encloses (detail_of s) t bytes) same
+            (returned-enclosing (detail_of s) is.own (qualifiers (has_const mark)) (called_on mark) r (parameters items) bytes encloses)));
+      };
+    }
 
 -- after the return type parameters are awaited, where this was written since
 front-leads : (s : Symbol) (w last : Direct) (mark : Mark) (start to : ℕ) (argument : Arguments) (p : IsFrontRead s w mark start argument) (front lead : List ℕ)
@@ -144,24 +153,11 @@ front-turned s w here first last mark start argument p whole_ plain text candida
     (name-stays p.front (p.front ++ lead) lead argument is.own p.name refl is.is_own))
     (subst (λ b. Fronts b (p.front ++ lead ++ p.name) start lead p.name) (sym whole_) (p.front, refl, p.start_is))
     (written ∙ ap (λ l. p.front ++ lead ++ l) named) (two.at ∙ one.at ∙ at)
-    (λ items there goes. turned s p.scope argument mark p.v p.name p.front is p.returned p.bytes p.is_reference p.prints items there whole_ plain
-    (subst (λ x. EncodedBehind s x (encoding_of p.v (list p.returned items)) there) none goes))
-
--- before a local entity a function shows no return type
-hidden-return : (s : Symbol) (scope : Scope) (lead : List ℕ) (argument : Arguments) (mark : Mark) (v : Value) (name text : List ℕ)
-    (is : IsInstance (detail_of s) scope text argument mark v name) (r : Term) → is_local s.bytes ≡ true → (items : Term) (at : ℕ) → EncodedBehind s lead (encoding_of v (list r items)) at
-    → EncodedBehind s lead (plain_encoding mark is.own items) at
-hidden-return s scope lead argument mark v name text is r local_ items at p = record {
-  whole = λ e. absurd (false≢true (sym e ∙ local_));
-  entity = λ e internal called digit end told. let w = p.entity e internal called digit end told in record {
-    made = w.made;
-    encoded = w.encoded;
-    shows = λ bytes encloses. w.shows bytes
-        (subst (λ t. Encloses (detail_of s) t bytes)
-        (sym (encoding-returned v mark is.own is.named_so is.returns r items))
-        (returned-enclosing (detail_of s) is.own (qualifiers (has_const mark)) (called_on mark) r (parameters items) bytes encloses));
-  };
-}
+    (λ items there goes. returned-behind s is p.returned items there p.lead lead (λ e. absurd (false≢true (sym plain ∙ e))) (λ e bytes shows. (
+      lead ++ bytes,
+      ap (λ l. l ++ (lead ++ bytes)) none,
+      front-shows (has-parameters s whole_) is.own (qualifiers (has_const mark)) (called_on mark) (parameters items) bytes shows p.returned p.bytes p.is_reference p.prints,
+    )) goes)
 
 -- the return type is read, and after it the name is written once more, with what comes before it
 pub front-hidden : (s : Symbol) (w last : Direct) (mark : Mark) (start begins : ℕ) (argument : Arguments) → IsFrontRead s w mark start argument
@@ -178,30 +174,7 @@ front-hidden s w last mark start begins argument p whole_ local_ begins_is one =
     (name-stays aside last.text.list.items p.front argument is.own p.name written (name-stays p.front aside p.bytes argument is.own p.name refl is.is_own))
     (subst (λ b. Fronts b (aside ++ p.lead ++ p.name) begins p.lead p.name) (sym whole_) (aside, refl, begins_is ∙ ap length p.written))
     (written ∙ ap (λ l. aside ++ l) p.text_is ∙ sym (append_assoc aside p.lead p.name)) one.at
-    (λ items there goes. hidden-return s p.scope p.lead argument mark p.v p.name p.front is p.returned local_ items there goes)
-
--- where functions are shown by their names alone none shows a return type
-bare-return : (s : Symbol) (scope : Scope) (lead : List ℕ) (argument : Arguments) (mark : Mark) (v : Value) (name text : List ℕ)
-    (is : IsInstance (detail_of s) scope text argument mark v name) (r : Term) → s.is_bare ≡ true → (items : Term) (at : ℕ) → EncodedBehind s lead (encoding_of v (list r items)) at
-    → EncodedBehind s lead (plain_encoding mark is.own items) at
-bare-return s scope lead argument mark v name text is r bare items at p =
-    let returns = sym (encoding-returned v mark is.own is.named_so is.returns r items) in
-    record {
-      whole = λ e. let w = p.whole e in record {
-        made = w.made;
-        encoded = w.encoded;
-        shows = λ bytes shows. w.shows bytes
-            (subst (λ t. Shows (detail_of s) t bytes) returns
-            (returned-shows (has-none s bare) is.own (qualifiers (has_const mark)) (called_on mark) r (parameters items) bytes shows));
-      };
-      entity = λ e internal called digit end told. let w = p.entity e internal called digit end told in record {
-        made = w.made;
-        encoded = w.encoded;
-        shows = λ bytes encloses. w.shows bytes
-            (subst (λ t. Encloses (detail_of s) t bytes) returns
-            (returned-enclosing (detail_of s) is.own (qualifiers (has_const mark)) (called_on mark) r (parameters items) bytes encloses));
-      };
-    }
+    (λ items there goes. returned-behind s is p.returned items there p.lead p.lead (λ e. refl) (λ e. absurd (false≢true (sym e ∙ local_))) goes)
 
 -- the return type is read, and the parameters are written after it
 pub front-bare : (s : Symbol) (w last : Direct) (mark : Mark) (start : ℕ) (argument : Arguments) → IsFrontRead s w mark start argument
@@ -214,4 +187,5 @@ front-bare s w last mark start argument p bare text candidates scope_same at =
     (name-stays p.front last.text.list.items p.bytes argument is.own p.name written is.is_own)
     (subst (λ b. Fronts b (p.front ++ p.bytes) start p.lead p.name) (sym bare)
     (p.bytes, ap (λ l. l ++ p.bytes) p.text_is, p.start_is ∙ ap length p.text_is))
-    written at (λ items there goes. bare-return s p.scope p.lead argument mark p.v p.name p.front is p.returned bare items there goes)
+    written at (λ items there goes. returned-behind s is p.returned items there p.lead p.lead (λ e. refl)
+    (λ e bytes shows. (bytes, refl, returned-shows (has-none s bare) is.own (qualifiers (has_const mark)) (called_on mark) p.returned (parameters items) bytes shows)) goes)

@@ -1,9 +1,7 @@
-mod AddressesRead
 pub mod Arguments
 pub mod Begins
 pub mod DependentsRead
 pub mod Elements
-mod EnclosingFunctions
 pub mod Ending
 pub mod FrontsRead
 mod FunctionsWithin

@@ -1,5 +1,5 @@
 use Rattle.std.proofs.Common.{◌∷◌, ◌++◌, [], true, false, ap, refl, sym, ◌∙◌}
-use Rattle.cpp_direct.proofs.AddressesRead.{address-scoped, front-addressed, plain-addressed}
+use Rattle.cpp_direct.proofs.FunctionsWithin.{address-scoped, front-addressed, plain-addressed}
 use Rattle.cpp_direct.proofs.Nesting.{arguments-noted}
 use Rattle.cpp_direct.proofs.direct.Direct.addressed_named.Goals as goal
 

@@ -1,5 +1,5 @@
 use Rattle.std.proofs.Common.{◌+◌, ◌≤◌, ◌∷◌, [], refl, arith, subst}
-use Rattle.cpp_direct.specs.AllHoles.{IsDigitsAt, StandsAt}
+use Rattle.cpp_direct.specs.AllHoles.{IsDigitsAt}
 use Rattle.cpp_direct.proofs.UnscopedNames.{none-told, digit-told, digits-told}
 use Rattle.cpp_direct.proofs.NamePlaces.{reads-begun, some-by}
 use Rattle.cpp_direct.proofs.Moves.{stands-moved}
@@ -26,7 +26,7 @@ returns c =
     let old = c.args.self.now in
     let low : 48 ≤ c.byte_at-digit.result = omega (arith, c.if-digit-lt48.false) in
     digit-told s old _ c.byte_at-digit.result
-    (subst (λ b. StandsAt s old.at (b ∷ [])) c.if-byte_at-ne95.false (c.byte_at.ensures (λ e. omega (arith, e, c.if-byte_at-ne95.false))))
+    (there s old.at c.byte_at.result 95 c.if-byte_at-ne95.false (omega arith) c.byte_at.ensures)
     (stands-moved s _ (old.at + 1) (c.byte_at-digit.result ∷ []) (omega (arith, c.in_ok-self.ensures)) (c.byte_at-digit.ensures (λ e. omega (arith, e, low))))
     low (omega (arith, c.if-digit-gt57.false)) (omega (arith, c.in_ok-self.ensures, c.in_ok-self-3.ensures))
     (reads-begun old _ refl refl refl refl refl refl)

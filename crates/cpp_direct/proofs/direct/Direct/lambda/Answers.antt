@@ -1,5 +1,4 @@
 use Rattle.std.proofs.Common.{◌∷◌, ◌++◌, [], append_assoc, arith, codes, refl, sym, subst, ◌∙◌}
-use Rattle.cpp_direct.specs.Symbol.{symbol_by}
 use Rattle.cpp_direct.specs.HolesOfLocals.{lambda_digits, lambda_number}
 use Rattle.cpp_direct.specs.Written.{Reads}
 use Rattle.cpp_direct.proofs.LambdasRead.{lambda-stands, lambda-told}
@@ -9,15 +8,15 @@ use Rattle.cpp_direct.proofs.direct.Direct.lambda.Goals as goal
 
 pub returns : goal.returns
 returns g c =
-    let s = symbol_by g.G.Grammar.IS_WIDE g.G.Grammar.IS_BARE g.G.Grammar.IS_BRIEF c.args.s.now in
+    let s = c.args.s.now in
     let old = c.args.self.now in
     some-by c.lambda_number.result c.lambda_number.ensures
-    (λ r. lambda-told s old c.lambda_number.new.self r.0 r.1
-    (lambda-stands s.bytes old.at c.in_ok-checked_add.field-0 c.in_ok-checked_add-2.field-0 c.in_ok-checked_add-3.field-0 c.push.new.self.at
+    (λ r. lambda-told _ old c.lambda_number.new.self r.0 r.1
+    (lambda-stands s old.at c.in_ok-checked_add.field-0 c.in_ok-checked_add-2.field-0 c.in_ok-checked_add-3.field-0 c.push.new.self.at
     (lambda_digits r.0 ++ 95 ∷ []) c.requires.letter
-    c.in_ok-checked_add.ensures.1 (there s.bytes c.in_ok-checked_add.field-0 c.byte_at-second.result 108 c.if-second-ne108.false (omega arith) c.byte_at-second.ensures)
-    c.in_ok-checked_add-2.ensures.1 (there s.bytes c.in_ok-checked_add-2.field-0 c.byte_at-third.result 118 c.if-third-ne118.false (omega arith) c.byte_at-third.ensures)
-    c.in_ok-checked_add-3.ensures.1 (there s.bytes c.in_ok-checked_add-3.field-0 c.byte_at-fourth.result 69 c.if-fourth-ne69.false (omega arith) c.byte_at-fourth.ensures)
+    c.in_ok-checked_add.ensures.1 (there s c.in_ok-checked_add.field-0 c.byte_at-second.result 108 c.if-second-ne108.false (omega arith) c.byte_at-second.ensures)
+    c.in_ok-checked_add-2.ensures.1 (there s c.in_ok-checked_add-2.field-0 c.byte_at-third.result 118 c.if-third-ne118.false (omega arith) c.byte_at-third.ensures)
+    c.in_ok-checked_add-3.ensures.1 (there s c.in_ok-checked_add-3.field-0 c.byte_at-fourth.result 69 c.if-fourth-ne69.false (omega arith) c.byte_at-fourth.ensures)
     (c.in_ok-push.ensures.at ∙ c.in_ok-self.ensures.1) r.2)
     (omega (arith, r.3, c.in_ok-push.ensures.at, c.in_ok-self.ensures.1))
     (subst (λ l. Reads old c.lambda_number.new.self l) (sym (append_assoc (codes "{lambda()#") (lambda_number r.0) (codes "}")))
