@@ -3,7 +3,6 @@ pub mod Begins
 pub mod DependentsRead
 pub mod Elements
 pub mod Ending
-pub mod FrontsRead
 mod FunctionsWithin
 pub mod Handed
 pub mod Kept

@@ -1,4 +1,4 @@
-use Rattle.std.proofs.Common.{arith, refl, sym, ◌∙◌}
+use Rattle.std.proofs.Common.{arith, refl, reverse, sym, ◌∙◌}
 use Rattle.cpp_direct.specs.declared.open.Open.TheVariants as opens
 use Rattle.cpp_direct.specs.WriterInvariant.{IsAddressed}
 use Rattle.cpp_direct.specs.Symbol.{symbol_by}
@@ -27,4 +27,4 @@ returns g c =
     let p = c.requires.awaits in
     let entry = opens.Addressed c.args.mark c.args.to c.args.argument in
     first-led (λ scope. IsAddressed s scope c.args.to c.args.argument) c.args.self.now c.push_byte.new.self _ entry p p.leads c.in_ok-push_byte.ensures
-    c.in_ok-push.ensures.items refl refl refl refl (λ os h. h) (λ around h. entry-scoped p.scope around entry c.args.argument _ refl refl p.leads.named h)
+    c.in_ok-push.ensures.items refl refl refl refl (λ os h. h) (λ around h. entry-scoped p.scope around entry c.args.argument (reverse c.args.self.now.waiting.list.items) refl refl p.leads.named h)

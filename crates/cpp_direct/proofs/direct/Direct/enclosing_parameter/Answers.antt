@@ -1,4 +1,5 @@
-use Rattle.std.proofs.Common.{◌++◌, arith, refl, subst, sym, ◌∙◌}
+use Rattle.std.proofs.Common.{◌++◌, ◌∷◌, arith, refl, subst, sym, ◌∙◌}
+use Rattle.cpp_direct.specs.declared.open.Open.TheVariants as opens
 use Rattle.cpp_direct.specs.WriterInvariant.{AreNamed, Scope}
 use Rattle.cpp_direct.proofs.FunctionsWithin.{function-shown, function-unshown, led-inside, next-led}
 use Rattle.cpp_direct.proofs.Kept.{none-named}
@@ -7,7 +8,9 @@ use Rattle.cpp_direct.proofs.direct.Direct.enclosing_parameter.Goals as goal
 
 pub returns-then-byte_at-ne69 : goal.returns-then-byte_at-ne69
 returns-then-byte_at-ne69 g c =
-    next-led c.args.self.now c.push_pair.new.self c.requires.read c.in_ok-push_pair.ensures (λ os h. h) (λ around h. none-scoped _ around _ refl)
+    let p = c.requires.read in
+    next-led c.args.self.now c.push_pair.new.self p c.in_ok-push_pair.ensures (λ os h. h)
+    (λ around h. none-scoped p.scope around (opens.Enclosing c.args.mark c.args.from c.args.to ∷ p.rest) refl)
 
 pub leave_out-requires : goal.leave_out-requires
 leave_out-requires g c = record { within = led-inside c.args.self.now c.args.to c.requires.read c.requires.read.leads.1 }
