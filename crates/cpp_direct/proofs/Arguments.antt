@@ -431,19 +431,20 @@ single-known s w last known p k o =
     subst (λ (l : List Term). IsAmong (detail_of s) w.text.list.items (place_of known k) k (l ++ p.ts)) (p.come_before.none refl) (p.among k o)
 
 -- an argument may be the last one
-pub argument-closes : (s : Symbol) (w : Direct) (last : ℕ) (known : Arguments) → AwaitsKnownArgument s w false last known → StandsAt s.bytes w.at (69 ∷ [])
-    → IsListEnded s (record w { at = w.at + 1 }) known
+pub argument-closes : (s : Symbol) (w : Direct) (n last : ℕ) (known : Arguments) → AwaitsKnownArgument s w false last known → StandsAt s.bytes w.at (69 ∷ [])
+    → n ≡ w.at + 1 → IsListEnded s (record w { at = n }) known
 unfolding known-passes
-argument-closes s w last known p stands =
-    list-ends s w false known (known-passes s w false last known p) stands (no-pack-around s w false last known p (reverse w.waiting.list.items) p.open_is)
-    (λ k o. single-known s w last known p k o.0, λ e. absurd (false≢true (sym p.come_before.no_pack ∙ e)))
+argument-closes s w n last known p stands at_is =
+    subst (λ k. IsListEnded s (record w { at = k }) known) (sym at_is)
+    (list-ends s w false known (known-passes s w false last known p) stands (no-pack-around s w false last known p (reverse w.waiting.list.items) p.open_is)
+    (λ k o. single-known s w last known p k o.0, λ e. absurd (false≢true (sym p.come_before.no_pack ∙ e))))
 
 -- or an empty pack
-pub pack-ends-empty : (s : Symbol) (w : Direct) (last before : ℕ) (known : Arguments) → AwaitsKnownArgument s w false last known → before ≡ last + 1
-    → StandsAt s.bytes w.at (74 ∷ 69 ∷ 69 ∷ []) → IsListEnded s (record w { at = w.at + 3 }) (record known { has_pack = true; before = before; elements = 0 })
+pub pack-ends-empty : (s : Symbol) (w : Direct) (n last before : ℕ) (known : Arguments) → AwaitsKnownArgument s w false last known → before ≡ last + 1
+    → StandsAt s.bytes w.at (74 ∷ 69 ∷ 69 ∷ []) → n ≡ w.at + 3 → IsListEnded s (record w { at = n }) (record known { has_pack = true; before = before; elements = 0 })
 unfolding known-passes
-pack-ends-empty s w last before known p before_is stands =
-    empty-pack-ends s w false now (known-passes s w false last known p) stands (no-pack-around s w false last known p (reverse w.waiting.list.items) p.open_is) (
+pack-ends-empty s w n last before known p before_is stands at_is = subst (λ k. IsListEnded s (record w { at = k }) now) (sym at_is)
+    (empty-pack-ends s w false now (known-passes s w false last known p) stands (no-pack-around s w false last known p (reverse w.waiting.list.items) p.open_is) (
       λ k o. single-known s w last known p k o.0,
       λ o. (
         [],
@@ -456,7 +457,7 @@ pack-ends-empty s w last before known p before_is stands =
               absurd (omega (arith, slice_get_within p.ts (before + k) h.own h.there, count_is));
         },
       ),
-    )
+    ))
   where
     none : Term
     none = pack nil

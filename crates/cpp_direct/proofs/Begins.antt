@@ -50,9 +50,6 @@ whole-behind s lead e at apart p = record { whole = λ f. p; entity = λ is. abs
 no-object : (s : List ℕ) → is_local s ≡ false → is_guard s ≡ false → is_object s ≡ false
 no-object s apart other = rw (apart, other) refl
 
-object-there : (s : List ℕ) → is_local s ≡ false → is_guard s ≡ true → is_object s ≡ true
-object-there s apart guard = rw (apart, guard) refl
-
 -- the encoding of a symbol is expected, and nothing is written yet
 pub encoding-awaited : (s : Symbol) (w : Direct) → w.text.list.items ≡ [] → w.candidates.list.items ≡ [] → StandsAt s.bytes 0 (95 ∷ 90 ∷ []) → w.at ≡ 2
     → is_local s.bytes ≡ false → is_guard s.bytes ≡ false → AwaitsEncoding s w
@@ -198,15 +195,12 @@ special-known : (letter : ℕ) → look_up (letter ∷ []) special_texts ≢ [] 
 unfolding is_special_letter special_texts code_in codes_pass among
 special-known letter there = letter-listed special_texts special_letters letter refl there
 
-no-special : look_up (0 ∷ []) special_texts ≡ []
-unfolding look_up special_texts same_bytes
-no-special = refl
-
 -- a letter that has a text is in the symbol
 pub special-stands : (s : List ℕ) (letter : ℕ) → look_up (letter ∷ []) special_texts ≢ [] → StandsAt s 2 (84 ∷ [])
     → (letter ≢ 0 → StandsAt s 3 (letter ∷ [])) → StandsAt s 2 (84 ∷ letter ∷ [])
+unfolding look_up special_texts same_bytes
 special-stands s letter filled first there =
-    stands-join s 2 (84 ∷ []) (letter ∷ []) first (there (λ e. filled (ap (λ l. look_up (l ∷ []) special_texts) e ∙ no-special)))
+    stands-join s 2 (84 ∷ []) (letter ∷ []) first (there (λ e. filled (ap (λ l. look_up (l ∷ []) special_texts) e)))
 
 -- a special object begins
 pub special-begins : (s : Symbol) (w : Direct) (letter : ℕ) → is_local s.bytes ≡ false → is_guard s.bytes ≡ false
@@ -293,6 +287,6 @@ object-begins s old new fresh apart guard starts marks writes =
               shows = λ bytes p. subst (λ l. Shows (detail_of s) made (l ++ bytes)) (sym text_is)
                   (guarded-shows (detail_of s) (tree_of v) (qualifiers_of v) (ref_of v) bytes (subst (λ e. Shows (detail_of s) e bytes) (encoding-object v) p));
             });
-            items = λ typed. absurd (false≢true (sym typed ∙ object-there s.bytes apart guard));
+            items = λ typed. let guarded : is_object s.bytes ≡ true = rw (apart, guard) refl in absurd (false≢true (sym typed ∙ guarded));
           };
     }

@@ -16,7 +16,7 @@ use Rattle.cpp_direct.proofs.PrintedNames.{as-name, source-prints}
 use Rattle.cpp_direct.proofs.PrintedParts.{has-none, has-parameters}
 use Rattle.cpp_direct.proofs.PrintedSymbols.{encoding-plain, encoding-returned, object-encoded, function-shows, parameters-kept, void-shows, made-void, made-with}
 use Rattle.cpp_direct.proofs.PrintedTypes.{as-in}
-use Rattle.cpp_direct.proofs.Scopes.{has-member, has-plain, arguments-named, entry-scoped, member-named}
+use Rattle.cpp_direct.proofs.Scopes.{has-member, has-plain, arguments-named, entry-scoped}
 use Rattle.cpp_direct.proofs.TypesRead.{popped, builtin-listed, no-builtin}
 use Rattle.cpp_direct.proofs.Unmarked.{name-unmarked}
 use Rattle.cpp_direct.specs.AllHoles.{Comes, Discriminator, Expects, IsDiscriminatorAt, IsNameAt, IsPieceAt, Opened, StandsAt, local_in, mark_letters, nest_marks, with_candidate}
@@ -25,7 +25,7 @@ use Rattle.cpp_direct.specs.MidStep.{AwaitsNamedType, AwaitsNest, IsElementRead}
 use Rattle.cpp_direct.specs.MidStepOfAddresses.{AwaitsAddressedParameters, AwaitsArgumentOfName, IsAddressNamed, IsAddressedFrontRead, IsAddressedParameterRead, IsAddressedRead}
 use Rattle.cpp_direct.specs.MidStepOfLocals.{AwaitsEnclosingParameters, AwaitsTypeName, IsEnclosingNamed, IsEnclosingParameterRead, IsEnclosingRead, IsLedFunctionRead, AwaitsLedParameters, IsLedParameterRead}
 use Rattle.cpp_direct.specs.Prints.{PrintsName, PrintsPiece, Shows, IsElementIn, Encloses, list_of}
-use Rattle.cpp_direct.specs.WriterInvariant.{IsNesting, IsOwn, IsWriting, ItemsGoOn, Serves, TypeWithin, below, in_front_of_next, nowhere, qualifiers, Kept, AddressWithin, AreNamed, HasAddressedFront, HasArguments, IsAddressed, IsNamedSo, IsTypeRead, ItemsOf, Scope, Stands, no_scope, IsLedFunction, HasLed, AwaitsLed, IsEnclosing, IsScoped, HasScope}
+use Rattle.cpp_direct.specs.WriterInvariant.{HasNameSo, IsNesting, IsOwn, IsWriting, ItemsGoOn, Serves, TypeWithin, below, in_front_of_next, nowhere, qualifiers, Kept, AddressWithin, AreNamed, HasAddressedFront, HasArguments, IsAddressed, IsTypeRead, ItemsOf, Scope, Stands, no_scope, IsLedFunction, HasLed, AwaitsLed, IsEnclosing, IsScoped, HasScope}
 use Rattle.cpp_direct.specs.WriterTypes.{Direct, Mark, MarkPlace, Open, Symbol, detail_of, Arguments}
 use Rattle.cpp_direct.specs.Written.{Writes, Reads, added, AreLeft}
 use Rattle.cpp_grammar.specs.Between.{after, in_name, in_types, no_items}
@@ -164,11 +164,11 @@ next-led {s = s} {argument = argument} {Leads = Leads} {Within = Within} w last 
     (subst (λ n. ItemsGoOn s argument (Within p.scope p.rest p.front) p.make p.ts n p.state) (sym one.at) p.goes) stands scoped
 
 -- one is read
-led-read : {s : Symbol} {extra : ℕ} {mark : Mark} {argument : Arguments} {entry : Open} {Leads : LeadsSo} {Within : WithinOpen} {rest : List Open} {os : List Opened} (w : Direct)
+led-read : {s : Symbol} {extra : ℕ} {mark : Mark} {argument : Arguments} {entry : Open} {Leads : LeadsSo} {Within : WithinOpen} {rest : List Open} (w : Direct) (os : List Opened)
     (kept : Kept s w) (t : Term) (front bytes : List ℕ) → reverse w.waiting.list.items ≡ entry ∷ rest → w.text.list.items ≡ front ++ bytes → Comes s os (tree t true) w.at kept.state
     → (waits : AwaitsLed s extra mark argument (Leads kept.scope) (Within kept.scope rest) os front) → IsElementIn (detail_of s) (types_of waits.2.own) extra t bytes
     → IsLedParameterRead s w extra mark argument entry Leads Within
-led-read {s = s} {rest = rest} w kept t front bytes open_is written comes waits element =
+led-read {s = s} {rest = rest} w os kept t front bytes open_is written comes waits element =
     let ts = waits.0 in
     let texts = waits.1 in
     let h = waits.2 in
@@ -446,7 +446,7 @@ pub parameter-read-within : (s : Symbol) (w : Direct) (mark : Mark) (from to : �
     → IsEnclosingParameterRead s w mark from to
 parameter-read-within s w mark from to p =
     let read = p.read in
-    led-read w read.kept read.own read.front read.bytes p.open_is read.written read.comes read.stands
+    led-read w read.os read.kept read.own read.front read.bytes p.open_is read.written read.comes read.stands
     (element-in (types_of read.stands.2.own) 6 read.own read.bytes (read.element 6))
 
 -- a name without items is read
@@ -703,7 +703,7 @@ value-addressed s w is_reference is_dependent mark to argument p found =
     let h = v.stands.2 in
     let types = types_of h.own in (
       argument,
-      led-read w p.kept v.own v.front v.bytes last.1 v.written v.comes v.stands
+      led-read w v.os p.kept v.own v.front v.bytes last.1 v.written v.comes v.stands
           (type-in types 3 v.own v.bytes is_reference (as-in (detail_of s) p.scope.names is_dependent types v.own v.bytes is_reference h.leads.given v.prints)),
     )
 

@@ -34,11 +34,6 @@ noted-within (opens.FirstArguments nest) noted is = ap is_type is.0
 noted-within (opens.LevelArguments is_dependent) noted is = refl
 noted-within _ noted is = absurd is
 
--- the same may be named below it
-noted-naming : (s : Symbol) (scope : Scope) (o noted : Open) (rest : List Open) → IsDependentNow o noted → IsNaming scope (o ∷ rest) → IsNaming scope rest
-noted-naming s scope o noted rest is naming =
-    (subst (λ b. elim b [ true ↦ argument_of rest | false ↦ arguments_in o ] ≡ Some scope.arguments) (noted-within o noted is) naming.0, naming.1)
-
 noted-nest : {detail : Detail} {names : Names} (front name text : List ℕ) (nest : Nest) (t : Term) → nest.purpose ≡ purposes.Type
     → IsNest detail names front name text nest t → IsNest detail names front name text (record nest { is_dependent = true }) t
 noted-nest {detail} {names} front name text nest t type p = record {
@@ -87,9 +82,6 @@ noted-awaits s scope (opens.FirstArguments nest) noted rest os text is p = p
 noted-awaits s scope (opens.LevelArguments is_dependent) noted rest os text is p = p
 noted-awaits s scope _ noted rest os text is p = absurd is
 
-one-written : (text front led before bytes : List ℕ) → text ≡ front ++ bytes → front ≡ led ++ before → text ≡ led ++ (before ++ bytes)
-one-written text front led before bytes written is = written ∙ ap (λ l. l ++ bytes) is ∙ append_assoc led before bytes
-
 -- such a type was read as an argument of what was opened last, which is noted
 pub listed-noted : (s : Symbol) (w new : Direct) (is_reference : Bool) (ws : List Open) (owner noted : Open) → IsWriting s w (steps.Value is_reference true)
     → w.waiting.list.items ≡ ws ++ owner ∷ [] → IsDependentNow owner noted → new.waiting.list.items ≡ ws ++ noted ∷ []
@@ -102,7 +94,9 @@ listed-noted s w new is_reference ws owner noted p waits is now_waits text candi
     let t = v.own in
     let front = v.front in
     let bytes = v.bytes in
-    let naming = noted-naming s scope owner noted rest is (v.naming refl) in
+    let named = v.naming refl in
+    let naming : IsNaming scope rest =
+    (subst (λ b. elim b [ true ↦ argument_of rest | false ↦ arguments_in owner ] ≡ Some scope.arguments) (noted-within owner noted is) named.0, named.1) in
     let waits = noted-awaits s scope owner noted rest v.os front is v.stands in
     let ts = waits.3 in
     let texts = waits.4 in
@@ -130,7 +124,7 @@ listed-noted s w new is_reference ws owner noted p waits is now_waits text candi
         ts ++ t ∷ [],
         in_front_of_next ts texts ++ bytes,
         subst (λ d. PrintAllAs (detail_of s) scope.names d 3 (ts ++ t ∷ []) (in_front_of_next ts texts ++ bytes)) (sym (noted-now owner noted is)) all,
-        one-written new.text.list.items front led (in_front_of_next ts texts) bytes whole waits.7,
+        whole ∙ ap (λ l. l ++ bytes) waits.7 ∙ append_assoc led (in_front_of_next ts texts) bytes,
         λ first. absurd (false≢true first),
         λ further. some-elements ts t,
         subst (λ n. ArgumentsGoOn s noted (below s scope rest) waits.0 waits.1 (ts ++ t ∷ []) n p.state) (sym at) (
