@@ -601,7 +601,16 @@ address-scoped s old new mark is_instance to argument noted p waiting first now 
     record {
       kept = record { state = p.state; scope = scope; keeps = scope-kept s old new p.kept argument p.own names first now text candidates };
       from = old.nest.from;
-      has = subst (λ v. HasNameSo s v.list.items mark old.nest.from) (sym text) p.has;
+      has = record {
+        own = p.own;
+        v = p.v;
+        named_so = p.named_so;
+        lead = p.lead;
+        name = p.name;
+        written = ap (λ k. k.list.items) text ∙ p.written;
+        from_is = p.from_is;
+        prints = p.prints;
+      };
       addressed = record {
         to_is = to_is ∙ ap length p.written;
         given = arguments-given here argument p.own names;
