@@ -1,9 +1,10 @@
 -- Functions within something else, a type that is in one or the address of one: from their names to their ends.
+use Rattle.cpp_direct.proofs.Begins.{nest-awaited}
 use Rattle.cpp_direct.proofs.Ending.{no-void, item-comes, next-written, parameter-goes_on, qualifiers-text, types-scoped, plain-text, void-read}
 use Rattle.cpp_direct.proofs.Kept.{kept-read, kept-same, kept-written, reverse-last, value-added, front-left, kept-closed, kept-cut, value-comes}
 use Rattle.cpp_direct.proofs.Listed.{some-elements, last-found}
-use Rattle.cpp_direct.proofs.Moves.{expects-empty, stands-join, stands-split}
-use Rattle.cpp_direct.proofs.MovesOfEncodings.{encoding-opens, name-nested, name-source}
+use Rattle.cpp_direct.proofs.Moves.{expects-empty, stands-split}
+use Rattle.cpp_direct.proofs.MovesOfEncodings.{encoding-opens, name-source}
 use Rattle.cpp_direct.proofs.MovesOfLists.{element-awaits, address-opens}
 use Rattle.cpp_direct.proofs.MovesOfLocals.{local-type-opens, nowhere-scoped}
 use Rattle.cpp_direct.proofs.MovesOfTypes.{builtin-comes}
@@ -19,7 +20,7 @@ use Rattle.cpp_direct.proofs.PrintedTypes.{as-in}
 use Rattle.cpp_direct.proofs.Scopes.{has-member, has-plain, arguments-named, entry-scoped}
 use Rattle.cpp_direct.proofs.TypesRead.{popped, builtin-listed, no-builtin}
 use Rattle.cpp_direct.proofs.Unmarked.{name-unmarked}
-use Rattle.cpp_direct.specs.AllHoles.{Comes, Discriminator, Expects, IsDiscriminatorAt, IsNameAt, IsPieceAt, Opened, StandsAt, local_in, mark_letters, nest_marks, with_candidate}
+use Rattle.cpp_direct.specs.AllHoles.{Comes, Discriminator, Expects, IsDiscriminatorAt, IsNameAt, IsPieceAt, Opened, StandsAt, local_in, with_candidate}
 use Rattle.cpp_direct.specs.Marks.{IsMarkPlace, has_const, called_on, mark_text}
 use Rattle.cpp_direct.specs.MidStep.{AwaitsNamedType, AwaitsNest, IsElementRead}
 use Rattle.cpp_direct.specs.MidStepOfAddresses.{AwaitsAddressedParameters, AwaitsArgumentOfName, IsAddressNamed, IsAddressedFrontRead, IsAddressedParameterRead, IsAddressedRead}
@@ -336,34 +337,18 @@ enclosing-opens s w a letter =
       a.stands,
     ))
 
--- a nested one is expected, of a member function with these qualifiers
-nest-marked : (s : Symbol) (old : Direct) (n : ℕ) (mark : Mark) → AwaitsNamedType s old → StandsAt s.bytes old.at (90 ∷ [])
-    → StandsAt s.bytes (old.at + 1) (nest_marks (has_const mark) (called_on mark)) → n ≡ old.at + 1 + length (nest_marks (has_const mark) (called_on mark))
-    → AwaitsNest s (record old { at = n }) (purposes.Enclosing mark)
-unfolding in_name tree_of
-nest-marked s old n mark a letter stands at_is =
-    let e = enclosing-opens s old a letter in
-    let nest = name-nested s e.inner (in_name (old.at + 1)) (has_const mark) (called_on mark) (old.at + 1) a.state e.awaits stands in
-    record {
-      kept = kept-same s old (record old { at = n }) refl refl refl a.kept;
-      around = in_name (old.at + 1);
-      outside = refl;
-      outer = nest.inner;
-      awaits = subst (λ k. Expects s Kind.Nest (in_name (old.at + 1)) nest.inner k a.state) (sym at_is) nest.awaits;
-      scoped = λ e. absurd (false≢true e);
-      serves = λ t listed at st comes. let items = e.onward (named t (qualifiers (has_const mark)) (called_on mark)) at st (nest.onward t listed at st comes) in
-          items-scoped nowhere (named t (qualifiers (has_const mark)) (called_on mark)) at st items (nowhere-scoped items.around);
-    }
-
--- after an N, where they are
+-- a nested one is expected, after an N and the qualifiers of a member function
 pub nest-within : (s : Symbol) (old : Direct) (first second : ℕ) (place : MarkPlace) → AwaitsNamedType s old → StandsAt s.bytes old.at (90 ∷ [])
     → first ≡ old.at + 1 → StandsAt s.bytes first (78 ∷ []) → second ≡ first + 1 → IsMarkPlace s.bytes second place
     → AwaitsNest s (record old { at = place.end }) (purposes.Enclosing place.mark)
 nest-within s old first second place a letter next nested then_ is =
-    let letters = mark_letters (has_const place.mark) (called_on place.mark) in
-    nest-marked s old place.end place.mark a letter
-    (stands-join s.bytes (old.at + 1) (78 ∷ []) letters (subst (λ k. StandsAt s.bytes k (78 ∷ [])) next nested)
-    (subst (λ k. StandsAt s.bytes k letters) (then_ ∙ ap (λ k. k + 1) next) is.stands)) (omega (arith, next, then_, is.ends))
+    let e = enclosing-opens s old a letter in
+    nest-awaited s (record old { at = place.end }) (kept-same s old (record old { at = place.end }) refl refl refl a.kept) (purposes.Enclosing place.mark) (old.at + 1)
+    e.inner (old.at + 1) second place refl e.awaits (subst (λ k. StandsAt s.bytes k (78 ∷ [])) next nested) (then_ ∙ ap (λ k. k + 1) next) is refl
+    (λ outer named_ t listed here now comes.
+    let v = named t (qualifiers (has_const place.mark)) (called_on place.mark) in
+    let items = e.onward v here now (named_ t listed here now comes) in
+    items-scoped nowhere v here now items (nowhere-scoped items.around))
 
 -- one by itself is read
 pub source-within : (s : Symbol) (old start new : Direct) (name : List ℕ) (from : ℕ) → AwaitsNamedType s old → StandsAt s.bytes old.at (90 ∷ [])
@@ -515,37 +500,21 @@ pub address-nested : (s : Symbol) (old pushed opened_ : Direct) (encoding second
     → opened_.waiting.list.items ≡ pushed.waiting.list.items ++ opens.Address encoding ∷ [] → opened_.text ≡ pushed.text
     → opened_.candidates ≡ pushed.candidates → opened_.has_scope ≡ pushed.has_scope → opened_.at ≡ place.end → second ≡ encoding + 1
     → IsMarkPlace s.bytes second place → AwaitsNest s opened_ (purposes.Address place.mark)
-unfolding in_name tree_of
 address-nested s old pushed opened_ encoding second place a letters encoding_is one waiting text candidates scope_same at then_ is =
-    let mark = place.mark in
     let places = stands-split s.bytes old.at (codes "XadL_Z") (78 ∷ []) letters in
     let e = address-opens-name s old a places.0 in
-    let quals = mark_letters (has_const mark) (called_on mark) in
-    let marked : StandsAt s.bytes (old.at + 6) (nest_marks (has_const mark) (called_on mark)) =
-    stands-join s.bytes (old.at + 6) (78 ∷ []) quals places.1
-    (subst (λ k. StandsAt s.bytes k quals) (then_ ∙ ap (λ k. k + 1) encoding_is) is.stands) in
-    let nest = name-nested s e.inner (in_name (old.at + 6)) (has_const mark) (called_on mark) (old.at + 6) a.state e.awaits marked in
-    let rest = reverse old.waiting.list.items in
     let grown : opened_.text.list.items ≡ old.text.list.items ++ codes "&" = ap (λ v. v.list.items) text ∙ one.text in
-    let waits : reverse opened_.waiting.list.items ≡ opens.Address (old.at + 6) ∷ rest =
+    let waits : reverse opened_.waiting.list.items ≡ opens.Address (old.at + 6) ∷ reverse old.waiting.list.items =
     ap reverse waiting ∙ reverse-last pushed.waiting.list.items (opens.Address encoding)
     ∙ ap (λ k. opens.Address k ∷ reverse pushed.waiting.list.items) encoding_is ∙ ap (λ v. opens.Address (old.at + 6) ∷ reverse v.list.items) one.waiting in
-    let end : place.end ≡ old.at + 6 + length (nest_marks (has_const mark) (called_on mark)) = omega (arith, is.ends, then_, encoding_is) in
-    let taken : Stands s a.scope (opens.Address (old.at + 6) ∷ rest) e.inner (old.text.list.items ++ codes "&") = λ v here now comes. e.onward v here now comes in
-    record {
-      kept = kept-same s pushed opened_ text candidates scope_same (kept-written s old pushed (codes "&") one a.kept);
-      around = in_name (old.at + 6);
-      outside = refl;
-      outer = nest.inner;
-      awaits = subst (λ k. Expects s Kind.Nest (in_name (old.at + 6)) nest.inner k a.state) (sym (at ∙ end)) nest.awaits;
-      scoped = λ e. absurd (false≢true e);
-      serves = (
-        e.inner,
-        λ t listed here now comes. nest.onward t listed here now comes,
-        subst (λ l. Stands s a.scope (reverse opened_.waiting.list.items) e.inner l) (sym grown)
-            (subst (λ ws. Stands s a.scope ws e.inner (old.text.list.items ++ codes "&")) (sym waits) taken),
-      );
-    }
+    let taken : Stands s a.scope (opens.Address (old.at + 6) ∷ reverse old.waiting.list.items) e.inner (old.text.list.items ++ codes "&") = e.onward in
+    nest-awaited s opened_ (kept-same s pushed opened_ text candidates scope_same (kept-written s old pushed (codes "&") one a.kept)) (purposes.Address place.mark) (old.at + 6)
+    e.inner (old.at + 6) second place refl e.awaits places.1 (then_ ∙ ap (λ k. k + 1) encoding_is) is at (λ outer named_. (
+      e.inner,
+      named_,
+      subst (λ l. Stands s a.scope (reverse opened_.waiting.list.items) e.inner l) (sym grown)
+          (subst (λ ws. Stands s a.scope ws e.inner (old.text.list.items ++ codes "&")) (sym waits) taken),
+    ))
 
 -- its name is read
 pub name-addressed : (s : Symbol) (old : Direct) (kept : Kept s old) (t : Term) (mark : Mark) → IsNesting s kept.scope Kind.NestTail old t kept.state

@@ -124,9 +124,6 @@ std-reads old marked read n bytes w r =
     reads-then old marked read (codes "std::") bytes
     (record { text = w.text; candidates = w.candidates; waiting = w.waiting; nest = w.nest; scope = w.scope; rounds = w.rounds }) r
 
-std-place : (n first second at : ℕ) → first ≡ n + 1 → second ≡ first + 1 → at ≡ second → at ≡ n + 2
-std-place n first second at e f g = omega (arith, e, f, g)
-
 -- a source name in std
 pub std-source-unscoped : (s : Symbol) (old marked read : Direct) (first second : ℕ) (name : List ℕ) → AwaitsEncoding s old
     → StandsAt s.bytes old.at (83 ∷ []) → first ≡ old.at + 1 → StandsAt s.bytes first (116 ∷ []) → second ≡ first + 1
@@ -139,7 +136,7 @@ std-source-unscoped s old marked read first second name p letter next mark then_
     let encoding = encoding-expected s old p in
     let prints = std-prints false name filled (name-unmarked s.bytes marked.at name read.at is) in
     let here = stands-join s.bytes old.at (83 ∷ []) (116 ∷ []) letter (subst (λ n. StandsAt s.bytes n (116 ∷ [])) next mark) in
-    let there = subst (λ n. IsNameAt s.bytes n name read.at) (std-place old.at first second marked.at next then_ w.at) is in
+    let there = subst (λ n. IsNameAt s.bytes n name read.at) (omega (arith, next, then_, w.at)) is in
     unscoped-read s old read true own x p.kept old.at
     (named-has s old p own read.at
     (name-std s encoding.inner (in_name old.at) old.at (source false name) read.at p.state encoding.awaits here
@@ -156,8 +153,7 @@ std-operator-unscoped s old marked read first second a b takes p letter next mar
     let own = in_std (operator a b) in
     let encoding = encoding-expected s old p in
     let here = stands-join s.bytes old.at (83 ∷ []) (116 ∷ []) letter (subst (λ n. StandsAt s.bytes n (116 ∷ [])) next mark) in
-    let place = std-place old.at first second marked.at next then_ w.at in
-    let there = subst (λ n. IsOperatorAt s.bytes n a b read.at) place is in
+    let there = subst (λ n. IsOperatorAt s.bytes n a b read.at) (omega (arith, next, then_, w.at)) is in
     unscoped-read s old read takes own (codes "std::" ++ operator_text a b) p.kept old.at
     (named-has s old p own read.at
     (name-std s encoding.inner (in_name old.at) old.at (operator a b) read.at p.state encoding.awaits here
