@@ -48,14 +48,8 @@ piece-at s before own behind rest at from to le e from_is to_is =
 -- a place that was found is that of a token
 pub place-found : (Is : Token → Type 0) (s : List ℕ) (at : ℕ) (r : Result TokenPlace ℕ) (o : Option TokenPlace) (place : TokenPlace)
     → FindsToken Is s at r → o ≡ result_ok r → o ≡ Some place → HasToken Is (drop at s) at place
-place-found Is s at (Ok p) o place finds ok some = subst (λ x. HasToken Is (drop at s) at x) (same p o place ok some) finds
-  where
-    same : (p : TokenPlace) (o : Option TokenPlace) (place : TokenPlace) → o ≡ Some p → o ≡ Some place → p ≡ place
-    same p o place e f = cc (e, f)
-place-found Is s at (Err bad) o place finds ok some = absurd (apart o place ok some)
-  where
-    apart : (o : Option TokenPlace) (place : TokenPlace) → o ≡ None → o ≡ Some place → ⊥
-    apart o place e f = cc (e, f)
+place-found Is s at (Ok p) o place finds ok some = subst (λ x. HasToken Is (drop at s) at x) (cc (ok, some)) finds
+place-found Is s at (Err bad) o place finds ok some = absurd (cc (ok, some))
 
 -- where a token's own bytes are
 pub own-found : (Is : Token → Type 0) (s : List ℕ) (at : ℕ) (place : TokenPlace) (h : HasToken Is (drop at s) at place) → at ≤ length s

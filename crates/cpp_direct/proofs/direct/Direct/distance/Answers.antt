@@ -19,6 +19,3 @@ returns c =
       c.in_ok-self.ensures.1,
       reads-begun c.args.self.now _ refl refl refl refl refl refl,
     )
-
-pub find_number-requires-clause-fits : goal.find_number-requires-clause-fits
-find_number-requires-clause-fits c = c.requires.fits

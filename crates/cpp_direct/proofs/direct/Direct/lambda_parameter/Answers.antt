@@ -1,5 +1,4 @@
 use Rattle.std.proofs.Common.{◌++◌, reverse, ap, arith, codes, refl, sym, ◌∙◌}
-use Rattle.cpp_direct.specs.declared.open.Open.TheVariants as opens
 use Rattle.cpp_direct.proofs.LambdasRead.{lambda-bracket, lambda-ended, lambda-next}
 use Rattle.cpp_direct.proofs.Ending.{no-void}
 use Rattle.cpp_direct.proofs.TypesRead.{popped, there}
@@ -21,5 +20,5 @@ lambda_ended-requires-clause-read g c =
     (sym c.ends_with.ensures.value ∙ c.if-ends_with.false))
     (there c.args.s.now w.at c.byte_at.result 69 c.if-byte_at-ne69.false (omega arith) c.byte_at.ensures)
     c.in_ok-self.ensures.1 one number.0 number.1 number.2 number.3 number.4 refl refl refl refl
-    (popped c.lambda_number.new.self.waiting.list.items c.pop-open.new.self.list.items p.rest (opens.Lambda c.args.from c.args.nested) _ refl
+    (popped c.lambda_number.new.self.waiting.list.items c.pop-open.new.self.list.items p.rest _ _ refl
     (ap (λ v. reverse v.list.items) (number.4.waiting ∙ one.waiting) ∙ p.open_is) c.pop-open.ensures.rest)

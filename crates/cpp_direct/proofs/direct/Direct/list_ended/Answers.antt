@@ -1,6 +1,5 @@
 use Rattle.std.proofs.Common.{refl, subst, sym}
 use Rattle.cpp_direct.specs.Symbol.{symbol_by}
-use Rattle.cpp_direct.specs.declared.direct.Direct.{Direct}
 use Rattle.cpp_direct.specs.declared.open.Open.TheVariants as opens
 use Rattle.cpp_direct.specs.declared.open.Step.TheVariants as steps
 use Rattle.cpp_direct.specs.WriterInvariant.{IsWriting, nowhere}
@@ -21,7 +20,7 @@ close_list-requires-clause-ended g c =
 pub returns-else-is_first : goal.returns-else-is_first
 returns-else-is_first g c =
     let old = c.args.self.now in
-    let w : Direct = record old { waiting = c.pop-open.new.self; at = c.in_ok-self.field-0 } in
+    let w = record old { waiting = c.pop-open.new.self; at = c.in_ok-self.field-0 } in
     let last = last-found old.waiting.list.items opens.Pack (waits-last _ _ _ _ c.as_slice.ensures c.in_ok-last.ensures.value c.in-Pack.is) in
     pack-ends _ old w (subst (λ f. IsWriting (symbol_by g.G.Grammar.IS_WIDE g.G.Grammar.IS_BARE g.G.Grammar.IS_BRIEF c.args.s.now) old (steps.List f)) c.if-is_first.false c.requires.writing) c.requires.letter
     last.0 last.1 refl refl refl c.in_ok-self.ensures.1
