@@ -127,27 +127,42 @@ led-more s {extra = extra} {ts = ts} {texts = texts} f t bytes element = record 
   elements = next-prints-in (types_of f.own) extra ts texts t bytes f.elements element;
 }
 
+-- a function without a return type awaits its parameters
+pub plain-awaits : {s : Symbol} {extra : ℕ} {mark : Mark} {from : ℕ} {argument : Arguments} {Leads : LeadsSo} {Within : WithinOpen} (w : Direct) (kept : Kept s w)
+    (p : HasNameSo s w.text.list.items mark from) → has_return_type p.own ≡ false → Leads kept.scope p.own p.lead p.name
+    → ItemsGoOn s argument (Within kept.scope (reverse w.waiting.list.items) p.lead) (λ l. encoding_of p.v l) [] w.at kept.state
+    → AwaitsLedParameters s w extra mark argument Leads Within
+plain-awaits {s = s} {extra = extra} {mark = mark} w kept p no_return leads goes = record {
+  kept = kept;
+  has = record {
+    is_led = led-by s extra mark p.own absent (λ l. encoding_of p.v l) p.lead p.name p.prints (encoding-plain p.v mark p.own p.named_so no_return);
+    leads = leads;
+  };
+  written = p.written;
+  goes = goes;
+}
+
 -- a parameter comes next
-led-expected : {s : Symbol} {extra : ℕ} {mark : Mark} {argument : Arguments} {entry : Open} {rest : List Open} {ts : List Term} {texts : List ℕ} (Leads : LeadsSo) (Within : WithinOpen) (w : Direct)
-    (kept : Kept s w) (h : HasLed (detail_of s) extra mark (Leads kept.scope) ts texts) → reverse w.waiting.list.items ≡ entry ∷ rest
+led-expected : {s : Symbol} {extra : ℕ} {mark : Mark} {argument : Arguments} {entry : Open} {rest : List Open} {ts : List Term} {texts : List ℕ} {Leads : Term → List ℕ → List ℕ → Type 0} (Within : WithinOpen) (w : Direct)
+    (kept : Kept s w) (h : HasLed (detail_of s) extra mark Leads ts texts) → reverse w.waiting.list.items ≡ entry ∷ rest
     → w.text.list.items ≡ h.front ++ h.name ++ codes "(" ++ in_front_of_next ts texts
     → ItemsGoOn s argument (Within kept.scope rest h.front) h.make ts w.at kept.state
-    → ((os : List Opened) → AwaitsLed s extra mark argument (Leads kept.scope) (Within kept.scope rest) os w.text.list.items → Stands s kept.scope (entry ∷ rest) os w.text.list.items)
+    → ((os : List Opened) → AwaitsLed s extra mark argument Leads (Within kept.scope rest) os w.text.list.items → Stands s kept.scope (entry ∷ rest) os w.text.list.items)
     → ((around : Around) → HasScope argument around → IsScoped kept.scope around (entry ∷ rest)) → IsWriting s w steps.Type
-led-expected {s = s} {argument = argument} {entry = entry} {rest = rest} {ts = ts} {texts = texts} Leads Within w kept h waits written goes stands scoped =
+led-expected {s = s} {argument = argument} {entry = entry} {rest = rest} {ts = ts} {texts = texts} Within w kept h waits written goes stands scoped =
     item-comes s w w kept argument (Within kept.scope rest h.front) h.make ts w.at goes (entry ∷ rest) refl refl refl refl waits
     (λ os onward. stands os (ts, texts, h, written, onward)) (scoped goes.around goes.scoped)
 
 -- the first one does
-pub first-led : {s : Symbol} {extra : ℕ} {mark : Mark} {argument : Arguments} {Leads : LeadsSo} {Within : WithinOpen} (Now : LeadsSo) (w first last : Direct) (entry : Open)
-    (p : AwaitsLedParameters s w extra mark argument Leads Within) → Now p.scope p.own p.front p.name → Writes w first (codes "(")
+pub first-led : {s : Symbol} {extra : ℕ} {mark : Mark} {argument : Arguments} {Leads : LeadsSo} {Within : WithinOpen} (Now : Term → List ℕ → List ℕ → Type 0) (w first last : Direct) (entry : Open)
+    (p : AwaitsLedParameters s w extra mark argument Leads Within) → Now p.own p.front p.name → Writes w first (codes "(")
     → last.waiting.list.items ≡ first.waiting.list.items ++ entry ∷ [] → last.text ≡ first.text → last.candidates ≡ first.candidates
     → last.has_scope ≡ first.has_scope → last.at ≡ first.at
-    → ((os : List Opened) → AwaitsLed s extra mark argument (Now p.scope) (Within p.scope (reverse w.waiting.list.items)) os last.text.list.items
+    → ((os : List Opened) → AwaitsLed s extra mark argument Now (Within p.scope (reverse w.waiting.list.items)) os last.text.list.items
     → Stands s p.scope (entry ∷ reverse w.waiting.list.items) os last.text.list.items)
     → ((around : Around) → HasScope argument around → IsScoped p.scope around (entry ∷ reverse w.waiting.list.items)) → IsWriting s last steps.Type
 first-led {s = s} {argument = argument} {Within = Within} Now w first last entry p leads one waiting text candidates scope_same at stands scoped =
-    led-expected Now Within last (kept-same s first last text candidates scope_same (kept-written s w first (codes "(") one p.kept))
+    led-expected Within last (kept-same s first last text candidates scope_same (kept-written s w first (codes "(") one p.kept))
     (record { is_led = p.is_led; leads = leads })
     (ap reverse waiting ∙ reverse-last first.waiting.list.items entry ∙ ap (λ v. entry ∷ reverse v.list.items) one.waiting)
     (ap (λ v. v.list.items) text ∙ one.text ∙ ap (λ l. l ++ codes "(") p.written ∙ sym (append-nil (p.front ++ p.name ++ codes "(")))
@@ -158,9 +173,9 @@ pub next-led : {s : Symbol} {extra : ℕ} {mark : Mark} {argument : Arguments} {
     (p : IsLedParameterRead s w extra mark argument entry Leads Within) → Writes w last (codes ", ")
     → ((os : List Opened) → AwaitsLed s extra mark argument (Leads p.scope) (Within p.scope p.rest) os last.text.list.items → Stands s p.scope (entry ∷ p.rest) os last.text.list.items)
     → ((around : Around) → HasScope argument around → IsScoped p.scope around (entry ∷ p.rest)) → IsWriting s last steps.Type
-next-led {s = s} {argument = argument} {Leads = Leads} {Within = Within} w last p one stands scoped =
+next-led {s = s} {argument = argument} {Within = Within} w last p one stands scoped =
     let front = p.front ++ p.name ++ codes "(" in
-    led-expected Leads Within last (kept-written s w last (codes ", ") one p.kept) p.has (ap (λ l. reverse l.list.items) one.waiting ∙ p.open_is)
+    led-expected Within last (kept-written s w last (codes ", ") one p.kept) p.has (ap (λ l. reverse l.list.items) one.waiting ∙ p.open_is)
     (one.text ∙ ap (λ l. l ++ codes ", ") p.written ∙ append_assoc front p.texts (codes ", ") ∙ ap (λ l. front ++ l) (sym (next-written p.ts p.texts p.some)))
     (subst (λ n. ItemsGoOn s argument (Within p.scope p.rest p.front) p.make p.ts n p.state) (sym one.at) p.goes) stands scoped
 
@@ -390,19 +405,7 @@ name-within s old kept t mark is_instance n returns here is_name =
       goes = serves t old.nest.is_listed (old.at + 1) kept.state (nest-comes s old kept.state t n here);
     }
 
--- a function without a return type awaits its parameters
-pub plain-awaits : (s : Symbol) (w : Direct) (mark : Mark) (from : ℕ) → IsEnclosingNamed s w mark false from → AwaitsEnclosingParameters s w mark from
-plain-awaits s w mark from p = record {
-  kept = p.kept;
-  has = record {
-    is_led = led-by s 6 mark p.own absent (λ l. encoding_of p.v l) p.lead p.name p.prints (encoding-plain p.v mark p.own p.named_so p.returns);
-    leads = p.from_is;
-  };
-  written = p.written;
-  goes = p.goes;
-}
-
--- and so does one after its return type, which is a builtin one
+-- after its return type, which is a builtin one, a function awaits its parameters
 pub returned-awaits : (s : Symbol) (w : Direct) (n : ℕ) (mark : Mark) (from letter : ℕ) → IsEnclosingNamed s w mark true from
     → look_up (letter ∷ []) builtin_texts ≢ [] → (letter ≢ 0 → StandsAt s.bytes w.at (letter ∷ [])) → n ≡ w.at + 1
     → AwaitsEnclosingParameters s (record w { at = n }) mark from
@@ -657,19 +660,6 @@ front-cut s w shut new mark to argument p same_text same_candidates same_scope s
           (subst (λ n. ItemsGoOn s argument (AddressWithin s (below s no_scope p.rest) p.lead) (λ l. encoding_of p.v (list r l)) [] n p.state) (sym (at ∙ same_at))
           (returned-first (encoding_of p.v) r w.at p.state p.goes));
     }
-
--- a function without a return type awaits its parameters
-pub plain-addressed : (s : Symbol) (w : Direct) (mark : Mark) (to : ℕ) (argument : Arguments) → IsAddressScoped s w mark false to argument
-    → AwaitsAddressedParameters s w mark to argument
-plain-addressed s w mark to argument p = record {
-  kept = p.kept;
-  has = record {
-    is_led = led-by s 3 mark p.own absent (λ l. encoding_of p.v l) p.lead p.name p.prints (encoding-plain p.v mark p.own p.named_so (p.no_return refl));
-    leads = p.addressed;
-  };
-  written = p.written;
-  goes = p.goes;
-}
 
 -- one is read
 pub value-addressed : (s : Symbol) (w : Direct) (is_reference is_dependent : Bool) (mark : Mark) (to : ℕ) (argument : Arguments)

@@ -22,7 +22,6 @@ pub mod NamePlaces
 pub mod NamedArguments
 pub mod NestComponents
 pub mod Nesting
-pub mod Noted
 pub mod PrintedExpansions
 pub mod PrintedFunctions
 pub mod PrintedLevels

@@ -1,5 +1,5 @@
 use Rattle.std.proofs.Common.{◌∷◌, ◌++◌, [], true, false, ap, refl, sym, ◌∙◌}
-use Rattle.cpp_direct.proofs.FunctionsWithin.{address-scoped, front-addressed, plain-addressed}
+use Rattle.cpp_direct.proofs.FunctionsWithin.{address-scoped, front-addressed, plain-awaits}
 use Rattle.cpp_direct.proofs.Nesting.{arguments-noted}
 use Rattle.cpp_direct.proofs.direct.Direct.addressed_named.Goals as goal
 
@@ -13,7 +13,7 @@ addressed_parameters-requires-clause-awaits g c =
     c.if-self.false refl refl refl refl refl
     (arguments-noted old.nest.is_instance old.text.list.items old.argument noted p.own c.noted.ensures.known c.noted.ensures.none p.names) c.end-to.ensures
     (sym c.if-not-is_function_instance.true ∙ c.is_function_instance.ensures) in
-    plain-addressed _ _ c.args.mark c.end-to.result _ scoped
+    plain-awaits _ scoped.kept scoped.has (scoped.no_return refl) scoped.addressed scoped.goes
 
 pub returns : goal.returns
 returns g c =

@@ -1,7 +1,5 @@
 use Rattle.std.proofs.Common.{arith, refl, reverse, sym, ◌∙◌}
 use Rattle.cpp_direct.specs.declared.open.Open.TheVariants as opens
-use Rattle.cpp_direct.specs.WriterInvariant.{IsAddressed}
-use Rattle.cpp_direct.specs.Symbol.{symbol_by}
 use Rattle.cpp_direct.proofs.FunctionsWithin.{first-led, void-shown, void-unshown}
 use Rattle.cpp_direct.proofs.Scopes.{entry-scoped}
 use Rattle.cpp_direct.proofs.TypesRead.{there}
@@ -23,8 +21,7 @@ addressed_marked-requires g c = record {
 
 pub returns : goal.returns
 returns g c =
-    let s = symbol_by g.G.Grammar.IS_WIDE g.G.Grammar.IS_BARE g.G.Grammar.IS_BRIEF c.args.s.now in
     let p = c.requires.awaits in
     let entry = opens.Addressed c.args.mark c.args.to c.args.argument in
-    first-led (λ scope. IsAddressed s scope c.args.to c.args.argument) c.args.self.now c.push_byte.new.self _ entry p p.leads c.in_ok-push_byte.ensures
+    first-led _ c.args.self.now c.push_byte.new.self _ entry p p.leads c.in_ok-push_byte.ensures
     c.in_ok-push.ensures.items refl refl refl refl (λ os h. h) (λ around h. entry-scoped p.scope around entry c.args.argument (reverse c.args.self.now.waiting.list.items) refl refl p.leads.named h)

@@ -5,4 +5,6 @@ pub enclosing_ended-requires-clause-read : goal.enclosing_ended-requires-clause-
 enclosing_ended-requires-clause-read g c = object-within _ c.args.self.now c.args.mark c.args.from c.requires.named
 
 pub enclosing_parameters-requires-clause-awaits : goal.enclosing_parameters-requires-clause-awaits
-enclosing_parameters-requires-clause-awaits g c = plain-awaits _ c.args.self.now c.args.mark c.args.from c.requires.named
+enclosing_parameters-requires-clause-awaits g c =
+    let p = c.requires.named in
+    plain-awaits c.args.self.now p.kept p.has p.returns p.from_is p.goes
