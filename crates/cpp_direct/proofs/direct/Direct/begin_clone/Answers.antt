@@ -1,5 +1,4 @@
-use Rattle.std.proofs.Common.{◌∷◌, [], arith, refl, sym, subst, ◌∙◌, inl, inr}
-use Rattle.cpp_direct.specs.Written.{Writes}
+use Rattle.std.proofs.Common.{◌∷◌, [], arith, refl, sym, ◌∙◌, inl, inr}
 use Rattle.cpp_direct.proofs.Begins.{clone-begins}
 use Rattle.cpp_direct.proofs.Moves.{stands-join}
 use Rattle.cpp_direct.proofs.TypesRead.{then-there}
@@ -14,4 +13,4 @@ begin_encoding-requires-clause-awaits g c =
     (sym c.IS_WIDE.ensures ∙ c.if-not-IS_WIDE.false) is.0 c.requires.starts
     (stands-join c.args.s.now 2 (71 ∷ 84 ∷ []) (letter ∷ [])
     (then-there c.args.s.now (71 ∷ []) 2 3 c.byte_at.result 84 c.requires.first refl c.if-byte_at-ne84.false (omega arith) c.byte_at.ensures) last)
-    (subst (λ l. Writes c.args.self.now c.push.new.self l) is.1 c.in_ok-push.ensures)
+    (rw is.1 at c.in_ok-push.ensures)

@@ -1,6 +1,5 @@
-use Rattle.std.proofs.Common.{◌++◌, ◌∷◌, arith, refl, subst, sym, ◌∙◌}
+use Rattle.std.proofs.Common.{◌++◌, ◌∷◌, arith, refl, sym, ◌∙◌}
 use Rattle.cpp_direct.specs.declared.open.Open.TheVariants as opens
-use Rattle.cpp_direct.specs.WriterInvariant.{AreNamed, Scope}
 use Rattle.cpp_direct.proofs.FunctionsWithin.{function-shown, function-unshown, led-inside, next-led}
 use Rattle.cpp_direct.proofs.Kept.{none-named}
 use Rattle.cpp_direct.proofs.Scopes.{none-scoped}
@@ -27,5 +26,5 @@ enclosed-requires-clause-read g c =
     let left = c.in_ok-leave_out.ensures in
     function-unshown c.args.self.now (record c.args.self.now { waiting = c.pop-open.new.self }) c.leave_out.new.self c.args.to p c.as_slice.result.now p.leads.0
     c.as_slice.ensures (sym c.ends_with.ensures.value ∙ c.if-ends_with.false) p.leads.1
-    (subst (λ (k : Scope). AreNamed (p.front ++ p.name) k) (sym (p.keeps.unknown c.if-self.false).0) (none-named (p.front ++ p.name)))
+    (rw (p.keeps.unknown c.if-self.false).0 (none-named (p.front ++ p.name)))
     refl refl refl refl c.pop-open.ensures.rest left.text left.candidates left.«open» left.scope left.at (sym c.IS_BARE.ensures ∙ c.if-IS_BARE.true)

@@ -1,5 +1,5 @@
-use Rattle.std.proofs.Common.{◌+◌, ◌++◌, ◌∷◌, [], length, ◌∙◌, ap, subst, arith, inl, inr}
-use Rattle.cpp_direct.specs.Holes.{IsReferable, StandsAt}
+use Rattle.std.proofs.Common.{◌+◌, ◌++◌, ◌∷◌, [], length, ◌∙◌, ap, arith, inl, inr}
+use Rattle.cpp_direct.specs.Holes.{IsReferable}
 use Rattle.cpp_direct.specs.MidStep.{parameter_digits}
 use Rattle.cpp_direct.proofs.DependentsRead.{argument-inside, forwarded-done}
 use Rattle.cpp_direct.proofs.TypesRead.{rvalue-opened, there}
@@ -37,8 +37,8 @@ returns g c =
     ] in
     forwarded-done _ old c.repeat.new.self c.add_candidate.new.self c.add_candidate-2.new.self c.in_ok-named.named k c.in_ok-argument.argument c.in_ok-read.read.end c.end-from.result
     c.requires.awaits c.in_ok-read.ensures.few refers c.requires.letter
-    (subst (λ n. StandsAt c.args.s.now n (84 ∷ [])) here (there c.args.s.now c.in_ok-behind.behind c.byte_at.result 84 c.if-byte_at-ne84.false (omega arith) c.byte_at.ensures))
-    (subst (λ n. StandsAt c.args.s.now n (parameter_digits k ++ 95 ∷ [])) line c.in_ok-read.ensures.stands)
+    (rw here at (there c.args.s.now c.in_ok-behind.behind c.byte_at.result 84 c.if-byte_at-ne84.false (omega arith) c.byte_at.ensures))
+    (rw line at c.in_ok-read.ensures.stands)
     c.in_ok-named.ensures c.in_ok-argument.ensures.is c.in_ok-argument.ensures.known c.if-named-eq0.false c.if-not-argument.false c.end-from.ensures
     c.in_ok-repeat.ensures (c.in_ok-read.ensures.end ∙ ap (λ n. n + length (parameter_digits k ++ 95 ∷ [])) line)
     (record { more = c.in_ok-add_candidate.ensures.candidates; text = first.text; waits = first.open; scope = first.scope; at = first.at })
