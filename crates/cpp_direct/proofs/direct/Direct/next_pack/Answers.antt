@@ -1,5 +1,4 @@
-use Rattle.std.proofs.Common.{false, arith, ◌∷◌, ◌++◌, [], ◌∙◌, ap, refl}
-use Rattle.cpp_direct.specs.declared.open.Open.TheVariants as opens
+use Rattle.std.proofs.Common.{◌∷◌, [], arith, false, refl}
 use Rattle.cpp_direct.proofs.Arguments.{known-passes, pack-after}
 use Rattle.cpp_direct.proofs.TypesRead.{then-there}
 use Rattle.cpp_direct.proofs.direct.Direct.next_pack.Goals as goal
@@ -9,8 +8,7 @@ returns g c =
     let number = c.in_ok-number.number in
     pack-after _ c.args.self.now c.push_pair.new.self _ c.args.last c.end-from.result number c.args.known c.requires.awaits c.requires.letter
     c.in_ok-push_pair.ensures c.end-from.ensures c.in_ok-number.ensures.1
-    (c.in_ok-push-2.ensures.items ∙ ap (λ l. l ++ opens.Element c.end-from.result number (record c.args.known { before = number }) ∷ []) c.in_ok-push.ensures.items)
-    refl refl refl c.in_ok-behind.ensures.1
+    (rw c.in_ok-push.ensures.items at c.in_ok-push-2.ensures.items) refl refl refl c.in_ok-behind.ensures.1
 
 pub returns-then-byte-eq76 : goal.returns-then-byte-eq76
 returns-then-byte-eq76 g c =

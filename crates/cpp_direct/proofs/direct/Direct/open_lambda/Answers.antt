@@ -1,5 +1,4 @@
-use Rattle.std.proofs.Common.{◌∷◌, ◌++◌, [], ap, arith, ◌∙◌}
-use Rattle.cpp_direct.specs.declared.open.Open.TheVariants as opens
+use Rattle.std.proofs.Common.{◌∷◌, [], arith}
 use Rattle.cpp_direct.proofs.NamePlaces.{some-by}
 use Rattle.cpp_direct.proofs.TypesRead.{then-there}
 use Rattle.cpp_direct.proofs.direct.Direct.open_lambda.Goals as goal
@@ -17,5 +16,5 @@ returns c =
       candidates = one.candidates;
       scope = one.scope;
       at = omega (arith, one.at, c.in_ok-self-2.ensures.1, c.in_ok-self.ensures.1);
-      waiting = items ∙ ap (λ v. v.list.items ++ opens.Lambda c.args.from c.args.nested ∷ []) one.waiting;
+      waiting = rw one.waiting at items;
     })

@@ -1,6 +1,5 @@
-use Rattle.std.proofs.Common.{◌+◌, ◌++◌, ◌∷◌, [], length, ◌∙◌, ap, arith, inl, inr}
+use Rattle.std.proofs.Common.{◌+◌, ◌∙◌, ap, arith, inl, inr}
 use Rattle.cpp_direct.specs.Holes.{IsReferable}
-use Rattle.cpp_direct.specs.MidStep.{parameter_digits}
 use Rattle.cpp_direct.proofs.DependentsRead.{argument-inside, forwarded-done}
 use Rattle.cpp_direct.proofs.TypesRead.{rvalue-opened, there}
 use Rattle.cpp_direct.proofs.direct.Direct.rvalue_at.Goals as goal
@@ -40,6 +39,6 @@ returns g c =
     (rw here at (there c.args.s.now c.in_ok-behind.behind c.byte_at.result 84 c.if-byte_at-ne84.false (omega arith) c.byte_at.ensures))
     (rw line at c.in_ok-read.ensures.stands)
     c.in_ok-named.ensures c.in_ok-argument.ensures.is c.in_ok-argument.ensures.known c.if-named-eq0.false c.if-not-argument.false c.end-from.ensures
-    c.in_ok-repeat.ensures (c.in_ok-read.ensures.end ∙ ap (λ n. n + length (parameter_digits k ++ 95 ∷ [])) line)
+    c.in_ok-repeat.ensures (rw line at c.in_ok-read.ensures.end)
     (record { more = c.in_ok-add_candidate.ensures.candidates; text = first.text; waits = first.open; scope = first.scope; at = first.at })
     (record { more = c.in_ok-add_candidate-2.ensures.candidates; text = second.text; waits = second.open; scope = second.scope; at = second.at })
