@@ -1,7 +1,7 @@
 use Rattle.std.proofs.Common.{refl}
 use Rattle.cpp_direct.specs.declared.open.Open.TheVariants as opens
 use Rattle.cpp_direct.proofs.Signatures.{passed-on}
-use Rattle.cpp_direct.proofs.EnclosingFunctions.{parameter-read-within}
+use Rattle.cpp_direct.proofs.FunctionsWithin.{parameter-read-within}
 use Rattle.cpp_direct.proofs.Handed.{argument-read, parameter-read, special-read}
 use Rattle.cpp_direct.proofs.Listed.{waits-last}
 use Rattle.cpp_direct.proofs.direct.Direct.pass_element.Goals as goal

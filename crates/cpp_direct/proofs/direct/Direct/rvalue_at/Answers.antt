@@ -1,7 +1,5 @@
-use Rattle.std.proofs.Common.{◌+◌, ◌++◌, ◌∷◌, [], length, false, ◌∙◌, ap, subst, arith, inl, inr}
-use Rattle.cpp_direct.specs.Symbol.{symbol_by}
-use Rattle.cpp_direct.specs.Holes.{IsReferable, StandsAt}
-use Rattle.cpp_direct.specs.MidStep.{parameter_digits}
+use Rattle.std.proofs.Common.{◌+◌, false, ◌∙◌, ap, arith, inl, inr}
+use Rattle.cpp_direct.specs.Holes.{IsReferable}
 use Rattle.cpp_direct.specs.WriterInvariant.{IsWriting}
 use Rattle.cpp_direct.specs.declared.open.Step.TheVariants as steps
 use Rattle.cpp_direct.proofs.Kept.{opened-so}
@@ -28,7 +26,6 @@ repeat-requires g c =
 
 pub returns : goal.returns
 returns g c =
-    let s = symbol_by g.G.Grammar.IS_WIDE g.G.Grammar.IS_BARE g.G.Grammar.IS_BRIEF c.args.s.now in
     let old = c.args.self.now in
     let k = c.in_ok-read.read.number in
     let here = c.in_ok-behind.ensures.1 in
@@ -37,10 +34,10 @@ returns g c =
       | inl may ↦ may
       | inr none ↦ absurd (none.1 c.requires.letter)
     ] in
-    forwarded-done s old c.repeat.new.self c.add_candidate.new.self c.add_candidate-2.new.self c.in_ok-named.named k c.in_ok-argument.argument c.in_ok-read.read.end c.end-from.result
+    forwarded-done _ old c.repeat.new.self c.add_candidate.new.self c.add_candidate-2.new.self c.in_ok-named.named k c.in_ok-argument.argument c.in_ok-read.read.end c.end-from.result
     c.requires.awaits c.in_ok-read.ensures.few refers c.requires.letter
-    (subst (λ n. StandsAt s.bytes n (84 ∷ [])) here (there s.bytes c.in_ok-behind.behind c.byte_at.result 84 c.if-byte_at-ne84.false (omega arith) c.byte_at.ensures))
-    (subst (λ n. StandsAt s.bytes n (parameter_digits k ++ 95 ∷ [])) line c.in_ok-read.ensures.stands)
+    (rw here at (there c.args.s.now c.in_ok-behind.behind c.byte_at.result 84 c.if-byte_at-ne84.false (omega arith) c.byte_at.ensures))
+    (rw line at c.in_ok-read.ensures.stands)
     c.in_ok-named.ensures c.in_ok-argument.ensures.is c.in_ok-argument.ensures.known c.if-named-eq0.false c.if-not-argument.false c.end-from.ensures
-    c.in_ok-repeat.ensures (c.in_ok-read.ensures.end ∙ ap (λ n. n + length (parameter_digits k ++ 95 ∷ [])) line)
+    c.in_ok-repeat.ensures (rw line at c.in_ok-read.ensures.end)
     c.in_ok-add_candidate.ensures c.in_ok-add_candidate-2.ensures
