@@ -1,5 +1,6 @@
 use Rattle.std.proofs.Common.{true, refl}
 use Rattle.cpp_direct.specs.declared.open.Step.TheVariants as steps
+use Rattle.cpp_direct.specs.WriterInvariant.{IsWriting}
 use Rattle.cpp_direct.proofs.Listed.{waits-last, pack-begins}
 use Rattle.cpp_direct.proofs.Kept.{opened-so}
 use Rattle.cpp_direct.proofs.direct.Direct.begin_pack.Goals as goal
