@@ -26,7 +26,7 @@ use Rattle.cpp_direct.specs.MidStep.{AwaitsNamedType, AwaitsNest, IsElementRead}
 use Rattle.cpp_direct.specs.MidStepOfAddresses.{AwaitsAddressedParameters, AwaitsArgumentOfName, IsAddressNamed, IsAddressedFrontRead, IsAddressedParameterRead, IsAddressedRead}
 use Rattle.cpp_direct.specs.MidStepOfLocals.{AwaitsEnclosingParameters, AwaitsTypeName, IsEnclosingNamed, IsEnclosingParameterRead, IsEnclosingRead, IsLedFunctionRead, AwaitsLedParameters, IsLedParameterRead}
 use Rattle.cpp_direct.specs.Prints.{PrintsName, PrintsPiece, Shows, IsElementIn, Encloses, list_of}
-use Rattle.cpp_direct.specs.WriterInvariant.{HasNameSo, IsNesting, IsOwn, IsWriting, ItemsGoOn, Serves, TypeWithin, below, in_front_of_next, nowhere, qualifiers, Kept, AddressWithin, AreNamed, HasAddressedFront, HasArguments, IsAddressed, IsTypeRead, ItemsOf, Scope, Stands, no_scope, IsLedFunction, HasLed, AwaitsLed, IsEnclosing, IsScoped, HasScope}
+use Rattle.cpp_direct.specs.WriterInvariant.{HasNameSo, IsNesting, IsOwn, IsWriting, ItemsGoOn, Serves, TypeWithin, below, in_front_of_next, nowhere, qualifiers, Kept, AddressWithin, AreNamed, HasAddressedFront, HasArguments, IsAddressed, IsTypeRead, ItemsOf, Scope, Stands, no_scope, IsLedFunction, HasLed, AwaitsLed, IsScoped, HasScope}
 use Rattle.cpp_direct.specs.WriterTypes.{Direct, Mark, MarkPlace, Open, Symbol, detail_of, Arguments}
 use Rattle.cpp_direct.specs.Written.{Writes, Reads, added, AreLeft}
 use Rattle.cpp_grammar.specs.Between.{after, in_name, in_types, no_items}
