@@ -5,7 +5,7 @@ use Rattle.cpp_grammar.specs.Grammar.{among}
 use Rattle.cpp_grammar.specs.Term.{Term, builtin, nil, list, pointer, array, lvalue}
 use Rattle.cpp_grammar.specs.Values.{Around, State, tree, outermost}
 use Rattle.cpp_grammar.specs.declared.kind.Kind.{Kind}
-use Rattle.cpp_direct.specs.WriterTypes.{Access, Candidate, Direct, Open, Symbol, detail_of}
+use Rattle.cpp_direct.specs.WriterTypes.{Access, Candidate, Direct, Open, Symbol, detail_of, Arguments, Mark}
 use Rattle.cpp_direct.specs.Bytes.{is_builtin}
 use Rattle.cpp_direct.specs.AllHoles.{Comes, Expects, FunctionOpened, IsQualifiable, IsReferable, IsSizeAt, NoReference, Opened, SignatureGoesOn, StandsAt, access_letters, accessed, array_opening, candidate, is_marked, plain_function, pointed, reference, reference_letter, with_accessed, with_candidate, with_pointed}
 use Rattle.cpp_direct.specs.Prints.{PrintAll, IsElement, IsUnmarked}
@@ -15,7 +15,7 @@ use Rattle.cpp_direct.specs.Written.{Writes, hidden, hidden_behind, with_hidden,
 use Rattle.cpp_direct.proofs.Ending.{no-void}
 use Rattle.cpp_direct.proofs.Handed.{first-type, value-element}
 use Rattle.cpp_direct.proofs.Kept.{kept-grown, kept-same, kept-written, candidates-more, reverse-last, type-comes, kept-as}
-use Rattle.cpp_direct.proofs.Listed.{last-found, comma, in-front}
+use Rattle.cpp_direct.proofs.Listed.{TakesElements, last-found, comma, in-front}
 use Rattle.cpp_direct.proofs.Moves.{stands-split}
 use Rattle.cpp_direct.proofs.MovesOfTypes.{parameter-opens, reference-opens, signature-ends, builtin-comes, function-opens, pointed-function-opens, array-opens}
 use Rattle.cpp_direct.proofs.PrintedFunctions.{function-element, void-function-element, array-element}
@@ -291,6 +291,20 @@ function-handed s old new is_pointer p text candidates scope_same waits at =
       };
       takes = subst TakesFunction (sym waits) p.taker.takes;
     }
+
+-- what takes a function type, and isn't parameters or a special object, takes elements
+pub takes-as-element : (o : Open) (rest : List Open) → TakesFunction (o ∷ rest) → ((x : Mark) (y : ℕ) (z : Arguments) → o ≡ opens.Parameters x y z → ⊥)
+    → (o ≡ opens.Special → ⊥) → ((x : Mark) (y t : ℕ) → o ≡ opens.Enclosing x y t → ⊥) → TakesElements o
+takes-as-element (opens.TypeArguments from is_dependent) rest takes apart z m = tt
+takes-as-element (opens.NestArguments nest) rest takes apart z m = tt
+takes-as-element (opens.FirstArguments nest) rest takes apart z m = tt
+takes-as-element (opens.NameArguments from) rest takes apart z m = tt
+takes-as-element (opens.LevelArguments is_dependent) rest takes apart z m = tt
+takes-as-element opens.Pack rest takes apart z m = tt
+takes-as-element (opens.Parameters x y w) rest takes apart z m = absurd (apart x y w refl)
+takes-as-element opens.Special rest takes apart z m = absurd (z refl)
+takes-as-element (opens.Enclosing x y t) rest takes apart z m = absurd (m x y t refl)
+takes-as-element _ rest takes apart z m = absurd takes
 
 -- ## The beginning of an array
 
