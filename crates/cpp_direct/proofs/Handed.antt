@@ -1,16 +1,16 @@
 -- A type was read, and is handed to what waits for it.
-use Rattle.std.proofs.Common.{◌≡◌, ℕ, ◌-◌, length, List, [], ◌∷◌, ◌++◌, reverse, slice_get, Bool, true, false, Some, refl, ap, sym, ◌∙◌, subst, codes, append_assoc, ◌+◌}
+use Rattle.std.proofs.Common.{◌≡◌, ℕ, ◌-◌, length, List, [], ◌∷◌, ◌++◌, reverse, slice_get, Bool, true, false, Option, Some, refl, ap, sym, ◌∙◌, subst, codes, append_assoc, ◌+◌}
 use Rattle.std.proofs.lemmas.Bool.{false≢true}
 use Rattle.cpp_grammar.specs.Term.{Term, special, instance}
 use Rattle.cpp_grammar.specs.Parts.{types_of}
 use Rattle.cpp_grammar.specs.Values.{tree, State}
-use Rattle.cpp_direct.specs.WriterTypes.{Arguments, Direct, Mark, Open, Symbol, detail_of, Nest}
+use Rattle.cpp_direct.specs.WriterTypes.{Access, Arguments, Direct, Mark, Open, Purpose, Symbol, detail_of, Nest}
 use Rattle.cpp_direct.specs.Holes.{Opened, Comes}
 use Rattle.cpp_direct.specs.Prints.{Names, PrintsAs, IsElementIn, Shows, PrintAllAs, opening_bracket}
-use Rattle.cpp_direct.specs.WriterInvariant.{FirstType, IsNaming, IsTemplate, IsWriting, Marks, AwaitsEnumerator, Belongs, Listing, Scope, of_template, of_pack, Stands, below, opening_text, extra_of, led_by, in_front_of_next, argument_of, Kept, IsTypeRead, TakesElements, arguments_in, IsOwn, is_noted, is_type, is_within_type, IsNest, Owns, ArgumentsGoOn, AwaitsElementOf, list_with}
-use Rattle.cpp_direct.specs.MidStep.{AwaitsMark, AwaitsNumber, AwaitsSignature, IsElementRead, IsFrontRead, AreParametersRead, IsReturned, IsSymbolEnded, IsDependentNow}
+use Rattle.cpp_direct.specs.WriterInvariant.{FirstType, IsNaming, IsTemplate, IsWriting, Marks, AwaitsEnumerator, Belongs, Listing, Scope, of_template, of_pack, Stands, below, opening_text, extra_of, led_by, in_front_of_next, argument_of, Kept, IsTypeRead, arguments_in, IsOwn, is_noted, is_type, is_within_type, IsNest, Owns, ArgumentsGoOn, AwaitsElementOf, list_with}
+use Rattle.cpp_direct.specs.MidStep.{AwaitsMark, AwaitsNumber, AwaitsSignature, IsElementRead, IsFrontRead, AreParametersRead, IsPassedClosed, IsReturned, IsSymbolEnded, IsDependentNow}
 use Rattle.cpp_direct.proofs.Elements.{element-added}
-use Rattle.cpp_direct.proofs.Listed.{last-found, list-waits, some-elements}
+use Rattle.cpp_direct.proofs.Listed.{TakesElements, last-found, list-waits, some-elements}
 use Rattle.cpp_direct.proofs.PrintedLists.{element-in, next-prints, next-prints-in, type-element, type-in, all-given, next-prints-as, type-element-as}
 use Rattle.cpp_direct.proofs.PrintedTypes.{as-in, prints-as-given}
 use Rattle.cpp_direct.proofs.PrintedSymbols.{special-shows}
@@ -180,6 +180,44 @@ value-enumerator s w is_reference p found =
     go (opens.Pack ∷ []) is waits = absurd waits
     go (opens.Pack ∷ owner ∷ rest) is waits = number (of_pack waits.0 waits.1) (opens.Pack ∷ owner ∷ rest) owner rest is (refl, waits.2) waits.3
     go (owner ∷ rest) is waits = number of_template (owner ∷ rest) owner rest is refl waits
+
+-- what waits for no type that names an argument of the function's template
+pub passed-closed : (o : Open) → ((x : ℕ) → o ≡ opens.Pointer x → ⊥) → ((x : ℕ) → o ≡ opens.Lvalue x → ⊥) → ((x : ℕ) → o ≡ opens.Rvalue x → ⊥)
+    → ((x : ℕ) → o ≡ opens.Const x → ⊥) → ((x : Mark) (y : ℕ) (z : Arguments) → o ≡ opens.Parameters x y z → ⊥)
+    → ((x : Mark) (y : ℕ) (z : Arguments) → o ≡ opens.Front x y z → ⊥) → IsPassedClosed o
+passed-closed (opens.Pointer x) p l r c f k = absurd (p x refl)
+passed-closed (opens.Lvalue x) p l r c f k = absurd (l x refl)
+passed-closed (opens.Rvalue x) p l r c f k = absurd (r x refl)
+passed-closed (opens.Const x) p l r c f k = absurd (c x refl)
+passed-closed (opens.Parameters x y z) p l r c f k = absurd (f x y z refl)
+passed-closed (opens.Front x y z) p l r c f k = absurd (k x y z refl)
+passed-closed _ p l r c f k = tt
+
+-- what is none of those that wait for something else
+pub takes-elements : (o : Open) → IsPassedClosed o → ((x : Bool) → o ≡ opens.Returned x → ⊥) → ((x : Bool) → o ≡ opens.Signature x → ⊥)
+    → (o ≡ opens.Special → ⊥) → (o ≡ opens.Enumerator → ⊥) → ((x : Mark) (y z : ℕ) → o ≡ opens.Enclosing x y z → ⊥)
+    → ((x y : ℕ) (z : Arguments) → o ≡ opens.Argument x y z → ⊥) → ((x : ℕ) (y : Option Purpose) → o ≡ opens.Lambda x y → ⊥) → ((x y : ℕ) (z : Arguments) → o ≡ opens.Element x y z → ⊥)
+    → ((x : Access) (y z : ℕ) → o ≡ opens.Array x y z → ⊥) → ((x : ℕ) → o ≡ opens.Address x → ⊥)
+    → ((x : Mark) (y : ℕ) (z : Arguments) → o ≡ opens.AddressedFront x y z → ⊥) → ((x : Mark) (y : ℕ) (z : Arguments) → o ≡ opens.Addressed x y z → ⊥) → TakesElements o
+takes-elements (opens.Pointer x) w u g z n m a q e j d f b = absurd w
+takes-elements (opens.Lvalue x) w u g z n m a q e j d f b = absurd w
+takes-elements (opens.Rvalue x) w u g z n m a q e j d f b = absurd w
+takes-elements (opens.Const x) w u g z n m a q e j d f b = absurd w
+takes-elements (opens.Parameters x y v) w u g z n m a q e j d f b = absurd w
+takes-elements (opens.Front x y v) w u g z n m a q e j d f b = absurd w
+takes-elements (opens.Argument x y v) w u g z n m a q e j d f b = absurd (a x y v refl)
+takes-elements (opens.Returned x) w u g z n m a q e j d f b = absurd (u x refl)
+takes-elements (opens.Signature x) w u g z n m a q e j d f b = absurd (g x refl)
+takes-elements (opens.Enclosing x y v) w u g z n m a q e j d f b = absurd (m x y v refl)
+takes-elements (opens.Lambda x y) w u g z n m a q e j d f b = absurd (q x y refl)
+takes-elements (opens.Array x y v) w u g z n m a q e j d f b = absurd (j x y v refl)
+takes-elements (opens.Element x y v) w u g z n m a q e j d f b = absurd (e x y v refl)
+takes-elements (opens.Address x) w u g z n m a q e j d f b = absurd (d x refl)
+takes-elements (opens.AddressedFront x y v) w u g z n m a q e j d f b = absurd (f x y v refl)
+takes-elements (opens.Addressed x y v) w u g z n m a q e j d f b = absurd (b x y v refl)
+takes-elements opens.Special w u g z n m a q e j d f b = absurd (z refl)
+takes-elements opens.Enumerator w u g z n m a q e j d f b = absurd (n refl)
+takes-elements _ w u g z n m a q e j d f b = tt
 
 -- an element was read
 pub argument-read : (s : Symbol) (w : Direct) (o : Open) → IsElementRead s w o → TakesElements o → IsWriting s w (steps.List false)

@@ -2,7 +2,7 @@
 use Rattle.sym_print.specs.declared.detail.Detail.{Detail}
 use Rattle.std.proofs.Common.{◌≡◌, ℕ, zero, suc, ◌+◌, ◌-◌, ◌≤◌, length, List, [], ◌∷◌, ◌++◌, take, drop, reverse, slice_get, Bool, true, false, Option, Some, None, refl, ap, sym, ◌∙◌, subst, arith, append_assoc, append-nil, ◌<◌, inl, inr, get_or, length-append}
 use Rattle.std.specs.Option.{IfSome}
-use Rattle.std.proofs.lemmas.List.{reverse-append, reverse-reverse}
+use Rattle.std.proofs.lemmas.List.{reverse-append}
 use Rattle.std.proofs.Math.Seq.{drop-append_seam, take-append-add, take-append_seam}
 use Rattle.cpp_grammar.specs.Term.{Term}
 use Rattle.cpp_grammar.specs.Values.{State, Around, tree, outermost}
@@ -310,10 +310,6 @@ candidate-inside s w n k kept ordered found =
 -- the last of a list is the first of it turned
 pub reverse-last : {X : Type 0} (xs : List X) (x : X) → reverse (xs ++ x ∷ []) ≡ x ∷ reverse xs
 reverse-last xs x = reverse-append xs (x ∷ [])
-
--- and the other way
-pub last-reversed : {X : Type 0} (xs rest : List X) (x : X) → reverse xs ≡ x ∷ rest → xs ≡ reverse rest ++ x ∷ []
-last-reversed xs rest x e = sym (reverse-reverse xs) ∙ ap reverse e ∙ reverse-append (x ∷ []) rest
 
 -- ## Nested names
 

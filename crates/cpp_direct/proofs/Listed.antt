@@ -15,7 +15,7 @@ use Rattle.cpp_direct.specs.declared.open.Open.TheVariants as opens
 use Rattle.cpp_direct.specs.declared.open.Step.TheVariants as steps
 use Rattle.cpp_direct.specs.AllHoles.{AwaitsComponent, Comes, IsArgumentKind, IsListKind, ListGoesOn, Opened, StandsAt, with_candidate}
 use Rattle.cpp_direct.specs.Prints.{Names, PrintAllAs, PrintsAs, list_of, opening_bracket, closing_bracket}
-use Rattle.cpp_direct.specs.WriterInvariant.{HasPack, Below, HasArguments, arguments_in, below, IsListing, IsNaming, IsScoped, Scope, scoped_in, is_noted, may_name, IsNest, IsTail, IsTemplate, IsWriting, Owns, Serves, ArgumentsGoOn, AwaitsElementOf, AwaitsEnumerator, Belongs, Closes, ElementsGoOn, EnumeratorGoesOn, GoesOn, Listing, of_template, of_pack, Stands, element_kind, extra_of, led_by, list_with, in_front_of_next, nowhere, Kept, TakesArguments, TakesElements}
+use Rattle.cpp_direct.specs.WriterInvariant.{HasPack, Below, HasArguments, arguments_in, below, IsListing, IsNaming, IsScoped, Scope, scoped_in, is_noted, may_name, IsNest, IsTail, IsTemplate, IsWriting, Owns, Serves, ArgumentsGoOn, AwaitsElementOf, AwaitsEnumerator, Belongs, Closes, ElementsGoOn, EnumeratorGoesOn, GoesOn, Listing, of_template, of_pack, Stands, element_kind, extra_of, led_by, list_with, in_front_of_next, nowhere, Kept}
 use Rattle.cpp_direct.specs.MidStep.{AreKnown, IsListEnded, AwaitsNextArgument, IsNameEnded}
 use Rattle.cpp_direct.specs.Written.{Writes, added, Lists, OpensEntry}
 use Rattle.cpp_direct.proofs.Moves.{expects-empty, stands-split}
@@ -535,7 +535,20 @@ pub record ListWaits (s : Symbol) (scope : Scope) (opened : List Open) (os : Lis
   pub onward : (t : Term) (at : ℕ) (st : State) → Comes s os (tree t true) at st
       → GoesOn s place.listing place.owner (below s scope place.rest) place.front place.template (ts ++ t ∷ []) at st
 
--- what has a template before it takes arguments
+-- what is open takes arguments
+abbrev pub TakesArguments : Open → Type 0
+TakesArguments (opens.TypeArguments from is_dependent) = Unit {0}
+TakesArguments (opens.NestArguments nest) = Unit {0}
+TakesArguments (opens.FirstArguments nest) = Unit {0}
+TakesArguments (opens.NameArguments from) = Unit {0}
+TakesArguments (opens.LevelArguments is_dependent) = Unit {0}
+TakesArguments _ = ⊥
+
+-- or is a pack of them
+abbrev pub TakesElements : Open → Type 0
+TakesElements opens.Pack = Unit {0}
+TakesElements o = TakesArguments o
+
 template-takes : (detail : Detail) (names : Names) (o : Open) (front : List ℕ) (t : Term) (name text : List ℕ) → IsTemplate detail names o front t name text
     → TakesArguments o
 template-takes detail names (opens.TypeArguments from is_dependent) front t name text is = tt

@@ -5,17 +5,17 @@ use Rattle.cpp_grammar.specs.Grammar.{among}
 use Rattle.cpp_grammar.specs.Term.{Term, builtin, nil, list, pointer, array, lvalue}
 use Rattle.cpp_grammar.specs.Values.{Around, State, tree, outermost}
 use Rattle.cpp_grammar.specs.declared.kind.Kind.{Kind}
-use Rattle.cpp_direct.specs.WriterTypes.{Access, Candidate, Direct, Open, Symbol, detail_of}
+use Rattle.cpp_direct.specs.WriterTypes.{Access, Candidate, Direct, Open, Symbol, detail_of, Arguments, Mark}
 use Rattle.cpp_direct.specs.Bytes.{is_builtin}
 use Rattle.cpp_direct.specs.AllHoles.{Comes, Expects, FunctionOpened, IsQualifiable, IsReferable, IsSizeAt, NoReference, Opened, SignatureGoesOn, StandsAt, access_letters, accessed, array_opening, candidate, is_marked, plain_function, pointed, reference, reference_letter, with_accessed, with_candidate, with_pointed}
 use Rattle.cpp_direct.specs.Prints.{PrintAll, IsElement, IsUnmarked}
 use Rattle.cpp_direct.specs.WriterInvariant.{below, IsScoped, AreCandidates, IsWriting, Marks, Scope, Stands, TakesFunction, opening_text, list_with}
 use Rattle.cpp_direct.specs.MidStep.{AwaitsParameter, AwaitsSignature, IsElementPassed, IsFunctionRead, IsReturned, IsArrayRead, IsElementRead, ElementOf}
-use Rattle.cpp_direct.specs.Written.{Writes, hidden, with_hidden, OpensEntry}
+use Rattle.cpp_direct.specs.Written.{Writes, hidden, hidden_behind, with_hidden, OpensEntry}
 use Rattle.cpp_direct.proofs.Ending.{no-void}
 use Rattle.cpp_direct.proofs.Handed.{first-type, value-element}
 use Rattle.cpp_direct.proofs.Kept.{kept-grown, kept-same, kept-written, candidates-more, reverse-last, type-comes, kept-as}
-use Rattle.cpp_direct.proofs.Listed.{last-found, comma, in-front}
+use Rattle.cpp_direct.proofs.Listed.{TakesElements, last-found, comma, in-front}
 use Rattle.cpp_direct.proofs.Moves.{stands-split}
 use Rattle.cpp_direct.proofs.MovesOfTypes.{parameter-opens, reference-opens, signature-ends, builtin-comes, function-opens, pointed-function-opens, array-opens}
 use Rattle.cpp_direct.proofs.PrintedFunctions.{function-element, void-function-element, array-element}
@@ -81,7 +81,7 @@ signature-begins s old new is_pointer p text candidates scope_same waits at =
 -- ## Parameters
 
 -- one comes next, and the comma before it is written but for the first one
-parameter-next : (s : Symbol) (old new : Direct) (is_pointer is_first : Bool) → AwaitsSignature s old is_pointer is_first
+pub parameter-next : (s : Symbol) (old new : Direct) (is_pointer is_first : Bool) → AwaitsSignature s old is_pointer is_first
     → new.text.list.items ≡ old.text.list.items ++ comma is_first → new.candidates ≡ old.candidates → new.waiting ≡ old.waiting
     → new.has_scope ≡ old.has_scope → new.at ≡ old.at → AwaitsParameter s new is_pointer
 parameter-next s old new is_pointer is_first a text candidates waiting scope_same at =
@@ -98,13 +98,6 @@ parameter-next s old new is_pointer is_first a text candidates waiting scope_sam
           ∙ ap (λ l. led ++ l) (sym (in-front a.ts a.texts is_first a.none a.some));
       goes = subst (λ n. SignatureGoesOn s a.taker.outer a.taker.made_in is_pointer (λ l. plain_function a.first.own (list_with a.ts l)) n a.state) (sym at) a.goes;
     }
-
-pub first-next : (s : Symbol) (w : Direct) (is_pointer : Bool) → AwaitsSignature s w is_pointer true → AwaitsParameter s w is_pointer
-first-next s w is_pointer a = parameter-next s w w is_pointer true a (sym (append-nil w.text.list.items)) refl refl refl refl
-
-pub another-next : (s : Symbol) (old new : Direct) (is_pointer : Bool) → AwaitsSignature s old is_pointer false → Writes old new (codes ", ")
-    → AwaitsParameter s new is_pointer
-another-next s old new is_pointer a one = parameter-next s old new is_pointer false a one.text one.candidates one.waiting one.scope one.at
 
 -- a signature goes on after one more
 one-more : (s : Symbol) (outer : List Opened) (made_in : Around) (is_pointer : Bool) (returned : Term) (ts : List Term) (t : Term) (at : ℕ) (st : State)
@@ -249,11 +242,6 @@ pub one-hidden : (s : Symbol) (scope : Scope) (text : List ℕ) (ks : List Candi
     → AreCandidates s scope text ks cs → AreCandidates s scope text (ks ++ hidden ∷ []) (cs ++ c ∷ [])
 one-hidden s scope text ks cs c p = candidates-more text ks cs hidden c p (λ ordered. absurd (omega (arith, ordered)))
 
--- one more candidate of which nothing is known, or two
-abbrev hidden_behind : (is_marked : Bool) → List Candidate → List Candidate
-hidden_behind true ks = (ks ++ hidden ∷ []) ++ hidden ∷ []
-hidden_behind false ks = ks ++ hidden ∷ []
-
 -- it becomes a candidate, and so does what points or refers to it
 hidden-accessed : (s : Symbol) (scope : Scope) (access : Access) (ks : List Candidate) (text : List ℕ) (made_in : Around) (t : Term) (st : State)
     → AreCandidates s scope text ks st.candidates
@@ -271,11 +259,6 @@ hidden-candidates : (s : Symbol) (scope : Scope) (w : Direct) (is_pointer : Bool
     → AreCandidates s scope text (with_hidden w is_pointer) (with_pointed is_pointer made_in t st).candidates
 hidden-candidates s scope w true text made_in t st p = hidden-accessed s scope accesses.Pointer w.candidates.list.items text made_in t st p
 hidden-candidates s scope w false text made_in t st p = hidden-accessed s scope accesses.Plain w.candidates.list.items text made_in t st p
-
--- they are added to the candidates as they were
-pub hidden-behind : (old new : Direct) (is_pointer : Bool) → new.candidates ≡ old.candidates → with_hidden new is_pointer ≡ with_hidden old is_pointer
-hidden-behind old new true same = ap (λ v. (v.list.items ++ hidden ∷ []) ++ hidden ∷ []) same
-hidden-behind old new false same = ap (λ v. v.list.items ++ hidden ∷ []) same
 
 -- what waits for the function type, once its own entry is taken away
 pub still-popped : (s : Symbol) (old new : Direct) (is_pointer : Bool) (p : IsFunctionRead s old is_pointer) (left : List Open) (size : ℕ)
@@ -308,6 +291,20 @@ function-handed s old new is_pointer p text candidates scope_same waits at =
       };
       takes = subst TakesFunction (sym waits) p.taker.takes;
     }
+
+-- what takes a function type, and isn't parameters or a special object, takes elements
+pub takes-as-element : (o : Open) (rest : List Open) → TakesFunction (o ∷ rest) → ((x : Mark) (y : ℕ) (z : Arguments) → o ≡ opens.Parameters x y z → ⊥)
+    → (o ≡ opens.Special → ⊥) → ((x : Mark) (y t : ℕ) → o ≡ opens.Enclosing x y t → ⊥) → TakesElements o
+takes-as-element (opens.TypeArguments from is_dependent) rest takes apart z m = tt
+takes-as-element (opens.NestArguments nest) rest takes apart z m = tt
+takes-as-element (opens.FirstArguments nest) rest takes apart z m = tt
+takes-as-element (opens.NameArguments from) rest takes apart z m = tt
+takes-as-element (opens.LevelArguments is_dependent) rest takes apart z m = tt
+takes-as-element opens.Pack rest takes apart z m = tt
+takes-as-element (opens.Parameters x y w) rest takes apart z m = absurd (apart x y w refl)
+takes-as-element opens.Special rest takes apart z m = absurd (z refl)
+takes-as-element (opens.Enclosing x y t) rest takes apart z m = absurd (m x y t refl)
+takes-as-element _ rest takes apart z m = absurd takes
 
 -- ## The beginning of an array
 
@@ -354,10 +351,6 @@ value-array s w is_reference access from to p found =
       comes = waits.5 p.is_before.own w.at p.state p.is_before.comes;
     }
 
-with-hidden : (w : Direct) (b : Bool) → with_hidden w b ≡ hidden_behind b w.candidates.list.items
-with-hidden w true = refl
-with-hidden w false = refl
-
 -- its size is written
 size-unmarked : (s : List ℕ) (from to : ℕ) (digits : List ℕ) → IsReadable s → from ≤ to → to ≤ length s → take (to - from) (drop from s) ≡ digits
     → IsUnmarked digits
@@ -392,7 +385,7 @@ array-written s readable w begun first second third last access from to p size t
     (kept-written s first second size two (kept-written s begun first opening one known)) in
     record {
       read = record {
-        kept = kept-as s third last then_ there same_text (more ∙ with-hidden third (is_marked access)) same_scope
+        kept = kept-as s third last then_ there same_text more same_scope
             (hidden-accessed s p.scope access third.candidates.list.items third.text.list.items p.taker.made_in own p.state there.keeps.candidates);
         os = p.taker.outer;
         own = whole;

@@ -1,6 +1,6 @@
 -- A writer reads a type, or the first bytes of one.
 use Rattle.std.proofs.Common.{◌≡◌, ◌≢◌, inl, inr, ℕ, ◌+◌, ◌-◌, ◌≤◌, List, [], ◌∷◌, ◌++◌, length, take, drop, reverse, slice_get, Bool, true, false, Some, codes, refl, ap, sym, subst, ◌∙◌, arith, append_assoc, append-nil, if◌then◌else◌}
-use Rattle.std.proofs.lemmas.List.{length-append, reverse-reverse}
+use Rattle.std.proofs.lemmas.List.{length-append, reverse-append, reverse-reverse}
 use Rattle.std.proofs.Math.Seq.{take-append_seam}
 use Rattle.std.specs.Bool.{◌==◌}
 use Rattle.std.proofs.lemmas.Bool.{false≢true}
@@ -26,7 +26,7 @@ use Rattle.cpp_direct.specs.MidStep.{AwaitsType, AwaitsNamedType, AwaitsNest, Is
 use Rattle.cpp_direct.specs.Written.{Reads, Writes, Lists, OpensEntry, added, added_unless, OpensArguments}
 use Rattle.cpp_direct.proofs.Unmarked.{name-unmarked}
 use Rattle.cpp_direct.proofs.Scopes.{scoped-inside}
-use Rattle.cpp_direct.proofs.Kept.{candidate-found, kept-grown, kept-same, last-reversed, piece-found, reverse-last, type-comes, value-added, value-comes, list-begins, kept-unless, awaited-in}
+use Rattle.cpp_direct.proofs.Kept.{candidate-found, kept-grown, kept-same, piece-found, reverse-last, type-comes, value-added, value-comes, list-begins, kept-unless, awaited-in}
 use Rattle.cpp_direct.proofs.Moves.{expects-empty, stands-join}
 use Rattle.cpp_direct.proofs.MovesOfLists.{arguments-open}
 use Rattle.cpp_direct.proofs.MovesOfTypes.{solid-opens, builtin-comes, builtin-with-d-comes, pointer-opens, reference-type-opens, const-opens, source-opens, std-opens, abbreviation-opens, substitution-opens, substituted-so, nested-type-opens}
@@ -52,7 +52,7 @@ some-text text same is filled none = cc (filled ∙ ap (λ l. length l == 0) (is
 -- what is open without its last
 pub popped : (xs ys rest : List Open) (x : Open) (n : ℕ) → n ≡ length xs → reverse xs ≡ x ∷ rest → ys ≡ take (n - 1) xs → reverse ys ≡ rest
 popped xs ys rest x n size e is =
-    let whole : xs ≡ reverse rest ++ x ∷ [] = last-reversed xs rest x e in
+    let whole : xs ≡ reverse rest ++ x ∷ [] = sym (reverse-reverse xs) ∙ ap reverse e ∙ reverse-append (x ∷ []) rest in
     let less : n - 1 ≡ length (reverse rest) = omega (arith, size, ap length whole, length-append (reverse rest) (x ∷ [])) in
     ap reverse (is ∙ ap (λ m. take m xs) less ∙ ap (λ l. take (length (reverse rest)) l) whole ∙ take-append_seam (reverse rest) (x ∷ []))
     ∙ reverse-reverse rest

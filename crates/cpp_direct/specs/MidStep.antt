@@ -428,6 +428,16 @@ pub record AwaitsParameters (s : Symbol) (w : Direct) (mark : Mark) (start : ℕ
   pub written : w.text.list.items ≡ front
   pub goes : ParametersGoOn s argument lead make [] w.at state
 
+-- this is passed on to what is open where it names no argument of the function's template alone
+abbrev pub IsPassedClosed : Open → Type 0
+IsPassedClosed (opens.Pointer from) = ⊥
+IsPassedClosed (opens.Lvalue from) = ⊥
+IsPassedClosed (opens.Rvalue from) = ⊥
+IsPassedClosed (opens.Const from) = ⊥
+IsPassedClosed (opens.Front mark start argument) = ⊥
+IsPassedClosed (opens.Parameters mark start argument) = ⊥
+IsPassedClosed _ = Unit {0}
+
 -- what is open for arguments of which one names an argument of the function's template
 abbrev pub IsDependentNow : (old new : Open) → Type 0
 IsDependentNow (opens.TypeArguments from is_dependent) new = new ≡ opens.TypeArguments from true

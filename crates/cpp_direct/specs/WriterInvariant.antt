@@ -509,20 +509,6 @@ TakesFunction (opens.Special ∷ rest) = Unit {0}
 TakesFunction (opens.Enclosing mark from to ∷ rest) = Unit {0}
 TakesFunction _ = ⊥
 
--- what is open takes arguments
-abbrev pub TakesArguments : Open → Type 0
-TakesArguments (opens.TypeArguments from is_dependent) = Unit {0}
-TakesArguments (opens.NestArguments nest) = Unit {0}
-TakesArguments (opens.FirstArguments nest) = Unit {0}
-TakesArguments (opens.NameArguments from) = Unit {0}
-TakesArguments (opens.LevelArguments is_dependent) = Unit {0}
-TakesArguments _ = ⊥
-
--- or is a pack of them
-abbrev pub TakesElements : Open → Type 0
-TakesElements opens.Pack = Unit {0}
-TakesElements o = TakesArguments o
-
 -- what is below, if that waits so
 abbrev pub outside : Scope → List Open → (waits : List Opened → List ℕ → Type 0) → Below
 outside scope rest waits = record { waits = waits; scoped = λ around. IsScoped scope around rest; naming = IsNaming scope rest }

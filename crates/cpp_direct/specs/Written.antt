@@ -97,7 +97,10 @@ AreLeft hiding [] [] = Unit {0}
 AreLeft hiding (k ∷ ks) (n ∷ ns) = IsLeft hiding k n × AreLeft hiding ks ns
 AreLeft hiding _ _ = ⊥
 
--- the candidates, and such a one for a function type and for the pointer to it
+-- candidates, and such a one for a function type, and one for the pointer to it, if it is one
+abbrev pub hidden_behind : (is_pointer : Bool) → List Candidate → List Candidate
+hidden_behind true ks = (ks ++ hidden ∷ []) ++ hidden ∷ []
+hidden_behind false ks = ks ++ hidden ∷ []
+
 abbrev pub with_hidden : Direct → (is_pointer : Bool) → List Candidate
-with_hidden w true = (w.candidates.list.items ++ hidden ∷ []) ++ hidden ∷ []
-with_hidden w false = w.candidates.list.items ++ hidden ∷ []
+with_hidden w is_pointer = hidden_behind is_pointer w.candidates.list.items

@@ -13,7 +13,6 @@ use crate::direct::Direct;
 use crate::grammar::Grammar;
 use crate::open::{Open, Step};
 use crate::tokens::byte_at;
-use crate::types::takes_elements;
 
 impl Direct {
     /// Whether what was opened last takes what prints on both sides of a name: an element, a parameter, or what a special object is
@@ -145,11 +144,7 @@ impl Direct {
         requires passed { IsElementPassed (symbol_by G.IS_WIDE G.IS_BARE G.IS_BRIEF s.now) self.old }
         ensures { IfSome result (IsWriting (symbol_by G.IS_WIDE G.IS_BARE G.IS_BRIEF s.now) self.new) }
     {
-        let entry = *self.waiting.as_slice().last()?;
-        if takes_elements(entry) {
-            return Some(Step::List { is_first: false });
-        }
-        match entry {
+        match *self.waiting.as_slice().last()? {
             Open::Parameters {
                 mark,
                 start,
@@ -157,7 +152,7 @@ impl Direct {
             } => self.parameter_ended::<G>(s, mark, start, argument),
             Open::Enclosing { mark, from, to } => self.enclosing_parameter::<G>(s, mark, from, to),
             Open::Special => self.finish::<G>(s),
-            _ => None,
+            _ => Some(Step::List { is_first: false }),
         }
     }
 }

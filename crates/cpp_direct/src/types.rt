@@ -6,8 +6,8 @@ ghost use Rattle.cpp_direct.specs.Names.{IsReadable};
 ghost use Rattle.cpp_direct.specs.declared.open.Step.TheVariants as steps;
 ghost use Rattle.cpp_direct.specs.declared.open.Purpose.TheVariants as purposes;
 ghost use Rattle.cpp_direct.specs.Holes.{StandsAt};
-ghost use Rattle.cpp_direct.specs.WriterInvariant.{IsWriting, TakesElements};
-ghost use Rattle.cpp_direct.specs.MidStep.{AwaitsType, AwaitsNamedType, IsTypeNamed, AwaitsMark, IsDependentNow};
+ghost use Rattle.cpp_direct.specs.WriterInvariant.{IsWriting};
+ghost use Rattle.cpp_direct.specs.MidStep.{AwaitsType, AwaitsNamedType, IsTypeNamed, AwaitsMark, IsDependentNow, IsPassedClosed};
 ghost use Rattle.cpp_direct.specs.Symbol.{symbol_by};
 
 use crate::direct::Direct;
@@ -44,22 +44,6 @@ fn dependent(entry: Open) -> Option<Open>
         }),
         Open::LevelArguments { .. } => Some(Open::LevelArguments { is_dependent: true }),
         _ => None,
-    }
-}
-
-/// Whether what is open are arguments or a pack of them, which go on after an element.
-#[inline(always)]
-pub(crate) fn takes_elements(entry: Open) -> bool
-    ensures { result ≡ true → TakesElements entry }
-{
-    match entry {
-        Open::TypeArguments { .. } => true,
-        Open::NestArguments { .. } => true,
-        Open::FirstArguments { .. } => true,
-        Open::NameArguments { .. } => true,
-        Open::LevelArguments { .. } => true,
-        Open::Pack => true,
-        _ => false,
     }
 }
 
@@ -271,13 +255,6 @@ impl Direct {
         ensures { IfSome result (IsWriting (symbol_by G.IS_WIDE G.IS_BARE G.IS_BRIEF s.now) self.new) }
     {
         let entry = *self.waiting.as_slice().last()?;
-        // most types are elements
-        if takes_elements(entry) {
-            if is_dependent {
-                return self.pass_dependent::<G>(s);
-            }
-            return Some(Step::List { is_first: false });
-        }
         match entry {
             Open::Pointer { .. } | Open::Lvalue { .. } | Open::Rvalue { .. } | Open::Const { .. } =>
                 self.pass_to_mark::<G>(s, entry, is_reference, is_dependent),
@@ -293,19 +270,20 @@ impl Direct {
             } => self.front_ended::<G>(s, mark, start, argument),
             _ => {
                 if is_dependent {
-                    return None;
+                    return self.pass_dependent::<G>(s);
                 }
                 self.pass_closed::<G>(s, entry, is_reference)
             }
         }
     }
 
-    /// Hands on a type that is no element and names no argument of the function's template.
+    /// Hands on a type that names no argument of the function's template.
     #[inline(always)]
     fn pass_closed<G: Grammar>(&mut self, s: &[u8], entry: Open, is_reference: bool) -> Option<Step>
         requires fits { IsReadable s.now }
         requires writing { IsWriting (symbol_by G.IS_WIDE G.IS_BARE G.IS_BRIEF s.now) self.old (steps.Value is_reference false) }
         requires waits { slice_get self.old.waiting.list.items (length self.old.waiting.list.items - 1) ≡ Some entry }
+        requires others { IsPassedClosed entry }
         ensures { IfSome result (IsWriting (symbol_by G.IS_WIDE G.IS_BARE G.IS_BRIEF s.now) self.new) }
     {
         match entry {
@@ -331,7 +309,7 @@ impl Direct {
                 number,
                 known,
             } => self.element_ended::<G>(s, from, number, known, is_reference),
-            _ => None,
+            _ => Some(Step::List { is_first: false }),
         }
     }
 

@@ -3,7 +3,7 @@ use Rattle.cpp_direct.specs.Symbol.{symbol_by}
 use Rattle.cpp_direct.specs.declared.open.Step.TheVariants as steps
 use Rattle.cpp_direct.specs.WriterInvariant.{IsWriting}
 use Rattle.cpp_direct.proofs.Listed.{waits-last}
-use Rattle.cpp_direct.proofs.Handed.{argument-read, value-element, value-front, value-parameter}
+use Rattle.cpp_direct.proofs.Handed.{value-front, value-parameter, passed-closed}
 use Rattle.cpp_direct.proofs.direct.Direct.pass.Goals as goal
 
 pub parameter_ended-requires-clause-ended : goal.parameter_ended-requires-clause-ended
@@ -26,15 +26,8 @@ pass_closed-requires g c =
     let s = symbol_by g.G.Grammar.IS_WIDE g.G.Grammar.IS_BARE g.G.Grammar.IS_BRIEF c.args.s.now in
     record {
       fits = c.requires.fits;
-      writing = subst (λ d. IsWriting s c.args.self.now (steps.Value c.args.is_reference d)) c.if-is_dependent-2.false c.requires.writing;
+      writing = subst (λ d. IsWriting s c.args.self.now (steps.Value c.args.is_reference d)) c.if-is_dependent.false c.requires.writing;
       waits = waits-last _ _ _ _ c.as_slice.ensures c.in_ok-entry.ensures.value refl;
+      others = passed-closed c.in_ok-entry.field-0.now c.in_default.not-Pointer c.in_default.not-Lvalue c.in_default.not-Rvalue c.in_default.not-Const
+          c.in_default.not-Parameters c.in_default.not-Front;
     }
-
-pub returns-then-takes_elements : goal.returns-then-takes_elements
-returns-then-takes_elements g c =
-    let s = symbol_by g.G.Grammar.IS_WIDE g.G.Grammar.IS_BARE g.G.Grammar.IS_BRIEF c.args.s.now in
-    let entry = c.in_ok-entry.field-0.now in
-    argument-read s c.args.self.now entry
-    (value-element s c.args.self.now c.args.is_reference entry
-    (subst (λ d. IsWriting s c.args.self.now (steps.Value c.args.is_reference d)) c.if-is_dependent.false c.requires.writing)
-    (waits-last _ _ _ _ c.as_slice.ensures c.in_ok-entry.ensures.value refl)) (c.takes_elements.ensures c.if-takes_elements.true)

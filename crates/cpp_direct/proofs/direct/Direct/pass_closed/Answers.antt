@@ -1,6 +1,6 @@
 use Rattle.std.proofs.Common.{Some, true, false, ap, ◌∙◌}
 use Rattle.cpp_direct.specs.declared.open.Open.TheVariants as opens
-use Rattle.cpp_direct.proofs.Handed.{value-element, value-returned, value-signature, value-enumerator, special-read}
+use Rattle.cpp_direct.proofs.Handed.{value-element, value-returned, value-signature, value-enumerator, argument-read, special-read, takes-elements}
 use Rattle.cpp_direct.proofs.FunctionsWithin.{parameter-read-within, value-addressed, value-addressed-front}
 use Rattle.cpp_direct.proofs.LambdasRead.{lambda-parameter-read}
 use Rattle.cpp_direct.proofs.Arguments.{value-argument}
@@ -60,3 +60,11 @@ pub element_ended-requires-clause-read : goal.element_ended-requires-clause-read
 element_ended-requires-clause-read g c =
     value-argument _ c.args.self.now true c.args.is_reference c.in-Element.from c.in-Element.number c.in-Element.known
     c.requires.writing (c.requires.waits ∙ ap (λ o. Some o) c.in-Element.is)
+
+pub returns-in_default : goal.returns-in_default
+returns-in_default g c =
+    argument-read _ c.args.self.now c.args.entry
+    (value-element _ c.args.self.now c.args.is_reference c.args.entry c.requires.writing c.requires.waits)
+    (takes-elements c.args.entry c.requires.others c.in_default.not-Returned c.in_default.not-Signature c.in_default.not-Special c.in_default.not-Enumerator
+    c.in_default.not-Enclosing c.in_default.not-Argument c.in_default.not-Lambda c.in_default.not-Element c.in_default.not-Array
+    c.in_default.not-Address c.in_default.not-AddressedFront c.in_default.not-Addressed)
