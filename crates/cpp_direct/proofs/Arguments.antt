@@ -2,18 +2,14 @@
 use Rattle.sym_print.specs.declared.detail.Detail.{Detail}
 use Rattle.std.proofs.Common.{arith, ◌≡◌, ℕ, zero, suc, ◌+◌, ◌-◌, ◌≤◌, ◌<◌, length, List, [], ◌∷◌, ◌++◌, reverse, slice_get, inr, inl, Bool, true, false, Some, refl, ap, sym, ◌∙◌, subst, codes, append_assoc, append-nil}
 use Rattle.std.proofs.lemmas.Bool.{false≢true}
+use Rattle.std.proofs.lemmas.Option.{slice_get_within}
 use Rattle.std.proofs.lemmas.List.{length-append}
 use Rattle.cpp_grammar.specs.declared.kind.Kind.{Kind}
 use Rattle.cpp_grammar.specs.Term.{list, Term, nil, pack}
 use Rattle.cpp_grammar.specs.Values.{Around}
-use Rattle.cpp_direct.specs.WrittenParts.{opening_bracket}
-use Rattle.cpp_direct.specs.Symbol.{detail_of, Symbol}
-use Rattle.cpp_direct.specs.declared.open.Argument.{Argument}
-use Rattle.cpp_direct.specs.declared.open.Arguments.{Arguments}
-use Rattle.cpp_direct.specs.declared.open.Open.{Open}
-use Rattle.cpp_direct.specs.declared.direct.Direct.{Direct}
+use Rattle.cpp_direct.specs.WriterTypes.{Argument, Arguments, Direct, Open, Symbol, detail_of}
 use Rattle.cpp_direct.specs.Holes.{Opened, Expects, StandsAt}
-use Rattle.cpp_direct.specs.Prints.{Names, Prints, PrintAll, IsElementAs, PrintAllBy, list_of}
+use Rattle.cpp_direct.specs.Prints.{Names, Prints, PrintAll, IsElementAs, PrintAllBy, list_of, opening_bracket}
 use Rattle.cpp_direct.specs.WriterInvariant.{AwaitsArgument, Scope, arguments_or_pack, ComeBefore, element_kind, below, HasPack, scoped_in, is_noted, may_name, AreAmong, ArgumentsGoOn, Belongs, EndsNamed, GoesOn, IsAmong, IsKnown, IsScoped, IsTemplate, IsWriting, Stands, extra_of, of_template, in_front_of_next, led_by, list_with, nowhere, place_of, Closes, Kept, IsTypeRead}
 use Rattle.cpp_direct.specs.MidStep.{AreKnown, AwaitsKnownArgument, IsArgumentRead, IsListEnded, IsLiteralRead, KnowsMore, argument_around, argument_entry}
 use Rattle.cpp_direct.specs.MidStepOfAddresses.{AwaitsArgumentOfName}
@@ -48,7 +44,8 @@ none-read : (s : Symbol) (w : Direct) → IsWriting s w (steps.List true) → En
 none-read s w p named =
     let place = p.is_before.0 in
     let ts_is : p.is_before.1 ≡ [] = p.is_before.5 refl in
-    let a = template-listed s w p.state place p.is_before.1 p.is_before.2 p.is_before.2 (λ rest e. subst (λ ws. EndsNamed ws) e named) p.is_before.3 p.is_before.4
+    let a = template-listed s p.scope w p.state place.listing place.owner place.rest place.front place.template place.name p.is_before.1 p.is_before.2 p.is_before.2
+    (λ rest e. subst (λ ws. EndsNamed ws) e named) place.belongs p.is_before.3 p.is_before.4
     p.is_before.7 in
     let by = IsElementAs (detail_of s) p.scope.names (is_noted place.owner) 3 in
     record {
@@ -172,11 +169,6 @@ next-argument-begins s old mid new is_pack last from number known p writes from_
     (among-stay old.text.list.items (codes ", ") known (p.before ++ p.ts) p.among)) p.goes
     (ap reverse waits ∙ reverse-last mid.waiting.list.items entry
     ∙ ap (λ ws. entry ∷ ws) (ap (λ v. reverse v.list.items) writes.waiting ∙ p.open_is)) text candidates scope_same (at ∙ writes.at)
-
-there-below : (ts : List Term) (k : ℕ) (t : Term) → slice_get ts k ≡ Some t → k < length ts
-there-below [] k t e = cc e
-there-below (u ∷ ts) zero t e = omega arith
-there-below (u ∷ ts) (suc k) t e = omega (arith, there-below ts k t e)
 
 -- or the first element of a pack that comes after others
 pub pack-after : (s : Symbol) (old mid new : Direct) (last from number : ℕ) (known : Arguments) → AwaitsKnownArgument s old false last known
@@ -343,6 +335,11 @@ pub last-there : (ts : List Term) (t : Term) → slice_get (ts ++ t ∷ []) (len
 last-there [] t = refl
 last-there (v ∷ ts) t = last-there ts t
 
+-- what is among some is among others where it is an element of these
+among-others : {detail : Detail} {text : List ℕ} {place : Argument} {number : ℕ} {ts : List Term} (h : IsAmong detail text place number ts) (k : ℕ) (us : List Term)
+    → slice_get us k ≡ Some h.own → IsAmong detail text place k us
+among-others h k us is = record { bytes = h.bytes; placed = h.placed; own = h.own; there = is; prints = h.prints }
+
 -- one more is known
 pub known-more : {detail : Detail} (text : List ℕ) (from to number : ℕ) (is_reference : Bool) (known more : Arguments) (ts : List Term) (t : Term)
     (before bytes : List ℕ) → text ≡ before ++ bytes → from ≡ length before → to ≡ length text → number ≡ length ts → Prints detail t bytes is_reference
@@ -352,7 +349,8 @@ known-more {detail} text from to number is_reference known more ts t before byte
       | inl h ↦
           subst (λ j. IsAmong detail text (place_of more k) j (ts ++ t ∷ [])) (sym h.0)
           (subst (λ (q : Argument). IsAmong detail text q number (ts ++ t ∷ [])) (sym h.1) here)
-      | inr h ↦ subst (λ (q : Argument). IsAmong detail text q k (ts ++ t ∷ [])) (sym h.1) (there (among k h.0))
+      | inr h ↦ let g = among k h.0 in
+          subst (λ (q : Argument). IsAmong detail text q k (ts ++ t ∷ [])) (sym h.1) (among-others g k (ts ++ t ∷ []) (earlier-there ts t g.own k g.there))
     ]
   where
     here : IsAmong detail text (record { from = from; to = to; is_reference = is_reference }) number (ts ++ t ∷ [])
@@ -368,15 +366,6 @@ known-more {detail} text from to number is_reference known more ts t before byte
       own = t;
       there = ap (λ n. slice_get (ts ++ t ∷ []) n) number_is ∙ last-there ts t;
       prints = prints;
-    }
-
-    there : IsAmong detail text (place_of known k) k ts → IsAmong detail text (place_of known k) k (ts ++ t ∷ [])
-    there g = record {
-      bytes = g.bytes;
-      placed = g.placed;
-      own = g.own;
-      there = earlier-there ts t g.own k g.there;
-      prints = g.prints;
     }
 
 -- the one that was read is known
@@ -443,19 +432,20 @@ single-known s w last known p k o =
     subst (λ (l : List Term). IsAmong (detail_of s) w.text.list.items (place_of known k) k (l ++ p.ts)) (p.come_before.none refl) (p.among k o)
 
 -- an argument may be the last one
-pub argument-closes : (s : Symbol) (w : Direct) (last : ℕ) (known : Arguments) → AwaitsKnownArgument s w false last known → StandsAt s.bytes w.at (69 ∷ [])
-    → IsListEnded s (record w { at = w.at + 1 }) known
+pub argument-closes : (s : Symbol) (w : Direct) (n last : ℕ) (known : Arguments) → AwaitsKnownArgument s w false last known → StandsAt s.bytes w.at (69 ∷ [])
+    → n ≡ w.at + 1 → IsListEnded s (record w { at = n }) known
 unfolding known-passes
-argument-closes s w last known p stands =
-    list-ends s w false known (known-passes s w false last known p) stands (no-pack-around s w false last known p (reverse w.waiting.list.items) p.open_is)
-    (λ k o. single-known s w last known p k o.0, λ e. absurd (false≢true (sym p.come_before.no_pack ∙ e)))
+argument-closes s w n last known p stands at_is =
+    subst (λ k. IsListEnded s (record w { at = k }) known) (sym at_is)
+    (list-ends s w false known (known-passes s w false last known p) stands (no-pack-around s w false last known p (reverse w.waiting.list.items) p.open_is)
+    (λ k o. single-known s w last known p k o.0, λ e. absurd (false≢true (sym p.come_before.no_pack ∙ e))))
 
 -- or an empty pack
-pub pack-ends-empty : (s : Symbol) (w : Direct) (last before : ℕ) (known : Arguments) → AwaitsKnownArgument s w false last known → before ≡ last + 1
-    → StandsAt s.bytes w.at (74 ∷ 69 ∷ 69 ∷ []) → IsListEnded s (record w { at = w.at + 3 }) (record known { has_pack = true; before = before; elements = 0 })
+pub pack-ends-empty : (s : Symbol) (w : Direct) (n last before : ℕ) (known : Arguments) → AwaitsKnownArgument s w false last known → before ≡ last + 1
+    → StandsAt s.bytes w.at (74 ∷ 69 ∷ 69 ∷ []) → n ≡ w.at + 3 → IsListEnded s (record w { at = n }) (record known { has_pack = true; before = before; elements = 0 })
 unfolding known-passes
-pack-ends-empty s w last before known p before_is stands =
-    empty-pack-ends s w false now (known-passes s w false last known p) stands (no-pack-around s w false last known p (reverse w.waiting.list.items) p.open_is) (
+pack-ends-empty s w n last before known p before_is stands at_is = subst (λ k. IsListEnded s (record w { at = k }) now) (sym at_is)
+    (empty-pack-ends s w false now (known-passes s w false last known p) stands (no-pack-around s w false last known p (reverse w.waiting.list.items) p.open_is) (
       λ k o. single-known s w last known p k o.0,
       λ o. (
         [],
@@ -465,10 +455,10 @@ pack-ends-empty s w last before known p before_is stands =
           size = refl;
           among = λ k known_.
               let h = single-known s w last known p (before + k) known_ in
-              absurd (omega (arith, there-below p.ts (before + k) h.own h.there, count_is));
+              absurd (omega (arith, slice_get_within p.ts (before + k) h.own h.there, count_is));
         },
       ),
-    )
+    ))
   where
     none : Term
     none = pack nil
@@ -496,7 +486,7 @@ elements-known : (s : Symbol) (w : Direct) (last size : ℕ) (known : Arguments)
 elements-known s w last size known p size_is = (
   λ k o.
       let h = p.among k o.0 in
-      placed k k all h (front-there p.before p.ts (own ∷ []) k h.own (omega (arith, o.1 refl, count_is)) h.there),
+      among-others h k all (front-there p.before p.ts (own ∷ []) k h.own (omega (arith, o.1 refl, count_is)) h.there),
   λ o. (
     p.ts,
     subst (λ n. HasPack (list_with all nil) n p.ts) (sym count_is) (element-there all nil (length p.before) own (last-there p.before own)),
@@ -505,15 +495,12 @@ elements-known s w last size known p size_is = (
       among = λ k known_.
           let n = known.before + k in
           let h = p.among n known_ in
-          placed n k p.ts h (subst (λ m. slice_get p.ts m ≡ Some h.own) (omega (arith, count_is))
+          among-others h k p.ts (subst (λ m. slice_get p.ts m ≡ Some h.own) (omega (arith, count_is))
           (behind-there p.before p.ts n h.own (omega (arith, count_is)) h.there));
     },
   ),
 )
   where
-    text : List ℕ
-    text = w.text.list.items
-
     own : Term
     own = pack (list_of p.ts)
 
@@ -522,10 +509,6 @@ elements-known s w last size known p size_is = (
 
     count_is : known.before ≡ length p.before
     count_is = p.come_before.count_is refl
-
-    placed : (k j : ℕ) (us : List Term) (h : IsAmong (detail_of s) text (place_of known k) k (p.before ++ p.ts)) → slice_get us j ≡ Some h.own
-        → IsAmong (detail_of s) text (place_of known k) j us
-    placed k j us h is = record { bytes = h.bytes; placed = h.placed; own = h.own; there = is; prints = h.prints }
 
 -- after an element of the pack they end with it
 pub pack-closes : (s : Symbol) (w new : Direct) (last size : ℕ) (known : Arguments) (p : AwaitsKnownArgument s w true last known)

@@ -1,41 +1,37 @@
 -- The beginnings of symbols, and their answers.
-use Rattle.std.proofs.Common.{◌≡◌, ◌≢◌, ◌≤◌, ◌⊎◌, ℕ, ◌+◌, inl, inr, length, List, [], ◌∷◌, ◌++◌, reverse, true, false, ◌||◌, ◌&&◌, nat_eq, refl, ap, sym, subst, ◌∙◌, arith, codes, cond}
-use Rattle.std.proofs.Math.Bool.{or-false}
+use Rattle.std.proofs.Common.{◌≡◌, ◌≢◌, ◌≤◌, ◌⊎◌, ℕ, ◌+◌, inl, inr, length, List, [], ◌∷◌, ◌++◌, reverse, Bool, true, false, nat_eq, refl, ap, sym, subst, ◌∙◌, arith, codes, cond}
 use Rattle.std.proofs.lemmas.Bool.{false≢true}
 use Rattle.cpp_grammar.specs.declared.kind.Kind.{Kind}
 use Rattle.cpp_grammar.specs.declared.production.Production.{Production}
-use Rattle.cpp_grammar.specs.Term.{Term, Adjustment, non_virtual, by_table, adjusting, special, thunk, clone}
+use Rattle.cpp_grammar.specs.Term.{Term, Adjustment, non_virtual, by_table, adjusting, special, of_name, thunk, clone, nil}
 use Rattle.cpp_grammar.specs.Parts.{thunk_text, clone_text}
 use Rattle.cpp_grammar.specs.Texts.{look_up, special_texts, same_bytes}
-use Rattle.cpp_grammar.specs.Values.{State, Value, tree, named, tree_of, signed_digits}
+use Rattle.cpp_grammar.specs.Values.{State, Value, nothing_there, tree, named, tree_of, qualifiers_of, ref_of, signed_digits}
 use Rattle.cpp_grammar.specs.Between.{in_name, in_types, no_items}
 use Rattle.cpp_grammar.specs.Meaning.{encoding_of}
 use Rattle.cpp_grammar.specs.Unfolding.{first_around, first_state}
-use Rattle.cpp_direct.specs.Symbol.{Symbol, detail_of}
-use Rattle.cpp_direct.specs.declared.marks.MarkPlace.{MarkPlace}
-use Rattle.cpp_direct.specs.declared.open.Mark.{Mark}
+use Rattle.cpp_direct.specs.WriterTypes.{Direct, MarkPlace, Purpose, Symbol, detail_of}
 use Rattle.cpp_direct.specs.declared.open.Purpose.TheVariants as purposes
 use Rattle.cpp_direct.specs.declared.open.Open.TheVariants as opens
 use Rattle.cpp_direct.specs.declared.open.Step.TheVariants as steps
-use Rattle.cpp_direct.specs.declared.direct.Direct.{Direct}
-use Rattle.cpp_direct.specs.Bytes.{is_local}
-use Rattle.cpp_direct.specs.Holes.{StandsAt, Comes, Expects}
-use Rattle.cpp_direct.specs.HolesOfLists.{SymbolOpened, EncodingOpened, IsOffsetAt, BaseOpened, mark_letters, nest_marks}
-use Rattle.cpp_grammar.specs.Grammar.{among}
+use Rattle.cpp_direct.specs.Bytes.{is_local, is_guard, is_object}
+use Rattle.cpp_direct.specs.AllHoles.{BaseOpened, Comes, EncodingOpened, Expects, GuardOpened, IsOffsetAt, ItemsOpened, Opened, StandsAt, SymbolOpened, mark_letters}
+use Rattle.cpp_grammar.specs.Grammar.{among, may_be_empty}
 use Rattle.cpp_direct.specs.ItemBytes.{is_special_letter}
 use Rattle.cpp_direct.specs.Letters.{special_letters}
 use Rattle.cpp_direct.specs.Marks.{IsMarkPlace, has_const, called_on}
 use Rattle.cpp_direct.specs.Prints.{Shows}
-use Rattle.cpp_direct.specs.WriterInvariant.{Encoded, EndsBehind, EncodedBehind, AwaitsItems, IsScoped, Stands, IsWriting, no_scope, qualifiers}
-use Rattle.cpp_direct.specs.MidStep.{IsFresh, AwaitsEncoding, AwaitsNest}
+use Rattle.cpp_direct.specs.WriterInvariant.{Kept, Serves, below, is_type, Encoded, EndsBehind, EncodedBehind, AwaitsItems, TakesItems, IsScoped, Stands, IsWriting, no_scope, qualifiers}
+use Rattle.cpp_direct.specs.MidStep.{IsFresh, AwaitsEncoding, AwaitsName, AwaitsNest}
 use Rattle.cpp_direct.specs.Written.{Writes, Reads}
 use Rattle.cpp_direct.proofs.Kept.{kept-same, none-kept}
 use Rattle.cpp_direct.proofs.NamePlaces.{reads-then}
-use Rattle.cpp_direct.proofs.Moves.{stands-join, is_eaten}
-use Rattle.cpp_direct.proofs.MovesOfEncodings.{symbol-starts, encoding-opens, special-opens, thunk-opens, virtual-thunk-opens, clone-opens, name-nested}
-use Rattle.cpp_direct.proofs.PrintedSymbols.{thunk-filled, thunk-shows, clone-filled, clone-shows}
+use Rattle.cpp_direct.proofs.Moves.{stands-join, is_eaten, expects-empty}
+use Rattle.cpp_direct.proofs.MovesOfEncodings.{symbol-starts, encoding-opens, special-opens, thunk-opens, virtual-thunk-opens, clone-opens, guard-opens, name-nested}
+use Rattle.cpp_direct.proofs.PrintedSymbols.{thunk-filled, thunk-shows, clone-filled, clone-shows, guarded-shows, encoding-object}
 use Rattle.cpp_direct.proofs.Scopes.{none-scoped}
-use Rattle.cpp_direct.proofs.TypesRead.{code_in, codes_in, letter-listed}
+use Rattle.cpp_direct.proofs.LettersTested.{codes_pass}
+use Rattle.cpp_direct.proofs.TypesRead.{code_in, letter-listed}
 
 -- ## Encodings
 
@@ -50,28 +46,18 @@ encoded-whole s opened_ e at st comes = record {
 whole-behind : (s : Symbol) (lead : List ℕ) (e : Term) (at : ℕ) → is_local s.bytes ≡ false → EndsBehind s lead e at → EncodedBehind s lead e at
 whole-behind s lead e at apart p = record { whole = λ f. p; entity = λ is. absurd (false≢true (sym apart ∙ is)) }
 
-no-guard : (b d e : ℕ) → nat_eq b 71 ≡ false → (nat_eq b 90 || ((nat_eq b 71 && nat_eq d 86) && nat_eq e 90)) ≡ nat_eq b 90
-no-guard b d e other = rw other (or-false (nat_eq b 90))
-
--- the third byte tells whether one is, unless it is a G
-pub third-tells : (s : List ℕ) (b : ℕ) → StandsAt s 2 (b ∷ []) → nat_eq b 71 ≡ false → is_local s ≡ nat_eq b 90
-unfolding is_local
-third-tells (x ∷ y ∷ c ∷ d ∷ e ∷ rest) b stands other =
-    let same : c ≡ b = cc stands.1 in ap (λ k. nat_eq k 90 || ((nat_eq k 71 && nat_eq d 86) && nat_eq e 90)) same ∙ no-guard b d e other
-third-tells (x ∷ y ∷ c ∷ d ∷ []) b stands other = let same : c ≡ b = cc stands.1 in ap (λ k. nat_eq k 90) same
-third-tells (x ∷ y ∷ c ∷ []) b stands other = let same : c ≡ b = cc stands.1 in ap (λ k. nat_eq k 90) same
-third-tells (x ∷ y ∷ []) b stands other = cc stands.1
-third-tells (x ∷ []) b stands other = cc stands.1
-third-tells [] b stands other = cc stands.1
+-- nor an object's guard variable
+no-object : (s : List ℕ) → is_local s ≡ false → is_guard s ≡ false → is_object s ≡ false
+no-object s apart other = rw (apart, other) refl
 
 -- the encoding of a symbol is expected, and nothing is written yet
 pub encoding-awaited : (s : Symbol) (w : Direct) → w.text.list.items ≡ [] → w.candidates.list.items ≡ [] → StandsAt s.bytes 0 (95 ∷ 90 ∷ []) → w.at ≡ 2
-    → is_local s.bytes ≡ false → AwaitsEncoding s w
+    → is_local s.bytes ≡ false → is_guard s.bytes ≡ false → AwaitsEncoding s w
 unfolding first_state
-encoding-awaited s w no_text no_candidate starts at_is apart =
+encoding-awaited s w no_text no_candidate starts at_is apart other =
     let opened_ = symbol-starts s starts in
     record {
-      kept = record { state = first_state; scope = no_scope; keeps = none-kept s w no_candidate };
+      kept = record { state = first_state; scope = no_scope; keeps = none-kept s w no_candidate (λ e. no-object s.bytes apart other) };
       around = first_around;
       outer = opened_.inner;
       begins = λ none. at_is ∙ sym (ap (λ b. cond b 3 2) apart);
@@ -88,33 +74,50 @@ encoding-awaited s w no_text no_candidate starts at_is apart =
 pub encoding-expected : (s : Symbol) (w : Direct) (p : AwaitsEncoding s w) → EncodingOpened s p.outer w.at p.state
 encoding-expected s w p = encoding-opens s p.outer p.around w.at p.state p.awaits
 
--- a name that comes awaits its items
+-- after a name that comes there may be items
+items-taken : (s : Symbol) (w : Direct) (p : AwaitsEncoding s w) (v : Value) (at : ℕ) (st : State) → ItemsOpened s p.outer w.at v at st
+    → TakesItems s w.text.list.items v at st
+unfolding in_types
+items-taken s w p v at st items = record {
+  around = in_types w.at (tree_of v);
+  inner = items.inner;
+  outside = refl;
+  scope_is = refl;
+  encoding_is = p.begins;
+  no_lambda = refl;
+  awaits = items.awaits;
+  onward = λ l here now last. p.onward (encoding_of v (no_items l)) here now (items.onward l here now last);
+}
+
+-- or none
 pub items-await : (s : Symbol) (w : Direct) (p : AwaitsEncoding s w) (v : Value) (at : ℕ) (st : State) → Comes s (encoding-expected s w p).inner v at st
     → AwaitsItems s w.text.list.items v at st
-unfolding in_types
+unfolding no_items may_be_empty
 items-await s w p v at st comes =
-    let items = (encoding-expected s w p).onward v at st comes in
-    record {
-      around = in_types w.at (tree_of v);
-      inner = items.inner;
-      outside = refl;
-      scope_is = refl;
-      encoding_is = p.begins;
-      no_lambda = refl;
-      awaits = items.awaits;
-      onward = λ l here now last. p.onward (encoding_of v (no_items l)) here now (items.onward l here now last);
-    }
+    let t = items-taken s w p v at st ((encoding-expected s w p).onward v at st comes) in
+    record { ends = t.onward nothing_there at st (expects-empty s Kind.Items t.around t.inner at st t.awaits refl); items = λ typed. t }
+
+-- the name of an encoding is one
+pub name-awaited : (s : Symbol) (w : Direct) → AwaitsEncoding s w → AwaitsName s w
+name-awaited s w p = record {
+  kept = p.kept;
+  encoding = w.at;
+  outer = (encoding-expected s w p).inner;
+  awaits = (encoding-expected s w p).awaits;
+  onward = items-await s w p;
+}
 
 -- ## Thunks and clones
 
 -- the base encoding of a thunk or of a clone is expected, after a text that is shown before it
 base-awaited : (s : Symbol) (opened_ : SymbolOpened s) (made : Term → Term) (k : List ℕ) (w : Direct)
-    → is_local s.bytes ≡ false → BaseOpened s opened_.inner 2 made w.at first_state → w.text.list.items ≡ k → 1 ≤ length k → w.candidates.list.items ≡ []
+    → is_local s.bytes ≡ false → is_guard s.bytes ≡ false → BaseOpened s opened_.inner 2 made w.at first_state
+    → w.text.list.items ≡ k → 1 ≤ length k → w.candidates.list.items ≡ []
     → ((e : Term) (bytes : List ℕ) → Shows (detail_of s) e bytes → Shows (detail_of s) (made e) (k ++ bytes))
     → AwaitsEncoding s w
 unfolding first_state
-base-awaited s opened_ made k w apart base text_is filled no_candidate shows = record {
-  kept = record { state = first_state; scope = no_scope; keeps = none-kept s w no_candidate };
+base-awaited s opened_ made k w apart other base text_is filled no_candidate shows = record {
+  kept = record { state = first_state; scope = no_scope; keeps = none-kept s w no_candidate (λ e. no-object s.bytes apart other) };
   around = in_name 2;
   outer = base.inner;
   begins = λ none. absurd (omega (arith, filled, ap length (sym text_is ∙ none)));
@@ -128,11 +131,11 @@ base-awaited s opened_ made k w apart base text_is filled no_candidate shows = r
 }
 
 -- after the bytes of a thunk the base encoding is expected
-thunk-awaited : (s : Symbol) (opened_ : SymbolOpened s) (by : Adjustment) (w : Direct) → StandsAt s.bytes 2 (84 ∷ [])
+thunk-awaited : (s : Symbol) (opened_ : SymbolOpened s) (by : Adjustment) (w : Direct) → is_local s.bytes ≡ false → is_guard s.bytes ≡ false
     → BaseOpened s opened_.inner 2 (thunk (adjusting by)) w.at first_state → w.text.list.items ≡ thunk_text (adjusting by) → w.candidates.list.items ≡ []
     → AwaitsEncoding s w
-thunk-awaited s opened_ by w first base text_is no_candidate =
-    base-awaited s opened_ (thunk (adjusting by)) (thunk_text (adjusting by)) w (third-tells s.bytes 84 first refl) base text_is (thunk-filled (adjusting by)) no_candidate
+thunk-awaited s opened_ by w apart other base text_is no_candidate =
+    base-awaited s opened_ (thunk (adjusting by)) (thunk_text (adjusting by)) w apart other base text_is (thunk-filled (adjusting by)) no_candidate
     (thunk-shows (detail_of s) (adjusting by))
 
 -- what was read without a text and written after it, where nothing was there before
@@ -144,27 +147,29 @@ thunk-written old middle new text fresh reads writes = (
 )
 
 -- a thunk begins
-pub thunk-begins : (s : Symbol) (old middle new : Direct) → IsFresh old → StandsAt s.bytes 0 (95 ∷ 90 ∷ []) → StandsAt s.bytes 2 (84 ∷ []) → StandsAt s.bytes 3 (104 ∷ [])
+pub thunk-begins : (s : Symbol) (old middle new : Direct) → IsFresh old → is_local s.bytes ≡ false → is_guard s.bytes ≡ false
+    → StandsAt s.bytes 0 (95 ∷ 90 ∷ []) → StandsAt s.bytes 2 (84 ∷ []) → StandsAt s.bytes 3 (104 ∷ [])
     → IsOffsetAt s.bytes 4 middle.at → Reads old middle [] → Writes middle new (codes "non-virtual thunk to ") → AwaitsEncoding s new
 unfolding thunk_text
-thunk-begins s old middle new fresh starts first second is reads writes =
+thunk-begins s old middle new fresh apart other starts first second is reads writes =
     let opened_ = symbol-starts s starts in
     let by = non_virtual (signed_digits is.negative is.digits) in
     let opens = thunk-opens s opened_.inner first_around 2 middle.at first_state opened_.awaits first second is in
     let written = thunk-written old middle new (codes "non-virtual thunk to ") fresh reads writes in
-    thunk-awaited s opened_ by new first (subst (λ n. BaseOpened s opened_.inner 2 (thunk (adjusting by)) n first_state) (sym writes.at) opens) written.0 written.1
+    thunk-awaited s opened_ by new apart other (subst (λ n. BaseOpened s opened_.inner 2 (thunk (adjusting by)) n first_state) (sym writes.at) opens) written.0 written.1
 
 -- a virtual one begins
-pub virtual-thunk-begins : (s : Symbol) (old first_ middle new : Direct) → IsFresh old → StandsAt s.bytes 0 (95 ∷ 90 ∷ []) → StandsAt s.bytes 2 (84 ∷ [])
+pub virtual-thunk-begins : (s : Symbol) (old first_ middle new : Direct) → IsFresh old → is_local s.bytes ≡ false → is_guard s.bytes ≡ false
+    → StandsAt s.bytes 0 (95 ∷ 90 ∷ []) → StandsAt s.bytes 2 (84 ∷ [])
     → StandsAt s.bytes 3 (118 ∷ []) → IsOffsetAt s.bytes 4 first_.at → Reads old first_ [] → IsOffsetAt s.bytes first_.at middle.at → Reads first_ middle []
     → Writes middle new (codes "virtual thunk to ") → AwaitsEncoding s new
 unfolding thunk_text
-virtual-thunk-begins s old first_ middle new fresh starts first second is reads is_then reads_then writes =
+virtual-thunk-begins s old first_ middle new fresh apart other starts first second is reads is_then reads_then writes =
     let opened_ = symbol-starts s starts in
     let by = by_table (signed_digits is.negative is.digits) (signed_digits is_then.negative is_then.digits) in
     let opens = virtual-thunk-opens s opened_.inner first_around 2 first_.at middle.at first_state opened_.awaits first second is is_then in
     let written = thunk-written old middle new (codes "virtual thunk to ") fresh (reads-then old first_ middle [] [] reads reads_then) writes in
-    thunk-awaited s opened_ by new first (subst (λ n. BaseOpened s opened_.inner 2 (thunk (adjusting by)) n first_state) (sym writes.at) opens) written.0 written.1
+    thunk-awaited s opened_ by new apart other (subst (λ n. BaseOpened s opened_.inner 2 (thunk (adjusting by)) n first_state) (sym writes.at) opens) written.0 written.1
 
 clone-eaten : (letter : ℕ) → (letter ≡ 116) ⊎ (letter ≡ 110) → is_eaten Kind.CloneLetter Production.Mark letter ≡ true
 unfolding is_eaten
@@ -172,12 +177,13 @@ clone-eaten letter (inl e) = rw e refl
 clone-eaten letter (inr e) = rw e refl
 
 -- a clone begins
-pub clone-begins : (s : Symbol) (old new : Direct) (letter : ℕ) → IsFresh old → is_local s.bytes ≡ false → s.is_wide ≡ true → (letter ≡ 116) ⊎ (letter ≡ 110)
+pub clone-begins : (s : Symbol) (old new : Direct) (letter : ℕ) → IsFresh old → is_local s.bytes ≡ false → is_guard s.bytes ≡ false
+    → s.is_wide ≡ true → (letter ≡ 116) ⊎ (letter ≡ 110)
     → StandsAt s.bytes 0 (95 ∷ 90 ∷ []) → StandsAt s.bytes 2 (71 ∷ 84 ∷ letter ∷ []) → Writes old new (clone_text letter) → AwaitsEncoding s (record new { at = 5 })
 unfolding clone_text
-clone-begins s old new letter fresh apart wide is starts bytes writes =
+clone-begins s old new letter fresh apart other wide is starts bytes writes =
     let opened_ = symbol-starts s starts in
-    base-awaited s opened_ (clone letter) (clone_text letter) (record new { at = 5 }) apart
+    base-awaited s opened_ (clone letter) (clone_text letter) (record new { at = 5 }) apart other
     (clone-opens s opened_.inner first_around letter 2 first_state wide (clone-eaten letter is) opened_.awaits bytes)
     (writes.text ∙ ap (λ l. l ++ clone_text letter) fresh.no_text) (clone-filled (nat_eq letter 116))
     (ap (λ v. v.list.items) writes.candidates ∙ fresh.no_candidate) (clone-shows (detail_of s) letter)
@@ -186,29 +192,27 @@ clone-begins s old new letter fresh apart wide is starts bytes writes =
 
 -- a letter that has a text as that of a special object is one
 special-known : (letter : ℕ) → look_up (letter ∷ []) special_texts ≢ [] → is_special_letter letter ≡ true
-unfolding is_special_letter special_texts code_in codes_in among
+unfolding is_special_letter special_texts code_in codes_pass among
 special-known letter there = letter-listed special_texts special_letters letter refl there
-
-no-special : look_up (0 ∷ []) special_texts ≡ []
-unfolding look_up special_texts same_bytes
-no-special = refl
 
 -- a letter that has a text is in the symbol
 pub special-stands : (s : List ℕ) (letter : ℕ) → look_up (letter ∷ []) special_texts ≢ [] → StandsAt s 2 (84 ∷ [])
     → (letter ≢ 0 → StandsAt s 3 (letter ∷ [])) → StandsAt s 2 (84 ∷ letter ∷ [])
+unfolding look_up special_texts same_bytes
 special-stands s letter filled first there =
-    stands-join s 2 (84 ∷ []) (letter ∷ []) first (there (λ e. filled (ap (λ l. look_up (l ∷ []) special_texts) e ∙ no-special)))
+    stands-join s 2 (84 ∷ []) (letter ∷ []) first (there (λ e. filled (ap (λ l. look_up (l ∷ []) special_texts) e)))
 
 -- a special object begins
-pub special-begins : (s : Symbol) (w : Direct) (letter : ℕ) → StandsAt s.bytes 0 (95 ∷ 90 ∷ []) → StandsAt s.bytes 2 (84 ∷ letter ∷ []) → w.at ≡ 4
+pub special-begins : (s : Symbol) (w : Direct) (letter : ℕ) → is_local s.bytes ≡ false → is_guard s.bytes ≡ false
+    → StandsAt s.bytes 0 (95 ∷ 90 ∷ []) → StandsAt s.bytes 2 (84 ∷ letter ∷ []) → w.at ≡ 4
     → w.text.list.items ≡ look_up (letter ∷ []) special_texts → look_up (letter ∷ []) special_texts ≢ [] → w.candidates.list.items ≡ []
     → w.waiting.list.items ≡ opens.Special ∷ [] → IsWriting s w steps.Type
 unfolding in_name first_state
-special-begins s w letter starts stands at_is written filled none_ waiting =
+special-begins s w letter apart other starts stands at_is written filled none_ waiting =
     let opened_ = symbol-starts s starts in
     let here = special-opens s opened_.inner first_around letter 2 first_state (special-known letter filled) opened_.awaits stands in
     record {
-      kept = record { state = first_state; scope = no_scope; keeps = none-kept s w none_ };
+      kept = record { state = first_state; scope = no_scope; keeps = none-kept s w none_ (λ e. no-object s.bytes apart other) };
       is_before = (
         record {
           os = here.inner;
@@ -228,29 +232,66 @@ special-begins s w letter starts stands at_is written filled none_ waiting =
 
 -- ## Nested names
 
--- the nested name of an encoding begins, of a member function with these qualifiers
-nested-marked : (s : Symbol) (old : Direct) (n : ℕ) (mark : Mark) → AwaitsEncoding s old
-    → StandsAt s.bytes old.at (nest_marks (has_const mark) (called_on mark)) → n ≡ old.at + length (nest_marks (has_const mark) (called_on mark))
-    → AwaitsNest s (record old { at = n }) (purposes.Name mark)
+-- where the name of a function or of data is expected, after the N and the qualifiers of a member function the first piece of a nested one is
+pub nest-awaited : (s : Symbol) (w : Direct) (kept : Kept s w) (purpose : Purpose) (encoding : ℕ) (inner : List Opened) (at first : ℕ) (place : MarkPlace)
+    → is_type purpose ≡ false → Expects s Kind.CompleteName (in_name encoding) inner at kept.state → StandsAt s.bytes at (78 ∷ []) → first ≡ at + 1
+    → IsMarkPlace s.bytes first place → w.at ≡ place.end
+    → ((outer : List Opened) → ((t : Term) (listed : Bool) (here : ℕ) (now : State) → Comes s outer (tree t listed) here now
+    → Comes s inner (named t (qualifiers (has_const place.mark)) (called_on place.mark)) here now)
+    → Serves s purpose (below s kept.scope (reverse w.waiting.list.items)) outer w.text.list.items)
+    → AwaitsNest s w purpose
 unfolding in_name
-nested-marked s old n mark p stands at_is =
-    let encoding = encoding-expected s old p in
-    let nest = name-nested s encoding.inner (in_name old.at) (has_const mark) (called_on mark) old.at p.state encoding.awaits stands in
+nest-awaited s w kept purpose encoding inner at first place own expects letter next is here serves =
+    let letters = mark_letters (has_const place.mark) (called_on place.mark) in
+    let nest = name-nested s inner (in_name encoding) (has_const place.mark) (called_on place.mark) at kept.state expects
+    (stands-join s.bytes at (78 ∷ []) letters letter (subst (λ k. StandsAt s.bytes k letters) next is.stands)) in
     record {
-      kept = kept-same s old (record old { at = n }) refl refl refl p.kept;
-      around = in_name old.at;
+      kept = kept;
+      around = in_name encoding;
       outside = refl;
       outer = nest.inner;
-      scoped = λ e. absurd (false≢true e);
-      awaits = subst (λ k. Expects s Kind.Nest (in_name old.at) nest.inner k p.state) (sym at_is) nest.awaits;
-      serves = λ t listed at st comes. items-await s old p (named t (qualifiers (has_const mark)) (called_on mark)) at st
-          (nest.onward t listed at st comes);
+      awaits = subst (λ k. Expects s Kind.Nest (in_name encoding) nest.inner k kept.state) (omega (arith, here, next, is.ends)) nest.awaits;
+      scoped = λ e. absurd (false≢true (sym own ∙ e));
+      serves = serves nest.inner nest.onward;
     }
 
--- after an N, where they are
-pub nested-begins : (s : Symbol) (old : Direct) (first : ℕ) (place : MarkPlace) → AwaitsEncoding s old → StandsAt s.bytes old.at (78 ∷ []) → first ≡ old.at + 1
+-- that of a symbol's encoding is
+pub nested-begins : (s : Symbol) (old : Direct) (first : ℕ) (place : MarkPlace) → AwaitsName s old → StandsAt s.bytes old.at (78 ∷ []) → first ≡ old.at + 1
     → IsMarkPlace s.bytes first place → AwaitsNest s (record old { at = place.end }) (purposes.Name place.mark)
 nested-begins s old first place p letter next is =
-    let letters = mark_letters (has_const place.mark) (called_on place.mark) in
-    nested-marked s old place.end place.mark p
-    (stands-join s.bytes old.at (78 ∷ []) letters letter (subst (λ k. StandsAt s.bytes k letters) next is.stands)) (omega (arith, next, is.ends))
+    nest-awaited s (record old { at = place.end }) (kept-same s old (record old { at = place.end }) refl refl refl p.kept) (purposes.Name place.mark) p.encoding p.outer
+    old.at first place refl p.awaits letter next is refl
+    (λ outer named_ t listed here now comes. p.onward (named t (qualifiers (has_const place.mark)) (called_on place.mark)) here now (named_ t listed here now comes))
+
+-- ## Guard variables
+
+-- the name of an object is expected of which a symbol names the guard variable
+pub object-begins : (s : Symbol) (old new : Direct) → IsFresh old → is_local s.bytes ≡ false → is_guard s.bytes ≡ true
+    → StandsAt s.bytes 0 (95 ∷ 90 ∷ []) → StandsAt s.bytes 2 (71 ∷ 86 ∷ []) → Writes old new (codes "guard variable for ") → AwaitsName s (record new { has_scope = true; at = 4 })
+unfolding first_state
+object-begins s old new fresh apart guard starts marks writes =
+    let opened_ = symbol-starts s starts in
+    let guard_ : GuardOpened s opened_.inner 2 4 first_state = guard-opens s opened_.inner first_around 2 first_state opened_.awaits marks in
+    let k = codes "guard variable for " in
+    let text_is : new.text.list.items ≡ k = writes.text ∙ ap (λ l. l ++ k) fresh.no_text in
+    record {
+      kept = record {
+        state = first_state;
+        scope = no_scope;
+        keeps = none-kept s (record new { has_scope = true; at = 4 }) (ap (λ v. v.list.items) writes.candidates ∙ fresh.no_candidate) (λ e. absurd (false≢true (sym e)));
+      };
+      encoding = 2;
+      outer = guard_.inner;
+      awaits = guard_.awaits;
+      onward = λ v at st comes.
+          let made = of_name 86 (tree_of v) (qualifiers_of v) (ref_of v) in
+          record {
+            ends = whole-behind s new.text.list.items (encoding_of v nil) at apart (record {
+              made = made;
+              encoded = encoded-whole s opened_ made at st (guard_.onward v at st comes);
+              shows = λ bytes p. subst (λ l. Shows (detail_of s) made (l ++ bytes)) (sym text_is)
+                  (guarded-shows (detail_of s) (tree_of v) (qualifiers_of v) (ref_of v) bytes (subst (λ e. Shows (detail_of s) e bytes) (encoding-object v) p));
+            });
+            items = λ typed. let guarded : is_object s.bytes ≡ true = rw (apart, guard) refl in absurd (false≢true (sym typed ∙ guarded));
+          };
+    }

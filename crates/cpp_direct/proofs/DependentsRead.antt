@@ -2,26 +2,19 @@
 use Rattle.sym_print.specs.declared.detail.Detail.{Detail}
 use Rattle.cpp_grammar.specs.Unfolding.{byte_of, close}
 use Rattle.cpp_grammar.specs.Meaning.{is_void, meaning, listed_value}
-use Rattle.cpp_direct.specs.Symbol.{detail_of, Symbol}
+use Rattle.cpp_direct.specs.WriterTypes.{Argument, Arguments, Candidate, Direct, Mark, Pattern, Symbol, detail_of}
 use Rattle.cpp_direct.proofs.Kept.{candidate-found, kept-argument, kept-grown, kept-same, kept-written, made-here, piece-found, placed-stays, value-added, value-comes, candidate-inside, kept-as, kept-with}
 use Rattle.cpp_direct.proofs.Listed.{some-elements}
 use Rattle.cpp_direct.proofs.Moves.{hole, eats, byte-opens, next-part, closes, none-fills, number-fills, is_eaten, stands-join, stands-split, expects-empty, open_at, fill, filled-at}
-use Rattle.cpp_direct.proofs.MovesOfTypes.{const-opens, lvalue-opens, rvalue-opens, solid-opens, substitution-opens}
+use Rattle.cpp_direct.proofs.MovesOfTypes.{const-opens, reference-type-opens, solid-opens, substitution-opens}
 use Rattle.cpp_direct.proofs.PrintedExpansions.{expansion-element, expansion-empty}
 use Rattle.cpp_direct.proofs.PrintedTypes.{parameter-given, rvalue-given}
 use Rattle.cpp_direct.proofs.NamedArguments.{again-substituted, named-here}
-use Rattle.cpp_direct.specs.declared.open.Mark.{Mark}
-use Rattle.cpp_direct.specs.HolesOfTypes.{as_const}
-use Rattle.cpp_direct.specs.Holes.{Opened, StandsAt, Comes, candidate, with_candidate, Expects, IsReferable, IsTyped}
+use Rattle.cpp_direct.specs.AllHoles.{Comes, Expects, IsReferable, IsTyped, Opened, StandsAt, TypeOpens, as_const, candidate, with_candidate}
 use Rattle.cpp_direct.specs.Prints.{IsMarkedBy, PrintsAs, PrintsGiven, PrintsMade, PrintAllBy, list_of, made_by, pattern_letters}
 use Rattle.cpp_direct.specs.WriterInvariant.{AreCandidates, EncodedBehind, IsKnown, IsPackOf, IsPackThere, IsPlaced, IsScope, IsSingle, IsWriting, ParametersGoOn, argument_of, in_front_of_next, place_of, Kept, Scope}
 use Rattle.cpp_direct.specs.MidStep.{AwaitsType, AreParametersRead, IsFunctionEnded, IsNamedAgain, most_by_digit, parameter_digits, AreExpanded, comma_text, expansion_letters, separator}
-use Rattle.cpp_direct.specs.Written.{Writes, added, hidden, with_argument}
-use Rattle.cpp_direct.specs.declared.direct.Direct.{Direct}
-use Rattle.cpp_direct.specs.declared.open.Argument.{Argument}
-use Rattle.cpp_direct.specs.declared.open.Candidate.{Candidate}
-use Rattle.cpp_direct.specs.declared.open.Arguments.{Arguments}
-use Rattle.cpp_direct.specs.declared.open.Pattern.{Pattern}
+use Rattle.cpp_direct.specs.Written.{Writes, added, hidden, with_argument, Lists}
 use Rattle.cpp_direct.specs.declared.open.Pattern.TheVariants as patterns
 use Rattle.cpp_grammar.specs.Between.{Going, between, after, applied, listed_so_far, parameter_so_far, index_of, under_expansion}
 use Rattle.cpp_grammar.specs.Grammar.{may_be_empty, number_of_kind, parts_of}
@@ -32,9 +25,11 @@ use Rattle.cpp_grammar.specs.Term.{Term, parameter, expansion, lvalue, rvalue}
 use Rattle.cpp_grammar.specs.Values.{tree, State, Around, text_of, is_there, letter_of, part, piece_of, tree_of, is_listed}
 use Rattle.cpp_grammar.specs.declared.kind.Kind.{Kind}
 use Rattle.cpp_grammar.specs.declared.production.Production.{Production}
-use Rattle.std.proofs.Common.{Bool, ◌≡◌, ◌≢◌, ℕ, zero, suc, ◌+◌, ◌-◌, ◌≤◌, ◌<◌, length, List, [], ◌∷◌, ◌++◌, take, drop, reverse, slice_get, true, false, replicate, Some, None, nat_le, ◌&&◌, refl, ap, sym, ◌∙◌, subst, arith, append_assoc, append-nil, Ok, codes}
+use Rattle.std.proofs.Common.{Bool, ◌≡◌, ◌≢◌, ℕ, zero, suc, ◌+◌, ◌-◌, ◌≤◌, ◌<◌, length, List, [], ◌∷◌, ◌++◌, take, drop, reverse, slice_get, get_or, true, false, replicate, Some, None, nat_le, ◌&&◌, refl, ap, sym, ◌∙◌, subst, arith, append_assoc, append-nil, Ok, codes}
 use Rattle.std.proofs.lemmas.Bool.{le-leb, lt-ltb}
 use Rattle.std.proofs.lemmas.List.{length-append}
+use Rattle.std.proofs.lemmas.Option.{slice_get_within, get_or_from_slice_get}
+use Rattle.std.proofs.Math.Seq.{get_or-append_seam}
 use Rattle.sym_core.specs.Value.{counted_value}
 use Rattle.sym_core.specs.declared.NumberKind.TheVariants.{Seq36, Decimal}
 use Rattle.sym_core.specs.Token.{Token, IsNumberToken}
@@ -70,30 +65,35 @@ parameter-found : (around : Around) (k at : ℕ) (st : State) (all : Term) → a
 unfolding parameter_named with_packs appended
 parameter-found around k at st all scope below none = rw (scope, lt-ltb k (count all) below, none, parameter_named) refl
 
--- in its scope it is a candidate
-parameter-tested : (around : Around) (k at : ℕ) (st : State) → k ≤ most_by_digit → IsScope k around
+-- what it names is found
+number-tested : (around : Around) (k at : ℕ) (st later : State) → k ≤ most_by_digit → parameter_named around at k st ≡ Ok later
     → ◌≡◌ {A = Going} (between Production.Parameter around at (values.text (parameter_digits k) ∷ []) st)
-    (Ok (record { context = after (parameter k) true around; values = tree (parameter k) true ∷ []; state = with_candidate around (parameter k) st }))
+    (Ok (record { context = after (parameter k) true around; values = tree (parameter k) true ∷ []; state = later }))
 unfolding between parameter_so_far listed_so_far
-parameter-tested around k at st few scope =
+number-tested around k at st later few named =
     subst (λ n. ◌≡◌ {A = Going} (parameter_so_far around at n [] st)
-    (Ok (record { context = after (parameter k) true around; values = tree (parameter k) true ∷ []; state = with_candidate around (parameter k) st })))
-    (sym (digits-count k few))
-    (rw (parameter-found around k at st scope.all scope.scope_is scope.there.1 (ap length_if_pack scope.there.0 ∙ scope.no_pack)) refl)
+    (Ok (record { context = after (parameter k) true around; values = tree (parameter k) true ∷ []; state = later }))) (sym (digits-count k few)) (rw named refl)
 
--- a parameter comes, and is a candidate
-pub parameter-comes : (s : Symbol) (kind : Kind) (around : Around) (os : List Opened) (k at : ℕ) (st : State) → IsTyped kind → k ≤ most_by_digit
-    → IsScope k around → Expects s kind around os at st → StandsAt s.bytes at (84 ∷ (parameter_digits k ++ 95 ∷ []))
-    → Comes s os (tree (parameter k) true) (at + 1 + length (parameter_digits k ++ 95 ∷ [])) (with_candidate around (parameter k) st)
+-- the parameter comes
+number-comes : (s : Symbol) (kind : Kind) (around : Around) (os : List Opened) (k at : ℕ) (st later : State) → IsTyped kind → k ≤ most_by_digit
+    → ((place : ℕ) → parameter_named around place k st ≡ Ok later) → Expects s kind around os at st → StandsAt s.bytes at (84 ∷ (parameter_digits k ++ 95 ∷ []))
+    → Comes s os (tree (parameter k) true) (at + 1 + length (parameter_digits k ++ 95 ∷ [])) later
 unfolding is_eaten number_of_kind parts_of may_be_empty between close unfolding_.behind meaning part byte_of tree_of text_of piece_of letter_of is_there applied is_function_type
-parameter-comes s kind around os k at st typed few scope expects stands =
+number-comes s kind around os k at st later typed few named expects stands =
     let p = Production.Parameter in
-    let end = at + 1 + length (parameter_digits k ++ 95 ∷ []) in
     let both = stands-split s.bytes at (84 ∷ []) (parameter_digits k ++ 95 ∷ []) stands in
     let solid = solid-opens s kind around os at st typed expects in
     let number = byte-opens (eats s Kind.Solid p 84 refl) (hole s Kind.Solid around solid.inner at st solid.awaits) both.0 refl refl in
-    let arguments = next-part p (number-fills (parameter_token k) number (parameter-number k few) both.1) (parameter-tested around k at st few scope) in
-    solid.passes (parameter k) true end (with_candidate around (parameter k) st) refl (closes p (none-fills Kind.ArgumentsAlone arguments refl) refl).comes
+    let arguments = next-part p (number-fills (parameter_token k) number (parameter-number k few) both.1) (number-tested around k at st later few (named at)) in
+    solid.onward (parameter k) true (at + 1 + length (parameter_digits k ++ 95 ∷ [])) later refl (closes p (none-fills Kind.ArgumentsAlone arguments refl) refl).comes
+
+-- in its scope it is a candidate
+pub parameter-comes : (s : Symbol) (kind : Kind) (around : Around) (os : List Opened) (k at : ℕ) (st : State) → IsTyped kind → k ≤ most_by_digit
+    → IsScope k around → Expects s kind around os at st → StandsAt s.bytes at (84 ∷ (parameter_digits k ++ 95 ∷ []))
+    → Comes s os (tree (parameter k) true) (at + 1 + length (parameter_digits k ++ 95 ∷ [])) (with_candidate around (parameter k) st)
+parameter-comes s kind around os k at st typed few scope expects stands =
+    number-comes s kind around os k at st (with_candidate around (parameter k) st) typed few
+    (λ place. parameter-found around k place st scope.all scope.scope_is scope.there.1 (ap length_if_pack scope.there.0 ∙ scope.no_pack)) expects stands
 
 -- the digit of a parameter's number comes before its line
 pub digit-stands : (s : List ℕ) (at k digit : ℕ) → digit ≡ 48 + k → StandsAt s at (digit ∷ []) → StandsAt s (at + 1) (95 ∷ [])
@@ -159,20 +159,12 @@ parameter-done s old mid new all k p n a few letter line found is single real wr
     (parameter-comes s a.kind a.around a.os k old.at a.state a.typed few (scope-named s old all k a found single) a.awaits
     (stands-join s.bytes old.at (84 ∷ []) (parameter_digits k ++ 95 ∷ []) letter line))) a.stands
 
--- what is written from a place on became a candidate, which is a reference and names arguments
-pub record IsListed (old new : Direct) (from : ℕ) : Type 0 where
-  pub more : new.candidates.list.items ≡ added old from true true
-  pub text : new.text ≡ old.text
-  pub waits : new.waiting ≡ old.waiting
-  pub scope : new.has_scope ≡ old.has_scope
-  pub at : new.at ≡ old.at
-
 -- An rvalue reference to it is read, which is this argument itself where that is a reference.
 pub forwarded-done : (s : Symbol) (old mid one new : Direct) (all : Arguments) (k : ℕ) (p : Argument) (n from : ℕ) (a : AwaitsType s old) → k ≤ most_by_digit → IsReferable a.kind
     → StandsAt s.bytes old.at (79 ∷ []) → StandsAt s.bytes (old.at + 1) (84 ∷ []) → StandsAt s.bytes (old.at + 1 + 1) (parameter_digits k ++ 95 ∷ [])
     → argument_of (reverse old.waiting.list.items) ≡ Some all → p ≡ place_of all k → IsSingle all k → all.encoding ≢ 0 → p.is_reference ≡ true
     → from ≡ length old.text.list.items → Writes (record old { at = n }) mid (take (p.to - p.from) (drop p.from old.text.list.items))
-    → n ≡ old.at + 1 + 1 + length (parameter_digits k ++ 95 ∷ []) → IsListed mid one from → IsListed one new from
+    → n ≡ old.at + 1 + 1 + length (parameter_digits k ++ 95 ∷ []) → Lists mid one (added mid from true true) → Lists one new (added one from true true)
     → IsWriting s new (steps.Value true true)
 forwarded-done s old mid one new all k p n from a few referable mark letter line found is single real refers from_is writes at first second =
     let text = old.text.list.items in
@@ -185,17 +177,17 @@ forwarded-done s old mid one new all k p n from a few referable mark letter line
     let listed : one.text.list.items ≡ text ++ bytes = ap (λ v. v.list.items) first.text ∙ grown in
     let naming = named-here s old a.kept a.around all a.scoped found real in
     let here = made-here a.scope a.around (reverse old.waiting.list.items) a.scoped naming in
-    let open_is : new.waiting ≡ old.waiting = second.waits ∙ first.waits ∙ writes.waiting in
+    let open_is : new.waiting ≡ old.waiting = second.waiting ∙ first.waiting ∙ writes.waiting in
     let own = with_candidate a.around (parameter k) a.state in
     let later = with_candidate a.around (rvalue (parameter k)) own in
-    let reference = rvalue-opens s a.kind a.around a.os old.at a.state referable a.awaits mark in
+    let reference = reference-type-opens s a.kind false a.around a.os old.at a.state referable a.awaits mark in
     let prints = rvalue-given a.scope.names k bytes named in
     value-added s one new
     (kept-with s mid one (kept-grown s old mid bytes grown writes.candidates writes.scope a.kept) text bytes from (parameter k) a.around true true grown from_is
-    (parameter-given a.scope.names k (record { bytes = bytes; reference = true }) named) (λ e. here) first.text first.more first.scope)
-    a.os a.around (rvalue (parameter k)) text bytes from true true listed from_is prints (λ e. here) second.text second.more second.scope (ap (λ v. reverse v.list.items) open_is) (λ e. naming)
+    (parameter-given a.scope.names k (record { bytes = bytes; reference = true }) named) (λ e. here) first.text first.candidates first.scope)
+    a.os a.around (rvalue (parameter k)) text bytes from true true listed from_is prints (λ e. here) second.text second.candidates second.scope (ap (λ v. reverse v.list.items) open_is) (λ e. naming)
     (subst (λ n. Comes s a.os (tree (rvalue (parameter k)) true) n later) (sym (second.at ∙ first.at ∙ writes.at ∙ at))
-    (reference.passes (parameter k) (old.at + 1 + 1 + length (parameter_digits k ++ 95 ∷ [])) own
+    (reference.onward (parameter k) (old.at + 1 + 1 + length (parameter_digits k ++ 95 ∷ [])) own
     (parameter-comes s Kind.Type a.around reference.inner k (old.at + 1) a.state tt few (scope-named s old all k a found single) reference.awaits
     (stands-join s.bytes (old.at + 1) (84 ∷ []) (parameter_digits k ++ 95 ∷ []) letter line)))) a.stands
 
@@ -246,39 +238,13 @@ pack-found : (around : Around) (k at : ℕ) (st : State) (ts : List Term) → Is
 unfolding parameter_named with_packs appended under_expansion length_if_pack
 pack-found around k at st ts p = rw (p.scope_is, lt-ltb k (count p.all) p.there.1, p.there.0, parameter_named) refl
 
-pack-tested : (around : Around) (k at : ℕ) (st : State) (ts : List Term) → k ≤ most_by_digit → IsPackThere around k ts
-    → ◌≡◌ {A = Going} (between Production.Parameter (under_expansion around) at (values.text (parameter_digits k) ∷ []) (begun st))
-    (Ok (record {
-      context = after (parameter k) true (under_expansion around);
-      values = tree (parameter k) true ∷ [];
-      state = with_candidate around (parameter k) (named_many (count (list_of ts)) st);
-    }))
-unfolding between parameter_so_far listed_so_far
-pack-tested around k at st ts few p =
-    subst (λ n. ◌≡◌ {A = Going} (parameter_so_far (under_expansion around) at n [] (begun st))
-    (Ok (record {
-      context = after (parameter k) true (under_expansion around);
-      values = tree (parameter k) true ∷ [];
-      state = with_candidate around (parameter k) (named_many (count (list_of ts)) st);
-    })))
-    (sym (digits-count k few))
-    (rw (pack-found around k at st ts p) refl)
-
 -- the parameter comes
 pack-comes : (s : Symbol) (kind : Kind) (around : Around) (os : List Opened) (k at : ℕ) (st : State) (ts : List Term) → IsTyped kind → k ≤ most_by_digit → IsPackThere around k ts
     → Expects s kind (under_expansion around) os at (begun st) → StandsAt s.bytes at (84 ∷ (parameter_digits k ++ 95 ∷ []))
     → Comes s os (tree (parameter k) true) (at + 1 + length (parameter_digits k ++ 95 ∷ [])) (with_candidate around (parameter k) (named_many (count (list_of ts)) st))
-unfolding is_eaten number_of_kind parts_of may_be_empty between close unfolding_.behind meaning part byte_of tree_of text_of piece_of letter_of is_there applied is_function_type
 pack-comes s kind around os k at st ts typed few there expects stands =
-    let p = Production.Parameter in
-    let here = under_expansion around in
-    let end = at + 1 + length (parameter_digits k ++ 95 ∷ []) in
-    let later = with_candidate around (parameter k) (named_many (count (list_of ts)) st) in
-    let both = stands-split s.bytes at (84 ∷ []) (parameter_digits k ++ 95 ∷ []) stands in
-    let solid = solid-opens s kind here os at (begun st) typed expects in
-    let number = byte-opens (eats s Kind.Solid p 84 refl) (hole s Kind.Solid here solid.inner at (begun st) solid.awaits) both.0 refl refl in
-    let arguments = next-part p (number-fills (parameter_token k) number (parameter-number k few) both.1) (pack-tested around k at st ts few there) in
-    solid.passes (parameter k) true end later refl (closes p (none-fills Kind.ArgumentsAlone arguments refl) refl).comes
+    number-comes s kind (under_expansion around) os k at (begun st) (with_candidate around (parameter k) (named_many (count (list_of ts)) st)) typed few
+    (λ place. pack-found around k place st ts there) expects stands
 
 -- the trees that a pattern makes of a parameter, one after the other
 abbrev trees_of : Pattern → Term → List Term
@@ -292,6 +258,21 @@ abbrev with_trees : Around → List Term → State → State
 with_trees around [] st = st
 with_trees around (t ∷ ts) st = with_trees around ts (with_candidate around t st)
 
+-- after the letter of a reference what it is to comes
+marked-comes : (s : Symbol) (byte : ℕ) (made : Term → Term) (around : Around) (os : List Opened) (k at : ℕ) (st : State) (ts : List Term) → k ≤ most_by_digit → IsPackThere around k ts
+    → (StandsAt s.bytes at (byte ∷ []) → TypeOpens s Kind.Type os (under_expansion around) made (at + 1) (begun st))
+    → StandsAt s.bytes at (byte ∷ 84 ∷ (parameter_digits k ++ 95 ∷ []))
+    → Comes s os (tree (made (parameter k)) true) (at + length (byte ∷ 84 ∷ (parameter_digits k ++ 95 ∷ [])))
+    (with_candidate around (made (parameter k)) (with_candidate around (parameter k) (named_many (count (list_of ts)) st)))
+unfolding under_expansion
+marked-comes s byte made around os k at st ts few there opens stands =
+    let both = stands-split s.bytes at (byte ∷ []) (84 ∷ (parameter_digits k ++ 95 ∷ [])) stands in
+    let o = opens both.0 in
+    let own = with_candidate around (parameter k) (named_many (count (list_of ts)) st) in
+    subst (λ n. Comes s os (tree (made (parameter k)) true) n (with_candidate around (made (parameter k)) own)) (omega arith)
+    (o.onward (parameter k) (at + 1 + 1 + length (parameter_digits k ++ 95 ∷ [])) own
+    (pack-comes s Kind.Type around o.inner k (at + 1) st ts tt few there o.awaits both.1))
+
 -- what the pattern makes of it comes
 pattern-comes : (s : Symbol) (pattern : Pattern) (around : Around) (os : List Opened) (k at : ℕ) (st : State) (ts : List Term) → k ≤ most_by_digit → IsPackThere around k ts
     → Expects s Kind.Type (under_expansion around) os at (begun st) → StandsAt s.bytes at (pattern_letters pattern ++ 84 ∷ (parameter_digits k ++ 95 ∷ []))
@@ -302,33 +283,21 @@ pattern-comes s patterns.Same around os k at st ts few there expects stands =
     subst (λ n. Comes s os (tree (parameter k) true) n (with_candidate around (parameter k) (named_many (count (list_of ts)) st))) (omega arith)
     (pack-comes s Kind.Type around os k at st ts tt few there expects stands)
 pattern-comes s patterns.Lvalue around os k at st ts few there expects stands =
-    let letters = 84 ∷ (parameter_digits k ++ 95 ∷ []) in
-    let both = stands-split s.bytes at (82 ∷ []) letters stands in
-    let o = lvalue-opens s Kind.Type (under_expansion around) os at (begun st) tt expects both.0 in
-    let own = with_candidate around (parameter k) (named_many (count (list_of ts)) st) in
-    subst (λ n. Comes s os (tree (lvalue (parameter k)) true) n (with_candidate around (lvalue (parameter k)) own)) (omega arith)
-    (o.passes (parameter k) (at + 1 + 1 + length (parameter_digits k ++ 95 ∷ [])) own
-    (pack-comes s Kind.Type around o.inner k (at + 1) st ts tt few there o.awaits both.1))
+    marked-comes s 82 lvalue around os k at st ts few there (λ first. reference-type-opens s Kind.Type true (under_expansion around) os at (begun st) tt expects first) stands
 pattern-comes s patterns.ConstLvalue around os k at st ts few there expects stands =
     let letters = 84 ∷ (parameter_digits k ++ 95 ∷ []) in
     let both = stands-split s.bytes at (82 ∷ []) (75 ∷ letters) stands in
     let rest = stands-split s.bytes (at + 1) (75 ∷ []) letters both.1 in
-    let o = lvalue-opens s Kind.Type (under_expansion around) os at (begun st) tt expects both.0 in
+    let o = reference-type-opens s Kind.Type true (under_expansion around) os at (begun st) tt expects both.0 in
     let c = const-opens s Kind.Type (under_expansion around) o.inner (at + 1) (begun st) tt o.awaits rest.0 in
     let own = with_candidate around (parameter k) (named_many (count (list_of ts)) st) in
     let const_ = with_candidate around (as_const (parameter k)) own in
     let end = at + 1 + 1 + 1 + length (parameter_digits k ++ 95 ∷ []) in
     subst (λ n. Comes s os (tree (lvalue (as_const (parameter k))) true) n (with_candidate around (lvalue (as_const (parameter k))) const_)) (omega arith)
-    (o.passes (as_const (parameter k)) end const_
-    (c.passes (parameter k) end own (pack-comes s Kind.Plain around c.inner k (at + 1 + 1) st ts tt few there c.awaits rest.1)))
+    (o.onward (as_const (parameter k)) end const_
+    (c.onward (parameter k) end own (pack-comes s Kind.Plain around c.inner k (at + 1 + 1) st ts tt few there c.awaits rest.1)))
 pattern-comes s patterns.Rvalue around os k at st ts few there expects stands =
-    let letters = 84 ∷ (parameter_digits k ++ 95 ∷ []) in
-    let both = stands-split s.bytes at (79 ∷ []) letters stands in
-    let o = rvalue-opens s Kind.Type (under_expansion around) os at (begun st) tt expects both.0 in
-    let own = with_candidate around (parameter k) (named_many (count (list_of ts)) st) in
-    subst (λ n. Comes s os (tree (rvalue (parameter k)) true) n (with_candidate around (rvalue (parameter k)) own)) (omega arith)
-    (o.passes (parameter k) (at + 1 + 1 + length (parameter_digits k ++ 95 ∷ [])) own
-    (pack-comes s Kind.Type around o.inner k (at + 1) st ts tt few there o.awaits both.1))
+    marked-comes s 79 rvalue around os k at st ts few there (λ first. reference-type-opens s Kind.Type false (under_expansion around) os at (begun st) tt expects first) stands
 
 -- the candidates after it
 abbrev pub with_expansion : Pattern → (k size : ℕ) → Around → State → State
@@ -401,16 +370,13 @@ all-expanded : {detail : Detail} (pattern : Pattern) (before w : Direct) (ts : L
     → f.rest ≡ []
 all-expanded pattern before w ts number all f = none-left f.rest (omega (arith, all, f.count, ap length f.all, length-append f.done f.rest))
 
-nothing-there : (l : List Term) (n : ℕ) (own : Term) → l ≡ [] → slice_get l n ≡ Some own → ⊥
-nothing-there [] n own e at = cc at
-nothing-there (t ∷ ts) n own e at = cc e
-
 next-one : (done rest : List Term) (n : ℕ) (own : Term) → length done ≡ n → slice_get (done ++ rest) n ≡ Some own → (more : List Term) × (rest ≡ own ∷ more)
-next-one [] [] n own size at = absurd (nothing-there [] n own refl at)
-next-one [] (t ∷ rest) zero own size at = let e : t ≡ own = cc at in (rest, ap (λ u. u ∷ rest) e)
-next-one [] (t ∷ rest) (suc n) own size at = absurd (omega (arith, size))
-next-one (d ∷ done) rest zero own size at = absurd (omega (arith, size))
-next-one (d ∷ done) rest (suc n) own size at = next-one done rest n own (omega (arith, size)) at
+next-one done [] n own size at = absurd (omega (arith, size, slice_get_within (done ++ []) n own at, length-append done []))
+next-one done (t ∷ more) n own size at = (
+  more,
+  ap (λ u. u ∷ more) (sym (get_or-append_seam done t more own) ∙ ap (λ k. get_or (done ++ t ∷ more) k own) size
+      ∙ get_or_from_slice_get (done ++ t ∷ more) n own own at),
+)
 
 comma-between : (done : List Term) (number : ℕ) (bytes : List ℕ) → length done ≡ number → in_front_of_next done bytes ≡ bytes ++ comma_text number
 comma-between [] zero bytes e = sym (append-nil bytes)
@@ -433,9 +399,8 @@ expanded-inside pattern before w one ts argument number place p f is known write
         ap (λ (k : Argument). k.to) is,
         inside.1,
         ap length writes.text,
-        length-append w.text.list.items (comma_text number),
+        length-append {A = ℕ},
         ap length f.writes.text,
-        length-append before.text.list.items f.bytes,
       ),
     )
 
@@ -480,39 +445,30 @@ expanded-more {detail} pattern before w one two new ts argument number place mar
       };
     }
 
--- each tree that a pattern makes is a candidate of which nothing is known, and so is the expansion
-trees-hidden : (s : Symbol) (scope : Scope) (text : List ℕ) (ks : List Candidate) (around : Around) (pattern : Pattern) (k size : ℕ) (st : State)
+-- so many candidates of which nothing is known
+trees-hidden : (s : Symbol) (scope : Scope) (text : List ℕ) (around : Around) (ts : List Term) (ks : List Candidate) (st : State) → AreCandidates s scope text ks st.candidates
+    → AreCandidates s scope text (ks ++ replicate (length ts) hidden) (with_trees around ts st).candidates
+trees-hidden s scope text around [] ks st known = subst (λ l. AreCandidates s scope text l st.candidates) (sym (append-nil ks)) known
+trees-hidden s scope text around (t ∷ ts) ks st known =
+    subst (λ l. AreCandidates s scope text l (with_trees around ts (with_candidate around t st)).candidates) (append_assoc ks (hidden ∷ []) (replicate (length ts) hidden))
+    (trees-hidden s scope text around ts (ks ++ hidden ∷ []) (with_candidate around t st) (one-hidden s scope text ks st.candidates (candidate around t) known))
+
+-- each tree that a pattern makes is one, and so is the expansion
+expansion-hidden : (s : Symbol) (scope : Scope) (text : List ℕ) (ks : List Candidate) (around : Around) (pattern : Pattern) (k size : ℕ) (st : State)
     → AreCandidates s scope text ks st.candidates
     → AreCandidates s scope text (ks ++ replicate (2 + length (pattern_letters pattern)) hidden) (with_expansion pattern k size around st).candidates
-trees-hidden s scope text ks around pattern k size st known = go pattern known
-  where
-    p : Term
-    p = parameter k
-
-    once : (more : List Candidate) (cs : List values.Candidate) (t : Term) → AreCandidates s scope text (ks ++ more) cs
-        → AreCandidates s scope text (ks ++ (more ++ hidden ∷ [])) (cs ++ candidate around t ∷ [])
-    once more cs t have =
-        subst (λ l. AreCandidates s scope text l (cs ++ candidate around t ∷ [])) (append_assoc ks more (hidden ∷ []))
-        (one-hidden s scope text (ks ++ more) cs (candidate around t) have)
-
-    first : AreCandidates s scope text ks st.candidates → AreCandidates s scope text (ks ++ hidden ∷ []) (st.candidates ++ candidate around p ∷ [])
-    first have = one-hidden s scope text ks st.candidates (candidate around p) have
-
-    go : (pattern : Pattern) → AreCandidates s scope text ks st.candidates
-        → AreCandidates s scope text (ks ++ replicate (2 + length (pattern_letters pattern)) hidden) (with_expansion pattern k size around st).candidates
-    go patterns.Same have = once (hidden ∷ []) (st.candidates ++ candidate around p ∷ []) (expansion p) (first have)
-    go patterns.Lvalue have =
-        let two = once (hidden ∷ []) (st.candidates ++ candidate around p ∷ []) (lvalue p) (first have) in
-        once (hidden ∷ hidden ∷ []) ((st.candidates ++ candidate around p ∷ []) ++ candidate around (lvalue p) ∷ []) (expansion (lvalue p)) two
-    go patterns.ConstLvalue have =
-        let c = as_const p in
-        let two = once (hidden ∷ []) (st.candidates ++ candidate around p ∷ []) c (first have) in
-        let three = once (hidden ∷ hidden ∷ []) ((st.candidates ++ candidate around p ∷ []) ++ candidate around c ∷ []) (lvalue c) two in
-        once (hidden ∷ hidden ∷ hidden ∷ []) (((st.candidates ++ candidate around p ∷ []) ++ candidate around c ∷ []) ++ candidate around (lvalue c) ∷ [])
-        (expansion (lvalue c)) three
-    go patterns.Rvalue have =
-        let two = once (hidden ∷ []) (st.candidates ++ candidate around p ∷ []) (rvalue p) (first have) in
-        once (hidden ∷ hidden ∷ []) ((st.candidates ++ candidate around p ∷ []) ++ candidate around (rvalue p) ∷ []) (expansion (rvalue p)) two
+expansion-hidden s scope text ks around patterns.Same k size st known =
+    let p = parameter k in
+    trees-hidden s scope text around (p ∷ expansion p ∷ []) ks st known
+expansion-hidden s scope text ks around patterns.Lvalue k size st known =
+    let p = parameter k in
+    trees-hidden s scope text around (p ∷ lvalue p ∷ expansion (lvalue p) ∷ []) ks st known
+expansion-hidden s scope text ks around patterns.ConstLvalue k size st known =
+    let p = parameter k in
+    trees-hidden s scope text around (p ∷ as_const p ∷ lvalue (as_const p) ∷ expansion (lvalue (as_const p)) ∷ []) ks st known
+expansion-hidden s scope text ks around patterns.Rvalue k size st known =
+    let p = parameter k in
+    trees-hidden s scope text around (p ∷ rvalue p ∷ expansion (rvalue p) ∷ []) ks st known
 
 -- so what is known of the candidates before is known of those with them
 abbrev expansion-kept : (s : Symbol) (w new : Direct) (around : Around) (pattern : Pattern) (k size : ℕ) (kept : Kept s w)
@@ -520,7 +476,7 @@ abbrev expansion-kept : (s : Symbol) (w new : Direct) (around : Around) (pattern
     → new.has_scope ≡ w.has_scope → Kept s new
 expansion-kept s w new around pattern k size kept text candidates scope_ =
     kept-as s w new (with_expansion pattern k size around kept.state) kept text candidates scope_
-    (trees-hidden s kept.scope w.text.list.items w.candidates.list.items around pattern k size kept.state kept.keeps.candidates)
+    (expansion-hidden s kept.scope w.text.list.items w.candidates.list.items around pattern k size kept.state kept.keeps.candidates)
 
 -- parameters go on after it
 expansion-goes : (s : Symbol) (pattern : Pattern) (w : Direct) (is_first : Bool) (mark : Mark) (start : ℕ) (argument : Arguments)

@@ -3,19 +3,16 @@ use Rattle.sym_print.specs.declared.detail.Detail.{Detail}
 use Rattle.std.proofs.Common.{◌≡◌, ◌≢◌, ℕ, ◌+◌, ◌⊎◌, List, [], ◌∷◌, ◌++◌, length, reverse, nat_eq, Bool, true, false, cond, refl, ap, sym, subst, ◌∙◌, arith, codes, append_assoc, append-nil, drop, inl, inr, ◌<◌, ◌≤◌, get_or, not, ◌&&◌}
 use Rattle.std.proofs.lemmas.Bool.{false≢true, ne_eqb}
 use Rattle.std.specs.List.{ends_with}
-use Rattle.cpp_direct.specs.Symbol.{detail_of, Symbol}
-use Rattle.cpp_direct.specs.HolesOfTypes.{TreeOpens}
+use Rattle.cpp_direct.specs.WriterTypes.{Direct, Open, Symbol, detail_of}
+use Rattle.cpp_direct.specs.AllHoles.{IsDigitsAt, IsOffsetAt, ListGoesOn, StandsAt, TreeOpens, minus_sign}
 use Rattle.cpp_grammar.specs.declared.kind.Kind.{Kind}
 use Rattle.cpp_grammar.specs.Parts.{is_plain_integer}
 use Rattle.cpp_grammar.specs.Term.{Term, builtin, boolean, integer, Signed}
 use Rattle.cpp_grammar.specs.Texts.{look_up, builtin_texts, literal_endings}
 use Rattle.cpp_grammar.specs.Grammar.{among}
 use Rattle.cpp_grammar.specs.Values.{normal, signed_digits, is_zero}
-use Rattle.cpp_direct.specs.declared.direct.Direct.{Direct}
-use Rattle.cpp_direct.specs.Holes.{StandsAt, ListGoesOn}
-use Rattle.cpp_direct.specs.HolesOfLists.{IsDigitsAt, minus_sign, IsOffsetAt}
 use Rattle.cpp_direct.specs.ItemBytes.{is_integer_letter}
-use Rattle.cpp_direct.specs.Prints.{Prints, sign_text, EndsAsInteger, IsElement, PrintAllAs}
+use Rattle.cpp_direct.specs.Prints.{Prints, sign_text, EndsAsInteger, IsElement, PrintAllAs, IsUnmarked}
 use Rattle.cpp_direct.specs.WriterInvariant.{below, scoped_in, may_name, Closes, GoesOn, IsWriting, element_kind, extra_of, led_by, in_front_of_next, IsListing, Kept}
 use Rattle.cpp_direct.specs.MidStep.{AwaitsNextArgument, IsLiteralRead, truth_text, number_text, integer_text, AwaitsNumber, AwaitsNamedType}
 use Rattle.cpp_direct.specs.Written.{Reads, Writes}
@@ -27,12 +24,10 @@ use Rattle.cpp_direct.proofs.Moves.{stands-join}
 use Rattle.cpp_direct.proofs.MovesOfLists.{bool-element, integer-element, enumerator-opens}
 use Rattle.cpp_direct.proofs.LettersTested.{integer-there}
 use Rattle.cpp_direct.proofs.PrintedLists.{element-as, next-prints-as, type-element}
-use Rattle.cpp_direct.specs.WrittenParts.{IsUnmarked}
 use Rattle.cpp_direct.proofs.Unmarked.{digits-unmarked}
 use Rattle.cpp_direct.proofs.PrintedNames.{boolean-prints, plain-integer-prints, cast-integer-prints, normal-filled, enumerator-prints, not-integer, normal-unmarked}
 use Rattle.cpp_direct.proofs.NamePlaces.{reads-then}
 use Rattle.std.proofs.lemmas.List.{length-drop, drop_more}
-use Rattle.cpp_direct.specs.declared.open.Open.{Open}
 use Rattle.cpp_direct.specs.declared.open.Open.TheVariants as opens
 use Rattle.cpp_direct.specs.declared.open.Step.TheVariants as steps
 
@@ -381,15 +376,7 @@ enumerator-read s old begun pushed middle new a other text candidates scope_same
     (kept-grown s old new more wrote (ended.2.candidates ∙ read.4.candidates ∙ writes.candidates ∙ candidates)
     (ended.2.scope ∙ read.4.scope ∙ writes.scope ∙ scope_same) a.kept) p more a.ts a.texts t own a.elements (type-element (extra_of p.listing) t own false prints)
     (ap (λ v. reverse v.list.items) (ended.2.waiting ∙ read.4.waiting ∙ writes.waiting) ∙ waits) wrote
-    (ap (λ l. l ++ more) a.written ∙ rejoined front before a.bytes (sign_text n) n.digits)
+    (ap (λ l. l ++ more) a.written ∙ simp append_assoc)
     (subst (λ k. GoesOn s p.listing p.owner (below s a.scope p.rest) p.front p.template (a.ts ++ t ∷ []) k a.state) (sym ended.1)
     (a.goes negative ds middle.at (subst (λ k. StandsAt s.bytes k (minus_sign negative)) here read.2)
     (subst (λ k. IsDigitsAt s.bytes (k + length (minus_sign negative)) ds middle.at) here read.3) ended.0))
-  where
-    rejoined : (f b t s d : List ℕ)
-        → (f ++ b ++ codes "(" ++ t) ++ (codes ")" ++ (s ++ d)) ≡ f ++ (b ++ (codes "(" ++ t ++ codes ")" ++ s ++ d))
-    rejoined f b t s d =
-        ap (λ l. l ++ (codes ")" ++ (s ++ d))) (append_assoc (f ++ b) (codes "(") t ∙ append_assoc f b (codes "(" ++ t))
-        ∙ append_assoc f (b ++ (codes "(" ++ t)) (codes ")" ++ (s ++ d))
-        ∙ ap (λ l. f ++ l) (append_assoc b (codes "(" ++ t) (codes ")" ++ (s ++ d))
-        ∙ ap (λ l. b ++ l) (sym (append_assoc (codes "(" ++ t) (codes ")") (s ++ d)) ∙ sym (append_assoc (codes "(" ++ t ++ codes ")") s d)))

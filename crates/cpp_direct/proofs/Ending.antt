@@ -1,4 +1,4 @@
--- How a symbol ends: its encoding's name, its parameters, and what follows them.
+-- How a symbol ends: its encoding's name, its return type, its parameters, and what follows them.
 use Rattle.sym_print.specs.declared.detail.Detail.{Detail}
 use Rattle.cpp_grammar.specs.Scope.{arguments_of}
 use Rattle.std.proofs.Common.{◌≡◌, ◌≢◌, ◌⊎◌, refl, ap, sym, ◌∙◌, subst, ℕ, ◌+◌, ◌-◌, ◌≤◌, List, [], ◌∷◌, ◌++◌, length, take, drop, reverse, inl, inr, Bool, true, false, nat_eq, arith, codes, append-nil, append_assoc}
@@ -10,25 +10,18 @@ use Rattle.std.proofs.Math.Seq.{drop-append_seam, take-append_seam}
 use Rattle.cpp_grammar.specs.declared.kind.Kind.{Kind}
 use Rattle.cpp_grammar.specs.Term.{Term, symbol, function, nil, list, builtin, absent}
 use Rattle.cpp_grammar.specs.Grammar.{may_be_empty, among}
-use Rattle.cpp_grammar.specs.Parts.{encoding_text, qualifier_text, ref_text, types_of}
+use Rattle.cpp_grammar.specs.Parts.{encoding_text, qualifier_text, ref_text, types_of, source_text}
 use Rattle.cpp_grammar.specs.Between.{no_items}
 use Rattle.cpp_grammar.specs.Items.{is_empty}
-use Rattle.cpp_grammar.specs.Meaning.{encoding_of, is_void}
+use Rattle.cpp_grammar.specs.Meaning.{encoding_of, is_void, parameters}
 use Rattle.cpp_grammar.specs.Values.{Around, State, Value, nothing_there, tree, tree_of, qualifiers_of, ref_of}
-use Rattle.cpp_direct.specs.Symbol.{Symbol, detail_of}
-use Rattle.cpp_direct.specs.declared.open.Arguments.{Arguments}
-use Rattle.cpp_direct.specs.declared.open.Mark.{Mark}
-use Rattle.cpp_direct.specs.declared.open.Mark.TheVariants as marks
-use Rattle.cpp_direct.specs.declared.open.Open.TheVariants as opens
-use Rattle.cpp_direct.specs.declared.open.Step.TheVariants as steps
-use Rattle.cpp_direct.specs.declared.direct.Direct.{Direct}
+use Rattle.cpp_direct.specs.WriterTypes.{Arguments, Direct, Mark, Open, Symbol, detail_of}
 use Rattle.cpp_direct.specs.Bytes.{is_builtin, is_local}
-use Rattle.cpp_direct.specs.Holes.{Expects, StandsAt, ListGoesOn}
-use Rattle.cpp_direct.specs.HolesOfLists.{IsSuffix}
+use Rattle.cpp_direct.specs.AllHoles.{Comes, Expects, IsSuffix, ListGoesOn, Opened, StandsAt}
 use Rattle.cpp_direct.specs.Marks.{has_const, called_on, mark_text}
 use Rattle.cpp_direct.specs.Prints.{PrintsName, Shows, Encloses, list_of}
-use Rattle.cpp_direct.specs.WriterInvariant.{list_with, AwaitsItems, Encoded, EndsBehind, EncodedBehind, Fronts, IsWhole, IsWriting, HasArguments, HasScope, IsEncodedAt, ItemsGoOn, ParametersGoOn, Stands, qualifiers, in_front_of_next, no_scope, IsNamedSo, Kept}
-use Rattle.cpp_direct.specs.MidStep.{AreParametersRead, IsNameEnded, IsNameScoped, AwaitsParameters, separator, IsFunctionEnded, IsEncodingEnded, IsSymbolEnded}
+use Rattle.cpp_direct.specs.WriterInvariant.{list_with, HasParameters, Scope, TakesItems, Encoded, EndsBehind, EncodedBehind, Fronts, IsWhole, IsScoped, IsWriting, HasArguments, HasScope, IsEncodedAt, ItemsGoOn, ParametersGoOn, Stands, qualifiers, in_front_of_next, no_scope, IsNamedSo, Kept, IsInstance, Keeps, plain_encoding, HasInstance, IsOwnName}
+use Rattle.cpp_direct.specs.MidStep.{AreParametersRead, IsNameEnded, IsNameScoped, AwaitsParameters, separator, IsFunctionEnded, IsEncodingEnded, IsSymbolEnded, IsFrontRead}
 use Rattle.cpp_direct.specs.Written.{Writes, Cuts}
 use Rattle.cpp_direct.proofs.Unmarked.{suffix-unmarked}
 use Rattle.cpp_direct.proofs.Kept.{keeps-as, kept-same, kept-written, none-kept, reverse-last, type-comes}
@@ -37,9 +30,12 @@ use Rattle.cpp_direct.proofs.MovesOfLists.{element-awaits}
 use Rattle.cpp_direct.proofs.MovesOfTypes.{builtin-comes}
 use Rattle.cpp_direct.proofs.PrintedLists.{PrintsItems, list-before, list-in, list-with-none, list-more, none-print-in}
 use Rattle.cpp_direct.proofs.PrintedParts.{has-none, has-parameters}
-use Rattle.cpp_direct.proofs.PrintedLocals.{object-enclosing, function-encloses, name-shows}
-use Rattle.cpp_direct.proofs.Scopes.{parameters-scoped, parameters-as}
-use Rattle.cpp_direct.proofs.PrintedSymbols.{function-shows, void-shows, object-encoded, encoding-plain, made-with, made-void, parameters-before, symbol-text, symbol-cost, suffix-text, suffix-cost, parameters-kept, none_bracketed}
+use Rattle.cpp_direct.proofs.PrintedLocals.{object-enclosing, function-encloses, name-shows, returned-enclosing, returned-shows}
+use Rattle.cpp_direct.proofs.Scopes.{entry-scoped, parameters-as, name-stays}
+use Rattle.cpp_direct.proofs.PrintedSymbols.{function-shows, object-encoded, encoding-plain, made-with, made-void, parameters-before, symbol-text, symbol-cost, suffix-text, suffix-cost, parameters-kept, encoding-returned, front-shows}
+use Rattle.cpp_direct.specs.declared.open.Mark.TheVariants as marks
+use Rattle.cpp_direct.specs.declared.open.Open.TheVariants as opens
+use Rattle.cpp_direct.specs.declared.open.Step.TheVariants as steps
 
 -- ## The end
 
@@ -135,26 +131,12 @@ plain-text marks.ConstRvalue = refl
 pub qualifiers-text : (v : Value) (mark : Mark) (own : Term) → IsNamedSo v own mark → encoding_text (qualifiers_of v) (ref_of v) ≡ mark_text mark
 qualifiers-text v mark own is = rw (is.qualifiers_are, is.mark_is) (plain-text mark)
 
--- what follows a text is written in two or more pieces
-pub behind-two : (lead a q : List ℕ) → lead ++ a ++ q ≡ lead ++ (a ++ q)
-behind-two lead a q = append_assoc lead a q
-
-pub behind-three : (lead a b q : List ℕ) → lead ++ a ++ b ++ q ≡ lead ++ (a ++ b ++ q)
-behind-three lead a b q = ap (λ l. l ++ q) (behind-two lead a b) ∙ append_assoc lead (a ++ b) q
-
-pub behind-five : (lead a b c d q : List ℕ) → lead ++ a ++ b ++ c ++ d ++ q ≡ lead ++ (a ++ b ++ c ++ d ++ q)
-behind-five lead a b c d q =
-    ap (λ l. l ++ d ++ q) (behind-three lead a b c) ∙ ap (λ l. l ++ q) (append_assoc lead (a ++ b ++ c) d) ∙ append_assoc lead (a ++ b ++ c ++ d) q
-
 -- a name without items is an encoding
 pub object-ended : (s : Symbol) (w : Direct) (mark : Mark) (is_instance : Bool) (argument_ : Arguments) (from : ℕ)
     → IsNameEnded s w mark is_instance argument_ from → IsEncodingEnded s w mark
-unfolding no_items may_be_empty
 object-ended s w mark is_instance argument_ from p =
     let b = p.name in
     let q = mark_text mark in
-    let behind : EncodedBehind s p.lead (encoding_of p.v nil) w.at = p.awaits.onward nothing_there w.at p.state
-    (expects-empty s Kind.Items p.awaits.around p.awaits.inner w.at p.state p.awaits.awaits refl) in
     let shows : Shows (detail_of s) (encoding_of p.v nil) (b ++ q) =
     subst (λ l. Shows (detail_of s) (encoding_of p.v nil) (b ++ l)) (qualifiers-text p.v mark p.own p.named_so)
     (object-encoded p.v b (subst (λ t. PrintsName (detail_of s) t b) (sym p.named_so.tree_is) p.prints)) in
@@ -163,10 +145,10 @@ object-ended s w mark is_instance argument_ from p =
       e = encoding_of p.v nil;
       lead = p.lead;
       bytes = b ++ q;
-      written = ap (λ l. l ++ q) p.written ∙ behind-two p.lead b q;
+      written = ap (λ l. l ++ q) p.written ∙ simp append_assoc;
       shows = shows;
       encloses = object-enclosing (detail_of s) p.v (b ++ q) shows;
-      behind = behind;
+      behind = p.awaits.ends;
     }
 
 -- ## Parameters
@@ -189,7 +171,7 @@ next-separated s w is_first mark start argument a text is =
     ∙ ap (λ l. a.front ++ codes "(" ++ l) (separated is_first a.ts a.texts a.none a.some)
 
 -- a name is one where parameters go on after none
-pub none-go_on : (s : Symbol) (argument : Arguments) (lead : List ℕ) (v : Value) (at : ℕ) (st : State) (p : AwaitsItems s lead v at st)
+pub none-go_on : (s : Symbol) (argument : Arguments) (lead : List ℕ) (v : Value) (at : ℕ) (st : State) (p : TakesItems s lead v at st)
     → HasScope argument p.around → ParametersGoOn s argument lead (λ l. encoding_of v l) [] at st
 none-go_on s argument lead v at st p scoped =
     record { around = p.around; inner = p.inner; outside = p.outside; scoped = scoped; awaits = p.awaits; onward = p.onward }
@@ -206,28 +188,36 @@ parameter-goes_on s argument becomes make ts at st p t here now goes = record {
   outside = p.outside;
   awaits = goes.awaits;
   onward = λ l there then_ comes. subst (λ u. becomes (make u) there then_) (sym (list-more ts t (no_items l)))
-      (p.onward (tree (list t (no_items l)) true) there then_ (goes.passes l there then_ comes));
+      (p.onward (tree (list t (no_items l)) true) there then_ (goes.onward l there then_ comes));
 }
 
--- a parameter comes next, and what is before it is written
+-- a parameter comes next, for what is open so once the parameter is taken
+pub item-comes : (s : Symbol) (old new : Direct) (kept : Kept s old) (argument : Arguments) (becomes : Term → (at : ℕ) → State → Type 0) (make : Term → Term) (ts : List Term) (at : ℕ)
+    (goes : ItemsGoOn s argument becomes make ts at kept.state) (ws : List Open) → new.text ≡ old.text → new.candidates ≡ old.candidates → new.has_scope ≡ old.has_scope
+    → new.at ≡ at → reverse new.waiting.list.items ≡ ws
+    → ((os : List Opened) → ((t : Term) (here : ℕ) (now : State) → Comes s os (tree t true) here now → ItemsGoOn s argument becomes make (ts ++ t ∷ []) here now)
+    → Stands s kept.scope ws os old.text.list.items)
+    → IsScoped kept.scope goes.around ws → IsWriting s new steps.Type
+item-comes s old new kept argument becomes make ts at goes ws text candidates scope_same at_is waits stands scoped =
+    let element = element-awaits s Kind.Items goes.inner goes.around at kept.state tt goes.awaits in
+    type-comes s old new kept goes.around element.inner text candidates scope_same waits goes.outside
+    (inr (inl (subst (λ n. Expects s Kind.Item goes.around element.inner n kept.state) (sym at_is) element.awaits)))
+    (stands element.inner (λ t here now comes. parameter-goes_on s argument becomes make ts at kept.state goes t here now (element.onward t here now comes)))
+    scoped
+
+-- what is before it is written
 pub parameter-expected : (s : Symbol) (w last : Direct) (is_first : Bool) (mark : Mark) (start : ℕ) (argument : Arguments)
     → AreParametersRead s w 3 is_first mark start argument → Writes w last (separator is_first) → IsWriting s last steps.Type
 parameter-expected s w last is_first mark start argument a one =
-    let p = a.goes in
-    let element = element-awaits s Kind.Items p.inner p.around w.at a.state tt p.awaits in
     let between = separator is_first in
-    let stands : Stands s a.scope (opens.Parameters mark start argument ∷ a.rest) element.inner last.text.list.items = (
+    item-comes s last last (kept-written s w last between one a.kept) argument (λ e there then_. EncodedBehind s a.lead e there) a.make a.ts w.at a.goes
+    (opens.Parameters mark start argument ∷ a.rest) refl refl refl one.at (ap (λ v. reverse v.list.items) one.waiting ∙ a.open_is) (λ os onward. (
       a.ts,
       a.texts,
       parameters-as s w.text.list.items last.text.list.items between mark start argument a.has one.text a.is_function.elements,
       next-separated s w is_first mark start argument a last.text.list.items one.text,
-      λ t here now comes. parameter-goes_on s argument (λ e there then_. EncodedBehind s a.lead e there) a.make a.ts w.at a.state p t here now
-          (element.onward t here now comes),
-    ) in
-    type-comes s last last (kept-written s w last between one a.kept) p.around element.inner refl refl refl
-    (ap (λ v. reverse v.list.items) one.waiting ∙ a.open_is) p.outside
-    (inr (inl (subst (λ n. Expects s Kind.Item p.around element.inner n a.state) (sym one.at) element.awaits))) stands
-    (parameters-scoped a.scope p.around mark start argument a.rest a.is_function.named p.scoped)
+      onward,
+    )) (entry-scoped a.scope a.goes.around (opens.Parameters mark start argument) argument a.rest refl refl a.is_function.named a.goes.scoped)
 
 pub no-text : (l : List ℕ) (from : ℕ) → from ≡ length l → from ≡ 0 → l ≡ []
 no-text [] from is none = refl
@@ -243,12 +233,12 @@ types-scoped text argument around own encoded scope_is names = (
 )
 
 pub name-scoped : (s : Symbol) (w : Direct) (mark : Mark) (is_instance : Bool) (argument : Arguments) (from : ℕ)
-    (p : IsNameScoped s w mark is_instance argument from) → HasScope argument p.ended.awaits.around
+    (p : IsNameScoped s w mark is_instance argument from) → HasScope argument p.items.around
 name-scoped s w mark is_instance argument from p =
     let e = p.ended in
-    types-scoped w.text.list.items argument e.awaits.around e.own
-    (λ real. (e.awaits.encoding_is (no-text e.lead from e.from_is (p.encoded real).0) ∙ sym (p.encoded real).1, e.awaits.no_lambda))
-    (e.awaits.scope_is ∙ ap arguments_of e.named_so.tree_is) e.names
+    types-scoped w.text.list.items argument p.items.around e.own
+    (λ real. (p.items.encoding_is (no-text e.lead from e.from_is (p.encoded real).0) ∙ sym (p.encoded real).1, p.items.no_lambda))
+    (p.items.scope_is ∙ ap arguments_of e.named_so.tree_is) e.names
 
 -- the front of a function that has no return type
 fronts-of : (is_bare : Bool) (front : List ℕ) (start : ℕ) (lead name : List ℕ) → front ≡ lead ++ name → (is_bare ≡ false → start ≡ 0)
@@ -278,7 +268,7 @@ parameters-begin s w mark is_instance argument from start scoped plain none all 
         fronts = fronts-of s.is_bare w.text.list.items start p.lead p.name p.written none all;
       };
       written = refl;
-      goes = none-go_on s argument p.lead p.v w.at p.state p.awaits (name-scoped s w mark is_instance argument from scoped);
+      goes = none-go_on s argument p.lead p.v w.at p.state scoped.items (name-scoped s w mark is_instance argument from scoped);
     }
 
 -- the first parameter comes next
@@ -315,13 +305,179 @@ cut-kept s old new start cuts kept = go cuts.candidates
       keeps = keeps-as s old new kept.state.candidates (cuts.text ∙ ap (λ n. drop n old.text.list.items) same.0) (ap (λ v. v.list.items) same.1) cuts.scope
           kept.keeps.candidates kept.keeps.named kept.keeps.single kept.keeps.unknown;
     }
-    go (inr none) = record { state = record kept.state { candidates = [] }; scope = no_scope; keeps = none-kept s new none }
+    go (inr none) = record { state = record kept.state { candidates = [] }; scope = no_scope; keeps = none-kept s new none (λ e. (kept.keeps.unknown (sym cuts.scope ∙ e)).1) }
 
 -- and the text is what came after it
 cut-text : (old new : Direct) (start : ℕ) (aside text : List ℕ) → Cuts old new start → start ≡ length aside → old.text.list.items ≡ aside ++ text
     → new.text.list.items ≡ text
 cut-text old new start aside text cuts start_is written =
     cuts.text ∙ ap (λ n. drop n old.text.list.items) start_is ∙ ap (λ l. drop (length aside) l) written ∙ drop-append_seam aside text
+
+-- ## Return types: they are read after the name, and written before it
+
+-- the return type of a function is expected after its name
+pub front-begins : (s : Symbol) (w new : Direct) (mark : Mark) (argument : Arguments) (from start : ℕ) → IsNameScoped s w mark true argument from
+    → (is_local s.bytes ≡ false → from ≡ 0) → start ≡ length w.text.list.items
+    → new.text ≡ w.text → new.candidates ≡ w.candidates → new.has_scope ≡ w.has_scope → new.at ≡ w.at
+    → new.waiting.list.items ≡ w.waiting.list.items ++ opens.Front mark start argument ∷ [] → IsWriting s new steps.Type
+front-begins s w new mark argument from start scoped apart start_is text candidates scope_same at waiting =
+    let p = scoped.ended in
+    let has : HasInstance s p.scope w.text.list.items mark start argument = record {
+      v = p.v;
+      lead = p.lead;
+      name = p.name;
+      is_instance = record {
+        own = p.own;
+        named_so = p.named_so;
+        returns = p.returns refl;
+        is_own = record { prints = p.prints; names = p.names; given = scoped.given; named = scoped.named };
+      };
+      apart = λ none. no-text p.lead from p.from_is (apart none);
+      text_is = p.written;
+      start_is = start_is;
+    } in
+    let goes : ParametersGoOn s argument p.lead (λ l. encoding_of p.v l) [] w.at p.state =
+    none-go_on s argument p.lead p.v w.at p.state scoped.items (name-scoped s w mark true argument from scoped) in
+    let rest = reverse w.waiting.list.items in
+    item-comes s w new p.kept argument (λ e there then_. EncodedBehind s p.lead e there) (λ l. encoding_of p.v l) [] w.at goes (opens.Front mark start argument ∷ rest)
+    text candidates scope_same at (ap reverse waiting ∙ reverse-last w.waiting.list.items (opens.Front mark start argument)) (λ os onward. (has, onward))
+    (entry-scoped p.scope goes.around (opens.Front mark start argument) argument rest refl refl scoped.named goes.scoped)
+
+-- it is read still where something else changes
+pub front-same : (s : Symbol) (w new : Direct) (mark : Mark) (start : ℕ) (argument : Arguments) → IsFrontRead s w mark start argument
+    → new.text ≡ w.text → new.candidates ≡ w.candidates → new.has_scope ≡ w.has_scope → new.at ≡ w.at → IsFrontRead s new mark start argument
+front-same s w new mark start argument p text candidates scope_same at = record {
+  kept = kept-same s w new text candidates scope_same p.kept;
+  front = p.front;
+  has = p.has;
+  returned = p.returned;
+  bytes = p.bytes;
+  is_reference = p.is_reference;
+  prints = p.prints;
+  written = ap (λ v. v.list.items) text ∙ p.written;
+  goes = subst (λ n. ParametersGoOn s argument p.lead (encoding_of p.v) (p.returned ∷ []) n p.state) (sym at) p.goes;
+}
+
+-- An encoding that has a return type ends what the one without it does: where no local entity is, after what comes of the type. Before an
+-- entity a function shows no return type.
+returned-behind : (s : Symbol) {scope : Scope} {argument : Arguments} {mark : Mark} {v : Value} {name text : List ℕ} (is : IsInstance (detail_of s) scope text argument mark v name)
+    (r items : Term) (at : ℕ) (lead front : List ℕ) → (is_local s.bytes ≡ true → front ≡ lead)
+    → (is_local s.bytes ≡ false → (bytes : List ℕ) → Shows (detail_of s) (plain_encoding mark is.own items) bytes
+    → (shown : List ℕ) × (lead ++ shown ≡ front ++ bytes) × Shows (detail_of s) (function is.own (qualifiers (has_const mark)) (called_on mark) r (parameters items)) shown)
+    → EncodedBehind s lead (encoding_of v (list r items)) at → EncodedBehind s front (plain_encoding mark is.own items) at
+returned-behind s {mark = mark} {v = v} is r items at lead front hidden shown p =
+    let same = sym (encoding-returned v mark is.own is.named_so is.returns r items) in
+    record {
+      whole = λ e. let w = p.whole e in record {
+        made = w.made;
+        encoded = w.encoded;
+        shows = λ bytes shows. let q = shown e bytes shows in
+            subst (λ l. Shows (detail_of s) w.made l) q.1 (w.shows q.0 (subst (λ t. Shows (detail_of s) t q.0) same q.2));
+      };
+      entity = λ e internal called digit end told. let w = p.entity e internal called digit end told in record {
+        made = w.made;
+        encoded = w.encoded;
+        shows = λ bytes encloses.
+            subst (λ l. Shows (detail_of s) w.made (l ++ (bytes ++ codes "::" ++ source_text called))) (sym (hidden e))
+            (w.shows bytes (subst (λ t. Encloses (detail_of s) t bytes) same
+            (returned-enclosing (detail_of s) is.own (qualifiers (has_const mark)) (called_on mark) r (parameters items) bytes encloses)));
+      };
+    }
+
+-- after the return type parameters are awaited, where this was written since
+front-leads : (s : Symbol) (w last : Direct) (mark : Mark) (start to : ℕ) (argument : Arguments) (p : IsFrontRead s w mark start argument) (front lead : List ℕ)
+    → Keeps s p.scope last p.state.candidates
+    → IsOwnName (detail_of s) p.scope last.text.list.items argument p.is_instance.own p.name → Fronts s.is_bare front to lead p.name → last.text.list.items ≡ front
+    → last.at ≡ w.at
+    → ((items : Term) (there : ℕ) → EncodedBehind s p.lead (encoding_of p.v (list p.returned items)) there
+    → EncodedBehind s lead (plain_encoding mark p.is_instance.own items) there)
+    → AwaitsParameters s last mark to argument
+front-leads s w last mark start to argument p front lead keeps is_own fronts written at turns =
+    let is = p.is_instance in
+    record {
+      kept = record { state = p.state; scope = p.scope; keeps = keeps };
+      has = record {
+        front = front;
+        lead = lead;
+        make = λ l. plain_encoding mark is.own l;
+        name = p.name;
+        is_function = record {
+          own = is.own;
+          makes = λ t rest. refl;
+          is_own = is_own;
+          elements = none-print-in (detail_of s) (types_of is.own) 3;
+        };
+        fronts = fronts;
+      };
+      written = written;
+      goes = record {
+        around = p.goes.around;
+        inner = p.goes.inner;
+        outside = p.goes.outside;
+        scoped = p.goes.scoped;
+        awaits = subst (λ n. Expects s Kind.Items p.goes.around p.goes.inner n p.state) (sym at) p.goes.awaits;
+        onward = λ l there then_ comes. turns (no_items l) there (p.goes.onward l there then_ comes);
+      };
+    }
+
+-- the return type is read, and after it the name is written once more
+pub front-turned : (s : Symbol) (w here first last : Direct) (mark : Mark) (start : ℕ) (argument : Arguments) → IsFrontRead s w mark start argument
+    → s.is_bare ≡ false → is_local s.bytes ≡ false
+    → here.text ≡ w.text → here.candidates ≡ w.candidates → here.has_scope ≡ w.has_scope → here.at ≡ w.at → Writes here first (codes " ")
+    → Writes first last (take (start - 0) (drop 0 first.text.list.items)) → AwaitsParameters s last mark start argument
+front-turned s w here first last mark start argument p whole_ plain text candidates scope_same at one two =
+    let is = p.is_instance in
+    let lead = p.bytes ++ codes " " in
+    let none : p.lead ≡ [] = p.apart plain in
+    let named : p.front ≡ p.name = p.text_is ∙ ap (λ l. l ++ p.name) none in
+    let front : first.text.list.items ≡ p.front ++ lead =
+    one.text ∙ ap (λ v. v.list.items ++ codes " ") text ∙ ap (λ l. l ++ codes " ") p.written ∙ append_assoc p.front p.bytes (codes " ") in
+    let again : take (start - 0) (drop 0 first.text.list.items) ≡ p.front =
+    ap (λ n. take n first.text.list.items) (omega (arith, p.start_is)) ∙ ap (λ l. take (length p.front) l) front ∙ take-append_seam p.front lead in
+    let written : last.text.list.items ≡ p.front ++ lead ++ p.front = two.text ∙ ap (λ l. first.text.list.items ++ l) again ∙ ap (λ l. l ++ p.front) front in
+    let known = kept-same s w here text candidates scope_same p.kept in
+    front-leads s w last mark start start argument p (p.front ++ lead ++ p.name) lead
+    (kept-written s first last (take (start - 0) (drop 0 first.text.list.items)) two (kept-written s here first (codes " ") one known)).keeps
+    (name-stays (p.front ++ lead) last.text.list.items p.front argument is.own p.name written
+    (name-stays p.front (p.front ++ lead) lead argument is.own p.name refl is.is_own))
+    (subst (λ b. Fronts b (p.front ++ lead ++ p.name) start lead p.name) (sym whole_) (p.front, refl, p.start_is))
+    (written ∙ ap (λ l. p.front ++ lead ++ l) named) (two.at ∙ one.at ∙ at)
+    (λ items there goes. returned-behind s is p.returned items there p.lead lead (λ e. absurd (false≢true (sym plain ∙ e))) (λ e bytes shows. (
+      lead ++ bytes,
+      ap (λ l. l ++ (lead ++ bytes)) none,
+      front-shows (has-parameters s whole_) is.own (qualifiers (has_const mark)) (called_on mark) (parameters items) bytes shows p.returned p.bytes p.is_reference p.prints,
+    )) goes)
+
+-- the return type is read, and after it the name is written once more, with what comes before it
+pub front-hidden : (s : Symbol) (w last : Direct) (mark : Mark) (start begins : ℕ) (argument : Arguments) → IsFrontRead s w mark start argument
+    → s.is_bare ≡ false → is_local s.bytes ≡ true → begins ≡ length w.text.list.items → Writes w last (take (start - 0) (drop 0 w.text.list.items))
+    → AwaitsParameters s last mark begins argument
+front-hidden s w last mark start begins argument p whole_ local_ begins_is one =
+    let is = p.is_instance in
+    let aside = p.front ++ p.bytes in
+    let again : take (start - 0) (drop 0 w.text.list.items) ≡ p.front =
+    ap (λ n. take n w.text.list.items) (omega (arith, p.start_is)) ∙ ap (λ l. take (length p.front) l) p.written ∙ take-append_seam p.front p.bytes in
+    let written : last.text.list.items ≡ aside ++ p.front = one.text ∙ ap (λ l. w.text.list.items ++ l) again ∙ ap (λ l. l ++ p.front) p.written in
+    front-leads s w last mark start begins argument p (aside ++ p.lead ++ p.name) p.lead
+    (kept-written s w last (take (start - 0) (drop 0 w.text.list.items)) one p.kept).keeps
+    (name-stays aside last.text.list.items p.front argument is.own p.name written (name-stays p.front aside p.bytes argument is.own p.name refl is.is_own))
+    (subst (λ b. Fronts b (aside ++ p.lead ++ p.name) begins p.lead p.name) (sym whole_) (aside, refl, begins_is ∙ ap length p.written))
+    (written ∙ ap (λ l. aside ++ l) p.text_is ∙ sym (append_assoc aside p.lead p.name)) one.at
+    (λ items there goes. returned-behind s is p.returned items there p.lead p.lead (λ e. refl) (λ e. absurd (false≢true (sym e ∙ local_))) goes)
+
+-- the return type is read, and the parameters are written after it
+pub front-bare : (s : Symbol) (w last : Direct) (mark : Mark) (start : ℕ) (argument : Arguments) → IsFrontRead s w mark start argument
+    → s.is_bare ≡ true → last.text ≡ w.text → last.candidates ≡ w.candidates → last.has_scope ≡ w.has_scope → last.at ≡ w.at → AwaitsParameters s last mark start argument
+front-bare s w last mark start argument p bare text candidates scope_same at =
+    let is = p.is_instance in
+    let written : last.text.list.items ≡ p.front ++ p.bytes = ap (λ v. v.list.items) text ∙ p.written in
+    front-leads s w last mark start start argument p (p.front ++ p.bytes) p.lead
+    (kept-same s w last text candidates scope_same p.kept).keeps
+    (name-stays p.front last.text.list.items p.bytes argument is.own p.name written is.is_own)
+    (subst (λ b. Fronts b (p.front ++ p.bytes) start p.lead p.name) (sym bare)
+    (p.bytes, ap (λ l. l ++ p.bytes) p.text_is, p.start_is ∙ ap length p.text_is))
+    written at (λ items there goes. returned-behind s is p.returned items there p.lead p.lead (λ e. refl)
+    (λ e bytes shows. (bytes, refl, returned-shows (has-none s bare) is.own (qualifiers (has_const mark)) (called_on mark) p.returned (parameters items) bytes shows)) goes)
 
 -- ## The end of an encoding
 
@@ -334,9 +490,36 @@ void-read s argument becomes make at st p stands =
     let element = element-awaits s Kind.Items p.inner p.around at st tt p.awaits in
     let goes = element.onward t (at + 1) st (builtin-comes s Kind.Item p.around element.inner at st 118 tt refl element.awaits stands) in
     p.onward (tree (list t nil) true) (at + 1) st
-    (goes.passes nothing_there (at + 1) st (expects-empty s Kind.Items p.around goes.inner (at + 1) st goes.awaits refl))
+    (goes.onward nothing_there (at + 1) st (expects-empty s Kind.Items p.around goes.inner (at + 1) st goes.awaits refl))
 
--- a name with a lone void is a function
+-- a name with its parameters is a function, after which something may be that prints nothing
+items-ended : (s : Symbol) {scope : Scope} {extra : ℕ} {ts : List Term} {texts text : List ℕ} (here : Direct) (mark : Mark) (start : ℕ) (argument : Arguments)
+    (p : HasParameters s extra scope text mark start argument ts texts) (shown : List ℕ) (e items : Term) → here.text.list.items ≡ p.front ++ codes "(" ++ shown → Kept s here
+    → e ≡ function p.is_function.own (qualifiers (has_const mark)) (called_on mark) absent items
+    → PrintsItems (detail_of s) (types_of p.is_function.own) items shown → EncodedBehind s p.lead e here.at → IsFunctionEnded s here mark start
+items-ended s here mark start argument p shown e items written kept is printed behind =
+    let f = p.is_function in
+    let made = function f.own (qualifiers (has_const mark)) (called_on mark) absent items in
+    record {
+      kept = kept;
+      own = f.own;
+      items = items;
+      e = e;
+      e_is = is;
+      front = p.front;
+      lead = p.lead;
+      name = p.name;
+      texts = shown;
+      prints = f.prints;
+      fronts = p.fronts;
+      written = written;
+      shows = λ whole. subst (λ t. Shows (detail_of s) t (p.name ++ codes "(" ++ shown ++ codes ")" ++ mark_text mark)) (sym is)
+          (subst (λ x. Shows (detail_of s) made (p.name ++ codes "(" ++ shown ++ codes ")" ++ x)) (plain-text mark)
+          (function-shows (has-parameters s whole) f.own p.name f.prints items shown printed (qualifiers (has_const mark)) (called_on mark)));
+      behind = behind;
+    }
+
+-- one with a lone void is a function without parameters
 pub void-ended : (s : Symbol) (w first here : Direct) (mark : Mark) (start : ℕ) (argument : Arguments) → AwaitsParameters s w mark start argument
     → StandsAt s.bytes w.at (118 ∷ [])
     → Writes w first (codes "(") → here.text ≡ first.text → here.candidates ≡ first.candidates → here.has_scope ≡ first.has_scope
@@ -344,71 +527,22 @@ pub void-ended : (s : Symbol) (w first here : Direct) (mark : Mark) (start : ℕ
     → IsFunctionEnded s here mark start
 void-ended s w first here mark start argument p stands one text candidates scope_same at =
     let f = p.is_function in
-    let b = p.name in
-    let q = mark_text mark in
     let e = p.make (list_of (builtin (118 ∷ []) ∷ [])) in
-    let made = function f.own (qualifiers (has_const mark)) (called_on mark) absent nil in
-    let is : e ≡ made = made-void f.own absent mark p.make f.makes in
-    let behind : EncodedBehind s p.lead e (w.at + 1) =
-    void-read s argument (λ u there then_. EncodedBehind s p.lead u there) p.make w.at p.state p.goes stands in
-    let shows : s.is_bare ≡ false → Shows (detail_of s) made (b ++ codes "()" ++ q) =
-    λ whole. subst (λ l. Shows (detail_of s) made (b ++ codes "()" ++ l)) (plain-text mark)
-    (void-shows (has-parameters s whole) f.own b f.prints (qualifiers (has_const mark)) (called_on mark)) in
-    record {
-      kept = kept-same s first here text candidates scope_same (kept-written s w first (codes "(") one p.kept);
-      own = f.own;
-      items = nil;
-      e = e;
-      e_is = is;
-      front = p.front;
-      lead = p.lead;
-      name = b;
-      texts = [];
-      prints = f.prints;
-      fronts = p.fronts;
-      written = ap (λ l. l.list.items) text ∙ one.text ∙ ap (λ l. l ++ codes "(") p.written ∙ sym (append-nil (p.front ++ codes "("));
-      shows = λ whole. subst (λ t. Shows (detail_of s) t (b ++ codes "(" ++ [] ++ codes ")" ++ q)) (sym is)
-          (subst (λ l. Shows (detail_of s) made l) (sym (none_bracketed b q)) (shows whole));
-      behind = subst (λ n. EncodedBehind s p.lead e n) (omega (arith, at, one.at)) behind;
-    }
+    items-ended s here mark start argument p.has [] e nil
+    (ap (λ l. l.list.items) text ∙ one.text ∙ ap (λ l. l ++ codes "(") p.written ∙ sym (append-nil (p.front ++ codes "(")))
+    (kept-same s first here text candidates scope_same (kept-written s w first (codes "(") one p.kept)) (made-void f.own absent mark p.make f.makes)
+    (list-in (detail_of s) (types_of f.own) 3 [] [] (omega arith) f.elements)
+    (subst (λ n. EncodedBehind s p.lead e n) (omega (arith, at, one.at))
+    (void-read s argument (λ u there then_. EncodedBehind s p.lead u there) p.make w.at p.state p.goes stands))
 
--- and so is a name with its parameters, after which something may be that prints nothing
-items-ended : (s : Symbol) {extra : ℕ} (w here : Direct) (is_first : Bool) (mark : Mark) (start : ℕ) (argument : Arguments)
-    (p : AreParametersRead s w extra is_first mark start argument) (items : Term) → here.text ≡ w.text → Kept s here
-    → p.make items ≡ function p.is_function.own (qualifiers (has_const mark)) (called_on mark) absent items
-    → PrintsItems (detail_of s) (types_of p.is_function.own) items p.texts → EncodedBehind s p.lead (p.make items) here.at → IsFunctionEnded s here mark start
-items-ended s w here is_first mark start argument p items text kept is printed behind =
-    let f = p.is_function in
-    let b = p.name in
-    let l = p.texts in
-    let made = function f.own (qualifiers (has_const mark)) (called_on mark) absent items in
-    record {
-      kept = kept;
-      own = f.own;
-      items = items;
-      e = p.make items;
-      e_is = is;
-      front = p.front;
-      lead = p.lead;
-      name = b;
-      texts = l;
-      prints = f.prints;
-      fronts = p.fronts;
-      written = ap (λ v. v.list.items) text ∙ p.written;
-      shows = λ whole. subst (λ t. Shows (detail_of s) t (b ++ codes "(" ++ l ++ codes ")" ++ mark_text mark)) (sym is)
-          (subst (λ x. Shows (detail_of s) made (b ++ codes "(" ++ l ++ codes ")" ++ x)) (plain-text mark)
-          (function-shows (has-parameters s whole) f.own b f.prints items l printed (qualifiers (has_const mark)) (called_on mark)));
-      behind = behind;
-    }
-
--- unless they are a lone void
+-- those that aren't a lone void are its parameters
 pub function-ended : (s : Symbol) (w : Direct) (mark : Mark) (start : ℕ) (argument : Arguments)
     → (r : (extra : ℕ) × (extra ≤ 6) × AreParametersRead s w extra false mark start argument) → r.2.texts ≢ codes "void" → IsFunctionEnded s w mark start
 unfolding no_items may_be_empty
 function-ended s w mark start argument r apart =
     let p = r.2 in
     let f = p.is_function in
-    items-ended s w w false mark start argument p (list_of p.ts) refl p.kept
+    items-ended s w mark start argument p.has p.texts (p.make (list_of p.ts)) (list_of p.ts) p.written p.kept
     (made-with f.own absent mark p.make f.makes p.ts (p.some refl) (parameters-kept (detail_of s) (types_of f.own) r.0 p.ts p.texts f.elements apart))
     (list-in (detail_of s) (types_of f.own) r.0 p.ts p.texts r.1 f.elements)
     (subst (λ u. EncodedBehind s p.lead (p.make u) w.at) (list-with-none p.ts)
@@ -422,7 +556,8 @@ pub nothing-ended : (s : Symbol) (w here : Direct) (is_first : Bool) (mark : Mar
 unfolding no_items may_be_empty
 nothing-ended s w here is_first mark start argument p t kept text none apart goes =
     let f = p.is_function in
-    items-ended s w here is_first mark start argument p (list_with p.ts (list t nil)) text kept (made p.ts)
+    let items = list_with p.ts (list t nil) in
+    items-ended s here mark start argument p.has p.texts (p.make items) items (ap (λ v. v.list.items) text ∙ p.written) kept (made p.ts)
     (list-before (detail_of s) (types_of f.own) p.ts t p.texts none f.elements)
     (subst (λ u. EncodedBehind s p.lead (p.make u) here.at) (list-more p.ts t nil)
     (goes.onward nothing_there here.at kept.state (expects-empty s Kind.Items goes.around goes.inner here.at kept.state goes.awaits refl)))
@@ -444,14 +579,14 @@ function-closed s w last new mark start p whole_ one cuts =
     let left_over : new.text.list.items ≡ p.lead ++ b ++ codes "(" ++ l ++ codes ")" =
     cut-text last new start fronts.0 (p.lead ++ b ++ codes "(" ++ l ++ codes ")") cuts fronts.2
     (one.text ∙ ap (λ x. x ++ codes ")") p.written ∙ ap (λ x. x ++ codes "(" ++ l ++ codes ")") fronts.1
-    ∙ behind-five fronts.0 p.lead b (codes "(") l (codes ")")) in
+    ∙ simp append_assoc) in
     let text = b ++ codes "(" ++ l ++ codes ")" ++ q in
     record {
       kept = cut-kept s last new start cuts (kept-written s w last (codes ")") one p.kept);
       e = p.e;
       lead = p.lead;
       bytes = text;
-      written = ap (λ x. x ++ q) left_over ∙ behind-five p.lead b (codes "(") l (codes ")") q;
+      written = ap (λ x. x ++ q) left_over ∙ simp append_assoc;
       shows = p.shows whole_;
       encloses = subst (λ t. Encloses (detail_of s) t text) (sym p.e_is)
           (function-encloses (detail_of s) p.own (qualifiers (has_const mark)) (called_on mark) p.items text
@@ -468,7 +603,7 @@ function-named s w last new mark start end p bare end_is one cuts =
     let named = p.lead ++ p.name in
     let behind_ = fronts.0 ++ codes "(" ++ p.texts in
     let whole_ : w.text.list.items ≡ named ++ behind_ =
-    p.written ∙ ap (λ x. x ++ codes "(" ++ p.texts) fronts.1 ∙ behind-three named fronts.0 (codes "(") p.texts in
+    p.written ∙ ap (λ x. x ++ codes "(" ++ p.texts) fronts.1 ∙ simp append_assoc in
     let again : take (start - 0) (drop 0 w.text.list.items) ≡ named =
     ap (λ n. take n w.text.list.items) (omega (arith, fronts.2)) ∙ ap (λ l. take (length named) l) whole_ ∙ take-append_seam named behind_ in
     let left_over : new.text.list.items ≡ named =

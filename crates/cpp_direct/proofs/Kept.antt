@@ -1,31 +1,22 @@
 -- What a writer keeps while its text and its lists grow.
 use Rattle.sym_print.specs.declared.detail.Detail.{Detail}
-use Rattle.std.proofs.Common.{◌≡◌, ◌≢◌, ℕ, zero, suc, ◌+◌, ◌-◌, ◌≤◌, length, List, [], ◌∷◌, ◌++◌, take, drop, reverse, slice_get, Bool, true, false, Option, Some, None, is_some, refl, ap, sym, ◌∙◌, subst, arith, append_assoc, append-nil, ◌<◌, inl, inr, get_or, length-append}
-use Rattle.std.specs.Option.{IfSome, OnSome}
-use Rattle.std.proofs.lemmas.Bool.{false≢true}
-use Rattle.std.proofs.lemmas.List.{reverse-append, reverse-reverse}
-use Rattle.std.proofs.Math.Seq.{drop-append_seam, take-append_seam}
+use Rattle.std.proofs.Common.{◌≡◌, ℕ, zero, suc, ◌+◌, ◌-◌, ◌≤◌, length, List, [], ◌∷◌, ◌++◌, take, drop, reverse, slice_get, Bool, true, false, Option, Some, None, refl, ap, sym, ◌∙◌, subst, arith, append_assoc, append-nil, ◌<◌, inl, inr, get_or, length-append}
+use Rattle.std.specs.Option.{IfSome}
+use Rattle.std.proofs.lemmas.List.{reverse-append}
+use Rattle.std.proofs.Math.Seq.{drop-append_seam, take-append-add, take-append_seam}
 use Rattle.cpp_grammar.specs.Term.{Term}
 use Rattle.cpp_grammar.specs.Values.{State, Around, tree, outermost}
-use Rattle.cpp_direct.specs.WrittenParts.{opening_bracket}
-use Rattle.cpp_direct.specs.Symbol.{detail_of, Symbol}
-use Rattle.cpp_direct.specs.declared.open.Candidate.{Candidate}
-use Rattle.cpp_direct.specs.declared.open.Argument.{Argument}
-use Rattle.cpp_direct.specs.declared.open.Nest.{Nest}
-use Rattle.cpp_direct.specs.declared.open.Purpose.{Purpose}
+use Rattle.cpp_direct.specs.Bytes.{is_object}
+use Rattle.cpp_direct.specs.WriterTypes.{Argument, Candidate, Direct, Hiding, Nest, Open, Purpose, Step, Symbol, detail_of}
 use Rattle.cpp_direct.specs.declared.open.Purpose.TheVariants as purposes
-use Rattle.cpp_direct.specs.declared.open.Open.{Open}
-use Rattle.cpp_direct.specs.declared.open.Step.{Step}
-use Rattle.cpp_direct.specs.declared.direct.Direct.{Direct}
 use Rattle.cpp_direct.specs.Holes.{Comes, Opened, candidate, with_candidate, unless_listed}
-use Rattle.cpp_direct.specs.Prints.{Names, PrintsAs, PrintsGiven}
-use Rattle.cpp_direct.specs.WriterInvariant.{AreCandidates, AreNamed, ArgumentsGoOn, ExpectsType, HasScope, IsCandidate, IsMadeIn, IsNaming, IsNest, IsPlaced, HasSingles, IsScoped, IsTemplate, IsWriting, Keeps, Scope, Stands, argument_of, arguments_in, below, is_within_type, no_scope, of_template, place_of, IsOwn, is_type, IsKnown, nowhere, Kept, IsBetween, AwaitsTypeIn, IsTypeRead}
-use Rattle.cpp_direct.specs.Written.{Writes, Reads, added, added_unless, with_argument, IsLeft, AreLeft, Stays}
+use Rattle.cpp_direct.specs.Prints.{Names, PrintsAs, PrintsGiven, opening_bracket}
+use Rattle.cpp_direct.specs.WriterInvariant.{AreCandidates, AreNamed, ArgumentsGoOn, ExpectsType, HasScope, IsCandidate, IsMadeIn, IsNaming, IsNest, IsPlaced, HasSingles, IsScoped, IsTemplate, IsWriting, Keeps, Scope, Stands, argument_of, arguments_in, below, is_within_type, no_scope, of_template, IsOwn, is_type, IsKnown, nowhere, Kept, IsBetween, AwaitsTypeIn, IsTypeRead}
+use Rattle.cpp_direct.specs.Written.{Writes, Reads, Lists, OpensArguments, added, added_unless, with_argument, IsLeft, AreLeft, Stays}
 use Rattle.std.specs.Prelude.{slice_set}
 use Rattle.cpp_grammar.specs.Values as values
 use Rattle.cpp_direct.specs.declared.open.Open.TheVariants as opens
 use Rattle.cpp_direct.specs.declared.open.Step.TheVariants as steps
-use Rattle.cpp_direct.specs.declared.open.Hiding.{Hiding}
 use Rattle.cpp_direct.specs.declared.open.Hiding.TheVariants as hidings
 
 -- ## Pieces of a text
@@ -74,12 +65,6 @@ placed-last front bytes from to written from_is to_is = record {
 
 -- ## Candidates
 
--- a candidate stays one where more is written
-pub candidate-stays : {s : Symbol} {scope : Scope} (text more : List ℕ) (k : Candidate) (c : values.Candidate) → IsCandidate s scope text k c
-    → IsCandidate s scope (text ++ more) k c
-candidate-stays text more k c p =
-    record { bytes = p.bytes; placed = placed-moved text more p.bytes refl refl refl p.placed; prints = p.prints; made_in = p.made_in }
-
 -- candidates are so elsewhere where each is
 pub candidates-as : (s : Symbol) (scope other : Scope) (text new : List ℕ) → ((k : Candidate) (c : values.Candidate) → IsCandidate s scope text k c → IsCandidate s other new k c)
     → (ks : List Candidate) (cs : List values.Candidate) → AreCandidates s scope text ks cs → AreCandidates s other new ks cs
@@ -91,7 +76,8 @@ candidates-as s scope other text new each (k ∷ ks) [] p = absurd p
 -- they stay so where more is written
 pub candidates-stay : (s : Symbol) (scope : Scope) (text more : List ℕ) (ks : List Candidate) (cs : List values.Candidate) → AreCandidates s scope text ks cs
     → AreCandidates s scope (text ++ more) ks cs
-candidates-stay s scope text more = candidates-as s scope scope text (text ++ more) (λ k c p. candidate-stays text more k c p)
+candidates-stay s scope text more = candidates-as s scope scope text (text ++ more) (λ k c p.
+    record { bytes = p.bytes; placed = placed-moved text more p.bytes refl refl refl p.placed; prints = p.prints; made_in = p.made_in })
 
 -- one more
 pub candidates-more : {s : Symbol} {scope : Scope} (text : List ℕ) (ks : List Candidate) (cs : List values.Candidate) (k : Candidate) (c : values.Candidate)
@@ -120,10 +106,6 @@ candidates-added s scope text ks cs front bytes from t around r d p written from
 pub placed-stays : (text more : List ℕ) (p : Argument) (bytes : List ℕ) → IsPlaced text p bytes → IsPlaced (text ++ more) p bytes
 placed-stays text more p bytes h = placed-moved text more bytes refl refl refl h
 
--- so are the arguments that may be named
-pub named-stays : (text more : List ℕ) (scope : Scope) → AreNamed text scope → AreNamed (text ++ more) scope
-named-stays text more scope named = λ number single. let n = named number single in (n.0, n.1, placed-stays text more (place_of scope.arguments number) n.0 n.2)
-
 -- none is known
 pub none-known : (k : ℕ) → IsKnown nowhere k → ⊥
 none-known k o = omega (arith, o)
@@ -136,18 +118,18 @@ pub none-single : HasSingles no_scope
 none-single number own e = cc e
 
 -- there is no candidate, and nothing may be named
-pub none-kept : (s : Symbol) (w : Direct) → w.candidates.list.items ≡ [] → Keeps s no_scope w []
-none-kept s w none = record {
+pub none-kept : (s : Symbol) (w : Direct) → w.candidates.list.items ≡ [] → (w.has_scope ≡ false → is_object s.bytes ≡ false) → Keeps s no_scope w []
+none-kept s w none typed = record {
   candidates = subst (λ ks. AreCandidates s no_scope w.text.list.items ks []) (sym none) tt;
   named = none-named w.text.list.items;
   single = none-single;
-  unknown = λ e. refl;
+  unknown = λ e. (refl, typed e);
 }
 
 -- what is there has this text and these candidates
 pub keeps-as : (s : Symbol) {scope : Scope} (old new : Direct) (cs : List values.Candidate) {text : List ℕ} {ks : List Candidate}
     → new.text.list.items ≡ text → new.candidates.list.items ≡ ks → new.has_scope ≡ old.has_scope
-    → AreCandidates s scope text ks cs → AreNamed text scope → HasSingles scope → (old.has_scope ≡ false → scope ≡ no_scope)
+    → AreCandidates s scope text ks cs → AreNamed text scope → HasSingles scope → (old.has_scope ≡ false → (scope ≡ no_scope) × (is_object s.bytes ≡ false))
     → Keeps s scope new cs
 keeps-as s {scope = scope} old new cs {text = text} text_is candidates_are scope_same candidates named single unknown = record {
   candidates = subst (λ l. AreCandidates s scope l new.candidates.list.items cs) (sym text_is)
@@ -180,7 +162,8 @@ kept-grown s old new bytes text candidates scope_same kept = record {
   scope = kept.scope;
   keeps = keeps-as s old new kept.state.candidates text (ap (λ v. v.list.items) candidates) scope_same
       (candidates-stay s kept.scope old.text.list.items bytes old.candidates.list.items kept.state.candidates kept.keeps.candidates)
-      (named-stays old.text.list.items bytes kept.scope kept.keeps.named) kept.keeps.single kept.keeps.unknown;
+      (λ number single. let n = kept.keeps.named number single in (n.0, n.1, placed-moved old.text.list.items bytes n.0 refl refl refl n.2))
+      kept.keeps.single kept.keeps.unknown;
 }
 
 -- a text was written
@@ -292,7 +275,7 @@ scoped-within scope around o rest none scoped a found = go (is_within_type o) re
   where
     go : (within : Bool) → is_within_type o ≡ within → elim within [ true ↦ argument_of rest | false ↦ arguments_in o ] ≡ Some a → (scope.arguments ≡ a) × HasScope a around
     go true is e = scoped is a e
-    go false is e = absurd (false≢true (ap is_some (sym none ∙ e)))
+    go false is e = cc (sym none ∙ e)
 
 -- in their encoding, and in none of its lambdas, types may name arguments
 pub encoded-here : (scope : Scope) (around : Around) (open_ : List Open) → IsScoped scope around open_ → IsNaming scope open_
@@ -305,7 +288,7 @@ made-here scope around open_ scoped naming = ((encoded-here scope around open_ s
 -- what a substitution names
 pub candidate-found : {s : Symbol} {scope : Scope} (text : List ℕ) (ks : List Candidate) (cs : List values.Candidate) (n : ℕ) (k : Candidate)
     → AreCandidates s scope text ks cs → k.from ≤ k.to → slice_get ks n ≡ Some k → (c : values.Candidate) × (slice_get cs n ≡ Some c) × IsCandidate s scope text k c
-candidate-found text [] cs n k p ordered found = absurd (false≢true (ap is_some found))
+candidate-found text [] cs n k p ordered found = cc found
 candidate-found text (x ∷ ks) [] n k p ordered found = absurd p
 candidate-found {s} {scope} text (x ∷ ks) (y ∷ cs) zero k p ordered found = (y, refl, (subst (λ o. Named o) found p.0) ordered)
   where
@@ -328,18 +311,14 @@ candidate-inside s w n k kept ordered found =
 pub reverse-last : {X : Type 0} (xs : List X) (x : X) → reverse (xs ++ x ∷ []) ≡ x ∷ reverse xs
 reverse-last xs x = reverse-append xs (x ∷ [])
 
--- and the other way
-pub last-reversed : {X : Type 0} (xs rest : List X) (x : X) → reverse xs ≡ x ∷ rest → xs ≡ reverse rest ++ x ∷ []
-last-reversed xs rest x e = sym (reverse-reverse xs) ∙ ap reverse e ∙ reverse-append (x ∷ []) rest
-
 -- ## Nested names
 
 -- the name of a function or of data names none
 pub type-named : (purpose : Purpose) (d : Bool) → (IsOwn purpose → d ≡ false) → d ≡ true → is_type purpose ≡ true
 type-named purposes.Type d closed e = refl
-type-named (purposes.Name mark) d closed e = absurd (false≢true (sym (closed tt) ∙ e))
-type-named (purposes.Enclosing mark) d closed e = absurd (false≢true (sym (closed tt) ∙ e))
-type-named (purposes.Address mark) d closed e = absurd (false≢true (sym (closed tt) ∙ e))
+type-named (purposes.Name mark) d closed e = cc (sym (closed tt) ∙ e)
+type-named (purposes.Enclosing mark) d closed e = cc (sym (closed tt) ∙ e)
+type-named (purposes.Address mark) d closed e = cc (sym (closed tt) ∙ e)
 
 -- a nested name stays one where more is written
 pub nest-stays : {detail : Detail} {names : Names} (front bytes text more : List ℕ) (nest : Nest) (t : Term) → IsNest detail names front bytes text nest t
@@ -366,23 +345,6 @@ template-stays detail names (opens.LevelArguments is_dependent) front t name tex
 template-stays detail names _ front t name text more p = p
 
 -- ## Lists
-
--- the candidates are these, and nothing else changed
-pub record Lists (old new : Direct) (ks : List Candidate) : Type 0 where
-  pub candidates : new.candidates.list.items ≡ ks
-  pub text : new.text ≡ old.text
-  pub waiting : new.waiting ≡ old.waiting
-  pub nest : new.nest ≡ old.nest
-  pub scope : new.has_scope ≡ old.has_scope
-  pub at : new.at ≡ old.at
-
--- arguments were opened
-pub record OpensArguments (detail : Detail) (old new : Direct) (owner : Open) : Type 0 where
-  pub text : new.text.list.items ≡ old.text.list.items ++ opening_bracket detail
-  pub waiting : new.waiting.list.items ≡ old.waiting.list.items ++ owner ∷ []
-  pub at : new.at ≡ old.at + 1
-  pub candidates : new.candidates ≡ old.candidates
-  pub scope : new.has_scope ≡ old.has_scope
 
 -- arguments begin after a name
 pub list-begins : (s : Symbol) (old mid new : Direct) (ks : List Candidate) (kept : Kept s mid) (owner : Open) (front name : List ℕ) (t : Term)
@@ -413,27 +375,17 @@ list-begins s old mid new ks kept owner front name t lists opening_ template wri
         ([], tt, refl),
         text_is ∙ ap (λ l. l ++ bracket) written ∙ sym (append-nil (front ++ name ++ bracket)),
         (λ e. refl),
-        (λ e. absurd (false≢true (sym e))),
+        (λ e. cc e),
         subst (λ n. ArgumentsGoOn s owner (below s kept.scope (reverse old.waiting.list.items)) front t [] n kept.state) (sym at_is) goes,
       );
     }
 
--- what opening arguments says where there was memory
-pub opened-by : (s : Symbol) (r : Option Step) (old new : Direct) (owner : Open) → IfSome r (λ next. next ≡ steps.List true)
-    → OnSome r (new.waiting.list.items ≡ old.waiting.list.items ++ owner ∷ []) → OnSome r (new.at ≡ old.at + 1)
-    → OnSome r (new.text.list.items ≡ old.text.list.items ++ opening_bracket (detail_of s)) → OnSome r (new.candidates ≡ old.candidates)
-    → OnSome r (new.has_scope ≡ old.has_scope) → (OpensArguments (detail_of s) old new owner → IsWriting s new (steps.List true)) → IfSome r (IsWriting s new)
-opened-by s None old new owner step waiting at text candidates scope_same goes = tt
-opened-by s (Some next) old new owner step waiting at text candidates scope_same goes =
-    subst (λ x. IsWriting s new x) (sym step) (goes (record { text = text; waiting = waiting; at = at; candidates = candidates; scope = scope_same }))
+-- what was opened, where there was memory, is what comes next
+pub opened-so : (r : Option Step) (step : Step) (A : Type 0) (P : Step → Type 0) → IfSome r (λ next. (next ≡ step) × A) → (A → P step) → IfSome r P
+opened-so None step A P is goes = tt
+opened-so (Some next) step A P is goes = subst P (sym is.0) (goes is.1)
 
 -- ## Where what was written after a place is taken away
-
--- the front of a text is more than what it begins with
-front-more : (n k : ℕ) (xs ys : List ℕ) → n ≡ length xs + k → take n (xs ++ ys) ≡ xs ++ take k ys
-front-more n k [] ys e = ap (λ m. take m ys) (omega (arith, e))
-front-more zero k (x ∷ xs) ys e = absurd (omega (arith, e))
-front-more (suc n) k (x ∷ xs) ys e = ap (λ l. x ∷ l) (front-more n k xs ys (omega (arith, e)))
 
 -- a candidate that ends in the front of a text is one of that
 pub candidate-kept : {s : Symbol} {scope : Scope} (text kept rest : List ℕ) (k : Candidate) (c : values.Candidate) → text ≡ kept ++ rest → IsCandidate s scope text k c
@@ -441,13 +393,14 @@ pub candidate-kept : {s : Symbol} {scope : Scope} (text kept rest : List ℕ) (k
 candidate-kept text kept rest k c is p within =
     let own = p.front ++ p.bytes in
     let more = length kept - length own in
+    let fits : length kept ≡ length own + more = omega (arith, within, p.to_is, length-append p.front p.bytes) in
     record {
       bytes = p.bytes;
       placed = record {
         front = p.front;
         back = take more p.back;
         written = sym (take-append_seam kept rest) ∙ ap (λ l. take (length kept) l) (sym is ∙ p.written)
-            ∙ front-more (length kept) more own p.back (omega (arith, within, p.to_is, length-append p.front p.bytes));
+            ∙ ap (λ n. take n (own ++ p.back)) fits ∙ take-append-add own p.back more;
         from_is = p.from_is;
         to_is = p.to_is;
       };
@@ -501,13 +454,13 @@ closed-kept s scope text k c closed own = record {
   placed = own.placed;
   prints = subst (λ d. PrintsAs (detail_of s) no_scope.names d c.tree own.bytes k.is_reference) (sym closed)
       (subst (λ d. PrintsAs (detail_of s) scope.names d c.tree own.bytes k.is_reference) closed own.prints);
-  made_in = λ e. absurd (false≢true (sym closed ∙ e));
+  made_in = λ e. cc (sym closed ∙ e);
 }
 
 -- what a writer keeps where arguments aren't named any more, and candidates that name them are nowhere
 abbrev pub kept-closed : (s : Symbol) (old new : Direct) (kept : Kept s old) → AreLeft hidings.Dependent old.candidates.list.items new.candidates.list.items
-    → new.text ≡ old.text → Kept s new
-kept-closed s old new kept are text = record {
+    → new.text ≡ old.text → is_object s.bytes ≡ false → Kept s new
+kept-closed s old new kept are text typed = record {
   state = kept.state;
   scope = no_scope;
   keeps = record {
@@ -516,79 +469,32 @@ kept-closed s old new kept are text = record {
         old.candidates.list.items new.candidates.list.items kept.state.candidates are kept.keeps.candidates);
     named = none-named new.text.list.items;
     single = none-single;
-    unknown = λ e. refl;
+    unknown = λ e. (refl, typed);
   };
 }
 
 -- ## One after the other
 
--- some were gone over, and these are left
-pub record AreGoneOver (hiding : Hiding) (at : ℕ) (old now : List Candidate) : Type 0 where
-  pub done : List Candidate
-  pub new : List Candidate
-  pub rest : List Candidate
-  pub old_is : old ≡ done ++ rest
-  pub now_is : now ≡ new ++ rest
-  pub at_is : at ≡ length new
-  pub are : AreLeft hiding done new
+-- those before a place were gone over, and the others are as they were
+abbrev pub AreGoneOver : (hiding : Hiding) → (at : ℕ) → (old now : List Candidate) → Type 0
+AreGoneOver hiding zero old now = now ≡ old
+AreGoneOver hiding (suc at) (k ∷ old) (n ∷ now) = IsLeft hiding k n × AreGoneOver hiding at old now
+AreGoneOver hiding (suc at) _ _ = ⊥
 
-kept-more : (hiding : Hiding) (ks ns : List Candidate) (k n : Candidate) → AreLeft hiding ks ns → IsLeft hiding k n → AreLeft hiding (ks ++ k ∷ []) (ns ++ n ∷ [])
-kept-more hiding [] [] k n are is = (is, tt)
-kept-more hiding (x ∷ ks) (y ∷ ns) k n are is = (are.0, kept-more hiding ks ns k n are.1 is)
-kept-more hiding [] (y ∷ ns) k n are is = absurd are
-kept-more hiding (x ∷ ks) [] k n are is = absurd are
+-- so is the next one
+pub one-gone : (hiding : Hiding) (at : ℕ) (old now : List Candidate) (n other : Candidate) → AreGoneOver hiding at old now → at < length now
+    → IsLeft hiding (get_or now at other) n → AreGoneOver hiding (suc at) old (slice_set now at n)
+one-gone hiding zero (k ∷ old) (m ∷ now) n other gone below is = (subst (λ x. IsLeft hiding x n) (cc gone) is, cc gone)
+one-gone hiding zero [] (m ∷ now) n other gone below is = cc gone
+one-gone hiding (suc at) (k ∷ old) (m ∷ now) n other gone below is = (gone.0, one-gone hiding at old now n other gone.1 (omega (arith, below)) is)
+one-gone hiding (suc at) [] (m ∷ now) n other gone below is = absurd gone
+one-gone hiding at old [] n other gone below is = absurd (omega (arith, below))
 
-set-next : (xs ys : List Candidate) (k n : Candidate) → slice_set (xs ++ k ∷ ys) (length xs) n ≡ xs ++ n ∷ ys
-set-next [] ys k n = refl
-set-next (x ∷ xs) ys k n = ap (λ l. x ∷ l) (set-next xs ys k n)
-
-get-next : (xs ys : List Candidate) (k other : Candidate) → get_or (xs ++ k ∷ ys) (length xs) other ≡ k
-get-next [] ys k other = refl
-get-next (x ∷ xs) ys k other = get-next xs ys k other
-
--- none was
-pub none-gone : (hiding : Hiding) (old : List Candidate) → AreGoneOver hiding 0 old old
-none-gone hiding old = record { done = []; new = []; rest = old; old_is = refl; now_is = refl; at_is = refl; are = tt }
-
--- the next one is there
-pub next-there : (hiding : Hiding) (at : ℕ) (old now : List Candidate) (p : AreGoneOver hiding at old now) → at < length now
-    → (k : Candidate) × (ys : List Candidate) × (p.rest ≡ k ∷ ys) × ((other : Candidate) → get_or now at other ≡ k)
-next-there hiding at old now p below = go p.rest refl
-  where
-    go : (l : List Candidate) → p.rest ≡ l → (k : Candidate) × (ys : List Candidate) × (p.rest ≡ k ∷ ys) × ((other : Candidate) → get_or now at other ≡ k)
-    go [] e = absurd (omega (arith, below, p.at_is, ap length p.now_is, length-append p.new p.rest, ap length e))
-    go (k ∷ ys) e = (
-      k,
-      ys,
-      e,
-      λ other. ap (λ l. get_or l at other) (p.now_is ∙ ap (λ l. p.new ++ l) e) ∙ ap (λ n. get_or (p.new ++ k ∷ ys) n other) p.at_is ∙ get-next p.new ys k other,
-    )
-
--- it is gone over
-pub one-gone : (hiding : Hiding) (at : ℕ) (old now after_ : List Candidate) (p : AreGoneOver hiding at old now) (k n : Candidate) (ys : List Candidate) → p.rest ≡ k ∷ ys
-    → IsLeft hiding k n → after_ ≡ p.new ++ n ∷ ys → AreGoneOver hiding (at + 1) old after_
-one-gone hiding at old now after_ p k n ys e is after_is = record {
-  done = p.done ++ k ∷ [];
-  new = p.new ++ n ∷ [];
-  rest = ys;
-  old_is = p.old_is ∙ ap (λ l. p.done ++ l) e ∙ sym (append_assoc p.done (k ∷ []) ys);
-  now_is = after_is ∙ sym (append_assoc p.new (n ∷ []) ys);
-  at_is = omega (arith, p.at_is, length-append p.new (n ∷ []));
-  are = kept-more hiding p.done p.new k n p.are is;
-}
-
--- put in its place
-pub set-is : (hiding : Hiding) (at : ℕ) (old now : List Candidate) (p : AreGoneOver hiding at old now) (k n : Candidate) (ys : List Candidate) → p.rest ≡ k ∷ ys
-    → slice_set now at n ≡ p.new ++ n ∷ ys
-set-is hiding at old now p k n ys e =
-    ap (λ l. slice_set l at n) (p.now_is ∙ ap (λ l. p.new ++ l) e) ∙ ap (λ m. slice_set (p.new ++ k ∷ ys) m n) p.at_is ∙ set-next p.new ys k n
-
--- all are
-pub all-gone : (hiding : Hiding) (at : ℕ) (old now : List Candidate) (p : AreGoneOver hiding at old now) → length now ≤ at → AreLeft hiding old now
-all-gone hiding at old now p over = go p.rest refl
-  where
-    go : (l : List Candidate) → p.rest ≡ l → AreLeft hiding old now
-    go [] e =
-        subst (λ l. AreLeft hiding l now) (sym (p.old_is ∙ ap (λ l. p.done ++ l) e ∙ append-nil p.done))
-        (subst (λ l. AreLeft hiding p.done l) (sym (p.now_is ∙ ap (λ l. p.new ++ l) e ∙ append-nil p.new)) p.are)
-    go (k ∷ ys) e = absurd (omega (arith, over, p.at_is, ap length p.now_is, length-append p.new p.rest, ap length e))
+-- and so are all at the end
+pub all-gone : (hiding : Hiding) (at : ℕ) (old now : List Candidate) → AreGoneOver hiding at old now → length now ≤ at → AreLeft hiding old now
+all-gone hiding zero [] [] gone over = tt
+all-gone hiding zero (k ∷ old) [] gone over = cc gone
+all-gone hiding zero old (n ∷ now) gone over = absurd (omega (arith, over))
+all-gone hiding (suc at) (k ∷ old) (n ∷ now) gone over = (gone.0, all-gone hiding at old now gone.1 (omega (arith, over)))
+all-gone hiding (suc at) [] now gone over = absurd gone
+all-gone hiding (suc at) (k ∷ old) [] gone over = absurd gone

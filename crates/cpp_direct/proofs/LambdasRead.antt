@@ -8,46 +8,30 @@ use Rattle.cpp_grammar.specs.Grammar.{may_be_empty}
 use Rattle.cpp_grammar.specs.Term.{Term, within, lambda, nil, list}
 use Rattle.cpp_grammar.specs.Items.{closed}
 use Rattle.cpp_grammar.specs.Scope.{has_return_type, arguments_of}
-use Rattle.cpp_grammar.specs.Values.{State, Around, Value, local_number, nothing_there, tree}
+use Rattle.cpp_grammar.specs.Values.{State, Around, local_number, nothing_there, tree}
 use Rattle.cpp_grammar.specs.Between.{after, no_items}
-use Rattle.cpp_direct.specs.Symbol.{detail_of, Symbol}
+use Rattle.cpp_direct.specs.WriterTypes.{Direct, Purpose, Symbol, detail_of}
 use Rattle.cpp_direct.specs.declared.open.Open.TheVariants as opens
-use Rattle.cpp_direct.specs.declared.open.Purpose.{Purpose}
 use Rattle.cpp_direct.specs.declared.open.Step.TheVariants as steps
-use Rattle.cpp_direct.specs.declared.direct.Direct.{Direct}
-use Rattle.cpp_direct.specs.Holes.{Opened, StandsAt, Comes, Expects, with_candidate}
-use Rattle.cpp_direct.specs.HolesOfLocals.{Discriminator, IsDiscriminatorAt, IsLambdaDigit, IsPieceAt, lambda_digits, lambda_ending, lambda_number, lambda_with, local_in}
-use Rattle.cpp_direct.specs.Prints.{IsLed, PrintsPiece, list_of}
-use Rattle.cpp_direct.specs.WriterInvariant.{IsNest, IsWriting, ItemsGoOn, LambdaComes, LambdaWithin, Stands, below, in_front_of_next, nowhere, Kept}
+use Rattle.cpp_direct.specs.AllHoles.{Comes, Discriminator, Expects, IsDiscriminatorAt, IsLambdaDigit, IsPieceAt, Opened, StandsAt, lambda_digits, lambda_ending, lambda_number, lambda_with, local_in, with_candidate}
+use Rattle.cpp_direct.specs.Prints.{IsLed, PrintsPiece, list_of, IsUnmarked}
+use Rattle.cpp_direct.specs.WriterInvariant.{IsNest, IsWriting, LambdaComes, LambdaWithin, Stands, below, in_front_of_next, nowhere, Kept}
 use Rattle.cpp_direct.specs.MidStep.{IsElementRead}
 use Rattle.cpp_direct.specs.MidStepOfLocals.{AwaitsTypeName, IsLambdaOpened, IsLambdaParameterRead, IsLambdaRead}
 use Rattle.cpp_direct.specs.Written.{Writes, Reads, added}
-use Rattle.cpp_direct.proofs.Ending.{behind-five, next-written, parameter-goes_on}
+use Rattle.cpp_direct.proofs.Ending.{item-comes, next-written}
 use Rattle.cpp_direct.proofs.Kept.{kept-grown, kept-read, kept-same, kept-written, reverse-last, type-comes, value-added}
 use Rattle.cpp_direct.proofs.Listed.{some-elements}
 use Rattle.cpp_direct.proofs.Moves.{expects-empty, stands-join}
-use Rattle.cpp_direct.proofs.MovesOfLists.{element-awaits}
 use Rattle.cpp_direct.proofs.MovesOfLocals.{IsPieceKind, LambdaEnds, lambda-opens, lambda-piece, lambda_bytes, number-is}
 use Rattle.cpp_direct.proofs.Nesting.{classless-nest, closed-prints}
 use Rattle.cpp_direct.proofs.PrintedLists.{list-with-none, all-in, next-prints, none-print}
-use Rattle.cpp_direct.proofs.PrintedLocals.{lambda-prints, lambda-list-prints, local-prints, component-prints}
+use Rattle.cpp_direct.proofs.PrintedLocals.{lambda-list-prints, local-prints, component-prints}
 use Rattle.cpp_direct.proofs.PrintedSymbols.{parameters-kept}
 use Rattle.cpp_direct.proofs.Scopes.{none-scoped}
-use Rattle.cpp_direct.specs.WrittenParts.{IsUnmarked}
 use Rattle.cpp_direct.proofs.Unmarked.{is-no-mark, more-unmarked}
 
 -- ## Their bytes
-
--- its first bytes are there
-pub lambda-stands : (s : List ℕ) (at second third fourth fifth : ℕ) (rest : List ℕ) → StandsAt s at (85 ∷ []) → second ≡ at + 1 → StandsAt s second (108 ∷ [])
-    → third ≡ at + 2 → StandsAt s third (118 ∷ []) → fourth ≡ at + 3 → StandsAt s fourth (69 ∷ []) → fifth ≡ at + 4 → StandsAt s fifth rest
-    → StandsAt s at (85 ∷ 108 ∷ 118 ∷ 69 ∷ rest)
-lambda-stands s at second third fourth fifth rest u b l c v d e f more =
-    stands-join s at (85 ∷ []) (108 ∷ 118 ∷ 69 ∷ rest) u
-    (stands-join s (at + 1) (108 ∷ []) (118 ∷ 69 ∷ rest) (subst (λ k. StandsAt s k (108 ∷ [])) b l)
-    (stands-join s (at + 1 + 1) (118 ∷ []) (69 ∷ rest) (subst (λ k. StandsAt s k (118 ∷ [])) (omega (arith, c)) v)
-    (stands-join s (at + 1 + 1 + 1) (69 ∷ []) rest (subst (λ k. StandsAt s k (69 ∷ [])) (omega (arith, d)) e)
-    (subst (λ k. StandsAt s k rest) (omega (arith, f)) more))))
 
 number-text : (digit : Option ℕ) → IsLambdaDigit digit → decimal (local_number (lambda_digits digit)) ≡ lambda_number digit
 unfolding local_number
@@ -68,7 +52,7 @@ lambda-told s old new digit is stands ends reads = (
   lambda nil (local_number (lambda_digits digit)),
   codes "{lambda()#" ++ lambda_number digit ++ codes "}",
   lambda-piece s old.at digit new.at is stands ends,
-  lambda-prints (local_number (lambda_digits digit)) (lambda_number digit) (number-text digit is) (lambda-unmarked digit is),
+  lambda-list-prints [] [] (none-print (detail_of s) 0) (local_number (lambda_digits digit)) (lambda_number digit) (number-text digit is) (lambda-unmarked digit is),
   reads,
 )
 
@@ -76,19 +60,9 @@ lambda-told s old new digit is stands ends reads = (
 abbrev lambda_front : List ℕ
 lambda_front = codes "::{lambda("
 
-whole-text : (f b l n : List ℕ) → ((f ++ (b ++ lambda_front)) ++ l) ++ codes ")#" ++ (n ++ codes "}")
-    ≡ f ++ (b ++ codes "::" ++ (codes "{lambda(" ++ l ++ codes ")#" ++ n ++ codes "}"))
-whole-text f b l n =
-    let x = codes "{lambda(" ++ l ++ codes ")#" ++ n ++ codes "}" in
-    sym (append_assoc (f ++ (b ++ lambda_front) ++ l ++ codes ")#") n (codes "}"))
-    ∙ behind-five f (b ++ lambda_front) l (codes ")#") n (codes "}")
-    ∙ ap (λ k. f ++ k) (behind-five b lambda_front l (codes ")#") n (codes "}") ∙ sym (append_assoc b (codes "::") x))
-
 -- its bracket is by itself
 pub lambda-bracket : (f b l : List ℕ) → (f ++ (b ++ codes "::{lambda(")) ++ l ≡ (f ++ (b ++ codes "::{lambda")) ++ codes "(" ++ l
-lambda-bracket f b l =
-    ap (λ k. k ++ l) (ap (λ k. f ++ k) (sym (append_assoc b (codes "::{lambda") (codes "(")))
-    ∙ sym (append_assoc f (b ++ codes "::{lambda") (codes "(")))
+lambda-bracket f b l = simp append_assoc
 
 -- ## Their parameters
 
@@ -189,19 +163,16 @@ pub lambda-next : (s : Symbol) (w last : Direct) (from : ℕ) (nested : Option P
 lambda-next s w last from nested p one =
     let led = p.front ++ (p.bytes ++ lambda_front) in
     let becomes = LambdaWithin s nested (below s p.scope p.rest) p.front p.e in
-    let waits = ap (λ l. reverse l.list.items) one.waiting ∙ p.open_is in
-    let goes = subst (λ n. ItemsGoOn s nowhere becomes (λ l. l) p.ts n p.state) (sym one.at) p.goes in
-    let element = element-awaits s Kind.Items goes.inner goes.around last.at p.state tt goes.awaits in
-    let stands_ : Stands s p.scope (opens.Lambda from nested ∷ p.rest) element.inner last.text.list.items = (
+    let entry = opens.Lambda from nested in
+    item-comes s last last (kept-written s w last (codes ", ") one p.kept) nowhere becomes (λ l. l) p.ts w.at p.goes (entry ∷ p.rest) refl refl refl one.at
+    (ap (λ l. reverse l.list.items) one.waiting ∙ p.open_is) (λ os onward. (
       p.has,
       p.ts,
       p.texts,
       p.elements,
       one.text ∙ ap (λ l. l ++ codes ", ") p.written ∙ append_assoc led p.texts (codes ", ") ∙ ap (λ l. led ++ l) (sym (next-written p.ts p.texts p.some)),
-      λ t here now comes. parameter-goes_on s nowhere becomes (λ l. l) p.ts last.at p.state goes t here now (element.onward t here now comes),
-    ) in
-    type-comes s last last (kept-written s w last (codes ", ") one p.kept) goes.around element.inner refl refl refl waits goes.outside
-    (inr (inl element.awaits)) stands_ (none-scoped p.scope goes.around (opens.Lambda from nested ∷ p.rest) refl)
+      onward,
+    )) (none-scoped p.scope p.goes.around (entry ∷ p.rest) refl)
 
 -- ## Their end
 
@@ -235,7 +206,7 @@ lambda-ended s w next pushed numbered new from nested p apart ends at one number
           (lambda-list-prints p.ts p.texts p.elements n num (number-text number is) (lambda-unmarked number is));
       returns = refl;
       written = ap (λ v. v.list.items) text ∙ two.text ∙ ap (λ l. l ++ (num ++ codes "}")) (one.text ∙ ap (λ l. l ++ codes ")#") p.written)
-          ∙ whole-text p.front p.bytes p.texts num;
+          ∙ simp append_assoc;
       comes = subst (λ o. LambdaComes s nested (below s p.scope o) p.front p.e (lambda_with items number) new.at p.state) (sym waits)
           (ended_ number new.at is ending (omega (arith, here, numbered_at, place)));
     }

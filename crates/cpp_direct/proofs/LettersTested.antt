@@ -82,33 +82,30 @@ unfoldable pub is_pair : (ℕ → ℕ → Bool) → List ℕ → Bool
 is_pair test (c ∷ d ∷ []) = test c d
 is_pair test _ = true
 
--- and so does each of a table
-unfoldable pub are_pairs : (ℕ → ℕ → Bool) → List Naming → Bool
-are_pairs test [] = true
-are_pairs test (n ∷ rest) = is_pair test n.code && are_pairs test rest
+-- each code of a table passes a test
+unfoldable pub codes_pass : (List ℕ → Bool) → List Naming → Bool
+codes_pass test [] = true
+codes_pass test (n ∷ rest) = test n.code && codes_pass test rest
 
--- Two letters that have a text pass the test that all codes of two letters pass.
-pub pair-listed : (table : List Naming) (test : ℕ → ℕ → Bool) (first second : ℕ) → are_pairs test table ≡ true
-    → look_up (first ∷ second ∷ []) table ≢ [] → test first second ≡ true
-unfolding look_up same_bytes is_pair are_pairs
-pair-listed [] test first second all has = absurd (has refl)
-pair-listed (n ∷ rest) test first second all has =
-    let both = and_parts (is_pair test n.code) (are_pairs test rest) all in
-    go n.code both.0 (same_bytes (first ∷ second ∷ []) n.code) refl has (pair-listed rest test first second both.1)
+same-code : (a b : List ℕ) → same_bytes a b ≡ true → a ≡ b
+unfolding same_bytes
+same-code [] [] same = refl
+same-code (x ∷ xs) (y ∷ ys) same = let both = and_parts (nat_eq x y) (same_bytes xs ys) same in cc (eqb-true x y both.0, same-code xs ys both.1)
+same-code [] (y ∷ ys) same = absurd (false≢true same)
+same-code (x ∷ xs) [] same = absurd (false≢true same)
+
+-- A code that has a text passes the test that all codes of its table pass.
+pub code-listed : (table : List Naming) (test : List ℕ → Bool) (code : List ℕ) → codes_pass test table ≡ true → look_up code table ≢ [] → test code ≡ true
+unfolding look_up codes_pass
+code-listed [] test code all has = absurd (has refl)
+code-listed (n ∷ rest) test code all has =
+    let both = and_parts (test n.code) (codes_pass test rest) all in
+    go (same_bytes code n.code) refl has (code-listed rest test code both.1) both.0
   where
-    go : (code : List ℕ) → is_pair test code ≡ true → (b : Bool) → same_bytes (first ∷ second ∷ []) code ≡ b
-        → ◌≢◌ {A = List ℕ} (elim b [ true ↦ n.text | false ↦ look_up (first ∷ second ∷ []) rest ]) []
-        → (look_up (first ∷ second ∷ []) rest ≢ [] → test first second ≡ true)
-        → test first second ≡ true
-    go code passes false same filled later = later filled
-    go [] passes true same filled later = absurd (false≢true same)
-    go (c ∷ []) passes true same filled later = absurd (false≢true ((and_parts (nat_eq first c) false same).1))
-    go (c ∷ d ∷ []) passes true same filled later =
-        let both = and_parts (nat_eq first c) (nat_eq second d && true) same in
-        subst (λ a. test a second ≡ true) (sym (eqb-true first c both.0))
-        (subst (λ b. test c b ≡ true) (sym (eqb-true second d ((and_parts (nat_eq second d) true both.1).0))) passes)
-    go (c ∷ d ∷ e ∷ es) passes true same filled later =
-        absurd (false≢true ((and_parts (nat_eq second d) false ((and_parts (nat_eq first c) (nat_eq second d && false) same).1)).1))
+    go : (b : Bool) → same_bytes code n.code ≡ b → ◌≢◌ {A = List ℕ} (elim b [ true ↦ n.text | false ↦ look_up code rest ]) []
+        → (look_up code rest ≢ [] → test code ≡ true) → test n.code ≡ true → test code ≡ true
+    go true same filled later passes = subst (λ c. test c ≡ true) (sym (same-code code n.code same)) passes
+    go false same filled later passes = later filled
 
 -- ## The productions of operators' first letters
 
@@ -146,10 +143,7 @@ first-so : (p : Production) {kind other : Kind} → Some kind ≡ Some other →
     → ((first second : ℕ) (around : Around) (at : ℕ) (before st : State)
     → close p first around at before (letter second ∷ []) st ≡ Ok (found (piece (operator first second)) st)) → TakesFirst p other
 first-so p {kind = kind} {other = other} same parts chain begins passes closes =
-    subst (λ k. TakesFirst p k) (the-same same) (record { parts = parts; chain = chain; begins = begins; passes = passes; closes = closes })
-  where
-    the-same : Some kind ≡ Some other → kind ≡ other
-    the-same e = cc e
+    subst (λ k. TakesFirst p k) (cc same) (record { parts = parts; chain = chain; begins = begins; passes = passes; closes = closes })
 
 takes-first : (p : Production) (kind : Kind) → second_kind p ≡ Some kind → TakesFirst p kind
 unfolding second_kind number_of_kind parts_of is_chain opening between close unfolding_.behind meaning operator_or_literal letter_of part
@@ -258,5 +252,5 @@ read-so first second is =
 
 -- Two letters with the text of an operator are read as its code.
 pub operator-listed : (first second : ℕ) → look_up (first ∷ second ∷ []) operator_texts ≢ [] → IsOperator first second
-unfolding operator_texts is_pair are_pairs is_code is_byte is_code_by is_second is_mark is_component same_choice number_of second_kind choose alternatives pick is_in in_ranges among
-operator-listed first second has = read-so first second (pair-listed operator_texts (λ a b. is_code a b) first second refl has)
+unfolding operator_texts is_pair codes_pass is_code is_byte is_code_by is_second is_mark is_component same_choice number_of second_kind choose alternatives pick is_in in_ranges among
+operator-listed first second has = read-so first second (code-listed operator_texts (is_pair (λ a b. is_code a b)) (first ∷ second ∷ []) refl has)

@@ -1,31 +1,23 @@
 -- A writer at the end of arguments or a pack, and between two elements.
-use Rattle.cpp_direct.specs.declared.open.Arguments.{Arguments}
 use Rattle.sym_print.specs.declared.detail.Detail.{Detail}
-use Rattle.std.proofs.Common.{◌≡◌, ◌≢◌, inl, inr, ℕ, ◌+◌, ◌-◌, length, List, [], ◌∷◌, ◌++◌, reverse, slice_get, get_or, Bool, true, false, Some, None, refl, ap, sym, ◌∙◌, subst, arith, codes, append_assoc, append-nil}
-use Rattle.std.proofs.lemmas.Bool.{false≢true}
-use Rattle.std.proofs.lemmas.List.{length-append, reverse-reverse}
+use Rattle.std.proofs.Common.{◌≡◌, ◌≢◌, inl, inr, ℕ, ◌+◌, ◌-◌, ◌<◌, length, List, [], ◌∷◌, ◌++◌, reverse, slice_get, get_or, Bool, true, false, Some, None, refl, ap, sym, ◌∙◌, subst, arith, codes, append_assoc, append-nil}
+use Rattle.std.proofs.lemmas.List.{length-reverse, get_or-reverse}
 use Rattle.std.proofs.lemmas.Option.{slice_get_within, get_or_from_slice_get}
-use Rattle.std.proofs.Math.Seq.{get_or-append_seam}
 use Rattle.cpp_grammar.specs.declared.kind.Kind.{Kind}
 use Rattle.cpp_grammar.specs.Grammar.{may_be_empty}
 use Rattle.cpp_grammar.specs.Term.{Term, nil, list, instance, pack}
 use Rattle.cpp_grammar.specs.Scope.{element, count, arguments_of}
 use Rattle.cpp_grammar.specs.Values.{Around, State, tree, nothing_there, tree_of}
 use Rattle.cpp_grammar.specs.Between.{no_items}
-use Rattle.cpp_direct.specs.WrittenParts.{opening_bracket, closing_bracket}
-use Rattle.cpp_direct.specs.Symbol.{detail_of, Symbol}
 use Rattle.cpp_direct.specs.declared.open.Mark.TheVariants as marks
-use Rattle.cpp_direct.specs.declared.open.Nest.{Nest}
-use Rattle.cpp_direct.specs.declared.open.Open.{Open}
+use Rattle.cpp_direct.specs.WriterTypes.{Arguments, Direct, Nest, Open, Symbol, detail_of}
 use Rattle.cpp_direct.specs.declared.open.Open.TheVariants as opens
 use Rattle.cpp_direct.specs.declared.open.Step.TheVariants as steps
-use Rattle.cpp_direct.specs.declared.direct.Direct.{Direct}
-use Rattle.cpp_direct.specs.Holes.{Opened, Comes, IsListKind, ListGoesOn, StandsAt, AwaitsComponent, with_candidate}
-use Rattle.cpp_direct.specs.HolesOfLists.{IsArgumentKind}
-use Rattle.cpp_direct.specs.Prints.{Names, PrintAllAs, PrintsAs, list_of}
+use Rattle.cpp_direct.specs.AllHoles.{AwaitsComponent, Comes, IsArgumentKind, IsListKind, ListGoesOn, Opened, StandsAt, with_candidate}
+use Rattle.cpp_direct.specs.Prints.{Names, PrintAllAs, PrintsAs, list_of, opening_bracket, closing_bracket}
 use Rattle.cpp_direct.specs.WriterInvariant.{HasPack, Below, HasArguments, arguments_in, below, IsListing, IsNaming, IsScoped, Scope, scoped_in, is_noted, may_name, IsNest, IsTail, IsTemplate, IsWriting, Owns, Serves, ArgumentsGoOn, AwaitsElementOf, AwaitsEnumerator, Belongs, Closes, ElementsGoOn, EnumeratorGoesOn, GoesOn, Listing, of_template, of_pack, Stands, element_kind, extra_of, led_by, list_with, in_front_of_next, nowhere, Kept}
 use Rattle.cpp_direct.specs.MidStep.{AreKnown, IsListEnded, AwaitsNextArgument, IsNameEnded}
-use Rattle.cpp_direct.specs.Written.{Writes, added}
+use Rattle.cpp_direct.specs.Written.{Writes, added, Lists, OpensEntry}
 use Rattle.cpp_direct.proofs.Moves.{expects-empty, stands-split}
 use Rattle.cpp_direct.proofs.MovesOfLists.{element-awaits, pack-opens}
 use Rattle.cpp_direct.proofs.PrintedLists.{element-as, list-more, list-with-none, next-prints-as, none-print, pack-element}
@@ -33,7 +25,7 @@ use Rattle.cpp_direct.proofs.PrintedNames.{as-name}
 use Rattle.cpp_direct.proofs.PrintedNests.{instance-as, instance-prints, instance-class}
 use Rattle.cpp_direct.proofs.PrintedTypes.{prints-as}
 use Rattle.cpp_direct.proofs.Scopes.{element-there, instance-returns, known-stay, none-scoped, structor-returns, has-plain}
-use Rattle.cpp_direct.proofs.Kept.{kept-grown, kept-same, made-here, scoped-within, template-stays, type-comes, value-added, reverse-last, last-reversed, type-named, none-known, kept-with}
+use Rattle.cpp_direct.proofs.Kept.{kept-grown, kept-same, made-here, scoped-within, template-stays, type-comes, value-added, reverse-last, type-named, none-known, kept-with}
 
 -- ## What is open
 
@@ -41,15 +33,17 @@ use Rattle.cpp_direct.proofs.Kept.{kept-grown, kept-same, made-here, scoped-with
 pub last-found : (xs : List Open) (x : Open) → slice_get xs (length xs - 1) ≡ Some x → (rest : List Open) × (reverse xs ≡ x ∷ rest)
 last-found xs x found = go (reverse xs) refl
   where
+    some : 0 < length xs
+    some = omega (arith, slice_get_within xs (length xs - 1) x found)
+
     go : (r : List Open) → reverse xs ≡ r → (rest : List Open) × (reverse xs ≡ x ∷ rest)
-    go [] e = absurd (omega (arith, slice_get_within xs (length xs - 1) x found, ap length (sym (reverse-reverse xs) ∙ ap reverse e)))
-    go (y ∷ rest) e = (rest, e ∙ ap (λ z. z ∷ rest) (last-is rest y (last-reversed xs rest y e)))
-      where
-        last-is : (rest : List Open) (y : Open) → xs ≡ reverse rest ++ y ∷ [] → y ≡ x
-        last-is rest y is =
-            let place : length (reverse rest) ≡ length xs - 1 = omega (arith, ap length is, length-append (reverse rest) (y ∷ [])) in
-            sym (get_or-append_seam (reverse rest) y [] y) ∙ ap (λ l. get_or l (length (reverse rest)) y) (sym is)
-            ∙ ap (λ n. get_or xs n y) place ∙ get_or_from_slice_get xs (length xs - 1) x y found
+    go [] e = absurd (omega (arith, some, length-reverse xs, ap length e))
+    go (y ∷ rest) e =
+        let same : length xs - 1 - 0 ≡ length xs - 1 = omega arith in (
+          rest,
+          e ∙ ap (λ z. z ∷ rest) (sym (ap (λ l. get_or l 0 y) e) ∙ get_or-reverse xs 0 y some ∙ ap (λ n. get_or xs n y) same
+              ∙ get_or_from_slice_get xs (length xs - 1) x y found),
+        )
 
 -- the same, and what was open before it, where it is taken away
 opened-last : (ws ps : List Open) (x owner : Open) (rest : List Open) → reverse ws ≡ owner ∷ rest → ws ≡ ps ++ x ∷ []
@@ -90,7 +84,7 @@ element-goes-on s kind scoped closes ts t before at earlier st goes g = (
   goes.3,
   g.awaits,
   λ l there now comes ended. subst (λ u. closes u (there + 1) now) (sym (list-more ts t (no_items l)))
-      (goes.5 (tree (list t (no_items l)) true) there now (g.passes l there now comes) ended),
+      (goes.5 (tree (list t (no_items l)) true) there now (g.onward l there now comes) ended),
 )
 
 -- a list is open still where more is written
@@ -139,9 +133,6 @@ pub record IsClosed (s : Symbol) (w : Direct) (owner : Open) : Type 0 where
   pub owns : Owns s owner (below s scope (reverse w.waiting.list.items)) front (instance template (list_with ts tail)) w.at state
   pub known : AreKnown (detail_of s) w.text.list.items w.argument ts tail
 
-closing : (o e a b d : List ℕ) → (a ++ b ++ o ++ d) ++ e ≡ a ++ (b ++ o ++ d ++ e)
-closing o e a b d = ap (λ l. l ++ d ++ e) (append_assoc a b o) ∙ ap (λ l. l ++ e) (append_assoc a (b ++ o) d) ∙ append_assoc a (b ++ o ++ d) e
-
 -- the last bracket is written, and what was opened last is taken away
 pub closed-by : (s : Symbol) (old mid new : Direct) (x owner : Open) → IsListEnded s old new.argument → Writes old mid (closing_bracket (detail_of s))
     → new.text ≡ mid.text → new.candidates ≡ mid.candidates → new.has_scope ≡ mid.has_scope → new.at ≡ mid.at
@@ -166,7 +157,7 @@ closed-by s old mid new x owner p writes same candidates scope_same at items is 
           (subst (λ o. IsTemplate (detail_of s) scope.names o p.front p.template p.name (old.text.list.items ++ closing_bracket (detail_of s))) last.0
           (template-stays (detail_of s) scope.names p.owner p.front p.template p.name old.text.list.items (closing_bracket (detail_of s)) p.is_template));
       elements = subst (λ o. PrintAllAs (detail_of s) scope.names (is_noted o) 3 p.ts p.arguments) last.0 p.elements;
-      written = text ∙ ap (λ l. l ++ closing_bracket (detail_of s)) p.written ∙ closing (opening_bracket (detail_of s)) (closing_bracket (detail_of s)) p.front p.name p.arguments;
+      written = text ∙ ap (λ l. l ++ closing_bracket (detail_of s)) p.written ∙ simp append_assoc;
       owns = subst (λ n. Owns s owner (below s scope (reverse new.waiting.list.items)) p.front made n p.state) (sym (at ∙ writes.at))
           (subst (λ r. Owns s owner (below s scope r) p.front made old.at p.state) last.1
           (subst (λ o. Owns s o (below s scope p.rest) p.front made old.at p.state) last.0 p.owns));
@@ -192,9 +183,8 @@ closed-arguments s w owner p = (
 
 -- the arguments of a type
 pub type-closed : (s : Symbol) (w new : Direct) (from : ℕ) (is_dependent : Bool) → IsClosed s w (opens.TypeArguments from is_dependent)
-    → new.candidates.list.items ≡ added w from false is_dependent → new.text ≡ w.text → new.waiting ≡ w.waiting → new.has_scope ≡ w.has_scope → new.at ≡ w.at
-    → IsWriting s new (steps.Value false is_dependent)
-type-closed s w new from is_dependent p candidates text waiting scope_same at =
+    → Lists w new (added w from false is_dependent) → IsWriting s new (steps.Value false is_dependent)
+type-closed s w new from is_dependent p lists =
     let scope = p.scope in
     let t = instance p.template (list_with p.ts p.tail) in
     let bytes = p.name ++ opening_bracket (detail_of s) ++ p.arguments ++ closing_bracket (detail_of s) in
@@ -202,9 +192,9 @@ type-closed s w new from is_dependent p candidates text waiting scope_same at =
     let prints = instance-as (detail_of s) scope.names is_dependent p.template p.name
     (prints-as (detail_of s) scope.names is_dependent p.template p.name false p.is_template.1) p.ts p.tail p.arguments p.is_tail p.elements in
     value-added s w new p.kept p.owns.0 around t p.front bytes from false is_dependent p.written p.is_template.0 prints
-    (λ named. made-here scope around (reverse w.waiting.list.items) p.owns.3 (p.owns.4 named)) text candidates scope_same
-    (ap (λ v. reverse v.list.items) waiting) p.owns.4
-    (subst (λ n. Comes s p.owns.0 (tree t true) n (with_candidate around t p.state)) (sym at) p.owns.2) p.owns.5
+    (λ named. made-here scope around (reverse w.waiting.list.items) p.owns.3 (p.owns.4 named)) lists.text lists.candidates lists.scope
+    (ap (λ v. reverse v.list.items) lists.waiting) p.owns.4
+    (subst (λ n. Comes s p.owns.0 (tree t true) n (with_candidate around t p.state)) (sym lists.at) p.owns.2) p.owns.5
 
 instance-nest : {detail : Detail} (names : Names) (front name text : List ℕ) (nest : Nest) (is_listed is_instance : Bool) (t : Term) (ts : List Term) (tail : Term) (l : List ℕ)
     → IsTail tail → IsNest detail names front name text nest t → PrintAllAs detail names nest.is_dependent 3 ts l
@@ -255,9 +245,8 @@ nest-closed s w nest p =
 
 -- the arguments of the first piece of a nested name
 pub first-closed : (s : Symbol) (w new : Direct) (nest : Nest) → IsClosed s w (opens.FirstArguments nest)
-    → new.candidates.list.items ≡ added w nest.from false nest.is_dependent → new.text ≡ w.text → new.waiting ≡ w.waiting → new.has_scope ≡ w.has_scope
-    → new.at ≡ w.at → IsWriting s (record new { nest = nest }) steps.Component
-first-closed s w new nest p candidates text waiting scope_same at =
+    → Lists w new (added w nest.from false nest.is_dependent) → IsWriting s (record new { nest = nest }) steps.Component
+first-closed s w new nest p lists =
     let scope = p.scope in
     let t = instance p.template (list_with p.ts p.tail) in
     let bytes = p.name ++ opening_bracket (detail_of s) ++ p.arguments ++ closing_bracket (detail_of s) in
@@ -271,7 +260,7 @@ first-closed s w new nest p candidates text waiting scope_same at =
     record {
       kept = kept-with s w now p.kept p.front bytes nest.from t around false nest.is_dependent p.written p.is_template.from_is is_nest.prints
           (λ named. made-here scope around (reverse w.waiting.list.items) (p.owns.3 (type-named nest.purpose nest.is_dependent p.is_template.closed named))
-          (p.owns.4 named)) text candidates scope_same;
+          (p.owns.4 named)) lists.text lists.candidates lists.scope;
       is_before = (
         t,
         record {
@@ -279,15 +268,15 @@ first-closed s w new nest p candidates text waiting scope_same at =
           outer = outer;
           front = p.front;
           bytes = bytes;
-          written = subst (λ v. v.list.items ≡ p.front ++ bytes) (sym text) p.written;
-          is_nest = subst (λ v. IsNest (detail_of s) scope.names p.front bytes v.list.items nest t) (sym text) is_nest;
+          written = subst (λ v. v.list.items ≡ p.front ++ bytes) (sym lists.text) p.written;
+          is_nest = subst (λ v. IsNest (detail_of s) scope.names p.front bytes v.list.items nest t) (sym lists.text) is_nest;
           scoped = record {
-            scoped = λ within. subst (λ v. IsScoped scope around (reverse v.list.items)) (sym waiting) (p.owns.3 within);
-            naming = λ named. subst (λ v. IsNaming scope (reverse v.list.items)) (sym waiting) (p.owns.4 named);
+            scoped = λ within. subst (λ v. IsScoped scope around (reverse v.list.items)) (sym lists.waiting) (p.owns.3 within);
+            naming = λ named. subst (λ v. IsNaming scope (reverse v.list.items)) (sym lists.waiting) (p.owns.4 named);
           };
-          serves = subst (λ v. Serves s nest.purpose (below s scope (reverse v.list.items)) outer p.front) (sym waiting) p.owns.5;
+          serves = subst (λ v. Serves s nest.purpose (below s scope (reverse v.list.items)) outer p.front) (sym lists.waiting) p.owns.5;
         },
-        subst (λ n. AwaitsComponent s outer around t n state) (sym at) p.owns.2,
+        subst (λ n. AwaitsComponent s outer around t n state) (sym lists.at) p.owns.2,
       );
     }
 
@@ -300,7 +289,7 @@ name-closed s w from p =
       kept = p.kept;
       has = has-plain s w.text.list.items from t p.front bytes p.written p.is_template.0
           (as-name t bytes false (instance-prints p.template p.name p.is_template.1 p.ts p.tail p.arguments p.is_tail p.elements));
-      no_return = λ h. absurd (false≢true (sym h));
+      no_return = λ h. cc h;
       returns = λ h. instance-returns p.template (list_with p.ts p.tail) p.is_template.2;
       names = closed-arguments s w (opens.NameArguments from) p;
       awaits = p.owns;
@@ -309,22 +298,15 @@ name-closed s w from p =
 -- ## Between elements
 
 -- What is read of a list is read of arguments, if the list is no pack.
-pub template-listed : (s : Symbol) {scope : Scope} (w : Direct) (st : State) (p : IsListing (detail_of s) scope.names (reverse w.waiting.list.items) w.text.list.items)
-    (ts : List Term) (texts text : List ℕ) → ((rest : List Open) → reverse w.waiting.list.items ≡ opens.Pack ∷ rest → ⊥)
-    → PrintAllAs (detail_of s) scope.names (may_name p.listing p.owner) (extra_of p.listing) ts texts
-    → w.text.list.items ≡ led_by (detail_of s) p.listing p.front p.name ++ text → GoesOn s p.listing p.owner (below s scope p.rest) p.front p.template ts w.at st
-    → (reverse w.waiting.list.items ≡ p.owner ∷ p.rest) × PrintAllAs (detail_of s) scope.names (is_noted p.owner) 3 ts texts
-    × (w.text.list.items ≡ p.front ++ p.name ++ opening_bracket (detail_of s) ++ text) × ArgumentsGoOn s p.owner (below s scope p.rest) p.front p.template ts w.at st
-template-listed s {scope = scope} w st p ts texts text no_pack elements written goes = go p.listing p.belongs elements written goes
-  where
-    go : (l : Listing) → Belongs (detail_of s) scope.names l (reverse w.waiting.list.items) p.owner p.rest
-        → PrintAllAs (detail_of s) scope.names (may_name l p.owner) (extra_of l) ts texts
-        → w.text.list.items ≡ led_by (detail_of s) l p.front p.name ++ text → GoesOn s l p.owner (below s scope p.rest) p.front p.template ts w.at st
-        → (reverse w.waiting.list.items ≡ p.owner ∷ p.rest) × PrintAllAs (detail_of s) scope.names (is_noted p.owner) 3 ts texts
-        × (w.text.list.items ≡ p.front ++ p.name ++ opening_bracket (detail_of s) ++ text)
-        × ArgumentsGoOn s p.owner (below s scope p.rest) p.front p.template ts w.at st
-    go of_template belongs elements written goes = (belongs, elements, written, goes)
-    go (of_pack before more) belongs elements written goes = absurd (no_pack (p.owner ∷ p.rest) belongs.0)
+pub template-listed : (s : Symbol) (scope : Scope) (w : Direct) (st : State) (l : Listing) (owner : Open) (rest : List Open) (front : List ℕ) (template : Term)
+    (name : List ℕ) (ts : List Term) (texts text : List ℕ) → ((others : List Open) → reverse w.waiting.list.items ≡ opens.Pack ∷ others → ⊥)
+    → Belongs (detail_of s) scope.names l (reverse w.waiting.list.items) owner rest → PrintAllAs (detail_of s) scope.names (may_name l owner) (extra_of l) ts texts
+    → w.text.list.items ≡ led_by (detail_of s) l front name ++ text → GoesOn s l owner (below s scope rest) front template ts w.at st
+    → (reverse w.waiting.list.items ≡ owner ∷ rest) × PrintAllAs (detail_of s) scope.names (is_noted owner) 3 ts texts
+    × (w.text.list.items ≡ front ++ name ++ opening_bracket (detail_of s) ++ text) × ArgumentsGoOn s owner (below s scope rest) front template ts w.at st
+template-listed s scope w st of_template owner rest front template name ts texts text no_pack belongs elements written goes = (belongs, elements, written, goes)
+template-listed s scope w st (of_pack before more) owner rest front template name ts texts text no_pack belongs elements written goes =
+    absurd (no_pack (owner ∷ rest) belongs.0)
 
 -- what is open last is no pack
 pub no-pack : (w : Direct) (owner : Open) → slice_get w.waiting.list.items (length w.waiting.list.items - 1) ≡ Some owner → (owner ≡ opens.Pack → ⊥)
@@ -341,7 +323,8 @@ ended-so s w first to tail argument is_tail p apart owns are_known =
     let place = p.is_before.0 in
     let ts = p.is_before.1 in
     let texts = p.is_before.2 in
-    let a = template-listed s w p.state place ts texts texts apart p.is_before.3 p.is_before.4 p.is_before.7 in
+    let a = template-listed s p.scope w p.state place.listing place.owner place.rest place.front place.template place.name ts texts texts apart
+    place.belongs p.is_before.3 p.is_before.4 p.is_before.7 in
     record {
       kept = kept-same s w (record w { at = to }) refl refl refl p.kept;
       owner = place.owner;
@@ -449,7 +432,7 @@ pack-ends s w new p stands rest last text candidates scope_same at now = go p.is
             next-prints-as (detail_of s) p.scope.names (is_noted place.owner) 3 before written made texts belongs.1
                 (element-as (detail_of s) p.scope.names (is_noted place.owner) 3 made texts (pack-element us texts (p.is_before.6 refl) us_print)),
             same ∙ us_written ∙ append_assoc (place.front ++ place.name ++ opening_bracket (detail_of s)) (in_front_of_next before written) texts,
-            λ e. absurd (false≢true e),
+            λ e. cc e,
             λ e. some-elements before made,
             subst (λ n. ArgumentsGoOn s place.owner (below s p.scope place.rest) place.front place.template (before ++ made ∷ []) n p.state) (sym at)
                 (subst (λ l. ArgumentsGoOn s place.owner (below s p.scope place.rest) place.front place.template (before ++ pack l ∷ []) (w.at + 1) p.state)
@@ -512,32 +495,32 @@ pack-goes-on s owner below_ front template ts texts at st goes stands =
 -- a pack begins
 pub pack-begins : (s : Symbol) (old new : Direct) (owner : Open) → AwaitsNextArgument s old → StandsAt s.bytes old.at (74 ∷ [])
     → slice_get old.waiting.list.items (length old.waiting.list.items - 1) ≡ Some owner → (owner ≡ opens.Pack → ⊥)
-    → new.waiting.list.items ≡ old.waiting.list.items ++ opens.Pack ∷ [] → new.at ≡ old.at + 1 → new.text ≡ old.text → new.candidates ≡ old.candidates
-    → new.has_scope ≡ old.has_scope → IsWriting s new (steps.List true)
-pack-begins s old new owner a stands found other waits at text candidates scope_same =
+    → OpensEntry old new opens.Pack → IsWriting s new (steps.List true)
+pack-begins s old new owner a stands found other entered =
     let p = a.place in
     let last = last-found old.waiting.list.items owner found in
-    let l = template-listed s old a.state p a.ts a.texts (in_front_of_next a.ts a.texts) (λ rest e. other (cc (sym last.1 ∙ e))) a.elements a.written a.goes in
+    let l = template-listed s a.scope old a.state p.listing p.owner p.rest p.front p.template p.name a.ts a.texts (in_front_of_next a.ts a.texts)
+    (λ rest e. other (cc (sym last.1 ∙ e))) p.belongs a.elements a.written a.goes in
     record {
-      kept = kept-same s old new text candidates scope_same a.kept;
+      kept = kept-same s old new entered.text entered.candidates entered.scope a.kept;
       is_before = (
         record {
           listing = of_pack a.ts a.texts;
           owner = p.owner;
           rest = p.rest;
-          belongs = (ap reverse waits ∙ reverse-last old.waiting.list.items opens.Pack ∙ ap (λ ws. opens.Pack ∷ ws) l.0, l.1);
+          belongs = (ap reverse entered.waiting ∙ reverse-last old.waiting.list.items opens.Pack ∙ ap (λ ws. opens.Pack ∷ ws) l.0, l.1);
           front = p.front;
           template = p.template;
           name = p.name;
-          is_template = subst (λ v. IsTemplate (detail_of s) a.scope.names p.owner p.front p.template p.name v.list.items) (sym text) p.is_template;
+          is_template = subst (λ v. IsTemplate (detail_of s) a.scope.names p.owner p.front p.template p.name v.list.items) (sym entered.text) p.is_template;
         },
         [],
         [],
         none-print (detail_of s) 0,
-        ap (λ v. v.list.items) text ∙ l.2 ∙ sym (append-nil (p.front ++ p.name ++ opening_bracket (detail_of s) ++ in_front_of_next a.ts a.texts)),
+        ap (λ v. v.list.items) entered.text ∙ l.2 ∙ sym (append-nil (p.front ++ p.name ++ opening_bracket (detail_of s) ++ in_front_of_next a.ts a.texts)),
         (λ e. refl),
-        (λ e. absurd (false≢true (sym e))),
-        subst (λ n. GoesOn s (of_pack a.ts a.texts) p.owner (below s a.scope p.rest) p.front p.template [] n a.state) (sym at)
+        (λ e. cc e),
+        subst (λ n. GoesOn s (of_pack a.ts a.texts) p.owner (below s a.scope p.rest) p.front p.template [] n a.state) (sym entered.at)
             (pack-goes-on s p.owner (below s a.scope p.rest) p.front p.template a.ts a.texts old.at a.state l.3 stands),
       );
     }
@@ -575,23 +558,17 @@ template-takes detail names (opens.NameArguments from) front t name text is = tt
 template-takes detail names (opens.LevelArguments is_dependent) front t name text is = tt
 template-takes detail names _ front t name text is = absurd is
 
-argument-stands : (s : Symbol) (scope : Scope) (owner : Open) (rest : List Open) (os : List Opened) (text : List ℕ) → TakesArguments owner
-    → AwaitsElementOf s scope.names of_template owner (below s scope rest) os text → Stands s scope (owner ∷ rest) os text
-argument-stands s scope (opens.TypeArguments from is_dependent) rest os text takes p = p
-argument-stands s scope (opens.NestArguments nest) rest os text takes p = p
-argument-stands s scope (opens.FirstArguments nest) rest os text takes p = p
-argument-stands s scope (opens.NameArguments from) rest os text takes p = p
-argument-stands s scope (opens.LevelArguments is_dependent) rest os text takes p = p
-argument-stands s scope _ rest os text takes p = absurd takes
-
--- they have none that types name
-takes-none : (o : Open) → TakesArguments o → arguments_in o ≡ None
-takes-none (opens.TypeArguments from is_dependent) takes = refl
-takes-none (opens.NestArguments nest) takes = refl
-takes-none (opens.FirstArguments nest) takes = refl
-takes-none (opens.NameArguments from) takes = refl
-takes-none (opens.LevelArguments is_dependent) takes = refl
-takes-none _ takes = absurd takes
+-- an element of theirs is awaited as what is open stands, they have no arguments that types name, and the type of an enumerator is awaited so
+arguments-stand : (s : Symbol) (scope : Scope) (owner : Open) (rest : List Open) (os : List Opened) (text : List ℕ) → TakesArguments owner
+    → (AwaitsElementOf s scope.names of_template owner (below s scope rest) os text → Stands s scope (owner ∷ rest) os text)
+    × (Stands s scope (owner ∷ rest) os text → AwaitsElementOf s scope.names of_template owner (below s scope rest) os text) × (arguments_in owner ≡ None)
+    × (AwaitsEnumerator s scope.names of_template owner (below s scope rest) os text → Stands s scope (opens.Enumerator ∷ owner ∷ rest) os text)
+arguments-stand s scope (opens.TypeArguments from is_dependent) rest os text takes = (λ p. p, λ p. p, refl, λ e. e)
+arguments-stand s scope (opens.NestArguments nest) rest os text takes = (λ p. p, λ p. p, refl, λ e. e)
+arguments-stand s scope (opens.FirstArguments nest) rest os text takes = (λ p. p, λ p. p, refl, λ e. e)
+arguments-stand s scope (opens.NameArguments from) rest os text takes = (λ p. p, λ p. p, refl, λ e. e)
+arguments-stand s scope (opens.LevelArguments is_dependent) rest os text takes = (λ p. p, λ p. p, refl, λ e. e)
+arguments-stand s scope _ rest os text takes = absurd takes
 
 -- in arguments types may name what they may name around them, and in a pack nothing
 list-scoped : (s : Symbol) (scope : Scope) (around : Around) (opened : List Open) (text : List ℕ) (p : IsListing (detail_of s) scope.names opened text)
@@ -601,7 +578,7 @@ list-scoped s scope around opened text p scoped = go p.listing p.belongs
     go : (l : Listing) → Belongs (detail_of s) scope.names l opened p.owner p.rest → IsScoped scope around opened
     go of_template is =
         subst (λ ws. IsScoped scope around ws) (sym is) (scoped-within scope around p.owner p.rest
-        (takes-none p.owner (template-takes (detail_of s) scope.names p.owner p.front p.template p.name text p.is_template)) scoped)
+        (arguments-stand s scope p.owner p.rest [] text (template-takes (detail_of s) scope.names p.owner p.front p.template p.name text p.is_template)).2 scoped)
     go (of_pack before written) is =
         subst (λ ws. IsScoped scope around ws) (sym is.0) (none-scoped scope around (opens.Pack ∷ p.owner ∷ p.rest) refl)
 
@@ -615,8 +592,8 @@ list-stands s scope opened os text w =
         → AwaitsElementOf s scope.names l w.place.owner (below s scope w.place.rest) os text → Stands s scope opened os text
     go of_template is awaits =
         let p = w.place in
-        subst (λ ws. Stands s scope ws os text) (sym is) (argument-stands s scope p.owner p.rest os text
-        (template-takes (detail_of s) scope.names p.owner p.front p.template p.name text p.is_template) awaits)
+        subst (λ ws. Stands s scope ws os text) (sym is) ((arguments-stand s scope p.owner p.rest os text
+        (template-takes (detail_of s) scope.names p.owner p.front p.template p.name text p.is_template)).0 awaits)
     go (of_pack before written) is awaits = subst (λ ws. Stands s scope ws os text) (sym is.0) (before, written, is.1, awaits)
 
 waits-of : (s : Symbol) (scope : Scope) (owner : Open) (rest : List Open) (os : List Opened) (text : List ℕ)
@@ -660,12 +637,7 @@ list-waits s opens.Pack (owner ∷ rest) os text takes p = record {
   written = p.3.7;
   onward = p.3.8;
 }
-list-waits s {scope = scope} (opens.TypeArguments from is_dependent) rest os text takes p = waits-of s scope (opens.TypeArguments from is_dependent) rest os text p
-list-waits s {scope = scope} (opens.NestArguments nest) rest os text takes p = waits-of s scope (opens.NestArguments nest) rest os text p
-list-waits s {scope = scope} (opens.FirstArguments nest) rest os text takes p = waits-of s scope (opens.FirstArguments nest) rest os text p
-list-waits s {scope = scope} (opens.NameArguments from) rest os text takes p = waits-of s scope (opens.NameArguments from) rest os text p
-list-waits s {scope = scope} (opens.LevelArguments is_dependent) rest os text takes p = waits-of s scope (opens.LevelArguments is_dependent) rest os text p
-list-waits s _ rest os text takes p = absurd takes
+list-waits s {scope = scope} o rest os text takes p = waits-of s scope o rest os text ((arguments-stand s scope o rest os text takes).1 p)
 
 -- the list waits for an element where one is expected
 pub element-stands : (s : Symbol) (w : Direct) (a : AwaitsNextArgument s w) (os : List Opened)
@@ -699,15 +671,6 @@ type-expected s w a =
 
 -- ## Enumerators
 
-enumerator-in : (s : Symbol) (scope : Scope) (o : Open) (rest : List Open) (os : List Opened) (text : List ℕ) → TakesArguments o
-    → AwaitsEnumerator s scope.names of_template o (below s scope rest) os text → Stands s scope (opens.Enumerator ∷ o ∷ rest) os text
-enumerator-in s scope (opens.TypeArguments from is_dependent) rest os text takes e = e
-enumerator-in s scope (opens.NestArguments nest) rest os text takes e = e
-enumerator-in s scope (opens.FirstArguments nest) rest os text takes e = e
-enumerator-in s scope (opens.NameArguments from) rest os text takes e = e
-enumerator-in s scope (opens.LevelArguments is_dependent) rest os text takes e = e
-enumerator-in s scope _ rest os text takes e = absurd takes
-
 -- a list waits for the type of an enumerator
 pub enumerator-stands : (s : Symbol) (scope : Scope) (opened : List Open) (text : List ℕ) (os : List Opened) (p : IsListing (detail_of s) scope.names opened text)
     (ts : List Term) (texts : List ℕ) → PrintAllAs (detail_of s) scope.names (may_name p.listing p.owner) (extra_of p.listing) ts texts
@@ -721,7 +684,7 @@ enumerator-stands s scope opened text os p ts texts elements written onward =
     go : (l : Listing) → Belongs (detail_of s) scope.names l opened p.owner p.rest → AwaitsEnumerator s scope.names l p.owner (below s scope p.rest) os text
         → Stands s scope (opens.Enumerator ∷ opened) os text
     go of_template is awaits =
-        subst (λ ws. Stands s scope (opens.Enumerator ∷ ws) os text) (sym is) (enumerator-in s scope p.owner p.rest os text
-        (template-takes (detail_of s) scope.names p.owner p.front p.template p.name text p.is_template) awaits)
+        subst (λ ws. Stands s scope (opens.Enumerator ∷ ws) os text) (sym is) ((arguments-stand s scope p.owner p.rest os text
+        (template-takes (detail_of s) scope.names p.owner p.front p.template p.name text p.is_template)).3 awaits)
     go (of_pack before written) is awaits =
         subst (λ ws. Stands s scope (opens.Enumerator ∷ ws) os text) (sym is.0) (before, written, is.1, awaits)

@@ -6,20 +6,17 @@ use Rattle.cpp_grammar.specs.Parts.{source_text}
 use Rattle.cpp_grammar.specs.Values.{tree}
 use Rattle.cpp_grammar.specs.Between.{inside}
 use Rattle.cpp_direct.specs.WrittenParts.{opening_bracket, closing_bracket}
-use Rattle.cpp_direct.specs.Symbol.{detail_of, Symbol}
+use Rattle.cpp_direct.specs.WriterTypes.{Direct, Symbol, detail_of}
 use Rattle.cpp_direct.specs.declared.open.Open.TheVariants as opens
 use Rattle.cpp_direct.specs.declared.open.Step.TheVariants as steps
-use Rattle.cpp_direct.specs.declared.direct.Direct.{Direct}
-use Rattle.cpp_direct.specs.Holes.{Comes, StandsAt, IsNameAt}
-use Rattle.cpp_direct.specs.HolesOfLevels.{member_of, template_named}
+use Rattle.cpp_direct.specs.AllHoles.{Comes, IsNameAt, StandsAt, member_of, template_named}
 use Rattle.cpp_direct.specs.WriterInvariant.{IsScoped, IsWriting, Stands, element_kind, list_with}
 use Rattle.cpp_direct.specs.MidStep.{AwaitsMember, AwaitsNextArgument}
-use Rattle.cpp_direct.specs.Written.{Reads, Writes}
-use Rattle.cpp_direct.proofs.Kept.{kept-grown, kept-read, list-begins, OpensArguments, value-comes}
+use Rattle.cpp_direct.specs.Written.{Reads, Writes, OpensArguments}
+use Rattle.cpp_direct.proofs.Kept.{kept-grown, kept-read, list-begins, value-comes}
 use Rattle.cpp_direct.proofs.Listed.{IsClosed, element-kind, element-scoped, element-stands}
 use Rattle.cpp_direct.proofs.Moves.{stands-moved}
-use Rattle.cpp_direct.proofs.MovesOfLevels.{level-opens}
-use Rattle.cpp_direct.proofs.MovesOfLists.{listed-awaits}
+use Rattle.cpp_direct.proofs.MovesOfLists.{level-opens, listed-awaits}
 use Rattle.cpp_direct.proofs.PrintedLevels.{member-as}
 use Rattle.cpp_direct.proofs.PrintedNames.{source-prints}
 use Rattle.cpp_direct.proofs.PrintedNests.{instance-as}
@@ -53,7 +50,7 @@ level-begins s old named new first second at a wide letter first_is first_letter
     (stands-moved s.bytes first (old.at + 1) (115 ∷ []) first_is first_letter)
     (stands-moved s.bytes second (old.at + 1 + 1) (114 ∷ []) behind second_letter) (subst (λ n. IsNameAt s.bytes n name named.at) here read.1) opening in
     list-begins s named named new named.candidates.list.items (kept-read s old named bytes reads a.kept) (opens.LevelArguments false) front bytes
-    (template_named name) (record { candidates = refl; text = refl; waiting = refl; nest = refl; scope = refl; at = refl }) begins
+    (template_named name) (record { candidates = refl; text = refl; waiting = refl; nest = refl; scope = refl; at = refl; rounds = refl }) begins
     (source-prints false name read.2 (name-unmarked s.bytes at name named.at read.1)) reads.text (
       inside a.goes.0,
       o.inner,

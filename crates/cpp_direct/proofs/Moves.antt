@@ -1,12 +1,13 @@
 -- The moves of a reader that goes from left to right: a rule opens, its next part is expected, and it closes.
-use Rattle.std.proofs.Common.{◌≡◌, ℕ, ◌+◌, ◌<◌, List, [], ◌∷◌, ◌++◌, length, slice_get, true, not, Some, Ok, refl, ap, subst, ◌∙◌, Bool, false, ◌&&◌, Option, sym, arith}
+use Rattle.std.proofs.Common.{◌≡◌, ℕ, ◌+◌, ◌<◌, List, [], ◌∷◌, ◌++◌, length, slice_get, true, not, Some, Result, Ok, Err, refl, ap, subst, ◌∙◌, Bool, false, ◌&&◌, Option, sym, arith}
 use Rattle.std.specs.Prelude.{if◌then◌else◌}
 use Rattle.sym_shape.specs.declared.rule.Sym.{Sym}
 use Rattle.sym_shape.specs.declared.rule.Sym.TheVariants.{Kind as OfKind, Name, Number, Byte}
 use Rattle.sym_shape.specs.Table.{symbols_of}
-use Rattle.sym_shape.specs.Tree.{Forest, AreTrees, TakesRule, spell_all, Tree, IsTree}
-use Rattle.sym_link.specs.Reading.{Next}
-use Rattle.sym_link.specs.Unfold.{found, standing}
+use Rattle.sym_core.specs.declared.refusal.Refusal.{Refusal}
+use Rattle.sym_shape.specs.Tree.{Forest, nothing, grown, AreTrees, TakesRule, spell_all, Tree, IsTree}
+use Rattle.sym_link.specs.Reading.{Next, Found, ◌>>=◌}
+use Rattle.sym_link.specs.Unfold.{found, standing, unfold_tree, unfold_forest}
 use Rattle.cpp_grammar.specs.declared.kind.Kind.{Kind}
 use Rattle.cpp_grammar.specs.declared.production.Production.{Production}
 use Rattle.cpp_grammar.specs.Grammar.{kinds, number_of_kind, choose, parts_of, is_chain, may_be_empty, in_ranges, among, is_in, pick, number_of, alternatives}
@@ -16,10 +17,10 @@ use Rattle.cpp_grammar.specs.Between.{Going, between, after, extended, named_so_
 use Rattle.cpp_grammar.specs.Unfolding.{cpp, opening, close, byte_of}
 use Rattle.cpp_grammar.specs.Wide.{wide_choose, wide_alternatives}
 use Rattle.cpp_grammar.proofs.ClosedTrees.{at_number, its_symbols}
-use Rattle.cpp_direct.proofs.Tables.{takes-by, empty-by, names-by, arguments-by, rests-by, lists-by, tails-by, item-by}
+use Rattle.cpp_direct.proofs.Tables.{takes-by, empty-by, names-by, arguments-by, tails-by, item-by}
 use Rattle.cpp_direct.specs.Symbol.{Symbol, table_by}
-use Rattle.cpp_direct.specs.Holes.{cpp_language, Opened, opened, ReadsRest, StandsAt, Comes, Needs, ExpectsSym, Expects, IsNameAt, IsNumberAt}
-use Rattle.std.proofs.lemmas.Bool.{false≢true, and_parts}
+use Rattle.cpp_direct.specs.Holes.{cpp_language, Awaits, Opened, opened, ReadsRest, StandsAt, Comes, Needs, ExpectsSym, Expects, IsNameAt, IsNumberAt}
+use Rattle.std.proofs.lemmas.Bool.{false≢true, and_parts, not-true}
 use Rattle.sym_core.specs.Token.{Token, bytes_of, IsNumberToken}
 use Rattle.sym_core.specs.declared.NumberKind.{NumberKind}
 use Rattle.cpp_grammar.specs.Term.{Term, alone}
@@ -27,6 +28,7 @@ use Rattle.cpp_direct.proofs.LettersTested.{is_small, small, takes, taken}
 use Rattle.cpp_direct.proofs.Tables as tables
 use Rattle.sym_direct.specs.Holes as direct
 use Rattle.sym_direct.proofs.Moves as moves
+pub use Rattle.sym_direct.proofs.Moves.{stands-join, stands-none, stands-split}
 
 -- ## Kinds
 
@@ -48,18 +50,6 @@ takes-wide s kind p byte taken wide chosen small takes =
     tables.takes-wide s.is_wide kind (number_of_kind kind) byte p taken wide (kind-at kind) chosen small takes
 
 -- ## Bytes at a place
-
--- what is there in two pieces is there as one
-pub stands-join : (s : List ℕ) (at : ℕ) (a b : List ℕ) → StandsAt s at a → StandsAt s (at + length a) b → StandsAt s at (a ++ b)
-stands-join s at a b first second = moves.stands-join s at a b first second
-
--- what is there as one is there in two pieces
-pub stands-split : (s : List ℕ) (at : ℕ) (a b : List ℕ) → StandsAt s at (a ++ b) → StandsAt s at a × StandsAt s (at + length a) b
-stands-split s at a b whole = moves.stands-split s at a b whole
-
--- nothing is anywhere
-pub stands-none : (s : List ℕ) (at : ℕ) → StandsAt s at []
-stands-none s at = moves.stands-none s at
 
 -- places are compared
 pub stands-moved : (s : List ℕ) (at to : ℕ) (bytes : List ℕ) → at ≡ to → StandsAt s at bytes → StandsAt s to bytes
@@ -161,6 +151,36 @@ ends s p taken at0 around before known os at st w after needs closes =
     moves.ends (cpp_language s) s.bytes (standing (rule_of p) taken at0 around before) known os at st w after needs
     (closed-so p taken at0 around before known st w after closes)
 
+-- A value comes for a production where another comes for one like it: the reader goes on alike after both to the last part, and closes both alike.
+pub comes-alike : (s : Symbol) (os : List Opened) (p q : Production) (taken : List ℕ) (at0 : ℕ) (around : Around) (before : State) (x : Sym) (v w : Value) (at : ℕ)
+    (st now : State) (context : Around) (vs ws : List Value) (state : State)
+    → ◌≡◌ {A = Going} (between p around at0 (v ∷ []) st) (Ok (record { context = context; values = vs; state = state }))
+    → ◌≡◌ {A = Going} (between q around at0 (w ∷ []) now) (Ok (record { context = context; values = ws; state = state }))
+    → ((more : List Value) (end : State) → close p (byte_of taken) around at0 before (vs ++ more) end ≡ close q (byte_of taken) around at0 before (ws ++ more) end)
+    → Comes s (opened (standing (rule_of p) taken at0 around before) [] (x ∷ []) ∷ os) v at st
+    → Comes s (opened (standing (rule_of q) taken at0 around before) [] (x ∷ []) ∷ os) w at now
+unfolding cpp
+comes-alike s os p q taken at0 around before x v w at st now context vs ws state goes on closes comes bytes known end u later rest there closed =
+    go rest.forest rest.shaped rest.spelled rest.unfolds
+  where
+    part_of : (y : Tree) → IsTree (table_by s.is_wide) x y → spell_all (grown y nothing) ≡ bytes → (r : Result (Found (List Value) State) Refusal)
+        → unfold_tree cpp context at y state ≡ r
+        → ◌≡◌ {A = Result (Found (List Value) State) Refusal} (r >>= λ z. Ok (found (ws ++ z.value) z.state)) (Ok (found known end))
+        → Comes s os u (at + length bytes) later
+    part_of y shaped spelled (Err e) is same = cc same
+    part_of y shaped spelled (Ok z) is same = comes bytes (vs ++ z.value) z.state u later
+        (record { forest = grown y nothing; shaped = (shaped, tt); spelled = spelled; unfolds = rw (at_number p, goes, is) refl }) there
+        (ap (λ k. close k (byte_of taken) around at0 before (vs ++ z.value) z.state) (at_number p) ∙ closes z.value z.state
+        ∙ sym (ap (λ k. close k (byte_of taken) around at0 before (ws ++ z.value) z.state) (at_number q))
+        ∙ ap (λ (f : Found (List Value) State). cpp.close (standing (rule_of q) taken at0 around before) f.value f.state) (cc same) ∙ closed)
+
+    go : (f : Forest) → AreTrees (table_by s.is_wide) (x ∷ []) f → spell_all f ≡ bytes
+        → unfold_forest cpp (standing (rule_of q) taken at0 around before) (w ∷ []) at f now ≡ Ok (found known end) → Comes s os u (at + length bytes) later
+    go nothing shaped spelled e = absurd shaped
+    go (grown y nothing) shaped spelled e =
+        part_of y shaped.0 spelled (unfold_tree cpp context at y state) refl (sym (rw (at_number q, on) refl) ∙ e)
+    go (grown y (grown z more)) shaped spelled e = absurd shaped.1
+
 -- nothing stands for a kind that may be empty
 pub expects-empty : (s : Symbol) (kind : Kind) (around : Around) (os : List Opened) (at : ℕ) (st : State)
     → Expects s kind around os at st → may_be_empty kind ≡ true → Comes s os nothing_there at st
@@ -189,6 +209,16 @@ hole s kind around os at st expects = record { expects = expects }
 -- and what came has filled one
 pub came : (s : Symbol) (os : List Opened) (v : Value) (at : ℕ) (st : State) → Comes s os v at st → Filled s os v at st
 came s os v at st comes = record { comes = comes }
+
+-- what is awaited is one
+pub hole-of : {s : Symbol} {kind : Kind} {around : Around} {at : ℕ} {st : State} {Onward : List Opened → Type 0} (a : Awaits s kind around at st Onward)
+    → Hole s (OfKind (number_of_kind kind)) around a.inner at st
+hole-of a = record { expects = a.awaits }
+
+-- a hole awaits its part, where it is known how the reader goes on after that
+pub awaited : {s : Symbol} {kind : Kind} {around : Around} {os : List Opened} {at : ℕ} {st : State} {Onward : List Opened → Type 0}
+    → Hole s (OfKind (number_of_kind kind)) around os at st → Onward os → Awaits s kind around at st Onward
+awaited {os = os} h onward = record { inner = os; awaits = h.expects; onward = onward }
 
 -- what is open around a hole
 abbrev pub open_at : {s : Symbol} {x : Sym} {around : Around} {os : List Opened} {at : ℕ} {st : State} → Hole s x around os at st → List Opened
@@ -248,10 +278,6 @@ pub chosen-byte : (s : Symbol) (kind : Kind) (p : Production) (byte : ℕ) → c
     → ((f : Forest) (at : ℕ) (st : State) → opening p f at st ≡ Ok st) → Taken s kind p (byte ∷ [])
 chosen-byte s kind p byte chosen below chain begun =
     record { takes_rule = takes-it s kind p byte (byte ∷ []) chosen below (rw chain refl); begins = begun }
-
-not-true : (b : Bool) → not b ≡ true → b ≡ false
-not-true true is = absurd (false≢true is)
-not-true false is = refl
 
 -- so a production is taken and its byte eaten
 pub eats : (s : Symbol) (kind : Kind) (p : Production) (byte : ℕ) → is_eaten kind p byte ≡ true → Taken s kind p (byte ∷ [])
@@ -401,27 +427,22 @@ first-named around piece st first = ap (λ x. named_so_far around (extended x pi
 
 -- ## Kinds with more alternatives
 
-of-trees : (s : Symbol) (x y : Sym) (around : Around) (os : List Opened) (at : ℕ) (st : State)
-    → ((t : Tree) → IsTree (table_by s.is_wide) y t → IsTree (table_by s.is_wide) x t) → ExpectsSym s x around os at st → ExpectsSym s y around os at st
-of-trees s x y around os at st same expects bytes vs after read stands =
-    expects bytes vs after (record { shape = read.shape; shaped = same read.shape read.shaped; spelled = read.spelled; unfolds = read.unfolds }) stands
+-- what a kind with more trees awaits, one with fewer does
+pub fewer : {s : Symbol} {x y : Sym} {around : Around} {os : List Opened} {at : ℕ} {st : State}
+    → ((t : Tree) → IsTree (table_by s.is_wide) y t → IsTree (table_by s.is_wide) x t) → Hole s x around os at st → Hole s y around os at st
+fewer same h = record {
+  expects = λ bytes vs after read stands. h.expects bytes vs after
+      (record { shape = read.shape; shaped = same read.shape read.shaped; spelled = read.spelled; unfolds = read.unfolds }) stands;
+}
 
 pub alone-arguments : (s : Symbol) (around : Around) (os : List Opened) (at : ℕ) (st : State) → Expects s Kind.MaybeArguments around os at st → Expects s Kind.ArgumentsAlone around os at st
 unfolding number_of_kind
-alone-arguments s around os at st expects = of-trees s _ _ around os at st (arguments-by s.is_wide) expects
-
-pub alone-rest : (s : Symbol) (around : Around) (os : List Opened) (at : ℕ) (st : State) → Expects s Kind.NestRest around os at st → Expects s Kind.NestRestAlone around os at st
-unfolding number_of_kind
-alone-rest s around os at st expects = of-trees s _ _ around os at st (rests-by s.is_wide) expects
-
-pub any-list : (s : Symbol) (around : Around) (os : List Opened) (at : ℕ) (st : State) → Expects s Kind.ArgumentsFirst around os at st → Expects s Kind.ArgumentList around os at st
-unfolding number_of_kind
-any-list s around os at st expects = of-trees s _ _ around os at st (lists-by s.is_wide) expects
+alone-arguments s around os at st expects = (fewer (arguments-by s.is_wide) (hole s Kind.MaybeArguments around os at st expects)).expects
 
 -- by the wide grammar a nested name may end after the arguments of a name that an S stands for
 pub any-tail : (s : Symbol) (around : Around) (os : List Opened) (at : ℕ) (st : State) → s.is_wide ≡ true → Expects s Kind.NestMoreOrEnd around os at st → Expects s Kind.NestTail around os at st
 unfolding number_of_kind
-any-tail s around os at st wide expects = of-trees s _ _ around os at st (tails-by s.is_wide wide) expects
+any-tail s around os at st wide expects = (fewer (tails-by s.is_wide wide) (hole s Kind.NestMoreOrEnd around os at st expects)).expects
 
 -- a type is an argument
 pub any-argument : (s : Symbol) (around : Around) (os : List Opened) (at : ℕ) (st : State) → Expects s Kind.Argument around os at st → Expects s Kind.Item around os at st

@@ -22,13 +22,11 @@ use Rattle.cpp_grammar.specs.Unfolding.{first_around, first_state, first_tree, u
 use Rattle.cpp_grammar.specs.Meaning.{meaning}
 use Rattle.cpp_grammar.specs.Unfolding as unfolding_
 use Rattle.cpp_direct.specs.Symbol.{Symbol, mangled_of}
-use Rattle.cpp_direct.specs.Holes.{cpp_language, Opened, opened, StandsAt, Comes, Expects, IsNameAt, Named}
+use Rattle.cpp_direct.specs.AllHoles.{BaseOpened, Comes, EncodingOpened, Expects, GuardOpened, IsNameAt, IsOffsetAt, IsSuffix, Named, NestOpened, Opened, SpecialOpened, StandsAt, SymbolOpened, const_letter, cpp_language, nest_marks, opened}
 use Rattle.sym_direct.specs.Holes as direct
 use Rattle.cpp_direct.specs.ItemBytes.{is_special_letter, is_suffix_byte}
-use Rattle.cpp_direct.specs.HolesOfLocals.{GuardOpened}
-use Rattle.cpp_direct.specs.HolesOfLists.{const_letter, EncodingOpened, SpecialOpened, IsOffsetAt, BaseOpened, nest_marks, NestOpened, IsSuffix, SymbolOpened}
 use Rattle.cpp_direct.specs.Letters.{special_letters}
-use Rattle.cpp_direct.proofs.Moves.{Hole, Filled, hole, open_at, fill, filled-at, hole-at, chosen-byte, eats, eats-widely, leaves, is_eaten, is_eaten_widely, byte-opens, chain-opens, byte-fills, next-part, closes, none-fills, fixed-fills, name-fills, first-named, is_left, stands-split}
+use Rattle.cpp_direct.proofs.Moves.{awaited, Hole, Filled, hole, open_at, fill, filled-at, hole-at, chosen-byte, eats, eats-widely, leaves, is_eaten, is_eaten_widely, byte-opens, chain-opens, byte-fills, next-part, closes, none-fills, fixed-fills, name-fills, first-named, is_left, stands-split}
 use Rattle.cpp_direct.proofs.LettersTested.{each_passes, tested, IsOperator}
 use Rattle.cpp_direct.proofs.MovesOfNests.{named-by, named-outside, operator-fills}
 use Rattle.cpp_direct.proofs.MovesOfLists.{integer-fills}
@@ -43,18 +41,9 @@ unfolding is_eaten is_left number_of_kind parts_of between close unfolding_.behi
 encoding-opens s os around at st expects =
     let p = Production.Encoding in
     let name = chain-opens (leaves s Kind.Encoding p 48 refl) (hole s Kind.Encoding around os at st expects) refl refl in
-    record {
-      inner = open_at name;
-      awaits = name.expects;
-      onward = λ v here now comes.
-          let items = next-part p (fill name v here now comes) refl in
-          record { inner = open_at items; awaits = items.expects; onward = λ l there then_ last. (closes p (fill items l there then_ last) refl).comes };
-    }
-
--- the letter of a special object
-special-eaten : (b : ℕ) → is_special_letter b ≡ true → is_eaten Kind.Special Production.SpecialType b ≡ true
-unfolding is_eaten is_special_letter each_passes
-special-eaten b is = tested special_letters (λ c. is_eaten Kind.Special Production.SpecialType c) refl b is
+    awaited name (λ v here now comes.
+    let items = next-part p (fill name v here now comes) refl in
+    awaited items (λ l there then_ last. (closes p (fill items l there then_ last) refl).comes))
 
 -- what comes after the T of a special name
 special-expected : (s : Symbol) (os : List Opened) (around : Around) (at : ℕ) (st : State) → Expects s Kind.Encoding around os at st → StandsAt s.bytes at (84 ∷ [])
@@ -66,16 +55,13 @@ special-expected s os around at st expects stands =
 -- a special object begins with a T and its letter, and its type is expected
 pub special-opens : (s : Symbol) (os : List Opened) (around : Around) (b at : ℕ) (st : State) → is_special_letter b ≡ true
     → Expects s Kind.Encoding around os at st → StandsAt s.bytes at (84 ∷ b ∷ []) → SpecialOpened s os at b (at + 2) st
-unfolding is_eaten number_of_kind parts_of between close unfolding_.behind meaning part byte_of tree_of text_of piece_of letter_of is_there
+unfolding is_eaten number_of_kind parts_of between close unfolding_.behind meaning part byte_of tree_of text_of piece_of letter_of is_there is_special_letter each_passes
 special-opens s os around b at st is expects stands =
     let p = Production.SpecialType in
     let places = stands-split s.bytes at (84 ∷ []) (b ∷ []) stands in
-    let type = byte-opens (eats s Kind.Special p b (special-eaten b is)) (special-expected s os around at st expects places.0) places.1 refl refl in
-    record {
-      inner = open_at type;
-      awaits = (hole-at (at + 2) type (omega arith)).expects;
-      onward = λ t here now comes. (closes Production.Special (closes p (fill type (tree t true) here now comes) refl) refl).comes;
-    }
+    let type = byte-opens (eats s Kind.Special p b (tested special_letters (λ c. is_eaten Kind.Special p c) refl b is)) (special-expected s os around at st expects places.0) places.1 refl refl in
+    awaited (hole-at (at + 2) type (omega arith))
+    (λ t here now comes. (closes Production.Special (closes p (fill type (tree t true) here now comes) refl) refl).comes)
 
 -- ## Thunks
 
@@ -89,11 +75,8 @@ thunk-opens s os around at end st expects first second is =
     let number = byte-opens (eats s Kind.Special p 104 refl) (special-expected s os around at st expects first) second refl refl in
     let line = next-part p (integer-fills is.negative is.digits is.behind number is.minus is.number) refl in
     let encoding = next-part p (filled-at end (fixed-fills line is.line) (sym is.ends)) refl in
-    record {
-      inner = open_at encoding;
-      awaits = encoding.expects;
-      onward = λ e here now comes. (closes Production.Special (closes p (fill encoding (tree e true) here now comes) refl) refl).comes;
-    }
+    awaited encoding
+    (λ e here now comes. (closes Production.Special (closes p (fill encoding (tree e true) here now comes) refl) refl).comes)
 
 -- a virtual one begins with a T, a v and two offsets
 pub virtual-thunk-opens : (s : Symbol) (os : List Opened) (around : Around) (at middle end : ℕ) (st : State) → Expects s Kind.Encoding around os at st
@@ -107,11 +90,8 @@ virtual-thunk-opens s os around at middle end st expects first second is then_ =
     let other = next-part p (filled-at middle (fixed-fills line is.line) (sym is.ends)) refl in
     let other_line = next-part p (integer-fills then_.negative then_.digits then_.behind other then_.minus then_.number) refl in
     let encoding = next-part p (filled-at end (fixed-fills other_line then_.line) (sym then_.ends)) refl in
-    record {
-      inner = open_at encoding;
-      awaits = encoding.expects;
-      onward = λ e here now comes. (closes Production.Special (closes p (fill encoding (tree e true) here now comes) refl) refl).comes;
-    }
+    awaited encoding
+    (λ e here now comes. (closes Production.Special (closes p (fill encoding (tree e true) here now comes) refl) refl).comes)
 
 -- ## After a G
 
@@ -133,11 +113,8 @@ guard-opens s os around at st expects stands =
     let q = Production.SpecialName in
     let places = stands-split s.bytes at (71 ∷ []) (86 ∷ []) stands in
     let name = byte-opens (eats s Kind.SpecialAfterG q 86 refl) (other-expected s os around at st expects places.0) places.1 refl refl in
-    record {
-      inner = open_at name;
-      awaits = (hole-at (at + 2) name (omega arith)).expects;
-      onward = λ v here now comes. (closes Production.OtherSpecial (closes q (fill name v here now comes) refl) refl).comes;
-    }
+    awaited (hole-at (at + 2) name (omega arith))
+    (λ v here now comes. (closes Production.OtherSpecial (closes q (fill name v here now comes) refl) refl).comes)
 
 -- by the wide grammar a clone begins with GT and its letter, and the encoding is expected of which it is one
 pub clone-opens : (s : Symbol) (os : List Opened) (around : Around) (b at : ℕ) (st : State) → s.is_wide ≡ true → is_eaten Kind.CloneLetter Production.Mark b ≡ true
@@ -149,11 +126,8 @@ clone-opens s os around b at st wide is expects stands =
     let two = stands-split s.bytes (at + 1) (84 ∷ []) (b ∷ []) places.1 in
     let kind = byte-opens (eats-widely s Kind.SpecialAfterG q 84 wide refl) (other-expected s os around at st expects places.0) two.0 refl refl in
     let encoding = next-part q (byte-fills (eats s Kind.CloneLetter Production.Mark b is) kind two.1 refl refl) refl in
-    record {
-      inner = open_at encoding;
-      awaits = (hole-at (at + 3) encoding (omega arith)).expects;
-      onward = λ e here now comes. (closes Production.OtherSpecial (closes q (fill encoding (tree e true) here now comes) refl) refl).comes;
-    }
+    awaited (hole-at (at + 3) encoding (omega arith))
+    (λ e here now comes. (closes Production.OtherSpecial (closes q (fill encoding (tree e true) here now comes) refl) refl).comes)
 
 -- ## Names
 
@@ -166,11 +140,7 @@ unfolding is_eaten number_of_kind parts_of between close unfolding_.behind meani
 nest-goes s os around q r at st here now f =
     let p = Production.NestedName in
     let nest = next-part p f refl in
-    record {
-      inner = open_at nest;
-      awaits = nest.expects;
-      onward = λ t listed there then_ last. (closes p (fill nest (tree t listed) there then_ last) refl).comes;
-    }
+    awaited nest (λ t listed there then_ last. (closes p (fill nest (tree t listed) there then_ last) refl).comes)
 
 -- what says that a function is const
 abbrev quality : (const : Bool) → Value

@@ -1,29 +1,27 @@
--- The moves in lists of arguments and of items: arguments are opened and closed, and a list goes on after each of its elements.
-use Rattle.std.proofs.Common.{◌≡◌, ℕ, ◌+◌, ◌⊎◌, inl, inr, length, List, [], ◌∷◌, Bool, true, false, nat_eq, Ok, refl, ap, subst, arith, ◌∙◌, Result, Err}
+-- The moves in lists of arguments and of items: arguments are opened and closed, and a list goes on after each of its elements,
+-- also after one that is a member of an instance of a template.
+use Rattle.std.proofs.Common.{◌≡◌, ℕ, ◌+◌, ◌⊎◌, inl, inr, length, List, [], ◌∷◌, Bool, true, false, nat_eq, Ok, refl, ap, subst, arith}
 use Rattle.sym_shape.specs.declared.rule.Sym.TheVariants.{Kind as OfKind}
-use Rattle.sym_shape.specs.Tree.{Tree as Shape, Forest, nothing, grown, IsTree, AreTrees, spell_all}
-use Rattle.sym_link.specs.Reading.{Open, Found, ◌>>=◌}
-use Rattle.sym_link.specs.Unfold.{found, standing, unfold_tree, unfold_forest}
-use Rattle.sym_core.specs.declared.refusal.Refusal.{Refusal}
+use Rattle.sym_link.specs.Unfold.{standing}
 use Rattle.cpp_grammar.specs.declared.kind.Kind.{Kind}
 use Rattle.cpp_grammar.specs.declared.production.Production.{Production}
-use Rattle.cpp_grammar.specs.Grammar.{number_of_kind, productions, number_of, parts_of}
+use Rattle.cpp_grammar.specs.Grammar.{number_of_kind, parts_of, may_be_empty}
 use Rattle.cpp_grammar.specs.Table.{rule_of}
 use Rattle.cpp_grammar.specs.Term.{Term, builtin, integer, boolean, pack, list}
-use Rattle.cpp_grammar.specs.Values.{State, Around, signed, tree, tree_of, is_listed, signed_of, signed_digits, prefix_tree, prefix_listed, part, Value, is_there, letter_of, piece_of, text_of}
+use Rattle.cpp_grammar.specs.Values.{State, Around, signed, tree, tree_of, is_listed, signed_of, signed_digits, prefix_tree, prefix_listed, part, Value, is_there, letter_of, piece_of, text_of, text, outermost}
 use Rattle.cpp_grammar.specs.References.{appended, with_type, with_prefix}
-use Rattle.cpp_grammar.specs.Between.{Going, between, after, inside, no_items}
+use Rattle.cpp_grammar.specs.Between.{Going, between, after, inside, no_items, extended, applied}
 use Rattle.cpp_grammar.specs.Meaning.{meaning}
 use Rattle.cpp_grammar.specs.Standing.{ends_arguments, enclosed_argument, is_code, operation_by, operation_or_address}
 use Rattle.cpp_grammar.specs.Unfolding as unfolding_
-use Rattle.cpp_grammar.specs.Unfolding.{cpp, close, byte_of}
-use Rattle.cpp_direct.specs.Symbol.{Symbol, table_by}
-use Rattle.cpp_direct.specs.Holes.{Opened, opened, StandsAt, Comes, Expects, unless_listed, IsListKind, ListGoesOn, AwaitsElement, AwaitsElementAs, with_candidate}
+use Rattle.cpp_grammar.specs.Unfolding.{close, byte_of}
+use Rattle.cpp_direct.specs.Symbol.{Symbol}
+use Rattle.cpp_direct.specs.AllHoles.{AddressOpened, ArgumentsOpened, AwaitsElement, AwaitsElementAs, Comes, EnumeratorOpened, Expects, IsArgumentKind, IsDigitsAt, IsListKind, ListGoesOn, LiteralOpened, Opened, PackOpened, StandsAt, minus_sign, opened, unless_listed, with_candidate, IsNameAt, LevelOpened, template_named}
 use Rattle.cpp_direct.specs.ItemBytes.{is_integer_letter}
 use Rattle.cpp_direct.specs.Letters.{integer_letters}
 use Rattle.cpp_direct.proofs.LettersTested.{each_passes, tested}
-use Rattle.cpp_direct.specs.HolesOfLists.{AddressOpened, ArgumentsOpened, IsArgumentKind, LiteralOpened, PackOpened, EnumeratorOpened, IsDigitsAt, minus_sign}
-use Rattle.cpp_direct.proofs.Moves.{any-list, any-argument, Hole, Filled, hole, open_at, fill, eats, leaves, is_eaten, byte-opens, chain-opens, byte-fills, next-part, closes, fixed-fills, is_left, stands-split, digits-fill, filled-at, hole-at}
+use Rattle.cpp_direct.proofs.Tables.{lists-by}
+use Rattle.cpp_direct.proofs.Moves.{any-argument, awaited, comes-alike, fewer, hole-of, Hole, Filled, hole, open_at, fill, eats, leaves, is_eaten, byte-opens, chain-opens, byte-fills, next-part, closes, fixed-fills, is_left, stands-split, digits-fill, filled-at, hole-at, came, eats-widely, is_eaten_widely, name-fills, none-fills}
 
 -- ## Arguments
 
@@ -43,11 +41,8 @@ arguments-open s os around t listed at st expects stands =
     let p = Production.Arguments in
     let first = byte-opens (eats s Kind.ArgumentsAlone p 73 refl) (hole s Kind.ArgumentsAlone (after t listed around) os at st expects) stands refl
     (prefix-listed t listed around at st) in
-    record {
-      inner = open_at first;
-      awaits = any-list s (inside around) (open_at first) (at + 1) (unless_listed listed around t st) first.expects;
-      onward = λ l here now comes ended. (closes p (fixed-fills (next-part p (fill first l here now comes) refl) ended) refl).comes;
-    }
+    awaited (fewer (lists-by s.is_wide) first)
+    (λ l here now comes ended. (closes p (fixed-fills (next-part p (fill first l here now comes) refl) ended) refl).comes)
 
 -- ## Elements
 
@@ -56,7 +51,7 @@ goes-on : {s : Symbol} {kind : Kind} {around : Around} {inner outer : List Opene
     → Hole s (OfKind (number_of_kind kind)) around inner at st
     → ((l : Value) (to : ℕ) (now : State) → Filled s inner l to now → Filled s outer (tree (list t (no_items l)) true) to now)
     → ListGoesOn s kind outer around t at st
-goes-on {inner = inner} t h closed = record { inner = inner; awaits = h.expects; passes = λ l to now comes. (closed l to now (fill h l to now comes)).comes }
+goes-on t h closed = awaited h (λ l to now comes. (closed l to now (fill h l to now comes)).comes)
 
 -- an element of a list of arguments is expected
 pub listed-awaits : (s : Symbol) (kind : Kind) (os : List Opened) (around : Around) (at : ℕ) (st : State)
@@ -65,19 +60,13 @@ unfolding is_eaten is_left number_of_kind parts_of between close unfolding_.behi
 listed-awaits s Kind.ArgumentList os around at st is expects =
     let p = Production.AnyArgument in
     let one = chain-opens (leaves s Kind.ArgumentList p 80 refl) (hole s Kind.ArgumentList around os at st expects) refl refl in
-    record {
-      inner = open_at one;
-      awaits = one.expects;
-      onward = λ t here now comes. goes-on t (next-part p (fill one (tree t true) here now comes) refl) (λ l to later last. closes p last refl);
-    }
+    awaited one
+    (λ t here now comes. goes-on t (next-part p (fill one (tree t true) here now comes) refl) (λ l to later last. closes p last refl))
 listed-awaits s Kind.PackList os around at st is expects =
     let p = Production.AnyElement in
     let one = chain-opens (leaves s Kind.PackList p 80 refl) (hole s Kind.PackList around os at st expects) refl refl in
-    record {
-      inner = open_at one;
-      awaits = one.expects;
-      onward = λ t here now comes. goes-on t (next-part p (fill one (tree t true) here now comes) refl) (λ l to later last. closes p last refl);
-    }
+    awaited one
+    (λ t here now comes. goes-on t (next-part p (fill one (tree t true) here now comes) refl) (λ l to later last. closes p last refl))
 listed-awaits s _ os around at st is expects = absurd is
 
 -- one that is a type
@@ -96,11 +85,8 @@ element-awaits s Kind.PackList os around at st list_kind expects =
 element-awaits s Kind.Items os around at st list_kind expects =
     let p = Production.Items in
     let one = chain-opens (leaves s Kind.Items p 80 refl) (hole s Kind.Items around os at st expects) refl refl in
-    record {
-      inner = open_at one;
-      awaits = one.expects;
-      onward = λ t here now comes. goes-on t (next-part p (fill one (tree t true) here now comes) refl) (λ l to later last. closes p last refl);
-    }
+    awaited one
+    (λ t here now comes. goes-on t (next-part p (fill one (tree t true) here now comes) refl) (λ l to later last. closes p last refl))
 element-awaits s _ os around at st list_kind expects = absurd list_kind
 
 -- an argument that is a literal begins with an L, and ends with an E
@@ -111,21 +97,13 @@ unfolding is_eaten number_of_kind parts_of between close unfolding_.behind meani
 literal-opens s Kind.ArgumentList os around at st is expects stands =
     let p = Production.LiteralArgument in
     let one = byte-opens (eats s Kind.ArgumentList p 76 refl) (hole s Kind.ArgumentList around os at st expects) stands refl refl in
-    record {
-      inner = open_at one;
-      awaits = one.expects;
-      onward = λ t here now comes ended.
-          goes-on t (next-part p (fixed-fills (next-part p (fill one (tree t true) here now comes) refl) ended) refl) (λ l to later last. closes p last refl);
-    }
+    awaited one (λ t here now comes ended.
+    goes-on t (next-part p (fixed-fills (next-part p (fill one (tree t true) here now comes) refl) ended) refl) (λ l to later last. closes p last refl))
 literal-opens s Kind.PackList os around at st is expects stands =
     let p = Production.LiteralElement in
     let one = byte-opens (eats s Kind.PackList p 76 refl) (hole s Kind.PackList around os at st expects) stands refl refl in
-    record {
-      inner = open_at one;
-      awaits = one.expects;
-      onward = λ t here now comes ended.
-          goes-on t (next-part p (fixed-fills (next-part p (fill one (tree t true) here now comes) refl) ended) refl) (λ l to later last. closes p last refl);
-    }
+    awaited one (λ t here now comes ended.
+    goes-on t (next-part p (fixed-fills (next-part p (fill one (tree t true) here now comes) refl) ended) refl) (λ l to later last. closes p last refl))
 literal-opens s _ os around at st is expects stands = absurd is
 
 -- an argument that is a pack begins with a J, and ends with an E
@@ -135,20 +113,10 @@ unfolding is_eaten number_of_kind parts_of between close unfolding_.behind meani
 pack-opens s os around at st expects stands =
     let p = Production.PackArgument in
     let one = byte-opens (eats s Kind.ArgumentList p 74 refl) (hole s Kind.ArgumentList around os at st expects) stands refl refl in
-    record {
-      inner = open_at one;
-      awaits = one.expects;
-      onward = λ l here now comes ended.
-          goes-on (pack (no_items l)) (next-part p (fixed-fills (next-part p (fill one l here now comes) refl) ended) refl) (λ x to later last. closes p last refl);
-    }
+    awaited one (λ l here now comes ended.
+    goes-on (pack (no_items l)) (next-part p (fixed-fills (next-part p (fill one l here now comes) refl) ended) refl) (λ x to later last. closes p last refl))
 
 -- ## Literals
-
--- a bit of a boolean
-bit-eaten : (d : ℕ) → (d ≡ 48) ⊎ (d ≡ 49) → is_eaten Kind.Bit Production.Mark d ≡ true
-unfolding is_eaten
-bit-eaten d (inl same) = ap (is_eaten Kind.Bit Production.Mark) same
-bit-eaten d (inr same) = ap (is_eaten Kind.Bit Production.Mark) same
 
 -- an argument that is a boolean
 pub bool-element : (s : Symbol) (kind : Kind) (os : List Opened) (around : Around) (d at : ℕ) (st : State) → IsArgumentKind kind → (d ≡ 48) ⊎ (d ≡ 49)
@@ -161,17 +129,13 @@ bool-element s kind os around d at st is bit expects stands =
     let second = stands-split s.bytes (at + 1) (98 ∷ []) (d ∷ 69 ∷ []) first.1 in
     let third = stands-split s.bytes (at + 1 + 1) (d ∷ []) (69 ∷ []) second.1 in
     let literal = literal-opens s kind os around at st is expects first.0 in
+    let taken : is_eaten Kind.Bit Production.Mark d ≡ true = elim bit [ inl e ↦ ap (is_eaten Kind.Bit Production.Mark) e | inr e ↦ ap (is_eaten Kind.Bit Production.Mark) e ] in
     let digit = byte-opens (eats s Kind.Literal p 98 refl) (hole s Kind.Literal around literal.inner (at + 1) st literal.awaits) second.0 refl refl in
     subst (λ n. ListGoesOn s kind os around (boolean (nat_eq d 49)) n st) (omega arith)
     (literal.onward (boolean (nat_eq d 49)) (at + 1 + 1 + 1) st
-    (closes p (byte-fills (eats s Kind.Bit Production.Mark d (bit-eaten d bit)) digit third.0 refl refl) refl).comes third.1)
+    (closes p (byte-fills (eats s Kind.Bit Production.Mark d taken) digit third.0 refl refl) refl).comes third.1)
 
 -- ## Integers
-
--- a letter of a builtin type, where the type of a literal is expected
-integer-eaten : (b : ℕ) → is_integer_letter b ≡ true → is_eaten Kind.LiteralType Production.Builtin b ≡ true
-unfolding is_eaten is_integer_letter each_passes
-integer-eaten b is = tested integer_letters (λ c. is_eaten Kind.LiteralType Production.Builtin c) refl b is
 
 -- an integer
 pub integer-fills : {s : Symbol} {around : Around} {os : List Opened} {at : ℕ} {st : State} (negative : Bool) (digits : List ℕ) (end : ℕ)
@@ -191,7 +155,7 @@ pub integer-element : (s : Symbol) (kind : Kind) (os : List Opened) (around : Ar
     → IsArgumentKind kind → is_integer_letter b ≡ true → Expects s kind around os at st → StandsAt s.bytes at (76 ∷ b ∷ minus_sign negative)
     → IsDigitsAt s.bytes (at + length (76 ∷ b ∷ minus_sign negative)) digits end → StandsAt s.bytes end (69 ∷ [])
     → ListGoesOn s kind os around (integer (builtin (b ∷ [])) (signed_digits negative digits)) (end + 1) st
-unfolding is_eaten is_left number_of_kind parts_of between close unfolding_.behind meaning part byte_of tree_of text_of piece_of letter_of is_there with_type is_listed signed_of
+unfolding is_eaten is_left number_of_kind parts_of between close unfolding_.behind meaning part byte_of tree_of text_of piece_of letter_of is_there with_type is_listed signed_of is_integer_letter each_passes
 integer-element s kind os around b negative digits at end st kind_is letter_is expects stands is ended =
     let p = Production.IntegerLiteral in
     let first = stands-split s.bytes at (76 ∷ []) (b ∷ minus_sign negative) stands in
@@ -199,7 +163,7 @@ integer-element s kind os around b negative digits at end st kind_is letter_is e
     let literal = literal-opens s kind os around at st kind_is expects first.0 in
     let behind_type : at + length (76 ∷ b ∷ minus_sign negative) ≡ at + 1 + 1 + length (minus_sign negative) = omega arith in
     let type = chain-opens (leaves s Kind.Literal p 80 refl) (hole s Kind.Literal around literal.inner (at + 1) st literal.awaits) refl refl in
-    let number = next-part p (byte-fills (eats s Kind.LiteralType Production.Builtin b (integer-eaten b letter_is)) type second.0 refl refl) refl in
+    let number = next-part p (byte-fills (eats s Kind.LiteralType Production.Builtin b (tested integer_letters (λ c. is_eaten Kind.LiteralType Production.Builtin c) refl b letter_is)) type second.0 refl refl) refl in
     literal.onward (integer (builtin (b ∷ [])) (signed_digits negative digits)) end st
     (closes p (integer-fills negative digits end number second.1 (subst (λ n. IsDigitsAt s.bytes n digits end) behind_type is)) refl).comes ended
 
@@ -211,40 +175,12 @@ enumeration-passes : (s : Symbol) (os : List Opened) (around : Around) (place : 
     (tree t listed) at st
     → Comes s (opened (standing (rule_of Production.IntegerLiteral) [] place around before) [] (OfKind (number_of_kind Kind.Integer) ∷ []) ∷ os)
     (tree t true) at (unless_listed listed around t st)
-unfolding cpp rule_of number_of productions unfolding_.production_at between close unfolding_.behind meaning part tree_of signed_of with_type is_listed appended
-enumeration-passes s os around place before t true at st comes bytes vs inner w later rest there closes = comes bytes vs inner w later rest there closes
-enumeration-passes s os around place before t false at st comes bytes vs inner w later rest there closes = go rest.forest rest.shaped rest.spelled rest.unfolds
-  where
-    rule : Open State Around
-    rule = standing (rule_of Production.IntegerLiteral) [] place around before
-
-    behind : State
-    behind = with_candidate around t st
-
-    closed : (y : Found (List Value) State) → found (tree t true ∷ y.value) y.state ≡ found vs inner
-        → cpp.close rule (tree t false ∷ y.value) y.state ≡ Ok (found w later)
-    closed y same = ap (λ (f : Found (List Value) State). cpp.close rule f.value f.state) same ∙ closes
-
-    part_of : (x : Shape) → IsTree (table_by s.is_wide) (OfKind (number_of_kind Kind.Integer)) x → spell_all (grown x nothing) ≡ bytes
-        → (r : Result (Found (List Value) State) Refusal) → unfold_tree cpp around at x behind ≡ r
-        → ◌≡◌ {A = Result (Found (List Value) State) Refusal} (r >>= λ y. Ok (found (tree t true ∷ y.value) y.state)) (Ok (found vs inner))
-        → Comes s os w (at + length bytes) later
-    part_of x shaped spelled (Err e) is same = cc same
-    part_of x shaped spelled (Ok y) is same = comes bytes (tree t false ∷ y.value) y.state w later
-        (record {
-          forest = grown x nothing;
-          shaped = (shaped, tt);
-          spelled = spelled;
-          unfolds = ap (λ (r : Result (Found (List Value) State) Refusal). r >>= λ z. Ok (found (tree t false ∷ z.value) z.state)) is;
-        })
-        there (closed y (cc same))
-
-    go : (f : Forest) → AreTrees (table_by s.is_wide) (OfKind (number_of_kind Kind.Integer) ∷ []) f → spell_all f ≡ bytes
-        → unfold_forest cpp rule (tree t true ∷ []) at f behind ≡ Ok (found vs inner)
-        → Comes s os w (at + length bytes) later
-    go nothing shaped spelled unfolds = absurd shaped
-    go (grown x nothing) shaped spelled unfolds = part_of x shaped.0 spelled (unfold_tree cpp around at x behind) refl unfolds
-    go (grown x (grown y more)) shaped spelled unfolds = absurd shaped.1
+unfolding between close unfolding_.behind meaning part tree_of signed_of with_type is_listed appended byte_of
+enumeration-passes s os around place before t true at st comes = comes
+enumeration-passes s os around place before t false at st comes =
+    let p = Production.IntegerLiteral in
+    comes-alike s os p p [] place around before (OfKind (number_of_kind Kind.Integer)) (tree t false) (tree t true) at st (with_candidate around t st) around
+    (tree t false ∷ []) (tree t true ∷ []) (with_candidate around t st) refl refl (λ more end. refl) comes
 
 -- an argument begins that is an enumerator
 pub enumerator-opens : (s : Symbol) (kind : Kind) (os : List Opened) (around : Around) (at : ℕ) (st : State) → IsArgumentKind kind
@@ -256,11 +192,7 @@ enumerator-opens s kind os around at st is expects stands =
     let type = chain-opens (leaves s Kind.Literal p 80 refl) (hole s Kind.Literal around literal.inner (at + 1) st literal.awaits) refl refl in
     record {
       inner = open_at type;
-      opens = record {
-        inner = open_at type;
-        awaits = type.expects;
-        passes = λ t listed here now other comes. enumeration-passes s literal.inner around (at + 1) st t listed here now comes;
-      };
+      opens = awaited type (λ t listed here now other comes. enumeration-passes s literal.inner around (at + 1) st t listed here now comes);
       onward = λ t here now comes negative digits end minus digits_there ended.
           let number = next-part p (fill type (tree t true) here now comes) refl in
           literal.onward (integer t (signed_digits negative digits)) end now (closes p (integer-fills negative digits end number minus digits_there) refl).comes ended;
@@ -290,12 +222,42 @@ address-opens s os around at st expects stands =
     let four = byte-opens (eats s Kind.AddressedExpression l 76 refl) three fourth.0 refl refl in
     let five = byte-opens (eats s Kind.AddressedLiteral e 95 refl) four fifth.0 refl refl in
     let six = hole-at (at + 6) (next-part e (fixed-fills five fifth.1) refl) (omega arith) in
-    record {
-      inner = open_at six;
-      awaits = six.expects;
-      onward = λ t here now comes ends.
-          let both = stands-split s.bytes here (69 ∷ []) (69 ∷ []) ends in
-          let literal = next-part l (closes e (fill six (tree t true) here now comes) refl) refl in
-          let expression = closes a (closes d (closes l (fixed-fills literal both.0) refl) refl) refl in
-          (filled-at (here + 2) (closes x (fixed-fills (next-part x expression refl) both.1) refl) (omega arith)).comes;
-    }
+    awaited six (λ t here now comes ends.
+    let both = stands-split s.bytes here (69 ∷ []) (69 ∷ []) ends in
+    let literal = next-part l (closes e (fill six (tree t true) here now comes) refl) refl in
+    let expression = closes a (closes d (closes l (fixed-fills literal both.0) refl) refl) refl in
+    (filled-at (here + 2) (closes x (fixed-fills (next-part x expression refl) both.1) refl) (omega arith)).comes)
+
+-- ## Members of instances of templates
+
+-- a name that isn't looked up becomes a name so far
+named-so : (around : Around) (name : List ℕ) (at : ℕ) (st : State) → around.prefix ≡ outermost
+    → ◌≡◌ {A = Going} (between Production.SimpleId around at (text name ∷ []) st)
+    (Ok (record { context = after (template_named name) true around; values = tree (template_named name) true ∷ []; state = st }))
+unfolding between extended after text_of part
+named-so around name at st first = ap (λ x. between Production.SimpleId (record around { prefix = x }) at (text name ∷ []) st) first
+
+-- an argument begins with Xsr and the name of a template, before the arguments of that
+pub level-opens : (s : Symbol) (os : List Opened) (around : Around) (at : ℕ) (st : State) (name : List ℕ) (end : ℕ) → s.is_wide ≡ true → around.prefix ≡ outermost
+    → Expects s Kind.Argument around os at st → StandsAt s.bytes at (88 ∷ []) → StandsAt s.bytes (at + 1) (115 ∷ [])
+    → StandsAt s.bytes (at + 1 + 1) (114 ∷ []) → IsNameAt s.bytes (at + 1 + 1 + 1) name end
+    → StandsAt s.bytes end (73 ∷ []) → LevelOpened s os around name (end + 1) st
+unfolding is_eaten is_eaten_widely is_left may_be_empty number_of_kind parts_of between close unfolding_.behind meaning part byte_of tree_of text_of piece_of letter_of is_there applied operation_by enclosed_argument ends_arguments is_code
+level-opens s os around at st name end wide first expects x e r is opening =
+    let level = Production.Levels in
+    let id = Production.SimpleId in
+    let argument = byte-opens (eats s Kind.Argument Production.Expression 88 refl) (hole s Kind.Argument around os at st expects) x refl refl in
+    let expression = byte-opens (eats-widely s Kind.Expression Production.ExpressionS 115 wide refl) argument e refl refl in
+    let unresolved = byte-opens (eats s Kind.ExpressionAfterS Production.Unresolved 114 refl) expression r refl refl in
+    let levels = chain-opens (leaves s Kind.Unresolved level 48 refl) unresolved refl refl in
+    let template = chain-opens (leaves s Kind.Level id 48 refl) levels refl refl in
+    let arguments = next-part id (name-fills name end template is) (named-so around name (at + 1 + 1 + 1) st first) in
+    let o = arguments-open s (open_at arguments) around (template_named name) true end st arguments.expects opening in
+    awaited {os = o.inner} (hole-of o) (λ l here now comes ended member behind begins named ends.
+    let own = closes id (came s (open_at arguments) (tree (no_items l) true) (here + 1) now (o.onward l here now comes ended)) refl in
+    let rest = byte-opens (eats s Kind.MoreLevels Production.LevelsEnd 69 refl) (next-part level own refl) begins refl refl in
+    let last = chain-opens (leaves s Kind.UnresolvedName id 48 refl) rest refl refl in
+    let none = none-fills Kind.ArgumentsAlone (next-part id (name-fills member behind last named) (named-so around member (here + 1 + 1) now first)) refl in
+    let whole = closes level (closes Production.LevelsEnd (closes id none refl) refl) refl in
+    let value = closes Production.ExpressionS (closes Production.Unresolved whole refl) refl in
+    (closes Production.Expression (fixed-fills (next-part Production.Expression value refl) ends) refl).comes)

@@ -1,8 +1,7 @@
 -- The moves in the names of local entities and in guard variables.
-use Rattle.std.proofs.Common.{◌≡◌, ℕ, ◌+◌, ◌-◌, ◌^◌, ◌<◌, ◌≤◌, Ok, Err, List, [], ◌∷◌, ◌++◌, length, Bool, true, false, cond, nat_lt, Option, None, Some, refl, ap, sym, subst, arith, append-nil}
-use Rattle.std.proofs.lemmas.Bool.{le-leb, lt-ltb}
+use Rattle.std.proofs.Common.{◌≡◌, ℕ, ◌+◌, ◌-◌, ◌<◌, ◌≤◌, Ok, List, [], ◌∷◌, ◌++◌, length, Bool, true, false, cond, Option, None, Some, refl, ap, sym, subst, arith, append-nil}
+use Rattle.std.proofs.lemmas.Bool.{le-leb}
 use Rattle.sym_core.specs.declared.NumberKind.TheVariants.{Decimal}
-use Rattle.sym_core.specs.declared.refusal.Refusal.TheVariants.{BadValue}
 use Rattle.sym_core.specs.Number.{AreDigitsOf}
 use Rattle.sym_core.specs.Token.{Token}
 use Rattle.sym_shape.specs.Tree.{empty, fixed, token}
@@ -20,17 +19,15 @@ use Rattle.cpp_grammar.specs.Meaning.{meaning, parameters, is_void, is_nil, list
 use Rattle.cpp_grammar.specs.Unfolding as unfolding_
 use Rattle.cpp_grammar.specs.Unfolding.{cpp, opening, close, byte_of, last_token, number_tested}
 use Rattle.cpp_direct.specs.Symbol.{Symbol}
-use Rattle.cpp_direct.specs.Holes.{cpp_language, Opened, opened, StandsAt, Comes, Expects, IsNameAt}
+use Rattle.cpp_direct.specs.AllHoles.{Comes, Discriminator, Expects, IsDiscriminatorAt, IsLambdaDigit, IsNameAt, IsNamedKind, IsPieceAt, LocalOpened, LocalTypeOpened, Opened, StandsAt, by_digit, by_digits, cpp_language, discriminator_value, lambda_digits, lambda_ending, lambda_with, opened, unnumbered}
 use Rattle.sym_direct.specs.Holes as direct
 use Rattle.sym_direct.proofs.Moves as moves
-use Rattle.cpp_direct.specs.HolesOfLocals.{Discriminator, unnumbered, by_digit, by_digits, discriminator_value, IsDiscriminatorAt, IsLambdaDigit, IsPieceAt, LocalOpened, LocalTypeOpened, lambda_digits, lambda_ending, lambda_with}
 use Rattle.cpp_direct.specs.Bytes.{short_numbers}
 use Rattle.cpp_direct.specs.WriterInvariant.{HasScope, ItemsGoOn, nowhere}
 use Rattle.cpp_direct.proofs.Kept.{none-known}
-use Rattle.cpp_direct.proofs.ShortNumbers.{lambda-begins}
-use Rattle.cpp_direct.specs.HolesOfTypes.{IsNamedKind}
+use Rattle.cpp_direct.proofs.ShortNumbers.{lambda-begins, tested}
 use Rattle.cpp_direct.proofs.MovesOfTypes.{named-taken}
-use Rattle.cpp_direct.proofs.Moves.{stands-split, kind-at, reads-rule, joins, none-left, opens-where, needs-next, hole, open_at, fill, filled-at, hole-at, eats, leaves, chosen-byte, is_left, byte-opens, chain-opens, byte-fills, next-part, closes, none-fills, fixed-fills, name-fills, number-fills, is_eaten, digits-fill}
+use Rattle.cpp_direct.proofs.Moves.{awaited, stands-split, kind-at, reads-rule, joins, none-left, opens-where, needs-next, hole, open_at, fill, filled-at, hole-at, eats, leaves, chosen-byte, is_left, byte-opens, chain-opens, byte-fills, next-part, closes, none-fills, fixed-fills, name-fills, number-fills, is_eaten, digits-fill}
 use Rattle.cpp_direct.proofs.Tables.{empty-by, names-by}
 
 -- ## Discriminators
@@ -99,16 +96,12 @@ unfolding is_eaten number_of_kind parts_of between close unfolding_.behind meani
 local-opens s os around at st expects stands =
     let p = Production.LocalName in
     let encoding = byte-opens (eats s Kind.CompleteName p 90 refl) (hole s Kind.CompleteName around os at st expects) stands refl refl in
-    record {
-      inner = open_at encoding;
-      awaits = encoding.expects;
-      onward = λ e here now comes internal name digit end is.
-          let entity = next-part p (fixed-fills (next-part p (fill encoding (tree e true) here now comes) refl) is.first) refl in
-          let named_ = name-comes s (open_at entity) around e (here + 1) internal name is.middle now entity.expects is.letter is.is_name in
-          let last = next-part p (fill entity (tree (within e (source internal name)) false) is.middle now named_) refl in
-          let told = discriminator-comes s (open_at last) (after e true around) is.middle digit end now last.expects is.discriminator in
-          (closes p (fill last (discriminator_value digit) end now told) refl).comes;
-    }
+    awaited encoding (λ e here now comes internal name digit end is.
+    let entity = next-part p (fixed-fills (next-part p (fill encoding (tree e true) here now comes) refl) is.first) refl in
+    let named_ = name-comes s (open_at entity) around e (here + 1) internal name is.middle now entity.expects is.letter is.is_name in
+    let last = next-part p (fill entity (tree (within e (source internal name)) false) is.middle now named_) refl in
+    let told = discriminator-comes s (open_at last) (after e true around) is.middle digit end now last.expects is.discriminator in
+    (closes p (fill last (discriminator_value digit) end now told) refl).comes)
 
 -- ## Types in functions
 
@@ -182,12 +175,6 @@ unfolding local_number
 number-is None is = omega arith
 number-is (Some d) is = omega (arith, is.0, is.1)
 
-small-tested : (at : ℕ) (digits : List ℕ) (st : State) → local_number digits < 10 → number_tested (at + 1 - 1) digits st ≡ Ok st
-unfolding number_tested
-small-tested at digits st small =
-    let is : nat_lt (local_number digits) (2 ^ 64) ≡ true = lt-ltb (local_number digits) (2 ^ 64) (omega (arith, small)) in
-    subst (λ b. elim b [ true ↦ Ok st | false ↦ Err (BadValue (at + 1 - 1)) ] ≡ Ok st) (sym is) refl
-
 -- a lambda without parameters is the name of a type
 pub lambda-piece : (s : Symbol) (at : ℕ) (digit : Option ℕ) (end : ℕ) → IsLambdaDigit digit → StandsAt s.bytes at (85 ∷ lambda_bytes (lambda_digits digit))
     → end ≡ at + length (85 ∷ lambda_bytes (lambda_digits digit)) → IsPieceAt s at (lambda nil (local_number (lambda_digits digit))) end
@@ -201,7 +188,7 @@ lambda-piece s at digit end is stands ends_ os around e st expects =
     let anonymous = byte-opens (eats s Kind.TypeEntity p 85 refl) (hole s Kind.TypeEntity here os at st expects) places.0 refl refl in
     let named = fill anonymous (piece (lambda nil (local_number digits))) (at + 1 + length (bytes ++ [])) st
     (anonymous.expects (bytes ++ []) (piece (lambda nil (local_number digits)) ∷ []) st
-    (lambda-read s here (at + 1) digits st (digits-of digit is) (small-tested at digits st (number-is digit is)))
+    (lambda-read s here (at + 1) digits st (digits-of digit is) (tested (at + 1 - 1) digits st (omega (arith, number-is digit is))))
     (subst (λ l. StandsAt s.bytes (at + 1) l) (sym (append-nil bytes)) places.1)) in
     let arguments = next-part p (filled-at end named (omega (arith, ends_, ap length (append-nil bytes)))) refl in
     (closes p (none-fills Kind.MaybeArguments arguments refl) refl).comes
@@ -213,21 +200,17 @@ unfolding is_eaten number_of_kind parts_of between close unfolding_.behind meani
 local-type-opens s kind os around at st named_ expects stands =
     let p = Production.LocalType in
     let encoding = byte-opens (eats s kind p 90 (named-taken kind named_).3) (hole s kind around os at st expects) stands refl refl in
+    awaited encoding (λ e here now comes closed.
+    let entity = next-part p (fixed-fills (next-part p (fill encoding (tree e true) here now comes) refl) closed) refl in
     record {
-      inner = open_at encoding;
-      awaits = encoding.expects;
-      onward = λ e here now comes closed.
-          let entity = next-part p (fixed-fills (next-part p (fill encoding (tree e true) here now comes) refl) closed) refl in
-          record {
-            around = around;
-            inner = open_at entity;
-            awaits = entity.expects;
-            onward = λ n middle then_ named digit end told.
-                let last = next-part p (fill entity (tree (within e n) false) middle then_ named) refl in
-                let came_ = discriminator-comes s (open_at last) (after e true around) middle digit end then_ last.expects told in
-                (closes p (fill last (discriminator_value digit) end then_ came_) refl).comes;
-          };
-    }
+      around = around;
+      inner = open_at entity;
+      awaits = entity.expects;
+      onward = λ n middle then_ named digit end told.
+          let last = next-part p (fill entity (tree (within e n) false) middle then_ named) refl in
+          let came_ = discriminator-comes s (open_at last) (after e true around) middle digit end then_ last.expects told in
+          (closes p (fill last (discriminator_value digit) end then_ came_) refl).comes;
+    })
 
 -- ## Lambdas
 

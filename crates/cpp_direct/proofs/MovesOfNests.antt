@@ -18,12 +18,12 @@ use Rattle.cpp_grammar.specs.Meaning.{meaning}
 use Rattle.cpp_grammar.specs.Unfolding as unfolding_
 use Rattle.cpp_direct.specs.Symbol.{Symbol}
 use Rattle.cpp_direct.specs.Bytes.{is_abbreviated}
-use Rattle.cpp_direct.specs.Holes.{Opened, opened, StandsAt, Comes, Expects, IsNameAt, IsSeqAt, NestGoesOn, NestNamed, bare_name, with_candidate, unless_listed, SamePasses, Named, AwaitsComponent, IsTagAt}
-use Rattle.cpp_direct.proofs.Moves.{alone-rest, stands-split, Hole, Filled, hole, open_at, fill, filled-at, eats, leaves, byte-opens, chain-opens, next-part, closes, name-fills, first-named, is_eaten, is_left, any-list, Taken, eats-widely, chosen-byte, byte-fills, fixed-fills, is_eaten_widely}
+use Rattle.cpp_direct.specs.AllHoles.{AwaitsArguments, AwaitsComponent, AwaitsInstance, Comes, Expects, IsFirstRest, IsNameAt, IsRest, IsSeqAt, IsTagAt, Named, NestGoesOn, NestNamed, Opened, SamePasses, StandsAt, bare_name, opened, unless_listed, with_candidate}
+use Rattle.cpp_direct.proofs.Tables.{lists-by, rests-by}
+use Rattle.cpp_direct.proofs.Moves.{awaited, fewer, hole-of, stands-split, Hole, Filled, hole, open_at, fill, filled-at, eats, leaves, byte-opens, chain-opens, next-part, closes, name-fills, first-named, is_eaten, is_left, Taken, eats-widely, chosen-byte, byte-fills, fixed-fills, is_eaten_widely}
 use Rattle.cpp_direct.proofs.MovesOfTypes.{abbreviation-fills, substitution-fills}
 use Rattle.std.proofs.lemmas.Bool.{le-leb, lt-ltb}
 use Rattle.cpp_direct.specs.Names.{IsConstructorDigit, IsDestructorDigit}
-use Rattle.cpp_direct.specs.HolesOfNests.{IsRest, IsFirstRest, AwaitsArguments, AwaitsInstance}
 use Rattle.cpp_direct.proofs.LettersTested.{IsOperator}
 
 -- ## Pieces
@@ -38,6 +38,12 @@ piece-comes s os around at st name end expects is =
 
 -- ## What a nested name begins with
 
+-- a nested name goes on after what is read of it
+goes-on : {s : Symbol} {kind : Kind} {around : Around} {inner outer : List Opened} {u : Term} {listed : Bool} {at : ℕ} {st : State}
+    → Hole s (OfKind (number_of_kind kind)) (after u listed around) inner at st
+    → ((v : Value) (to : ℕ) (now : State) → Filled s inner v to now → Filled s outer v to now) → NestGoesOn s kind outer around u listed at st
+goes-on {inner = inner} h closed = record { inner = inner; awaits = h.expects; passes = λ v to now comes. (closed v to now (fill h v to now comes)).comes }
+
 -- a name at the front of a nested one
 pub nest-source : (s : Symbol) (os : List Opened) (around : Around) (at : ℕ) (st : State) (name : List ℕ) (end : ℕ)
     → around.prefix ≡ outermost → Expects s Kind.Nest around os at st → IsNameAt s.bytes at name end
@@ -47,11 +53,7 @@ nest-source s os around at st name end first expects is =
     let p = Production.NestSource in
     let own = chain-opens (leaves s Kind.Nest p 48 refl) (hole s Kind.Nest around os at st expects) refl refl in
     let rest = next-part p (name-fills name end own is) (first-named around (source false name) st first) in
-    record {
-      inner = open_at rest;
-      awaits = alone-rest s (after (alone (source false name)) false around) (open_at rest) end st rest.expects;
-      passes = λ v to later comes. (closes p (fill rest v to later comes) refl).comes;
-    }
+    goes-on (fewer (rests-by s.is_wide) rest) (λ v to later f. closes p f refl)
 
 -- what follows an S
 behind-s : (s : Symbol) (os : List Opened) (around : Around) (at : ℕ) (st : State)
@@ -70,12 +72,7 @@ unfolding is_eaten is_left number_of_kind parts_of between close unfolding_.behi
 nest-known s os around at st t end expects here fills =
     let p = Production.NestTemplate in
     let short = chain-opens (leaves s Kind.NestAfterS p 97 refl) (behind-s s os around at st expects here) refl refl in
-    let rest = next-part p (fills (open_at short) short) refl in
-    record {
-      inner = open_at rest;
-      awaits = rest.expects;
-      passes = λ v to later comes. (closes Production.NestWithS (closes p (fill rest v to later comes) refl) refl).comes;
-    }
+    goes-on (next-part p (fills (open_at short) short) refl) (λ v to later f. closes Production.NestWithS (closes p f refl) refl)
 
 -- a letter for a name of std at the front of a nested name
 pub nest-abbreviation : (s : Symbol) (os : List Opened) (around : Around) (at : ℕ) (st : State) (code : ℕ)
@@ -108,18 +105,13 @@ nest-std s os around at st name end expects here is =
     let arguments = next-part p (fill entity (piece (source false name)) end st named) refl in
     let goes_on : (last : Value) (to : ℕ) (later : State) → Comes s (open_at arguments) last to later
     → NestGoesOn s Kind.NestTail os around (applied (in_std (source false name)) last) false to later = λ last to later comes.
-    let tail = next-part p (fill arguments last to later comes) refl in
-    record {
-      inner = open_at tail;
-      awaits = tail.expects;
-      passes = λ v onto newer given. (closes Production.NestWithS (closes p (fill tail v onto newer given) refl) refl).comes;
-    } in
+    goes-on (next-part p (fill arguments last to later comes) refl) (λ v onto newer f. closes Production.NestWithS (closes p f refl) refl) in
     record {
       inner = open_at arguments;
       awaits = arguments.expects;
-      bare = λ to later comes. goes_on nothing_there to later comes;
-      argued = λ a to later comes. goes_on (tree a true) to later comes;
-      renamed = λ v to later comes. goes_on (bare_name v) to later comes;
+      bare = goes_on nothing_there;
+      argued = λ a. goes_on (tree a true);
+      renamed = λ v. goes_on (bare_name v);
     }
 
 -- ## After the name so far
@@ -138,12 +130,6 @@ unfolding with_prefix appended after prefix_tree prefix_listed
 prefix-appended around t true st = refl
 prefix-appended around t false st = refl
 
--- a nested name goes on after a component of it
-goes-on : {s : Symbol} {kind : Kind} {around : Around} {inner outer : List Opened} {u : Term} {listed : Bool} {at : ℕ} {st : State}
-    → Hole s (OfKind (number_of_kind kind)) (after u listed around) inner at st
-    → ((v : Value) (to : ℕ) (now : State) → Filled s inner v to now → Filled s outer v to now) → NestGoesOn s kind outer around u listed at st
-goes-on {inner = inner} h closed = record { inner = inner; awaits = h.expects; passes = λ v to now comes. (closed v to now (fill h v to now comes)).comes }
-
 -- a component follows, before which the name so far is a candidate
 pub component-awaits : (s : Symbol) (kind : Kind) (os : List Opened) (around : Around) (t : Term) (listed : Bool) (at : ℕ) (st : State)
     → IsRest kind → Expects s kind (after t listed around) os at st
@@ -155,11 +141,8 @@ component-awaits s kind os around t listed at st is expects =
     (opened (standing (rule_of p) [] at (after t listed around) st) [] (OfKind (number_of_kind Kind.NestTail) ∷ []) ∷ os) at (unless_listed listed around t st) =
     chain-opens (leaves s kind p 48 (rest-left kind is)) (hole s kind (after t listed around) os at st expects) refl
     (rw (prefix-appended around t listed st) refl) in
-    record {
-      inner = open_at component;
-      awaits = component.expects;
-      onward = λ u to later comes. goes-on (next-part p (fill component (tree u false) to later comes) refl) (λ v onto now f. closes p f refl);
-    }
+    awaited component
+    (λ u to later comes. goes-on (next-part p (fill component (tree u false) to later comes) refl) (λ v onto now f. closes p f refl))
 
 -- arguments of the name so far
 first-arguments : (s : Symbol) (os : List Opened) (around : Around) (t : Term) (listed : Bool) (at : ℕ) (st : State)
@@ -174,17 +157,9 @@ first-arguments s os around t listed at st expects stands =
     (opened (standing (rule_of p) (73 ∷ []) at (after t listed around) st) [] (Byte 69 ∷ component ∷ tail ∷ []) ∷ os) (at + 1) (unless_listed listed around t st) =
     byte-opens (eats s Kind.NestRestAlone p 73 refl) (hole s Kind.NestRestAlone (after t listed around) os at st expects) stands refl
     (rw (prefix-appended around t listed st) refl) in
-    record {
-      inner = open_at arguments;
-      awaits = any-list s (inside around) (open_at arguments) (at + 1) (unless_listed listed around t st) arguments.expects;
-      onward = λ l to later comes ended.
-          let next = next-part p (fixed-fills (next-part p (fill arguments l to later comes) refl) ended) refl in
-          record {
-            inner = open_at next;
-            awaits = next.expects;
-            onward = λ w onto newer came. goes-on (next-part p (fill next (tree w false) onto newer came) refl) (λ v to now f. closes p f refl);
-          };
-    }
+    awaited (fewer (lists-by s.is_wide) arguments) (λ l to later comes ended.
+    let next = next-part p (fixed-fills (next-part p (fill arguments l to later comes) refl) ended) refl in
+    awaited next (λ w onto newer came. goes-on (next-part p (fill next (tree w false) onto newer came) refl) (λ v to now f. closes p f refl)))
 
 -- arguments of a name that an S stands for, after which it may end by the wide grammar
 pub instance-arguments : (s : Symbol) (os : List Opened) (around : Around) (t : Term) (listed : Bool) (at : ℕ) (st : State)
@@ -198,23 +173,15 @@ instance-arguments s os around t listed at st expects stands =
     (unless_listed listed around t st) =
     byte-opens (eats s Kind.NestRestOrEnd p 73 refl) (hole s Kind.NestRestOrEnd (after t listed around) os at st expects) stands refl
     (rw (prefix-appended around t listed st) refl) in
-    record {
-      inner = open_at arguments;
-      awaits = any-list s (inside around) (open_at arguments) (at + 1) (unless_listed listed around t st) arguments.expects;
-      onward = λ l to later comes ended.
-          goes-on (next-part p (fixed-fills (next-part p (fill arguments l to later comes) refl) ended) refl) (λ v onto now f. closes p f refl);
-    }
+    awaited (fewer (lists-by s.is_wide) arguments) (λ l to later comes ended.
+    goes-on (next-part p (fixed-fills (next-part p (fill arguments l to later comes) refl) ended) refl) (λ v onto now f. closes p f refl))
 
 -- what is awaited within what comes is awaited of it
 pub component-outside : (s : Symbol) (inner outer : List Opened) (around : Around) (t : Term) (at : ℕ) (st : State)
     → SamePasses s inner outer → AwaitsComponent s inner around t at st → AwaitsComponent s outer around t at st
-component-outside s inner outer around t at st passes a = record {
-  inner = a.inner;
-  awaits = a.awaits;
-  onward = λ u to later comes.
-      let g = a.onward u to later comes in
-      record { inner = g.inner; awaits = g.awaits; passes = λ v onto newer came. passes v onto newer (g.passes v onto newer came) };
-}
+component-outside s inner outer around t at st passes a = awaited {os = a.inner} (hole-of a) (λ u to later comes.
+    let g = a.onward u to later comes in
+    record { inner = g.inner; awaits = g.awaits; passes = λ v onto newer came. passes v onto newer (g.passes v onto newer came) })
 
 -- and after which a component follows
 known-arguments : (s : Symbol) (os : List Opened) (around : Around) (t : Term) (listed : Bool) (at : ℕ) (st : State)
@@ -222,15 +189,11 @@ known-arguments : (s : Symbol) (os : List Opened) (around : Around) (t : Term) (
     → AwaitsArguments s os around t listed at st
 known-arguments s os around t listed at st expects stands =
     let begun = instance-arguments s os around t listed at st expects stands in
-    record {
-      inner = begun.inner;
-      awaits = begun.awaits;
-      onward = λ l to later comes ended.
-          let u : Term = instance t (no_items l) in
-          let g = begun.onward l to later comes ended in
-          component-outside s g.inner os around u (to + 1) (with_candidate around u later) g.passes
-          (component-awaits s Kind.NestMoreOrEnd g.inner around u false (to + 1) later tt g.awaits);
-    }
+    awaited {os = begun.inner} (hole-of begun) (λ l to later comes ended.
+    let u : Term = instance t (no_items l) in
+    let g = begun.onward l to later comes ended in
+    component-outside s g.inner os around u (to + 1) (with_candidate around u later) g.passes
+    (component-awaits s Kind.NestMoreOrEnd g.inner around u false (to + 1) later tt g.awaits))
 
 -- arguments of the first piece of a name
 pub any-arguments : (s : Symbol) (kind : Kind) (os : List Opened) (around : Around) (t : Term) (listed : Bool) (at : ℕ) (st : State) → IsFirstRest kind

@@ -1,37 +1,33 @@
 -- Moves within types, arrays and function types: a byte or a name is read, and a type opens, or one comes.
-use Rattle.std.proofs.lemmas.Bool.{eqb-false}
-use Rattle.std.proofs.Common.{◌≡◌, ℕ, ◌+◌, ◌-◌, List, [], ◌∷◌, slice_get, Bool, true, false, ◌&&◌, ◌||◌, not, nat_eq, Option, Some, None, Result, Ok, Err, refl, ap, subst, ◌∙◌, arith, length, sym}
+use Rattle.std.proofs.lemmas.Bool.{eq-eqb}
+use Rattle.std.proofs.Math.Bool.{and-false, and-true}
+use Rattle.std.proofs.Common.{◌≡◌, ℕ, ◌+◌, ◌-◌, List, [], ◌∷◌, slice_get, Bool, true, false, ◌&&◌, ◌||◌, not, nat_eq, Option, Some, None, Result, Ok, Err, refl, ap, subst, ◌∙◌, arith, length}
 use Rattle.sym_core.specs.declared.refusal.Refusal.{Refusal}
 use Rattle.sym_core.specs.declared.refusal.Refusal.TheVariants.{BadReference}
 use Rattle.sym_core.specs.declared.NumberKind.TheVariants.{Seq36}
 use Rattle.sym_core.specs.Value.{counted_value}
 use Rattle.sym_shape.specs.declared.rule.Sym.TheVariants.{Kind as OfKind}
 use Rattle.sym_link.specs.Reading.{Found, ◌>>=◌}
-use Rattle.sym_link.specs.Unfold.{found, standing, unfold_forest}
+use Rattle.sym_link.specs.Unfold.{found, standing}
 use Rattle.cpp_grammar.specs.declared.kind.Kind.{Kind}
 use Rattle.cpp_grammar.specs.declared.production.Production.{Production}
 use Rattle.cpp_grammar.specs.Grammar.{number_of_kind, may_be_empty, parts_of}
-use Rattle.cpp_grammar.specs.Term.{Term, alone, in_std, abbreviation, source, builtin, pointer, lvalue, rvalue, instance, array, any_value, list, nil}
+use Rattle.cpp_grammar.specs.Term.{Term, alone, in_std, abbreviation, source, builtin, pointer, instance, array, any_value, list, nil}
 use Rattle.cpp_grammar.specs.Scope.{is_open, pack_length}
 use Rattle.cpp_grammar.specs.Values.{Candidate, State, outermost, Around, Value, nothing_there, text, tree, tree_of, text_of, is_listed, part, is_there, letter_of, piece_of, ref_of, signature}
 use Rattle.cpp_grammar.specs.References.{appended, is_function_type, with_type, with_unqualified, with_packs, packs_in, substituted}
 use Rattle.cpp_grammar.specs.Between.{after, applied, named_so_far, between, extended, Going}
 use Rattle.cpp_grammar.specs.Meaning.{meaning, listed_value, reference_to, with_item, signature_or}
 use Rattle.cpp_grammar.specs.Unfolding.{close, byte_of}
-use Rattle.cpp_direct.specs.Symbol.{Symbol, table_by}
+use Rattle.cpp_direct.specs.Symbol.{Symbol}
 use Rattle.cpp_direct.specs.Bytes.{is_builtin, is_builtin_with_d, is_abbreviated}
 use Rattle.cpp_direct.specs.Letters.{builtin_letters, builtin_letters_with_d, abbreviation_letters}
-use Rattle.cpp_direct.proofs.Moves.{alone-arguments, stands-split, Hole, Filled, hole, open_at, fill, filled-at, eats, leaves, is_eaten, is_left, byte-opens, chain-opens, byte-fills, next-part, closes, none-fills, name-fills, first-named, came, digits-fill}
+use Rattle.cpp_direct.proofs.Moves.{alone-arguments, awaited, comes-alike, hole-of, stands-split, Hole, Filled, hole, open_at, fill, filled-at, eats, leaves, is_eaten, is_left, byte-opens, chain-opens, byte-fills, next-part, closes, none-fills, name-fills, first-named, came, digits-fill}
 use Rattle.cpp_direct.proofs.LettersTested.{each_passes, tested}
-use Rattle.cpp_direct.specs.Holes.{Opened, StandsAt, Comes, Expects, IsNameAt, IsSeqAt, IsReferable, IsTyped, TypeNamed, unless_listed, with_candidate, opened, ReadsRest}
-use Rattle.cpp_direct.specs.HolesOfTypes.{as_const, IsQualifiable, TypeOpens, TreePasses, TreeOpens, NameOpens, IsNamedKind}
+use Rattle.cpp_direct.specs.Holes.{Awaits}
+use Rattle.cpp_direct.specs.AllHoles.{ArrayOpened, Comes, Expects, FunctionOpened, IsNameAt, IsNamedKind, IsQualifiable, IsReferable, IsSeqAt, IsSizeAt, IsTyped, NameOpens, Opened, ParameterOpened, ReferenceOpened, SignatureGoesOn, StandsAt, TreeOpens, TreePasses, TypeNamed, TypeOpens, access_letters, as_const, opened, plain_function, reference, reference_letter, unless_listed, with_candidate}
 use Rattle.cpp_direct.specs.declared.open.Access.{Access}
-use Rattle.cpp_direct.specs.HolesOfArrays.{IsSizeAt, ArrayOpened, access_letters}
-use Rattle.sym_shape.specs.declared.rule.Sym.{Sym}
-use Rattle.sym_shape.specs.Tree.{Forest, nothing, grown, AreTrees}
 use Rattle.cpp_grammar.specs.Table.{rule_of}
-use Rattle.cpp_grammar.proofs.ClosedTrees.{at_number}
-use Rattle.cpp_direct.specs.HolesOfFunctions.{plain_function, SignatureGoesOn, FunctionOpened, ParameterOpened, ReferenceOpened, reference, reference_letter}
 use Rattle.cpp_grammar.specs.Unfolding as unfolding_
 use Rattle.cpp_grammar.specs.Values as values
 use Rattle.cpp_direct.specs.declared.open.Access.TheVariants as accesses
@@ -69,11 +65,10 @@ typed Kind.ItemButRef is = tt
 typed _ is = absurd is
 
 -- A solid type is expected where a whole one is, be it a function type or not.
-pub record WholeOpens (s : Symbol) (outer : List Opened) (around : Around) (at : ℕ) (st : State) : Type 0 where
-  pub inner : List Opened
-  pub awaits : Expects s Kind.Solid around inner at st
-  pub passes : (t : Term) (listed : Bool) (end : ℕ) (now : State) → Comes s inner (tree t listed) end now
-      → Comes s outer (tree t true) end (unless_listed listed around t now)
+abbrev pub WholeOpens : (s : Symbol) (outer : List Opened) (around : Around) (at : ℕ) (st : State) → Type 0
+WholeOpens s outer around at st = Awaits s Kind.Solid around at st (λ inner.
+    (t : Term) (listed : Bool) (end : ℕ) (now : State) → Comes s inner (tree t listed) end now
+    → Comes s outer (tree t true) end (unless_listed listed around t now))
 
 pub whole-opens : (s : Symbol) (kind : Kind) (around : Around) (os : List Opened) (at : ℕ) (st : State) → IsQualifiable kind
     → Expects s kind around os at st → WholeOpens s os around at st
@@ -81,14 +76,11 @@ unfolding is_eaten is_left number_of_kind parts_of between close unfolding_.behi
 whole-opens s kind around os at st whole expects =
     let p = Production.PlainType in
     let solid = chain-opens (leaves s kind p 80 (whole-taken kind whole).0) (hole s kind around os at st expects) refl refl in
-    record {
-      inner = open_at solid;
-      awaits = solid.expects;
-      passes = λ t listed end now comes. (closes p (fill solid (tree t listed) end now comes) (plain-closes around at st t listed now)).comes;
-    }
+    awaited solid
+    (λ t listed end now comes. (closes p (fill solid (tree t listed) end now comes) (plain-closes around at st t listed now)).comes)
 
-any-tree : {s : Symbol} {os : List Opened} {around : Around} {at : ℕ} {st : State} → WholeOpens s os around at st → TreeOpens s Kind.Solid os around at st
-any-tree w = record { inner = w.inner; awaits = w.awaits; passes = λ t listed end now other comes. w.passes t listed end now comes }
+any-tree : (s : Symbol) (os : List Opened) (around : Around) (at : ℕ) (st : State) → WholeOpens s os around at st → TreeOpens s Kind.Solid os around at st
+any-tree s os around at st w = awaited {os = w.inner} (hole-of w) (λ t listed end now other comes. w.onward t listed end now comes)
 
 -- a solid type is expected where a type is
 pub solid-opens : (s : Symbol) (kind : Kind) (around : Around) (os : List Opened) (at : ℕ) (st : State) → IsTyped kind
@@ -97,31 +89,23 @@ unfolding is_eaten is_left number_of_kind parts_of between close unfolding_.behi
 solid-opens s Kind.Plain around os at st typed expects =
     let p = Production.QualifiedPlain in
     let solid = chain-opens (leaves s Kind.Plain p 80 refl) (hole s Kind.Plain around os at st expects) refl refl in
-    record {
-      inner = open_at solid;
-      awaits = solid.expects;
-      passes = λ t listed end now other comes.
-          (closes p (fill solid (tree t listed) end now comes) (qualified-closes around at st t listed now other)).comes;
-    }
-solid-opens s Kind.Type around os at st typed expects = any-tree (whole-opens s Kind.Type around os at st tt expects)
-solid-opens s Kind.Item around os at st typed expects = any-tree (whole-opens s Kind.Item around os at st tt expects)
-solid-opens s Kind.ItemButRef around os at st typed expects = any-tree (whole-opens s Kind.ItemButRef around os at st tt expects)
+    awaited solid (λ t listed end now other comes.
+    (closes p (fill solid (tree t listed) end now comes) (qualified-closes around at st t listed now other)).comes)
+solid-opens s Kind.Type around os at st typed expects = any-tree s os around at st (whole-opens s Kind.Type around os at st tt expects)
+solid-opens s Kind.Item around os at st typed expects = any-tree s os around at st (whole-opens s Kind.Item around os at st tt expects)
+solid-opens s Kind.ItemButRef around os at st typed expects = any-tree s os around at st (whole-opens s Kind.ItemButRef around os at st tt expects)
 solid-opens s _ around os at st typed expects = absurd typed
 
 -- ## Builtin types
 
-builtin-eaten : (byte : ℕ) → is_builtin byte ≡ true → is_eaten Kind.Solid Production.Builtin byte ≡ true
-unfolding is_eaten is_builtin each_passes
-builtin-eaten byte is = tested builtin_letters (λ b. is_eaten Kind.Solid Production.Builtin b) refl byte is
-
 -- a builtin type comes, which is no candidate
 pub builtin-comes : (s : Symbol) (kind : Kind) (around : Around) (os : List Opened) (at : ℕ) (st : State) (b : ℕ) → IsTyped kind
     → is_builtin b ≡ true → Expects s kind around os at st → StandsAt s.bytes at (b ∷ []) → Comes s os (tree (builtin (b ∷ [])) true) (at + 1) st
-unfolding is_eaten number_of_kind parts_of between close unfolding_.behind meaning part byte_of tree_of text_of piece_of letter_of is_there is_function_type
+unfolding is_eaten number_of_kind parts_of between close unfolding_.behind meaning part byte_of tree_of text_of piece_of letter_of is_there is_function_type is_builtin each_passes
 builtin-comes s kind around os at st b typed is expects stands =
     let solid = solid-opens s kind around os at st typed expects in
-    solid.passes (builtin (b ∷ [])) true (at + 1) st refl
-    (byte-fills (eats s Kind.Solid Production.Builtin b (builtin-eaten b is)) (hole s Kind.Solid around solid.inner at st solid.awaits) stands refl refl).comes
+    solid.onward (builtin (b ∷ [])) true (at + 1) st refl
+    (byte-fills (eats s Kind.Solid Production.Builtin b (tested builtin_letters (λ c. is_eaten Kind.Solid Production.Builtin c) refl b is)) (hole-of solid) stands refl refl).comes
 
 builtin-with-d-taken : (byte : ℕ) → is_builtin_with_d byte ≡ true
     → (is_eaten Kind.AfterD Production.BuiltinWithD byte ≡ true) × (is_left Kind.ItemAfterD Production.ItemIsType byte ≡ true)
@@ -181,25 +165,9 @@ unfolding is_eaten number_of_kind parts_of between close unfolding_.behind meani
 pointer-opens s kind around os at st typed expects stands =
     let p = Production.Pointer in
     let solid = solid-opens s kind around os at st typed expects in
-    let type = byte-opens (eats s Kind.Solid p 80 refl) (hole s Kind.Solid around solid.inner at st solid.awaits) stands refl refl in
-    record {
-      inner = open_at type;
-      awaits = type.expects;
-      passes = λ t end now comes. solid.passes (pointer t) false end now refl (closes p (fill type (tree t true) end now comes) refl).comes;
-    }
-
-referring-opens : (s : Symbol) (kind : Kind) (around : Around) (os : List Opened) (at : ℕ) (st : State) (byte : ℕ) (made : Term → Term)
-    → is_eaten kind Production.ReferenceType byte ≡ true → ((t : Term) → reference_to byte (tree t true) ≡ tree (made t) false)
-    → Expects s kind around os at st → StandsAt s.bytes at (byte ∷ []) → TypeOpens s Kind.Type os around made (at + 1) st
-unfolding is_eaten number_of_kind parts_of between close unfolding_.behind meaning part byte_of tree_of text_of piece_of letter_of is_there listed_value appended
-referring-opens s kind around os at st byte made taken makes expects stands =
-    let p = Production.ReferenceType in
-    let type = byte-opens (eats s kind p byte taken) (hole s kind around os at st expects) stands refl refl in
-    record {
-      inner = open_at type;
-      awaits = type.expects;
-      passes = λ t end now comes. (closes p (fill type (tree t true) end now comes) (rw (makes t) refl)).comes;
-    }
+    let type = byte-opens (eats s Kind.Solid p 80 refl) (hole-of solid) stands refl refl in
+    awaited type
+    (λ t end now comes. solid.onward (pointer t) false end now refl (closes p (fill type (tree t true) end now comes) refl).comes)
 
 reference-taken : (k : Kind) → IsReferable k
     → (is_eaten k Production.ReferenceType 82 ≡ true) × (is_eaten k Production.ReferenceType 79 ≡ true)
@@ -209,19 +177,18 @@ reference-taken Kind.Item typed = (refl, refl)
 reference-taken Kind.Plain typed = (refl, refl)
 reference-taken _ typed = absurd typed
 
--- a type is expected after an R
-pub lvalue-opens : (s : Symbol) (kind : Kind) (around : Around) (os : List Opened) (at : ℕ) (st : State) → IsReferable kind
-    → Expects s kind around os at st → StandsAt s.bytes at (82 ∷ []) → TypeOpens s Kind.Type os around lvalue (at + 1) st
-unfolding reference_to tree_of
-lvalue-opens s kind around os at st typed expects stands =
-    referring-opens s kind around os at st 82 lvalue (reference-taken kind typed).0 (λ t. refl) expects stands
-
--- and after an O
-pub rvalue-opens : (s : Symbol) (kind : Kind) (around : Around) (os : List Opened) (at : ℕ) (st : State) → IsReferable kind
-    → Expects s kind around os at st → StandsAt s.bytes at (79 ∷ []) → TypeOpens s Kind.Type os around rvalue (at + 1) st
-unfolding reference_to tree_of
-rvalue-opens s kind around os at st typed expects stands =
-    referring-opens s kind around os at st 79 rvalue (reference-taken kind typed).1 (λ t. refl) expects stands
+-- a type is expected after an R, and after an O
+pub reference-type-opens : (s : Symbol) (kind : Kind) (is_lvalue : Bool) (around : Around) (os : List Opened) (at : ℕ) (st : State) → IsReferable kind
+    → Expects s kind around os at st → StandsAt s.bytes at (reference_letter is_lvalue ∷ []) → TypeOpens s Kind.Type os around (reference is_lvalue) (at + 1) st
+unfolding is_eaten number_of_kind parts_of between close unfolding_.behind meaning part byte_of tree_of text_of piece_of letter_of is_there listed_value appended reference_to
+reference-type-opens s kind true around os at st typed expects stands =
+    let p = Production.ReferenceType in
+    let type = byte-opens (eats s kind p 82 (reference-taken kind typed).0) (hole s kind around os at st expects) stands refl refl in
+    awaited type (λ t end now comes. (closes p (fill type (tree t true) end now comes) refl).comes)
+reference-type-opens s kind false around os at st typed expects stands =
+    let p = Production.ReferenceType in
+    let type = byte-opens (eats s kind p 79 (reference-taken kind typed).1) (hole s kind around os at st expects) stands refl refl in
+    awaited type (λ t end now comes. (closes p (fill type (tree t true) end now comes) refl).comes)
 
 -- a plain type is expected after a K
 pub const-opens : (s : Symbol) (kind : Kind) (around : Around) (os : List Opened) (at : ℕ) (st : State) → IsQualifiable kind
@@ -230,11 +197,7 @@ unfolding is_eaten number_of_kind parts_of between close unfolding_.behind meani
 const-opens s kind around os at st typed expects stands =
     let p = Production.ConstType in
     let type = byte-opens (eats s kind p 75 (whole-taken kind typed).1) (hole s kind around os at st expects) stands refl refl in
-    record {
-      inner = open_at type;
-      awaits = type.expects;
-      passes = λ t end now comes. (closes p (fill type (tree t true) end now comes) refl).comes;
-    }
+    awaited type (λ t end now comes. (closes p (fill type (tree t true) end now comes) refl).comes)
 
 -- ## Names of types
 
@@ -271,20 +234,10 @@ source-opens s kind around os at st name end is_named first solid is =
     let t = alone (source false name) in
     let own = chain-opens (leaves s kind p 48 (named-taken kind is_named).0) (hole s kind around solid.inner at st solid.awaits) refl refl in
     let rest = next-part p (name-fills name end own is) (first-named around (source false name) st first) in
-    named-so s around os (open_at rest) t false end st solid.inner solid.passes
+    named-so s around os (open_at rest) t false end st solid.inner solid.onward
     (alone-arguments s (after t false around) (open_at rest) end st rest.expects)
     (λ later now comes. (closes p (fill rest nothing_there later now comes) refl).comes)
     (λ a later now comes. (closes p (fill rest (tree a true) later now comes) refl).comes)
-
-listed-kept : (t : Term) (listed : Bool) (st : State)
-    → ◌≡◌ {A = Result (Found Value State) Refusal} (Ok (found (tree t (listed && true)) st)) (Ok (found (tree t listed) st))
-listed-kept t true st = refl
-listed-kept t false st = refl
-
-listed-lost : (t : Term) (listed : Bool) (st : State)
-    → ◌≡◌ {A = Result (Found Value State) Refusal} (Ok (found (tree t (listed && false)) st)) (Ok (found (tree t false) st))
-listed-lost t true st = refl
-listed-lost t false st = refl
 
 -- a name after an S
 pub name-with-s-opens : (s : Symbol) (kind : Kind) (around : Around) (os : List Opened) (at : ℕ) (st : State) → IsNamedKind kind
@@ -293,15 +246,11 @@ unfolding is_eaten number_of_kind parts_of between close unfolding_.behind meani
 name-with-s-opens s kind around os at st is_named solid stands =
     let p = Production.TypeWithS in
     let name = byte-opens (eats s kind p 83 (named-taken kind is_named).1) (hole s kind around solid.inner at st solid.awaits) stands refl refl in
-    record {
-      inner = open_at name;
-      awaits = name.expects;
-      named = λ t listed end now comes.
-          let rest = next-part p (fill name (tree t listed) end now comes) refl in
-          named-so s around os (open_at rest) t listed end now solid.inner solid.passes rest.expects
-          (λ later onward had. (closes p (fill rest nothing_there later onward had) (listed-kept t listed onward)).comes)
-          (λ a later onward had. (closes p (fill rest (tree a true) later onward had) (listed-lost (instance t a) listed onward)).comes);
-    }
+    awaited name (λ t listed end now comes.
+    let rest = next-part p (fill name (tree t listed) end now comes) refl in
+    named-so s around os (open_at rest) t listed end now solid.inner solid.onward rest.expects
+    (λ later onward had. (closes p (fill rest nothing_there later onward had) (rw (and-true listed) refl)).comes)
+    (λ a later onward had. (closes p (fill rest (tree a true) later onward had) (rw (and-false listed) refl)).comes))
 
 -- a name of std
 pub std-opens : (s : Symbol) (kind : Kind) (around : Around) (os : List Opened) (at : ℕ) (st : State) (name : List ℕ) (end : ℕ) → IsNamedKind kind
@@ -317,18 +266,16 @@ std-opens s kind around os at st name end is_named solid stands is =
     let own = chain-opens (leaves s Kind.SourceOrLocal Production.SourcePiece 48 refl) entity refl refl in
     let named = closes Production.SourcePiece (name-fills name end own (subst (λ k. IsNameAt s.bytes k name end) (omega arith) is)) refl in
     let tagless = none-fills Kind.MaybeTags (next-part p named refl) refl in
-    w.named (in_std (source false name)) false end st (closes Production.TypeInStd (closes p tagless refl) refl).comes
-
-abbreviation-eaten : (byte : ℕ) → is_abbreviated byte ≡ true → is_eaten Kind.Abbreviation Production.Abbreviation byte ≡ true
-unfolding is_eaten is_abbreviated each_passes
-abbreviation-eaten byte is = tested abbreviation_letters (λ b. is_eaten Kind.Abbreviation Production.Abbreviation b) refl byte is
+    w.onward (in_std (source false name)) false end st (closes Production.TypeInStd (closes p tagless refl) refl).comes
 
 -- one of the letters after an S that stand for a name of std
 pub abbreviation-fills : {s : Symbol} {around : Around} {os : List Opened} {at : ℕ} {st : State} (letter : ℕ) → is_abbreviated letter ≡ true
     → Hole s (OfKind (number_of_kind Kind.Abbreviation)) around os at st → StandsAt s.bytes at (letter ∷ [])
     → Filled s os (tree (abbreviation letter) true) (at + 1) st
-unfolding is_eaten number_of_kind parts_of between close unfolding_.behind meaning part byte_of tree_of text_of piece_of letter_of is_there
-abbreviation-fills {s = s} letter is h stands = byte-fills (eats s Kind.Abbreviation Production.Abbreviation letter (abbreviation-eaten letter is)) h stands refl refl
+unfolding is_eaten number_of_kind parts_of between close unfolding_.behind meaning part byte_of tree_of text_of piece_of letter_of is_there is_abbreviated each_passes
+abbreviation-fills {s = s} letter is h stands =
+    let p = Production.Abbreviation in
+    byte-fills (eats s Kind.Abbreviation p letter (tested abbreviation_letters (λ c. is_eaten Kind.Abbreviation p c) refl letter is)) h stands refl refl
 
 -- an abbreviation or a substitution is the name of a type, after its S
 behind-s-named : (s : Symbol) (kind : Kind) (around : Around) (os : List Opened) (at : ℕ) (st : State) (t : Term) (end : ℕ) → IsNamedKind kind
@@ -339,7 +286,7 @@ behind-s-named s kind around os at st t end is_named fills solid stands =
     let p = Production.AbbreviatedType in
     let w = name-with-s-opens s kind around os at st is_named solid stands in
     let short = chain-opens (leaves s Kind.TypeAfterS p 95 refl) (hole s Kind.TypeAfterS around w.inner (at + 1) st w.awaits) refl refl in
-    w.named t true end st (closes p (fills (open_at short) short) refl).comes
+    w.onward t true end st (closes p (fills (open_at short) short) refl).comes
 
 -- an abbreviation
 pub abbreviation-opens : (s : Symbol) (kind : Kind) (around : Around) (os : List Opened) (at : ℕ) (st : State) (letter : ℕ) → IsNamedKind kind
@@ -368,24 +315,13 @@ substituted-so around place c st closed none = ap (λ o. whole o (packs_in aroun
       | false ↦ with_packs place around.in_expansion packs st >>= λ s. Ok (found (tree c.tree true) s)
     ]
 
-and-false : (b : Bool) → (b && false) ≡ false
-and-false true = refl
-and-false false = refl
-
 -- one that names parameters, in the encoding that it was made in
-same-place : (n : ℕ) → nat_eq n n ≡ true
-same-place n = go (nat_eq n n) refl
-  where
-    go : (b : Bool) → nat_eq n n ≡ b → nat_eq n n ≡ true
-    go true is = is
-    go false is = absurd (eqb-false n n is refl)
-
 pub substituted-open : (around : Around) (place : ℕ) (c : Candidate) (st : State) → c.encoding ≡ around.encoding → around.in_lambda ≡ false
     → packs_in around.scope c.tree ≡ None → substituted around place (Some c) st ≡ Ok (found (tree c.tree true) st)
 unfolding substituted with_packs
 substituted-open around place c st made plain none =
     ap (λ l. whole (is_open c.tree) l (nat_eq c.encoding around.encoding) (packs_in around.scope c.tree)) plain
-    ∙ ap (λ b. whole (is_open c.tree) false b (packs_in around.scope c.tree)) (ap (λ n. nat_eq n around.encoding) made ∙ same-place around.encoding)
+    ∙ ap (λ b. whole (is_open c.tree) false b (packs_in around.scope c.tree)) (ap (λ n. nat_eq n around.encoding) made ∙ eq-eqb around.encoding around.encoding refl)
     ∙ ap (λ b. gated b (packs_in around.scope c.tree)) (and-false (is_open c.tree)) ∙ ap (gated false) none
   where
     gated : Bool → Option ℕ → Result (Found Value State) Refusal
@@ -430,11 +366,8 @@ unfolding is_eaten number_of_kind parts_of between close unfolding_.behind meani
 nested-type-opens s kind around os at st is_named solid stands =
     let p = Production.NestedType in
     let nest = byte-opens (eats s kind p 78 (named-taken kind is_named).2) (hole s kind around solid.inner at st solid.awaits) stands refl refl in
-    record {
-      inner = open_at nest;
-      awaits = nest.expects;
-      passes = λ t listed end now other comes. solid.passes t listed end now other (closes p (fill nest (tree t listed) end now comes) refl).comes;
-    }
+    awaited nest
+    (λ t listed end now other comes. solid.onward t listed end now other (closes p (fill nest (tree t listed) end now comes) refl).comes)
 
 -- ## Arrays
 
@@ -445,15 +378,11 @@ unfolding is_eaten is_left number_of_kind parts_of between close unfolding_.behi
 plain-array-opens s kind os around at st digits end whole expects stands is =
     let p = Production.LengthArray in
     let w = whole-opens s kind around os at st whole expects in
-    let any = chain-opens (leaves s Kind.Solid Production.ArrayType 65 refl) (hole s Kind.Solid around w.inner at st w.awaits) refl refl in
+    let any = chain-opens (leaves s Kind.Solid Production.ArrayType 65 refl) (hole-of w) refl refl in
     let rest = byte-opens (eats s Kind.AnyArray Production.AnyArray 65 refl) any stands refl refl in
     let type = next-part p (digits-fill digits end (chain-opens (leaves s Kind.ArrayRest p 48 refl) rest refl refl) is) refl in
-    record {
-      inner = open_at type;
-      awaits = type.expects;
-      onward = λ u here now comes. w.passes (array (values.normal digits) u) false here now
-          (closes Production.ArrayType (closes Production.AnyArray (closes p (fill type (tree u true) here now comes) refl) refl) refl).comes;
-    }
+    awaited type (λ u here now comes. w.onward (array (values.normal digits) u) false here now
+    (closes Production.ArrayType (closes Production.AnyArray (closes p (fill type (tree u true) here now comes) refl) refl) refl).comes)
 
 -- the same where the array is pointed or referred to
 pub array-opens : (s : Symbol) (access : Access) (kind : Kind) (os : List Opened) (around : Around) (at : ℕ) (st : State) (digits : List ℕ) (end : ℕ)
@@ -466,23 +395,17 @@ array-opens s accesses.Pointer kind os around at st digits end whole referable e
     let o = pointer-opens s kind around os at st (typed kind whole) expects both.0 in
     let f = plain-array-opens s Kind.Type o.inner around (at + 1) st digits end tt o.awaits both.1
     (subst (λ k. IsSizeAt s.bytes k digits end) (omega arith) is) in
-    record {
-      inner = f.inner;
-      awaits = f.awaits;
-      onward = λ u here now comes. o.passes (array (values.normal digits) u) here (with_candidate around (array (values.normal digits) u) now)
-          (f.onward u here now comes);
-    }
+    awaited {os = f.inner} (hole-of f)
+    (λ u here now comes. o.onward (array (values.normal digits) u) here (with_candidate around (array (values.normal digits) u) now)
+    (f.onward u here now comes))
 array-opens s accesses.Lvalue kind os around at st digits end whole referable expects stands is =
     let both = stands-split s.bytes at (82 ∷ []) (65 ∷ []) stands in
-    let o = lvalue-opens s kind around os at st (referable refl) expects both.0 in
+    let o = reference-type-opens s kind true around os at st (referable refl) expects both.0 in
     let f = plain-array-opens s Kind.Type o.inner around (at + 1) st digits end tt o.awaits both.1
     (subst (λ k. IsSizeAt s.bytes k digits end) (omega arith) is) in
-    record {
-      inner = f.inner;
-      awaits = f.awaits;
-      onward = λ u here now comes. o.passes (array (values.normal digits) u) here (with_candidate around (array (values.normal digits) u) now)
-          (f.onward u here now comes);
-    }
+    awaited {os = f.inner} (hole-of f)
+    (λ u here now comes. o.onward (array (values.normal digits) u) here (with_candidate around (array (values.normal digits) u) now)
+    (f.onward u here now comes))
 
 -- ## Function types
 
@@ -493,21 +416,17 @@ unfolding is_eaten number_of_kind parts_of may_be_empty between close unfolding_
 function-opens s kind os around at st whole outside expects stands =
     let p = Production.Function in
     let w = whole-opens s kind around os at st whole expects in
-    let linkage = byte-opens (eats s Kind.Solid p 70 refl) (hole s Kind.Solid around w.inner at st w.awaits) stands refl refl in
+    let linkage = byte-opens (eats s Kind.Solid p 70 refl) (hole-of w) stands refl refl in
     let type = next-part p (none-fills Kind.MaybeCLinkage linkage refl) refl in
+    awaited type (λ r here now comes.
+    let rest = next-part p (fill type (tree r true) here now comes) refl in
     record {
-      inner = open_at type;
-      awaits = type.expects;
-      onward = λ r here now comes.
-          let rest = next-part p (fill type (tree r true) here now comes) refl in
-          record {
-            around = around;
-            outside = outside;
-            inner = open_at rest;
-            awaits = rest.expects;
-            passes = λ l there then_ last. w.passes (plain_function r l) false there then_ (closes p (fill rest (signature l any_value) there then_ last) refl).comes;
-          };
-    }
+      around = around;
+      outside = outside;
+      inner = open_at rest;
+      awaits = rest.expects;
+      passes = λ l there then_ last. w.onward (plain_function r l) false there then_ (closes p (fill rest (signature l any_value) there then_ last) refl).comes;
+    })
 
 -- and after PF that of one that is pointed to
 pub pointed-function-opens : (s : Symbol) (kind : Kind) (os : List Opened) (around : Around) (at : ℕ) (st : State) → IsQualifiable kind
@@ -524,7 +443,7 @@ pointed-function-opens s kind os around at st whole outside expects stands =
         outside = g.outside;
         inner = g.inner;
         awaits = g.awaits;
-        passes = λ l there then_ last. o.passes (plain_function r l) there (with_candidate around (plain_function r l) then_)
+        passes = λ l there then_ last. o.onward (plain_function r l) there (with_candidate around (plain_function r l) then_)
             (g.passes l there then_ last);
       };
     }
@@ -568,46 +487,6 @@ signature-ends s outer made_in is_pointer made at st g stands =
 
 -- ## References as parameters
 
--- After what a reference is to, the reader makes the reference, and goes on as after another parameter.
-rests-alike : (s : Symbol) (item : Production) (made : Term → Term) (around : Around) (at0 : ℕ) (before : State) (t : Term) (at : ℕ) (st then_ : State)
-    (bytes : List ℕ) (vs : List Value) (inner : State) (x : Sym)
-    → ◌≡◌ {A = Going} (between item around at0 (tree t true ∷ []) st)
-    (Ok (record { values = tree (made t) true ∷ []; context = around; state = then_ }))
-    → ◌≡◌ {A = Going} (between Production.RestItem around at0 (tree (made t) true ∷ []) then_)
-    (Ok (record { values = tree (made t) true ∷ []; context = around; state = then_ }))
-    → ReadsRest s (standing (rule_of Production.RestItem) [] at0 around before) (tree (made t) true ∷ []) (x ∷ []) at bytes then_ vs inner
-    → ReadsRest s (standing (rule_of item) [] at0 around before) (tree t true ∷ []) (x ∷ []) at bytes st vs inner
-unfolding unfolding_.cpp
-rests-alike s item made around at0 before t at st then_ bytes vs inner x goes same rest = record {
-  forest = rest.forest;
-  shaped = rest.shaped;
-  spelled = rest.spelled;
-  unfolds = go rest.forest rest.shaped rest.unfolds;
-}
-  where
-    go : (f : Forest) → AreTrees (table_by s.is_wide) (x ∷ []) f
-        → unfold_forest unfolding_.cpp (standing (rule_of Production.RestItem) [] at0 around before) (tree (made t) true ∷ []) at f then_ ≡ Ok (found vs inner)
-        → unfold_forest unfolding_.cpp (standing (rule_of item) [] at0 around before) (tree t true ∷ []) at f st ≡ Ok (found vs inner)
-    go (grown one nothing) shaped e = rw (at_number item, goes, at_number Production.RestItem, same) refl ∙ e
-    go (grown one (grown two more)) shaped e = absurd shaped.1
-    go nothing shaped e = absurd shaped
-
--- the same of all that is open
-alike : (s : Symbol) (item : Production) (made : Term → Term) (around : Around) (at0 : ℕ) (before : State) (os : List Opened) (x : Sym) (t : Term)
-    (at : ℕ) (st then_ : State)
-    → ◌≡◌ {A = Going} (between item around at0 (tree t true ∷ []) st)
-    (Ok (record { values = tree (made t) true ∷ []; context = around; state = then_ }))
-    → ◌≡◌ {A = Going} (between Production.RestItem around at0 (tree (made t) true ∷ []) then_)
-    (Ok (record { values = tree (made t) true ∷ []; context = around; state = then_ }))
-    → ((vs : List Value) (inner : State) → close item 0 around at0 before vs inner ≡ close Production.RestItem 0 around at0 before vs inner)
-    → Comes s (opened (standing (rule_of item) [] at0 around before) [] (x ∷ []) ∷ os) (tree t true) at st
-    → Comes s (opened (standing (rule_of Production.RestItem) [] at0 around before) [] (x ∷ []) ∷ os) (tree (made t) true) at then_
-unfolding unfolding_.cpp byte_of
-alike s item made around at0 before os x t at st then_ goes same closes comes bytes vs inner w after rest there closed =
-    comes bytes vs inner w after (rests-alike s item made around at0 before t at st then_ bytes vs inner x goes same rest) there
-    (ap (λ q. close q 0 around at0 before vs inner) (at_number item) ∙ closes vs inner
-    ∙ sym (ap (λ q. close q 0 around at0 before vs inner) (at_number Production.RestItem)) ∙ closed)
-
 -- After the letter of a reference it is expected what it is to, and parameters go on after it.
 referred : {s : Symbol} {outer : List Opened} {made_in : Around} {is_pointer : Bool} {made : Term → Term} {at : ℕ} {st : State}
     (g : SignatureGoesOn s outer made_in is_pointer made at st) (is_lvalue : Bool) (item : Production) {os : List Opened}
@@ -629,8 +508,11 @@ referred {s = s} {at = at} {st = st} g is_lvalue item {os = os} type goes same e
       whole = whole;
       inner = open_at type;
       awaits = type.expects;
-      passes = λ t here now comes. alike s item (reference is_lvalue) g.around (at + 1) st os rest t here now
-          (with_candidate g.around (reference is_lvalue t) now) (goes t now) refl same comes;
+      passes = λ t here now comes.
+          let u = reference is_lvalue t in
+          let then_ = with_candidate g.around u now in
+          comes-alike s os item p [] (at + 1) g.around st rest (tree t true) (tree u true) here now then_ g.around (tree u true ∷ []) (tree u true ∷ [])
+          then_ (goes t now) refl (λ more end. same (tree u true ∷ more) end) comes;
       onward = λ u here now comes. parameters-go-on g (next-part p (came s whole (tree u true) here now comes) refl)
           (λ l there then_ last. ended (list u l) there then_ (closes p last refl));
     }

@@ -9,13 +9,7 @@ use Rattle.cpp_grammar.specs.Scope.{arguments_of, element, length_if_pack}
 use Rattle.cpp_grammar.specs.Term.{Term}
 use Rattle.cpp_grammar.specs.Values as values
 use Rattle.cpp_grammar.specs.Values.{Around, State, tree}
-use Rattle.cpp_direct.specs.Symbol.{Symbol, detail_of}
-use Rattle.cpp_direct.specs.declared.direct.Direct.{Direct}
-use Rattle.cpp_direct.specs.declared.open.Argument.{Argument}
-use Rattle.cpp_direct.specs.declared.open.Arguments.{Arguments}
-use Rattle.cpp_direct.specs.declared.open.Candidate.{Candidate}
-use Rattle.cpp_direct.specs.declared.open.Mark.{Mark}
-use Rattle.cpp_direct.specs.declared.open.Open.{Open}
+use Rattle.cpp_direct.specs.WriterTypes.{Argument, Arguments, Candidate, Direct, Mark, Open, Symbol, detail_of}
 use Rattle.cpp_direct.specs.Prints.{AreSingle, IsGiven, Named, Names, Prints, PrintsAs, PrintsGiven}
 use Rattle.cpp_direct.specs.WriterInvariant.{AreCandidates, AreNamed, HasArguments, IsCandidate, IsMadeIn, IsNaming, IsPlaced, HasSingles, IsScoped, IsSingle, Keeps, Scope, argument_of, encoding_place, no_scope, place_of, Kept}
 use Rattle.cpp_direct.specs.MidStep.{IsNameEnded, IsNameScoped}
@@ -71,9 +65,6 @@ text-single text a number n e =
     let h = single-some (is_single a number) (own_at text (place_of a number)) n e in
     (by-single number a.count a.before a.has_pack h.0, h.1)
 
-some-same : (t u : Term) → Some t ≡ Some u → t ≡ u
-some-same t u e = cc e
-
 -- the arguments of a name are given in its types
 pub arguments-given : {detail : Detail} (text : List ℕ) (a : Arguments) (own : Term) → HasArguments detail text a own → IsGiven detail (names_at text a) (types_of own)
 arguments-given {detail} text a own has number n is =
@@ -87,7 +78,7 @@ arguments-given {detail} text a own has number n is =
         let single = text-single text a k m e in
         let h = has.0 k single.0 in
         let found = piece-found text h.bytes p.from p.to h.placed in
-        let same : h.all ≡ all = some-same h.all all (sym h.all_are ∙ all_are) in (
+        let same : h.all ≡ all = cc (sym h.all_are ∙ all_are) in (
           h.own,
           subst (λ t. element t k ≡ h.own) same h.there.0,
           subst (λ (x : Named). Prints detail h.own x.bytes x.reference) single.1
@@ -130,7 +121,7 @@ scope-kept s old new kept a own names first now text candidates =
       candidates = subst (λ v. AreCandidates s scope v.list.items new.candidates.list.items kept.state.candidates) (sym text)
           (subst (λ v. AreCandidates s scope here v.list.items kept.state.candidates) (sym candidates)
           (candidates-as s no_scope scope here here (candidate-given s scope here) old.candidates.list.items kept.state.candidates
-          (subst (λ (k : Scope). AreCandidates s k here old.candidates.list.items kept.state.candidates) (kept.keeps.unknown first) kept.keeps.candidates)));
+          (subst (λ (k : Scope). AreCandidates s k here old.candidates.list.items kept.state.candidates) (kept.keeps.unknown first).0 kept.keeps.candidates)));
       named = subst (λ v. AreNamed v.list.items scope) (sym text) (named-there here a own names);
       single = λ number n e. (text-single here a number n e).0;
       unknown = λ e. absurd (false≢true (sym e ∙ now));
@@ -156,6 +147,7 @@ scope-begins s old new mark is_instance argument a from p same encoded first new
       };
       given = arguments-given text a p.own names;
       named = refl;
+      items = p.awaits.items (p.keeps.unknown first).1;
       encoded = encoded;
     })
   where

@@ -5,12 +5,8 @@ use Rattle.cpp_grammar.specs.Term.{Term, within, instance, source, operator, con
 use Rattle.cpp_grammar.specs.Parts.{opening_text, source_text}
 use Rattle.cpp_grammar.specs.Scope.{arguments_of, has_return_type, is_structor}
 use Rattle.cpp_grammar.specs.Values.{State, Around}
-use Rattle.cpp_direct.specs.Symbol.{detail_of, Symbol}
-use Rattle.cpp_direct.specs.declared.open.Open.{Open}
-use Rattle.cpp_direct.specs.declared.open.Purpose.{Purpose}
+use Rattle.cpp_direct.specs.WriterTypes.{Direct, Nest, Open, Purpose, Symbol, detail_of}
 use Rattle.cpp_direct.specs.declared.open.Step.TheVariants as steps
-use Rattle.cpp_direct.specs.declared.open.Nest.{Nest}
-use Rattle.cpp_direct.specs.declared.direct.Direct.{Direct}
 use Rattle.cpp_direct.specs.Holes.{Opened, StandsAt, IsNameAt, Named, NestNamed, AwaitsComponent}
 use Rattle.cpp_direct.specs.Names.{IsConstructorDigit, IsDestructorDigit, IsOperatorAt, is_angle, operator_text}
 use Rattle.cpp_direct.specs.Prints.{Prints, PrintsAs}
@@ -247,7 +243,7 @@ piece-named s old read from to kept t piece x n g named is_piece opening from_is
         names_class = λ e none. within-class t n.bytes (closed none) piece x is_piece;
       });
       named = named;
-      names_tagged = λ e none tag plain. within-tagged t n.bytes (closed none) piece x is_piece opening tag plain;
+      names_tagged = λ e none tag plain. within-tagged t n.bytes (closed none) piece x is_piece tag plain;
       unlisted = refl;
       no_instance = refl;
       no_return = refl;

@@ -2,14 +2,15 @@
 use Rattle.sym_print.specs.declared.detail.Detail.{Detail}
 use Rattle.cpp_direct.specs.declared.open.Pattern.{Pattern}
 use Rattle.cpp_direct.specs.declared.open.Pattern.TheVariants as patterns
-use Rattle.std.proofs.lemmas.Bool.{lt-ltb, ltb-true, eqb-true}
+use Rattle.std.proofs.Math.Dec.{eqb-suc-zero}
+use Rattle.std.proofs.lemmas.Bool.{le-ltb, lt-ltb}
 use Rattle.cpp_direct.specs.Prints.{Prints, PrintsIn, PrintsMade, IsMarkedBy, written_of, IsElementIn, PrintEachBy, PrintAllBy, joined, list_of, made_by}
 use Rattle.cpp_grammar.specs.Items.{left, right, Context, argument, expand, indexed, is_empty, is_none_of, packs_of}
 use Rattle.cpp_grammar.specs.Meaning.{is_void}
 use Rattle.cpp_grammar.specs.Parts.{as_item, says, left_parts, right_parts, parts_in, not_empty, at_index, comma_before, expand_parts, expand_rest, expansion_parts, is_below, types_of}
 use Rattle.cpp_grammar.specs.Scope.{pack_length, length_if_pack, arguments_of, count, element}
 use Rattle.cpp_grammar.specs.Term.{Term, lvalue, rvalue, qualified, parameter, expansion, pack}
-use Rattle.std.proofs.Common.{◌≡◌, refl, ap, ◌∙◌, ℕ, ◌+◌, ◌*◌, ◌≤◌, List, [], ◌∷◌, ◌++◌, length, Bool, true, false, arith, codes, length-append, sym, subst, append-nil, append_assoc, ◌≢◌, slice_get, Some, zero, suc, ◌<◌, nat_lt, nat_eq}
+use Rattle.std.proofs.Common.{◌≡◌, refl, ap, ◌∙◌, ℕ, ◌+◌, ◌*◌, ◌≤◌, List, [], ◌∷◌, ◌++◌, length, Bool, true, false, arith, codes, length-append, sym, subst, append-nil, append_assoc, ◌≢◌, slice_get, Some, zero, suc, ◌<◌}
 use Rattle.sym_print.specs.Unshared.{text_of, cost_of}
 use Rattle.cpp_direct.proofs.PrintedLists.{further, joined-further}
 use Rattle.cpp_direct.proofs.PrintedParts.{text_shown, cost_shown, shown_by}
@@ -87,17 +88,10 @@ packs-are c k ts patterns.Lvalue p = rw (p.scope_is, p.pack_is) refl
 packs-are c k ts patterns.ConstLvalue p = rw (p.scope_is, p.pack_is) refl
 packs-are c k ts patterns.Rvalue p = rw (p.scope_is, p.pack_is) refl
 
-not-below : (n m : ℕ) → m ≤ n → nat_lt n m ≡ false
-not-below n m le = go (nat_lt n m) refl
-  where
-    go : (b : Bool) → nat_lt n m ≡ b → nat_lt n m ≡ false
-    go true is = absurd (omega (arith, le, ltb-true n m is))
-    go false is = is
-
 -- what follows the first ones
 rest-ends : (c : Context) (k : ℕ) (ts : List Term) (pattern : Pattern) (n : ℕ) → IsPacked c k ts → length ts ≤ n → expand_rest c (each pattern k) n ≡ []
 unfolding expand_rest is_below
-rest-ends c k ts pattern n p le = rw (packs-are c k ts pattern p, not-below n (count (list_of ts)) (omega (arith, le, count-of ts)), expand_rest) refl
+rest-ends c k ts pattern n p le = rw (packs-are c k ts pattern p, le-ltb n (count (list_of ts)) (omega (arith, le, count-of ts)), expand_rest) refl
 
 rest-goes : (c : Context) (k : ℕ) (ts : List Term) (pattern : Pattern) (n : ℕ) → IsPacked c k ts → n < length ts
     → expand_rest c (each pattern k) n ≡ as_item (expand n) c (each pattern k) ∷ []
@@ -128,8 +122,7 @@ one-more {detail} c k ts pattern m b l q packed lt p n =
         cost_shown detail (expand (suc m)) c t qs refl refl,
         p.cost,
         n.1,
-        length-append (codes ", ") (b ++ l),
-        length-append b l,
+        length-append {A = ℕ},
       ),
     )
 
@@ -151,13 +144,6 @@ rest-prints detail c k ts pattern [] m (b ∷ texts) packed there size each_ = a
 rest-prints detail c k ts pattern (t ∷ rest) m [] packed there size each_ = absurd each_
 
 -- ## The whole
-
-not-none : (n : ℕ) → nat_eq (suc n) 0 ≡ false
-not-none n = go (nat_eq (suc n) 0) refl
-  where
-    go : (b : Bool) → nat_eq (suc n) 0 ≡ b → nat_eq (suc n) 0 ≡ false
-    go true is = absurd (omega (arith, eqb-true (suc n) 0 is))
-    go false is = is
 
 expanded : {detail : Detail} (c : Context) (k : ℕ) (pattern : Pattern) (t : Term) (rest : List Term) (b : List ℕ) (texts : List (List ℕ)) → IsPacked c k (t ∷ rest)
     → PrintsMade detail pattern t b → PrintEachBy (PrintsMade detail pattern) rest texts
@@ -192,7 +178,7 @@ expanded {detail} c k pattern t rest b texts packed one others =
         ap length (joined-further b texts),
         length-append b (further texts),
       );
-      filled = ap is_none_of packs ∙ not-none (count (list_of rest));
+      filled = ap is_none_of packs ∙ eqb-suc-zero (count (list_of rest));
       void = λ h. cc h;
     }
 

@@ -7,15 +7,13 @@ use Rattle.cpp_grammar.specs.Scope.{is_open, pack_length, first_of}
 use Rattle.cpp_grammar.specs.Items.{closed, left, right, first, Context, head, head_with, is_funarr, is_empty, is_reference}
 use Rattle.cpp_grammar.specs.Meaning.{is_void, is_nil, parameters}
 use Rattle.cpp_grammar.specs.Parts.{as_item, says, text_part, list_part, left_parts, right_parts, function_right, marked_parts, closing_right, ref_text, parts_in, not_empty, array_left, reference_parts}
-use Rattle.cpp_direct.specs.Prints.{written_of, Prints, IsElement, PrintAll, list_of}
-use Rattle.cpp_direct.specs.HolesOfFunctions.{plain_function, pointed}
+use Rattle.cpp_direct.specs.Prints.{written_of, Prints, IsElement, PrintAll, list_of, IsUnmarked}
+use Rattle.cpp_direct.specs.AllHoles.{accessed, array_opening, plain_function, pointed}
 use Rattle.cpp_direct.specs.WriterInvariant.{list_with, opening_text}
 use Rattle.cpp_direct.proofs.PrintedParts.{shown_by, text_shown, cost_shown, text_append, cost_append, part-text, part-cost}
 use Rattle.cpp_direct.proofs.PrintedLists.{all-in, list-with-none, list-text, list-cost, list-closed, list-packless, none-print}
 use Rattle.cpp_direct.proofs.PrintedSymbols.{parameters-kept}
 use Rattle.cpp_direct.specs.declared.open.Access.{Access}
-use Rattle.cpp_direct.specs.HolesOfArrays.{accessed, array_opening}
-use Rattle.cpp_direct.specs.WrittenParts.{IsUnmarked}
 use Rattle.cpp_direct.specs.declared.open.Access.TheVariants as accesses
 
 -- ## What a function type prints at the left and at the right
@@ -68,9 +66,7 @@ right-cost detail c r ts l all =
 -- ## What it is as an element
 
 sections : (b s o l k : List ℕ) → (b ++ s) ++ (o ++ l ++ k) ≡ b ++ (s ++ o) ++ l ++ k
-sections b s o l k =
-    sym (append_assoc (b ++ s) (o ++ l) k) ∙ ap (λ m. m ++ k) (sym (append_assoc (b ++ s) o l))
-    ∙ ap (λ m. m ++ l ++ k) (append_assoc b s o)
+sections b s o l k = simp append_assoc
 
 around_text : (x y b l o e : List ℕ) → x ≡ b ++ codes " " → y ≡ o ++ l ++ e → x ++ y ≡ b ++ (codes " " ++ o) ++ l ++ e
 around_text x y b l o e left_is right_is =

@@ -1,7 +1,7 @@
 -- What a member of an instance prints, whose names aren't looked up.
 use Rattle.sym_print.specs.declared.detail.Detail.{Detail}
 use Rattle.std.proofs.Common.{◌≡◌, ◌≢◌, refl, ◌∙◌, ℕ, List, [], ◌∷◌, ◌++◌, Bool, true, false, arith, codes, length-append}
-use Rattle.sym_print.specs.Unshared.{text_of, cost_of}
+use Rattle.sym_print.specs.Unshared.{text_of}
 use Rattle.cpp_grammar.specs.Term.{Term, alone, source}
 use Rattle.cpp_grammar.specs.Scope.{is_open, pack_length, length_if_pack, first_of}
 use Rattle.cpp_grammar.specs.References.{is_function_type}
@@ -10,8 +10,7 @@ use Rattle.cpp_grammar.specs.Operations.{operations, operation_of_code}
 use Rattle.cpp_grammar.specs.Items.{left, right, Context}
 use Rattle.cpp_grammar.specs.Parts.{as_item, says, source_text, prefix_item, last_piece, opening_text, left_parts, right_parts, parts_in, not_empty, operation_parts, operand_parts, printed, text_part}
 use Rattle.cpp_direct.specs.HolesOfLevels.{member_of}
-use Rattle.cpp_direct.specs.Prints.{written_of, Prints, PrintsIn, PrintsAs, Names}
-use Rattle.cpp_direct.specs.WrittenParts.{IsUnmarked}
+use Rattle.cpp_direct.specs.Prints.{written_of, Prints, PrintsIn, PrintsAs, Names, IsUnmarked}
 use Rattle.cpp_direct.proofs.PrintedParts.{text_shown, cost_shown}
 use Rattle.cpp_direct.proofs.PrintedNames.{besides, own-in, own-prints, source-prints}
 use Rattle.cpp_direct.proofs.PrintedNests.{joins}
@@ -42,8 +41,7 @@ member-in {detail} c extra u b p name filled plain =
       own.cost c,
       cost_shown detail left c m ps (member-parts detail c u name) refl,
       cost_shown detail right c m [] refl refl,
-      length-append (b ++ codes "::") x,
-      length-append b (codes "::"),
+      length-append {A = ℕ},
     )) (omega (arith, length-append (b ++ codes "::") x, length-append b (codes "::"))) refl
 
 -- A member prints its instance, colons and its name anywhere, or where parameters name arguments with these texts.

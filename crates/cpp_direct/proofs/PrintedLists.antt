@@ -95,8 +95,7 @@ more-shown {detail} c extra (t ∷ ts) tail (b ∷ bs) most ends each =
         later.1 few,
         few,
         each.0.cost,
-        length-append b (further bs),
-        length-append (codes ", ") (b ++ further bs),
+        length-append {A = ℕ},
         cost_shown detail more c l parts is refl,
       ),
     )
@@ -316,10 +315,7 @@ each-append by (u ∷ ts) [] t b each p = elim each [ ]
 
 joined-append : (c : List ℕ) (texts : List (List ℕ)) (b : List ℕ) → joined ((c ∷ texts) ++ b ∷ []) ≡ joined (c ∷ texts) ++ codes ", " ++ b
 joined-append c [] b = refl
-joined-append c (d ∷ texts) b =
-    ap (λ s. c ++ codes ", " ++ s) (joined-append d texts b) ∙ ap (λ s. c ++ codes ", " ++ s) (append_assoc (joined (d ∷ texts)) (codes ", ") b)
-    ∙ sym (append_assoc (c ++ codes ", ") (joined (d ∷ texts)) (codes ", " ++ b))
-    ∙ sym (append_assoc (c ++ codes ", " ++ joined (d ∷ texts)) (codes ", ") b)
+joined-append c (d ∷ texts) b = rw (joined-append d texts b) (simp append_assoc)
 
 another-prints : (by : Term → List ℕ → Type 0) (u : Term) (ts : List Term) (l : List ℕ) (t : Term) (b : List ℕ) → PrintAllBy by (u ∷ ts) l → by t b
     → PrintAllBy by ((u ∷ ts) ++ t ∷ []) (l ++ codes ", " ++ b)

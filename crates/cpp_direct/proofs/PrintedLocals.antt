@@ -1,24 +1,22 @@
 -- Entities and types in encodings, and guard variables.
-use Rattle.std.proofs.Common.{◌≡◌, refl, ap, sym, ◌∙◌, ℕ, ◌+◌, ◌*◌, ◌≤◌, List, [], ◌∷◌, ◌++◌, length, Bool, false, Option, None, true, arith, codes, length-append, append-nil, subst, append_assoc}
+use Rattle.std.proofs.Common.{◌≡◌, ◌≢◌, refl, ap, sym, ◌∙◌, ℕ, List, [], ◌∷◌, ◌++◌, length, Bool, false, None, true, arith, codes, length-append, append-nil, subst, append_assoc}
 use Rattle.sym_print.specs.declared.detail.Detail.{Detail}
 use Rattle.sym_print.specs.Details.{has_parameters}
 use Rattle.sym_print.specs.Unfold.{text}
 use Rattle.sym_print.specs.Unshared.{text_of, cost_of}
-use Rattle.cpp_grammar.specs.Term.{Qualifiers, RefQualifier, any_value, Term, function, object, of_name, local, within, source, nil, absent, lambda, address_of}
+use Rattle.cpp_grammar.specs.Term.{Qualifiers, RefQualifier, any_value, Term, function, object, within, source, nil, absent, lambda, address_of}
 use Rattle.cpp_grammar.specs.Scope.{is_open, pack_length, first_of}
-use Rattle.cpp_grammar.specs.Texts.{look_up, same_bytes, named_special_texts}
-use Rattle.cpp_grammar.specs.Items.{Form, full, bare, left, piece, Context, closed, right, first}
+use Rattle.cpp_grammar.specs.Items.{full, bare, left, piece, Context, closed, right, first}
 use Rattle.cpp_grammar.specs.Values.{Value, unqualified, tree_of, qualifiers_of, ref_of}
 use Rattle.cpp_grammar.specs.Meaning.{encoding_of}
-use Rattle.cpp_grammar.specs.Parts.{as_item, says, text_part, source_text, prefix_item, within_parts, qualifier_text, ref_text, encoding_text, function_bare, function_full, full_parts, bare_parts, left_parts, entity_of, parts_in, not_empty, list_part, opening_text, piece_parts, right_parts, last_piece}
-use Rattle.cpp_direct.specs.Prints.{written_of, PrintsName, Shows, Encloses, Prints, PrintsPiece, PrintAll, list_of}
-use Rattle.cpp_direct.specs.WrittenParts.{IsUnmarked}
+use Rattle.cpp_grammar.specs.Parts.{as_item, says, source_text, prefix_item, within_parts, qualifier_text, ref_text, encoding_text, function_bare, function_full, full_parts, bare_parts, left_parts, entity_of, parts_in, not_empty, list_part, opening_text, piece_parts, right_parts, last_piece}
+use Rattle.cpp_direct.specs.Prints.{written_of, PrintsName, Shows, Encloses, Prints, PrintsPiece, PrintAll, list_of, IsUnmarked}
 use Rattle.cpp_direct.proofs.PrintedParts.{shown_by, writes_parts, text_shown, cost_shown, first_shown, first_cost_shown, text_append, cost_append}
-use Rattle.cpp_direct.proofs.PrintedNames.{piece-text, piece-cost, besides, own-prints}
-use Rattle.cpp_direct.proofs.PrintedNests.{joins, IsPiece}
-use Rattle.cpp_direct.proofs.PrintedSymbols.{encoding-object}
+use Rattle.cpp_direct.proofs.PrintedNames.{as-name, besides, own-prints}
+use Rattle.cpp_direct.proofs.PrintedNests.{IsPiece, source-opening, source-piece, within-cost, within-text}
+use Rattle.cpp_direct.proofs.PrintedSymbols.{encoding-object, object-shows}
 use Rattle.std.specs.Prelude.{decimal}
-use Rattle.cpp_direct.specs.HolesOfLocals.{Discriminator, local_in}
+use Rattle.cpp_direct.specs.HolesOfLocals.{Discriminator, entity_in, local_in}
 use Rattle.cpp_direct.proofs.PrintedFunctions.{closed-list, packless-list}
 use Rattle.cpp_direct.proofs.PrintedLists.{list-text, list-cost}
 
@@ -35,42 +33,11 @@ piece-prints p x is opening = record {
   opening = opening;
 }
 
-lambda_text : (d t : List ℕ) → d ≡ t → codes "{lambda(" ++ (codes ")#" ++ (d ++ codes "}")) ≡ codes "{lambda()#" ++ t ++ codes "}"
-lambda_text d t e = ap (λ l. codes "{lambda()#" ++ l ++ codes "}") e
-
--- a lambda without parameters prints its number
-pub lambda-prints : {detail : Detail} (number : ℕ) (digits : List ℕ) → decimal number ≡ digits → IsUnmarked digits
-    → PrintsPiece detail (lambda nil number) (codes "{lambda()#" ++ digits ++ codes "}")
-unfolding parts_in piece_parts list_part within_parts not_empty is_open pack_length opening_text
-lambda-prints {detail} number digits is plain =
-    let l = lambda nil number in
-    let last = says "}" ∷ [] in
-    let third = text (decimal number) ∷ last in
-    let second = says ")#" ∷ third in
-    record {
-      piece_text = λ c. text_shown detail piece c l (says "{lambda(" ∷ second) refl refl
-          ∙ ap (λ k. codes "{lambda(" ++ (codes ")#" ++ k)) (first_shown detail (decimal number) last (subst IsUnmarked (sym is) plain))
-          ∙ lambda_text (decimal number) digits is;
-      piece_cost = λ c. omega (
-        arith,
-        cost_shown detail piece c l (says "{lambda(" ∷ second) refl refl,
-        first_cost_shown detail (decimal number) last,
-        ap length is,
-        length-append (codes "{lambda()#" ++ digits) (codes "}"),
-        length-append (codes "{lambda()#") digits,
-      );
-      as_component = λ c t. refl;
-      is_closed = refl;
-      packless = λ scope. refl;
-      opening = refl;
-    }
-
 list-bracketed : (x d l t : List ℕ) → x ≡ l → d ≡ t
     → (codes "{lambda(" ++ x) ++ (codes ")#" ++ (d ++ codes "}")) ≡ codes "{lambda(" ++ l ++ codes ")#" ++ t ++ codes "}"
-list-bracketed x d l t e f =
-    rw (e, f) (sym (append_assoc (codes "{lambda(" ++ l) (codes ")#") (t ++ codes "}")) ∙ sym (append_assoc (codes "{lambda(" ++ l ++ codes ")#") t (codes "}")))
+list-bracketed x d l t e f = rw (e, f) (simp append_assoc)
 
--- one with parameters prints these too
+-- a lambda prints its parameters and its number
 pub lambda-list-prints : {detail : Detail} (ts : List Term) (l : List ℕ) → PrintAll detail 0 ts l → (number : ℕ) (digits : List ℕ) → decimal number ≡ digits → IsUnmarked digits
     → PrintsPiece detail (lambda (list_of ts) number) (codes "{lambda(" ++ l ++ codes ")#" ++ digits ++ codes "}")
 unfolding parts_in piece_parts within_parts not_empty is_open pack_length opening_text
@@ -104,26 +71,6 @@ lambda-list-prints {detail} ts l all number digits is plain =
       opening = refl;
     }
 
-within-text : {detail : Detail} (c : Context) (form : Form) (context : Context) (e : Term) (b : List ℕ) → prefix_item c e ≡ as_item form context e
-    → text_of (written_of detail form context e) ≡ b → (p : Term) (n : List ℕ) → PrintsPiece detail p n
-    → text_of (written_of detail left c (within e p)) ≡ b ++ codes "::" ++ n
-unfolding parts_in left_parts not_empty
-within-text {detail} c form context e b prefix text_is p n q =
-    text_shown detail left c (within e p) (as_item form context e ∷ says "::" ∷ as_item piece c p ∷ [])
-    (q.as_component c e ∙ ap (λ i. i ∷ says "::" ∷ as_item piece c p ∷ []) prefix) refl
-    ∙ joins (text_of (written_of detail form context e)) (codes "::") (text_of (written_of detail piece c p)) b n text_is (q.piece_text c)
-
-within-cost : {detail : Detail} (c : Context) (form : Form) (context : Context) (e : Term) → prefix_item c e ≡ as_item form context e
-    → (p : Term) (n : List ℕ) → PrintsPiece detail p n
-    → cost_of (written_of detail left c (within e p)) ≡ cost_of (written_of detail form context e) + 3 + cost_of (written_of detail piece c p)
-unfolding parts_in left_parts not_empty
-within-cost {detail} c form context e prefix p n q =
-    omega (
-      arith,
-      cost_shown detail left c (within e p) (as_item form context e ∷ says "::" ∷ as_item piece c p ∷ [])
-          (q.as_component c e ∙ ap (λ i. i ∷ says "::" ∷ as_item piece c p ∷ []) prefix) refl,
-    )
-
 -- A component of a name prints the name so far and its own.
 pub component-prints : {detail : Detail} (t : Term) (b : List ℕ) → Prints detail t b false → (p : Term) (n : List ℕ) → PrintsPiece detail p n
     → Prints detail (within t p) (b ++ codes "::" ++ n) false
@@ -131,15 +78,14 @@ unfolding parts_in right_parts not_empty is_open pack_length last_piece besides 
 component-prints {detail} t b h p n q =
     let w = within t p in
     own-prints w (b ++ codes "::" ++ n) (record {
-      left_text = λ c. within-text c left c t b (h.as_prefix c) (h.left_text c) p n q;
+      left_text = λ c. within-text detail c left c t b (h.left_text c) (h.as_prefix c) p n (q.as_component c t) (q.piece_text c);
       cost = λ c. omega (
         arith,
         h.cost c,
         q.piece_cost c,
-        within-cost c left c t (h.as_prefix c) p n q,
+        within-cost detail c left c t (h.as_prefix c) p (q.as_component c t),
         cost_shown detail right c w [] refl refl,
-        length-append (b ++ codes "::") n,
-        length-append b (codes "::"),
+        length-append {A = ℕ},
       );
     }) (rw (h.is_closed, q.is_closed) refl) (λ scope. rw (h.packless scope, q.packless scope) refl) q.opening (λ c. refl)
 
@@ -151,16 +97,15 @@ local-prints {detail} e b h p n q digit =
     let t = local_in e p digit in
     own-prints t (b ++ codes "::" ++ n) (record {
       left_text = λ c. text_shown detail left c t (as_item left c (within e p) ∷ []) refl refl ∙ append-nil (text_of (written_of detail left c (within e p)))
-          ∙ within-text c bare closed e b (h.as_prefix c) h.bare_text p n q;
+          ∙ within-text detail c bare closed e b h.bare_text (h.as_prefix c) p n (q.as_component c e) (q.piece_text c);
       cost = λ c. omega (
         arith,
         h.bare_cost,
         q.piece_cost c,
-        within-cost c bare closed e (h.as_prefix c) p n q,
+        within-cost detail c bare closed e (h.as_prefix c) p (q.as_component c e),
         cost_shown detail left c t (as_item left c (within e p) ∷ []) refl refl,
         cost_shown detail right c t [] refl refl,
-        length-append (b ++ codes "::") n,
-        length-append b (codes "::"),
+        length-append {A = ℕ},
       );
     }) (rw (h.is_closed, q.is_closed) refl) (λ scope. rw (h.packless scope, q.packless scope) refl) q.opening (λ c. refl)
 
@@ -230,15 +175,13 @@ returned-enclosing d name q ref returned items b p =
       packless = λ scope. refl;
     }
 
-object-encloses : (d : Detail) (name : Term) (q : Qualifiers) (ref : RefQualifier) (b : List ℕ) → Shows d (object name q ref) b → Encloses d (object name q ref) b
-unfolding bare_parts full_parts prefix_item is_open pack_length
-object-encloses d name q ref b p = encloses-as d (object name q ref) b refl (λ c. refl) refl (λ k. refl) p
-
 -- Data print the same before an entity.
 pub object-enclosing : (d : Detail) (v : Value) (b : List ℕ) → Shows d (encoding_of v nil) b → Encloses d (encoding_of v nil) b
+unfolding bare_parts full_parts prefix_item is_open pack_length
 object-enclosing d v b p =
     let e = encoding-object v in
-    subst (λ t. Encloses d t b) (sym e) (object-encloses d (tree_of v) (qualifiers_of v) (ref_of v) b (subst (λ t. Shows d t b) e p))
+    subst (λ t. Encloses d t b) (sym e)
+    (encloses-as d (object (tree_of v) (qualifiers_of v) (ref_of v)) b refl (λ c. refl) refl (λ k. refl) (subst (λ t. Shows d t b) e p))
 
 -- ## Functions by their names alone
 
@@ -282,76 +225,13 @@ name-encloses {detail} alone name b p q ref returned items =
 
 -- ## Entities
 
-inside-text : (d : Detail) (e : Term) (b : List ℕ) → Encloses d e b → (internal : Bool) (name : List ℕ) → IsUnmarked name
-    → text_of (written_of d left closed (within e (source internal name))) ≡ b ++ codes "::" ++ source_text name
-unfolding parts_in left_parts within_parts not_empty
-inside-text d e b p internal name plain =
-    let n = source internal name in
-    text_shown d left closed (within e n) (as_item bare closed e ∷ says "::" ∷ as_item piece closed n ∷ [])
-    (ap (λ i. i ∷ says "::" ∷ as_item piece closed n ∷ []) (p.as_prefix closed)) refl
-    ∙ joins (text_of (written_of d bare closed e)) (codes "::") (text_of (written_of d piece closed n)) b (source_text name) p.bare_text (piece-text d closed internal name plain)
-
-inside-cost : (d : Detail) (e : Term) (b : List ℕ) → Encloses d e b → (internal : Bool) (name : List ℕ)
-    → cost_of (written_of d left closed (within e (source internal name))) ≡ cost_of (written_of d bare closed e) + 4 + length (source_text name)
-unfolding parts_in left_parts within_parts not_empty
-inside-cost d e b p internal name =
-    let n = source internal name in
-    omega (
-      arith,
-      cost_shown d left closed (within e n) (as_item bare closed e ∷ says "::" ∷ as_item piece closed n ∷ [])
-          (ap (λ i. i ∷ says "::" ∷ as_item piece closed n ∷ []) (p.as_prefix closed)) refl,
-      piece-cost d closed internal name,
-    )
-
-entity-text : (d : Detail) (e : Term) (b : List ℕ) → Encloses d e b → (internal : Bool) (name : List ℕ) (digit : Option (List ℕ)) → IsUnmarked name
-    → text_of (written_of d left closed (local e (within e (source internal name)) digit)) ≡ b ++ codes "::" ++ source_text name
-unfolding parts_in left_parts entity_of not_empty
-entity-text d e b p internal name digit plain =
-    let w = within e (source internal name) in
-    text_shown d left closed (local e w digit) (as_item left closed w ∷ []) refl refl ∙ append-nil (text_of (written_of d left closed w)) ∙ inside-text d e b p internal name plain
-
-entity-cost : (d : Detail) (e : Term) (b : List ℕ) → Encloses d e b → (internal : Bool) (name : List ℕ) (digit : Option (List ℕ))
-    → 3 + cost_of (written_of d left closed (local e (within e (source internal name)) digit)) ≤ 4 * length (b ++ codes "::" ++ source_text name)
-unfolding parts_in left_parts entity_of not_empty
-entity-cost d e b p internal name digit =
-    let w = within e (source internal name) in
-    omega (
-      arith,
-      p.bare_cost,
-      cost_shown d left closed (local e w digit) (as_item left closed w ∷ []) refl refl,
-      inside-cost d e b p internal name,
-      length-append (b ++ codes "::") (source_text name),
-      length-append b (codes "::"),
-    )
-
 -- A local entity shows the encoding that it is in, and its name.
-pub entity-shows : (d : Detail) (e : Term) (b : List ℕ) → Encloses d e b → (internal : Bool) (name : List ℕ) (digit : Option (List ℕ)) → IsUnmarked name
-    → Shows d (object (local e (within e (source internal name)) digit) unqualified any_value) (b ++ codes "::" ++ source_text name)
-unfolding parts_in full_parts encoding_text qualifier_text ref_text text_part not_empty
-entity-shows d e b p internal name digit plain =
-    let t = local e (within e (source internal name)) digit in
-    let o = object t unqualified any_value in
-    record {
-      shown_text = text_shown d full closed o (as_item left closed t ∷ []) refl refl ∙ append-nil (text_of (written_of d left closed t))
-          ∙ entity-text d e b p internal name digit plain;
-      shown_cost = omega (arith, entity-cost d e b p internal name digit, cost_shown d full closed o (as_item left closed t ∷ []) refl refl);
-    }
-
--- Its guard variable shows that it is one, and the same.
-pub guard-shows : (d : Detail) (e : Term) (b : List ℕ) → Encloses d e b → (internal : Bool) (name : List ℕ) (digit : Option (List ℕ)) → IsUnmarked name
-    → Shows d (of_name 86 (local e (within e (source internal name)) digit) unqualified any_value) (codes "guard variable for " ++ (b ++ codes "::" ++ source_text name))
-unfolding look_up same_bytes named_special_texts parts_in full_parts encoding_text qualifier_text ref_text text_part not_empty
-guard-shows d e b p internal name digit plain =
-    let t = local e (within e (source internal name)) digit in
-    let g = of_name 86 t unqualified any_value in
-    let k : List ℕ = codes "guard variable for " in
-    record {
-      shown_text = text_shown d full closed g (text k ∷ as_item left closed t ∷ []) refl refl
-          ∙ ap (λ l. k ++ l) (append-nil (text_of (written_of d left closed t)) ∙ entity-text d e b p internal name digit plain);
-      shown_cost = omega (
-        arith,
-        entity-cost d e b p internal name digit,
-        cost_shown d full closed g (text k ∷ as_item left closed t ∷ []) refl refl,
-        length-append k (b ++ codes "::" ++ source_text name),
-      );
-    }
+pub entity-shows : (d : Detail) (e : Term) (b : List ℕ) → Encloses d e b → (internal : Bool) (name : List ℕ) (digit : Discriminator) → name ≢ [] → IsUnmarked name
+    → Shows d (object (entity_in e internal name digit) unqualified any_value) (b ++ codes "::" ++ source_text name)
+unfolding encoding_text qualifier_text ref_text
+entity-shows d e b h internal name digit filled plain =
+    let t = entity_in e internal name digit in
+    let whole = b ++ codes "::" ++ source_text name in
+    let own = piece-prints (source internal name) (source_text name) (source-piece internal name filled plain) (source-opening internal name) in
+    subst (λ l. Shows d (object t unqualified any_value) l) (append-nil whole)
+    (object-shows t whole (as-name t whole false (local-prints e b h (source internal name) (source_text name) own digit)) unqualified any_value)

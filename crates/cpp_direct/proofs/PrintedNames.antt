@@ -1,5 +1,5 @@
 -- Names, types and arguments that are one text: source names, abbreviations, builtin types, booleans and integers.
-use Rattle.std.proofs.Common.{◌≡◌, ◌≢◌, refl, ap, Option, None, sym, ◌∙◌, ℕ, ◌+◌, ◌*◌, ◌≤◌, List, [], ◌∷◌, ◌++◌, length, Bool, true, false, arith, codes, length-append, append-nil, subst, nat_eq, ◌||◌, inl, inr, cond, append_assoc}
+use Rattle.std.proofs.Common.{◌≡◌, ◌≢◌, refl, ap, Option, None, sym, ◌∙◌, ℕ, ◌+◌, ◌*◌, ◌≤◌, List, [], ◌∷◌, ◌++◌, length, drop, Bool, true, false, arith, codes, length-append, append-nil, subst, nat_eq, ◌||◌, inl, inr, cond, append_assoc}
 use Rattle.std.proofs.lemmas.Bool.{eqb-true, false≢true}
 use Rattle.sym_print.specs.declared.detail.Detail.{Detail}
 use Rattle.sym_print.specs.Details.{has_arguments}
@@ -13,8 +13,7 @@ use Rattle.cpp_grammar.specs.Items.{Item, left, right, base, piece, closed, Cont
 use Rattle.cpp_grammar.specs.Meaning.{is_void}
 use Rattle.cpp_grammar.specs.Parts.{as_item, says, source_text, prefix_item, last_piece, opening_text, piece_parts, left_parts, right_parts, base_parts, parts_in, not_empty, is_plain_integer, text_part, sign_part, builtin_code, integer_parts}
 use Rattle.cpp_direct.specs.Names.{is_angle, operator_text}
-use Rattle.cpp_direct.specs.Prints.{written_of, EndsAsInteger, Prints, PrintsIn, PrintsName, NamesClass, sign_text}
-use Rattle.cpp_direct.specs.WrittenParts.{IsUnmarked, unmarked_parts, written_in}
+use Rattle.cpp_direct.specs.Prints.{written_of, EndsAsInteger, Prints, PrintsIn, PrintsName, NamesClass, sign_text, IsUnmarked, unmarked_parts, written_in}
 use Rattle.cpp_direct.proofs.Unmarked.{source-unmarked, operator-unmarked, abbreviation-unmarked, builtin-unmarked, truth-unmarked, ending-unmarked, rest-unmarked}
 use Rattle.cpp_direct.proofs.PrintedParts.{text_shown, cost_shown, alone_shown, first_cost_shown, length-filled, shown_by, first_shown, text_append, cost_append, part-text, part-cost}
 use Rattle.cpp_direct.proofs.PrintedTypes.{made-prints}
@@ -114,6 +113,22 @@ source-filled name filled = go _
 pub as-name : {detail : Detail} (t : Term) (b : List ℕ) (reference : Bool) → Prints detail t b reference → PrintsName detail t b
 as-name t b reference p = record { left_text = p.left_text; cost = p.cost }
 
+-- What names something, and is one text at the base, names its class by that.
+pub base-names : {detail : Detail} (t : Term) (b class : List ℕ) → PrintsName detail t b → ((c : Context) → parts_in detail c base t ≡ text class ∷ [])
+    → ((c : Context) → written_in detail c base t ≡ unmarked_parts (has_arguments detail) (parts_in detail c base t)) → IsUnmarked class
+    → NamesClass detail t class
+unfolding not_empty
+base-names {detail} t b class n base_is written plain = record {
+  base_text = λ c. text_shown detail base c t (text class ∷ []) (base_is c) (written c) ∙ alone_shown detail class plain;
+  base_cost = λ c. omega (
+    arith,
+    n.cost c,
+    ap length (n.left_text c),
+    cost_shown detail base c t (text class ∷ []) (base_is c) (written c),
+    first_cost_shown detail class [],
+  );
+}
+
 -- one of some letters, or one more
 at-letter : (P : ℕ → Type 0) (letter c : ℕ) (before : Bool) → (before ≡ true → P letter) → P c → (before || nat_eq letter c) ≡ true → P letter
 at-letter P letter c before others there e = go before refl e
@@ -141,19 +156,11 @@ source-prints {detail} internal name filled plain =
 
 -- It names its class by itself.
 pub source-class : {detail : Detail} (internal : Bool) (name : List ℕ) → name ≢ [] → IsUnmarked name → NamesClass detail (alone (source internal name)) (source_text name)
-unfolding parts_in left_parts right_parts base_parts piece_parts not_empty
-source-class {detail} internal name filled plain = let t = alone (source internal name) in record {
-  base_text = λ c. text_shown detail base c t (text (source_text name) ∷ []) refl refl ∙ alone_shown detail (source_text name) (source-unmarked name plain);
-  base_cost = λ c. omega (
-    arith,
-    source-filled name filled,
-    first_cost_shown detail (source_text name) [],
-    cost_shown detail left c t (text (source_text name) ∷ []) refl refl,
-    cost_shown detail right c t [] refl refl,
-    cost_shown detail base c t (text (source_text name) ∷ []) refl refl,
-    ap length (text_shown detail left c t (text (source_text name) ∷ []) refl refl ∙ alone_shown detail (source_text name) (source-unmarked name plain)),
-  );
-}
+unfolding parts_in base_parts piece_parts
+source-class internal name filled plain =
+    let t = alone (source internal name) in
+    let b = source_text name in
+    base-names t b b (as-name t b false (source-prints internal name filled plain)) (λ c. refl) (λ c. refl) (source-unmarked name plain)
 
 -- a source name as a piece
 pub piece-text : (d : Detail) (c : Context) (internal : Bool) (name : List ℕ) → IsUnmarked name → text_of (written_of d piece c (source internal name)) ≡ source_text name
@@ -227,9 +234,7 @@ operator-names {detail} a b =
 pub operator-prints : {detail : Detail} (a b : ℕ) → is_angle a b ≡ false → Prints detail (alone (operator a b)) (operator_text a b) false
 unfolding parts_in left_parts right_parts piece_parts not_empty is_open pack_length last_piece opening_text besides
 operator-prints {detail} a b plain =
-    let t = alone (operator a b) in
-    let n = operator-names a b in
-    own-prints t (operator_text a b) n refl (λ scope. refl) (rw plain refl) (λ c. refl)
+    own-prints (alone (operator a b)) (operator_text a b) (operator-names a b) refl (λ scope. refl) (rw plain refl) (λ c. refl)
 
 -- The same in std.
 pub std-operator-names : {detail : Detail} (a b : ℕ) → PrintsName detail (in_std (operator a b)) (codes "std::" ++ operator_text a b)
@@ -240,26 +245,15 @@ std-operator-names {detail} a b =
 pub std-operator-prints : {detail : Detail} (a b : ℕ) → is_angle a b ≡ false → Prints detail (in_std (operator a b)) (codes "std::" ++ operator_text a b) false
 unfolding parts_in left_parts right_parts piece_parts not_empty is_open pack_length last_piece opening_text besides
 std-operator-prints {detail} a b plain =
-    let t = in_std (operator a b) in
-    let n = std-operator-names a b in
-    own-prints t (codes "std::" ++ operator_text a b) n refl (λ scope. refl) (rw plain refl) (λ c. refl)
+    own-prints (in_std (operator a b)) (codes "std::" ++ operator_text a b) (std-operator-names a b) refl (λ scope. refl) (rw plain refl) (λ c. refl)
 
 -- It names its class without std.
 pub std-class : {detail : Detail} (internal : Bool) (name : List ℕ) → name ≢ [] → IsUnmarked name → NamesClass detail (in_std (source internal name)) (source_text name)
-unfolding parts_in right_parts base_parts piece_parts not_empty
-std-class {detail} internal name filled plain = let t = in_std (source internal name) in record {
-  base_text = λ c. text_shown detail base c t (text (source_text name) ∷ []) refl refl ∙ alone_shown detail (source_text name) (source-unmarked name plain);
-  base_cost = λ c. omega (
-    arith,
-    source-filled name filled,
-    first_cost_shown detail (source_text name) [],
-    std-cost detail c (source internal name) (source_text name) (piece-cost detail c internal name),
-    cost_shown detail right c t [] refl refl,
-    cost_shown detail base c t (text (source_text name) ∷ []) refl refl,
-    ap length (std-left detail c (source internal name) (source_text name) (piece-text detail c internal name plain)),
-    length-append (codes "std::") (source_text name),
-  );
-}
+unfolding parts_in base_parts piece_parts
+std-class internal name filled plain =
+    let t = in_std (source internal name) in
+    let b = codes "std::" ++ source_text name in
+    base-names t b (source_text name) (as-name t b false (std-prints internal name filled plain)) (λ c. refl) (λ c. refl) (source-unmarked name plain)
 
 -- An abbreviation prints its text.
 pub abbreviation-prints : {detail : Detail} (letter : ℕ) → look_up (letter ∷ []) abbreviation_texts ≢ []
@@ -270,6 +264,15 @@ abbreviation-prints {detail} letter filled =
     let b = look_up (letter ∷ []) abbreviation_texts in
     own-prints t (look_up (letter ∷ []) abbreviation_texts)
     (one-text-names t b (λ c. refl) (λ c. refl) (λ c. refl) (abbreviation-unmarked (letter ∷ [])) (length-filled b filled)) refl (λ scope. refl) refl (λ c. refl)
+
+-- It names its class by what follows `std::`.
+pub abbreviation-class : {detail : Detail} (letter : ℕ) → look_up (letter ∷ []) abbreviation_texts ≢ []
+    → IsUnmarked (drop 5 (look_up (letter ∷ []) abbreviation_texts))
+    → NamesClass detail (abbreviation letter) (drop 5 (look_up (letter ∷ []) abbreviation_texts))
+unfolding parts_in base_parts
+abbreviation-class letter there plain =
+    let b = look_up (letter ∷ []) abbreviation_texts in
+    base-names (abbreviation letter) b (drop 5 b) (as-name (abbreviation letter) b false (abbreviation-prints letter there)) (λ c. refl) (λ c. refl) plain
 
 void-text : (letter : ℕ) → letter ≡ 118 → look_up (letter ∷ []) builtin_texts ≡ codes "void"
 unfolding look_up builtin_texts same_bytes
@@ -399,8 +402,7 @@ plain-integer-prints {detail} letter plain n filled digits_plain =
         part-cost detail ending,
         cost_shown detail right c i [] refl refl,
         length-filled n.digits filled,
-        length-append (sign_text n ++ n.digits) ending,
-        length-append (sign_text n) n.digits,
+        length-append {A = ℕ},
       );
     }) refl (λ scope. refl) refl (λ c. refl)
 

@@ -8,15 +8,14 @@ use Rattle.cpp_grammar.specs.Term.{Term, within, instance, source, operator, con
 use Rattle.cpp_grammar.specs.Scope.{is_open, pack_length, length_if_pack, first_of, is_structor, without_tags}
 use Rattle.cpp_grammar.specs.References.{is_function_type}
 use Rattle.cpp_grammar.specs.Texts.{look_up, operator_texts}
-use Rattle.cpp_grammar.specs.Items.{left, right, base, piece, first, Context}
+use Rattle.cpp_grammar.specs.Items.{Form, left, right, base, piece, first, Context}
 use Rattle.cpp_grammar.specs.Parts.{as_item, says, list_part, source_text, prefix_item, last_piece, opening_text, own_piece, piece_parts, within_parts, base_within, base_tagged, instance_parts, left_parts, right_parts, base_parts, parts_in, not_empty, is_plain_integer}
 use Rattle.cpp_direct.specs.Names.{is_angle, operator_text, tag_text}
-use Rattle.cpp_direct.specs.Prints.{written_of, Prints, PrintsIn, PrintsAs, Names, PrintsName, NamesClass, PrintAll, PrintAllIn, PrintAllAs}
+use Rattle.cpp_direct.specs.Prints.{written_of, Prints, PrintsIn, PrintsAs, Names, PrintsName, NamesClass, PrintAll, PrintAllIn, PrintAllAs, IsUnmarked, opening_byte, closing_byte, opening_bracket, closing_bracket, written_instance}
 use Rattle.cpp_direct.specs.WriterInvariant.{IsTail, list_with}
-use Rattle.cpp_direct.proofs.PrintedParts.{printed_by, shown_by, text_shown, cost_shown, alone_shown, first_cost_shown, writes_parts, text-append, cost-append, list-unmarked, first_shown}
-use Rattle.cpp_direct.specs.WrittenParts.{IsUnmarked, opening_byte, closing_byte, opening_bracket, closing_bracket, written_instance}
+use Rattle.cpp_direct.proofs.PrintedParts.{printed_by, shown_by, text_shown, cost_shown, first_cost_shown, writes_parts, text-append, cost-append, list-unmarked, first_shown}
 use Rattle.cpp_direct.proofs.Unmarked.{source-unmarked, operator-unmarked}
-use Rattle.cpp_direct.proofs.PrintedNames.{besides, own-in, own-prints, source-filled, piece-text, piece-cost, operator-text, operator-cost, std-prints}
+use Rattle.cpp_direct.proofs.PrintedNames.{besides, own-in, own-prints, source-filled, piece-text, piece-cost, operator-text, operator-cost, std-prints, as-name, base-names}
 use Rattle.cpp_direct.proofs.PrintedLists.{list-text-before, list-cost-before, list-closed, list-packless, list-packless-as, all-in, all-as-in}
 use Rattle.cpp_direct.proofs.PrintedTypes.{prints-in, made-prints, made-given}
 use Rattle.cpp_grammar.specs.Between.{with_tag}
@@ -82,25 +81,25 @@ pub operator-opening : (a b : ℕ) → is_angle a b ≡ false → opening_text (
 unfolding opening_text
 operator-opening a b plain = rw plain refl
 
-within-is : {detail : Detail} (c : Context) (t p : Term) (x : List ℕ) → IsPiece detail p x → prefix_item c t ≡ as_item left c t
-    → within_parts c t p ≡ as_item left c t ∷ says "::" ∷ as_item piece c p ∷ []
-within-is c t p x is e = is.within_is c t ∙ ap (λ i. i ∷ says "::" ∷ as_item piece c p ∷ []) e
-
-within-text : {detail : Detail} (c : Context) (t : Term) (b : List ℕ) → text_of (written_of detail left c t) ≡ b → prefix_item c t ≡ as_item left c t
-    → (p : Term) (x : List ℕ) → IsPiece detail p x → text_of (written_of detail left c (within t p)) ≡ b ++ codes "::" ++ x
+-- what is written of a piece within something that is written in some form
+pub within-text : (detail : Detail) (c : Context) (form : Form) (context : Context) (t : Term) (b : List ℕ) → text_of (written_of detail form context t) ≡ b
+    → prefix_item c t ≡ as_item form context t → (p : Term) (x : List ℕ) → within_parts c t p ≡ prefix_item c t ∷ says "::" ∷ as_item piece c p ∷ []
+    → text_of (written_of detail piece c p) ≡ x → text_of (written_of detail left c (within t p)) ≡ b ++ codes "::" ++ x
 unfolding parts_in left_parts not_empty
-within-text {detail} c t b text_is prefix p x is =
-    text_shown detail left c (within t p) (as_item left c t ∷ says "::" ∷ as_item piece c p ∷ []) (within-is c t p x is prefix) refl
-    ∙ joins (text_of (written_of detail left c t)) (codes "::") (text_of (written_of detail piece c p)) b x text_is (is.piece_text c)
+within-text detail c form context t b text_is prefix p x component piece_is =
+    text_shown detail left c (within t p) (as_item form context t ∷ says "::" ∷ as_item piece c p ∷ [])
+    (component ∙ ap (λ i. i ∷ says "::" ∷ as_item piece c p ∷ []) prefix) refl
+    ∙ joins (text_of (written_of detail form context t)) (codes "::") (text_of (written_of detail piece c p)) b x text_is piece_is
 
-within-cost : {detail : Detail} (c : Context) (t : Term) → prefix_item c t ≡ as_item left c t → (p : Term) (x : List ℕ) → IsPiece detail p x
-    → cost_of (written_of detail left c (within t p)) ≡ cost_of (written_of detail left c t) + 4 + length x
+pub within-cost : (detail : Detail) (c : Context) (form : Form) (context : Context) (t : Term) → prefix_item c t ≡ as_item form context t
+    → (p : Term) → within_parts c t p ≡ prefix_item c t ∷ says "::" ∷ as_item piece c p ∷ []
+    → cost_of (written_of detail left c (within t p)) ≡ cost_of (written_of detail form context t) + 3 + cost_of (written_of detail piece c p)
 unfolding parts_in left_parts not_empty
-within-cost {detail} c t prefix p x is =
+within-cost detail c form context t prefix p component =
     omega (
       arith,
-      cost_shown detail left c (within t p) (as_item left c t ∷ says "::" ∷ as_item piece c p ∷ []) (within-is c t p x is prefix) refl,
-      is.piece_cost c,
+      cost_shown detail left c (within t p) (as_item form context t ∷ says "::" ∷ as_item piece c p ∷ [])
+          (component ∙ ap (λ i. i ∷ says "::" ∷ as_item piece c p ∷ []) prefix) refl,
     )
 
 -- A piece in a class or a namespace prints both in a context,
@@ -109,15 +108,15 @@ within-in : {detail : Detail} (c : Context) (extra : ℕ) (t : Term) (b : List �
 unfolding parts_in right_parts not_empty besides
 within-in {detail} c extra t b prints prefix p x is =
     let w = within t p in
-    own-in c extra w (b ++ codes "::" ++ x) (within-text c t b prints.left_text prefix p x is)
+    own-in c extra w (b ++ codes "::" ++ x) (within-text detail c left c t b prints.left_text prefix p x (is.within_is c t) (is.piece_text c))
     (omega (
       arith,
       prints.cost,
-      within-cost c t prefix p x is,
+      within-cost detail c left c t prefix p (is.within_is c t),
+      is.piece_cost c,
       cost_shown detail right c w [] refl refl,
       is.filled,
-      length-append (b ++ codes "::") x,
-      length-append b (codes "::"),
+      length-append {A = ℕ},
     )) (omega (arith, length-append (b ++ codes "::") x, length-append b (codes "::"))) refl
 
 -- and names something by them.
@@ -148,22 +147,9 @@ within-as detail names true t b prints p x is opening =
 -- It names its class without what it is in.
 pub within-class : {detail : Detail} (t : Term) (b : List ℕ) → Prints detail t b false → (p : Term) (x : List ℕ) → IsPiece detail p x
     → NamesClass detail (within t p) x
-unfolding parts_in right_parts base_parts not_empty
-within-class {detail} t b prints p x is = let w = within t p in record {
-  base_text = λ c. text_shown detail base c w (text x ∷ []) (is.base_is c t) refl ∙ alone_shown detail x is.plain;
-  base_cost = λ c. omega (
-    arith,
-    prints.cost c,
-    within-cost c t (prints.as_prefix c) p x is,
-    cost_shown detail right c w [] refl refl,
-    is.filled,
-    cost_shown detail base c w (text x ∷ []) (is.base_is c t) refl,
-    first_cost_shown detail x [],
-    ap length (within-text c t b (prints.left_text c) (prints.as_prefix c) p x is),
-    length-append (b ++ codes "::") x,
-    length-append b (codes "::"),
-  );
-}
+unfolding parts_in base_parts
+within-class t b prints p x is =
+    base-names (within t p) (b ++ codes "::" ++ x) x (within-names t b prints p x is) (λ c. is.base_is c t) (λ c. refl) is.plain
 
 -- ## Constructors and destructors
 
@@ -182,8 +168,7 @@ constructor-prints {detail} t b class p n digit =
         ap length (p.left_text c),
         cost_shown detail right c w [] refl refl,
         cost_shown detail left c w (as_item left c t ∷ says "::" ∷ as_item base c t ∷ []) refl refl,
-        length-append (b ++ codes "::") class,
-        length-append b (codes "::"),
+        length-append {A = ℕ},
       );
     }) (rw p.is_closed refl) (λ scope. rw (p.packless scope) refl) refl (λ c. refl)
 
@@ -202,8 +187,7 @@ destructor-prints {detail} t b class p n digit =
         ap length (p.left_text c),
         cost_shown detail right c w [] refl refl,
         cost_shown detail left c w (as_item left c t ∷ says "::~" ∷ as_item base c t ∷ []) refl refl,
-        length-append (b ++ codes "::~") class,
-        length-append b (codes "::~"),
+        length-append {A = ℕ},
       );
     }) (rw p.is_closed refl) (λ scope. rw (p.packless scope) refl) refl (λ c. refl)
 
@@ -270,16 +254,8 @@ instance-in {detail} c extra t b p opening ts tail l is all =
       p.cost,
       instance-cost detail c t opening ts tail l is all,
       cost_shown detail right c i [] refl refl,
-      length-append (b ++ opening_bracket detail ++ l) (closing_bracket detail),
-      length-append (b ++ opening_bracket detail) l,
-      length-append b (opening_bracket detail),
-    )) (omega (
-      arith,
-      p.some,
-      length-append (b ++ opening_bracket detail ++ l) (closing_bracket detail),
-      length-append (b ++ opening_bracket detail) l,
-      length-append b (opening_bracket detail),
-    )) refl
+      length-append {A = ℕ},
+    )) (omega (arith, p.some, length-append {A = ℕ})) refl
 
 -- anywhere,
 pub instance-prints : {detail : Detail} (t : Term) (b : List ℕ) → Prints detail t b false
@@ -319,9 +295,7 @@ instance-class {detail} t b class p n ts tail l is all = let i = instance t (lis
     cost_shown detail right c i [] refl refl,
     cost_shown detail base c i (as_item base c t ∷ []) refl refl,
     ap length (instance-text detail c t b (p.left_text c) p.opening ts tail l is (all-in detail c 3 ts l all)),
-    length-append (b ++ opening_bracket detail ++ l) (closing_bracket detail),
-    length-append (b ++ opening_bracket detail) l,
-    length-append b (opening_bracket detail),
+    length-append {A = ℕ},
   );
 }
 
@@ -377,7 +351,6 @@ tagged-names {detail} of_structor t b p tag plain = record {
 }
 
 -- A type with one does so,
-
 pub tagged-prints : {detail : Detail} (of_structor : Bool) (t : Term) (b : List ℕ) → Prints detail t b false → (tag : List ℕ) → IsUnmarked tag
     → Prints detail (tagged of_structor t tag) (b ++ tag_text tag) false
 unfolding parts_in left_parts right_parts piece_parts not_empty is_open pack_length last_piece opening_text besides
@@ -399,86 +372,67 @@ tagged-as detail names true of_structor t b p tag plain =
     (omega (arith, (p.prints c given).some, length-append b (tag_text tag))) refl)
     p.packless refl refl (λ c. refl) refl
 
--- Where its class has this text at the base it names its class so.
-names-by : {detail : Detail} (of_structor : Bool) (t : Term) (b : List ℕ) → Prints detail t b false → (tag class : List ℕ) → IsUnmarked tag
-    → ((c : Context) → text_of (written_of detail base c (tagged of_structor t tag)) ≡ class)
-    → ((c : Context) → cost_of (written_of detail base c (tagged of_structor t tag)) ≤ 8 + 4 * length class)
-    → NamesClass detail (tagged of_structor t tag) class
-unfolding parts_in right_parts not_empty
-names-by {detail} of_structor t b p tag class plain base_text base_cost = record {
-  base_text = base_text;
-  base_cost = λ c. omega (
-    arith,
-    p.cost c,
-    base_cost c,
-    tagged-cost detail of_structor t tag c,
-    cost_shown detail right c (tagged of_structor t tag) [] refl refl,
-    ap length (tagged-left detail of_structor t b tag plain c (p.left_text c)),
-    tag-length b tag,
-  );
-}
-
 -- one in another name
 pub within-tagged : {detail : Detail} (t : Term) (b : List ℕ) → Prints detail t b false → (p : Term) (x : List ℕ) → IsPiece detail p x
-    → opening_text p ≡ codes "<" → (tag : List ℕ) → IsUnmarked tag
-    → NamesClass detail (with_tag (within t p) tag) x
+    → (tag : List ℕ) → IsUnmarked tag → NamesClass detail (with_tag (within t p) tag) x
 unfolding with_tag parts_in base_parts base_tagged not_empty
-within-tagged {detail} t b prints p x is opening tag plain =
+within-tagged t b prints p x is tag plain =
     let own : Term = within t p in
-    names-by (is_structor own) own (b ++ codes "::" ++ x) (within-prints t b prints p x is opening) tag x plain
-    (λ c. text_shown detail base c (tagged (is_structor own) own tag) (text x ∷ []) (is.tagged_is c t) refl ∙ alone_shown detail x is.plain)
-    (λ c. omega (arith, cost_shown detail base c (tagged (is_structor own) own tag) (text x ∷ []) (is.tagged_is c t) refl, first_cost_shown detail x []))
+    let bytes = b ++ codes "::" ++ x in
+    base-names (with_tag own tag) (bytes ++ tag_text tag) x (tagged-names (is_structor own) own bytes (within-names t b prints p x is) tag plain)
+    (λ c. is.tagged_is c t) (λ c. refl) is.plain
 
 -- one in std
 pub std-tagged : {detail : Detail} (internal : Bool) (name : List ℕ) → name ≢ [] → IsUnmarked name → (tag : List ℕ) → IsUnmarked tag
     → NamesClass detail (with_tag (in_std (source internal name)) tag) (source_text name)
 unfolding with_tag parts_in base_parts base_tagged own_piece without_tags is_structor piece_parts not_empty
-std-tagged {detail} internal name filled plain tag tag_plain =
+std-tagged internal name filled plain tag tag_plain =
     let own : Term = in_std (source internal name) in
-    names-by (is_structor own) own (codes "std::" ++ source_text name) (std-prints internal name filled plain) tag (source_text name) tag_plain
-    (λ c. text_shown detail base c (tagged (is_structor own) own tag) (text (source_text name) ∷ []) refl refl ∙ alone_shown detail (source_text name) (source-unmarked name plain))
-    (λ c. omega (arith, cost_shown detail base c (tagged (is_structor own) own tag) (text (source_text name) ∷ []) refl refl, first_cost_shown detail (source_text name) []))
+    let b = codes "std::" ++ source_text name in
+    base-names (with_tag own tag) (b ++ tag_text tag) (source_text name)
+    (tagged-names (is_structor own) own b (as-name own b false (std-prints internal name filled plain)) tag tag_plain) (λ c. refl) (λ c. refl) (source-unmarked name plain)
 
--- one with a tag already, which names its class so
+-- one with a tag already, which names its class so, where at the base it has the same text at most at one more
+again-by : {detail : Detail} (of_structor : Bool) (t : Term) (b : List ℕ) → Prints detail t b false → (before tag class : List ℕ) → IsUnmarked before → IsUnmarked tag
+    → NamesClass detail (tagged of_structor t before) class
+    → ((c : Context) → text_of (written_of detail base c (tagged of_structor (tagged of_structor t before) tag)) ≡ text_of (written_of detail base c (tagged of_structor t before)))
+    → ((c : Context) → cost_of (written_of detail base c (tagged of_structor (tagged of_structor t before) tag)) ≤ 1 + cost_of (written_of detail base c (tagged of_structor t before)))
+    → NamesClass detail (tagged of_structor (tagged of_structor t before) tag) class
+unfolding parts_in right_parts not_empty
+again-by {detail} of_structor t b p before tag class first_plain plain n text_is cost_is =
+    let own : Term = tagged of_structor t before in
+    let prints = tagged-prints of_structor t b p before first_plain in
+    record {
+      base_text = λ c. text_is c ∙ n.base_text c;
+      base_cost = λ c. omega (
+        arith,
+        n.base_cost c,
+        cost_is c,
+        tagged-cost detail of_structor own tag c,
+        cost_shown detail right c (tagged of_structor own tag) [] refl refl,
+        cost_shown detail right c own [] refl refl,
+        ap length (tagged-left detail of_structor own (b ++ tag_text before) tag plain c (prints.left_text c)),
+        ap length (prints.left_text c),
+        tag-length (b ++ tag_text before) tag,
+      );
+    }
+
 pub again-tagged : {detail : Detail} (of_structor : Bool) (t : Term) (b : List ℕ) → Prints detail t b false → (before tag class : List ℕ) → IsUnmarked before → IsUnmarked tag
     → NamesClass detail (tagged of_structor t before) class
     → NamesClass detail (with_tag (tagged of_structor t before) tag) class
-unfolding with_tag parts_in right_parts base_parts base_tagged without_tags is_structor not_empty
+unfolding with_tag parts_in base_parts base_tagged without_tags is_structor not_empty
 again-tagged {detail} true t b p before tag class first_plain plain n =
     let own : Term = tagged true t before in
-    let all : Term = tagged true own tag in
-    let prints = tagged-prints true t b p before first_plain in
-    record {
-      base_text = λ c. text_shown detail base c all (as_item base c own ∷ []) refl refl ∙ append-nil (text_of (written_of detail base c own)) ∙ n.base_text c;
-      base_cost = λ c. omega (
-        arith,
-        n.base_cost c,
-        tagged-cost detail true own tag c,
-        cost_shown detail right c all [] refl refl,
-        cost_shown detail right c own [] refl refl,
-        cost_shown detail base c all (as_item base c own ∷ []) refl refl,
-        ap length (tagged-left detail true own (b ++ tag_text before) tag plain c (prints.left_text c)),
-        ap length (prints.left_text c),
-        tag-length (b ++ tag_text before) tag,
-      );
-    }
+    again-by true t b p before tag class first_plain plain n
+    (λ c. text_shown detail base c (tagged true own tag) (as_item base c own ∷ []) refl refl ∙ append-nil (text_of (written_of detail base c own)))
+    (λ c. omega (arith, cost_shown detail base c (tagged true own tag) (as_item base c own ∷ []) refl refl))
 again-tagged {detail} false t b p before tag class first_plain plain n =
     let own : Term = tagged false t before in
-    let all : Term = tagged false own tag in
-    let prints = tagged-prints false t b p before first_plain in
-    record {
-      base_text = λ c. text_shown detail base c all (piece_parts c (own_piece (without_tags t))) refl refl
-          ∙ sym (text_shown detail base c own (piece_parts c (own_piece (without_tags t))) refl refl) ∙ n.base_text c;
-      base_cost = λ c. omega (
-        arith,
-        n.base_cost c,
-        tagged-cost detail false own tag c,
-        cost_shown detail right c all [] refl refl,
-        cost_shown detail right c own [] refl refl,
-        cost_shown detail base c all (piece_parts c (own_piece (without_tags t))) refl refl,
-        cost_shown detail base c own (piece_parts c (own_piece (without_tags t))) refl refl,
-        ap length (tagged-left detail false own (b ++ tag_text before) tag plain c (prints.left_text c)),
-        ap length (prints.left_text c),
-        tag-length (b ++ tag_text before) tag,
-      );
-    }
+    again-by false t b p before tag class first_plain plain n
+    (λ c. text_shown detail base c (tagged false own tag) (piece_parts c (own_piece (without_tags t))) refl refl
+    ∙ sym (text_shown detail base c own (piece_parts c (own_piece (without_tags t))) refl refl))
+    (λ c. omega (
+      arith,
+      cost_shown detail base c (tagged false own tag) (piece_parts c (own_piece (without_tags t))) refl refl,
+      cost_shown detail base c own (piece_parts c (own_piece (without_tags t))) refl refl,
+    ))

@@ -4,9 +4,9 @@ use Rattle.sym_print.specs.declared.detail.Detail.{Detail}
 use Rattle.sym_print.specs.Details.{has_arguments, has_parameters}
 use Rattle.sym_print.specs.Unfold.{text}
 use Rattle.sym_print.specs.Unshared.{text_of, cost_of}
-use Rattle.cpp_grammar.specs.Term.{Qualifiers, RefQualifier, non_virtual, by_table, Thunk, adjusting, covariant, Term, symbol, function, object, special, thunk, clone, builtin, nil, list, absent}
+use Rattle.cpp_grammar.specs.Term.{Qualifiers, RefQualifier, non_virtual, by_table, Thunk, adjusting, covariant, Term, symbol, function, object, special, of_name, thunk, clone, builtin, nil, list, absent}
 use Rattle.cpp_grammar.specs.Scope.{has_return_type}
-use Rattle.cpp_grammar.specs.Texts.{look_up, special_texts}
+use Rattle.cpp_grammar.specs.Texts.{look_up, same_bytes, special_texts, named_special_texts}
 use Rattle.cpp_grammar.specs.Items.{root, full, left, right, first, Context, closed}
 use Rattle.cpp_grammar.specs.Values.{Value, tree_of, qualifiers_of, ref_of}
 use Rattle.cpp_grammar.specs.Meaning.{is_void, is_nil, parameters, encoding_of}
@@ -14,10 +14,9 @@ use Rattle.cpp_grammar.specs.Parts.{as_item, says, text_part, list_part, types_o
 use Rattle.cpp_grammar.specs.Answer.{shown, root_item}
 use Rattle.cpp_direct.specs.declared.open.Mark.{Mark}
 use Rattle.cpp_direct.specs.Marks.{has_const, called_on}
-use Rattle.cpp_direct.specs.Prints.{written_of, PrintsName, PrintsIn, IsElement, Shows, list_of, joined, PrintEachIn, PrintAllIn}
+use Rattle.cpp_direct.specs.Prints.{written_of, PrintsName, PrintsIn, IsElement, Shows, list_of, joined, PrintEachIn, PrintAllIn, IsUnmarked, written, written_in, unmarked_parts}
 use Rattle.cpp_direct.specs.WriterInvariant.{qualifiers, list_with, plain_encoding, IsNamedSo}
 use Rattle.std.proofs.lemmas.Bool.{false≢true}
-use Rattle.cpp_direct.specs.WrittenParts.{IsUnmarked, written, written_in, unmarked_parts}
 use Rattle.cpp_direct.proofs.Unmarked.{length-unmarked, qualifiers-unmarked, special-unmarked, thunk-unmarked, unmarked-same}
 use Rattle.cpp_direct.proofs.PrintedParts.{shown_by, text_shown, cost_shown, first_shown, first_cost_shown, text_append, cost_append, part-text, part-cost, length-filled}
 use Rattle.cpp_direct.proofs.PrintedLists.{PrintsItems, list-in, none-print-in}
@@ -58,10 +57,7 @@ function-shows {detail} shown name b p items l all q ref =
         cost_shown detail full closed f (front ++ behind) is refl,
         cost_append detail front behind,
         part-cost detail (encoding_text q ref),
-        length-append (b ++ codes "(" ++ l ++ codes ")") (encoding_text q ref),
-        length-append (b ++ codes "(" ++ l) (codes ")"),
-        length-append (b ++ codes "(") l,
-        length-append b (codes "("),
+        length-append {A = ℕ},
       );
     }
 
@@ -110,8 +106,7 @@ front-shows {detail} shown name q ref items l shows r b is_reference p =
         cost_shown detail full closed plain middle plain_is refl,
         cost_append detail (front ++ middle) behind,
         cost_append detail front middle,
-        length-append (b ++ codes " ") l,
-        length-append b (codes " "),
+        length-append {A = ℕ},
       );
     }
 
@@ -202,6 +197,26 @@ unfolding parts_in full_parts not_empty clone_text
 clone-shows d letter e b p =
     led-shows d (clone letter e) (clone_text letter) e b refl refl (clone-plain (nat_eq letter 116)) (clone-filled (nat_eq letter 116)) p
 
+-- A guard variable prints what it is, and the object that it guards.
+pub guarded-shows : (d : Detail) (name : Term) (q : Qualifiers) (ref : RefQualifier) (b : List ℕ) → Shows d (object name q ref) b
+    → Shows d (of_name 86 name q ref) (codes "guard variable for " ++ b)
+unfolding look_up same_bytes named_special_texts parts_in full_parts not_empty
+guarded-shows d name q ref b p =
+    let k : List ℕ = codes "guard variable for " in
+    let ps = as_item left closed name ∷ text_part (encoding_text q ref) in
+    record {
+      shown_text = text_shown d full closed (of_name 86 name q ref) (text k ∷ ps) refl refl ∙ first_shown d k ps refl
+          ∙ ap (λ s. k ++ s) (sym (text_shown d full closed (object name q ref) ps refl refl) ∙ p.shown_text);
+      shown_cost = omega (
+        arith,
+        p.shown_cost,
+        cost_shown d full closed (of_name 86 name q ref) (text k ∷ ps) refl refl,
+        cost_shown d full closed (object name q ref) ps refl refl,
+        first_cost_shown d k ps,
+        length-append k b,
+      );
+    }
+
 -- ## Which encoding a name and its items make
 
 parameters-same : (element rest : Term) → (is_void element ≡ true → is_nil rest ≡ true → ⊥) → parameters (list element rest) ≡ list element rest
@@ -233,25 +248,18 @@ parameters-before [] t apart = parameters-same t nil (λ e f. false≢true (sym 
 parameters-before (u ∷ []) t apart = parameters-same u (list t nil) (λ e f. cc f)
 parameters-before (u ∷ v ∷ ts) t apart = parameters-same u (list_with (v ∷ ts) (list t nil)) (λ e f. cc f)
 
-plain-items : (v : Value) → has_return_type (tree_of v) ≡ false → (t rest : Term)
-    → encoding_of v (list t rest) ≡ function (tree_of v) (qualifiers_of v) (ref_of v) absent (parameters (list t rest))
-unfolding encoding_of
-plain-items v e t rest = rw (e, encoding_of) refl
-
-returned-items : (v : Value) → has_return_type (tree_of v) ≡ true → (r items : Term)
-    → encoding_of v (list r items) ≡ function (tree_of v) (qualifiers_of v) (ref_of v) r (parameters items)
-unfolding encoding_of
-returned-items v e r items = rw (e, encoding_of) refl
-
 -- A name that has no return type makes a function without one of its items.
 pub encoding-plain : (v : Value) (mark : Mark) (own : Term) → IsNamedSo v own mark → has_return_type own ≡ false → (t rest : Term) → encoding_of v (list t rest) ≡ plain_encoding mark own (list t rest)
-encoding-plain v mark own is none t rest = plain-items v (ap has_return_type is.tree_is ∙ none) t rest ∙ rw (is.tree_is, is.qualifiers_are, is.mark_is) refl
+unfolding encoding_of
+encoding-plain v mark own is none t rest =
+    rw (ap has_return_type is.tree_is ∙ none, encoding_of) (rw (is.tree_is, is.qualifiers_are, is.mark_is) refl)
 
 -- Of a name that has one the first item is the return type.
 pub encoding-returned : (v : Value) (mark : Mark) (own : Term) → IsNamedSo v own mark → has_return_type own ≡ true → (r items : Term)
     → encoding_of v (list r items) ≡ function own (qualifiers (has_const mark)) (called_on mark) r (parameters items)
+unfolding encoding_of
 encoding-returned v mark own is returns r items =
-    returned-items v (ap has_return_type is.tree_is ∙ returns) r items ∙ rw (is.tree_is, is.qualifiers_are, is.mark_is) refl
+    rw (ap has_return_type is.tree_is ∙ returns, encoding_of) (rw (is.tree_is, is.qualifiers_are, is.mark_is) refl)
 
 -- Parameters that aren't a lone void are those of the function that they make, with some return type or none.
 pub made-with : (own returned : Term) (mark : Mark) (make : Term → Term)
@@ -324,7 +332,5 @@ suffix-cost d e b s c rest =
       s.shown_cost,
       cost_shown d root closed (symbol e (c ∷ rest)) (as_item full closed e ∷ says " (" ∷ text (c ∷ rest) ∷ says ")" ∷ []) refl refl,
       length-unmarked (has_arguments d) rest,
-      length-append (b ++ codes " (" ++ (c ∷ rest)) (codes ")"),
-      length-append (b ++ codes " (") (c ∷ rest),
-      length-append b (codes " ("),
+      length-append {A = ℕ},
     )

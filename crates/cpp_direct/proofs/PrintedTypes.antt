@@ -1,12 +1,10 @@
 -- Types that are made of another type: pointers, references and constant types, and parameters that name one.
 use Rattle.sym_print.specs.declared.detail.Detail.{Detail}
 use Prim.Native.String.{String}
-use Rattle.std.proofs.lemmas.Bool.{false≢true}
 use Rattle.sym_print.specs.Details.{has_arguments}
 use Rattle.sym_print.specs.Unfold.{text}
-use Rattle.cpp_direct.specs.WrittenParts.{IsUnmarked, unmarked_parts, written_in}
 use Rattle.cpp_direct.proofs.PrintedParts.{text_shown, cost_shown, alone_shown, first_cost_shown}
-use Rattle.cpp_direct.specs.Prints.{Prints, PrintsIn, PrintsGiven, PrintsAs, Named, Names, IsGiven, AreSingle, EndsAsInteger, written_of}
+use Rattle.cpp_direct.specs.Prints.{Prints, PrintsIn, PrintsGiven, PrintsAs, Named, Names, IsGiven, AreSingle, EndsAsInteger, written_of, IsUnmarked, unmarked_parts, written_in}
 use Rattle.cpp_grammar.specs.Items.{closed, Form, left, right, low, Context, Head, lref, collapsed, head_with, head, is_reference, is_funarr, is_empty, argument, head_closed, indexed}
 use Rattle.cpp_grammar.specs.Meaning.{is_void}
 use Rattle.cpp_grammar.specs.Parts.{as_item, says, text_part, qualifier_text, prefix_item, last_piece, opening_text, marked_parts, reference_parts, qualified_left, qualified_right, closing_right, left_parts, right_parts, parts_in, not_empty, is_plain_integer, types_of}
@@ -140,7 +138,7 @@ marked-in {detail} c extra t made mark b r q p m reference_is no_function_head f
   is_funarr_head = no_function_head;
   filled = filled;
   no_function = no_function;
-  void = λ e. absurd (false≢true (sym no_void ∙ e));
+  void = λ e. cc (sym no_void ∙ e);
   some = omega (arith, m.some, length-append b mark);
 }
 
@@ -161,7 +159,7 @@ marked-as detail names is_dependent t made mark b r q marks heads filled no_func
     go : (d : Bool) → PrintsAs detail names d t b r → PrintsAs detail names d made (b ++ mark) q
     go false p =
         made-prints made (b ++ mark) q (λ c. marked_in c 0 (prints-in c 0 t b r p)) (open_is ∙ p.is_closed) (λ arguments. packs_are arguments ∙ p.packless arguments)
-        no_pack as_prefix opening (λ e. absurd (false≢true (sym no_integer ∙ e)))
+        no_pack as_prefix opening (λ e. cc (sym no_integer ∙ e))
         (λ e c. let m = marks c 0 (prints-in c 0 t b r p) in omega (arith, p.cost c, m.some, length-append b mark, marked-cost c t made mark m))
     go true p =
         made-given names made (b ++ mark) q (λ c given. marked_in c 3 (p.prints c given)) (λ arguments single. packs_are arguments ∙ p.packless arguments single)

@@ -8,20 +8,15 @@ use Rattle.cpp_grammar.specs.Values.{Around, tree, tree_of, qualifiers_of, ref_o
 use Rattle.cpp_grammar.specs.Values as values
 use Rattle.cpp_grammar.specs.Between.{inside}
 use Rattle.cpp_grammar.specs.Parts.{types_of}
-use Rattle.cpp_direct.specs.declared.open.Mark.{Mark}
 use Rattle.cpp_direct.specs.declared.open.Mark.TheVariants as marks
-use Rattle.cpp_direct.specs.declared.open.Open.{Open}
-use Rattle.cpp_direct.specs.declared.open.Open.TheVariants as opens
-use Rattle.cpp_direct.specs.declared.open.Argument.{Argument}
-use Rattle.cpp_direct.specs.declared.open.Arguments.{Arguments}
 use Rattle.cpp_direct.specs.Marks.{called_on, has_const}
-use Rattle.cpp_direct.specs.WriterInvariant.{nowhere, IsPackOf, IsAmong, AreAmong, HasArguments, HasScope, IsScoped, Scope, argument_of, list_with, place_of, IsNamedSo, qualifiers, HasParameters, IsOwnName}
-use Rattle.cpp_direct.specs.MidStep.{AreKnown, HasNameSo}
+use Rattle.cpp_direct.specs.WriterInvariant.{HasNameSo, nowhere, IsPackOf, IsAmong, AreAmong, HasArguments, HasScope, IsScoped, Scope, argument_of, arguments_in, is_within_type, list_with, place_of, IsNamedSo, qualifiers, HasParameters, IsOwnName}
+use Rattle.cpp_direct.specs.MidStep.{AreKnown}
 use Rattle.cpp_direct.proofs.Kept.{none-known, placed-stays}
 use Rattle.cpp_direct.specs.Prints.{PrintAllIn, PrintsName}
-use Rattle.cpp_direct.specs.Symbol.{Symbol, detail_of}
-
 -- trees stay at their places where more is written
+use Rattle.cpp_direct.specs.WriterTypes.{Argument, Arguments, Mark, Open, Symbol, detail_of}
+
 one-stays : {detail : Detail} (text more : List ℕ) (p : Argument) (k : ℕ) (ts : List Term) → IsAmong detail text p k ts → IsAmong detail (text ++ more) p k ts
 one-stays text more p k ts h = record {
   bytes = h.bytes;
@@ -109,28 +104,13 @@ parameters-as s text new more mark start a p grown elements = record {
   fronts = p.fronts;
 }
 
-scoped-by : (scope : Scope) (around : Around) (p q : Arguments) → q ≡ p → scope.arguments ≡ p → HasScope p around
-    → (scope.arguments ≡ q) × HasScope q around
-scoped-by scope around p q e named h = (named ∙ sym e, subst (λ (k : Arguments). HasScope k around) (sym e) h)
-
--- a parameter of a function may name its arguments
-pub parameters-scoped : (scope : Scope) (around : Around) (mark : Mark) (start : ℕ) (p : Arguments) (rest : List Open) → scope.arguments ≡ p
-    → HasScope p around → IsScoped scope around (opens.Parameters mark start p ∷ rest)
-parameters-scoped scope around mark start p rest named h q e = scoped-by scope around p q (cc e) named h
-
--- and so may its return type
-pub front-scoped : (scope : Scope) (around : Around) (mark : Mark) (start : ℕ) (p : Arguments) (rest : List Open) → scope.arguments ≡ p
-    → HasScope p around → IsScoped scope around (opens.Front mark start p ∷ rest)
-front-scoped scope around mark start p rest named h q e = scoped-by scope around p q (cc e) named h
-
--- and those of a function whose address is read
-pub addressed-scoped : (scope : Scope) (around : Around) (mark : Mark) (to : ℕ) (p : Arguments) (rest : List Open) → scope.arguments ≡ p
-    → HasScope p around → IsScoped scope around (opens.Addressed mark to p ∷ rest)
-addressed-scoped scope around mark to p rest named h q e = scoped-by scope around p q (cc e) named h
-
-pub addressed-front-scoped : (scope : Scope) (around : Around) (mark : Mark) (to : ℕ) (p : Arguments) (rest : List Open) → scope.arguments ≡ p
-    → HasScope p around → IsScoped scope around (opens.AddressedFront mark to p ∷ rest)
-addressed-front-scoped scope around mark to p rest named h q e = scoped-by scope around p q (cc e) named h
+-- the types of a function may name its arguments
+pub entry-scoped : (scope : Scope) (around : Around) (entry : Open) (p : Arguments) (rest : List Open) → is_within_type entry ≡ false → arguments_in entry ≡ Some p
+    → scope.arguments ≡ p → HasScope p around → IsScoped scope around (entry ∷ rest)
+entry-scoped scope around entry p rest apart own named h q e =
+    let is : arguments_in entry ≡ Some q = subst (λ b. elim b [ true ↦ argument_of rest | false ↦ arguments_in entry ] ≡ Some q) apart e in
+    let same : p ≡ q = cc (sym own ∙ is) in
+    (named ∙ same, subst (λ (k : Arguments). HasScope k around) same h)
 
 -- which encoding is theirs says nothing of where they are
 pub arguments-named : {detail : Detail} (text : List ℕ) (place : ℕ) (a : Arguments) (name : Term) → HasArguments detail text a name

@@ -117,7 +117,8 @@ number-small (d ∷ ds) short are =
     let most : 10 ^ length (d ∷ ds) ≤ 10 ^ 19 = pow-le-pow_right (omega arith) short in
     omega (arith, below, most)
 
-tested : (place : ℕ) (ds : List ℕ) (st : State) → local_number ds < 2 ^ 64 → number_tested place ds st ≡ Ok st
+-- a number of 64 bits passes the test
+pub tested : (place : ℕ) (ds : List ℕ) (st : State) → local_number ds < 2 ^ 64 → number_tested place ds st ≡ Ok st
 unfolding number_tested
 tested place ds st small =
     subst (λ b. elim b [ true ↦ Ok st | false ↦ Err (BadValue place) ] ≡ Ok st) (sym (lt-ltb (local_number ds) (2 ^ 64) small)) refl

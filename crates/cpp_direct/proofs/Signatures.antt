@@ -1,27 +1,17 @@
 -- A writer within a function type: where it begins, after its return type, between its parameters, and after it; and within an array.
-use Rattle.std.proofs.Common.{◌≡◌, ◌≢◌, inl, inr, ℕ, ◌+◌, ◌-◌, length, List, [], ◌∷◌, ◌++◌, reverse, Bool, true, false, Option, refl, ap, sym, take, ◌∙◌, subst, arith, codes, append_assoc, append-nil, nat_eq, ◌≤◌, drop, slice_get, Some, if◌then◌else◌}
+use Rattle.std.proofs.Common.{◌≡◌, ◌≢◌, inl, inr, ℕ, ◌+◌, ◌-◌, length, List, [], ◌∷◌, ◌++◌, reverse, Bool, true, false, refl, ap, sym, take, ◌∙◌, subst, arith, codes, append_assoc, append-nil, nat_eq, ◌≤◌, drop, slice_get, Some, if◌then◌else◌}
 use Rattle.std.specs.List.{ends_with}
-use Rattle.std.specs.Option.{OnSome, IfSome}
-use Rattle.std.proofs.lemmas.Bool.{false≢true}
 use Rattle.cpp_grammar.specs.Grammar.{among}
 use Rattle.cpp_grammar.specs.Term.{Term, builtin, nil, list, pointer, array, lvalue}
 use Rattle.cpp_grammar.specs.Values.{Around, State, tree, outermost}
 use Rattle.cpp_grammar.specs.declared.kind.Kind.{Kind}
-use Rattle.cpp_direct.specs.Symbol.{detail_of, Symbol}
-use Rattle.cpp_direct.specs.declared.open.Mark.{Mark}
-use Rattle.cpp_direct.specs.declared.open.Candidate.{Candidate}
-use Rattle.cpp_direct.specs.declared.open.Open.{Open}
-use Rattle.cpp_direct.specs.declared.open.Arguments.{Arguments}
-use Rattle.cpp_direct.specs.declared.open.Step.{Step}
-use Rattle.cpp_direct.specs.declared.direct.Direct.{Direct}
+use Rattle.cpp_direct.specs.WriterTypes.{Access, Candidate, Direct, Open, Symbol, detail_of, Arguments, Mark}
 use Rattle.cpp_direct.specs.Bytes.{is_builtin}
-use Rattle.cpp_direct.specs.Holes.{Opened, StandsAt, Comes, Expects, candidate, with_candidate, IsReferable}
-use Rattle.cpp_direct.specs.HolesOfFunctions.{SignatureGoesOn, plain_function, pointed, with_pointed, reference, reference_letter, FunctionOpened}
-use Rattle.cpp_direct.specs.HolesOfTypes.{NoReference, IsQualifiable}
-use Rattle.cpp_direct.specs.Prints.{PrintAll, IsElement}
+use Rattle.cpp_direct.specs.AllHoles.{Comes, Expects, FunctionOpened, IsQualifiable, IsReferable, IsSizeAt, NoReference, Opened, SignatureGoesOn, StandsAt, access_letters, accessed, array_opening, candidate, is_marked, plain_function, pointed, reference, reference_letter, with_accessed, with_candidate, with_pointed}
+use Rattle.cpp_direct.specs.Prints.{PrintAll, IsElement, IsUnmarked}
 use Rattle.cpp_direct.specs.WriterInvariant.{below, IsScoped, AreCandidates, IsWriting, Marks, Scope, Stands, TakesFunction, opening_text, list_with}
 use Rattle.cpp_direct.specs.MidStep.{AwaitsParameter, AwaitsSignature, IsElementPassed, IsFunctionRead, IsReturned, IsArrayRead, IsElementRead, ElementOf}
-use Rattle.cpp_direct.specs.Written.{Writes, hidden, with_hidden}
+use Rattle.cpp_direct.specs.Written.{Writes, hidden, hidden_behind, with_hidden, OpensEntry}
 use Rattle.cpp_direct.proofs.Ending.{no-void}
 use Rattle.cpp_direct.proofs.Handed.{first-type, value-element}
 use Rattle.cpp_direct.proofs.Kept.{kept-grown, kept-same, kept-written, candidates-more, reverse-last, type-comes, kept-as}
@@ -31,13 +21,10 @@ use Rattle.cpp_direct.proofs.MovesOfTypes.{parameter-opens, reference-opens, sig
 use Rattle.cpp_direct.proofs.PrintedFunctions.{function-element, void-function-element, array-element}
 use Rattle.cpp_direct.proofs.PrintedLists.{list-more, none-print, none-text}
 use Rattle.cpp_direct.proofs.Scopes.{none-scoped}
-use Rattle.cpp_direct.proofs.TypesRead.{by-step, given, popped, whole-awaited}
-use Rattle.cpp_direct.specs.declared.open.Access.{Access}
-use Rattle.cpp_direct.specs.HolesOfArrays.{IsSizeAt, access_letters, accessed, array_opening, is_marked, with_accessed}
+use Rattle.cpp_direct.proofs.TypesRead.{popped, reference_entry, whole-awaited}
 use Rattle.sym_core.specs.declared.NameClass.TheVariants.{Cpp}
 use Rattle.sym_core.specs.Token.{is_name_byte}
 use Rattle.cpp_direct.specs.Names.{IsReadable}
-use Rattle.cpp_direct.specs.WrittenParts.{IsUnmarked}
 use Rattle.cpp_direct.proofs.Unmarked.{each-unmarked, name-byte}
 use Rattle.cpp_direct.proofs.NamePlaces.{all-reached, own-each}
 use Rattle.cpp_direct.proofs.PrintedNames.{normal-unmarked}
@@ -84,7 +71,7 @@ signature-begins s old new is_pointer p text candidates scope_same waits at =
       first = p.first;
       ts = [];
       none = λ e. refl;
-      some = λ e. absurd (false≢true (sym e));
+      some = λ e. cc e;
       texts = [];
       elements = none-print (detail_of s) 0;
       written = text ∙ ap (λ l. l ++ opening) p.written ∙ append_assoc p.taker.front p.first.bytes opening ∙ sym (append-nil (p.taker.front ++ (p.first.bytes ++ opening)));
@@ -94,7 +81,7 @@ signature-begins s old new is_pointer p text candidates scope_same waits at =
 -- ## Parameters
 
 -- one comes next, and the comma before it is written but for the first one
-parameter-next : (s : Symbol) (old new : Direct) (is_pointer is_first : Bool) → AwaitsSignature s old is_pointer is_first
+pub parameter-next : (s : Symbol) (old new : Direct) (is_pointer is_first : Bool) → AwaitsSignature s old is_pointer is_first
     → new.text.list.items ≡ old.text.list.items ++ comma is_first → new.candidates ≡ old.candidates → new.waiting ≡ old.waiting
     → new.has_scope ≡ old.has_scope → new.at ≡ old.at → AwaitsParameter s new is_pointer
 parameter-next s old new is_pointer is_first a text candidates waiting scope_same at =
@@ -111,13 +98,6 @@ parameter-next s old new is_pointer is_first a text candidates waiting scope_sam
           ∙ ap (λ l. led ++ l) (sym (in-front a.ts a.texts is_first a.none a.some));
       goes = subst (λ n. SignatureGoesOn s a.taker.outer a.taker.made_in is_pointer (λ l. plain_function a.first.own (list_with a.ts l)) n a.state) (sym at) a.goes;
     }
-
-pub first-next : (s : Symbol) (w : Direct) (is_pointer : Bool) → AwaitsSignature s w is_pointer true → AwaitsParameter s w is_pointer
-first-next s w is_pointer a = parameter-next s w w is_pointer true a (sym (append-nil w.text.list.items)) refl refl refl refl
-
-pub another-next : (s : Symbol) (old new : Direct) (is_pointer : Bool) → AwaitsSignature s old is_pointer false → Writes old new (codes ", ")
-    → AwaitsParameter s new is_pointer
-another-next s old new is_pointer a one = parameter-next s old new is_pointer false a one.text one.candidates one.waiting one.scope one.at
 
 -- a signature goes on after one more
 one-more : (s : Symbol) (outer : List Opened) (made_in : Around) (is_pointer : Bool) (returned : Term) (ts : List Term) (t : Term) (at : ℕ) (st : State)
@@ -165,11 +145,7 @@ pub no-reference : (s : List ℕ) (at b : ℕ) → (b ≢ 0 → StandsAt s at (b
 no-reference s at b stands some other another =
     ((λ p. other (same-byte s at b 82 (stands some) p)), λ p. another (same-byte s at b 79 (stands some) p))
 
--- what waits for what a reference is to
-abbrev pub reference_entry : (is_lvalue : Bool) → (from : ℕ) → Open
-reference_entry true from = opens.Lvalue from
-reference_entry false from = opens.Rvalue from
-
+-- what waits for what a reference is to stands there
 reference-stands : (s : Symbol) (scope : Scope) (is_lvalue : Bool) (rest : List Open) (os : List Opened) (text : List ℕ) (from : ℕ)
     → Marks s (below s scope rest) os text from (reference is_lvalue) → Stands s scope (reference_entry is_lvalue from ∷ rest) os text
 reference-stands s scope true rest os text from marks = marks
@@ -182,26 +158,20 @@ reference-scoped scope around true from is_pointer rest = none-scoped scope arou
 reference-scoped scope around false from is_pointer rest = none-scoped scope around (opens.Rvalue from ∷ opens.Signature is_pointer ∷ rest) refl
 
 -- a parameter comes that is a reference
-pub reference-comes : (s : Symbol) (old new : Direct) (o : Option Step) (is_pointer is_lvalue : Bool) (from : ℕ) → AwaitsParameter s old is_pointer
-    → from ≡ length old.text.list.items → StandsAt s.bytes old.at (reference_letter is_lvalue ∷ []) → IfSome o (λ next. next ≡ steps.Type)
-    → OnSome o (new.waiting.list.items ≡ old.waiting.list.items ++ reference_entry is_lvalue from ∷ []) → OnSome o (new.at ≡ old.at + 1)
-    → new.text ≡ old.text → new.candidates ≡ old.candidates → new.has_scope ≡ old.has_scope → IfSome o (IsWriting s new)
-reference-comes s old new o is_pointer is_lvalue from a begins stands is waits at text candidates scope_same =
-    by-step o steps.Type (IsWriting s new) is
-    (λ e. go (given _ o steps.Type e waits) (given _ o steps.Type e at))
-  where
-    go : new.waiting.list.items ≡ old.waiting.list.items ++ reference_entry is_lvalue from ∷ [] → new.at ≡ old.at + 1 → IsWriting s new steps.Type
-    go waits at =
-        let p = reference-opens s a.taker.outer a.taker.made_in is_pointer is_lvalue (λ l. plain_function a.first.own (list_with a.ts l)) old.at a.state a.goes stands in
-        let entry = reference_entry is_lvalue from in
-        let turned : reverse new.waiting.list.items ≡ entry ∷ opens.Signature is_pointer ∷ a.taker.rest =
-        ap reverse waits ∙ reverse-last old.waiting.list.items entry ∙ ap (λ ws. entry ∷ ws) a.open_is in
-        let whole = signature-stands s old is_pointer a p.whole p.onward in
-        type-comes s old new a.kept p.around p.inner text candidates scope_same turned p.outside
-        (inl (subst (λ n. Expects s Kind.Type p.around p.inner n a.state) (sym at) p.awaits))
-        (reference-stands s a.scope is_lvalue (opens.Signature is_pointer ∷ a.taker.rest) p.inner old.text.list.items from
-        (p.whole, p.around, begins, p.passes, none-scoped a.scope p.around (opens.Signature is_pointer ∷ a.taker.rest) refl, whole))
-        (reference-scoped a.scope p.around is_lvalue from is_pointer a.taker.rest)
+pub reference-comes : (s : Symbol) (old new : Direct) (is_pointer is_lvalue : Bool) (from : ℕ) → AwaitsParameter s old is_pointer
+    → from ≡ length old.text.list.items → StandsAt s.bytes old.at (reference_letter is_lvalue ∷ [])
+    → OpensEntry old new (reference_entry is_lvalue from) → IsWriting s new steps.Type
+reference-comes s old new is_pointer is_lvalue from a begins stands entered =
+    let p = reference-opens s a.taker.outer a.taker.made_in is_pointer is_lvalue (λ l. plain_function a.first.own (list_with a.ts l)) old.at a.state a.goes stands in
+    let entry = reference_entry is_lvalue from in
+    let turned : reverse new.waiting.list.items ≡ entry ∷ opens.Signature is_pointer ∷ a.taker.rest =
+    ap reverse entered.waiting ∙ reverse-last old.waiting.list.items entry ∙ ap (λ ws. entry ∷ ws) a.open_is in
+    let whole = signature-stands s old is_pointer a p.whole p.onward in
+    type-comes s old new a.kept p.around p.inner entered.text entered.candidates entered.scope turned p.outside
+    (inl (subst (λ n. Expects s Kind.Type p.around p.inner n a.state) (sym entered.at) p.awaits))
+    (reference-stands s a.scope is_lvalue (opens.Signature is_pointer ∷ a.taker.rest) p.inner old.text.list.items from
+    (p.whole, p.around, begins, p.passes, none-scoped a.scope p.around (opens.Signature is_pointer ∷ a.taker.rest) refl, whole))
+    (reference-scoped a.scope p.around is_lvalue from is_pointer a.taker.rest)
 
 -- ## The end
 
@@ -272,11 +242,6 @@ pub one-hidden : (s : Symbol) (scope : Scope) (text : List ℕ) (ks : List Candi
     → AreCandidates s scope text ks cs → AreCandidates s scope text (ks ++ hidden ∷ []) (cs ++ c ∷ [])
 one-hidden s scope text ks cs c p = candidates-more text ks cs hidden c p (λ ordered. absurd (omega (arith, ordered)))
 
--- one more candidate of which nothing is known, or two
-abbrev hidden_behind : (is_marked : Bool) → List Candidate → List Candidate
-hidden_behind true ks = (ks ++ hidden ∷ []) ++ hidden ∷ []
-hidden_behind false ks = ks ++ hidden ∷ []
-
 -- it becomes a candidate, and so does what points or refers to it
 hidden-accessed : (s : Symbol) (scope : Scope) (access : Access) (ks : List Candidate) (text : List ℕ) (made_in : Around) (t : Term) (st : State)
     → AreCandidates s scope text ks st.candidates
@@ -294,11 +259,6 @@ hidden-candidates : (s : Symbol) (scope : Scope) (w : Direct) (is_pointer : Bool
     → AreCandidates s scope text (with_hidden w is_pointer) (with_pointed is_pointer made_in t st).candidates
 hidden-candidates s scope w true text made_in t st p = hidden-accessed s scope accesses.Pointer w.candidates.list.items text made_in t st p
 hidden-candidates s scope w false text made_in t st p = hidden-accessed s scope accesses.Plain w.candidates.list.items text made_in t st p
-
--- they are added to the candidates as they were
-pub hidden-behind : (old new : Direct) (is_pointer : Bool) → new.candidates ≡ old.candidates → with_hidden new is_pointer ≡ with_hidden old is_pointer
-hidden-behind old new true same = ap (λ v. (v.list.items ++ hidden ∷ []) ++ hidden ∷ []) same
-hidden-behind old new false same = ap (λ v. v.list.items ++ hidden ∷ []) same
 
 -- what waits for the function type, once its own entry is taken away
 pub still-popped : (s : Symbol) (old new : Direct) (is_pointer : Bool) (p : IsFunctionRead s old is_pointer) (left : List Open) (size : ℕ)
@@ -333,23 +293,18 @@ function-handed s old new is_pointer p text candidates scope_same waits at =
     }
 
 -- what takes a function type, and isn't parameters or a special object, takes elements
-pub takes-as-element : (o : Open) (rest ws : List Open) → ws ≡ o ∷ rest → TakesFunction ws
-    → ((x : Mark) (y : ℕ) (z : Arguments) → o ≡ opens.Parameters x y z → ⊥)
+pub takes-as-element : (o : Open) (rest : List Open) → TakesFunction (o ∷ rest) → ((x : Mark) (y : ℕ) (z : Arguments) → o ≡ opens.Parameters x y z → ⊥)
     → (o ≡ opens.Special → ⊥) → ((x : Mark) (y t : ℕ) → o ≡ opens.Enclosing x y t → ⊥) → TakesElements o
-takes-as-element o rest ws is takes apart no_special within = go o (subst TakesFunction is takes) apart no_special within
-  where
-    go : (o : Open) → TakesFunction (o ∷ rest) → ((x : Mark) (y : ℕ) (z : Arguments) → o ≡ opens.Parameters x y z → ⊥) → (o ≡ opens.Special → ⊥)
-        → ((x : Mark) (y t : ℕ) → o ≡ opens.Enclosing x y t → ⊥) → TakesElements o
-    go (opens.TypeArguments from is_dependent) takes apart z m = tt
-    go (opens.NestArguments nest) takes apart z m = tt
-    go (opens.FirstArguments nest) takes apart z m = tt
-    go (opens.NameArguments from) takes apart z m = tt
-    go (opens.LevelArguments is_dependent) takes apart z m = tt
-    go opens.Pack takes apart z m = tt
-    go (opens.Parameters x y w) takes apart z m = absurd (apart x y w refl)
-    go opens.Special takes apart z m = absurd (z refl)
-    go (opens.Enclosing x y t) takes apart z m = absurd (m x y t refl)
-    go _ takes apart z m = absurd takes
+takes-as-element (opens.TypeArguments from is_dependent) rest takes apart z m = tt
+takes-as-element (opens.NestArguments nest) rest takes apart z m = tt
+takes-as-element (opens.FirstArguments nest) rest takes apart z m = tt
+takes-as-element (opens.NameArguments from) rest takes apart z m = tt
+takes-as-element (opens.LevelArguments is_dependent) rest takes apart z m = tt
+takes-as-element opens.Pack rest takes apart z m = tt
+takes-as-element (opens.Parameters x y w) rest takes apart z m = absurd (apart x y w refl)
+takes-as-element opens.Special rest takes apart z m = absurd (z refl)
+takes-as-element (opens.Enclosing x y t) rest takes apart z m = absurd (m x y t refl)
+takes-as-element _ rest takes apart z m = absurd takes
 
 -- ## The beginning of an array
 
@@ -396,10 +351,6 @@ value-array s w is_reference access from to p found =
       comes = waits.5 p.is_before.own w.at p.state p.is_before.comes;
     }
 
-with-hidden : (w : Direct) (b : Bool) → with_hidden w b ≡ hidden_behind b w.candidates.list.items
-with-hidden w true = refl
-with-hidden w false = refl
-
 -- its size is written
 size-unmarked : (s : List ℕ) (from to : ℕ) (digits : List ℕ) → IsReadable s → from ≤ to → to ≤ length s → take (to - from) (drop from s) ≡ digits
     → IsUnmarked digits
@@ -426,7 +377,7 @@ array-written s readable w begun first second third last access from to p size t
     let grown : third.text.list.items ≡ p.taker.front ++ bytes =
     three.text ∙ ap (λ l. l ++ codes "]") (two.text ∙ ap (λ l. first.text.list.items ++ l) is
     ∙ ap (λ l. l ++ digits) (one.text ∙ ap (λ v. v.list.items ++ opening) text ∙ ap (λ l. l ++ opening) p.written))
-    ∙ joined p.taker.front p.first.bytes opening digits (codes "]") in
+    ∙ simp append_assoc in
     let written : last.text.list.items ≡ p.taker.front ++ bytes = ap (λ v. v.list.items) same_text ∙ grown in
     let open_is : reverse last.waiting.list.items ≡ p.taker.rest =
     ap (λ v. reverse v.list.items) (same_waits ∙ three.waiting ∙ two.waiting ∙ one.waiting) ∙ waits in
@@ -434,7 +385,7 @@ array-written s readable w begun first second third last access from to p size t
     (kept-written s first second size two (kept-written s begun first opening one known)) in
     record {
       read = record {
-        kept = kept-as s third last then_ there same_text (more ∙ with-hidden third (is_marked access)) same_scope
+        kept = kept-as s third last then_ there same_text more same_scope
             (hidden-accessed s p.scope access third.candidates.list.items third.text.list.items p.taker.made_in own p.state there.keeps.candidates);
         os = p.taker.outer;
         own = whole;
@@ -447,11 +398,6 @@ array-written s readable w begun first second third last access from to p size t
       };
       takes = subst TakesFunction (sym open_is) p.taker.takes;
     }
-  where
-    joined : (f b o d e : List ℕ) → f ++ b ++ o ++ d ++ e ≡ f ++ (b ++ o ++ d ++ e)
-    joined f b o d e =
-        ap (λ l. l ++ o ++ d ++ e) refl ∙ ap (λ l. l ++ d ++ e) (append_assoc f b o) ∙ ap (λ l. l ++ e) (append_assoc f (b ++ o) d)
-        ∙ append_assoc f (b ++ o ++ d) e
 
 -- ## An array handed on
 

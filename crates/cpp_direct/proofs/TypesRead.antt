@@ -1,10 +1,9 @@
 -- A writer reads a type, or the first bytes of one.
-use Rattle.std.proofs.Common.{◌≡◌, ◌≢◌, inl, inr, ℕ, ◌+◌, ◌-◌, ◌≤◌, List, [], ◌∷◌, ◌++◌, length, take, drop, reverse, slice_get, Bool, true, false, ◌&&◌, nat_eq, Option, Some, None, codes, refl, ap, sym, subst, ◌∙◌, arith, append_assoc, append-nil, if◌then◌else◌}
-use Rattle.std.proofs.lemmas.List.{length-append, reverse-reverse}
+use Rattle.std.proofs.Common.{◌≡◌, ◌≢◌, inl, inr, ℕ, ◌+◌, ◌-◌, ◌≤◌, List, [], ◌∷◌, ◌++◌, length, take, drop, reverse, slice_get, Bool, true, false, Some, codes, refl, ap, sym, subst, ◌∙◌, arith, append_assoc, append-nil, if◌then◌else◌}
+use Rattle.std.proofs.lemmas.List.{length-append, reverse-append, reverse-reverse}
 use Rattle.std.proofs.Math.Seq.{take-append_seam}
-use Rattle.std.specs.Option.{OnSome, IfSome}
 use Rattle.std.specs.Bool.{◌==◌}
-use Rattle.std.proofs.lemmas.Bool.{false≢true, eqb-true, and_parts}
+use Rattle.std.proofs.lemmas.Bool.{false≢true}
 use Rattle.sym_core.specs.declared.NumberKind.TheVariants.{Seq36}
 use Rattle.sym_core.specs.Value.{counted_value}
 use Rattle.cpp_grammar.specs.declared.kind.Kind.{Kind}
@@ -14,29 +13,24 @@ use Rattle.cpp_grammar.specs.Texts.{Naming, look_up, builtin_texts, abbreviation
 use Rattle.cpp_grammar.specs.Parts.{source_text}
 use Rattle.cpp_grammar.specs.Values.{State, tree}
 use Rattle.cpp_grammar.specs.Between.{after, inside, no_items}
-use Rattle.cpp_direct.specs.Symbol.{detail_of, Symbol}
+use Rattle.cpp_direct.specs.WriterTypes.{Candidate, Direct, Open, Symbol, detail_of}
 use Rattle.cpp_direct.specs.Bytes.{is_builtin, is_builtin_with_d, is_abbreviated}
 use Rattle.cpp_direct.specs.Letters.{builtin_letters, builtin_letters_with_d, abbreviation_letters}
-use Rattle.cpp_direct.specs.declared.open.Candidate.{Candidate}
-use Rattle.cpp_direct.specs.declared.open.Open.{Open}
 use Rattle.cpp_direct.specs.declared.open.Open.TheVariants as opens
 use Rattle.cpp_direct.specs.declared.open.Purpose.TheVariants as purposes
-use Rattle.cpp_direct.specs.declared.open.Step.{Step}
 use Rattle.cpp_direct.specs.declared.open.Step.TheVariants as steps
-use Rattle.cpp_direct.specs.declared.direct.Direct.{Direct}
-use Rattle.cpp_direct.specs.Holes.{StandsAt, Comes, Expects, IsReferable, IsNameAt, IsSeqAt, TypeNamed, with_candidate, unless_listed}
-use Rattle.cpp_direct.specs.HolesOfTypes.{IsQualifiable, TypeOpens}
+use Rattle.cpp_direct.specs.AllHoles.{Comes, Expects, IsNameAt, IsQualifiable, IsReferable, IsSeqAt, StandsAt, TypeNamed, TypeOpens, reference_letter, unless_listed, with_candidate}
 use Rattle.cpp_direct.specs.Prints.{Prints, PrintsAs}
 use Rattle.cpp_direct.specs.WriterInvariant.{IsScoped, IsWriting, Marks, Stands, below, Kept}
 use Rattle.cpp_direct.specs.MidStep.{AwaitsType, AwaitsNamedType, AwaitsNest, IsNamedAgain, IsTypeNamed, AwaitsMark}
-use Rattle.cpp_direct.specs.Written.{Reads, Writes, added, added_unless}
+use Rattle.cpp_direct.specs.Written.{Reads, Writes, Lists, OpensEntry, added, added_unless, OpensArguments}
 use Rattle.cpp_direct.proofs.Unmarked.{name-unmarked}
 use Rattle.cpp_direct.proofs.Scopes.{scoped-inside}
-use Rattle.cpp_direct.proofs.Kept.{candidate-found, kept-grown, kept-same, last-reversed, piece-found, reverse-last, type-comes, value-added, value-comes, Lists, OpensArguments, list-begins, kept-unless, awaited-in}
+use Rattle.cpp_direct.proofs.Kept.{candidate-found, kept-grown, kept-same, piece-found, reverse-last, type-comes, value-added, value-comes, list-begins, kept-unless, awaited-in}
 use Rattle.cpp_direct.proofs.Moves.{expects-empty, stands-join}
 use Rattle.cpp_direct.proofs.MovesOfLists.{arguments-open}
-use Rattle.cpp_direct.proofs.MovesOfTypes.{solid-opens, builtin-comes, builtin-with-d-comes, pointer-opens, lvalue-opens, rvalue-opens, const-opens, source-opens, std-opens, abbreviation-opens, substitution-opens, substituted-so, nested-type-opens}
-use Rattle.cpp_direct.proofs.LettersTested.{each_passes, tested, is_filled, filled}
+use Rattle.cpp_direct.proofs.MovesOfTypes.{solid-opens, builtin-comes, builtin-with-d-comes, pointer-opens, reference-type-opens, const-opens, source-opens, std-opens, abbreviation-opens, substitution-opens, substituted-so, nested-type-opens}
+use Rattle.cpp_direct.proofs.LettersTested.{code-listed, codes_pass, each_passes, tested, is_filled, filled}
 use Rattle.cpp_direct.proofs.PrintedNames.{source-prints, std-prints, abbreviation-prints, builtin-prints, builtin-with-d-prints}
 
 -- ## What calls give
@@ -45,23 +39,20 @@ use Rattle.cpp_direct.proofs.PrintedNames.{source-prints, std-prints, abbreviati
 pub there : (s : List ℕ) (at b d : ℕ) → b ≡ d → 1 ≤ d → (b ≢ 0 → StandsAt s at (b ∷ [])) → StandsAt s at (d ∷ [])
 there s at b d is some stands = subst (λ k. StandsAt s at (k ∷ [])) is (stands (λ z. omega (arith, is, some, z)))
 
+-- and so is one more after others
+pub then-there : (s front : List ℕ) (at next b d : ℕ) → StandsAt s at front → next ≡ at + length front → b ≡ d → 1 ≤ d
+    → (b ≢ 0 → StandsAt s next (b ∷ [])) → StandsAt s at (front ++ d ∷ [])
+then-there s front at next b d first next_is is some stands =
+    stands-join s at front (d ∷ []) first (subst (λ k. StandsAt s k (d ∷ [])) next_is (there s next b d is some stands))
+
 -- a text that isn't empty
 pub some-text : (text same : List ℕ) → text ≡ same → false ≡ (length text == 0) → same ≢ []
-some-text text same is filled none = false≢true (filled ∙ ap (λ l. length l == 0) (is ∙ none))
-
--- a step that is this one, if there is one
-pub by-step : (o : Option Step) (step : Step) (P : Step → Type 0) → IfSome o (λ next. next ≡ step) → (o ≡ Some step → P step) → IfSome o P
-by-step None step P is make = tt
-by-step (Some next) step P is make = subst P (sym is) (make (ap Some is))
-
--- what holds if there is something
-pub given : (A : Type 0) (o : Option Step) (step : Step) → o ≡ Some step → OnSome o A → A
-given A o step is have = subst (λ x. OnSome x A) is have
+some-text text same is filled none = cc (filled ∙ ap (λ l. length l == 0) (is ∙ none))
 
 -- what is open without its last
 pub popped : (xs ys rest : List Open) (x : Open) (n : ℕ) → n ≡ length xs → reverse xs ≡ x ∷ rest → ys ≡ take (n - 1) xs → reverse ys ≡ rest
 popped xs ys rest x n size e is =
-    let whole : xs ≡ reverse rest ++ x ∷ [] = last-reversed xs rest x e in
+    let whole : xs ≡ reverse rest ++ x ∷ [] = sym (reverse-reverse xs) ∙ ap reverse e ∙ reverse-append (x ∷ []) rest in
     let less : n - 1 ≡ length (reverse rest) = omega (arith, size, ap length whole, length-append (reverse rest) (x ∷ [])) in
     ap reverse (is ∙ ap (λ m. take m xs) less ∙ ap (λ l. take (length (reverse rest)) l) whole ∙ take-append_seam (reverse rest) (x ∷ []))
     ∙ reverse-reverse rest
@@ -72,34 +63,32 @@ popped xs ys rest x n size e is =
 pub mark-answer : (s : Symbol) (old mid new : Direct) (mark : List ℕ) (from : ℕ) (r d : Bool) (a : AwaitsMark s old mark from r d)
     → reverse mid.waiting.list.items ≡ a.rest → mid.text.list.items ≡ old.text.list.items ++ mark → mid.candidates ≡ old.candidates
     → mid.has_scope ≡ old.has_scope → mid.at ≡ old.at
-    → new.candidates.list.items ≡ added mid from r d → new.text ≡ mid.text → new.waiting ≡ mid.waiting → new.has_scope ≡ mid.has_scope → new.at ≡ mid.at
-    → IsWriting s new (steps.Value r d)
-mark-answer s old mid new mark from r d a waits text candidates scope at more same_text same_waits same_scope same_at =
+    → Lists mid new (added mid from r d) → IsWriting s new (steps.Value r d)
+mark-answer s old mid new mark from r d a waits text candidates scope at lists =
     let marked : mid.text.list.items ≡ a.front ++ (a.bytes ++ mark) = text ∙ ap (λ l. l ++ mark) a.written ∙ append_assoc a.front a.bytes mark in
-    let open_is : reverse new.waiting.list.items ≡ a.rest = ap (λ v. reverse v.list.items) same_waits ∙ waits in
+    let open_is : reverse new.waiting.list.items ≡ a.rest = ap (λ v. reverse v.list.items) lists.waiting ∙ waits in
     value-added s mid new (kept-grown s old mid mark text candidates scope a.kept) a.outer a.made_in a.made a.front (a.bytes ++ mark) from r d
-    marked a.from_is a.prints a.made_here same_text more same_scope open_is a.naming
-    (subst (λ k. Comes s a.outer (tree a.made true) k (with_candidate a.made_in a.made a.state)) (sym (same_at ∙ at)) a.comes) a.stands
+    marked a.from_is a.prints a.made_here lists.text lists.candidates lists.scope open_is a.naming
+    (subst (λ k. Comes s a.outer (tree a.made true) k (with_candidate a.made_in a.made a.state)) (sym (lists.at ∙ at)) a.comes) a.stands
 
 -- ## Names of types
 
 -- it became a candidate, unless it was one
-abbrev named-kept : (s : Symbol) (old new : Direct) (from : ℕ) (listed r : Bool) (a : IsTypeNamed s old from listed r) → new.text ≡ old.text
-    → new.candidates.list.items ≡ added_unless old listed from false → new.has_scope ≡ old.has_scope → Kept s new
-named-kept s old new from listed r a text candidates scope =
+abbrev named-kept : (s : Symbol) (old new : Direct) (from : ℕ) (listed r : Bool) (a : IsTypeNamed s old from listed r)
+    → Lists old new (added_unless old listed from false) → Kept s new
+named-kept s old new from listed r a lists =
     kept-unless s old new a.kept listed a.front a.bytes from a.own a.around false a.written a.from_is
-    (λ e. subst (λ b. Prints (detail_of s) a.own a.bytes b) (a.no_reference e) a.prints) (λ e. absurd (false≢true e)) text candidates scope
+    (λ e. subst (λ b. Prints (detail_of s) a.own a.bytes b) (a.no_reference e) a.prints) (λ e. absurd (false≢true e)) lists.text lists.candidates lists.scope
 
 -- nothing comes after the name of a type
 pub bare-done : (s : Symbol) (old new : Direct) (from : ℕ) (listed r : Bool) → IsTypeNamed s old from listed r
-    → new.waiting ≡ old.waiting → new.text ≡ old.text → new.candidates.list.items ≡ added_unless old listed from false → new.has_scope ≡ old.has_scope
-    → new.at ≡ old.at → IsWriting s new (steps.Value r false)
+    → Lists old new (added_unless old listed from false) → IsWriting s new (steps.Value r false)
 unfolding may_be_empty
-bare-done s old new from listed r a waits text candidates scope at =
+bare-done s old new from listed r a lists =
     let state : State = unless_listed listed a.around a.own a.state in
-    value-comes s new (named-kept s old new from listed r a text candidates scope) a.outer a.own a.front a.bytes r false
-    (ap (λ v. v.list.items) text ∙ a.written) a.prints (ap (λ v. reverse v.list.items) waits) (λ e. absurd (false≢true e))
-    (subst (λ k. Comes s a.outer (tree a.own true) k state) (sym at) (a.named.bare old.at a.state a.prints.no_function
+    value-comes s new (named-kept s old new from listed r a lists) a.outer a.own a.front a.bytes r false
+    (ap (λ v. v.list.items) lists.text ∙ a.written) a.prints (ap (λ v. reverse v.list.items) lists.waiting) (λ e. cc e)
+    (subst (λ k. Comes s a.outer (tree a.own true) k state) (sym lists.at) (a.named.bare old.at a.state a.prints.no_function
     (expects-empty s Kind.ArgumentsAlone (after a.own listed a.around) a.named.inner old.at a.state a.named.awaits refl))) a.stands
 
 -- and arguments do
@@ -109,7 +98,7 @@ unfolding inside
 argued-done s old mid new from listed r named none stands lists opening_ =
     let a = subst (λ b. IsTypeNamed s old from listed b) none named in
     let o = arguments-open s a.named.inner a.around a.own listed old.at a.state a.named.awaits (subst (λ n. StandsAt s.bytes n (73 ∷ [])) lists.at stands) in
-    list-begins s old mid new (added_unless old listed from false) (named-kept s old mid from listed false a lists.text lists.candidates lists.scope)
+    list-begins s old mid new (added_unless old listed from false) (named-kept s old mid from listed false a lists)
     (opens.TypeArguments from false) a.front a.bytes a.own lists opening_ (a.from_is, a.prints) a.written (
       inside a.around,
       o.inner,
@@ -121,7 +110,7 @@ argued-done s old mid new from listed r named none stands lists opening_ =
         a.around,
         a.named.argued (no_items l) (here + 1) now (o.onward l here now comes ended),
         a.scoped,
-        λ e. absurd (false≢true e),
+        λ e. cc e,
         a.stands,
       )),
     )
@@ -132,31 +121,14 @@ unfoldable pub code_in : List ℕ → List ℕ → Bool
 code_in (c ∷ []) cs = among cs c
 code_in _ cs = true
 
-unfoldable pub codes_in : List Naming → List ℕ → Bool
-codes_in [] cs = true
-codes_in (n ∷ rest) cs = code_in n.code cs && codes_in rest cs
-
-pub letter-listed : (table : List Naming) (cs : List ℕ) (letter : ℕ) → codes_in table cs ≡ true → look_up (letter ∷ []) table ≢ []
+pub letter-listed : (table : List Naming) (cs : List ℕ) (letter : ℕ) → codes_pass (λ code. code_in code cs) table ≡ true → look_up (letter ∷ []) table ≢ []
     → among cs letter ≡ true
-unfolding look_up same_bytes code_in codes_in
-letter-listed [] cs letter all has = absurd (has refl)
-letter-listed (n ∷ rest) cs letter all has =
-    let both = and_parts (code_in n.code cs) (codes_in rest cs) all in
-    go n.code both.0 (same_bytes (letter ∷ []) n.code) refl has (letter-listed rest cs letter both.1)
-  where
-    go : (code : List ℕ) → code_in code cs ≡ true → (b : Bool) → same_bytes (letter ∷ []) code ≡ b
-        → ◌≢◌ {A = List ℕ} (elim b [ true ↦ n.text | false ↦ look_up (letter ∷ []) rest ]) []
-        → (look_up (letter ∷ []) rest ≢ [] → among cs letter ≡ true)
-        → among cs letter ≡ true
-    go code has_code false same filled later = later filled
-    go [] has_code true same filled later = absurd (false≢true same)
-    go (c ∷ []) has_code true same filled later =
-        subst (λ l. among cs l ≡ true) (sym (eqb-true letter c ((and_parts (nat_eq letter c) true same).0))) has_code
-    go (c ∷ d ∷ ds) has_code true same filled later = absurd (false≢true ((and_parts (nat_eq letter c) false same).1))
+unfolding code_in
+letter-listed table cs letter all has = code-listed table (λ code. code_in code cs) (letter ∷ []) all has
 
 -- a letter with such a text is one of these
 pub builtin-listed : (letter : ℕ) → look_up (letter ∷ []) builtin_texts ≢ [] → is_builtin letter ≡ true
-unfolding is_builtin builtin_texts code_in codes_in among
+unfolding is_builtin builtin_texts code_in codes_pass among
 builtin-listed letter has = letter-listed builtin_texts builtin_letters letter refl has
 
 -- a letter of these has a text after a D
@@ -167,16 +139,16 @@ builtin-with-d-text letter is =
 
 -- and so is one of an abbreviation
 pub abbreviation-listed : (letter : ℕ) → look_up (letter ∷ []) abbreviation_texts ≢ [] → is_abbreviated letter ≡ true
-unfolding is_abbreviated abbreviation_texts code_in codes_in among
+unfolding is_abbreviated abbreviation_texts code_in codes_pass among
 abbreviation-listed letter has = letter-listed abbreviation_texts abbreviation_letters letter refl has
 
 pub no-builtin : (letter : ℕ) → is_builtin letter ≡ true → letter ≢ 0
 unfolding is_builtin among
-no-builtin letter is none = absurd (false≢true (subst (λ l. is_builtin l ≡ true) none is))
+no-builtin letter is none = let clash : false ≡ true = subst (λ l. is_builtin l ≡ true) none is in cc clash
 
 no-abbreviation : (letter : ℕ) → is_abbreviated letter ≡ true → letter ≢ 0
 unfolding is_abbreviated among
-no-abbreviation letter is none = absurd (false≢true (subst (λ l. is_abbreviated l ≡ true) none is))
+no-abbreviation letter is none = let clash : false ≡ true = subst (λ l. is_abbreviated l ≡ true) none is in cc clash
 
 -- ## Types
 
@@ -203,7 +175,7 @@ value-done : (s : Symbol) (old new : Direct) (a : AwaitsType s old) (t : Term) (
     → Comes s a.os (tree t true) new.at a.state → IsWriting s new (steps.Value false false)
 value-done s old new a t bytes prints text candidates waits scope comes =
     value-comes s new (kept-grown s old new bytes text candidates scope a.kept) a.os t old.text.list.items bytes false false text prints
-    (ap (λ v. reverse v.list.items) waits) (λ e. absurd (false≢true e)) comes a.stands
+    (ap (λ v. reverse v.list.items) waits) (λ e. cc e) comes a.stands
 
 -- a builtin type is read
 pub builtin-done : (s : Symbol) (old new : Direct) (letter : ℕ) → AwaitsType s old → (letter ≢ 0 → StandsAt s.bytes old.at (letter ∷ []))
@@ -219,7 +191,7 @@ builtin-done s old new letter a stands has text candidates waits scope at =
 
 no-builtin-with-d : (letter : ℕ) → is_builtin_with_d letter ≡ true → letter ≢ 0
 unfolding is_builtin_with_d among
-no-builtin-with-d letter is none = absurd (false≢true (subst (λ l. is_builtin_with_d l ≡ true) none is))
+no-builtin-with-d letter is none = let clash : false ≡ true = subst (λ l. is_builtin_with_d l ≡ true) none is in cc clash
 
 -- and so is one with a code of two letters
 pub builtin-with-d-done : (s : Symbol) (old new : Direct) (letter : ℕ) → AwaitsType s old → StandsAt s.bytes old.at (68 ∷ [])
@@ -321,7 +293,7 @@ substitution-named s old mid new n from digits k a stands is ordered found reads
     (substitution-opens s a.kind a.around a.os old.at a.state digits new.at c.0 a.is_named c.1
     (λ place. substituted-so a.around place c.0 a.state prints.is_closed prints.packless) a.begins stands
     (subst (λ n. IsSeqAt s.bytes (old.at + 1) digits n) (sym writes.at) is))
-    (writes.candidates ∙ reads.candidates) (writes.scope ∙ reads.scope) written begins prints (λ e. absurd (false≢true (sym e))) (writes.waiting ∙ reads.waiting)
+    (writes.candidates ∙ reads.candidates) (writes.scope ∙ reads.scope) written begins prints (λ e. cc e) (writes.waiting ∙ reads.waiting)
 
 -- one that names an argument
 pub named-again : (s : Symbol) (old new : Direct) (n : ℕ) (digits : List ℕ) (k : Candidate) → AwaitsNamedType s old → StandsAt s.bytes old.at (83 ∷ [])
@@ -348,72 +320,57 @@ named-again s old new n digits k a stands is ordered found reads dependent = rec
 -- ## Types within types
 
 -- a type within another one is expected
-pub type-opened : (s : Symbol) (old new : Direct) (o : Option Step) (entry : Open) (from : ℕ) (made : Term → Term) (a : AwaitsType s old)
+pub type-opened : (s : Symbol) (old new : Direct) (entry : Open) (from : ℕ) (made : Term → Term) (a : AwaitsType s old)
     (t : TypeOpens s Kind.Type a.os a.around made (old.at + 1) a.state) → from ≡ length old.text.list.items
     → (Marks s (below s a.scope (reverse old.waiting.list.items)) t.inner old.text.list.items from made
     → Stands s a.scope (entry ∷ reverse old.waiting.list.items) t.inner old.text.list.items)
-    → IsScoped a.scope a.around (entry ∷ reverse old.waiting.list.items)
-    → IfSome o (λ next. next ≡ steps.Type) → OnSome o (new.waiting.list.items ≡ old.waiting.list.items ++ entry ∷ []) → OnSome o (new.at ≡ old.at + 1)
-    → new.text ≡ old.text → new.candidates ≡ old.candidates → new.has_scope ≡ old.has_scope → IfSome o (IsWriting s new)
-type-opened s old new o entry from made a t begins stands scoped is waits at text candidates scope = by-step o steps.Type (IsWriting s new) is (λ e.
-    type-comes s old new a.kept a.around t.inner text candidates scope
-    (ap reverse (given _ o steps.Type e waits) ∙ reverse-last old.waiting.list.items entry) a.outside
-    (inl (subst (λ k. Expects s Kind.Type a.around t.inner k a.state) (sym (given _ o steps.Type e at)) t.awaits))
-    (stands (a.os, a.around, begins, t.passes, a.scoped, a.stands)) scoped)
+    → IsScoped a.scope a.around (entry ∷ reverse old.waiting.list.items) → OpensEntry old new entry → IsWriting s new steps.Type
+type-opened s old new entry from made a t begins stands scoped entered =
+    type-comes s old new a.kept a.around t.inner entered.text entered.candidates entered.scope
+    (ap reverse entered.waiting ∙ reverse-last old.waiting.list.items entry) a.outside
+    (inl (subst (λ k. Expects s Kind.Type a.around t.inner k a.state) (sym entered.at) t.awaits))
+    (stands (a.os, a.around, begins, t.onward, a.scoped, a.stands)) scoped
 
 -- after a P
-pub pointer-opened : (s : Symbol) (old new : Direct) (o : Option Step) (from : ℕ) → AwaitsType s old → from ≡ length old.text.list.items
-    → StandsAt s.bytes old.at (80 ∷ []) → IfSome o (λ next. next ≡ steps.Type) → OnSome o (new.waiting.list.items ≡ old.waiting.list.items ++ opens.Pointer from ∷ [])
-    → OnSome o (new.at ≡ old.at + 1) → new.text ≡ old.text → new.candidates ≡ old.candidates → new.has_scope ≡ old.has_scope → IfSome o (IsWriting s new)
-pointer-opened s old new o from a begins stands is waits at text candidates scope =
-    type-opened s old new o (opens.Pointer from) from pointer a (pointer-opens s a.kind a.around a.os old.at a.state a.typed a.awaits stands) begins
-    (λ m. m) a.scoped is waits at text candidates scope
+pub pointer-opened : (s : Symbol) (old new : Direct) (from : ℕ) → AwaitsType s old → from ≡ length old.text.list.items
+    → StandsAt s.bytes old.at (80 ∷ []) → OpensEntry old new (opens.Pointer from) → IsWriting s new steps.Type
+pointer-opened s old new from a begins stands entered =
+    type-opened s old new (opens.Pointer from) from pointer a (pointer-opens s a.kind a.around a.os old.at a.state a.typed a.awaits stands) begins
+    (λ m. m) a.scoped entered
 
--- after an R
-pub lvalue-opened : (s : Symbol) (old new : Direct) (o : Option Step) (from : ℕ) → AwaitsType s old → from ≡ length old.text.list.items
-    → StandsAt s.bytes old.at (82 ∷ []) → IfSome o (λ next. next ≡ steps.Type) → OnSome o (new.waiting.list.items ≡ old.waiting.list.items ++ opens.Lvalue from ∷ [])
-    → OnSome o (new.at ≡ old.at + 1) → new.text ≡ old.text → new.candidates ≡ old.candidates → new.has_scope ≡ old.has_scope → IfSome o (IsWriting s new)
-lvalue-opened s old new o from a begins stands is waits at text candidates scope =
-    let referable : IsReferable a.kind = elim a.referable [ inl may ↦ may | inr none ↦ absurd (none.0 stands) ] in
-    type-opened s old new o (opens.Lvalue from) from lvalue a (lvalue-opens s a.kind a.around a.os old.at a.state referable a.awaits stands) begins
-    (λ m. m) a.scoped is waits at text candidates scope
+-- what waits for what a reference is to
+abbrev pub reference_entry : (is_lvalue : Bool) → (from : ℕ) → Open
+reference_entry true from = opens.Lvalue from
+reference_entry false from = opens.Rvalue from
 
--- and after an O
-pub rvalue-opened : (s : Symbol) (old new : Direct) (o : Option Step) (from : ℕ) → AwaitsType s old → from ≡ length old.text.list.items
-    → StandsAt s.bytes old.at (79 ∷ []) → IfSome o (λ next. next ≡ steps.Type) → OnSome o (new.waiting.list.items ≡ old.waiting.list.items ++ opens.Rvalue from ∷ [])
-    → OnSome o (new.at ≡ old.at + 1) → new.text ≡ old.text → new.candidates ≡ old.candidates → new.has_scope ≡ old.has_scope → IfSome o (IsWriting s new)
-rvalue-opened s old new o from a begins stands is waits at text candidates scope =
-    let referable : IsReferable a.kind = elim a.referable [ inl may ↦ may | inr none ↦ absurd (none.1 stands) ] in
-    type-opened s old new o (opens.Rvalue from) from rvalue a (rvalue-opens s a.kind a.around a.os old.at a.state referable a.awaits stands) begins
-    (λ m. m) a.scoped is waits at text candidates scope
+-- after an R, and after an O
+pub reference-opened : (s : Symbol) (old new : Direct) (is_lvalue : Bool) (from : ℕ) (a : AwaitsType s old) → from ≡ length old.text.list.items
+    → StandsAt s.bytes old.at (reference_letter is_lvalue ∷ []) → OpensEntry old new (reference_entry is_lvalue from) → IsWriting s new steps.Type
+reference-opened s old new true from a begins stands entered =
+    let may : IsReferable a.kind = elim a.referable [ inl is_one ↦ is_one | inr none ↦ absurd (none.0 stands) ] in
+    type-opened s old new (opens.Lvalue from) from lvalue a (reference-type-opens s a.kind true a.around a.os old.at a.state may a.awaits stands) begins
+    (λ m. m) a.scoped entered
+reference-opened s old new false from a begins stands entered =
+    let may : IsReferable a.kind = elim a.referable [ inl is_one ↦ is_one | inr none ↦ absurd (none.1 stands) ] in
+    type-opened s old new (opens.Rvalue from) from rvalue a (reference-type-opens s a.kind false a.around a.os old.at a.state may a.awaits stands) begins
+    (λ m. m) a.scoped entered
 
--- a plain type is expected, where one with a qualifier may be
-plain-opened : (s : Symbol) (old new : Direct) (o : Option Step) (from : ℕ) (a : AwaitsType s old) → IsQualifiable a.kind
-    → from ≡ length old.text.list.items
-    → StandsAt s.bytes old.at (75 ∷ []) → IfSome o (λ next. next ≡ steps.Plain) → OnSome o (new.waiting.list.items ≡ old.waiting.list.items ++ opens.Const from ∷ [])
-    → OnSome o (new.at ≡ old.at + 1) → new.text ≡ old.text → new.candidates ≡ old.candidates → new.has_scope ≡ old.has_scope → IfSome o (IsWriting s new)
-plain-opened s old new o from a may begins stands is waits at text candidates scope =
-    let t = const-opens s a.kind a.around a.os old.at a.state may a.awaits stands in
-    by-step o steps.Plain (IsWriting s new) is (λ e.
-    let open_is : reverse new.waiting.list.items ≡ opens.Const from ∷ reverse old.waiting.list.items
-    = ap reverse (given _ o steps.Plain e waits) ∙ reverse-last old.waiting.list.items (opens.Const from) in
-    record {
-      kept = kept-same s old new text candidates scope a.kept;
-      is_before = (
-        awaited-in s a.scope old new a.around t.inner (ap (λ v. v.list.items) text) open_is a.outside (a.os, a.around, begins, t.passes, a.scoped, a.stands) a.scoped,
-        subst (λ k. Expects s Kind.Plain a.around t.inner k a.state) (sym (given _ o steps.Plain e at)) t.awaits,
-      );
-    })
-
--- after a K
-pub const-opened : (s : Symbol) (old new : Direct) (o : Option Step) (from : ℕ) (is_plain : Bool)
-    → IsWriting s old (if is_plain then steps.Plain else steps.Type) → is_plain ≡ false → from ≡ length old.text.list.items
-    → StandsAt s.bytes old.at (75 ∷ []) → IfSome o (λ next. next ≡ steps.Plain) → OnSome o (new.waiting.list.items ≡ old.waiting.list.items ++ opens.Const from ∷ [])
-    → OnSome o (new.at ≡ old.at + 1) → new.text ≡ old.text → new.candidates ≡ old.candidates → new.has_scope ≡ old.has_scope → IfSome o (IsWriting s new)
-const-opened s old new o from true p plain begins stands is waits at text candidates scope = absurd (false≢true (sym plain))
-const-opened s old new o from false p plain begins stands is waits at text candidates scope =
+-- a plain type is expected after a K, where a whole one is
+pub const-opened : (s : Symbol) (old new : Direct) (from : ℕ) → IsWriting s old steps.Type → from ≡ length old.text.list.items
+    → StandsAt s.bytes old.at (75 ∷ []) → OpensEntry old new (opens.Const from) → IsWriting s new steps.Plain
+const-opened s old new from p begins stands entered =
     let whole = whole-awaited s old p in
-    plain-opened s old new o from whole.0 whole.1 begins stands is waits at text candidates scope
+    let a = whole.0 in
+    let t = const-opens s a.kind a.around a.os old.at a.state whole.1 a.awaits stands in
+    let open_is : reverse new.waiting.list.items ≡ opens.Const from ∷ reverse old.waiting.list.items
+    = ap reverse entered.waiting ∙ reverse-last old.waiting.list.items (opens.Const from) in
+    record {
+      kept = kept-same s old new entered.text entered.candidates entered.scope a.kept;
+      is_before = (
+        awaited-in s a.scope old new a.around t.inner (ap (λ v. v.list.items) entered.text) open_is a.outside (a.os, a.around, begins, t.onward, a.scoped, a.stands) a.scoped,
+        subst (λ k. Expects s Kind.Plain a.around t.inner k a.state) (sym entered.at) t.awaits,
+      );
+    }
 
 -- a nested name is expected after an N
 pub nest-awaited : (s : Symbol) (old : Direct) (n : ℕ) → AwaitsNamedType s old → n ≡ old.at + 1 → StandsAt s.bytes old.at (78 ∷ [])
@@ -427,5 +384,5 @@ nest-awaited s old n a at stands =
       outer = t.inner;
       awaits = subst (λ k. Expects s Kind.Nest a.around t.inner k a.state) (sym at) t.awaits;
       scoped = λ within. a.scoped;
-      serves = (a.os, a.around, t.passes, a.scoped, a.stands);
+      serves = (a.os, a.around, t.onward, a.scoped, a.stands);
     }

@@ -11,8 +11,7 @@ use Rattle.sym_direct.proofs.Seen.{first-unmarked, test-unmarked}
 use Rattle.cpp_grammar.specs.Texts.{Naming, look_up, same_bytes, builtin_texts, operator_texts, abbreviation_texts, special_texts, literal_endings}
 use Rattle.cpp_grammar.specs.Parts.{source_text, begins_with, thunk_text, encoding_text, qualifier_text, ref_text}
 use Rattle.cpp_grammar.specs.Term.{Thunk, adjusting, covariant, non_virtual, by_table, Qualifiers, RefQualifier, any_value, lvalue_only, rvalue_only}
-use Rattle.cpp_direct.specs.Holes.{IsNameAt}
-use Rattle.cpp_direct.specs.HolesOfLists.{IsSuffix}
+use Rattle.cpp_direct.specs.AllHoles.{IsNameAt, IsSuffix}
 use Rattle.cpp_grammar.specs.Grammar.{among}
 use Rattle.cpp_direct.specs.ItemBytes.{is_suffix_byte}
 use Rattle.cpp_direct.specs.Names.{operator_text}

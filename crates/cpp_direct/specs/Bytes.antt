@@ -1,5 +1,5 @@
 -- The bytes at which a reader goes one way or another.
-use Rattle.std.specs.Prelude.{ℕ, List, ◌∷◌, ◌+◌, [], Bool, true, false, ◌||◌, ◌&&◌, nat_eq, nat_lt}
+use Rattle.std.specs.Prelude.{ℕ, List, ◌∷◌, ◌+◌, [], Bool, true, false, ◌||◌, ◌&&◌, nat_eq, nat_lt, cond}
 use Rattle.sym_core.specs.Number.{is_decimal_digit}
 use Rattle.cpp_grammar.specs.Grammar.{among}
 use Rattle.cpp_direct.specs.Letters.{builtin_letters, builtin_letters_with_d, abbreviation_letters}
@@ -26,3 +26,12 @@ unfoldable pub is_local : List ℕ → Bool
 is_local (a ∷ b ∷ c ∷ d ∷ e ∷ rest) = nat_eq c 90 || ((nat_eq c 71 && nat_eq d 86) && nat_eq e 90)
 is_local (a ∷ b ∷ c ∷ rest) = nat_eq c 90
 is_local _ = false
+
+-- one that names a guard variable has GV after its _Z
+unfoldable pub is_guard : List ℕ → Bool
+is_guard (a ∷ b ∷ c ∷ d ∷ rest) = nat_eq c 71 && nat_eq d 86
+is_guard _ = false
+
+-- an object has this guard variable, and no local entity: its name isn't that of an encoding
+abbrev pub is_object : List ℕ → Bool
+is_object s = cond (is_local s) false (is_guard s)

@@ -50,6 +50,12 @@ ExpectsSym s x around os at state = direct.Expects (cpp_language s) s.bytes x ar
 abbrev pub Expects : (s : Symbol) → Kind → Around → List Opened → (at : ℕ) → State → Type 0
 Expects s kind around os at state = ExpectsSym s (OfKind (number_of_kind kind)) around os at state
 
+-- A part of this kind is expected, and the reader goes on so after it.
+pub record Awaits (s : Symbol) (kind : Kind) (around : Around) (at : ℕ) (st : State) (Onward : List Opened → Type 0) : Type 0 where
+  pub inner : List Opened
+  pub awaits : Expects s kind around inner at st
+  pub onward : Onward inner
+
 -- ## States
 
 -- a tree as a candidate that is made here
@@ -150,10 +156,9 @@ pub record NestGoesOn (s : Symbol) (kind : Kind) (outer : List Opened) (around :
   pub passes : SamePasses s inner outer
 
 -- A component of a nested name is expected next.
-pub record AwaitsComponent (s : Symbol) (outer : List Opened) (around : Around) (t : Term) (at : ℕ) (st : State) : Type 0 where
-  pub inner : List Opened
-  pub awaits : Expects s Kind.Component (after t true around) inner at st
-  pub onward : (u : Term) (at : ℕ) (st : State) → Comes s inner (tree u false) at st → NestGoesOn s Kind.NestTail outer around u false at st
+abbrev pub AwaitsComponent : (s : Symbol) (outer : List Opened) (around : Around) (t : Term) (at : ℕ) (st : State) → Type 0
+AwaitsComponent s outer around t at st = Awaits s Kind.Component (after t true around) at st (λ inner.
+    (u : Term) (at : ℕ) (st : State) → Comes s inner (tree u false) at st → NestGoesOn s Kind.NestTail outer around u false at st)
 
 -- A std name was read at the front of a nested one, or a component, with or without arguments after it, or tags.
 pub record NestNamed (s : Symbol) (outer : List Opened) (around : Around) (t : Term) (at : ℕ) (st : State) : Type 0 where
@@ -164,16 +169,14 @@ pub record NestNamed (s : Symbol) (outer : List Opened) (around : Around) (t : T
   pub renamed : (u : Term) (at : ℕ) (st : State) → Comes s inner (bare_name u) at st → NestGoesOn s Kind.NestTail outer around u false at st
 
 -- A list goes on after an element.
-pub record ListGoesOn (s : Symbol) (kind : Kind) (outer : List Opened) (around : Around) (t : Term) (at : ℕ) (st : State) : Type 0 where
-  pub inner : List Opened
-  pub awaits : Expects s kind around inner at st
-  pub passes : (l : Value) (at : ℕ) (st : State) → Comes s inner l at st → Comes s outer (tree (list t (no_items l)) true) at st
+abbrev pub ListGoesOn : (s : Symbol) (kind : Kind) (outer : List Opened) (around : Around) (t : Term) (at : ℕ) (st : State) → Type 0
+ListGoesOn s kind outer around t at st = Awaits s kind around at st (λ inner.
+    (l : Value) (at : ℕ) (st : State) → Comes s inner l at st → Comes s outer (tree (list t (no_items l)) true) at st)
 
 -- An element of a list is expected, which is read as this.
-pub record AwaitsElementAs (s : Symbol) (as_kind kind : Kind) (outer : List Opened) (around : Around) (at : ℕ) (st : State) : Type 0 where
-  pub inner : List Opened
-  pub awaits : Expects s as_kind around inner at st
-  pub onward : (t : Term) (at : ℕ) (st : State) → Comes s inner (tree t true) at st → ListGoesOn s kind outer around t at st
+abbrev pub AwaitsElementAs : (s : Symbol) (as_kind kind : Kind) (outer : List Opened) (around : Around) (at : ℕ) (st : State) → Type 0
+AwaitsElementAs s as_kind kind outer around at st = Awaits s as_kind around at st (λ inner.
+    (t : Term) (at : ℕ) (st : State) → Comes s inner (tree t true) at st → ListGoesOn s kind outer around t at st)
 
 -- one that is a type
 abbrev pub AwaitsElement : (s : Symbol) (kind : Kind) (outer : List Opened) (around : Around) (at : ℕ) (st : State) → Type 0

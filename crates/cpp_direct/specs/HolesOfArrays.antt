@@ -8,7 +8,7 @@ use Rattle.cpp_grammar.specs.Values.{State, Around, tree}
 use Rattle.cpp_direct.specs.Symbol.{Symbol}
 use Rattle.cpp_direct.specs.declared.open.Access.{Access}
 use Rattle.cpp_direct.specs.declared.open.Access.TheVariants as accesses
-use Rattle.cpp_direct.specs.Holes.{Opened, Comes, Expects, with_candidate, IsNumberAt}
+use Rattle.cpp_direct.specs.Holes.{Awaits, Comes, IsNumberAt, Opened, with_candidate}
 
 -- the size of an array is at the place, digits or none, and this is the place after it
 abbrev pub IsSizeAt : (s : List ℕ) → (at : ℕ) → (digits : List ℕ) → (end : ℕ) → Type 0
@@ -44,8 +44,7 @@ array_opening accesses.Pointer = codes " (*)["
 array_opening accesses.Lvalue = codes " (&)["
 
 -- After its size the type of an array's elements is expected.
-pub record ArrayOpened (s : Symbol) (outer : List Opened) (around : Around) (access : Access) (digits : List ℕ) (at : ℕ) (st : State) : Type 0 where
-  pub inner : List Opened
-  pub awaits : Expects s Kind.Type around inner at st
-  pub onward : (t : Term) (at : ℕ) (st : State) → Comes s inner (tree t true) at st
-      → Comes s outer (tree (accessed access (array (values.normal digits) t)) true) at (with_accessed access around (array (values.normal digits) t) st)
+abbrev pub ArrayOpened : (s : Symbol) (outer : List Opened) (around : Around) (access : Access) (digits : List ℕ) (at : ℕ) (st : State) → Type 0
+ArrayOpened s outer around access digits at st = Awaits s Kind.Type around at st (λ inner.
+    (t : Term) (at : ℕ) (st : State) → Comes s inner (tree t true) at st
+    → Comes s outer (tree (accessed access (array (values.normal digits) t)) true) at (with_accessed access around (array (values.normal digits) t) st))

@@ -5,7 +5,7 @@ use Rattle.cpp_grammar.specs.Term.{Term, any_value, function_type, pointer, lval
 use Rattle.cpp_grammar.specs.Meaning.{parameters}
 use Rattle.cpp_grammar.specs.Values.{State, Around, outermost, tree, signature}
 use Rattle.cpp_direct.specs.Symbol.{Symbol}
-use Rattle.cpp_direct.specs.Holes.{Opened, Comes, Expects, TypePasses, with_candidate}
+use Rattle.cpp_direct.specs.Holes.{Awaits, Comes, Expects, Opened, TypePasses, with_candidate}
 
 -- a function type with this return type and these parameters, and nothing else to it
 abbrev pub plain_function : (returned : Term) → (items : Term) → Term
@@ -31,11 +31,10 @@ pub record SignatureGoesOn (s : Symbol) (outer : List Opened) (made_in : Around)
       → Comes s outer (tree (pointed is_pointer (made l)) true) at (with_pointed is_pointer made_in (made l) st)
 
 -- After an F the return type is expected.
-pub record FunctionOpened (s : Symbol) (outer : List Opened) (around : Around) (is_pointer : Bool) (at : ℕ) (st : State) : Type 0 where
-  pub inner : List Opened
-  pub awaits : Expects s Kind.Type around inner at st
-  pub onward : (r : Term) (at : ℕ) (st : State) → Comes s inner (tree r true) at st
-      → SignatureGoesOn s outer around is_pointer (λ l. plain_function r l) at st
+abbrev pub FunctionOpened : (s : Symbol) (outer : List Opened) (around : Around) (is_pointer : Bool) (at : ℕ) (st : State) → Type 0
+FunctionOpened s outer around is_pointer at st = Awaits s Kind.Type around at st (λ inner.
+    (r : Term) (at : ℕ) (st : State) → Comes s inner (tree r true) at st
+    → SignatureGoesOn s outer around is_pointer (λ l. plain_function r l) at st)
 
 -- A parameter is expected that is no reference.
 pub record ParameterOpened (s : Symbol) (outer : List Opened) (made_in : Around) (is_pointer : Bool) (made : Term → Term) (at : ℕ) (st : State) : Type 0 where

@@ -5,7 +5,7 @@ use Rattle.cpp_grammar.specs.Term.{Term, alone, instance, operation, source}
 use Rattle.cpp_grammar.specs.Values.{State, Around, Value, tree}
 use Rattle.cpp_grammar.specs.Between.{inside, no_items}
 use Rattle.cpp_direct.specs.Symbol.{Symbol}
-use Rattle.cpp_direct.specs.Holes.{Opened, StandsAt, Comes, Expects, IsNameAt}
+use Rattle.cpp_direct.specs.Holes.{Awaits, Comes, IsNameAt, Opened, StandsAt}
 
 -- a template with this name, which isn't looked up
 abbrev pub template_named : (name : List ℕ) → Term
@@ -22,8 +22,7 @@ MemberComes s os u at st =
     → Comes s os (tree (member_of u name) true) (end + 1) st
 
 -- After the name of a template and an I arguments are expected; after their E a member of the instance is.
-pub record LevelOpened (s : Symbol) (outer : List Opened) (around : Around) (name : List ℕ) (at : ℕ) (st : State) : Type 0 where
-  pub inner : List Opened
-  pub awaits : Expects s Kind.ArgumentList (inside around) inner at st
-  pub onward : (l : Value) (at : ℕ) (st : State) → Comes s inner l at st → StandsAt s.bytes at (69 ∷ [])
-      → MemberComes s outer (instance (template_named name) (no_items l)) (at + 1) st
+abbrev pub LevelOpened : (s : Symbol) (outer : List Opened) (around : Around) (name : List ℕ) (at : ℕ) (st : State) → Type 0
+LevelOpened s outer around name at st = Awaits s Kind.ArgumentList (inside around) at st (λ inner.
+    (l : Value) (at : ℕ) (st : State) → Comes s inner l at st → StandsAt s.bytes at (69 ∷ [])
+    → MemberComes s outer (instance (template_named name) (no_items l)) (at + 1) st)

@@ -10,18 +10,17 @@ use Rattle.cpp_grammar.specs.Between.{in_name, in_types, inside, no_items}
 use Rattle.cpp_grammar.specs.Meaning.{encoding_of}
 use Rattle.cpp_grammar.specs.Unfolding.{first_around, first_state}
 use Rattle.cpp_direct.specs.Symbol.{Symbol, mangled_of}
-use Rattle.cpp_direct.specs.Holes.{Opened, StandsAt, Comes, Expects, ListGoesOn, IsNumberAt}
+use Rattle.cpp_direct.specs.Holes.{Awaits, Comes, Expects, IsNumberAt, ListGoesOn, Opened, StandsAt}
 use Rattle.cpp_direct.specs.HolesOfTypes.{TreeOpens}
 use Rattle.cpp_direct.specs.ItemBytes.{is_suffix_byte}
 
 -- ## Lists
 
 -- After an I the arguments are expected; at an E they are the arguments of what comes before them.
-pub record ArgumentsOpened (s : Symbol) (outer : List Opened) (around : Around) (at : ℕ) (st : State) : Type 0 where
-  pub inner : List Opened
-  pub awaits : Expects s Kind.ArgumentList (inside around) inner at st
-  pub onward : (l : Value) (at : ℕ) (st : State) → Comes s inner l at st → StandsAt s.bytes at (69 ∷ [])
-      → Comes s outer (tree (no_items l) true) (at + 1) st
+abbrev pub ArgumentsOpened : (s : Symbol) (outer : List Opened) (around : Around) (at : ℕ) (st : State) → Type 0
+ArgumentsOpened s outer around at st = Awaits s Kind.ArgumentList (inside around) at st (λ inner.
+    (l : Value) (at : ℕ) (st : State) → Comes s inner l at st → StandsAt s.bytes at (69 ∷ [])
+    → Comes s outer (tree (no_items l) true) (at + 1) st)
 
 -- template arguments are read as one of these kinds
 abbrev pub IsArgumentKind : Kind → Type 0
@@ -30,18 +29,16 @@ IsArgumentKind Kind.PackList = Unit {0}
 IsArgumentKind _ = ⊥
 
 -- After an L a literal is expected, which ends at an E.
-pub record LiteralOpened (s : Symbol) (kind : Kind) (outer : List Opened) (around : Around) (at : ℕ) (st : State) : Type 0 where
-  pub inner : List Opened
-  pub awaits : Expects s Kind.Literal around inner at st
-  pub onward : (t : Term) (at : ℕ) (st : State) → Comes s inner (tree t true) at st → StandsAt s.bytes at (69 ∷ [])
-      → ListGoesOn s kind outer around t (at + 1) st
+abbrev pub LiteralOpened : (s : Symbol) (kind : Kind) (outer : List Opened) (around : Around) (at : ℕ) (st : State) → Type 0
+LiteralOpened s kind outer around at st = Awaits s Kind.Literal around at st (λ inner.
+    (t : Term) (at : ℕ) (st : State) → Comes s inner (tree t true) at st → StandsAt s.bytes at (69 ∷ [])
+    → ListGoesOn s kind outer around t (at + 1) st)
 
 -- After a J the elements of a pack are expected, which ends at an E.
-pub record PackOpened (s : Symbol) (outer : List Opened) (around : Around) (at : ℕ) (st : State) : Type 0 where
-  pub inner : List Opened
-  pub awaits : Expects s Kind.PackList around inner at st
-  pub onward : (l : Value) (at : ℕ) (st : State) → Comes s inner l at st → StandsAt s.bytes at (69 ∷ [])
-      → ListGoesOn s Kind.ArgumentList outer around (pack (no_items l)) (at + 1) st
+abbrev pub PackOpened : (s : Symbol) (outer : List Opened) (around : Around) (at : ℕ) (st : State) → Type 0
+PackOpened s outer around at st = Awaits s Kind.PackList around at st (λ inner.
+    (l : Value) (at : ℕ) (st : State) → Comes s inner l at st → StandsAt s.bytes at (69 ∷ [])
+    → ListGoesOn s Kind.ArgumentList outer around (pack (no_items l)) (at + 1) st)
 
 -- the digits of an integer are at the place, and this is the place after them
 abbrev pub IsDigitsAt : (s : List ℕ) → (at : ℕ) → (digits : List ℕ) → (end : ℕ) → Type 0
@@ -61,31 +58,27 @@ pub record EnumeratorOpened (s : Symbol) (kind : Kind) (outer : List Opened) (ar
       → ListGoesOn s kind outer around (integer t (signed_digits negative digits)) (end + 1) st
 
 -- After XadL_Z the encoding is expected whose address an argument is, then two E.
-pub record AddressOpened (s : Symbol) (outer : List Opened) (around : Around) (at : ℕ) (st : State) : Type 0 where
-  pub inner : List Opened
-  pub awaits : Expects s Kind.Encoding around inner at st
-  pub onward : (e : Term) (at : ℕ) (st : State) → Comes s inner (tree e true) at st → StandsAt s.bytes at (69 ∷ 69 ∷ [])
-      → Comes s outer (tree (address_of e) true) (at + 2) st
+abbrev pub AddressOpened : (s : Symbol) (outer : List Opened) (around : Around) (at : ℕ) (st : State) → Type 0
+AddressOpened s outer around at st = Awaits s Kind.Encoding around at st (λ inner.
+    (e : Term) (at : ℕ) (st : State) → Comes s inner (tree e true) at st → StandsAt s.bytes at (69 ∷ 69 ∷ [])
+    → Comes s outer (tree (address_of e) true) (at + 2) st)
 
 -- ## Encodings
 
 -- The items of an encoding with this name are expected; there may be none.
-pub record ItemsOpened (s : Symbol) (outer : List Opened) (encoding : ℕ) (name : Value) (at : ℕ) (st : State) : Type 0 where
-  pub inner : List Opened
-  pub awaits : Expects s Kind.Items (in_types encoding (tree_of name)) inner at st
-  pub onward : (l : Value) (at : ℕ) (st : State) → Comes s inner l at st → Comes s outer (tree (encoding_of name (no_items l)) true) at st
+abbrev pub ItemsOpened : (s : Symbol) (outer : List Opened) (encoding : ℕ) (name : Value) (at : ℕ) (st : State) → Type 0
+ItemsOpened s outer encoding name at st = Awaits s Kind.Items (in_types encoding (tree_of name)) at st (λ inner.
+    (l : Value) (at : ℕ) (st : State) → Comes s inner l at st → Comes s outer (tree (encoding_of name (no_items l)) true) at st)
 
 -- The name of an encoding that begins here is expected.
-pub record EncodingOpened (s : Symbol) (outer : List Opened) (at : ℕ) (st : State) : Type 0 where
-  pub inner : List Opened
-  pub awaits : Expects s Kind.CompleteName (in_name at) inner at st
-  pub onward : (v : Value) (here : ℕ) (st : State) → Comes s inner v here st → ItemsOpened s outer at v here st
+abbrev pub EncodingOpened : (s : Symbol) (outer : List Opened) (at : ℕ) (st : State) → Type 0
+EncodingOpened s outer at st = Awaits s Kind.CompleteName (in_name at) at st (λ inner.
+    (v : Value) (here : ℕ) (st : State) → Comes s inner v here st → ItemsOpened s outer at v here st)
 
 -- The type of a special object of an encoding that begins at a place is expected.
-pub record SpecialOpened (s : Symbol) (outer : List Opened) (encoding letter : ℕ) (at : ℕ) (st : State) : Type 0 where
-  pub inner : List Opened
-  pub awaits : Expects s Kind.Type (in_name encoding) inner at st
-  pub onward : (t : Term) (at : ℕ) (st : State) → Comes s inner (tree t true) at st → Comes s outer (tree (special letter t) true) at st
+abbrev pub SpecialOpened : (s : Symbol) (outer : List Opened) (encoding letter : ℕ) (at : ℕ) (st : State) → Type 0
+SpecialOpened s outer encoding letter at st = Awaits s Kind.Type (in_name encoding) at st (λ inner.
+    (t : Term) (at : ℕ) (st : State) → Comes s inner (tree t true) at st → Comes s outer (tree (special letter t) true) at st)
 
 -- an offset of a thunk is at the place, and this is the place after its _
 pub record IsOffsetAt (s : List ℕ) (at : ℕ) (end : ℕ) : Type 0 where
@@ -98,10 +91,9 @@ pub record IsOffsetAt (s : List ℕ) (at : ℕ) (end : ℕ) : Type 0 where
   pub ends : end ≡ behind + 1
 
 -- The base encoding of one that begins at a place is expected, of a thunk or of a clone, and this is made of it.
-pub record BaseOpened (s : Symbol) (outer : List Opened) (encoding : ℕ) (made : Term → Term) (at : ℕ) (st : State) : Type 0 where
-  pub inner : List Opened
-  pub awaits : Expects s Kind.Encoding (in_name encoding) inner at st
-  pub onward : (e : Term) (at : ℕ) (st : State) → Comes s inner (tree e true) at st → Comes s outer (tree (made e) true) at st
+abbrev pub BaseOpened : (s : Symbol) (outer : List Opened) (encoding : ℕ) (made : Term → Term) (at : ℕ) (st : State) → Type 0
+BaseOpened s outer encoding made at st = Awaits s Kind.Encoding (in_name encoding) at st (λ inner.
+    (e : Term) (at : ℕ) (st : State) → Comes s inner (tree e true) at st → Comes s outer (tree (made e) true) at st)
 
 -- the letter of a function that is const
 abbrev pub const_letter : (const : Bool) → List ℕ
@@ -119,11 +111,10 @@ abbrev pub nest_marks : (const : Bool) → RefQualifier → List ℕ
 nest_marks const on = 78 ∷ mark_letters const on
 
 -- The parts of a nested name are expected, which has these qualifiers.
-pub record NestOpened (s : Symbol) (outer : List Opened) (around : Around) (const : Bool) (on : RefQualifier) (at : ℕ) (st : State) : Type 0 where
-  pub inner : List Opened
-  pub awaits : Expects s Kind.Nest around inner at st
-  pub onward : (t : Term) (listed : Bool) (at : ℕ) (st : State) → Comes s inner (tree t listed) at st
-      → Comes s outer (named t (record { restrict = false; volatile = false; const = const }) on) at st
+abbrev pub NestOpened : (s : Symbol) (outer : List Opened) (around : Around) (const : Bool) (on : RefQualifier) (at : ℕ) (st : State) → Type 0
+NestOpened s outer around const on at st = Awaits s Kind.Nest around at st (λ inner.
+    (t : Term) (listed : Bool) (at : ℕ) (st : State) → Comes s inner (tree t listed) at st
+    → Comes s outer (named t (record { restrict = false; volatile = false; const = const }) on) at st)
 
 -- ## Symbols
 

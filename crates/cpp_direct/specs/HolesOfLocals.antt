@@ -6,7 +6,7 @@ use Rattle.cpp_grammar.specs.Values.{State, Around, Value, local_number, normal,
 use Rattle.cpp_grammar.specs.Between.{after, in_name}
 use Rattle.cpp_grammar.specs.Meaning.{discriminator_of, parameters}
 use Rattle.cpp_direct.specs.Symbol.{Symbol}
-use Rattle.cpp_direct.specs.Holes.{Opened, StandsAt, Comes, Expects, IsNameAt}
+use Rattle.cpp_direct.specs.Holes.{Awaits, Comes, Expects, IsNameAt, Opened, StandsAt}
 use Rattle.cpp_direct.specs.HolesOfLists.{IsDigitsAt}
 
 -- What comes after the name of an entity: nothing, a digit after a _, or digits after two and before another one.
@@ -46,11 +46,10 @@ abbrev pub entity_in : (e : Term) → (internal : Bool) → (name : List ℕ) �
 entity_in e internal name digit = local_in e (source internal name) digit
 
 -- The encoding is expected in which an entity is.
-pub record LocalOpened (s : Symbol) (outer : List Opened) (around : Around) (at : ℕ) (st : State) : Type 0 where
-  pub inner : List Opened
-  pub awaits : Expects s Kind.Encoding around inner at st
-  pub onward : (e : Term) (at : ℕ) (st : State) → Comes s inner (tree e true) at st → (internal : Bool) (name : List ℕ) (digit : Discriminator) (end : ℕ)
-      → IsEntityAt s.bytes at internal name digit end → Comes s outer (named (entity_in e internal name digit) unqualified any_value) end st
+abbrev pub LocalOpened : (s : Symbol) (outer : List Opened) (around : Around) (at : ℕ) (st : State) → Type 0
+LocalOpened s outer around at st = Awaits s Kind.Encoding around at st (λ inner.
+    (e : Term) (at : ℕ) (st : State) → Comes s inner (tree e true) at st → (internal : Bool) (name : List ℕ) (digit : Discriminator) (end : ℕ)
+    → IsEntityAt s.bytes at internal name digit end → Comes s outer (named (entity_in e internal name digit) unqualified any_value) end st)
 
 -- a piece is at the place as the name of a type in an encoding, and this is the place after it
 abbrev pub IsPieceAt : (s : Symbol) → (at : ℕ) → (piece : Term) → (end : ℕ) → Type 0
@@ -67,11 +66,10 @@ pub record EntityOpened (s : Symbol) (becomes : Term → (at : ℕ) → State �
       → IsDiscriminatorAt s.bytes at digit end → becomes (local_in e p digit) end st
 
 -- The encoding is expected in which a type is.
-pub record LocalTypeOpened (s : Symbol) (outer : List Opened) (around : Around) (at : ℕ) (st : State) : Type 0 where
-  pub inner : List Opened
-  pub awaits : Expects s Kind.Encoding around inner at st
-  pub onward : (e : Term) (at : ℕ) (st : State) → Comes s inner (tree e true) at st → StandsAt s.bytes at (69 ∷ [])
-      → EntityOpened s (λ t end now. Comes s outer (tree t false) end now) e (at + 1) st
+abbrev pub LocalTypeOpened : (s : Symbol) (outer : List Opened) (around : Around) (at : ℕ) (st : State) → Type 0
+LocalTypeOpened s outer around at st = Awaits s Kind.Encoding around at st (λ inner.
+    (e : Term) (at : ℕ) (st : State) → Comes s inner (tree e true) at st → StandsAt s.bytes at (69 ∷ [])
+    → EntityOpened s (λ t end now. Comes s outer (tree t false) end now) e (at + 1) st)
 
 -- the digit after a lambda's E, if it isn't the first one
 abbrev pub lambda_digits : Option ℕ → List ℕ
@@ -97,8 +95,7 @@ abbrev pub lambda_ending : Option ℕ → List ℕ
 lambda_ending number = 69 ∷ (lambda_digits number ++ 95 ∷ [])
 
 -- The name is expected of which a variable is the guard, in an encoding that begins at a place.
-pub record GuardOpened (s : Symbol) (outer : List Opened) (encoding : ℕ) (at : ℕ) (st : State) : Type 0 where
-  pub inner : List Opened
-  pub awaits : Expects s Kind.CompleteName (in_name encoding) inner at st
-  pub onward : (v : Value) (at : ℕ) (st : State) → Comes s inner v at st
-      → Comes s outer (tree (of_name 86 (tree_of v) (qualifiers_of v) (ref_of v)) true) at st
+abbrev pub GuardOpened : (s : Symbol) (outer : List Opened) (encoding : ℕ) (at : ℕ) (st : State) → Type 0
+GuardOpened s outer encoding at st = Awaits s Kind.CompleteName (in_name encoding) at st (λ inner.
+    (v : Value) (at : ℕ) (st : State) → Comes s inner v at st
+    → Comes s outer (tree (of_name 86 (tree_of v) (qualifiers_of v) (ref_of v)) true) at st)

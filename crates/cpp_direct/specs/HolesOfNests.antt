@@ -5,7 +5,7 @@ use Rattle.cpp_grammar.specs.Term.{Term, instance}
 use Rattle.cpp_grammar.specs.Values.{State, Around, Value}
 use Rattle.cpp_grammar.specs.Between.{inside, no_items}
 use Rattle.cpp_direct.specs.Symbol.{Symbol}
-use Rattle.cpp_direct.specs.Holes.{Opened, StandsAt, Comes, Expects, unless_listed, with_candidate, AwaitsComponent, NestGoesOn}
+use Rattle.cpp_direct.specs.Holes.{Awaits, AwaitsComponent, Comes, NestGoesOn, Opened, StandsAt, unless_listed, with_candidate}
 
 -- a nested name may go on as one of these kinds
 abbrev pub IsRest : Kind → Type 0
@@ -22,15 +22,13 @@ IsFirstRest Kind.NestRestOrEnd = Unit {0}
 IsFirstRest _ = ⊥
 
 -- Arguments of the name so far are expected after an I, and after their E a component.
-pub record AwaitsArguments (s : Symbol) (outer : List Opened) (around : Around) (t : Term) (listed : Bool) (at : ℕ) (st : State) : Type 0 where
-  pub inner : List Opened
-  pub awaits : Expects s Kind.ArgumentList (inside around) inner (at + 1) (unless_listed listed around t st)
-  pub onward : (l : Value) (at : ℕ) (st : State) → Comes s inner l at st → StandsAt s.bytes at (69 ∷ [])
-      → AwaitsComponent s outer around (instance t (no_items l)) (at + 1) (with_candidate around (instance t (no_items l)) st)
+abbrev pub AwaitsArguments : (s : Symbol) (outer : List Opened) (around : Around) (t : Term) (listed : Bool) (at : ℕ) (st : State) → Type 0
+AwaitsArguments s outer around t listed at st = Awaits s Kind.ArgumentList (inside around) (at + 1) (unless_listed listed around t st) (λ inner.
+    (l : Value) (at : ℕ) (st : State) → Comes s inner l at st → StandsAt s.bytes at (69 ∷ [])
+    → AwaitsComponent s outer around (instance t (no_items l)) (at + 1) (with_candidate around (instance t (no_items l)) st))
 
 -- The same of a name that an S stands for: after the E a component follows, or by the wide grammar the name ends.
-pub record AwaitsInstance (s : Symbol) (outer : List Opened) (around : Around) (t : Term) (listed : Bool) (at : ℕ) (st : State) : Type 0 where
-  pub inner : List Opened
-  pub awaits : Expects s Kind.ArgumentList (inside around) inner (at + 1) (unless_listed listed around t st)
-  pub onward : (l : Value) (at : ℕ) (st : State) → Comes s inner l at st → StandsAt s.bytes at (69 ∷ [])
-      → NestGoesOn s Kind.NestMoreOrEnd outer around (instance t (no_items l)) false (at + 1) st
+abbrev pub AwaitsInstance : (s : Symbol) (outer : List Opened) (around : Around) (t : Term) (listed : Bool) (at : ℕ) (st : State) → Type 0
+AwaitsInstance s outer around t listed at st = Awaits s Kind.ArgumentList (inside around) (at + 1) (unless_listed listed around t st) (λ inner.
+    (l : Value) (at : ℕ) (st : State) → Comes s inner l at st → StandsAt s.bytes at (69 ∷ [])
+    → NestGoesOn s Kind.NestMoreOrEnd outer around (instance t (no_items l)) false (at + 1) st)

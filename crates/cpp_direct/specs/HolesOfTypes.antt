@@ -5,7 +5,7 @@ use Rattle.cpp_grammar.specs.Term.{Term, qualified}
 use Rattle.cpp_grammar.specs.Values.{State, Around, tree}
 use Rattle.cpp_grammar.specs.References.{is_function_type}
 use Rattle.cpp_direct.specs.Symbol.{Symbol}
-use Rattle.cpp_direct.specs.Holes.{Opened, StandsAt, Comes, Expects, TypePasses, TypeNamed, unless_listed}
+use Rattle.cpp_direct.specs.Holes.{Awaits, Comes, Opened, StandsAt, TypeNamed, TypePasses, unless_listed}
 
 -- const and nothing else
 abbrev pub as_const : Term → Term
@@ -29,10 +29,9 @@ IsNamedKind Kind.LiteralType = Unit {0}
 IsNamedKind _ = ⊥
 
 -- A type of this kind is expected within another, which is made of it.
-pub record TypeOpens (s : Symbol) (kind : Kind) (outer : List Opened) (around : Around) (made : Term → Term) (at : ℕ) (st : State) : Type 0 where
-  pub inner : List Opened
-  pub awaits : Expects s kind around inner at st
-  pub passes : TypePasses s inner outer around made
+abbrev pub TypeOpens : (s : Symbol) (kind : Kind) (outer : List Opened) (around : Around) (made : Term → Term) (at : ℕ) (st : State) → Type 0
+TypeOpens s kind outer around made at st = Awaits s kind around at st (λ inner.
+    TypePasses s inner outer around made)
 
 -- a tree of this kind, which is no function type, becomes a candidate unless it is one already or never is one
 abbrev pub TreePasses : (s : Symbol) → (inner outer : List Opened) → Around → Type 0
@@ -41,13 +40,11 @@ TreePasses s inner outer around =
     → Comes s outer (tree t true) at (unless_listed listed around t st)
 
 -- A part of this kind is expected, which is the whole type.
-pub record TreeOpens (s : Symbol) (kind : Kind) (outer : List Opened) (around : Around) (at : ℕ) (st : State) : Type 0 where
-  pub inner : List Opened
-  pub awaits : Expects s kind around inner at st
-  pub passes : TreePasses s inner outer around
+abbrev pub TreeOpens : (s : Symbol) (kind : Kind) (outer : List Opened) (around : Around) (at : ℕ) (st : State) → Type 0
+TreeOpens s kind outer around at st = Awaits s kind around at st (λ inner.
+    TreePasses s inner outer around)
 
 -- A name of a type is expected after an S.
-pub record NameOpens (s : Symbol) (kind : Kind) (outer : List Opened) (around : Around) (at : ℕ) (st : State) : Type 0 where
-  pub inner : List Opened
-  pub awaits : Expects s kind around inner at st
-  pub named : (t : Term) (listed : Bool) (at : ℕ) (st : State) → Comes s inner (tree t listed) at st → TypeNamed s outer around t listed at st
+abbrev pub NameOpens : (s : Symbol) (kind : Kind) (outer : List Opened) (around : Around) (at : ℕ) (st : State) → Type 0
+NameOpens s kind outer around at st = Awaits s kind around at st (λ inner.
+    (t : Term) (listed : Bool) (at : ℕ) (st : State) → Comes s inner (tree t listed) at st → TypeNamed s outer around t listed at st)

@@ -1,3 +1,4 @@
+pub mod AllHoles
 pub mod Bytes
 pub mod Holes
 pub mod HolesOfArrays
@@ -14,6 +15,7 @@ pub mod Names
 pub mod Prints
 pub mod Scoping
 pub mod WriterInvariant
+pub mod WriterTypes
 pub mod Symbol
 pub mod MidStep
 pub mod MidStepOfAddresses

@@ -33,7 +33,7 @@ use Rattle.cpp_direct.specs.HolesOfLevels.{MemberComes}
 use Rattle.cpp_direct.specs.HolesOfTypes.{IsNamedKind, NoReference, TreeOpens}
 use Rattle.cpp_direct.specs.Marks.{has_const, called_on, mark_text}
 use Rattle.cpp_direct.specs.Prints.{NamesClass, Prints, PrintsName, IsElement, PrintAll, Shows, Encloses, sign_text, PrintsAs, PrintsIn, PrintAllAs, IsGiven, PrintAllBy, PrintsMade, pattern_letters}
-use Rattle.cpp_direct.specs.WriterInvariant.{AwaitsItems, Encoded, EncodedBehind, Fronts, IsListing, IsTail, IsTemplate, GoesOn, EnumeratorGoesOn, Owns, ParametersGoOn, Serves, Stands, TakesFunction, opening_text, qualifiers, arguments_or_pack, extra_of, led_by, list_with, in_front_of_next, ComeBefore, AreAmong, HasArguments, HasPack, IsAmong, IsPackOf, IsSingle, IsKnown, IsMadeIn, IsScoped, is_type, place_of, IsNaming, IsNestScoped, Scope, below, is_noted, may_name, encoding_place, IsNamedSo, IsNesting, Kept, IsBetween, AwaitsTypeIn, HasInstance, HasParameters, IsNestSoFar, FirstType, IsTaken}
+use Rattle.cpp_direct.specs.WriterInvariant.{AwaitsItems, TakesItems, Encoded, EncodedBehind, Fronts, IsListing, IsTail, IsTemplate, GoesOn, EnumeratorGoesOn, Owns, ParametersGoOn, Serves, Stands, TakesFunction, opening_text, qualifiers, arguments_or_pack, extra_of, led_by, list_with, in_front_of_next, ComeBefore, AreAmong, HasArguments, HasNameSo, HasPack, IsAmong, IsPackOf, IsSingle, IsKnown, IsMadeIn, IsScoped, is_type, place_of, IsNaming, IsNestScoped, Scope, below, is_noted, may_name, encoding_place, IsNesting, Kept, IsBetween, AwaitsTypeIn, HasInstance, HasParameters, IsNestSoFar, FirstType, IsTaken}
 
 -- the digits after the T of a parameter with this number, of which there is one at most
 abbrev pub parameter_digits : (number : ℕ) → List ℕ
@@ -65,6 +65,15 @@ pub record AwaitsEncoding (s : Symbol) (w : Direct) : Type 0 where
   pub begins : w.text.list.items ≡ [] → w.at ≡ encoding_place s.bytes
   pub awaits : Expects s Kind.Encoding around outer w.at state
   pub onward : (e : Term) (at : ℕ) (st : State) → Comes s outer (tree e true) at st → EncodedBehind s w.text.list.items e at
+
+-- its name is expected, or that of an object
+pub record AwaitsName (s : Symbol) (w : Direct) : Type 0 where
+  pub kept : Kept s w
+  pub open kept use *
+  pub encoding : ℕ
+  pub outer : List Opened
+  pub awaits : Expects s Kind.CompleteName (in_name encoding) outer w.at state
+  pub onward : (v : Value) (at : ℕ) (st : State) → Comes s outer v at st → AwaitsItems s w.text.list.items v at st
 
 -- the name of an encoding that began before is expected, after the L of internal linkage or without
 pub record AwaitsSource (s : Symbol) (w : Direct) (is_internal : Bool) : Type 0 where
@@ -245,7 +254,7 @@ pub record IsNestKnown (s : Symbol) (w : Direct) : Type 0 where
   pub own : Term
   pub nesting : IsNesting s scope Kind.NestRestOrEnd w own state
   pub listed : w.nest.is_listed ≡ true
-  pub classless : w.nest.has_class ≡ false
+  pub no_structor : w.nest.has_class ≡ true → is_structor own ≡ false
 
 -- A component of a nested name was read, or a name in std. Arguments may come after it, or tags.
 pub record IsNestNamed (s : Symbol) (w : Direct) : Type 0 where
@@ -376,17 +385,6 @@ pub record AwaitsMember (s : Symbol) (w : Direct) (is_dependent : Bool) : Type 0
   pub follows : MemberComes s outer own w.at state
   pub stands : Stands s scope (reverse w.waiting.list.items) outer front
 
--- A name was written from a place on, and is read as that of a function with this mark, or of data.
-pub record HasNameSo (s : Symbol) (text : List ℕ) (mark : Mark) (from : ℕ) : Type 0 where
-  pub own : Term
-  pub v : Value
-  pub named_so : IsNamedSo v own mark
-  pub lead : List ℕ
-  pub name : List ℕ
-  pub written : text ≡ lead ++ name
-  pub from_is : from ≡ length lead
-  pub prints : PrintsName (detail_of s) own name
-
 -- The name of an encoding was read and written from a place on, but for its qualifier. The known ones of these arguments are at their
 -- places.
 pub record IsNameEnded (s : Symbol) (w : Direct) (mark : Mark) (is_instance : Bool) (argument : Arguments) (from : ℕ) : Type 0 where
@@ -404,6 +402,7 @@ pub record IsNameScoped (s : Symbol) (w : Direct) (mark : Mark) (is_instance : B
   pub ended : IsNameEnded s w mark is_instance argument from
   pub given : IsGiven (detail_of s) ended.scope.names (types_of ended.own)
   pub named : ended.scope.arguments ≡ argument
+  pub items : TakesItems s ended.lead ended.v w.at ended.state
   pub encoded : argument.encoding ≢ 0 → (from ≡ 0) × (argument.encoding ≡ encoding_place s.bytes)
 
 -- The return type of a function was read, and comes after the function's name and what is written before it.

@@ -8,7 +8,7 @@ use Rattle.cpp_grammar.specs.References.{is_function_type}
 use Rattle.cpp_grammar.specs.Items.{Form, full, bare, left, right, base, piece, Context, closed, head, is_reference, is_funarr, is_empty, argument}
 use Rattle.cpp_grammar.specs.Meaning.{is_void}
 use Rattle.cpp_grammar.specs.Parts.{as_item, says, prefix_item, within_parts, last_piece, opening_text, is_plain_integer}
-use Rattle.cpp_direct.specs.WrittenParts.{written}
+pub use Rattle.cpp_direct.specs.WrittenParts.{IsUnmarked, closing_bracket, closing_byte, opening_bracket, opening_byte, unmarked_parts, written, written_in, written_instance}
 use Rattle.cpp_direct.specs.HolesOfTypes.{as_const}
 use Rattle.cpp_direct.specs.declared.open.Pattern.{Pattern}
 use Rattle.cpp_direct.specs.declared.open.Purpose.{Purpose}

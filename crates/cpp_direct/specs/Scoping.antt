@@ -15,7 +15,7 @@ use Rattle.cpp_direct.specs.declared.open.Argument.{Argument}
 use Rattle.cpp_direct.specs.declared.open.Arguments.{Arguments}
 use Rattle.cpp_direct.specs.declared.open.Open.TheVariants as opens
 use Rattle.cpp_direct.specs.declared.direct.Direct.{Direct}
-use Rattle.cpp_direct.specs.Bytes.{is_local}
+use Rattle.cpp_direct.specs.Bytes.{is_local, is_object}
 use Rattle.cpp_direct.specs.Prints.{Named, Names, Prints, PrintsAs, list_of}
 
 -- ## Places
@@ -195,12 +195,12 @@ AreCandidates s scope text (k ∷ ks) (c ∷ cs) = (k.from ≤ k.to → IsCandid
 AreCandidates s scope text _ _ = ⊥
 
 -- What a writer keeps: its candidates, and the arguments that types may name, of which none are known before the symbol's own name, but
--- for those of a function whose address is an argument of that.
+-- for those of a function whose address is an argument of that. After an object's name there are no types.
 pub record Keeps (s : Symbol) (scope : Scope) (w : Direct) (cs : List values.Candidate) : Type 0 where
   pub candidates : AreCandidates s scope w.text.list.items w.candidates.list.items cs
   pub named : AreNamed w.text.list.items scope
   pub single : HasSingles scope
-  pub unknown : w.has_scope ≡ false → scope ≡ no_scope
+  pub unknown : w.has_scope ≡ false → (scope ≡ no_scope) × (is_object s.bytes ≡ false)
 
 -- a writer keeps this after it has come so far
 pub record Kept (s : Symbol) (w : Direct) : Type 0 where

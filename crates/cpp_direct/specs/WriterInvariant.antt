@@ -26,7 +26,7 @@ use Rattle.cpp_direct.specs.declared.open.Open.TheVariants as opens
 use Rattle.cpp_direct.specs.declared.open.Step.{Step}
 use Rattle.cpp_direct.specs.declared.open.Step.TheVariants as steps
 use Rattle.cpp_direct.specs.declared.direct.Direct.{Direct}
-use Rattle.cpp_direct.specs.Bytes.{is_local}
+use Rattle.cpp_direct.specs.Bytes.{is_local, is_object}
 use Rattle.cpp_direct.specs.Holes.{Opened, Comes, Expects, StandsAt, TypePasses, NestGoesOn, AwaitsComponent, with_candidate, unless_listed}
 use Rattle.cpp_direct.specs.HolesOfFunctions.{SignatureGoesOn, plain_function}
 use Rattle.cpp_direct.specs.HolesOfArrays.{accessed, with_accessed}
@@ -68,7 +68,7 @@ pub record EncodedBehind (s : Symbol) (lead : List ℕ) (e : Term) (at : ℕ) : 
       → EntityBehind s lead e name end
 
 -- the name of an encoding after a text was read, and items may follow
-pub record AwaitsItems (s : Symbol) (lead : List ℕ) (v : Value) (at : ℕ) (st : State) : Type 0 where
+pub record TakesItems (s : Symbol) (lead : List ℕ) (v : Value) (at : ℕ) (st : State) : Type 0 where
   pub around : Around
   pub inner : List Opened
   pub outside : around.prefix ≡ outermost
@@ -77,6 +77,11 @@ pub record AwaitsItems (s : Symbol) (lead : List ℕ) (v : Value) (at : ℕ) (st
   pub no_lambda : around.in_lambda ≡ false
   pub awaits : Expects s Kind.Items around inner at st
   pub onward : (l : Value) (at : ℕ) (st : State) → Comes s inner l at st → EncodedBehind s lead (encoding_of v (no_items l)) at
+
+-- the name of an encoding after a text was read, or of the symbol's object, after which no items follow
+pub record AwaitsItems (s : Symbol) (lead : List ℕ) (v : Value) (at : ℕ) (st : State) : Type 0 where
+  pub ends : EncodedBehind s lead (encoding_of v nil) at
+  pub items : is_object s.bytes ≡ false → TakesItems s lead v at st
 
 -- This text is written of the whole symbol.
 pub record IsWhole (s : Symbol) (text : List ℕ) : Type 0 where
@@ -113,6 +118,17 @@ pub record IsNamedSo (v : Value) (own : Term) (mark : Mark) : Type 0 where
   pub tree_is : tree_of v ≡ own
   pub qualifiers_are : qualifiers_of v ≡ qualifiers (has_const mark)
   pub mark_is : ref_of v ≡ called_on mark
+
+-- A name was written from a place on, and is read as that of a function with this mark, or of data.
+pub record HasNameSo (s : Symbol) (text : List ℕ) (mark : Mark) (from : ℕ) : Type 0 where
+  pub own : Term
+  pub v : Value
+  pub named_so : IsNamedSo v own mark
+  pub lead : List ℕ
+  pub name : List ℕ
+  pub written : text ≡ lead ++ name
+  pub from_is : from ≡ length lead
+  pub prints : PrintsName (detail_of s) own name
 
 -- a nested name is that of a function or of data
 abbrev pub IsOwn : Purpose → Type 0
@@ -207,37 +223,32 @@ pub record IsLedFunction (detail : Detail) (extra : ℕ) (mark : Mark) (ts : Lis
   pub makes : (t rest : Term) → make (list t rest) ≡ function own (qualifiers (has_const mark)) (called_on mark) returned (parameters (list t rest))
   pub elements : PrintAllIn detail (types_of own) extra ts texts
 
--- They are those of a function in which a type is, from a place on.
-pub record HasEnclosing (detail : Detail) (mark : Mark) (from : ℕ) (ts : List Term) (texts : List ℕ) : Type 0 where
-  pub is_led : IsLedFunction detail 6 mark ts texts
+-- So they are, and this is so of the function's name after that text.
+pub record HasLed (detail : Detail) (extra : ℕ) (mark : Mark) (Leads : (own : Term) → (front name : List ℕ) → Type 0) (ts : List Term) (texts : List ℕ) : Type 0 where
+  pub is_led : IsLedFunction detail extra mark ts texts
   pub open is_led use *
-  pub from_is : from ≡ length front
+  pub leads : Leads own front name
+
+-- It is written from a place on, up to another one.
+abbrev pub IsEnclosing : (from to : ℕ) → (own : Term) → (front name : List ℕ) → Type 0
+IsEnclosing from to own front name = (from ≡ length front) × (to ≡ length (front ++ name))
 
 -- The name of a function whose address is an argument is written up to this place. The known arguments that it ends in are at their
--- places in what is written up to there, and are those that types may name.
-pub record IsAddressed (detail : Detail) (scope : Scope) (to : ℕ) (argument : Arguments) (own : Term) (front name : List ℕ) : Type 0 where
+-- places in what is written up to there, and are those that types may name. It is in no object's name.
+pub record IsAddressed (s : Symbol) (scope : Scope) (to : ℕ) (argument : Arguments) (own : Term) (front name : List ℕ) : Type 0 where
   pub to_is : to ≡ length (front ++ name)
-  pub given : IsGiven detail scope.names (types_of own)
+  pub given : IsGiven (detail_of s) scope.names (types_of own)
   pub named : scope.arguments ≡ argument
   pub there : AreNamed (front ++ name) scope
+  pub typed : is_object s.bytes ≡ false
 
--- So are the parameters so far.
-pub record HasAddressed (detail : Detail) (scope : Scope) (mark : Mark) (to : ℕ) (argument : Arguments) (ts : List Term) (texts : List ℕ) : Type 0 where
-  pub is_led : IsLedFunction detail 3 mark ts texts
-  pub open is_led use *
-  pub is_addressed : IsAddressed detail scope to argument own front name
+-- It is, and the function has a return type.
+pub record HasAddressedFront (s : Symbol) (scope : Scope) (text : List ℕ) (mark : Mark) (to : ℕ) (argument : Arguments) : Type 0 where
+  pub from : ℕ
+  pub has : HasNameSo s text mark from
+  pub open has use *
+  pub is_addressed : IsAddressed s scope to argument own lead name
   pub open is_addressed use *
-
--- The name alone is, and the function has a return type.
-pub record HasAddressedFront (detail : Detail) (scope : Scope) (mark : Mark) (to : ℕ) (argument : Arguments) : Type 0 where
-  pub front : List ℕ
-  pub name : List ℕ
-  pub own : Term
-  pub prints : PrintsName detail own name
-  pub is_addressed : IsAddressed detail scope to argument own front name
-  pub open is_addressed use *
-  pub v : Value
-  pub named_so : IsNamedSo v own mark
   pub returns : has_return_type own ≡ true
 
 -- the name of a function that has a return type, and its text
@@ -516,6 +527,13 @@ pub record FirstType (s : Symbol) : Type 0 where
   pub is_reference : Bool
   pub prints : Prints (detail_of s) own bytes is_reference
 
+-- A parameter comes of such a function, after these, and what is open waits for the function.
+abbrev pub AwaitsLed : (s : Symbol) → (extra : ℕ) → Mark → Arguments → (Leads : (own : Term) → (front name : List ℕ) → Type 0)
+    → (Within : (front : List ℕ) → (e : Term) → (at : ℕ) → State → Type 0) → List Opened → (text : List ℕ) → Type 0
+AwaitsLed s extra mark argument Leads Within os text =
+    (ts : List Term) × (texts : List ℕ) × (h : HasLed (detail_of s) extra mark Leads ts texts) × (text ≡ h.front ++ h.name ++ codes "(" ++ in_front_of_next ts texts)
+    × ((t : Term) (at : ℕ) (st : State) → Comes s os (tree t true) at st → ItemsGoOn s argument (Within h.front) h.make (ts ++ t ∷ []) at st)
+
 -- A type comes for the last of the open ones, after what is written, or the name of a function whose address is read. While the types of
 -- that function are read, nothing is named by what is open around them.
 abbrev pub Stands : (s : Symbol) → Scope → List Open → List Opened → (text : List ℕ) → Type 0
@@ -532,22 +550,15 @@ Stands s scope (opens.Parameters mark start argument ∷ rest) os text =
     × (text ≡ p.front ++ codes "(" ++ in_front_of_next ts texts)
     × ((t : Term) (at : ℕ) (st : State) → Comes s os (tree t true) at st → ParametersGoOn s argument p.lead p.make (ts ++ t ∷ []) at st)
 Stands s scope (opens.Enclosing mark from to ∷ rest) os text =
-    (ts : List Term) × (texts : List ℕ) × (h : HasEnclosing (detail_of s) mark from ts texts)
-    × (text ≡ h.front ++ h.name ++ codes "(" ++ in_front_of_next ts texts)
-    × ((t : Term) (at : ℕ) (st : State) → Comes s os (tree t true) at st
-    → ItemsGoOn s nowhere (TypeWithin s (outside scope rest (Stands s scope rest)) h.front) h.make (ts ++ t ∷ []) at st)
-    × (to ≡ length (h.front ++ h.name))
+    AwaitsLed s 6 mark nowhere (IsEnclosing from to) (TypeWithin s (outside scope rest (Stands s scope rest))) os text
 Stands s scope (opens.Address encoding ∷ rest) os text =
     (v : Value) (at : ℕ) (st : State) → Comes s os v at st → ItemsOf s encoding (AddressWithin s (outside scope rest (Stands s scope rest)) text) v at st
 Stands s scope (opens.AddressedFront mark to argument ∷ rest) os text =
-    (a : HasAddressedFront (detail_of s) scope mark to argument) × (text ≡ a.front ++ a.name)
+    (a : HasAddressedFront s scope text mark to argument)
     × ((t : Term) (at : ℕ) (st : State) → Comes s os (tree t true) at st
-    → ItemsGoOn s argument (AddressWithin s (outside no_scope rest (Stands s no_scope rest)) a.front) (λ l. encoding_of a.v l) (t ∷ []) at st)
+    → ItemsGoOn s argument (AddressWithin s (outside no_scope rest (Stands s no_scope rest)) a.lead) (λ l. encoding_of a.v l) (t ∷ []) at st)
 Stands s scope (opens.Addressed mark to argument ∷ rest) os text =
-    (ts : List Term) × (texts : List ℕ) × (h : HasAddressed (detail_of s) scope mark to argument ts texts)
-    × (text ≡ h.front ++ h.name ++ codes "(" ++ in_front_of_next ts texts)
-    × ((t : Term) (at : ℕ) (st : State) → Comes s os (tree t true) at st
-    → ItemsGoOn s argument (AddressWithin s (outside no_scope rest (Stands s no_scope rest)) h.front) h.make (ts ++ t ∷ []) at st)
+    AwaitsLed s 3 mark argument (IsAddressed s scope to argument) (AddressWithin s (outside no_scope rest (Stands s no_scope rest))) os text
 Stands s scope (opens.Lambda from nested ∷ rest) os text =
     (h : IsLed (detail_of s) nested from) × (ts : List Term) × (texts : List ℕ) × PrintAll (detail_of s) 0 ts texts
     × (text ≡ h.front ++ (h.bytes ++ codes "::{lambda(") ++ in_front_of_next ts texts)

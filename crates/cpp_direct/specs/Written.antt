@@ -1,10 +1,13 @@
 -- What the small functions of a writer do to its lists.
-use Rattle.std.specs.Prelude.{◌≡◌, ◌⊎◌, ℕ, List, [], ◌∷◌, ◌++◌, length, drop, Bool, true, false, ◌≤◌}
+use Rattle.std.specs.Prelude.{◌≡◌, ◌⊎◌, ℕ, ◌+◌, List, [], ◌∷◌, ◌++◌, length, drop, Bool, true, false, ◌≤◌}
 use Rattle.cpp_direct.specs.declared.open.Argument.{Argument}
 use Rattle.cpp_direct.specs.declared.open.Candidate.{Candidate}
 use Rattle.cpp_direct.specs.declared.open.Hiding.{Hiding}
 use Rattle.cpp_direct.specs.declared.open.Hiding.TheVariants as hidings
+use Rattle.sym_print.specs.declared.detail.Detail.{Detail}
 use Rattle.cpp_direct.specs.declared.direct.Direct.{Direct}
+use Rattle.cpp_direct.specs.declared.open.Open.{Open}
+use Rattle.cpp_direct.specs.WrittenParts.{opening_bracket}
 
 -- a text was written, and nothing else changed
 pub record Writes (old new : Direct) (bytes : List ℕ) : Type 0 where
@@ -31,6 +34,34 @@ pub record Cuts (old new : Direct) (start : ℕ) : Type 0 where
   pub candidates : ((start ≡ 0) × (new.candidates ≡ old.candidates)) ⊎ (new.candidates.list.items ≡ [])
   pub scope : new.has_scope ≡ old.has_scope
   pub at : new.at ≡ old.at
+
+-- the candidates are these, and nothing else changed
+pub record Lists (old new : Direct) (ks : List Candidate) : Type 0 where
+  pub candidates : new.candidates.list.items ≡ ks
+  pub text : new.text ≡ old.text
+  pub waiting : new.waiting ≡ old.waiting
+  pub nest : new.nest ≡ old.nest
+  pub scope : new.has_scope ≡ old.has_scope
+  pub at : new.at ≡ old.at
+  pub rounds : new.rounds ≡ old.rounds
+
+-- a byte was read, and this was opened
+pub record OpensEntry (old new : Direct) (entry : Open) : Type 0 where
+  pub waiting : new.waiting.list.items ≡ old.waiting.list.items ++ entry ∷ []
+  pub at : new.at ≡ old.at + 1
+  pub text : new.text ≡ old.text
+  pub candidates : new.candidates ≡ old.candidates
+  pub nest : new.nest ≡ old.nest
+  pub scope : new.has_scope ≡ old.has_scope
+
+-- the same of arguments, of which the bracket was written
+pub record OpensArguments (detail : Detail) (old new : Direct) (entry : Open) : Type 0 where
+  pub waiting : new.waiting.list.items ≡ old.waiting.list.items ++ entry ∷ []
+  pub at : new.at ≡ old.at + 1
+  pub text : new.text.list.items ≡ old.text.list.items ++ opening_bracket detail
+  pub candidates : new.candidates ≡ old.candidates
+  pub nest : new.nest ≡ old.nest
+  pub scope : new.has_scope ≡ old.has_scope
 
 -- the candidates, and what is written from a place on
 abbrev pub added : Direct → (from : ℕ) → (is_reference is_dependent : Bool) → List Candidate
@@ -66,7 +97,10 @@ AreLeft hiding [] [] = Unit {0}
 AreLeft hiding (k ∷ ks) (n ∷ ns) = IsLeft hiding k n × AreLeft hiding ks ns
 AreLeft hiding _ _ = ⊥
 
--- the candidates, and such a one for a function type and for the pointer to it
+-- candidates, and such a one for a function type, and one for the pointer to it, if it is one
+abbrev pub hidden_behind : (is_pointer : Bool) → List Candidate → List Candidate
+hidden_behind true ks = (ks ++ hidden ∷ []) ++ hidden ∷ []
+hidden_behind false ks = ks ++ hidden ∷ []
+
 abbrev pub with_hidden : Direct → (is_pointer : Bool) → List Candidate
-with_hidden w true = (w.candidates.list.items ++ hidden ∷ []) ++ hidden ∷ []
-with_hidden w false = w.candidates.list.items ++ hidden ∷ []
+with_hidden w is_pointer = hidden_behind is_pointer w.candidates.list.items

@@ -3,7 +3,7 @@
 ghost use Rattle.std.specs.Prelude.{◌≡◌, ◌⊎◌, ◌∷◌, [], false};
 ghost use Rattle.std.specs.Option.{IfSome};
 ghost use Rattle.cpp_grammar.specs.Parts.{clone_text};
-ghost use Rattle.cpp_direct.specs.Bytes.{is_local};
+ghost use Rattle.cpp_direct.specs.Bytes.{is_local, is_guard};
 ghost use Rattle.cpp_direct.specs.Names.{IsReadable};
 ghost use Rattle.cpp_direct.specs.Holes.{StandsAt};
 ghost use Rattle.cpp_direct.specs.WriterInvariant.{IsWriting};
@@ -35,6 +35,7 @@ impl Direct {
         requires fits { IsReadable s.now }
         requires fresh { IsFresh self.old }
         requires apart { is_local s.now ≡ false }
+        requires other { is_guard s.now ≡ false }
         requires starts { StandsAt s.now 0 (95 ∷ 90 ∷ []) }
         requires first { StandsAt s.now 2 (71 ∷ []) }
         ensures { IfSome result (IsWriting (symbol_by G.IS_WIDE G.IS_BARE G.IS_BRIEF s.now) self.new) }

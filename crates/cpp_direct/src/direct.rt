@@ -23,7 +23,7 @@ pub struct Direct {
     /// the first may be a literal, or the elements of a pack of such types, if this is the only one
     pub(crate) argument: Arguments,
     /// whether the arguments of the symbol's own name are known, which types may name, or while its types are read those of a function
-    /// whose address is an argument
+    /// whose address is an argument, or no types follow the name
     pub(crate) has_scope: bool,
     pub(crate) at: usize,
     /// the steps that the last symbol took

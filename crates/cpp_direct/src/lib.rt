@@ -13,6 +13,7 @@ mod direct;
 mod enclosing;
 mod functions;
 mod grammar;
+mod guards;
 mod lambdas;
 mod letters;
 mod levels;

@@ -45,6 +45,8 @@ pub enum Mark {
 /// texts of two of them are a comma and a space.
 #[derive(Clone, Copy)]
 pub struct Arguments {
+    /// the place where the encoding begins whose types may name them, 0 if this isn't known
+    pub encoding: u16,
     /// where the text of the first one begins
     pub from: u16,
     /// where the text of each of them ends
@@ -53,8 +55,6 @@ pub struct Arguments {
     pub references: [bool; MOST_KNOWN],
     /// how many are known
     pub count: u8,
-    /// the place where the encoding begins whose types may name them, 0 if this isn't known
-    pub encoding: u16,
     /// whether the last of them is a pack
     pub has_pack: bool,
     /// how many arguments come before it

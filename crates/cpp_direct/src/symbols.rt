@@ -6,15 +6,15 @@ ghost use Rattle.cpp_direct.specs.declared.open.Mark.TheVariants as marks;
 ghost use Rattle.cpp_direct.specs.Holes.{StandsAt};
 ghost use Rattle.cpp_direct.specs.Names.{IsReadable};
 ghost use Rattle.cpp_direct.specs.WriterInvariant.{IsWriting, encoding_place};
-ghost use Rattle.cpp_direct.specs.Bytes.{is_local};
-ghost use Rattle.cpp_direct.specs.MidStep.{IsFresh, AwaitsEncoding, IsNameEnded, IsNameScoped, IsFrontRead, AwaitsParameters, AreParametersRead, IsEncodingEnded, IsFunctionEnded, IsSymbolEnded};
+ghost use Rattle.cpp_direct.specs.Bytes.{is_local, is_guard};
+ghost use Rattle.cpp_direct.specs.MidStep.{IsFresh, AwaitsEncoding, AwaitsName, IsNameEnded, IsNameScoped, IsFrontRead, AwaitsParameters, AreParametersRead, IsEncodingEnded, IsFunctionEnded, IsSymbolEnded};
 ghost use Rattle.cpp_direct.specs.Symbol.{symbol_by};
 
 use crate::direct::Direct;
 use crate::grammar::Grammar;
 use crate::marks::mark_at;
 use crate::open::{Arguments, MOST_KNOWN, Mark, Nest, Open, Purpose, Step};
-use crate::tokens::{byte_at, is_local, is_suffix, may_end};
+use crate::tokens::{byte_at, is_guard, is_local, is_suffix, may_end};
 
 /// Before the first nested name.
 pub const NO_NEST: Nest = Nest {
@@ -100,6 +100,9 @@ impl Direct {
         if is_local(s) {
             return self.begin_local::<G>(s);
         }
+        if is_guard(s) {
+            return self.begin_object::<G>(s);
+        }
         let letter = byte_at(s, 2);
         if letter == b'G' {
             return self.begin_clone::<G>(s);
@@ -140,6 +143,8 @@ impl Direct {
         requires fits { IsReadable s.now }
         requires fresh { IsFresh self.old }
         requires starts { StandsAt s.now 0 (95 ∷ 90 ∷ []) }
+        requires apart { is_local s.now ≡ false }
+        requires other { is_guard s.now ≡ false }
         requires letter { StandsAt s.now 2 (84 ∷ []) }
         ensures { IfSome result (IsWriting (symbol_by G.IS_WIDE G.IS_BARE G.IS_BRIEF s.now) self.new) }
     {
@@ -154,9 +159,9 @@ impl Direct {
     }
 
     // <nested-name> ::= N [<CV-qualifiers>] [<ref-qualifier>] <prefix> <unqualified-name> E
-    fn begin_nested<G: Grammar>(&mut self, s: &[u8]) -> Option<Step>
+    pub(crate) fn begin_nested<G: Grammar>(&mut self, s: &[u8]) -> Option<Step>
         requires fits { IsReadable s.now }
-        requires awaits { AwaitsEncoding (symbol_by G.IS_WIDE G.IS_BARE G.IS_BRIEF s.now) self.old }
+        requires awaits { AwaitsName (symbol_by G.IS_WIDE G.IS_BARE G.IS_BRIEF s.now) self.old }
         requires letter { StandsAt s.now self.old.at (78 ∷ []) }
         ensures { IfSome result (IsWriting (symbol_by G.IS_WIDE G.IS_BARE G.IS_BRIEF s.now) self.new) }
     {

@@ -1,8 +1,9 @@
 // Thunks: functions that call another one, with what they call it on moved by an offset.
 
-ghost use Rattle.std.specs.Prelude.{◌≡◌, ◌+◌, ◌∷◌, [], ℕ, List};
+ghost use Rattle.std.specs.Prelude.{◌≡◌, ◌+◌, ◌∷◌, [], ℕ, List, false};
 ghost use Rattle.std.specs.Option.{OnSome, IfSome};
 ghost use Rattle.cpp_direct.specs.Names.{IsReadable};
+ghost use Rattle.cpp_direct.specs.Bytes.{is_local, is_guard};
 ghost use Rattle.cpp_direct.specs.Holes.{StandsAt};
 ghost use Rattle.cpp_direct.specs.HolesOfLists.{IsDigitsAt, IsOffsetAt};
 ghost use Rattle.cpp_direct.specs.WriterInvariant.{IsWriting};
@@ -24,6 +25,8 @@ impl Direct {
         requires fits { IsReadable s.now }
         requires fresh { IsFresh self.old }
         requires starts { StandsAt s.now 0 (95 ∷ 90 ∷ []) }
+        requires apart { is_local s.now ≡ false }
+        requires other { is_guard s.now ≡ false }
         requires letter { StandsAt s.now 2 (84 ∷ []) }
         requires kind { StandsAt s.now 3 (104 ∷ []) }
         ensures { IfSome result (IsWriting (symbol_by G.IS_WIDE G.IS_BARE G.IS_BRIEF s.now) self.new) }
@@ -41,6 +44,8 @@ impl Direct {
         requires fits { IsReadable s.now }
         requires fresh { IsFresh self.old }
         requires starts { StandsAt s.now 0 (95 ∷ 90 ∷ []) }
+        requires apart { is_local s.now ≡ false }
+        requires other { is_guard s.now ≡ false }
         requires letter { StandsAt s.now 2 (84 ∷ []) }
         requires kind { StandsAt s.now 3 (118 ∷ []) }
         ensures { IfSome result (IsWriting (symbol_by G.IS_WIDE G.IS_BARE G.IS_BRIEF s.now) self.new) }

@@ -1,13 +1,13 @@
 // The bytes of a symbol.
 
-ghost use Rattle.std.specs.Prelude.{◌≡◌, ◌≢◌, ◌≤◌, ◌∷◌, ◌++◌, [], ℕ, List, length, slice_get, true, Some};
+ghost use Rattle.std.specs.Prelude.{◌≡◌, ◌≢◌, ◌≤◌, ◌∷◌, [], ℕ, List, length, slice_get, true, Some};
 ghost use Rattle.std.specs.List.{AllByRecursion};
 ghost use Rattle.std.specs.Option.{OnSome, IfSome};
 ghost use Rattle.sym_core.specs.Value.{counted_value};
 ghost use Rattle.sym_core.specs.declared.NumberKind.{NumberKind};
 ghost use Rattle.cpp_grammar.specs.Parts.{source_text};
 ghost use Rattle.cpp_direct.specs.Names.{IsReadable, tag_text};
-ghost use Rattle.cpp_direct.specs.Bytes.{is_local, short_numbers};
+ghost use Rattle.cpp_direct.specs.Bytes.{is_local, is_guard, short_numbers};
 ghost use Rattle.cpp_direct.specs.Holes.{StandsAt, IsNameAt, IsSeqAt, IsTagAt};
 ghost use Rattle.cpp_direct.specs.HolesOfLists.{IsSuffix};
 ghost use Rattle.cpp_direct.specs.ItemBytes.{is_suffix_byte};
@@ -35,6 +35,18 @@ pub fn is_local(s: &[u8]) -> bool
     match s {
         [_, _, b'Z', ..] => true,
         [_, _, b'G', b'V', b'Z', ..] => true,
+        _ => false,
+    }
+}
+
+/// Whether a symbol has GV after its _Z: it may name a guard variable.
+#[inline(always)]
+#[tactic(auto, unfolding(crate::specs::Bytes::is_guard))]
+pub fn is_guard(s: &[u8]) -> bool
+    ensures { result ≡ is_guard s.now }
+{
+    match s {
+        [_, _, b'G', b'V', ..] => true,
         _ => false,
     }
 }

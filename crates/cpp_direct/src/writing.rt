@@ -1,11 +1,11 @@
 // The text and the candidates, as they grow.
 
-ghost use Rattle.std.specs.Prelude.{◌≡◌, ◌+◌, ◌-◌, ◌≤◌, ◌∷◌, ◌++◌, [], length, take, drop, true, false, if◌then◌else◌};
+ghost use Rattle.std.specs.Prelude.{◌≡◌, ◌-◌, ◌≤◌, ◌∷◌, [], length, take, drop, true, false, if◌then◌else◌};
 ghost use Rattle.std.specs.Option.{OnSome, IfSome};
 ghost use Rattle.cpp_direct.specs.declared.open.Step.TheVariants as steps;
 ghost use Rattle.cpp_direct.specs.Symbol.{detail_by};
-ghost use Rattle.cpp_direct.specs.WrittenParts.{opening_bracket, closing_bracket};
-ghost use Rattle.cpp_direct.specs.Written.{Writes, Cuts, added, added_unless, with_argument, with_hidden, AreLeft, Stays};
+ghost use Rattle.cpp_direct.specs.WrittenParts.{closing_bracket};
+ghost use Rattle.cpp_direct.specs.Written.{Writes, Cuts, Lists, OpensEntry, OpensArguments, added, added_unless, with_argument, with_hidden, AreLeft, Stays};
 ghost use Rattle.cpp_direct.specs.declared.open.Hiding.TheVariants as hidings;
 
 use crate::direct::Direct;
@@ -66,13 +66,7 @@ impl Direct {
         is_reference: bool,
         is_dependent: bool,
     ) -> Option<()>
-        ensures candidates { OnSome result (self.new.candidates.list.items ≡ added self.old from is_reference is_dependent) }
-        ensures text { self.new.text ≡ self.old.text }
-        ensures open { self.new.waiting ≡ self.old.waiting }
-        ensures nest { self.new.nest ≡ self.old.nest }
-        ensures scope { self.new.has_scope ≡ self.old.has_scope }
-        ensures at { self.new.at ≡ self.old.at }
-        ensures rounds { self.new.rounds ≡ self.old.rounds }
+        ensures { OnSome result (Lists self.old self.new (added self.old from is_reference is_dependent)) }
     {
         let to = self.text.end();
         self.candidates.push(Candidate {
@@ -126,13 +120,7 @@ impl Direct {
         from: u32,
         is_dependent: bool,
     ) -> Option<()>
-        ensures candidates { OnSome result (self.new.candidates.list.items ≡ added_unless self.old is_listed from is_dependent) }
-        ensures text { self.new.text ≡ self.old.text }
-        ensures open { self.new.waiting ≡ self.old.waiting }
-        ensures nest { self.new.nest ≡ self.old.nest }
-        ensures scope { self.new.has_scope ≡ self.old.has_scope }
-        ensures at { self.new.at ≡ self.old.at }
-        ensures rounds { self.new.rounds ≡ self.old.rounds }
+        ensures { OnSome result (Lists self.old self.new (added_unless self.old is_listed from is_dependent)) }
     {
         if is_listed {
             return Some(());
@@ -196,13 +184,7 @@ impl Direct {
     /// Opens what waits for a type.
     #[inline(always)]
     pub(crate) fn open_type(&mut self, entry: Open, step: Step) -> Option<Step>
-        ensures step { IfSome result (λ next. next ≡ step) }
-        ensures open { OnSome result (self.new.waiting.list.items ≡ self.old.waiting.list.items ++ entry ∷ []) }
-        ensures at { OnSome result (self.new.at ≡ self.old.at + 1) }
-        ensures text { self.new.text ≡ self.old.text }
-        ensures candidates { self.new.candidates ≡ self.old.candidates }
-        ensures nest { self.new.nest ≡ self.old.nest }
-        ensures scope { self.new.has_scope ≡ self.old.has_scope }
+        ensures { IfSome result (λ next. (next ≡ step) × OpensEntry self.old self.new entry) }
     {
         self.at = self.at.checked_add(1)?;
         self.waiting.push(entry)?;
@@ -213,13 +195,7 @@ impl Direct {
     // <template-args> ::= I <template-arg>* E
     #[inline(always)]
     pub(crate) fn open_arguments<G: Grammar>(&mut self, entry: Open) -> Option<Step>
-        ensures step { IfSome result (λ next. next ≡ steps.List true) }
-        ensures open { OnSome result (self.new.waiting.list.items ≡ self.old.waiting.list.items ++ entry ∷ []) }
-        ensures at { OnSome result (self.new.at ≡ self.old.at + 1) }
-        ensures text { OnSome result (self.new.text.list.items ≡ self.old.text.list.items ++ opening_bracket (detail_by G.IS_BARE G.IS_BRIEF)) }
-        ensures candidates { OnSome result (self.new.candidates ≡ self.old.candidates) }
-        ensures nest { OnSome result (self.new.nest ≡ self.old.nest) }
-        ensures scope { OnSome result (self.new.has_scope ≡ self.old.has_scope) }
+        ensures { IfSome result (λ next. (next ≡ steps.List true) × OpensArguments (detail_by G.IS_BARE G.IS_BRIEF) self.old self.new entry) }
     {
         self.push_byte(if G::IS_BRIEF { OPENS } else { b'<' })?;
         self.open_type(entry, Step::List { is_first: true })

@@ -1,7 +1,7 @@
 // What is noted of a node.
 #![tactic(auto)]
 
-ghost use Rattle.std.specs.Prelude.{◌≡◌, ℕ, ◌+◌, ◌<◌, ◌^◌, ◌&&◌, ◌||◌, Bool, Some, None, Option, length, true, false, nat_eq, max, cond, not, if◌then◌else◌};
+ghost use Rattle.std.specs.Prelude.{◌≡◌, ℕ, ◌+◌, ◌<◌, ◌^◌, ◌&&◌, ◌||◌, Bool, Some, None, Option, length, true, false, nat_eq, max, cond, not};
 ghost use Rattle.cpp_grammar.specs.Items as heads;
 ghost use Rattle.cpp_grammar.specs.Scope.{first_of};
 ghost use Rattle.cpp_tree.specs.declared.node.Node.{Node};

@@ -9,7 +9,9 @@ use Rattle.sym_print.proofs.Leading.{reverse-next, drop-next}
 use Rattle.sym_print.specs.declared.layout.Item.{Item}
 use Rattle.sym_print.specs.declared.layout.Part.{Part}
 use Rattle.sym_print.specs.declared.layout.Part.TheVariants.{Sub}
-use Rattle.sym_print.specs.Unshared.{Unshared, text_of, cost_of_parts, steps_of_parts}
+use Rattle.sym_print.specs.declared.printer.Printer.{Printer}
+use Rattle.sym_print.specs.Printing.{entries, spent, may_spend, Begins}
+use Rattle.sym_print.specs.Unshared.{Unshared, text_of, cost_of, cost_of_parts, steps_of_parts}
 use Rattle.sym_print.specs.Joined.{joined, with_parts, IsNext, IsText, text_of_part, cost_of_part, steps_of_part, text_of_stack, cost_of_stack, steps_of_stack, spends}
 
 module _ {C : Type 0} where
@@ -324,3 +326,16 @@ module _ {C : Type 0} (unshared : Item C → Unshared) (bytes_of : Part C → Li
   pub too_dear : (stack : List (Part C)) (next : Part C) (limit spent : ℕ) → IsNext stack next → limit < spent + spends unshared bytes_of next
       → limit < spent + cost_of_stack unshared bytes_of stack
   too_dear stack next limit spent h dear = omega (arith, cost_of_next stack next h, spends-le next)
+
+module _ {C : Type 0} where
+  -- what was printed until nothing was left has cost no more than the limit
+  pub printed-within : (unshared : Item C → Unshared) (bytes_of : Part C → List ℕ) (printed : Printer C) {begun : Printer C}
+      {root : Item C} {limit : ℕ} → Begins begun root limit → entries printed ≡ []
+      → spent printed + cost_of_stack unshared bytes_of (entries printed)
+      ≡ spent begun + cost_of_stack unshared bytes_of (entries begun)
+      → may_spend printed ≡ may_spend begun → spent printed ≤ may_spend printed → cost_of (unshared root) ≤ limit
+  printed-within unshared bytes_of printed {begun} begins empty costs same fits =
+      let costs_of : List (Part C) → ℕ = cost_of_stack unshared bytes_of in
+      let left : costs_of (entries printed) ≡ 0 = ap costs_of empty in
+      let whole : costs_of (entries begun) ≡ costs_of (Sub _ ∷ []) = ap costs_of begins.whole in
+      omega (arith, left, whole, begins.nothing_spent, begins.bounded)

@@ -1,12 +1,14 @@
-use Rattle.std.proofs.Common.{◌++◌, ◌∙◌, inl, inr, refl, ap, arith, false, get_or, subst}
+use Rattle.std.proofs.Common.{suc, ◌≡◌, ◌+◌, ◌∙◌, inl, inr, refl, ap, sym, arith, false, get_or, subst}
+use Rattle.std.proofs.lemmas.List.{set-get_or}
+use Rattle.std.specs.Prelude.{slice_set}
 use Rattle.cpp_direct.specs.declared.open.Candidate.{Candidate}
-use Rattle.cpp_direct.specs.Written.{Stays, hidden}
-use Rattle.cpp_direct.proofs.Kept.{all-gone, next-there, none-gone, one-gone, set-is}
+use Rattle.cpp_direct.specs.Written.{IsLeft, Stays, hidden}
+use Rattle.cpp_direct.proofs.Kept.{AreGoneOver, all-gone, one-gone}
 use Rattle.cpp_direct.proofs.writing.hide.Goals as goal
 use Rattle.cpp_direct.proofs.writing.hide.Goals.{then-not-stays, else-not-stays}
 
 pub candidates-init : goal.candidates-init
-candidates-init c = record { gone = none-gone c.args.hiding c.args.candidates.now.list.items }
+candidates-init c = record { gone = refl }
 
 pub candidates-preserved : goal.candidates-preserved
 candidates-preserved c =
@@ -14,19 +16,18 @@ candidates-preserved c =
     let at = c.candidates.at in
     let old = c.args.candidates.now.list.items in
     let now = c.candidates.candidates.list.items in
-    let gone = c.candidates.invariant.gone in
-    let next = next-there hiding at old now gone (omega (arith, c.candidates-test.true, c.len.ensures)) in
     let other : Candidate = record { from = 0; to = 0; is_reference = false; is_dependent = false } in
-    let within : Stays hiding (get_or c.as_slice.result.now at other) → Stays hiding next.0 =
-    λ e. subst (λ k. Stays hiding k) (ap (λ l. get_or l at other) c.as_slice.ensures ∙ next.3 other) e in
+    let next : suc at ≡ at + 1 = omega arith in
+    let gone : (n : Candidate) → IsLeft hiding (get_or now at other) n → AreGoneOver hiding (at + 1) old (slice_set now at n) = λ n is.
+    subst (λ k. AreGoneOver hiding k old (slice_set now at n)) next
+    (one-gone hiding at old now n other c.candidates.invariant.gone (omega (arith, c.candidates-test.true, c.len.ensures)) is) in
     elim c.if-not-stays.branch [
       | then-not-stays w ↦ record {
-        gone = one-gone hiding at old now c.if-not-stays.candidates.list.items gone next.0 hidden next.1 next.2 (inr refl)
-            (ap (λ v. v.list.items) w.candidates-is ∙ w.put.ensures.items ∙ set-is hiding at old now gone next.0 hidden next.1 next.2);
+        gone = subst (λ l. AreGoneOver hiding (at + 1) old l) (sym (ap (λ v. v.list.items) w.candidates-is ∙ w.put.ensures.items)) (gone hidden (inr refl));
       }
       | else-not-stays w ↦ record {
-        gone = one-gone hiding at old now c.if-not-stays.candidates.list.items gone next.0 next.0 next.1 next.2 (inl (refl, within (c.stays.ensures w.if-not-stays.false)))
-            (ap (λ v. v.list.items) w.candidates-is ∙ gone.now_is ∙ ap (λ l. gone.new ++ l) next.2);
+        gone = subst (λ l. AreGoneOver hiding (at + 1) old l) (set-get_or now at other ∙ sym (ap (λ v. v.list.items) w.candidates-is))
+            (gone (get_or now at other) (inl (refl, subst (λ l. Stays hiding (get_or l at other)) c.as_slice.ensures (c.stays.ensures w.if-not-stays.false))));
       }
     ]
 

@@ -1,6 +1,5 @@
-use Rattle.cpp_direct.specs.Symbol.{symbol_by}
 use Rattle.cpp_direct.proofs.LambdasRead.{begun-in-name}
 use Rattle.cpp_direct.proofs.direct.Direct.begin_component.Goals as goal
 
 pub returns : goal.returns
-returns g c = begun-in-name (symbol_by g.G.Grammar.IS_WIDE g.G.Grammar.IS_BARE g.G.Grammar.IS_BRIEF c.args.s.now) c.args.self.now c.open_lambda.new.self c.requires.writing c.if-self.false c.in_ok-open_lambda.ensures
+returns g c = begun-in-name _ c.args.self.now c.open_lambda.new.self c.requires.writing c.if-self.false c.in_ok-open_lambda.ensures

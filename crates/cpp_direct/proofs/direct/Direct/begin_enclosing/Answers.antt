@@ -1,18 +1,16 @@
 use Rattle.std.proofs.Common.{arith, refl}
-use Rattle.cpp_direct.specs.Symbol.{symbol_by}
-use Rattle.cpp_direct.proofs.EnclosingFunctions.{nest-within, source-within}
+use Rattle.cpp_direct.proofs.FunctionsWithin.{nest-within, source-within}
 use Rattle.cpp_direct.proofs.TypesRead.{there}
 use Rattle.cpp_direct.proofs.direct.Direct.begin_enclosing.Goals as goal
 
 pub enclosing_named-requires-clause-named : goal.enclosing_named-requires-clause-named
 enclosing_named-requires-clause-named g c =
     let read = c.in_ok-name.ensures in
-    source-within (symbol_by g.G.Grammar.IS_WIDE g.G.Grammar.IS_BARE g.G.Grammar.IS_BRIEF c.args.s.now) c.args.self.now (record c.args.self.now { at = c.in_ok-self.field-0 }) c.name.new.self read.0 c.end-from.result
+    source-within _ c.args.self.now (record c.args.self.now { at = c.in_ok-self.field-0 }) c.name.new.self read.0 c.end-from.result
     c.requires.awaits c.requires.letter refl refl refl refl c.in_ok-self.ensures.1 read.1 read.2 read.3 c.end-from.ensures
 
 pub nest_at-requires-clause-awaits : goal.nest_at-requires-clause-awaits
 nest_at-requires-clause-awaits g c =
-    let s = symbol_by g.G.Grammar.IS_WIDE g.G.Grammar.IS_BARE g.G.Grammar.IS_BRIEF c.args.s.now in
-    nest-within s c.args.self.now c.in_ok-self.field-0 c.in_ok-self-2.field-0 c.in_ok-place.place c.requires.awaits c.requires.letter
-    c.in_ok-self.ensures.1 (there s.bytes c.in_ok-self.field-0 c.byte_at.result 78 c.if-byte_at-ne78.false (omega arith) c.byte_at.ensures)
+    nest-within _ c.args.self.now c.in_ok-self.field-0 c.in_ok-self-2.field-0 c.in_ok-place.place c.requires.awaits c.requires.letter
+    c.in_ok-self.ensures.1 (there c.args.s.now c.in_ok-self.field-0 c.byte_at.result 78 c.if-byte_at-ne78.false (omega arith) c.byte_at.ensures)
     c.in_ok-self-2.ensures.1 c.in_ok-place.ensures

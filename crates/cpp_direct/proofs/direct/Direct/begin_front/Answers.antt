@@ -1,10 +1,8 @@
 use Rattle.std.proofs.Common.{refl}
-use Rattle.cpp_direct.specs.Symbol.{symbol_by}
-use Rattle.cpp_direct.proofs.FrontsRead.{front-begins}
+use Rattle.cpp_direct.proofs.Ending.{front-begins}
 use Rattle.cpp_direct.proofs.direct.Direct.begin_front.Goals as goal
 
 pub returns : goal.returns
 returns g c =
-    let s = symbol_by g.G.Grammar.IS_WIDE g.G.Grammar.IS_BARE g.G.Grammar.IS_BRIEF c.args.s.now in
-    front-begins s c.args.self.now _ c.args.mark c.args.argument c.args.from c.end-start.result c.requires.scoped
+    front-begins _ c.args.self.now _ c.args.mark c.args.argument c.args.from c.end-start.result c.requires.scoped
     (c.has_front.ensures c.if-not-has_front.false) c.end-start.ensures refl refl refl refl c.in_ok-push.ensures.items

@@ -1,5 +1,4 @@
 use Rattle.std.proofs.Common.{◌≡◌, ◌+◌, if◌then◌else◌, refl, ap, sym, ◌∙◌}
-use Rattle.cpp_direct.specs.Symbol.{symbol_by}
 use Rattle.cpp_direct.proofs.Signatures.{function-begins}
 use Rattle.cpp_direct.proofs.direct.Direct.begin_function.Goals as goal
 use Rattle.cpp_direct.proofs.direct.Direct.begin_function.Goals.{then-is_pointer, else-is_pointer}
@@ -11,6 +10,6 @@ returns g c =
       | then-is_pointer w ↦ w.checked_add-is ∙ ap (λ b. if b then 2 else 1) (sym w.if-is_pointer.true)
       | else-is_pointer w ↦ w.checked_add-is ∙ ap (λ b. if b then 2 else 1) (sym w.if-is_pointer.false)
     ] in
-    function-begins (symbol_by g.G.Grammar.IS_WIDE g.G.Grammar.IS_BARE g.G.Grammar.IS_BRIEF c.args.s.now) old _ c.args.is_pointer c.requires.writing c.requires.letters
+    function-begins _ old _ c.args.is_pointer c.requires.writing c.requires.letters
     (c.takes_element.ensures c.if-not-takes_element.false) c.in_ok-push.ensures.items
     (c.in_ok-self.ensures.1 ∙ ap (λ n. old.at + n) size) refl refl refl

@@ -1,21 +1,18 @@
-use Rattle.std.proofs.Common.{false, arith}
-use Rattle.cpp_direct.specs.Symbol.{symbol_by}
-use Rattle.cpp_direct.specs.declared.open.Open.TheVariants as opens
-use Rattle.cpp_direct.proofs.Kept.{opened-by}
+use Rattle.std.proofs.Common.{true, arith}
+use Rattle.cpp_direct.specs.declared.open.Step.TheVariants as steps
+use Rattle.cpp_direct.specs.WriterInvariant.{IsWriting}
+use Rattle.cpp_direct.proofs.Kept.{opened-so}
 use Rattle.cpp_direct.proofs.Members.{level-begins}
 use Rattle.cpp_direct.proofs.TypesRead.{there}
 use Rattle.cpp_direct.proofs.direct.Direct.begin_level.Goals as goal
 
 pub returns : goal.returns
 returns g c =
-    let s = (symbol_by g.G.Grammar.IS_WIDE g.G.Grammar.IS_BARE g.G.Grammar.IS_BRIEF c.args.s.now) in
     let named = c.name.new.self in
     let first = c.in_ok-self.field-0 in
     let second = c.in_ok-self-2.field-0 in
-    let opened = c.open_arguments.ensures in
-    opened-by s c.open_arguments.result named c.open_arguments.new.self (opens.LevelArguments false) opened.step opened.«open» opened.at opened.text
-    opened.candidates opened.scope
-    (level-begins s c.args.self.now named c.open_arguments.new.self first second c.in_ok-self-3.field-0 c.requires.awaits c.requires.wide c.requires.letter
+    opened-so c.open_arguments.result (steps.List true) _ (IsWriting _ c.open_arguments.new.self) c.open_arguments.ensures
+    (level-begins _ c.args.self.now named c.open_arguments.new.self first second c.in_ok-self-3.field-0 c.requires.awaits c.requires.wide c.requires.letter
     c.in_ok-self.ensures.1 (there c.args.s.now first c.byte_at.result 115 c.if-byte_at-ne115.false (omega arith) c.byte_at.ensures)
     c.in_ok-self-2.ensures.1 (there c.args.s.now second c.byte_at-2.result 114 c.if-byte_at-ne114.false (omega arith) c.byte_at-2.ensures)
     c.in_ok-self-3.ensures.1 c.in_ok-name.ensures

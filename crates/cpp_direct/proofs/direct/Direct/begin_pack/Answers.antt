@@ -1,16 +1,12 @@
 use Rattle.std.proofs.Common.{true, refl}
-use Rattle.cpp_direct.specs.Symbol.{symbol_by}
 use Rattle.cpp_direct.specs.declared.open.Step.TheVariants as steps
 use Rattle.cpp_direct.specs.WriterInvariant.{IsWriting}
 use Rattle.cpp_direct.proofs.Listed.{waits-last, pack-begins}
-use Rattle.cpp_direct.proofs.TypesRead.{by-step, given}
+use Rattle.cpp_direct.proofs.Kept.{opened-so}
 use Rattle.cpp_direct.proofs.direct.Direct.begin_pack.Goals as goal
 
 pub returns-in_default : goal.returns-in_default
 returns-in_default g c =
-    let o = c.open_type.result in
-    let list = steps.List true in
-    by-step o list (IsWriting (symbol_by g.G.Grammar.IS_WIDE g.G.Grammar.IS_BARE g.G.Grammar.IS_BRIEF c.args.s.now) c.open_type.new.self) c.open_type.ensures.step
-    (λ e. pack-begins (symbol_by g.G.Grammar.IS_WIDE g.G.Grammar.IS_BARE g.G.Grammar.IS_BRIEF c.args.s.now) c.args.self.now c.open_type.new.self c.in_ok-last.field-0.now c.requires.awaits c.requires.letter
-    (waits-last _ _ _ _ c.as_slice.ensures c.in_ok-last.ensures.value refl) c.in_default.not-Pack
-    (given _ o list e c.open_type.ensures.open) (given _ o list e c.open_type.ensures.at) c.open_type.ensures.text c.open_type.ensures.candidates c.open_type.ensures.scope)
+    opened-so c.open_type.result (steps.List true) _ (IsWriting _ c.open_type.new.self) c.open_type.ensures
+    (pack-begins _ c.args.self.now c.open_type.new.self c.in_ok-last.field-0.now c.requires.awaits c.requires.letter
+    (waits-last _ _ _ _ c.as_slice.ensures c.in_ok-last.ensures.value refl) c.in_default.not-Pack)

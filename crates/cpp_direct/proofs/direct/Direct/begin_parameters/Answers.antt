@@ -14,8 +14,6 @@ close-requires-clause-ended g c =
 
 pub next_parameter-requires-clause-awaits : goal.next_parameter-requires-clause-awaits
 next_parameter-requires-clause-awaits g c =
-    let s = symbol_by g.G.Grammar.IS_WIDE g.G.Grammar.IS_BARE g.G.Grammar.IS_BRIEF c.args.s.now in
     let w = c.args.self.now in
-    first-expected s w c.push_byte.new.self _ c.args.mark c.args.start c.args.argument c.requires.awaits
-    c.in_ok-push_byte.ensures refl refl refl refl
-    c.in_ok-push.ensures.items
+    first-expected _ w c.push_byte.new.self _ c.args.mark c.args.start c.args.argument c.requires.awaits
+    c.in_ok-push_byte.ensures refl refl refl refl c.in_ok-push.ensures.items

@@ -1,5 +1,4 @@
 use Rattle.std.proofs.Common.{◌≢◌, ◌∷◌, ◌++◌, [], length, ◌==◌, ap, ◌∙◌, refl}
-use Rattle.std.proofs.lemmas.Bool.{false≢true}
 use Rattle.cpp_grammar.specs.Texts.{look_up, special_texts}
 use Rattle.cpp_direct.specs.Symbol.{symbol_by}
 use Rattle.cpp_direct.specs.declared.open.Open.TheVariants as opens
@@ -13,8 +12,8 @@ returns g c =
     let text_is = c.special_text-text.ensures in
     let fresh = c.requires.fresh in
     let wrote = c.in_ok-push.ensures in
-    let filled : look_up (letter ∷ []) special_texts ≢ [] = λ e. absurd (false≢true (c.if-is_empty.ensures ∙ ap (λ l. length l == 0) (text_is ∙ e))) in
-    special-begins s (record c.push.new.self { waiting = c.push-2.new.self; at = 4 }) letter c.requires.starts
+    let filled : look_up (letter ∷ []) special_texts ≢ [] = λ e. cc (c.if-is_empty.ensures ∙ ap (λ l. length l == 0) (text_is ∙ e)) in
+    special-begins s (record c.push.new.self { waiting = c.push-2.new.self; at = 4 }) letter c.requires.apart c.requires.other c.requires.starts
     (special-stands s.bytes letter filled c.requires.letter c.byte_at.ensures) refl
     (wrote.text ∙ ap (λ l. l ++ c.special_text-text.result.now) fresh.no_text ∙ text_is) filled
     (ap (λ v. v.list.items) wrote.candidates ∙ fresh.no_candidate)

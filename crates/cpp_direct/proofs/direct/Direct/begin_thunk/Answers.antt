@@ -1,4 +1,3 @@
-use Rattle.cpp_direct.specs.Symbol.{symbol_by}
 use Rattle.cpp_direct.proofs.Begins.{thunk-begins}
 use Rattle.cpp_direct.proofs.direct.Direct.begin_thunk.Goals as goal
 
@@ -6,6 +5,6 @@ pub begin_encoding-requires-clause-awaits : goal.begin_encoding-requires-clause-
 begin_encoding-requires-clause-awaits g c =
     let fresh = c.requires.fresh in
     let read = c.in_ok-offset.ensures in
-    thunk-begins (symbol_by g.G.Grammar.IS_WIDE g.G.Grammar.IS_BARE g.G.Grammar.IS_BRIEF c.args.s.now) (record c.args.self.now { at = 4 }) c.offset.new.self c.push.new.self
+    thunk-begins _ (record c.args.self.now { at = 4 }) c.offset.new.self c.push.new.self
     (record { no_text = fresh.no_text; no_candidate = fresh.no_candidate; none_open = fresh.none_open })
-    c.requires.starts c.requires.letter c.requires.kind read.0 read.1 c.in_ok-push.ensures
+    c.requires.apart c.requires.other c.requires.starts c.requires.letter c.requires.kind read.0 read.1 c.in_ok-push.ensures

@@ -1,11 +1,10 @@
 use Rattle.std.proofs.Common.{◌∙◌, ap, ◌++◌}
-use Rattle.cpp_direct.specs.Symbol.{symbol_by}
 use Rattle.cpp_direct.proofs.TypesRead.{builtin-done, some-text}
 use Rattle.cpp_direct.proofs.direct.Direct.builtin.Goals as goal
 
 pub returns : goal.returns
 returns g c =
-    builtin-done (symbol_by g.G.Grammar.IS_WIDE g.G.Grammar.IS_BARE g.G.Grammar.IS_BRIEF c.args._s.now) c.args.self.now c.push.new.self c.args.letter c.requires.awaits c.requires.letter
+    builtin-done _ c.args.self.now c.push.new.self c.args.letter c.requires.awaits c.requires.letter
     (some-text c.builtin_text-text.result.now _ c.builtin_text-text.ensures c.if-is_empty.ensures)
     (c.in_ok-push.ensures.text ∙ ap (λ l. c.args.self.now.text.list.items ++ l) c.builtin_text-text.ensures)
     c.in_ok-push.ensures.candidates c.in_ok-push.ensures.waiting c.in_ok-push.ensures.scope

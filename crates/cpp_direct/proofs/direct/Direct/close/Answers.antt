@@ -1,19 +1,17 @@
 use Rattle.std.proofs.Common.{sym, ◌∙◌}
-use Rattle.cpp_direct.specs.Symbol.{symbol_by}
 use Rattle.cpp_direct.proofs.Ending.{function-closed, function-named, name-within}
 use Rattle.cpp_direct.proofs.direct.Direct.close.Goals as goal
 
 pub repeat-requires-clause-to : goal.repeat-requires-clause-to
 repeat-requires-clause-to g c =
-    name-within (symbol_by g.G.Grammar.IS_WIDE g.G.Grammar.IS_BARE g.G.Grammar.IS_BRIEF c.args.s.now) c.args.self.now c.args.mark c.args.start c.requires.ended
-    (sym c.IS_BARE.ensures ∙ c.if-IS_BARE.true)
+    name-within _ c.args.self.now c.args.mark c.args.start c.requires.ended (sym c.IS_BARE.ensures ∙ c.if-IS_BARE.true)
 
 pub encoded-requires-clause-ended : goal.encoded-requires-clause-ended
 encoded-requires-clause-ended g c =
-    function-named (symbol_by g.G.Grammar.IS_WIDE g.G.Grammar.IS_BARE g.G.Grammar.IS_BRIEF c.args.s.now) c.args.self.now c.repeat.new.self c.cut.new.self c.args.mark c.args.start c.end-end.result
+    function-named _ c.args.self.now c.repeat.new.self c.cut.new.self c.args.mark c.args.start c.end-end.result
     c.requires.ended (sym c.IS_BARE.ensures ∙ c.if-IS_BARE.true) c.end-end.ensures c.in_ok-repeat.ensures c.in_ok-cut.ensures
 
 pub end-requires-clause-ended : goal.end-requires-clause-ended
 end-requires-clause-ended g c =
-    function-closed (symbol_by g.G.Grammar.IS_WIDE g.G.Grammar.IS_BARE g.G.Grammar.IS_BRIEF c.args.s.now) c.args.self.now c.push_byte.new.self c.cut-2.new.self c.args.mark c.args.start
+    function-closed _ c.args.self.now c.push_byte.new.self c.cut-2.new.self c.args.mark c.args.start
     c.requires.ended (sym c.IS_BARE.ensures ∙ c.if-IS_BARE.false) c.in_ok-push_byte.ensures c.in_ok-cut-2.ensures

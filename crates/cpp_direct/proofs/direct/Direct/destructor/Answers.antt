@@ -1,5 +1,4 @@
 use Rattle.std.proofs.Common.{◌+◌, ◌∷◌, [], refl, arith}
-use Rattle.cpp_direct.specs.Symbol.{symbol_by}
 use Rattle.cpp_direct.proofs.Moves.{stands-moved}
 use Rattle.cpp_direct.proofs.NestComponents.{destructor-awaits, destructor-digit-some}
 use Rattle.cpp_direct.proofs.direct.Direct.destructor.Goals as goal
@@ -7,7 +6,7 @@ use Rattle.cpp_direct.proofs.direct.Direct.destructor.Goals as goal
 pub class_again-requires-clause-awaits : goal.class_again-requires-clause-awaits
 class_again-requires-clause-awaits g c =
     let is = c.is_destructor_digit.ensures c.if-not-is_destructor_digit.false in
-    destructor-awaits (symbol_by g.G.Grammar.IS_WIDE g.G.Grammar.IS_BARE g.G.Grammar.IS_BRIEF c.args.s.now) c.args.self.now _ c.push.new.self c.byte_at-digit.result c.in_ok-push.ensures
+    destructor-awaits _ c.args.self.now _ c.push.new.self c.byte_at-digit.result c.in_ok-push.ensures
     (record { text = refl; candidates = refl; waiting = refl; scope = refl; nest = refl; at = omega (arith, c.in_ok-self.ensures, c.in_ok-self-2.ensures) })
     c.requires.writing c.requires.letter
     (stands-moved c.args.s.now _ (c.args.self.now.at + 1) (c.byte_at-digit.result ∷ []) (omega (arith, c.in_ok-self.ensures))

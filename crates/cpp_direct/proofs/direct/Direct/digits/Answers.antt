@@ -40,6 +40,3 @@ returns c =
     (reads-then c.args.self.now c.push-2.new.self c.push-3.new.self _ c.normal-digits.result.now
     (reads-written c.args.self.now _ c.push-2.new.self _ _ c.in_ok-push.ensures refl refl refl refl refl refl refl) (reads-of _ _ _ w))
     (minus-digits c.normal-digits.result.now _ c.args.is_negative c.normal-digits.ensures c.if-not-is_negative.false c.if-is_zero.ensures))
-
-pub find_number-requires-clause-fits : goal.find_number-requires-clause-fits
-find_number-requires-clause-fits c = c.requires.fits

@@ -1,11 +1,11 @@
-use Rattle.cpp_direct.specs.Symbol.{symbol_by}
-use Rattle.cpp_direct.proofs.EnclosingFunctions.{type-within}
+use Rattle.cpp_direct.proofs.FunctionsWithin.{type-within}
 use Rattle.cpp_direct.proofs.direct.Direct.enclosed_named.Goals as goal
 
 pub returns : goal.returns
 returns g c =
     let read = c.in_ok-enclosed_piece.ensures in
     let told = c.in_ok-discriminator.ensures in
-    type-within (symbol_by g.G.Grammar.IS_WIDE g.G.Grammar.IS_BARE g.G.Grammar.IS_BRIEF c.args.s.now) c.args.self.now c.push_pair.new.self c.enclosed_piece.new.self c.discriminator.new.self
+    let added = c.in_ok-add_candidate.ensures in
+    type-within _ c.args.self.now c.push_pair.new.self c.enclosed_piece.new.self c.discriminator.new.self
     c.add_candidate.new.self c.args.from c.requires.awaits c.in_ok-push_pair.ensures read.0 read.1 read.2 read.3 read.4 told.0 told.1 told.2
-    c.in_ok-add_candidate.ensures.candidates c.add_candidate.ensures.text c.add_candidate.ensures.open c.add_candidate.ensures.scope c.add_candidate.ensures.at
+    added.candidates added.text added.waiting added.scope added.at

@@ -1,8 +1,7 @@
 use Rattle.std.proofs.Common.{sym, ◌∙◌}
-use Rattle.cpp_direct.specs.Symbol.{symbol_by}
 use Rattle.cpp_direct.proofs.Ending.{symbol-ended}
 use Rattle.cpp_direct.proofs.direct.Direct.encoded.Goals as goal
 
 pub finish-requires : goal.finish-requires
 finish-requires g c =
-    symbol-ended (symbol_by g.G.Grammar.IS_WIDE g.G.Grammar.IS_BARE g.G.Grammar.IS_BRIEF c.args.s.now) c.args.self.now c.requires.ended (sym c.is_local.ensures ∙ c.if-is_local.false)
+    symbol-ended _ c.args.self.now c.requires.ended (sym c.is_local.ensures ∙ c.if-is_local.false)

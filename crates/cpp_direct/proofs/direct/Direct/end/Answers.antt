@@ -1,7 +1,6 @@
-use Rattle.cpp_direct.specs.Symbol.{symbol_by}
 use Rattle.cpp_direct.proofs.Ending.{marks-written}
 use Rattle.cpp_direct.proofs.direct.Direct.end.Goals as goal
 
 pub encoded-requires-clause-ended : goal.encoded-requires-clause-ended
 encoded-requires-clause-ended g c =
-    marks-written (symbol_by g.G.Grammar.IS_WIDE g.G.Grammar.IS_BARE g.G.Grammar.IS_BRIEF c.args.s.now) c.args.self.now c.push_mark.new.self c.args.mark c.requires.ended c.in_ok-push_mark.ensures
+    marks-written _ c.args.self.now c.push_mark.new.self c.args.mark c.requires.ended c.in_ok-push_mark.ensures

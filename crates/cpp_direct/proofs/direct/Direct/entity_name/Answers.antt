@@ -1,4 +1,3 @@
-use Rattle.cpp_direct.specs.Symbol.{symbol_by}
 use Rattle.cpp_direct.proofs.UnscopedNames.{entity-ended}
 use Rattle.cpp_direct.proofs.direct.Direct.entity_name.Goals as goal
 
@@ -6,5 +5,5 @@ pub finish-requires : goal.finish-requires
 finish-requires g c =
     let read = c.in_ok-name.ensures in
     let told = c.in_ok-discriminator.ensures in
-    entity-ended (symbol_by g.G.Grammar.IS_WIDE g.G.Grammar.IS_BARE g.G.Grammar.IS_BRIEF c.args.s.now) c.args.is_internal c.args.self.now c.push_pair.new.self c.name.new.self c.discriminator.new.self c.requires.awaits
+    entity-ended _ c.args.is_internal c.args.self.now c.push_pair.new.self c.name.new.self c.discriminator.new.self c.requires.awaits
     c.in_ok-push_pair.ensures read.0 read.1 read.2 read.3 told.0 told.1 told.2

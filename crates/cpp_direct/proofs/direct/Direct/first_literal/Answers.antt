@@ -1,16 +1,15 @@
 use Rattle.std.proofs.Common.{refl, true}
-use Rattle.cpp_direct.specs.Symbol.{symbol_by}
 use Rattle.cpp_direct.proofs.Arguments.{literal-argument}
 use Rattle.cpp_direct.proofs.Listed.{first-expected}
 use Rattle.cpp_direct.proofs.direct.Direct.first_literal.Goals as goal
 
 pub literal-requires-clause-awaits : goal.literal-requires-clause-awaits
-literal-requires-clause-awaits g c = first-expected (symbol_by g.G.Grammar.IS_WIDE g.G.Grammar.IS_BARE g.G.Grammar.IS_BRIEF c.args.s.now) c.args.self.now _ true c.requires.writing refl refl
+literal-requires-clause-awaits g c = first-expected _ c.args.self.now _ true c.requires.writing refl refl
 
 pub literal-requires-then-is_enumerator_at-clause-awaits : goal.literal-requires-then-is_enumerator_at-clause-awaits
-literal-requires-then-is_enumerator_at-clause-awaits g c = first-expected (symbol_by g.G.Grammar.IS_WIDE g.G.Grammar.IS_BARE g.G.Grammar.IS_BRIEF c.args.s.now) c.args.self.now _ true c.requires.writing refl refl
+literal-requires-then-is_enumerator_at-clause-awaits g c = first-expected _ c.args.self.now _ true c.requires.writing refl refl
 
 pub argument_ended-requires-clause-read : goal.argument_ended-requires-clause-read
 argument_ended-requires-clause-read g c =
-    literal-argument (symbol_by g.G.Grammar.IS_WIDE g.G.Grammar.IS_BARE g.G.Grammar.IS_BRIEF c.args.s.now) c.args.self.now _ c.plain_literal.new.self c.end-from.result
+    literal-argument _ c.args.self.now _ c.plain_literal.new.self c.end-from.result
     c.requires.writing (c.is_named.ensures c.if-not-is_named.false) c.end-from.ensures c.in_ok-push.ensures.items refl refl refl refl c.in_ok-plain_literal.ensures

@@ -1,19 +1,17 @@
 use Rattle.std.proofs.Common.{refl, sym, ◌∙◌}
-use Rattle.cpp_direct.specs.Symbol.{symbol_by}
-use Rattle.cpp_direct.proofs.FrontsRead.{front-bare, front-same, front-turned}
+use Rattle.cpp_direct.proofs.Ending.{front-bare, front-same, front-turned}
 use Rattle.cpp_direct.proofs.direct.Direct.front_ended.Goals as goal
 
 pub begin_parameters-requires-clause-awaits : goal.begin_parameters-requires-clause-awaits
 begin_parameters-requires-clause-awaits g c =
-    front-bare (symbol_by g.G.Grammar.IS_WIDE g.G.Grammar.IS_BARE g.G.Grammar.IS_BRIEF c.args.s.now) c.args.self.now _ c.args.mark c.args.start c.args.argument c.requires.ended
+    front-bare _ c.args.self.now _ c.args.mark c.args.start c.args.argument c.requires.ended
     (sym c.IS_BARE.ensures ∙ c.if-IS_BARE.true) refl refl refl refl
 
 pub begin_parameters-requires-2-clause-awaits : goal.begin_parameters-requires-2-clause-awaits
 begin_parameters-requires-2-clause-awaits g c =
-    front-turned (symbol_by g.G.Grammar.IS_WIDE g.G.Grammar.IS_BARE g.G.Grammar.IS_BRIEF c.args.s.now) c.args.self.now _ c.push_byte.new.self c.repeat.new.self c.args.mark c.args.start c.args.argument c.requires.ended
+    front-turned _ c.args.self.now _ c.push_byte.new.self c.repeat.new.self c.args.mark c.args.start c.args.argument c.requires.ended
     (sym c.IS_BARE.ensures ∙ c.if-IS_BARE.false) (sym c.is_local.ensures ∙ c.if-is_local.false) refl refl refl refl c.in_ok-push_byte.ensures c.in_ok-repeat.ensures
 
 pub front_hidden-requires-clause-ended : goal.front_hidden-requires-clause-ended
 front_hidden-requires-clause-ended g c =
-    front-same (symbol_by g.G.Grammar.IS_WIDE g.G.Grammar.IS_BARE g.G.Grammar.IS_BRIEF c.args.s.now) c.args.self.now _ c.args.mark c.args.start c.args.argument c.requires.ended refl refl refl
-    refl
+    front-same _ c.args.self.now _ c.args.mark c.args.start c.args.argument c.requires.ended refl refl refl refl

@@ -1,12 +1,9 @@
 use Rattle.cpp_grammar.specs.declared.kind.Kind.{Kind}
-use Rattle.cpp_direct.specs.Symbol.{symbol_by}
 use Rattle.cpp_direct.proofs.Nesting.{component-next}
 use Rattle.cpp_direct.proofs.direct.Direct.go_on.Goals as goal
 
 pub returns : goal.returns
 returns g c =
     let writing = c.requires in
-    let added = c.in_ok-add_unless.ensures in
-    component-next (symbol_by g.G.Grammar.IS_WIDE g.G.Grammar.IS_BARE g.G.Grammar.IS_BRIEF c.args._s.now) Kind.NestTail c.args.self.now c.add_unless.new.self writing.kept writing.is_before.0 tt
-    writing.is_before.1
-    (record { candidates = added.candidates; text = added.text; waiting = added.«open»; nest = added.nest; scope = added.scope; at = added.at })
+    component-next _ Kind.NestTail c.args.self.now c.add_unless.new.self writing.kept writing.is_before.0 tt
+    writing.is_before.1 c.in_ok-add_unless.ensures

@@ -1,7 +1,6 @@
-use Rattle.std.proofs.Common.{◌+◌, ◌≤◌, ◌∷◌, [], None, Some, arith, refl}
+use Rattle.std.proofs.Common.{◌≤◌, ◌∷◌, [], None, Some, arith, refl}
 use Rattle.cpp_direct.proofs.NamePlaces.{reads-written, some-by}
-use Rattle.cpp_direct.proofs.Moves.{stands-join, stands-moved}
-use Rattle.cpp_direct.proofs.TypesRead.{there}
+use Rattle.cpp_direct.proofs.TypesRead.{then-there, there}
 use Rattle.cpp_direct.proofs.direct.Direct.lambda_number.Goals as goal
 
 pub returns-then-digit-eq95 : goal.returns-then-digit-eq95
@@ -28,9 +27,8 @@ returns c =
     (λ w. (
       Some digit,
       (low, high),
-      stands-join s old.at (digit ∷ []) (95 ∷ []) (c.byte_at-digit.ensures (λ e. omega (arith, e, low)))
-          (stands-moved s c.in_ok-self.field-0 (old.at + 1) (95 ∷ []) c.in_ok-self.ensures.1
-          (there s c.in_ok-self.field-0 c.byte_at.result 95 c.if-byte_at-ne95.false (omega arith) c.byte_at.ensures)),
+      then-there s (digit ∷ []) old.at c.in_ok-self.field-0 c.byte_at.result 95 (c.byte_at-digit.ensures (λ e. omega (arith, e, low))) c.in_ok-self.ensures.1
+          c.if-byte_at-ne95.false (omega arith) c.byte_at.ensures,
       omega (arith, w.at, c.in_ok-self-2.ensures.1, c.in_ok-self.ensures.1),
       reads-written old _ c.push_pair.new.self _ _ w refl refl refl refl refl refl refl,
     ))

@@ -1,15 +1,14 @@
 use Rattle.std.proofs.Common.{◌∙◌, ap, reverse, refl}
-use Rattle.cpp_direct.specs.Symbol.{symbol_by}
 use Rattle.cpp_direct.proofs.TypesRead.{mark-answer, popped}
 use Rattle.cpp_direct.proofs.direct.Direct.mark.Goals as goal
 
 pub returns : goal.returns
 returns g c =
-    mark-answer (symbol_by g.G.Grammar.IS_WIDE g.G.Grammar.IS_BARE g.G.Grammar.IS_BRIEF c.args._s.now) c.args.self.now c.push_short.new.self c.add_candidate.new.self c.args.mark.now c.args.from c.args.is_reference
+    mark-answer _ c.args.self.now c.push_short.new.self c.add_candidate.new.self c.args.mark.now c.args.from c.args.is_reference
     c.args.is_dependent c.requires
     (ap (λ v. reverse v.list.items) c.in_ok-push_short.ensures.waiting
     ∙ popped c.args.self.now.waiting.list.items c.pop-open.new.self.list.items c.requires.rest c.requires.entry _ refl
     c.requires.open_is
     c.pop-open.ensures.rest)
-    c.in_ok-push_short.ensures.text c.in_ok-push_short.ensures.candidates c.in_ok-push_short.ensures.scope c.in_ok-push_short.ensures.at c.in_ok-add_candidate.ensures.candidates
-    c.add_candidate.ensures.text c.add_candidate.ensures.open c.add_candidate.ensures.scope c.add_candidate.ensures.at
+    c.in_ok-push_short.ensures.text c.in_ok-push_short.ensures.candidates c.in_ok-push_short.ensures.scope c.in_ok-push_short.ensures.at
+    c.in_ok-add_candidate.ensures

@@ -1,17 +1,16 @@
 use Rattle.std.proofs.Common.{arith}
-use Rattle.cpp_direct.specs.Symbol.{symbol_by}
 use Rattle.cpp_direct.proofs.TypesRead.{there, source-named, nest-awaited}
 use Rattle.cpp_direct.proofs.direct.Direct.named_type.Goals as goal
 
 pub nest_at-requires-clause-awaits : goal.nest_at-requires-clause-awaits
 nest_at-requires-clause-awaits g c =
-    nest-awaited (symbol_by g.G.Grammar.IS_WIDE g.G.Grammar.IS_BARE g.G.Grammar.IS_BRIEF c.args.s.now) c.args.self.now c.in_ok-self-in-78.field-0 c.requires.awaits c.in_ok-self-in-78.ensures.1
+    nest-awaited _ c.args.self.now c.in_ok-self-in-78.field-0 c.requires.awaits c.in_ok-self-in-78.ensures.1
     (there c.args.s.now c.args.self.now.at c.byte_at.result 78 c.in-78.is (omega arith) c.byte_at.ensures)
 
 pub type_named-requires : goal.type_named-requires
 type_named-requires g c =
     let got = c.in_ok-name-in_default.ensures in
-    source-named (symbol_by g.G.Grammar.IS_WIDE g.G.Grammar.IS_BARE g.G.Grammar.IS_BRIEF c.args.s.now) c.args.self.now c.name.new.self c.end-from.result got.0
+    source-named _ c.args.self.now c.name.new.self c.end-from.result got.0
     c.requires.awaits got.1 got.2 got.3 c.end-from.ensures
 
 pub begin_enclosing-requires-clause-letter : goal.begin_enclosing-requires-clause-letter

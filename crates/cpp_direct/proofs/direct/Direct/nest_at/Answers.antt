@@ -1,4 +1,3 @@
-use Rattle.cpp_direct.specs.Symbol.{symbol_by}
 use Rattle.cpp_direct.proofs.Nesting.{source-begins}
 use Rattle.cpp_direct.proofs.direct.Direct.nest_at.Goals as goal
 
@@ -6,5 +5,5 @@ pub returns : goal.returns
 returns g c =
     let old = c.args.self.now in
     let read = c.in_ok-name.ensures in
-    source-begins (symbol_by g.G.Grammar.IS_WIDE g.G.Grammar.IS_BARE g.G.Grammar.IS_BRIEF c.args.s.now) old c.name.new.self c.args.purpose read.0 c.requires.awaits read.1 read.2 read.3 c.end-from.result c.end.result
+    source-begins _ old c.name.new.self c.args.purpose read.0 c.requires.awaits read.1 read.2 read.3 c.end-from.result c.end.result
     c.end-from.ensures c.end.ensures

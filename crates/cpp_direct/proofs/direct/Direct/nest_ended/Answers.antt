@@ -3,20 +3,19 @@ use Rattle.cpp_direct.specs.Symbol.{symbol_by}
 use Rattle.cpp_direct.specs.WriterInvariant.{IsOwn, IsWriting}
 use Rattle.cpp_direct.specs.declared.open.Step.TheVariants as steps
 use Rattle.cpp_direct.specs.MidStep.{IsNameEnded}
+use Rattle.cpp_direct.specs.Written.{Lists, added_unless}
 use Rattle.cpp_direct.specs.MidStepOfLocals.{IsEnclosingNamed}
 use Rattle.cpp_direct.specs.MidStepOfAddresses.{IsAddressNamed}
-use Rattle.cpp_direct.proofs.AddressesRead.{name-addressed}
-use Rattle.cpp_direct.proofs.EnclosingFunctions.{name-within}
+use Rattle.cpp_direct.proofs.FunctionsWithin.{name-addressed, name-within}
 use Rattle.cpp_direct.proofs.Nesting.{arguments-noted, type-ended, name-comes}
 use Rattle.cpp_direct.proofs.direct.Direct.nest_ended.Goals as goal
 
 pub name_ended-requires-clause-ended : goal.name_ended-requires-clause-ended
 name_ended-requires-clause-ended g c =
     let old = c.args.self.now in
-    let writing = c.requires.writing in
-    let before = writing.is_before in
+    let before = c.requires.writing.is_before in
     subst (λ n. IsNameEnded (symbol_by g.G.Grammar.IS_WIDE g.G.Grammar.IS_BARE g.G.Grammar.IS_BRIEF c.args.s.now) (record old { at = n }) c.in-Name.mark c.is_function_instance-is_function.result c.noted-argument.result old.nest.from) (sym c.in_ok-self.ensures.1)
-    (name-comes (symbol_by g.G.Grammar.IS_WIDE g.G.Grammar.IS_BARE g.G.Grammar.IS_BRIEF c.args.s.now) old writing.kept before.0 c.in-Name.mark c.is_function_instance-is_function.result c.noted-argument.result
+    (name-comes _ old c.requires.writing.kept before.0 c.in-Name.mark c.is_function_instance-is_function.result c.noted-argument.result
     before.1 (λ e. before.2 (subst IsOwn (sym c.in-Name.is) tt) (sym c.is_function_instance-is_function.ensures ∙ e))
     (λ e. before.3 (sym c.is_function_instance-is_function.ensures ∙ e))
     (arguments-noted old.nest.is_instance old.text.list.items old.argument c.noted-argument.result before.0 c.noted-argument.ensures.known
@@ -25,42 +24,32 @@ name_ended-requires-clause-ended g c =
 pub enclosing_instance-requires-clause-named : goal.enclosing_instance-requires-clause-named
 enclosing_instance-requires-clause-named g c =
     let old = c.args.self.now in
-    let writing = c.requires.writing in
-    let before = writing.is_before in
+    let before = c.requires.writing.is_before in
     subst (λ n. IsEnclosingNamed (symbol_by g.G.Grammar.IS_WIDE g.G.Grammar.IS_BARE g.G.Grammar.IS_BRIEF c.args.s.now) (record old { at = n }) c.in-Enclosing.mark true old.nest.from) (sym c.in_ok-self.ensures.1)
-    (name-within (symbol_by g.G.Grammar.IS_WIDE g.G.Grammar.IS_BARE g.G.Grammar.IS_BRIEF c.args.s.now) old writing.kept before.0 c.in-Enclosing.mark true before.1 (before.3 (sym c.is_function_instance.ensures ∙ c.if-is_function_instance.true)) c.requires.end c.in-Enclosing.is)
+    (name-within _ old c.requires.writing.kept before.0 c.in-Enclosing.mark true before.1 (before.3 (sym c.is_function_instance.ensures ∙ c.if-is_function_instance.true)) c.requires.end c.in-Enclosing.is)
 
 pub enclosing_named-requires-clause-named : goal.enclosing_named-requires-clause-named
 enclosing_named-requires-clause-named g c =
     let old = c.args.self.now in
-    let writing = c.requires.writing in
-    let before = writing.is_before in
+    let before = c.requires.writing.is_before in
     subst (λ n. IsEnclosingNamed (symbol_by g.G.Grammar.IS_WIDE g.G.Grammar.IS_BARE g.G.Grammar.IS_BRIEF c.args.s.now) (record old { at = n }) c.in-Enclosing.mark false old.nest.from) (sym c.in_ok-self.ensures.1)
-    (name-within (symbol_by g.G.Grammar.IS_WIDE g.G.Grammar.IS_BARE g.G.Grammar.IS_BRIEF c.args.s.now) old writing.kept before.0 c.in-Enclosing.mark false before.1 (before.2 (subst IsOwn (sym c.in-Enclosing.is) tt) (sym c.is_function_instance.ensures ∙ c.if-is_function_instance.false)) c.requires.end
+    (name-within _ old c.requires.writing.kept before.0 c.in-Enclosing.mark false before.1 (before.2 (subst IsOwn (sym c.in-Enclosing.is) tt) (sym c.is_function_instance.ensures ∙ c.if-is_function_instance.false)) c.requires.end
     c.in-Enclosing.is)
 
 pub addressed_named-requires-clause-named : goal.addressed_named-requires-clause-named
 addressed_named-requires-clause-named g c =
     let s = symbol_by g.G.Grammar.IS_WIDE g.G.Grammar.IS_BARE g.G.Grammar.IS_BRIEF c.args.s.now in
     let old = c.args.self.now in
-    let writing = c.requires.writing in
-    let before = writing.is_before in
+    let before = c.requires.writing.is_before in
     subst (λ n. IsAddressNamed s (record old { at = n }) c.in-Address.mark) (sym c.in_ok-self.ensures.1)
-    (name-addressed s old writing.kept before.0 c.in-Address.mark before.1 before.2 before.3 before.4 c.requires.end c.in-Address.is)
+    (name-addressed s old c.requires.writing.kept before.0 c.in-Address.mark before.1 before.2 before.3 before.4 c.requires.end c.in-Address.is)
 
 pub returns-in_ok-add_unless-in-Type : goal.returns-in_ok-add_unless-in-Type
 returns-in_ok-add_unless-in-Type g c =
-    let writing = c.requires.writing in
-    let before = writing.is_before in
+    let before = c.requires.writing.is_before in
+    let old = c.args.self.now in
     let added = c.in_ok-add_unless-in-Type.ensures in
     let s = symbol_by g.G.Grammar.IS_WIDE g.G.Grammar.IS_BARE g.G.Grammar.IS_BRIEF c.args.s.now in
     subst (λ n. IsWriting s c.add_unless.new.self (steps.Value false n.is_dependent)) (sym added.nest)
-    (type-ended s c.args.self.now c.add_unless.new.self writing.kept before.0 before.1 c.requires.end c.in-Type.is
-    (record {
-      candidates = added.candidates;
-      text = added.text;
-      waiting = added.«open»;
-      nest = added.nest;
-      scope = added.scope;
-      at = added.at ∙ c.in_ok-self.ensures.1;
-    }))
+    (type-ended s c.args.self.now c.add_unless.new.self c.requires.writing.kept before.0 before.1 c.requires.end c.in-Type.is
+    (subst (λ n. Lists (record old { at = n }) c.add_unless.new.self (added_unless old old.nest.is_listed old.nest.from old.nest.is_dependent)) c.in_ok-self.ensures.1 added))

@@ -1,10 +1,9 @@
 use Rattle.std.proofs.Common.{refl, true}
-use Rattle.cpp_direct.specs.Symbol.{symbol_by}
 use Rattle.cpp_direct.proofs.Arguments.{argument-type, next-argument-begins}
 use Rattle.cpp_direct.proofs.direct.Direct.next_element.Goals as goal
 
 pub returns : goal.returns
 returns g c =
-    argument-type (symbol_by g.G.Grammar.IS_WIDE g.G.Grammar.IS_BARE g.G.Grammar.IS_BRIEF c.args.s.now) _
-    (next-argument-begins (symbol_by g.G.Grammar.IS_WIDE g.G.Grammar.IS_BARE g.G.Grammar.IS_BRIEF c.args.s.now) c.args.self.now c.push_pair.new.self _ true c.args.before c.end-from.result c.in_ok-number.number c.args.known
+    argument-type _ _
+    (next-argument-begins _ c.args.self.now c.push_pair.new.self _ true c.args.before c.end-from.result c.in_ok-number.number c.args.known
     c.requires.awaits c.in_ok-push_pair.ensures c.end-from.ensures c.in_ok-number.ensures.1 c.in_ok-push.ensures.items refl refl refl refl)

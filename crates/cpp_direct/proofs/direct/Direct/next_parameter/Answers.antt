@@ -1,6 +1,5 @@
-use Rattle.cpp_direct.specs.Symbol.{symbol_by}
 use Rattle.cpp_direct.proofs.Ending.{parameter-expected}
 use Rattle.cpp_direct.proofs.direct.Direct.next_parameter.Goals as goal
 
 pub returns : goal.returns
-returns g c = parameter-expected (symbol_by g.G.Grammar.IS_WIDE g.G.Grammar.IS_BARE g.G.Grammar.IS_BRIEF c.args.s.now) c.args.self.now c.separate.new.self c.args.is_first c.args.mark c.args.start c.args.argument c.requires.awaits c.in_ok-separate.ensures
+returns g c = parameter-expected _ c.args.self.now c.separate.new.self c.args.is_first c.args.mark c.args.start c.args.argument c.requires.awaits c.in_ok-separate.ensures

@@ -1,10 +1,9 @@
 use Rattle.std.proofs.Common.{refl}
-use Rattle.cpp_direct.specs.Symbol.{symbol_by}
-use Rattle.cpp_direct.proofs.Noted.{listed-noted}
+use Rattle.cpp_direct.proofs.Handed.{listed-noted}
 use Rattle.cpp_direct.proofs.direct.Direct.note_dependent.Goals as goal
 
 pub returns : goal.returns
 returns g c =
-    listed-noted (symbol_by g.G.Grammar.IS_WIDE g.G.Grammar.IS_BARE g.G.Grammar.IS_BRIEF c.args._s.now) c.args.self.now _ c.requires.writing.0
+    listed-noted _ c.args.self.now _ c.requires.writing.0
     c.pop.new.self.list.items c.in_ok-pop.field-0 c.in_ok-entry.entry c.requires.writing.1 c.in_ok-pop.ensures.items c.in_ok-entry.ensures
     c.in_ok-push.ensures.items refl refl refl refl

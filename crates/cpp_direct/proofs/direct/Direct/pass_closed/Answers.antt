@@ -1,9 +1,7 @@
 use Rattle.std.proofs.Common.{Some, true, false, ap, ◌∙◌}
-use Rattle.cpp_direct.specs.Symbol.{symbol_by}
 use Rattle.cpp_direct.specs.declared.open.Open.TheVariants as opens
 use Rattle.cpp_direct.proofs.Handed.{value-element, value-returned, value-signature, value-enumerator, argument-read, special-read, takes-elements}
-use Rattle.cpp_direct.proofs.AddressesRead.{value-addressed, value-addressed-front}
-use Rattle.cpp_direct.proofs.EnclosingFunctions.{parameter-read-within}
+use Rattle.cpp_direct.proofs.FunctionsWithin.{parameter-read-within, value-addressed, value-addressed-front}
 use Rattle.cpp_direct.proofs.LambdasRead.{lambda-parameter-read}
 use Rattle.cpp_direct.proofs.Arguments.{value-argument}
 use Rattle.cpp_direct.proofs.Signatures.{value-array}
@@ -11,62 +9,62 @@ use Rattle.cpp_direct.proofs.direct.Direct.pass_closed.Goals as goal
 
 pub returned-requires-clause-returned : goal.returned-requires-clause-returned
 returned-requires-clause-returned g c =
-    value-returned (symbol_by g.G.Grammar.IS_WIDE g.G.Grammar.IS_BARE g.G.Grammar.IS_BRIEF c.args.s.now) c.args.self.now c.args.is_reference c.in-Returned.is_pointer c.requires.writing (c.requires.waits ∙ ap (λ o. Some o) c.in-Returned.is)
+    value-returned _ c.args.self.now c.args.is_reference c.in-Returned.is_pointer c.requires.writing (c.requires.waits ∙ ap (λ o. Some o) c.in-Returned.is)
 
 pub parameter_at-requires-clause-awaits : goal.parameter_at-requires-clause-awaits
 parameter_at-requires-clause-awaits g c =
-    value-signature (symbol_by g.G.Grammar.IS_WIDE g.G.Grammar.IS_BARE g.G.Grammar.IS_BRIEF c.args.s.now) c.args.self.now c.args.is_reference c.in-Signature.is_pointer c.requires.writing (c.requires.waits ∙ ap (λ o. Some o) c.in-Signature.is)
+    value-signature _ c.args.self.now c.args.is_reference c.in-Signature.is_pointer c.requires.writing (c.requires.waits ∙ ap (λ o. Some o) c.in-Signature.is)
 
 pub array_ended-requires-clause-read : goal.array_ended-requires-clause-read
 array_ended-requires-clause-read g c =
-    value-array (symbol_by g.G.Grammar.IS_WIDE g.G.Grammar.IS_BARE g.G.Grammar.IS_BRIEF c.args.s.now) c.args.self.now c.args.is_reference c.in-Array.access c.in-Array.from c.in-Array.to
+    value-array _ c.args.self.now c.args.is_reference c.in-Array.access c.in-Array.from c.in-Array.to
     c.requires.writing (c.requires.waits ∙ ap (λ o. Some o) c.in-Array.is)
 
 pub enclosing_parameter-requires-clause-read : goal.enclosing_parameter-requires-clause-read
 enclosing_parameter-requires-clause-read g c =
-    parameter-read-within (symbol_by g.G.Grammar.IS_WIDE g.G.Grammar.IS_BARE g.G.Grammar.IS_BRIEF c.args.s.now) c.args.self.now c.in-Enclosing.mark c.in-Enclosing.from c.in-Enclosing.to
-    (value-element (symbol_by g.G.Grammar.IS_WIDE g.G.Grammar.IS_BARE g.G.Grammar.IS_BRIEF c.args.s.now) c.args.self.now c.args.is_reference (opens.Enclosing c.in-Enclosing.mark c.in-Enclosing.from c.in-Enclosing.to)
+    parameter-read-within _ c.args.self.now c.in-Enclosing.mark c.in-Enclosing.from c.in-Enclosing.to
+    (value-element _ c.args.self.now c.args.is_reference (opens.Enclosing c.in-Enclosing.mark c.in-Enclosing.from c.in-Enclosing.to)
     c.requires.writing (c.requires.waits ∙ ap (λ o. Some o) c.in-Enclosing.is))
 
 pub addressed_front-requires-clause-read : goal.addressed_front-requires-clause-read
 addressed_front-requires-clause-read g c =
-    value-addressed-front (symbol_by g.G.Grammar.IS_WIDE g.G.Grammar.IS_BARE g.G.Grammar.IS_BRIEF c.args.s.now) c.args.self.now c.args.is_reference false c.in-AddressedFront.mark c.in-AddressedFront.to c.in-AddressedFront.argument
+    value-addressed-front _ c.args.self.now c.args.is_reference false c.in-AddressedFront.mark c.in-AddressedFront.to c.in-AddressedFront.argument
     c.requires.writing (c.requires.waits ∙ ap (λ o. Some o) c.in-AddressedFront.is)
 
 pub addressed_parameter-requires-clause-read : goal.addressed_parameter-requires-clause-read
 addressed_parameter-requires-clause-read g c =
-    value-addressed (symbol_by g.G.Grammar.IS_WIDE g.G.Grammar.IS_BARE g.G.Grammar.IS_BRIEF c.args.s.now) c.args.self.now c.args.is_reference false c.in-Addressed.mark c.in-Addressed.to c.in-Addressed.argument
+    value-addressed _ c.args.self.now c.args.is_reference false c.in-Addressed.mark c.in-Addressed.to c.in-Addressed.argument
     c.requires.writing (c.requires.waits ∙ ap (λ o. Some o) c.in-Addressed.is)
 
 pub lambda_parameter-requires-clause-read : goal.lambda_parameter-requires-clause-read
 lambda_parameter-requires-clause-read g c =
-    lambda-parameter-read (symbol_by g.G.Grammar.IS_WIDE g.G.Grammar.IS_BARE g.G.Grammar.IS_BRIEF c.args.s.now) c.args.self.now c.in-Lambda.from c.in-Lambda.nested
-    (value-element (symbol_by g.G.Grammar.IS_WIDE g.G.Grammar.IS_BARE g.G.Grammar.IS_BRIEF c.args.s.now) c.args.self.now c.args.is_reference (opens.Lambda c.in-Lambda.from c.in-Lambda.nested) c.requires.writing
+    lambda-parameter-read _ c.args.self.now c.in-Lambda.from c.in-Lambda.nested
+    (value-element _ c.args.self.now c.args.is_reference (opens.Lambda c.in-Lambda.from c.in-Lambda.nested) c.requires.writing
     (c.requires.waits ∙ ap (λ o. Some o) c.in-Lambda.is))
 
 pub finish-requires : goal.finish-requires
 finish-requires g c =
-    special-read (symbol_by g.G.Grammar.IS_WIDE g.G.Grammar.IS_BARE g.G.Grammar.IS_BRIEF c.args.s.now) c.args.self.now
-    (value-element (symbol_by g.G.Grammar.IS_WIDE g.G.Grammar.IS_BARE g.G.Grammar.IS_BRIEF c.args.s.now) c.args.self.now c.args.is_reference opens.Special c.requires.writing (c.requires.waits ∙ ap (λ o. Some o) c.in-Special.is))
+    special-read _ c.args.self.now
+    (value-element _ c.args.self.now c.args.is_reference opens.Special c.requires.writing (c.requires.waits ∙ ap (λ o. Some o) c.in-Special.is))
 
 pub enumerator-requires-clause-awaits : goal.enumerator-requires-clause-awaits
 enumerator-requires-clause-awaits g c =
-    value-enumerator (symbol_by g.G.Grammar.IS_WIDE g.G.Grammar.IS_BARE g.G.Grammar.IS_BRIEF c.args.s.now) c.args.self.now c.args.is_reference c.requires.writing (c.requires.waits ∙ ap (λ o. Some o) c.in-Enumerator.is)
+    value-enumerator _ c.args.self.now c.args.is_reference c.requires.writing (c.requires.waits ∙ ap (λ o. Some o) c.in-Enumerator.is)
 
 pub argument_ended-requires-clause-read : goal.argument_ended-requires-clause-read
 argument_ended-requires-clause-read g c =
-    value-argument (symbol_by g.G.Grammar.IS_WIDE g.G.Grammar.IS_BARE g.G.Grammar.IS_BRIEF c.args.s.now) c.args.self.now false c.args.is_reference c.in-Argument.from c.in-Argument.number c.in-Argument.known
+    value-argument _ c.args.self.now false c.args.is_reference c.in-Argument.from c.in-Argument.number c.in-Argument.known
     c.requires.writing (c.requires.waits ∙ ap (λ o. Some o) c.in-Argument.is)
 
 pub element_ended-requires-clause-read : goal.element_ended-requires-clause-read
 element_ended-requires-clause-read g c =
-    value-argument (symbol_by g.G.Grammar.IS_WIDE g.G.Grammar.IS_BARE g.G.Grammar.IS_BRIEF c.args.s.now) c.args.self.now true c.args.is_reference c.in-Element.from c.in-Element.number c.in-Element.known
+    value-argument _ c.args.self.now true c.args.is_reference c.in-Element.from c.in-Element.number c.in-Element.known
     c.requires.writing (c.requires.waits ∙ ap (λ o. Some o) c.in-Element.is)
 
 pub returns-in_default : goal.returns-in_default
 returns-in_default g c =
-    argument-read (symbol_by g.G.Grammar.IS_WIDE g.G.Grammar.IS_BARE g.G.Grammar.IS_BRIEF c.args.s.now) c.args.self.now c.args.entry
-    (value-element (symbol_by g.G.Grammar.IS_WIDE g.G.Grammar.IS_BARE g.G.Grammar.IS_BRIEF c.args.s.now) c.args.self.now c.args.is_reference c.args.entry c.requires.writing c.requires.waits)
+    argument-read _ c.args.self.now c.args.entry
+    (value-element _ c.args.self.now c.args.is_reference c.args.entry c.requires.writing c.requires.waits)
     (takes-elements c.args.entry c.requires.others c.in_default.not-Returned c.in_default.not-Signature c.in_default.not-Special c.in_default.not-Enumerator
     c.in_default.not-Enclosing c.in_default.not-Argument c.in_default.not-Lambda c.in_default.not-Element c.in_default.not-Array
     c.in_default.not-Address c.in_default.not-AddressedFront c.in_default.not-Addressed)

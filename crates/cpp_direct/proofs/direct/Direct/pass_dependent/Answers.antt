@@ -1,15 +1,14 @@
 use Rattle.std.proofs.Common.{true}
-use Rattle.cpp_direct.specs.Symbol.{symbol_by}
-use Rattle.cpp_direct.proofs.AddressesRead.{value-addressed, value-addressed-front}
+use Rattle.cpp_direct.proofs.FunctionsWithin.{value-addressed, value-addressed-front}
 use Rattle.cpp_direct.proofs.Listed.{waits-last}
 use Rattle.cpp_direct.proofs.direct.Direct.pass_dependent.Goals as goal
 
 pub addressed_front-requires-clause-read : goal.addressed_front-requires-clause-read
 addressed_front-requires-clause-read g c =
-    value-addressed-front (symbol_by g.G.Grammar.IS_WIDE g.G.Grammar.IS_BARE g.G.Grammar.IS_BRIEF c.args.s.now) c.args.self.now c.requires.writing.0 true c.in-AddressedFront.mark c.in-AddressedFront.to c.in-AddressedFront.argument c.requires.writing.1
+    value-addressed-front _ c.args.self.now c.requires.writing.0 true c.in-AddressedFront.mark c.in-AddressedFront.to c.in-AddressedFront.argument c.requires.writing.1
     (waits-last _ _ _ _ c.as_slice.ensures c.in_ok-entry.ensures.value c.in-AddressedFront.is)
 
 pub addressed_parameter-requires-clause-read : goal.addressed_parameter-requires-clause-read
 addressed_parameter-requires-clause-read g c =
-    value-addressed (symbol_by g.G.Grammar.IS_WIDE g.G.Grammar.IS_BARE g.G.Grammar.IS_BRIEF c.args.s.now) c.args.self.now c.requires.writing.0 true c.in-Addressed.mark c.in-Addressed.to c.in-Addressed.argument c.requires.writing.1
+    value-addressed _ c.args.self.now c.requires.writing.0 true c.in-Addressed.mark c.in-Addressed.to c.in-Addressed.argument c.requires.writing.1
     (waits-last _ _ _ _ c.as_slice.ensures c.in_ok-entry.ensures.value c.in-Addressed.is)

@@ -1,34 +1,33 @@
-use Rattle.std.proofs.Common.{refl}
-use Rattle.cpp_direct.specs.Symbol.{symbol_by}
+use Rattle.std.proofs.Common.{refl, subst}
 use Rattle.cpp_direct.specs.declared.open.Open.TheVariants as opens
+use Rattle.cpp_direct.specs.WriterInvariant.{TakesFunction}
 use Rattle.cpp_direct.proofs.Signatures.{passed-on, takes-as-element}
-use Rattle.cpp_direct.proofs.EnclosingFunctions.{parameter-read-within}
+use Rattle.cpp_direct.proofs.FunctionsWithin.{parameter-read-within}
 use Rattle.cpp_direct.proofs.Handed.{argument-read, parameter-read, special-read}
 use Rattle.cpp_direct.proofs.Listed.{waits-last}
 use Rattle.cpp_direct.proofs.direct.Direct.pass_element.Goals as goal
 
 pub parameter_ended-requires-clause-ended : goal.parameter_ended-requires-clause-ended
 parameter_ended-requires-clause-ended g c =
-    parameter-read (symbol_by g.G.Grammar.IS_WIDE g.G.Grammar.IS_BARE g.G.Grammar.IS_BRIEF c.args.s.now) c.args.self.now c.in-Parameters.mark c.in-Parameters.start c.in-Parameters.argument
-    (passed-on (symbol_by g.G.Grammar.IS_WIDE g.G.Grammar.IS_BARE g.G.Grammar.IS_BRIEF c.args.s.now) c.args.self.now (opens.Parameters c.in-Parameters.mark c.in-Parameters.start c.in-Parameters.argument) c.requires.passed
+    parameter-read _ c.args.self.now c.in-Parameters.mark c.in-Parameters.start c.in-Parameters.argument
+    (passed-on _ c.args.self.now (opens.Parameters c.in-Parameters.mark c.in-Parameters.start c.in-Parameters.argument) c.requires.passed
     (waits-last _ _ _ _ c.as_slice.ensures c.in_ok-mark.ensures.value c.in-Parameters.is))
 
 pub enclosing_parameter-requires-clause-read : goal.enclosing_parameter-requires-clause-read
 enclosing_parameter-requires-clause-read g c =
-    parameter-read-within (symbol_by g.G.Grammar.IS_WIDE g.G.Grammar.IS_BARE g.G.Grammar.IS_BRIEF c.args.s.now) c.args.self.now c.in-Enclosing.mark c.in-Enclosing.from c.in-Enclosing.to
-    (passed-on (symbol_by g.G.Grammar.IS_WIDE g.G.Grammar.IS_BARE g.G.Grammar.IS_BRIEF c.args.s.now) c.args.self.now (opens.Enclosing c.in-Enclosing.mark c.in-Enclosing.from c.in-Enclosing.to) c.requires.passed
+    parameter-read-within _ c.args.self.now c.in-Enclosing.mark c.in-Enclosing.from c.in-Enclosing.to
+    (passed-on _ c.args.self.now (opens.Enclosing c.in-Enclosing.mark c.in-Enclosing.from c.in-Enclosing.to) c.requires.passed
     (waits-last _ _ _ _ c.as_slice.ensures c.in_ok-mark.ensures.value c.in-Enclosing.is))
 
 pub finish-requires : goal.finish-requires
 finish-requires g c =
-    special-read (symbol_by g.G.Grammar.IS_WIDE g.G.Grammar.IS_BARE g.G.Grammar.IS_BRIEF c.args.s.now) c.args.self.now
-    (passed-on (symbol_by g.G.Grammar.IS_WIDE g.G.Grammar.IS_BARE g.G.Grammar.IS_BRIEF c.args.s.now) c.args.self.now opens.Special c.requires.passed
+    special-read _ c.args.self.now (passed-on _ c.args.self.now opens.Special c.requires.passed
     (waits-last _ _ _ _ c.as_slice.ensures c.in_ok-mark.ensures.value c.in-Special.is))
 
 pub returns-in_default : goal.returns-in_default
 returns-in_default g c =
     let o = c.in_ok-mark.field-0.now in
     let p = c.requires.passed in
-    let read = passed-on (symbol_by g.G.Grammar.IS_WIDE g.G.Grammar.IS_BARE g.G.Grammar.IS_BRIEF c.args.s.now) c.args.self.now o p (waits-last _ _ _ _ c.as_slice.ensures c.in_ok-mark.ensures.value refl) in
-    argument-read (symbol_by g.G.Grammar.IS_WIDE g.G.Grammar.IS_BARE g.G.Grammar.IS_BRIEF c.args.s.now) c.args.self.now o read
-    (takes-as-element o read.rest _ read.open_is p.takes c.in_default.not-Parameters c.in_default.not-Special c.in_default.not-Enclosing)
+    let read = passed-on _ c.args.self.now o p (waits-last _ _ _ _ c.as_slice.ensures c.in_ok-mark.ensures.value refl) in
+    argument-read _ c.args.self.now o read
+    (takes-as-element o read.rest (subst TakesFunction read.open_is p.takes) c.in_default.not-Parameters c.in_default.not-Special c.in_default.not-Enclosing)

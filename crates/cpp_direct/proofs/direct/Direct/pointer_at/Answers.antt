@@ -1,6 +1,8 @@
 use Rattle.std.proofs.Common.{◌≢◌, ◌+◌, ◌∷◌, [], subst, arith}
-use Rattle.cpp_direct.specs.Symbol.{symbol_by}
 use Rattle.cpp_direct.specs.Holes.{StandsAt}
+use Rattle.cpp_direct.specs.WriterInvariant.{IsWriting}
+use Rattle.cpp_direct.specs.declared.open.Step.TheVariants as steps
+use Rattle.cpp_direct.proofs.Kept.{opened-so}
 use Rattle.cpp_direct.proofs.Moves.{stands-join}
 use Rattle.cpp_direct.proofs.TypesRead.{there, pointer-opened}
 use Rattle.cpp_direct.proofs.direct.Direct.pointer_at.Goals as goal
@@ -16,11 +18,8 @@ begin_function-requires-clause-letters g c =
 
 pub returns : goal.returns
 returns g c =
-    pointer-opened (symbol_by g.G.Grammar.IS_WIDE g.G.Grammar.IS_BARE g.G.Grammar.IS_BRIEF c.args.s.now) c.args.self.now c.open_type.new.self c.open_type.result c.end-from.result
-    c.requires.awaits c.end-from.ensures
-    c.requires.letter
-    c.open_type.ensures.step c.open_type.ensures.open c.open_type.ensures.at c.open_type.ensures.text c.open_type.ensures.candidates
-    c.open_type.ensures.scope
+    opened-so c.open_type.result steps.Type _ (IsWriting _ c.open_type.new.self) c.open_type.ensures
+    (pointer-opened _ c.args.self.now c.open_type.new.self c.end-from.result c.requires.awaits c.end-from.ensures c.requires.letter)
 
 pub begin_array-requires-clause-letters : goal.begin_array-requires-clause-letters
 begin_array-requires-clause-letters g c =

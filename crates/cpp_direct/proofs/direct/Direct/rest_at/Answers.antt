@@ -1,9 +1,10 @@
-use Rattle.std.proofs.Common.{arith, ◌∷◌, [], subst}
+use Rattle.std.proofs.Common.{true, arith, ◌∷◌, [], subst}
 use Rattle.cpp_direct.specs.Symbol.{symbol_by}
-use Rattle.cpp_direct.specs.declared.open.Open.TheVariants as opens
+use Rattle.cpp_direct.specs.declared.open.Step.TheVariants as steps
+use Rattle.cpp_direct.specs.WriterInvariant.{IsWriting}
 use Rattle.cpp_direct.specs.Holes.{StandsAt}
 use Rattle.cpp_direct.proofs.MovesOfNests.{first-is-rest}
-use Rattle.cpp_direct.proofs.Kept.{opened-by}
+use Rattle.cpp_direct.proofs.Kept.{opened-so}
 use Rattle.cpp_direct.proofs.Nesting.{component-next, first-opens}
 use Rattle.cpp_direct.proofs.TypesRead.{there}
 use Rattle.cpp_direct.proofs.direct.Direct.rest_at.Goals as goal
@@ -14,17 +15,14 @@ returns-then-byte_at-eq73 g c =
     let mid = c.add_unless.new.self in
     let writing = c.requires.writing in
     let added = c.in_ok-add_unless.ensures in
-    let opened = c.open_arguments.ensures in
-    opened-by s c.open_arguments.result mid c.open_arguments.new.self (opens.FirstArguments mid.nest) opened.step opened.«open» opened.at opened.text
-    opened.candidates opened.scope
+    opened-so c.open_arguments.result (steps.List true) _ (IsWriting s c.open_arguments.new.self) c.open_arguments.ensures
     (first-opens s writing.is_before.1 c.args.self.now mid c.open_arguments.new.self writing.kept writing.is_before.0 writing.is_before.2 writing.is_before.3
     (subst (λ n. StandsAt s.bytes n (73 ∷ [])) added.at (there s.bytes mid.at c.byte_at.result 73 c.if-byte_at-eq73.true (omega arith) c.byte_at.ensures))
-    (record { candidates = added.candidates; text = added.text; waiting = added.«open»; nest = added.nest; scope = added.scope; at = added.at }))
+    added)
 
 pub components_at-requires-clause-writing : goal.components_at-requires-clause-writing
 components_at-requires-clause-writing g c =
     let writing = c.requires.writing in
-    let added = c.in_ok-add_unless.ensures in
-    component-next (symbol_by g.G.Grammar.IS_WIDE g.G.Grammar.IS_BARE g.G.Grammar.IS_BRIEF c.args.s.now) writing.is_before.1 c.args.self.now c.add_unless.new.self writing.kept writing.is_before.0
+    component-next _ writing.is_before.1 c.args.self.now c.add_unless.new.self writing.kept writing.is_before.0
     (first-is-rest writing.is_before.1 writing.is_before.2) writing.is_before.3
-    (record { candidates = added.candidates; text = added.text; waiting = added.«open»; nest = added.nest; scope = added.scope; at = added.at })
+    c.in_ok-add_unless.ensures

@@ -1,5 +1,4 @@
 use Rattle.std.proofs.Common.{◌≡◌, ◌∷◌, ◌++◌, ap, sym, ◌∙◌, refl, reverse}
-use Rattle.cpp_direct.specs.Symbol.{symbol_by}
 use Rattle.cpp_direct.specs.declared.open.Open.TheVariants as opens
 use Rattle.cpp_direct.specs.WriterInvariant.{opening_text}
 use Rattle.cpp_direct.proofs.Kept.{reverse-last}
@@ -10,7 +9,6 @@ use Rattle.cpp_direct.proofs.direct.Direct.returned.Goals.{then-is_pointer, else
 
 pub first_parameter-requires-clause-awaits : goal.first_parameter-requires-clause-awaits
 first_parameter-requires-clause-awaits g c =
-    let s = symbol_by g.G.Grammar.IS_WIDE g.G.Grammar.IS_BARE g.G.Grammar.IS_BRIEF c.args.s.now in
     let w = c.args.self.now in
     let p = c.requires.returned in
     let entry = opens.Signature c.args.is_pointer in
@@ -18,8 +16,7 @@ first_parameter-requires-clause-awaits g c =
       | then-is_pointer b ↦ ap (λ t. t.now) b.push-is ∙ ap (λ k. opening_text k) (sym b.if-is_pointer.true)
       | else-is_pointer b ↦ ap (λ t. t.now) b.push-is ∙ ap (λ k. opening_text k) (sym b.if-is_pointer.false)
     ] in
-    signature-begins s w _ c.args.is_pointer p
-    (c.in_ok-push.ensures.text ∙ ap (λ l. w.text.list.items ++ l) opening)
+    signature-begins _ w _ c.args.is_pointer p (c.in_ok-push.ensures.text ∙ ap (λ l. w.text.list.items ++ l) opening)
     c.in_ok-push.ensures.candidates c.in_ok-push.ensures.scope
     (ap reverse c.in_ok-push-2.ensures.items
     ∙ reverse-last c.push.new.self.waiting.list.items entry

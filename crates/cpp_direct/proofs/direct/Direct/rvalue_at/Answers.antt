@@ -1,51 +1,43 @@
-use Rattle.std.proofs.Common.{◌+◌, ◌++◌, ◌∷◌, [], length, ◌∙◌, ap, subst, arith, inl, inr}
-use Rattle.cpp_direct.specs.Symbol.{symbol_by}
-use Rattle.cpp_direct.specs.Holes.{IsReferable, StandsAt}
-use Rattle.cpp_direct.specs.MidStep.{parameter_digits}
+use Rattle.std.proofs.Common.{◌+◌, false, ◌∙◌, ap, arith, inl, inr}
+use Rattle.cpp_direct.specs.Holes.{IsReferable}
+use Rattle.cpp_direct.specs.WriterInvariant.{IsWriting}
+use Rattle.cpp_direct.specs.declared.open.Step.TheVariants as steps
+use Rattle.cpp_direct.proofs.Kept.{opened-so}
 use Rattle.cpp_direct.proofs.DependentsRead.{argument-inside, forwarded-done}
-use Rattle.cpp_direct.proofs.TypesRead.{rvalue-opened, there}
+use Rattle.cpp_direct.proofs.TypesRead.{reference-opened, there}
 use Rattle.cpp_direct.proofs.direct.Direct.rvalue_at.Goals as goal
 
 pub returns-then-byte_at-ne84 : goal.returns-then-byte_at-ne84
 returns-then-byte_at-ne84 g c =
-    let called = c.open_type.ensures in
-    rvalue-opened (symbol_by g.G.Grammar.IS_WIDE g.G.Grammar.IS_BARE g.G.Grammar.IS_BRIEF c.args.s.now) c.args.self.now c.open_type.new.self c.open_type.result c.end-from.result
-    c.requires.awaits c.end-from.ensures c.requires.letter called.step called.open called.at called.text called.candidates called.scope
+    opened-so c.open_type.result steps.Type _ (IsWriting _ c.open_type.new.self) c.open_type.ensures
+    (reference-opened _ c.args.self.now c.open_type.new.self false c.end-from.result c.requires.awaits c.end-from.ensures c.requires.letter)
 
 pub returns-then-not-argument : goal.returns-then-not-argument
 returns-then-not-argument g c =
-    let called = c.open_type-then-not-argument.ensures in
-    rvalue-opened (symbol_by g.G.Grammar.IS_WIDE g.G.Grammar.IS_BARE g.G.Grammar.IS_BRIEF c.args.s.now) c.args.self.now c.open_type-then-not-argument.new.self c.open_type-then-not-argument.result c.end-from.result
-    c.requires.awaits c.end-from.ensures c.requires.letter called.step called.open called.at called.text called.candidates called.scope
+    let opened = c.open_type-then-not-argument in
+    opened-so opened.result steps.Type _ (IsWriting _ opened.new.self) opened.ensures
+    (reference-opened _ c.args.self.now opened.new.self false c.end-from.result c.requires.awaits c.end-from.ensures c.requires.letter)
 
-pub repeat-requires-clause-from : goal.repeat-requires-clause-from
-repeat-requires-clause-from g c =
-    (argument-inside (symbol_by g.G.Grammar.IS_WIDE g.G.Grammar.IS_BARE g.G.Grammar.IS_BRIEF c.args.s.now) c.args.self.now c.in_ok-named.named c.in_ok-read.read.number c.in_ok-argument.argument c.requires.awaits
-    c.in_ok-named.ensures c.in_ok-argument.ensures.is c.in_ok-argument.ensures.known).0
-
-pub repeat-requires-clause-to : goal.repeat-requires-clause-to
-repeat-requires-clause-to g c =
-    (argument-inside (symbol_by g.G.Grammar.IS_WIDE g.G.Grammar.IS_BARE g.G.Grammar.IS_BRIEF c.args.s.now) c.args.self.now c.in_ok-named.named c.in_ok-read.read.number c.in_ok-argument.argument c.requires.awaits
-    c.in_ok-named.ensures c.in_ok-argument.ensures.is c.in_ok-argument.ensures.known).1
+pub repeat-requires : goal.repeat-requires
+repeat-requires g c =
+    let is = argument-inside _ c.args.self.now c.in_ok-named.named c.in_ok-read.read.number c.in_ok-argument.argument c.requires.awaits
+    c.in_ok-named.ensures c.in_ok-argument.ensures.is c.in_ok-argument.ensures.known in
+    record { from = is.0; to = is.1 }
 
 pub returns : goal.returns
 returns g c =
-    let s = symbol_by g.G.Grammar.IS_WIDE g.G.Grammar.IS_BARE g.G.Grammar.IS_BRIEF c.args.s.now in
     let old = c.args.self.now in
     let k = c.in_ok-read.read.number in
     let here = c.in_ok-behind.ensures.1 in
     let line = c.in_ok-checked_add.ensures.1 ∙ ap (λ n. n + 1) here in
-    let first = c.add_candidate.ensures in
-    let second = c.add_candidate-2.ensures in
     let refers : IsReferable c.requires.awaits.kind = elim c.requires.awaits.referable [
       | inl may ↦ may
       | inr none ↦ absurd (none.1 c.requires.letter)
     ] in
-    forwarded-done s old c.repeat.new.self c.add_candidate.new.self c.add_candidate-2.new.self c.in_ok-named.named k c.in_ok-argument.argument c.in_ok-read.read.end c.end-from.result
+    forwarded-done _ old c.repeat.new.self c.add_candidate.new.self c.add_candidate-2.new.self c.in_ok-named.named k c.in_ok-argument.argument c.in_ok-read.read.end c.end-from.result
     c.requires.awaits c.in_ok-read.ensures.few refers c.requires.letter
-    (subst (λ n. StandsAt s.bytes n (84 ∷ [])) here (there s.bytes c.in_ok-behind.behind c.byte_at.result 84 c.if-byte_at-ne84.false (omega arith) c.byte_at.ensures))
-    (subst (λ n. StandsAt s.bytes n (parameter_digits k ++ 95 ∷ [])) line c.in_ok-read.ensures.stands)
+    (rw here at (there c.args.s.now c.in_ok-behind.behind c.byte_at.result 84 c.if-byte_at-ne84.false (omega arith) c.byte_at.ensures))
+    (rw line at c.in_ok-read.ensures.stands)
     c.in_ok-named.ensures c.in_ok-argument.ensures.is c.in_ok-argument.ensures.known c.if-named-eq0.false c.if-not-argument.false c.end-from.ensures
-    c.in_ok-repeat.ensures (c.in_ok-read.ensures.end ∙ ap (λ n. n + length (parameter_digits k ++ 95 ∷ [])) line)
-    (record { more = c.in_ok-add_candidate.ensures.candidates; text = first.text; waits = first.open; scope = first.scope; at = first.at })
-    (record { more = c.in_ok-add_candidate-2.ensures.candidates; text = second.text; waits = second.open; scope = second.scope; at = second.at })
+    c.in_ok-repeat.ensures (rw line at c.in_ok-read.ensures.end)
+    c.in_ok-add_candidate.ensures c.in_ok-add_candidate-2.ensures

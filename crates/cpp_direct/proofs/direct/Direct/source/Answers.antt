@@ -1,5 +1,4 @@
 use Rattle.std.proofs.Common.{sym, subst, arith}
-use Rattle.cpp_direct.specs.Symbol.{symbol_by}
 use Rattle.cpp_direct.proofs.NestComponents.{Moves, letters, moves-to, source-follows}
 use Rattle.cpp_direct.proofs.direct.Direct.source.Goals.{then-is_internal+in_ok-self, else-is_internal}
 use Rattle.cpp_direct.proofs.direct.Direct.source.Goals as goal
@@ -13,5 +12,5 @@ nest_named-requires-clause-named g c =
       | else-is_internal b ↦ subst (λ i. Moves c.args.self.now c.if-is_internal.self (letters i)) (sym b.if-is_internal.false)
           (moves-to c.args.self.now c.if-is_internal.self c.args.self.now.at 0 b.self-is (omega arith))
     ] in
-    source-follows (symbol_by g.G.Grammar.IS_WIDE g.G.Grammar.IS_BARE g.G.Grammar.IS_BRIEF c.args.s.now) c.args.self.now c.if-is_internal.self c.push_pair.new.self c.name.new.self _ _ c.args.is_internal c.requires.writing
+    source-follows _ c.args.self.now c.if-is_internal.self c.push_pair.new.self c.name.new.self _ _ c.args.is_internal c.requires.writing
     c.requires.letter moved c.in_ok-push_pair.ensures n.0 n.1 n.2 n.3 c.end-class_from.ensures c.end.ensures

@@ -1,28 +1,27 @@
-use Rattle.std.proofs.Common.{◌∷◌, [], arith, subst, if◌then◌else◌}
+use Rattle.std.proofs.Common.{◌∷◌, [], true, arith, subst, if◌then◌else◌}
 use Rattle.cpp_direct.specs.Symbol.{symbol_by}
 use Rattle.cpp_direct.specs.WriterInvariant.{IsWriting}
 use Rattle.cpp_direct.specs.declared.open.Step.TheVariants as steps
+use Rattle.cpp_direct.proofs.Kept.{opened-so}
 use Rattle.cpp_direct.proofs.Moves.{stands-join}
-use Rattle.cpp_direct.proofs.TypesRead.{awaits-type, names-awaited, there, lvalue-opened, const-opened}
+use Rattle.cpp_direct.proofs.TypesRead.{awaits-type, names-awaited, there, reference-opened, const-opened}
 use Rattle.cpp_direct.proofs.direct.Direct.type_at.Goals as goal
 
 pub named_type-requires-clause-awaits : goal.named_type-requires-clause-awaits
 named_type-requires-clause-awaits g c =
-    names-awaited (symbol_by g.G.Grammar.IS_WIDE g.G.Grammar.IS_BARE g.G.Grammar.IS_BRIEF c.args.s.now) c.args.self.now (awaits-type (symbol_by g.G.Grammar.IS_WIDE g.G.Grammar.IS_BARE g.G.Grammar.IS_BRIEF c.args.s.now) c.args.self.now c.args.is_plain c.requires.writing)
+    names-awaited _ c.args.self.now (awaits-type _ c.args.self.now c.args.is_plain c.requires.writing)
 
 pub builtin_with_d-requires-clause-awaits : goal.builtin_with_d-requires-clause-awaits
-builtin_with_d-requires-clause-awaits g c = awaits-type (symbol_by g.G.Grammar.IS_WIDE g.G.Grammar.IS_BARE g.G.Grammar.IS_BRIEF c.args.s.now) c.args.self.now c.args.is_plain c.requires.writing
+builtin_with_d-requires-clause-awaits g c = awaits-type _ c.args.self.now c.args.is_plain c.requires.writing
 
 pub builtin-requires-clause-awaits : goal.builtin-requires-clause-awaits
-builtin-requires-clause-awaits g c = awaits-type (symbol_by g.G.Grammar.IS_WIDE g.G.Grammar.IS_BARE g.G.Grammar.IS_BRIEF c.args.s.now) c.args.self.now c.args.is_plain c.requires.writing
+builtin-requires-clause-awaits g c = awaits-type _ c.args.self.now c.args.is_plain c.requires.writing
 
 pub returns-else-not-is_plain : goal.returns-else-not-is_plain
 returns-else-not-is_plain g c =
-    let called = c.open_type.ensures in
-    lvalue-opened (symbol_by g.G.Grammar.IS_WIDE g.G.Grammar.IS_BARE g.G.Grammar.IS_BRIEF c.args.s.now) c.args.self.now c.open_type.new.self c.open_type.result c.end-from.result
-    (awaits-type (symbol_by g.G.Grammar.IS_WIDE g.G.Grammar.IS_BARE g.G.Grammar.IS_BRIEF c.args.s.now) c.args.self.now c.args.is_plain c.requires.writing) c.end-from.ensures
-    (there c.args.s.now c.args.self.now.at c.byte_at.result 82 c.in-82.is (omega arith) c.byte_at.ensures)
-    called.step called.open called.at called.text called.candidates called.scope
+    opened-so c.open_type.result steps.Type _ (IsWriting _ c.open_type.new.self) c.open_type.ensures
+    (reference-opened _ c.args.self.now c.open_type.new.self true c.end-from.result (awaits-type _ c.args.self.now c.args.is_plain c.requires.writing) c.end-from.ensures
+    (there c.args.s.now c.args.self.now.at c.byte_at.result 82 c.in-82.is (omega arith) c.byte_at.ensures))
 
 pub begin_array-requires-clause-letters : goal.begin_array-requires-clause-letters
 begin_array-requires-clause-letters g c =
@@ -32,21 +31,21 @@ begin_array-requires-clause-letters g c =
     (c.is_array_behind.ensures c.if-is_array_behind.true)
 
 pub rvalue_at-requires-clause-awaits : goal.rvalue_at-requires-clause-awaits
-rvalue_at-requires-clause-awaits g c = awaits-type (symbol_by g.G.Grammar.IS_WIDE g.G.Grammar.IS_BARE g.G.Grammar.IS_BRIEF c.args.s.now) c.args.self.now c.args.is_plain c.requires.writing
+rvalue_at-requires-clause-awaits g c = awaits-type _ c.args.self.now c.args.is_plain c.requires.writing
 
 pub returns-else-is_plain-3 : goal.returns-else-is_plain-3
 returns-else-is_plain-3 g c =
-    let called = c.open_type-in-75.ensures in
-    const-opened (symbol_by g.G.Grammar.IS_WIDE g.G.Grammar.IS_BARE g.G.Grammar.IS_BRIEF c.args.s.now) c.args.self.now c.open_type-in-75.new.self c.open_type-in-75.result c.end-from.result c.args.is_plain
-    c.requires.writing c.if-is_plain-3.false c.end-from.ensures
-    (there c.args.s.now c.args.self.now.at c.byte_at.result 75 c.in-75.is (omega arith) c.byte_at.ensures)
-    called.step called.open called.at called.text called.candidates called.scope
+    opened-so c.open_type-in-75.result steps.Plain _ (IsWriting _ c.open_type-in-75.new.self) c.open_type-in-75.ensures
+    (const-opened _ c.args.self.now c.open_type-in-75.new.self c.end-from.result
+    (subst (λ p. IsWriting (symbol_by g.G.Grammar.IS_WIDE g.G.Grammar.IS_BARE g.G.Grammar.IS_BRIEF c.args.s.now) c.args.self.now (if p then steps.Plain else steps.Type)) c.if-is_plain-3.false c.requires.writing)
+    c.end-from.ensures
+    (there c.args.s.now c.args.self.now.at c.byte_at.result 75 c.in-75.is (omega arith) c.byte_at.ensures))
 
 pub template_parameter-requires-clause-awaits : goal.template_parameter-requires-clause-awaits
-template_parameter-requires-clause-awaits g c = awaits-type (symbol_by g.G.Grammar.IS_WIDE g.G.Grammar.IS_BARE g.G.Grammar.IS_BRIEF c.args.s.now) c.args.self.now c.args.is_plain c.requires.writing
+template_parameter-requires-clause-awaits g c = awaits-type _ c.args.self.now c.args.is_plain c.requires.writing
 
 pub pointer_at-requires-clause-awaits : goal.pointer_at-requires-clause-awaits
-pointer_at-requires-clause-awaits g c = awaits-type (symbol_by g.G.Grammar.IS_WIDE g.G.Grammar.IS_BARE g.G.Grammar.IS_BRIEF c.args.s.now) c.args.self.now c.args.is_plain c.requires.writing
+pointer_at-requires-clause-awaits g c = awaits-type _ c.args.self.now c.args.is_plain c.requires.writing
 
 pub begin_function-requires-clause-writing : goal.begin_function-requires-clause-writing
 begin_function-requires-clause-writing g c =

@@ -1,5 +1,4 @@
 use Rattle.std.proofs.Common.{◌≢◌, ◌+◌, ◌++◌, [], ◌∷◌, length, ap, subst, ◌∙◌, arith, append-nil}
-use Rattle.cpp_direct.specs.Symbol.{symbol_by}
 use Rattle.cpp_direct.specs.Holes.{StandsAt, IsSeqAt}
 use Rattle.cpp_direct.proofs.Kept.{candidate-inside}
 use Rattle.cpp_direct.proofs.TypesRead.{there, named-again, some-text, std-named, abbreviation-named, substitution-named}
@@ -8,7 +7,7 @@ use Rattle.cpp_direct.proofs.direct.Direct.type_with_s.Goals as goal
 pub type_named-requires : goal.type_named-requires
 type_named-requires g c =
     let got = c.in_ok-name.ensures in
-    std-named (symbol_by g.G.Grammar.IS_WIDE g.G.Grammar.IS_BARE g.G.Grammar.IS_BRIEF c.args.s.now) c.args.self.now c.push.new.self c.name.new.self c.end-from.result got.0 c.requires.awaits c.requires.letter
+    std-named _ c.args.self.now c.push.new.self c.name.new.self c.end-from.result got.0 c.requires.awaits c.requires.letter
     (there c.args.s.now (c.args.self.now.at + 1) c.byte_at-letter.result 116 c.if-letter-eq116.true (omega arith)
     (subst (λ k. c.byte_at-letter.result ≢ 0 → StandsAt c.args.s.now k (c.byte_at-letter.result ∷ [])) c.in_ok-self.ensures.1
     c.byte_at-letter.ensures))
@@ -18,7 +17,7 @@ type_named-requires g c =
 
 pub type_named-requires-then-not-is_empty : goal.type_named-requires-then-not-is_empty
 type_named-requires-then-not-is_empty g c =
-    abbreviation-named (symbol_by g.G.Grammar.IS_WIDE g.G.Grammar.IS_BARE g.G.Grammar.IS_BRIEF c.args.s.now) c.args.self.now c.push-then-not-is_empty.new.self c.end-from.result c.byte_at-letter.result c.requires.awaits
+    abbreviation-named _ c.args.self.now c.push-then-not-is_empty.new.self c.end-from.result c.byte_at-letter.result c.requires.awaits
     c.requires.letter
     (subst (λ k. c.byte_at-letter.result ≢ 0 → StandsAt c.args.s.now k (c.byte_at-letter.result ∷ [])) c.in_ok-self.ensures.1
     c.byte_at-letter.ensures)
@@ -31,32 +30,21 @@ type_named-requires-then-not-is_empty g c =
 pub dependent_again-requires-clause-again : goal.dependent_again-requires-clause-again
 dependent_again-requires-clause-again g c =
     let got = c.in_ok-candidate.ensures.is in
-    named-again (symbol_by g.G.Grammar.IS_WIDE g.G.Grammar.IS_BARE g.G.Grammar.IS_BRIEF c.args.s.now) c.args.self.now c.substitution.new.self c.in_ok-self.field-0 got.0 c.in_ok-candidate.candidate c.requires.awaits c.requires.letter
+    named-again _ c.args.self.now c.substitution.new.self c.in_ok-self.field-0 got.0 c.in_ok-candidate.candidate c.requires.awaits c.requires.letter
     (subst (λ n. IsSeqAt c.args.s.now n got.0 c.substitution.new.self.at) c.in_ok-self.ensures.1 got.1) c.in_ok-candidate.ensures.ordered got.2
     c.in_ok-candidate.ensures.same c.if-candidate.true
 
-pub repeat-requires-clause-from : goal.repeat-requires-clause-from
-repeat-requires-clause-from g c =
+pub repeat-requires : goal.repeat-requires
+repeat-requires g c =
     let got = c.in_ok-candidate.ensures.is in
-    (candidate-inside (symbol_by g.G.Grammar.IS_WIDE g.G.Grammar.IS_BARE g.G.Grammar.IS_BRIEF c.args.s.now) c.args.self.now _ c.in_ok-candidate.candidate c.requires.awaits.kept
-    c.in_ok-candidate.ensures.ordered got.2).0
-
-pub repeat-requires-clause-to : goal.repeat-requires-clause-to
-repeat-requires-clause-to g c =
-    let got = c.in_ok-candidate.ensures.is in
-    let same = c.in_ok-candidate.ensures.same in
-    omega (
-      arith,
-      (candidate-inside (symbol_by g.G.Grammar.IS_WIDE g.G.Grammar.IS_BARE g.G.Grammar.IS_BRIEF c.args.s.now) c.args.self.now _ c.in_ok-candidate.candidate c.requires.awaits.kept
-          c.in_ok-candidate.ensures.ordered got.2).1,
-      ap length (same.text ∙ append-nil c.args.self.now.text.list.items),
-    )
+    let is = candidate-inside _ c.args.self.now _ c.in_ok-candidate.candidate c.requires.awaits.kept c.in_ok-candidate.ensures.ordered got.2 in
+    record { from = is.0; to = omega (arith, is.1, ap length (c.in_ok-candidate.ensures.same.text ∙ append-nil c.args.self.now.text.list.items)) }
 
 pub type_named-requires-2 : goal.type_named-requires-2
 type_named-requires-2 g c =
     let got = c.in_ok-candidate.ensures.is in
     let k = c.in_ok-candidate.candidate in
-    substitution-named (symbol_by g.G.Grammar.IS_WIDE g.G.Grammar.IS_BARE g.G.Grammar.IS_BRIEF c.args.s.now) c.args.self.now c.substitution.new.self c.repeat.new.self c.in_ok-self.field-0 c.end-from.result got.0 k c.requires.awaits
+    substitution-named _ c.args.self.now c.substitution.new.self c.repeat.new.self c.in_ok-self.field-0 c.end-from.result got.0 k c.requires.awaits
     c.requires.letter
     (subst (λ n. IsSeqAt c.args.s.now n got.0 c.substitution.new.self.at) c.in_ok-self.ensures.1 got.1) c.in_ok-candidate.ensures.ordered got.2
     c.in_ok-candidate.ensures.same c.in_ok-repeat.ensures c.end-from.ensures c.if-candidate.false

@@ -1,9 +1,8 @@
 use Rattle.std.proofs.Common.{sym}
-use Rattle.cpp_direct.specs.Symbol.{symbol_by}
 use Rattle.cpp_direct.proofs.UnscopedNames.{unscoped-tagged}
 use Rattle.cpp_direct.proofs.direct.Direct.unscoped_named.Goals as goal
 
 pub unscoped_tagged-requires-clause-named : goal.unscoped_tagged-requires-clause-named
 unscoped_tagged-requires-clause-named g c =
     let is = c.in_ok-tag.ensures in
-    unscoped-tagged (symbol_by g.G.Grammar.IS_WIDE g.G.Grammar.IS_BARE g.G.Grammar.IS_BRIEF c.args.s.now) c.args.self.now c.tag.new.self c.args.from c.args.takes is.0 (sym c.if-IS_WIDE.ensures) c.requires.named is.1 is.2
+    unscoped-tagged _ c.args.self.now c.tag.new.self c.args.from c.args.takes is.0 (sym c.if-IS_WIDE.ensures) c.requires.named is.1 is.2

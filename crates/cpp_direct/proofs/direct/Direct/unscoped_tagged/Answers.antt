@@ -1,22 +1,18 @@
-use Rattle.std.proofs.Common.{arith}
-use Rattle.cpp_direct.specs.Symbol.{symbol_by}
-use Rattle.cpp_direct.specs.declared.open.Open.TheVariants as opens
-use Rattle.cpp_direct.proofs.Kept.{opened-by}
+use Rattle.std.proofs.Common.{true, arith}
+use Rattle.cpp_direct.specs.declared.open.Step.TheVariants as steps
+use Rattle.cpp_direct.specs.WriterInvariant.{IsWriting}
+use Rattle.cpp_direct.proofs.Kept.{opened-so}
 use Rattle.cpp_direct.proofs.TypesRead.{there}
 use Rattle.cpp_direct.proofs.UnscopedNames.{unscoped-argued, unscoped-bare}
 use Rattle.cpp_direct.proofs.direct.Direct.unscoped_tagged.Goals as goal
 
 pub name_ended-requires-clause-ended : goal.name_ended-requires-clause-ended
-name_ended-requires-clause-ended g c = unscoped-bare (symbol_by g.G.Grammar.IS_WIDE g.G.Grammar.IS_BARE g.G.Grammar.IS_BRIEF c.args.s.now) c.args.self.now c.args.from c.args.takes c.requires.named
+name_ended-requires-clause-ended g c = unscoped-bare _ c.args.self.now c.args.from c.args.takes c.requires.named
 
 pub returns : goal.returns
 returns g c =
-    let s = symbol_by g.G.Grammar.IS_WIDE g.G.Grammar.IS_BARE g.G.Grammar.IS_BRIEF c.args.s.now in
     let old = c.args.self.now in
-    let added = c.add_candidate.ensures in
-    let opened = c.open_arguments.ensures in
-    opened-by s c.open_arguments.result c.add_candidate.new.self c.open_arguments.new.self (opens.NameArguments c.args.from) opened.step opened.«open» opened.at opened.text
-    opened.candidates opened.scope
-    (unscoped-argued s old c.add_candidate.new.self c.open_arguments.new.self c.args.from c.args.takes c.requires.named c.if-not-takes.false
-    (there s.bytes old.at c.byte_at.result 73 c.if-byte_at-ne73.false (omega arith) c.byte_at.ensures)
-    (record { candidates = c.in_ok-add_candidate.ensures.candidates; text = added.text; waiting = added.«open»; nest = added.nest; scope = added.scope; at = added.at }))
+    opened-so c.open_arguments.result (steps.List true) _ (IsWriting _ c.open_arguments.new.self) c.open_arguments.ensures
+    (unscoped-argued _ old c.add_candidate.new.self c.open_arguments.new.self c.args.from c.args.takes c.requires.named c.if-not-takes.false
+    (there c.args.s.now old.at c.byte_at.result 73 c.if-byte_at-ne73.false (omega arith) c.byte_at.ensures)
+    c.in_ok-add_candidate.ensures)
