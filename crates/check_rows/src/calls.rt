@@ -176,8 +176,8 @@ fn ask_workspace<M: Calls>(verdict: &mut Verdict, workspace: &mut Workspace<M>, 
     verdict.appended(answer, &list, row.wanted);
 }
 
-/// Asks each call of a mangling for a symbol's text.
-pub fn ask_mangling<M: Calls>(verdict: &mut Verdict, workspace: &mut Workspace<M>, row: Row<'_>)
+/// Asks the calls that demangle a symbol at once for its text.
+fn ask_at_once<M: Calls>(verdict: &mut Verdict, row: Row<'_>)
     requires { FitsSymbol row.s.now }
 {
     let Row {
@@ -192,6 +192,15 @@ pub fn ask_mangling<M: Calls>(verdict: &mut Verdict, workspace: &mut Workspace<M
     if detail == Detail::Full {
         verdict.says(M::demangle(alloc, s, limit), wanted);
     }
+}
+
+/// Asks each call of a mangling for a symbol's text.
+pub fn ask_mangling<M: Calls>(verdict: &mut Verdict, workspace: &mut Workspace<M>, row: Row<'_>)
+    requires { FitsSymbol row.s.now }
+{
+    let alloc = verdict.alloc;
+    let wanted = row.wanted;
+    ask_at_once::<M>(verdict, row);
     ask_read::<M>(verdict, row);
     ask_linked_in_steps::<M>(verdict, row);
     verdict.says(linked_at_once::<M>(alloc, row), wanted);

@@ -97,6 +97,23 @@ fn asked_of_symfilt(verdict: &mut Verdict, words: &[&str], wanted: Ending<'_>) -
     asked
 }
 
+/// Asks the library's call and the streams to filter a text, if that is what the command's words ask for.
+fn ask_filters(
+    verdict: &mut Verdict,
+    asked: Run,
+    text: &[u8],
+    wanted: &[u8],
+) -> Result<(), AllocError> {
+    let Run::Filter(filtering) = asked else {
+        verdict.require(false);
+        return Ok(());
+    };
+    let filtered = unspelled(verdict.alloc, wanted)?;
+    ask_library_to_filter(verdict, text, filtering, wanted);
+    ask_streams(verdict, filtering, text, &filtered);
+    Ok(())
+}
+
 /// Asks the program with these options to filter a text to this one, and the static library.
 ///
 /// # Errors
@@ -110,19 +127,13 @@ pub fn ask_to_filter(
 ) -> Result<(), AllocError> {
     let words = words_of(verdict, "symfilt", options)?;
     let text = unspelled(verdict.alloc, text)?;
-    let filtered = unspelled(verdict.alloc, wanted)?;
     let ending = Ending {
         status: 0,
         out: wanted,
         err: b"",
     };
-    match asked_of_symfilt(verdict, &words, ending) {
-        Run::Filter(filtering) => {
-            ask_library_to_filter(verdict, &text, filtering, wanted);
-            ask_streams(verdict, filtering, &text, &filtered);
-        }
-        Run::Done(_) => verdict.require(false),
-    }
+    let asked = asked_of_symfilt(verdict, &words, ending);
+    ask_filters(verdict, asked, &text, wanted)?;
     run_symfilt(verdict, &words, &text, ending);
     Ok(())
 }

@@ -54,6 +54,22 @@ pub fn ask_demangler(verdict: &mut Verdict, lists: &mut AllLists, row: Row<'_>) 
     ask_by(verdict, &mut lists.abi, row)
 }
 
+/// Asks each call of the mangling that a symbol is of, C++ by a row's grammar, for its text.
+fn ask_mangling_of(verdict: &mut Verdict, lists: &mut AllLists, row: Row<'_>)
+    requires { FitsSymbol row.s.now }
+{
+    match row.kind.lang {
+        Lang::Rust => ask_mangling::<V0>(verdict, &mut lists.abi.rust, row),
+        Lang::Cpp => {
+            if row.wide {
+                ask_mangling::<Wide>(verdict, &mut lists.wide.cpp, row);
+            } else {
+                ask_mangling::<Abi>(verdict, &mut lists.abi.cpp, row);
+            }
+        }
+    }
+}
+
 /// Asks each call for a symbol's text.
 pub fn ask_each(verdict: &mut Verdict, lists: &mut AllLists, row: Row<'_>) {
     if !fits(row.s) {
@@ -66,16 +82,7 @@ pub fn ask_each(verdict: &mut Verdict, lists: &mut AllLists, row: Row<'_>) {
     if row.legacy {
         return;
     }
-    match row.kind.lang {
-        Lang::Rust => ask_mangling::<V0>(verdict, &mut lists.abi.rust, row),
-        Lang::Cpp => {
-            if row.wide {
-                ask_mangling::<Wide>(verdict, &mut lists.wide.cpp, row);
-            } else {
-                ask_mangling::<Abi>(verdict, &mut lists.abi.cpp, row);
-            }
-        }
-    }
+    ask_mangling_of(verdict, lists, row);
 }
 
 /// Asks for the text of a symbol that is fed in two pieces, cut at each place in turn.

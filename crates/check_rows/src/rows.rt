@@ -337,18 +337,41 @@ fn ending<'a>(verdict: &mut Verdict, status: &[u8], out: &'a [u8], err: &'a [u8]
     }
 }
 
+/// Asks what a row `filter` says.
+fn of_filter(verdict: &mut Verdict, fields: &[&[u8]]) -> Result<(), AllocError> {
+    let [options, text, filtered] = fields else {
+        verdict.require(false);
+        return Ok(());
+    };
+    ask_to_filter(verdict, options, text, filtered)
+}
+
+/// Asks what a row `command` says.
+fn of_command(verdict: &mut Verdict, fields: &[&[u8]]) -> Result<(), AllocError> {
+    let [status, words, out, err] = fields else {
+        verdict.require(false);
+        return Ok(());
+    };
+    let ending = ending(verdict, status, out, err);
+    ask_to_end(verdict, words, ending)
+}
+
+/// Asks what a row `demangle` says.
+fn of_demangle(verdict: &mut Verdict, fields: &[&[u8]]) -> Result<(), AllocError> {
+    let [status, words, input, out, err] = fields else {
+        verdict.require(false);
+        return Ok(());
+    };
+    let ending = ending(verdict, status, out, err);
+    ask_to_demangle(verdict, words, input, ending)
+}
+
 /// Asks what a row `filter`, `command` or `demangle` says.
 fn of_program(verdict: &mut Verdict, what: &[u8], fields: &[&[u8]]) -> Result<(), AllocError> {
-    match (what, fields) {
-        (b"filter", [options, text, filtered]) => ask_to_filter(verdict, options, text, filtered),
-        (b"command", [status, words, out, err]) => {
-            let ending = ending(verdict, status, out, err);
-            ask_to_end(verdict, words, ending)
-        }
-        (b"demangle", [status, words, input, out, err]) => {
-            let ending = ending(verdict, status, out, err);
-            ask_to_demangle(verdict, words, input, ending)
-        }
+    match what {
+        b"filter" => of_filter(verdict, fields),
+        b"command" => of_command(verdict, fields),
+        b"demangle" => of_demangle(verdict, fields),
         _ => {
             verdict.require(false);
             Ok(())
