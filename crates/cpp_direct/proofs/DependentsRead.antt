@@ -372,9 +372,11 @@ all-expanded pattern before w ts number all f = none-left f.rest (omega (arith, 
 
 next-one : (done rest : List Term) (n : ℕ) (own : Term) → length done ≡ n → slice_get (done ++ rest) n ≡ Some own → (more : List Term) × (rest ≡ own ∷ more)
 next-one done [] n own size at = absurd (omega (arith, size, slice_get_within (done ++ []) n own at, length-append done []))
-next-one done (t ∷ more) n own size at =
-    (more, ap (λ u. u ∷ more) (sym (get_or-append_seam done t more own) ∙ ap (λ k. get_or (done ++ t ∷ more) k own) size
-    ∙ get_or_from_slice_get (done ++ t ∷ more) n own own at))
+next-one done (t ∷ more) n own size at = (
+  more,
+  ap (λ u. u ∷ more) (sym (get_or-append_seam done t more own) ∙ ap (λ k. get_or (done ++ t ∷ more) k own) size
+      ∙ get_or_from_slice_get (done ++ t ∷ more) n own own at),
+)
 
 comma-between : (done : List Term) (number : ℕ) (bytes : List ℕ) → length done ≡ number → in_front_of_next done bytes ≡ bytes ++ comma_text number
 comma-between [] zero bytes e = sym (append-nil bytes)

@@ -39,9 +39,11 @@ last-found xs x found = go (reverse xs) refl
     go : (r : List Open) → reverse xs ≡ r → (rest : List Open) × (reverse xs ≡ x ∷ rest)
     go [] e = absurd (omega (arith, some, length-reverse xs, ap length e))
     go (y ∷ rest) e =
-        let same : length xs - 1 - 0 ≡ length xs - 1 = omega arith in
-        (rest, e ∙ ap (λ z. z ∷ rest) (sym (ap (λ l. get_or l 0 y) e) ∙ get_or-reverse xs 0 y some ∙ ap (λ n. get_or xs n y) same
-        ∙ get_or_from_slice_get xs (length xs - 1) x y found))
+        let same : length xs - 1 - 0 ≡ length xs - 1 = omega arith in (
+          rest,
+          e ∙ ap (λ z. z ∷ rest) (sym (ap (λ l. get_or l 0 y) e) ∙ get_or-reverse xs 0 y some ∙ ap (λ n. get_or xs n y) same
+              ∙ get_or_from_slice_get xs (length xs - 1) x y found),
+        )
 
 -- the same, and what was open before it, where it is taken away
 opened-last : (ws ps : List Open) (x owner : Open) (rest : List Open) → reverse ws ≡ owner ∷ rest → ws ≡ ps ++ x ∷ []

@@ -59,7 +59,8 @@ unfolding is_eaten number_of_kind parts_of between close unfolding_.behind meani
 special-opens s os around b at st is expects stands =
     let p = Production.SpecialType in
     let places = stands-split s.bytes at (84 ∷ []) (b ∷ []) stands in
-    let type = byte-opens (eats s Kind.Special p b (tested special_letters (λ c. is_eaten Kind.Special p c) refl b is)) (special-expected s os around at st expects places.0) places.1 refl refl in
+    let taken = tested special_letters (λ c. is_eaten Kind.Special p c) refl b is in
+    let type = byte-opens (eats s Kind.Special p b taken) (special-expected s os around at st expects places.0) places.1 refl refl in
     awaited (hole-at (at + 2) type (omega arith))
     (λ t here now comes. (closes Production.Special (closes p (fill type (tree t true) here now comes) refl) refl).comes)
 

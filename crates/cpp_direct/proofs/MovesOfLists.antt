@@ -129,7 +129,8 @@ bool-element s kind os around d at st is bit expects stands =
     let second = stands-split s.bytes (at + 1) (98 ∷ []) (d ∷ 69 ∷ []) first.1 in
     let third = stands-split s.bytes (at + 1 + 1) (d ∷ []) (69 ∷ []) second.1 in
     let literal = literal-opens s kind os around at st is expects first.0 in
-    let taken : is_eaten Kind.Bit Production.Mark d ≡ true = elim bit [ inl e ↦ ap (is_eaten Kind.Bit Production.Mark) e | inr e ↦ ap (is_eaten Kind.Bit Production.Mark) e ] in
+    let taken : is_eaten Kind.Bit Production.Mark d ≡ true =
+    elim bit [ inl e ↦ ap (is_eaten Kind.Bit Production.Mark) e | inr e ↦ ap (is_eaten Kind.Bit Production.Mark) e ] in
     let digit = byte-opens (eats s Kind.Literal p 98 refl) (hole s Kind.Literal around literal.inner (at + 1) st literal.awaits) second.0 refl refl in
     subst (λ n. ListGoesOn s kind os around (boolean (nat_eq d 49)) n st) (omega arith)
     (literal.onward (boolean (nat_eq d 49)) (at + 1 + 1 + 1) st
@@ -163,7 +164,8 @@ integer-element s kind os around b negative digits at end st kind_is letter_is e
     let literal = literal-opens s kind os around at st kind_is expects first.0 in
     let behind_type : at + length (76 ∷ b ∷ minus_sign negative) ≡ at + 1 + 1 + length (minus_sign negative) = omega arith in
     let type = chain-opens (leaves s Kind.Literal p 80 refl) (hole s Kind.Literal around literal.inner (at + 1) st literal.awaits) refl refl in
-    let number = next-part p (byte-fills (eats s Kind.LiteralType Production.Builtin b (tested integer_letters (λ c. is_eaten Kind.LiteralType Production.Builtin c) refl b letter_is)) type second.0 refl refl) refl in
+    let taken = tested integer_letters (λ c. is_eaten Kind.LiteralType Production.Builtin c) refl b letter_is in
+    let number = next-part p (byte-fills (eats s Kind.LiteralType Production.Builtin b taken) type second.0 refl refl) refl in
     literal.onward (integer (builtin (b ∷ [])) (signed_digits negative digits)) end st
     (closes p (integer-fills negative digits end number second.1 (subst (λ n. IsDigitsAt s.bytes n digits end) behind_type is)) refl).comes ended
 

@@ -103,9 +103,10 @@ pub builtin-comes : (s : Symbol) (kind : Kind) (around : Around) (os : List Open
     → is_builtin b ≡ true → Expects s kind around os at st → StandsAt s.bytes at (b ∷ []) → Comes s os (tree (builtin (b ∷ [])) true) (at + 1) st
 unfolding is_eaten number_of_kind parts_of between close unfolding_.behind meaning part byte_of tree_of text_of piece_of letter_of is_there is_function_type is_builtin each_passes
 builtin-comes s kind around os at st b typed is expects stands =
+    let p = Production.Builtin in
     let solid = solid-opens s kind around os at st typed expects in
     solid.onward (builtin (b ∷ [])) true (at + 1) st refl
-    (byte-fills (eats s Kind.Solid Production.Builtin b (tested builtin_letters (λ c. is_eaten Kind.Solid Production.Builtin c) refl b is)) (hole-of solid) stands refl refl).comes
+    (byte-fills (eats s Kind.Solid p b (tested builtin_letters (λ c. is_eaten Kind.Solid p c) refl b is)) (hole-of solid) stands refl refl).comes
 
 builtin-with-d-taken : (byte : ℕ) → is_builtin_with_d byte ≡ true
     → (is_eaten Kind.AfterD Production.BuiltinWithD byte ≡ true) × (is_left Kind.ItemAfterD Production.ItemIsType byte ≡ true)
