@@ -226,10 +226,6 @@ literal-added s old new a l =
 
 -- ## Literals
 
-truth-is : (b : Bool) → cond b (codes "true") (codes "false") ≡ truth_text b
-truth-is true = refl
-truth-is false = refl
-
 -- a truth value was read, and an E
 pub boolean-literal-read : (s : Symbol) (old begun middle new : Direct) → StandsAt s.bytes old.at (76 ∷ []) → begun.at ≡ old.at + 1 → Reads old begun []
     → (read : (digit : ℕ) × ((digit ≡ 48) ⊎ (digit ≡ 49)) × StandsAt s.bytes begun.at (98 ∷ digit ∷ []) × (middle.at ≡ begun.at + 2)
@@ -246,7 +242,7 @@ boolean-literal-read s old begun middle new first next nothing read ended =
     record {
       own = boolean (nat_eq d 49);
       bytes = written ++ [];
-      prints = subst (λ l. Prints (detail_of s) (boolean (nat_eq d 49)) l false) (truth-is (nat_eq d 49) ∙ sym (append-nil written)) (boolean-prints (nat_eq d 49));
+      prints = subst (λ l. Prints (detail_of s) (boolean (nat_eq d 49)) l false) (sym (append-nil written)) (boolean-prints (nat_eq d 49));
       reads = reads-then old middle new written [] (reads-then old begun middle [] written nothing read.4) ended.2;
       goes_on = λ kind around os st is expects. subst (λ n. ListGoesOn s kind os around (boolean (nat_eq d 49)) n st) behind
           (bool-element s kind os around d old.at st is read.1 expects whole);

@@ -635,8 +635,7 @@ pub record IsFunctionRead (s : Symbol) (w : Direct) (is_pointer : Bool) : Type 0
 -- ## Literals
 
 abbrev pub truth_text : Bool → List ℕ
-truth_text true = codes "true"
-truth_text false = codes "false"
+truth_text is_true = cond is_true (codes "true") (codes "false")
 
 -- a number with its sign
 abbrev pub number_text : Signed → List ℕ
