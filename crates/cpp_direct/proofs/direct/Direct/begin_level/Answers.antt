@@ -1,5 +1,4 @@
 use Rattle.std.proofs.Common.{false, arith}
-use Rattle.cpp_direct.specs.declared.open.Open.TheVariants as opens
 use Rattle.cpp_direct.proofs.Kept.{opened-by}
 use Rattle.cpp_direct.proofs.Members.{level-begins}
 use Rattle.cpp_direct.proofs.TypesRead.{there}
@@ -11,7 +10,7 @@ returns g c =
     let first = c.in_ok-self.field-0 in
     let second = c.in_ok-self-2.field-0 in
     let opened = c.open_arguments.ensures in
-    opened-by _ c.open_arguments.result named c.open_arguments.new.self (opens.LevelArguments false) opened.step opened.«open» opened.at opened.text
+    opened-by _ c.open_arguments.result named c.open_arguments.new.self _ opened.step opened.«open» opened.at opened.text
     opened.candidates opened.scope
     (level-begins _ c.args.self.now named c.open_arguments.new.self first second c.in_ok-self-3.field-0 c.requires.awaits c.requires.wide c.requires.letter
     c.in_ok-self.ensures.1 (there c.args.s.now first c.byte_at.result 115 c.if-byte_at-ne115.false (omega arith) c.byte_at.ensures)

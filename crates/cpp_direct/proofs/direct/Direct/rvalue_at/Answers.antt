@@ -1,5 +1,4 @@
 use Rattle.std.proofs.Common.{◌+◌, ◌∙◌, ap, arith, inl, inr}
-use Rattle.cpp_direct.specs.Holes.{IsReferable}
 use Rattle.cpp_direct.proofs.DependentsRead.{argument-inside, forwarded-done}
 use Rattle.cpp_direct.proofs.TypesRead.{rvalue-opened, there}
 use Rattle.cpp_direct.proofs.direct.Direct.rvalue_at.Goals as goal
@@ -30,12 +29,9 @@ returns g c =
     let line = c.in_ok-checked_add.ensures.1 ∙ ap (λ n. n + 1) here in
     let first = c.add_candidate.ensures in
     let second = c.add_candidate-2.ensures in
-    let refers : IsReferable c.requires.awaits.kind = elim c.requires.awaits.referable [
-      | inl may ↦ may
-      | inr none ↦ absurd (none.1 c.requires.letter)
-    ] in
     forwarded-done _ old c.repeat.new.self c.add_candidate.new.self c.add_candidate-2.new.self c.in_ok-named.named k c.in_ok-argument.argument c.in_ok-read.read.end c.end-from.result
-    c.requires.awaits c.in_ok-read.ensures.few refers c.requires.letter
+    c.requires.awaits c.in_ok-read.ensures.few
+    (elim c.requires.awaits.referable [ inl may ↦ may | inr none ↦ absurd (none.1 c.requires.letter) ]) c.requires.letter
     (rw here at (there c.args.s.now c.in_ok-behind.behind c.byte_at.result 84 c.if-byte_at-ne84.false (omega arith) c.byte_at.ensures))
     (rw line at c.in_ok-read.ensures.stands)
     c.in_ok-named.ensures c.in_ok-argument.ensures.is c.in_ok-argument.ensures.known c.if-named-eq0.false c.if-not-argument.false c.end-from.ensures

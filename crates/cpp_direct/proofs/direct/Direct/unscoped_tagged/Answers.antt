@@ -1,5 +1,4 @@
 use Rattle.std.proofs.Common.{arith}
-use Rattle.cpp_direct.specs.declared.open.Open.TheVariants as opens
 use Rattle.cpp_direct.proofs.Kept.{opened-by}
 use Rattle.cpp_direct.proofs.TypesRead.{there}
 use Rattle.cpp_direct.proofs.UnscopedNames.{unscoped-argued, unscoped-bare}
@@ -13,7 +12,7 @@ returns g c =
     let old = c.args.self.now in
     let added = c.add_candidate.ensures in
     let opened = c.open_arguments.ensures in
-    opened-by _ c.open_arguments.result c.add_candidate.new.self c.open_arguments.new.self (opens.NameArguments c.args.from) opened.step opened.«open» opened.at opened.text
+    opened-by _ c.open_arguments.result c.add_candidate.new.self c.open_arguments.new.self _ opened.step opened.«open» opened.at opened.text
     opened.candidates opened.scope
     (unscoped-argued _ old c.add_candidate.new.self c.open_arguments.new.self c.args.from c.args.takes c.requires.named c.if-not-takes.false
     (there c.args.s.now old.at c.byte_at.result 73 c.if-byte_at-ne73.false (omega arith) c.byte_at.ensures)
