@@ -60,10 +60,6 @@ lambda-told s old new digit is stands ends reads = (
 abbrev lambda_front : List ℕ
 lambda_front = codes "::{lambda("
 
--- its bracket is by itself
-pub lambda-bracket : (f b l : List ℕ) → (f ++ (b ++ codes "::{lambda(")) ++ l ≡ (f ++ (b ++ codes "::{lambda")) ++ codes "(" ++ l
-lambda-bracket f b l = simp append_assoc
-
 -- ## Their parameters
 
 -- the first one comes next

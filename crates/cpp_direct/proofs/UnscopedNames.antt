@@ -8,11 +8,11 @@ use Rattle.cpp_grammar.specs.Grammar.{may_be_empty}
 use Rattle.cpp_grammar.specs.Term.{Term, alone, in_std, source, operator, instance, any_value, object, of_name}
 use Rattle.cpp_grammar.specs.Parts.{source_text}
 use Rattle.cpp_grammar.specs.Scope.{has_return_type, arguments_of, is_structor}
-use Rattle.cpp_grammar.specs.Values.{State, piece, tree, tree_of, qualifiers_of, ref_of, Value, nothing_there, named, unqualified}
+use Rattle.cpp_grammar.specs.Values.{State, piece, tree, tree_of, qualifiers_of, ref_of, nothing_there, named, unqualified}
 use Rattle.cpp_grammar.specs.Between.{after, in_name, inside, no_items, with_tag, in_types}
 use Rattle.cpp_direct.specs.WriterTypes.{Direct, Symbol, detail_of}
 use Rattle.cpp_direct.specs.Bytes.{is_local, is_object}
-use Rattle.cpp_direct.specs.AllHoles.{Comes, Discriminator, EncodingOpened, GuardOpened, IsDiscriminatorAt, IsEntityAt, IsNameAt, IsTagAt, LocalOpened, Named, Opened, StandsAt, SymbolOpened, entity_in}
+use Rattle.cpp_direct.specs.AllHoles.{Comes, Discriminator, GuardOpened, IsDiscriminatorAt, IsEntityAt, IsNameAt, IsTagAt, LocalOpened, Named, Opened, StandsAt, SymbolOpened, entity_in}
 use Rattle.cpp_direct.specs.Names.{IsOperatorAt, is_angle, operator_text, tag_text}
 use Rattle.cpp_direct.specs.Prints.{Prints, PrintsName, Shows}
 use Rattle.cpp_direct.specs.WriterInvariant.{IsWriting, encoding_place, nowhere, no_scope, EntityBehind, Kept}
@@ -227,15 +227,6 @@ unscoped-argued s read kept new from takes p some there lists opening_ =
 
 -- ## The beginnings of local entities
 
--- a name without items is the encoding of a symbol
-object-comes : (s : Symbol) (opened_ : SymbolOpened s) (encoding_ : EncodingOpened s opened_.inner 2 first_state) (v : Value) (at : ℕ) (st : State)
-    → Comes s encoding_.inner v at st
-    → Comes s opened_.inner (tree (object (tree_of v) (qualifiers_of v) (ref_of v)) true) at st
-unfolding encoding_of no_items may_be_empty
-object-comes s opened_ encoding_ v at st comes =
-    let items = encoding_.onward v at st comes in
-    items.onward nothing_there at st (expects-empty s Kind.Items (in_types 2 (tree_of v)) items.inner at st items.awaits refl)
-
 -- the encoding is expected that an entity is in, after this text, which is shown before that of an entity
 entity-awaited : (s : Symbol) (opened_ : SymbolOpened s) (w : Direct) (lead : List ℕ) (outer : List Opened) (made : Term → Term) → is_local s.bytes ≡ true
     → w.text.list.items ≡ lead → w.candidates.list.items ≡ [] → (w.text.list.items ≡ [] → w.at ≡ encoding_place s.bytes) → LocalOpened s outer (in_name 2) w.at first_state
@@ -267,13 +258,15 @@ entity-awaited s opened_ w lead outer made is_there text_is none begins here com
 -- that of a symbol that has no other text
 pub local-begins : (s : Symbol) (w : Direct) → IsFresh w → is_local s.bytes ≡ true → StandsAt s.bytes 0 (95 ∷ 90 ∷ []) → StandsAt s.bytes 2 (90 ∷ [])
     → AwaitsEncoding s (record w { at = 3 })
-unfolding tree_of qualifiers_of ref_of first_state
+unfolding tree_of qualifiers_of ref_of first_state encoding_of no_items may_be_empty
 local-begins s w fresh is_there starts letter =
     let opened_ = symbol-starts s starts in
     let encoding_ = encoding-opens s opened_.inner first_around 2 first_state opened_.awaits in
     entity-awaited s opened_ (record w { at = 3 }) [] encoding_.inner (λ t. object t unqualified any_value) is_there fresh.no_text fresh.no_candidate
     (λ none. sym (ap (λ b. cond b 3 2) is_there)) (local-opens s encoding_.inner (in_name 2) 2 first_state encoding_.awaits letter)
-    (λ t at st comes. object-comes s opened_ encoding_ (named t unqualified any_value) at st comes) (λ t bytes p. p)
+    (λ t at st comes.
+    let items = encoding_.onward (named t unqualified any_value) at st comes in
+    items.onward nothing_there at st (expects-empty s Kind.Items (in_types 2 t) items.inner at st items.awaits refl)) (λ t bytes p. p)
 
 -- the same of a guard variable
 pub guard-begins : (s : Symbol) (old new : Direct) → IsFresh old → is_local s.bytes ≡ true → StandsAt s.bytes 0 (95 ∷ 90 ∷ []) → StandsAt s.bytes 2 (71 ∷ 86 ∷ [])

@@ -1,5 +1,5 @@
-use Rattle.std.proofs.Common.{◌++◌, reverse, ap, arith, codes, refl, sym, ◌∙◌}
-use Rattle.cpp_direct.proofs.LambdasRead.{lambda-bracket, lambda-ended, lambda-next}
+use Rattle.std.proofs.Common.{◌++◌, append_assoc, reverse, ap, arith, codes, refl, sym, ◌∙◌}
+use Rattle.cpp_direct.proofs.LambdasRead.{lambda-ended, lambda-next}
 use Rattle.cpp_direct.proofs.Ending.{no-void}
 use Rattle.cpp_direct.proofs.TypesRead.{popped, there}
 use Rattle.cpp_direct.proofs.direct.Direct.lambda_parameter.Goals as goal
@@ -16,7 +16,7 @@ lambda_ended-requires-clause-read g c =
     let one = c.in_ok-push_pair-2.ensures in
     lambda-ended _ w c.in_ok-self.field-0 c.push_pair-2.new.self c.lambda_number.new.self (record c.lambda_number.new.self { waiting = c.pop-open.new.self })
     c.args.from c.args.nested p
-    (no-void c.as_slice.result.now (p.front ++ (p.bytes ++ codes "::{lambda")) p.texts (c.as_slice.ensures ∙ p.written ∙ lambda-bracket p.front p.bytes p.texts)
+    (no-void c.as_slice.result.now (p.front ++ (p.bytes ++ codes "::{lambda")) p.texts (c.as_slice.ensures ∙ p.written ∙ simp append_assoc)
     (sym c.ends_with.ensures.value ∙ c.if-ends_with.false))
     (there c.args.s.now w.at c.byte_at.result 69 c.if-byte_at-ne69.false (omega arith) c.byte_at.ensures)
     c.in_ok-self.ensures.1 one number.0 number.1 number.2 number.3 number.4 refl refl refl refl
