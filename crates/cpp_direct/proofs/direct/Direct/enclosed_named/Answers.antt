@@ -5,6 +5,5 @@ pub returns : goal.returns
 returns g c =
     let read = c.in_ok-enclosed_piece.ensures in
     let told = c.in_ok-discriminator.ensures in
-    type-within _ c.args.self.now c.push_pair.new.self c.enclosed_piece.new.self c.discriminator.new.self
-    c.add_candidate.new.self c.args.from c.requires.awaits c.in_ok-push_pair.ensures read.0 read.1 read.2 read.3 read.4 told.0 told.1 told.2
+    type-within _ _ _ _ _ _ _ c.requires.awaits c.in_ok-push_pair.ensures read.0 read.1 read.2 read.3 read.4 told.0 told.1 told.2
     c.in_ok-add_candidate.ensures.candidates c.add_candidate.ensures.text c.add_candidate.ensures.open c.add_candidate.ensures.scope c.add_candidate.ensures.at

@@ -4,11 +4,8 @@ use Rattle.cpp_direct.proofs.direct.Direct.lambda_ended.Goals as goal
 pub returns-in_ok-add_candidate-in-None : goal.returns-in_ok-add_candidate-in-None
 returns-in_ok-add_candidate-in-None g c =
     let told = c.in_ok-discriminator-in-None.ensures in
-    ended-in-function _ c.args.self.now c.discriminator.new.self c.add_candidate.new.self c.args.from
-    (rw c.in-None.is at c.requires.read) told.0 told.1 told.2
+    ended-in-function _ _ _ _ _ (rw c.in-None.is at c.requires.read) told.0 told.1 told.2
     c.in_ok-add_candidate-in-None.ensures.candidates c.add_candidate.ensures.text c.add_candidate.ensures.open c.add_candidate.ensures.scope c.add_candidate.ensures.at
 
 pub returns-in-Some : goal.returns-in-Some
-returns-in-Some g c =
-    ended-in-name _ c.args.self.now c.args.from c.in-Some.purpose
-    (rw c.in-Some.is at c.requires.read)
+returns-in-Some g c = ended-in-name _ c.args.self.now c.args.from c.in-Some.purpose (rw c.in-Some.is at c.requires.read)

@@ -13,38 +13,26 @@ empty_pack-requires-clause-letters g c =
 
 pub literal-requires-clause-awaits : goal.literal-requires-clause-awaits
 literal-requires-clause-awaits g c = elim c.if-not-is_first.branch [
-  | then-not-is_first+in_ok-push_pair w ↦
-      another-expected _ c.args.self.now w.push_pair.new.self c.if-not-is_first.self c.args.is_first c.requires.writing w.if-not-is_first.true
-      w.in_ok-push_pair.ensures w.self-is
-  | else-not-is_first w ↦
-      first-expected _ c.args.self.now c.if-not-is_first.self c.args.is_first c.requires.writing w.if-not-is_first.false w.self-is
+  | then-not-is_first+in_ok-push_pair w ↦ another-expected _ _ _ _ _ c.requires.writing w.if-not-is_first.true w.in_ok-push_pair.ensures w.self-is
+  | else-not-is_first w ↦ first-expected _ _ _ _ c.requires.writing w.if-not-is_first.false w.self-is
 ]
 
 pub begin_pack-requires-clause-awaits : goal.begin_pack-requires-clause-awaits
 begin_pack-requires-clause-awaits g c = elim c.if-not-is_first.branch [
-  | then-not-is_first+in_ok-push_pair w ↦
-      another-expected _ c.args.self.now w.push_pair.new.self c.if-not-is_first.self c.args.is_first c.requires.writing w.if-not-is_first.true
-      w.in_ok-push_pair.ensures w.self-is
-  | else-not-is_first w ↦
-      first-expected _ c.args.self.now c.if-not-is_first.self c.args.is_first c.requires.writing w.if-not-is_first.false w.self-is
+  | then-not-is_first+in_ok-push_pair w ↦ another-expected _ _ _ _ _ c.requires.writing w.if-not-is_first.true w.in_ok-push_pair.ensures w.self-is
+  | else-not-is_first w ↦ first-expected _ _ _ _ c.requires.writing w.if-not-is_first.false w.self-is
 ]
 
 pub begin_level-requires-clause-awaits : goal.begin_level-requires-clause-awaits
 begin_level-requires-clause-awaits g c = elim c.if-not-is_first.branch [
-  | then-not-is_first+in_ok-push_pair w ↦
-      another-expected _ c.args.self.now w.push_pair.new.self c.if-not-is_first.self c.args.is_first c.requires.writing w.if-not-is_first.true
-      w.in_ok-push_pair.ensures w.self-is
-  | else-not-is_first w ↦
-      first-expected _ c.args.self.now c.if-not-is_first.self c.args.is_first c.requires.writing w.if-not-is_first.false w.self-is
+  | then-not-is_first+in_ok-push_pair w ↦ another-expected _ _ _ _ _ c.requires.writing w.if-not-is_first.true w.in_ok-push_pair.ensures w.self-is
+  | else-not-is_first w ↦ first-expected _ _ _ _ c.requires.writing w.if-not-is_first.false w.self-is
 ]
 
 pub returns-else-is_first-3 : goal.returns-else-is_first-3
 returns-else-is_first-3 g c = type-expected _ c.if-not-is_first.self (elim c.if-not-is_first.branch [
-  | then-not-is_first+in_ok-push_pair w ↦
-      another-expected _ c.args.self.now w.push_pair.new.self c.if-not-is_first.self c.args.is_first c.requires.writing w.if-not-is_first.true
-      w.in_ok-push_pair.ensures w.self-is
-  | else-not-is_first w ↦
-      first-expected _ c.args.self.now c.if-not-is_first.self c.args.is_first c.requires.writing w.if-not-is_first.false w.self-is
+  | then-not-is_first+in_ok-push_pair w ↦ another-expected _ _ _ _ _ c.requires.writing w.if-not-is_first.true w.in_ok-push_pair.ensures w.self-is
+  | else-not-is_first w ↦ first-expected _ _ _ _ c.requires.writing w.if-not-is_first.false w.self-is
 ])
 
 pub first_type-requires-clause-writing : goal.first_type-requires-clause-writing
