@@ -12,8 +12,7 @@ pub returns-then-digit-eq95 : goal.returns-then-digit-eq95
 returns-then-digit-eq95 c =
     let s = c.args.s.now in
     let old = c.args.self.now in
-    some-by c.distance.result c.distance.ensures
-    (λ r. (
+    some-by c.distance.result c.distance.ensures (λ r. (
       by_digits r.0,
       (
         r.1,

@@ -7,13 +7,11 @@ pub returns : goal.returns
 returns g c =
     let old = c.args.self.now in
     let a = c.requires.awaits in
-    let w = record old { waiting = c.pop-open.new.self } in
-    enumerator-read _ old w c.push.new.self c.number.new.self c.literal_ended.new.self a (record {
+    enumerator-read _ _ _ _ _ _ a (record {
       int = rw c.as_slice.ensures at (sym c.ends_with.ensures.value ∙ c.if-ends_with.false);
       blank_int = rw c.as_slice-2.ensures at (sym c.ends_with-2.ensures.value ∙ c.if-ends_with-2.false);
       long = rw c.as_slice-3.ensures at (sym c.ends_with-3.ensures.value ∙ c.if-ends_with-3.false);
       blank_long = rw c.as_slice-4.ensures at (sym c.ends_with-4.ensures.value ∙ c.if-ends_with-4.false);
-    })
-    refl refl refl refl
+    }) refl refl refl refl
     (popped old.waiting.list.items c.pop-open.new.self.list.items a.opened _ _ refl a.open_is c.pop-open.ensures.rest)
     c.in_ok-push.ensures c.in_ok-number.ensures c.in_ok-literal_ended.ensures

@@ -17,8 +17,7 @@ returns g c =
     c.if-third-ne118.false (omega arith) c.byte_at-third.ensures in
     let fourth = then-there s (85 ∷ 108 ∷ 118 ∷ []) old.at c.in_ok-checked_add-3.field-0 c.byte_at-fourth.result 69 third c.in_ok-checked_add-3.ensures.1
     c.if-fourth-ne69.false (omega arith) c.byte_at-fourth.ensures in
-    some-by c.lambda_number.result c.lambda_number.ensures
-    (λ r. lambda-told _ old c.lambda_number.new.self r.0 r.1
+    some-by c.lambda_number.result c.lambda_number.ensures (λ r. lambda-told _ old c.lambda_number.new.self r.0 r.1
     (stands-join s old.at (85 ∷ 108 ∷ 118 ∷ 69 ∷ []) (lambda_digits r.0 ++ 95 ∷ []) fourth
     (stands-moved s c.push.new.self.at (old.at + 4) (lambda_digits r.0 ++ 95 ∷ []) (c.in_ok-push.ensures.at ∙ c.in_ok-self.ensures.1) r.2))
     (omega (arith, r.3, c.in_ok-push.ensures.at, c.in_ok-self.ensures.1))

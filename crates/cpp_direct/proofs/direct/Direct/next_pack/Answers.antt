@@ -11,8 +11,7 @@ returns g c =
     (rw c.in_ok-push.ensures.items at c.in_ok-push-2.ensures.items) refl refl refl c.in_ok-behind.ensures.1
 
 pub returns-then-byte-eq76 : goal.returns-then-byte-eq76
-returns-then-byte-eq76 g c =
-    known-passes _ c.args.self.now false c.args.last c.args.known c.requires.awaits
+returns-then-byte-eq76 g c = known-passes _ _ false _ _ c.requires.awaits
 
 pub last_pack_empty-requires-clause-letters : goal.last_pack_empty-requires-clause-letters
 last_pack_empty-requires-clause-letters g c =
