@@ -335,6 +335,11 @@ pub last-there : (ts : List Term) (t : Term) → slice_get (ts ++ t ∷ []) (len
 last-there [] t = refl
 last-there (v ∷ ts) t = last-there ts t
 
+-- what is among some is among others where it is an element of these
+among-others : {detail : Detail} {text : List ℕ} {place : Argument} {number : ℕ} {ts : List Term} (h : IsAmong detail text place number ts) (k : ℕ) (us : List Term)
+    → slice_get us k ≡ Some h.own → IsAmong detail text place k us
+among-others h k us is = record { bytes = h.bytes; placed = h.placed; own = h.own; there = is; prints = h.prints }
+
 -- one more is known
 pub known-more : {detail : Detail} (text : List ℕ) (from to number : ℕ) (is_reference : Bool) (known more : Arguments) (ts : List Term) (t : Term)
     (before bytes : List ℕ) → text ≡ before ++ bytes → from ≡ length before → to ≡ length text → number ≡ length ts → Prints detail t bytes is_reference
@@ -344,7 +349,8 @@ known-more {detail} text from to number is_reference known more ts t before byte
       | inl h ↦
           subst (λ j. IsAmong detail text (place_of more k) j (ts ++ t ∷ [])) (sym h.0)
           (subst (λ (q : Argument). IsAmong detail text q number (ts ++ t ∷ [])) (sym h.1) here)
-      | inr h ↦ subst (λ (q : Argument). IsAmong detail text q k (ts ++ t ∷ [])) (sym h.1) (there (among k h.0))
+      | inr h ↦ let g = among k h.0 in
+          subst (λ (q : Argument). IsAmong detail text q k (ts ++ t ∷ [])) (sym h.1) (among-others g k (ts ++ t ∷ []) (earlier-there ts t g.own k g.there))
     ]
   where
     here : IsAmong detail text (record { from = from; to = to; is_reference = is_reference }) number (ts ++ t ∷ [])
@@ -360,15 +366,6 @@ known-more {detail} text from to number is_reference known more ts t before byte
       own = t;
       there = ap (λ n. slice_get (ts ++ t ∷ []) n) number_is ∙ last-there ts t;
       prints = prints;
-    }
-
-    there : IsAmong detail text (place_of known k) k ts → IsAmong detail text (place_of known k) k (ts ++ t ∷ [])
-    there g = record {
-      bytes = g.bytes;
-      placed = g.placed;
-      own = g.own;
-      there = earlier-there ts t g.own k g.there;
-      prints = g.prints;
     }
 
 -- the one that was read is known
@@ -435,19 +432,20 @@ single-known s w last known p k o =
     subst (λ (l : List Term). IsAmong (detail_of s) w.text.list.items (place_of known k) k (l ++ p.ts)) (p.come_before.none refl) (p.among k o)
 
 -- an argument may be the last one
-pub argument-closes : (s : Symbol) (w : Direct) (last : ℕ) (known : Arguments) → AwaitsKnownArgument s w false last known → StandsAt s.bytes w.at (69 ∷ [])
-    → IsListEnded s (record w { at = w.at + 1 }) known
+pub argument-closes : (s : Symbol) (w : Direct) (n last : ℕ) (known : Arguments) → AwaitsKnownArgument s w false last known → StandsAt s.bytes w.at (69 ∷ [])
+    → n ≡ w.at + 1 → IsListEnded s (record w { at = n }) known
 unfolding known-passes
-argument-closes s w last known p stands =
-    list-ends s w false known (known-passes s w false last known p) stands (no-pack-around s w false last known p (reverse w.waiting.list.items) p.open_is)
-    (λ k o. single-known s w last known p k o.0, λ e. absurd (false≢true (sym p.come_before.no_pack ∙ e)))
+argument-closes s w n last known p stands at_is =
+    subst (λ k. IsListEnded s (record w { at = k }) known) (sym at_is)
+    (list-ends s w false known (known-passes s w false last known p) stands (no-pack-around s w false last known p (reverse w.waiting.list.items) p.open_is)
+    (λ k o. single-known s w last known p k o.0, λ e. absurd (false≢true (sym p.come_before.no_pack ∙ e))))
 
 -- or an empty pack
-pub pack-ends-empty : (s : Symbol) (w : Direct) (last before : ℕ) (known : Arguments) → AwaitsKnownArgument s w false last known → before ≡ last + 1
-    → StandsAt s.bytes w.at (74 ∷ 69 ∷ 69 ∷ []) → IsListEnded s (record w { at = w.at + 3 }) (record known { has_pack = true; before = before; elements = 0 })
+pub pack-ends-empty : (s : Symbol) (w : Direct) (n last before : ℕ) (known : Arguments) → AwaitsKnownArgument s w false last known → before ≡ last + 1
+    → StandsAt s.bytes w.at (74 ∷ 69 ∷ 69 ∷ []) → n ≡ w.at + 3 → IsListEnded s (record w { at = n }) (record known { has_pack = true; before = before; elements = 0 })
 unfolding known-passes
-pack-ends-empty s w last before known p before_is stands =
-    empty-pack-ends s w false now (known-passes s w false last known p) stands (no-pack-around s w false last known p (reverse w.waiting.list.items) p.open_is) (
+pack-ends-empty s w n last before known p before_is stands at_is = subst (λ k. IsListEnded s (record w { at = k }) now) (sym at_is)
+    (empty-pack-ends s w false now (known-passes s w false last known p) stands (no-pack-around s w false last known p (reverse w.waiting.list.items) p.open_is) (
       λ k o. single-known s w last known p k o.0,
       λ o. (
         [],
@@ -460,7 +458,7 @@ pack-ends-empty s w last before known p before_is stands =
               absurd (omega (arith, slice_get_within p.ts (before + k) h.own h.there, count_is));
         },
       ),
-    )
+    ))
   where
     none : Term
     none = pack nil
@@ -488,7 +486,7 @@ elements-known : (s : Symbol) (w : Direct) (last size : ℕ) (known : Arguments)
 elements-known s w last size known p size_is = (
   λ k o.
       let h = p.among k o.0 in
-      placed k k all h (front-there p.before p.ts (own ∷ []) k h.own (omega (arith, o.1 refl, count_is)) h.there),
+      among-others h k all (front-there p.before p.ts (own ∷ []) k h.own (omega (arith, o.1 refl, count_is)) h.there),
   λ o. (
     p.ts,
     subst (λ n. HasPack (list_with all nil) n p.ts) (sym count_is) (element-there all nil (length p.before) own (last-there p.before own)),
@@ -497,15 +495,12 @@ elements-known s w last size known p size_is = (
       among = λ k known_.
           let n = known.before + k in
           let h = p.among n known_ in
-          placed n k p.ts h (subst (λ m. slice_get p.ts m ≡ Some h.own) (omega (arith, count_is))
+          among-others h k p.ts (subst (λ m. slice_get p.ts m ≡ Some h.own) (omega (arith, count_is))
           (behind-there p.before p.ts n h.own (omega (arith, count_is)) h.there));
     },
   ),
 )
   where
-    text : List ℕ
-    text = w.text.list.items
-
     own : Term
     own = pack (list_of p.ts)
 
@@ -514,10 +509,6 @@ elements-known s w last size known p size_is = (
 
     count_is : known.before ≡ length p.before
     count_is = p.come_before.count_is refl
-
-    placed : (k j : ℕ) (us : List Term) (h : IsAmong (detail_of s) text (place_of known k) k (p.before ++ p.ts)) → slice_get us j ≡ Some h.own
-        → IsAmong (detail_of s) text (place_of known k) j us
-    placed k j us h is = record { bytes = h.bytes; placed = h.placed; own = h.own; there = is; prints = h.prints }
 
 -- after an element of the pack they end with it
 pub pack-closes : (s : Symbol) (w new : Direct) (last size : ℕ) (known : Arguments) (p : AwaitsKnownArgument s w true last known)

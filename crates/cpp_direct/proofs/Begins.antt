@@ -1,5 +1,5 @@
 -- The beginnings of symbols, and their answers.
-use Rattle.std.proofs.Common.{◌≡◌, ◌≢◌, ◌≤◌, ◌⊎◌, ℕ, ◌+◌, inl, inr, length, List, [], ◌∷◌, ◌++◌, reverse, true, false, nat_eq, refl, ap, sym, subst, ◌∙◌, arith, codes, cond}
+use Rattle.std.proofs.Common.{◌≡◌, ◌≢◌, ◌≤◌, ◌⊎◌, ℕ, ◌+◌, inl, inr, length, List, [], ◌∷◌, ◌++◌, reverse, Bool, true, false, nat_eq, refl, ap, sym, subst, ◌∙◌, arith, codes, cond}
 use Rattle.std.proofs.lemmas.Bool.{false≢true}
 use Rattle.cpp_grammar.specs.declared.kind.Kind.{Kind}
 use Rattle.cpp_grammar.specs.declared.production.Production.{Production}
@@ -10,18 +10,18 @@ use Rattle.cpp_grammar.specs.Values.{State, Value, nothing_there, tree, named, t
 use Rattle.cpp_grammar.specs.Between.{in_name, in_types, no_items}
 use Rattle.cpp_grammar.specs.Meaning.{encoding_of}
 use Rattle.cpp_grammar.specs.Unfolding.{first_around, first_state}
-use Rattle.cpp_direct.specs.WriterTypes.{Direct, Mark, MarkPlace, Symbol, detail_of}
+use Rattle.cpp_direct.specs.WriterTypes.{Direct, MarkPlace, Purpose, Symbol, detail_of}
 use Rattle.cpp_direct.specs.declared.open.Purpose.TheVariants as purposes
 use Rattle.cpp_direct.specs.declared.open.Open.TheVariants as opens
 use Rattle.cpp_direct.specs.declared.open.Step.TheVariants as steps
 use Rattle.cpp_direct.specs.Bytes.{is_local, is_guard, is_object}
-use Rattle.cpp_direct.specs.AllHoles.{BaseOpened, Comes, EncodingOpened, Expects, GuardOpened, IsOffsetAt, ItemsOpened, StandsAt, SymbolOpened, mark_letters, nest_marks}
+use Rattle.cpp_direct.specs.AllHoles.{BaseOpened, Comes, EncodingOpened, Expects, GuardOpened, IsOffsetAt, ItemsOpened, Opened, StandsAt, SymbolOpened, mark_letters}
 use Rattle.cpp_grammar.specs.Grammar.{among, may_be_empty}
 use Rattle.cpp_direct.specs.ItemBytes.{is_special_letter}
 use Rattle.cpp_direct.specs.Letters.{special_letters}
 use Rattle.cpp_direct.specs.Marks.{IsMarkPlace, has_const, called_on}
 use Rattle.cpp_direct.specs.Prints.{Shows}
-use Rattle.cpp_direct.specs.WriterInvariant.{Encoded, EndsBehind, EncodedBehind, AwaitsItems, TakesItems, IsScoped, Stands, IsWriting, no_scope, qualifiers}
+use Rattle.cpp_direct.specs.WriterInvariant.{Kept, Serves, below, is_type, Encoded, EndsBehind, EncodedBehind, AwaitsItems, TakesItems, IsScoped, Stands, IsWriting, no_scope, qualifiers}
 use Rattle.cpp_direct.specs.MidStep.{IsFresh, AwaitsEncoding, AwaitsName, AwaitsNest}
 use Rattle.cpp_direct.specs.Written.{Writes, Reads}
 use Rattle.cpp_direct.proofs.Kept.{kept-same, none-kept}
@@ -49,9 +49,6 @@ whole-behind s lead e at apart p = record { whole = λ f. p; entity = λ is. abs
 -- nor an object's guard variable
 no-object : (s : List ℕ) → is_local s ≡ false → is_guard s ≡ false → is_object s ≡ false
 no-object s apart other = rw (apart, other) refl
-
-object-there : (s : List ℕ) → is_local s ≡ false → is_guard s ≡ true → is_object s ≡ true
-object-there s apart guard = rw (apart, guard) refl
 
 -- the encoding of a symbol is expected, and nothing is written yet
 pub encoding-awaited : (s : Symbol) (w : Direct) → w.text.list.items ≡ [] → w.candidates.list.items ≡ [] → StandsAt s.bytes 0 (95 ∷ 90 ∷ []) → w.at ≡ 2
@@ -198,15 +195,12 @@ special-known : (letter : ℕ) → look_up (letter ∷ []) special_texts ≢ [] 
 unfolding is_special_letter special_texts code_in codes_pass among
 special-known letter there = letter-listed special_texts special_letters letter refl there
 
-no-special : look_up (0 ∷ []) special_texts ≡ []
-unfolding look_up special_texts same_bytes
-no-special = refl
-
 -- a letter that has a text is in the symbol
 pub special-stands : (s : List ℕ) (letter : ℕ) → look_up (letter ∷ []) special_texts ≢ [] → StandsAt s 2 (84 ∷ [])
     → (letter ≢ 0 → StandsAt s 3 (letter ∷ [])) → StandsAt s 2 (84 ∷ letter ∷ [])
+unfolding look_up special_texts same_bytes
 special-stands s letter filled first there =
-    stands-join s 2 (84 ∷ []) (letter ∷ []) first (there (λ e. filled (ap (λ l. look_up (l ∷ []) special_texts) e ∙ no-special)))
+    stands-join s 2 (84 ∷ []) (letter ∷ []) first (there (λ e. filled (ap (λ l. look_up (l ∷ []) special_texts) e)))
 
 -- a special object begins
 pub special-begins : (s : Symbol) (w : Direct) (letter : ℕ) → is_local s.bytes ≡ false → is_guard s.bytes ≡ false
@@ -238,31 +232,36 @@ special-begins s w letter apart other starts stands at_is written filled none_ w
 
 -- ## Nested names
 
--- a nested name begins, of a member function with these qualifiers
-nested-marked : (s : Symbol) (old : Direct) (n : ℕ) (mark : Mark) → AwaitsName s old
-    → StandsAt s.bytes old.at (nest_marks (has_const mark) (called_on mark)) → n ≡ old.at + length (nest_marks (has_const mark) (called_on mark))
-    → AwaitsNest s (record old { at = n }) (purposes.Name mark)
+-- where the name of a function or of data is expected, after the N and the qualifiers of a member function the first piece of a nested one is
+pub nest-awaited : (s : Symbol) (w : Direct) (kept : Kept s w) (purpose : Purpose) (encoding : ℕ) (inner : List Opened) (at first : ℕ) (place : MarkPlace)
+    → is_type purpose ≡ false → Expects s Kind.CompleteName (in_name encoding) inner at kept.state → StandsAt s.bytes at (78 ∷ []) → first ≡ at + 1
+    → IsMarkPlace s.bytes first place → w.at ≡ place.end
+    → ((outer : List Opened) → ((t : Term) (listed : Bool) (here : ℕ) (now : State) → Comes s outer (tree t listed) here now
+    → Comes s inner (named t (qualifiers (has_const place.mark)) (called_on place.mark)) here now)
+    → Serves s purpose (below s kept.scope (reverse w.waiting.list.items)) outer w.text.list.items)
+    → AwaitsNest s w purpose
 unfolding in_name
-nested-marked s old n mark p stands at_is =
-    let nest = name-nested s p.outer (in_name p.encoding) (has_const mark) (called_on mark) old.at p.state p.awaits stands in
+nest-awaited s w kept purpose encoding inner at first place own expects letter next is here serves =
+    let letters = mark_letters (has_const place.mark) (called_on place.mark) in
+    let nest = name-nested s inner (in_name encoding) (has_const place.mark) (called_on place.mark) at kept.state expects
+    (stands-join s.bytes at (78 ∷ []) letters letter (subst (λ k. StandsAt s.bytes k letters) next is.stands)) in
     record {
-      kept = kept-same s old (record old { at = n }) refl refl refl p.kept;
-      around = in_name p.encoding;
+      kept = kept;
+      around = in_name encoding;
       outside = refl;
       outer = nest.inner;
-      scoped = λ e. absurd (false≢true e);
-      awaits = subst (λ k. Expects s Kind.Nest (in_name p.encoding) nest.inner k p.state) (sym at_is) nest.awaits;
-      serves = λ t listed at st comes. p.onward (named t (qualifiers (has_const mark)) (called_on mark)) at st
-          (nest.onward t listed at st comes);
+      awaits = subst (λ k. Expects s Kind.Nest (in_name encoding) nest.inner k kept.state) (omega (arith, here, next, is.ends)) nest.awaits;
+      scoped = λ e. absurd (false≢true (sym own ∙ e));
+      serves = serves nest.inner nest.onward;
     }
 
--- after an N, where they are
+-- that of a symbol's encoding is
 pub nested-begins : (s : Symbol) (old : Direct) (first : ℕ) (place : MarkPlace) → AwaitsName s old → StandsAt s.bytes old.at (78 ∷ []) → first ≡ old.at + 1
     → IsMarkPlace s.bytes first place → AwaitsNest s (record old { at = place.end }) (purposes.Name place.mark)
 nested-begins s old first place p letter next is =
-    let letters = mark_letters (has_const place.mark) (called_on place.mark) in
-    nested-marked s old place.end place.mark p
-    (stands-join s.bytes old.at (78 ∷ []) letters letter (subst (λ k. StandsAt s.bytes k letters) next is.stands)) (omega (arith, next, is.ends))
+    nest-awaited s (record old { at = place.end }) (kept-same s old (record old { at = place.end }) refl refl refl p.kept) (purposes.Name place.mark) p.encoding p.outer
+    old.at first place refl p.awaits letter next is refl
+    (λ outer named_ t listed here now comes. p.onward (named t (qualifiers (has_const place.mark)) (called_on place.mark)) here now (named_ t listed here now comes))
 
 -- ## Guard variables
 
@@ -293,6 +292,6 @@ object-begins s old new fresh apart guard starts marks writes =
               shows = λ bytes p. subst (λ l. Shows (detail_of s) made (l ++ bytes)) (sym text_is)
                   (guarded-shows (detail_of s) (tree_of v) (qualifiers_of v) (ref_of v) bytes (subst (λ e. Shows (detail_of s) e bytes) (encoding-object v) p));
             });
-            items = λ typed. absurd (false≢true (sym typed ∙ object-there s.bytes apart guard));
+            items = λ typed. let guarded : is_object s.bytes ≡ true = rw (apart, guard) refl in absurd (false≢true (sym typed ∙ guarded));
           };
     }

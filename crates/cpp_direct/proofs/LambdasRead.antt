@@ -26,23 +26,12 @@ use Rattle.cpp_direct.proofs.Moves.{expects-empty, stands-join}
 use Rattle.cpp_direct.proofs.MovesOfLocals.{IsPieceKind, LambdaEnds, lambda-opens, lambda-piece, lambda_bytes, number-is}
 use Rattle.cpp_direct.proofs.Nesting.{classless-nest, closed-prints}
 use Rattle.cpp_direct.proofs.PrintedLists.{list-with-none, all-in, next-prints, none-print}
-use Rattle.cpp_direct.proofs.PrintedLocals.{lambda-prints, lambda-list-prints, local-prints, component-prints}
+use Rattle.cpp_direct.proofs.PrintedLocals.{lambda-list-prints, local-prints, component-prints}
 use Rattle.cpp_direct.proofs.PrintedSymbols.{parameters-kept}
 use Rattle.cpp_direct.proofs.Scopes.{none-scoped}
 use Rattle.cpp_direct.proofs.Unmarked.{is-no-mark, more-unmarked}
 
 -- ## Their bytes
-
--- its first bytes are there
-pub lambda-stands : (s : List ℕ) (at second third fourth fifth : ℕ) (rest : List ℕ) → StandsAt s at (85 ∷ []) → second ≡ at + 1 → StandsAt s second (108 ∷ [])
-    → third ≡ at + 2 → StandsAt s third (118 ∷ []) → fourth ≡ at + 3 → StandsAt s fourth (69 ∷ []) → fifth ≡ at + 4 → StandsAt s fifth rest
-    → StandsAt s at (85 ∷ 108 ∷ 118 ∷ 69 ∷ rest)
-lambda-stands s at second third fourth fifth rest u b l c v d e f more =
-    stands-join s at (85 ∷ []) (108 ∷ 118 ∷ 69 ∷ rest) u
-    (stands-join s (at + 1) (108 ∷ []) (118 ∷ 69 ∷ rest) (subst (λ k. StandsAt s k (108 ∷ [])) b l)
-    (stands-join s (at + 1 + 1) (118 ∷ []) (69 ∷ rest) (subst (λ k. StandsAt s k (118 ∷ [])) (omega (arith, c)) v)
-    (stands-join s (at + 1 + 1 + 1) (69 ∷ []) rest (subst (λ k. StandsAt s k (69 ∷ [])) (omega (arith, d)) e)
-    (subst (λ k. StandsAt s k rest) (omega (arith, f)) more))))
 
 number-text : (digit : Option ℕ) → IsLambdaDigit digit → decimal (local_number (lambda_digits digit)) ≡ lambda_number digit
 unfolding local_number
@@ -63,17 +52,13 @@ lambda-told s old new digit is stands ends reads = (
   lambda nil (local_number (lambda_digits digit)),
   codes "{lambda()#" ++ lambda_number digit ++ codes "}",
   lambda-piece s old.at digit new.at is stands ends,
-  lambda-prints (local_number (lambda_digits digit)) (lambda_number digit) (number-text digit is) (lambda-unmarked digit is),
+  lambda-list-prints [] [] (none-print (detail_of s) 0) (local_number (lambda_digits digit)) (lambda_number digit) (number-text digit is) (lambda-unmarked digit is),
   reads,
 )
 
 -- its first bytes are there, with parameters
 abbrev lambda_front : List ℕ
 lambda_front = codes "::{lambda("
-
--- its bracket is by itself
-pub lambda-bracket : (f b l : List ℕ) → (f ++ (b ++ codes "::{lambda(")) ++ l ≡ (f ++ (b ++ codes "::{lambda")) ++ codes "(" ++ l
-lambda-bracket f b l = simp append_assoc
 
 -- ## Their parameters
 

@@ -143,10 +143,7 @@ first-so : (p : Production) {kind other : Kind} → Some kind ≡ Some other →
     → ((first second : ℕ) (around : Around) (at : ℕ) (before st : State)
     → close p first around at before (letter second ∷ []) st ≡ Ok (found (piece (operator first second)) st)) → TakesFirst p other
 first-so p {kind = kind} {other = other} same parts chain begins passes closes =
-    subst (λ k. TakesFirst p k) (the-same same) (record { parts = parts; chain = chain; begins = begins; passes = passes; closes = closes })
-  where
-    the-same : Some kind ≡ Some other → kind ≡ other
-    the-same e = cc e
+    subst (λ k. TakesFirst p k) (cc same) (record { parts = parts; chain = chain; begins = begins; passes = passes; closes = closes })
 
 takes-first : (p : Production) (kind : Kind) → second_kind p ≡ Some kind → TakesFirst p kind
 unfolding second_kind number_of_kind parts_of is_chain opening between close unfolding_.behind meaning operator_or_literal letter_of part

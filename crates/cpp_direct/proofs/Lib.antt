@@ -1,11 +1,8 @@
-mod AddressesRead
 pub mod Arguments
 pub mod Begins
 pub mod DependentsRead
 pub mod Elements
-mod EnclosingFunctions
 pub mod Ending
-pub mod FrontsRead
 mod FunctionsWithin
 pub mod Handed
 pub mod Kept
@@ -24,7 +21,6 @@ pub mod NamePlaces
 pub mod NamedArguments
 pub mod NestComponents
 pub mod Nesting
-pub mod Noted
 pub mod PrintedExpansions
 pub mod PrintedFunctions
 pub mod PrintedLevels

@@ -1,4 +1,4 @@
--- Names and numbers that were found, the bytes at a place, where names are, and marks.
+-- Names and numbers that were found, the bytes at a place, and where names are.
 use Rattle.std.proofs.Common.{◌≡◌, ◌≢◌, ℕ, ◌+◌, ◌-◌, ◌*◌, ◌≤◌, ◌<◌, suc, List, [], ◌∷◌, ◌++◌, length, take, drop, get_or, codes, Bool, true, false, ◌&&◌, not, nat_eq, nat_lt, refl, ap, sym, subst, ◌∙◌, arith, append_assoc, append-nil, slice_get, Option, Some, None, Result, Ok, Err}
 use Rattle.std.proofs.lemmas.List.{get_or-drop, get_or-take, length-append, length-drop, length-take-le, take-append-drop, drop-drop}
 use Rattle.std.proofs.lemmas.Bool.{and_parts, le-leb, ltb-false, ltb-true}
@@ -17,7 +17,6 @@ use Rattle.cpp_direct.proofs.Kept.{piece-found}
 use Rattle.cpp_direct.specs.AllHoles.{IsDigitsAt, IsNameAt, IsNumberAt, IsTagAt, StandsAt}
 use Rattle.cpp_direct.specs.Names.{IsLengthRead, IsNamePlace, tag_text}
 use Rattle.cpp_direct.specs.Written.{Writes, Reads}
-use Rattle.cpp_direct.specs.Marks.{IsMarkPlace}
 use Rattle.std.proofs.lemmas.Option.{slice_get_read}
 use Rattle.std.specs.Option.{OnSome}
 use Rattle.std.specs.Result.{result_ok}
@@ -25,7 +24,6 @@ use Rattle.sym_core.specs.declared.NumberKind.{NumberKind}
 use Rattle.sym_core.specs.declared.NumberKind.TheVariants.{Digits}
 use Rattle.cpp_grammar.specs.Values.{signed_digits}
 use Rattle.cpp_direct.specs.MidStep.{number_text}
-use Rattle.cpp_direct.specs.declared.open.Mark.TheVariants as marks
 
 -- ## Tokens
 
@@ -50,14 +48,8 @@ piece-at s before own behind rest at from to le e from_is to_is =
 -- a place that was found is that of a token
 pub place-found : (Is : Token → Type 0) (s : List ℕ) (at : ℕ) (r : Result TokenPlace ℕ) (o : Option TokenPlace) (place : TokenPlace)
     → FindsToken Is s at r → o ≡ result_ok r → o ≡ Some place → HasToken Is (drop at s) at place
-place-found Is s at (Ok p) o place finds ok some = subst (λ x. HasToken Is (drop at s) at x) (same p o place ok some) finds
-  where
-    same : (p : TokenPlace) (o : Option TokenPlace) (place : TokenPlace) → o ≡ Some p → o ≡ Some place → p ≡ place
-    same p o place e f = cc (e, f)
-place-found Is s at (Err bad) o place finds ok some = absurd (apart o place ok some)
-  where
-    apart : (o : Option TokenPlace) (place : TokenPlace) → o ≡ None → o ≡ Some place → ⊥
-    apart o place e f = cc (e, f)
+place-found Is s at (Ok p) o place finds ok some = subst (λ x. HasToken Is (drop at s) at x) (cc (ok, some)) finds
+place-found Is s at (Err bad) o place finds ok some = absurd (cc (ok, some))
 
 -- where a token's own bytes are
 pub own-found : (Is : Token → Type 0) (s : List ℕ) (at : ℕ) (place : TokenPlace) (h : HasToken Is (drop at s) at place) → at ≤ length s
@@ -317,35 +309,11 @@ pub tag-read : (s : List ℕ) (old first second third : Direct) (place : NamePla
     → Writes second third (codes "]")
     → (tag : List ℕ) × IsTagAt s old.at tag place.to × Reads old (record third { at = place.to }) (tag_text tag)
 tag-read s old first second third place at letter here n a b c =
-    let text = old.text.list.items in (
+    let named = reads-then old first second (codes "[abi:") n.name
+    (reads-written old (record old { at = at }) first (codes "[abi:") (codes "[abi:") a refl refl refl refl refl refl refl)
+    (reads-written first first second (take (place.to - place.from) (drop place.from s)) n.name b refl refl refl refl refl refl n.own) in
+    let r = reads-then old second third (codes "[abi:" ++ n.name) (codes "]") named (reads-of second third (codes "]") c) in (
       n.name,
       (letter, subst (λ k. IsNameAt s k n.name place.to) here n.is),
-      record {
-        text = c.text ∙ ap (λ l. l ++ codes "]") (b.text ∙ ap (λ l. first.text.list.items ++ l) n.own ∙ ap (λ l. l ++ n.name) a.text
-            ∙ append_assoc text (codes "[abi:") n.name)
-            ∙ append_assoc text (codes "[abi:" ++ n.name) (codes "]");
-        candidates = c.candidates ∙ b.candidates ∙ a.candidates;
-        waiting = c.waiting ∙ b.waiting ∙ a.waiting;
-        nest = c.nest ∙ b.nest ∙ a.nest;
-        scope = c.scope ∙ b.scope ∙ a.scope;
-        rounds = c.rounds ∙ b.rounds ∙ a.rounds;
-      },
+      record { text = r.text; candidates = r.candidates; waiting = r.waiting; nest = r.nest; scope = r.scope; rounds = r.rounds },
     )
-
--- ## Marks
-
--- a function that is const may be called on an lvalue
-pub const-lvalue : (s : List ℕ) (at behind end : ℕ) → StandsAt s at (75 ∷ []) → behind ≡ at + 1 → StandsAt s behind (82 ∷ []) → end ≡ behind + 1
-    → IsMarkPlace s at (record { mark = marks.ConstLvalue; end = end })
-const-lvalue s at behind end letter next second ends = record {
-  stands = stands-join s at (75 ∷ []) (82 ∷ []) letter (subst (λ k. StandsAt s k (82 ∷ [])) next second);
-  ends = omega (arith, next, ends);
-}
-
--- and on an rvalue
-pub const-rvalue : (s : List ℕ) (at behind end : ℕ) → StandsAt s at (75 ∷ []) → behind ≡ at + 1 → StandsAt s behind (79 ∷ []) → end ≡ behind + 1
-    → IsMarkPlace s at (record { mark = marks.ConstRvalue; end = end })
-const-rvalue s at behind end letter next second ends = record {
-  stands = stands-join s at (75 ∷ []) (79 ∷ []) letter (subst (λ k. StandsAt s k (79 ∷ [])) next second);
-  ends = omega (arith, next, ends);
-}

@@ -65,9 +65,6 @@ text-single text a number n e =
     let h = single-some (is_single a number) (own_at text (place_of a number)) n e in
     (by-single number a.count a.before a.has_pack h.0, h.1)
 
-some-same : (t u : Term) → Some t ≡ Some u → t ≡ u
-some-same t u e = cc e
-
 -- the arguments of a name are given in its types
 pub arguments-given : {detail : Detail} (text : List ℕ) (a : Arguments) (own : Term) → HasArguments detail text a own → IsGiven detail (names_at text a) (types_of own)
 arguments-given {detail} text a own has number n is =
@@ -81,7 +78,7 @@ arguments-given {detail} text a own has number n is =
         let single = text-single text a k m e in
         let h = has.0 k single.0 in
         let found = piece-found text h.bytes p.from p.to h.placed in
-        let same : h.all ≡ all = some-same h.all all (sym h.all_are ∙ all_are) in (
+        let same : h.all ≡ all = cc (sym h.all_are ∙ all_are) in (
           h.own,
           subst (λ t. element t k ≡ h.own) same h.there.0,
           subst (λ (x : Named). Prints detail h.own x.bytes x.reference) single.1

@@ -18,7 +18,7 @@ use Rattle.cpp_direct.proofs.PrintedSymbols.{encoding-object, object-shows}
 use Rattle.std.specs.Prelude.{decimal}
 use Rattle.cpp_direct.specs.HolesOfLocals.{Discriminator, entity_in, local_in}
 use Rattle.cpp_direct.proofs.PrintedFunctions.{closed-list, packless-list}
-use Rattle.cpp_direct.proofs.PrintedLists.{list-text, list-cost, none-print}
+use Rattle.cpp_direct.proofs.PrintedLists.{list-text, list-cost}
 
 -- ## Types in functions
 
@@ -70,11 +70,6 @@ lambda-list-prints {detail} ts l all number digits is plain =
       packless = λ scope. packless-list detail scope ts l all;
       opening = refl;
     }
-
--- one without parameters its number
-pub lambda-prints : {detail : Detail} (number : ℕ) (digits : List ℕ) → decimal number ≡ digits → IsUnmarked digits
-    → PrintsPiece detail (lambda nil number) (codes "{lambda()#" ++ digits ++ codes "}")
-lambda-prints {detail} number digits is plain = lambda-list-prints [] [] (none-print detail 0) number digits is plain
 
 -- A component of a name prints the name so far and its own.
 pub component-prints : {detail : Detail} (t : Term) (b : List ℕ) → Prints detail t b false → (p : Term) (n : List ℕ) → PrintsPiece detail p n
@@ -180,15 +175,13 @@ returned-enclosing d name q ref returned items b p =
       packless = λ scope. refl;
     }
 
-object-encloses : (d : Detail) (name : Term) (q : Qualifiers) (ref : RefQualifier) (b : List ℕ) → Shows d (object name q ref) b → Encloses d (object name q ref) b
-unfolding bare_parts full_parts prefix_item is_open pack_length
-object-encloses d name q ref b p = encloses-as d (object name q ref) b refl (λ c. refl) refl (λ k. refl) p
-
 -- Data print the same before an entity.
 pub object-enclosing : (d : Detail) (v : Value) (b : List ℕ) → Shows d (encoding_of v nil) b → Encloses d (encoding_of v nil) b
+unfolding bare_parts full_parts prefix_item is_open pack_length
 object-enclosing d v b p =
     let e = encoding-object v in
-    subst (λ t. Encloses d t b) (sym e) (object-encloses d (tree_of v) (qualifiers_of v) (ref_of v) b (subst (λ t. Shows d t b) e p))
+    subst (λ t. Encloses d t b) (sym e)
+    (encloses-as d (object (tree_of v) (qualifiers_of v) (ref_of v)) b refl (λ c. refl) refl (λ k. refl) (subst (λ t. Shows d t b) e p))
 
 -- ## Functions by their names alone
 

@@ -248,25 +248,18 @@ parameters-before [] t apart = parameters-same t nil (λ e f. false≢true (sym 
 parameters-before (u ∷ []) t apart = parameters-same u (list t nil) (λ e f. cc f)
 parameters-before (u ∷ v ∷ ts) t apart = parameters-same u (list_with (v ∷ ts) (list t nil)) (λ e f. cc f)
 
-plain-items : (v : Value) → has_return_type (tree_of v) ≡ false → (t rest : Term)
-    → encoding_of v (list t rest) ≡ function (tree_of v) (qualifiers_of v) (ref_of v) absent (parameters (list t rest))
-unfolding encoding_of
-plain-items v e t rest = rw (e, encoding_of) refl
-
-returned-items : (v : Value) → has_return_type (tree_of v) ≡ true → (r items : Term)
-    → encoding_of v (list r items) ≡ function (tree_of v) (qualifiers_of v) (ref_of v) r (parameters items)
-unfolding encoding_of
-returned-items v e r items = rw (e, encoding_of) refl
-
 -- A name that has no return type makes a function without one of its items.
 pub encoding-plain : (v : Value) (mark : Mark) (own : Term) → IsNamedSo v own mark → has_return_type own ≡ false → (t rest : Term) → encoding_of v (list t rest) ≡ plain_encoding mark own (list t rest)
-encoding-plain v mark own is none t rest = plain-items v (ap has_return_type is.tree_is ∙ none) t rest ∙ rw (is.tree_is, is.qualifiers_are, is.mark_is) refl
+unfolding encoding_of
+encoding-plain v mark own is none t rest =
+    rw (ap has_return_type is.tree_is ∙ none, encoding_of) (rw (is.tree_is, is.qualifiers_are, is.mark_is) refl)
 
 -- Of a name that has one the first item is the return type.
 pub encoding-returned : (v : Value) (mark : Mark) (own : Term) → IsNamedSo v own mark → has_return_type own ≡ true → (r items : Term)
     → encoding_of v (list r items) ≡ function own (qualifiers (has_const mark)) (called_on mark) r (parameters items)
+unfolding encoding_of
 encoding-returned v mark own is returns r items =
-    returned-items v (ap has_return_type is.tree_is ∙ returns) r items ∙ rw (is.tree_is, is.qualifiers_are, is.mark_is) refl
+    rw (ap has_return_type is.tree_is ∙ returns, encoding_of) (rw (is.tree_is, is.qualifiers_are, is.mark_is) refl)
 
 -- Parameters that aren't a lone void are those of the function that they make, with some return type or none.
 pub made-with : (own returned : Term) (mark : Mark) (make : Term → Term)

@@ -10,8 +10,8 @@ use Rattle.cpp_grammar.specs.Between.{inside}
 use Rattle.cpp_grammar.specs.Parts.{types_of}
 use Rattle.cpp_direct.specs.declared.open.Mark.TheVariants as marks
 use Rattle.cpp_direct.specs.Marks.{called_on, has_const}
-use Rattle.cpp_direct.specs.WriterInvariant.{nowhere, IsPackOf, IsAmong, AreAmong, HasArguments, HasScope, IsScoped, Scope, argument_of, arguments_in, is_within_type, list_with, place_of, IsNamedSo, qualifiers, HasParameters, IsOwnName}
-use Rattle.cpp_direct.specs.MidStep.{AreKnown, HasNameSo}
+use Rattle.cpp_direct.specs.WriterInvariant.{HasNameSo, nowhere, IsPackOf, IsAmong, AreAmong, HasArguments, HasScope, IsScoped, Scope, argument_of, arguments_in, is_within_type, list_with, place_of, IsNamedSo, qualifiers, HasParameters, IsOwnName}
+use Rattle.cpp_direct.specs.MidStep.{AreKnown}
 use Rattle.cpp_direct.proofs.Kept.{none-known, placed-stays}
 use Rattle.cpp_direct.specs.Prints.{PrintAllIn, PrintsName}
 -- trees stay at their places where more is written

@@ -33,40 +33,27 @@ on-digit run b bs digit is =
     let parts = and_parts (nat_lt run 19) (short_numbers (run + 1) bs) opened in
     (ltb-true run 19 parts.0, parts.1)
 
-on-other : (run b : ℕ) (bs : List ℕ) → is_decimal_digit b ≡ false → short_numbers run (b ∷ bs) ≡ true → short_numbers 0 bs ≡ true
-unfolding short_numbers
-on-other run b bs other is = subst (λ d. elim d [ true ↦ nat_lt run 19 && short_numbers (run + 1) bs | false ↦ short_numbers 0 bs ] ≡ true) other is
-
--- a symbol's byte is gone over
-pub goes-on-digit : (run b : ℕ) (bs : List ℕ) → is_decimal_digit b ≡ true → run < 19 → short_numbers (run + 1) bs ≡ true → short_numbers run (b ∷ bs) ≡ true
-unfolding short_numbers
-goes-on-digit run b bs digit few is =
-    subst (λ d. elim d [ true ↦ nat_lt run 19 && short_numbers (run + 1) bs | false ↦ short_numbers 0 bs ] ≡ true) (sym digit)
-    (subst (λ x. (x && short_numbers (run + 1) bs) ≡ true) (sym (lt-ltb run 19 few)) is)
-
-pub goes-on-other : (run b : ℕ) (bs : List ℕ) → is_decimal_digit b ≡ false → short_numbers 0 bs ≡ true → short_numbers run (b ∷ bs) ≡ true
-unfolding short_numbers
-goes-on-other run b bs other is =
-    subst (λ d. elim d [ true ↦ nat_lt run 19 && short_numbers (run + 1) bs | false ↦ short_numbers 0 bs ] ≡ true) (sym other) is
-
 -- a symbol is gone over byte by byte
 pub digit-passed : (s : List ℕ) (at run next : ℕ) (digit : Bool) → at < length s → digit ≡ is_decimal_digit (get_or s at 0) → digit ≡ true → run < 19 → next ≡ run + 1
     → (short_numbers run (drop at s) ≡ true → short_numbers 0 s ≡ true) → short_numbers next (drop (at + 1) s) ≡ true → short_numbers 0 s ≡ true
+unfolding short_numbers
 digit-passed s at run next digit inside is true_ few_ next_is before rest =
     let one : at + 1 ≡ suc at = omega arith in
+    let bs = drop (suc at) s in
     before (subst (λ l. short_numbers run l ≡ true) (sym (drop-cons s at 0 inside))
-    (goes-on-digit run (get_or s at 0) (drop (suc at) s) (sym is ∙ true_) few_
-    (subst (λ k. short_numbers k (drop (suc at) s) ≡ true) next_is
-    (subst (λ k. short_numbers next (drop k s) ≡ true) one rest))))
+    (subst (λ d. elim d [ true ↦ nat_lt run 19 && short_numbers (run + 1) bs | false ↦ short_numbers 0 bs ] ≡ true) (sym true_ ∙ is)
+    (subst (λ x. (x && short_numbers (run + 1) bs) ≡ true) (sym (lt-ltb run 19 few_))
+    (subst (λ k. short_numbers k bs ≡ true) next_is (subst (λ k. short_numbers next (drop k s) ≡ true) one rest)))))
 
 pub other-passed : (s : List ℕ) (at run next : ℕ) (digit : Bool) → at < length s → digit ≡ is_decimal_digit (get_or s at 0) → digit ≡ false → next ≡ 0
     → (short_numbers run (drop at s) ≡ true → short_numbers 0 s ≡ true) → short_numbers next (drop (at + 1) s) ≡ true → short_numbers 0 s ≡ true
+unfolding short_numbers
 other-passed s at run next digit inside is false_ next_is before rest =
     let one : at + 1 ≡ suc at = omega arith in
+    let bs = drop (suc at) s in
     before (subst (λ l. short_numbers run l ≡ true) (sym (drop-cons s at 0 inside))
-    (goes-on-other run (get_or s at 0) (drop (suc at) s) (sym is ∙ false_)
-    (subst (λ k. short_numbers k (drop (suc at) s) ≡ true) next_is
-    (subst (λ k. short_numbers next (drop k s) ≡ true) one rest))))
+    (subst (λ d. elim d [ true ↦ nat_lt run 19 && short_numbers (run + 1) bs | false ↦ short_numbers 0 bs ] ≡ true) (sym false_ ∙ is)
+    (subst (λ k. short_numbers k bs ≡ true) next_is (subst (λ k. short_numbers next (drop k s) ≡ true) one rest))))
 
 pub all-passed : (s : List ℕ) (at run : ℕ) → length s ≤ at → short_numbers run (drop at s) ≡ true
 unfolding short_numbers
@@ -88,7 +75,8 @@ later run (b ∷ bs) (suc at) most is = go (is_decimal_digit b) refl (λ r m i. 
         → ((r : ℕ) → r ≤ 19 → short_numbers r bs ≡ true → (k : ℕ) × (k ≤ 19) × (short_numbers k (drop at bs) ≡ true))
         → (k : ℕ) × (k ≤ 19) × (short_numbers k (drop at bs) ≡ true)
     go true e on = let one = on-digit run b bs e is in on (run + 1) (omega (arith, one.0)) one.1
-    go false e on = on 0 (omega arith) (on-other run b bs e is)
+    go false e on = on 0 (omega arith)
+        (subst (λ d. elim d [ true ↦ nat_lt run 19 && short_numbers (run + 1) bs | false ↦ short_numbers 0 bs ] ≡ true) e is)
 
 few : (s : List ℕ) (at : ℕ) (ds : List ℕ) → short_numbers 0 s ≡ true → StandsAt s at ds → AreDigits Decimal ds → length ds ≤ 19
 few s at ds short stands are =

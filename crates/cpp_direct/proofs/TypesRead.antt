@@ -39,6 +39,12 @@ use Rattle.cpp_direct.proofs.PrintedNames.{source-prints, std-prints, abbreviati
 pub there : (s : List ℕ) (at b d : ℕ) → b ≡ d → 1 ≤ d → (b ≢ 0 → StandsAt s at (b ∷ [])) → StandsAt s at (d ∷ [])
 there s at b d is some stands = subst (λ k. StandsAt s at (k ∷ [])) is (stands (λ z. omega (arith, is, some, z)))
 
+-- and so is one more after others
+pub then-there : (s front : List ℕ) (at next b d : ℕ) → StandsAt s at front → next ≡ at + length front → b ≡ d → 1 ≤ d
+    → (b ≢ 0 → StandsAt s next (b ∷ [])) → StandsAt s at (front ++ d ∷ [])
+then-there s front at next b d first next_is is some stands =
+    stands-join s at front (d ∷ []) first (subst (λ k. StandsAt s k (d ∷ [])) next_is (there s next b d is some stands))
+
 -- a text that isn't empty
 pub some-text : (text same : List ℕ) → text ≡ same → false ≡ (length text == 0) → same ≢ []
 some-text text same is filled none = cc (filled ∙ ap (λ l. length l == 0) (is ∙ none))

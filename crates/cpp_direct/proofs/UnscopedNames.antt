@@ -1,18 +1,18 @@
 -- Names of encodings that are in no class, and of local entities: where a writer is after them.
 use Rattle.cpp_direct.proofs.Unmarked.{name-unmarked}
 use Rattle.cpp_direct.proofs.Scopes.{no-arguments}
-use Rattle.std.proofs.Common.{◌≡◌, ◌≢◌, ℕ, ◌+◌, length, List, [], ◌∷◌, ◌++◌, Bool, true, false, not, cond, refl, ap, sym, subst, ◌∙◌, arith, append_assoc, codes, ◌≤◌, append-nil}
+use Rattle.std.proofs.Common.{◌≡◌, ◌≢◌, ℕ, ◌+◌, length, List, [], ◌∷◌, ◌++◌, Bool, true, false, not, cond, refl, ap, sym, subst, ◌∙◌, arith, append_assoc, codes, append-nil}
 use Rattle.std.proofs.lemmas.Bool.{false≢true}
 use Rattle.cpp_grammar.specs.declared.kind.Kind.{Kind}
 use Rattle.cpp_grammar.specs.Grammar.{may_be_empty}
 use Rattle.cpp_grammar.specs.Term.{Term, alone, in_std, source, operator, instance, any_value, object, of_name}
 use Rattle.cpp_grammar.specs.Parts.{source_text}
 use Rattle.cpp_grammar.specs.Scope.{has_return_type, arguments_of, is_structor}
-use Rattle.cpp_grammar.specs.Values.{State, piece, tree, tree_of, qualifiers_of, ref_of, Value, nothing_there, named, unqualified}
+use Rattle.cpp_grammar.specs.Values.{State, piece, tree, tree_of, qualifiers_of, ref_of, nothing_there, named, unqualified}
 use Rattle.cpp_grammar.specs.Between.{after, in_name, inside, no_items, with_tag, in_types}
 use Rattle.cpp_direct.specs.WriterTypes.{Direct, Symbol, detail_of}
-use Rattle.cpp_direct.specs.Bytes.{is_local, is_object}
-use Rattle.cpp_direct.specs.AllHoles.{Comes, Discriminator, EncodingOpened, GuardOpened, IsDigitsAt, IsDiscriminatorAt, IsEntityAt, IsNameAt, IsTagAt, LocalOpened, Named, Opened, StandsAt, SymbolOpened, by_digit, by_digits, entity_in, unnumbered}
+use Rattle.cpp_direct.specs.Bytes.{is_local}
+use Rattle.cpp_direct.specs.AllHoles.{Comes, Discriminator, GuardOpened, IsDiscriminatorAt, IsEntityAt, IsNameAt, IsTagAt, LocalOpened, Named, Opened, StandsAt, SymbolOpened, entity_in}
 use Rattle.cpp_direct.specs.Names.{IsOperatorAt, is_angle, operator_text, tag_text}
 use Rattle.cpp_direct.specs.Prints.{Prints, PrintsName, Shows}
 use Rattle.cpp_direct.specs.WriterInvariant.{IsWriting, encoding_place, nowhere, no_scope, EntityBehind, Kept}
@@ -22,7 +22,7 @@ use Rattle.cpp_direct.proofs.Begins.{encoding-expected, items-await, encoded-who
 use Rattle.cpp_direct.proofs.Moves.{alone-arguments, expects-empty, stands-join}
 use Rattle.cpp_direct.proofs.PrintedNests.{tagged-names, tagged-prints}
 use Rattle.cpp_direct.proofs.Kept.{kept-grown, kept-read, kept-same, none-kept, list-begins, kept-with}
-use Rattle.cpp_direct.proofs.NamePlaces.{reads-then, reads-of, reads-begun}
+use Rattle.cpp_direct.proofs.NamePlaces.{reads-then, reads-of}
 use Rattle.cpp_direct.proofs.MovesOfEncodings.{name-source, name-internal, name-operator, name-std, operator-piece-comes, symbol-starts, encoding-opens, guard-opens}
 use Rattle.cpp_direct.proofs.MovesOfLists.{arguments-open}
 use Rattle.cpp_direct.proofs.MovesOfNests.{piece-comes, tag-follows}
@@ -124,9 +124,6 @@ std-reads old marked read n bytes w r =
     reads-then old marked read (codes "std::") bytes
     (record { text = w.text; candidates = w.candidates; waiting = w.waiting; nest = w.nest; scope = w.scope; rounds = w.rounds }) r
 
-std-place : (n first second at : ℕ) → first ≡ n + 1 → second ≡ first + 1 → at ≡ second → at ≡ n + 2
-std-place n first second at e f g = omega (arith, e, f, g)
-
 -- a source name in std
 pub std-source-unscoped : (s : Symbol) (old marked read : Direct) (first second : ℕ) (name : List ℕ) → AwaitsEncoding s old
     → StandsAt s.bytes old.at (83 ∷ []) → first ≡ old.at + 1 → StandsAt s.bytes first (116 ∷ []) → second ≡ first + 1
@@ -139,7 +136,7 @@ std-source-unscoped s old marked read first second name p letter next mark then_
     let encoding = encoding-expected s old p in
     let prints = std-prints false name filled (name-unmarked s.bytes marked.at name read.at is) in
     let here = stands-join s.bytes old.at (83 ∷ []) (116 ∷ []) letter (subst (λ n. StandsAt s.bytes n (116 ∷ [])) next mark) in
-    let there = subst (λ n. IsNameAt s.bytes n name read.at) (std-place old.at first second marked.at next then_ w.at) is in
+    let there = subst (λ n. IsNameAt s.bytes n name read.at) (omega (arith, next, then_, w.at)) is in
     unscoped-read s old read true own x p.kept old.at
     (named-has s old p own read.at
     (name-std s encoding.inner (in_name old.at) old.at (source false name) read.at p.state encoding.awaits here
@@ -156,8 +153,7 @@ std-operator-unscoped s old marked read first second a b takes p letter next mar
     let own = in_std (operator a b) in
     let encoding = encoding-expected s old p in
     let here = stands-join s.bytes old.at (83 ∷ []) (116 ∷ []) letter (subst (λ n. StandsAt s.bytes n (116 ∷ [])) next mark) in
-    let place = std-place old.at first second marked.at next then_ w.at in
-    let there = subst (λ n. IsOperatorAt s.bytes n a b read.at) place is in
+    let there = subst (λ n. IsOperatorAt s.bytes n a b read.at) (omega (arith, next, then_, w.at)) is in
     unscoped-read s old read takes own (codes "std::" ++ operator_text a b) p.kept old.at
     (named-has s old p own read.at
     (name-std s encoding.inner (in_name old.at) old.at (operator a b) read.at p.state encoding.awaits here
@@ -231,19 +227,6 @@ unscoped-argued s read kept new from takes p some there lists opening_ =
 
 -- ## The beginnings of local entities
 
--- a name without items is the encoding of a symbol
-object-comes : (s : Symbol) (opened_ : SymbolOpened s) (encoding_ : EncodingOpened s opened_.inner 2 first_state) (v : Value) (at : ℕ) (st : State)
-    → Comes s encoding_.inner v at st
-    → Comes s opened_.inner (tree (object (tree_of v) (qualifiers_of v) (ref_of v)) true) at st
-unfolding encoding_of no_items may_be_empty
-object-comes s opened_ encoding_ v at st comes =
-    let items = encoding_.onward v at st comes in
-    items.onward nothing_there at st (expects-empty s Kind.Items (in_types 2 (tree_of v)) items.inner at st items.awaits refl)
-
--- that is no object
-local-typed : (s : List ℕ) → is_local s ≡ true → is_object s ≡ false
-local-typed s is = rw is refl
-
 -- the encoding is expected that an entity is in, after this text, which is shown before that of an entity
 entity-awaited : (s : Symbol) (opened_ : SymbolOpened s) (w : Direct) (lead : List ℕ) (outer : List Opened) (made : Term → Term) → is_local s.bytes ≡ true
     → w.text.list.items ≡ lead → w.candidates.list.items ≡ [] → (w.text.list.items ≡ [] → w.at ≡ encoding_place s.bytes) → LocalOpened s outer (in_name 2) w.at first_state
@@ -252,7 +235,7 @@ entity-awaited : (s : Symbol) (opened_ : SymbolOpened s) (w : Direct) (lead : Li
     → AwaitsEncoding s w
 unfolding first_state
 entity-awaited s opened_ w lead outer made is_there text_is none begins here comes_ shows_ = record {
-  kept = record { state = first_state; scope = no_scope; keeps = none-kept s w none (λ e. local-typed s.bytes is_there) };
+  kept = record { state = first_state; scope = no_scope; keeps = none-kept s w none (λ e. rw is_there refl) };
   around = in_name 2;
   outer = here.inner;
   begins = begins;
@@ -275,16 +258,15 @@ entity-awaited s opened_ w lead outer made is_there text_is none begins here com
 -- that of a symbol that has no other text
 pub local-begins : (s : Symbol) (w : Direct) → IsFresh w → is_local s.bytes ≡ true → StandsAt s.bytes 0 (95 ∷ 90 ∷ []) → StandsAt s.bytes 2 (90 ∷ [])
     → AwaitsEncoding s (record w { at = 3 })
-unfolding tree_of qualifiers_of ref_of first_state
+unfolding tree_of qualifiers_of ref_of first_state encoding_of no_items may_be_empty
 local-begins s w fresh is_there starts letter =
     let opened_ = symbol-starts s starts in
     let encoding_ = encoding-opens s opened_.inner first_around 2 first_state opened_.awaits in
     entity-awaited s opened_ (record w { at = 3 }) [] encoding_.inner (λ t. object t unqualified any_value) is_there fresh.no_text fresh.no_candidate
     (λ none. sym (ap (λ b. cond b 3 2) is_there)) (local-opens s encoding_.inner (in_name 2) 2 first_state encoding_.awaits letter)
-    (λ t at st comes. object-comes s opened_ encoding_ (named t unqualified any_value) at st comes) (λ t bytes p. p)
-
-guard-text : codes "guard variable for " ≡ [] → ⊥
-guard-text e = cc e
+    (λ t at st comes.
+    let items = encoding_.onward (named t unqualified any_value) at st comes in
+    items.onward nothing_there at st (expects-empty s Kind.Items (in_types 2 t) items.inner at st items.awaits refl)) (λ t bytes p. p)
 
 -- the same of a guard variable
 pub guard-begins : (s : Symbol) (old new : Direct) → IsFresh old → is_local s.bytes ≡ true → StandsAt s.bytes 0 (95 ∷ 90 ∷ []) → StandsAt s.bytes 2 (71 ∷ 86 ∷ [])
@@ -295,7 +277,7 @@ guard-begins s old new fresh is_there starts marks stands writes =
     let guard_ : GuardOpened s opened_.inner 2 4 first_state = guard-opens s opened_.inner first_around 2 first_state opened_.awaits marks in
     let text_is : new.text.list.items ≡ codes "guard variable for " = writes.text ∙ ap (λ l. l ++ codes "guard variable for ") fresh.no_text in
     entity-awaited s opened_ (record new { at = 5 }) (codes "guard variable for ") guard_.inner (λ t. of_name 86 t unqualified any_value) is_there text_is
-    (ap (λ v. v.list.items) writes.candidates ∙ fresh.no_candidate) (λ none. absurd (guard-text (sym text_is ∙ none)))
+    (ap (λ v. v.list.items) writes.candidates ∙ fresh.no_candidate) (λ none. cc (sym text_is ∙ none))
     (local-opens s guard_.inner (in_name 2) 4 first_state guard_.awaits stands) (λ t at st comes. guard_.onward (named t unqualified any_value) at st comes)
     (λ t bytes p. guarded-shows (detail_of s) t unqualified any_value bytes p)
 
@@ -327,22 +309,3 @@ entity-ended s internal old pushed read last p one name is_name filled two digit
       encoded = behind.encoded;
       shows = subst (λ l. Shows (detail_of s) behind.made l) (sym written) (behind.shows e.bytes e.encloses);
     }
-
--- ## Discriminators
-
--- no discriminator was read
-pub none-told : (s : List ℕ) (w : Direct) → (told : Discriminator) × IsDiscriminatorAt s w.at told w.at × Reads w w []
-none-told s w = (unnumbered, refl, reads-begun w w refl refl refl refl refl refl)
-
--- a digit was read after a _
-pub digit-told : (s : List ℕ) (old new : Direct) (digit : ℕ) → StandsAt s old.at (95 ∷ []) → StandsAt s (old.at + 1) (digit ∷ []) → 48 ≤ digit → digit ≤ 57
-    → new.at ≡ old.at + 2 → Reads old new [] → (told : Discriminator) × IsDiscriminatorAt s old.at told new.at × Reads old new []
-digit-told s old new digit line there low high at_is reads =
-    (by_digit digit, (low, high, stands-join s old.at (95 ∷ []) (digit ∷ []) line there, at_is), reads)
-
--- digits were read after two of them
-pub digits-told : (s : List ℕ) (old new : Direct) (digits : List ℕ) (middle : ℕ) → StandsAt s old.at (95 ∷ []) → StandsAt s (old.at + 1) (95 ∷ [])
-    → IsDigitsAt s (old.at + 2) digits middle → StandsAt s middle (95 ∷ []) → new.at ≡ middle + 1 → Reads old new []
-    → (told : Discriminator) × IsDiscriminatorAt s old.at told new.at × Reads old new []
-digits-told s old new digits middle line next is last at_is reads =
-    (by_digits digits, (middle, stands-join s old.at (95 ∷ []) (95 ∷ []) line next, is, last, at_is), reads)

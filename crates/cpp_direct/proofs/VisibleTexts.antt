@@ -1,6 +1,5 @@
 -- What is written of a tree is what it shows once what is between marks is left out.
-use Rattle.std.proofs.Common.{◌≡◌, ◌≢◌, ◌⊎◌, inl, inr, refl, ap, sym, subst, ◌∙◌, ℕ, zero, suc, ◌≤◌, List, [], ◌∷◌, ◌++◌, length, Bool, true, false, arith, append-nil, append_assoc}
-use Rattle.std.specs.Prelude.{Option, Some, None}
+use Rattle.std.proofs.Common.{◌≡◌, ◌≢◌, ◌⊎◌, inl, inr, refl, ap, sym, subst, ◌∙◌, ℕ, zero, suc, ◌≤◌, List, [], ◌∷◌, ◌++◌, length, Bool, true, false, Option, Some, None, arith, append-nil, append_assoc}
 use Rattle.std.specs.Option.{OnSome}
 use Rattle.sym_print.specs.declared.detail.Detail.{Detail}
 use Rattle.sym_print.specs.Details.{has_arguments}
@@ -33,14 +32,6 @@ unmarked-plain : (bytes : List ℕ) → IsUnmarked (unmarked false bytes)
 unmarked-plain [] = refl
 unmarked-plain (byte ∷ bytes) = more-unmarked (unmarked_byte false byte) (unmarked false bytes) (unmarked-byte byte) (unmarked-plain bytes)
 
--- such a text is left out in a stretch,
-text-hidden : (depth : ℕ) (bytes rest : List ℕ) → visible (suc depth) (unmarked false bytes ++ rest) ≡ visible (suc depth) rest
-text-hidden depth bytes rest = unmarked-hidden (unmarked false bytes) (unmarked-plain bytes) depth rest
-
--- and seen outside of all
-text-seen : (bytes rest : List ℕ) → visible 0 (unmarked false bytes ++ rest) ≡ unmarked false bytes ++ visible 0 rest
-text-seen bytes rest = unmarked-seen (unmarked false bytes) (unmarked-plain bytes) rest
-
 unmarked-join : (xs ys : List ℕ) → unmarked false (xs ++ ys) ≡ unmarked false xs ++ unmarked false ys
 unmarked-join [] ys = refl
 unmarked-join (x ∷ xs) ys = ap (λ l. unmarked_byte false x ∷ l) (unmarked-join xs ys)
@@ -61,7 +52,8 @@ parts-hidden f each [] depth rest = refl
 parts-hidden f each (text [] ∷ ps) depth rest = parts-hidden f each ps depth rest
 parts-hidden f each (text (b ∷ bs) ∷ ps) depth rest =
     let more = text_of (printed_parts f (not_empty (unmarked_parts false ps))) in
-    ap (visible (suc depth)) (append_assoc (unmarked false (b ∷ bs)) more rest) ∙ text-hidden depth (b ∷ bs) (more ++ rest) ∙ parts-hidden f each ps depth rest
+    ap (visible (suc depth)) (append_assoc (unmarked false (b ∷ bs)) more rest) ∙ unmarked-hidden (unmarked false (b ∷ bs)) (unmarked-plain (b ∷ bs)) depth (more ++ rest)
+    ∙ parts-hidden f each ps depth rest
 parts-hidden f each (sub i ∷ ps) depth rest =
     let more = text_of (printed_parts f (not_empty (unmarked_parts false ps))) in
     ap (visible (suc depth)) (append_assoc (text_of (f i)) more rest) ∙ each i depth (more ++ rest) ∙ parts-hidden f each ps depth rest
@@ -75,7 +67,8 @@ parts-seen f h each (text (b ∷ bs) ∷ ps) rest =
     let own = b ∷ bs in
     let more = text_of (printed_parts f (not_empty (unmarked_parts false ps))) in
     let others = text_of (printed_parts h (not_empty ps)) in
-    ap (visible 0) (append_assoc (unmarked false own) more rest) ∙ text-seen own (more ++ rest) ∙ ap (λ l. unmarked false own ++ l) (parts-seen f h each ps rest)
+    ap (visible 0) (append_assoc (unmarked false own) more rest) ∙ unmarked-seen (unmarked false own) (unmarked-plain own) (more ++ rest)
+    ∙ ap (λ l. unmarked false own ++ l) (parts-seen f h each ps rest)
     ∙ sym (append_assoc (unmarked false own) (unmarked false others) (visible 0 rest)) ∙ ap (λ l. l ++ visible 0 rest) (sym (unmarked-join own others))
 parts-seen f h each (sub i ∷ ps) rest =
     let own = text_of (h i) in
@@ -148,19 +141,12 @@ Views d c form t =
     ⊎ ((u : Term) × (a : Term) × (written_in d c form t ≡ written_instance (has_arguments d) c u a)
     × (parts_in d c form t ≡ instance_parts (has_arguments d) c u a))
 
-left-views : (d : Detail) (c : Context) (t : Term) → Views d c left t
-unfolding parts_in left_parts
-left-views d c (instance u a) = inr (u, a, refl, refl)
-left-views d c t = inl refl
-
-low-views : (d : Detail) (c : Context) (t : Term) → Views d c low t
-unfolding parts_in low_parts left_parts
-low-views d c (instance u a) = inr (u, a, refl, refl)
-low-views d c t = inl refl
-
 views : (d : Detail) (c : Context) (form : Form) (t : Term) → Views d c form t
-views d c left t = left-views d c t
-views d c low t = low-views d c t
+unfolding parts_in low_parts left_parts
+views d c left (instance u a) = inr (u, a, refl, refl)
+views d c low (instance u a) = inr (u, a, refl, refl)
+views d c left t = inl refl
+views d c low t = inl refl
 views d c form t = inl refl
 
 -- so much is said of what is written of an item and of what it prints, each down to a depth
@@ -257,10 +243,6 @@ same-to d whole (suc n) i =
     same-printed (printed_to (written_parts d) n) (printed_to (parts d) n) (same-to d whole n) (written_parts d i)
     ∙ ap (λ ps. printed_parts (printed_to (parts d) n) ps) (whole-parts d whole i)
 
-same-written : (d : Detail) → has_arguments d ≡ true → (i : Item) → written d i ≡ shown d i
-unfolding printed
-same-written d whole i = same-to d whole (suc (rank i)) i
-
 -- ## Symbols
 
 -- a text of which no byte is 0 without its marks has none
@@ -297,9 +279,11 @@ brief-shown s brief old new p is plain =
 
 -- and where arguments are shown all of it is.
 pub whole-shown : (s : Symbol) → s.is_brief ≡ false → (bytes : List ℕ) → IsWhole s bytes → IsShown s (length bytes) bytes
+unfolding printed
 whole-shown s whole bytes p =
     let d = detail_of s in
-    let same = same-written d (ap (λ b. has_arguments (detail_by s.is_bare b)) whole ∙ whole-by s.is_bare) (root_item p.whole) in
+    let i = root_item p.whole in
+    let same : written d i ≡ shown d i = same-to d (ap (λ b. has_arguments (detail_by s.is_bare b)) whole ∙ whole-by s.is_bare) (suc (rank i)) i in
     record {
       whole = p.whole;
       stands = p.stands;

@@ -33,7 +33,7 @@ use Rattle.cpp_direct.specs.HolesOfLevels.{MemberComes}
 use Rattle.cpp_direct.specs.HolesOfTypes.{IsNamedKind, NoReference, TreeOpens}
 use Rattle.cpp_direct.specs.Marks.{has_const, called_on, mark_text}
 use Rattle.cpp_direct.specs.Prints.{NamesClass, Prints, PrintsName, IsElement, PrintAll, Shows, Encloses, sign_text, PrintsAs, PrintsIn, PrintAllAs, IsGiven, PrintAllBy, PrintsMade, pattern_letters}
-use Rattle.cpp_direct.specs.WriterInvariant.{AwaitsItems, TakesItems, Encoded, EncodedBehind, Fronts, IsListing, IsTail, IsTemplate, GoesOn, EnumeratorGoesOn, Owns, ParametersGoOn, Serves, Stands, TakesFunction, opening_text, qualifiers, arguments_or_pack, extra_of, led_by, list_with, in_front_of_next, ComeBefore, AreAmong, HasArguments, HasPack, IsAmong, IsPackOf, IsSingle, IsKnown, IsMadeIn, IsScoped, is_type, place_of, IsNaming, IsNestScoped, Scope, below, is_noted, may_name, encoding_place, IsNamedSo, IsNesting, Kept, IsBetween, AwaitsTypeIn, HasInstance, HasParameters, IsNestSoFar, FirstType, IsTaken}
+use Rattle.cpp_direct.specs.WriterInvariant.{AwaitsItems, TakesItems, Encoded, EncodedBehind, Fronts, IsListing, IsTail, IsTemplate, GoesOn, EnumeratorGoesOn, Owns, ParametersGoOn, Serves, Stands, TakesFunction, opening_text, qualifiers, arguments_or_pack, extra_of, led_by, list_with, in_front_of_next, ComeBefore, AreAmong, HasArguments, HasNameSo, HasPack, IsAmong, IsPackOf, IsSingle, IsKnown, IsMadeIn, IsScoped, is_type, place_of, IsNaming, IsNestScoped, Scope, below, is_noted, may_name, encoding_place, IsNesting, Kept, IsBetween, AwaitsTypeIn, HasInstance, HasParameters, IsNestSoFar, FirstType, IsTaken}
 
 -- the digits after the T of a parameter with this number, of which there is one at most
 abbrev pub parameter_digits : (number : ℕ) → List ℕ
@@ -384,17 +384,6 @@ pub record AwaitsMember (s : Symbol) (w : Direct) (is_dependent : Bool) : Type 0
   pub naming : is_dependent ≡ true → IsNaming scope (reverse w.waiting.list.items)
   pub follows : MemberComes s outer own w.at state
   pub stands : Stands s scope (reverse w.waiting.list.items) outer front
-
--- A name was written from a place on, and is read as that of a function with this mark, or of data.
-pub record HasNameSo (s : Symbol) (text : List ℕ) (mark : Mark) (from : ℕ) : Type 0 where
-  pub own : Term
-  pub v : Value
-  pub named_so : IsNamedSo v own mark
-  pub lead : List ℕ
-  pub name : List ℕ
-  pub written : text ≡ lead ++ name
-  pub from_is : from ≡ length lead
-  pub prints : PrintsName (detail_of s) own name
 
 -- The name of an encoding was read and written from a place on, but for its qualifier. The known ones of these arguments are at their
 -- places.

@@ -7,6 +7,7 @@ use Rattle.cpp_grammar.specs.Meaning.{encoding_of}
 use Rattle.cpp_direct.specs.Symbol.{detail_of, Symbol}
 use Rattle.cpp_direct.specs.declared.open.Mark.{Mark}
 use Rattle.cpp_direct.specs.declared.open.Mark.TheVariants as marks
+use Rattle.cpp_direct.specs.declared.open.Arguments.{Arguments}
 use Rattle.cpp_direct.specs.declared.open.Purpose.{Purpose}
 use Rattle.cpp_direct.specs.declared.open.Open.{Open}
 use Rattle.cpp_direct.specs.declared.open.Open.TheVariants as opens
@@ -15,8 +16,8 @@ use Rattle.cpp_direct.specs.Bytes.{is_local, short_numbers}
 use Rattle.cpp_direct.specs.Holes.{StandsAt}
 use Rattle.cpp_direct.specs.Marks.{mark_text}
 use Rattle.cpp_direct.specs.Prints.{Encloses, IsLed, PrintsPiece, PrintAll}
-use Rattle.cpp_direct.specs.WriterInvariant.{ItemsGoOn, LambdaComes, LambdaWithin, TypeWithin, below, nowhere, Kept, HasEnclosing, Scope}
-use Rattle.cpp_direct.specs.MidStep.{IsEncodingEnded, HasNameSo}
+use Rattle.cpp_direct.specs.WriterInvariant.{ItemsGoOn, LambdaComes, LambdaWithin, TypeWithin, below, nowhere, Kept, HasLed, HasNameSo, IsEnclosing, Scope}
+use Rattle.cpp_direct.specs.MidStep.{IsEncodingEnded}
 
 -- ## Local entities
 
@@ -41,29 +42,43 @@ pub record IsEnclosingNamed (s : Symbol) (w : Direct) (mark : Mark) (is_instance
   pub returns : has_return_type own ≡ is_instance
   pub goes : ItemsGoOn s nowhere (TypeWithin s (below s scope (reverse w.waiting.list.items)) lead) (λ l. encoding_of v l) [] w.at state
 
--- The name of a function in which a type is was read, and its return type if it has one. Its parameters are expected.
-pub record AwaitsEnclosingParameters (s : Symbol) (w : Direct) (mark : Mark) (from : ℕ) : Type 0 where
+-- The name of a function was read after a text, and its return type if it has one. Its parameters are expected. This is so of its name, and of
+-- where it was read and of what is open.
+pub record AwaitsLedParameters (s : Symbol) (w : Direct) (extra : ℕ) (mark : Mark) (argument : Arguments)
+    (Leads : Scope → (own : Term) → (front name : List ℕ) → Type 0)
+    (Within : Scope → List Open → (front : List ℕ) → (e : Term) → (at : ℕ) → State → Type 0) : Type 0 where
   pub kept : Kept s w
   pub open kept use *
-  pub has : HasEnclosing (detail_of s) mark from [] []
+  pub has : HasLed (detail_of s) extra mark (Leads scope) [] []
   pub open has use *
   pub written : w.text.list.items ≡ front ++ name
-  pub goes : ItemsGoOn s nowhere (TypeWithin s (below s scope (reverse w.waiting.list.items)) front) make [] w.at state
+  pub goes : ItemsGoOn s argument (Within scope (reverse w.waiting.list.items) front) make [] w.at state
 
--- A parameter of such a function was read.
-pub record IsEnclosingParameterRead (s : Symbol) (w : Direct) (mark : Mark) (from to : ℕ) : Type 0 where
+-- A parameter of such a function was read, for which this was opened.
+pub record IsLedParameterRead (s : Symbol) (w : Direct) (extra : ℕ) (mark : Mark) (argument : Arguments) (entry : Open)
+    (Leads : Scope → (own : Term) → (front name : List ℕ) → Type 0)
+    (Within : Scope → List Open → (front : List ℕ) → (e : Term) → (at : ℕ) → State → Type 0) : Type 0 where
   pub kept : Kept s w
   pub open kept use *
   pub rest : List Open
-  pub open_is : reverse w.waiting.list.items ≡ opens.Enclosing mark from to ∷ rest
+  pub open_is : reverse w.waiting.list.items ≡ entry ∷ rest
   pub ts : List Term
   pub some : ts ≢ []
   pub texts : List ℕ
-  pub has : HasEnclosing (detail_of s) mark from ts texts
+  pub has : HasLed (detail_of s) extra mark (Leads scope) ts texts
   pub open has use *
   pub written : w.text.list.items ≡ front ++ name ++ codes "(" ++ texts
-  pub to_is : to ≡ length (front ++ name)
-  pub goes : ItemsGoOn s nowhere (TypeWithin s (below s scope rest) front) make ts w.at state
+  pub goes : ItemsGoOn s argument (Within scope rest front) make ts w.at state
+
+-- Parameters are expected of one in which a type is, from a place on.
+abbrev pub AwaitsEnclosingParameters : (s : Symbol) → (w : Direct) → Mark → (from : ℕ) → Type 0
+AwaitsEnclosingParameters s w mark from =
+    AwaitsLedParameters s w 6 mark nowhere (λ scope own front name. from ≡ length front) (λ scope waits. TypeWithin s (below s scope waits))
+
+-- One was read.
+abbrev pub IsEnclosingParameterRead : (s : Symbol) → (w : Direct) → Mark → (from to : ℕ) → Type 0
+IsEnclosingParameterRead s w mark from to =
+    IsLedParameterRead s w 6 mark nowhere (opens.Enclosing mark from to) (λ scope. IsEnclosing from to) (λ scope waits. TypeWithin s (below s scope waits))
 
 -- A function was read and written after a text of which this is so, but for its qualifier. So is this of where it was read and of what is
 -- open.

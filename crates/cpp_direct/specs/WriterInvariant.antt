@@ -119,6 +119,17 @@ pub record IsNamedSo (v : Value) (own : Term) (mark : Mark) : Type 0 where
   pub qualifiers_are : qualifiers_of v ≡ qualifiers (has_const mark)
   pub mark_is : ref_of v ≡ called_on mark
 
+-- A name was written from a place on, and is read as that of a function with this mark, or of data.
+pub record HasNameSo (s : Symbol) (text : List ℕ) (mark : Mark) (from : ℕ) : Type 0 where
+  pub own : Term
+  pub v : Value
+  pub named_so : IsNamedSo v own mark
+  pub lead : List ℕ
+  pub name : List ℕ
+  pub written : text ≡ lead ++ name
+  pub from_is : from ≡ length lead
+  pub prints : PrintsName (detail_of s) own name
+
 -- a nested name is that of a function or of data
 abbrev pub IsOwn : Purpose → Type 0
 IsOwn purposes.Type = ⊥
@@ -212,11 +223,15 @@ pub record IsLedFunction (detail : Detail) (extra : ℕ) (mark : Mark) (ts : Lis
   pub makes : (t rest : Term) → make (list t rest) ≡ function own (qualifiers (has_const mark)) (called_on mark) returned (parameters (list t rest))
   pub elements : PrintAllIn detail (types_of own) extra ts texts
 
--- They are those of a function in which a type is, from a place on.
-pub record HasEnclosing (detail : Detail) (mark : Mark) (from : ℕ) (ts : List Term) (texts : List ℕ) : Type 0 where
-  pub is_led : IsLedFunction detail 6 mark ts texts
+-- So they are, and this is so of the function's name after that text.
+pub record HasLed (detail : Detail) (extra : ℕ) (mark : Mark) (Leads : (own : Term) → (front name : List ℕ) → Type 0) (ts : List Term) (texts : List ℕ) : Type 0 where
+  pub is_led : IsLedFunction detail extra mark ts texts
   pub open is_led use *
-  pub from_is : from ≡ length front
+  pub leads : Leads own front name
+
+-- It is written from a place on, up to another one.
+abbrev pub IsEnclosing : (from to : ℕ) → (own : Term) → (front name : List ℕ) → Type 0
+IsEnclosing from to own front name = (from ≡ length front) × (to ≡ length (front ++ name))
 
 -- The name of a function whose address is an argument is written up to this place. The known arguments that it ends in are at their
 -- places in what is written up to there, and are those that types may name. It is in no object's name.
@@ -227,23 +242,13 @@ pub record IsAddressed (s : Symbol) (scope : Scope) (to : ℕ) (argument : Argum
   pub there : AreNamed (front ++ name) scope
   pub typed : is_object s.bytes ≡ false
 
--- So are the parameters so far.
-pub record HasAddressed (s : Symbol) (scope : Scope) (mark : Mark) (to : ℕ) (argument : Arguments) (ts : List Term) (texts : List ℕ) : Type 0 where
-  pub is_led : IsLedFunction (detail_of s) 3 mark ts texts
-  pub open is_led use *
-  pub is_addressed : IsAddressed s scope to argument own front name
+-- It is, and the function has a return type.
+pub record HasAddressedFront (s : Symbol) (scope : Scope) (text : List ℕ) (mark : Mark) (to : ℕ) (argument : Arguments) : Type 0 where
+  pub from : ℕ
+  pub has : HasNameSo s text mark from
+  pub open has use *
+  pub is_addressed : IsAddressed s scope to argument own lead name
   pub open is_addressed use *
-
--- The name alone is, and the function has a return type.
-pub record HasAddressedFront (s : Symbol) (scope : Scope) (mark : Mark) (to : ℕ) (argument : Arguments) : Type 0 where
-  pub front : List ℕ
-  pub name : List ℕ
-  pub own : Term
-  pub prints : PrintsName (detail_of s) own name
-  pub is_addressed : IsAddressed s scope to argument own front name
-  pub open is_addressed use *
-  pub v : Value
-  pub named_so : IsNamedSo v own mark
   pub returns : has_return_type own ≡ true
 
 -- the name of a function that has a return type, and its text
@@ -522,6 +527,13 @@ pub record FirstType (s : Symbol) : Type 0 where
   pub is_reference : Bool
   pub prints : Prints (detail_of s) own bytes is_reference
 
+-- A parameter comes of such a function, after these, and what is open waits for the function.
+abbrev pub AwaitsLed : (s : Symbol) → (extra : ℕ) → Mark → Arguments → (Leads : (own : Term) → (front name : List ℕ) → Type 0)
+    → (Within : (front : List ℕ) → (e : Term) → (at : ℕ) → State → Type 0) → List Opened → (text : List ℕ) → Type 0
+AwaitsLed s extra mark argument Leads Within os text =
+    (ts : List Term) × (texts : List ℕ) × (h : HasLed (detail_of s) extra mark Leads ts texts) × (text ≡ h.front ++ h.name ++ codes "(" ++ in_front_of_next ts texts)
+    × ((t : Term) (at : ℕ) (st : State) → Comes s os (tree t true) at st → ItemsGoOn s argument (Within h.front) h.make (ts ++ t ∷ []) at st)
+
 -- A type comes for the last of the open ones, after what is written, or the name of a function whose address is read. While the types of
 -- that function are read, nothing is named by what is open around them.
 abbrev pub Stands : (s : Symbol) → Scope → List Open → List Opened → (text : List ℕ) → Type 0
@@ -538,22 +550,15 @@ Stands s scope (opens.Parameters mark start argument ∷ rest) os text =
     × (text ≡ p.front ++ codes "(" ++ in_front_of_next ts texts)
     × ((t : Term) (at : ℕ) (st : State) → Comes s os (tree t true) at st → ParametersGoOn s argument p.lead p.make (ts ++ t ∷ []) at st)
 Stands s scope (opens.Enclosing mark from to ∷ rest) os text =
-    (ts : List Term) × (texts : List ℕ) × (h : HasEnclosing (detail_of s) mark from ts texts)
-    × (text ≡ h.front ++ h.name ++ codes "(" ++ in_front_of_next ts texts)
-    × ((t : Term) (at : ℕ) (st : State) → Comes s os (tree t true) at st
-    → ItemsGoOn s nowhere (TypeWithin s (outside scope rest (Stands s scope rest)) h.front) h.make (ts ++ t ∷ []) at st)
-    × (to ≡ length (h.front ++ h.name))
+    AwaitsLed s 6 mark nowhere (IsEnclosing from to) (TypeWithin s (outside scope rest (Stands s scope rest))) os text
 Stands s scope (opens.Address encoding ∷ rest) os text =
     (v : Value) (at : ℕ) (st : State) → Comes s os v at st → ItemsOf s encoding (AddressWithin s (outside scope rest (Stands s scope rest)) text) v at st
 Stands s scope (opens.AddressedFront mark to argument ∷ rest) os text =
-    (a : HasAddressedFront s scope mark to argument) × (text ≡ a.front ++ a.name)
+    (a : HasAddressedFront s scope text mark to argument)
     × ((t : Term) (at : ℕ) (st : State) → Comes s os (tree t true) at st
-    → ItemsGoOn s argument (AddressWithin s (outside no_scope rest (Stands s no_scope rest)) a.front) (λ l. encoding_of a.v l) (t ∷ []) at st)
+    → ItemsGoOn s argument (AddressWithin s (outside no_scope rest (Stands s no_scope rest)) a.lead) (λ l. encoding_of a.v l) (t ∷ []) at st)
 Stands s scope (opens.Addressed mark to argument ∷ rest) os text =
-    (ts : List Term) × (texts : List ℕ) × (h : HasAddressed s scope mark to argument ts texts)
-    × (text ≡ h.front ++ h.name ++ codes "(" ++ in_front_of_next ts texts)
-    × ((t : Term) (at : ℕ) (st : State) → Comes s os (tree t true) at st
-    → ItemsGoOn s argument (AddressWithin s (outside no_scope rest (Stands s no_scope rest)) h.front) h.make (ts ++ t ∷ []) at st)
+    AwaitsLed s 3 mark argument (IsAddressed s scope to argument) (AddressWithin s (outside no_scope rest (Stands s no_scope rest))) os text
 Stands s scope (opens.Lambda from nested ∷ rest) os text =
     (h : IsLed (detail_of s) nested from) × (ts : List Term) × (texts : List ℕ) × PrintAll (detail_of s) 0 ts texts
     × (text ≡ h.front ++ (h.bytes ++ codes "::{lambda(") ++ in_front_of_next ts texts)

@@ -1,6 +1,6 @@
 // Addresses of functions, which are arguments of a name.
 
-ghost use Rattle.std.specs.Prelude.{◌≡◌, ◌∷◌, [], true, codes};
+ghost use Rattle.std.specs.Prelude.{◌≡◌, true, codes};
 ghost use Rattle.std.specs.Option.{IfSome};
 ghost use Rattle.cpp_direct.specs.Names.{IsReadable};
 ghost use Rattle.cpp_direct.specs.declared.open.Mark.TheVariants as marks;

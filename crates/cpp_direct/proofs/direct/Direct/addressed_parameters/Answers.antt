@@ -1,28 +1,27 @@
-use Rattle.std.proofs.Common.{arith, refl, sym, ◌∙◌}
-use Rattle.cpp_direct.proofs.AddressesRead.{first-addressed}
-use Rattle.cpp_direct.proofs.FunctionsWithin.{void-shown, void-unshown}
+use Rattle.std.proofs.Common.{arith, refl, reverse, sym, ◌∙◌}
+use Rattle.cpp_direct.specs.declared.open.Open.TheVariants as opens
+use Rattle.cpp_direct.proofs.FunctionsWithin.{first-led, void-shown, void-unshown}
+use Rattle.cpp_direct.proofs.Scopes.{entry-scoped}
 use Rattle.cpp_direct.proofs.TypesRead.{there}
 use Rattle.cpp_direct.proofs.direct.Direct.addressed_parameters.Goals as goal
 
 pub addressed-requires : goal.addressed-requires
-addressed-requires g c =
-    let p = c.requires.awaits in
-    record {
-      read = void-unshown c.args.self.now _ c.args.mark _ p.kept p.is_led p.typed p.written p.goes
-          (there c.args.s.now c.args.self.now.at c.byte_at.result 118 c.if-byte_at-eq118.true (omega arith) c.byte_at.ensures) c.in_ok-self.ensures.1
-          (sym c.IS_BARE.ensures ∙ c.if-IS_BARE.true);
-    }
+addressed-requires g c = record {
+  read = void-unshown c.args.self.now _ c.requires.awaits c.requires.awaits.leads.typed
+      (there c.args.s.now c.args.self.now.at c.byte_at.result 118 c.if-byte_at-eq118.true (omega arith) c.byte_at.ensures) c.in_ok-self.ensures.1
+      (sym c.IS_BARE.ensures ∙ c.if-IS_BARE.true);
+}
 
 pub addressed_marked-requires : goal.addressed_marked-requires
-addressed_marked-requires g c =
-    let p = c.requires.awaits in
-    record {
-      read = void-shown c.args.self.now c.push_pair.new.self _ c.args.mark _ p.kept p.is_led p.typed p.written p.goes
-          (there c.args.s.now c.args.self.now.at c.byte_at.result 118 c.if-byte_at-eq118.true (omega arith) c.byte_at.ensures) c.in_ok-self.ensures.1
-          c.in_ok-push_pair.ensures (sym c.IS_BARE.ensures ∙ c.if-IS_BARE.false);
-    }
+addressed_marked-requires g c = record {
+  read = void-shown c.args.self.now c.push_pair.new.self _ c.requires.awaits c.requires.awaits.leads.typed
+      (there c.args.s.now c.args.self.now.at c.byte_at.result 118 c.if-byte_at-eq118.true (omega arith) c.byte_at.ensures) c.in_ok-self.ensures.1
+      c.in_ok-push_pair.ensures (sym c.IS_BARE.ensures ∙ c.if-IS_BARE.false);
+}
 
 pub returns : goal.returns
 returns g c =
-    first-addressed _ c.args.self.now c.push_byte.new.self _ c.args.mark c.args.to c.args.argument c.requires.awaits c.in_ok-push_byte.ensures
-    c.in_ok-push.ensures.items refl refl refl refl
+    let p = c.requires.awaits in
+    let entry = opens.Addressed c.args.mark c.args.to c.args.argument in
+    first-led _ c.args.self.now c.push_byte.new.self _ entry p p.leads c.in_ok-push_byte.ensures
+    c.in_ok-push.ensures.items refl refl refl refl (λ os h. h) (λ around h. entry-scoped p.scope around entry c.args.argument (reverse c.args.self.now.waiting.list.items) refl refl p.leads.named h)

@@ -1,6 +1,5 @@
 use Rattle.std.proofs.Common.{arith, refl}
-use Rattle.cpp_direct.specs.Symbol.{symbol_by}
-use Rattle.cpp_direct.proofs.EnclosingFunctions.{nest-within, source-within}
+use Rattle.cpp_direct.proofs.FunctionsWithin.{nest-within, source-within}
 use Rattle.cpp_direct.proofs.TypesRead.{there}
 use Rattle.cpp_direct.proofs.direct.Direct.begin_enclosing.Goals as goal
 
@@ -12,7 +11,6 @@ enclosing_named-requires-clause-named g c =
 
 pub nest_at-requires-clause-awaits : goal.nest_at-requires-clause-awaits
 nest_at-requires-clause-awaits g c =
-    let s = symbol_by g.G.Grammar.IS_WIDE g.G.Grammar.IS_BARE g.G.Grammar.IS_BRIEF c.args.s.now in
-    nest-within s c.args.self.now c.in_ok-self.field-0 c.in_ok-self-2.field-0 c.in_ok-place.place c.requires.awaits c.requires.letter
-    c.in_ok-self.ensures.1 (there s.bytes c.in_ok-self.field-0 c.byte_at.result 78 c.if-byte_at-ne78.false (omega arith) c.byte_at.ensures)
+    nest-within _ c.args.self.now c.in_ok-self.field-0 c.in_ok-self-2.field-0 c.in_ok-place.place c.requires.awaits c.requires.letter
+    c.in_ok-self.ensures.1 (there c.args.s.now c.in_ok-self.field-0 c.byte_at.result 78 c.if-byte_at-ne78.false (omega arith) c.byte_at.ensures)
     c.in_ok-self-2.ensures.1 c.in_ok-place.ensures

@@ -1,23 +1,18 @@
 use Rattle.std.proofs.Common.{arith}
-use Rattle.cpp_direct.specs.Symbol.{symbol_by}
 use Rattle.cpp_direct.proofs.TypesRead.{there}
 use Rattle.cpp_direct.proofs.UnscopedNames.{std-operator-unscoped, std-source-unscoped}
 use Rattle.cpp_direct.proofs.direct.Direct.begin_in_std.Goals as goal
 
 pub unscoped_named-requires-clause-named : goal.unscoped_named-requires-clause-named
 unscoped_named-requires-clause-named g c =
-    let s = symbol_by g.G.Grammar.IS_WIDE g.G.Grammar.IS_BARE g.G.Grammar.IS_BRIEF c.args.s.now in
     let read = c.in_ok-takes.ensures in
-    std-operator-unscoped s c.args.self.now c.push.new.self c.operator_name.new.self c.in_ok-self.field-0 c.in_ok-self-2.field-0 read.0 read.1
-    c.in_ok-takes.takes c.requires.awaits c.requires.letter c.in_ok-self.ensures.1
-    (there s.bytes c.in_ok-self.field-0 c.byte_at.result 116 c.if-byte_at-ne116.false (omega arith) c.byte_at.ensures) c.in_ok-self-2.ensures.1
+    std-operator-unscoped _ _ _ _ _ _ read.0 read.1 _ c.requires.awaits c.requires.letter c.in_ok-self.ensures.1
+    (there c.args.s.now c.in_ok-self.field-0 c.byte_at.result 116 c.if-byte_at-ne116.false (omega arith) c.byte_at.ensures) c.in_ok-self-2.ensures.1
     c.in_ok-push.ensures read.2 read.3 read.4 c.end-from.result c.end-from.ensures
 
 pub unscoped_named-requires-2-clause-named : goal.unscoped_named-requires-2-clause-named
 unscoped_named-requires-2-clause-named g c =
-    let s = symbol_by g.G.Grammar.IS_WIDE g.G.Grammar.IS_BARE g.G.Grammar.IS_BRIEF c.args.s.now in
     let read = c.in_ok-name.ensures in
-    std-source-unscoped s c.args.self.now c.push.new.self c.name.new.self c.in_ok-self.field-0 c.in_ok-self-2.field-0 read.0
-    c.requires.awaits c.requires.letter c.in_ok-self.ensures.1
-    (there s.bytes c.in_ok-self.field-0 c.byte_at.result 116 c.if-byte_at-ne116.false (omega arith) c.byte_at.ensures) c.in_ok-self-2.ensures.1
+    std-source-unscoped _ _ _ _ _ _ read.0 c.requires.awaits c.requires.letter c.in_ok-self.ensures.1
+    (there c.args.s.now c.in_ok-self.field-0 c.byte_at.result 116 c.if-byte_at-ne116.false (omega arith) c.byte_at.ensures) c.in_ok-self-2.ensures.1
     c.in_ok-push.ensures read.1 read.2 read.3 c.end-from.result c.end-from.ensures

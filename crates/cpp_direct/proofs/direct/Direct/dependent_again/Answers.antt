@@ -8,5 +8,4 @@ repeat-requires g c =
 
 pub returns : goal.returns
 returns g c =
-    dependent-again _ c.args.self.now c.repeat.new.self c.args.candidate c.in_ok-named.named
-    c.requires.again c.in_ok-named.ensures c.if-named-eq0.false c.in_ok-repeat.ensures
+    dependent-again _ _ _ _ _ c.requires.again c.in_ok-named.ensures c.if-named-eq0.false c.in_ok-repeat.ensures

@@ -1,7 +1,5 @@
-use Rattle.std.proofs.Common.{◌∷◌, [], arith, refl, subst}
-use Rattle.sym_core.specs.declared.NumberKind.TheVariants.{Digits}
-use Rattle.sym_core.specs.Token.{IsNumberToken}
-use Rattle.cpp_direct.specs.Holes.{StandsAt}
+use Rattle.std.proofs.Common.{arith, refl}
+use Rattle.cpp_direct.proofs.TypesRead.{there}
 use Rattle.cpp_direct.proofs.NamePlaces.{place-found, number-found, reads-begun}
 use Rattle.cpp_direct.proofs.direct.Direct.distance.Goals as goal
 
@@ -9,16 +7,13 @@ pub returns : goal.returns
 returns c =
     let s = c.args.s.now in
     let place = c.in_ok-place.place in
-    let h = place-found (IsNumberToken Digits) s c.args.self.now.at c.find_number.result c.ok.result place
+    let h = place-found _ s c.args.self.now.at c.find_number.result c.ok.result place
     c.find_number.ensures c.ok.ensures.value c.in_ok-place.was in
-    let found = number-found Digits s c.args.self.now.at place h (omega (arith, c.if-self-s.false)) in (
+    let found = number-found _ s c.args.self.now.at place h (omega (arith, c.if-self-s.false)) in (
       found.0,
       place.end,
       found.1,
-      subst (λ b. StandsAt s place.end (b ∷ [])) c.if-byte_at-ne95.false (c.byte_at.ensures (λ e. omega (arith, e, c.if-byte_at-ne95.false))),
+      there s place.end c.byte_at.result 95 c.if-byte_at-ne95.false (omega arith) c.byte_at.ensures,
       c.in_ok-self.ensures.1,
       reads-begun c.args.self.now _ refl refl refl refl refl refl,
     )
-
-pub find_number-requires-clause-fits : goal.find_number-requires-clause-fits
-find_number-requires-clause-fits c = c.requires.fits

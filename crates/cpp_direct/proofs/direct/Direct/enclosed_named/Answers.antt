@@ -1,4 +1,4 @@
-use Rattle.cpp_direct.proofs.EnclosingFunctions.{type-within}
+use Rattle.cpp_direct.proofs.FunctionsWithin.{type-within}
 use Rattle.cpp_direct.proofs.direct.Direct.enclosed_named.Goals as goal
 
 pub returns : goal.returns
@@ -6,6 +6,5 @@ returns g c =
     let read = c.in_ok-enclosed_piece.ensures in
     let told = c.in_ok-discriminator.ensures in
     let added = c.in_ok-add_candidate.ensures in
-    type-within _ c.args.self.now c.push_pair.new.self c.enclosed_piece.new.self c.discriminator.new.self
-    c.add_candidate.new.self c.args.from c.requires.awaits c.in_ok-push_pair.ensures read.0 read.1 read.2 read.3 read.4 told.0 told.1 told.2
+    type-within _ _ _ _ _ _ _ c.requires.awaits c.in_ok-push_pair.ensures read.0 read.1 read.2 read.3 read.4 told.0 told.1 told.2
     added.candidates added.text added.waiting added.scope added.at

@@ -1,4 +1,4 @@
-use Rattle.cpp_direct.proofs.EnclosingFunctions.{returned-awaits}
+use Rattle.cpp_direct.proofs.FunctionsWithin.{returned-awaits}
 use Rattle.cpp_direct.proofs.TypesRead.{some-text}
 use Rattle.cpp_direct.proofs.direct.Direct.enclosing_instance.Goals as goal
 

@@ -1,6 +1,4 @@
-use Rattle.std.proofs.Common.{ap, arith, length, subst, ◌+◌, ◌∙◌, ◌≡◌}
-use Rattle.cpp_direct.specs.Holes.{StandsAt}
-use Rattle.cpp_direct.specs.MidStep.{expansion_letters}
+use Rattle.std.proofs.Common.{arith, ◌∙◌, ◌≡◌}
 use Rattle.cpp_direct.specs.Symbol.{detail_by}
 use Rattle.cpp_direct.proofs.Ending.{parameter-expected}
 use Rattle.cpp_direct.proofs.DependentsRead.{expansion-read, nothing-read, pack-separated}
@@ -21,8 +19,8 @@ close-requires-clause-ended g c =
     let old = c.args.self.now in
     let pattern = c.in-Some.read.pattern in
     let number : c.in-Some.read.number ≡ c.args.argument.before = c.if-read-argument.false in
-    let stands = subst (λ k. StandsAt c.args.s.now old.at (expansion_letters pattern k)) number c.in-Some.ensures.stands in
-    let end = c.in-Some.ensures.end ∙ ap (λ k. old.at + length (expansion_letters pattern k)) number in
+    let stands = rw number at c.in-Some.ensures.stands in
+    let end = rw number at c.in-Some.ensures.end in
     nothing-read _ pattern old c.add_expansion.new.self c.args.is_first c.args.mark c.args.start c.args.argument c.requires.awaits
     c.requires.has_pack c.if-argument-eq0.true (omega (arith, number, c.in-Some.ensures.few)) stands
     c.add_expansion.ensures.text c.in_ok-add_expansion.ensures.candidates c.add_expansion.ensures.scope (c.add_expansion.ensures.at ∙ end)
@@ -36,8 +34,8 @@ close_parameters-requires-clause-ended g c =
     let ts = (a.is_function.names.1 c.requires.has_pack).elements in
     let pack = pack-separated _ old mid c.args.is_first c.args.mark c.args.start c.args.argument c.in-Some.read.end a c.requires.has_pack c.in_ok-separate-2.ensures in
     let number : c.in-Some.read.number ≡ c.args.argument.before = c.if-read-argument.false in
-    let stands = subst (λ k. StandsAt c.args.s.now old.at (expansion_letters pattern k)) number c.in-Some.ensures.stands in
-    let end = c.in-Some.ensures.end ∙ ap (λ k. old.at + length (expansion_letters pattern k)) number in
+    let stands = rw number at c.in-Some.ensures.stands in
+    let end = rw number at c.in-Some.ensures.end in
     expansion-read _ pattern old mid c.expand_all.new.self c.add_expansion-2.new.self c.args.is_first c.args.mark c.args.start c.args.argument c.in-Some.read.end a
     c.requires.has_pack (λ none. c.if-argument-eq0.false none) (omega (arith, number, c.in-Some.ensures.few)) stands end
     c.in_ok-separate-2.ensures (c.in_ok-expand_all.ensures (detail_by g.G.Grammar.IS_BARE g.G.Grammar.IS_BRIEF) ts pack)

@@ -1,5 +1,5 @@
 use Rattle.std.proofs.Common.{refl, sym, ◌∙◌}
-use Rattle.cpp_direct.proofs.FrontsRead.{front-bare, front-same, front-turned}
+use Rattle.cpp_direct.proofs.Ending.{front-bare, front-same, front-turned}
 use Rattle.cpp_direct.proofs.direct.Direct.front_ended.Goals as goal
 
 pub begin_parameters-requires-clause-awaits : goal.begin_parameters-requires-clause-awaits

@@ -1,5 +1,4 @@
-use Rattle.std.proofs.Common.{refl, sym, codes, ◌∷◌, [], ◌∙◌}
-use Rattle.cpp_grammar.specs.Texts.{look_up, builtin_texts}
+use Rattle.std.proofs.Common.{refl, sym, codes, ◌∙◌}
 use Rattle.cpp_direct.proofs.NamePlaces.{some-by, reads-written, reads-then, reads-of, reads-begun}
 use Rattle.cpp_direct.proofs.Elements.{plain-integer-read, cast-integer-read}
 use Rattle.cpp_direct.proofs.direct.Direct.integer.Goals as goal
@@ -14,7 +13,7 @@ returns-then-is_plain_letter c = some-by c.push.result c.push.ensures
 pub returns : goal.returns
 returns c =
     let bracket = reads-written c.args.self.now _ c.push-2.new.self _ (codes "(") c.in_ok-push.ensures refl refl refl refl refl refl refl in
-    let named = reads-written c.push-2.new.self _ c.push-3.new.self _ (look_up (c.byte_at-letter.result ∷ []) builtin_texts) c.in_ok-push-2.ensures
+    let named = reads-written c.push-2.new.self _ c.push-3.new.self _ _ c.in_ok-push-2.ensures
     refl refl refl refl refl refl c.builtin_text.ensures in
     let front = reads-then _ _ _ _ (codes ")") (reads-then _ _ _ _ _ bracket named) (reads-of _ _ _ c.in_ok-push-3.ensures) in
     some-by c.number-2.result c.number-2.ensures

@@ -1,24 +1,25 @@
-use Rattle.std.proofs.Common.{◌∷◌, ◌++◌, [], append_assoc, arith, codes, refl, sym, subst, ◌∙◌}
-use Rattle.cpp_direct.specs.Symbol.{symbol_by}
+use Rattle.std.proofs.Common.{◌+◌, ◌∷◌, ◌++◌, [], append_assoc, arith, codes, refl, sym, subst, ◌∙◌}
 use Rattle.cpp_direct.specs.HolesOfLocals.{lambda_digits, lambda_number}
 use Rattle.cpp_direct.specs.Written.{Reads}
-use Rattle.cpp_direct.proofs.LambdasRead.{lambda-stands, lambda-told}
+use Rattle.cpp_direct.proofs.LambdasRead.{lambda-told}
+use Rattle.cpp_direct.proofs.Moves.{stands-join, stands-moved}
 use Rattle.cpp_direct.proofs.NamePlaces.{reads-then, reads-written, some-by}
-use Rattle.cpp_direct.proofs.TypesRead.{there}
+use Rattle.cpp_direct.proofs.TypesRead.{then-there}
 use Rattle.cpp_direct.proofs.direct.Direct.lambda.Goals as goal
 
 pub returns : goal.returns
 returns g c =
-    let s = symbol_by g.G.Grammar.IS_WIDE g.G.Grammar.IS_BARE g.G.Grammar.IS_BRIEF c.args.s.now in
+    let s = c.args.s.now in
     let old = c.args.self.now in
-    some-by c.lambda_number.result c.lambda_number.ensures
-    (λ r. lambda-told s old c.lambda_number.new.self r.0 r.1
-    (lambda-stands s.bytes old.at c.in_ok-checked_add.field-0 c.in_ok-checked_add-2.field-0 c.in_ok-checked_add-3.field-0 c.push.new.self.at
-    (lambda_digits r.0 ++ 95 ∷ []) c.requires.letter
-    c.in_ok-checked_add.ensures.1 (there s.bytes c.in_ok-checked_add.field-0 c.byte_at-second.result 108 c.if-second-ne108.false (omega arith) c.byte_at-second.ensures)
-    c.in_ok-checked_add-2.ensures.1 (there s.bytes c.in_ok-checked_add-2.field-0 c.byte_at-third.result 118 c.if-third-ne118.false (omega arith) c.byte_at-third.ensures)
-    c.in_ok-checked_add-3.ensures.1 (there s.bytes c.in_ok-checked_add-3.field-0 c.byte_at-fourth.result 69 c.if-fourth-ne69.false (omega arith) c.byte_at-fourth.ensures)
-    (c.in_ok-push.ensures.at ∙ c.in_ok-self.ensures.1) r.2)
+    let second = then-there s (85 ∷ []) old.at c.in_ok-checked_add.field-0 c.byte_at-second.result 108 c.requires.letter c.in_ok-checked_add.ensures.1
+    c.if-second-ne108.false (omega arith) c.byte_at-second.ensures in
+    let third = then-there s (85 ∷ 108 ∷ []) old.at c.in_ok-checked_add-2.field-0 c.byte_at-third.result 118 second c.in_ok-checked_add-2.ensures.1
+    c.if-third-ne118.false (omega arith) c.byte_at-third.ensures in
+    let fourth = then-there s (85 ∷ 108 ∷ 118 ∷ []) old.at c.in_ok-checked_add-3.field-0 c.byte_at-fourth.result 69 third c.in_ok-checked_add-3.ensures.1
+    c.if-fourth-ne69.false (omega arith) c.byte_at-fourth.ensures in
+    some-by c.lambda_number.result c.lambda_number.ensures (λ r. lambda-told _ old c.lambda_number.new.self r.0 r.1
+    (stands-join s old.at (85 ∷ 108 ∷ 118 ∷ 69 ∷ []) (lambda_digits r.0 ++ 95 ∷ []) fourth
+    (stands-moved s c.push.new.self.at (old.at + 4) (lambda_digits r.0 ++ 95 ∷ []) (c.in_ok-push.ensures.at ∙ c.in_ok-self.ensures.1) r.2))
     (omega (arith, r.3, c.in_ok-push.ensures.at, c.in_ok-self.ensures.1))
     (subst (λ l. Reads old c.lambda_number.new.self l) (sym (append_assoc (codes "{lambda()#") (lambda_number r.0) (codes "}")))
     (reads-then old c.push.new.self c.lambda_number.new.self (codes "{lambda()#") (lambda_number r.0 ++ codes "}")

@@ -1,15 +1,13 @@
-use Rattle.std.proofs.Common.{◌+◌, ◌≤◌, ◌∷◌, [], None, Some, arith, refl}
+use Rattle.std.proofs.Common.{◌≤◌, ◌∷◌, [], None, Some, arith, refl}
 use Rattle.cpp_direct.proofs.NamePlaces.{reads-written, some-by}
-use Rattle.cpp_direct.proofs.Moves.{stands-join, stands-moved}
-use Rattle.cpp_direct.proofs.TypesRead.{there}
+use Rattle.cpp_direct.proofs.TypesRead.{then-there, there}
 use Rattle.cpp_direct.proofs.direct.Direct.lambda_number.Goals as goal
 
 pub returns-then-digit-eq95 : goal.returns-then-digit-eq95
 returns-then-digit-eq95 c =
     let s = c.args.s.now in
     let old = c.args.self.now in
-    some-by c.push.result c.push.ensures
-    (λ w. (
+    some-by c.push.result c.push.ensures (λ w. (
       None,
       tt,
       there s old.at c.byte_at-digit.result 95 c.if-digit-eq95.true (omega arith) c.byte_at-digit.ensures,
@@ -24,13 +22,11 @@ returns c =
     let digit = c.byte_at-digit.result in
     let low : 48 ≤ digit = omega (arith, c.if-digit-lt48.false) in
     let high : digit ≤ 55 = omega (arith, c.if-digit-gt55.false) in
-    some-by c.push_pair.result c.push_pair.ensures
-    (λ w. (
+    some-by c.push_pair.result c.push_pair.ensures (λ w. (
       Some digit,
       (low, high),
-      stands-join s old.at (digit ∷ []) (95 ∷ []) (c.byte_at-digit.ensures (λ e. omega (arith, e, low)))
-          (stands-moved s c.in_ok-self.field-0 (old.at + 1) (95 ∷ []) c.in_ok-self.ensures.1
-          (there s c.in_ok-self.field-0 c.byte_at.result 95 c.if-byte_at-ne95.false (omega arith) c.byte_at.ensures)),
+      then-there s (digit ∷ []) old.at c.in_ok-self.field-0 c.byte_at.result 95 (c.byte_at-digit.ensures (λ e. omega (arith, e, low))) c.in_ok-self.ensures.1
+          c.if-byte_at-ne95.false (omega arith) c.byte_at.ensures,
       omega (arith, w.at, c.in_ok-self-2.ensures.1, c.in_ok-self.ensures.1),
       reads-written old _ c.push_pair.new.self _ _ w refl refl refl refl refl refl refl,
     ))

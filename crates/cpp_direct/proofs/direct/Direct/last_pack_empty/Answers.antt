@@ -1,9 +1,6 @@
-use Rattle.std.proofs.Common.{false, true, ◌∷◌, [], arith, subst}
-use Rattle.cpp_direct.specs.Holes.{StandsAt}
-use Rattle.cpp_direct.specs.MidStep.{IsListEnded}
-use Rattle.cpp_direct.specs.Symbol.{symbol_by}
+use Rattle.std.proofs.Common.{false, ◌∷◌, [], arith}
 use Rattle.cpp_direct.proofs.Arguments.{known-passes, pack-ends-empty}
-use Rattle.cpp_direct.proofs.Moves.{stands-join}
+use Rattle.cpp_direct.proofs.TypesRead.{then-there}
 use Rattle.cpp_direct.proofs.direct.Direct.last_pack_empty.Goals as goal
 
 pub returns-then-byte_at-ne69 : goal.returns-then-byte_at-ne69
@@ -11,11 +8,6 @@ returns-then-byte_at-ne69 g c = known-passes _ c.args.self.now false c.args.last
 
 pub close_list-requires-clause-ended : goal.close_list-requires-clause-ended
 close_list-requires-clause-ended g c =
-    let s = symbol_by g.G.Grammar.IS_WIDE g.G.Grammar.IS_BARE g.G.Grammar.IS_BRIEF c.args.s.now in
-    let w = c.args.self.now in
-    let known = record c.args.known { has_pack = true; before = c.in_ok-before.before; elements = 0 } in
-    let ended = subst (λ b. StandsAt s.bytes c.in_ok-end.end (b ∷ [])) c.if-byte_at-ne69.false
-    (c.byte_at.ensures (λ e. omega (arith, e, c.if-byte_at-ne69.false))) in
-    subst (λ n. IsListEnded s (record w { at = n }) known) (omega (arith, c.in_ok-end.ensures, c.in_ok-self.ensures))
-    (pack-ends-empty s w c.args.last c.in_ok-before.before c.args.known c.requires.awaits c.in_ok-before.ensures.1
-    (stands-join s.bytes w.at (74 ∷ 69 ∷ []) (69 ∷ []) c.requires.letters (subst (λ k. StandsAt s.bytes k (69 ∷ [])) c.in_ok-end.ensures.1 ended)))
+    pack-ends-empty _ c.args.self.now c.in_ok-self.field-0 c.args.last c.in_ok-before.before c.args.known c.requires.awaits c.in_ok-before.ensures.1
+    (then-there c.args.s.now (74 ∷ 69 ∷ []) c.args.self.now.at c.in_ok-end.end c.byte_at.result 69 c.requires.letters c.in_ok-end.ensures.1
+    c.if-byte_at-ne69.false (omega arith) c.byte_at.ensures) (omega (arith, c.in_ok-end.ensures, c.in_ok-self.ensures))

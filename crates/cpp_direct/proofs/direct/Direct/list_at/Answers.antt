@@ -1,75 +1,51 @@
-use Rattle.std.proofs.Common.{◌∷◌, [], true, sym, ◌∙◌, arith, subst}
+use Rattle.std.proofs.Common.{◌∷◌, [], sym, ◌∙◌, arith}
 use Rattle.std.proofs.lemmas.Bool.{false≢true}
-use Rattle.cpp_direct.specs.Symbol.{symbol_by}
-use Rattle.cpp_direct.specs.declared.open.Step.TheVariants as steps
-use Rattle.cpp_direct.specs.WriterInvariant.{IsWriting}
-use Rattle.cpp_direct.specs.Holes.{StandsAt}
-use Rattle.cpp_direct.proofs.Moves.{stands-join}
+use Rattle.cpp_direct.proofs.TypesRead.{then-there, there}
 use Rattle.cpp_direct.proofs.Listed.{another-expected, first-expected, type-expected}
 use Rattle.cpp_direct.proofs.direct.Direct.list_at.Goals as goal
 use Rattle.cpp_direct.proofs.direct.Direct.list_at.Goals.{then-not-is_first+in_ok-push_pair, else-not-is_first}
 
 pub empty_pack-requires-clause-letters : goal.empty_pack-requires-clause-letters
 empty_pack-requires-clause-letters g c =
-    let s = c.args.s.now in
-    let at = c.args.self.now.at in
-    stands-join s at (74 ∷ []) (69 ∷ [])
-    (subst (λ b. StandsAt s at (b ∷ [])) c.if-byte-eq74.true (c.byte_at-byte.ensures (λ e. omega (arith, e, c.if-byte-eq74.true))))
-    (subst (λ k. StandsAt s k (69 ∷ [])) c.in_ok-checked_add.ensures.1
-    (subst (λ b. StandsAt s c.in_ok-checked_add.field-0 (b ∷ [])) c.if-behind-eq69.true
-    (c.byte_at-behind.ensures (λ e. omega (arith, e, c.if-behind-eq69.true)))))
+    then-there c.args.s.now (74 ∷ []) c.args.self.now.at c.in_ok-checked_add.field-0 c.byte_at-behind.result 69
+    (there c.args.s.now c.args.self.now.at c.byte_at-byte.result 74 c.if-byte-eq74.true (omega arith) c.byte_at-byte.ensures)
+    c.in_ok-checked_add.ensures.1 c.if-behind-eq69.true (omega arith) c.byte_at-behind.ensures
 
 pub literal-requires-clause-awaits : goal.literal-requires-clause-awaits
 literal-requires-clause-awaits g c = elim c.if-not-is_first.branch [
-  | then-not-is_first+in_ok-push_pair w ↦
-      another-expected _ c.args.self.now w.push_pair.new.self c.if-not-is_first.self c.args.is_first c.requires.writing w.if-not-is_first.true
-      w.in_ok-push_pair.ensures w.self-is
-  | else-not-is_first w ↦
-      first-expected _ c.args.self.now c.if-not-is_first.self c.args.is_first c.requires.writing w.if-not-is_first.false w.self-is
+  | then-not-is_first+in_ok-push_pair w ↦ another-expected _ _ _ _ _ c.requires.writing w.if-not-is_first.true w.in_ok-push_pair.ensures w.self-is
+  | else-not-is_first w ↦ first-expected _ _ _ _ c.requires.writing w.if-not-is_first.false w.self-is
 ]
 
 pub begin_pack-requires-clause-awaits : goal.begin_pack-requires-clause-awaits
 begin_pack-requires-clause-awaits g c = elim c.if-not-is_first.branch [
-  | then-not-is_first+in_ok-push_pair w ↦
-      another-expected _ c.args.self.now w.push_pair.new.self c.if-not-is_first.self c.args.is_first c.requires.writing w.if-not-is_first.true
-      w.in_ok-push_pair.ensures w.self-is
-  | else-not-is_first w ↦
-      first-expected _ c.args.self.now c.if-not-is_first.self c.args.is_first c.requires.writing w.if-not-is_first.false w.self-is
+  | then-not-is_first+in_ok-push_pair w ↦ another-expected _ _ _ _ _ c.requires.writing w.if-not-is_first.true w.in_ok-push_pair.ensures w.self-is
+  | else-not-is_first w ↦ first-expected _ _ _ _ c.requires.writing w.if-not-is_first.false w.self-is
 ]
 
 pub begin_level-requires-clause-awaits : goal.begin_level-requires-clause-awaits
 begin_level-requires-clause-awaits g c = elim c.if-not-is_first.branch [
-  | then-not-is_first+in_ok-push_pair w ↦
-      another-expected _ c.args.self.now w.push_pair.new.self c.if-not-is_first.self c.args.is_first c.requires.writing w.if-not-is_first.true
-      w.in_ok-push_pair.ensures w.self-is
-  | else-not-is_first w ↦
-      first-expected _ c.args.self.now c.if-not-is_first.self c.args.is_first c.requires.writing w.if-not-is_first.false w.self-is
+  | then-not-is_first+in_ok-push_pair w ↦ another-expected _ _ _ _ _ c.requires.writing w.if-not-is_first.true w.in_ok-push_pair.ensures w.self-is
+  | else-not-is_first w ↦ first-expected _ _ _ _ c.requires.writing w.if-not-is_first.false w.self-is
 ]
 
 pub returns-else-is_first-3 : goal.returns-else-is_first-3
 returns-else-is_first-3 g c = type-expected _ c.if-not-is_first.self (elim c.if-not-is_first.branch [
-  | then-not-is_first+in_ok-push_pair w ↦
-      another-expected _ c.args.self.now w.push_pair.new.self c.if-not-is_first.self c.args.is_first c.requires.writing w.if-not-is_first.true
-      w.in_ok-push_pair.ensures w.self-is
-  | else-not-is_first w ↦
-      first-expected _ c.args.self.now c.if-not-is_first.self c.args.is_first c.requires.writing w.if-not-is_first.false w.self-is
+  | then-not-is_first+in_ok-push_pair w ↦ another-expected _ _ _ _ _ c.requires.writing w.if-not-is_first.true w.in_ok-push_pair.ensures w.self-is
+  | else-not-is_first w ↦ first-expected _ _ _ _ c.requires.writing w.if-not-is_first.false w.self-is
 ])
 
 pub first_type-requires-clause-writing : goal.first_type-requires-clause-writing
 first_type-requires-clause-writing g c = elim c.if-not-is_first.branch [
   | then-not-is_first+in_ok-push_pair w ↦ absurd (false≢true (sym w.if-not-is_first.true ∙ c.if-is_first-3.true))
-  | else-not-is_first w ↦
-      subst (λ d. IsWriting (symbol_by g.G.Grammar.IS_WIDE g.G.Grammar.IS_BARE g.G.Grammar.IS_BRIEF c.args.s.now) d (steps.List true)) (sym w.self-is)
-      (subst (λ f. IsWriting (symbol_by g.G.Grammar.IS_WIDE g.G.Grammar.IS_BARE g.G.Grammar.IS_BRIEF c.args.s.now) c.args.self.now (steps.List f)) c.if-is_first-3.true c.requires.writing)
+  | else-not-is_first w ↦ rw w.self-is (rw c.if-is_first-3.true at c.requires.writing)
 ]
 
 pub first_pack-requires-clause-writing : goal.first_pack-requires-clause-writing
-first_pack-requires-clause-writing g c = subst (λ f. IsWriting (symbol_by g.G.Grammar.IS_WIDE g.G.Grammar.IS_BARE g.G.Grammar.IS_BRIEF c.args.s.now) c.args.self.now (steps.List f)) c.if-is_first.true c.requires.writing
+first_pack-requires-clause-writing g c = rw c.if-is_first.true at c.requires.writing
 
 pub first_literal-requires-clause-writing : goal.first_literal-requires-clause-writing
 first_literal-requires-clause-writing g c = elim c.if-not-is_first.branch [
   | then-not-is_first+in_ok-push_pair w ↦ absurd (false≢true (sym w.if-not-is_first.true ∙ c.if-is_first-2.true))
-  | else-not-is_first w ↦
-      subst (λ d. IsWriting (symbol_by g.G.Grammar.IS_WIDE g.G.Grammar.IS_BARE g.G.Grammar.IS_BRIEF c.args.s.now) d (steps.List true)) (sym w.self-is)
-      (subst (λ f. IsWriting (symbol_by g.G.Grammar.IS_WIDE g.G.Grammar.IS_BARE g.G.Grammar.IS_BRIEF c.args.s.now) c.args.self.now (steps.List f)) c.if-is_first-2.true c.requires.writing)
+  | else-not-is_first w ↦ rw w.self-is (rw c.if-is_first-2.true at c.requires.writing)
 ]

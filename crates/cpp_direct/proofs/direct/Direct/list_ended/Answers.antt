@@ -1,11 +1,4 @@
-use Rattle.std.proofs.Common.{refl, subst, sym}
-use Rattle.cpp_direct.specs.Symbol.{symbol_by}
-use Rattle.cpp_direct.specs.declared.direct.Direct.{Direct}
-use Rattle.cpp_direct.specs.declared.open.Open.TheVariants as opens
-use Rattle.cpp_direct.specs.declared.open.Step.TheVariants as steps
-use Rattle.cpp_direct.specs.WriterInvariant.{IsWriting, nowhere}
-use Rattle.cpp_direct.specs.MidStep.{IsListEnded}
-use Rattle.cpp_grammar.specs.Term.{nil}
+use Rattle.std.proofs.Common.{refl}
 use Rattle.cpp_direct.proofs.Listed.{last-found, waits-last, list-ends, no-pack, nothing-known, pack-ends}
 use Rattle.cpp_direct.proofs.TypesRead.{popped}
 use Rattle.cpp_direct.proofs.direct.Direct.list_ended.Goals as goal
@@ -13,16 +6,16 @@ use Rattle.cpp_direct.proofs.direct.Direct.list_ended.Goals as goal
 pub close_list-requires-clause-ended : goal.close_list-requires-clause-ended
 close_list-requires-clause-ended g c =
     let w = c.args.self.now in
-    subst (λ n. IsListEnded (symbol_by g.G.Grammar.IS_WIDE g.G.Grammar.IS_BARE g.G.Grammar.IS_BRIEF c.args.s.now) (record w { at = n }) nowhere) (sym c.in_ok-self.ensures.1)
-    (list-ends _ w c.args.is_first nowhere c.requires.writing c.requires.letter
+    rw c.in_ok-self.ensures.1
+    (list-ends _ w c.args.is_first _ c.requires.writing c.requires.letter
     (no-pack w c.in_ok-last.field-0.now (waits-last _ _ _ _ c.as_slice.ensures c.in_ok-last.ensures.value refl) c.in_default.not-Pack)
-    (nothing-known w.text.list.items c.requires.writing.is_before.1 nil))
+    (nothing-known _ _ _))
 
 pub returns-else-is_first : goal.returns-else-is_first
 returns-else-is_first g c =
     let old = c.args.self.now in
-    let w : Direct = record old { waiting = c.pop-open.new.self; at = c.in_ok-self.field-0 } in
-    let last = last-found old.waiting.list.items opens.Pack (waits-last _ _ _ _ c.as_slice.ensures c.in_ok-last.ensures.value c.in-Pack.is) in
-    pack-ends _ old w (subst (λ f. IsWriting (symbol_by g.G.Grammar.IS_WIDE g.G.Grammar.IS_BARE g.G.Grammar.IS_BRIEF c.args.s.now) old (steps.List f)) c.if-is_first.false c.requires.writing) c.requires.letter
+    let w = record old { waiting = c.pop-open.new.self; at = c.in_ok-self.field-0 } in
+    let last = last-found old.waiting.list.items _ (waits-last _ _ _ _ c.as_slice.ensures c.in_ok-last.ensures.value c.in-Pack.is) in
+    pack-ends _ old w (rw c.if-is_first.false at c.requires.writing) c.requires.letter
     last.0 last.1 refl refl refl c.in_ok-self.ensures.1
-    (popped old.waiting.list.items c.pop-open.new.self.list.items last.0 opens.Pack _ refl last.1 c.pop-open.ensures.rest)
+    (popped old.waiting.list.items c.pop-open.new.self.list.items last.0 _ _ refl last.1 c.pop-open.ensures.rest)

@@ -11,5 +11,4 @@ named_type-requires-clause-awaits g c =
     c.in_ok-push-2.ensures.items refl
 
 pub returns-then-not-is_enumerator_at : goal.returns-then-not-is_enumerator_at
-returns-then-not-is_enumerator_at g c =
-    literal-added _ c.args.self.now c.plain_literal.new.self c.requires.awaits c.in_ok-plain_literal.ensures
+returns-then-not-is_enumerator_at g c = literal-added _ _ _ c.requires.awaits c.in_ok-plain_literal.ensures

@@ -6,8 +6,7 @@ use Rattle.cpp_direct.specs.MidStep.{IsNameEnded}
 use Rattle.cpp_direct.specs.Written.{Lists, added_unless}
 use Rattle.cpp_direct.specs.MidStepOfLocals.{IsEnclosingNamed}
 use Rattle.cpp_direct.specs.MidStepOfAddresses.{IsAddressNamed}
-use Rattle.cpp_direct.proofs.AddressesRead.{name-addressed}
-use Rattle.cpp_direct.proofs.EnclosingFunctions.{name-within}
+use Rattle.cpp_direct.proofs.FunctionsWithin.{name-addressed, name-within}
 use Rattle.cpp_direct.proofs.Nesting.{arguments-noted, type-ended, name-comes}
 use Rattle.cpp_direct.proofs.direct.Direct.nest_ended.Goals as goal
 

@@ -1,5 +1,4 @@
 use Rattle.std.proofs.Common.{refl}
-use Rattle.cpp_direct.specs.MidStep.{argument_around, argument_entry}
 use Rattle.cpp_direct.proofs.Arguments.{argument-awaits}
 use Rattle.cpp_direct.proofs.TypesRead.{popped}
 use Rattle.cpp_direct.proofs.direct.Direct.note_argument.Goals as goal
@@ -9,6 +8,5 @@ returns g c =
     let p = c.requires.read in
     let w = c.args.self.now in
     argument-awaits _ w _ c.args._is_pack c.args.from c.end-to.result c.args.number c.args.known c.with.result c.args.is_reference p
-    (popped w.waiting.list.items c.pop-entry.new.self.list.items (argument_around c.args._is_pack p.owner p.rest)
-    (argument_entry c.args._is_pack c.args.from c.args.number c.args.known) _ refl p.open_is c.pop-entry.ensures.rest)
+    (popped w.waiting.list.items c.pop-entry.new.self.list.items _ _ _ refl p.open_is c.pop-entry.ensures.rest)
     refl refl refl refl c.end-to.ensures c.with.ensures.more c.with.ensures.rest

@@ -1,5 +1,5 @@
 use Rattle.std.proofs.Common.{refl}
-use Rattle.cpp_direct.proofs.Noted.{listed-noted}
+use Rattle.cpp_direct.proofs.Handed.{listed-noted}
 use Rattle.cpp_direct.proofs.direct.Direct.note_dependent.Goals as goal
 
 pub returns : goal.returns

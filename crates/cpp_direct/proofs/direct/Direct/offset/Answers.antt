@@ -1,5 +1,5 @@
-use Rattle.std.proofs.Common.{◌∷◌, [], true, false, arith, refl, subst}
-use Rattle.cpp_direct.specs.Holes.{StandsAt}
+use Rattle.std.proofs.Common.{true, false, arith, refl}
+use Rattle.cpp_direct.proofs.TypesRead.{there}
 use Rattle.cpp_direct.proofs.NamePlaces.{some-by, reads-begun}
 use Rattle.cpp_direct.proofs.Elements.{offset-read}
 use Rattle.cpp_direct.proofs.Moves.{stands-none}
@@ -9,9 +9,9 @@ pub returns-then-byte_at-eq110 : goal.returns-then-byte_at-eq110
 returns-then-byte_at-eq110 c =
     let s = c.args.s.now in
     let old = c.args.self.now in
-    let there = subst (λ b. StandsAt s old.at (b ∷ [])) c.if-byte_at-eq110.true (c.byte_at.ensures (λ e. omega (arith, e, c.if-byte_at-eq110.true))) in
     some-by c.distance.result c.distance.ensures
-    (λ read. offset-read s old (record old { at = c.in_ok-self.field-0 }) c.distance.new.self true there c.in_ok-self.ensures.1
+    (λ read. offset-read s old (record old { at = c.in_ok-self.field-0 }) c.distance.new.self true
+    (there s old.at c.byte_at.result 110 c.if-byte_at-eq110.true (omega arith) c.byte_at.ensures) c.in_ok-self.ensures.1
     (reads-begun old _ refl refl refl refl refl refl) read)
 
 pub returns : goal.returns

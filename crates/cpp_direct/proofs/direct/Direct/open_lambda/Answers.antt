@@ -1,24 +1,19 @@
-use Rattle.std.proofs.Common.{◌+◌, ◌∷◌, ◌++◌, [], ap, arith, ◌∙◌}
-use Rattle.cpp_direct.specs.declared.open.Open.TheVariants as opens
-use Rattle.cpp_direct.proofs.Moves.{stands-join, stands-moved}
+use Rattle.std.proofs.Common.{◌∷◌, [], arith}
 use Rattle.cpp_direct.proofs.NamePlaces.{some-by}
-use Rattle.cpp_direct.proofs.TypesRead.{there}
+use Rattle.cpp_direct.proofs.TypesRead.{then-there}
 use Rattle.cpp_direct.proofs.direct.Direct.open_lambda.Goals as goal
 
 pub returns : goal.returns
 returns c =
-    let s = c.args.s.now in
     let w = c.args.self.now in
     let one = c.in_ok-push.ensures in
-    some-by c.push-2.result c.push-2.ensures.items
-    (λ items. record {
+    some-by c.push-2.result c.push-2.ensures.items (λ items. record {
       short = c.are_numbers_short.ensures c.if-not-are_numbers_short.false;
-      stands = stands-join s w.at (85 ∷ []) (108 ∷ []) c.requires
-          (stands-moved s c.in_ok-self.field-0 (w.at + 1) (108 ∷ []) c.in_ok-self.ensures.1
-          (there s c.in_ok-self.field-0 c.byte_at.result 108 c.if-byte_at-ne108.false (omega arith) c.byte_at.ensures));
+      stands = then-there c.args.s.now (85 ∷ []) w.at c.in_ok-self.field-0 c.byte_at.result 108 c.requires c.in_ok-self.ensures.1 c.if-byte_at-ne108.false (omega arith)
+          c.byte_at.ensures;
       text = one.text;
       candidates = one.candidates;
       scope = one.scope;
       at = omega (arith, one.at, c.in_ok-self-2.ensures.1, c.in_ok-self.ensures.1);
-      waiting = items ∙ ap (λ v. v.list.items ++ opens.Lambda c.args.from c.args.nested ∷ []) one.waiting;
+      waiting = rw one.waiting at items;
     })

@@ -1,5 +1,5 @@
 use Rattle.std.proofs.Common.{true}
-use Rattle.cpp_direct.proofs.AddressesRead.{value-addressed, value-addressed-front}
+use Rattle.cpp_direct.proofs.FunctionsWithin.{value-addressed, value-addressed-front}
 use Rattle.cpp_direct.proofs.Listed.{waits-last}
 use Rattle.cpp_direct.proofs.direct.Direct.pass_dependent.Goals as goal
 

@@ -2,7 +2,7 @@ use Rattle.std.proofs.Common.{refl, subst}
 use Rattle.cpp_direct.specs.declared.open.Open.TheVariants as opens
 use Rattle.cpp_direct.specs.WriterInvariant.{TakesFunction}
 use Rattle.cpp_direct.proofs.Signatures.{passed-on, takes-as-element}
-use Rattle.cpp_direct.proofs.EnclosingFunctions.{parameter-read-within}
+use Rattle.cpp_direct.proofs.FunctionsWithin.{parameter-read-within}
 use Rattle.cpp_direct.proofs.Handed.{argument-read, parameter-read, special-read}
 use Rattle.cpp_direct.proofs.Listed.{waits-last}
 use Rattle.cpp_direct.proofs.direct.Direct.pass_element.Goals as goal

@@ -1,9 +1,4 @@
-use Rattle.std.proofs.Common.{◌+◌, ◌++◌, ◌∷◌, [], length, false, ◌∙◌, ap, subst, arith, inl, inr}
-use Rattle.cpp_direct.specs.Symbol.{symbol_by}
-use Rattle.cpp_direct.specs.Holes.{IsReferable, StandsAt}
-use Rattle.cpp_direct.specs.MidStep.{parameter_digits}
-use Rattle.cpp_direct.specs.WriterInvariant.{IsWriting}
-use Rattle.cpp_direct.specs.declared.open.Step.TheVariants as steps
+use Rattle.std.proofs.Common.{◌+◌, false, ◌∙◌, ap, arith, inl, inr}
 use Rattle.cpp_direct.proofs.Kept.{opened-so}
 use Rattle.cpp_direct.proofs.DependentsRead.{argument-inside, forwarded-done}
 use Rattle.cpp_direct.proofs.TypesRead.{reference-opened, there}
@@ -11,13 +6,13 @@ use Rattle.cpp_direct.proofs.direct.Direct.rvalue_at.Goals as goal
 
 pub returns-then-byte_at-ne84 : goal.returns-then-byte_at-ne84
 returns-then-byte_at-ne84 g c =
-    opened-so c.open_type.result steps.Type _ (IsWriting _ c.open_type.new.self) c.open_type.ensures
+    opened-so c.open_type.result _ _ _ c.open_type.ensures
     (reference-opened _ c.args.self.now c.open_type.new.self false c.end-from.result c.requires.awaits c.end-from.ensures c.requires.letter)
 
 pub returns-then-not-argument : goal.returns-then-not-argument
 returns-then-not-argument g c =
     let opened = c.open_type-then-not-argument in
-    opened-so opened.result steps.Type _ (IsWriting _ opened.new.self) opened.ensures
+    opened-so opened.result _ _ _ opened.ensures
     (reference-opened _ c.args.self.now opened.new.self false c.end-from.result c.requires.awaits c.end-from.ensures c.requires.letter)
 
 pub repeat-requires : goal.repeat-requires
@@ -28,19 +23,15 @@ repeat-requires g c =
 
 pub returns : goal.returns
 returns g c =
-    let s = symbol_by g.G.Grammar.IS_WIDE g.G.Grammar.IS_BARE g.G.Grammar.IS_BRIEF c.args.s.now in
     let old = c.args.self.now in
     let k = c.in_ok-read.read.number in
     let here = c.in_ok-behind.ensures.1 in
     let line = c.in_ok-checked_add.ensures.1 ∙ ap (λ n. n + 1) here in
-    let refers : IsReferable c.requires.awaits.kind = elim c.requires.awaits.referable [
-      | inl may ↦ may
-      | inr none ↦ absurd (none.1 c.requires.letter)
-    ] in
-    forwarded-done s old c.repeat.new.self c.add_candidate.new.self c.add_candidate-2.new.self c.in_ok-named.named k c.in_ok-argument.argument c.in_ok-read.read.end c.end-from.result
-    c.requires.awaits c.in_ok-read.ensures.few refers c.requires.letter
-    (subst (λ n. StandsAt s.bytes n (84 ∷ [])) here (there s.bytes c.in_ok-behind.behind c.byte_at.result 84 c.if-byte_at-ne84.false (omega arith) c.byte_at.ensures))
-    (subst (λ n. StandsAt s.bytes n (parameter_digits k ++ 95 ∷ [])) line c.in_ok-read.ensures.stands)
+    forwarded-done _ old c.repeat.new.self c.add_candidate.new.self c.add_candidate-2.new.self c.in_ok-named.named k c.in_ok-argument.argument c.in_ok-read.read.end c.end-from.result
+    c.requires.awaits c.in_ok-read.ensures.few
+    (elim c.requires.awaits.referable [ inl may ↦ may | inr none ↦ absurd (none.1 c.requires.letter) ]) c.requires.letter
+    (rw here at (there c.args.s.now c.in_ok-behind.behind c.byte_at.result 84 c.if-byte_at-ne84.false (omega arith) c.byte_at.ensures))
+    (rw line at c.in_ok-read.ensures.stands)
     c.in_ok-named.ensures c.in_ok-argument.ensures.is c.in_ok-argument.ensures.known c.if-named-eq0.false c.if-not-argument.false c.end-from.ensures
-    c.in_ok-repeat.ensures (c.in_ok-read.ensures.end ∙ ap (λ n. n + length (parameter_digits k ++ 95 ∷ [])) line)
+    c.in_ok-repeat.ensures (rw line at c.in_ok-read.ensures.end)
     c.in_ok-add_candidate.ensures c.in_ok-add_candidate-2.ensures

@@ -1,7 +1,3 @@
-use Rattle.std.proofs.Common.{◌+◌, ◌++◌, ◌∷◌, [], length, ◌∙◌, ap, subst}
-use Rattle.cpp_direct.specs.Symbol.{symbol_by}
-use Rattle.cpp_direct.specs.Holes.{StandsAt}
-use Rattle.cpp_direct.specs.MidStep.{parameter_digits}
 use Rattle.cpp_direct.proofs.DependentsRead.{argument-inside, parameter-done}
 use Rattle.cpp_direct.proofs.direct.Direct.template_parameter.Goals as goal
 
@@ -13,11 +9,8 @@ repeat-requires g c =
 
 pub returns : goal.returns
 returns g c =
-    let s = symbol_by g.G.Grammar.IS_WIDE g.G.Grammar.IS_BARE g.G.Grammar.IS_BRIEF c.args.s.now in
-    let k = c.in_ok-read.read.number in
-    parameter-done s c.args.self.now c.repeat.new.self c.add_argument.new.self c.in_ok-named.named k c.in_ok-argument.argument c.in_ok-read.read.end
-    c.requires.awaits c.in_ok-read.ensures.few c.requires.letter
-    (subst (λ n. StandsAt s.bytes n (parameter_digits k ++ 95 ∷ [])) c.in_ok-checked_add.ensures.1 c.in_ok-read.ensures.stands)
-    c.in_ok-named.ensures c.in_ok-argument.ensures.is c.in_ok-argument.ensures.known c.if-named-eq0.false
-    c.in_ok-repeat.ensures (c.in_ok-read.ensures.end ∙ ap (λ n. n + length (parameter_digits k ++ 95 ∷ [])) c.in_ok-checked_add.ensures.1)
-    c.in_ok-add_argument.ensures.candidates c.add_argument.ensures.text c.add_argument.ensures.open c.add_argument.ensures.scope c.add_argument.ensures.at
+    parameter-done _ _ _ _ _ c.in_ok-read.read.number _ c.in_ok-read.read.end c.requires.awaits c.in_ok-read.ensures.few
+    c.requires.letter (rw c.in_ok-checked_add.ensures.1 at c.in_ok-read.ensures.stands) c.in_ok-named.ensures
+    c.in_ok-argument.ensures.is c.in_ok-argument.ensures.known c.if-named-eq0.false c.in_ok-repeat.ensures
+    (rw c.in_ok-checked_add.ensures.1 at c.in_ok-read.ensures.end) c.in_ok-add_argument.ensures.candidates
+    c.add_argument.ensures.text c.add_argument.ensures.open c.add_argument.ensures.scope c.add_argument.ensures.at
