@@ -243,7 +243,7 @@ piece-named s old read from to kept t piece x n g named is_piece opening from_is
         names_class = λ e none. within-class t n.bytes (closed none) piece x is_piece;
       });
       named = named;
-      names_tagged = λ e none tag plain. within-tagged t n.bytes (closed none) piece x is_piece opening tag plain;
+      names_tagged = λ e none tag plain. within-tagged t n.bytes (closed none) piece x is_piece tag plain;
       unlisted = refl;
       no_instance = refl;
       no_return = refl;

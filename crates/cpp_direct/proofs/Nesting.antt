@@ -2,8 +2,9 @@
 use Rattle.sym_print.specs.declared.detail.Detail.{Detail}
 use Rattle.cpp_direct.proofs.Unmarked.{name-unmarked}
 use Rattle.cpp_direct.proofs.Scopes.{no-arguments, scoped-inside, has-member}
-use Rattle.std.proofs.Common.{◌≡◌, ◌≢◌, ℕ, ◌+◌, ◌-◌, ◌≤◌, List, [], ◌∷◌, ◌++◌, length, take, drop, reverse, slice_get, Bool, true, false, Some, refl, ap, sym, ◌∙◌, subst, arith, codes, append-nil, append_assoc, ◌&&◌, Ok}
-use Rattle.std.proofs.lemmas.Bool.{false≢true}
+use Rattle.std.proofs.Common.{◌≡◌, ◌≢◌, ℕ, ◌+◌, ◌-◌, ◌≤◌, List, [], ◌∷◌, ◌++◌, length, take, drop, reverse, slice_get, Bool, true, false, Some, refl, ap, sym, ◌∙◌, subst, arith, codes, append-nil, append_assoc, length-append, nat_eq, ◌&&◌, Ok}
+use Rattle.std.proofs.lemmas.Bool.{false≢true, eqb-true}
+use Rattle.std.proofs.lemmas.List.{take-append-drop}
 use Rattle.sym_core.specs.declared.NumberKind.TheVariants.{Seq36}
 use Rattle.sym_core.specs.Value.{counted_value}
 use Rattle.cpp_grammar.specs.declared.kind.Kind.{Kind}
@@ -22,18 +23,22 @@ use Rattle.cpp_direct.specs.WriterTypes.{Arguments, Candidate, Direct, Mark, Nes
 use Rattle.cpp_direct.specs.declared.open.Open.TheVariants as opens
 use Rattle.cpp_direct.specs.declared.open.Step.TheVariants as steps
 use Rattle.cpp_direct.specs.AllHoles.{AwaitsComponent, Comes, IsFirstRest, IsNameAt, IsRest, IsSeqAt, IsTagAt, NestGoesOn, Opened, SamePasses, StandsAt, unless_listed, with_candidate}
+use Rattle.cpp_direct.specs.Bytes.{is_abbreviated}
+use Rattle.cpp_direct.specs.Letters.{abbreviation_letters}
 use Rattle.cpp_direct.specs.Names.{tag_text}
 use Rattle.cpp_direct.specs.Prints.{Names, Prints, PrintsAs, NamesClass, opening_bracket}
+use Rattle.cpp_direct.specs.WrittenParts.{IsUnmarked, is_unmarked}
 use Rattle.cpp_direct.specs.WriterInvariant.{HasArguments, IsMadeIn, IsNaming, IsNest, IsNestScoped, IsNesting, IsOwn, IsScoped, Scope, Serves, IsWriting, below, is_type, nowhere, HasSingles, argument_of, Kept, IsNestSoFar}
 use Rattle.cpp_direct.specs.MidStep.{AwaitsNest, IsNestKnown, IsNestNamed, IsNameEnded, IsOperatorRead}
 use Rattle.cpp_direct.specs.Written.{Reads, added, added_unless, Lists, OpensArguments}
+use Rattle.cpp_direct.proofs.LettersTested.{each_passes, tested}
 use Rattle.cpp_direct.proofs.Moves.{alone-arguments, any-tail, expects-empty, stands-join, comes-moved}
 use Rattle.cpp_direct.proofs.Kept.{kept-grown, kept-read, kept-same, made-here, candidate-found, piece-found, nest-stays, value-comes, list-begins, type-named, kept-unless, kept-with, placed-last, placed-moved}
 use Rattle.cpp_direct.proofs.MovesOfLists.{arguments-open}
 use Rattle.cpp_direct.proofs.MovesOfTypes.{substituted-so}
 use Rattle.cpp_direct.proofs.NamedArguments.{again-substituted, named-here}
 use Rattle.cpp_direct.proofs.MovesOfNests.{nest-source, nest-abbreviation, nest-substitution, nest-std, component-awaits, component-outside, any-arguments, instance-arguments, nest-end, tag-follows}
-use Rattle.cpp_direct.proofs.PrintedNames.{as-name, source-prints, source-class, std-prints, std-class, abbreviation-prints}
+use Rattle.cpp_direct.proofs.PrintedNames.{as-name, source-prints, source-class, std-prints, std-class, abbreviation-prints, abbreviation-class}
 use Rattle.cpp_direct.proofs.PrintedNests.{tagged-as, std-tagged, again-tagged}
 use Rattle.cpp_direct.proofs.PrintedTypes.{prints-as}
 use Rattle.cpp_direct.proofs.TypesRead.{abbreviation-listed}
@@ -215,7 +220,7 @@ known-opens s old new n wide is_type here opening_ =
     (record { candidates = refl; text = refl; waiting = refl; nest = refl; scope = refl; at = refl; rounds = refl }) opening_ (
       nest-stays m.front m.bytes old.text.list.items (opening_bracket (detail_of s)) old.nest n.own m.is_nest,
       (λ own. absurd (not_own own)),
-      (λ e. absurd (false≢true (sym n.classless ∙ e))),
+      n.no_structor,
     ) m.written (
       inside m.around,
       begun.inner,
@@ -450,14 +455,14 @@ known-begins : (s : Symbol) (old new : Direct) (purpose : Purpose) (a : AwaitsNe
     → new.text.list.items ≡ old.text.list.items ++ bytes → new.candidates ≡ old.candidates → new.waiting ≡ old.waiting → new.has_scope ≡ old.has_scope
     → new.nest.purpose ≡ purpose → (new.nest.is_dependent ≡ true → IsNaming a.scope (reverse old.waiting.list.items))
     → IsNest (detail_of s) a.scope.names old.text.list.items bytes (old.text.list.items ++ bytes) new.nest t → new.nest.is_listed ≡ true
-    → new.nest.has_class ≡ false
+    → (new.nest.has_class ≡ true → is_structor t ≡ false)
     → NestGoesOn s Kind.NestRestOrEnd a.outer a.around t new.nest.is_listed new.at a.state → IsNestKnown s new
-known-begins s old new purpose a t bytes text_is candidates_are waiting_is scope_same purpose_is naming is_nest listed classless goes = record {
+known-begins s old new purpose a t bytes text_is candidates_are waiting_is scope_same purpose_is naming is_nest listed no_structor goes = record {
   kept = kept-grown s old new bytes text_is candidates_are scope_same a.kept;
   own = t;
   nesting = first-nesting s old new purpose a Kind.NestRestOrEnd t bytes text_is waiting_is purpose_is naming is_nest goes;
   listed = listed;
-  classless = classless;
+  no_structor = no_structor;
 }
 
 -- a nest whose class is written at these places
@@ -487,21 +492,39 @@ source-begins s old mid purpose name a is filled reads from to from_is to_is =
     (source-prints false name filled (name-unmarked s.bytes old.at name mid.at is)) (source-class false name filled (name-unmarked s.bytes old.at name mid.at is)))
     (nest-source s a.outer a.around old.at a.state name mid.at a.outside a.awaits is)
 
+-- the text of an abbreviation has five bytes before the name of a class
+letter-class : (letter : ℕ) → look_up (letter ∷ []) abbreviation_texts ≢ []
+    → (length (take 5 (look_up (letter ∷ []) abbreviation_texts)) ≡ 5) × IsUnmarked (drop 5 (look_up (letter ∷ []) abbreviation_texts))
+unfolding is_abbreviated look_up abbreviation_texts same_bytes each_passes
+letter-class letter there =
+    let is = abbreviation-listed letter there in (
+      eqb-true (length (take 5 (look_up (letter ∷ []) abbreviation_texts))) 5
+          (tested abbreviation_letters (λ b. nat_eq (length (take 5 (look_up (b ∷ []) abbreviation_texts))) 5) refl letter is),
+      tested abbreviation_letters (λ b. is_unmarked (drop 5 (look_up (b ∷ []) abbreviation_texts))) refl letter is,
+    )
+
 -- an abbreviation begins a nested name
 pub abbreviation-begins : (s : Symbol) (old mid : Direct) (purpose : Purpose) (letter : ℕ) → AwaitsNest s old purpose → StandsAt s.bytes old.at (83 ∷ [])
     → (letter ≢ 0 → StandsAt s.bytes (old.at + 1) (letter ∷ [])) → look_up (letter ∷ []) abbreviation_texts ≢ []
     → mid.text.list.items ≡ old.text.list.items ++ look_up (letter ∷ []) abbreviation_texts → mid.candidates ≡ old.candidates → mid.waiting ≡ old.waiting
-    → mid.has_scope ≡ old.has_scope → mid.at ≡ old.at + 1 + 1 → (from : ℕ) → from ≡ length old.text.list.items
-    → IsNestKnown s (record mid { nest = nest_of from from from purpose true false })
-unfolding look_up abbreviation_texts same_bytes
-abbreviation-begins s old mid purpose letter a here behind there text_is candidates_are waiting_is scope_same at_is from from_is =
-    let nest = nest_of from from from purpose true false in
+    → mid.has_scope ≡ old.has_scope → mid.at ≡ old.at + 1 + 1 → (from class_from to : ℕ) → from ≡ length old.text.list.items → class_from ≡ from + 5
+    → to ≡ length mid.text.list.items → IsNestKnown s (record mid { nest = nest_of from class_from to purpose true true })
+unfolding look_up abbreviation_texts same_bytes is_structor
+abbreviation-begins s old mid purpose letter a here behind there text_is candidates_are waiting_is scope_same at_is from class_from to from_is class_from_is to_is =
+    let nest = nest_of from class_from to purpose true true in
     let t : Term = abbreviation letter in
-    let bytes = look_up (letter ∷ []) abbreviation_texts in
+    let b = look_up (letter ∷ []) abbreviation_texts in
+    let front = old.text.list.items in
+    let bytes = take 5 b ++ drop 5 b in
+    let whole : b ≡ bytes = sym (take-append-drop 5 b) in
+    let written : mid.text.list.items ≡ front ++ bytes = text_is ∙ ap (λ l. front ++ l) whole in
+    let class = letter-class letter there in
     let some : letter ≢ 0 = λ e. there (ap (λ l. look_up (l ∷ []) abbreviation_texts) e) in
-    known-begins s old (record mid { nest = nest }) purpose a t bytes text_is candidates_are waiting_is scope_same refl (λ e. absurd (false≢true e))
-    (classless-nest a.scope.names old.text.list.items bytes nest t from_is from_is from_is refl (λ own. refl) (abbreviation-prints letter there))
-    refl refl (subst (λ n. NestGoesOn s Kind.NestRestOrEnd a.outer a.around t true n a.state) (omega (arith, at_is))
+    known-begins s old (record mid { nest = nest }) purpose a t bytes written candidates_are waiting_is scope_same refl (λ e. absurd (false≢true e))
+    (class-nest a.scope.names (front ++ bytes) front (take 5 b) (drop 5 b) nest t refl from_is
+    (omega (arith, class_from_is, from_is, class.0, length-append front (take 5 b))) (to_is ∙ ap length written) refl
+    (subst (λ l. Prints (detail_of s) t l false) whole (abbreviation-prints letter there)) (abbreviation-class letter there class.1))
+    refl (λ e. refl) (subst (λ n. NestGoesOn s Kind.NestRestOrEnd a.outer a.around t true n a.state) (omega (arith, at_is))
     (nest-abbreviation s a.outer a.around old.at a.state letter a.awaits (stands-join s.bytes old.at (83 ∷ []) (letter ∷ []) here (behind some))
     (abbreviation-listed letter there)))
 
@@ -544,7 +567,7 @@ reference-begins s old mid purpose digits k a here is ordered found_ plain typed
     known-begins s old (record mid { nest = nest }) purpose a c.tree it.bytes (text_is ∙ ap (λ l. old.text.list.items ++ l) piece.2) candidates_are
     waiting_is scope_same refl naming
     (classless-nest a.scope.names old.text.list.items it.bytes nest c.tree from_is from_is from_is refl (own-closed purpose k.is_dependent typed) prints)
-    refl refl (nest-substitution s a.outer a.around old.at a.state digits mid.at c a.awaits here is one.1
+    refl (λ e. absurd (false≢true e)) (nest-substitution s a.outer a.around old.at a.state digits mid.at c a.awaits here is one.1
     (named-again s a.around (reverse old.waiting.list.items) c a.state it.bytes k.is_dependent prints a.keeps.single scoped naming it.made_in))
 
 -- a name in std begins a nested one

@@ -1,5 +1,5 @@
 -- Names, types and arguments that are one text: source names, abbreviations, builtin types, booleans and integers.
-use Rattle.std.proofs.Common.{◌≡◌, ◌≢◌, refl, ap, Option, None, sym, ◌∙◌, ℕ, ◌+◌, ◌*◌, ◌≤◌, List, [], ◌∷◌, ◌++◌, length, Bool, true, false, arith, codes, length-append, append-nil, subst, nat_eq, ◌||◌, inl, inr, cond, append_assoc}
+use Rattle.std.proofs.Common.{◌≡◌, ◌≢◌, refl, ap, Option, None, sym, ◌∙◌, ℕ, ◌+◌, ◌*◌, ◌≤◌, List, [], ◌∷◌, ◌++◌, length, drop, Bool, true, false, arith, codes, length-append, append-nil, subst, nat_eq, ◌||◌, inl, inr, cond, append_assoc}
 use Rattle.std.proofs.lemmas.Bool.{eqb-true, false≢true}
 use Rattle.sym_print.specs.declared.detail.Detail.{Detail}
 use Rattle.sym_print.specs.Details.{has_arguments}
@@ -113,6 +113,22 @@ source-filled name filled = go _
 pub as-name : {detail : Detail} (t : Term) (b : List ℕ) (reference : Bool) → Prints detail t b reference → PrintsName detail t b
 as-name t b reference p = record { left_text = p.left_text; cost = p.cost }
 
+-- What names something, and is one text at the base, names its class by that.
+pub base-names : {detail : Detail} (t : Term) (b class : List ℕ) → PrintsName detail t b → ((c : Context) → parts_in detail c base t ≡ text class ∷ [])
+    → ((c : Context) → written_in detail c base t ≡ unmarked_parts (has_arguments detail) (parts_in detail c base t)) → IsUnmarked class
+    → NamesClass detail t class
+unfolding not_empty
+base-names {detail} t b class n base_is written plain = record {
+  base_text = λ c. text_shown detail base c t (text class ∷ []) (base_is c) (written c) ∙ alone_shown detail class plain;
+  base_cost = λ c. omega (
+    arith,
+    n.cost c,
+    ap length (n.left_text c),
+    cost_shown detail base c t (text class ∷ []) (base_is c) (written c),
+    first_cost_shown detail class [],
+  );
+}
+
 -- one of some letters, or one more
 at-letter : (P : ℕ → Type 0) (letter c : ℕ) (before : Bool) → (before ≡ true → P letter) → P c → (before || nat_eq letter c) ≡ true → P letter
 at-letter P letter c before others there e = go before refl e
@@ -140,19 +156,11 @@ source-prints {detail} internal name filled plain =
 
 -- It names its class by itself.
 pub source-class : {detail : Detail} (internal : Bool) (name : List ℕ) → name ≢ [] → IsUnmarked name → NamesClass detail (alone (source internal name)) (source_text name)
-unfolding parts_in left_parts right_parts base_parts piece_parts not_empty
-source-class {detail} internal name filled plain = let t = alone (source internal name) in record {
-  base_text = λ c. text_shown detail base c t (text (source_text name) ∷ []) refl refl ∙ alone_shown detail (source_text name) (source-unmarked name plain);
-  base_cost = λ c. omega (
-    arith,
-    source-filled name filled,
-    first_cost_shown detail (source_text name) [],
-    cost_shown detail left c t (text (source_text name) ∷ []) refl refl,
-    cost_shown detail right c t [] refl refl,
-    cost_shown detail base c t (text (source_text name) ∷ []) refl refl,
-    ap length (text_shown detail left c t (text (source_text name) ∷ []) refl refl ∙ alone_shown detail (source_text name) (source-unmarked name plain)),
-  );
-}
+unfolding parts_in base_parts piece_parts
+source-class internal name filled plain =
+    let t = alone (source internal name) in
+    let b = source_text name in
+    base-names t b b (as-name t b false (source-prints internal name filled plain)) (λ c. refl) (λ c. refl) (source-unmarked name plain)
 
 -- a source name as a piece
 pub piece-text : (d : Detail) (c : Context) (internal : Bool) (name : List ℕ) → IsUnmarked name → text_of (written_of d piece c (source internal name)) ≡ source_text name
@@ -241,20 +249,11 @@ std-operator-prints {detail} a b plain =
 
 -- It names its class without std.
 pub std-class : {detail : Detail} (internal : Bool) (name : List ℕ) → name ≢ [] → IsUnmarked name → NamesClass detail (in_std (source internal name)) (source_text name)
-unfolding parts_in right_parts base_parts piece_parts not_empty
-std-class {detail} internal name filled plain = let t = in_std (source internal name) in record {
-  base_text = λ c. text_shown detail base c t (text (source_text name) ∷ []) refl refl ∙ alone_shown detail (source_text name) (source-unmarked name plain);
-  base_cost = λ c. omega (
-    arith,
-    source-filled name filled,
-    first_cost_shown detail (source_text name) [],
-    std-cost detail c (source internal name) (source_text name) (piece-cost detail c internal name),
-    cost_shown detail right c t [] refl refl,
-    cost_shown detail base c t (text (source_text name) ∷ []) refl refl,
-    ap length (std-left detail c (source internal name) (source_text name) (piece-text detail c internal name plain)),
-    length-append (codes "std::") (source_text name),
-  );
-}
+unfolding parts_in base_parts piece_parts
+std-class internal name filled plain =
+    let t = in_std (source internal name) in
+    let b = codes "std::" ++ source_text name in
+    base-names t b (source_text name) (as-name t b false (std-prints internal name filled plain)) (λ c. refl) (λ c. refl) (source-unmarked name plain)
 
 -- An abbreviation prints its text.
 pub abbreviation-prints : {detail : Detail} (letter : ℕ) → look_up (letter ∷ []) abbreviation_texts ≢ []
@@ -265,6 +264,15 @@ abbreviation-prints {detail} letter filled =
     let b = look_up (letter ∷ []) abbreviation_texts in
     own-prints t (look_up (letter ∷ []) abbreviation_texts)
     (one-text-names t b (λ c. refl) (λ c. refl) (λ c. refl) (abbreviation-unmarked (letter ∷ [])) (length-filled b filled)) refl (λ scope. refl) refl (λ c. refl)
+
+-- It names its class by what follows `std::`.
+pub abbreviation-class : {detail : Detail} (letter : ℕ) → look_up (letter ∷ []) abbreviation_texts ≢ []
+    → IsUnmarked (drop 5 (look_up (letter ∷ []) abbreviation_texts))
+    → NamesClass detail (abbreviation letter) (drop 5 (look_up (letter ∷ []) abbreviation_texts))
+unfolding parts_in base_parts
+abbreviation-class letter there plain =
+    let b = look_up (letter ∷ []) abbreviation_texts in
+    base-names (abbreviation letter) b (drop 5 b) (as-name (abbreviation letter) b false (abbreviation-prints letter there)) (λ c. refl) (λ c. refl) plain
 
 void-text : (letter : ℕ) → letter ≡ 118 → look_up (letter ∷ []) builtin_texts ≡ codes "void"
 unfolding look_up builtin_texts same_bytes

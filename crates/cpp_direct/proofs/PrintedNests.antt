@@ -13,9 +13,9 @@ use Rattle.cpp_grammar.specs.Parts.{as_item, says, list_part, source_text, prefi
 use Rattle.cpp_direct.specs.Names.{is_angle, operator_text, tag_text}
 use Rattle.cpp_direct.specs.Prints.{written_of, Prints, PrintsIn, PrintsAs, Names, PrintsName, NamesClass, PrintAll, PrintAllIn, PrintAllAs, IsUnmarked, opening_byte, closing_byte, opening_bracket, closing_bracket, written_instance}
 use Rattle.cpp_direct.specs.WriterInvariant.{IsTail, list_with}
-use Rattle.cpp_direct.proofs.PrintedParts.{printed_by, shown_by, text_shown, cost_shown, alone_shown, first_cost_shown, writes_parts, text-append, cost-append, list-unmarked, first_shown}
+use Rattle.cpp_direct.proofs.PrintedParts.{printed_by, shown_by, text_shown, cost_shown, first_cost_shown, writes_parts, text-append, cost-append, list-unmarked, first_shown}
 use Rattle.cpp_direct.proofs.Unmarked.{source-unmarked, operator-unmarked}
-use Rattle.cpp_direct.proofs.PrintedNames.{besides, own-in, own-prints, source-filled, piece-text, piece-cost, operator-text, operator-cost, std-prints}
+use Rattle.cpp_direct.proofs.PrintedNames.{besides, own-in, own-prints, source-filled, piece-text, piece-cost, operator-text, operator-cost, std-prints, as-name, base-names}
 use Rattle.cpp_direct.proofs.PrintedLists.{list-text-before, list-cost-before, list-closed, list-packless, list-packless-as, all-in, all-as-in}
 use Rattle.cpp_direct.proofs.PrintedTypes.{prints-in, made-prints, made-given}
 use Rattle.cpp_grammar.specs.Between.{with_tag}
@@ -147,22 +147,9 @@ within-as detail names true t b prints p x is opening =
 -- It names its class without what it is in.
 pub within-class : {detail : Detail} (t : Term) (b : List ℕ) → Prints detail t b false → (p : Term) (x : List ℕ) → IsPiece detail p x
     → NamesClass detail (within t p) x
-unfolding parts_in right_parts base_parts not_empty
-within-class {detail} t b prints p x is = let w = within t p in record {
-  base_text = λ c. text_shown detail base c w (text x ∷ []) (is.base_is c t) refl ∙ alone_shown detail x is.plain;
-  base_cost = λ c. omega (
-    arith,
-    prints.cost c,
-    within-cost detail c left c t (prints.as_prefix c) p (is.within_is c t),
-    is.piece_cost c,
-    cost_shown detail right c w [] refl refl,
-    is.filled,
-    cost_shown detail base c w (text x ∷ []) (is.base_is c t) refl,
-    first_cost_shown detail x [],
-    ap length (within-text detail c left c t b (prints.left_text c) (prints.as_prefix c) p x (is.within_is c t) (is.piece_text c)),
-    length-append {A = ℕ},
-  );
-}
+unfolding parts_in base_parts
+within-class t b prints p x is =
+    base-names (within t p) (b ++ codes "::" ++ x) x (within-names t b prints p x is) (λ c. is.base_is c t) (λ c. refl) is.plain
 
 -- ## Constructors and destructors
 
@@ -385,45 +372,25 @@ tagged-as detail names true of_structor t b p tag plain =
     (omega (arith, (p.prints c given).some, length-append b (tag_text tag))) refl)
     p.packless refl refl (λ c. refl) refl
 
--- Where its class has this text at the base it names its class so.
-names-by : {detail : Detail} (of_structor : Bool) (t : Term) (b : List ℕ) → Prints detail t b false → (tag class : List ℕ) → IsUnmarked tag
-    → ((c : Context) → text_of (written_of detail base c (tagged of_structor t tag)) ≡ class)
-    → ((c : Context) → cost_of (written_of detail base c (tagged of_structor t tag)) ≤ 8 + 4 * length class)
-    → NamesClass detail (tagged of_structor t tag) class
-unfolding parts_in right_parts not_empty
-names-by {detail} of_structor t b p tag class plain base_text base_cost = record {
-  base_text = base_text;
-  base_cost = λ c. omega (
-    arith,
-    p.cost c,
-    base_cost c,
-    tagged-cost detail of_structor t tag c,
-    cost_shown detail right c (tagged of_structor t tag) [] refl refl,
-    ap length (tagged-left detail of_structor t b tag plain c (p.left_text c)),
-    tag-length b tag,
-  );
-}
-
 -- one in another name
 pub within-tagged : {detail : Detail} (t : Term) (b : List ℕ) → Prints detail t b false → (p : Term) (x : List ℕ) → IsPiece detail p x
-    → opening_text p ≡ codes "<" → (tag : List ℕ) → IsUnmarked tag
-    → NamesClass detail (with_tag (within t p) tag) x
+    → (tag : List ℕ) → IsUnmarked tag → NamesClass detail (with_tag (within t p) tag) x
 unfolding with_tag parts_in base_parts base_tagged not_empty
-within-tagged {detail} t b prints p x is opening tag plain =
+within-tagged t b prints p x is tag plain =
     let own : Term = within t p in
-    names-by (is_structor own) own (b ++ codes "::" ++ x) (within-prints t b prints p x is opening) tag x plain
-    (λ c. text_shown detail base c (tagged (is_structor own) own tag) (text x ∷ []) (is.tagged_is c t) refl ∙ alone_shown detail x is.plain)
-    (λ c. omega (arith, cost_shown detail base c (tagged (is_structor own) own tag) (text x ∷ []) (is.tagged_is c t) refl, first_cost_shown detail x []))
+    let bytes = b ++ codes "::" ++ x in
+    base-names (with_tag own tag) (bytes ++ tag_text tag) x (tagged-names (is_structor own) own bytes (within-names t b prints p x is) tag plain)
+    (λ c. is.tagged_is c t) (λ c. refl) is.plain
 
 -- one in std
 pub std-tagged : {detail : Detail} (internal : Bool) (name : List ℕ) → name ≢ [] → IsUnmarked name → (tag : List ℕ) → IsUnmarked tag
     → NamesClass detail (with_tag (in_std (source internal name)) tag) (source_text name)
 unfolding with_tag parts_in base_parts base_tagged own_piece without_tags is_structor piece_parts not_empty
-std-tagged {detail} internal name filled plain tag tag_plain =
+std-tagged internal name filled plain tag tag_plain =
     let own : Term = in_std (source internal name) in
-    names-by (is_structor own) own (codes "std::" ++ source_text name) (std-prints internal name filled plain) tag (source_text name) tag_plain
-    (λ c. text_shown detail base c (tagged (is_structor own) own tag) (text (source_text name) ∷ []) refl refl ∙ alone_shown detail (source_text name) (source-unmarked name plain))
-    (λ c. omega (arith, cost_shown detail base c (tagged (is_structor own) own tag) (text (source_text name) ∷ []) refl refl, first_cost_shown detail (source_text name) []))
+    let b = codes "std::" ++ source_text name in
+    base-names (with_tag own tag) (b ++ tag_text tag) (source_text name)
+    (tagged-names (is_structor own) own b (as-name own b false (std-prints internal name filled plain)) tag tag_plain) (λ c. refl) (λ c. refl) (source-unmarked name plain)
 
 -- one with a tag already, which names its class so, where at the base it has the same text at most at one more
 again-by : {detail : Detail} (of_structor : Bool) (t : Term) (b : List ℕ) → Prints detail t b false → (before tag class : List ℕ) → IsUnmarked before → IsUnmarked tag

@@ -254,7 +254,7 @@ pub record IsNestKnown (s : Symbol) (w : Direct) : Type 0 where
   pub own : Term
   pub nesting : IsNesting s scope Kind.NestRestOrEnd w own state
   pub listed : w.nest.is_listed ≡ true
-  pub classless : w.nest.has_class ≡ false
+  pub no_structor : w.nest.has_class ≡ true → is_structor own ≡ false
 
 -- A component of a nested name was read, or a name in std. Arguments may come after it, or tags.
 pub record IsNestNamed (s : Symbol) (w : Direct) : Type 0 where

@@ -15,7 +15,10 @@ use crate::open::{Arguments, Nest, Open, Purpose, Step};
 use crate::symbols::NOWHERE;
 use crate::tokens::byte_at;
 
-/// A first piece that is a candidate already, and names no class.
+/// How long `std::` is, with which the text of each abbreviation begins: the name of its class follows.
+const STD_LENGTH: u32 = 5;
+
+/// A first piece that is a candidate already, and of which no class is known.
 #[inline(always)]
 fn listed_nest(from: u32, purpose: Purpose, is_dependent: bool) -> Nest
     ensures { result ≡ record { from = from; class_from = from; class_to = from; purpose = purpose; is_listed = true; has_class = false; is_instance = false; is_dependent = is_dependent } }
@@ -119,7 +122,12 @@ impl Direct {
         }
         self.at = self.at.checked_add(1)?;
         self.push(text)?;
-        self.nest = listed_nest(from, purpose, false);
+        self.nest = Nest {
+            class_from: from.checked_add(STD_LENGTH)?,
+            class_to: self.text.end(),
+            has_class: true,
+            ..listed_nest(from, purpose, false)
+        };
         self.nest_known::<G>(s)
     }
 

@@ -8,6 +8,7 @@ use Rattle.cpp_direct.specs.Holes.{StandsAt, IsSeqAt}
 use Rattle.cpp_direct.specs.MidStep.{IsNestKnown}
 use Rattle.cpp_direct.specs.WriterInvariant.{argument_of, is_type}
 use Rattle.cpp_direct.specs.declared.open.Arguments.{Arguments}
+use Rattle.cpp_direct.specs.declared.open.Nest.{Nest}
 use Rattle.cpp_direct.proofs.Moves.{stands-join}
 use Rattle.cpp_direct.proofs.Kept.{candidate-inside}
 use Rattle.cpp_direct.proofs.Nesting.{reference-begins, abbreviation-begins}
@@ -65,9 +66,13 @@ nest_known-requires-2 g c =
     let letter = c.byte_at-letter.result in
     let wrote = c.in_ok-push.ensures in
     let text_is = c.abbreviation_text-text.ensures in
-    subst (λ n. IsNestKnown (symbol_by g.G.Grammar.IS_WIDE g.G.Grammar.IS_BARE g.G.Grammar.IS_BRIEF c.args.s.now) (record c.push.new.self { nest = n })) (sym c.listed_nest-self-2.ensures)
+    let class_from = c.in_ok-checked_add.field-0 in
+    let known : Nest → Type 0 = λ n. IsNestKnown (symbol_by g.G.Grammar.IS_WIDE g.G.Grammar.IS_BARE g.G.Grammar.IS_BRIEF c.args.s.now)
+    (record c.push.new.self { nest = record n { class_from = class_from; class_to = c.end.result; has_class = true } }) in
+    subst known (sym c.listed_nest.ensures)
     (abbreviation-begins _ old c.push.new.self c.args.purpose letter c.requires.awaits c.requires.letter
     (λ some. subst (λ n. StandsAt c.args.s.now n (letter ∷ [])) c.in_ok-self.ensures.1 (c.byte_at-letter.ensures some))
     (λ e. absurd (false≢true (c.if-is_empty.ensures ∙ ap (λ l. length l == 0) (text_is ∙ e))))
     (wrote.text ∙ ap (λ l. old.text.list.items ++ l) text_is) wrote.candidates wrote.waiting wrote.scope
-    (wrote.at ∙ c.in_ok-self-2.ensures.1 ∙ ap (λ n. n + 1) c.in_ok-self.ensures.1) c.end-from.result c.end-from.ensures)
+    (wrote.at ∙ c.in_ok-self-2.ensures.1 ∙ ap (λ n. n + 1) c.in_ok-self.ensures.1) c.end-from.result class_from c.end.result c.end-from.ensures
+    c.in_ok-checked_add.ensures.1 c.end.ensures)
