@@ -69,11 +69,29 @@ fn check_each<R: Print + AllocGlobal>(
     Ok(outcome)
 }
 
+/// What has the lists of both grammars. A function that has them as what they are is proved over all that they are made of.
+trait Held {
+    fn lists(&mut self) -> &mut AllLists;
+}
+
+impl Held for AllLists {
+    fn lists(&mut self) -> &mut AllLists {
+        self
+    }
+}
+
+/// Names the rows that don't hold, by their lines, over lists that are dropped then.
+fn check_over<R: Print + AllocGlobal, H: Held + Drop>(
+    rt: &R,
+    mut held: H,
+    rows: &[u8],
+) -> io::Result<Outcome> {
+    check_each(rt, held.lists(), rows)
+}
+
 /// Names the rows that don't hold, by their lines, over lists of their own.
-// apart from what may fail before and after it, where the lists would be dropped, too
 fn check_all<R: Print + AllocGlobal>(rt: &R, rows: &[u8]) -> io::Result<Outcome> {
-    let mut lists = AllLists::new(rt.alloc());
-    check_each(rt, &mut lists, rows)
+    check_over(rt, AllLists::new(rt.alloc()), rows)
 }
 
 /// Names the rows that don't hold, by their lines, and says whether all do.
