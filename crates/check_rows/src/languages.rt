@@ -29,6 +29,18 @@ impl AllLists {
     }
 }
 
+/// Asks the demangler that reads legacy Rust names, too, for a symbol's text, and answers what it does.
+fn ask_legacy<C: Cpp>(
+    verdict: &mut Verdict,
+    languages: Languages<C>,
+    lists: &mut Lists<C>,
+    row: Row<'_>,
+) -> Demangled
+    requires { FitsSymbol row.s.now }
+{
+    ask(verdict, &Legacy { languages }, lists, row)
+}
+
 /// Asks the demangler of both languages for a symbol's text, with C++ by a grammar, and answers what it does.
 fn ask_by<C: Cpp>(verdict: &mut Verdict, lists: &mut Lists<C>, row: Row<'_>) -> Demangled
     requires { FitsSymbol row.s.now }
@@ -39,7 +51,7 @@ fn ask_by<C: Cpp>(verdict: &mut Verdict, lists: &mut Lists<C>, row: Row<'_>) -> 
         cpp: C::grammar(),
     };
     if row.legacy {
-        return ask(verdict, &Legacy { languages }, lists, row);
+        return ask_legacy(verdict, languages, lists, row);
     }
     ask(verdict, &languages, lists, row)
 }

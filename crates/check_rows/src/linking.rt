@@ -9,6 +9,22 @@ use std::alloc::Global;
 use sym_core::Refusal;
 use sym_demangle::Linker;
 
+/// Whether a linker with nothing left to do, which took so many steps, says so again; or none.
+fn done_again<M: Calls>(linker: &mut Linker<M>, taken: usize) -> Result<Option<bool>, Refusal>
+    ensures { IfOk result (λ step. IfSome step (λ done. done ≡ true → linker.new.done ≡ true)) }
+{
+    if linker.steps() as usize == taken && linker.step()? {
+        Ok(Some(true))
+    } else {
+        Ok(None)
+    }
+}
+
+/// Whether a linker refuses for this reason again, and then took so many steps.
+fn refuses_again<M: Calls>(linker: &mut Linker<M>, refusal: Refusal, taken: usize) -> bool {
+    linker.step() == Err(refusal) && linker.steps() as usize == taken
+}
+
 /// One step of a linker that took so many: whether nothing is left to do, or none where it isn't counted, or answers otherwise
 /// when it is asked again.
 fn step<M: Calls>(linker: &mut Linker<M>, taken: usize) -> Result<Option<bool>, Refusal>
@@ -19,16 +35,9 @@ fn step<M: Calls>(linker: &mut Linker<M>, taken: usize) -> Result<Option<bool>, 
     }
     match linker.step() {
         Ok(false) => Ok(Some(false)),
-        Ok(true) => {
-            if linker.steps() as usize == taken && linker.step()? {
-                Ok(Some(true))
-            } else {
-                Ok(None)
-            }
-        }
+        Ok(true) => done_again(linker, taken),
         Err(refusal) => {
-            let again = linker.step() == Err(refusal);
-            if again && linker.steps() as usize == taken.saturating_add(1) {
+            if refuses_again(linker, refusal, taken.saturating_add(1)) {
                 Err(refusal)
             } else {
                 Ok(None)
@@ -77,6 +86,35 @@ fn reading_steps<M: Calls>(alloc: Global, s: &[u8]) -> Result<Option<usize>, Ref
     }
 }
 
+/// Whether a symbol's counts are so many rows and so many steps.
+fn has_counts<M: Calls>(symbol: &M::Symbol, rows: usize, steps: usize) -> bool {
+    let counts = M::counts(symbol);
+    counts.rows as usize == rows && counts.steps as usize == steps
+}
+
+/// A symbol of so many rows that is linked step by step, after a reader that took so many steps; none where a step isn't as it
+/// has to be, or the symbol's counts are others.
+fn linked_after<M: Calls>(
+    alloc: Global,
+    s: &[u8],
+    read: usize,
+    rows: usize,
+) -> Result<Option<M::Symbol>, Refusal>
+    requires { FitsSymbol s.now }
+{
+    let mut linker = linker_of::<M>(alloc, s)?;
+    let left = most_steps(s.len()).saturating_sub(read);
+    let Some(linked) = step_all(&mut linker, left)? else {
+        return Ok(None);
+    };
+    let symbol = linker.finish();
+    if has_counts::<M>(&symbol, rows, read.saturating_add(linked)) {
+        Ok(Some(symbol))
+    } else {
+        Ok(None)
+    }
+}
+
 /// A symbol that is read and linked step by step, each of which is counted; none where a step isn't as it has to be, or the
 /// symbol's counts are others.
 pub fn linked_in_steps<M: Calls>(alloc: Global, s: &[u8]) -> Result<Option<M::Symbol>, Refusal>
@@ -86,17 +124,5 @@ pub fn linked_in_steps<M: Calls>(alloc: Global, s: &[u8]) -> Result<Option<M::Sy
         return Ok(None);
     };
     let rows = rows_of::<M>(alloc, s)?;
-    let mut linker = linker_of::<M>(alloc, s)?;
-    let left = most_steps(s.len()).saturating_sub(read);
-    let Some(linked) = step_all(&mut linker, left)? else {
-        return Ok(None);
-    };
-    let symbol = linker.finish();
-    let counts = M::counts(&symbol);
-    let steps = read.saturating_add(linked);
-    if counts.rows as usize == rows && counts.steps as usize == steps {
-        Ok(Some(symbol))
-    } else {
-        Ok(None)
-    }
+    linked_after::<M>(alloc, s, read, rows)
 }

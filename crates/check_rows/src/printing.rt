@@ -2,11 +2,45 @@
 
 ghost use Rattle.std.specs.Prelude.{◌≡◌, OnOk};
 ghost use Rattle.std.specs.List.{All};
+ghost use Rattle.sym_print.specs.Printing.{entries};
 ghost use Rattle.sym_print.specs.declared.layout.Part.{Part};
 
 use std::alloc::{AllocError, Global};
 use sym_core::Refusal;
 use sym_print::{Item, Layout, Part, Printer, push_reversed};
+
+/// Whether a printer answers this again, and took so many steps before and after it.
+fn answers_again<Y: Layout>(
+    printer: &mut Printer<Y::Ctx>,
+    y: &Y,
+    answer: Result<bool, Refusal>,
+    taken: u64,
+) -> bool
+    requires { All (Y.may_come y.now) (entries printer.old) }
+    ensures { All (Y.may_come y.now) (entries printer.new) }
+{
+    printer.steps() == taken && printer.step(y) == answer && printer.steps() == taken
+}
+
+/// One step of a printer, the one of this number: whether nothing is left to do, or none where it isn't counted, or answers
+/// otherwise when it is asked again.
+fn step<Y: Layout>(
+    printer: &mut Printer<Y::Ctx>,
+    y: &Y,
+    number: u64,
+) -> Result<Option<bool>, Refusal>
+    requires { All (Y.may_come y.now) (entries printer.old) }
+    ensures { All (Y.may_come y.now) (entries printer.new) }
+{
+    let answer = printer.step(y);
+    if answer == Ok(false) {
+        return Ok((printer.steps() == number).then_some(false));
+    }
+    if !answers_again(printer, y, answer, number) {
+        return Ok(None);
+    }
+    Ok(Some(answer?))
+}
 
 /// The text of an item that is printed step by step, each of which is counted; none where a step isn't as it has to be, or there
 /// are more than the limit and one.
@@ -20,18 +54,11 @@ pub fn printed_in_steps<Y: Layout>(
 {
     let mut printer = Printer::new(alloc, root, limit)?;
     'steps: for taken in 1..=u64::from(limit).saturating_add(1) {
-        let step = printer.step(y);
-        if printer.steps() != taken {
-            return Ok(None);
+        match step(&mut printer, y, taken)? {
+            Some(true) => return Ok(Some(printer.into_text())),
+            Some(false) => {}
+            None => return Ok(None),
         }
-        if step == Ok(false) {
-            continue;
-        }
-        if printer.step(y) != step || printer.steps() != taken {
-            return Ok(None);
-        }
-        step?;
-        return Ok(Some(printer.into_text()));
     }
     Ok(None)
 }
@@ -76,6 +103,34 @@ fn take<Y: Layout>(
     }
 }
 
+/// Takes the parts that wait, and those of their items, until none is left. It answers whether none is, after at most as many of
+/// them as the limit.
+///
+/// # Errors
+///
+/// `TooLong` where they cost more than the limit, and `Memory`.
+fn take_all<Y: Layout>(
+    y: &Y,
+    waiting: &mut Vec<Part<Y::Ctx>>,
+    text: &mut Vec<u8>,
+    limit: u32,
+) -> Result<bool, Refusal>
+    requires { All (Y.may_come y.now) waiting.old.items }
+{
+    let mut left = limit as usize;
+    'parts: for _ in 0..=limit {
+        let Some(part) = waiting.pop() else {
+            return Ok(true);
+        };
+        let cost = take(y, part, waiting, text)?;
+        if left < cost {
+            return Err(Refusal::TooLong);
+        }
+        left -= cost;
+    }
+    Ok(false)
+}
+
 /// The text of an item, put together of the parts of items and the bytes of texts alone; none where there are more of them
 /// than the text costs.
 ///
@@ -93,16 +148,9 @@ pub fn put_together<Y: Layout>(
     let mut text = Vec::new(alloc);
     let mut waiting = Vec::new(alloc);
     waiting.push(Part::Sub(root))?;
-    let mut left = limit as usize;
-    'parts: for _ in 0..=limit {
-        let Some(part) = waiting.pop() else {
-            return Ok(Some(text));
-        };
-        let cost = take(y, part, &mut waiting, &mut text)?;
-        if left < cost {
-            return Err(Refusal::TooLong);
-        }
-        left -= cost;
+    if take_all(y, &mut waiting, &mut text, limit)? {
+        Ok(Some(text))
+    } else {
+        Ok(None)
     }
-    Ok(None)
 }

@@ -429,6 +429,27 @@ fn of_other(
     Ok(())
 }
 
+/// Asks what a row says of a legacy name, by each grammar of C++, or of no text and of no refusal.
+fn of_legacy_or_other(
+    verdict: &mut Verdict,
+    lists: &mut AllLists,
+    what: &[u8],
+    fields: &[&[u8]],
+) -> Result<(), AllocError> {
+    match what {
+        b"legacy text" => {
+            of_text(verdict, lists, fields, false, true);
+            of_text(verdict, lists, fields, true, true);
+        }
+        b"legacy refused" => {
+            of_refused(verdict, lists, fields, false, true);
+            of_refused(verdict, lists, fields, true, true);
+        }
+        _ => return of_other(verdict, lists, what, fields),
+    }
+    Ok(())
+}
+
 /// Asks each call what a row of these fields says.
 fn ask_fields(
     verdict: &mut Verdict,
@@ -444,15 +465,7 @@ fn ask_fields(
         b"refused" => of_refused(verdict, lists, fields, false, false),
         b"wide text" => of_text(verdict, lists, fields, true, false),
         b"wide refused" => of_refused(verdict, lists, fields, true, false),
-        b"legacy text" => {
-            of_text(verdict, lists, fields, false, true);
-            of_text(verdict, lists, fields, true, true);
-        }
-        b"legacy refused" => {
-            of_refused(verdict, lists, fields, false, true);
-            of_refused(verdict, lists, fields, true, true);
-        }
-        _ => return of_other(verdict, lists, what, fields),
+        _ => return of_legacy_or_other(verdict, lists, what, fields),
     }
     Ok(())
 }

@@ -1,5 +1,5 @@
 use Rattle.std.specs.List.{All}
-use Rattle.check_rows.proofs.printing.put_together.Given as goal
+use Rattle.check_rows.proofs.printing.take_all.Given as goal
 
 abbrev pub invariant-parts : goal.invariant-parts
 invariant-parts g l = All (g.Y.Layout.may_come l.y) l.waiting.items
