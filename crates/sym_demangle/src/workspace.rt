@@ -9,7 +9,7 @@ ghost use Rattle.sym_shape.specs.Reader.{AreFew};
 ghost use Rattle.sym_shape.specs.Tree.{AreRowsOf, AreStepsOf};
 ghost use Rattle.sym_shape.specs.declared.rule.Row.{Row};
 ghost use Rattle.sym_demangle.specs.Mangled.{IsReading, IsAnswer, StandsFor, IsRefused};
-ghost use Rattle.sym_demangle.specs.Standing.{AreStepsInAll, AreNodesOf};
+ghost use Rattle.sym_demangle.specs.Standing.{AreStepsInAll, AreLinkSteps, AreNodesOf, IsLinker};
 
 use crate::linker::finished;
 use crate::mangling::Mangling;
@@ -165,6 +165,41 @@ impl<M: Mangling> Workspace<M> {
         self.link()
     }
 
+    /// Goes over the rows of the symbol that the bytes are, whose shape was read.
+    #[inline(always)]
+    fn run(&mut self) -> Result<(), Refusal>
+        requires fits { FitsSymbol self.old.bytes.items }
+        requires rows { AreRowsOf M.mangled.table self.old.bytes.items self.old.shape.rows }
+        requires few { AreFew self.old.shape.steps (length self.old.shape.rows) (length self.old.bytes.items) }
+        ensures bytes { self.new.bytes ≡ self.old.bytes }
+        ensures shape { self.new.shape ≡ self.old.shape }
+        ensures linked { OnOk result (IsLinker M.mangled.table (M.Linked.view self.old.bytes.items) self.old.bytes.items self.old.shape.rows self.old.shape.steps
+            self.new.linked self.new.driver.steps self.new.driver.refused self.new.driver.next self.new.driver.frames.items self.new.driver.parts.items true) }
+        ensures refused { IfErr result (IsRefused M.mangled self.old.bytes.items) }
+    {
+        M::restart(&mut self.linked, &self.bytes)?;
+        self.driver.reset();
+        self.driver
+            .run(&mut self.linked, &self.bytes, self.shape.rows())?;
+        Ok(())
+    }
+
+    /// The symbol over whose rows the driver has gone, which takes the bytes.
+    #[inline(always)]
+    fn finish(&mut self) -> M::Symbol
+        requires { IsLinker M.mangled.table (M.Linked.view self.old.bytes.items) self.old.bytes.items self.old.shape.rows self.old.shape.steps
+            self.old.linked self.old.driver.steps self.old.driver.refused self.old.driver.next self.old.driver.frames.items self.old.driver.parts.items true }
+        ensures bytes { M.bytes_of result ≡ self.old.bytes.items }
+        ensures stands { StandsFor M.mangled self.old.bytes.items (Ok (M.whole_of result)) }
+        ensures rows { M.rows_of result ≡ length self.old.shape.rows }
+        ensures steps { M.steps_of result ≡ self.old.shape.steps + self.old.driver.steps }
+        ensures all_steps { AreLinkSteps M.mangled.table self.old.bytes.items self.old.driver.steps }
+        ensures nodes { AreNodesOf M.mangled.table M.are_nodes self.old.bytes.items (M.nodes_of result) }
+    {
+        let bytes = mem::replace(&mut self.bytes, Vec::new(self.alloc));
+        finished::<M>(bytes, &self.shape, &mut self.linked, &self.driver)
+    }
+
     /// Links the symbol that the bytes are, whose shape was read.
     fn link(&mut self) -> Result<M::Symbol, Refusal>
         requires fits { FitsSymbol self.old.bytes.items }
@@ -178,12 +213,8 @@ impl<M: Mangling> Workspace<M> {
         ensures nodes { IfOk result (λ symbol. AreNodesOf M.mangled.table M.are_nodes self.old.bytes.items (M.nodes_of symbol)) }
         ensures refused { IfErr result (IsRefused M.mangled self.old.bytes.items) }
     {
-        M::restart(&mut self.linked, &self.bytes)?;
-        self.driver.reset();
-        self.driver
-            .run(&mut self.linked, &self.bytes, self.shape.rows())?;
-        let bytes = mem::replace(&mut self.bytes, Vec::new(self.alloc));
-        Ok(finished::<M>(bytes, &self.shape, &mut self.linked, &self.driver))
+        self.run()?;
+        Ok(self.finish())
     }
 
     /// Reads a symbol, as the function `read` does.
