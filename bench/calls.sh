@@ -2,25 +2,37 @@
 # What a call of the static library takes for each symbol of a file, C++ or Rust, one a line, beside one of libiberty and of
 # LLVM, as far as they are installed (Debian's libiberty-dev, llvm-14-dev).
 #
-#   bench/calls.sh [-i] FILE
+#   bench/calls.sh [-i] [-l LIBRARY] FILE
 #
 # It prints nanoseconds of the processor; with -i the instructions, counted by valgrind, without those that read the file.
+# LIBRARY is measured in the place of the proved one, as dist/libsymdemangle.a is, which a C compiler made.
 set -eu
-counts=no
-if [ "${1-}" = -i ]; then
-    counts=yes
-    shift
-fi
-[ $# -eq 1 ] || { echo "usage: $0 [-i] FILE" >&2; exit 2; }
+usage() {
+    echo "usage: $0 [-i] [-l LIBRARY] FILE" >&2
+    exit 2
+}
+counts=no library=
+while getopts il: option; do
+    case $option in
+        i) counts=yes ;;
+        l) library=$(realpath "$OPTARG") ;;
+        *) usage ;;
+    esac
+done
+shift $((OPTIND - 1))
+[ $# -eq 1 ] || usage
 file=$(realpath "$1")
 cd "$(dirname "$0")/.."
 work=$(mktemp -d)
 trap 'rm -rf "$work"' EXIT
 
-[ -f crates/symdemangle/out/libsymdemangle.a ] || (cd crates/symdemangle && rt lib)
-tools/pack.sh "$work"
+if [ -z "$library" ]; then
+    [ -f crates/symdemangle/out/libsymdemangle.a ] || (cd crates/symdemangle && rt lib)
+    tools/pack.sh "$work"
+    library=$work/libsymdemangle.a
+fi
 flags="-std=c++17 -O2 -I callers/c"
-libraries="$work/libsymdemangle.a"
+libraries=$library
 if [ -f /usr/include/libiberty/demangle.h ]; then
     flags="$flags -DWITH_LIBIBERTY"
     libraries="$libraries -liberty"

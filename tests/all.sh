@@ -1,28 +1,32 @@
 #!/bin/bash
-# Runs the scripts that are run by hand, over the program and the library that are in crates/*/out, and prints a line for each:
+# Runs the other scripts over the programs and the library that are in crates/*/out, and prints a line for each:
 #
-#   tests/all.sh [-b] [-s SYMBOLS].. [-r REFERENCE] [-m MODULE] [NAME..]
+#   tests/all.sh [-b] [-q] [-s SYMBOLS].. [-r REFERENCE] [-m MODULE] [NAME..]
 #
-#   -b            takes program and library as they stand; without it rt is asked whether they are of these sources
+#   -b            takes programs and library as they are, as `.ci/run` does; without it rt is asked whether they are of these sources
+#   -q            leaves out what takes many minutes: packages for other machines, a browser
 #   -s SYMBOLS    a file of symbols, one a line; without one some of the installed libraries (bench/inputs.sh)
 #   -r REFERENCE  another implementation with the same command line, for compare.py and fuzz.py
 #   -m MODULE     another implementation as a module of Python, for costs.py
 #   NAME          the lines that are run, as `callers packages`; without names all
 #
 # A line is `ok`, `FAILED` with the end of what the script printed, or `left out` with what is missing. After it comes what the
-# script itself left out. The status is 1 where one failed, 2 where the program or the library isn't built.
+# script itself left out. The last lines are the names of all that failed or was left out, and how many there are of each. The status
+# is 1 where one failed, 2 where the programs or the library aren't built.
 set -u
 usage() {
-    echo "usage: $0 [-b] [-s SYMBOLS].. [-r REFERENCE] [-m MODULE] [NAME..]" >&2
+    echo "usage: $0 [-b] [-q] [-s SYMBOLS].. [-r REFERENCE] [-m MODULE] [NAME..]" >&2
     exit 2
 }
 as_built=no
+is_quick=no
 reference=
 module=
 symbols=()
-while getopts bs:r:m: option; do
+while getopts bqs:r:m: option; do
     case $option in
         b) as_built=yes ;;
+        q) is_quick=yes ;;
         s) symbols+=("$(realpath "$OPTARG")") ;;
         r) reference=$(realpath "$OPTARG") ;;
         m) module=$(realpath "$OPTARG") ;;
@@ -40,6 +44,7 @@ demangle=$PWD/crates/demangle/out/demangle
 library=crates/symdemangle/out/libsymdemangle.a
 check_rows=crates/check_rows/out/check_rows
 [ -x "$symfilt" ] || { echo "$0: no $symfilt: \`rt run -- _RNvC3foo3bar\` in crates/symfilt proves and builds it" >&2; exit 2; }
+[ -x "$demangle" ] || { echo "$0: no $demangle: \`rt run -- _RNvC3foo3bar\` in crates/demangle proves and builds it" >&2; exit 2; }
 [ -f "$library" ] || { echo "$0: no $library: \`rt lib\` in crates/symdemangle proves and builds it" >&2; exit 2; }
 work=$(mktemp -d)
 trap 'rm -rf "$work"' EXIT
@@ -61,7 +66,7 @@ fi
 grep -haE $'^(text|refused|press)\t' crates/check_rows/stdin | tr '\t' '\n' | grep -aE '^_(Z|R)[A-Za-z0-9_.$]+$' | sort -u >"$work/rows"
 cat "$work/rows" ${symbols[@]+"${symbols[@]}"} >"$work/symbols"
 
-ok=0 failed=0 out=0
+ok=0 failed=() out=()
 told() { # told STATE NAME WORDS
     printf '%-8s  %-14s  %s\n' "$1" "$2" "$3"
 }
@@ -72,39 +77,55 @@ try() { # try NAME COMMAND..
     local name=$1 start=$SECONDS
     chosen "$name" || return 0
     shift
+    # a script that hangs ends
+    [ "$(type -t "$1")" = function ] || set -- timeout 1800 "$@"
     if "$@" >"$work/log" 2>&1; then
         ok=$((ok + 1))
         told ok "$name" "$((SECONDS - start)) s: $(tail -n 1 "$work/log")"
     else
-        failed=$((failed + 1))
+        failed+=("$name")
         told FAILED "$name" "$((SECONDS - start)) s"
         tail -n 20 "$work/log" | sed 's/^/          /'
     fi
     grep -a "n't installed\|isn't tested" "$work/log" | sed 's/^/          left out in it: /'
+    grep -a '^notice: ' "$work/log" | sed 's/^/          /'
 }
 leave() { # leave NAME WHY
     chosen "$1" || return 0
-    out=$((out + 1))
+    out+=("$1")
     told 'left out' "$1" "$2"
+}
+long_ones() { # packages, other machines and the page, which take many minutes
+    if ! command -v dpkg >/dev/null; then
+        leave packages "dpkg isn't installed"
+    elif [ -n "$(git status --porcelain)" ]; then
+        leave packages "what isn't committed isn't released"
+    else
+        try packages tests/packages.sh
+    fi
+    try packaged tests/packaged.sh
+    if [ -f dist/symdemangle.c ]; then
+        try portable tests/portable.sh ${symbols[@]+"${symbols[@]}"}
+    else
+        leave portable "there is no dist: tools/portable/make.sh makes it"
+    fi
+    if command -v node >/dev/null && command -v wasm-opt >/dev/null; then
+        try web tests/web.sh -p "$symfilt" -d "$demangle"
+    else
+        leave web "node or binaryen's wasm-opt isn't installed"
+    fi
 }
 compared() { tests/compare.py "$@" <"$work/symbols"; }
 costs() { tools/pack.sh "$work/packed" && tests/costs.py "$work/packed/libsymdemangle.so" "$module" <"$work/symbols"; }
 
-try generated tools/check_generated.py
-if [ -x "$demangle" ]; then
-    try rows tests/vectors.py --demangle "$demangle" "$symfilt"
-    try texts tests/texts.py "$symfilt" "$demangle"
-    try tools tests/tools.sh "$demangle"
-else
-    try rows tests/vectors.py "$symfilt"
-    try texts tests/texts.py "$symfilt"
-    leave demangle "\`rt run\` in crates/demangle builds it"
-fi
-if [ -x "$demangle" ]; then
-    try readme tests/readme.py "$symfilt" "$demangle"
-else
-    try readme tests/readme.py "$symfilt"
-fi
+try written tools/write.py --check
+try stored tests/stored.sh
+try edges tests/edges.sh "$symfilt" "$demangle"
+try process tests/process.sh "$demangle"
+try rows tests/vectors.py --demangle "$demangle" "$symfilt"
+try texts tests/texts.py "$symfilt" "$demangle"
+try tools tests/tools.sh "$demangle"
+try readme tests/readme.py "$symfilt" "$demangle"
 try calls tests/fail_calls.sh "$symfilt"
 if [ -x $check_rows ]; then
     try allocations tests/refuse_allocations.sh "$symfilt" $check_rows
@@ -113,23 +134,29 @@ else
     leave allocations "of the library's calls: \`rt run\` in crates/check_rows builds the program that makes them"
 fi
 try colliding tests/colliding.py "$symfilt"
-if command -v llvm-dwarfdump >/dev/null; then
+cargo=$(command -v cargo)
+if [ -n "$cargo" ] && nm "$cargo" 2>/dev/null | grep -q '_ZN.*17h[0-9a-f]\{16\}E'; then
+    try legacy tests/legacy.py "$symfilt" "$cargo"
+else
+    leave legacy "cargo isn't installed, or has no legacy Rust names"
+fi
+if compgen -c llvm-dwarfdump >/dev/null; then
     try truth tests/truth.py "$symfilt"
 else
     leave truth "llvm-dwarfdump isn't installed"
 fi
 try callers tests/callers.sh ${symbols[@]+"${symbols[@]}"}
-if ! command -v dpkg >/dev/null; then
-    leave packages "dpkg isn't installed"
-elif [ -n "$(git status --porcelain)" ]; then
-    leave packages "what isn't committed isn't released"
+if [ $is_quick = yes ]; then
+    for name in packages packaged portable web; do
+        leave $name "takes many minutes: without -q"
+    done
 else
-    try packages tests/packages.sh
+    long_ones
 fi
-if command -v node >/dev/null && command -v wasm-opt >/dev/null; then
-    try web tests/web.sh -p "$symfilt"
+if [ $as_built = yes ]; then
+    try commands tests/commands.sh -n
 else
-    leave web "node or binaryen's wasm-opt isn't installed"
+    try commands tests/commands.sh
 fi
 if command -v parallel >/dev/null || /usr/bin/python3 -c 'import distributed' 2>/dev/null; then
     try scale tests/scale.sh "$symfilt"
@@ -149,6 +176,8 @@ if [ -n "$module" ]; then
 else
     leave costs "no other implementation as a module (-m)"
 fi
-echo "$ok ok, $failed failed, $out left out"
-[ $((ok + failed)) -gt 0 ] || { echo "$0: nothing has such a name" >&2; exit 2; }
-[ $failed -eq 0 ]
+[ ${#failed[@]} -eq 0 ] || echo "failed: ${failed[*]}"
+[ ${#out[@]} -eq 0 ] || echo "left out: ${out[*]}"
+echo "$ok ok, ${#failed[@]} failed, ${#out[@]} left out"
+[ $((ok + ${#failed[@]})) -gt 0 ] || { echo "$0: nothing has such a name" >&2; exit 2; }
+[ ${#failed[@]} -eq 0 ]

@@ -47,6 +47,11 @@ done
 for standard in 17 20; do
     run "symdemangle.hpp, c++$standard" c++ "-std=c++$standard" -Wpedantic "${checks[@]}" "${warnings[@]}" callers/c/calls.cc "${static[@]}"
 done
+for standard in 11 14; do
+    ! echo '#include <symdemangle.hpp>' | c++ "-std=c++$standard" -I "$prefix/include" -fsyntax-only -x c++ - 2>"$work/out"
+    grep -q 'error: #error "symdemangle.hpp needs C++17' "$work/out" && [ "$(grep -c error: "$work/out")" -eq 1 ] ||
+        { echo "symdemangle.hpp, c++$standard:"; cat "$work/out"; exit 1; }
+done
 if has clang 'the header under -Weverything'; then
     for language in c c++; do
         printf '#include <symdemangle.h>\n#include <symdemangle_arena.h>\n' |
@@ -57,6 +62,7 @@ fi
 run static cc -static -std=c11 "${warnings[@]}" callers/c/calls.c "${static[@]}"
 run 'refused' cc -std=c11 "${warnings[@]}" callers/c/out_of_memory.c "${static[@]}"
 cat "$work/out"
+run "the filter's memory" cc -std=c11 "${warnings[@]}" tests/callers/filter_memory.c "${static[@]}"
 
 # Names: an archive has none but the header's, the shared library has each with its version, and neither needs more than the C
 # library; the arena's needs nothing that allocates.
@@ -109,26 +115,50 @@ python3 -m venv "$work/venv"
 (cd "$work" && "$work/venv/bin/python" "$OLDPWD/callers/python/tests/calls.py" 2>"$work/out") || { cat "$work/out"; exit 1; }
 echo "python: $(basename "$work"/wheels/*.whl): ok"
 
-# The package for Go, which pkg-config finds the library for
+# The package for Go, as it was installed, over the library, which pkg-config finds
 if has go 'the package for Go' && has pkg-config 'the package for Go'; then
-    cp -r callers/go "$work/go"
+    cp -r "$prefix/share/symdemangle/go" "$work/go"
+    cp callers/go/symdemangle_test.go "$work/go"
     (cd "$work/go" && LD_LIBRARY_PATH=$lib PKG_CONFIG_PATH=$lib/pkgconfig GOCACHE=$work/gocache GOFLAGS=-mod=mod GOPROXY=off go test ./... >"$work/out" 2>&1) ||
         { cat "$work/out"; exit 1; }
-    [ -z "$(gofmt -l "$work/go")" ] || { echo "callers/go isn't in gofmt's layout"; exit 1; }
+    [ -z "$(gofmt -l callers/go)" ] || { echo "callers/go isn't in gofmt's layout"; exit 1; }
     echo 'go: ok'
 fi
 
-# The crate for cargo, as it was installed, without the kit
-if has cargo 'the crate for cargo'; then
+# The crate for cargo over the installed archive, as it was installed, without the kit. cargo wants to see the crate cc, which Debian
+# has as librust-cc-dev, though nothing is compiled.
+if has cargo 'the crate for cargo' && { compgen -G '/usr/share/cargo/registry/cc-*' >/dev/null || { echo "librust-cc-dev isn't installed: the crate for cargo isn't tested"; false; }; }; then
     cp -r "$prefix/share/symdemangle/rust" "$work/crate"
     cp -r callers/rust/tests "$work/crate/tests"
-    SYMDEMANGLE_DIR="$lib" CARGO_TARGET_DIR="$work/target" cargo test --quiet --offline --manifest-path "$work/crate/Cargo.toml"
-    SYMDEMANGLE_DIR="$work" CARGO_TARGET_DIR="$work/unlinked" cargo check --quiet --offline --features unlinked --manifest-path "$work/crate/Cargo.toml"
-    if SYMDEMANGLE_DIR="$work" CARGO_TARGET_DIR="$work/unlinked" cargo check --offline --manifest-path "$work/crate/Cargo.toml" 2>"$work/out"; then
+    crate() { cargo --config tests/callers/debian_crates.toml "$@" --offline --manifest-path "$work/crate/Cargo.toml"; }
+    SYMDEMANGLE_DIR="$lib" CARGO_TARGET_DIR="$work/target" crate test --quiet
+    SYMDEMANGLE_DIR="$work" CARGO_TARGET_DIR="$work/unlinked" crate check --quiet --features unlinked
+    if SYMDEMANGLE_DIR="$work" CARGO_TARGET_DIR="$work/unlinked" crate check 2>"$work/out"; then
         echo 'the crate builds without a library'; exit 1
     fi
     grep -q "there is no libsymdemangle.a in \[\"$work\"\]" "$work/out" || { cat "$work/out"; exit 1; }
 fi
+
+# A library that is older than its callers: what it doesn't know they do without
+older=$work/older
+mkdir -p "$older/parts"
+renamed=()
+for call in text texts filter count press string; do renamed+=(--redefine-sym "symdemangle_$call=later_$call"); done
+(cd "$older/parts" && ar x "$lib/libsymdemangle.a" && for part in *.o; do objcopy "${renamed[@]}" "$part"; done)
+cc -std=c99 -O1 -fPIC "${warnings[@]}" -Wpedantic -c tests/callers/older.c -o "$older/parts/older.o"
+ar rcs "$older/libsymdemangle.a" "$older"/parts/*.o
+cc -shared -o "$older/libsymdemangle.so.0.1" -Wl,-soname,libsymdemangle.so.0.1 -Wl,--version-script=callers/archive/names.map "$older"/parts/*.o
+run 'symdemangle.hpp, older' c++ -std=c++17 "${warnings[@]}" -DOLDER callers/c/calls.cc "$older/libsymdemangle.a"
+(cd "$work" && SYMDEMANGLE_LIBRARY=$older/libsymdemangle.so.0.1 "$work/venv/bin/python" "$OLDPWD/callers/python/tests/calls.py" older 2>"$work/out") ||
+    { cat "$work/out"; exit 1; }
+if [ -d "$work/go" ]; then
+    (cd "$work/go" && SYMDEMANGLE_OLDER=1 LD_LIBRARY_PATH=$older PKG_CONFIG_PATH=$lib/pkgconfig GOCACHE=$work/gocache GOFLAGS=-mod=mod GOPROXY=off go test ./... >"$work/out" 2>&1) ||
+        { cat "$work/out"; exit 1; }
+fi
+if [ -d "$work/crate" ]; then
+    SYMDEMANGLE_OLDER=1 SYMDEMANGLE_DIR="$older" CARGO_TARGET_DIR="$work/target" crate test --quiet --test calls
+fi
+echo 'an older library: ok'
 
 # Over a lent block: in a handler, without malloc; the texts are the usual library's
 arena=("$lib/libsymdemangle_arena.a")

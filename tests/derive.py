@@ -393,8 +393,10 @@ class Spelling:
         self.nodes[node._replace(byte=b"", parts=())] += 1
         self.out += node.byte
         began = len(self.named), self.packed
-        if node.production in ("Arguments", "NestArguments", "NestInstance", "NestNext") and not self.listed:
+        if node.production in ("Arguments", "HeldArguments", "NestArguments", "NestInstance", "NestNext") and not self.listed:
             self.append(around, began)
+            if node.production == "HeldArguments":
+                self.append_apart(around)
         self.types_around += node.kind in TYPES
         values = self.spell_parts(node, self.inside(node, around))
         self.types_around -= node.kind in TYPES
@@ -427,7 +429,7 @@ class Spelling:
                 self.listed = True
             elif node.production in TYPED and number == 0 and is_new(part):
                 self.append(around)
-            elif node.production in ("Holder", "OwnArguments") and number == 0 or node.production == "Inheriting" and number == 1:
+            elif node.production == "Holder" and number == 0 or node.production == "Inheriting" and number == 1:
                 self.append_apart(around)
             if self.table.parts[node.production][number] in self.table.argument_lists and node.kind not in self.table.argument_lists and node.production != "OnePack":
                 self.arguments = values[-1]

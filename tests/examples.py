@@ -9,6 +9,7 @@ is the source of a crate that the gate proves. What the headers' comments show i
 compiler isn't installed are named and left out. The status is 1 where one differs, 2 where there is none.
 """
 
+import glob
 import os
 import re
 import shutil
@@ -19,6 +20,8 @@ import tempfile
 TOP = os.path.join(os.path.dirname(os.path.abspath(__file__)), "..")
 PAGES = os.path.join(TOP, "docs", "callers")
 BLOCK = re.compile(r"^```(c|cpp|rust|python|go)( arena)?\n(.*?)^```\n(?:```text\n(.*?)^```\n)?", re.M | re.S)
+# cargo wants to see the crate cc, which Debian has as librust-cc-dev.
+CRATES = ["--config", os.path.join(TOP, "tests", "callers", "debian_crates.toml")] if glob.glob("/usr/share/cargo/registry/cc-*") else []
 NEEDS = {"c": "cc", "cpp": "c++", "rust": "cargo", "python": "python3", "go": "go"}
 # The fragments of the headers' comments as programs. A line that prints has what it prints after two slashes.
 FRAGMENT = """{includes}
@@ -78,9 +81,9 @@ class Examples:
             self.put("rust/src/main.rs", source)
             self.put("rust/Cargo.toml", f'[package]\nname = "example"\nversion = "0.1.0"\nedition = "2024"\n[dependencies]\nsymdemangle = {{ path = "{crate}" }}\n')
             env = {"SYMDEMANGLE_DIR": self.library, "CARGO_TARGET_DIR": os.path.join(self.folder, "target")}
-            return self.run(["cargo", "run", "--quiet", "--offline", "--manifest-path", os.path.join(self.folder, "rust", "Cargo.toml")], env=env)
+            return self.run(["cargo", *CRATES, "run", "--quiet", "--offline", "--manifest-path", os.path.join(self.folder, "rust", "Cargo.toml")], env=env)
         module = os.path.join(self.folder, "go")
-        shutil.copytree(os.path.join(TOP, "callers", "go"), os.path.join(module, "symdemangle"), dirs_exist_ok=True)
+        shutil.copytree(os.path.join(self.prefix, "share", "symdemangle", "go"), os.path.join(module, "symdemangle"), dirs_exist_ok=True)
         self.put("go/main.go", source)
         self.put("go/go.mod", "module example\n\ngo 1.19\n\nrequire symdemangle v0.0.0\n\nreplace symdemangle => ./symdemangle\n")
         env = {"GOPROXY": "off", "GOFLAGS": "-mod=mod", "GOCACHE": os.path.join(self.folder, "gocache")}
@@ -101,6 +104,9 @@ class Examples:
                 continue
             if not shutil.which(NEEDS[language]):
                 self.left_out.add(NEEDS[language])
+                continue
+            if language == "rust" and not CRATES:
+                self.left_out.add("librust-cc-dev")
                 continue
             told = self.ran(language, source, arena)
             self.tell(f"{name}, line {text.count(chr(10), 0, found.start()) + 1}", told.returncode == 0 and told.stdout == (wanted or ""), told)

@@ -15,10 +15,10 @@ fail() {
 version=$(sed -n 's/^#define SYMDEMANGLE_VERSION_[A-Z]* \([0-9]*\)$/\1/p' callers/c/symdemangle.h | paste -sd .)
 grep -q "^version = \"$version\"$" callers/rust/Cargo.toml || fail "callers/rust/Cargo.toml isn't of version $version"
 grep -q "^__version__ = \"$version\"$" callers/python/symdemangle/__init__.py || fail "callers/python isn't of version $version"
-grep -q "^\.TH SYMFILT 1 [0-9-]* \"symfilt $version\"" docs/symfilt.1 || fail "docs/symfilt.1 isn't of version $version"
+grep -q "^\.TH SYMFILT 1 [0-9-]* \"symdemangle $version\"" docs/symfilt.1 || fail "docs/symfilt.1 isn't of version $version"
 grep -q "^SYMDEMANGLE_${version%.*} {$" callers/archive/names.map || fail "callers/archive/names.map isn't of version $version"
 [ "$(sed -n 's/^## \([0-9.]*\).*/\1/p' CHANGELOG.md | head -n 1)" = "$version" ] || fail "CHANGELOG.md begins with another version than $version"
-grep -q "^\.TH DEMANGLE 1 [0-9-]* \"symfilt $version\"" docs/demangle.1 || fail "docs/demangle.1 isn't of version $version"
+grep -q "^\.TH DEMANGLE 1 [0-9-]* \"symdemangle $version\"" docs/demangle.1 || fail "docs/demangle.1 isn't of version $version"
 ! command -v mandoc >/dev/null || [ -z "$(mandoc -T lint docs/symfilt.1 docs/demangle.1 | tee /dev/stderr)" ] || fail 'the manual pages'
 if command -v mandb >/dev/null; then
     mkdir -p "$work/man/man1" && cp docs/symfilt.1 docs/demangle.1 "$work/man/man1" && mandb -q -c "$work/man"
@@ -32,13 +32,13 @@ DESTDIR=$root PREFIX=/opt/it LIBDIR=lib64 tools/install.sh
 [ "$(echo 'at _RNvC3foo3bar' | "$root/opt/it/bin/symfilt")" = 'at foo::bar' ] || fail 'the installed program'
 [ "$(echo 'at _RNvC3foo3bar' | "$root/opt/it/bin/demangle")" = 'at foo::bar' ] || fail 'the installed demangle'
 for file in bin/symfilt bin/demangle share/man/man1/demangle.1 include/symdemangle.h lib64/libsymdemangle.a lib64/libsymdemangle.so lib64/pkgconfig/symdemangle.pc \
-    lib64/cmake/symdemangle/symdemangleConfig.cmake share/man/man1/symfilt.1 share/doc/symfilt/LICENSE-MIT \
-    share/doc/symfilt/LICENSE-APACHE share/doc/symfilt/docs/GRAMMARS.md share/doc/symfilt/docs/callers/C.md \
+    lib64/cmake/symdemangle/symdemangleConfig.cmake share/man/man1/symfilt.1 share/doc/symdemangle/LICENSE-MIT \
+    share/doc/symdemangle/LICENSE-APACHE share/doc/symdemangle/docs/GRAMMARS.md share/doc/symdemangle/docs/callers/C.md \
     share/symdemangle/rust/Cargo.toml share/symdemangle/python/symdemangle/__init__.py share/symdemangle/go/symdemangle.go; do
     [ -s "$root/opt/it/$file" ] || fail "$file wasn't installed"
 done
 ! grep -rqF "$work" "$root" || fail 'an installed file names the folder that it was built in'
-dead=$(cd "$root/opt/it/share/doc/symfilt" && find . -name '*.md' | while read -r page; do
+dead=$(cd "$root/opt/it/share/doc/symdemangle" && find . -name '*.md' | while read -r page; do
     grep -o '](\([^)#]*\)[#)]' "$page" | sed 's/^](//; s/[#)]$//' | grep -v '^$\|^[a-z]*:' |
         while read -r to; do [ -e "$(dirname "$page")/$to" ] || echo "$page: $to"; done
 done)
@@ -50,14 +50,15 @@ for wrong in '--what' 'relative'; do
     if tools/install.sh "$wrong" 2>/dev/null; then fail "tools/install.sh takes $wrong"; fi
 done
 
-# The release, twice, at different times and from different folders.
+# The release, twice, at different times and from different folders. Whether dist/ is of this tree is for tests/portable.sh to say.
+export OLD_DIST=passes
 tools/release.sh "$work/one" >/dev/null
 sleep 1
 (umask 077 && TZ=Asia/Tokyo tools/release.sh "$work/another/one" >/dev/null)
 diff -r "$work/one" "$work/another/one" || fail 'the release has other bytes the second time'
 (cd "$work/one" && sha256sum --quiet -c SHA256SUMS)
 mkdir "$work/tar" && tar -C "$work/tar" --strip-components=1 -xzf "$work"/one/*.tar.gz
-dpkg-deb -x "$work"/one/*.deb "$work/deb"
+for package in "$work"/one/*.deb; do dpkg-deb -x "$package" "$work/deb"; done
 for program in "$work/tar/bin/symfilt" "$work/deb/usr/bin/symfilt" "$work/tar/bin/demangle" "$work/deb/usr/bin/demangle"; do
     [ "$("$program" _Z1fv)" = 'f()' ] || fail "$program"
 done
@@ -78,21 +79,22 @@ if command -v pkg-config >/dev/null; then
     LD_LIBRARY_PATH=$work/deb/usr/lib/x86_64-linux-gnu "$work/calls" >/dev/null || fail 'pkg-config'
 fi
 
-# The Debian package is installed into a root of its own and removed again.
+# The Debian packages are installed into a root of their own and removed again.
 if [ "$(id -u)" -eq 0 ]; then
     mkdir -p "$work/root2/var/lib/dpkg/updates" "$work/root2/var/lib/dpkg/info" && touch "$work/root2/var/lib/dpkg/status"
     inside() { dpkg --root="$work/root2" --log=/dev/null --force-depends --force-script-chrootless "$@" >"$work/out" 2>&1 || fail "dpkg $1: $(cat "$work/out")"; }
     inside -i "$work"/one/*.deb
-    [ "$("$work/root2/usr/bin/symfilt" _Z1fv)" = 'f()' ] || fail 'the package that was installed'
-    inside -V symfilt
-    [ ! -s "$work/out" ] || fail "files of the package that aren't as it says: $(cat "$work/out")"
-    inside -P symfilt
+    [ "$("$work/root2/usr/bin/symfilt" _Z1fv)" = 'f()' ] || fail 'the packages that were installed'
+    inside -V libsymdemangle0.1 libsymdemangle-dev symdemangle
+    [ ! -s "$work/out" ] || fail "files of the packages that aren't as they say: $(cat "$work/out")"
+    inside -P libsymdemangle0.1 libsymdemangle-dev symdemangle
     left=$(cd "$work/root2" && find . -path ./var/lib/dpkg -prune -o -not -type d -print)
-    [ -z "$left" ] || fail "the package left behind: $left"
+    [ -z "$left" ] || fail "the packages left behind: $left"
 fi
-dpkg-deb -I "$work"/one/*.deb | sed -n 's/^ \(Package\|Version\|Depends\)/\1/p'
+for package in "$work"/one/*.deb; do dpkg-deb -I "$package" | sed -n 's/^ \(Package\|Version\|Depends\)/\1/p'; done
 if command -v lintian >/dev/null; then
-    lintian --allow-root --fail-on error --suppress-tags bogus-mail-host,bogus-mail-host-in-debian-changelog "$work"/one/*.deb 2>/dev/null || fail 'lintian finds errors'
+    lintian --allow-root --fail-on error,warning --suppress-tags bogus-mail-host,bogus-mail-host-in-debian-changelog,initial-upload-closes-no-bugs \
+        "$work"/one/*.deb 2>/dev/null || fail 'lintian finds errors or warnings'
 fi
 
 # What isn't committed isn't released.

@@ -1,6 +1,6 @@
 #!/bin/bash
-# Filters a log as docs/SCALE.md says, on several processes of this machine: by GNU parallel, cut from a stream and from a file,
-# and by Dask, a scheduler and two workers on the loopback. Each has to give the same bytes as one process; it prints the times.
+# Filters a log as docs/SCALE.md says, on several processes of this machine: by split, by GNU parallel, cut from a stream and from a
+# file, and by Dask, a scheduler and two workers on the loopback. Each has to give the same bytes as one process; it prints the times.
 #
 #   tests/scale.sh SYMFILT [LOG]
 #
@@ -53,6 +53,13 @@ one() { "$symfilt" <"$log"; }
 echo "$(stat -c %s "$log") bytes, $(wc -l <"$log") lines, $(nproc) processors"
 timed 'one process' one
 if ! cmp -s "$work/whole" "$log"; then :; else echo 'nothing was replaced'; exit 1; fi
+
+pieces() {
+    for piece in 1 2 3 4; do split -n l/$piece/4 "$log" | "$symfilt" >"$work/piece.$piece" & done
+    wait
+    cat "$work"/piece.?
+}
+timed 'split, 4 processes' pieces
 
 if command -v parallel >/dev/null; then
     piped() { parallel --pipe --block 8M -k -j "$1" "$symfilt" <"$log"; }

@@ -44,8 +44,77 @@ def doubling(times):
     return "_R" + symbol + "E"
 
 
+# A name for each sort of text, and its text; a wrong one in any of the printers shows.
+NAMES = {
+    "_ZTV1A": "vtable for A",
+    "_ZTT1A": "VTT for A",
+    "_ZTI1A": "typeinfo for A",
+    "_ZTS1A": "typeinfo name for A",
+    "_ZGVZ1fvE1x": "guard variable for f()::x",
+    "_ZThn8_N1A1fEv": "non-virtual thunk to A::f()",
+    "_ZTv0_n24_N1A1fEv": "virtual thunk to A::f()",
+    "_ZTch0_h0_1fv": "covariant return thunk to f()",
+    "_Z1fwbcahstij": "f(wchar_t, bool, char, signed char, unsigned char, short, unsigned short, int, unsigned int)",
+    "_Z1flmxynofdegz": "f(long, unsigned long, long long, unsigned long long, __int128, unsigned __int128, float, double, long double, __float128, ...)",
+    "_Z1fDsDiDuDn": "f(char16_t, char32_t, char8_t, std::nullptr_t)",
+    "_Z1fPKcRVKiOd": "f(char const*, int const volatile&, double&&)",
+    "_Z1fPFivEM1AiA3_i": "f(int (*)(), int A::*, int [3])",
+    "_Z1fPDoFvvE": "f(void (*)() noexcept)",
+    "_Z1fDv4_f": "f(float __vector(4))",
+    "_ZNVKR1A1fEv": "A::f() const volatile &",
+    "_ZN1AC1Ev": "A::A()",
+    "_ZN1AD0Ev": "A::~A()",
+    "_Znwm": "operator new(unsigned long)",
+    "_ZdaPv": "operator delete[](void*)",
+    "_ZN1AaSERKS_": "A::operator=(A const&)",
+    "_ZN1AclEv": "A::operator()()",
+    "_ZN1AixEi": "A::operator[](int)",
+    "_ZN1AptEv": "A::operator->()",
+    "_Zli2_sPKc": 'operator"" _s(char const*)',
+    "_ZlsRSoSs": "operator<<(std::ostream&, std::string)",
+    "_Z1fILi3ELb1ELc65ELin2EEvv": "void f<3, true, (char)65, -2>()",
+    "_Z1fIJicEEvDpT_": "void f<int, char>(int, char)",
+    "_ZN12_GLOBAL__N_11fEv": "(anonymous namespace)::f()",
+    "_ZZ4mainENKUlvE_clEv": "main::{lambda()#1}::operator()() const",
+    "_ZZ1fiENKUlicE0_clEic": "f(int)::{lambda(int, char)#2}::operator()(int, char) const",
+    "_ZN1AUt_1fEv": "A::{unnamed type#1}::f()",
+    "_ZZ1fvEs": "f()::string literal",
+    "_ZZ1fvE1x_0": "f()::x",
+    "_RINvC3foo3barabcdefhijlmnopstuvxyzE": "foo::bar::<i8, bool, char, f64, str, f32, u8, isize, usize, i32, u32, i128, u128, _, i16, u16, (), ..., i64, u64, !>",
+    "_RINvC3foo3barFG_RL0_hEuFUKChEhE": "foo::bar::<for<'a> fn(&'a u8), unsafe extern \"C\" fn(u8) -> u8>",
+    "_RINvC3foo3barPhOhQhAhj3_ShThEE": "foo::bar::<*const u8, *mut u8, &mut u8, [u8; 3], [u8], (u8,)>",
+    "_RINvC3foo3barKlnf_Kb1_Kc41_E": "foo::bar::<-15, true, 'A'>",
+    "_RINvC3foo3barDNtC3foo1AEL_E": "foo::bar::<dyn foo::A>",
+    "_RNvXC3fooNtC3foo1ANtC3foo1B1f": "<foo::A as foo::B>::f",
+    "_RNvMC3fooNtC3foo1A1f": "<foo::A>::f",
+    "_RNCNvC3foo3bar0": "foo::bar::{closure#0}",
+    "_RNSNvC3foo3bar4call": "foo::bar::{shim:call#0}",
+}
+# The same of the wide grammar.
+WIDE = {
+    "_ZNK1AcvbEv": "A::operator bool() const",
+    "_ZN1AcvPKcEv": "A::operator char const*()",
+    "_ZN1AssERKS_": "A::operator<=>(A const&)",
+    "_Z1fIiEDTcl1gfp_EET_": "decltype(g(fp)) f<int>(int)",
+    "_Z1fIJicEEv1AIXsZT_EE": "void f<int, char>(A<sizeof...(int, char)>)",
+    "_Z1fB5cxx11v": "f[abi:cxx11]()",
+    "_ZTC1A0_1B": "construction vtable for B-in-A",
+    "_ZTH1x": "thread-local initialization routine for x",
+    "_ZTW1x": "thread-local wrapper routine for x",
+    "_ZGTt1fv": "transaction clone for f()",
+    "_ZZ4mainENKUlT_E_clIiEEDaS_": "auto main::{lambda(auto)#1}::operator()<int>(int) const",
+    "_ZN1AC4Ev": "A::A()",
+}
+
+
+def names_of(names):
+    """Names and their texts as what comes in and what has to come out."""
+    return "\n".join(names) + "\n", "\n".join(names.values()) + "\n"
+
+
 # What comes in, and what has to come out of both programs.
 SAME = {
+    "each sort of text": names_of(NAMES),
     "nm": (f"0000000000001139 T {VECTOR}\n", f"0000000000001139 T {VECTOR_TEXT}\n"),
     "objdump": ("  401136:\te8 00 00\tcall 401130 <_Z1fv@plt> <_ZN1A1fEv+0x10>\n", "  401136:\te8 00 00\tcall 401130 <f()@plt> <A::f()+0x10>\n"),
     "readelf": ("FUNC GLOBAL _ZNSt9exceptionD1Ev@GLIBCXX_3.4 _Z1fv@@V_1\n", "FUNC GLOBAL std::exception::~exception()@GLIBCXX_3.4 f()@@V_1\n"),
@@ -71,6 +140,7 @@ SAME = {
 
 # The same of each alone: options, what comes in and what has to come out.
 SYMFILT = {
+    "each sort of text of the wide grammar": (["--wide"], *names_of(WIDE)),
     "stacks": (["--no-params", "--brief"], f"main;{VECTOR};_ZN1A1fIiEEvT_ 42\n", "main;std::vector::push_back;A::f 42\n"),
     "quotes that aren't ASCII": (["--ascii-words"], "‘_ZN1A1fEi’ »_Z1fv« 関数_Z1fvで\n", "‘A::f(int)’ »f()« 関数f()で\n"),
     "legacy Rust names": (["--legacy"], f"{LEGACY}\n", "demo::main\n"),
@@ -78,6 +148,7 @@ SYMFILT = {
     "a byte beside a symbol": ([], b"_Z1gi\x80\n", b"_Z1gi\x80\n"),
 }
 DEMANGLE = {
+    "each sort of text of the wide grammar": ([], *names_of(WIDE)),
     "quotes that aren't ASCII": ([], "‘_ZN1A1fEi’ »_Z1fv« 関数_Z1fvで _Z7größei\n", "‘A::f(int)’ »f()« 関数f()で größe(int)\n"),
     "sections of a linker's map": ([], " .text._Z3foov\n .rodata._ZTS1A .data.rel.ro._ZTV1A\n", " .text.foo()\n .rodata.typeinfo name for A .data.rel.ro.vtable for A\n"),
     "sections of MinGW, thunks of imports": ([], ".text$_ZN1A1fEv __imp__Z1fv _GLOBAL__sub_I__ZN1AC2Ev\n", ".text$A::f() __imp_f() _GLOBAL__sub_I_A::A()\n"),
@@ -121,7 +192,7 @@ def texts(program, own):
         yield name, (out, err, status) == (coded(wanted), b"", 0), out
 
 
-def answers_at_once(program):
+def answers_at_once(program, _name):
     """A line, and then a prompt without a newline, come out while the input is still open."""
     run = subprocess.Popen([program], stdin=subprocess.PIPE, stdout=subprocess.PIPE)
     ready = selectors.DefaultSelector()
@@ -139,7 +210,7 @@ def answers_at_once(program):
     return run.wait() == 0, got
 
 
-def passes_long_lines(program):
+def passes_long_lines(program, _name):
     """A line of 30 MB without an end."""
     line = b"x" * 30_000_000
     out, _, status = filtered(program, [], line)
@@ -158,7 +229,7 @@ def processor_time(command, text):
     return min(times)
 
 
-def costs_little(program):
+def costs_little(program, _name):
     """A log without symbols costs about what grep costs."""
     with tempfile.NamedTemporaryFile() as log:
         log.write(b"Nov 27 07:00:00 host kernel: eth0 link_up speed 1000 full duplex, mtu 1500\n" * 1_000_000)
@@ -167,17 +238,20 @@ def costs_little(program):
     return taken < 2 * searched + 0.1, f"{taken:.2f} s, grep {searched:.2f} s"
 
 
-def tells_that_nobody_reads(program):
-    """Where the reader of its output ends, as head does, a program ends with 3 and says so."""
+# The status where the reader of the output ends, as head does, and what is said.
+NOBODY_READS = ((3, b"symfilt: write failed\n"), (141, b""))
+
+
+def ends_with_its_reader(program, wanted):
     reader, writer = os.pipe()
     run = subprocess.Popen([program], stdin=subprocess.PIPE, stdout=writer, stderr=subprocess.PIPE)
     os.close(writer)
     os.close(reader)
     _, err = run.communicate(b"_Z1fv\n")
-    return (run.returncode, err) == (3, os.path.basename(program).encode() + b": write failed\n"), err
+    return (run.returncode, err) == wanted, err
 
 
-def survives(program):
+def survives(program, _name):
     """The lines before and after a name that doubles seventy times are answered, and it stays."""
     hostile = doubling(70)
     out, err, status = filtered(program, [], f"_Z1fv\n{hostile}\n_Z1gi\n")
@@ -188,7 +262,6 @@ CHECKS = {
     "at once": answers_at_once,
     "a long line": passes_long_lines,
     "no symbols": costs_little,
-    "a reader that ends": tells_that_nobody_reads,
     "a hostile name": survives,
 }
 
@@ -197,16 +270,19 @@ def main():
     if len(sys.argv) not in (2, 3):
         sys.exit(__doc__)
     failed = count = 0
-    for path, own in zip(sys.argv[1:], (SYMFILT, DEMANGLE)):
+    for path, own, program_name, nobody_reads in zip(
+        sys.argv[1:], (SYMFILT, DEMANGLE), ("symfilt", "demangle"), NOBODY_READS
+    ):
         program = os.path.abspath(path)
         found = list(texts(program, own))
+        found.append(("a reader that ends", *ends_with_its_reader(program, nobody_reads)))
         for name, check in CHECKS.items():
-            found.append((name, *check(program)))
+            found.append((name, *check(program, program_name)))
         for name, holds, out in found:
             count += 1
             if not holds:
                 failed += 1
-                print(f"{os.path.basename(path)}: {name}: {out[:200]!r}")
+                print(f"{program_name}: {name}: {out[:200]!r}")
     print(f"{count} texts, {failed} come out otherwise")
     sys.exit(1 if failed else 0)
 

@@ -170,6 +170,18 @@ def check_nameless(program, word):
     return wrong + (differences([word], program.filtered([], [word]), [word]) if is_filtered_alone(word) else [])
 
 
+def check_type(program, cost, name, text):
+    """No option of symfilt reads types, and a type is what the symbol of its information has."""
+    return check_text(program, b"full", cost, b"_ZTI" + name, b"typeinfo for " + text)
+
+
+def check_refused_type(program, name, answer):
+    if not answer.startswith(REASONS):
+        raise Skipped("a name that can't be a type, for the static library alone")
+    reason, place = answer.rsplit(b" ", 1)
+    return check_refused(program, b"_ZTI" + name, b"%s %d" % (reason, int(place) + 4))
+
+
 def check_press(program, word, pressed):
     words, wanted = [word, pressed], [pressed, pressed]
     return differences(words, program.answers(["--press", "--limit=0"], words), wanted)
@@ -221,7 +233,8 @@ def check_command(program, status, words, out, err):
 def check_demangle(program, status, words, text, out, err):
     if program.other is None:
         raise Skipped("a row of the program demangle, which wasn't given")
-    found = program.other.run([""] if words == b"" else options_of(words), unescaped(text))
+    arguments = [] if words == b"-" else unescaped(words).split(b" ")
+    found = program.other.run(arguments, unescaped(text))
     wanted = (out, err, int(status))
     same = found[2] == wanted[2] and all(got if want == b"*" else got == unescaped(want) for got, want in zip(found, wanted[:2]))
     return [] if same else [f"{found!r}, not {wanted!r}"]
@@ -238,6 +251,8 @@ CHECKS = {
     b"legacy refused": check_legacy_refused,
     b"oversize": check_oversize,
     b"nameless": check_nameless,
+    b"type": check_type,
+    b"type refused": check_refused_type,
     b"press": check_press,
     b"tree": check_tree,
     b"filter": check_filter,

@@ -1,24 +1,26 @@
 #!/bin/bash
 # The page in a browser:
 #
-#   tests/web.sh [-l LIBRARY] [-p SYMFILT] [-s SHOTS] [-b]
+#   tests/web.sh [-l LIBRARY] [-p SYMFILT] [-d DEMANGLE] [-s SHOTS] [-b]
 #
 # It makes the page with the module of the proved library, gives the module the rows of crates/check_rows and the program's texts
 # to compare with (tests/web/module.mjs, in Node), and then uses the page as a person does (tests/web/page.mjs, in Chromium).
 #
 #   -l LIBRARY    an LLVM module of the library, in the place of the proved one
-#   -p SYMFILT    the program, in the place of the proved one
+#   -p SYMFILT    the program symfilt, in the place of the proved one
+#   -d DEMANGLE   the program demangle, in the place of the proved one
 #   -s SHOTS      a folder that gets pictures of the page
 #   -b            afterwards breaks copies of the page in turn: the tests have to fail on each
 #
 # What isn't installed (node, chromium, binaryen's wasm-opt) is named, and what needs it is left out.
 set -euo pipefail
 cd "$(dirname "$0")/.."
-library= program=crates/symfilt/out/symfilt shots= breaks=no
-while getopts l:p:s:b option; do
+library= symfilt=crates/symfilt/out/symfilt demangle=crates/demangle/out/demangle shots= breaks=no
+while getopts l:p:d:s:b option; do
     case $option in
         l) library=$(realpath "$OPTARG") ;;
-        p) program=$(realpath "$OPTARG") ;;
+        p) symfilt=$(realpath "$OPTARG") ;;
+        d) demangle=$(realpath "$OPTARG") ;;
         s) mkdir -p "$OPTARG" && shots=$(realpath "$OPTARG") ;;
         b) breaks=yes ;;
         *) sed -n '4s/^#  *//p' "$0" >&2; exit 2 ;;
@@ -46,8 +48,8 @@ for kind in cpp rust; do
     python3 -c "import sys; sys.path.insert(0, 'bench'); import plot; print(plot.hostile_$kind(60000))" >"$work/hostile/$kind"
 done
 
-module_test() { node tests/web/module.mjs "$1" crates/check_rows/stdin "$program" "$symbols"; }
-page_test() { node tests/web/page.mjs "$1" "$program" "$symbols" "$work/hostile" ${2:+"$2"}; }
+module_test() { node tests/web/module.mjs "$1" crates/check_rows/stdin "$demangle" "$symbols"; }
+page_test() { node tests/web/page.mjs "$1" "$demangle" "$symfilt" "$symbols" "$work/hostile" ${2:+"$2"}; }
 # Node 20 takes files named .js for modules where a package says so.
 echo '{"type": "module"}' >"$page/package.json"
 module_test "$page"
@@ -73,13 +75,15 @@ if [ $breaks = yes ]; then
     broken module_test library.js 'BRIEF: 1, NO_PARAMETERS: 2' 'BRIEF: 2, NO_PARAMETERS: 1'
     broken module_test library.js 'view.getUint32(result + 8, true)' 'view.getUint32(result + 12, true)'
     broken module_test library.js '[rows, nodes, steps] = [0, 4, 8]' '[rows, nodes, steps] = [8, 4, 0]'
-    broken module_test words.js 'while (cut > 0 && isLetter(piece[cut - 1])) cut -= 1;' ''
-    broken module_test words.js 'for (let cut = middle; cut > 0; cut -= 1)' 'for (let cut = middle; cut < 0; cut -= 1)'
+    broken module_test words.js 'if (kind === ESCAPE) return at - 1;' ''
+    broken module_test words.js '? ESCAPE : "[;:"' '? ESCAPE : ""'
+    broken module_test words.js 'return before ||' 'return 0 &&'
+    broken module_test words.js 'Uint8Array.of(run[begin], 97, run.at(-1))' 'run.slice(-1)'
+    broken module_test words.js 'isDot(run[at - 1]) && ' ''
+    broken module_test words.js 'word[end - 1])) end -= 1;' 'word[end - 1])) break;'
     broken page_test worker.js 'if (bytes > offset) break;' 'units += 1;'
     broken page_test worker.js 'code < 0x80 ? 1 : code < 0x800 ? 2' 'code < 0x800 ? 1'
-    broken page_test words.js '.replace(/\.+$/, "")' ''
-    broken page_test words.js '(options.ascii ? FLAG.ASCII_WORDS : 0)' '0'
-    broken page_test worker.js 'wide: true' 'wide: false'
+    broken page_test words.js ' | FLAG.WITHIN |' ' |'
     broken page_test page.js 'PATIENCE = 300;' 'PATIENCE = 300_000;'
     broken page_test page.js 'if (!isStopped) ask();' 'ask();'
     broken page_test show.js '\u2028-\u202e' ''

@@ -50,15 +50,18 @@ files() {
 644 callers/rust/src/library.rs share/symdemangle/rust/src/library.rs
 644 callers/python/symdemangle/__init__.py share/symdemangle/python/symdemangle/__init__.py
 644 callers/python/symdemangle/__main__.py share/symdemangle/python/symdemangle/__main__.py
+644 callers/python/symdemangle/_stream.py share/symdemangle/python/symdemangle/_stream.py
+644 callers/python/symdemangle/cxxfilt.py share/symdemangle/python/symdemangle/cxxfilt.py
 644 callers/python/symdemangle/py.typed share/symdemangle/python/symdemangle/py.typed
 644 callers/go/go.mod share/symdemangle/go/go.mod
+644 callers/go/installed.go share/symdemangle/go/installed.go
 644 callers/go/symdemangle.go share/symdemangle/go/symdemangle.go
 LIST
     [ $mode != libraries ] || return 0
     cat <<LIST
-644 callers/c/crash_reporter.cc share/doc/symfilt/examples/crash_reporter.cc
-644 callers/shims/shims.c share/doc/symfilt/examples/shims.c
-755 tools/symfilt_dask.py share/doc/symfilt/tools/symfilt_dask.py
+644 callers/c/crash_reporter.cc share/doc/symdemangle/examples/crash_reporter.cc
+644 callers/shims/shims.c share/doc/symdemangle/examples/shims.c
+755 tools/symfilt_dask.py share/doc/symdemangle/tools/symfilt_dask.py
 LIST
     for program in symfilt demangle; do
         cat <<LIST
@@ -71,17 +74,21 @@ LIST
     done
     for document in README.md CHANGELOG.md SECURITY.md LICENSE-MIT LICENSE-APACHE docs/GRAMMARS.md docs/PROMISES.md \
         docs/SYMFILT.md docs/CXXFILT.md docs/SPEED.md docs/SCALE.md docs/callers/*.md docs/*.svg; do
-        [ ! -f "$document" ] || echo "644 $document share/doc/symfilt/$document"
+        [ ! -f "$document" ] || echo "644 $document share/doc/symdemangle/$document"
     done
 }
 
-# What a document links to and isn't installed is named without a link.
+# What a document links to and isn't installed is named without a link. The package for Go has only the way over the installed library.
 LOCAL='ARCHITECTURE|DECISIONS|TESTING|WORKING'
 put() { # put BITS FROM TO
     case $3 in
         share/doc/*.md)
             sed -E "s@\\[([^]]*)\\]\\([^)]*($LOCAL)\\.md(#[^)]*)?\\)@\\1@g" "$2" >"$packed/document"
             install -D -m "$1" "$packed/document" "$root/$3"
+            ;;
+        share/symdemangle/go/installed.go)
+            sed '/^\/\/go:build/{N;d}' "$2" >"$packed/installed.go"
+            install -D -m "$1" "$packed/installed.go" "$root/$3"
             ;;
         *) install -D -m "$1" "$2" "$root/$3" ;;
     esac
@@ -97,8 +104,8 @@ case $(version) in 0.*) name=${real%.*} ;; *) name=${real%.*.*} ;; esac
 if [ $mode = uninstall ]; then
     files | while read -r _ _ to; do rm -f "$root/$to"; done
     rm -f "$root/$libdir/$real" "$root/$libdir/$name" "$root/$libdir/libsymdemangle.so"
-    for folder in share/doc/symfilt/docs/callers share/doc/symfilt/docs share/doc/symfilt/examples share/doc/symfilt/tools \
-        share/doc/symfilt share/symdemangle/rust/src share/symdemangle/rust share/symdemangle/python/symdemangle \
+    for folder in share/doc/symdemangle/docs/callers share/doc/symdemangle/docs share/doc/symdemangle/examples share/doc/symdemangle/tools \
+        share/doc/symdemangle share/symdemangle/rust/src share/symdemangle/rust share/symdemangle/python/symdemangle \
         share/symdemangle/python share/symdemangle/go share/symdemangle "$libdir/cmake/symdemangle"; do
         [ ! -d "$root/$folder" ] || rmdir --ignore-fail-on-non-empty "$root/$folder"
     done

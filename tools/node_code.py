@@ -1,11 +1,11 @@
 """The nodes that trees are read into, and the code of cpp_tree that goes through them by their arguments alone: the nodes themselves, what is
-noted of them, and what is seen of them. trees.py writes it, from the table of vocabulary.py."""
+noted of them, and what is seen of them. trees.py writes it, from the table of cpp_trees.py."""
 import re
-import vocabulary as words
-from vocabulary import OWN, OUTSIDE, INSIDE, SIGNATURE, TREE, PIECE, BYTES, NUMBER, TRUTH, QUALIFIERS, MARK, SIGNED, THUNK, DISCRIMINATOR
+import cpp_trees
+from notation import camel
+from cpp_trees import OWN, OUTSIDE, INSIDE, SIGNATURE, TREE, PIECE, BYTES, NUMBER, TRUTH, QUALIFIERS, MARK, SIGNED, THUNK, DISCRIMINATOR
 
 # a node has the arguments of its tree; these have others. A number of a thunk stands for it, and the letters of a builtin type are told apart
-def camel(name): return "".join(part.capitalize() for part in name.split("_"))
 NAMES = {"list": "Cell", "symbol": "Whole", "clone": "CloneOf"}
 PIECES = "source operator literal_operator constructor destructor inheriting lambda generic_lambda unnamed string_literal conversion".split()
 # the argument under which the types of an encoding are, if they are under one
@@ -21,9 +21,9 @@ OTHERS = {
     "list": [("first", TREE), ("rest", TREE)],
 }
 def nodes():
-    """the nodes: each with its name, its tree's, and its arguments"""
-    order = ["absent", "nil", *[t[0] for t in words.TREES[1:] if t[0] not in ("absent", "nil", "list", *PIECES)], "list", "symbol"]
-    trees = {t[0]: list(t[1:]) for t in words.TREES}
+    """The nodes: each with its name, its tree's, and its arguments."""
+    order = ["absent", "nil", *[t[0] for t in cpp_trees.TREES[1:] if t[0] not in ("absent", "nil", "list", *PIECES)], "list", "symbol"]
+    trees = {t[0]: list(t[1:]) for t in cpp_trees.TREES}
     for tree in order:
         if tree == "builtin":
             yield "Builtin", tree, [("letter", NUMBER)]
@@ -38,7 +38,7 @@ BELOW = {TREE: "{0} < n", OWN: "{0} < n", PIECE: "IsPieceBelow s n {0}", BYTES: 
 def bounds(args): return [(name, sort) for name, sort in args if sort in BELOW]
 
 def placed(args, over):
-    """the arguments of these sorts, each with the fact of its bound: a part of b where there are several bounds"""
+    """The arguments of these sorts, each with the fact of its bound: a part of b where there are several bounds."""
     all_ = bounds(args)
     return [(name, sort, "b" if len(all_) == 1 else f"b.{all_.index((name, sort))}") for name, sort in args if sort in over]
 
@@ -48,27 +48,20 @@ NAMED = {"t": "ty", "p": "piece", "q": "qualifiers", "m": "mark", "e": "encoding
          ("operation", "one"): "first", ("operation", "two"): "second", ("operation", "u"): "left", ("operation", "w"): "right", ("vendor", "bytes"): "name", ("boolean", "b"): "truth",
          ("decltype", "operand"): "expression"}
 TYPES = {NUMBER: "u8", TRUTH: "bool", QUALIFIERS: "Qualifiers", MARK: "Mark", BYTES: "Span", SIGNED: "Signed", DISCRIMINATOR: "Option<Span>", PIECE: "Piece"}
-# what is said of a node, or of one of its fields
+# what is said of a node that is no tree's, or of one of a node's fields
 SAID = {
-    "Tagged": "A name with one tag more, and whether it is that of a constructor or a destructor.",
-    "OfDefault": "The entity of a local name that is in a default argument, and the digits that say in which.",
-    "Constrained": "`auto` or `decltype(auto)`, by the last letter of its code, of which a concept is asked.",
-    "Bounded": "An array whose length is a parameter.",
-    "Decltype": "The type of an expression.",
-    "Operation": "An operation of an expression, by the two letters of its operator. An operand that it hasn't is absent.",
-    "FunctionParameter": "A parameter of the function in whose types it is, as an expression.",
     "Reargued": "A tree again, with this argument in each of its free parameters, or with the elements of it if it is a list.",
     ("Function", "under"): "The argument under which its return type and its parameters are, as a word (`under_word`).",
 }
 
 def fields(tree, arguments):
-    """each field's name, what it is, and its type"""
+    """Each field's name, what it is, and its type."""
     for name, sort in arguments: yield NAMED.get((tree, name), NAMED.get(name, name)), sort, "u32" if (tree, name) == ("parameter", "k") else TYPES.get(sort, "u32")
 
 def variants():
-    """the nodes"""
+    """The nodes."""
     for node, tree, arguments in nodes():
-        if node in SAID: yield f"    /// {SAID[node]}"
+        if tree in cpp_trees.SAYS or node in SAID: yield f"    /// {cpp_trees.SAYS.get(tree) or SAID[node]}"
         own = list(fields(tree, arguments))
         if not own: yield f"    {node},"
         elif len(own) == 1: yield f"    {node}({own[0][2]}),"
@@ -80,7 +73,7 @@ def variants():
             yield "    },"
 
 def pattern(path, node, names, given, indent):
-    """a node with some of its fields, in one line if there are few"""
+    """A node with some of its fields, in one line if there are few."""
     if not names: return f"{indent}{path}{node}"
     if len(names) == 1: return f"{indent}{path}{node}({names[0] if names[0] in given else '_'})"
     shown = [n for n in names if n in given] + ([".."] if any(n not in given for n in names) else [])
@@ -89,7 +82,7 @@ def pattern(path, node, names, given, indent):
     return "\n".join([f"{indent}{path}{node} {{", *[f"{indent}    {n}{'' if n == '..' else ','}" for n in shown], f"{indent}}}"])
 
 def arm(left, right, indent):
-    """an arm, as rt fmt lays it out"""
+    """An arm, as rt fmt lays it out."""
     whole = f"{left} => {right},"
     call, given = re.fullmatch(r"([\w.]+)\((.*)\)", right).groups()
     if len(given) <= 60: return whole if len(whole.split("\n")[-1]) <= 100 else f"{left} => {{\n{indent}    {right}\n{indent}}}"
@@ -99,7 +92,7 @@ def named_in(right, names):
     return [n for n in names if re.search(rf"(?<![\w.:]){n}(?!\w)", right)]
 
 def arms(path, indent, of):
-    """an arm for each node of which there is something to say"""
+    """An arm for each node of which there is something to say."""
     for node, tree, arguments in nodes():
         own = list(fields(tree, arguments))
         right = of(node, tree, own)
@@ -117,16 +110,14 @@ NOTED = {
     "Qualified": "self.noted_qualified(node, ty)", "Expansion": "self.noted_expansion(node, pattern)", "Pack": "self.noted_pack(node, elements)", "Nil": "bare(node, true)",
     "Cell": "self.noted_cell(symbol, node, first, rest)", "Reargued": "self.noted_again(symbol, node, tree, argument)",
 }
-HEADS = {"Lvalue": "Lvalue", "Array": "FunctionOrArray", "Bounded": "FunctionOrArray", "FunctionType": "FunctionOrArray"}
-
-def sorts_of(tree): return {t[0]: [sort for name, sort in t[1:]] for t in words.TREES}.get(tree, [])
+def sorts_of(tree): return {t[0]: [sort for name, sort in t[1:]] for t in cpp_trees.TREES}.get(tree, [])
 
 def noting(node, tree, own):
-    """what is noted of a node, by its parts that aren't under a scope of their own"""
+    """What is noted of a node, by its parts that aren't under a scope of their own."""
     if node in NOTED: return NOTED[node]
     parts = [name for (name, _, _), sort in zip(own, sorts_of(tree)) if sort == TREE]
     if not parts: return None
-    return f"self.noted_type{'s' if len(parts) == 2 else ''}(node, {', '.join(parts)}, Words::{HEADS.get(node, 'Plain')})"
+    return f"self.noted_type{'s' if len(parts) == 2 else ''}(node, {', '.join(parts)}, Words::{cpp_trees.HEADS.get(tree, 'Plain')})"
 
 def noted(): return list(arms("Node::", "            ", noting))
 
@@ -145,7 +136,7 @@ NUMBERS = {NUMBER: "{0} as u64", TRUTH: "bit({0}) as u64", QUALIFIERS: "{0}.numb
 TEXTS = {BYTES: "{0}", SIGNED: "{0}.digits"}
 
 def view(node, tree, own):
-    """what is seen of a node of which no more is seen: the code of its numbers, its texts and its parts"""
+    """What is seen of a node of which no more is seen: the code of its numbers, its texts and its parts."""
     numbers = [NUMBERS[sort].format(name) for name, sort, _ in own if sort in NUMBERS and not (tree == "builtin" and sort != NUMBER)]
     if tree == "function_type": numbers = ["linkage_number(c_linkage, noexcept)", numbers[-1]]
     texts = [TEXTS[sort].format(name) for name, sort, _ in own if sort in TEXTS]
@@ -153,7 +144,7 @@ def view(node, tree, own):
     return numbers, texts, [] if node == "Parameter" else parts
 
 def seen():
-    """the view of a node: its production, numbers, text and parts"""
+    """The view of a node: its production, numbers, text and parts."""
     def of(node, tree, own):
         if node in SEEN: return SEEN[node]
         numbers, texts, parts = view(node, tree, own)

@@ -2,6 +2,8 @@
 clauses that show them, and for each kind which lemma each of its productions has, from the grammar."""
 import re
 import grammar
+from files import read
+from notation import dashed
 
 FOLDER = "cpp_press_laws/proofs/Short"
 # the lists: function, file, the lemma whose clauses are read, and that which is used
@@ -12,20 +14,16 @@ CALLED = {"Destructor": "destructor-name", "Constructor": "constructor-name", "A
           ("Plain", "ReferenceType"): "bare-reference-gains", ("Arguments", "Arguments"): "given-gains",
           ("NestTail", "NestNext"): "λ around at old v new b ready small. nest-next around at old v new b (may-end-behind around.prefix ready small) small"}
 
-def dashed(name): return re.sub(r"(?<!^)(?=[A-Z])", "-", name).lower()
-
 def listed(text, function, lemma):
-    """the productions of a list, by class if it has any"""
+    """The productions of a list, by class if it has any."""
     found = {}
     for class_, production in re.findall(rf"^{lemma} (?:(\w+) )?Production\.(\w+) is =", text, re.M): found.setdefault(class_, []).append(production)
     lines = [f"{function}{' ' + class_ if class_ else ''} = {''.join(f'Production.{p} ∷ ' for p in productions)}[]" for class_, productions in found.items()]
     return found, lines + ([f"{function} _ = []"] if "" not in found else [])
 
 def declarations(crates):
-    """path, name, and the lines of its clauses"""
-    texts = {}
-    for file in ("Types", "Lists", "Qualified", "Names", "Gains"):
-        with open(f"{crates}/{FOLDER}/{file}.antt", encoding="utf-8") as f: texts[file] = f.read()
+    """Path, name, and the lines of its clauses."""
+    texts = {file: read(f"{crates}/{FOLDER}/{file}.antt") for file in ("Types", "Lists", "Qualified", "Names", "Gains")}
     rows = []
     for function, file, lemma, used in LISTS:
         found, lines = listed(texts[file], function, lemma)

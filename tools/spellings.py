@@ -1,14 +1,16 @@
-"""The clauses of each tree whose spelling is a row of vocabulary.py (SPELLED): its definition, and the laws that are shown spelling by spelling.
+"""The clauses of each tree whose spelling is a row of cpp_trees.py: its definition, and the laws that are shown spelling by spelling.
 Each is at the end of a declaration of cpp_press_laws or cpp_spelling whose first clauses are by hand: trees.py writes them there."""
 import re
-from vocabulary import FITTING, SPELLED
+
+from notation import braced
+from cpp_trees import FITTING, SPELLED
 
 def rows(trees):
-    """each tree with a row: its pattern, the sort of its spelling, its parts, and whether it fits nowhere"""
-    from trees import pattern
+    """Each tree with a row: its pattern, the sort of its spelling, its parts, and whether it fits nowhere."""
+    from tree_clauses import pattern
     for tree in trees:
         if tree[0] in SPELLED:
-            head, *parts = SPELLED[tree[0]].split(" | ")
+            head, *parts = SPELLED[tree[0]]
             yield tree, pattern(tree), head.split()[-1], [Part(part) for part in parts], head.startswith("nowhere")
 
 class Part:
@@ -19,7 +21,7 @@ class Part:
         if self.tree: return f"(ways_of {n} {self.tree}).{self.way}"
         return f"says {self.text[6:]}" if says and re.fullmatch(r'codes "\w+"', self.text) else f"text {braced(self.text)}"
     def size(self):
-        """a number, and what is added to it"""
+        """A number, and what is added to it."""
         if self.tree:
             own = f"(size {self.tree})"
             return 0, [{"as_type": f"part_of {self.tree} {own}", "as_prefix": f"part_of {self.tree} {own}", "under_qualifiers": f"bare_of {self.tree} {own}",
@@ -31,28 +33,30 @@ class Part:
             else: others.append(f"length {braced(term)}")
         return sum_, others
     def facts(self):
-        """what arithmetic needs to know of the length of these bytes"""
+        """What arithmetic needs to know of the length of these bytes."""
         if self.tree: return [f"front-part {self.tree} (size {self.tree})"] if self.way == "as_prefix" else []
         if self.text.startswith("cond internal"): return ["internal-short internal name"]
         if self.text.startswith("cond truth"): return ["truth-short truth"]
         terms = self.text.split(" ++ ")
         return [f"length-append {braced(term)} {braced(' ++ '.join(terms[i + 1:]))}" for i, term in enumerate(terms[:-1]) if not term.startswith("codes")]
 
-def braced(text): return f"({text})" if " " in text else text
 def spelled(parts, n, says=False): return " and ".join(part.spelled(n, says) for part in parts)
 def total(parts):
+    """The length of a spelling: a number, and what is added to it."""
     sizes = [part.size() for part in parts]
     sum_, others = sum(size[0] for size in sizes), [term for size in sizes for term in size[1]]
     return " + ".join(([str(sum_)] if sum_ or not others else []) + others)
 def arithmetic(*parts):
+    """Arithmetic with what it needs to know of these parts."""
     facts = [fact for part in parts for fact in part.facts()]
     return f"(omega ({', '.join(['arith', *facts])}))" if facts else "(omega arith)"
 def side(parts, i, of):
-    """the fact of one of the subtrees, from that of either"""
+    """The fact of one of the subtrees, from that of either."""
     trees = [part for part in parts if part.tree]
     return f"(λ x w. {of} x ({'inl' if parts[i] is trees[0] else 'inr'} w))" if len(trees) > 1 else of
 
 def definitions(trees):
+    """The ways in which a tree is spelled."""
     for tree, shape, sort, parts, nowhere in rows(trees):
         text = spelled(parts, "here" if sort == "encoding" else "n", True)
         own = {"component": f"type_ways (component n {shape} ({text}))", "encoding": f"encoding_ways (λ here. {text})", "prefix": f"record no_ways {{ as_prefix = {text} }}",
@@ -60,13 +64,14 @@ def definitions(trees):
         yield f"ways_of n {shape} = {own}"
 
 def sizes(trees):
+    """How long a tree's spelling is."""
     for tree, shape, sort, parts, nowhere in rows(trees):
         # a builtin type has one byte at least
         if sort != "none": yield f"size {shape} = {'1 + ' if tree[0] == 'builtin' else ''}{total(parts)}"
     yield "size _ = 1"
 
 def keeping(trees):
-    """components stay, and those of a subtree that is closed are kept apart from others"""
+    """Components stay, and those of a subtree that is closed are kept apart from others."""
     def law(parts, i, n, known, of):
         part, rest = parts[i], spelled(parts[i + 1:], n)
         known_of = f"{known} {braced(spelled([part], n))}" if part.tree else f"{known} {braced(part.text)}"
@@ -91,6 +96,7 @@ def keeping(trees):
             yield f"keeps {shape} open_ n R = {lemma} {own} _{unqualified} (λ h. {law(parts, 0, 'n', 'open_ n R', of)})"
 
 def growing(trees):
+    """That components grow as a tree is spelled."""
     def law(parts, i, n):
         part = parts[i]
         if not part.tree: return f"text-grows {braced(part.text)}" if i + 1 == len(parts) else f"front {braced(part.text)} ({law(parts, i + 1, n)})"
@@ -105,6 +111,7 @@ def growing(trees):
         yield f"ways-grow whole {shape} in_whole n = {law_}"
 
 def short(trees):
+    """That a spelling is no longer than its size."""
     def law(parts, i, n, bound):
         part, rest = parts[i], parts[i + 1:]
         own, more = part.spelled(n), braced(spelled(rest, n))
@@ -127,10 +134,11 @@ def short(trees):
         yield f"all-short {shape} n = {law_}"
 
 def needed(tree):
-    """what a tree needs so that it fits, and the slot that the type in it is in"""
-    return list(filter(None, FITTING[tree[0]].split(" | "))), "bare_type" if tree[0] == "qualified" else "any_type"
+    """What a tree needs so that it fits, and the slot that the type in it is in."""
+    return FITTING[tree[0]], "bare_type" if tree[0] == "qualified" else "any_type"
 
 def fitting(trees):
+    """Where a tree fits."""
     for tree, shape, sort, parts, nowhere in rows(trees):
         if nowhere: yield f"fits_of {shape} = fits_nowhere"
         elif tree[0] in FITTING:
@@ -139,6 +147,7 @@ def fitting(trees):
             yield f"fits_of {shape} = type_fits {shape} (λ slot around allowed place cs. {' × '.join([*(f'({t})' if '≡' in t else t for t in tests), inner])})"
 
 def adding(trees):
+    """That a tree which fits adds its components."""
     for tree, shape, sort, parts, nowhere in rows(trees):
         if nowhere: yield f"adds {shape} = nowhere-ways-add {shape} _"
         elif tree[0] in FITTING:
@@ -150,6 +159,7 @@ def adding(trees):
         elif sort == "piece" and len(parts) == 1 and tree[0] != "source": yield f"adds {shape} = leaf-piece-add {shape} _ _ (omega arith) (λ x i. i)"
 
 def typed_arguments(trees):
+    """That a type is an argument."""
     return [f"type-argument {shape} around in_pack old new one = one" for tree, shape, sort, parts, nowhere in rows(trees) if sort in ("component", "type") and not nowhere]
 
 # ## Spelled onto what follows
@@ -157,7 +167,7 @@ def typed_arguments(trees):
 WAYS = {"as_type": "Type", "under_qualifiers": "UnderQualifiers", "as_prefix": "Prefix", "as_encoding": "Encoding", "as_parameters": "Parameters", "as_elements": "Elements"}
 
 def onto(trees, function, wanted, others):
-    """a tree before what follows it, part by part"""
+    """A tree before what follows it, part by part."""
     def part(p):
         if p.tree: return f"in_way n Way.{WAYS[p.way]} {p.tree}"
         return f"fixed {p.text[6:]}" if re.fullmatch(r'codes "\w+"', p.text) else f"written {braced(p.text)}"
@@ -166,7 +176,7 @@ def onto(trees, function, wanted, others):
     if others: yield f"{function} n {others}"
 
 def rejoined(trees, clause, wanted, rest, others, here="n"):
-    """a tree's parts, one after the other, are what the tree is with what follows"""
+    """A tree's parts, one after the other, are what the tree is with what follows."""
     for tree, shape, sort, parts, nowhere in rows(trees):
         if not wanted(sort, parts): continue
         joined = " ".join([["refl", "two", "three", "four"][len(parts) - 1], *(p.spelled(here) if p.tree else f"({p.spelled(here)})" for p in parts if len(parts) > 1), *([rest] if len(parts) > 1 else [])])
@@ -175,6 +185,7 @@ def rejoined(trees, clause, wanted, rest, others, here="n"):
     if others: yield f"{clause.format('_')} = {others}"
 
 def contents(trees):
+    """What a component is spelled as, apart from its reference."""
     for tree, shape, sort, parts, nowhere in rows(trees):
         if sort == "component": yield f"content n {shape} = {spelled(parts, 'n')}"
     yield "content n _ = nothing"
@@ -185,6 +196,7 @@ def plain(sort, parts): return sort == "type" or sort == "component" and not com
 def several(*sorts): return lambda sort, parts: sort in sorts and len(parts) > 1
 
 def declarations_onto(trees):
+    """The declarations that spell a tree onto what follows."""
     specs, proofs = "cpp_spelling/specs/Spelled.antt", "cpp_spelling/proofs/Ways.antt"
     yield specs, "piece_onto", onto(trees, "piece_onto", of_sort("piece"), "_ rest = rest")
     yield specs, "prefix_onto", onto(trees, "prefix_onto", of_sort("prefix"), "t rest = between_onto n t rest")
@@ -206,7 +218,7 @@ def declarations_onto(trees):
 TYPED = {"digits": "(digits : List ℕ) ", "q": "(q : Qualifiers) "}
 
 def lemmas(trees):
-    """path, and the lemma of each of them"""
+    """Path, and the lemma of each of them."""
     for tree, shape, sort, parts, nowhere in rows(trees):
         if tree[0] not in FITTING: continue
         front, a = parts
@@ -228,7 +240,7 @@ def lemmas(trees):
             f"    }}) refl (λ arguments. refl) (λ slot take n allowed place cs fits. ({facts})) one"]
 
 def declarations(trees):
-    """path, name, and the lines at its end"""
+    """Path, name, and the lines at its end."""
     yield from declarations_onto(trees)
     laws = "cpp_press_laws"
     yield f"{laws}/specs/Pressing.antt", "ways_of", definitions(trees)

@@ -2,7 +2,9 @@
 that hand on what they have no arm for, from the rows of grammar.py. trees.py writes it."""
 import re
 import grammar
-from family_code import Call, Fields, arm, snake
+from family_code import Call, Fields, arm
+from files import template
+from notation import snake
 
 FILE = "cpp_link/src/row_steps.rt"
 PARTS = ["first", "second", "third"]
@@ -16,7 +18,7 @@ TEMPLATE = Call("self.prefix_node", "symbol", "kept")
 ITS_TYPES = "\n".join(["{", "                let name = self.node(symbol, first);", "                self.go(self.in_encoding(kept, place, closed_arguments(&self.nodes, symbol, name)))", "            }"])
 
 def around(place):
-    """what surrounds a part"""
+    """What surrounds a part."""
     if place == "as_before": return "kept"
     if place == "in_its_name": return Call("self.in_encoding", "kept", "place", "None")
     if place == "in_a_signature": return Call("self.in_signature", "kept")
@@ -28,7 +30,7 @@ def around(place):
     return Call("self.behind_name", "kept", node(k), listed)
 
 def piece(made):
-    """a piece of a name, from what it is made of"""
+    """A piece of a name, from what it is made of."""
     if m := re.fullmatch(r"only \(piece_at (\d)\)", made): return piece_of(m[1])
     if m := re.fullmatch(r"of new_source \((yes|no) ∷ text_at (\d) ∷ \[\]\)", made):
         return Fields("Piece::Source", internal="true" if m[1] == "yes" else "false", bytes=text(m[2]))
@@ -37,7 +39,7 @@ def piece(made):
     return Call("Piece::Operator", f"b'{chr(int(letter))}'", Call("letter_of", PARTS[int(k)]))
 
 def made_step(made, listed, is_name, is_candidate):
-    """the first part becomes a tree"""
+    """The first part becomes a tree."""
     named = "self.listed_name" if listed == "true" else "self.named"
     if m := re.fullmatch(r"extending \((.*)\)", made): return Call(named, Call("self.extended", "symbol", "kept.prefix()", piece(m[1])))
     if m := re.fullmatch(r"tagging (\d)", made): return Call(named, Call("self.tagged", "symbol", "kept", text(m[1])))
@@ -50,7 +52,7 @@ def made_step(made, listed, is_name, is_candidate):
     return Fields("Step::Made", node=new, listed=listed, is_name=is_name, is_candidate=is_candidate, packs="self.packs")
 
 def code(step):
-    """what is done, in code"""
+    """What is done, in code."""
     if m := re.fullmatch(r"becomes \((.*)\) (true|false) (true|false) (true|false)", step): return made_step(*m.groups())
     if step == "goes nothing in_its_types": return ITS_TYPES
     if step == "goes nothing under_it": return Fields(GO, candidate=NOTHING, then=around("under_it"), packs=NOTHING)
@@ -65,13 +67,14 @@ def is_piece(step): return re.match(r"becomes \(extending .*\) false true false$
 def is_name(step): return step.startswith("becomes ") and step.split()[-2] == "true"
 
 def steps():
+    """What is done before each of the five parts, by production."""
     grammar.build(widened=True)
     rows = grammar.rows()
     grammar.build()
     return {p: [row.before[i] if i < len(row.before) else row.onward for i in range(5)] for p, row in rows.items()}
 
 def of_function(found):
-    """the productions of each function, each with what is done"""
+    """The productions of each function, each with what is done."""
     def at(i, *tests): return {p: s[i] for p, s in found.items() if not is_by_hand(s[i]) and all(t(s[i]) for t in tests)}
     return {
         "step_first": at(0), "step_second": at(1, lambda s: not is_name(s)), "step_second_of_name": at(1, is_name, lambda s: not is_piece(s)), "step_second_of_piece": at(1, is_piece),
@@ -79,7 +82,7 @@ def of_function(found):
     }
 
 def arms():
-    """each function, and the arms of its match"""
+    """Each function, and the arms of its match."""
     for function, done in of_function(steps()).items():
         lines = []
         for p, step in done.items():
@@ -88,12 +91,12 @@ def arms():
         yield FILE, function, lines
 
 def others_than(function, found, functions):
-    """the productions that a function is never asked with, since what asks it has arms for them"""
+    """The productions that a function is never asked with, since what asks it has arms for them."""
     before = {"step_second": [], "step_second_of_name": ["step_second"], "step_second_of_piece": ["step_second", "step_second_of_name"]}[function]
     return [p for p, s in found.items() if s[1] != "quiet" and is_by_hand(s[1])] + [p for b in before for p in functions[b]]
 
 def asked():
-    """each function that is asked with what others haven't done, and the facts that the production is none of theirs"""
+    """Each function that is asked with what others haven't done, and the facts that the production is none of theirs."""
     found = steps()
     functions = of_function(found)
     for function in ("step_second", "step_second_of_name", "step_second_of_piece"):
@@ -106,13 +109,13 @@ HANDED = [("step_second", "step_second_of_name"), ("step_second_of_name", "step_
 LINKED = "Rattle.cpp_link.proofs.linked.Linked"
 
 def passed_on(caller, callee, found, functions):
-    """that what is asked with may be asked, and that what it ensures is what is to be ensured: each as one record"""
+    """That what is asked with may be asked, and that what it ensures is what is to be ensured: each as one record."""
     lines = [f"pub {callee}-requires : goal.{callee}-requires", f"{callee}-requires c = record {{", *[f"  {of} = c.requires.{of};" for of in ("table", "kept", "first")]]
     for p in others_than(callee, found, functions): lines.append(f"  {snake(p)} = c.{f'in_default.not-{p}' if p in functions[caller] else f'requires.{snake(p)}'};")
     return [*lines, "}", "", "pub returns-in_default : goal.returns-in_default", f"returns-in_default c = c.{callee}.ensures"]
 
 def shown_piece(made):
-    """a piece of a name as a tree and in code, by what is read of the first part; the call that reads it; and that the two are the same, by what that call ensures"""
+    """A piece of a name as a tree and in code, by what is read of the first part; the call that reads it; and that the two are the same, by what that call ensures."""
     if made == "only (piece_at 0)": return "values.piece_of v", "{0}.result", "piece_in", "{0}.ensures.is"
     if m := re.fullmatch(r"of new_source \((yes|no) ∷ text_at 0 ∷ \[\]\)", made): node, of = "Source", f"source {'true' if m[1] == 'yes' else 'false'}"
     elif m := re.fullmatch(r"of new_(\w+) \(letter_at 0 ∷ \[\]\)", made): node, of = m[1].capitalize(), m[1]
@@ -121,7 +124,7 @@ def shown_piece(made):
     return f"term.{of} (values.{reads} v)", f"(Piece.{node}{of[len(node):]} {{0}}.result)", read, f"(ap (λ x. term.{of} x) {known})"
 
 def pieces(done):
-    """each arm by which a piece comes after the name so far, as one record"""
+    """Each arm by which a piece comes after the name so far, as one record."""
     met = set()
     def called(name, p):
         first = name not in met
@@ -136,18 +139,13 @@ def pieces(done):
             f"    {prefix}.result {piece_.format(part)} ({tree}) c.in-{p}.is {named}.ensures (λ around state. refl)",
             f"    {prefix}.ensures {same.format(part)} {extended}.ensures.is {extended}.ensures.there refl refl"]
 
-PIECE_IMPORTS = ["use Rattle.std.proofs.Common.{refl, ap, true, false}", "use Rattle.cpp_grammar.specs.declared.production.Production.{Production}", "use Rattle.cpp_term.specs.Term as term",
-    "use Rattle.cpp_term.specs.Values as values", "use Rattle.cpp_term.specs.Between.{between, named_so_far, extended}", "use Rattle.cpp_tree.specs.Nodes.{piece_of}",
-    "use Rattle.cpp_tree.specs.declared.node.Piece.{Piece}", "use Rattle.cpp_link.specs.Parts.{trees_in, value_in}", "use Rattle.cpp_link.specs.Owed.{made_before}", "use Rattle.cpp_link.specs.NodeCount.{makes_before}",
-    "use Rattle.cpp_link.proofs.Pieces.{piece_behind}"]
-
 def answers():
-    """the answers of each function that hands on, and of that which makes a name by a piece: their files, and their lines"""
+    """The answers of each function that hands on, and of that which makes a name by a piece: their files, and their lines."""
     found = steps()
     functions = of_function(found)
     def file(function, imports, lines): return f"cpp_link/proofs/linked/Linked/{function}/Answers.antt", [*imports, f"use {LINKED}.{function}.Goals as goal", *lines]
     for caller, callee in HANDED: yield file(caller, [], ["", *passed_on(caller, callee, found, functions)])
-    yield file("step_second_of_piece", PIECE_IMPORTS, pieces(functions["step_second_of_piece"]))
+    yield file("step_second_of_piece", template("cpp_link/pieces.antt").split("\n")[:-1], pieces(functions["step_second_of_piece"]))
 
 # ## Which candidates become of a production
 
@@ -158,7 +156,7 @@ AFTER_NAMES = {"MaybeArguments": "maybe-arguments", "MaybeTags": "maybe-tags", "
 def symbol(part): return part if part in TOKENS else f"(OfKind {snake(part).upper()})"
 
 def flow(p, row, parts):
-    """how the candidates of a production flow, by its row: its lemma, with what it asks for; nothing where it is by hand, or as of most"""
+    """How the candidates of a production flow, by its row: its lemma, with what it asks for; nothing where it is by hand, or as of most."""
     before = row.before[1] if len(row.before) == 2 and row.before[0] == "quiet" and row.onward == "quiet" else ""
     name, first = f"Production.{p} refl around place", symbol(parts[0]) if parts else ""
     named = re.match(r"becomes .* (true|false) true false$", before)
@@ -174,6 +172,7 @@ def flow(p, row, parts):
     return None
 
 def flows():
+    """How candidates flow, for each production of which its row says it."""
     grammar.build(widened=True)
     rows, productions = grammar.rows(), dict(grammar.P)
     grammar.build()

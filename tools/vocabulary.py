@@ -1,5 +1,6 @@
 """The words that symbols are made of, each once: grammar.py and words.py write from here every table that has them, code and
 definitions. An entry is a line; entries keep their order, and a new one goes where it belongs: nothing is numbered here."""
+import cpp_trees
 
 # ## C++ (ABI 5.1)
 
@@ -150,7 +151,7 @@ PLAIN_TEXTS = [
     ("LEFT_BRACKET", "["),
     ("RIGHT_BRACKET", "]"),
     ("VECTOR", " __vector("),
-    ("COMPLEX", " _Complex"),
+    ("COMPLEX", cpp_trees.TEXTS["COMPLEX"]),
     ("TRUE", "true"),
     ("FALSE", "false"),
     ("NULLPTR", "nullptr"),
@@ -183,6 +184,9 @@ PLAIN_TEXTS = [
     ("DECLTYPE", "decltype("),
     ("FUNCTION_PARAMETER", "fp"),
 ]
+
+# and those of trees that have none above, in the order of the trees
+PLAIN_TEXTS += [(name, text) for name, text in cpp_trees.TEXTS.items() if name not in dict(PLAIN_TEXTS)]
 
 # <expression>, by the code of its operator. The precedences, from that which binds most: an operand whose precedence is at least the one that
 # is asked for is put in parentheses
@@ -236,142 +240,6 @@ COMMON = """NestNext SourceName PlainType NestEnd Items Builtin AnyArgument Nest
     TaggedStdType Special""".split()
 COMMON_BEFORE = "NestNext SourceName NestSource Encoding Arguments NestTemplate TypeWithS TaggedStdType".split()
 
-# ## The trees
-
-# The trees: each constructor with its arguments, a name and what it is. OWN is a tree under a scope of its own, of an encoding or its name;
-# OUTSIDE one that is under none, the encoding around a local entity; INSIDE one under the scope of the encoding's own name; SIGNATURE
-# one whose parameters are a lambda's own; TREE one under the scope of the whole, as is a PIECE of a name. What goes through a tree by its arguments alone is written from here (trees.py).
-OWN, OUTSIDE, INSIDE, SIGNATURE, TREE, PIECE = "own", "outside", "inside", "signature", "tree", "piece"
-BYTES, NUMBER, TRUTH, QUALIFIERS, MARK, SIGNED, THUNK, DISCRIMINATOR = "bytes", "number", "truth", "qualifiers", "mark", "signed", "thunk", "discriminator"
-TREES = [
-    ("symbol", ("e", OWN), ("suffix", BYTES)),
-    ("function", ("name", OWN), ("q", QUALIFIERS), ("ref", MARK), ("returned", INSIDE), ("parameters", INSIDE)),
-    ("object", ("name", OWN), ("q", QUALIFIERS), ("ref", MARK)),
-    ("special", ("letter", NUMBER), ("t", OWN)),
-    ("thunk", ("kind", THUNK), ("e", OWN)),
-    ("of_name", ("letter", NUMBER), ("name", OWN), ("q", QUALIFIERS), ("ref", MARK)),
-    ("construction", ("derived", OWN), ("digits", BYTES), ("parent", OWN)),
-    ("clone", ("letter", NUMBER), ("e", OWN)),
-    ("alone", ("p", PIECE)),
-    ("in_std", ("p", PIECE)),
-    ("within", ("prefix", TREE), ("p", PIECE)),
-    ("instance", ("template", TREE), ("arguments", TREE)),
-    ("local", ("encoding", OUTSIDE), ("entity", TREE), ("discriminator", DISCRIMINATOR)),
-    ("holder", ("name", TREE)),
-    ("tagged", ("of_structor", TRUTH), ("name", TREE), ("tag", BYTES)),
-    ("of_default", ("digits", BYTES), ("entity", TREE)),
-    ("abbreviation", ("letter", NUMBER)),
-    ("parameter", ("k", NUMBER)),
-    ("source", ("internal", TRUTH), ("bytes", BYTES)),
-    ("operator", ("a", NUMBER), ("b", NUMBER)),
-    ("literal_operator", ("bytes", BYTES)),
-    ("constructor", ("digit", NUMBER)),
-    ("destructor", ("digit", NUMBER)),
-    ("inheriting", ("digit", NUMBER), ("class", TREE)),
-    ("lambda", ("parameters", TREE), ("number", NUMBER)),
-    ("generic_lambda", ("parameters", SIGNATURE), ("number", NUMBER)),
-    ("unnamed", ("number", NUMBER)),
-    ("string_literal",),
-    ("conversion", ("t", TREE)),
-    ("builtin", ("code", BYTES)),
-    ("sized_float", ("digits", BYTES), ("end", NUMBER)),
-    ("constrained", ("letter", NUMBER), ("concept", TREE)),
-    ("vendor", ("bytes", BYTES)),
-    ("pointer", ("t", TREE)),
-    ("lvalue", ("t", TREE)),
-    ("rvalue", ("t", TREE)),
-    ("array", ("digits", BYTES), ("t", TREE)),
-    ("bounded", ("bound", TREE), ("t", TREE)),
-    ("member_pointer", ("class", TREE), ("t", TREE)),
-    ("function_type", ("c_linkage", TRUTH), ("noexcept", TRUTH), ("ref", MARK), ("returned", TREE), ("parameters", TREE)),
-    ("qualified", ("q", QUALIFIERS), ("t", TREE)),
-    ("vector", ("digits", BYTES), ("t", TREE)),
-    ("complex", ("t", TREE)),
-    ("decltype", ("operand", TREE)),
-    ("expansion", ("pattern", TREE)),
-    ("integer", ("t", TREE), ("n", SIGNED)),
-    ("boolean", ("b", TRUTH)),
-    ("null_pointer",),
-    ("encoding_literal", ("e", OWN)),
-    ("address_of", ("e", OWN)),
-    ("operation", ("one", NUMBER), ("two", NUMBER), ("u", TREE), ("w", TREE)),
-    ("function_parameter", ("digits", BYTES)),
-    ("pack", ("elements", TREE)),
-    ("nil",),
-    ("list", ("e", TREE), ("rest", TREE)),
-    ("absent",),
-]
-# <type> ::= <letter> <type>, a component that is spelled so and that no list of builtin types has: tree, production, letter
-WRAPPERS = [
-    ("complex", "Complex", "C"),
-]
-# those that are components, and may be referred to as types and prefixes: all types but builtin ones and abbreviations, and names
-COMPONENTS = """alone in_std within instance local tagged parameter vendor pointer lvalue rvalue array member_pointer function_type qualified vector
-    complex expansion""".split()
-
-# How a tree is pressed: as a component, another type, an argument, a piece of a name, an encoding, a prefix or not at all, and its parts in their
-# order: bytes, as antt has them, or a subtree and the way that it is in. Arguments have the names of the crates that press. What fits nowhere
-# is read by the wide grammar alone. A tree whose spelling depends on where it is has no row, but clauses by hand.
-SPELLED = {
-    "special": 'encoding | codes "T" ++ l ∷ [] | type.as_type',
-    "thunk": 'encoding | thunk_text kind | e.as_encoding',
-    "construction": 'nowhere encoding | codes "TC" | derived.as_type | digits ++ codes "_" | parent.as_type',
-    "clone": 'nowhere encoding | codes "GT" | letter ∷ [] | e.as_encoding',
-    "holder": 'nowhere prefix | name.as_prefix | codes "M"',
-    "tagged": 'component | name.as_type | codes "B" ++ counted tag',
-    "of_default": "nowhere none",
-    "abbreviation": 'type | codes "S" ++ l ∷ []',
-    "parameter": 'component | codes "T" ++ ordinal k',
-    "source": 'piece | cond internal (codes "L") [] ++ counted name',
-    "operator": 'piece | a ∷ b ∷ []',
-    "literal_operator": 'piece | codes "li" ++ counted name',
-    "constructor": 'piece | codes "C" ++ digit ∷ []',
-    "destructor": 'piece | codes "D" ++ digit ∷ []',
-    "inheriting": "nowhere none",
-    "lambda": 'piece | codes "Ul" | parameters.as_parameters | codes "E" ++ ordinal (k - 1)',
-    "generic_lambda": "nowhere none",
-    "unnamed": 'piece | codes "Ut" ++ ordinal (k - 1)',
-    "string_literal": 'piece | codes "s"',
-    "conversion": 'nowhere piece | codes "cv" | type.as_type',
-    "builtin": 'type | code',
-    "sized_float": 'nowhere type | codes "DF" | digits | end ∷ []',
-    "constrained": "nowhere none",
-    "vendor": 'component | codes "u" ++ counted name',
-    "pointer": 'component | codes "P" | type.as_type',
-    "lvalue": 'component | codes "R" | type.as_type',
-    "rvalue": 'component | codes "O" | type.as_type',
-    "array": 'component | codes "A" ++ digits ++ codes "_" | type.as_type',
-    "bounded": "nowhere none",
-    "member_pointer": 'component | codes "M" | class.as_type | member.as_type',
-    "qualified": 'component | qualifier_letters q | type.under_qualifiers',
-    "vector": 'component | codes "Dv" ++ digits ++ codes "_" | type.as_type',
-    "complex": 'component | codes "C" | type.as_type',
-    "decltype": "nowhere none",
-    "expansion": 'component | codes "Dp" | pattern.as_type',
-    "integer": 'argument | codes "L" | type.as_type | signed_text value ++ codes "E"',
-    "boolean": 'argument | cond truth (codes "Lb1E") (codes "Lb0E")',
-    "null_pointer": 'argument | codes "LDnE"',
-    "encoding_literal": 'argument | codes "L_Z" | e.as_encoding | codes "E"',
-    "address_of": 'argument | codes "XadL_Z" | e.as_encoding | codes "EE"',
-    "operation": "nowhere none",
-    "function_parameter": "nowhere none",
-    "pack": 'argument | codes "J" | elements.as_elements | codes "E"',
-    "absent": "nowhere none",
-}
-
-# what a type before whose type are bytes needs so that it fits, beside that type
-FITTING = {
-    "pointer": "",
-    "lvalue": "takes_all slot ≡ true",
-    "rvalue": "takes_all slot ≡ true",
-    "array": "takes_all slot ≡ true | AreSpellableDigits Decimal digits",
-    "qualified": "takes_qualified slot ≡ true | has_letters q ≡ true",
-    "vector": "takes_all slot ≡ true | AreSpellableDigits Digits digits",
-    "complex": "takes_all slot ≡ true",
-}
-# the trees that are encodings
-ENCODINGS = "function object special thunk of_name construction clone".split()
-
 # ## Rust v0 (RFC 2603)
 
 # <basic-type>: letter, text, and which constants of the type there are
@@ -401,7 +269,7 @@ BASIC_TYPES = [
 ]
 
 def after_each(rules):
-    """how many symbols come after each place of a list of symbols, up to an end: it has the start kind and then these rules' symbols, in six places each"""
+    """How many symbols come after each place of a list of symbols, up to an end: it has the start kind and then these rules' symbols, in six places each."""
     sizes = [1] + [len(symbols) for symbols in rules] + [0]
     counts = [sizes[k + 1] if i == 5 else max(sizes[k] - 1 - i, 0) for k in range(len(sizes) - 1) for i in range(6)]
     return [f"    {', '.join(map(str, counts[i:i + 32]))}," for i in range(0, len(counts), 32)]

@@ -8,6 +8,7 @@
 #include <stdint.h>
 #include <string.h>
 
+#include "proved.h"
 #include "symdemangle_arena.h"
 
 /* What the library takes for an answer: whether there was room, and where; never null. */
@@ -52,6 +53,33 @@ void symdemangle_arena_swap(symdemangle_arena *with)
 size_t symdemangle_arena_most(void)
 {
     return here.most;
+}
+
+/* The printer notes texts for speed, and goes on without notes where there is no room for them. So a block in which they have room
+   may have none for what is needed after them, where a smaller block has it; and nothing tells the two sorts of memory apart.
+   A call that found no room is therefore made again as if the block were smaller by just as much that what reached furthest has no
+   room in it, until it answers or takes nothing. Between two such sizes each call would be the same, so a larger block never
+   refuses what a smaller one answers. */
+void symdemangle_begin_of(struct symdemangle_tries *tries)
+{
+    tries->size = here.size;
+    tries->most = here.most;
+    here.most = 0;
+}
+
+int symdemangle_again_of(struct symdemangle_tries *tries, uint32_t status)
+{
+    size_t reached = here.most;
+    if (tries->most < reached)
+        tries->most = reached;
+    if (status == SYMDEMANGLE_MEMORY && reached) {
+        here.size = reached - ALIGN;
+        here.most = 0;
+        return 1;
+    }
+    here.size = tries->size;
+    here.most = tries->most;
+    return 0;
 }
 
 static struct head *head_at(size_t at)

@@ -43,6 +43,16 @@ static int lends(const void *bytes, size_t length)
     return bytes || !length;
 }
 
+/* Makes a proved call, and over a lent block again while that may help. */
+#define MAKE(call, status)                                    \
+    do {                                                      \
+        struct symdemangle_tries tries;                       \
+        symdemangle_begin_of(&tries);                         \
+        do {                                                  \
+            call;                                             \
+        } while (symdemangle_again_of(&tries, (status)));     \
+    } while (0)
+
 /* A proved call takes no null pointer: where there are no bytes, one that isn't touched stands in. */
 #define SOME(bytes, none) ((bytes) ? (bytes) : &(none))
 
@@ -52,7 +62,8 @@ uint32_t symdemangle_text(const char *name, size_t name_length, uint32_t limit, 
     char none = 0, nowhere = 0;
     if (!lends(name, name_length) || !lends(buffer, capacity) || !result)
         return tell(SYMDEMANGLE_NULL, result);
-    symdemangle_text_of(SOME(name, none), name_length, limit, flags, SOME(buffer, nowhere), capacity, result);
+    MAKE(symdemangle_text_of(SOME(name, none), name_length, limit, flags, SOME(buffer, nowhere), capacity, result),
+         result->status);
     return result->status;
 }
 
@@ -75,8 +86,9 @@ uint32_t symdemangle_filter(const char *text, size_t text_length, uint32_t limit
     symdemangle_tally no_tally = {0, 0, 0};
     if (!lends(text, text_length) || !lends(buffer, capacity) || !result)
         return tell(SYMDEMANGLE_NULL, result);
-    symdemangle_filter_of(SOME(text, none), text_length, limit, flags, SOME(buffer, nowhere), capacity, SOME(tally, no_tally),
-                          result);
+    MAKE(symdemangle_filter_of(SOME(text, none), text_length, limit, flags, SOME(buffer, nowhere), capacity,
+                               SOME(tally, no_tally), result),
+         result->status);
     return result->status;
 }
 
@@ -86,7 +98,7 @@ uint32_t symdemangle_count(const char *name, size_t name_length, uint32_t flags,
     char none = 0;
     if (!lends(name, name_length) || !counts || !result)
         return tell(SYMDEMANGLE_NULL, result);
-    symdemangle_counts_of(SOME(name, none), name_length, flags, counts, result);
+    MAKE(symdemangle_counts_of(SOME(name, none), name_length, flags, counts, result), result->status);
     return result->status;
 }
 
@@ -96,6 +108,6 @@ uint32_t symdemangle_press(const char *name, size_t name_length, uint32_t flags,
     char none = 0, nowhere = 0;
     if (!lends(name, name_length) || !lends(buffer, capacity) || !result)
         return tell(SYMDEMANGLE_NULL, result);
-    symdemangle_press_of(SOME(name, none), name_length, flags, SOME(buffer, nowhere), capacity, result);
+    MAKE(symdemangle_press_of(SOME(name, none), name_length, flags, SOME(buffer, nowhere), capacity, result), result->status);
     return result->status;
 }

@@ -17,4 +17,12 @@ void symdemangle_press_of(const char *name, size_t name_length, uint32_t flags, 
 void symdemangle_counts_of(const char *name, size_t name_length, uint32_t flags, symdemangle_counts *counts,
                            symdemangle_result *result);
 
+/* Between the tries of a call: where it found no room in a lent block, it is made again as if the block were smaller (arena.c says
+   why). Over malloc there is one try (strings.c). */
+struct symdemangle_tries {
+    size_t size, most;
+};
+void symdemangle_begin_of(struct symdemangle_tries *tries);
+int symdemangle_again_of(struct symdemangle_tries *tries, uint32_t status);
+
 #endif

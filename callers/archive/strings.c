@@ -1,8 +1,20 @@
-/* The call that makes a C string. The library over a lent block doesn't have it, since what it makes outlives the call. */
+/* What the library over malloc alone has: the call that makes a C string, which outlives the call, and one try of each call. */
 #include <stdlib.h>
 #include <string.h>
 
-#include "symdemangle.h"
+#include "proved.h"
+
+void symdemangle_begin_of(struct symdemangle_tries *tries)
+{
+    (void)tries;
+}
+
+int symdemangle_again_of(struct symdemangle_tries *tries, uint32_t status)
+{
+    (void)tries;
+    (void)status;
+    return 0;
+}
 
 void symdemangle_free(char *string)
 {

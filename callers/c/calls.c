@@ -71,9 +71,9 @@ static void texts(void)
     is_refused("_Z1fY", 99, 0, SYMDEMANGLE_MALFORMED, 4);
     is_refused("_Z1fS_", 99, 0, SYMDEMANGLE_BAD_REFERENCE, 4);
     is_refused("_ZN1AUt18446744073709551614_E", 99, 0, SYMDEMANGLE_BAD_VALUE, 5);
-    is_refused("_RNvC3foo3bar", 99, 64, SYMDEMANGLE_FLAGS, 0);
+    is_refused("_RNvC3foo3bar", 99, 256, SYMDEMANGLE_FLAGS, 0);
     is_refused("_RNvC3foo3bar", 99, 0x80000000u, SYMDEMANGLE_FLAGS, 0);
-    is_refused("main", 99, 64, SYMDEMANGLE_FLAGS, 0);
+    is_refused("main", 99, 256, SYMDEMANGLE_FLAGS, 0);
 }
 
 static void wide_texts(void)
@@ -123,6 +123,25 @@ static void names_of_other_kinds(void)
     is_refused("_Z", 99, 0, SYMDEMANGLE_MALFORMED, 2);
 }
 
+/* Names that are types; a limit is that of the symbol of their information. */
+static void types(void)
+{
+    has_text("PKc", 32, SYMDEMANGLE_TYPES, "char const*");
+    has_text("N1A1BE", 99, SYMDEMANGLE_TYPES + SYMDEMANGLE_UNDERSCORE, "A::B");
+    has_text("St4pairIiiE", 99, SYMDEMANGLE_TYPES + SYMDEMANGLE_BRIEF, "std::pair");
+    has_text("_Z1fv", 99, SYMDEMANGLE_TYPES, "f()");
+    is_refused("PKc", 31, SYMDEMANGLE_TYPES, SYMDEMANGLE_TOO_LONG, 0);
+    is_refused("PKc", 99, 0, SYMDEMANGLE_NO_SYMBOL, 0);
+    is_refused("PK", 99, SYMDEMANGLE_TYPES, SYMDEMANGLE_MALFORMED, 2);
+    is_refused("PKS5_", 99, SYMDEMANGLE_TYPES, SYMDEMANGLE_BAD_REFERENCE, 2);
+    is_refused("main", 99, SYMDEMANGLE_TYPES, SYMDEMANGLE_MALFORMED, 1);
+    is_refused("PKc.1", 99, SYMDEMANGLE_TYPES, SYMDEMANGLE_NO_SYMBOL, 0);
+    is_refused("PKc d", 99, SYMDEMANGLE_TYPES, SYMDEMANGLE_NO_SYMBOL, 0);
+    is_refused("__Z1fv", 99, SYMDEMANGLE_TYPES, SYMDEMANGLE_MALFORMED, 0);
+    is_refused("_Z1fY", 99, SYMDEMANGLE_TYPES, SYMDEMANGLE_MALFORMED, 4);
+    is_refused("", 99, SYMDEMANGLE_TYPES, SYMDEMANGLE_MALFORMED, 0);
+}
+
 static void is_told(const symdemangle_result *told, uint32_t status, size_t length, uint32_t offset, const char *name)
 {
     check(told->status == status && told->length == length && told->offset == offset, "one of many", name);
@@ -152,7 +171,7 @@ static void many(void)
     told[0] = told[1] = untold;
     check(symdemangle_texts(names, length, falling, 2, 99, 0, buffer, sizeof buffer, told) == SYMDEMANGLE_ENDS, "ends that go down", "");
     check(symdemangle_texts(names, length, beyond, 2, 99, 0, buffer, sizeof buffer, told) == SYMDEMANGLE_ENDS, "an end past the bytes", "");
-    check(symdemangle_texts(names, length, ends, 2, 99, 64, buffer, sizeof buffer, told) == SYMDEMANGLE_FLAGS, "flags of many", "");
+    check(symdemangle_texts(names, length, ends, 2, 99, 256, buffer, sizeof buffer, told) == SYMDEMANGLE_FLAGS, "flags of many", "");
     check(symdemangle_texts(names, length, NULL, 2, 99, 0, buffer, sizeof buffer, told) == SYMDEMANGLE_NULL, "null ends", "");
     check(symdemangle_texts(names, length, ends, 2, 99, 0, buffer, sizeof buffer, NULL) == SYMDEMANGLE_NULL, "null results", "");
     check(told[0].status == 9 && told[1].offset == 9 && is_kept(0), "results that are kept", "");
@@ -161,17 +180,18 @@ static void many(void)
 
 static void many_of_other_kinds(void)
 {
-    static const char names[] = "_ZN1AC4Ev_Z1fv__Z1fY_ZN1a1b17h0123456789abcdefE";
-    static const size_t ends[] = {9, 14, 20, 47};
-    static const uint32_t flags = SYMDEMANGLE_WIDE + SYMDEMANGLE_LEGACY + SYMDEMANGLE_UNDERSCORE;
-    symdemangle_result told[4];
+    static const char names[] = "_ZN1AC4Ev_Z1fv__Z1fY_ZN1a1b17h0123456789abcdefEPKc";
+    static const size_t ends[] = {9, 14, 20, 47, 50};
+    static const uint32_t flags = SYMDEMANGLE_WIDE + SYMDEMANGLE_LEGACY + SYMDEMANGLE_UNDERSCORE + SYMDEMANGLE_TYPES;
+    symdemangle_result told[5];
     memset(buffer, '#', sizeof buffer);
-    check(symdemangle_texts(names, 47, ends, 4, 99, flags, buffer, sizeof buffer, told) == SYMDEMANGLE_OK, "many, wide", "");
+    check(symdemangle_texts(names, 50, ends, 5, 99, flags, buffer, sizeof buffer, told) == SYMDEMANGLE_OK, "many, wide", "");
     is_told(&told[0], SYMDEMANGLE_OK, 6, 0, "_ZN1AC4Ev");
     is_told(&told[1], SYMDEMANGLE_OK, 3, 0, "_Z1fv");
     is_told(&told[2], SYMDEMANGLE_MALFORMED, 0, 5, "__Z1fY");
     is_told(&told[3], SYMDEMANGLE_OK, 4, 0, "_ZN1a1b17h0123456789abcdefE");
-    check(memcmp(buffer, "A::A()f()a::b", 13) == 0 && is_kept(13), "texts of many, wide", "");
+    is_told(&told[4], SYMDEMANGLE_OK, 11, 0, "PKc");
+    check(memcmp(buffer, "A::A()f()a::bchar const*", 24) == 0 && is_kept(24), "texts of many, wide", "");
 }
 
 static void filters_to(const char *log, uint32_t flags, const char *text, unsigned words, unsigned replaced)
@@ -202,7 +222,10 @@ static void filtered_texts(void)
     filters_to("_ZN1a1b17h0123456789abcdefE _ZN1AC4Ev", SYMDEMANGLE_LEGACY + SYMDEMANGLE_WIDE, "a::b A::A()", 2, 2);
     filters_to("\xe2\x80\x98_Z1fv\xe2\x80\x99 _Z1gv", 0, "\xe2\x80\x98_Z1fv\xe2\x80\x99 g()", 1, 1);
     filters_to("\xe2\x80\x98_Z1fv\xe2\x80\x99 _Z1gv", SYMDEMANGLE_ASCII_WORDS, "\xe2\x80\x98" "f()\xe2\x80\x99 g()", 2, 2);
-    check(symdemangle_filter("a", 1, 99, 64, buffer, sizeof buffer, &tally, &result) == SYMDEMANGLE_FLAGS && tally.words == 9, "flags of a filter", "");
+    filters_to("\xe2\x80\x98_Z1fv\xe2\x80\x99 .text._Z1gv a._ZL5caf\xc3\xa9", SYMDEMANGLE_WITHIN, "\xe2\x80\x98" "f()\xe2\x80\x99 .text.g() a.caf\xc3\xa9", 3, 3);
+    filters_to("_ZL5caf\xc3\xa9 .text._Z1gv", SYMDEMANGLE_WITHIN + SYMDEMANGLE_ASCII_WORDS, "caf\xc3\xa9 .text.g()", 2, 2);
+    filters_to(".text._Z1gv PKc", SYMDEMANGLE_TYPES, ".text._Z1gv PKc", 0, 0);
+    check(symdemangle_filter("a", 1, 99, 256, buffer, sizeof buffer, &tally, &result) == SYMDEMANGLE_FLAGS && tally.words == 9, "flags of a filter", "");
     check(symdemangle_filter(NULL, 0, 99, 0, NULL, 0, &tally, &result) == SYMDEMANGLE_OK && result.length == 0 && tally.words == 0, "empty text", "");
 }
 
@@ -232,7 +255,8 @@ static void counted(void)
     is_uncounted("__R", SYMDEMANGLE_UNDERSCORE, SYMDEMANGLE_MALFORMED, 3);
     is_uncounted("__R", 0, SYMDEMANGLE_NO_SYMBOL, 0);
     is_uncounted("_ZN1AC4Ev", 0, SYMDEMANGLE_MALFORMED, 6);
-    is_uncounted("_Z1fv", 64, SYMDEMANGLE_FLAGS, 0);
+    is_uncounted("PKc", SYMDEMANGLE_TYPES, SYMDEMANGLE_NO_SYMBOL, 0);
+    is_uncounted("_Z1fv", 256, SYMDEMANGLE_FLAGS, 0);
     check(symdemangle_count("_ZN1AC4Ev", 9, SYMDEMANGLE_WIDE, &counts, &result) == SYMDEMANGLE_OK, "wide counts", "_ZN1AC4Ev");
 }
 
@@ -262,7 +286,8 @@ static void pressed_spellings(void)
     is_unpressed("_Z1fS_", 0, SYMDEMANGLE_BAD_REFERENCE, 4);
     is_unpressed("main", 0, SYMDEMANGLE_NO_SYMBOL, 0);
     is_unpressed("_Z1fv", SYMDEMANGLE_WIDE, SYMDEMANGLE_FLAGS, 0);
-    is_unpressed("_Z1fv", 64, SYMDEMANGLE_FLAGS, 0);
+    is_unpressed("PKc", SYMDEMANGLE_TYPES, SYMDEMANGLE_NO_SYMBOL, 0);
+    is_unpressed("_Z1fv", 256, SYMDEMANGLE_FLAGS, 0);
 }
 
 static void bad_arguments(void)
@@ -314,8 +339,12 @@ static void strings(void)
     text = symdemangle_string(name, 0);
     check(text && strlen(text) == 5005 && memcmp(text, "foo::aaa", 8) == 0, "long string", "");
     symdemangle_free(text);
+    text = symdemangle_string("PKc", SYMDEMANGLE_TYPES);
+    check(text && strcmp(text, "char const*") == 0, "string", "PKc");
+    symdemangle_free(text);
+    check(symdemangle_string("main", SYMDEMANGLE_TYPES) == NULL, "string that is no type", "main");
     check(symdemangle_string("main", SYMDEMANGLE_UNDERSCORE) == NULL, "string", "main");
-    check(symdemangle_string("_Z1fv", 64) == NULL, "flags of a string", "");
+    check(symdemangle_string("_Z1fv", 256) == NULL, "flags of a string", "");
     check(symdemangle_string(NULL, 0) == NULL, "null string", "");
     symdemangle_free(NULL);
 }
@@ -326,6 +355,7 @@ int main(void)
     wide_texts();
     legacy_texts();
     names_of_other_kinds();
+    types();
     many();
     many_of_other_kinds();
     filtered_texts();

@@ -1,7 +1,19 @@
-// What the calls of symdemangle.hpp answer.
+// What the calls of symdemangle.hpp answer; with -DOLDER over a library that doesn't know SYMDEMANGLE_WITHIN and SYMDEMANGLE_TYPES
+// (tests/callers/older.c).
 #include "symdemangle.hpp"
 
 #include <iostream>
+#include <typeinfo>
+
+#ifdef OLDER
+static const bool is_older = true;
+#else
+static const bool is_older = false;
+#endif
+
+namespace app {
+template <class T> struct Box {};
+} // namespace app
 
 static int failed;
 
@@ -39,7 +51,18 @@ int main()
     is(filtered("at _Z1fv. _Z1fY", {}, &found), "at f(). _Z1fY", "filter");
     is(found.words == 2 && found.replaced == 1 && found.refused == 1, true, "tally");
     is(filtered(std::string(9999, '-') + "_Z1fv"), std::string(9999, '-') + "f()", "a long filtered text");
-    is(filtered("_Z1fv", {64, 99}), std::nullopt, "a flag that is none");
+    const options none = {1u << 31, 99};
+    is(filtered("_Z1fv", none), std::nullopt, "a flag that is none");
+    is(text("_Z1fv", none, &why), std::nullopt, "a name with a flag that is none");
+    is(why.status, static_cast<unsigned>(SYMDEMANGLE_FLAGS), "why it has no text");
+    is(text_or_name("_Z1fv", none), "_Z1fv", "the name with a flag that is none");
+    is(texts_or_names({"_Z1fv", "main"}, none), std::vector<std::string>{"_Z1fv", "main"}, "many with a flag that is none");
+    is(filtered(".text._ZN1A1fEv ‘_Z1fv’ _Z1gv"), is_older ? ".text._ZN1A1fEv ‘_Z1fv’ g()" : ".text.A::f() ‘f()’ g()", "words within runs");
+    is(filtered("‘_Z1fv’", {SYMDEMANGLE_WIDE, 99}), "‘_Z1fv’", "words that are runs");
+    is(type_or_name(typeid(app::Box<int>).name()), is_older ? "N3app3BoxIiEE" : "app::Box<int>", "a type");
+    is(type_or_name("PKc"), is_older ? "PKc" : "char const*", "another type");
+    is(type_or_name("_Z1fv"), "f()", "a symbol that may be a type");
+    is(type_or_name("?"), "?", "no type");
     is(pressed("_ZN3foo3barEN3foo3bazE"), "_ZN3foo3barENS_3bazE", "pressed");
     is(pressed("_Z1fS_", &why), std::nullopt, "no pressed spelling");
     is(why.offset, 4u, "why it isn't pressed");

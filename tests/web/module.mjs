@@ -1,7 +1,8 @@
-// node module.mjs PAGE_FOLDER ROWS SYMFILT SYMBOLS: the page's module against the rows of check_rows, and against the program
+// node module.mjs PAGE_FOLDER ROWS DEMANGLE SYMBOLS: the page's module against the rows of check_rows, and against the program
 //
 // Each row's text at its cost, too long at one less; each refusal with its offset; each pressed spelling. Then the symbols of a
-// file, filtered in pieces of several sizes in each detail, have to be the program's bytes.
+// file, filtered in pieces of several sizes in each detail, have to be the program's bytes. The page's words have to be the library's,
+// and a text in pieces has to come out as the whole does.
 import { execFileSync } from "node:child_process";
 import fs from "node:fs";
 import path from "node:path";
@@ -10,7 +11,7 @@ import { pathToFileURL } from "node:url";
 const [folder, rows, program, symbols] = process.argv.slice(2);
 const from = (name) => import(pathToFileURL(path.resolve(folder, name)));
 const { FLAG, GREATEST_LIMIT, LONGEST_WORD, Library, MOST, STATUS } = await from("library.js");
-const { PieceFilter, flagsOf } = await from("words.js");
+const { PieceFilter, flagsOf, namesOf } = await from("words.js");
 const code = new WebAssembly.Module(fs.readFileSync(path.join(folder, "symdemangle.wasm")));
 if (WebAssembly.Module.imports(code).length) throw new Error("the module imports something");
 const library = new Library(code);
@@ -82,13 +83,14 @@ for (const line of fs.readFileSync(rows, "latin1").split("\n")) {
 for (const kind of ["text", "refused", "wide text", "wide refused", "legacy text", "legacy refused", "press", "counts"]) holds("kinds", tried[kind] > 50, `too few rows ${kind}:`, tried[kind]);
 console.log(`rows: ${Object.entries(tried).map(([kind, count]) => `${kind} ${count}`).join(", ")}`);
 
-const log = fs.readFileSync(symbols);
+const all = fs.readFileSync(symbols);
+const OF_CPP = Buffer.from(all.toString("latin1").replace(/^(?!_Z).*\n/gm, ""), "latin1");
 const CHOICES = [
-    [{}, []], [{ wide: true }, ["--wide"]], [{ brief: true }, ["--brief"]], [{ noParameters: true }, ["--no-params"]],
-    [{ wide: true, brief: true, noParameters: true, ascii: true }, ["--wide", "--brief", "--no-params", "--ascii-words"]],
-    [{ legacy: true }, ["--legacy"]], [{ wide: true, legacy: true, ascii: true }, ["--wide", "--legacy", "--ascii-words"]],
+    [all, { legacy: true }, []], [all, { legacy: true, brief: true }, ["--brief"]], [all, { legacy: true, noParameters: true }, ["--no-params"]],
+    [all, { legacy: true, brief: true, noParameters: true }, ["--brief", "--no-params"]],
+    [OF_CPP, {}, ["--format", "gnu-v3"]],
 ];
-for (const [options, words] of CHOICES) {
+for (const [log, options, words] of CHOICES) {
     const wanted = execFileSync(program, words, { input: log, maxBuffer: 1 << 30 });
     const [before, after] = [log, wanted].map((it) => it.toString("latin1").split("\n"));
     const replaced = before.filter((line, i) => line !== after[i]).length;
@@ -105,6 +107,66 @@ for (const [options, words] of CHOICES) {
         console.log(`${words.join(" ") || "in full"}, in pieces of ${size}: the program's text, ${speed} MB/s, ${tally.replaced} replaced, ${tally.refused} refused`);
     }
 }
+
+// Words: those of the page are the library's, however a text is made up.
+const NUMBERS = (() => {
+    let state = 1;
+    return (below) => {
+        state = (Math.imul(state, 1103515245) + 12345) >>> 0;
+        return (state >>> 8) % below;
+    };
+})();
+const PARTS = [
+    "_Z1fv", "_RNvC3foo3bar", "__Z1fv", "_Z1fY", "_ZL5café", "_Z2üv", ".text.", "\n", " ", "\\n", "\\", "\\u001b[", "\x1b[31;1m", "\x1b", "\x1b[K", "[0", ";",
+    ":", "\\x1b", "\\t", "\\u00e9", "a", "9", "_", "$", ".", "...", "‘", "’", "é", "__imp_", "_GLOBAL__sub_I_", "_GLOBAL__D_", "self.", "_Zoom", ".rodata$", "💡",
+];
+const LONG = ["a".repeat(65_536), "0".repeat(70_000), ".".repeat(70_000), "_".repeat(65_537), "é".repeat(40_000), ".a".repeat(33_000), `_Z1f${"i".repeat(65_530)}`];
+const options = { legacy: true };
+const flags = flagsOf(options);
+const textOf = (word) => {
+    const { status, bytes } = library.text(Buffer.from(word), 1_000_000, flags);
+    return status === STATUS.OK ? Buffer.from(bytes).toString() : undefined;
+};
+function byPage(text) {
+    let [seen, made] = [0, ""];
+    for (const { word, index } of namesOf(text, (word) => textOf(word) !== undefined)) {
+        made += text.slice(seen, index) + (textOf(word) ?? word);
+        seen = index + word.length;
+    }
+    return made + text.slice(seen);
+}
+function inPieces(pieces) {
+    const filter = new PieceFilter(library, 1_000_000, flags);
+    return Buffer.concat([...pieces.flatMap((it) => filter.push(it)), ...filter.end()]);
+}
+for (let turn = 0; turn < 6000; turn += 1) {
+    const isLong = turn % 40 === 0;
+    const parts = Array.from({ length: NUMBERS(30) }, () => PARTS[NUMBERS(PARTS.length)]);
+    if (isLong) parts.splice(NUMBERS(parts.length + 1), 0, LONG[NUMBERS(LONG.length)]);
+    const text = parts.join("");
+    const given = Buffer.from(text);
+    const wanted = Buffer.from(library.filter(given, 1_000_000, flags).bytes);
+    holds("words", Buffer.from(byPage(text)).equals(wanted), JSON.stringify(text.slice(0, 300)), wanted.toString().slice(0, 300));
+    for (const size of isLong ? [4096, 65_536, 1 << 20] : [1, 2, 3, 7]) {
+        const pieces = Array.from({ length: Math.ceil(given.length / size) }, (_, i) => given.subarray(i * size, (i + 1) * size));
+        holds("pieces", inPieces(pieces).equals(wanted), size, JSON.stringify(text.slice(0, 300)));
+    }
+}
+const ZEROS = "0".repeat(70_000);
+for (const pieces of [[`${ZEROS}.`, "_Zoom"], [`.${ZEROS}$`, "_Z1fv"], [`${ZEROS}_`, "_Z1fv"], ["é".repeat(40_000), "_Z1fv"], ["x\\", "n_Z1fv"], ["x\x1b[31;", "1m_Z1fv"]]) {
+    const wanted = library.filter(Buffer.from(pieces.join("")), 1_000_000, flags).bytes;
+    holds("pieces", inPieces(pieces.map((it) => Buffer.from(it))).equals(Buffer.from(wanted)), pieces.map((it) => JSON.stringify(it.slice(-20))));
+}
+for (const [text, wanted] of [
+    [".text._ZN1A1fEv", ".text.A::f()"], ["‘_Z1fv’", "‘f()’"], ["関数_Z1fvで", "関数f()で"], ["_Z7größei", "größe(int)"], ["__imp__Z1fv", "__imp_f()"],
+    ["DW.ref._ZTI1A", "DW.ref.typeinfo for A"], ["self._Zoom", "self._Zoom"],
+]) holds("words", byPage(text) === wanted, text, byPage(text));
+
+// A run without a break goes out as it comes.
+const run = new PieceFilter(library, 1_000_000, flags);
+let given = 0;
+for (let turn = 0; turn < 64; turn += 1) for (const part of run.push(new Uint8Array(1 << 20).fill(97))) given += part.length;
+holds("pieces", given >= 63 << 20, "a run of 64 MiB:", given);
 
 // A text that needs more memory than there is, and then a name as usual.
 const doubled = `_Z1f1AIiiE${[..."0123456789ABCDEFGHIJKLMN"].map((it) => `S_IS${it}_S${it}_E`).join("")}`;

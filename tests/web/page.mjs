@@ -1,6 +1,7 @@
-// node page.mjs PAGE_FOLDER SYMFILT SYMBOLS HOSTILE_FOLDER [SHOTS_FOLDER]: the page in Chromium, as a person uses it
+// node page.mjs PAGE_FOLDER DEMANGLE SYMFILT SYMBOLS HOSTILE_FOLDER [SHOTS_FOLDER]: the page in Chromium, as a person uses it
 //
-// It types, pastes, ticks, drops and downloads, and looks at what is there; texts are compared with the program's. Each step is
+// It types, pastes, ticks, drops and downloads, and looks at what is there; texts are compared with those of demangle, counts and
+// pressed spellings with those of symfilt. Each step is
 // named as it holds; the first that doesn't ends it. HOSTILE_FOLDER has a hostile name in each of the files cpp and rust.
 // SHOTS_FOLDER gets pictures of the page, to be looked at.
 import { execFileSync } from "node:child_process";
@@ -8,7 +9,7 @@ import fs from "node:fs";
 import path from "node:path";
 import { Browser, serve, sleep, until } from "./browser.mjs";
 
-const [folder, program, symbols, hostile, shots] = process.argv.slice(2);
+const [folder, demangle, symfilt, symbols, hostile, shots] = process.argv.slice(2);
 const server = await serve(folder);
 const browser = await Browser.start();
 let step = "start";
@@ -34,7 +35,8 @@ const shows = (css, wanted) => until(async () => JSON.stringify(await said(css))
     throw new Error(`${error.message}, but ${JSON.stringify(await said(css))}`);
 });
 const picture = (name, isWhole) => shots && browser.shot(path.join(shots, `${name}.png`), isWhole);
-const byProgram = (words, input) => execFileSync(program, words, { input, maxBuffer: 1 << 30 });
+const demangled = (words, input) => execFileSync(demangle, words, { input, maxBuffer: 1 << 30 });
+const bySymfilt = (words) => execFileSync(symfilt, words).toString();
 
 async function open(hash = "", how = {}) {
     await browser.open(server.address + hash, how);
@@ -59,7 +61,7 @@ const steps = {
         wants(await browser.run(() => document.activeElement.id === "input"), "the input has the focus");
         const pairs = await browser.run(() => [...document.querySelectorAll("#intro dl > div")].map((it) => [it.querySelector("button").textContent, it.querySelector("dd").textContent]));
         wants(pairs.length === 2, "two names and their texts:", pairs);
-        for (const [name, text] of pairs) wants(byProgram(["--wide", name]).toString() === `${text}\n`, "the text of an example:", name, text);
+        for (const [name, text] of pairs) wants(demangled([name]).toString() === `${text}\n`, "the text of an example:", name, text);
         await click("#intro button");
         await shows(".said", [pairs[0][1]]);
         wants(!(await said("#intro")).length, "the examples go when there is a text");
@@ -94,18 +96,18 @@ const steps = {
         await shows(".said", [TEXT]);
         await puts("1000000", "[name=limit]");
         await shows("#limit-hint", ["what one text may cost: its bytes and parts"]);
-        await tick("wide");
         await puts("_ZN1AC4Ev");
-        await shows(".why", ["Malformed at offset 6. No name goes on with “4” there."]);
-        await picture("narrow");
-        await click(".widen");
         await shows(".said", ["A::A()"]);
-        wants(await browser.run(() => document.querySelector("[name=wide]").checked), "the wide grammar is ticked");
-        await puts("error: ‘_Z1fv’ is wrong");
-        await shows("#text", ["error: ‘f()’ is wrong"]);
-        await tick("letters");
-        await until(async () => (await text("status")).startsWith("No name found."), "quotes are letters");
-        await tick("letters");
+    },
+
+    async "words"() {
+        await puts("_Z7größei");
+        await shows(".said", ["größe(int)"]);
+        for (const text of ["error: ‘_Z1fv’ is wrong", ".text._ZN1A1fEv", "_Z1fv—_Z1gv", "a __imp__Z1fv b", "self._Zoom _Z1fv", "‘_Z1fY’ _Z1fv"]) {
+            await puts(text);
+            await shows("#text", [demangled([], text).toString()]);
+        }
+        await shows(".why", ["Malformed at offset 4. No name goes on with “Y” there."]);
     },
 
     async "legacy Rust names"() {
@@ -124,16 +126,14 @@ const steps = {
             ["_Z1fS9_", "Bad reference at offset 4. It refers to a part that the name doesn’t have before it.", "S (offset 4)"],
             ["_RNvC3foo3barX", "Incomplete. The name breaks off after 14 bytes: more has to follow.", " (the end)"],
             ["__ZN4demo4mainS7_", "Malformed at offset 14. No name goes on with “S” there.", "S (offset 14)"],
-            ["_Z2éQ", "Malformed at offset 5. No name goes on with “Q” there.", "Q (offset 5)"],
+            ["_Z2éY", "Malformed at offset 5. No name goes on with “Y” there.", "Y (offset 5)"],
             ["_Z1é", "Malformed at offset 4. No name goes on with “é” there.", "é (offset 4)"],
         ];
-        await tick("letters");
         for (const [name, why, mark] of REFUSED) {
             await puts(name);
             await shows(".why", [why]);
             await shows(".symbol mark", [mark]);
         }
-        await tick("letters");
         await puts("?f@@YAXXZ");
         await until(async () => /Microsoft/.test(await text("status")), "a name of Microsoft’s is told");
         await puts("ZN3foo3barEv");
@@ -141,13 +141,11 @@ const steps = {
     },
 
     async "characters that can't be seen"() {
-        await tick("letters");
         await puts("_Z4f\u202eb");
         await shows(".said", ["f\\u{202e}(bool)"]);
         await shows(".symbol", ["_Z4f\\u{202e}b"]);
         await puts("\u202e _Z4f\u202eb");
         await shows("#text", ["\\u{202e} f\\u{202e}(bool)"]);
-        await tick("letters");
     },
 
     async "a log"() {
@@ -156,7 +154,7 @@ const steps = {
         await until(async () => (await text("status")).startsWith("5 names demangled, 1 name refused"), "how many");
         await picture("log");
         const log = await browser.run(() => document.getElementById("input").value);
-        await shows("#text", [byProgram(["--wide", "--legacy"], log).toString()]);
+        await shows("#text", [demangled([], log).toString()]);
         await browser.run(() => document.querySelectorAll("#text a")[4].click());
         await shows(".card.shown strong", ["Malformed at offset 13."]);
         await puts(`${log}${log}`);
@@ -170,8 +168,8 @@ const steps = {
         await puts(word);
         await until(async () => (await said(".inside dd")).length === 4, "counts and pressed spelling");
         const [steps, rows, nodes, pressed] = await browser.run(() => [...document.querySelectorAll(".inside dd")].map((it) => it.firstChild.textContent));
-        wants(byProgram(["--stats", name]).toString().split("\n")[1] === `rows ${rows} nodes ${nodes} steps ${steps}`, "the program's counts:", rows, nodes, steps);
-        wants(byProgram(["--press", word]).toString() === `${pressed}\n`, "the program's spelling:", pressed);
+        wants(bySymfilt(["--stats", name]).split("\n")[1] === `rows ${rows} nodes ${nodes} steps ${steps}`, "the program's counts:", rows, nodes, steps);
+        wants(bySymfilt(["--press", word]) === `${pressed}\n`, "the program's spelling:", pressed);
         await picture("pressed");
     },
 
@@ -180,12 +178,12 @@ const steps = {
         await until(async () => (await said(".card")).length === 6, "six names");
         await browser.run(() => document.getElementById("input").focus());
         const stops = [];
-        for (let i = 0; i < 11; i += 1) {
+        for (let i = 0; i < 9; i += 1) {
             await browser.press("Tab", "Tab", 9);
             stops.push(await browser.run(() => document.activeElement.id || document.activeElement.name || document.activeElement.textContent.trim()));
         }
-        const wanted = ["Options", "brief", "noParameters", "wide", "legacy", "letters", "limit", "copy", "save", "text", "<demo::queue::Queue<usize>>::push"];
-        wants(JSON.stringify(stops.slice(0, 10)) === JSON.stringify(wanted.slice(0, 10)), "the order of tabs:", stops);
+        const wanted = ["Options", "brief", "noParameters", "legacy", "limit", "copy", "save", "text", "<demo::queue::Queue<usize>>::push"];
+        wants(JSON.stringify(stops.slice(0, 8)) === JSON.stringify(wanted.slice(0, 8)), "the order of tabs:", stops);
         await browser.run(() => document.querySelector("[name=brief]").focus());
         for (const first of ["<demo::queue::Queue>::push", "<demo::queue::Queue<usize>>::push"]) {
             await browser.press(" ", "Space", 32, " ");
@@ -204,7 +202,8 @@ const steps = {
         for (const [role, name] of roles) wants(name || !NAMED.includes(role), `a ${role} has no name`);
         const has = (...it) => wants(roles.some(([role, name]) => role === it[0] && name === it[1]), "there is no", it);
         has("textbox", "Names or a log");
-        has("checkbox", "Wide C++ grammar");
+        has("checkbox", "No template arguments");
+        wants(!roles.some(([, name]) => /Wide|ASCII/.test(name)), "there is no choice of a grammar or of letters");
         has("spinbutton", "Limit");
         has("button", "Copy this text");
         has("heading", "Demangle C++ and Rust names");
@@ -217,7 +216,7 @@ const steps = {
         await puts(log);
         await until(async () => /^[\d,]{3,} names/.test(await text("status")), "it is read");
         await click("#save");
-        wants((await downloaded("demangled.txt")).equals(byProgram(["--wide", "--legacy", "--ascii-words"], log)), "not the program's text");
+        wants((await downloaded("demangled.txt")).equals(demangled([], log)), "not the program's text");
         await click("#more");
         await until(async () => (await said(".card")).length === 500, "more names are shown");
     },
@@ -234,12 +233,12 @@ const steps = {
         console.log(`    ${await text("job-status")}`);
         await picture("file");
         await click("#download");
-        const wanted = byProgram(["--wide", "--legacy", "--ascii-words"], given);
+        const wanted = demangled([], given);
         wants((await downloaded("given.demangled.log")).equals(wanted), "not the program's text");
         const [before, after] = [given, wanted].map((it) => it.toString().split("\n"));
-        const demangled = before.filter((line, i) => line !== after[i]).length;
+        const changed = before.filter((line, i) => line !== after[i]).length;
         const told = / ([\d,]+) names demangled, ([\d,]+) refused/.exec(await text("job-status")).slice(1).map((it) => Number(it.replaceAll(",", "")));
-        wants(told[0] === demangled && told[0] + told[1] === before.length - 1, "how many names:", told, demangled);
+        wants(told[0] === changed && told[0] + told[1] === before.length - 1, "how many names:", told, changed);
         await click("#close");
         wants(!(await said("#job")).length, "it is closed");
         await browser.choose("#file", path.join(browser.folder, "none.log"));

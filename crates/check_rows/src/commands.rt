@@ -2,11 +2,13 @@
 
 use crate::answer::{Verdict, unspelled};
 use crate::library::ask_library_to_filter;
+use crate::row::LIMIT;
 use crate::streams::{ask_sinks, ask_streams};
 use std::alloc::{AllocError, Global};
 use std::str;
-use sym_command::{FAULT, Run};
-use sym_filter::{FilterFault, ListSink, ReaderSource};
+use sym_command::{FAULT, Filtering, Run};
+use sym_filter::{FilterFault, Letters, ListSink, ReaderSource};
+use sym_print::Detail;
 use symfilt_command::{run, run_over};
 
 /// What a program has to write where a row says nothing of it but that there is some.
@@ -20,7 +22,8 @@ pub struct Ending<'a> {
     pub err: &'a [u8],
 }
 
-/// The words of a command line, the program's name first, as blanks keep them apart; `-` is none. No row has words that aren't text.
+/// The words of a command line of symfilt, the program's name first, as blanks keep them apart; `-` is none. No row has words of it
+/// that aren't text.
 fn words_of<'a>(
     verdict: &mut Verdict,
     program: &'a str,
@@ -36,6 +39,18 @@ fn words_of<'a>(
             }
         }
         Err(_) => verdict.require(false),
+    }
+    Ok(words)
+}
+
+/// The words of a command line of demangle, each of any bytes, in the same way.
+fn byte_words_of(alloc: Global, field: &[u8]) -> Result<Vec<&[u8]>, AllocError> {
+    let mut words = Vec::new(alloc);
+    words.push("demangle".as_bytes())?;
+    if field != b"-".as_slice() {
+        for word in field.split(|byte| *byte == b' ') {
+            words.push(word)?;
+        }
     }
     Ok(words)
 }
@@ -76,13 +91,31 @@ fn run_symfilt(verdict: &mut Verdict, words: &[&str], input: &[u8], wanted: Endi
 }
 
 /// Runs demangle over an input.
-fn run_demangle(verdict: &mut Verdict, words: &[&str], input: &[u8], wanted: Ending<'_>) {
+fn run_demangle(verdict: &mut Verdict, words: &[&[u8]], input: &[u8], wanted: Ending<'_>) {
     let alloc = verdict.alloc;
     let mut reader = ReaderSource::new(input);
     let mut out = ListSink::new(Vec::new(alloc));
     let mut err = ListSink::new(Vec::new(alloc));
     let status = demangle_command::run_over(alloc, words, &mut reader, &mut out, &mut err);
     ended(verdict, status, &out.into_list(), &err.into_list(), wanted);
+}
+
+/// What `demangle` filters by with these options, where they say nothing but how much of a symbol is shown.
+fn shown_by(options: &[u8]) -> Option<Filtering> {
+    let detail = match options {
+        b"-" => Detail::Full,
+        b"--brief" => Detail::Brief,
+        b"-p" => Detail::NoParameters,
+        b"-p --brief" => Detail::BriefNoParameters,
+        _ => return None,
+    };
+    Some(Filtering {
+        limit: LIMIT,
+        detail,
+        letters: Letters::Within,
+        wide: true,
+        legacy: true,
+    })
 }
 
 /// What symfilt is to do with these words; it has to end so, unless it is to filter.
@@ -155,19 +188,23 @@ pub fn ask_to_end(
     Ok(())
 }
 
-/// Asks `demangle` to end so on these words over an input.
+/// Asks `demangle` to end so on these words over an input, and the static library to filter the input as it does.
 ///
 /// # Errors
 ///
 /// Where there is no memory for the words and the input.
 pub fn ask_to_demangle(
     verdict: &mut Verdict,
-    words: &[u8],
+    options: &[u8],
     input: &[u8],
     wanted: Ending<'_>,
 ) -> Result<(), AllocError> {
-    let words = words_of(verdict, "demangle", words)?;
+    let words = unspelled(verdict.alloc, options)?;
+    let words = byte_words_of(verdict.alloc, &words)?;
     let input = unspelled(verdict.alloc, input)?;
+    if let Some(filtering) = shown_by(options) {
+        ask_library_to_filter(verdict, &input, filtering, wanted.out);
+    }
     run_demangle(verdict, &words, &input, wanted);
     Ok(())
 }

@@ -3,7 +3,9 @@
 use crate::answer::Verdict;
 use crate::row::Row;
 use std::alloc::{AllocError, Global};
-use sym_calls::flags::{ASCII_WORDS, BRIEF, LEGACY, NO_PARAMETERS, UNDERSCORE, WIDE};
+use sym_calls::flags::{
+    ASCII_WORDS, BRIEF, LEGACY, NO_PARAMETERS, TYPES, UNDERSCORE, WIDE, WITHIN,
+};
 use sym_calls::outcome::{
     BAD_REFERENCE, BAD_VALUE, BUFFER, ENDS, FLAGS, MALFORMED, MEMORY, NO_SYMBOL, OK, SIZE, TOO_LONG,
 };
@@ -21,8 +23,11 @@ const UNWRITTEN: u8 = 0xa5;
 /// What is in each number before a call tells it.
 const UNTOLD: u32 = 0xa5a5_a5a5;
 
+/// What a row has where a name is no symbol and can't be a type.
+const NO_NAME: &[u8] = b"not a symbol";
+
 /// A number that is no flag.
-const NO_FLAG: u32 = 64;
+const NO_FLAG: u32 = 256;
 
 /// A call that writes to a buffer.
 #[derive(Clone, Copy)]
@@ -454,9 +459,9 @@ pub fn ask_library_to_filter(
 ) {
     let shown = flags_of(filtering.detail, filtering.wide, filtering.legacy);
     let flags = match filtering.letters {
+        Letters::Any => shown,
         Letters::Ascii => shown | ASCII_WORDS,
-        // the library has no flag for words within runs, for which no command line of symfilt asks
-        _ => shown,
+        Letters::Within => shown | WITHIN,
     };
     let asked = Asked::new(Call::Filter, text, filtering.limit, flags);
     ask_call(verdict, asked, wanted);
@@ -471,6 +476,35 @@ pub fn ask_oversize(verdict: &mut Verdict, s: &[u8]) {
     ask_status_of_counting(verdict, s, 0, SIZE);
     let names: [&[u8]; 3] = [b"_Z1fv", s, b"_Z1gv"];
     ask_together(verdict, names, limit, 0, 6);
+}
+
+/// Asks the calls over one name and over many for a type's text, or why it has none, and each call to tell that it is no symbol, where
+/// types aren't asked for or aren't read.
+pub fn ask_library_for_type(verdict: &mut Verdict, name: &[u8], limit: u32, wanted: &[u8]) {
+    let asked = Asked::new(Call::Text, name, limit, TYPES);
+    let wide = Asked {
+        flags: TYPES | WIDE | LEGACY | UNDERSCORE,
+        ..asked
+    };
+    let unasked = Asked {
+        flags: WIDE,
+        ..asked
+    };
+    let pressed = Asked {
+        call: Call::Press,
+        ..asked
+    };
+    if wanted == NO_NAME {
+        ask_status(verdict, asked, NO_SYMBOL);
+        ask_status(verdict, wide, NO_SYMBOL);
+    } else {
+        ask_call(verdict, asked, wanted);
+        ask_call(verdict, wide, wanted);
+    }
+    ask_twice(verdict, asked);
+    ask_status(verdict, unasked, NO_SYMBOL);
+    ask_status(verdict, pressed, NO_SYMBOL);
+    ask_status_of_counting(verdict, name, TYPES, NO_SYMBOL);
 }
 
 /// Asks the static library's calls for names to tell that this one begins as no symbol does.

@@ -3,6 +3,9 @@
 use sym_filter::Kind;
 use sym_print::Detail;
 
+/// The limit where a row has none.
+pub const LIMIT: u32 = 1_000_000;
+
 /// Why a symbol that is read has no text.
 pub const TOO_LONG: &[u8] = b"too long";
 

@@ -8,8 +8,8 @@ use crate::changes::{Change, ask_each_place};
 use crate::commands::{Ending, ask_to_demangle, ask_to_end, ask_to_filter};
 use crate::example::ask_example;
 use crate::languages::{AllLists, ask_cut, ask_demangler, ask_each, ask_pressed, ask_unpressed};
-use crate::library::{ask_library_to_press, ask_nameless, ask_oversize};
-use crate::row::{Row, TOO_LONG};
+use crate::library::{ask_library_for_type, ask_library_to_press, ask_nameless, ask_oversize};
+use crate::row::{LIMIT, Row, TOO_LONG};
 use crate::streams::ask_long_word;
 use crate::trees::ask_tree;
 use rust_v0::{Detail, V0};
@@ -19,9 +19,6 @@ use sym_core::{Refusal, fits};
 use sym_filter::{Lang, kind_of};
 use sym_languages::Abi;
 use sym_languages::languages::Lists;
-
-/// The limit where a row has none.
-const LIMIT: u32 = 1_000_000;
 
 /// The number of these digits.
 fn number(digits: &[u8]) -> Option<u32> {
@@ -303,6 +300,33 @@ fn of_nameless(verdict: &mut Verdict, fields: &[&[u8]]) {
     }
 }
 
+/// Asks what a row `type` says: the text of a type at its cost, and that it is too long one below.
+fn of_type(verdict: &mut Verdict, fields: &[&[u8]]) {
+    let [cost, name, text] = fields else {
+        verdict.require(false);
+        return;
+    };
+    match number(cost) {
+        Some(cost) => {
+            verdict.require(cost > 0 && kind_of(name).is_none());
+            ask_library_for_type(verdict, name, cost, text);
+            ask_library_for_type(verdict, name, cost.saturating_sub(1), TOO_LONG);
+        }
+        None => verdict.require(false),
+    }
+}
+
+/// Asks what a row `type refused` says: why a name is no type.
+fn of_refused_type(verdict: &mut Verdict, fields: &[&[u8]]) {
+    match fields {
+        [name, reason] => {
+            verdict.require(kind_of(name).is_none());
+            ask_library_for_type(verdict, name, LIMIT, reason);
+        }
+        _ => verdict.require(false),
+    }
+}
+
 /// Asks what a row `press` says: a word's pressed spelling, which is pressed again unchanged.
 fn of_press(verdict: &mut Verdict, lists: &mut Lists<Abi>, fields: &[&[u8]]) {
     match fields {
@@ -422,6 +446,8 @@ fn of_other(
         b"repeated" => of_repeated(verdict, lists, fields)?,
         b"oversize" => of_oversize(verdict, fields)?,
         b"nameless" => of_nameless(verdict, fields),
+        b"type" => of_type(verdict, fields),
+        b"type refused" => of_refused_type(verdict, fields),
         b"press" => of_press(verdict, &mut lists.abi, fields),
         b"tree" => of_tree(verdict, fields),
         _ => of_program(verdict, what, fields)?,

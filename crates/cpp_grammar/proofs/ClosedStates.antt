@@ -14,7 +14,7 @@ use Rattle.sym_core.specs.declared.NumberKind.TheVariants.{Seq36}
 use Rattle.sym_core.specs.Value.{counted_value}
 use Rattle.cpp_grammar.specs.Values.{Candidate, State, Around, prefix_tree, prefix_listed, Value, nothing_there, letter, tree, piece, pair, is_listed, text_of, local_number, part, tree_of}
 use Rattle.cpp_grammar.specs.References.{appended, is_function_type, with_type, with_unqualified, with_prefix, with_packs, packs_in, substituted, parameter_named}
-use Rattle.cpp_grammar.specs.Rescoping.{lambda_with, as_generic_lambda, with_holder, with_base, counted_base, is_counted_alike, is_foreign, in_scope, under_scope, with_free, restated, substituted_wide, numbered, close_wide}
+use Rattle.cpp_grammar.specs.Rescoping.{lambda_with, as_generic_lambda, with_holder, with_held, held_unless, counted_base, is_counted_alike, is_foreign, in_scope, under_scope, with_free, restated, substituted_wide, numbered, close_wide}
 use Rattle.cpp_grammar.specs.Meaning.{parameters, meaning}
 use Rattle.cpp_grammar.specs.Unfolding as unfolding_
 use Rattle.cpp_grammar.specs.Unfolding.{close}
@@ -387,19 +387,22 @@ lambda_comes byte around vs state r end pre all e =
     let good = meaning_good s Production.Lambda byte around vs (prefix_where (Bare true around) s around.prefix (λ within. within.0) pre) all (λ n. tt) in
     found_comes around state (piece (lambda_with t number)) r end (lambda_good (Bare true around) t number (good.scopes tt)) e
 
--- a base class is counted
-pub base_grows : (around : Around) (end : ℕ) (t : Term) (state : State) → Good (Bare true around) t → Grows true around end state (with_base around t state)
-unfolding with_base
-base_grows around end t state good =
+-- a base class or a concept's name is counted
+held_grows : (around : Around) (end : ℕ) (t : Term) (state : State) → Good (Bare true around) t → Grows true around end state (with_held around t state)
+unfolding with_held
+held_grows around end t state good =
     let once = appended around t state in
     grows_then true around end end state once (with_holder around t once) (omega arith) (grows_one true around end t state good) (grows_held true around end t once good)
 
+pub unless_grows : (around : Around) (end : ℕ) (listed : Bool) (t : Term) (state : State) → Good (Bare true around) t → Grows true around end state (held_unless listed around t state)
+unfolding held_unless
+unless_grows around end true t state good = grows_same true around end state state refl
+unless_grows around end false t state good = held_grows around end t state good
+
 counted_grows : (around : Around) (end : ℕ) (base : Value) (state : State) → Good (Bare true around) (held base) → Grows true around end state (counted_base around base state)
 unfolding counted_base
-counted_grows around end (pair second base own) state good = grows_same true around end state state refl
-counted_grows around end base state good =
-    either (Grows true around end state) (is_listed base) _ _ (λ h. grows_same true around end state state refl)
-    (λ h. base_grows around end (tree_of base) state (good_tree (Bare true around) base good))
+counted_grows around end (pair second own base) state good = grows_same true around end state state refl
+counted_grows around end base state good = unless_grows around end (is_listed base) (tree_of base) state (good_tree (Bare true around) base good)
 
 pub wide_close_good : (production : Production) (byte : ℕ) (around : Around) (place : ℕ) (began : State) (vs : List Value) (state : State) (r : Found Value State) (end : ℕ) →
     AllOld true around end state.candidates → GoodPrefix (Bare true around) around.prefix → AllGood (Within true production around) vs → HasClosedName production vs →

@@ -186,9 +186,9 @@ module _ {q : Type 0} where
   -- the name of a constructor that is inherited
   good_inherited : (s : Type 0) (prefix : Prefix) (digit : ℕ) (v : Value) → PrefixIf q s prefix → GoodIf q s (held v) → GoodIf q s (held (inherited prefix digit v))
   unfolding inherited held is_open
-  good_inherited s prefix digit (pair second base arguments) pre g =
-      let b = good_first s base arguments g in
-      good_instance s _ arguments (good_extended s prefix (inheriting digit base) pre (record { closed = b.closed; scopes = b.scopes })) (good_second s base arguments g)
+  good_inherited s prefix digit (pair second arguments base) pre g =
+      let b = good_second s arguments base g in
+      good_instance s _ arguments (good_extended s prefix (inheriting digit base) pre (record { closed = b.closed; scopes = b.scopes })) (good_first s arguments base g)
   good_inherited s prefix digit v pre g =
       let b = good_tree s v g in
       good_extended s prefix (inheriting digit (tree_of v)) pre (record { closed = b.closed; scopes = b.scopes })

@@ -3,7 +3,7 @@ use Rattle.std.specs.Prelude.{ℕ}
 
 -- how many kinds there are, and how many productions
 abbrev pub KIND_COUNT : ℕ
-KIND_COUNT = 147
+KIND_COUNT = 146
 
 abbrev pub PRODUCTION_COUNT : ℕ
 PRODUCTION_COUNT = 222
@@ -233,17 +233,17 @@ COMPONENT_AFTER_C = 73
 abbrev pub OTHER_OPERATOR : ℕ
 OTHER_OPERATOR = 74
 
-abbrev pub BASE_CLASS : ℕ
-BASE_CLASS = 75
+abbrev pub HELD_ARGUMENTS : ℕ
+HELD_ARGUMENTS = 75
 
-abbrev pub BASE_AFTER_S : ℕ
-BASE_AFTER_S = 76
+abbrev pub BASE_CLASS : ℕ
+BASE_CLASS = 76
+
+abbrev pub UNNESTED_NAME : ℕ
+UNNESTED_NAME = 77
 
 abbrev pub BASE_ARGUMENTS : ℕ
-BASE_ARGUMENTS = 77
-
-abbrev pub OWN_ARGUMENTS : ℕ
-OWN_ARGUMENTS = 78
+BASE_ARGUMENTS = 78
 
 abbrev pub ARGUMENTS_FIRST : ℕ
 ARGUMENTS_FIRST = 79
@@ -445,6 +445,3 @@ BOUND = 144
 
 abbrev pub NEST_MORE_OR_END : ℕ
 NEST_MORE_OR_END = 145
-
-abbrev pub TAGGED_SOURCE : ℕ
-TAGGED_SOURCE = 146

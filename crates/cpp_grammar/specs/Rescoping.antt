@@ -1,6 +1,7 @@
 -- The reading of the wide grammar (ABI 5.1.8, 5.1.10). It differs from that of the ABI's grammar in the parameters of a lambda's
 -- signature, which are the lambda's own, in substitutions of trees that were made where their parameters mean others than those
--- that are meant where they are named, and in names with an M, from which on not all compilers count alike.
+-- that are meant where they are named, and in names with an M, constructors that are inherited and concepts with arguments, from which
+-- on not all compilers count alike.
 use Rattle.std.specs.Prelude.{ℕ, zero, suc, ◌+◌, ◌-◌, ◌^◌, List, [], ◌∷◌, ◌++◌, Bool, true, false, not, ◌||◌, ◌&&◌, nat_eq, nat_lt, cond, slice_get, Option, Some, None, Result, Ok, Err}
 use Rattle.sym_core.specs.declared.refusal.Refusal.{Refusal}
 use Rattle.sym_core.specs.declared.refusal.Refusal.TheVariants.{BadReference}
@@ -12,7 +13,7 @@ use Rattle.sym_link.specs.Unfold.{found, unfold_tree}
 use Rattle.cpp_grammar.specs.declared.production.Production.{Production}
 use Rattle.cpp_grammar.specs.Term.{Term, instance, holder, parameter, lambda, generic_lambda}
 use Rattle.cpp_grammar.specs.Scope.{count, element, is_list, has_pack, is_open, Free, none_free, one_free, several_free, free_in, pack_length}
-use Rattle.cpp_grammar.specs.Values.{Candidate, State, Around, prefix_tree, Value, nothing_there, tree, piece, pair, text, tree_of, is_listed, text_of, part}
+use Rattle.cpp_grammar.specs.Values.{Candidate, State, Around, prefix_tree, prefix_listed, Value, nothing_there, tree, piece, pair, text, tree_of, is_listed, text_of, part}
 use Rattle.cpp_grammar.specs.References.{appended, with_packs, substituted}
 use Rattle.cpp_grammar.specs.Between.{Going, next, inside, listed_so_far, parameter_so_far, argument_so_far, index_of, between}
 use Rattle.cpp_grammar.specs.Meaning.{meaning}
@@ -83,18 +84,22 @@ holder_so_far around place state = elim (is_instance (prefix_tree around.prefix)
   | false ↦ let t = holder (prefix_tree around.prefix) in listed_so_far around t [] (with_holder around t state)
 ]
 
--- ## Constructors that are inherited
+-- ## Constructors that are inherited, and concepts
 
--- Nor do all compilers count the base class that is after CI, or the constructor with it: from there on no number is known to name the same
--- tree by all of them. The base class is a candidate, unless it is there by its number alone, and again as a mark of that.
+-- Nor do all compilers count the base class that is after CI, or the constructor with it, or the name of a concept before its arguments:
+-- from there on no number is known to name the same tree by all of them. That class or name is a candidate, unless it is there by its
+-- number alone, and again as a mark of that.
 
-unfoldable pub with_base : Around → Term → State → State
-with_base around t state = with_holder around t (appended around t state)
+unfoldable pub with_held : Around → Term → State → State
+with_held around t state = with_holder around t (appended around t state)
 
--- Where the constructor has arguments of its own, the base class is counted before these.
+unfoldable pub held_unless : (listed : Bool) → Around → Term → State → State
+held_unless listed around t state = elim listed [ true ↦ state | false ↦ with_held around t state ]
+
+-- The base class is counted before the arguments that the constructor has of its own, and else once it's complete.
 unfoldable pub counted_base : Around → (base : Value) → State → State
-counted_base around (pair letter base own) state = state
-counted_base around base state = elim (is_listed base) [ true ↦ state | false ↦ with_base around (tree_of base) state ]
+counted_base around (pair letter own base) state = state
+counted_base around base state = held_unless (is_listed base) around (tree_of base) state
 
 -- ## Substitutions
 
@@ -159,7 +164,7 @@ between_wide Production.Parameter around place (v ∷ []) state = parameter_here
 between_wide Production.NestParameter around place (v ∷ []) state = parameter_here around place (index_of v) [] state
 between_wide Production.ParameterArgument around place (v ∷ []) state = parameter_here around (place - 1) (index_of v) [] state
 between_wide Production.ParameterExpression around place (v ∷ []) state = argument_here around place (index_of v) state
-between_wide Production.OwnArguments around place [] state = next [] (inside around) (with_base around (prefix_tree around.prefix) state)
+between_wide Production.HeldArguments around place [] state = next [] (inside around) (held_unless (prefix_listed around.prefix) around (prefix_tree around.prefix) state)
 between_wide Production.Holder around place (v ∷ []) state = holder_so_far around place state
 between_wide production around place vs state = between production around place vs state
 

@@ -81,10 +81,10 @@ pub enum Kind {
     FloatEnd,
     ComponentAfterC,
     OtherOperator,
+    HeldArguments,
     BaseClass,
-    BaseAfterS,
+    UnnestedName,
     BaseArguments,
-    OwnArguments,
     ArgumentsFirst,
     PlainEntity,
     PlainTypeEntity,
@@ -152,7 +152,6 @@ pub enum Kind {
     ArrayRest,
     Bound,
     NestMoreOrEnd,
-    TaggedSource,
 }
 
 /// The kind with a number.
@@ -236,10 +235,10 @@ pub fn kind_of(number: u16) -> Option<Kind>
         72 => Some(Kind::FloatEnd),
         73 => Some(Kind::ComponentAfterC),
         74 => Some(Kind::OtherOperator),
-        75 => Some(Kind::BaseClass),
-        76 => Some(Kind::BaseAfterS),
-        77 => Some(Kind::BaseArguments),
-        78 => Some(Kind::OwnArguments),
+        75 => Some(Kind::HeldArguments),
+        76 => Some(Kind::BaseClass),
+        77 => Some(Kind::UnnestedName),
+        78 => Some(Kind::BaseArguments),
         79 => Some(Kind::ArgumentsFirst),
         80 => Some(Kind::PlainEntity),
         81 => Some(Kind::PlainTypeEntity),
@@ -307,7 +306,6 @@ pub fn kind_of(number: u16) -> Option<Kind>
         143 => Some(Kind::ArrayRest),
         144 => Some(Kind::Bound),
         145 => Some(Kind::NestMoreOrEnd),
-        146 => Some(Kind::TaggedSource),
         _ => None,
     }
 }
@@ -332,8 +330,8 @@ pub fn may_be_empty(kind: Kind) -> bool
         Kind::PackList => true,
         Kind::MaybeZero => true,
         Kind::ArgumentsAlone => true,
+        Kind::HeldArguments => true,
         Kind::BaseArguments => true,
-        Kind::OwnArguments => true,
         Kind::ArgumentsFirst => true,
         Kind::MaybeTags => true,
         Kind::Declarations => true,

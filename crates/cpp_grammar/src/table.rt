@@ -160,13 +160,13 @@ const COMPONENT_AFTER_C: Sym = Sym::Kind(73);
 
 const OTHER_OPERATOR: Sym = Sym::Kind(74);
 
-const BASE_CLASS: Sym = Sym::Kind(75);
+const HELD_ARGUMENTS: Sym = Sym::Kind(75);
 
-const BASE_AFTER_S: Sym = Sym::Kind(76);
+const BASE_CLASS: Sym = Sym::Kind(76);
 
-const BASE_ARGUMENTS: Sym = Sym::Kind(77);
+const UNNESTED_NAME: Sym = Sym::Kind(77);
 
-const OWN_ARGUMENTS: Sym = Sym::Kind(78);
+const BASE_ARGUMENTS: Sym = Sym::Kind(78);
 
 const ARGUMENTS_FIRST: Sym = Sym::Kind(79);
 
@@ -302,8 +302,6 @@ const BOUND: Sym = Sym::Kind(144);
 
 const NEST_MORE_OR_END: Sym = Sym::Kind(145);
 
-const TAGGED_SOURCE: Sym = Sym::Kind(146);
-
 const NAME: Sym = Sym::Name;
 
 const DECIMAL: Sym = Sym::Number(NumberKind::Decimal);
@@ -316,7 +314,7 @@ const DIGITS: Sym = Sym::Number(NumberKind::Digits);
 pub const FIRST_LETTER: u8 = b'!';
 
 // For each kind a row: for each byte from `$` to `z` the letter of the production that the kind takes there.
-static LETTERS: [[u8; 87]; 147] = [
+static LETTERS: [[u8; 87]; 146] = [
     // $%&'()*+,-./0123456789:;<=>?@ABCDEFGHIJKLMNOPQRSTUVWXYZ[\]^_`abcdefghijklmnopqrstuvwxyz
     *b"                                                           *                           ", // Symbol
     *b"          +                                                                            ", // MaybeSuffix
@@ -393,10 +391,10 @@ static LETTERS: [[u8; 87]; 147] = [
     *b"                                                           !  !                     !  ", // FloatEnd
     *b"                                                                        \xa0\xa0 \xa0           ", // ComponentAfterC
     *b"                                                             \x92  \x91\x98 \x9c \x9b  \x99\x95\x90\x97\x93 \x96\x9a       ", // OtherOperator
-    *b"            \xa4\xa4\xa4\xa4\xa4\xa4\xa4\xa4\xa4\xa4                    \xa2    \xa3      r                                ", // BaseClass
-    *b"            yyyyyyyyyy       yyyyyyyyyyyyyyyyyyyyyyyyyy    y yy y    y     y   y\xa5      ", // BaseAfterS
+    *b"                                     \xa1                                                 ", // HeldArguments
+    *b"            \xa3\xa3\xa3\xa3\xa3\xa3\xa3\xa3\xa3\xa3                    \xa2    \xa3      r                                ", // BaseClass
+    *b"            \xa5\xa5\xa5\xa5\xa5\xa5\xa5\xa5\xa5\xa5                         \xa4                                       ", // UnnestedName
     *b"                                     \xa6                                                 ", // BaseArguments
-    *b"                                     \xa1                                                 ", // OwnArguments
     *b"            \x87\x87\x87\x87\x87\x87\x87\x87\x87\x87       \x87 \x87\x87 \x87   \x85\x87\x86\x87\x87\x87\x87 \x87\x87\x87\x87\x87 \x87 \x87      \x87\x87\x87\x87\x87\x87\x87\x87\x87\x87 \x87\x87\x87\x87  \x87\x87\x87\x87\x87\x87\x87\x87\x87", // ArgumentsFirst
     *b"            $$$$$$$$$$                  \" )      #                                     ", // PlainEntity
     *b"            $$$$$$$$$$                  \" T      #                                     ", // PlainTypeEntity
@@ -411,60 +409,59 @@ static LETTERS: [[u8; 87]; 147] = [
     *b"            \xac\xac\xac\xac\xac\xac\xac\xac\xac\xac       \xac \xace \xac   \xb1_\xb0\xac\xac`\xac `\xac\xab\xac^ \xaa \xac      \xac\xac\xac\xac\xac\xac\xac\xac\xac\xac \xac\xac\xac\xac  ]\xac\xac\xac\xac\xac\xac\xac\xac", // OneArgument
     *b"                                                                       \xb4  \xb3 \xb6   \xb5    \xb2 ", // DeclarationAfterT
     *b"                                                \xb7                                      ", // Declarations
-    *b"            $$$$$$$$$$                    T    q                                       ", // Concept
+    *b"            \xb8\xb8\xb8\xb8\xb8\xb8\xb8\xb8\xb8\xb8                    T    \xb8                                       ", // Concept
     *b"            $$$$$$$$$$       u w  v      oT n  q #    r      ssssssssss ssss   sstsssss", // SolidButT
-    *b"                                                             \xd0                         ", // Expression
-    *b"                                        \xe1                                              ", // AddressedExpression
+    *b"                                                             \xd1                         ", // Expression
+    *b"                                        \xe2                                              ", // AddressedExpression
     *b"                                                           \x8a                           ", // AddressedLiteral
-    *b"                                                                \xbc                      ", // ExpressionAfterA
-    *b"                                                               \xb8        \xc0\xbd \xbe\xc0     \xc1    ", // ExpressionAfterC
-    *b"                                                  \xbd          \xbe \xb8 \xbe      \xbe \xc2    \xbd\xbd \xbd    ", // ExpressionAfterD
-    *b"                                           \xbd                               \xbd \xbd         ", // ExpressionAfterE
-    *b"                                        \xc3                               \xc4   \xbb \xc5        ", // ExpressionAfterF
-    *b"                                                                 \xbd             \xbe\xbd      ", // ExpressionAfterG
-    *b"                                                                        \xc6           \xbd  ", // ExpressionAfterI
-    *b"                                               \xbd                 \xbd             \xbd\xbd      ", // ExpressionAfterL
-    *b"                                     \xbd  \xbd                            \xbd  \xbd\xc7             ", // ExpressionAfterM
-    *b"                                                             \xc8   \xbd \xbe            \xbe  \xc8\xbe  ", // ExpressionAfterN
-    *b"                                              \xbd                           \xb9\xbd  \xbd        ", // ExpressionAfterO
-    *b"                                        \xbd                               \xbd\xbd  \xc7  \xbe\xbd      ", // ExpressionAfterP
-    *b"                                                                                 \xc9     ", // ExpressionAfterQ
-    *b"                                         \xbd   \xcb \xbd               \xb8         \xbd   \xca \xbd       ", // ExpressionAfterR
-    *b"                                                      \xcd        \xb8            \xcc \xce\xbd\xbf     \xbe", // ExpressionAfterS
-    *b"                                                                 \xbe   \xbf  \xcf          \xbe   ", // ExpressionAfterT
-    *b"                                                             \xe2                         ", // Expressions
+    *b"                                                                \xbd                      ", // ExpressionAfterA
+    *b"                                                               \xb9        \xc1\xbe \xbf\xc1     \xc2    ", // ExpressionAfterC
+    *b"                                                  \xbe          \xbf \xb9 \xbf      \xbf \xc3    \xbe\xbe \xbe    ", // ExpressionAfterD
+    *b"                                           \xbe                               \xbe \xbe         ", // ExpressionAfterE
+    *b"                                        \xc4                               \xc5   \xbc \xc6        ", // ExpressionAfterF
+    *b"                                                                 \xbe             \xbf\xbe      ", // ExpressionAfterG
+    *b"                                                                        \xc7           \xbe  ", // ExpressionAfterI
+    *b"                                               \xbe                 \xbe             \xbe\xbe      ", // ExpressionAfterL
+    *b"                                     \xbe  \xbe                            \xbe  \xbe\xc8             ", // ExpressionAfterM
+    *b"                                                             \xc9   \xbe \xbf            \xbf  \xc9\xbf  ", // ExpressionAfterN
+    *b"                                              \xbe                           \xba\xbe  \xbe        ", // ExpressionAfterO
+    *b"                                        \xbe                               \xbe\xbe  \xc8  \xbf\xbe      ", // ExpressionAfterP
+    *b"                                                                                 \xca     ", // ExpressionAfterQ
+    *b"                                         \xbe   \xcc \xbe               \xb9         \xbe   \xcb \xbe       ", // ExpressionAfterR
+    *b"                                                      \xce        \xb9            \xcd \xcf\xbe\xc0     \xbf", // ExpressionAfterS
+    *b"                                                                 \xbf   \xc0  \xd0          \xbf   ", // ExpressionAfterT
+    *b"                                                             \xe3                         ", // Expressions
     *b"                                                           !                           ", // MaybeBefore
-    *b"                                                             \x92 \x94\x91\x98 \x9c \x9b  \xe3\x95\x90\x97\x93 \x96\x9a       ", // FoldOperator
+    *b"                                                             \x92 \x94\x91\x98 \x9c \x9b  \xe4\x95\x90\x97\x93 \x96\x9a       ", // FoldOperator
     *b"                                               !                 !             !!      ", // FoldOperatorAfterL
-    *b"                                                             \xe4                         ", // FoldOperand
-    *b"                                                             \xe5                         ", // FoldPack
-    *b"                                                           ! \xe6                         ", // Placement
-    *b"                                                             \xe2                         ", // SomeExpressions
-    *b"                                 ~                                   \xe8      \xe7          ", // Initializer
-    *b"                                                                     \xc6                 ", // InitializerAfterP
-    *b"                                                                        \xc6              ", // InitializerAfterI
-    *b"                                                                            \xbb          ", // OuterRest
-    *b"            \xea\xea\xea\xea\xea\xea\xea\xea\xea\xea                          \xe9          \xea                           ", // ParameterNumber
-    *b"            \xef\xef\xef\xef\xef\xef\xef\xef\xef\xef          \xeb \xef    \xec  \xef\xee\xed \xee\xef\xef\xef           \xef\xef\xef\xef\xef\xef\xef\xef\xef\xef \xef\xef\xef\xef   \xef\xef \xef\xef\xef\xef\xef", // ConvertedType
+    *b"                                                             \xe5                         ", // FoldOperand
+    *b"                                                             \xe6                         ", // FoldPack
+    *b"                                                           ! \xe7                         ", // Placement
+    *b"                                                             \xe3                         ", // SomeExpressions
+    *b"                                 ~                                   \xe9      \xe8          ", // Initializer
+    *b"                                                                     \xc7                 ", // InitializerAfterP
+    *b"                                                                        \xc7              ", // InitializerAfterI
+    *b"                                                                            \xbc          ", // OuterRest
+    *b"            \xeb\xeb\xeb\xeb\xeb\xeb\xeb\xeb\xeb\xeb                          \xea          \xeb                           ", // ParameterNumber
+    *b"            \xf0\xf0\xf0\xf0\xf0\xf0\xf0\xf0\xf0\xf0          \xec \xf0    \xed  \xf0\xef\xee \xef\xf0\xf0\xf0           \xf0\xf0\xf0\xf0\xf0\xf0\xf0\xf0\xf0\xf0 \xf0\xf0\xf0\xf0   \xf0\xf0 \xf0\xf0\xf0\xf0\xf0", // ConvertedType
     *b"            $$$$$$$$$$            v       T    qp#           ssssssssss ssss   ss sssss", // ConvertedSolid
     *b"                                                m                               m      ", // DecltypeAfterD
-    *b"            \xba\xba\xba\xba\xba\xba\xba\xba\xba\xba                  \xb0       \xe0          \xc6 \xd0 \xd1\xd2\xd3\xd4\xd5 \xd6  \xd7\xd8\xd9\xda\xdb\xdc\xdd\xde\xdf      ", // ConvertRest
-    *b"            \xf1\xf1\xf1\xf1\xf1\xf1\xf1\xf1\xf1\xf1          \xf0         \xf0    \xf0\xf0                                      ", // Unresolved
-    *b"                                \xeb         T    qp                                      ", // UnresolvedType
-    *b"            \xba\xba\xba\xba\xba\xba\xba\xba\xba\xba          \xf2         \xf2    \xf2\xf2                                      ", // DestructorName
-    *b"                                             \xf5  \xf4   \xf3                                  ", // Requirements
-    *b"                                          \xf7  \xf5\xf6 \xf4   \xf3                                  ", // AfterExpression
-    *b"                                             \xf5\xf6 \xf4   \xf3                                  ", // AfterNoexcept
-    *b"            \xf8\xf8\xf8\xf8\xf8\xf8\xf8\xf8\xf8\xf8          \xf8 \xf8    \xf8  \xf8\xf8\xf8 \xf8\xf8\xf8\xf8         \xca \xf8\xf8\xf8\xf8\xf8\xf8\xf8\xf8\xf8\xf8 \xf8\xf8\xf8\xf8   \xf8\xf8 \xf8\xf8\xf8\xf8\xf8", // RequiredTypes
-    *b"            \xba\xba\xba\xba\xba\xba\xba\xba\xba\xba                                                                 ", // Level
-    *b"            \xf1\xf1\xf1\xf1\xf1\xf1\xf1\xf1\xf1\xf1           \xf9                                                     ", // MoreLevels
-    *b"            \xba\xba\xba\xba\xba\xba\xba\xba\xba\xba                                                     \xfa           ", // UnresolvedName
-    *b"                                                                          \xb9            ", // OperatorName
-    *b"                             \xfb                                                         ", // AnyArray
-    *b"            \xfd\xfd\xfd\xfd\xfd\xfd\xfd\xfd\xfd\xfd                                     \xfd                           ", // ArrayRest
-    *b"                                        \xb0       \xe0            \xd0 \xd1\xd2\xd3\xd4\xd5 \xd6  \xd7\xd8\xd9\xda\xdb\xdc\xdd\xde\xdf      ", // Bound
+    *b"            \xbb\xbb\xbb\xbb\xbb\xbb\xbb\xbb\xbb\xbb                  \xb0       \xe1          \xc7 \xd1 \xd2\xd3\xd4\xd5\xd6 \xd7  \xd8\xd9\xda\xdb\xdc\xdd\xde\xdf\xe0      ", // ConvertRest
+    *b"            \xf2\xf2\xf2\xf2\xf2\xf2\xf2\xf2\xf2\xf2          \xf1         \xf1    \xf1\xf1                                      ", // Unresolved
+    *b"                                \xec         T    qp                                      ", // UnresolvedType
+    *b"            \xbb\xbb\xbb\xbb\xbb\xbb\xbb\xbb\xbb\xbb          \xf3         \xf3    \xf3\xf3                                      ", // DestructorName
+    *b"                                             \xf6  \xf5   \xf4                                  ", // Requirements
+    *b"                                          \xf8  \xf6\xf7 \xf5   \xf4                                  ", // AfterExpression
+    *b"                                             \xf6\xf7 \xf5   \xf4                                  ", // AfterNoexcept
+    *b"            \xf9\xf9\xf9\xf9\xf9\xf9\xf9\xf9\xf9\xf9          \xf9 \xf9    \xf9  \xf9\xf9\xf9 \xf9\xf9\xf9\xf9         \xcb \xf9\xf9\xf9\xf9\xf9\xf9\xf9\xf9\xf9\xf9 \xf9\xf9\xf9\xf9   \xf9\xf9 \xf9\xf9\xf9\xf9\xf9", // RequiredTypes
+    *b"            \xbb\xbb\xbb\xbb\xbb\xbb\xbb\xbb\xbb\xbb                                                                 ", // Level
+    *b"            \xf2\xf2\xf2\xf2\xf2\xf2\xf2\xf2\xf2\xf2           \xfa                                                     ", // MoreLevels
+    *b"            \xbb\xbb\xbb\xbb\xbb\xbb\xbb\xbb\xbb\xbb                                                     \xfb           ", // UnresolvedName
+    *b"                                                                          \xba            ", // OperatorName
+    *b"                             \xfc                                                         ", // AnyArray
+    *b"            \xfe\xfe\xfe\xfe\xfe\xfe\xfe\xfe\xfe\xfe                                     \xfe                           ", // ArrayRest
+    *b"                                        \xb0       \xe1            \xd1 \xd2\xd3\xd4\xd5\xd6 \xd7  \xd8\xd9\xda\xdb\xdc\xdd\xde\xdf\xe0      ", // Bound
     *b"            GGGGGGGGGG         GG       G        G           G GGG G G  GGGGG GG       ", // NestMoreOrEnd
-    *b"            \xfe\xfe\xfe\xfe\xfe\xfe\xfe\xfe\xfe\xfe                                                                 ", // TaggedSource
 ];
 
 /// A rule without its number and its symbols.
@@ -623,11 +620,11 @@ pub static HEADS: [Head; 222] = [
     takes!(3), // \x9e NestInstance
     takes!(1), // \x9f Conversion
     chains!(2), // \xa0 OperatorNameWithC
-    takes!(2), // \xa1 OwnArguments
+    takes!(2), // \xa1 HeldArguments
     takes!(2), // \xa2 NestedBase
-    takes!(1), // \xa3 BaseWithS
-    chains!(2), // \xa4 SourceBase
-    chains!(2), // \xa5 BaseInStd
+    chains!(2), // \xa3 UnnestedBase
+    takes!(1), // \xa4 UnnestedWithS
+    chains!(2), // \xa5 TaggedSource
     takes!(3), // \xa6 BaseArguments
     takes!(2), // \xa7 Clone
     takes!(2), // \xa8 TaggedStdType
@@ -646,77 +643,77 @@ pub static HEADS: [Head; 222] = [
     takes!(2), // \xb5 TemplateOf
     takes!(2), // \xb6 PackOf
     takes!(2), // \xb7 Declarations
-    takes!(2), // \xb8 Cast
-    takes!(2), // \xb9 OperatorReference
-    chains!(2), // \xba SimpleId
-    takes!(4), // \xbb FunctionParameter
-    takes!(1), // \xbc AddressExpression
-    takes!(2), // \xbd Binary
-    takes!(1), // \xbe Unary
-    takes!(1), // \xbf OfType
-    takes!(3), // \xc0 Call
-    takes!(2), // \xc1 Convert
-    takes!(1), // \xc2 DestructorName
-    takes!(2), // \xc3 OuterParameter
-    takes!(2), // \xc4 LeftFold
-    takes!(2), // \xc5 RightFold
-    takes!(2), // \xc6 Braces
-    takes!(2), // \xc7 Step
-    takes!(3), // \xc8 New
-    takes!(3), // \xc9 Conditional
-    takes!(2), // \xca Requires
-    takes!(1), // \xcb RequiresOf
-    takes!(1), // \xcc ExpandExpression
-    takes!(1), // \xcd PackSize
-    takes!(1), // \xce Unresolved
-    takes!(3), // \xcf TypedBraces
-    takes!(1), // \xd0 ExpressionA
-    takes!(1), // \xd1 ExpressionC
-    takes!(1), // \xd2 ExpressionD
-    takes!(1), // \xd3 ExpressionE
-    takes!(1), // \xd4 ExpressionF
-    takes!(1), // \xd5 ExpressionG
-    takes!(1), // \xd6 ExpressionI
-    takes!(1), // \xd7 ExpressionL
-    takes!(1), // \xd8 ExpressionM
-    takes!(1), // \xd9 ExpressionN
-    takes!(1), // \xda ExpressionO
-    takes!(1), // \xdb ExpressionP
-    takes!(1), // \xdc ExpressionQ
-    takes!(1), // \xdd ExpressionR
-    takes!(1), // \xde ExpressionS
-    takes!(1), // \xdf ExpressionT
-    takes!(2), // \xe0 ParameterExpression
-    takes!(2), // \xe1 AddressedLiteral
-    chains!(2), // \xe2 Expressions
-    takes!(1), // \xe3 FoldOperatorL
-    chains!(1), // \xe4 FoldOperand
-    chains!(1), // \xe5 FoldPack
-    chains!(2), // \xe6 Placed
-    takes!(1), // \xe7 Initializer
-    takes!(1), // \xe8 BracedInitializer
-    takes!(0), // \xe9 This
-    chains!(1), // \xea ParameterNumber
-    takes!(1), // \xeb ConvertedDecltype
-    takes!(1), // \xec ConvertedConst
-    takes!(1), // \xed ConvertedPointer
-    takes!(1), // \xee ConvertedReference
-    chains!(1), // \xef ConvertedType
-    chains!(2), // \xf0 UnresolvedInType
-    chains!(2), // \xf1 Levels
-    chains!(1), // \xf2 DestroyedType
-    takes!(2), // \xf3 ExpressionRequirement
-    takes!(2), // \xf4 TypeRequirement
-    takes!(2), // \xf5 NestedRequirement
-    takes!(2), // \xf6 ResultRequirement
-    takes!(1), // \xf7 NoexceptRequirement
-    chains!(2), // \xf8 RequiredType
-    takes!(1), // \xf9 LevelsEnd
-    takes!(1), // \xfa UnresolvedOperator
-    takes!(1), // \xfb AnyArray
-    chains!(3), // \xfc BoundedArray
-    chains!(2), // \xfd LengthArray
-    chains!(2), // \xfe TaggedSource
+    chains!(2), // \xb8 NamedConcept
+    takes!(2), // \xb9 Cast
+    takes!(2), // \xba OperatorReference
+    chains!(2), // \xbb SimpleId
+    takes!(4), // \xbc FunctionParameter
+    takes!(1), // \xbd AddressExpression
+    takes!(2), // \xbe Binary
+    takes!(1), // \xbf Unary
+    takes!(1), // \xc0 OfType
+    takes!(3), // \xc1 Call
+    takes!(2), // \xc2 Convert
+    takes!(1), // \xc3 DestructorName
+    takes!(2), // \xc4 OuterParameter
+    takes!(2), // \xc5 LeftFold
+    takes!(2), // \xc6 RightFold
+    takes!(2), // \xc7 Braces
+    takes!(2), // \xc8 Step
+    takes!(3), // \xc9 New
+    takes!(3), // \xca Conditional
+    takes!(2), // \xcb Requires
+    takes!(1), // \xcc RequiresOf
+    takes!(1), // \xcd ExpandExpression
+    takes!(1), // \xce PackSize
+    takes!(1), // \xcf Unresolved
+    takes!(3), // \xd0 TypedBraces
+    takes!(1), // \xd1 ExpressionA
+    takes!(1), // \xd2 ExpressionC
+    takes!(1), // \xd3 ExpressionD
+    takes!(1), // \xd4 ExpressionE
+    takes!(1), // \xd5 ExpressionF
+    takes!(1), // \xd6 ExpressionG
+    takes!(1), // \xd7 ExpressionI
+    takes!(1), // \xd8 ExpressionL
+    takes!(1), // \xd9 ExpressionM
+    takes!(1), // \xda ExpressionN
+    takes!(1), // \xdb ExpressionO
+    takes!(1), // \xdc ExpressionP
+    takes!(1), // \xdd ExpressionQ
+    takes!(1), // \xde ExpressionR
+    takes!(1), // \xdf ExpressionS
+    takes!(1), // \xe0 ExpressionT
+    takes!(2), // \xe1 ParameterExpression
+    takes!(2), // \xe2 AddressedLiteral
+    chains!(2), // \xe3 Expressions
+    takes!(1), // \xe4 FoldOperatorL
+    chains!(1), // \xe5 FoldOperand
+    chains!(1), // \xe6 FoldPack
+    chains!(2), // \xe7 Placed
+    takes!(1), // \xe8 Initializer
+    takes!(1), // \xe9 BracedInitializer
+    takes!(0), // \xea This
+    chains!(1), // \xeb ParameterNumber
+    takes!(1), // \xec ConvertedDecltype
+    takes!(1), // \xed ConvertedConst
+    takes!(1), // \xee ConvertedPointer
+    takes!(1), // \xef ConvertedReference
+    chains!(1), // \xf0 ConvertedType
+    chains!(2), // \xf1 UnresolvedInType
+    chains!(2), // \xf2 Levels
+    chains!(1), // \xf3 DestroyedType
+    takes!(2), // \xf4 ExpressionRequirement
+    takes!(2), // \xf5 TypeRequirement
+    takes!(2), // \xf6 NestedRequirement
+    takes!(2), // \xf7 ResultRequirement
+    takes!(1), // \xf8 NoexceptRequirement
+    chains!(2), // \xf9 RequiredType
+    takes!(1), // \xfa LevelsEnd
+    takes!(1), // \xfb UnresolvedOperator
+    takes!(1), // \xfc AnyArray
+    chains!(3), // \xfd BoundedArray
+    chains!(2), // \xfe LengthArray
 ];
 
 // The symbols of the rules, in the same order.
@@ -849,12 +846,12 @@ pub static SYMBOLS: [Sym; 1338] = symbols_listed! {
     [ARGUMENTS_FIRST, Sym::Byte(b'E'), NEST_MORE_OR_END, NONE, NONE], // \x9e NestInstance
     [TYPE, NONE, NONE, NONE, NONE], // \x9f Conversion
     [OPERATOR_AFTER_C, MAYBE_ARGUMENTS, NONE, NONE, NONE], // \xa0 OperatorNameWithC
-    [ARGUMENTS_FIRST, Sym::Byte(b'E'), NONE, NONE, NONE], // \xa1 OwnArguments
-    [NEST, OWN_ARGUMENTS, NONE, NONE, NONE], // \xa2 NestedBase
-    [BASE_AFTER_S, NONE, NONE, NONE, NONE], // \xa3 BaseWithS
-    [TAGGED_SOURCE, BASE_ARGUMENTS, NONE, NONE, NONE], // \xa4 SourceBase
-    [TYPE_IN_STD, BASE_ARGUMENTS, NONE, NONE, NONE], // \xa5 BaseInStd
-    [ARGUMENTS_FIRST, Sym::Byte(b'E'), OWN_ARGUMENTS, NONE, NONE], // \xa6 BaseArguments
+    [ARGUMENTS_FIRST, Sym::Byte(b'E'), NONE, NONE, NONE], // \xa1 HeldArguments
+    [NEST, HELD_ARGUMENTS, NONE, NONE, NONE], // \xa2 NestedBase
+    [UNNESTED_NAME, BASE_ARGUMENTS, NONE, NONE, NONE], // \xa3 UnnestedBase
+    [TYPE_AFTER_S, NONE, NONE, NONE, NONE], // \xa4 UnnestedWithS
+    [NAME, MAYBE_TAGS, NONE, NONE, NONE], // \xa5 TaggedSource
+    [ARGUMENTS_FIRST, Sym::Byte(b'E'), HELD_ARGUMENTS, NONE, NONE], // \xa6 BaseArguments
     [CLONE_LETTER, ENCODING, NONE, NONE, NONE], // \xa7 Clone
     [SOURCE_OR_LOCAL, MAYBE_TAGS, NONE, NONE, NONE], // \xa8 TaggedStdType
     [NAME, MAYBE_TAGS, NONE, NONE, NONE], // \xa9 TypeTag
@@ -872,77 +869,77 @@ pub static SYMBOLS: [Sym; 1338] = symbols_listed! {
     [DECLARATIONS, Sym::Byte(b'E'), NONE, NONE, NONE], // \xb5 TemplateOf
     [Sym::Byte(b'T'), DECLARATION_AFTER_T, NONE, NONE, NONE], // \xb6 PackOf
     [DECLARATION_AFTER_T, DECLARATIONS, NONE, NONE, NONE], // \xb7 Declarations
-    [TYPE, EXPRESSION, NONE, NONE, NONE], // \xb8 Cast
-    [OPERATOR, ARGUMENTS_ALONE, NONE, NONE, NONE], // \xb9 OperatorReference
-    [NAME, ARGUMENTS_ALONE, NONE, NONE, NONE], // \xba SimpleId
-    [MAYBE_RESTRICT, MAYBE_VOLATILE, MAYBE_CONST, PARAMETER_NUMBER, NONE], // \xbb FunctionParameter
-    [ADDRESSED_EXPRESSION, NONE, NONE, NONE, NONE], // \xbc AddressExpression
-    [EXPRESSION, EXPRESSION, NONE, NONE, NONE], // \xbd Binary
-    [EXPRESSION, NONE, NONE, NONE, NONE], // \xbe Unary
-    [CONVERTED_TYPE, NONE, NONE, NONE, NONE], // \xbf OfType
-    [EXPRESSION, EXPRESSIONS, Sym::Byte(b'E'), NONE, NONE], // \xc0 Call
-    [CONVERTED_TYPE, CONVERT_REST, NONE, NONE, NONE], // \xc1 Convert
-    [DESTRUCTOR_NAME, NONE, NONE, NONE, NONE], // \xc2 DestructorName
-    [DIGITS, OUTER_REST, NONE, NONE, NONE], // \xc3 OuterParameter
-    [FOLD_OPERATOR, FOLD_OPERAND, NONE, NONE, NONE], // \xc4 LeftFold
-    [FOLD_OPERATOR, FOLD_OPERAND, NONE, NONE, NONE], // \xc5 RightFold
-    [EXPRESSIONS, Sym::Byte(b'E'), NONE, NONE, NONE], // \xc6 Braces
-    [MAYBE_BEFORE, EXPRESSION, NONE, NONE, NONE], // \xc7 Step
-    [PLACEMENT, TYPE, INITIALIZER, NONE, NONE], // \xc8 New
-    [EXPRESSION, EXPRESSION, EXPRESSION, NONE, NONE], // \xc9 Conditional
-    [REQUIREMENTS, Sym::Byte(b'E'), NONE, NONE, NONE], // \xca Requires
-    [REQUIRED_TYPES, NONE, NONE, NONE, NONE], // \xcb RequiresOf
-    [EXPRESSION, NONE, NONE, NONE, NONE], // \xcc ExpandExpression
-    [EXPRESSION, NONE, NONE, NONE, NONE], // \xcd PackSize
-    [UNRESOLVED, NONE, NONE, NONE, NONE], // \xce Unresolved
-    [TYPE, EXPRESSIONS, Sym::Byte(b'E'), NONE, NONE], // \xcf TypedBraces
-    [EXPRESSION_AFTER_A, NONE, NONE, NONE, NONE], // \xd0 ExpressionA
-    [EXPRESSION_AFTER_C, NONE, NONE, NONE, NONE], // \xd1 ExpressionC
-    [EXPRESSION_AFTER_D, NONE, NONE, NONE, NONE], // \xd2 ExpressionD
-    [EXPRESSION_AFTER_E, NONE, NONE, NONE, NONE], // \xd3 ExpressionE
-    [EXPRESSION_AFTER_F, NONE, NONE, NONE, NONE], // \xd4 ExpressionF
-    [EXPRESSION_AFTER_G, NONE, NONE, NONE, NONE], // \xd5 ExpressionG
-    [EXPRESSION_AFTER_I, NONE, NONE, NONE, NONE], // \xd6 ExpressionI
-    [EXPRESSION_AFTER_L, NONE, NONE, NONE, NONE], // \xd7 ExpressionL
-    [EXPRESSION_AFTER_M, NONE, NONE, NONE, NONE], // \xd8 ExpressionM
-    [EXPRESSION_AFTER_N, NONE, NONE, NONE, NONE], // \xd9 ExpressionN
-    [EXPRESSION_AFTER_O, NONE, NONE, NONE, NONE], // \xda ExpressionO
-    [EXPRESSION_AFTER_P, NONE, NONE, NONE, NONE], // \xdb ExpressionP
-    [EXPRESSION_AFTER_Q, NONE, NONE, NONE, NONE], // \xdc ExpressionQ
-    [EXPRESSION_AFTER_R, NONE, NONE, NONE, NONE], // \xdd ExpressionR
-    [EXPRESSION_AFTER_S, NONE, NONE, NONE, NONE], // \xde ExpressionS
-    [EXPRESSION_AFTER_T, NONE, NONE, NONE, NONE], // \xdf ExpressionT
-    [DECIMAL, ARGUMENTS_ALONE, NONE, NONE, NONE], // \xe0 ParameterExpression
-    [ADDRESSED_LITERAL, Sym::Byte(b'E'), NONE, NONE, NONE], // \xe1 AddressedLiteral
-    [EXPRESSION, EXPRESSIONS, NONE, NONE, NONE], // \xe2 Expressions
-    [FOLD_OPERATOR_AFTER_L, NONE, NONE, NONE, NONE], // \xe3 FoldOperatorL
-    [FOLD_PACK, NONE, NONE, NONE, NONE], // \xe4 FoldOperand
-    [EXPRESSION, NONE, NONE, NONE, NONE], // \xe5 FoldPack
-    [SOME_EXPRESSIONS, Sym::Byte(b'_'), NONE, NONE, NONE], // \xe6 Placed
-    [INITIALIZER_AFTER_P, NONE, NONE, NONE, NONE], // \xe7 Initializer
-    [INITIALIZER_AFTER_I, NONE, NONE, NONE, NONE], // \xe8 BracedInitializer
-    [NONE, NONE, NONE, NONE, NONE], // \xe9 This
-    [DECIMAL, NONE, NONE, NONE, NONE], // \xea ParameterNumber
-    [DECLTYPE_AFTER_D, NONE, NONE, NONE, NONE], // \xeb ConvertedDecltype
-    [CONVERTED_TYPE, NONE, NONE, NONE, NONE], // \xec ConvertedConst
-    [CONVERTED_TYPE, NONE, NONE, NONE, NONE], // \xed ConvertedPointer
-    [CONVERTED_TYPE, NONE, NONE, NONE, NONE], // \xee ConvertedReference
-    [CONVERTED_SOLID, NONE, NONE, NONE, NONE], // \xef ConvertedType
-    [UNRESOLVED_TYPE, UNRESOLVED_NAME, NONE, NONE, NONE], // \xf0 UnresolvedInType
-    [LEVEL, MORE_LEVELS, NONE, NONE, NONE], // \xf1 Levels
-    [UNRESOLVED_TYPE, NONE, NONE, NONE, NONE], // \xf2 DestroyedType
-    [EXPRESSION, AFTER_EXPRESSION, NONE, NONE, NONE], // \xf3 ExpressionRequirement
-    [TYPE, REQUIREMENTS, NONE, NONE, NONE], // \xf4 TypeRequirement
-    [EXPRESSION, REQUIREMENTS, NONE, NONE, NONE], // \xf5 NestedRequirement
-    [CONCEPT, REQUIREMENTS, NONE, NONE, NONE], // \xf6 ResultRequirement
-    [AFTER_NOEXCEPT, NONE, NONE, NONE, NONE], // \xf7 NoexceptRequirement
-    [CONVERTED_TYPE, REQUIRED_TYPES, NONE, NONE, NONE], // \xf8 RequiredType
-    [UNRESOLVED_NAME, NONE, NONE, NONE, NONE], // \xf9 LevelsEnd
-    [OPERATOR_NAME, NONE, NONE, NONE, NONE], // \xfa UnresolvedOperator
-    [ARRAY_REST, NONE, NONE, NONE, NONE], // \xfb AnyArray
-    [BOUND, Sym::Byte(b'_'), TYPE, NONE, NONE], // \xfc BoundedArray
-    [DECIMAL, TYPE, NONE, NONE, NONE], // \xfd LengthArray
-    [NAME, MAYBE_TAGS, NONE, NONE, NONE], // \xfe TaggedSource
+    [UNNESTED_NAME, HELD_ARGUMENTS, NONE, NONE, NONE], // \xb8 NamedConcept
+    [TYPE, EXPRESSION, NONE, NONE, NONE], // \xb9 Cast
+    [OPERATOR, ARGUMENTS_ALONE, NONE, NONE, NONE], // \xba OperatorReference
+    [NAME, ARGUMENTS_ALONE, NONE, NONE, NONE], // \xbb SimpleId
+    [MAYBE_RESTRICT, MAYBE_VOLATILE, MAYBE_CONST, PARAMETER_NUMBER, NONE], // \xbc FunctionParameter
+    [ADDRESSED_EXPRESSION, NONE, NONE, NONE, NONE], // \xbd AddressExpression
+    [EXPRESSION, EXPRESSION, NONE, NONE, NONE], // \xbe Binary
+    [EXPRESSION, NONE, NONE, NONE, NONE], // \xbf Unary
+    [CONVERTED_TYPE, NONE, NONE, NONE, NONE], // \xc0 OfType
+    [EXPRESSION, EXPRESSIONS, Sym::Byte(b'E'), NONE, NONE], // \xc1 Call
+    [CONVERTED_TYPE, CONVERT_REST, NONE, NONE, NONE], // \xc2 Convert
+    [DESTRUCTOR_NAME, NONE, NONE, NONE, NONE], // \xc3 DestructorName
+    [DIGITS, OUTER_REST, NONE, NONE, NONE], // \xc4 OuterParameter
+    [FOLD_OPERATOR, FOLD_OPERAND, NONE, NONE, NONE], // \xc5 LeftFold
+    [FOLD_OPERATOR, FOLD_OPERAND, NONE, NONE, NONE], // \xc6 RightFold
+    [EXPRESSIONS, Sym::Byte(b'E'), NONE, NONE, NONE], // \xc7 Braces
+    [MAYBE_BEFORE, EXPRESSION, NONE, NONE, NONE], // \xc8 Step
+    [PLACEMENT, TYPE, INITIALIZER, NONE, NONE], // \xc9 New
+    [EXPRESSION, EXPRESSION, EXPRESSION, NONE, NONE], // \xca Conditional
+    [REQUIREMENTS, Sym::Byte(b'E'), NONE, NONE, NONE], // \xcb Requires
+    [REQUIRED_TYPES, NONE, NONE, NONE, NONE], // \xcc RequiresOf
+    [EXPRESSION, NONE, NONE, NONE, NONE], // \xcd ExpandExpression
+    [EXPRESSION, NONE, NONE, NONE, NONE], // \xce PackSize
+    [UNRESOLVED, NONE, NONE, NONE, NONE], // \xcf Unresolved
+    [TYPE, EXPRESSIONS, Sym::Byte(b'E'), NONE, NONE], // \xd0 TypedBraces
+    [EXPRESSION_AFTER_A, NONE, NONE, NONE, NONE], // \xd1 ExpressionA
+    [EXPRESSION_AFTER_C, NONE, NONE, NONE, NONE], // \xd2 ExpressionC
+    [EXPRESSION_AFTER_D, NONE, NONE, NONE, NONE], // \xd3 ExpressionD
+    [EXPRESSION_AFTER_E, NONE, NONE, NONE, NONE], // \xd4 ExpressionE
+    [EXPRESSION_AFTER_F, NONE, NONE, NONE, NONE], // \xd5 ExpressionF
+    [EXPRESSION_AFTER_G, NONE, NONE, NONE, NONE], // \xd6 ExpressionG
+    [EXPRESSION_AFTER_I, NONE, NONE, NONE, NONE], // \xd7 ExpressionI
+    [EXPRESSION_AFTER_L, NONE, NONE, NONE, NONE], // \xd8 ExpressionL
+    [EXPRESSION_AFTER_M, NONE, NONE, NONE, NONE], // \xd9 ExpressionM
+    [EXPRESSION_AFTER_N, NONE, NONE, NONE, NONE], // \xda ExpressionN
+    [EXPRESSION_AFTER_O, NONE, NONE, NONE, NONE], // \xdb ExpressionO
+    [EXPRESSION_AFTER_P, NONE, NONE, NONE, NONE], // \xdc ExpressionP
+    [EXPRESSION_AFTER_Q, NONE, NONE, NONE, NONE], // \xdd ExpressionQ
+    [EXPRESSION_AFTER_R, NONE, NONE, NONE, NONE], // \xde ExpressionR
+    [EXPRESSION_AFTER_S, NONE, NONE, NONE, NONE], // \xdf ExpressionS
+    [EXPRESSION_AFTER_T, NONE, NONE, NONE, NONE], // \xe0 ExpressionT
+    [DECIMAL, ARGUMENTS_ALONE, NONE, NONE, NONE], // \xe1 ParameterExpression
+    [ADDRESSED_LITERAL, Sym::Byte(b'E'), NONE, NONE, NONE], // \xe2 AddressedLiteral
+    [EXPRESSION, EXPRESSIONS, NONE, NONE, NONE], // \xe3 Expressions
+    [FOLD_OPERATOR_AFTER_L, NONE, NONE, NONE, NONE], // \xe4 FoldOperatorL
+    [FOLD_PACK, NONE, NONE, NONE, NONE], // \xe5 FoldOperand
+    [EXPRESSION, NONE, NONE, NONE, NONE], // \xe6 FoldPack
+    [SOME_EXPRESSIONS, Sym::Byte(b'_'), NONE, NONE, NONE], // \xe7 Placed
+    [INITIALIZER_AFTER_P, NONE, NONE, NONE, NONE], // \xe8 Initializer
+    [INITIALIZER_AFTER_I, NONE, NONE, NONE, NONE], // \xe9 BracedInitializer
+    [NONE, NONE, NONE, NONE, NONE], // \xea This
+    [DECIMAL, NONE, NONE, NONE, NONE], // \xeb ParameterNumber
+    [DECLTYPE_AFTER_D, NONE, NONE, NONE, NONE], // \xec ConvertedDecltype
+    [CONVERTED_TYPE, NONE, NONE, NONE, NONE], // \xed ConvertedConst
+    [CONVERTED_TYPE, NONE, NONE, NONE, NONE], // \xee ConvertedPointer
+    [CONVERTED_TYPE, NONE, NONE, NONE, NONE], // \xef ConvertedReference
+    [CONVERTED_SOLID, NONE, NONE, NONE, NONE], // \xf0 ConvertedType
+    [UNRESOLVED_TYPE, UNRESOLVED_NAME, NONE, NONE, NONE], // \xf1 UnresolvedInType
+    [LEVEL, MORE_LEVELS, NONE, NONE, NONE], // \xf2 Levels
+    [UNRESOLVED_TYPE, NONE, NONE, NONE, NONE], // \xf3 DestroyedType
+    [EXPRESSION, AFTER_EXPRESSION, NONE, NONE, NONE], // \xf4 ExpressionRequirement
+    [TYPE, REQUIREMENTS, NONE, NONE, NONE], // \xf5 TypeRequirement
+    [EXPRESSION, REQUIREMENTS, NONE, NONE, NONE], // \xf6 NestedRequirement
+    [CONCEPT, REQUIREMENTS, NONE, NONE, NONE], // \xf7 ResultRequirement
+    [AFTER_NOEXCEPT, NONE, NONE, NONE, NONE], // \xf8 NoexceptRequirement
+    [CONVERTED_TYPE, REQUIRED_TYPES, NONE, NONE, NONE], // \xf9 RequiredType
+    [UNRESOLVED_NAME, NONE, NONE, NONE, NONE], // \xfa LevelsEnd
+    [OPERATOR_NAME, NONE, NONE, NONE, NONE], // \xfb UnresolvedOperator
+    [ARRAY_REST, NONE, NONE, NONE, NONE], // \xfc AnyArray
+    [BOUND, Sym::Byte(b'_'), TYPE, NONE, NONE], // \xfd BoundedArray
+    [DECIMAL, TYPE, NONE, NONE, NONE], // \xfe LengthArray
 };
 
 // How many symbols come after each of them, up to an end.
@@ -971,24 +968,24 @@ static AFTER: [u8; 1338] = [
     0, 0, 0, 0, 0, 1, 0, 0, 0, 0, 0, 1, 0, 0, 0, 0, 0, 1, 0, 0, 0, 0, 0, 1, 0, 0, 0, 0, 0, 1, 0, 0,
     0, 0, 0, 1, 0, 0, 0, 0, 0, 1, 0, 0, 0, 0, 0, 1, 0, 0, 0, 0, 0, 1, 0, 0, 0, 0, 0, 1, 0, 0, 0, 0,
     0, 1, 0, 0, 0, 0, 0, 1, 0, 0, 0, 0, 0, 1, 0, 0, 0, 0, 0, 3, 2, 1, 0, 0, 0, 1, 0, 0, 0, 0, 0, 2,
-    1, 0, 0, 0, 0, 2, 1, 0, 0, 0, 0, 2, 1, 0, 0, 0, 0, 1, 0, 0, 0, 0, 0, 2, 1, 0, 0, 0, 0, 2, 1, 0,
+    1, 0, 0, 0, 0, 2, 1, 0, 0, 0, 0, 2, 1, 0, 0, 0, 0, 2, 1, 0, 0, 0, 0, 1, 0, 0, 0, 0, 0, 2, 1, 0,
     0, 0, 0, 3, 2, 1, 0, 0, 0, 2, 1, 0, 0, 0, 0, 2, 1, 0, 0, 0, 0, 2, 1, 0, 0, 0, 0, 2, 1, 0, 0, 0,
     0, 1, 0, 0, 0, 0, 0, 1, 0, 0, 0, 0, 0, 2, 1, 0, 0, 0, 0, 2, 1, 0, 0, 0, 0, 2, 1, 0, 0, 0, 0, 2,
     1, 0, 0, 0, 0, 2, 1, 0, 0, 0, 0, 0, 0, 0, 0, 0, 0, 1, 0, 0, 0, 0, 0, 1, 0, 0, 0, 0, 0, 2, 1, 0,
     0, 0, 0, 2, 1, 0, 0, 0, 0, 2, 1, 0, 0, 0, 0, 2, 1, 0, 0, 0, 0, 2, 1, 0, 0, 0, 0, 2, 1, 0, 0, 0,
-    0, 4, 3, 2, 1, 0, 0, 1, 0, 0, 0, 0, 0, 2, 1, 0, 0, 0, 0, 1, 0, 0, 0, 0, 0, 1, 0, 0, 0, 0, 0, 3,
-    2, 1, 0, 0, 0, 2, 1, 0, 0, 0, 0, 1, 0, 0, 0, 0, 0, 2, 1, 0, 0, 0, 0, 2, 1, 0, 0, 0, 0, 2, 1, 0,
-    0, 0, 0, 2, 1, 0, 0, 0, 0, 2, 1, 0, 0, 0, 0, 3, 2, 1, 0, 0, 0, 3, 2, 1, 0, 0, 0, 2, 1, 0, 0, 0,
-    0, 1, 0, 0, 0, 0, 0, 1, 0, 0, 0, 0, 0, 1, 0, 0, 0, 0, 0, 1, 0, 0, 0, 0, 0, 3, 2, 1, 0, 0, 0, 1,
-    0, 0, 0, 0, 0, 1, 0, 0, 0, 0, 0, 1, 0, 0, 0, 0, 0, 1, 0, 0, 0, 0, 0, 1, 0, 0, 0, 0, 0, 1, 0, 0,
+    0, 2, 1, 0, 0, 0, 0, 4, 3, 2, 1, 0, 0, 1, 0, 0, 0, 0, 0, 2, 1, 0, 0, 0, 0, 1, 0, 0, 0, 0, 0, 1,
+    0, 0, 0, 0, 0, 3, 2, 1, 0, 0, 0, 2, 1, 0, 0, 0, 0, 1, 0, 0, 0, 0, 0, 2, 1, 0, 0, 0, 0, 2, 1, 0,
+    0, 0, 0, 2, 1, 0, 0, 0, 0, 2, 1, 0, 0, 0, 0, 2, 1, 0, 0, 0, 0, 3, 2, 1, 0, 0, 0, 3, 2, 1, 0, 0,
+    0, 2, 1, 0, 0, 0, 0, 1, 0, 0, 0, 0, 0, 1, 0, 0, 0, 0, 0, 1, 0, 0, 0, 0, 0, 1, 0, 0, 0, 0, 0, 3,
+    2, 1, 0, 0, 0, 1, 0, 0, 0, 0, 0, 1, 0, 0, 0, 0, 0, 1, 0, 0, 0, 0, 0, 1, 0, 0, 0, 0, 0, 1, 0, 0,
     0, 0, 0, 1, 0, 0, 0, 0, 0, 1, 0, 0, 0, 0, 0, 1, 0, 0, 0, 0, 0, 1, 0, 0, 0, 0, 0, 1, 0, 0, 0, 0,
-    0, 1, 0, 0, 0, 0, 0, 1, 0, 0, 0, 0, 0, 1, 0, 0, 0, 0, 0, 1, 0, 0, 0, 0, 0, 1, 0, 0, 0, 0, 0, 2,
-    1, 0, 0, 0, 0, 2, 1, 0, 0, 0, 0, 2, 1, 0, 0, 0, 0, 1, 0, 0, 0, 0, 0, 1, 0, 0, 0, 0, 0, 1, 0, 0,
-    0, 0, 0, 2, 1, 0, 0, 0, 0, 1, 0, 0, 0, 0, 0, 1, 0, 0, 0, 0, 0, 0, 0, 0, 0, 0, 0, 1, 0, 0, 0, 0,
-    0, 1, 0, 0, 0, 0, 0, 1, 0, 0, 0, 0, 0, 1, 0, 0, 0, 0, 0, 1, 0, 0, 0, 0, 0, 1, 0, 0, 0, 0, 0, 2,
-    1, 0, 0, 0, 0, 2, 1, 0, 0, 0, 0, 1, 0, 0, 0, 0, 0, 2, 1, 0, 0, 0, 0, 2, 1, 0, 0, 0, 0, 2, 1, 0,
-    0, 0, 0, 2, 1, 0, 0, 0, 0, 1, 0, 0, 0, 0, 0, 2, 1, 0, 0, 0, 0, 1, 0, 0, 0, 0, 0, 1, 0, 0, 0, 0,
-    0, 1, 0, 0, 0, 0, 0, 3, 2, 1, 0, 0, 0, 2, 1, 0, 0, 0, 0, 2, 1, 0, 0, 0, 0, 0,
+    0, 1, 0, 0, 0, 0, 0, 1, 0, 0, 0, 0, 0, 1, 0, 0, 0, 0, 0, 1, 0, 0, 0, 0, 0, 1, 0, 0, 0, 0, 0, 1,
+    0, 0, 0, 0, 0, 2, 1, 0, 0, 0, 0, 2, 1, 0, 0, 0, 0, 2, 1, 0, 0, 0, 0, 1, 0, 0, 0, 0, 0, 1, 0, 0,
+    0, 0, 0, 1, 0, 0, 0, 0, 0, 2, 1, 0, 0, 0, 0, 1, 0, 0, 0, 0, 0, 1, 0, 0, 0, 0, 0, 0, 0, 0, 0, 0,
+    0, 1, 0, 0, 0, 0, 0, 1, 0, 0, 0, 0, 0, 1, 0, 0, 0, 0, 0, 1, 0, 0, 0, 0, 0, 1, 0, 0, 0, 0, 0, 1,
+    0, 0, 0, 0, 0, 2, 1, 0, 0, 0, 0, 2, 1, 0, 0, 0, 0, 1, 0, 0, 0, 0, 0, 2, 1, 0, 0, 0, 0, 2, 1, 0,
+    0, 0, 0, 2, 1, 0, 0, 0, 0, 2, 1, 0, 0, 0, 0, 1, 0, 0, 0, 0, 0, 2, 1, 0, 0, 0, 0, 1, 0, 0, 0, 0,
+    0, 1, 0, 0, 0, 0, 0, 1, 0, 0, 0, 0, 0, 3, 2, 1, 0, 0, 0, 2, 1, 0, 0, 0, 0, 0,
 ];
 
 /// The number of the rule that a kind takes at a byte, if it takes one.

@@ -8,7 +8,7 @@ use crate::table::{FIRST_LETTER, HEADS, SYMBOLS};
 use sym_shape::{Rule, letter_in, place_of, symbols_from};
 
 // For each kind a row: for each byte from `$` to `z` the letter of the production that the kind takes there.
-static WIDE_LETTERS: [[u8; 87]; 147] = [
+static WIDE_LETTERS: [[u8; 87]; 146] = [
     // $%&'()*+,-./0123456789:;<=>?@ABCDEFGHIJKLMNOPQRSTUVWXYZ[\]^_`abcdefghijklmnopqrstuvwxyz
     *b"                                                           *                           ", // Symbol
     *b"          +                                                                            ", // MaybeSuffix
@@ -85,10 +85,10 @@ static WIDE_LETTERS: [[u8; 87]; 147] = [
     *b"                                                           !  !                     !  ", // FloatEnd
     *b"                                                                        \xa0\xa0 \xa0      \x9f    ", // ComponentAfterC
     *b"                                                             \x92  \x91\x98 \x9c \x9b  \x99\x95\x90\x97\x93 \x96\x9a       ", // OtherOperator
-    *b"            \xa4\xa4\xa4\xa4\xa4\xa4\xa4\xa4\xa4\xa4                    \xa2    \xa3      r                                ", // BaseClass
-    *b"            yyyyyyyyyy       yyyyyyyyyyyyyyyyyyyyyyyyyy    y yy y    y     y   y\xa5      ", // BaseAfterS
+    *b"                                     \xa1                                                 ", // HeldArguments
+    *b"            \xa3\xa3\xa3\xa3\xa3\xa3\xa3\xa3\xa3\xa3                    \xa2    \xa3      r                                ", // BaseClass
+    *b"            \xa5\xa5\xa5\xa5\xa5\xa5\xa5\xa5\xa5\xa5                         \xa4                                       ", // UnnestedName
     *b"                                     \xa6                                                 ", // BaseArguments
-    *b"                                     \xa1                                                 ", // OwnArguments
     *b"            \x87\x87\x87\x87\x87\x87\x87\x87\x87\x87       \x87 \x87\x87 \x87  \x85\x85\x87\x86\x87\x87\x87\x87\x81\x87\x87\x87\x87\x87 \x87 \x87      \x87\x87\x87\x87\x87\x87\x87\x87\x87\x87 \x87\x87\x87\x87  \x87\x87\x87\x87\x87\x87\x87\x87\x87", // ArgumentsFirst
     *b"            $$$$$$$$$$                  \" )      #                                     ", // PlainEntity
     *b"            $$$$$$$$$$                  \" T      #                                     ", // PlainTypeEntity
@@ -103,60 +103,59 @@ static WIDE_LETTERS: [[u8; 87]; 147] = [
     *b"            \xac\xac\xac\xac\xac\xac\xac\xac\xac\xac       \xac \xace \xac   \xb1_\xb0\xac\xac`\xac `\xac\xab\xac^ \xaa \xac      \xac\xac\xac\xac\xac\xac\xac\xac\xac\xac \xac\xac\xac\xac  ]\xac\xac\xac\xac\xac\xac\xac\xac", // OneArgument
     *b"                                                                       \xb4  \xb3 \xb6   \xb5    \xb2 ", // DeclarationAfterT
     *b"                                                \xb7                                      ", // Declarations
-    *b"            $$$$$$$$$$                    T    q                                       ", // Concept
+    *b"            \xb8\xb8\xb8\xb8\xb8\xb8\xb8\xb8\xb8\xb8                    T    \xb8                                       ", // Concept
     *b"            $$$$$$$$$$       u w  v      oT n  q #    r      ssssssssss ssss   sstsssss", // SolidButT
-    *b"            \xba\xba\xba\xba\xba\xba\xba\xba\xba\xba                  \xb0       \xe0            \xd0 \xd1\xd2\xd3\xd4\xd5 \xd6  \xd7\xd8\xd9\xda\xdb\xdc\xdd\xde\xdf      ", // Expression
-    *b"            \xba\xba\xba\xba\xba\xba\xba\xba\xba\xba                  \xe1       \xe0            \xd0 \xd1\xd2\xd3\xd4\xd5 \xd6  \xd7\xd8\xd9\xda\xdb\xdc\xdd\xde\xdf      ", // AddressedExpression
+    *b"            \xbb\xbb\xbb\xbb\xbb\xbb\xbb\xbb\xbb\xbb                  \xb0       \xe1            \xd1 \xd2\xd3\xd4\xd5\xd6 \xd7  \xd8\xd9\xda\xdb\xdc\xdd\xde\xdf\xe0      ", // Expression
+    *b"            \xbb\xbb\xbb\xbb\xbb\xbb\xbb\xbb\xbb\xbb                  \xe2       \xe1            \xd1 \xd2\xd3\xd4\xd5\xd6 \xd7  \xd8\xd9\xda\xdb\xdc\xdd\xde\xdf\xe0      ", // AddressedExpression
     *b"            \x8d\x8d\x8d\x8d\x8d\x8d\x8d\x8d\x8d\x8d          \x8c        \x8d\x8d \x8d  \x8d\x8d\x8d    \x8d    \x8a \x8d\x8b\x8d    \x8d\x8d\x8d \x8d\x8d\x8d\x8d   \x8d\x8d  \x8d\x8d\x8d ", // AddressedLiteral
-    *b"                                          \xbd    \xbd             \xbd  \xbc         \xbd     \xbf  \xbe  \xbe", // ExpressionAfterA
-    *b"                                                               \xb8        \xc0\xbd \xbe\xc0     \xc1    ", // ExpressionAfterC
-    *b"                                                  \xbd          \xbe \xb8 \xbe      \xbe \xc2    \xbd\xbd \xbd    ", // ExpressionAfterD
-    *b"                                           \xbd                               \xbd \xbd         ", // ExpressionAfterE
-    *b"                                        \xc3                               \xc4   \xbb \xc5        ", // ExpressionAfterF
-    *b"                                                                 \xbd             \xbe\xbd      ", // ExpressionAfterG
-    *b"                                                                        \xc6           \xbd  ", // ExpressionAfterI
-    *b"                                               \xbd                 \xbd             \xbd\xbd      ", // ExpressionAfterL
-    *b"                                     \xbd  \xbd                            \xbd  \xbd\xc7             ", // ExpressionAfterM
-    *b"                                                             \xc8   \xbd \xbe            \xbe  \xc8\xbe  ", // ExpressionAfterN
-    *b"                                              \xbd                           \xb9\xbd  \xbd        ", // ExpressionAfterO
-    *b"                                        \xbd                               \xbd\xbd  \xc7  \xbe\xbd      ", // ExpressionAfterP
-    *b"                                                                                 \xc9     ", // ExpressionAfterQ
-    *b"                                         \xbd   \xcb \xbd               \xb8         \xbd   \xca \xbd       ", // ExpressionAfterR
-    *b"                                                      \xcd        \xb8            \xcc \xce\xbd\xbf     \xbe", // ExpressionAfterS
-    *b"                                                                 \xbe   \xbf  \xcf          \xbe   ", // ExpressionAfterT
-    *b"            \xe2\xe2\xe2\xe2\xe2\xe2\xe2\xe2\xe2\xe2                  \xe2       \xe2            \xe2 \xe2\xe2\xe2\xe2\xe2 \xe2  \xe2\xe2\xe2\xe2\xe2\xe2\xe2\xe2\xe2      ", // Expressions
+    *b"                                          \xbe    \xbe             \xbe  \xbd         \xbe     \xc0  \xbf  \xbf", // ExpressionAfterA
+    *b"                                                               \xb9        \xc1\xbe \xbf\xc1     \xc2    ", // ExpressionAfterC
+    *b"                                                  \xbe          \xbf \xb9 \xbf      \xbf \xc3    \xbe\xbe \xbe    ", // ExpressionAfterD
+    *b"                                           \xbe                               \xbe \xbe         ", // ExpressionAfterE
+    *b"                                        \xc4                               \xc5   \xbc \xc6        ", // ExpressionAfterF
+    *b"                                                                 \xbe             \xbf\xbe      ", // ExpressionAfterG
+    *b"                                                                        \xc7           \xbe  ", // ExpressionAfterI
+    *b"                                               \xbe                 \xbe             \xbe\xbe      ", // ExpressionAfterL
+    *b"                                     \xbe  \xbe                            \xbe  \xbe\xc8             ", // ExpressionAfterM
+    *b"                                                             \xc9   \xbe \xbf            \xbf  \xc9\xbf  ", // ExpressionAfterN
+    *b"                                              \xbe                           \xba\xbe  \xbe        ", // ExpressionAfterO
+    *b"                                        \xbe                               \xbe\xbe  \xc8  \xbf\xbe      ", // ExpressionAfterP
+    *b"                                                                                 \xca     ", // ExpressionAfterQ
+    *b"                                         \xbe   \xcc \xbe               \xb9         \xbe   \xcb \xbe       ", // ExpressionAfterR
+    *b"                                                      \xce        \xb9            \xcd \xcf\xbe\xc0     \xbf", // ExpressionAfterS
+    *b"                                                                 \xbf   \xc0  \xd0          \xbf   ", // ExpressionAfterT
+    *b"            \xe3\xe3\xe3\xe3\xe3\xe3\xe3\xe3\xe3\xe3                  \xe3       \xe3            \xe3 \xe3\xe3\xe3\xe3\xe3 \xe3  \xe3\xe3\xe3\xe3\xe3\xe3\xe3\xe3\xe3      ", // Expressions
     *b"                                                           !                           ", // MaybeBefore
-    *b"                                                             \x92 \x94\x91\x98 \x9c \x9b  \xe3\x95\x90\x97\x93 \x96\x9a       ", // FoldOperator
+    *b"                                                             \x92 \x94\x91\x98 \x9c \x9b  \xe4\x95\x90\x97\x93 \x96\x9a       ", // FoldOperator
     *b"                                               !                 !             !!      ", // FoldOperatorAfterL
-    *b"            \xe4\xe4\xe4\xe4\xe4\xe4\xe4\xe4\xe4\xe4                  \xe4       \xe4            \xe4 \xe4\xe4\xe4\xe4\xe4 \xe4  \xe4\xe4\xe4\xe4\xe4\xe4\xe4\xe4\xe4      ", // FoldOperand
-    *b"            \xe5\xe5\xe5\xe5\xe5\xe5\xe5\xe5\xe5\xe5                  \xe5       \xe5            \xe5 \xe5\xe5\xe5\xe5\xe5 \xe5  \xe5\xe5\xe5\xe5\xe5\xe5\xe5\xe5\xe5      ", // FoldPack
-    *b"            \xe6\xe6\xe6\xe6\xe6\xe6\xe6\xe6\xe6\xe6                  \xe6       \xe6          ! \xe6 \xe6\xe6\xe6\xe6\xe6 \xe6  \xe6\xe6\xe6\xe6\xe6\xe6\xe6\xe6\xe6      ", // Placement
-    *b"            \xe2\xe2\xe2\xe2\xe2\xe2\xe2\xe2\xe2\xe2                  \xe2       \xe2            \xe2 \xe2\xe2\xe2\xe2\xe2 \xe2  \xe2\xe2\xe2\xe2\xe2\xe2\xe2\xe2\xe2      ", // SomeExpressions
-    *b"                                 ~                                   \xe8      \xe7          ", // Initializer
-    *b"                                                                     \xc6                 ", // InitializerAfterP
-    *b"                                                                        \xc6              ", // InitializerAfterI
-    *b"                                                                            \xbb          ", // OuterRest
-    *b"            \xea\xea\xea\xea\xea\xea\xea\xea\xea\xea                          \xe9          \xea                           ", // ParameterNumber
-    *b"            \xef\xef\xef\xef\xef\xef\xef\xef\xef\xef          \xeb \xef    \xec  \xef\xee\xed \xee\xef\xef\xef           \xef\xef\xef\xef\xef\xef\xef\xef\xef\xef \xef\xef\xef\xef   \xef\xef \xef\xef\xef\xef\xef", // ConvertedType
+    *b"            \xe5\xe5\xe5\xe5\xe5\xe5\xe5\xe5\xe5\xe5                  \xe5       \xe5            \xe5 \xe5\xe5\xe5\xe5\xe5 \xe5  \xe5\xe5\xe5\xe5\xe5\xe5\xe5\xe5\xe5      ", // FoldOperand
+    *b"            \xe6\xe6\xe6\xe6\xe6\xe6\xe6\xe6\xe6\xe6                  \xe6       \xe6            \xe6 \xe6\xe6\xe6\xe6\xe6 \xe6  \xe6\xe6\xe6\xe6\xe6\xe6\xe6\xe6\xe6      ", // FoldPack
+    *b"            \xe7\xe7\xe7\xe7\xe7\xe7\xe7\xe7\xe7\xe7                  \xe7       \xe7          ! \xe7 \xe7\xe7\xe7\xe7\xe7 \xe7  \xe7\xe7\xe7\xe7\xe7\xe7\xe7\xe7\xe7      ", // Placement
+    *b"            \xe3\xe3\xe3\xe3\xe3\xe3\xe3\xe3\xe3\xe3                  \xe3       \xe3            \xe3 \xe3\xe3\xe3\xe3\xe3 \xe3  \xe3\xe3\xe3\xe3\xe3\xe3\xe3\xe3\xe3      ", // SomeExpressions
+    *b"                                 ~                                   \xe9      \xe8          ", // Initializer
+    *b"                                                                     \xc7                 ", // InitializerAfterP
+    *b"                                                                        \xc7              ", // InitializerAfterI
+    *b"                                                                            \xbc          ", // OuterRest
+    *b"            \xeb\xeb\xeb\xeb\xeb\xeb\xeb\xeb\xeb\xeb                          \xea          \xeb                           ", // ParameterNumber
+    *b"            \xf0\xf0\xf0\xf0\xf0\xf0\xf0\xf0\xf0\xf0          \xec \xf0    \xed  \xf0\xef\xee \xef\xf0\xf0\xf0           \xf0\xf0\xf0\xf0\xf0\xf0\xf0\xf0\xf0\xf0 \xf0\xf0\xf0\xf0   \xf0\xf0 \xf0\xf0\xf0\xf0\xf0", // ConvertedType
     *b"            $$$$$$$$$$            v       T    qp#           ssssssssss ssss   ss sssss", // ConvertedSolid
     *b"                                                m                               m      ", // DecltypeAfterD
-    *b"            \xba\xba\xba\xba\xba\xba\xba\xba\xba\xba                  \xb0       \xe0          \xc6 \xd0 \xd1\xd2\xd3\xd4\xd5 \xd6  \xd7\xd8\xd9\xda\xdb\xdc\xdd\xde\xdf      ", // ConvertRest
-    *b"            \xf1\xf1\xf1\xf1\xf1\xf1\xf1\xf1\xf1\xf1          \xf0         \xf0    \xf0\xf0                                      ", // Unresolved
-    *b"                                \xeb         T    qp                                      ", // UnresolvedType
-    *b"            \xba\xba\xba\xba\xba\xba\xba\xba\xba\xba          \xf2         \xf2    \xf2\xf2                                      ", // DestructorName
-    *b"                                             \xf5  \xf4   \xf3                                  ", // Requirements
-    *b"                                          \xf7  \xf5\xf6 \xf4   \xf3                                  ", // AfterExpression
-    *b"                                             \xf5\xf6 \xf4   \xf3                                  ", // AfterNoexcept
-    *b"            \xf8\xf8\xf8\xf8\xf8\xf8\xf8\xf8\xf8\xf8          \xf8 \xf8    \xf8  \xf8\xf8\xf8 \xf8\xf8\xf8\xf8         \xca \xf8\xf8\xf8\xf8\xf8\xf8\xf8\xf8\xf8\xf8 \xf8\xf8\xf8\xf8   \xf8\xf8 \xf8\xf8\xf8\xf8\xf8", // RequiredTypes
-    *b"            \xba\xba\xba\xba\xba\xba\xba\xba\xba\xba                                                                 ", // Level
-    *b"            \xf1\xf1\xf1\xf1\xf1\xf1\xf1\xf1\xf1\xf1           \xf9                                                     ", // MoreLevels
-    *b"            \xba\xba\xba\xba\xba\xba\xba\xba\xba\xba                                                     \xfa           ", // UnresolvedName
-    *b"                                                                          \xb9            ", // OperatorName
-    *b"                             \xfb                                                         ", // AnyArray
-    *b"            \xfd\xfd\xfd\xfd\xfd\xfd\xfd\xfd\xfd\xfd                  \xfc       \xfc          \xfd \xfc \xfc\xfc\xfc\xfc\xfc \xfc  \xfc\xfc\xfc\xfc\xfc\xfc\xfc\xfc\xfc      ", // ArrayRest
-    *b"                                        \xb0       \xe0            \xd0 \xd1\xd2\xd3\xd4\xd5 \xd6  \xd7\xd8\xd9\xda\xdb\xdc\xdd\xde\xdf      ", // Bound
+    *b"            \xbb\xbb\xbb\xbb\xbb\xbb\xbb\xbb\xbb\xbb                  \xb0       \xe1          \xc7 \xd1 \xd2\xd3\xd4\xd5\xd6 \xd7  \xd8\xd9\xda\xdb\xdc\xdd\xde\xdf\xe0      ", // ConvertRest
+    *b"            \xf2\xf2\xf2\xf2\xf2\xf2\xf2\xf2\xf2\xf2          \xf1         \xf1    \xf1\xf1                                      ", // Unresolved
+    *b"                                \xec         T    qp                                      ", // UnresolvedType
+    *b"            \xbb\xbb\xbb\xbb\xbb\xbb\xbb\xbb\xbb\xbb          \xf3         \xf3    \xf3\xf3                                      ", // DestructorName
+    *b"                                             \xf6  \xf5   \xf4                                  ", // Requirements
+    *b"                                          \xf8  \xf6\xf7 \xf5   \xf4                                  ", // AfterExpression
+    *b"                                             \xf6\xf7 \xf5   \xf4                                  ", // AfterNoexcept
+    *b"            \xf9\xf9\xf9\xf9\xf9\xf9\xf9\xf9\xf9\xf9          \xf9 \xf9    \xf9  \xf9\xf9\xf9 \xf9\xf9\xf9\xf9         \xcb \xf9\xf9\xf9\xf9\xf9\xf9\xf9\xf9\xf9\xf9 \xf9\xf9\xf9\xf9   \xf9\xf9 \xf9\xf9\xf9\xf9\xf9", // RequiredTypes
+    *b"            \xbb\xbb\xbb\xbb\xbb\xbb\xbb\xbb\xbb\xbb                                                                 ", // Level
+    *b"            \xf2\xf2\xf2\xf2\xf2\xf2\xf2\xf2\xf2\xf2           \xfa                                                     ", // MoreLevels
+    *b"            \xbb\xbb\xbb\xbb\xbb\xbb\xbb\xbb\xbb\xbb                                                     \xfb           ", // UnresolvedName
+    *b"                                                                          \xba            ", // OperatorName
+    *b"                             \xfc                                                         ", // AnyArray
+    *b"            \xfe\xfe\xfe\xfe\xfe\xfe\xfe\xfe\xfe\xfe                  \xfd       \xfd          \xfe \xfd \xfd\xfd\xfd\xfd\xfd \xfd  \xfd\xfd\xfd\xfd\xfd\xfd\xfd\xfd\xfd      ", // ArrayRest
+    *b"                                        \xb0       \xe1            \xd1 \xd2\xd3\xd4\xd5\xd6 \xd7  \xd8\xd9\xda\xdb\xdc\xdd\xde\xdf\xe0      ", // Bound
     *b"            GGGGGGGGGG         GGIG     GG       G           G GGG G G  GGGGG GG       ", // NestMoreOrEnd
-    *b"            \xfe\xfe\xfe\xfe\xfe\xfe\xfe\xfe\xfe\xfe                                                                 ", // TaggedSource
 ];
 
 /// The number of the rule that a kind takes at a byte, if it takes one.

@@ -9,7 +9,7 @@ use Rattle.sym_shape.specs.declared.rule.Sym.TheVariants.{Kind as OfKind}
 use Rattle.sym_link.specs.Reading.{Found, Next, ◌>>=◌}
 use Rattle.sym_link.specs.Unfold.{found}
 use Rattle.cpp_grammar.specs.declared.production.Production.{Production}
-use Rattle.cpp_grammar.specs.KindNumbers.{NEST, NEST_AFTER_S, NEST_REST, NEST_TAIL, NEST_REST_OR_END, NEST_REST_ALONE, NEST_MORE_OR_END, COMPONENT, CONSTRUCTOR_AFTER_C, HELD_COMPONENT, COMPONENT_AFTER_C, ABBREVIATION, ITEM_AFTER_D, AFTER_D, SOLID, SOLID_BUT_T, TYPE_AFTER_S, TYPE_IN_STD, TAGGED_SOURCE, LITERAL_TYPE, MAYBE_ARGUMENTS, ARGUMENTS, ARGUMENTS_ALONE, MAYBE_TAGS, ARGUMENT_AFTER_T, LEVELED_PARAMETER, CONCEPT, ANY_ARRAY, ARRAY_REST, BASE_ARGUMENTS, CONVERTED_SOLID, DECLTYPE_AFTER_D, UNRESOLVED_TYPE}
+use Rattle.cpp_grammar.specs.KindNumbers.{NEST, NEST_AFTER_S, NEST_REST, NEST_TAIL, NEST_REST_OR_END, NEST_REST_ALONE, NEST_MORE_OR_END, COMPONENT, CONSTRUCTOR_AFTER_C, HELD_COMPONENT, COMPONENT_AFTER_C, ABBREVIATION, ITEM_AFTER_D, AFTER_D, SOLID, SOLID_BUT_T, TYPE_AFTER_S, TYPE_IN_STD, UNNESTED_NAME, LITERAL_TYPE, MAYBE_ARGUMENTS, ARGUMENTS, ARGUMENTS_ALONE, MAYBE_TAGS, ARGUMENT_AFTER_T, LEVELED_PARAMETER, ANY_ARRAY, ARRAY_REST, BASE_ARGUMENTS, CONVERTED_SOLID, DECLTYPE_AFTER_D, UNRESOLVED_TYPE}
 use Rattle.cpp_grammar.specs.Row.{of, only, extending, tagging, applying, packing, Where, under_it, nothing, the_prefix, type_of, unqualified_of, itself, Before, quiet, goes, becomes, tests, holds, unread, Row, before_part}
 use Rattle.cpp_grammar.specs.Rows.{row_of}
 use Rattle.cpp_grammar.proofs.ClosedStates.{ok_same, behind_bind}
@@ -37,13 +37,13 @@ unlisted_around around = cond (prefix_listed around.prefix) 0 1
 
 -- components of nested names, and other kinds whose trees become candidates later, if they do
 unfoldable pub is_component : ℕ → Bool
-is_component k = nat_eq k COMPONENT || nat_eq k CONSTRUCTOR_AFTER_C || nat_eq k HELD_COMPONENT || nat_eq k COMPONENT_AFTER_C || nat_eq k TYPE_IN_STD || nat_eq k TAGGED_SOURCE
+is_component k = nat_eq k COMPONENT || nat_eq k CONSTRUCTOR_AFTER_C || nat_eq k HELD_COMPONENT || nat_eq k COMPONENT_AFTER_C || nat_eq k TYPE_IN_STD
 
 unfoldable pub becomes_candidate : ℕ → Bool
 becomes_candidate k =
     nat_eq k NEST || nat_eq k NEST_AFTER_S || nat_eq k NEST_REST || nat_eq k NEST_TAIL || nat_eq k NEST_REST_OR_END || nat_eq k NEST_REST_ALONE || nat_eq k NEST_MORE_OR_END
     || nat_eq k ABBREVIATION || nat_eq k ITEM_AFTER_D || nat_eq k AFTER_D || nat_eq k SOLID || nat_eq k SOLID_BUT_T || nat_eq k TYPE_AFTER_S || nat_eq k LITERAL_TYPE
-    || nat_eq k ARGUMENT_AFTER_T || nat_eq k LEVELED_PARAMETER || nat_eq k CONCEPT || nat_eq k ANY_ARRAY || nat_eq k ARRAY_REST
+    || nat_eq k ARGUMENT_AFTER_T || nat_eq k LEVELED_PARAMETER || nat_eq k UNNESTED_NAME || nat_eq k ANY_ARRAY || nat_eq k ARRAY_REST
     || nat_eq k CONVERTED_SOLID || nat_eq k DECLTYPE_AFTER_D || nat_eq k UNRESOLVED_TYPE
 
 -- what goes on with the name so far, and arguments after it
@@ -128,6 +128,7 @@ may_leave Production.Complex = true
 may_leave Production.TypeInStd = true
 may_leave Production.AbbreviatedType = true
 may_leave Production.NestInstance = true
+may_leave Production.UnnestedWithS = true
 may_leave Production.ParameterArgument = true
 may_leave Production.DeclaredArgument = true
 may_leave Production.LeveledParameter = true

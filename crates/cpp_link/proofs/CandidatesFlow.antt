@@ -9,9 +9,9 @@ use Rattle.sym_shape.specs.declared.rule.Sym.{Sym}
 use Rattle.sym_shape.specs.declared.rule.Sym.TheVariants.{Kind as OfKind, Name, Number, Byte}
 use Rattle.sym_link.specs.Reading.{Found}
 use Rattle.cpp_grammar.specs.declared.production.Production.{Production}
-use Rattle.cpp_grammar.specs.KindNumbers.{INTEGER, ANONYMOUS, OPERATOR, OTHER_OPERATOR, OPERATOR_AFTER_C, CONSTRUCTOR_DIGIT, DESTRUCTOR_DIGIT, SOURCE_OR_LOCAL, NEST, NEST_AFTER_S, AFTER_D, ITEM_AFTER_D, SOLID, SOLID_BUT_T, ARGUMENT_AFTER_T, LEVELED_PARAMETER, ANY_ARRAY, ARRAY_REST, LITERAL_TYPE, CONVERTED_SOLID, DECLTYPE_AFTER_D, UNRESOLVED_TYPE, UNRESOLVED_NAME, UNQUALIFIED, NEST_REST, NEST_REST_OR_END, NEST_REST_ALONE, NEST_TAIL, NEST_MORE_OR_END, COMPONENT, COMPONENT_AFTER_C, CONSTRUCTOR_AFTER_C, HOLDER_MARK, HELD_COMPONENT, ABBREVIATION, TYPE_AFTER_S, TYPE_IN_STD, TAGGED_SOURCE, MAYBE_ARGUMENTS, MAYBE_TAGS, ARGUMENTS, ARGUMENTS_ALONE, ARGUMENTS_FIRST, BASE_ARGUMENTS, OWN_ARGUMENTS}
+use Rattle.cpp_grammar.specs.KindNumbers.{INTEGER, ANONYMOUS, OPERATOR, OTHER_OPERATOR, OPERATOR_AFTER_C, CONSTRUCTOR_DIGIT, DESTRUCTOR_DIGIT, SOURCE_OR_LOCAL, NEST, NEST_AFTER_S, AFTER_D, ITEM_AFTER_D, SOLID, SOLID_BUT_T, ARGUMENT_AFTER_T, LEVELED_PARAMETER, ANY_ARRAY, ARRAY_REST, LITERAL_TYPE, CONVERTED_SOLID, DECLTYPE_AFTER_D, UNRESOLVED_TYPE, UNRESOLVED_NAME, UNQUALIFIED, NEST_REST, NEST_REST_OR_END, NEST_REST_ALONE, NEST_TAIL, NEST_MORE_OR_END, COMPONENT, COMPONENT_AFTER_C, CONSTRUCTOR_AFTER_C, HOLDER_MARK, HELD_COMPONENT, ABBREVIATION, TYPE_AFTER_S, TYPE_IN_STD, UNNESTED_NAME, MAYBE_ARGUMENTS, MAYBE_TAGS, ARGUMENTS, ARGUMENTS_ALONE, ARGUMENTS_FIRST, BASE_ARGUMENTS, HELD_ARGUMENTS}
 use Rattle.cpp_grammar.specs.Grammar.{parts_of, number_of_kind}
-use Rattle.cpp_grammar.specs.Row.{Made, unlisted, unless_there, Form, handed, finished, either, a_name, as_before, after_part, Gain, nothing, type_of, unqualified_of, itself, Before, quiet, goes, becomes, tests, Row, before_part}
+use Rattle.cpp_grammar.specs.Row.{Made, unlisted, unless_there, Form, handed, finished, either, a_name, as_before, as_part, after_part, Gain, nothing, type_of, unqualified_of, itself, Before, quiet, goes, becomes, tests, Row, before_part}
 use Rattle.cpp_grammar.specs.Rows.{row_of}
 use Rattle.cpp_term.specs.Term.{Term, in_std, instance, parameter}
 use Rattle.cpp_term.specs.Values.{State, Around, prefix_tree, prefix_listed, Value, nothing_there, tree, named, tree_of, piece_of, text_of, is_listed, is_there, part}
@@ -370,7 +370,7 @@ arguments around place = λ state next e. came (going [] (inside around) (with_p
 
 -- ## The base class of a constructor that is inherited
 
-base-arguments : (around : Around) (place : ℕ) → By Production.BaseArguments around place (OfKind ARGUMENTS_FIRST ∷ Byte 69 ∷ OfKind OWN_ARGUMENTS ∷ []) [] (few_.unlisted_around around)
+base-arguments : (around : Around) (place : ℕ) → By Production.BaseArguments around place (OfKind ARGUMENTS_FIRST ∷ Byte 69 ∷ OfKind HELD_ARGUMENTS ∷ []) [] (few_.unlisted_around around)
 unfolding pending pending_around goes_on is_arguments is_component becomes_candidate row_of before_part done around_part packs_within replaced made given all_given built argument tree_in state_after gained meant nodes_before nodes_made nodes_at_end leaves makes_name may_leave part
 base-arguments around place = λ state next e. came (going [] (inside around) (with_prefix around state)) next e (record {
   over = 0;
@@ -378,27 +378,27 @@ base-arguments around place = λ state next e. came (going [] (inside around) (w
   later = λ v. record { now = 0; few = omega arith; goes = ended-by v };
 })
   where
-    instanced : (v b : Value) → By Production.BaseArguments around place (OfKind OWN_ARGUMENTS ∷ []) (v ∷ b ∷ []) 0
+    instanced : (v b : Value) → By Production.BaseArguments around place (OfKind HELD_ARGUMENTS ∷ []) (v ∷ b ∷ []) 0
     instanced v b = λ state next e. (
         let t : Term = instance (prefix_tree around.prefix) (no_items v) in
         came (going (tree t false ∷ b ∷ []) (after t false around) state) next e
         (none-appended (going (tree t false ∷ b ∷ []) (after t false around) state) (omega arith) (λ w. refl) (λ w. λ byte began last. omega arith)))
 
-    ended-by : (v : Value) → By Production.BaseArguments around place (Byte 69 ∷ OfKind OWN_ARGUMENTS ∷ []) (v ∷ []) 0
+    ended-by : (v : Value) → By Production.BaseArguments around place (Byte 69 ∷ OfKind HELD_ARGUMENTS ∷ []) (v ∷ []) 0
     ended-by v = λ state next e. came (going (v ∷ []) around state) next e (none-appended (going (v ∷ []) around state) (omega arith) (λ b. refl) (λ b. instanced v b))
 
 -- after the name of a base class its arguments go on with it
-base-flow : (leave : Left) (around : Around) (place : ℕ) (x : Sym) → Untaken x → ((v : Value) → pending x v ≡ 1) → ((v : Value) → leave v ≡ 0)
-    → RowFlow (after_steps (quiet ∷ goes nothing (after_part 0 unlisted) ∷ []) (either 1 0)) leave around place (x ∷ OfKind BASE_ARGUMENTS ∷ []) [] 0
-unfolding pending pending_around few_.unlisted_around goes_on is_arguments is_component becomes_candidate before_part done around_part packs_within is_listing after prefix_listed state_after gained nodes_before nodes_at_end part
+base-flow : (leave : Left) (around : Around) (place : ℕ) (x : Sym) → Untaken x → ((v : Value) → pending x v ≡ few_.unlisted v) → ((v : Value) → leave v ≡ 0)
+    → RowFlow (after_steps (quiet ∷ goes nothing (after_part 0 (as_part 0)) ∷ []) (either 1 0)) leave around place (x ∷ OfKind BASE_ARGUMENTS ∷ []) [] 0
+unfolding pending pending_around few_.unlisted few_.unlisted_around goes_on is_arguments is_component becomes_candidate before_part done around_part packs_within is_listing is_listed after prefix_listed state_after gained nodes_before nodes_at_end part
 base-flow leave around place x none one left = λ state next e. came (going [] around state) next e (record {
   over = 0;
   few = omega arith;
   later = λ v. record {
-    now = 1;
+    now = few_.unlisted v;
     few = omega (arith, none around v, one v);
-    goes = λ later after_ f. came (going (v ∷ []) (after (tree_of v) false around) later) after_ f (record {
-      over = 1;
+    goes = λ later after_ f. came (going (v ∷ []) (after (tree_of v) (is_listed v) around) later) after_ f (record {
+      over = few_.unlisted v;
       few = omega arith;
       later = λ w. record { now = 0; few = omega arith; goes = λ byte began last. omega (arith, left (meant (either 1 0) byte around (v ∷ w ∷ []))) };
     });
@@ -481,7 +481,7 @@ module _ (p : Production) (is : closes_by_row p ≡ true) (around : Around) (pla
   of_type form x y row none free is_ left =
       of-row p is around place (x ∷ y ∷ []) [] 0 (subst (λ r. RowFlow r (leaves p) around place (x ∷ y ∷ []) [] 0) (sym row) (of-type-flow form (leaves p) around place x y none free is_ left))
 
-  base_name : (x : Sym) → row_of p ≡ after_steps (quiet ∷ goes nothing (after_part 0 unlisted) ∷ []) (either 1 0) → Untaken x → ((v : Value) → pending x v ≡ 1) → ((v : Value) → leaves p v ≡ 0)
+  base_name : (x : Sym) → row_of p ≡ after_steps (quiet ∷ goes nothing (after_part 0 (as_part 0)) ∷ []) (either 1 0) → Untaken x → ((v : Value) → pending x v ≡ few_.unlisted v) → ((v : Value) → leaves p v ≡ 0)
       → Flow p around place (x ∷ OfKind BASE_ARGUMENTS ∷ []) [] 0
   base_name x row none one left =
       of-row p is around place (x ∷ OfKind BASE_ARGUMENTS ∷ []) [] 0
@@ -501,6 +501,7 @@ unfolding parts_of number_of_kind starts_with takes_name begins_arguments take_n
 flows Production.NestWithS around place = handed_on Production.NestWithS refl around place (OfKind NEST_AFTER_S) refl (λ a v. refl) (λ v. omega arith)
 flows Production.NestedType around place = handed_on Production.NestedType refl around place (OfKind NEST) refl (λ a v. refl) (λ v. omega arith)
 flows Production.ItemIsType around place = handed_on Production.ItemIsType refl around place (OfKind AFTER_D) refl (λ a v. refl) (λ v. omega arith)
+flows Production.UnnestedWithS around place = handed_on Production.UnnestedWithS refl around place (OfKind TYPE_AFTER_S) refl (λ a v. refl) (λ v. omega arith)
 flows Production.AbbreviatedType around place = handed_on Production.AbbreviatedType refl around place (OfKind ABBREVIATION) refl (λ a v. refl) (λ v. omega arith)
 flows Production.ArrayType around place = handed_on Production.ArrayType refl around place (OfKind ANY_ARRAY) refl (λ a v. refl) (λ v. omega arith)
 flows Production.AnyArray around place = handed_on Production.AnyArray refl around place (OfKind ARRAY_REST) refl (λ a v. refl) (λ v. omega arith)
@@ -523,8 +524,7 @@ flows Production.NestInstance around place = of-row Production.NestInstance refl
 flows Production.NestEnd around place = of-row Production.NestEnd refl around place [] [] (few_.unlisted_around around) (nest-end around place)
 flows Production.Arguments around place = of-row Production.Arguments refl around place (parts_of Production.Arguments) [] (few_.unlisted_around around) (arguments around place)
 flows Production.BaseArguments around place = of-row Production.BaseArguments refl around place (parts_of Production.BaseArguments) [] (few_.unlisted_around around) (base-arguments around place)
-flows Production.BaseInStd around place = base_name Production.BaseInStd refl around place (OfKind TYPE_IN_STD) refl (λ a v. refl) (λ v. refl) (λ v. refl)
-flows Production.SourceBase around place = base_name Production.SourceBase refl around place (OfKind TAGGED_SOURCE) refl (λ a v. refl) (λ v. refl) (λ v. refl)
+flows Production.UnnestedBase around place = base_name Production.UnnestedBase refl around place (OfKind UNNESTED_NAME) refl (λ a v. refl) (λ v. refl) (λ v. refl)
 flows Production.Substitution around place = plain-flow Production.Substitution around place refl (substitution-closes around place) (parts_of Production.Substitution) refl []
 flows Production.Inheriting around place = plain-flow Production.Inheriting around place refl (inheriting-closes around place) (parts_of Production.Inheriting) refl []
 -- Generated by tools/trees.py.
@@ -554,6 +554,7 @@ flows Production.ItemWithD around place = typed Production.ItemWithD refl around
 flows Production.Tag around place = made_name Production.Tag refl around place _ _ Name MAYBE_ARGUMENTS refl (λ vs. refl) (λ vs. refl) (λ a v. refl) maybe-arguments
 flows Production.IntegerLiteral around place = of_type Production.IntegerLiteral refl around place _ (OfKind LITERAL_TYPE) (OfKind INTEGER) refl (λ a v. refl) (λ a v. refl) (λ v. refl) (λ byte vs. omega arith)
 flows Production.OperatorNameWithC around place = made_name Production.OperatorNameWithC refl around place _ _ (OfKind OPERATOR_AFTER_C) MAYBE_ARGUMENTS refl (λ vs. refl) (λ vs. refl) (λ a v. refl) maybe-arguments
+flows Production.TaggedSource around place = made_name Production.TaggedSource refl around place _ _ Name MAYBE_TAGS refl (λ vs. refl) (λ vs. refl) (λ a v. refl) maybe-tags
 flows Production.TaggedStdType around place = made_name Production.TaggedStdType refl around place _ _ (OfKind SOURCE_OR_LOCAL) MAYBE_TAGS refl (λ vs. refl) (λ vs. refl) (λ a v. refl) maybe-tags
 flows Production.TypeTag around place = made_name Production.TypeTag refl around place _ _ Name MAYBE_TAGS refl (λ vs. refl) (λ vs. refl) (λ a v. refl) maybe-tags
 flows Production.ArgumentWithT around place = typed Production.ArgumentWithT refl around place (OfKind ARGUMENT_AFTER_T) refl (λ a v. refl) (λ v. refl) (λ v. refl)
@@ -567,6 +568,5 @@ flows Production.ConvertedReference around place = own_type Production.Converted
 flows Production.ConvertedType around place = typed Production.ConvertedType refl around place (OfKind CONVERTED_SOLID) refl (λ a v. refl) (λ v. refl) (λ v. refl)
 flows Production.UnresolvedInType around place = of_type Production.UnresolvedInType refl around place _ (OfKind UNRESOLVED_TYPE) (OfKind UNRESOLVED_NAME) refl (λ a v. refl) (λ a v. refl) (λ v. refl) (λ byte vs. omega arith)
 flows Production.DestroyedType around place = typed Production.DestroyedType refl around place (OfKind UNRESOLVED_TYPE) refl (λ a v. refl) (λ v. refl) (λ v. refl)
-flows Production.TaggedSource around place = made_name Production.TaggedSource refl around place _ _ Name MAYBE_TAGS refl (λ vs. refl) (λ vs. refl) (λ a v. refl) maybe-tags
 -- no candidate becomes of any other before its end
 flows p around place = simple p refl around place (parts_of p) refl refl (λ vs. λ byte began state. omega arith)

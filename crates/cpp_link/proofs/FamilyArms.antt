@@ -145,23 +145,23 @@ IsInherited _ = ⊥
 
 pub inherited : (p : Production) → family_of p ≡ Family.Inherited
     → (p ≡ Production.Inheriting → ⊥)
-    → (p ≡ Production.OwnArguments → ⊥)
+    → (p ≡ Production.HeldArguments → ⊥)
     → (p ≡ Production.NestedBase → ⊥)
-    → (p ≡ Production.BaseWithS → ⊥)
+    → (p ≡ Production.UnnestedWithS → ⊥)
     → (p ≡ Production.TaggedSource → ⊥)
-    → (p ≡ Production.SourceBase → ⊥)
-    → (p ≡ Production.BaseInStd → ⊥)
+    → (p ≡ Production.UnnestedBase → ⊥)
     → (p ≡ Production.BaseArguments → ⊥)
+    → (p ≡ Production.NamedConcept → ⊥)
     → ⊥
 unfolding family_of
 inherited Production.Inheriting is n0 n1 n2 n3 n4 n5 n6 n7 = n0 refl
-inherited Production.OwnArguments is n0 n1 n2 n3 n4 n5 n6 n7 = n1 refl
+inherited Production.HeldArguments is n0 n1 n2 n3 n4 n5 n6 n7 = n1 refl
 inherited Production.NestedBase is n0 n1 n2 n3 n4 n5 n6 n7 = n2 refl
-inherited Production.BaseWithS is n0 n1 n2 n3 n4 n5 n6 n7 = n3 refl
+inherited Production.UnnestedWithS is n0 n1 n2 n3 n4 n5 n6 n7 = n3 refl
 inherited Production.TaggedSource is n0 n1 n2 n3 n4 n5 n6 n7 = n4 refl
-inherited Production.SourceBase is n0 n1 n2 n3 n4 n5 n6 n7 = n5 refl
-inherited Production.BaseInStd is n0 n1 n2 n3 n4 n5 n6 n7 = n6 refl
-inherited Production.BaseArguments is n0 n1 n2 n3 n4 n5 n6 n7 = n7 refl
+inherited Production.UnnestedBase is n0 n1 n2 n3 n4 n5 n6 n7 = n5 refl
+inherited Production.BaseArguments is n0 n1 n2 n3 n4 n5 n6 n7 = n6 refl
+inherited Production.NamedConcept is n0 n1 n2 n3 n4 n5 n6 n7 = n7 refl
 inherited _ is n0 n1 n2 n3 n4 n5 n6 n7 = subst IsInherited (sym is) tt
 
 abbrev IsSpecial : Family → Type 0

@@ -7,10 +7,10 @@ use Rattle.sym_link.specs.Reading.{Found}
 use Rattle.cpp_grammar.specs.declared.production.Production.{Production}
 use Rattle.cpp_term.specs.Term.{Term, holder}
 use Rattle.cpp_term.specs.Values as values
-use Rattle.cpp_term.specs.Values.{State, Around, Value, tree, tree_of, part, prefix_tree}
+use Rattle.cpp_term.specs.Values.{State, Around, Value, tree, tree_of, part, prefix_tree, prefix_listed}
 use Rattle.cpp_term.specs.Between.{Going, inside, after, listed_so_far}
-use Rattle.cpp_term.specs.References.{appended}
-use Rattle.cpp_term.specs.Rescoping.{with_holder, with_base, has_held, is_instance, is_counted_alike, holder_so_far, substituted_wide, numbered, between_wide}
+use Rattle.cpp_term.specs.References.{appended, with_prefix}
+use Rattle.cpp_term.specs.Rescoping.{with_holder, with_held, held_unless, has_held, is_instance, is_counted_alike, holder_so_far, substituted_wide, numbered, between_wide}
 use Rattle.cpp_term.proofs.Notes.{both}
 use Rattle.cpp_tree.specs.Nodes as nodes
 use Rattle.cpp_tree.specs.Nodes.{Stored, tree_at}
@@ -18,7 +18,7 @@ use Rattle.cpp_tree.specs.declared.node.Node.{Node}
 use Rattle.cpp_references.specs.declared.candidates.Candidate.{Candidate}
 use Rattle.cpp_references.specs.declared.around.Surroundings.{Surroundings}
 use Rattle.cpp_link.specs.declared.part.Step.{Step}
-use Rattle.cpp_link.specs.LinkRescoping.{steps_apart, with_mark, going_marked}
+use Rattle.cpp_link.specs.LinkRescoping.{steps_apart, marked_unless, with_mark, going_marked}
 use Rattle.cpp_link.specs.Parts.{trees_in, prefix_of, name_of, around_of, candidates_of, is_apart_behind, AreCounted}
 use Rattle.cpp_link.specs.Reads.{goes_on, with_candidate, behind_first, named_if, appended_if}
 use Rattle.cpp_link.specs.NodeCount.{makes_before}
@@ -33,7 +33,7 @@ pub held_second : (p : Production) (l : Bool) (before : ℕ) → p ≡ Productio
 unfolding steps_apart
 held_second p l before is apart = eqb-true before 1 (ap (λ q. steps_apart q l before) (sym is) ∙ apart)
 
-pub base_first : (p : Production) (l : Bool) (before : ℕ) → p ≡ Production.OwnArguments → steps_apart p l before ≡ true → before ≡ 0
+pub base_first : (p : Production) (l : Bool) (before : ℕ) → p ≡ Production.HeldArguments → steps_apart p l before ≡ true → before ≡ 0
 unfolding steps_apart
 base_first p l before is apart = eqb-true before 0 (ap (λ q. steps_apart q l before) (sym is) ∙ apart)
 
@@ -72,21 +72,31 @@ held_refused around place (v ∷ []) state one named = by (is_instance (prefix_t
     by true h = refl
     by false h = absurd (false≢true h)
 
--- the base class of a constructor that is inherited is counted
-pub base_read : (s : List ℕ) (y : Stored) (kept then : Surroundings) (place : ℕ) (vs : List Value) (cs : List values.Candidate) (packs : Option ℕ) (base : ℕ) → length vs ≡ 0
-    → tree_at (trees_in s y) base ≡ prefix_tree (prefix_of (trees_in s y) (name_of kept)) → around_of (trees_in s y) then ≡ inside (around_of (trees_in s y) kept)
-    → between_wide Production.OwnArguments (around_of (trees_in s y) kept) place vs (record { candidates = cs; packs = packs })
-    ≡ going_marked Production.OwnArguments (around_of (trees_in s y) kept) (goes_on s y kept vs cs packs (Step.Go (Some base) then packs))
-unfolding between_wide goes_on going_marked with_mark with_candidate with_base around_of
-base_read s y kept then place (v ∷ vs) cs packs base none prefix around = absurd (omega (arith, none))
-base_read s y kept then place [] cs packs base none prefix around = both ends (sym around) (sym prefix)
+-- a name is counted, and again as a mark, unless it is a candidate by now
+held_again : (listed : Bool) (around : Around) (t : Term) (state : State) → held_unless listed around t state ≡ marked_unless listed around t (elim listed [ true ↦ state | false ↦ appended around t state ])
+unfolding held_unless marked_unless with_held
+held_again true around t state = refl
+held_again false around t state = refl
+
+prefix_held : (around : Around) (state : State) → held_unless (prefix_listed around.prefix) around (prefix_tree around.prefix) state ≡ marked_unless (prefix_listed around.prefix) around (prefix_tree around.prefix) (with_prefix around state)
+unfolding with_prefix
+prefix_held around state = held_again (prefix_listed around.prefix) around (prefix_tree around.prefix) state
+
+-- so are the base class of a constructor that is inherited and the name of a concept
+pub base_read : (s : List ℕ) (y : Stored) (kept then : Surroundings) (place : ℕ) (vs : List Value) (cs : List values.Candidate) (packs : Option ℕ) (name : Option ℕ) → length vs ≡ 0
+    → ((state : State) → with_prefix (around_of (trees_in s y) kept) state ≡ with_candidate false (around_of (trees_in s y) kept) (trees_in s y) name state)
+    → around_of (trees_in s y) then ≡ inside (around_of (trees_in s y) kept)
+    → between_wide Production.HeldArguments (around_of (trees_in s y) kept) place vs (record { candidates = cs; packs = packs })
+    ≡ going_marked Production.HeldArguments (around_of (trees_in s y) kept) (goes_on s y kept vs cs packs (Step.Go name then packs))
+unfolding between_wide goes_on going_marked with_mark
+base_read s y kept then place (v ∷ vs) cs packs name none counts surrounds = absurd (omega (arith, none))
+base_read s y kept then place [] cs packs name none counts surrounds =
+    let around = around_of (trees_in s y) kept in
+    let state : State = record { candidates = cs; packs = packs } in
+    both ends (sym surrounds) (prefix_held around state ∙ ap (λ x. marked_unless (prefix_listed around.prefix) around (prefix_tree around.prefix) x) (counts state))
   where
-    ends : Around → Term → Going
-    ends a t = Ok (record {
-      values = [];
-      context = a;
-      state = with_holder (around_of (trees_in s y) kept) (prefix_tree (prefix_of (trees_in s y) (name_of kept))) (appended (around_of (trees_in s y) kept) t (record { candidates = cs; packs = packs }));
-    })
+    ends : Around → State → Going
+    ends a x = Ok (record { values = []; context = a; state = x })
 
 -- how many nodes are made
 pub held_makes : (known : List Value) → length known ≡ 1 → 1 ≡ makes_before Production.Holder known
@@ -95,7 +105,7 @@ held_makes (v ∷ []) one = refl
 held_makes [] one = absurd (omega (arith, one))
 held_makes (v ∷ w ∷ vs) one = absurd (omega (arith, one))
 
-pub base_makes : (known : List Value) → length known ≡ 0 → 0 ≡ makes_before Production.OwnArguments known
+pub base_makes : (known : List Value) → length known ≡ 0 → 0 ≡ makes_before Production.HeldArguments known
 unfolding makes_before made_before
 base_makes [] none = refl
 base_makes (v ∷ vs) none = absurd (omega (arith, none))

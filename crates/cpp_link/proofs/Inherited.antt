@@ -7,7 +7,7 @@ use Rattle.cpp_grammar.specs.declared.production.Production.{Production}
 use Rattle.cpp_grammar.specs.Unfolding.{production_at}
 use Rattle.cpp_term.specs.Term as term
 use Rattle.cpp_term.specs.Term.{Term}
-use Rattle.cpp_term.specs.Rescoping.{with_base, counted_base}
+use Rattle.cpp_term.specs.Rescoping.{with_held, held_unless, counted_base}
 use Rattle.cpp_term.specs.Values as values
 use Rattle.cpp_term.specs.Values.{State, Around, Value, Prefix, is_listed}
 use Rattle.cpp_term.specs.Between.{extended, inherited}
@@ -29,8 +29,8 @@ use Rattle.cpp_link.proofs.Finishing.{plain_closing, refused_right}
 -- ## The base class is counted
 
 pub counted_alone : (s : List ℕ) (ts : List Term) (around : Around) (base : Part) (state : State) → ((letter left right : ℕ) → base ≡ Part.Pair letter left right → ⊥)
-    → counted_base around (value_of s ts base) state ≡ elim (is_listed (value_of s ts base)) [ true ↦ state | false ↦ with_base around (values.tree_of (value_of s ts base)) state ]
-unfolding counted_base value_of
+    → counted_base around (value_of s ts base) state ≡ elim (is_listed (value_of s ts base)) [ true ↦ state | false ↦ with_held around (values.tree_of (value_of s ts base)) state ]
+unfolding counted_base held_unless value_of
 counted_alone s ts around (Part.Pair letter left right) state other = absurd (other letter left right refl)
 counted_alone s ts around _ state other = refl
 

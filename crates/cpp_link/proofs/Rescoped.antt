@@ -74,7 +74,7 @@ apart_between Production.ParameterExpression around place (v ∷ []) state apart
     go true e = absurd (true≢false e)
     go false e = refl
 apart_between Production.Holder around place (v ∷ []) state apart = absurd (true≢false apart)
-apart_between Production.OwnArguments around place [] state apart = absurd (true≢false apart)
+apart_between Production.HeldArguments around place [] state apart = absurd (true≢false apart)
 apart_between p around place vs state apart = refl
 
 pub wide_reads : (s : List ℕ) (rule : Open State Around) (known : List Value) (state : State) → (linked_wide s).between rule known state ≡ between_wide (production_at rule.rule.number) rule.context rule.place known state
@@ -228,24 +228,24 @@ unfolding steps_apart
 no_pack p l before is pack = absurd (false≢true (ap (λ q. steps_apart q l before) (sym pack) ∙ is))
 
 -- what is neither a name with its M nor the arguments of a constructor that is inherited is a parameter of a lambda
-pub apart_generic : (p : Production) (l : Bool) (before : ℕ) → steps_apart p l before ≡ true → (p ≡ Production.Holder → ⊥) → (p ≡ Production.OwnArguments → ⊥) → (is_parameter p ≡ true) × ((l ≡ true) × (before ≡ 1))
+pub apart_generic : (p : Production) (l : Bool) (before : ℕ) → steps_apart p l before ≡ true → (p ≡ Production.Holder → ⊥) → (p ≡ Production.HeldArguments → ⊥) → (is_parameter p ≡ true) × ((l ≡ true) × (before ≡ 1))
 unfolding steps_apart is_parameter
 apart_generic Production.Parameter l before is held own = (refl, second l before is)
 apart_generic Production.NestParameter l before is held own = (refl, second l before is)
 apart_generic Production.ParameterArgument l before is held own = (refl, second l before is)
 apart_generic Production.ParameterExpression l before is held own = (refl, second l before is)
 apart_generic Production.Holder l before is held own = absurd (held refl)
-apart_generic Production.OwnArguments l before is held own = absurd (own refl)
+apart_generic Production.HeldArguments l before is held own = absurd (own refl)
 apart_generic _ l before is held own = absurd (false≢true is)
 
 -- there is no mark then
-pub unmarked : (p : Production) (around : Around) (vs : List Value) (state : State) → (p ≡ Production.Holder → ⊥) → (p ≡ Production.OwnArguments → ⊥) → with_mark p around vs state ≡ state
+pub unmarked : (p : Production) (around : Around) (vs : List Value) (state : State) → (p ≡ Production.Holder → ⊥) → (p ≡ Production.HeldArguments → ⊥) → with_mark p around vs state ≡ state
 unfolding with_mark
 unmarked Production.Holder around vs state held own = absurd (held refl)
-unmarked Production.OwnArguments around vs state held own = absurd (own refl)
+unmarked Production.HeldArguments around vs state held own = absurd (own refl)
 unmarked _ around vs state held own = refl
 
-pub going_unmarked : (p : Production) (around : Around) (going : Going) → (p ≡ Production.Holder → ⊥) → (p ≡ Production.OwnArguments → ⊥) → going_marked p around going ≡ going
+pub going_unmarked : (p : Production) (around : Around) (going : Going) → (p ≡ Production.Holder → ⊥) → (p ≡ Production.HeldArguments → ⊥) → going_marked p around going ≡ going
 unfolding going_marked
 going_unmarked p around (Ok n) held own = ap (λ x. Ok (record n { state = x })) (unmarked p around n.values n.state held own)
 going_unmarked p around (Err e) held own = refl

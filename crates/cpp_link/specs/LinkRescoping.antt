@@ -11,9 +11,9 @@ use Rattle.sym_link.specs.Tally.{Tally, tally, Makes, tallied, tallied_view}
 use Rattle.cpp_grammar.specs.declared.production.Production.{Production}
 use Rattle.cpp_grammar.specs.Rescoping.{generic_number}
 use Rattle.cpp_grammar.specs.Unfolding.{production_at, byte_of}
-use Rattle.cpp_term.specs.Term.{parameter}
+use Rattle.cpp_term.specs.Term.{Term, parameter}
 use Rattle.cpp_term.specs.Items.{auto}
-use Rattle.cpp_term.specs.Values.{Candidate, State, Around, Value, tree, tree_of, prefix_tree, text_of, part}
+use Rattle.cpp_term.specs.Values.{Candidate, State, Around, Value, tree, tree_of, prefix_tree, prefix_listed, text_of, part}
 use Rattle.cpp_term.specs.Unfolding.{first_around, first_state}
 use Rattle.cpp_term.specs.Rescoping.{generic_so_far, with_holder, is_foreign, as_generic_lambda, counted_base, close_wide, cpp_wide}
 use Rattle.cpp_term.specs.Between.{Going, next}
@@ -61,20 +61,23 @@ is_parameter_argument Production.ParameterExpression = true
 is_parameter_argument _ = false
 
 -- Before the part after so many of a production the wide reading does something of its own: in a lambda's signature a parameter is named,
--- a name becomes a candidate with its M, or the base class of a constructor that is inherited is counted.
+-- a name becomes a candidate with its M, or the base class of a constructor that is inherited or the name of a concept is counted.
 unfoldable pub steps_apart : Production → (in_lambda : Bool) → (before : ℕ) → Bool
 steps_apart Production.Parameter in_lambda before = in_lambda && nat_eq before 1
 steps_apart Production.NestParameter in_lambda before = in_lambda && nat_eq before 1
 steps_apart Production.ParameterArgument in_lambda before = in_lambda && nat_eq before 1
 steps_apart Production.ParameterExpression in_lambda before = in_lambda && nat_eq before 1
 steps_apart Production.Holder in_lambda before = nat_eq before 1
-steps_apart Production.OwnArguments in_lambda before = nat_eq before 0
+steps_apart Production.HeldArguments in_lambda before = nat_eq before 0
 steps_apart _ in_lambda before = false
 
--- What is a mark among the candidates then, once the parts stand for these values: a name with its M, or a base class.
+unfoldable pub marked_unless : (listed : Bool) → Around → Term → State → State
+marked_unless listed around t state = elim listed [ true ↦ state | false ↦ with_holder around t state ]
+
+-- What is a mark among the candidates then, once the parts stand for these values: a name with its M, a base class, or a concept's name.
 unfoldable pub with_mark : Production → Around → List Value → State → State
 with_mark Production.Holder around vs state = with_holder around (tree_of (part vs 0)) state
-with_mark Production.OwnArguments around vs state = with_holder around (prefix_tree around.prefix) state
+with_mark Production.HeldArguments around vs state = marked_unless (prefix_listed around.prefix) around (prefix_tree around.prefix) state
 with_mark _ around vs state = state
 
 -- what is done, and the mark

@@ -56,7 +56,7 @@ lambda_at_end known = if is_void (tree_of (part known 0)) && is_nil (no_items (p
 
 -- one that is inherited makes its name, and one node more where it has arguments of its own
 unfoldable pub inheriting_at_end : Value → ℕ
-inheriting_at_end (pair second base own) = 2
+inheriting_at_end (pair second own base) = 2
 inheriting_at_end base = 1
 
 -- an expression is put in parentheses where an argument may not end in it
@@ -90,10 +90,12 @@ makes_at_end Production.Parameter known = name_at_end known
 makes_at_end Production.TypeWithS known = name_at_end known
 makes_at_end Production.Tag known = name_at_end known
 makes_at_end Production.OperatorNameWithC known = name_at_end known
+makes_at_end Production.TaggedSource known = name_at_end known
 makes_at_end Production.TaggedStdType known = name_at_end known
 makes_at_end Production.TypeTag known = name_at_end known
 makes_at_end Production.Expression known = enclosed_at_end known
 makes_at_end Production.ParameterArgument known = name_at_end known
+makes_at_end Production.NamedConcept known = name_at_end known
 makes_at_end Production.OperatorReference known = name_at_end known
 makes_at_end Production.SimpleId known = name_at_end known
 makes_at_end Production.ExpressionA known = operation_at_end (part known 0)
@@ -116,7 +118,6 @@ makes_at_end Production.ParameterExpression known = name_at_end known
 makes_at_end Production.Expressions known = elements_at_end known
 makes_at_end Production.Initializer known = operation_at_end (part known 0)
 makes_at_end Production.BracedInitializer known = operation_at_end (part known 0)
-makes_at_end Production.TaggedSource known = name_at_end known
 makes_at_end p known = made_at_end p
 
 -- ## What a symbol makes

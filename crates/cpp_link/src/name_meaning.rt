@@ -251,7 +251,7 @@ impl Linked {
         }
     }
 
-    /// A constructor that is inherited, and the base class that it is of.
+    /// A constructor that is inherited, the base class that it is of, or a concept.
     #[tactic(auto, unfolding(crate::specs::LinkReading::link_meaning, cpp_term::specs::Meaning::meaning, cpp_term::specs::Meaning::listed_value, cpp_term::specs::Meaning::with_item, cpp_term::specs::Values::tree_of, cpp_term::specs::Values::is_there, crate::specs::Parts::around_of, crate::specs::Parts::outcome_value, crate::specs::Parts::value_of, cpp_tree::specs::Nodes::tree_of, cpp_tree::specs::Nodes::piece_of, cpp_tree::specs::Nodes::thunk_of, cpp_tree::specs::Nodes::adjustment_of, crate::specs::Owed::made_at_end, crate::specs::Closes::ends_of, crate::specs::Making::nodes_of_outcome, crate::specs::NodeCount::makes_at_end))]
     #[inline(never)]
     pub(crate) fn outcome_of_inherited(
@@ -277,24 +277,26 @@ impl Linked {
         match production {
             // <ctor-dtor-name> ::= CI1 <base class type> | CI2 <base class type>, after the C, perhaps with <template-args>
             Production::Inheriting => self.inherited(symbol, kept.prefix(), parts),
-            // the base class of a constructor that is inherited, and the arguments of the constructor itself: after a name without arguments there
-            // may be none, nor after a substitution, where they might be the base class' own
-            Production::OwnArguments => Outcome::Given(Part::Pair {
+            // arguments after a name from which on not all compilers count alike: those of a constructor that is inherited, after its base class, and those
+            // of a concept
+            Production::HeldArguments => Outcome::Given(Part::Pair {
                 letter: byte,
-                left: self.prefix_node(symbol, kept),
-                right: self.list(symbol, parts, 0),
+                left: self.list(symbol, parts, 0),
+                right: self.prefix_node(symbol, kept),
             }),
             // <nested-name>
             Production::NestedBase => Outcome::Given(self.either(symbol, parts, 1, 0)),
-            Production::BaseWithS => Outcome::Given(self.given(symbol, parts, 0)),
-            // <unqualified-name> ::= <source-name> [<abi-tags>], of a base class
+            // <unscoped-name> ::= St <unqualified-name>, or <substitution>
+            Production::UnnestedWithS => Outcome::Given(self.given(symbol, parts, 0)),
+            // <unqualified-name> ::= <source-name> [<abi-tags>]
             Production::TaggedSource => self.applied(symbol, parts, false),
-            // <unscoped-name> ::= <unqualified-name>, perhaps with <template-args>
-            Production::SourceBase => Outcome::Given(self.either(symbol, parts, 1, 0)),
-            // <unscoped-name> ::= St <unqualified-name>, perhaps with <template-args>
-            Production::BaseInStd => Outcome::Given(self.either(symbol, parts, 1, 0)),
+            // <unscoped-name> ::= <unqualified-name>, or <substitution>, perhaps with <template-args>
+            Production::UnnestedBase => Outcome::Given(self.either(symbol, parts, 1, 0)),
             // <template-args>, of the base class, and then of the constructor
             Production::BaseArguments => Outcome::Given(self.either(symbol, parts, 2, 0)),
+            // <type-constraint> ::= <name>. The name of a concept that isn't nested is counted before its arguments by some compilers alone; of a nested
+            // one these put the arguments in it, and the others after it, which isn't read
+            Production::NamedConcept => self.applied(symbol, parts, false),
             _ => unreachable!(),
         }
     }

@@ -117,7 +117,7 @@ impl Linked {
     }
 
     /// What is done before the next part where the wide reading does something of its own, but for the mark: a parameter of a lambda is
-    /// named, a name has its `M`, or the base class of a constructor that is inherited becomes a candidate.
+    /// named, a name has its `M`, or the base class of a constructor that is inherited or the name of a concept becomes a candidate.
     ///
     /// # Errors
     ///
@@ -151,15 +151,12 @@ impl Linked {
                 }
                 Ok(self.listed_name(Node::Holder(name)))
             }
-            // <template-args> ::= I <template-arg>* E, of a constructor that is inherited
-            Production::OwnArguments => {
-                let base = self.prefix_node(symbol, kept);
-                Ok(Step::Go {
-                    candidate: Some(base),
-                    then: self.inside(kept),
-                    packs: self.packs,
-                })
-            }
+            // <template-args> ::= I <template-arg>* E, of a constructor that is inherited, or of a concept
+            Production::HeldArguments => Ok(Step::Go {
+                candidate: self.prefix_candidate(symbol, kept),
+                then: self.inside(kept),
+                packs: self.packs,
+            }),
             // <template-param> ::= T_ | T <parameter number> _
             _ => {
                 let digits = self.text(symbol, parts, 0);
@@ -169,7 +166,8 @@ impl Linked {
         }
     }
 
-    /// The tree that is marked among the candidates before the next part, after these parts: a name with its `M`, or a base class.
+    /// The tree that is marked among the candidates before the next part, after these parts: a name with its `M`, a base class, or the
+    /// name of a concept.
     fn marked(
         &self,
         symbol: &[u8],
@@ -187,8 +185,8 @@ impl Linked {
         match production {
             // <data-member-prefix> ::= <prefix> M
             Production::Holder => Some(self.node(symbol, self.given(symbol, parts, 0))),
-            // <ctor-dtor-name> ::= CI1 <base class type> | CI2 <base class type>
-            Production::OwnArguments => Some(self.prefix_node(symbol, kept)),
+            // <template-args> ::= I <template-arg>* E, of a constructor that is inherited, or of a concept
+            Production::HeldArguments => self.prefix_candidate(symbol, kept),
             _ => None,
         }
     }

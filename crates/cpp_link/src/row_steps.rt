@@ -20,7 +20,7 @@ use cpp_references::parameters::closed_arguments;
 use cpp_tree::node::{Node, Piece};
 
 impl Linked {
-    /// What is done before the first part, of a production that isn't the arguments of a constructor that is inherited.
+    /// What is done before the first part, of a production that isn't the arguments of a constructor that is inherited or of a concept.
     #[tactic(auto, unfolding(cpp_term::specs::Between::between, cpp_term::specs::Between::in_name, cpp_term::specs::Between::in_types, cpp_term::specs::Between::in_signature, cpp_term::specs::Between::under_expansion, cpp_term::specs::Between::after, cpp_term::specs::Between::inside, cpp_term::specs::Between::applied, cpp_term::specs::Between::named_so_far, cpp_term::specs::Between::listed_so_far, cpp_term::specs::Values::tree_of, crate::specs::Parts::around_of, crate::specs::Parts::prefix_of, cpp_tree::specs::Nodes::tree_if_there, cpp_tree::specs::Nodes::tree_of, cpp_tree::specs::Nodes::piece_of, crate::specs::Reads::goes_on, crate::specs::Reads::behind_first, crate::specs::Reads::named_if, crate::specs::Reads::appended_if, crate::specs::Reads::with_candidate, crate::specs::NodeCount::makes_before, crate::specs::Owed::made_before, crate::specs::NodeCount::std_before, crate::specs::NodeCount::one_if_there, crate::specs::NodeCount::pack_before))]
     #[inline(always)]
     pub(crate) fn step_first(
@@ -32,7 +32,7 @@ impl Linked {
     ) -> Step
         requires table { IsTable (over symbol.now self.now.nodes) }
         requires kept { IsKeptThere (length self.now.nodes.nodes) kept }
-        requires own { production ≡ productions.OwnArguments → ⊥ }
+        requires own { production ≡ productions.HeldArguments → ⊥ }
         ensures is { (cs : List values.Candidate) → between production (around_of (trees_in symbol.now self.now.nodes) kept) place [] (record { candidates = cs; packs = self.now.packs }) ≡ goes_on symbol.now self.now.nodes kept [] cs self.now.packs result }
         ensures there { IsStepThere symbol.now (length self.now.nodes.thunks) (length self.now.nodes.nodes) result }
         ensures of { (held : ℕ) → IsStepOf production held result }
@@ -134,10 +134,10 @@ impl Linked {
         requires constraint { production ≡ productions.Constraint → ⊥ }
         requires integer_literal { production ≡ productions.IntegerLiteral → ⊥ }
         requires nested_base { production ≡ productions.NestedBase → ⊥ }
-        requires source_base { production ≡ productions.SourceBase → ⊥ }
-        requires base_in_std { production ≡ productions.BaseInStd → ⊥ }
+        requires unnested_base { production ≡ productions.UnnestedBase → ⊥ }
         requires value_of { production ≡ productions.ValueOf → ⊥ }
         requires of_concept { production ≡ productions.OfConcept → ⊥ }
+        requires named_concept { production ≡ productions.NamedConcept → ⊥ }
         requires unresolved_in_type { production ≡ productions.UnresolvedInType → ⊥ }
         requires std_name { production ≡ productions.StdName → ⊥ }
         requires abbreviated_name { production ≡ productions.AbbreviatedName → ⊥ }
@@ -276,10 +276,10 @@ impl Linked {
         requires constraint { production ≡ productions.Constraint → ⊥ }
         requires integer_literal { production ≡ productions.IntegerLiteral → ⊥ }
         requires nested_base { production ≡ productions.NestedBase → ⊥ }
-        requires source_base { production ≡ productions.SourceBase → ⊥ }
-        requires base_in_std { production ≡ productions.BaseInStd → ⊥ }
+        requires unnested_base { production ≡ productions.UnnestedBase → ⊥ }
         requires value_of { production ≡ productions.ValueOf → ⊥ }
         requires of_concept { production ≡ productions.OfConcept → ⊥ }
+        requires named_concept { production ≡ productions.NamedConcept → ⊥ }
         requires unresolved_in_type { production ≡ productions.UnresolvedInType → ⊥ }
         ensures is { (cs : List values.Candidate) → between production (around_of (trees_in symbol.now self.now.nodes) kept) place (value_in symbol.now self.now.nodes first ∷ []) (record { candidates = cs; packs = self.now.packs }) ≡ goes_on symbol.now self.now.nodes kept (value_in symbol.now self.now.nodes first ∷ []) cs self.now.packs result }
         ensures there { IsStepThere symbol.now (length self.now.nodes.thunks) (length self.now.nodes.nodes) result }
@@ -402,14 +402,18 @@ impl Linked {
             Production::NestedBase => {
                 self.go(self.behind_name(kept, self.node(symbol, first), false))
             }
-            Production::SourceBase => {
-                self.go(self.behind_name(kept, self.node(symbol, first), false))
-            }
-            Production::BaseInStd => {
-                self.go(self.behind_name(kept, self.node(symbol, first), false))
-            }
+            Production::UnnestedBase => self.go(self.behind_name(
+                kept,
+                self.node(symbol, first),
+                is_listed(first),
+            )),
             Production::ValueOf => self.go(self.in_signature(kept)),
             Production::OfConcept => self.go(self.in_signature(kept)),
+            Production::NamedConcept => self.go(self.behind_name(
+                kept,
+                self.node(symbol, first),
+                is_listed(first),
+            )),
             Production::UnresolvedInType => Step::Go {
                 candidate: self.type_candidate(symbol, kept, first),
                 then: kept,

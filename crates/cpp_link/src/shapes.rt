@@ -244,8 +244,8 @@ impl Linked {
         let base = self.given(symbol, parts, 1);
         match base {
             Part::Pair { left, right, .. } => Outcome::Applied {
-                name: self.extended(symbol, prefix, Piece::Inheriting { digit, base: left }),
-                arguments: right,
+                name: self.extended(symbol, prefix, Piece::Inheriting { digit, base: right }),
+                arguments: left,
             },
             _ => made(
                 self.extended(

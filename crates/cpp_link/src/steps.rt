@@ -6,7 +6,7 @@ ghost use Rattle.sym_link.specs.Driving.{Fails};
 ghost use Rattle.cpp_term.specs.Term as term;
 ghost use Rattle.cpp_grammar.specs.declared.production.Production.TheVariants as productions;
 ghost use Rattle.cpp_term.specs.Values as values;
-ghost use Rattle.cpp_term.specs.Values.{State, tree_of, piece_of, text_of, prefix_tree};
+ghost use Rattle.cpp_term.specs.Values.{State, tree_of, piece_of, text_of, prefix_tree, prefix_listed};
 ghost use Rattle.cpp_term.specs.Scope.{is_structor};
 ghost use Rattle.cpp_term.specs.Between.{between, no_items, applied, named_so_far, with_tag};
 ghost use Rattle.cpp_term.specs.References.{with_prefix, with_type};
@@ -16,6 +16,7 @@ ghost use Rattle.cpp_references.specs.declared.around.Surroundings.{Surroundings
 ghost use Rattle.cpp_link.specs.declared.part.Part.TheVariants as variants;
 ghost use Rattle.cpp_link.specs.declared.part.Step.{Step};
 ghost use Rattle.cpp_link.specs.Parts.{trees_in, tree_of_node, value_in, values_in, prefix_of, name_of, around_of, IsClosed, IsThere, AreThere, IsPrefixThere, IsKeptThere, IsStepThere};
+ghost use Rattle.cpp_link.specs.LinkRescoping.{marked_unless};
 ghost use Rattle.cpp_link.specs.Reads.{with_candidate, goes_on};
 ghost use Rattle.cpp_link.specs.Stepping.{IsStepOf, nodes_of_step};
 ghost use Rattle.cpp_link.specs.Closes.{pack_makes};
@@ -31,9 +32,10 @@ use cpp_tree::nodes::{ABSENT, NO_ELEMENTS};
 use sym_core::{Refusal, Span};
 
 /// The candidate that the name so far becomes.
-#[tactic(auto, unfolding(crate::specs::Parts::around_of, crate::specs::Parts::prefix_in, crate::specs::Parts::prefix_of, crate::specs::Reads::with_candidate, cpp_term::specs::References::with_prefix, cpp_term::specs::Values::prefix_tree, cpp_term::specs::Values::prefix_listed))]
+#[tactic(auto, unfolding(crate::specs::Parts::around_of, crate::specs::Parts::prefix_in, crate::specs::Parts::prefix_of, crate::specs::Reads::with_candidate, crate::specs::LinkRescoping::marked_unless, cpp_term::specs::References::with_prefix, cpp_term::specs::Values::prefix_tree, cpp_term::specs::Values::prefix_listed))]
 fn prefix_candidate(kept: Surroundings) -> Option<u32>
     ensures is { (ts : List term.Term) (state : State) → with_prefix (around_of ts kept) state ≡ with_candidate false (around_of ts kept) ts result state }
+    ensures held { (ts : List term.Term) (state : State) → marked_unless (prefix_listed (around_of ts kept).prefix) (around_of ts kept) (prefix_tree (around_of ts kept).prefix) state ≡ with_candidate true (around_of ts kept) ts result state }
     ensures there { (n : ℕ) → IsPrefixThere n (name_of kept) → IsThereBelow n result }
 {
     match kept.naming {
@@ -100,6 +102,8 @@ impl Linked {
     pub(crate) fn prefix_candidate(&self, symbol: &[u8], kept: Surroundings) -> Option<u32>
         requires kept { IsKeptThere (length self.now.nodes.nodes) kept }
         ensures is { (state : State) → with_prefix (around_of (trees_in symbol.now self.now.nodes) kept) state ≡ with_candidate false (around_of (trees_in symbol.now self.now.nodes) kept) (trees_in symbol.now self.now.nodes) result state }
+        ensures held { (state : State) → marked_unless (prefix_listed (around_of (trees_in symbol.now self.now.nodes) kept).prefix) (around_of (trees_in symbol.now self.now.nodes) kept) (prefix_tree (around_of (trees_in symbol.now self.now.nodes) kept).prefix) state
+            ≡ with_candidate true (around_of (trees_in symbol.now self.now.nodes) kept) (trees_in symbol.now self.now.nodes) result state }
         ensures there { IsThereBelow (length self.now.nodes.nodes) result }
     {
         prefix_candidate(kept)
@@ -255,7 +259,7 @@ impl Linked {
     ///
     /// # Errors
     ///
-    /// `BadReference` at the arguments of a constructor that is inherited, which the ABI's grammar doesn't have.
+    /// `BadReference` at the arguments of a constructor that is inherited or of a concept, which the ABI's grammar doesn't have.
     #[tactic(auto, unfolding(cpp_term::specs::Between::between))]
     #[inline(always)]
     fn step_begin(
@@ -275,7 +279,7 @@ impl Linked {
         ensures bad { IfErr result (λ e. e ≡ refusals.Memory → ⊥) }
     {
         match production {
-            Production::OwnArguments => Err(Refusal::BadReference { at: place }),
+            Production::HeldArguments => Err(Refusal::BadReference { at: place }),
             _ => Ok(self.step_first(symbol, production, place, kept)),
         }
     }

@@ -132,11 +132,11 @@ pub(crate) const PRODUCTIONS: [Production; 222] = [
     Production::NestInstance,
     Production::Conversion,
     Production::OperatorNameWithC,
-    Production::OwnArguments,
+    Production::HeldArguments,
     Production::NestedBase,
-    Production::BaseWithS,
-    Production::SourceBase,
-    Production::BaseInStd,
+    Production::UnnestedBase,
+    Production::UnnestedWithS,
+    Production::TaggedSource,
     Production::BaseArguments,
     Production::Clone,
     Production::TaggedStdType,
@@ -155,6 +155,7 @@ pub(crate) const PRODUCTIONS: [Production; 222] = [
     Production::TemplateOf,
     Production::PackOf,
     Production::Declarations,
+    Production::NamedConcept,
     Production::Cast,
     Production::OperatorReference,
     Production::SimpleId,
@@ -225,7 +226,6 @@ pub(crate) const PRODUCTIONS: [Production; 222] = [
     Production::AnyArray,
     Production::BoundedArray,
     Production::LengthArray,
-    Production::TaggedSource,
 ];
 
 /// How many parts each has.
@@ -358,11 +358,11 @@ pub(crate) const PART_COUNTS: [u8; 222] = [
     3, // NestInstance
     1, // Conversion
     2, // OperatorNameWithC
-    2, // OwnArguments
+    2, // HeldArguments
     2, // NestedBase
-    1, // BaseWithS
-    2, // SourceBase
-    2, // BaseInStd
+    2, // UnnestedBase
+    1, // UnnestedWithS
+    2, // TaggedSource
     3, // BaseArguments
     2, // Clone
     2, // TaggedStdType
@@ -381,6 +381,7 @@ pub(crate) const PART_COUNTS: [u8; 222] = [
     2, // TemplateOf
     2, // PackOf
     2, // Declarations
+    2, // NamedConcept
     2, // Cast
     2, // OperatorReference
     2, // SimpleId
@@ -451,7 +452,6 @@ pub(crate) const PART_COUNTS: [u8; 222] = [
     1, // AnyArray
     3, // BoundedArray
     2, // LengthArray
-    2, // TaggedSource
 ];
 
 /// Whether some part of each but the last may have no row: a fixed byte, or a kind that may be empty.
@@ -584,11 +584,11 @@ pub(crate) const SKIPS_PARTS: [bool; 222] = [
     true, // NestInstance
     false, // Conversion
     false, // OperatorNameWithC
-    true, // OwnArguments
+    true, // HeldArguments
     false, // NestedBase
-    false, // BaseWithS
-    false, // SourceBase
-    false, // BaseInStd
+    false, // UnnestedBase
+    false, // UnnestedWithS
+    false, // TaggedSource
     true, // BaseArguments
     false, // Clone
     false, // TaggedStdType
@@ -607,6 +607,7 @@ pub(crate) const SKIPS_PARTS: [bool; 222] = [
     true, // TemplateOf
     true, // PackOf
     false, // Declarations
+    false, // NamedConcept
     false, // Cast
     false, // OperatorReference
     false, // SimpleId
@@ -677,7 +678,6 @@ pub(crate) const SKIPS_PARTS: [bool; 222] = [
     false, // AnyArray
     true, // BoundedArray
     false, // LengthArray
-    false, // TaggedSource
 ];
 
 /// Before how many of its parts nothing is done in each: before none, the first, or all, which are five at most.
@@ -810,11 +810,11 @@ pub(crate) const QUIET_PARTS: [u8; 222] = [
     0, // NestInstance
     0, // Conversion
     1, // OperatorNameWithC
-    0, // OwnArguments
+    0, // HeldArguments
     1, // NestedBase
-    5, // BaseWithS
-    1, // SourceBase
-    1, // BaseInStd
+    1, // UnnestedBase
+    5, // UnnestedWithS
+    1, // TaggedSource
     0, // BaseArguments
     5, // Clone
     1, // TaggedStdType
@@ -833,6 +833,7 @@ pub(crate) const QUIET_PARTS: [u8; 222] = [
     5, // TemplateOf
     5, // PackOf
     5, // Declarations
+    1, // NamedConcept
     5, // Cast
     1, // OperatorReference
     1, // SimpleId
@@ -903,5 +904,4 @@ pub(crate) const QUIET_PARTS: [u8; 222] = [
     5, // AnyArray
     5, // BoundedArray
     5, // LengthArray
-    1, // TaggedSource
 ];

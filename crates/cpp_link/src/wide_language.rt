@@ -37,7 +37,7 @@ fn steps_apart(production: Production, kept: Surroundings, before: usize) -> boo
         Production::ParameterArgument => kept.in_lambda() && before == 1,
         Production::ParameterExpression => kept.in_lambda() && before == 1,
         Production::Holder => before == 1,
-        Production::OwnArguments => before == 0,
+        Production::HeldArguments => before == 0,
         _ => false,
     }
 }

@@ -8,11 +8,11 @@ use Rattle.sym_link.specs.Unfold.{found}
 use Rattle.sym_core.specs.declared.NumberKind.TheVariants.{Decimal, Seq36}
 use Rattle.sym_core.specs.Value.{counted_value}
 use Rattle.cpp_grammar.specs.declared.production.Production.{Production}
-use Rattle.cpp_grammar.specs.Rescoping.{generic_number, generic_so_far, parameter_here, argument_here, lambda_with, as_generic_lambda, with_holder, is_instance, holder_so_far, numbered, with_base, counted_base, between_wide, close_wide}
+use Rattle.cpp_grammar.specs.Rescoping.{generic_number, generic_so_far, parameter_here, argument_here, lambda_with, as_generic_lambda, with_holder, is_instance, holder_so_far, numbered, with_held, held_unless, counted_base, between_wide, close_wide}
 use Rattle.cpp_grammar.specs.Scope.{count, element, is_open, length_if_pack}
 use Rattle.cpp_grammar.specs.Term.{Term, list, holder, parameter}
 use Rattle.cpp_grammar.specs.Values as leaf_
-use Rattle.cpp_grammar.specs.Values.{Around, prefix_tree, Value, State, Candidate, local_number, tree_of, text_of, is_listed, part}
+use Rattle.cpp_grammar.specs.Values.{Around, prefix_tree, prefix_listed, Value, State, Candidate, local_number, tree_of, text_of, is_listed, part}
 use Rattle.cpp_grammar.specs.References.{appended, with_type, with_unqualified, with_packs, substituted, parameter_named}
 use Rattle.cpp_grammar.specs.Between.{in_signature, under_expansion, after, inside, no_items, listed_so_far, next, parameter_so_far, argument_so_far, index_of, between}
 use Rattle.cpp_grammar.specs.Meaning.{parameters, meaning}
@@ -37,7 +37,7 @@ use Rattle.cpp_term.specs.Rescoping as wide_
 use Rattle.cpp_term.specs.Annotated.{Place, around_place, place_in, in_own, argument_in, annotate, noted_scope, noted_value, noted_values, noted_prefix, noted_around}
 use Rattle.cpp_term.proofs.Notes.{both, choose, choose_cond, open_noted, closed_noted}
 use Rattle.cpp_term.proofs.SeenNoted.{is_instance_noted}
-use Rattle.cpp_term.proofs.MeaningNoted.{part_noted, tree_part, tree_noted, text_noted, text_part, prefix_tree_noted, Inside, lambda_noted, takes_encodings, is_of_none, made_inside, made_noted, listing_noted, listed_noted, meaning_noted}
+use Rattle.cpp_term.proofs.MeaningNoted.{part_noted, tree_part, tree_noted, text_noted, text_part, prefix_tree_noted, prefix_listed_noted, Inside, lambda_noted, takes_encodings, is_of_none, made_inside, made_noted, listing_noted, listed_noted, meaning_noted}
 use Rattle.cpp_term.proofs.StatesNoted.{IsOutside, Settled, own_place, Alike, alike_bind, Same, Moves, moves_none, moves_then, one_moves, type_moves, unqualified_moves, prefix_moves, Comes, get_noted, substituted_noted, wide_numbered_noted, held_moves, parameter_noted}
 
 -- what is inside has the same scope, or none
@@ -327,19 +327,33 @@ holder_goes around x y place packs =
     (ap wide_.is_instance (prefix_tree_noted s around.prefix) ∙ is_instance_noted s (prefix_tree around.prefix)) (λ h. refl)
     (λ h. named_goes true around x (with_holder around t x) y (wide_.with_holder (noted_around true around) u y) t u true [] [] same refl (held_moves true around t u x y packs same))
 
-base_moves : (around : Around) (t : Term) (u : term_.Term) (x : State) (y : value_.State) → y.packs ≡ x.packs → u ≡ annotate (around_place true around) t → Moves true around x y (with_base around t x) (wide_.with_base (noted_around true around) u y)
-unfolding with_base wide_.with_base
-base_moves around t u x y packs e =
+held_once : (around : Around) (t : Term) (u : term_.Term) (x : State) (y : value_.State) → y.packs ≡ x.packs → u ≡ annotate (around_place true around) t → Moves true around x y (with_held around t x) (wide_.with_held (noted_around true around) u y)
+unfolding with_held wide_.with_held
+held_once around t u x y packs e =
     let one = one_moves true around t u x y packs e in
     moves_then true around x _ _ y _ _ one (held_moves true around t u _ _ one.packs e)
 
+unless_moves : (around : Around) (listed other : Bool) (t : Term) (u : term_.Term) (x : State) (y : value_.State) → y.packs ≡ x.packs → other ≡ listed → u ≡ annotate (around_place true around) t →
+    Moves true around x y (held_unless listed around t x) (wide_.held_unless other (noted_around true around) u y)
+unfolding held_unless wide_.held_unless
+unless_moves around listed other t u x y packs alike e =
+    choose (Moves true around x y) listed other _ _ _ _ alike (λ h. moves_none true around x x y y refl refl packs) (λ h. held_once around t u x y packs e)
+
 base_goes : (around : Around) (x : State) (y : value_.State) → y.packs ≡ x.packs →
-    Alike {A = Next Value State Around} (Goes true (around_place true around) around x y) (next [] (inside around) (with_base around (prefix_tree around.prefix) x))
-    (between_.next [] (between_.inside (noted_around true around)) (wide_.with_base (noted_around true around) (value_.prefix_tree (noted_prefix (around_place true around) around.prefix)) y))
+    Alike {A = Next Value State Around} (Goes true (around_place true around) around x y) (next [] (inside around) (held_unless (prefix_listed around.prefix) around (prefix_tree around.prefix) x))
+    (between_.next [] (between_.inside (noted_around true around)) (wide_.held_unless (value_.prefix_listed (noted_prefix (around_place true around) around.prefix)) (noted_around true around)
+    (value_.prefix_tree (noted_prefix (around_place true around) around.prefix)) y))
 unfolding inside between_.inside noted_around noted_prefix noted_values
 base_goes around x y packs =
     let s = around_place true around in
-    record { values = refl; context = refl; moves = base_moves around (prefix_tree around.prefix) (value_.prefix_tree (noted_prefix s around.prefix)) x y packs (prefix_tree_noted s around.prefix); scope = inl (refl, refl); place = inl refl }
+    record {
+      values = refl;
+      context = refl;
+      moves = unless_moves around (prefix_listed around.prefix) (value_.prefix_listed (noted_prefix s around.prefix)) (prefix_tree around.prefix) (value_.prefix_tree (noted_prefix s around.prefix)) x y packs
+          (prefix_listed_noted s around.prefix) (prefix_tree_noted s around.prefix);
+      scope = inl (refl, refl);
+      place = inl refl;
+    }
 
 pub wide_between_noted : (production : Production) (around : Around) (place : ℕ) (vs : List Value) (x : State) (y : value_.State) → StaysInside production → Settled around → y.packs ≡ x.packs →
     Alike (Goes true (parts_place true production around) around x y) (between_wide production around place vs x)
@@ -349,7 +363,7 @@ wide_between_noted Production.Parameter around place (v ∷ []) x y stays settle
 wide_between_noted Production.NestParameter around place (v ∷ []) x y stays settled packs = here_goes around x y place v settled packs
 wide_between_noted Production.ParameterArgument around place (v ∷ []) x y stays settled packs = here_goes around x y (place - 1) v settled packs
 wide_between_noted Production.ParameterExpression around place (v ∷ []) x y stays settled packs = argument_here_goes around x y place v settled packs
-wide_between_noted Production.OwnArguments around place [] x y stays settled packs = base_goes around x y packs
+wide_between_noted Production.HeldArguments around place [] x y stays settled packs = base_goes around x y packs
 wide_between_noted Production.Holder around place (v ∷ []) x y stays settled packs = holder_goes around x y place packs
 wide_between_noted p around place vs x y stays settled packs = between_noted true p around place vs x y stays packs
 
@@ -369,11 +383,10 @@ own_lambda s byte around other vs =
 
 counted_moves : (around : Around) (v : Value) (x : State) (y : value_.State) → y.packs ≡ x.packs → Moves true around x y (counted_base around v x) (wide_.counted_base (noted_around true around) (noted_value (around_place true around) v) y)
 unfolding counted_base wide_.counted_base noted_value
-counted_moves around (leaf_.pair second base own) x y packs = moves_none true around x x y y refl refl packs
+counted_moves around (leaf_.pair second own base) x y packs = moves_none true around x x y y refl refl packs
 counted_moves around v x y packs =
     let s = around_place true around in
-    choose (Moves true around x y) (is_listed v) (value_.is_listed (noted_value s v)) _ _ _ _ (listed_noted s v)
-    (λ h. moves_none true around x x y y refl refl packs) (λ h. base_moves around (tree_of v) (value_.tree_of (noted_value s v)) x y packs (tree_noted s v))
+    unless_moves around (is_listed v) (value_.is_listed (noted_value s v)) (tree_of v) (value_.tree_of (noted_value s v)) x y packs (listed_noted s v) (tree_noted s v)
 
 pub wide_close_noted : (production : Production) (byte : ℕ) (around : Around) (place : ℕ) (began : State) (first : value_.State) (vs : List Value) (x : State) (y : value_.State) → Inside production vs →
     Settled around → Same true around x y → first.packs ≡ began.packs →

@@ -241,7 +241,7 @@ prefix_listed_noted s (leaf_.behind u listed) = refl
 
 inherited_noted : (s : Place) (p : Prefix) (digit : ℕ) (v : Value) → between_.inherited (noted_prefix s p) digit (noted_value s v) ≡ noted_value s (going_.inherited p digit v)
 unfolding between_.inherited going_.inherited noted_value annotate
-inherited_noted s p digit (leaf_.pair second base own) = ap (λ n. value_.tree (term_.instance n (annotate s own)) false) (extended_noted s p (inheriting digit base))
+inherited_noted s p digit (leaf_.pair second own base) = ap (λ n. value_.tree (term_.instance n (annotate s own)) false) (extended_noted s p (inheriting digit base))
 inherited_noted s p digit v = ap (λ b. value_.tree (between_.extended (noted_prefix s p) (term_.inheriting digit b)) false) (tree_noted s v) ∙ ap (λ n. value_.tree n false) (extended_noted s p (inheriting digit (tree_of v)))
 
 -- ## Expressions

@@ -56,7 +56,7 @@ no_items v = tree_of v
 
 -- The name of a constructor that is inherited from a base class, with arguments of its own where there are some.
 unfoldable pub inherited : Prefix → (digit : ℕ) → (base : Value) → Value
-inherited prefix digit (pair letter base own) = tree (instance (extended prefix (inheriting digit base)) own) false
+inherited prefix digit (pair letter own base) = tree (instance (extended prefix (inheriting digit base)) own) false
 inherited prefix digit base = tree (extended prefix (inheriting digit (tree_of base))) false
 
 -- these values so far, these surroundings of the next part, and this state before it

@@ -54,8 +54,8 @@ pub data Value : Type 0 where
   piece : Term → Value
   -- the name of an encoding, with the qualifiers that belong to the encoding
   named : Term → Qualifiers → RefQualifier → Value
-  -- A letter and two trees, of which the second may be absent: the operands of an operator with this second letter, or a base class,
-  -- with the arguments of the constructor that is inherited from it.
+  -- A letter and two trees, of which the second may be absent: the operands of an operator with this second letter, or arguments, with
+  -- the name before them: those of a constructor that is inherited from this base class, or of this concept.
   pair : (second : ℕ) → (left right : Term) → Value
   -- the parameters of a function type, and its mark
   signature : Term → RefQualifier → Value

@@ -1,5 +1,5 @@
 -- What a command line's parts did, as what the command line did.
-use Rattle.std.proofs.Common.{◌≡◌, ◌≢◌, ◌⊎◌, ℕ, Bool, true, false, List, [], ◌∷◌, ◌++◌, Option, Result, Ok, Err, codes, refl, sym, ap, subst, inl, inr, ◌∙◌, Bor, map, length, eqb}
+use Rattle.std.proofs.Common.{◌≡◌, ◌≢◌, ◌⊎◌, ℕ, Bool, true, false, List, [], ◌∷◌, ◌++◌, Option, Result, Ok, Err, codes, refl, sym, ap, subst, inl, inr, ◌∙◌}
 use Rattle.std.specs.Prelude.{IfOk, OnErr, None}
 use Rattle.std.specs.Fmt.{decimal}
 use Rattle.std.specs.Io.KnownBytes.{Appends}
@@ -9,7 +9,6 @@ use Rattle.clap.specs.declared.error.kind.ErrorKind.TheVariants.{DisplayHelp, Di
 use Rattle.sym_print.specs.declared.detail.Detail.{Detail}
 use Rattle.sym_filter.specs.Runs.{Answering}
 use Rattle.sym_filter.specs.Streams.{BeginsWith, PutsFront}
-use Rattle.std.proofs.lemmas.Bool.{false≢true}
 use Rattle.sym_filter.specs.declared.words.Tally.{Tally}
 use Rattle.sym_filter.specs.declared.streams.FilterFault.{FilterFault}
 use Rattle.sym_filter.proofs.StreamLemmas.{Appends-none}
@@ -83,12 +82,15 @@ answers-are json style limit detail options j s l d =
     ap (λ (x : Bool). answers_by x style limit detail) j ∙ ap (λ (x : Style). answers_by options.json x limit detail) s
     ∙ ap (λ (x : ℕ). answers_by options.json options.style x detail) l ∙ ap (λ (x : Detail). answers_by options.json options.style options.limit x) d
 
--- names
-pub some-names : (names : List (Bor (List ℕ))) → eqb (length names) 0 ≡ false → map (λ (name : Bor (List ℕ)). name.now) names ≢ []
-some-names [] some = absurd (false≢true (sym some))
-some-names (name ∷ names) some = λ none. cc
+-- nothing was read or written
+pub stops-unbegun : (rows : List Row) (coming out err : Option (List ℕ)) → StopsOf rows coming coming out out err err
+stops-unbegun rows coming out err = inl (refl, record { lines = []; said = []; to_out = Appends-none out; to_err = Appends-none err; held = inr refl })
 
-pub names-end : (rows : List Row) (options : Options) (answers : Answering) (names : List Text) (one_stays : Bool) (status : ℕ) (coming out out' err err' : Option (List ℕ)) → AreGiven rows options → answers ≡ answers_of options
+pub stops-unparsed : (words : List Text) (coming out err : Option (List ℕ)) → Stops words coming coming out out err err
+stops-unparsed words coming out err = inr (refl, record { lines = []; said = []; to_out = Appends-none out; to_err = Appends-none err; held = inr (refl, refl) })
+
+-- names
+pub names-end : (rows : List Row) (options : Options) (answers : Answering) (names : List (List ℕ)) (one_stays : Bool) (status : ℕ) (coming out out' err err' : Option (List ℕ)) → AreGiven rows options → answers ≡ answers_of options
     → names ≡ names_of rows → names ≢ [] → Took out out' err err' (AnswersNames answers options.types options.why names one_stays) → status ≡ status_of options.strict one_stays → EndsOf rows coming coming out out' err err' status
 names-end rows options answers names one_stays status coming out out' err err' given same are some took ends =
     inl (
@@ -98,12 +100,12 @@ names-end rows options answers names one_stays status coming out out' err err' g
         given = given;
         some = λ none. some (are ∙ none);
         one_stays = one_stays;
-        answered = subst (λ (a : Answering). AnswersNames a options.types options.why (names_of rows) one_stays lines said) same (subst (λ (ns : List Text). AnswersNames answers options.types options.why ns one_stays lines said) are held);
+        answered = subst (λ (a : Answering). AnswersNames a options.types options.why (names_of rows) one_stays lines said) same (subst (λ (ns : List (List ℕ)). AnswersNames answers options.types options.why ns one_stays lines said) are held);
         ends = ends;
       })),
     )
 
-pub names-stop : (rows : List Row) (options : Options) (answers : Answering) (names : List Text) (coming out out' err err' : Option (List ℕ)) → AreGiven rows options → answers ≡ answers_of options
+pub names-stop : (rows : List Row) (options : Options) (answers : Answering) (names : List (List ℕ)) (coming out out' err err' : Option (List ℕ)) → AreGiven rows options → answers ≡ answers_of options
     → names ≡ names_of rows → Took out out' err err' (NamesFront answers options.types options.why names) → StopsOf rows coming coming out out' err err'
 names-stop rows options answers names coming out out' err err' given same are took =
     inl (
@@ -111,12 +113,12 @@ names-stop rows options answers names coming out out' err err' given same are to
       Took-as out out' err err' (NamesFront answers options.types options.why names) (IsStoppedOf rows) took (λ lines said held. inl (record {
         options = options;
         given = given;
-        front = subst (λ (a : Answering). NamesFront a options.types options.why (names_of rows) lines said) same (subst (λ (ns : List Text). NamesFront answers options.types options.why ns lines said) are held);
+        front = subst (λ (a : Answering). NamesFront a options.types options.why (names_of rows) lines said) same (subst (λ (ns : List (List ℕ)). NamesFront answers options.types options.why ns lines said) are held);
       })),
     )
 
 -- an input
-pub input-ends : (rows : List Row) (options : Options) (answers : Answering) (names : List Text) (status : ℕ) (coming coming' out out' err err' : Option (List ℕ)) → AreGiven rows options → answers ≡ answers_of options
+pub input-ends : (rows : List Row) (options : Options) (answers : Answering) (names : List (List ℕ)) (status : ℕ) (coming coming' out out' err err' : Option (List ℕ)) → AreGiven rows options → answers ≡ answers_of options
     → names ≡ names_of rows → names ≡ [] → FiltersInput answers options.why options.strict coming coming' out out' err err' status → EndsOf rows coming coming' out out' err err' status
 input-ends rows options answers names status coming coming' out out' err err' given same are none filtered = inr (record {
   options = options;
@@ -125,7 +127,7 @@ input-ends rows options answers names status coming coming' out out' err err' gi
   filtered = subst (λ (a : Answering). FiltersInput a options.why options.strict coming coming' out out' err err' status) same filtered;
 })
 
-pub input-stops : (rows : List Row) (options : Options) (answers : Answering) (names : List Text) (coming coming' out out' err err' : Option (List ℕ)) → AreGiven rows options → answers ≡ answers_of options
+pub input-stops : (rows : List Row) (options : Options) (answers : Answering) (names : List (List ℕ)) (coming coming' out out' err err' : Option (List ℕ)) → AreGiven rows options → answers ≡ answers_of options
     → names ≡ names_of rows → names ≡ [] → FiltersInputFront answers options.why coming coming' out out' err err' → StopsOf rows coming coming' out out' err err'
 input-stops rows options answers names coming coming' out out' err err' given same are none filtered = inr (record {
   options = options;

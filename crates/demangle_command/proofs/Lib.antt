@@ -2,3 +2,4 @@ pub mod ArgumentFileLemmas
 pub mod CommandLemmas
 pub mod OptionLemmas
 pub mod StyleLemmas
+pub mod TextLemmas

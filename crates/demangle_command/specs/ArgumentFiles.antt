@@ -1,6 +1,8 @@
 -- The words of a file, which an argument `@FILE` stands for.
-use Rattle.std.specs.Prelude.{ℕ, List, [], ◌∷◌, ◌++◌, Bool, true, false, Option, Some, None, ◌==◌, ◌||◌, ◌&&◌, nat_le, map, if◌then◌else◌, Vec}
+use Rattle.std.specs.Prelude.{codes, ℕ, List, [], ◌∷◌, ◌++◌, Bool, true, false, Option, Some, None, ◌==◌, ◌||◌, ◌&&◌, nat_le, map, if◌then◌else◌, Vec}
 use Rattle.std.specs.Global.{Global}
+use Rattle.std.specs.Fmt.{decimal}
+use Rattle.demangle_command.specs.declared.arguments.TheConstants.{LONGEST_FILE}
 use Rattle.demangle_command.specs.declared.argument_files.Reading.{Reading as Reading-type}
 
 -- blanks: tab, newline, vertical tab, form feed, carriage return and space
@@ -68,3 +70,7 @@ words_of words = map (λ word. word.items) words.items
 -- where code is that reads words
 abbrev pub reading_of : Reading-type → Reading
 reading_of reading = record { words = words_of reading.words; word = reading.word.items; is_begun = reading.is_begun; quote = reading.quote; escapes = reading.escapes }
+
+-- what is said of an argument whose file is too long
+abbrev pub too_long : List ℕ → List ℕ
+too_long argument = codes "demangle: " ++ argument ++ (codes ": more than " ++ (decimal LONGEST_FILE ++ (codes " bytes" ++ 10 ∷ [])))

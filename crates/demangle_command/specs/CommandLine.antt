@@ -1,10 +1,11 @@
 -- The command line: which options there are, what they ask, and what its parser finds in its words.
-use Rattle.std.specs.Prelude.{◌≡◌, List, [], ◌∷◌, Bool, true, Option, Some, None, codes, unwrap_or}
+use Rattle.std.specs.Prelude.{◌≡◌, List, [], ◌∷◌, Bool, true, Option, Some, None, ℕ, codes, map, unwrap_or}
 use Rattle.clap.specs.Lexer.{usize_max}
 use Rattle.clap.specs.Words.{Text, Rule, Row, App, Kinds, new_rule, new_app, with_rule, matches_of, fault_of, first_of, all_of}
 use Rattle.clap.specs.declared.builder.action.ArgAction.TheVariants.{Append, Version}
 use Rattle.sym_command.specs.CommandLine.{flag, limit, detail_by, IsFlag, IsLimit}
 use Rattle.demangle_names.specs.Style.{IsStyle}
+use Rattle.demangle_command.specs.Texts.{bytes_of}
 use Rattle.demangle_names.specs.declared.style.Style.{Style}
 use Rattle.demangle_names.specs.declared.style.Style.TheVariants.{Auto}
 use Rattle.demangle_names.specs.declared.options.Options.{Options}
@@ -97,16 +98,20 @@ abbrev pub AreOptions : List Row → Option Options → Type 0
 AreOptions rows (Some options) = AreGiven rows options
 AreOptions rows None = IsAskedStyle rows None
 
--- the names, as the parser found them
-abbrev pub names_of : List Row → List Text
-names_of rows = unwrap_or (all_of (codes "NAME") rows) []
+-- the texts of the names, as the parser found them
+abbrev pub name_texts : List Row → List Text
+name_texts rows = unwrap_or (all_of (codes "NAME") rows) []
 
--- ## The words of a command line, the program's name first
+-- the names
+abbrev pub names_of : List Row → List (List ℕ)
+names_of rows = map bytes_of (name_texts rows)
+
+-- ## The texts of a command line's words, the program's name first
 
 -- what the parser finds in them
 abbrev pub found_in : List Text → List Row
-found_in words = matches_of command_line words
+found_in texts = matches_of command_line texts
 
 -- the kinds of fault for which it refuses them, help and the version among them: none where it takes them
 abbrev pub faults_in : List Text → Kinds
-faults_in words = fault_of command_line words
+faults_in texts = fault_of command_line texts

@@ -1,5 +1,7 @@
 pub mod ArgumentFiles
 pub mod Command
 pub mod CommandLine
+pub mod Complaints
 pub mod Json
 pub mod Styled
+pub mod Texts

@@ -6,11 +6,14 @@ ghost use Rattle.clap.specs.declared.error.kind.ErrorKind.{ErrorKind as ErrorKin
 ghost use Rattle.sym_filter.specs.Streams.{PutsFront, reader_faults, writer_faults};
 ghost use Rattle.sym_command.specs.Command.{Took, Says};
 ghost use Rattle.demangle_command.specs.Command.{answers_of, Ends, Stops, EndsOf, StopsOf, FiltersInput, FiltersInputFront, IsTold, is_request, summary_if};
+ghost use Rattle.demangle_command.specs.Texts.{texts_of};
 ghost use Rattle.demangle_names.specs.Names.{status_of};
 
+use crate::complaints::{complaint, style_complaint};
 use crate::json::Json;
 use crate::options::{found_in, names_of, options_of};
 use crate::styled::Styled;
+use crate::texts::{lent_texts, lent_words, texts_of, words_of};
 use clap::error::ErrorKind;
 use clap::{ArgMatches, Error};
 use demangle_names::{DONE, Options, answer_names, status_of};
@@ -20,14 +23,14 @@ use sym_filter::{Demangler, FilterFault, Letters, Sink, Source, Tally, filter_wo
 use sym_languages::{Languages, Wide};
 
 /// Runs the program over an input and two outputs: writes the line of each name with its symbols replaced, or filters the input where
-/// there is no name. The words are those of the command line, the program's name first, and the result is the status.
+/// there is no name. The words are those of the command line, the program's name first, each of any bytes, and the result is the status.
 ///
 /// # Errors
 ///
 /// `Read` and `Write` where a stream failed, `Memory`. What was written is a beginning of what would have been.
 pub fn run_over<S: Source, W: Sink, E: Sink>(
     alloc: Global,
-    words: &[&str],
+    words: &[&[u8]],
     input: &mut S,
     out: &mut W,
     err: &mut E,
@@ -35,17 +38,44 @@ pub fn run_over<S: Source, W: Sink, E: Sink>(
     requires in_failures { S.failure_count input.old < 2 ^ 64 - 1 }
     requires out_failures { W.failure_count out.old < 2 ^ 64 - 1 }
     requires err_failures { E.failure_count err.old < 2 ^ 64 - 1 }
-    ensures ok { IfOk result (Ends (map (λ word. word.now) words.now) (S.coming input.old) (S.coming input.new)
+    ensures ok { IfOk result (Ends (texts_of (map (λ word. word.now) words.now)) (S.coming input.old) (S.coming input.new)
         (W.taken out.old) (W.taken out.new) (E.taken err.old) (E.taken err.new)) }
-    ensures err { OnErr result (Stops (map (λ word. word.now) words.now) (S.coming input.old) (S.coming input.new)
+    ensures err { OnErr result (Stops (texts_of (map (λ word. word.now) words.now)) (S.coming input.old) (S.coming input.new)
         (W.taken out.old) (W.taken out.new) (E.taken err.old) (E.taken err.new)) }
     ensures read_failed { S.failure_count input.new ≡ S.failure_count input.old + reader_faults result }
     ensures write_failed { W.failure_count out.new + E.failure_count err.new
         ≡ W.failure_count out.old + E.failure_count err.old + writer_faults result }
 {
-    match found_in(alloc, words) {
+    let texts = texts_of(alloc, words)?;
+    let lent = lent_texts(alloc, &texts)?;
+    match run_texts(alloc, &lent, input, out, err) {
+        Ok(status) => Ok(status),
+        Err(fault) => Err(fault),
+    }
+}
+
+/// Runs the program on the texts that its parser is given for words.
+fn run_texts<S: Source, W: Sink, E: Sink>(
+    alloc: Global,
+    texts: &[&str],
+    input: &mut S,
+    out: &mut W,
+    err: &mut E,
+) -> Result<u8, FilterFault>
+    requires in_failures { S.failure_count input.old < 2 ^ 64 - 1 }
+    requires out_failures { W.failure_count out.old < 2 ^ 64 - 1 }
+    requires err_failures { E.failure_count err.old < 2 ^ 64 - 1 }
+    ensures ok { IfOk result (Ends (map (λ text. text.now) texts.now) (S.coming input.old) (S.coming input.new)
+        (W.taken out.old) (W.taken out.new) (E.taken err.old) (E.taken err.new)) }
+    ensures err { OnErr result (Stops (map (λ text. text.now) texts.now) (S.coming input.old) (S.coming input.new)
+        (W.taken out.old) (W.taken out.new) (E.taken err.old) (E.taken err.new)) }
+    ensures read_failed { S.failure_count input.new ≡ S.failure_count input.old + reader_faults result }
+    ensures write_failed { W.failure_count out.new + E.failure_count err.new
+        ≡ W.failure_count out.old + E.failure_count err.old + writer_faults result }
+{
+    match found_in(alloc, texts) {
         Ok(matches) => run_found(alloc, &matches, input, out, err),
-        Err(error) => tell(alloc, &error, out, err),
+        Err(error) => tell(alloc, &error, texts, out, err),
     }
 }
 
@@ -64,6 +94,7 @@ fn is_request(kind: ErrorKind) -> bool
 fn tell<W: Sink, E: Sink>(
     alloc: Global,
     error: &Error,
+    texts: &[&str],
     out: &mut W,
     err: &mut E,
 ) -> Result<u8, FilterFault>
@@ -81,11 +112,12 @@ fn tell<W: Sink, E: Sink>(
     if error.kind() == ErrorKind::OutOfMemory {
         return Err(FilterFault::Memory);
     }
-    let text = format!(in alloc; "{error}")?;
     if is_request(error.kind()) {
+        let text = format!(in alloc; "{error}")?;
         return end_with(out, text.as_bytes(), DONE);
     }
-    end_with(err, text.as_bytes(), WRONG_USE)
+    let line = complaint(alloc, error.kind(), texts)?;
+    end_with(err, &line, WRONG_USE)
 }
 
 /// Writes what is said in place of all else, and answers the status.
@@ -125,14 +157,16 @@ fn run_found<S: Source, W: Sink, E: Sink>(
         return refuse_style(alloc, matches, err);
     };
     let demangler = demangler_of(options);
-    let names = names_of(matches);
-    if names.is_empty() {
+    let texts = names_of(matches);
+    if texts.is_empty() {
         return match filter_input(alloc, &demangler, options, input, out, err) {
             Ok(status) => Ok(status),
             Err(fault) => Err(fault),
         };
     }
-    match answer_names(alloc, &demangler, options, names, out, err) {
+    let names = words_of(alloc, texts)?;
+    let lent = lent_words(alloc, &names)?;
+    match answer_names(alloc, &demangler, options, &lent, out, err) {
         Ok(one_stays) => Ok(status_of(options.strict, one_stays)),
         Err(fault) => Err(fault),
     }
@@ -176,10 +210,8 @@ fn refuse_style<E: Sink>(
     ensures failures { E.failure_count err.new ≡ E.failure_count err.old + writer_faults result }
 {
     let name = matches.get_str("format").unwrap_or_default();
-    let line = format!(in alloc;
-        "demangle: {name} is no style of names that is read: auto, gnu-v3, rust or none\n"
-    )?;
-    end_with(err, line.as_bytes(), WRONG_USE)
+    let line = style_complaint(alloc, name)?;
+    end_with(err, &line, WRONG_USE)
 }
 
 /// Filters an input, says how much of it stays where that is asked, and answers the status.

@@ -2,11 +2,16 @@
 #![tactic(auto)]
 
 mod argument_files;
+mod arguments;
 mod command;
+mod complaints;
+mod hint;
 mod json;
+mod noted;
 mod options;
 mod process;
 mod styled;
+mod texts;
 
 pub use argument_files::words_in;
 pub use command::run_over;

@@ -1,7 +1,7 @@
 // The options of a command line, and its names.
 ghost use Rattle.std.specs.Prelude.{◌≡◌, IfOk, false, map};
 ghost use Rattle.clap.specs.Words.{FailsBy, found_of, rows_of, matches_of, fault_of, app_of, rule_of, with_rule};
-ghost use Rattle.demangle_command.specs.CommandLine.{command_line, no_params, style_option, types, version_flag, version_option, taken_option, taken_options, name_arguments, with_reports, with_texts, AreOptions, IsAskedStyle, names_of};
+ghost use Rattle.demangle_command.specs.CommandLine.{command_line, no_params, style_option, types, version_flag, version_option, taken_option, taken_options, name_arguments, with_reports, with_texts, AreOptions, IsAskedStyle, name_texts};
 
 use clap::{Arg, ArgAction, ArgMatches, Command, Error};
 use demangle_names::{Options, Style, style_of};
@@ -19,6 +19,8 @@ Without names standard input is copied to standard output with each mangled name
 A name that cannot be read is left as it is.";
 
 const BRIEF: &str = "Leave out template and generic arguments";
+
+const LIMIT: &str = "Longest text, about its bytes [default: 1000000]";
 
 const JSON: &str = "Escape \" and \\ in replaced text";
 
@@ -75,7 +77,7 @@ fn with_texts<'a>(alloc: Global, command: Command<'a>) -> Result<Command<'a>, Al
     let command = with_flag(alloc, command, "brief", BRIEF)?;
     command
         .arg(types(alloc))?
-        .arg(limit(alloc))?
+        .arg(limit(alloc).help(LIMIT))?
         .arg(style_option(alloc))
 }
 
@@ -119,9 +121,9 @@ fn types<'a>(alloc: Global) -> Arg<'a>
     ensures rule { rule_of result ≡ types }
     ensures local { result.global ≡ false }
 {
-    flag(alloc, "types").short('t').help(
-        "Also read names as C++ types, as typeid(x).name() gives them",
-    )
+    flag(alloc, "types")
+        .short('t')
+        .help("Also demangle type names (`PKc`)")
 }
 
 /// The option that names a style.
@@ -219,9 +221,9 @@ pub(crate) fn options_of(matches: &ArgMatches<'_>) -> Option<Options>
     })
 }
 
-/// The names of a command line.
+/// The names of a command line, as texts of its parser.
 pub(crate) fn names_of<'m, 'a>(matches: &'m ArgMatches<'a>) -> &'m [&'a str]
-    ensures { map (λ name. name.now) result.now ≡ names_of (rows_of (found_of matches.now)) }
+    ensures { map (λ name. name.now) result.now ≡ name_texts (rows_of (found_of matches.now)) }
 {
     matches.get_strs("NAME").unwrap_or_default()
 }

@@ -1,121 +1,91 @@
 // The program: names on the command line, or standard input filtered to standard output.
-ghost use Rattle.std.specs.Prelude.{◌-◌, ◌^◌, ◌<◌};
+ghost use Rattle.std.specs.Prelude.{◌≡◌};
 
-use crate::argument_files::words_in;
+use crate::arguments::{Words, arguments_of, refuse_file, with_files};
 use crate::command::run_over;
+use crate::hint::{file_among, say_hint};
+use crate::noted::Noted;
+use crate::texts::lent_words;
 use std::alloc::{AllocError, Global};
+use std::io;
+use std::io::{Error, ErrorKind};
 use std::rt::{Env, Files};
-use std::{fs, io};
-use sym_command::{WRONG_USE, called_with, fault};
-use sym_filter::{FilterFault, ReaderSource, Sink, Source, WriterSink, write_all};
+use sym_command::{FAULT, WRONG_USE};
+use sym_filter::{FilterFault, ReaderSource, Sink, Source, WriterSink};
 
-/// What the program calls itself.
-const NAME: &str = "demangle";
+/// The status where the reader of the output has gone: what a shell gives for a program that SIGPIPE has ended.
+const READER_GONE: u8 = 141;
 
 /// Runs the program over standard input and output, and answers its exit status.
 pub fn program<R: Env + Files + Input + Print + AllocGlobal, E: Print>(rt: &R, errors: &E) -> u8 {
-    match run_on_streams(rt, errors) {
+    let mut input = Noted::new(rt.reader());
+    let mut out = Noted::new(io::writer(rt));
+    let mut err = Noted::new(io::writer(errors));
+    let ended = run_on_streams(
+        rt,
+        &mut ReaderSource::new(&mut input),
+        &mut WriterSink::new(&mut out),
+        &mut WriterSink::new(&mut err),
+    );
+    match ended {
         Ok(status) => status,
-        Err(error) => fault(errors, NAME, error),
+        Err(FilterFault::Read) => end_by(rt.alloc(), errors, FilterFault::Read, input.error()),
+        Err(fault) => end_by(rt.alloc(), errors, fault, out.error().or(err.error())),
     }
 }
 
 /// Runs the program on the words that it was called with, and on its streams.
-fn run_on_streams<R: Env + Files + Input + Print + AllocGlobal, E: Print>(
+fn run_on_streams<R: Env + Files + AllocGlobal, S: Source, W: Sink, E: Sink>(
     rt: &R,
-    errors: &E,
-) -> Result<u8, FilterFault> {
-    let mut input = ReaderSource::new(rt.reader());
-    let mut out = WriterSink::new(io::writer(rt));
-    let mut err = WriterSink::new(io::writer(errors));
-    let Some(arguments) = called_with(rt, NAME, &mut err)? else {
-        return Ok(WRONG_USE);
-    };
-    match with_files(rt, arguments)? {
-        Words::All(words) => run_words(rt.alloc(), &words, &mut input, &mut out, &mut err),
-        Words::NotText(argument) => refuse_file(rt.alloc(), &argument, &mut err),
-    }
-}
-
-/// Runs the program on words.
-fn run_words<S: Source, W: Sink, E: Sink>(
-    alloc: Global,
-    words: &[String],
     input: &mut S,
     out: &mut W,
     err: &mut E,
 ) -> Result<u8, FilterFault>
-    requires in_failures { S.failure_count input.old < 2 ^ 64 - 1 }
-    requires out_failures { W.failure_count out.old < 2 ^ 64 - 1 }
-    requires err_failures { E.failure_count err.old < 2 ^ 64 - 1 }
+    requires in_failures { S.failure_count input.old ≡ 0 }
+    requires out_failures { W.failure_count out.old ≡ 0 }
+    requires err_failures { E.failure_count err.old ≡ 0 }
 {
-    let mut texts = Vec::with_capacity(alloc, words.len())?;
-    for word in words {
-        texts.push(word.as_str())?;
-    }
-    run_over(alloc, texts.as_slice(), input, out, err)
-}
-
-/// Names an argument whose file has a word that isn't valid UTF-8, and answers the status.
-fn refuse_file<E: Sink>(alloc: Global, argument: &str, err: &mut E) -> Result<u8, FilterFault>
-    requires { E.failure_count err.old < 2 ^ 64 - 1 }
-{
-    let line = format!(in alloc; "{NAME}: {argument}: not valid UTF-8\n")?;
-    write_all(err, line.as_bytes())?;
-    Ok(WRONG_USE)
-}
-
-/// The words of arguments.
-#[derive(Drop)]
-enum Words {
-    All(Vec<String>),
-    /// The argument whose file has a word that isn't valid UTF-8.
-    NotText(String),
-}
-
-/// The words that arguments stand for, the program's name first: those of the file for `@FILE`, where it can be read; each other
-/// argument for itself. A word of a file names no file.
-fn with_files<R: Files + AllocGlobal>(rt: &R, arguments: Vec<String>) -> Result<Words, AllocError> {
-    let mut words = Vec::with_capacity(rt.alloc(), arguments.len())?;
-    for argument in arguments {
-        match words_of_file(rt, argument.as_str())? {
-            None => words.push(argument)?,
-            Some(of_file) => {
-                if !push_texts(&mut words, of_file)? {
-                    return Ok(Words::NotText(argument));
-                }
-            }
-        }
-    }
-    Ok(Words::All(words))
-}
-
-/// The words of the file that an argument names, if it names one that can be read.
-fn words_of_file<R: Files + AllocGlobal>(
-    rt: &R,
-    argument: &str,
-) -> Result<Option<Vec<Vec<u8>>>, AllocError> {
-    let Some(path) = argument.strip_prefix('@') else {
-        return Ok(None);
+    let alloc = rt.alloc();
+    let words = match with_files(rt, arguments_of(rt)?)? {
+        Words::All(words) => words,
+        Words::TooLong(argument) => return refuse_file(alloc, &argument, err),
     };
-    match fs::read(rt, path) {
-        Ok(text) => Ok(Some(words_in(rt.alloc(), &text)?)),
-        Err(error) => {
-            if error.kind() == io::ErrorKind::OutOfMemory {
-                return Err(AllocError);
-            }
-            Ok(None)
+    let lent = lent_words(alloc, &words)?;
+    let status = run_over(alloc, &lent, input, out, err)?;
+    if status != WRONG_USE {
+        if let Some(word) = file_among(rt, &lent) {
+            say_hint(alloc, word, err)?;
         }
     }
+    Ok(status)
 }
 
-/// Appends words up to the first that isn't valid UTF-8, and says whether each is.
-fn push_texts(words: &mut Vec<String>, of_file: Vec<Vec<u8>>) -> Result<bool, AllocError> {
-    for word in of_file {
-        match String::from_utf8(word) {
-            Ok(text) => words.push(text)?,
-            Err(_) => return Ok(false),
+/// Names a fault on standard error, and why it came, and answers the status. Where the reader of the output has gone, nothing is said.
+fn end_by<E: Print>(alloc: Global, errors: &E, fault: FilterFault, error: Option<Error>) -> u8 {
+    let Some(error) = error else {
+        let _ = errors.println(format_args!("demangle: {fault}"));
+        return FAULT;
+    };
+    if error.kind() == ErrorKind::BrokenPipe {
+        return READER_GONE;
+    }
+    match words_of(alloc, error) {
+        Ok(words) => {
+            let _ = errors.println(format_args!("demangle: {fault}: {words}"));
+        }
+        Err(_) => {
+            let _ = errors.println(format_args!("demangle: {fault}: {error}"));
         }
     }
-    Ok(true)
+    FAULT
+}
+
+/// What the system says of an error, without its number.
+fn words_of(alloc: Global, error: Error) -> Result<String, AllocError> {
+    let words = format!(in alloc; "{error}")?;
+    let number = format!(in alloc; " (os error {})", error.raw_os_error().unwrap_or_default())?;
+    match words.strip_suffix(number.as_str()) {
+        Some(words) => String::from_str(alloc, words),
+        None => Ok(words),
+    }
 }

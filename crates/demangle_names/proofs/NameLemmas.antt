@@ -1,5 +1,5 @@
 -- The lines of names, one by one.
-use Rattle.std.proofs.Common.{◌≡◌, ◌≢◌, ◌∙◌, ℕ, Bool, ◌||◌, List, [], ◌∷◌, ◌++◌, Option, None, Some, Result, Ok, Err, codes, refl, sym, ap, ap₂, subst, false, true}
+use Rattle.std.proofs.Common.{◌≡◌, ◌≢◌, ◌∙◌, ℕ, Bool, ◌||◌, List, [], ◌∷◌, ◌++◌, Option, None, Some, Result, Ok, Err, refl, sym, ap, ap₂, subst, false, true}
 use Rattle.std.specs.Prelude.{◌&&◌, IfOk, OnErr, OnOk}
 use Rattle.std.specs.List.{flat_map, list_any}
 use Rattle.std.specs.Io.KnownBytes.{Appends}
@@ -15,7 +15,7 @@ use Rattle.sym_command.specs.Command.{Took}
 use Rattle.sym_core.specs.declared.refusal.Refusal.{Refusal}
 use Rattle.sym_core.specs.declared.refusal.Refusal.TheVariants.{Memory}
 use Rattle.sym_command.specs.Lines.{answer_for, reason_of}
-use Rattle.demangle_names.specs.Names.{FiltersSome, filtered, LineFront, NameFront, NameFrontBy, NamesFront, line_of, name_stays, reason_by, said_for, said_if, said_of, stays_by, stays_for, written_for}
+use Rattle.demangle_names.specs.Names.{FiltersSome, filtered, LineFront, NameFront, NameFrontBy, NamesFront, line_of, name_stays, reason_by, said_for, said_if, said_line, said_of, stays_by, stays_for, written_for}
 
 -- what each of some items brings, with one item more
 pub flat-more : (f : List ℕ → List ℕ) (names all : List (List ℕ)) (name : List ℕ) → all ≡ names ++ name ∷ [] → flat_map f all ≡ flat_map f names ++ f name
@@ -81,9 +81,9 @@ why-refused bytes (Err e) refusal answer is said known = tt
 
 -- the line that says so
 pub said-line : (answers : Answering) (asked : Bool) (name reason line : List ℕ) → asked ≡ true → reason ≡ reason_by (answer_for answers name)
-    → line ≡ codes "demangle: " ++ (name ++ (codes ": " ++ (reason ++ 10 ∷ []))) → line ≡ said_if asked answers name
+    → line ≡ said_line name reason → line ≡ said_if asked answers name
 said-line answers asked name reason line is why made =
-    made ∙ ap (λ (t : List ℕ). codes "demangle: " ++ (name ++ (codes ": " ++ (t ++ 10 ∷ [])))) why ∙ ap (λ (b : Bool). said_if b answers name) (sym is)
+    made ∙ ap (said_line name) why ∙ ap (λ (b : Bool). said_if b answers name) (sym is)
 
 -- ## A name that may be a type
 

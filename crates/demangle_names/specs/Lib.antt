@@ -1,4 +1,3 @@
 pub mod Escaped
 pub mod Names
 pub mod Style
-pub mod Types

@@ -7,7 +7,7 @@ use Rattle.sym_filter.specs.declared.words.Tally.{Tally}
 use Rattle.sym_filter.specs.Runs.{Answering, filtered_at, tally_at}
 use Rattle.sym_filter.specs.Streams.{BeginsWith, PutsFront}
 use Rattle.sym_command.specs.Lines.{answer_for, reason_of}
-use Rattle.demangle_names.specs.Types.{type_for}
+use Rattle.type_names.specs.Types.{type_for}
 
 -- a text with each word that has a text replaced by it, where words begin within runs
 abbrev pub filtered : Answering → List ℕ → List ℕ
@@ -30,9 +30,13 @@ reason_by None = codes "not a symbol"
 reason_by (Some (Ok text)) = codes "not a symbol"
 reason_by (Some (Err refusal)) = reason_of refusal
 
--- the line on standard error that says so, where it is asked for
+-- the line on standard error that says so
+abbrev pub said_line : List ℕ → List ℕ → List ℕ
+said_line name reason = codes "demangle: " ++ name ++ codes ": " ++ reason ++ 10 ∷ []
+
+-- where it is asked for
 abbrev pub said_if : Bool → Answering → List ℕ → List ℕ
-said_if true answers name = codes "demangle: " ++ (name ++ (codes ": " ++ (reason_by (answer_for answers name) ++ 10 ∷ [])))
+said_if true answers name = said_line name (reason_by (answer_for answers name))
 said_if false answers name = []
 
 abbrev pub said_of : (why : Bool) → Answering → List ℕ → List ℕ

@@ -7,11 +7,9 @@ mod names;
 mod options;
 mod status;
 mod style;
-mod types;
 
 pub use escaping::push_escaped;
 pub use names::answer_names;
 pub use options::Options;
 pub use status::{DONE, status_of};
 pub use style::{Style, style_of};
-pub use types::type_for;

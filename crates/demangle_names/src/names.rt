@@ -6,15 +6,15 @@ ghost use Rattle.sym_filter.specs.declared.kinds.Letters.TheVariants.{Within};
 ghost use Rattle.sym_filter.specs.Streams.{PutsFront, writer_faults};
 ghost use Rattle.sym_command.specs.Command.{Took};
 ghost use Rattle.sym_command.specs.Lines.{answer_for};
-ghost use Rattle.demangle_names.specs.Names.{AnswersNames, NamesFront, NameFront, LineFront, FiltersSome, filtered, line_of, said_for, said_if, said_of, name_stays, stays_by, stays_for, written_for, reason_by};
+ghost use Rattle.demangle_names.specs.Names.{AnswersNames, NamesFront, NameFront, LineFront, FiltersSome, filtered, line_of, said_for, said_if, said_line, said_of, name_stays, stays_by, stays_for, written_for, reason_by};
 
 use crate::options::Options;
-use crate::types::type_for;
 use std::alloc::{AllocError, Global};
 use sym_command::reason;
 use sym_filter::{
     Demangler, FilterFault, Letters, ReaderSource, Sink, Tally, filter_words, kind_of, write_all,
 };
+use type_names::type_for;
 
 /// Why a name stays that is no symbol.
 const NO_SYMBOL: &str = "not a symbol";
@@ -29,7 +29,7 @@ pub fn answer_names<D: Demangler, W: Sink, E: Sink>(
     alloc: Global,
     demangler: &D,
     options: Options,
-    names: &[&str],
+    names: &[&[u8]],
     out: &mut W,
     err: &mut E,
 ) -> Result<bool, FilterFault>
@@ -58,7 +58,7 @@ fn answer_name<D: Demangler, W: Sink, E: Sink>(
     alloc: Global,
     demangler: &D,
     options: Options,
-    name: &str,
+    name: &[u8],
     out: &mut W,
     err: &mut E,
 ) -> Result<bool, FilterFault>
@@ -74,7 +74,7 @@ fn answer_name<D: Demangler, W: Sink, E: Sink>(
     ensures failures { W.failure_count out.new + E.failure_count err.new
         ≡ W.failure_count out.old + E.failure_count err.old + writer_faults result }
 {
-    match type_for(alloc, demangler, options.types, name.as_bytes())? {
+    match type_for(alloc, demangler, options.types, name)? {
         Some(text) => match write_line(out, text) {
             Ok(()) => Ok(false),
             Err(fault) => Err(fault),
@@ -104,7 +104,7 @@ fn answer_line<D: Demangler, W: Sink, E: Sink>(
     alloc: Global,
     demangler: &D,
     why: bool,
-    name: &str,
+    name: &[u8],
     out: &mut W,
     err: &mut E,
 ) -> Result<bool, FilterFault>
@@ -120,8 +120,8 @@ fn answer_line<D: Demangler, W: Sink, E: Sink>(
     ensures failures { W.failure_count out.new + E.failure_count err.new
         ≡ W.failure_count out.old + E.failure_count err.old + writer_faults result }
 {
-    let line = format!(in alloc; "{name}\n")?;
-    let tally = match filter_line(alloc, demangler, line.as_bytes(), out) {
+    let line = line_of(alloc, name)?;
+    let tally = match filter_line(alloc, demangler, &line, out) {
         Ok(tally) => tally,
         Err(fault) => return Err(fault),
     };
@@ -130,6 +130,15 @@ fn answer_line<D: Demangler, W: Sink, E: Sink>(
         Ok(()) => Ok(stays),
         Err(fault) => Err(fault),
     }
+}
+
+/// The line that a name makes.
+fn line_of(alloc: Global, name: &[u8]) -> Result<Vec<u8>, AllocError>
+    ensures { IfOk result (λ line. line.items ≡ line_of name.now) }
+{
+    let mut line = Vec::from_slice(alloc, name)?;
+    line.push(b'\n')?;
+    Ok(line)
 }
 
 /// Filters a line.
@@ -170,7 +179,7 @@ fn say_why<D: Demangler, E: Sink>(
     alloc: Global,
     demangler: &D,
     asked: bool,
-    name: &str,
+    name: &[u8],
     err: &mut E,
 ) -> Result<(), FilterFault>
     requires err_failures { E.failure_count err.old < 2 ^ 64 - 1 }
@@ -183,23 +192,35 @@ fn say_why<D: Demangler, E: Sink>(
         return Ok(());
     }
     let reason = reason_why(alloc, demangler, name)?;
-    let line = format!(in alloc; "demangle: {name}: {reason}\n")?;
-    match write_all(err, line.as_bytes()) {
+    let line = said_line(alloc, name, reason.as_str())?;
+    match write_all(err, &line) {
         Ok(()) => Ok(()),
         Err(fault) => Err(fault),
     }
 }
 
+/// The line that says why a name stays.
+fn said_line(alloc: Global, name: &[u8], reason: &str) -> Result<Vec<u8>, AllocError>
+    ensures { IfOk result (λ line. line.items ≡ said_line name.now reason.now) }
+{
+    let mut line = Vec::from_slice(alloc, b"demangle: ")?;
+    line.extend_from_slice(name)?;
+    line.extend_from_slice(b": ")?;
+    line.extend_from_slice(reason.as_bytes())?;
+    line.push(b'\n')?;
+    Ok(line)
+}
+
 /// Why a name stays, by what is answered for it as a symbol.
-fn reason_why<D: Demangler>(alloc: Global, demangler: &D, name: &str) -> Result<String, AllocError>
+fn reason_why<D: Demangler>(alloc: Global, demangler: &D, name: &[u8]) -> Result<String, AllocError>
     ensures { IfOk result (λ text. string_bytes text ≡ reason_by (answer_for (D.answer demangler.now) name.now)) }
 {
-    let Some(kind) = kind_of(name.as_bytes()) else {
+    let Some(kind) = kind_of(name) else {
         return String::from_str(alloc, NO_SYMBOL);
     };
     let mut lists = demangler.lists(alloc)?;
     let mut text = Vec::new(alloc);
-    match demangler.append(&mut lists, kind, kind.symbol_of(name.as_bytes()), &mut text) {
+    match demangler.append(&mut lists, kind, kind.symbol_of(name), &mut text) {
         Ok(()) => String::from_str(alloc, NO_SYMBOL),
         Err(refusal) => reason(alloc, refusal),
     }

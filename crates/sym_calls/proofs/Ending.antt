@@ -18,7 +18,7 @@ use Rattle.sym_calls.specs.declared.counting.SymbolCounts.{SymbolCounts}
 use Rattle.sym_calls.specs.declared.flags.Asked.{Asked}
 use Rattle.sym_calls.specs.declared.filtering.TextTally.{TextTally}
 use Rattle.sym_calls.specs.declared.outcome.Outcome.{Outcome}
-use Rattle.sym_calls.specs.Calls.{CountingEndsAs, CountingEndsBy, Ending, EndsAs, IsCounted, IsTallied, IsTextWritten, NameCounted, Tallied, answered, answers_at, filter_told, ending_of, named, name_told, numbers_of, press_told, refused, status_alone, text_told, told_of, written}
+use Rattle.sym_calls.specs.Calls.{CountingEndsAs, CountingEndsBy, Ending, EndsAs, IsCounted, IsTallied, IsTextWritten, NameCounted, Tallied, answered, answers_at, filter_told, ending_of, named, name_or_type_told, name_told, numbers_of, press_told, refused, status_alone, text_told, told_of, written}
 
 -- what follows so many bytes, as a slice
 pub rest-of : (at : ℕ) (bytes : List ℕ) → take (length bytes - at) (drop at bytes) ≡ drop at bytes
@@ -33,7 +33,7 @@ unfolding written
 written-low bytes buffer = low-cond (nat_le (length bytes) (length buffer)) _ _ (omega arith) (omega arith)
 
 -- an answer for a symbol may be one for want of memory
-answered-low : (answer : Result (List ℕ) Refusal) (skip : ℕ) (buffer : List ℕ) → (answered answer skip buffer).status ≤ 6
+pub answered-low : (answer : Result (List ℕ) Refusal) (skip : ℕ) (buffer : List ℕ) → (answered answer skip buffer).status ≤ 6
 unfolding answered refused
 answered-low (Ok bytes) skip buffer = written-low bytes buffer
 answered-low (Err (Malformed at)) skip buffer = omega arith
@@ -118,7 +118,7 @@ no-name-ends answers asked name buffer status found is told = inl (told ∙ sym 
 
 -- a call whose flags are some
 pub text-ends : (option : Option Asked) (asked : Asked) (limit : ℕ) (name buffer : List ℕ) (found : Ending) → option ≡ Some asked
-    → EndsAs (name_told (answers_at asked limit) asked name buffer) buffer found → EndsAs (text_told option limit name buffer) buffer found
+    → EndsAs (name_or_type_told (answers_at asked limit) asked name buffer) buffer found → EndsAs (text_told option limit name buffer) buffer found
 unfolding text_told
 text-ends option asked limit name buffer found is ends = subst (λ o. EndsAs (text_told o limit name buffer) buffer found) (sym is) ends
 

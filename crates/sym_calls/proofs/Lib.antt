@@ -1,2 +1,4 @@
 pub mod Ending
+pub mod Kept
 pub mod Telling
+pub mod Typed

@@ -10,7 +10,8 @@ use Rattle.sym_core.specs.declared.refusal.Refusal.TheVariants.{Malformed, BadRe
 use Rattle.sym_filter.specs.Runs.{Answering}
 use Rattle.sym_filter.specs.declared.kinds.Kind.{Kind}
 use Rattle.sym_filter.specs.Kinds.{symbol_of}
-use Rattle.sym_calls.specs.Calls.{Ending, EndsAs, answered, answers_at, name_told, named, refused, status_alone, told_of, written}
+use Rattle.type_names.specs.Types.{is_type_word, type_answer}
+use Rattle.sym_calls.specs.Calls.{Ending, EndsAs, answered, answers_at, name_or_type_told, named, refused, status_alone, told_of, type_or_told, written}
 use Rattle.sym_calls.specs.Texts.{AreTold, IsTold, TextsEndAs, TextsEndBy, are_ends, placed}
 use Rattle.sym_calls.specs.declared.outcome.Outcome.{Outcome}
 use Rattle.sym_calls.specs.declared.flags.Asked.{Asked}
@@ -75,9 +76,15 @@ unfolding told_of
 told-of-within answers (Ok kind) name buffer = answered-within (answers kind (symbol_of kind name)) kind.skip buffer
 told-of-within answers (Err status) name buffer = alone-within status buffer
 
+type-or-told-within : (types : Bool) (answers : Answering) (kind : Result Kind ℕ) (name buffer : List ℕ) → IsWithin (type_or_told types answers kind name buffer)
+unfolding type_or_told
+type-or-told-within types answers (Ok kind) name buffer = told-of-within answers (Ok kind) name buffer
+type-or-told-within types answers (Err status) name buffer =
+    cond-within (types && (status == 11 && is_type_word name)) _ _ (λ is. answered-within (type_answer answers name) 0 buffer) (alone-within status buffer)
+
 -- a text is within the buffer
-pub told-within : (answers : Answering) (asked : Asked) (name buffer : List ℕ) (found : Ending) → EndsAs (name_told answers asked name buffer) buffer found → took found ≤ length found.buffer
-told-within answers asked name buffer found (inl is) = subst (λ e. IsWithin e) (sym is) (told-of-within answers (named asked.underscore name) name buffer)
+pub told-within : (answers : Answering) (asked : Asked) (name buffer : List ℕ) (found : Ending) → EndsAs (name_or_type_told answers asked name buffer) buffer found → took found ≤ length found.buffer
+told-within answers asked name buffer found (inl is) = subst (λ e. IsWithin e) (sym is) (type-or-told-within asked.types answers (named asked.underscore name) name buffer)
 told-within answers asked name buffer found (inr is) = subst (λ e. IsWithin e) (sym is.1) (alone-within 5 buffer)
 
 take-after : (xs ys : List ℕ) (at n : ℕ) → length xs ≡ at → take (at + n) (xs ++ ys) ≡ xs ++ take n ys

@@ -11,6 +11,7 @@ use Rattle.sym_filter.specs.declared.words.Tally.{Tally}
 use Rattle.sym_filter.specs.Kinds.{kind_by_beginning, symbol_of}
 use Rattle.sym_languages.specs.Languages.{answer_of, answers_by, cpp_by, wide_answer_of, AreCountsOf, AreWideCountsOf, pressed_of}
 use Rattle.sym_filter.specs.Runs.{Answering, filtered_at, tally_at}
+use Rattle.type_names.specs.Types.{is_type_word, type_answer}
 use Rattle.sym_calls.specs.declared.flags.Asked.{Asked}
 use Rattle.sym_calls.specs.declared.outcome.Outcome.{Outcome}
 use Rattle.sym_calls.specs.declared.counting.SymbolCounts.{SymbolCounts}
@@ -26,15 +27,15 @@ detail_of flags =
     if has flags 1 then (if has flags 2 then Detail.BriefNoParameters else Detail.Brief)
     else (if has flags 2 then Detail.NoParameters else Detail.Full)
 
--- which letters words of a text have: with 32 those of ASCII alone
+-- which letters words of a text have: with 64 words begin within runs, too, and with 32 alone they have those of ASCII
 unfoldable pub letters_of : ℕ → Letters
-letters_of flags = if has flags 32 then Letters.Ascii else Letters.Any
+letters_of flags = if has flags 64 then Letters.Within else (if has flags 32 then Letters.Ascii else Letters.Any)
 
 -- what flags ask for, if each is one: 4 is the wide grammar, 8 that legacy Rust names are paths, 16 that a name may begin with an
--- underscore
+-- underscore, 128 that a name without a symbol may be a type
 unfoldable pub asked_of : ℕ → Option Asked
 asked_of flags =
-    if nat_lt flags 64 then Some (record { detail = detail_of flags; wide = has flags 4; legacy = has flags 8; underscore = has flags 16; letters = letters_of flags })
+    if nat_lt flags 256 then Some (record { detail = detail_of flags; wide = has flags 4; legacy = has flags 8; underscore = has flags 16; letters = letters_of flags; types = has flags 128 })
     else None
 
 -- what is answered for symbols then
@@ -98,14 +99,24 @@ unfoldable pub told_of : Answering → Result Kind ℕ → (name buffer : List �
 told_of answers (Ok kind) name buffer = answered (answers kind (symbol_of kind name)) kind.skip buffer
 told_of answers (Err status) name buffer = status_alone status buffer
 
--- what is answered for a name
+-- what is answered for a name by its symbol
 abbrev pub name_told : Answering → Asked → (name buffer : List ℕ) → Ending
 name_told answers asked name buffer = told_of answers (named asked.underscore name) name buffer
 
--- the text of a name's symbol
+-- What is answered for a name by its symbol; or by the type that it may be, where it begins as no symbol does (11), and types are
+-- asked for.
+unfoldable pub type_or_told : (types : Bool) → Answering → Result Kind ℕ → (name buffer : List ℕ) → Ending
+type_or_told types answers (Ok kind) name buffer = told_of answers (Ok kind) name buffer
+type_or_told types answers (Err status) name buffer =
+    if types && (status == 11 && is_type_word name) then answered (type_answer answers name) 0 buffer else status_alone status buffer
+
+abbrev pub name_or_type_told : Answering → Asked → (name buffer : List ℕ) → Ending
+name_or_type_told answers asked name buffer = type_or_told asked.types answers (named asked.underscore name) name buffer
+
+-- the text of a name's symbol, or of its type
 unfoldable pub text_told : Option Asked → (limit : ℕ) → (name buffer : List ℕ) → Ending
 text_told None limit name buffer = status_alone 8 buffer
-text_told (Some asked) limit name buffer = name_told (answers_at asked limit) asked name buffer
+text_told (Some asked) limit name buffer = name_or_type_told (answers_at asked limit) asked name buffer
 
 -- the pressed spelling of a name's symbol, which the wide grammar doesn't go with
 unfoldable pub press_told : Option Asked → (name buffer : List ℕ) → Ending

@@ -1,7 +1,7 @@
 -- What the call over many names answers, and what it writes.
 use Rattle.std.specs.Prelude.{◌≡◌, ◌-◌, ℕ, List, [], ◌∷◌, ◌++◌, drop, length, take, Option, Some, None, Bool, true, false, ◌==◌, ◌&&◌, nat_eq, nat_le, if◌then◌else◌}
 use Rattle.sym_filter.specs.Runs.{Answering}
-use Rattle.sym_calls.specs.Calls.{EndsAs, answers_at, ending_of, name_told}
+use Rattle.sym_calls.specs.Calls.{EndsAs, answers_at, ending_of, name_or_type_told}
 use Rattle.sym_calls.specs.declared.outcome.Outcome.{Outcome}
 use Rattle.sym_calls.specs.declared.flags.Asked.{Asked}
 
@@ -16,7 +16,7 @@ placed outcome = if outcome.status == 0 then outcome.length else 0
 
 -- A name is told what the call over one answers: over what is left of the buffer, which then is `after`.
 abbrev pub IsTold : Answering → Asked → (name left : List ℕ) → Outcome → (after : List ℕ) → Type 0
-IsTold answers asked name left outcome after = EndsAs (name_told answers asked name left) left (ending_of outcome after)
+IsTold answers asked name left outcome after = EndsAs (name_or_type_told answers asked name left) left (ending_of outcome after)
 
 -- Names are told in order, each from where the one before it ends. What a text took of the buffer stays, and the rest is left to
 -- the names after it.

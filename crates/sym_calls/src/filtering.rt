@@ -1,13 +1,15 @@
 // A text with the texts of all symbols in it.
-ghost use Rattle.std.specs.Prelude.{◌≡◌};
+ghost use Rattle.std.specs.Prelude.{◌≡◌, List, ℕ, length};
 ghost use Rattle.sym_filter.specs.Runs.{filtered_at, tally_at};
 ghost use Rattle.sym_languages.specs.Languages.{answers_by};
 ghost use Rattle.sym_calls.specs.Calls.{EndsAs, IsTallied, Tallied, asked_of, ending_of, filter_told, written};
+ghost use Rattle.sym_calls.specs.Counted.{Holds};
 
+use crate::counted::{Counted, filter_counted};
 use crate::flags::{Asked, asked_of};
-use crate::outcome::{FLAGS, OK, Outcome, alone, no_memory, write};
+use crate::outcome::{BUFFER, FLAGS, OK, Outcome, alone, no_memory, write};
 use std::alloc::Global;
-use sym_filter::{Demangler, Letters, ListSink, ReaderSource, Tally, filter_words};
+use sym_filter::{Demangler, Letters, Tally};
 use sym_languages::languages::Cpp;
 use sym_languages::{Abi, Wide};
 
@@ -20,12 +22,27 @@ pub struct TextTally {
     pub refused: u64,
 }
 
+/// Writes a text that was kept to the front of the buffer, or tells how large that has to be.
+#[tactic(auto, unfolding(crate::specs::Calls::written))]
+fn write_kept(kept: &Counted, buffer: &mut [u8]) -> Outcome
+    ensures { (text : List ℕ) → Holds kept.now (length buffer.old) text → ending_of result buffer.new ≡ written text buffer.old }
+{
+    if kept.count > buffer.len() {
+        return Outcome {
+            length: kept.count,
+            offset: 0,
+            status: BUFFER,
+        };
+    }
+    write(&kept.list, buffer)
+}
+
 /// Tells of a text that was filtered.
-fn told(bytes: &[u8], counted: Tally, buffer: &mut [u8], tally: &mut TextTally) -> Outcome
-    ensures ending { ending_of result buffer.new ≡ written bytes.now buffer.old }
+fn told(kept: &Counted, counted: Tally, buffer: &mut [u8], tally: &mut TextTally) -> Outcome
+    ensures ending { (text : List ℕ) → Holds kept.now (length buffer.old) text → ending_of result buffer.new ≡ written text buffer.old }
     ensures tally { Tallied counted tally.old tally.new result.status }
 {
-    let outcome = write(bytes, buffer);
+    let outcome = write_kept(kept, buffer);
     if outcome.status == OK {
         tally.words = counted.words;
         tally.replaced = counted.replaced;
@@ -34,7 +51,7 @@ fn told(bytes: &[u8], counted: Tally, buffer: &mut [u8], tally: &mut TextTally) 
     outcome
 }
 
-/// Writes a filtered text to the front of the buffer.
+/// Writes a filtered text to the front of the buffer. No more of it is kept before that than the buffer has bytes.
 fn filter_by<D: Demangler>(
     alloc: Global,
     demangler: &D,
@@ -46,10 +63,9 @@ fn filter_by<D: Demangler>(
     ensures ending { EndsAs (written (filtered_at letters (D.answer demangler.now) text.now) buffer.old) buffer.old (ending_of result buffer.new) }
     ensures tally { Tallied (tally_at letters (D.answer demangler.now) text.now) tally.old tally.new result.status }
 {
-    let mut reader = ReaderSource::new(text);
-    let mut writer = ListSink::new(Vec::new(alloc));
-    match filter_words(alloc, &mut reader, &mut writer, demangler, letters) {
-        Ok(counted) => told(&writer.into_list(), counted, buffer, tally),
+    let most = buffer.len();
+    match filter_counted(alloc, demangler, letters, text, most) {
+        Ok((kept, counted)) => told(&kept, counted, buffer, tally),
         Err(_) => no_memory(),
     }
 }

@@ -1,7 +1,8 @@
 // What a caller's flags ask for.
-ghost use Rattle.std.specs.Prelude.{◌≡◌, ◌≤◌, IfOk, length};
+ghost use Rattle.std.specs.Prelude.{◌≡◌, ◌≤◌, ◌==◌, ◌&&◌, IfOk, length};
 ghost use Rattle.sym_core.specs.Number.{FitsSymbol};
 ghost use Rattle.sym_filter.specs.Kinds.{kind_by_beginning, symbol_of};
+ghost use Rattle.type_names.specs.Types.{is_type_word};
 ghost use Rattle.sym_calls.specs.Calls.{asked_of, detail_of, has, letters_of, named};
 
 use crate::outcome::{NO_SYMBOL, SIZE};
@@ -10,6 +11,7 @@ use sym_filter::{Kind, Letters, kind_of};
 use sym_languages::languages::Cpp;
 use sym_languages::{Languages, Legacy};
 use sym_print::Detail;
+use type_names::is_type_word;
 
 /// Template and generic arguments are left out.
 pub const BRIEF: u32 = 1;
@@ -23,6 +25,10 @@ pub const LEGACY: u32 = 8;
 pub const UNDERSCORE: u32 = 16;
 /// Words of a text have ASCII letters alone.
 pub const ASCII_WORDS: u32 = 32;
+/// Words of a text begin within its runs, too, as the program `demangle` finds them. Then `ASCII_WORDS` says nothing.
+pub const WITHIN: u32 = 64;
+/// A name that begins as no symbol does is read as a C++ type.
+pub const TYPES: u32 = 128;
 
 /// What flags ask for.
 #[derive(Clone, Copy)]
@@ -32,6 +38,7 @@ pub struct Asked {
     pub legacy: bool,
     pub underscore: bool,
     pub letters: Letters,
+    pub types: bool,
 }
 
 impl Asked {
@@ -80,6 +87,13 @@ impl Asked {
             Err(SIZE)
         }
     }
+
+    /// Whether a name is read as a type, of which this status was told by its symbol.
+    pub(crate) fn reads_type(self, status: u32, name: &[u8]) -> bool
+        ensures { result ≡ (self.types && (status == 11 && is_type_word name.now)) }
+    {
+        self.types && (status == NO_SYMBOL && is_type_word(name))
+    }
 }
 
 /// The kind of a name of any length by how it begins, if that is as a symbol does.
@@ -116,10 +130,10 @@ fn detail_of(flags: u32) -> Detail
 fn letters_of(flags: u32) -> Letters
     ensures { result ≡ letters_of flags }
 {
-    if has(flags, ASCII_WORDS) {
-        Letters::Ascii
-    } else {
-        Letters::Any
+    match (has(flags, WITHIN), has(flags, ASCII_WORDS)) {
+        (true, _) => Letters::Within,
+        (false, true) => Letters::Ascii,
+        (false, false) => Letters::Any,
     }
 }
 
@@ -128,7 +142,7 @@ fn letters_of(flags: u32) -> Letters
 pub(crate) fn asked_of(flags: u32) -> Option<Asked>
     ensures { result ≡ asked_of flags }
 {
-    if flags >= 2 * ASCII_WORDS {
+    if flags >= 2 * TYPES {
         return None;
     }
     Some(Asked {
@@ -137,5 +151,6 @@ pub(crate) fn asked_of(flags: u32) -> Option<Asked>
         legacy: has(flags, LEGACY),
         underscore: has(flags, UNDERSCORE),
         letters: letters_of(flags),
+        types: has(flags, TYPES),
     })
 }

@@ -4,6 +4,7 @@
 //! `symdemangle` exports each of them to C.
 #![tactic(auto)]
 
+mod counted;
 mod counting;
 mod filtering;
 pub mod flags;

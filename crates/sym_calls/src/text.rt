@@ -1,12 +1,14 @@
 // The text of one name, or its pressed spelling.
-ghost use Rattle.std.specs.Prelude.{◌≡◌, None};
+ghost use Rattle.std.specs.Prelude.{◌≡◌, ◌≤◌, List, ℕ, None, length};
 ghost use Rattle.std.specs.Option.{IfSome};
 ghost use Rattle.sym_core.specs.Number.{FitsSymbol};
 ghost use Rattle.sym_print.specs.declared.detail.Detail.TheVariants.{Full, Brief};
 ghost use Rattle.sym_demangle.specs.Mangled.{answer};
 ghost use Rattle.rust_grammar.specs.Mangled.{v0_mangled};
+ghost use Rattle.sym_filter.specs.declared.kinds.TheConstants.{LONGEST_WORD};
 ghost use Rattle.sym_languages.specs.Languages.{answers_by, language_answer_by};
-ghost use Rattle.sym_calls.specs.Calls.{EndsAs, IsTextWritten, answered, asked_of, ending_of, name_told, press_told, text_told};
+ghost use Rattle.type_names.specs.Types.{type_answer};
+ghost use Rattle.sym_calls.specs.Calls.{EndsAs, IsTextWritten, answered, asked_of, ending_of, name_or_type_told, name_told, press_told, text_told};
 
 use crate::flags::{Asked, asked_of};
 use crate::outcome::{FLAGS, Outcome, alone, no_memory, of_refusal, write};
@@ -19,6 +21,7 @@ use sym_filter::{Demangled, Demangler, Kind, Lang};
 use sym_languages::languages::Cpp;
 use sym_languages::{Abi, Languages, Pressing, Wide};
 use sym_print::Detail;
+use type_names::append_type;
 
 /// Writes the text of a symbol to the front of the buffer, with lists that are used again.
 fn symbol_with<D: Demangler>(
@@ -203,7 +206,42 @@ fn name_once<C: Cpp>(
     }
 }
 
-/// Writes the text of a name's symbol as is asked for, with a grammar of C++, to the front of the buffer.
+/// Writes the text of a type to the front of the buffer.
+fn type_by<D: Demangler>(alloc: Global, demangler: &D, name: &[u8], buffer: &mut [u8]) -> Outcome
+    requires { length name.now ≤ LONGEST_WORD }
+    ensures { EndsAs (answered (type_answer (D.answer demangler.now) name.now) 0 buffer.old) buffer.old (ending_of result buffer.new) }
+{
+    let mut lists = match demangler.lists(alloc) {
+        Ok(lists) => lists,
+        Err(_) => return no_memory(),
+    };
+    let mut text = Vec::new(alloc);
+    match append_type(alloc, demangler, &mut lists, name, &mut text) {
+        Ok(()) => write(&text, buffer),
+        Err(refusal) => of_refusal(refusal, 0, buffer),
+    }
+}
+
+/// What is told of a name, of which this outcome was told by its symbol: the same, or what is told of the type, where there is no
+/// symbol, types are asked for and the name can be one.
+pub(crate) fn or_type<D: Demangler>(
+    alloc: Global,
+    demangler: &D,
+    asked: Asked,
+    name: &[u8],
+    buffer: &mut [u8],
+    outcome: Outcome,
+) -> Outcome
+    ensures { (before : List ℕ) → EndsAs (name_told (D.answer demangler.now) asked name.now before) before (ending_of outcome buffer.old)
+        → EndsAs (name_or_type_told (D.answer demangler.now) asked name.now before) before (ending_of result buffer.new) }
+{
+    if asked.reads_type(outcome.status, name) {
+        return type_by(alloc, demangler, name, buffer);
+    }
+    outcome
+}
+
+/// Writes the text of a name's symbol, or of its type, as is asked for, with a grammar of C++, to the front of the buffer.
 fn text_in<C: Cpp>(
     alloc: Global,
     cpp: C,
@@ -212,16 +250,20 @@ fn text_in<C: Cpp>(
     name: &[u8],
     buffer: &mut [u8],
 ) -> Outcome
-    ensures { EndsAs (name_told (answers_by C.mangled asked.legacy limit asked.detail) asked name.now buffer.old) buffer.old (ending_of result buffer.new) }
+    ensures { EndsAs (name_or_type_told (answers_by C.mangled asked.legacy limit asked.detail) asked name.now buffer.old) buffer.old (ending_of result buffer.new) }
 {
     if asked.legacy {
-        return name_by(alloc, &asked.with_legacy(limit, cpp), asked, name, buffer);
+        let legacy = asked.with_legacy(limit, cpp);
+        let outcome = name_by(alloc, &legacy, asked, name, buffer);
+        return or_type(alloc, &legacy, asked, name, buffer, outcome);
     }
-    name_once(alloc, &asked.languages(limit, cpp), asked, name, buffer)
+    let languages = asked.languages(limit, cpp);
+    let outcome = name_once(alloc, &languages, asked, name, buffer);
+    or_type(alloc, &languages, asked, name, buffer, outcome)
 }
 
-/// Writes the text of a name's symbol to the front of the buffer, if it costs at most the limit. Else the outcome tells why not,
-/// and the buffer stays as it is.
+/// Writes the text of a name's symbol, or of the type that a name is, where types are asked for, to the front of the buffer, if it
+/// costs at most the limit. Else the outcome tells why not, and the buffer stays as it is.
 #[tactic(auto, unfolding(crate::specs::Calls::text_told))]
 pub fn text_of(alloc: Global, name: &[u8], limit: u32, flags: u32, buffer: &mut [u8]) -> Outcome
     ensures { EndsAs (text_told (asked_of flags) limit name.now buffer.old) buffer.old (ending_of result buffer.new) }

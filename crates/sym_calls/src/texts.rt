@@ -6,7 +6,7 @@ ghost use Rattle.sym_calls.specs.Texts.{AreTold, IsTold, TextsEndAs, are_ends, p
 
 use crate::flags::{Asked, asked_of};
 use crate::outcome::{ENDS, FLAGS, OK, Outcome};
-use crate::text::name_with;
+use crate::text::{name_with, or_type};
 use std::alloc::Global;
 use sym_filter::Demangler;
 use sym_languages::languages::{Cpp, Lists};
@@ -28,6 +28,7 @@ fn are_ends(ends: &[usize], len: usize) -> bool
 
 /// Writes the text of one name among many to the front of the rest of the buffer.
 fn told_of<D: Demangler>(
+    alloc: Global,
     demangler: &D,
     lists: &mut D::Lists,
     text: &mut Vec<u8>,
@@ -38,7 +39,8 @@ fn told_of<D: Demangler>(
     ensures told { IsTold (D.answer demangler.now) asked name.now buffer.old result buffer.new }
     ensures within { placed result ≤ length buffer.new }
 {
-    name_with(demangler, lists, text, asked, name, buffer)
+    let outcome = name_with(demangler, lists, text, asked, name, buffer);
+    or_type(alloc, demangler, asked, name, buffer, outcome)
 }
 
 /// How many bytes of the buffer a name's text took.
@@ -74,6 +76,7 @@ fn tell_each<D: Demangler>(
     'each: for (i, end) in ends.iter().enumerate() {
         let name = &names[from..*end];
         let outcome = told_of(
+            alloc,
             demangler,
             &mut lists,
             &mut text,

@@ -9,7 +9,7 @@ use Rattle.sym_filter.specs.declared.places.Place.{Place}
 use Rattle.sym_filter.specs.Bytes.{is_byte_of}
 use Rattle.sym_filter.specs.Kinds.{kind_of}
 use Rattle.sym_filter.specs.Places.{START, begins_within, from_word, in_stretch, is_divider, may_begin, place_after, with_word}
-use Rattle.sym_filter.specs.Runs.{Answering, answers_at, changed, filtered_at, first_run, fits, is_begun, is_named, later_runs, named_in, named_words, replaced, replaced_at, with_later_runs, within, word_in, word_of, word_or_text, dots_after}
+use Rattle.sym_filter.specs.Runs.{Answering, answers_at, changed, filtered_segment, first_run, fits, is_begun, is_named, later_runs, named_in, named_in_segment, replaced, replaced_at, with_later_runs, within, word_in, word_of, word_or_text, dots_after}
 use Rattle.sym_filter.specs.Words.{named_of, rest_of}
 use Rattle.sym_filter.proofs.PlainLemmas.{may_begin-after}
 use Rattle.sym_filter.proofs.RunLemmas.{kind_of-other, replaced-unnamed, word_of-word}
@@ -143,10 +143,10 @@ named-from Within run words h = refl
 -- ## What follows where nothing is held
 
 -- where a run begins
-pub rest_of-start : (letters : Letters) (answers : Answering) (more : List ℕ) → rest_of letters answers [] false START more ≡ filtered_at letters answers more
+pub rest_of-start : (letters : Letters) (answers : Answering) (more : List ℕ) → rest_of letters answers [] false START more ≡ filtered_segment letters answers more
 rest_of-start letters answers more = ap (λ (t : List ℕ). t ++ with_later_runs letters (replaced_at letters answers) more) (sym (replaced_at-is letters answers (first_run letters more) (first_run-all letters more)))
 
-pub named_of-start : (letters : Letters) (more : List ℕ) → named_of letters [] false START more ≡ named_words letters more
+pub named_of-start : (letters : Letters) (more : List ℕ) → named_of letters [] false START more ≡ named_in_segment letters more
 named_of-start letters more = sym (named-from letters (first_run letters more) (map (word_in letters) (later_runs letters more)) (first_run-all letters more))
 
 -- one byte of a plain front

@@ -2,7 +2,7 @@
 use Rattle.std.proofs.Common.{◌≡◌, ℕ, ◌+◌, ◌%◌, ◌^◌, ◌<◌, ◌≤◌, Bool, true, false, not, ◌||◌, List, [], ◌∷◌, map, length, take, drop, get_or, replicate, Fits, w8, refl, sym, ap, ap₂, ◌∙◌, subst, arith, inl, inr}
 use Rattle.std.proofs.lemmas.Bool.{agree_below, agree_below_at, and_parts, and_from, not-true, cases_eq, eq-eqb, ne_eqb, cond-true, cond-false}
 use Rattle.std.proofs.lemmas.Simd.{map-map, mask_l-mod, length-chunk, get_or-chunk, leading_from_mask_l, trailing_mask_l}
-use Rattle.std.proofs.lemmas.List.{length-map, length-take, get_or-take, get_or-drop}
+use Rattle.std.proofs.lemmas.List.{drop-drop, length-map, length-take, get_or-take, get_or-drop}
 use Rattle.std.proofs.lemmas.List.Sums.{list_all-from_AllPass, prefix_len-le-length, prefix_len_passes}
 use Rattle.std.proofs.lemmas.List.Elements.{All-from_get_or}
 use Rattle.std.proofs.lemmas.List.Folds.{list_all-append}
@@ -71,6 +71,10 @@ module _ (q : ℕ → Bool) (d : List ℕ) (i r : ℕ) (z : List ℕ) (room : i 
 -- a front, and what passes after it
 pub all-longer : (q : ℕ → Bool) (text : List ℕ) (i r : ℕ) → list_all q (take i text) ≡ true → list_all q (take r (drop i text)) ≡ true → list_all q (take (i + r) text) ≡ true
 all-longer q text i r front more = ap (list_all q) (take-add i r text) ∙ list_all-append q (take i text) (take r (drop i text)) ∙ and_from _ _ front more
+
+-- and sixteen more after those from a place on
+pub all-next : (q : ℕ → Bool) (text : List ℕ) (at n : ℕ) → list_all q (take n (drop at text)) ≡ true → list_all q (take 16 (drop (at + n) text)) ≡ true → list_all q (take (n + 16) (drop at text)) ≡ true
+all-next q text at n front more = all-longer q (drop at text) n 16 front (subst (λ (t : List ℕ). list_all q (take 16 t) ≡ true) (sym (drop-drop n at text)) more)
 
 -- what belongs to runs of ASCII letters belongs to those of any
 pub of_letters : (letters : Letters) (bytes : List ℕ) → list_all (is_byte_of Ascii) bytes ≡ true → list_all (is_byte_of letters) bytes ≡ true

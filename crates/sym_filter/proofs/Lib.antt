@@ -1,5 +1,8 @@
 pub mod BeginLemmas
 pub mod ByteLemmas
+pub mod CarryLemmas
+pub mod EscapeLemmas
+pub mod EscapeRows
 pub mod JoinLemmas
 pub mod LaneLemmas
 pub mod MarkLemmas

@@ -127,6 +127,10 @@ PutsFront-of a b out out' bytes more h = record {
   begins = (out' ++ more, sym (append_assoc out bytes more) ∙ ap (λ (t : List ℕ). t ++ more) h.keeps ∙ append_assoc h.gone out' more);
 }
 
+-- where none went out
+pub PutsFront-none : (known : Option (List ℕ)) (out bytes : List ℕ) → PutsFront known known out bytes
+PutsFront-none known out bytes = record { gone = []; writes = Appends-none known; begins = (out ++ bytes, refl) }
+
 pub PutsFront-more : (a b : Option (List ℕ)) (out bytes more : List ℕ) → PutsFront a b out bytes → PutsFront a b out (bytes ++ more)
 PutsFront-more a b out bytes more h = record {
   gone = h.gone;

@@ -1,4 +1,4 @@
--- The steps of a filter over a part of a text.
+-- The steps of a filter over a part of a segment.
 use Rattle.std.proofs.Common.{◌≡◌, ℕ, zero, suc, ◌+◌, ◌-◌, ◌<◌, ◌≤◌, Bool, true, false, cond, eqb, ◌&&◌, not, List, [], ◌∷◌, ◌++◌, length, length-append, map, take, drop, refl, sym, ap, ap₂, ◌∙◌, subst, append_assoc, arith, Some, None, replicate, filter, get_or}
 use Rattle.std.specs.List.{list_all}
 use Rattle.std.specs.Prelude.{is_some}
@@ -16,7 +16,7 @@ use Rattle.sym_filter.specs.Bytes.{is_byte_of}
 use Rattle.sym_filter.specs.Kinds.{kind_of}
 use Rattle.sym_filter.specs.Held.{IsHeld}
 use Rattle.sym_filter.specs.Places.{START, from_word, may_begin, place_after, place_of, with_word}
-use Rattle.sym_filter.specs.Runs.{Answering, IsTally, answers_at, changed, filtered_at, first_run, fits, is_begun, is_named, later_runs, name_in, named_in, named_words, replaced_at, tally_at, tally_counted, tally_with, tally_with_word, text_for, with_later_runs, word_in, word_of, written}
+use Rattle.sym_filter.specs.Runs.{Answering, IsTally, answers_at, changed, filtered_segment, first_run, fits, is_begun, is_named, later_runs, name_in, named_in, named_in_segment, replaced_at, tally_counted, tally_with, tally_with_word, text_for, with_later_runs, word_in, word_of, written}
 use Rattle.sym_filter.specs.Words.{held_of, rest_of, named_of, rest_after, tally_after, following, Takes}
 use Rattle.sym_filter.specs.Plain.{is_plain}
 use Rattle.sym_filter.proofs.TallyLemmas.{tally_with-append, tally_with_word-named, tally_with_word-unnamed}
@@ -63,23 +63,23 @@ runs-end : (letters : Letters) (run : List ℕ) (byte : ℕ) (more : List ℕ) �
 runs-end letters run byte more h other =
     first_run-append letters run (byte ∷ more) h ∙ ap (λ t. run ++ t) (cond-false (is_byte_of letters byte) _ _ other) ∙ sym (first_run-append letters run [] h)
 
-pub rest_of-ends : (letters : Letters) (answers : Answering) (run : List ℕ) (past : Bool) (place : Place) (byte : ℕ) (more : List ℕ) → list_all (is_byte_of letters) run ≡ true → is_byte_of letters byte ≡ false → rest_of letters answers run past place (byte ∷ more) ≡ rest_of letters answers run past place [] ++ (byte ∷ filtered_at letters answers more)
+pub rest_of-ends : (letters : Letters) (answers : Answering) (run : List ℕ) (past : Bool) (place : Place) (byte : ℕ) (more : List ℕ) → list_all (is_byte_of letters) run ≡ true → is_byte_of letters byte ≡ false → rest_of letters answers run past place (byte ∷ more) ≡ rest_of letters answers run past place [] ++ (byte ∷ filtered_segment letters answers more)
 rest_of-ends letters answers run true place byte more h other =
     ap₂ (λ (a b : List ℕ). a ++ b) (cond-false (is_byte_of letters byte) _ _ other) (cond-false (is_byte_of letters byte) _ _ other)
 rest_of-ends letters answers run false place byte more h other =
     let change = with_word letters (changed letters answers) place in
     let none : with_later_runs letters (replaced_at letters answers) (run ++ []) ≡ [] = with_later_runs-append letters (replaced_at letters answers) run [] h in
     ap₂ (λ (a b : List ℕ). change a ++ b) (runs-end letters run byte more h other) (with_later_runs-append letters (replaced_at letters answers) run (byte ∷ more) h ∙ cond-false (is_byte_of letters byte) _ _ other)
-    ∙ ap (λ (t : List ℕ). t ++ (byte ∷ filtered_at letters answers more)) (sym (ap (λ (t : List ℕ). change (first_run letters (run ++ [])) ++ t) none ∙ append-nil (change (first_run letters (run ++ [])))))
+    ∙ ap (λ (t : List ℕ). t ++ (byte ∷ filtered_segment letters answers more)) (sym (ap (λ (t : List ℕ). change (first_run letters (run ++ [])) ++ t) none ∙ append-nil (change (first_run letters (run ++ [])))))
 
-pub named_of-ends : (letters : Letters) (run : List ℕ) (past : Bool) (place : Place) (byte : ℕ) (more : List ℕ) → list_all (is_byte_of letters) run ≡ true → is_byte_of letters byte ≡ false → named_of letters run past place (byte ∷ more) ≡ named_of letters run past place [] ++ named_words letters more
+pub named_of-ends : (letters : Letters) (run : List ℕ) (past : Bool) (place : Place) (byte : ℕ) (more : List ℕ) → list_all (is_byte_of letters) run ≡ true → is_byte_of letters byte ≡ false → named_of letters run past place (byte ∷ more) ≡ named_of letters run past place [] ++ named_in_segment letters more
 named_of-ends letters run true place byte more h other = ap (λ (r : List (List ℕ)). filter is_named (map (word_in letters) r)) (cond-false (is_byte_of letters byte) _ _ other)
 named_of-ends letters run false place byte more h other =
     let find = from_word letters (named_in letters) place in
     let none : later_runs letters (run ++ []) ≡ [] = later_runs-append letters run [] h in
     ap₂ (λ (a : List ℕ) (r : List (List ℕ)). filter is_named (find a ∷ map (word_in letters) r)) (runs-end letters run byte more h other) (later_runs-append letters run (byte ∷ more) h ∙ cond-false (is_byte_of letters byte) _ _ other)
-    ∙ filter-front (find (first_run letters (run ++ []))) (named_words letters more)
-    ∙ ap (λ (r : List (List ℕ)). filter is_named (find (first_run letters (run ++ [])) ∷ map (word_in letters) r) ++ named_words letters more) (sym none)
+    ∙ filter-front (find (first_run letters (run ++ []))) (named_in_segment letters more)
+    ∙ ap (λ (r : List (List ℕ)). filter is_named (find (first_run letters (run ++ [])) ∷ map (word_in letters) r) ++ named_in_segment letters more) (sym none)
 
 -- a plain front
 pub rest_of-plain : (letters : Letters) (answers : Answering) (place : Place) (front more : List ℕ) → is_plain letters place front ≡ true → rest_of letters answers [] false place (front ++ more) ≡ front ++ rest_of letters answers [] false (place_of letters place front) more
@@ -165,20 +165,15 @@ tally-end letters answers tally held dots past place h = ap (tally_with answers 
 -- ## What is taken
 
 -- a filter that holds nothing goes on with what follows
-pub rest_after-nothing : (letters : Letters) (answers : Answering) (words : Words) (more : List ℕ) → words.letters ≡ letters → held_of words ≡ [] → words.past ≡ false → words.place ≡ START → rest_after answers words more ≡ filtered_at letters answers more
+pub rest_after-nothing : (letters : Letters) (answers : Answering) (words : Words) (more : List ℕ) → words.letters ≡ letters → held_of words ≡ [] → words.past ≡ false → words.place ≡ START → rest_after answers words more ≡ filtered_segment letters answers more
 rest_after-nothing letters answers words more same nothing past start =
     ap (λ (l : Letters). rest_of l answers (held_of words) words.past words.place more) same ∙ ap (λ (h : List ℕ). rest_of letters answers h words.past words.place more) nothing
     ∙ ap₂ (λ (p : Bool) (b : Place). rest_of letters answers [] p b more) past start ∙ rest_of-start letters answers more
 
-pub named_of-nothing : (letters : Letters) (words : Words) (more : List ℕ) → words.letters ≡ letters → held_of words ≡ [] → words.past ≡ false → words.place ≡ START → named_of words.letters (held_of words) words.past words.place more ≡ named_words letters more
+pub named_of-nothing : (letters : Letters) (words : Words) (more : List ℕ) → words.letters ≡ letters → held_of words ≡ [] → words.past ≡ false → words.place ≡ START → named_of words.letters (held_of words) words.past words.place more ≡ named_in_segment letters more
 named_of-nothing letters words more same nothing past start =
     ap (λ (l : Letters). named_of l (held_of words) words.past words.place more) same ∙ ap (λ (h : List ℕ). named_of letters h words.past words.place more) nothing
     ∙ ap₂ (λ (p : Bool) (b : Place). named_of letters [] p b more) past start ∙ named_of-start letters more
-
-pub tally_after-nothing : (letters : Letters) (answers : Answering) (words : Words) (more : List ℕ) → words.letters ≡ letters → held_of words ≡ [] → words.past ≡ false → words.place ≡ START → words.tally ≡ record { words = 0; replaced = 0; refused = 0 } → tally_at letters answers more ≡ tally_after answers words more
-tally_after-nothing letters answers words more same nothing past start counted =
-    ap₂ (λ (t : Tally) (names : List (List ℕ)). tally_with (answers_at letters answers) t names) (sym counted) (sym (named_of-nothing letters words more same nothing past start))
-    ∙ ap (λ (l : Letters). tally_with (answers_at l answers) words.tally (named_of words.letters (held_of words) words.past words.place more)) (sym same)
 
 -- it goes on with the letters that it had
 pub rest_after-same : (letters : Letters) (answers : Answering) (words : Words) (more : List ℕ) → words.letters ≡ letters → rest_of letters answers (held_of words) words.past words.place more ≡ rest_after answers words more
@@ -199,6 +194,7 @@ Takes-plain answers old new front same nothing nothing' past past' place counted
       ∙ ap₂ (λ (t : Tally) (words : List (List ℕ)). tally_with texts t words) (sym counted) (ap₂ (λ (h : List ℕ) (b : Place). named_of letters h false b more) (sym nothing') (sym place) ∙ ap (λ (p : Bool). named_of letters (held_of new) p new.place more) (sym past'))
       ∙ tally_after-same letters answers new more same;
   dots = omega arith;
+  letters = same;
 }
 
 -- a part of a run is held
@@ -215,6 +211,7 @@ Takes-held answers old new part same past past' place held counted dots =
           ∙ ap₂ (λ (p : Bool) (b : Place). tally_with texts new.tally (named_of letters (held_of new) p b more)) (sym past') (sym place)
           ∙ tally_after-same letters answers new more same;
       dots = dots;
+      letters = same;
     }
 
 -- a run whose word is long has bytes
@@ -241,6 +238,7 @@ Takes-passes answers old new part same past may past' in_run begun long counted 
           ∙ ap₂ (λ (t : Tally) (p : Bool). tally_with texts t (named_of letters (held_of new) p new.place more)) (sym counted) (sym past')
           ∙ tally_after-same letters answers new more same;
       dots = dots;
+      letters = same;
     }
 
 -- a run that is passed on to its end goes on
@@ -257,6 +255,7 @@ Takes-past answers old new part same past past' in_run counted dots =
           ∙ ap₂ (λ (t : Tally) (p : Bool). tally_with texts t (named_of letters (held_of new) p new.place more)) (sym counted) (sym past')
           ∙ tally_after-same letters answers new more same;
       dots = omega arith;
+      letters = same;
     }
 
 -- and ends at a byte that belongs to no run
@@ -269,9 +268,10 @@ Takes-past_end answers old new byte same past past' start nothing other counted 
           ∙ ap (λ (t : List ℕ). byte ∷ t) (sym (rest_after-nothing letters answers new more same nothing past' start));
       counts = λ more. ap (λ (p : Bool). tally_with texts old.tally (named_of letters (held_of old) p old.place (byte ∷ more))) past
           ∙ ap (λ (r : List (List ℕ)). tally_with texts old.tally (filter is_named (map (word_in letters) r))) (cond-false (is_byte_of letters byte) _ _ other)
-          ∙ ap₂ (λ (l : Letters) (t : Tally). tally_with (answers_at l answers) t (named_words letters more)) (sym same) (sym counted)
+          ∙ ap₂ (λ (l : Letters) (t : Tally). tally_with (answers_at l answers) t (named_in_segment letters more)) (sym same) (sym counted)
           ∙ ap (tally_with (answers_at new.letters answers) new.tally) (sym (named_of-nothing letters new more same nothing past' start));
       dots = omega arith;
+      letters = same;
     }
 
 -- it is the first of a text
@@ -295,10 +295,11 @@ Takes-ends answers old new byte same other counted nothing no_dots past start =
           ∙ ap (λ (t : List ℕ). word ++ t) (sym (append_assoc (replicate old.dots 46) (byte ∷ []) (rest_after answers new more)))
           ∙ sym (append_assoc word (replicate old.dots 46 ++ byte ∷ []) (rest_after answers new more));
       counts = λ more. ap (tally_with texts old.tally) (named_of-ends letters (held_of old) old.past old.place byte more (all_held old) other)
-          ∙ sym (tally_with-append texts old.tally (named_of letters (held_of old) old.past old.place []) (named_words letters more))
+          ∙ sym (tally_with-append texts old.tally (named_of letters (held_of old) old.past old.place []) (named_in_segment letters more))
           ∙ ap₂ (λ (t : Tally) (words : List (List ℕ)). tally_with texts t words) (sym (counted ∙ tally)) (sym (named_of-nothing letters new more same nothing past start))
           ∙ ap (λ (l : Letters). tally_with (answers_at l answers) new.tally (named_of new.letters (held_of new) new.past new.place more)) (sym same);
       dots = omega arith;
+      letters = same;
     }
 
 -- two parts are taken, one after the other
@@ -307,6 +308,7 @@ Takes-join answers a b c piece next bytes more_bytes h i = record {
   text = λ more. ap (rest_after answers a) (append_assoc piece next more) ∙ h.text (next ++ more) ∙ ap (λ (t : List ℕ). bytes ++ t) (i.text more) ∙ sym (append_assoc bytes more_bytes (rest_after answers c more));
   counts = λ more. ap (tally_after answers a) (append_assoc piece next more) ∙ h.counts (next ++ more) ∙ i.counts more;
   dots = omega (arith, h.dots, i.dots, length-append piece next);
+  letters = i.letters ∙ h.letters;
 }
 
 -- nothing is held of a run that is passed on

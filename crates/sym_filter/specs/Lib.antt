@@ -1,5 +1,7 @@
 pub mod Bytes
+pub mod Carried
 pub mod Demangled
+pub mod Escapes
 pub mod Held
 pub mod Kinds
 pub mod Lanes

@@ -1,6 +1,6 @@
 -- The runs of a text, the words in them, and the filtered text.
 use Rattle.std.specs.Prelude.{◌≡◌, ◌*◌, ◌≤◌, sum_by, ℕ, List, [], ◌∷◌, ◌++◌, length, drop, Bool, true, false, Option, Some, None, Result, Ok, Err, unwrap_or, option_and_then, is_some, not, map, filter, count_by, min, ◌+◌, ◌^◌, ◌<◌, ◌-◌, ◌==◌, ◌||◌, ◌&&◌, nat_le, if◌then◌else◌}
-use Rattle.std.specs.List.{list_all, list_any}
+use Rattle.std.specs.List.{flat_map, list_all, list_any}
 use Rattle.std.specs.Result.{result_ok}
 use Rattle.sym_core.specs.declared.refusal.Refusal.{Refusal}
 use Rattle.sym_core.specs.declared.refusal.Refusal.TheVariants.{TooLong}
@@ -11,6 +11,7 @@ use Rattle.sym_filter.specs.declared.kinds.TheConstants.{LONGEST_WORD}
 use Rattle.sym_filter.specs.declared.places.Place.{Place}
 use Rattle.sym_filter.specs.declared.words.Tally.{Tally}
 use Rattle.sym_filter.specs.Bytes.{is_byte_of, is_wide}
+use Rattle.sym_filter.specs.Escapes.{segments_of}
 use Rattle.sym_filter.specs.Kinds.{kind_of, symbol_of, underscore_of}
 use Rattle.sym_filter.specs.Marks.{before_mark, from_mark}
 use Rattle.sym_filter.specs.Places.{START, from_word, with_word}
@@ -181,9 +182,16 @@ word_in Within run = from_word Within (named_in Within) START run
 
 -- ## The filtered text
 
--- a text with each word of these letters that has a text replaced by it
+-- a segment with each word of these letters that has a text replaced by it
+abbrev pub filtered_segment : Letters → Answering → List ℕ → List ℕ
+filtered_segment letters answers text = with_runs letters (replaced_at letters answers) text
+
+-- a text with each word of these letters that has a text replaced by it. Where words begin within runs, the text is cut after each
+-- escape, and its segments are filtered apart: so the bytes of an escape belong to no word.
 abbrev pub filtered_at : Letters → Answering → List ℕ → List ℕ
-filtered_at letters answers text = with_runs letters (replaced_at letters answers) text
+filtered_at Any answers text = filtered_segment Any answers text
+filtered_at Ascii answers text = filtered_segment Ascii answers text
+filtered_at Within answers text = flat_map (filtered_segment Within answers) (segments_of text)
 
 -- where words have any letters
 abbrev pub filtered : Answering → List ℕ → List ℕ
@@ -193,9 +201,15 @@ filtered answers text = filtered_at Any answers text
 unfoldable pub is_named : List ℕ → Bool
 is_named word = is_some (kind_of (word_of word))
 
--- the words of a text that name symbols
+-- the words of a segment that name symbols
+abbrev pub named_in_segment : Letters → List ℕ → List (List ℕ)
+named_in_segment letters text = filter is_named (map (word_in letters) (runs_of letters text))
+
+-- the words of a text that name symbols: those of its segments, in order
 abbrev pub named_words : Letters → List ℕ → List (List ℕ)
-named_words letters text = filter is_named (map (word_in letters) (runs_of letters text))
+named_words Any text = named_in_segment Any text
+named_words Ascii text = named_in_segment Ascii text
+named_words Within text = flat_map (named_in_segment Within) (segments_of text)
 
 -- a count that stays at the greatest u64 once it is there
 abbrev pub capped : ℕ → ℕ

@@ -1,9 +1,10 @@
 -- A text as its runs with one other byte between each two.
-use Rattle.std.specs.Prelude.{◌≡◌, ℕ, List, [], ◌∷◌, ◌++◌, map, true, false, not, ◌&&◌}
+use Rattle.std.specs.Prelude.{◌≡◌, ℕ, List, [], ◌∷◌, ◌++◌, map, Bool, true, false, not, ◌==◌, ◌||◌, ◌&&◌}
 use Rattle.std.specs.List.{list_all}
 use Rattle.sym_filter.specs.declared.kinds.Letters.{Letters}
-use Rattle.sym_filter.specs.declared.kinds.Letters.TheVariants.{Any}
+use Rattle.sym_filter.specs.declared.kinds.Letters.TheVariants.{Any, Ascii, Within}
 use Rattle.sym_filter.specs.Bytes.{is_byte_of}
+use Rattle.sym_filter.specs.Escapes.{is_letter, is_lead, is_parameter, later_segments}
 use Rattle.sym_filter.specs.Runs.{Answering, replaced_at, filtered_at}
 
 -- a run, maybe of no byte, and after it other bytes, each with the run after it
@@ -11,10 +12,23 @@ abbrev pub joined : List ℕ → List (ℕ × List ℕ) → List ℕ
 joined run [] = run
 joined run (next ∷ rest) = run ++ (next.0 ∷ joined next.1 rest)
 
+-- the segments of a text after its first
+abbrev pub cut_off : Letters → List ℕ → List (List ℕ)
+cut_off Any text = []
+cut_off Ascii text = []
+cut_off Within text = later_segments [] text
+
+-- whether a byte is one of those of escapes
+abbrev pub is_in_escapes : Letters → ℕ → Bool
+is_in_escapes Any byte = false
+is_in_escapes Ascii byte = false
+is_in_escapes Within byte = is_letter byte || is_parameter byte || is_lead byte || byte == 91
+
 -- the text is split so: the runs have bytes of runs alone, and the bytes between them are others. So each run is a
--- longest stretch
+-- longest stretch. Where words begin within runs, the text has no escape.
 pub record IsSplitAt (letters : Letters) (text first : List ℕ) (rest : List (ℕ × List ℕ)) : Type 0 where
   pub whole : text ≡ joined first rest
+  pub uncut : cut_off letters text ≡ []
   pub first_run : list_all (is_byte_of letters) first ≡ true
   pub later_runs : list_all (λ next. not (is_byte_of letters next.0) && list_all (is_byte_of letters) next.1) rest ≡ true
 
@@ -23,9 +37,9 @@ abbrev pub FilteredBySplitsAt : Letters → Type 0
 FilteredBySplitsAt letters = (answers : Answering) (text first : List ℕ) (rest : List (ℕ × List ℕ)) → IsSplitAt letters text first rest →
     filtered_at letters answers text ≡ joined (replaced_at letters answers first) (map (λ next. (next.0, replaced_at letters answers next.1)) rest)
 
--- the filtered text of two texts joined by a byte that belongs to no run is their filtered texts joined by it
+-- the filtered text of two texts joined by a byte that belongs to no run, and to no escape, is their filtered texts joined by it
 abbrev pub FilteredByJoinsAt : Letters → Type 0
-FilteredByJoinsAt letters = (answers : Answering) (text more : List ℕ) (byte : ℕ) → is_byte_of letters byte ≡ false →
+FilteredByJoinsAt letters = (answers : Answering) (text more : List ℕ) (byte : ℕ) → is_byte_of letters byte ≡ false → is_in_escapes letters byte ≡ false →
     filtered_at letters answers (text ++ (byte ∷ more)) ≡ filtered_at letters answers text ++ (byte ∷ filtered_at letters answers more)
 
 -- where words have any letters

@@ -1,4 +1,4 @@
--- What is still to come of a filtered text, where a filter is after a front of it.
+-- What is still to come of a filtered segment, where a filter is after a front of it.
 use Rattle.std.specs.Prelude.{◌≡◌, ◌+◌, ◌≤◌, ℕ, List, [], ◌∷◌, ◌++◌, length, Bool, true, false, filter, map, replicate, if◌then◌else◌}
 use Rattle.sym_filter.specs.declared.kinds.Letters.{Letters}
 use Rattle.sym_filter.specs.declared.words.Taken.{Taken}
@@ -38,9 +38,10 @@ tally_after answers words more =
 abbrev pub following : Taken → List ℕ → List ℕ
 following taken bytes = replicate taken.dots 46 ++ (if taken.stay then bytes else [])
 
--- a filter takes a piece and gives bytes for it: whatever follows, these bytes and what is still to come are the whole,
+-- a filter takes a piece of a segment and gives bytes for it: whatever follows, these bytes and what is still to come are the whole,
 -- and the tally in the end is the same
 pub record Takes (answers : Answering) (old new : Words) (piece bytes : List ℕ) : Type 0 where
   pub text : (more : List ℕ) → rest_after answers old (piece ++ more) ≡ bytes ++ rest_after answers new more
   pub counts : (more : List ℕ) → tally_after answers old (piece ++ more) ≡ tally_after answers new more
   pub dots : new.dots ≤ old.dots + length piece
+  pub letters : new.letters ≡ old.letters

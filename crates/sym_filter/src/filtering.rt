@@ -1,10 +1,13 @@
 // The filter: words of a text that are symbols are replaced by their texts.
-ghost use Rattle.std.specs.Prelude.{◌≡◌, ◌≢◌, ◌+◌, ◌-◌, ◌^◌, ◌<◌, ℕ, List, [], length, vec_len, replicate, IfOk, OnOk, OnErr, IfErr};
+ghost use Rattle.std.specs.Prelude.{◌≡◌, ◌≢◌, ◌+◌, ◌-◌, ◌^◌, ◌<◌, ◌≤◌, ℕ, List, [], false, length, take, vec_len, replicate, IfOk, OnOk, OnErr, IfErr};
 ghost use Rattle.sym_filter.specs.Streams.{reader_faults, writer_faults, Puts, PutsFront, FiltersAll, FiltersAllAt, FiltersFront, FiltersFrontAt};
-ghost use Rattle.sym_filter.specs.Words.{rest_after, tally_after, following, Takes};
+ghost use Rattle.sym_filter.specs.Carried.{rest_of_text, TakesText};
+ghost use Rattle.sym_filter.specs.Places.{START};
+ghost use Rattle.sym_filter.specs.Words.{rest_after, tally_after, held_of, following, Takes};
 ghost use Rattle.sym_filter.specs.declared.filtering.TheConstants.{READ_SIZE};
 
 use crate::demangler::Demangler;
+use crate::escapes::{Escape, first_segment};
 use crate::kinds::Letters;
 use crate::streams::{FilterFault, Sink, Source, write_out};
 use crate::words::{Taken, Tally, Words};
@@ -54,6 +57,7 @@ pub fn filter_words<R: Source, W: Sink, D: Demangler>(
     // Asked for its range: a u64, so the proof knows that the reads, and the dots that wait, are bounded.
     let _left = reader.left();
     let mut words = Words::new(alloc, letters);
+    let mut escape = Escape::Outside;
     let mut out = Vec::new(alloc);
     let mut lists = demangler.lists(alloc)?;
     let mut room = room_for_reads(alloc)?;
@@ -65,7 +69,15 @@ pub fn filter_words<R: Source, W: Sink, D: Demangler>(
             break;
         }
         let piece = &room[..count];
-        take_piece(demangler, &mut lists, &mut words, piece, &mut out, writer)?;
+        take_piece(
+            demangler,
+            &mut lists,
+            &mut words,
+            &mut escape,
+            piece,
+            &mut out,
+            writer,
+        )?;
     }
     end_text(demangler, &mut lists, &mut words, &mut out, writer)?;
     Ok(words.tally())
@@ -83,6 +95,7 @@ fn take_piece<W: Sink, D: Demangler>(
     demangler: &D,
     lists: &mut D::Lists,
     words: &mut Words,
+    escape: &mut Escape,
     piece: &[u8],
     out: &mut Vec<u8>,
     writer: &mut W,
@@ -90,11 +103,77 @@ fn take_piece<W: Sink, D: Demangler>(
     requires failures { W.failure_count writer.old < 2 ^ 64 - 1 }
     requires nothing_waits { out.old.items ≡ [] }
     requires room { words.old.dots + length piece.now < 2 ^ 128 }
-    ensures ok { OnOk result ((bytes : List ℕ) × Takes (D.answer demangler.now) words.old words.new piece.now bytes
+    ensures ok { OnOk result ((bytes : List ℕ) × TakesText (D.answer demangler.now) words.old words.new escape.old escape.new piece.now bytes
         × Puts (W.taken writer.old) (W.taken writer.new) [] out.new.items bytes) }
     ensures nothing_waits { OnOk result (out.new.items ≡ []) }
     ensures err { IfErr result (λ fault. (fault ≢ FilterFault.Read)
-        × PutsFront (W.taken writer.old) (W.taken writer.new) [] (rest_after (D.answer demangler.now) words.old piece.now)) }
+        × PutsFront (W.taken writer.old) (W.taken writer.new) [] (rest_of_text (D.answer demangler.now) words.old escape.old piece.now)) }
+    ensures failures { W.failure_count writer.new ≡ W.failure_count writer.old + writer_faults result }
+{
+    let mut at = 0;
+    while at < piece.len() {
+        let count = take_segment(demangler, lists, words, escape, &piece[at..], out, writer)?;
+        at += count;
+    }
+    words.read_ahead(demangler, lists);
+    write_out(writer, out)?;
+    Ok(())
+}
+
+/// Takes bytes from the front of a text, up to the end of its first escape or all of them, and puts what is known of the filtered text
+/// by them after the bytes that wait to be written. Answers how many they are.
+fn take_segment<W: Sink, D: Demangler>(
+    demangler: &D,
+    lists: &mut D::Lists,
+    words: &mut Words,
+    escape: &mut Escape,
+    text: &[u8],
+    out: &mut Vec<u8>,
+    writer: &mut W,
+) -> Result<usize, FilterFault>
+    requires failures { W.failure_count writer.old < 2 ^ 64 - 1 }
+    requires room { words.old.dots + length text.now < 2 ^ 128 }
+    requires some { 0 < length text.now }
+    ensures within { IfOk result (λ count. (0 < count) × (count ≤ length text.now)) }
+    ensures ok { IfOk result (λ count. (bytes : List ℕ)
+        × TakesText (D.answer demangler.now) words.old words.new escape.old escape.new (take count text.now) bytes
+        × Puts (W.taken writer.old) (W.taken writer.new) out.old.items out.new.items bytes) }
+    ensures err { IfErr result (λ fault. (fault ≢ FilterFault.Read)
+        × PutsFront (W.taken writer.old) (W.taken writer.new) out.old.items (rest_of_text (D.answer demangler.now) words.old escape.old text.now)) }
+    ensures failures { W.failure_count writer.new ≡ W.failure_count writer.old + writer_faults result }
+{
+    let segment = first_segment(words.letters(), text, *escape);
+    take_words(
+        demangler,
+        lists,
+        words,
+        &text[..segment.length],
+        out,
+        writer,
+    )?;
+    *escape = segment.escape;
+    if !segment.ends {
+        return Ok(segment.length);
+    }
+    end_segment(demangler, lists, words, out, writer)?;
+    Ok(segment.length)
+}
+
+/// Takes a part of a segment, and puts what is known of the filtered text by it after the bytes that wait to be written.
+fn take_words<W: Sink, D: Demangler>(
+    demangler: &D,
+    lists: &mut D::Lists,
+    words: &mut Words,
+    piece: &[u8],
+    out: &mut Vec<u8>,
+    writer: &mut W,
+) -> Result<(), FilterFault>
+    requires failures { W.failure_count writer.old < 2 ^ 64 - 1 }
+    requires room { words.old.dots + length piece.now < 2 ^ 128 }
+    ensures ok { OnOk result ((bytes : List ℕ) × Takes (D.answer demangler.now) words.old words.new piece.now bytes
+        × Puts (W.taken writer.old) (W.taken writer.new) out.old.items out.new.items bytes) }
+    ensures err { IfErr result (λ fault. (fault ≢ FilterFault.Read)
+        × PutsFront (W.taken writer.old) (W.taken writer.new) out.old.items (rest_after (D.answer demangler.now) words.old piece.now)) }
     ensures failures { W.failure_count writer.new ≡ W.failure_count writer.old + writer_faults result }
 {
     let mut at = 0;
@@ -104,8 +183,29 @@ fn take_piece<W: Sink, D: Demangler>(
         put_after(writer, out, taken, &rest[..taken.count])?;
         at += taken.count;
     }
-    words.read_ahead(demangler, lists);
-    write_out(writer, out)?;
+    Ok(())
+}
+
+/// Puts what is still to come of a segment at its end after the bytes that wait to be written.
+fn end_segment<W: Sink, D: Demangler>(
+    demangler: &D,
+    lists: &mut D::Lists,
+    words: &mut Words,
+    out: &mut Vec<u8>,
+    writer: &mut W,
+) -> Result<(), FilterFault>
+    requires failures { W.failure_count writer.old < 2 ^ 64 - 1 }
+    ensures ok { OnOk result (Puts (W.taken writer.old) (W.taken writer.new) out.old.items out.new.items
+        (rest_after (D.answer demangler.now) words.old [])) }
+    ensures counts { OnOk result (words.new.tally ≡ tally_after (D.answer demangler.now) words.old []) }
+    ensures begins { OnOk result ((held_of words.new ≡ []) × (words.new.dots ≡ 0) × (words.new.place ≡ START) × (words.new.past ≡ false)) }
+    ensures letters { OnOk result (words.new.letters ≡ words.old.letters) }
+    ensures err { IfErr result (λ fault. (fault ≢ FilterFault.Read)
+        × PutsFront (W.taken writer.old) (W.taken writer.new) out.old.items (rest_after (D.answer demangler.now) words.old [])) }
+    ensures failures { W.failure_count writer.new ≡ W.failure_count writer.old + writer_faults result }
+{
+    let dots = words.end_segment(demangler, lists, out)?;
+    write_dots(writer, out, dots)?;
     Ok(())
 }
 
@@ -126,8 +226,7 @@ fn end_text<W: Sink, D: Demangler>(
         × PutsFront (W.taken writer.old) (W.taken writer.new) [] (rest_after (D.answer demangler.now) words.old [])) }
     ensures failures { W.failure_count writer.new ≡ W.failure_count writer.old + writer_faults result }
 {
-    let dots = words.end_word(demangler, lists, out)?;
-    write_dots(writer, out, dots)?;
+    end_segment(demangler, lists, words, out, writer)?;
     write_out(writer, out)?;
     Ok(())
 }

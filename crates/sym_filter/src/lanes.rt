@@ -2,7 +2,7 @@
 
 ghost use Rattle.std.specs.Prelude.{◌≡◌, ◌+◌, ◌≤◌, length, drop, take, true};
 ghost use Rattle.std.specs.List.{list_all};
-ghost use Rattle.sym_filter.specs.Lanes.{first_set, is_no_mark};
+ghost use Rattle.sym_filter.specs.Lanes.{first_set, is_no_lead, is_no_mark};
 ghost use Rattle.sym_filter.specs.Bytes.{is_byte_of};
 ghost use Rattle.sym_filter.specs.declared.kinds.Letters.TheVariants.{Ascii};
 
@@ -10,6 +10,9 @@ use std::simd::prelude::*;
 
 /// So many bytes are looked at together.
 pub(crate) const LANES: usize = 16;
+
+/// Or so many, where it is asked only whether there is a byte among them.
+pub(crate) const BLOCK: usize = 64;
 
 /// The place of the lowest bit that is set, or the number of lanes where none is.
 #[inline(always)]
@@ -31,6 +34,39 @@ pub(crate) fn lanes_before_mark(text: &[u8], at: usize) -> usize
 {
     let bytes = u8x16::from_slice(&text[at..]);
     first_set(bytes.simd_eq(u8x16::splat(b'_')).to_bitmask())
+}
+
+/// How many of the bytes from a place on, as far as they are looked at together, are no backslash and not ESC.
+#[inline(always)]
+pub(crate) fn lanes_before_lead(text: &[u8], at: usize) -> usize
+    requires { at + 16 ≤ length text.now }
+    ensures { (result ≤ 16) × (list_all is_no_lead (take result (drop at text.now)) ≡ true) }
+{
+    let bytes = u8x16::from_slice(&text[at..]);
+    let leads = bytes.simd_eq(u8x16::splat(b'\\')) | bytes.simd_eq(u8x16::splat(0x1B));
+    first_set(leads.to_bitmask())
+}
+
+/// Whether no backslash and no ESC is among the bytes from a place on that are looked at together.
+#[inline(always)]
+fn has_no_lead(text: &[u8], at: usize) -> bool
+    requires { at + 16 ≤ length text.now }
+    ensures { result ≡ true → list_all is_no_lead (take 16 (drop at text.now)) ≡ true }
+{
+    lanes_before_lead(text, at) == LANES
+}
+
+/// Whether none is among four times as many.
+#[inline(always)]
+pub(crate) fn block_has_no_lead(text: &[u8], at: usize) -> bool
+    requires { at + 64 ≤ length text.now }
+    ensures { result ≡ true → list_all is_no_lead (take 64 (drop at text.now)) ≡ true }
+{
+    // each is looked at, so that one test does for all four
+    has_no_lead(text, at)
+        & has_no_lead(text, at + LANES)
+        & has_no_lead(text, at + 2 * LANES)
+        & has_no_lead(text, at + 3 * LANES)
 }
 
 /// How many of the bytes from a place on, as far as they are looked at together, belong to runs of ASCII letters.

@@ -4,14 +4,14 @@ ghost use Rattle.sym_filter.specs.Splits.{FilteredByJoins, FilteredByJoinsAt, Fi
 ghost use Rattle.sym_filter.specs.declared.kinds.Letters.{Letters};
 
 /// A law over the definitions alone: however a text is split into longest runs, its filtered text is the replaced runs
-/// with the same bytes between them.
+/// with the same bytes between them. Where words begin within runs, this is said of texts without escapes.
 pub fn filtered_by_splits()
     ensures any { FilteredBySplits }
     ensures each { (letters : Letters) → FilteredBySplitsAt letters }
 {}
 
-/// A law over the definitions alone: the filtered text of two texts joined by a byte that belongs to no run, as a newline, is
-/// their filtered texts joined by it. So a text can be cut there, and its pieces filtered apart.
+/// A law over the definitions alone: the filtered text of two texts joined by a byte that belongs to no run and to no
+/// escape, as a newline, is their filtered texts joined by it. So a text can be cut there, and its pieces filtered apart.
 pub fn filtered_by_joins()
     ensures any { FilteredByJoins }
     ensures each { (letters : Letters) → FilteredByJoinsAt letters }

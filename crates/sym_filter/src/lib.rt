@@ -2,6 +2,7 @@
 #![tactic(auto)]
 
 pub mod demangler;
+pub mod escapes;
 mod filtering;
 pub mod kinds;
 mod lanes;

@@ -178,6 +178,13 @@ impl Words {
         self.tally
     }
 
+    /// The letters of its words.
+    pub fn letters(&self) -> Letters
+        ensures { result ≡ self.now.letters }
+    {
+        self.letters
+    }
+
     /// Lets the demangler read what is there of the word that is held, if it names a symbol.
     pub fn read_ahead<D: Demangler>(&self, demangler: &D, lists: &mut D::Lists) {
         if let Some(kind) = kind_of(&self.held) {
@@ -338,6 +345,26 @@ impl Words {
         self.held.clear();
         self.dots = 0;
         self.place = START;
+        Ok(dots)
+    }
+
+    /// Ends the segment of a text, and with it the run that is held, as `end_word` does.
+    pub fn end_segment<D: Demangler>(
+        &mut self,
+        demangler: &D,
+        lists: &mut D::Lists,
+        out: &mut Vec<u8>,
+    ) -> Result<u128, AllocError>
+        ensures letters { OnOk result (self.new.letters ≡ self.old.letters) }
+        ensures text { OnOk result (out.new.items ≡ out.old.items
+            ++ written self.old.letters (D.answer demangler.now) self.old.place self.old.held.items) }
+        ensures counts { OnOk result (self.new.tally ≡ tally_with_word (answers_at self.old.letters (D.answer demangler.now)) self.old.tally
+            (name_in self.old.letters self.old.place self.old.held.items)) }
+        ensures dots { IfOk result (λ dots. dots ≡ self.old.dots) }
+        ensures begins { OnOk result ((held_of self.new ≡ []) × (self.new.dots ≡ 0) × (self.new.place ≡ START) × (self.new.past ≡ false)) }
+    {
+        let dots = self.end_word(demangler, lists, out)?;
+        self.past = false;
         Ok(dots)
     }
 

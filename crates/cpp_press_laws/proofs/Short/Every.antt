@@ -175,7 +175,7 @@ gains-empty Kind.ArgumentsFirst around old is all = record { few = omega arith; 
 gains-empty Kind.MaybeTags around old is all = record { few = omega arith; known = inl refl; kept = λ h. refl; small = all }
 gains-empty Kind.Declarations around old is all = tt
 gains-empty Kind.BaseArguments around old is all = tt
-gains-empty Kind.OwnArguments around old is all = tt
+gains-empty Kind.HeldArguments around old is all = tt
 gains-empty Kind.Expressions around old is all = tt
 gains-empty Kind.MaybeBefore around old is all = tt
 gains-empty Kind.Requirements around old is all = tt

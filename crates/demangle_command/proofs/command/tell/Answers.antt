@@ -31,3 +31,6 @@ pub returns-clause-err : goal.returns-clause-err
 returns-clause-err g c =
     let known : kind_of c.args.error.now ≢ OutOfMemory = search rules in
     untold-err (kind_of c.args.error.now) (g.W.Sink.taken c.args.out.now) (g.E.Sink.taken c.args.err.now) (g.E.Sink.taken c.end_with-2.new.sink) c.end_with-2.result known c.end_with-2.ensures.says
+
+pub returns-in_err-line-clause-err : goal.returns-in_err-line-clause-err
+returns-in_err-line-clause-err g c = OnErr-anyway c.from_residual-in_err-line.result _ (untold-nothing (kind_of c.args.error.now) (g.W.Sink.taken c.args.out.now) (g.E.Sink.taken c.args.err.now))

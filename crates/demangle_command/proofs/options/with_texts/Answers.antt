@@ -1,6 +1,7 @@
 use Rattle.std.proofs.Common.{◌≡◌, ◌∙◌, ap, codes, refl}
 use Rattle.std.proofs.lemmas.Result.{IfOk-weaker}
-use Rattle.clap.specs.Words.{App, app_of, with_rule}
+use Rattle.clap.specs.Words.{App, app_of, rule_of, with_rule}
+use Rattle.clap.specs.declared.builder.arg.Arg.{Arg}
 use Rattle.sym_command.specs.CommandLine.{flag, limit}
 use Rattle.sym_command.proofs.OptionLemmas.{with_argument}
 use Rattle.demangle_command.specs.CommandLine.{no_params, style_option, types}
@@ -16,5 +17,5 @@ returns c =
     let with-1 = with_argument c.args.command c.in_ok-command.command c.no_params.result app no_params c.in_ok-command.ensures c.no_params.ensures.local refl c.no_params.ensures.rule in
     let with-2 : app_of c.in_ok-command-2.command ≡ with_brief app = c.in_ok-command-2.ensures ∙ ap (λ (a : App). with_rule a (flag (codes "brief"))) with-1 in
     let with-3 = with_argument c.in_ok-command-2.command c.in_ok-arg.field-0 c.types.result (with_brief app) types c.in_ok-arg.ensures c.types.ensures.local with-2 c.types.ensures.rule in
-    let with-4 = with_argument c.in_ok-arg.field-0 c.in_ok-arg-2.field-0 c.limit.result (with_rule (with_brief app) types) limit c.in_ok-arg-2.ensures c.limit.ensures.local with-3 c.limit.ensures.rule in
+    let with-4 = with_argument c.in_ok-arg.field-0 c.in_ok-arg-2.field-0 c.help.result (with_rule (with_brief app) types) limit c.in_ok-arg-2.ensures (ap (λ (a : Arg). a.global) c.help.ensures ∙ c.limit.ensures.local) with-3 (ap rule_of c.help.ensures ∙ c.limit.ensures.rule) in
     IfOk-weaker c.arg-4.result _ _ (λ command adds. with_argument c.in_ok-arg-2.field-0 command c.style_option.result (with_rule (with_rule (with_brief app) types) limit) style_option adds c.style_option.ensures.local with-4 c.style_option.ensures.rule) c.arg-4.ensures

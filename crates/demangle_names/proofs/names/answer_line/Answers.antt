@@ -13,18 +13,18 @@ returns-in_err-line-clause-err g c =
 
 pub returns-in-Err-clause-err : goal.returns-in-Err-clause-err
 returns-in-Err-clause-err g c =
-    name-filtered-front (g.D.Demangler.answer c.args.demangler.now) c.args.why c.args.name.now c.as_bytes.result.now (g.W.Sink.taken c.args.out.now) (g.W.Sink.taken c.filter_line.new.out) (g.E.Sink.taken c.args.err.now)
-    (c.as_bytes.ensures.value ∙ c.in_ok-line.ensures.ok) c.in-Err.ensures.err
+    name-filtered-front (g.D.Demangler.answer c.args.demangler.now) c.args.why c.args.name.now c.deref.result.now (g.W.Sink.taken c.args.out.now) (g.W.Sink.taken c.filter_line.new.out) (g.E.Sink.taken c.args.err.now)
+    (c.deref.ensures.value ∙ c.in_ok-line.ensures) c.in-Err.ensures.err
 
 pub returns-clause-err : goal.returns-clause-err
 returns-clause-err g c =
     let answers = g.D.Demangler.answer c.args.demangler.now in
     let name = c.args.name.now in
-    let line = c.as_bytes.result.now in
+    let line = c.deref.result.now in
     let left = c.stays_by-stays.result in
     let err = g.E.Sink.taken c.args.err.now in
     let err' = g.E.Sink.taken c.say_why.new.err in
-    let e : line ≡ line_of name = c.as_bytes.ensures.value ∙ c.in_ok-line.ensures.ok in
+    let e : line ≡ line_of name = c.deref.ensures.value ∙ c.in_ok-line.ensures in
     let asked : c.if-why.say_why ≡ (c.args.why && left) = elim c.if-why.branch [
       | then-why w ↦ (w.say_why-is ∙ sym (ap (λ (b : Bool). b && left) w.if-why.true))
       | else-why w ↦ (w.say_why-is ∙ w.if-why.false ∙ sym (ap (λ (b : Bool). b && left) w.if-why.false))

@@ -12,7 +12,7 @@ pub returns-in_default : goal.returns-in_default
 returns-in_default g c =
     let answers = g.D.Demangler.answer c.args.demangler.now in
     let name = c.args.name.now in
-    let none : kind_of name ≡ None = sym (ap kind_of c.as_bytes.ensures.value) ∙ sym c.kind_of.ensures ∙ c.in_default.is in
+    let none : kind_of name ≡ None = sym c.kind_of.ensures ∙ c.in_default.is in
     IfOk-weaker c.from_str.result _ _ (λ text is. is ∙ sym (ap reason_by (answer_for-unnamed answers name none))) c.from_str.ensures.ok
 
 pub returns-in-Ok : goal.returns-in-Ok
@@ -20,8 +20,8 @@ returns-in-Ok g c =
     let answers = g.D.Demangler.answer c.args.demangler.now in
     let name = c.args.name.now in
     let kind = c.in-Some.kind in
-    let named : kind_of name ≡ Some kind = sym (ap kind_of c.as_bytes.ensures.value) ∙ sym c.kind_of.ensures ∙ c.in-Some.is in
-    let same : c.symbol_of.result.now ≡ symbol_of kind name = c.symbol_of.ensures.symbol ∙ ap (symbol_of kind) c.as_bytes-2.ensures.value in
+    let named : kind_of name ≡ Some kind = sym c.kind_of.ensures ∙ c.in-Some.is in
+    let same : c.symbol_of.result.now ≡ symbol_of kind name = c.symbol_of.ensures.symbol in
     let given = c.in-Ok.ensures in
     IfOk-weaker c.from_str-in-Ok.result _ _ (λ text is. is ∙ sym (ap reason_by (answer_of-symbol answers name c.symbol_of.result.now kind (Ok given.0) named same given.1))) c.from_str-in-Ok.ensures.ok
 
@@ -30,7 +30,7 @@ returns g c =
     let answers = g.D.Demangler.answer c.args.demangler.now in
     let name = c.args.name.now in
     let kind = c.in-Some.kind in
-    let named : kind_of name ≡ Some kind = sym (ap kind_of c.as_bytes.ensures.value) ∙ sym c.kind_of.ensures ∙ c.in-Some.is in
-    let same : c.symbol_of.result.now ≡ symbol_of kind name = c.symbol_of.ensures.symbol ∙ ap (symbol_of kind) c.as_bytes-2.ensures.value in
+    let named : kind_of name ≡ Some kind = sym c.kind_of.ensures ∙ c.in-Some.is in
+    let same : c.symbol_of.result.now ≡ symbol_of kind name = c.symbol_of.ensures.symbol in
     why-refused string_bytes c.reason.result c.in-Err.refusal (answer_for answers name)
     (λ known. answer_of-symbol answers name c.symbol_of.result.now kind (Err c.in-Err.refusal) named same (c.in-Err.ensures.0 known)) c.reason.ensures.said c.reason.ensures.memory

@@ -2,9 +2,10 @@ use Rattle.std.proofs.Common.{◌≡◌, ◌++◌, [], refl, sym, subst, arith, 
 use Rattle.std.specs.Io.KnownBytes.{Appends, Consumes}
 use Rattle.std.proofs.lemmas.List.{append-nil}
 use Rattle.sym_filter.specs.Runs.{filtered_at, tally_at}
-use Rattle.sym_filter.specs.Words.{rest_after, tally_after}
+use Rattle.sym_filter.specs.Carried.{rest_of_text, tally_of_text}
 use Rattle.sym_filter.specs.Streams.{Puts}
-use Rattle.sym_filter.proofs.WordLemmas.{rest_after-nothing, tally_after-nothing}
+use Rattle.sym_filter.specs.Words.{rest_after}
+use Rattle.sym_filter.proofs.CarryLemmas.{rest_of_text-end, rest_of_text-start, tally_of_text-end, tally_of_text-start}
 use Rattle.sym_filter.proofs.StreamLemmas.{Consumes-join, Consumes-keeps, Consumes-none, Puts-none, next-text, next-counts, Puts-join, Puts-all, PutsFront-of, PutsFront-join, PutsFront-same, IfErr-from_and, reader_faults-other, take-none, room-back, dots-first, dots-step}
 use Rattle.sym_filter.specs.declared.filtering.TheConstants.{READ_SIZE}
 use Rattle.sym_filter.proofs.filtering.filter_words.Goals as goal
@@ -23,8 +24,8 @@ loop-count-init g c =
       write_failures = refl;
       room = sym c.in_ok-room.room.ok.0 ∙ c.in_ok-room.ensures;
       nothing_waits = c.new-out.ensures.items;
-      rest = λ more. sym (rest_after-nothing letters answers words more begins.letters begins.holds_nothing begins.not_past begins.start);
-      counts = λ more. tally_after-nothing letters answers words more begins.letters begins.holds_nothing begins.not_past begins.start begins.nothing_counted;
+      rest = λ more. sym (rest_of_text-start letters answers words more begins.letters begins.holds_nothing begins.not_past begins.start);
+      counts = λ more. tally_of_text-start letters answers words more begins.letters begins.holds_nothing begins.not_past begins.start begins.nothing_counted;
       dots = dots-first words.dots (g.R.Source.reads_left c.args.reader.now) c.left-left.result begins.no_dots c.left-left.ensures c.left-left.type_inv;
     }
 
@@ -46,8 +47,8 @@ loop-count-preserved g c =
       write_failures = taken.failures ∙ add-zero _ ∙ so_far.write_failures;
       room = ap length (room-back c.read.new.room c.loop-count.room.items c.loop-count.room.len (c.read.auto.room ∙ c.deref_mut.ensures.len)) ∙ whole_room;
       nothing_waits = taken.nothing_waits;
-      rest = next-text (filtered_at letters answers) (rest_after answers c.loop-count.words) (rest_after answers c.take_piece.new.words) so_far.text piece so_far.bytes taken.ok.0 so_far.rest taken.ok.1.text;
-      counts = next-counts (tally_at letters answers) (tally_after answers c.loop-count.words) (tally_after answers c.take_piece.new.words) so_far.text piece so_far.counts taken.ok.1.counts;
+      rest = next-text (filtered_at letters answers) (rest_of_text answers c.loop-count.words c.loop-count.escape) (rest_of_text answers c.take_piece.new.words c.take_piece.new.escape) so_far.text piece so_far.bytes taken.ok.0 so_far.rest taken.ok.1.text;
+      counts = next-counts (tally_at letters answers) (tally_of_text answers c.loop-count.words c.loop-count.escape) (tally_of_text answers c.take_piece.new.words c.take_piece.new.escape) so_far.text piece so_far.counts taken.ok.1.counts;
       dots = dots-step c.loop-count.words.dots c.take_piece.new.words.dots (g.R.Source.reads_left c.loop-count.reader) (g.R.Source.reads_left c.read.new.self) c.in-Some.count c.read.new.room piece so_far.dots (read.left refl) taken.ok.1.dots same whole_room;
     }
 
@@ -56,7 +57,7 @@ returns-in_default-clause-err g c =
     let so_far = c.loop-count.invariant in
     let letters = c.args.letters in
     let answers = g.D.Demangler.answer c.args.demangler.now in
-    let rest = rest_after answers c.loop-count.words [] in
+    let rest = rest_of_text answers c.loop-count.words c.loop-count.escape [] in
     let whole : so_far.bytes ++ rest ≡ filtered_at letters answers so_far.text = sym (so_far.rest []) ∙ ap (filtered_at letters answers) (append-nil so_far.text) in
     let front = PutsFront-same _ _ [] (so_far.bytes ++ rest) (filtered_at letters answers so_far.text) whole (PutsFront-of _ _ [] [] so_far.bytes rest so_far.puts) in record {
       text = so_far.text;
@@ -74,7 +75,7 @@ returns-in_err-take_piece-clause-err g c =
     let piece = take c.in-Some.count c.deref.result.now in
     let same : take c.in-Some.count c.read.new.room ≡ piece = ap (λ (t : List ℕ). take c.in-Some.count t) (sym (c.deref.ensures.value ∙ room-back c.read.new.room c.loop-count.room.items c.loop-count.room.len (c.read.auto.room ∙ c.deref_mut.ensures.len))) in
     let wrote = c.in_err-take_piece.ensures.err in
-    let rest = rest_after answers c.loop-count.words piece in
+    let rest = rest_of_text answers c.loop-count.words c.loop-count.escape piece in
     let front = PutsFront-same _ _ [] (so_far.bytes ++ rest) (filtered_at letters answers (so_far.text ++ piece)) (sym (so_far.rest piece)) (PutsFront-join _ _ _ [] [] so_far.bytes rest so_far.puts wrote.1) in
     IfErr-from_and c.from_residual-in_err-take_piece.result _ _ c.from_residual-in_err-take_piece.ensures.1 (λ fault is_fault. record {
       text = so_far.text ++ piece;
@@ -102,7 +103,7 @@ returns-in_err-end_text-clause-err g c =
     let wrote = c.in_err-end_text.ensures.err in
     let rest = rest_after answers c.loop-count.words [] in
     let none : so_far.text ++ take c.in-Some.count c.read.new.room ≡ so_far.text ++ [] = ap (λ (t : List ℕ). so_far.text ++ t) (take-none c.in-Some.count c.read.new.room c.if-count-eq0.true) in
-    let front = PutsFront-same _ _ [] (so_far.bytes ++ rest) (filtered_at letters answers (so_far.text ++ [])) (sym (so_far.rest [])) (PutsFront-join _ _ _ [] [] so_far.bytes rest so_far.puts wrote.1) in
+    let front = PutsFront-same _ _ [] (so_far.bytes ++ rest) (filtered_at letters answers (so_far.text ++ [])) (sym (so_far.rest [] ∙ ap (λ (t : List ℕ). so_far.bytes ++ t) (rest_of_text-end answers c.loop-count.words c.loop-count.escape))) (PutsFront-join _ _ _ [] [] so_far.bytes rest so_far.puts wrote.1) in
     IfErr-from_and c.from_residual-in_err-end_text.result _ _ c.from_residual-in_err-end_text.ensures.1 (λ fault is_fault. record {
       text = so_far.text ++ [];
       gone = front.gone;
@@ -123,6 +124,6 @@ returns-clause-ok g c =
       text = so_far.text ++ [];
       reads = subst (λ (t : List ℕ). Consumes (g.R.Source.coming c.args.reader.now) (g.R.Source.coming c.read.new.self) t) none (Consumes-join _ _ _ so_far.text (take c.in-Some.count c.read.new.room) so_far.reads c.in-Some.ensures.bytes);
       ends = c.in-Some.ensures.end c.if-count-eq0.true (let whole_room : length c.read.new.room ≡ READ_SIZE = c.read.auto.room ∙ ap length c.deref_mut.ensures.value ∙ so_far.room in omega arith);
-      writes = subst (λ (t : List ℕ). Appends (g.W.Sink.taken c.args.writer.now) (g.W.Sink.taken c.end_text.new.writer) t) (sym (so_far.rest [])) all;
-      counts = c.tally.ensures ∙ c.in_ok-end_text.ensures.counts ∙ sym (so_far.counts []);
+      writes = subst (λ (t : List ℕ). Appends (g.W.Sink.taken c.args.writer.now) (g.W.Sink.taken c.end_text.new.writer) t) (sym (so_far.rest [] ∙ ap (λ (t : List ℕ). so_far.bytes ++ t) (rest_of_text-end answers c.loop-count.words c.loop-count.escape))) all;
+      counts = c.tally.ensures ∙ c.in_ok-end_text.ensures.counts ∙ sym (so_far.counts [] ∙ tally_of_text-end answers c.loop-count.words c.loop-count.escape);
     }

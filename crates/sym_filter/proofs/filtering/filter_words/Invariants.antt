@@ -1,8 +1,8 @@
 use Rattle.std.proofs.Common.{◌≡◌, ◌<◌, ◌+◌, ◌*◌, ◌^◌, ◌++◌, List, [], ℕ, length}
 use Rattle.std.specs.Io.KnownBytes.{Consumes}
+use Rattle.sym_filter.specs.Carried.{rest_of_text, tally_of_text}
 use Rattle.sym_filter.specs.Runs.{filtered_at, tally_at}
 use Rattle.sym_filter.specs.Streams.{Puts}
-use Rattle.sym_filter.specs.Words.{rest_after, tally_after}
 use Rattle.sym_filter.specs.declared.filtering.TheConstants.{READ_SIZE}
 use Rattle.sym_filter.proofs.filtering.filter_words.Given as goal
 
@@ -16,8 +16,8 @@ invariant-loop-count g l = let answers = g.D.Demangler.answer l.demangler in rec
   write_failures : g.W.Sink.failure_count l.writer ≡ g.W.Sink.failure_count l.fn.writer;
   room : length l.room.items ≡ READ_SIZE;
   nothing_waits : l.out.items ≡ [];
-  rest : (more : List ℕ) → filtered_at l.fn.letters answers (text ++ more) ≡ bytes ++ rest_after answers l.words more;
-  counts : (more : List ℕ) → tally_at l.fn.letters answers (text ++ more) ≡ tally_after answers l.words more;
+  rest : (more : List ℕ) → filtered_at l.fn.letters answers (text ++ more) ≡ bytes ++ rest_of_text answers l.words l.escape more;
+  counts : (more : List ℕ) → tally_at l.fn.letters answers (text ++ more) ≡ tally_of_text answers l.words l.escape more;
   dots : l.words.dots + READ_SIZE * g.R.Source.reads_left l.reader < 2 ^ 64 * READ_SIZE;
 }
 

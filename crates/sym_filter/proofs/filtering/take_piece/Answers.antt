@@ -1,8 +1,9 @@
-use Rattle.std.proofs.Common.{◌≡◌, ◌+◌, ◌-◌, ◌++◌, ◌∙◌, [], List, ℕ, take, drop, length, sym, ap, subst, arith, add-zero, append_assoc}
+use Rattle.std.proofs.Common.{◌≡◌, ◌-◌, ◌++◌, ◌∙◌, [], List, ℕ, take, drop, length, sym, ap, subst, arith, add-zero}
 use Rattle.std.proofs.lemmas.List.{append-nil, take_all, length-drop}
-use Rattle.sym_filter.specs.Words.{rest_after, following, Takes}
-use Rattle.sym_filter.proofs.WordLemmas.{slice_from, Takes-join}
-use Rattle.sym_filter.proofs.StreamLemmas.{Puts-push, Puts-join, Puts-same, PutsFront-of, PutsFront-more, PutsFront-join, PutsFront-same, rest-bytes, take-part, IfErr-from_and}
+use Rattle.sym_filter.specs.Carried.{rest_of_text, TakesText}
+use Rattle.sym_filter.proofs.CarryLemmas.{TakesText-join, text-bytes}
+use Rattle.sym_filter.proofs.WordLemmas.{slice_from}
+use Rattle.sym_filter.proofs.StreamLemmas.{Puts-join, Puts-same, PutsFront-more, PutsFront-join, PutsFront-same, take-part, IfErr-from_and}
 use Rattle.sym_filter.proofs.filtering.take_piece.Goals as goal
 
 pub loop-at-preserved : goal.loop-at-preserved
@@ -12,56 +13,37 @@ loop-at-preserved g c =
     let piece = c.args.piece.now in
     let at = c.loop-at.at in
     let rest = take (length piece - at) (drop at piece) in
-    let count = c.in_ok-taken.taken.count in
-    let takes = c.in_ok-taken.ensures.takes in
-    let follows = following c.in_ok-taken.taken (take count rest) in
-    let put = c.in_ok-put_after.ensures in record {
-      bytes = so_far.bytes ++ (takes.0 ++ follows);
-      within = omega (arith, so_far.within, c.in_ok-taken.ensures.within.1, ap length (slice_from piece at), length-drop at piece);
-      takes = subst (λ (t : List ℕ). Takes answers c.args.words.now c.take.new.self t (so_far.bytes ++ (takes.0 ++ follows))) (sym (take-part piece at count)) (Takes-join answers _ _ _ (take at piece) (take count rest) so_far.bytes (takes.0 ++ follows) so_far.takes takes.2);
-      puts = Puts-join _ _ _ [] c.loop-at.out.items c.put_after.new.out.items so_far.bytes (takes.0 ++ follows) so_far.puts (Puts-join _ _ _ c.loop-at.out.items c.take.new.out.items c.put_after.new.out.items takes.0 follows (Puts-push _ c.loop-at.out.items c.take.new.out.items takes.0 takes.1) put.ok);
-      failures = put.failures ∙ add-zero _ ∙ so_far.failures;
+    let count = c.in_ok-count.count in
+    let took = c.in_ok-count.ensures in record {
+      bytes = so_far.bytes ++ took.ok.0;
+      within = omega (arith, so_far.within, took.within.1, ap length (slice_from piece at), length-drop at piece);
+      takes = subst (λ (t : List ℕ). TakesText answers c.args.words.now c.take_segment.new.words c.args.escape.now c.take_segment.new.escape t (so_far.bytes ++ took.ok.0)) (sym (take-part piece at count)) (TakesText-join answers _ _ _ _ _ _ (take at piece) (take count rest) so_far.bytes took.ok.0 so_far.takes took.ok.1);
+      puts = Puts-join _ _ _ [] c.loop-at.out.items c.take_segment.new.out.items so_far.bytes took.ok.0 so_far.puts took.ok.2;
+      failures = took.failures ∙ add-zero _ ∙ so_far.failures;
     }
 
-pub returns-in_err-taken-clause-err : goal.returns-in_err-taken-clause-err
-returns-in_err-taken-clause-err g c =
-    let so_far = c.loop-at.invariant in
-    let answers = g.D.Demangler.answer c.args.demangler.now in
-    let piece = c.args.piece.now in
-    let more = rest_after answers c.loop-at.words (drop c.loop-at.at piece) in
-    let front = PutsFront-same _ _ [] (so_far.bytes ++ more) (rest_after answers c.args.words.now piece) (sym (rest-bytes answers c.args.words.now c.loop-at.words piece so_far.bytes c.loop-at.at so_far.takes)) (PutsFront-of _ _ [] c.loop-at.out.items so_far.bytes more so_far.puts) in
-    IfErr-from_and c.from_residual.result _ _ c.from_residual.ensures.1 (λ fault is_memory. (λ is_read. cc, front))
-
-pub returns-in_err-put_after-clause-err : goal.returns-in_err-put_after-clause-err
-returns-in_err-put_after-clause-err g c =
+pub returns-in_err-count-clause-err : goal.returns-in_err-count-clause-err
+returns-in_err-count-clause-err g c =
     let so_far = c.loop-at.invariant in
     let answers = g.D.Demangler.answer c.args.demangler.now in
     let piece = c.args.piece.now in
     let at = c.loop-at.at in
     let rest = take (length piece - at) (drop at piece) in
-    let count = c.in_ok-taken.taken.count in
-    let takes = c.in_ok-taken.ensures.takes in
-    let follows = following c.in_ok-taken.taken (take count rest) in
-    let wrote = c.in_err-put_after.ensures.err in
-    let old = c.args.words.now in
-    let new = c.take.new.self in
-    let bytes = so_far.bytes ++ (takes.0 ++ follows) in
-    let joined : Takes answers old new (take (at + count) piece) bytes = subst (λ (t : List ℕ). Takes answers old new t bytes) (sym (take-part piece at count)) (Takes-join answers old c.loop-at.words new (take at piece) (take count rest) so_far.bytes (takes.0 ++ follows) so_far.takes takes.2) in
-    let more = rest_after answers new (drop (at + count) piece) in
-    let whole : ((so_far.bytes ++ takes.0) ++ follows) ++ more ≡ rest_after answers old piece = ap (λ (t : List ℕ). t ++ more) (append_assoc so_far.bytes takes.0 follows) ∙ sym (rest-bytes answers old new piece bytes (at + count) joined) in
-    let put = Puts-join _ _ _ [] c.loop-at.out.items c.take.new.out.items so_far.bytes takes.0 so_far.puts (Puts-push _ c.loop-at.out.items c.take.new.out.items takes.0 takes.1) in
-    let front = PutsFront-same _ _ [] (((so_far.bytes ++ takes.0) ++ follows) ++ more) (rest_after answers old piece) whole (PutsFront-more _ _ [] ((so_far.bytes ++ takes.0) ++ follows) more (PutsFront-join _ _ _ [] c.take.new.out.items (so_far.bytes ++ takes.0) follows put wrote.1)) in
-    IfErr-from_and c.from_residual-in_err-put_after.result _ _ c.from_residual-in_err-put_after.ensures.1 (λ fault is_fault. (λ is_read. wrote.0 (sym is_fault ∙ is_read), front))
+    let more = λ (text : List ℕ). rest_of_text answers c.loop-at.words c.loop-at.escape text in
+    let wrote = c.in_err-count.ensures.err in
+    let whole : so_far.bytes ++ more rest ≡ rest_of_text answers c.args.words.now c.args.escape.now piece = ap (λ (t : List ℕ). so_far.bytes ++ more t) (slice_from piece at) ∙ sym (text-bytes answers c.args.words.now c.loop-at.words c.args.escape.now c.loop-at.escape piece so_far.bytes at so_far.takes) in
+    let front = PutsFront-same _ _ [] (so_far.bytes ++ more rest) (rest_of_text answers c.args.words.now c.args.escape.now piece) whole (PutsFront-join _ _ _ [] c.loop-at.out.items so_far.bytes (more rest) so_far.puts wrote.1) in
+    IfErr-from_and c.from_residual.result _ _ c.from_residual.ensures.1 (λ fault is_fault. (λ is_read. wrote.0 (sym is_fault ∙ is_read), front))
 
 pub returns-in_err-write_out-clause-err : goal.returns-in_err-write_out-clause-err
 returns-in_err-write_out-clause-err g c =
     let so_far = c.loop-at.invariant in
     let answers = g.D.Demangler.answer c.args.demangler.now in
     let piece = c.args.piece.now in
-    let more = rest_after answers c.loop-at.words (drop c.loop-at.at piece) in
+    let more = rest_of_text answers c.loop-at.words c.loop-at.escape (drop c.loop-at.at piece) in
     let wrote = c.in_err-write_out.ensures.err in
-    let whole : (so_far.bytes ++ []) ++ more ≡ rest_after answers c.args.words.now piece = ap (λ (t : List ℕ). t ++ more) (append-nil so_far.bytes) ∙ sym (rest-bytes answers c.args.words.now c.loop-at.words piece so_far.bytes c.loop-at.at so_far.takes) in
-    let front = PutsFront-same _ _ [] ((so_far.bytes ++ []) ++ more) (rest_after answers c.args.words.now piece) whole (PutsFront-more _ _ [] (so_far.bytes ++ []) more (PutsFront-join _ _ _ [] c.loop-at.out.items so_far.bytes [] so_far.puts wrote.1)) in
+    let whole : (so_far.bytes ++ []) ++ more ≡ rest_of_text answers c.args.words.now c.args.escape.now piece = ap (λ (t : List ℕ). t ++ more) (append-nil so_far.bytes) ∙ sym (text-bytes answers c.args.words.now c.loop-at.words c.args.escape.now c.loop-at.escape piece so_far.bytes c.loop-at.at so_far.takes) in
+    let front = PutsFront-same _ _ [] ((so_far.bytes ++ []) ++ more) (rest_of_text answers c.args.words.now c.args.escape.now piece) whole (PutsFront-more _ _ [] (so_far.bytes ++ []) more (PutsFront-join _ _ _ [] c.loop-at.out.items so_far.bytes [] so_far.puts wrote.1)) in
     IfErr-from_and c.from_residual-in_err-write_out.result _ _ c.from_residual-in_err-write_out.ensures.1 (λ fault is_fault. (λ is_read. wrote.0 (sym is_fault ∙ is_read), front))
 
 pub returns-clause-ok : goal.returns-clause-ok
@@ -71,4 +53,4 @@ returns-clause-ok g c =
     let piece = c.args.piece.now in
     let whole : take c.loop-at.at piece ≡ piece = take_all c.loop-at.at piece (omega arith) in
     let wrote = c.in_ok-write_out.ensures.ok in
-    (so_far.bytes, subst (λ (t : List ℕ). Takes answers c.args.words.now c.loop-at.words t so_far.bytes) whole so_far.takes, Puts-same _ _ [] c.write_out.new.out.items (so_far.bytes ++ []) so_far.bytes (append-nil so_far.bytes) (Puts-join _ _ _ [] c.loop-at.out.items c.write_out.new.out.items so_far.bytes [] so_far.puts wrote))
+    (so_far.bytes, subst (λ (t : List ℕ). TakesText answers c.args.words.now c.loop-at.words c.args.escape.now c.loop-at.escape t so_far.bytes) whole so_far.takes, Puts-same _ _ [] c.write_out.new.out.items (so_far.bytes ++ []) so_far.bytes (append-nil so_far.bytes) (Puts-join _ _ _ [] c.loop-at.out.items c.write_out.new.out.items so_far.bytes [] so_far.puts wrote))

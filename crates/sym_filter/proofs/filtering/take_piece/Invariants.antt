@@ -1,13 +1,13 @@
 use Rattle.std.proofs.Common.{◌≡◌, ◌≤◌, ◌-◌, List, [], ℕ, length, take}
+use Rattle.sym_filter.specs.Carried.{TakesText}
 use Rattle.sym_filter.specs.Streams.{Puts}
-use Rattle.sym_filter.specs.Words.{Takes}
 use Rattle.sym_filter.proofs.filtering.take_piece.Given as goal
 
 abbrev pub invariant-loop-at : goal.invariant-loop-at
 invariant-loop-at g l = record {
   bytes : List ℕ;
   within : l.at ≤ length l.piece;
-  takes : Takes (g.D.Demangler.answer l.demangler) l.fn.words l.words (take l.at l.piece) bytes;
+  takes : TakesText (g.D.Demangler.answer l.demangler) l.fn.words l.words l.fn.escape l.escape (take l.at l.piece) bytes;
   puts : Puts (g.W.Sink.taken l.fn.writer) (g.W.Sink.taken l.writer) [] l.out.items bytes;
   failures : g.W.Sink.failure_count l.writer ≡ g.W.Sink.failure_count l.fn.writer;
 }

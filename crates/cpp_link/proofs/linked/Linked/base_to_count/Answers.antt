@@ -1,5 +1,5 @@
 use Rattle.std.proofs.Common.{sym, ◌∙◌, ap, true, false}
-use Rattle.cpp_term.specs.Rescoping.{with_base}
+use Rattle.cpp_term.specs.Rescoping.{with_held}
 use Rattle.cpp_term.specs.Values.{State, tree_of}
 use Rattle.cpp_link.specs.Parts.{trees_in, value_in}
 use Rattle.cpp_link.specs.Reads.{with_candidate}
@@ -12,13 +12,13 @@ returns-then-is_listed-clause-is c around state =
     let s = c.args.symbol.now in
     let y = c.args.self.now.nodes in
     counted_alone s (trees_in s y) around c.args.base state c.in_default.not-Pair
-    ∙ ap (λ b. elim b as (λ _. State) [ true ↦ state | false ↦ with_base around (tree_of (value_in s y c.args.base)) state ]) (sym (c.is_listed.ensures s (trees_in s y)) ∙ c.if-is_listed.true)
+    ∙ ap (λ b. elim b as (λ _. State) [ true ↦ state | false ↦ with_held around (tree_of (value_in s y c.args.base)) state ]) (sym (c.is_listed.ensures s (trees_in s y)) ∙ c.if-is_listed.true)
 
 pub returns-else-is_listed-clause-is : goal.returns-else-is_listed-clause-is
-unfolding with_candidate with_base
+unfolding with_candidate with_held
 returns-else-is_listed-clause-is c around state =
     let s = c.args.symbol.now in
     let y = c.args.self.now.nodes in
     counted_alone s (trees_in s y) around c.args.base state c.in_default.not-Pair
-    ∙ ap (λ b. elim b as (λ _. State) [ true ↦ state | false ↦ with_base around (tree_of (value_in s y c.args.base)) state ]) (sym (c.is_listed.ensures s (trees_in s y)) ∙ c.if-is_listed.false)
-    ∙ ap (λ t. with_base around t state) (sym c.node.ensures.is)
+    ∙ ap (λ b. elim b as (λ _. State) [ true ↦ state | false ↦ with_held around (tree_of (value_in s y c.args.base)) state ]) (sym (c.is_listed.ensures s (trees_in s y)) ∙ c.if-is_listed.false)
+    ∙ ap (λ t. with_held around t state) (sym c.node.ensures.is)

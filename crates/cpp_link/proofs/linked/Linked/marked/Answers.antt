@@ -13,14 +13,13 @@ unfolding with_candidate with_mark
 returns-in-Holder-clause-is c state =
     rw c.in-Holder.is (ap (λ t. with_holder (around_of (trees_in c.args.symbol.now c.args.self.now.nodes) c.args.kept) t state) (c.node.ensures.is ∙ ap tree_of c.given.ensures.is))
 
-pub returns-in-OwnArguments-clause-is : goal.returns-in-OwnArguments-clause-is
-unfolding with_candidate with_mark around_of
-returns-in-OwnArguments-clause-is c state =
-    rw c.in-OwnArguments.is (ap (λ t. with_holder (around_of (trees_in c.args.symbol.now c.args.self.now.nodes) c.args.kept) t state) c.prefix_node.ensures.is)
+pub returns-in-HeldArguments-clause-is : goal.returns-in-HeldArguments-clause-is
+unfolding with_mark
+returns-in-HeldArguments-clause-is c state = rw c.in-HeldArguments.is (sym (c.prefix_candidate.ensures.held state))
 
 pub returns-in_default-clause-is : goal.returns-in_default-clause-is
 returns-in_default-clause-is c state =
     let s = c.args.symbol.now in
     let y = c.args.self.now.nodes in
     none_noted true (trees_in s y) c.args.kept state
-    ∙ sym (unmarked c.args.production (around_of (trees_in s y) c.args.kept) (values_in s y c.args.parts.now) state c.in_default.not-Holder c.in_default.not-OwnArguments)
+    ∙ sym (unmarked c.args.production (around_of (trees_in s y) c.args.kept) (values_in s y c.args.parts.now) state c.in_default.not-Holder c.in_default.not-HeldArguments)

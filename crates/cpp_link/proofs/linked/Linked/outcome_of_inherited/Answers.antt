@@ -5,10 +5,10 @@ use Rattle.cpp_link.proofs.linked.Linked.outcome_of_inherited.Goals as goal
 pub unreachable-requires : goal.unreachable-requires
 unreachable-requires c = inherited c.args.production c.requires.family
     c.in_default.not-Inheriting
-    c.in_default.not-OwnArguments
+    c.in_default.not-HeldArguments
     c.in_default.not-NestedBase
-    c.in_default.not-BaseWithS
+    c.in_default.not-UnnestedWithS
     c.in_default.not-TaggedSource
-    c.in_default.not-SourceBase
-    c.in_default.not-BaseInStd
+    c.in_default.not-UnnestedBase
     c.in_default.not-BaseArguments
+    c.in_default.not-NamedConcept

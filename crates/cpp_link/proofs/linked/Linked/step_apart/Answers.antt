@@ -44,41 +44,41 @@ returns-else-is_instance-clause-makes c =
     let one = held_second c.args.production (is_lambda c.args.kept.scope) (length c.args.parts.now) c.in-Holder.is c.requires.apart in
     rw (c.in-Holder.is, c.listed_name.ensures) (held_makes (values_in s y c.args.parts.now) (values_length s (trees_in s y) c.args.parts.now ∙ one))
 
-pub returns-in-OwnArguments-clause-is : goal.returns-in-OwnArguments-clause-is
-returns-in-OwnArguments-clause-is c cs =
+pub returns-in-HeldArguments-clause-is : goal.returns-in-HeldArguments-clause-is
+returns-in-HeldArguments-clause-is c cs =
     let s = c.args.symbol.now in
     let y = c.args.self.now.nodes in
-    let none = base_first c.args.production (is_lambda c.args.kept.scope) (length c.args.parts.now) c.in-OwnArguments.is c.requires.apart in
-    rw c.in-OwnArguments.is (base_read s y c.args.kept c.inside.result c.args.place (values_in s y c.args.parts.now) cs c.args.self.now.packs c.prefix_node-base.result
-    (values_length s (trees_in s y) c.args.parts.now ∙ none) c.prefix_node-base.ensures.is (c.inside.ensures.around (trees_in s y)))
+    let none = base_first c.args.production (is_lambda c.args.kept.scope) (length c.args.parts.now) c.in-HeldArguments.is c.requires.apart in
+    rw c.in-HeldArguments.is (base_read s y c.args.kept c.inside.result c.args.place (values_in s y c.args.parts.now) cs c.args.self.now.packs c.prefix_candidate.result
+    (values_length s (trees_in s y) c.args.parts.now ∙ none) c.prefix_candidate.ensures.is (c.inside.ensures.around (trees_in s y)))
 
-pub returns-in-OwnArguments-clause-makes : goal.returns-in-OwnArguments-clause-makes
-returns-in-OwnArguments-clause-makes c =
+pub returns-in-HeldArguments-clause-makes : goal.returns-in-HeldArguments-clause-makes
+returns-in-HeldArguments-clause-makes c =
     let s = c.args.symbol.now in
     let y = c.args.self.now.nodes in
-    let none = base_first c.args.production (is_lambda c.args.kept.scope) (length c.args.parts.now) c.in-OwnArguments.is c.requires.apart in
-    rw c.in-OwnArguments.is (base_makes (values_in s y c.args.parts.now) (values_length s (trees_in s y) c.args.parts.now ∙ none))
+    let none = base_first c.args.production (is_lambda c.args.kept.scope) (length c.args.parts.now) c.in-HeldArguments.is c.requires.apart in
+    rw c.in-HeldArguments.is (base_makes (values_in s y c.args.parts.now) (values_length s (trees_in s y) c.args.parts.now ∙ none))
 
 pub returns-in_default-clause-is : goal.returns-in_default-clause-is
 returns-in_default-clause-is c cs =
     let s = c.args.symbol.now in
     let y = c.args.self.now.nodes in
-    let own = apart_generic c.args.production (is_lambda c.args.kept.scope) (length c.args.parts.now) c.requires.apart c.in_default.not-Holder c.in_default.not-OwnArguments in
+    let own = apart_generic c.args.production (is_lambda c.args.kept.scope) (length c.args.parts.now) c.requires.apart c.in_default.not-Holder c.in_default.not-HeldArguments in
     let Reads : Bool → Value → Type 0 = λ b v.
     generic_read b (around_of (trees_in s y) c.args.kept) (counted_value Decimal (bytes_at s c.text-digits.result)) (record { candidates = cs; packs = c.args.self.now.packs })
     ≡ goes_on s y c.args.kept (v ∷ []) cs c.args.self.now.packs c.generic.result in
     generic_is s y c.args.kept c.args.production c.args.place c.args.parts.now (bytes_at s c.text-digits.result) cs c.args.self.now.packs c.generic.result
     own.0 own.1.0 own.1.1 c.text-digits.ensures.is (λ v. subst (λ b. Reads b v) c.is_parameter_argument-is_argument.ensures (c.generic.ensures.is v cs))
-    ∙ sym (going_unmarked c.args.production (around_of (trees_in s y) c.args.kept) _ c.in_default.not-Holder c.in_default.not-OwnArguments)
+    ∙ sym (going_unmarked c.args.production (around_of (trees_in s y) c.args.kept) _ c.in_default.not-Holder c.in_default.not-HeldArguments)
 
 pub returns-in_default-clause-of : goal.returns-in_default-clause-of
 returns-in_default-clause-of c =
-    let own = apart_generic c.args.production (is_lambda c.args.kept.scope) (length c.args.parts.now) c.requires.apart c.in_default.not-Holder c.in_default.not-OwnArguments in
+    let own = apart_generic c.args.production (is_lambda c.args.kept.scope) (length c.args.parts.now) c.requires.apart c.in_default.not-Holder c.in_default.not-HeldArguments in
     subst (λ n. IsStepOf c.args.production n c.generic.result) (sym own.1.1) (c.generic.ensures.of c.args.production own.0)
 
 pub returns-in_default-clause-makes : goal.returns-in_default-clause-makes
 returns-in_default-clause-makes c =
     let s = c.args.symbol.now in
     let y = c.args.self.now.nodes in
-    let own = apart_generic c.args.production (is_lambda c.args.kept.scope) (length c.args.parts.now) c.requires.apart c.in_default.not-Holder c.in_default.not-OwnArguments in
+    let own = apart_generic c.args.production (is_lambda c.args.kept.scope) (length c.args.parts.now) c.requires.apart c.in_default.not-Holder c.in_default.not-HeldArguments in
     c.generic.ensures.makes c.args.production (values_in s y c.args.parts.now) own.0 (values_length s (trees_in s y) c.args.parts.now ∙ own.1.1)

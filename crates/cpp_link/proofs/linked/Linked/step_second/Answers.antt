@@ -27,10 +27,10 @@ step_second_of_name-requires c = record {
   constraint = c.in_default.not-Constraint;
   integer_literal = c.in_default.not-IntegerLiteral;
   nested_base = c.in_default.not-NestedBase;
-  source_base = c.in_default.not-SourceBase;
-  base_in_std = c.in_default.not-BaseInStd;
+  unnested_base = c.in_default.not-UnnestedBase;
   value_of = c.in_default.not-ValueOf;
   of_concept = c.in_default.not-OfConcept;
+  named_concept = c.in_default.not-NamedConcept;
   unresolved_in_type = c.in_default.not-UnresolvedInType;
 }
 

@@ -1,0 +1,6 @@
+use Rattle.std.proofs.Common.{◌≡◌, string_bytes, take}
+use Rattle.demangle_command.specs.Texts.{text_of}
+use Rattle.demangle_command.proofs.texts.text_of.Given as goal
+
+abbrev pub invariant-bytes : goal.invariant-bytes
+invariant-bytes l = string_bytes l.text ≡ text_of (take l.byte-index l.word)

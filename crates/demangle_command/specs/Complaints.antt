@@ -1,0 +1,23 @@
+-- What is said of a command line that isn't taken.
+use Rattle.std.specs.Prelude.{◌≡◌, ℕ, List, [], ◌∷◌, ◌++◌, codes}
+use Rattle.demangle_command.specs.Texts.{bytes_of}
+
+-- the line of a reason
+abbrev pub complaint_of : List ℕ → List ℕ
+complaint_of reason = codes "demangle: " ++ reason ++ codes "; see demangle --help" ++ 10 ∷ []
+
+-- a line says some reason
+abbrev pub IsComplaint : List ℕ → Type 0
+IsComplaint line = (reason : List ℕ) × (line ≡ complaint_of reason)
+
+-- some words, and the word of a text in quotes
+abbrev pub quoted : List ℕ → List ℕ → List ℕ
+quoted words text = words ++ codes " '" ++ bytes_of text ++ 39 ∷ []
+
+-- no style has the name that is given
+abbrev pub unknown_style : List ℕ → List ℕ
+unknown_style name = quoted (codes "unknown style") name ++ codes "; known: auto, gnu-v3, rust, none"
+
+-- what is said where no argument is a symbol, and one is a file
+abbrev pub hint_of : List ℕ → List ℕ
+hint_of word = codes "demangle: " ++ word ++ codes " is not a name; for a file: demangle < " ++ word ++ 10 ∷ []

@@ -1,0 +1,6 @@
+use Rattle.std.proofs.Common.{replicate}
+use Rattle.sym_calls.specs.Counted.{Adds}
+use Rattle.sym_calls.proofs.counted.Counted.add_dots.Given as goal
+
+abbrev pub invariant-loop : goal.invariant-loop
+invariant-loop l = Adds l.fn.self l.self (replicate l.counter 46)

@@ -1,0 +1,10 @@
+use Rattle.std.proofs.Common.{sym, subst, take, false}
+use Rattle.sym_filter.specs.Carried.{IsRead}
+use Rattle.sym_filter.specs.declared.escapes.Escape.{Escape}
+use Rattle.sym_filter.proofs.CarryLemmas.{IsRead-passed}
+use Rattle.sym_filter.proofs.escapes.Escape.passes.Goals as goal
+
+pub returns-in-Outside-clause-read : goal.returns-in-Outside-clause-read
+returns-in-Outside-clause-read c = λ letters.
+    let bytes = take c.before_lead.result c.args.text.now in
+    subst (λ (e : Escape). IsRead false letters e e bytes) (sym c.in-Outside.is) (IsRead-passed letters bytes c.before_lead.ensures.no_lead)

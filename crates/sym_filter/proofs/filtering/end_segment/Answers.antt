@@ -1,0 +1,38 @@
+use Rattle.std.proofs.Common.{◌≡◌, ◌++◌, ◌∙◌, [], ℕ, sym, ap, replicate}
+use Rattle.sym_filter.specs.Runs.{answers_at, written}
+use Rattle.sym_filter.specs.Words.{rest_after}
+use Rattle.sym_filter.proofs.WordLemmas.{rest_of-end, tally-end}
+use Rattle.sym_filter.proofs.StreamLemmas.{Puts-push, Puts-join, Puts-same, PutsFront-join, PutsFront-none, PutsFront-same, IfErr-from_and}
+use Rattle.sym_filter.proofs.filtering.end_segment.Goals as goal
+
+pub returns-in_err-dots-clause-err : goal.returns-in_err-dots-clause-err
+returns-in_err-dots-clause-err g c =
+    IfErr-from_and c.from_residual.result _ _ c.from_residual.ensures.1 (λ fault is_memory. (λ is_read. cc, PutsFront-none _ c.args.out.now.items (rest_after (g.D.Demangler.answer c.args.demangler.now) c.args.words.now [])))
+
+pub returns-in_err-write_dots-clause-err : goal.returns-in_err-write_dots-clause-err
+returns-in_err-write_dots-clause-err g c =
+    let answers = g.D.Demangler.answer c.args.demangler.now in
+    let words = c.args.words.now in
+    let out = c.args.out.now.items in
+    let word = written words.letters answers words.place words.held.items in
+    let ended = c.in_ok-dots.ensures in
+    let wrote = c.in_err-write_dots.ensures.err in
+    let whole : word ++ replicate c.in_ok-dots.dots 46 ≡ rest_after answers words [] = ap (λ (n : ℕ). word ++ replicate n 46) ended.dots ∙ sym (rest_of-end words.letters answers words.held.items words.dots words.past words.place words.is_held) in
+    let front = PutsFront-same _ _ out (word ++ replicate c.in_ok-dots.dots 46) (rest_after answers words []) whole (PutsFront-join _ _ _ out c.end_segment.new.out.items word (replicate c.in_ok-dots.dots 46) (Puts-push _ out c.end_segment.new.out.items word ended.text) wrote.1) in
+    IfErr-from_and c.from_residual-in_err-write_dots.result _ _ c.from_residual-in_err-write_dots.ensures.1 (λ fault is_fault. (λ is_read. wrote.0 (sym is_fault ∙ is_read), front))
+
+pub returns-clause-ok : goal.returns-clause-ok
+returns-clause-ok g c =
+    let answers = g.D.Demangler.answer c.args.demangler.now in
+    let words = c.args.words.now in
+    let out = c.args.out.now.items in
+    let word = written words.letters answers words.place words.held.items in
+    let ended = c.in_ok-dots.ensures in
+    let dots = replicate c.in_ok-dots.dots 46 in
+    let whole : word ++ dots ≡ rest_after answers words [] = ap (λ (n : ℕ). word ++ replicate n 46) ended.dots ∙ sym (rest_of-end words.letters answers words.held.items words.dots words.past words.place words.is_held) in
+    Puts-same _ _ out c.write_dots.new.out.items (word ++ dots) (rest_after answers words []) whole (Puts-join _ _ _ out c.end_segment.new.out.items c.write_dots.new.out.items word dots (Puts-push _ out c.end_segment.new.out.items word ended.text) c.in_ok-write_dots.ensures.ok)
+
+pub returns-clause-counts : goal.returns-clause-counts
+returns-clause-counts g c =
+    let words = c.args.words.now in
+    c.in_ok-dots.ensures.counts ∙ tally-end words.letters (answers_at words.letters (g.D.Demangler.answer c.args.demangler.now)) words.tally words.held.items words.dots words.past words.place words.is_held

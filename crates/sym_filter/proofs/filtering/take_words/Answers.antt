@@ -1,0 +1,65 @@
+use Rattle.std.proofs.Common.{◌≡◌, ◌+◌, ◌-◌, ◌++◌, ◌∙◌, List, ℕ, take, drop, length, sym, ap, subst, arith, add-zero, append_assoc}
+use Rattle.std.proofs.lemmas.List.{take_all, length-drop}
+use Rattle.sym_filter.specs.Words.{rest_after, following, Takes}
+use Rattle.sym_filter.proofs.WordLemmas.{slice_from, Takes-join}
+use Rattle.sym_filter.proofs.StreamLemmas.{Puts-push, Puts-join, PutsFront-of, PutsFront-more, PutsFront-join, PutsFront-same, rest-bytes, take-part, IfErr-from_and}
+use Rattle.sym_filter.proofs.filtering.take_words.Goals as goal
+
+pub loop-at-preserved : goal.loop-at-preserved
+loop-at-preserved g c =
+    let so_far = c.loop-at.invariant in
+    let answers = g.D.Demangler.answer c.args.demangler.now in
+    let piece = c.args.piece.now in
+    let out = c.args.out.now.items in
+    let at = c.loop-at.at in
+    let rest = take (length piece - at) (drop at piece) in
+    let count = c.in_ok-taken.taken.count in
+    let takes = c.in_ok-taken.ensures.takes in
+    let follows = following c.in_ok-taken.taken (take count rest) in
+    let put = c.in_ok-put_after.ensures in record {
+      bytes = so_far.bytes ++ (takes.0 ++ follows);
+      within = omega (arith, so_far.within, c.in_ok-taken.ensures.within.1, ap length (slice_from piece at), length-drop at piece);
+      takes = subst (λ (t : List ℕ). Takes answers c.args.words.now c.take.new.self t (so_far.bytes ++ (takes.0 ++ follows))) (sym (take-part piece at count)) (Takes-join answers _ _ _ (take at piece) (take count rest) so_far.bytes (takes.0 ++ follows) so_far.takes takes.2);
+      puts = Puts-join _ _ _ out c.loop-at.out.items c.put_after.new.out.items so_far.bytes (takes.0 ++ follows) so_far.puts (Puts-join _ _ _ c.loop-at.out.items c.take.new.out.items c.put_after.new.out.items takes.0 follows (Puts-push _ c.loop-at.out.items c.take.new.out.items takes.0 takes.1) put.ok);
+      failures = put.failures ∙ add-zero _ ∙ so_far.failures;
+    }
+
+pub returns-in_err-taken-clause-err : goal.returns-in_err-taken-clause-err
+returns-in_err-taken-clause-err g c =
+    let so_far = c.loop-at.invariant in
+    let answers = g.D.Demangler.answer c.args.demangler.now in
+    let piece = c.args.piece.now in
+    let out = c.args.out.now.items in
+    let more = rest_after answers c.loop-at.words (drop c.loop-at.at piece) in
+    let front = PutsFront-same _ _ out (so_far.bytes ++ more) (rest_after answers c.args.words.now piece) (sym (rest-bytes answers c.args.words.now c.loop-at.words piece so_far.bytes c.loop-at.at so_far.takes)) (PutsFront-of _ _ out c.loop-at.out.items so_far.bytes more so_far.puts) in
+    IfErr-from_and c.from_residual.result _ _ c.from_residual.ensures.1 (λ fault is_memory. (λ is_read. cc, front))
+
+pub returns-in_err-put_after-clause-err : goal.returns-in_err-put_after-clause-err
+returns-in_err-put_after-clause-err g c =
+    let so_far = c.loop-at.invariant in
+    let answers = g.D.Demangler.answer c.args.demangler.now in
+    let piece = c.args.piece.now in
+    let out = c.args.out.now.items in
+    let at = c.loop-at.at in
+    let rest = take (length piece - at) (drop at piece) in
+    let count = c.in_ok-taken.taken.count in
+    let takes = c.in_ok-taken.ensures.takes in
+    let follows = following c.in_ok-taken.taken (take count rest) in
+    let wrote = c.in_err-put_after.ensures.err in
+    let old = c.args.words.now in
+    let new = c.take.new.self in
+    let bytes = so_far.bytes ++ (takes.0 ++ follows) in
+    let joined : Takes answers old new (take (at + count) piece) bytes = subst (λ (t : List ℕ). Takes answers old new t bytes) (sym (take-part piece at count)) (Takes-join answers old c.loop-at.words new (take at piece) (take count rest) so_far.bytes (takes.0 ++ follows) so_far.takes takes.2) in
+    let more = rest_after answers new (drop (at + count) piece) in
+    let whole : ((so_far.bytes ++ takes.0) ++ follows) ++ more ≡ rest_after answers old piece = ap (λ (t : List ℕ). t ++ more) (append_assoc so_far.bytes takes.0 follows) ∙ sym (rest-bytes answers old new piece bytes (at + count) joined) in
+    let put = Puts-join _ _ _ out c.loop-at.out.items c.take.new.out.items so_far.bytes takes.0 so_far.puts (Puts-push _ c.loop-at.out.items c.take.new.out.items takes.0 takes.1) in
+    let front = PutsFront-same _ _ out (((so_far.bytes ++ takes.0) ++ follows) ++ more) (rest_after answers old piece) whole (PutsFront-more _ _ out ((so_far.bytes ++ takes.0) ++ follows) more (PutsFront-join _ _ _ out c.take.new.out.items (so_far.bytes ++ takes.0) follows put wrote.1)) in
+    IfErr-from_and c.from_residual-in_err-put_after.result _ _ c.from_residual-in_err-put_after.ensures.1 (λ fault is_fault. (λ is_read. wrote.0 (sym is_fault ∙ is_read), front))
+
+pub returns-clause-ok : goal.returns-clause-ok
+returns-clause-ok g c =
+    let so_far = c.loop-at.invariant in
+    let answers = g.D.Demangler.answer c.args.demangler.now in
+    let piece = c.args.piece.now in
+    let whole : take c.loop-at.at piece ≡ piece = take_all c.loop-at.at piece (omega arith) in
+    (so_far.bytes, subst (λ (t : List ℕ). Takes answers c.args.words.now c.loop-at.words t so_far.bytes) whole so_far.takes, so_far.puts)

@@ -1,0 +1,16 @@
+use Rattle.std.proofs.Common.{◌≡◌, ◌≤◌, ◌-◌, List, ℕ, length, take}
+use Rattle.sym_filter.specs.Streams.{Puts}
+use Rattle.sym_filter.specs.Words.{Takes}
+use Rattle.sym_filter.proofs.filtering.take_words.Given as goal
+
+abbrev pub invariant-loop-at : goal.invariant-loop-at
+invariant-loop-at g l = record {
+  bytes : List ℕ;
+  within : l.at ≤ length l.piece;
+  takes : Takes (g.D.Demangler.answer l.demangler) l.fn.words l.words (take l.at l.piece) bytes;
+  puts : Puts (g.W.Sink.taken l.fn.writer) (g.W.Sink.taken l.writer) l.fn.out.items l.out.items bytes;
+  failures : g.W.Sink.failure_count l.writer ≡ g.W.Sink.failure_count l.fn.writer;
+}
+
+abbrev pub decreases-loop-at : goal.decreases-loop-at
+decreases-loop-at g l = length l.piece - l.at

@@ -1,0 +1,152 @@
+"""C++'s declarations that are written into files by hand: from each crate's files to the clauses of the names in them. trees.py writes them."""
+import cpp_trees
+import grammar
+import vocabulary as words
+from cpp_trees import PRESSED, SCOPES, named
+from node_clauses import (
+    BY_ARGUMENT, again_fact, below_later, both_are, depending, fields_of, is_below, is_other, node_cases, node_stays, noted,
+    other_node, passed_fact, through, tree_from, tree_of,
+)
+from notation import listed, snake
+from production_clauses import (
+    are_shut, built_good, built_noted, by_production, is_rare, makes_at_end, may_leave, none_are_taken, slack, takes_encodings,
+)
+from tree_clauses import (
+    ANNOTATED_FUNCTION, CLOSED_FUNCTION, SCOPED, both_by, both_free, by_each, carried, cases, closed_noted, closed_packs, either,
+    either_open, equal_tree, erased, first, first_of, fold, inside, inside_shut, never_referred, open_erased, reargued,
+    reargued_laws, rebuilt, same_tree, summed, tree_itself, weight_grows, weight_of_scopes, weight_of_terms,
+)
+
+# an expansion is shown by hand, or as other trees
+NO_EXPANSION = {"expansion": None}
+
+
+def marking(function, marked, value, others, after=()):
+    """A value for each of these trees, and another for the others."""
+    return cases(function, [], after, lambda tree: value if tree[0] in marked else None, others, named(PRESSED))
+
+
+def scoped(function, joined, none, special, before=()):
+    """What is computed of the subtrees under the scope of the whole, by the names that scopes have; parameters first."""
+    return fold(function, list(before), joined, none, special, SCOPED, trees=named(SCOPES, ["parameter"]))
+
+
+def folded(function, joined, none, special=None, before=()):
+    """What is shown of the subtrees under the scope of the whole."""
+    return fold(function, list(before), joined, none, special or {}, SCOPED)
+
+
+def of_grammar():
+    """Those of cpp_grammar."""
+    length = {"parameter": "length_if_pack (element scope number)", **NO_EXPANSION}
+    return {
+        "specs/Ranks.antt": {"weight": weight_of_scopes()},
+        "specs/Closed.antt": {"ScopesAreClosed": first(fold("ScopesAreClosed", [], " × ".join, "Unit {0}", {"function": CLOSED_FUNCTION}))},
+        "specs/Scope.antt": {"is_open": scoped("is_open", either, "false", {"parameter": "true"}),
+                             "free_in": scoped("free_in", both_free, "none_free", {"parameter": "one_free number"}),
+                             "pack_length": scoped("pack_length", first_of, "None", length, ["scope"])},
+        "proofs/RanksFall.antt": {"weight_grows": weight_grows()},
+        "proofs/ClosedValues.antt": {"built_good": built_good()},
+    }
+
+
+def of_term():
+    """Those of cpp_term."""
+    annotated = {"function": ANNOTATED_FUNCTION, "parameter": "term_.parameter k (argument_in s k)", "generic_lambda": "term_.generic_lambda (annotate in_own parameters) number"}
+    of_all = {"parameter": "ap scope_.length_if_pack (element_noted nowhere all k) ∙ length_noted nowhere (element all k)", **NO_EXPANSION}
+    renoted = closed_noted("renoted", ["r", "s", "a"], "names_both r a (free_in {0}) (free_in {1}) e", "ap (term_.parameter k) (sym e)")
+    own, first_by = {"parameter": "refl", **NO_EXPANSION}, both_by("first_of")
+    return {
+        "specs/Erased.antt": {"erase": rebuilt("erase", [], [], True)},
+        "specs/Annotated.antt": {"annotate": rebuilt("annotate", ["s"], ["nowhere"], False, annotated)},
+        "specs/Ranks.antt": {"weight": weight_of_terms()},
+        "specs/Reargued.antt": {"reargued": reargued(), "bare": carried(folded("bare", either, "false", {"parameter": "true", **NO_EXPANSION}))},
+        "proofs/Reargued.antt": reargued_laws(),
+        "proofs/Erasing.antt": {"erased": erased()},
+        "proofs/MeaningNoted.antt": {"takes_encodings": takes_encodings(), "AreShut": are_shut(), "none_are_taken": none_are_taken(), "built_noted": built_noted()},
+        "proofs/Notes.antt": {"open_noted": folded("open_noted", both_by("(λ x y. x || y)"), "refl", before=["s"]), "closed_noted": closed_noted(), "renoted": renoted,
+                              "free_noted": folded("free_noted", both_by("both_free"), "refl", before=["s"]), "pack_own": folded("pack_own", first_by, "refl", own),
+                              "pack_none": folded("pack_none", first_by, "refl", own), "pack_some": folded("pack_some", first_by, "refl", of_all, ["all"])},
+    }
+
+
+def of_notes():
+    """Those of cpp_tree that go through what is noted of nodes."""
+    by_argument = {"Parameter": "refl", "Expansion": "expansion-by-argument (by_argument_at y.nodes pattern) (tree_at (trees y) pattern) (by-argument-at pattern b)",
+                   "Pack": "ap of_pack (by-argument-at elements b)", "Rvalue": "rvalue-by-argument (by_argument_at y.nodes t) (tree_at (trees y) t) (by-argument-at t b)",
+                   "Qualified": "ap (λ l. of_head l.head l) (by-argument-at t b)", "Reargued": again_fact("by-argument-at", "by_argument_reargued")}
+    packs = {"Parameter": "argument_packs es (shape_at es a)", "Reargued": "packs_by (by_argument_at es t).is_bare (argument_packs es (shape_at es a))"}
+    pack_facts = {"Parameter": "argument-pack a b", "Reargued": "again-pack t a b.0 b.1"}
+    return {
+        "specs/Notes.antt": {
+            "frees": noted("frees", "free_at es {0}", "piece_frees es {0}", both_free, "Free.None", {"Parameter": "Free.One k", "Reargued": "free_at es t"}),
+            "node_by_argument": noted("node_by_argument", "by_argument_at es {0}", "piece_by_argument es {0}", depending, "by_none false", BY_ARGUMENT),
+            "packing": noted("packing", "packs_at es {0}", "piece_packs es {0}", first_of, "None", packs, ["Expansion"])},
+        "proofs/Noting.antt": {
+            "node-by-argument": through("node-by-argument", "by-argument-at {0} {1}", "piece-by-argument {0} {1}", "refl", by_argument, one=passed_fact),
+            "node-free": through("node-free", "at {0} {1}", "piece-free {0} {1}", "refl", {"Reargued": again_fact("at", "free_reargued")}, without=["Parameter"], joined=both_are),
+            "node-pack": through("node-pack", "pack-at {0} {1}", "piece-pack {0} {1}", "refl", pack_facts, without=["Expansion"])},
+        "proofs/FreeParameters.antt": {"open-free": carried(folded("open-free", either_open, "refl"))},
+    }
+
+
+def of_tree():
+    """Those of cpp_tree that go through nodes."""
+    encodings = node_cases("is_encoding", [], [], lambda node, tree, args: "true" if tree in cpp_trees.ENCODINGS else None, "false")
+    return {
+        "specs/Nodes.antt": {"tree_of": tree_of(), "is_encoding": encodings, "IsBelow": is_below()},
+        "specs/Fields.antt": {"fields_of": fields_of(), "narrow_tree_from": tree_from()},
+        "proofs/Compacting.antt": {"IsOther": is_other(), "other-node": other_node()},
+        "proofs/Pushed.antt": {"node-stays": node_stays()},
+    }
+
+
+def of_link(crates):
+    """Those of cpp_link."""
+    rows = grammar.rows()
+    before = {production: listed(row.made_before()) for production, row in rows.items() if row.made_before()}
+    at_end = {production: row.made_at_end() for production, row in rows.items() if row.made_at_end()}
+    return {
+        "specs/Owed.antt": {"made_before": by_production("made_before", before, "[]"), "made_at_end": by_production("made_at_end", at_end, 0), "slack": slack()},
+        "specs/NodeCount.antt": {"makes_at_end": makes_at_end()},
+        "specs/Making.antt": {"IsRare": by_production("IsRare", {production: "⊥" for production in words.COMMON}, "Unit {0}")},
+        "proofs/Making.antt": {"IsNoneOfThem": [f"  pub not_{snake(p)} : p ≡ Production.{p} → ⊥" for p in words.COMMON], "is_rare": is_rare()},
+        "proofs/CandidatesFew.antt": {"may_leave": may_leave(crates)},
+    }
+
+
+def of_press_laws():
+    """Those of cpp_press_laws."""
+    nowhere = {tree: None for tree, spelled in cpp_trees.SPELLED.items() if spelled[0].startswith("nowhere")}
+    orders = {("order", "function"): ["name", "returned", "parameters", "q", "ref"], ("before", "function"): ["c"]}
+    prefixes = marking("PrefixOr", cpp_trees.ENCODINGS, "⊥", None, after=["inside", "x"])
+    return {
+        "specs/Same.antt": {"same_tree": same_tree()},
+        "specs/Apart.antt": {"IsNeverReferred": never_referred()},
+        "specs/Pressing.antt": {"is_component": marking("is_component", cpp_trees.COMPONENTS, "true", "false"), "is_encoding": marking("is_encoding", cpp_trees.ENCODINGS, "true", "false")},
+        "proofs/Components/Sameness.antt": {"equal-tree": equal_tree(), "tree-itself": tree_itself()},
+        "proofs/Components/Parts.antt": {"IsComponent": marking("IsComponent", cpp_trees.COMPONENTS, "Unit {0}", "⊥"), "Inside": inside(),
+                                         "PrefixOr": [*prefixes, "PrefixOr t inside x = ItselfOr t inside x"]},
+        "proofs/Components/Complete.antt": {"inside-shut": inside_shut()},
+        "proofs/Components/Growing.antt": {"size": fold("size", [], lambda parts: f"suc ({' + '.join(parts)})", "1", trees=named(PRESSED))},
+        "proofs/EveryWay/Law.antt": {"reads": by_each("reads", "reads", ["c"], {"symbol": None, **nowhere, **orders}, {"address_of": "address"})},
+        "proofs/Fits/Packs.antt": {"closed-packs": closed_packs()},
+    }
+
+
+def of_spelling():
+    """Those of cpp_spelling."""
+    return {
+        "specs/Weight.antt": {"weight": fold("weight", [], summed("12"), "12", trees=named(PRESSED))},
+        "proofs/Made.antt": {"below-later": below_later()},
+    }
+
+
+def declarations(crates):
+    """The path and the name of each declaration, and the lines of its clauses."""
+    files = [("cpp_grammar", of_grammar()), ("cpp_term", of_term()), ("cpp_tree", of_tree()), ("cpp_tree", of_notes()), ("cpp_link", of_link(crates)),
+             ("cpp_press", {"proofs/Open.antt": {"open-erased": open_erased()}}), ("cpp_press_laws", of_press_laws()), ("cpp_spelling", of_spelling())]
+    for crate, paths in files:
+        for path, names in paths.items():
+            for name, lines in names.items():
+                yield f"{crate}/{path}", name, lines

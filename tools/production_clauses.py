@@ -1,0 +1,189 @@
+"""What is said of each of C++'s productions by its row, by its family, or because it is common: from the grammar's rows to the clauses of
+cpp_grammar, cpp_term and cpp_link. declarations.py says in which file each is."""
+import re
+
+import family_code
+import grammar
+import vocabulary as words
+from cpp_trees import BYTES, DISCRIMINATOR, MARK, NUMBER, OUTSIDE, OWN, QUALIFIERS, SIGNED, TRUTH
+from files import read
+from meanings import makers
+from notation import applied, listed, snake
+from splicing import WRITTEN
+from tree_clauses import SCOPED, SUBTREES
+
+# What is read of a value's parts, and of the arguments of a tree, with arguments in its parameters: of a tree it is annotated.
+READ_OF_VALUES = {"tree": "tree_of", "piece": "piece_of", "listed": "is_listed", "qualifiers": "qualifiers_of", "ref": "ref_of", "letter": "letter_of", "there": "is_there",
+                  "mark": "mark_of", "text": "text_of", "signed": "signed_of", "adjustment": "adjustment_of"}
+READ_OF_ARGUMENTS = {f"{name}_in": f"{name}_in" for name in ("tree", "bytes", "number", "truth", "qualifiers", "mark", "signed", "discriminator")}
+
+def read_noted(names, module, sort, one, noted, listed, whole, first_of_them, public):
+    """That what is read of an annotated thing is what is read of it, and the same of one of a list."""
+    for name, function in names.items():
+        trees = name.split("_")[0] in ("tree", "piece")
+        of = (lambda read: f"annotate s ({read})") if trees else (lambda read: read)
+        there = name.replace("_in", "_there") if name in READ_OF_ARGUMENTS else f"{name}_part"
+        yield (f"{public}{name}_noted : (s : Place) (v : {sort}) → {module}.{function} ({noted} s v) ≡ {of(f'{function} v')}\n"
+            f"unfolding {module}.{function} {function} {noted}{' annotate' if trees else ''}\n{name}_noted s {first_of_them} = refl\n{name}_noted s _ = refl")
+        yield (f"{public}{there} : (s : Place) (vs : List {sort}) (k : ℕ) → {module}.{function} ({module}.{one} ({listed} s vs) k) ≡ {of(f'{function} ({one} vs k)')}\n"
+            f"{there} s vs k = ap {module}.{function} ({whole} s vs k) ∙ {name}_noted s ({one} vs k)")
+
+# ## Productions
+
+def by_production(function, values, others): return [f"{function} Production.{p} = {v}" for p, v in values.items()] + [f"{function} _ = {others}"]
+
+# What a kind has at most, less the nodes that its bytes pay for: two a byte.
+SLACK_BASE = 10
+
+def slack():
+    """Of each kind, as few as its productions allow: cpp_link's Bound proves that these suffice."""
+    grammar.build(widened=True)
+    kinds, productions, rows = dict(grammar.K), dict(grammar.P), grammar.rows()
+    grammar.build()
+    def needed(p, least):
+        eats, symbols = productions[p]
+        parts = (least[s] - SLACK_BASE if s in kinds else -4 if s == grammar.NAME else -2 for s in symbols)
+        return SLACK_BASE + sum(rows[p].made_before()) + rows[p].made_at_end() + sum(parts) - (2 if eats else 0)
+    least = {k: SLACK_BASE if empty else 0 for k, (empty, rules) in kinds.items()}
+    while True:
+        more = {k: max([least[k], *(needed(p, least) for bytes_, p in rules)]) for k, (empty, rules) in kinds.items()}
+        if more == least: return [f"slack = {listed(least.values())}"]
+        assert max(more.values()) <= 2 * SLACK_BASE, "a production makes more than its bytes pay for"
+        least = more
+
+# ## What rows make
+
+def built_good():
+    """That what a row makes is closed where its arguments are."""
+    lines = []
+    for tree in makers(grammar.rows()):
+        scoped = [f"(all {i}).closed" for i, (name, sort) in enumerate(tree[1:]) if sort in SCOPED]
+        scopes = [f"(all {i}).scopes n" for i, (name, sort) in enumerate(tree[1:]) if sort in SUBTREES]
+        closed = "λ h. refl" if not scoped else scoped[0] if len(scoped) == 1 else f"λ h. {applied('or_no _ _', [f'({fact} h)' for fact in scoped])}"
+        joined = "tt" if not scopes else scopes[0] if len(scopes) == 1 else f"({', '.join(scopes)})"
+        lines.append(f"built_good s new_{tree[0]} xs all = record {{ closed = {closed}; scopes = λ n. {joined} }}")
+    return lines
+
+# what reads an argument of a sort, annotated
+READ = {BYTES: "bytes", NUMBER: "number", TRUTH: "truth", QUALIFIERS: "qualifiers", MARK: "mark", SIGNED: "signed", DISCRIMINATOR: "discriminator"}
+
+def encodings_in(tree): return [i for i, (name, sort) in enumerate(tree[1:]) if sort in (OWN, OUTSIDE)]
+
+def takes_encodings(): return [f"takes_encodings new_{tree[0]} = true" for tree in makers(grammar.rows()) if encodings_in(tree)] + ["takes_encodings _ = false"]
+
+def are_shut():
+    """Which arguments of a maker have to be closed."""
+    lines = []
+    for tree in makers(grammar.rows()):
+        facts = [f"is_open (tree_in (argument xs {i})) ≡ false" for i in encodings_in(tree)]
+        if facts: lines.append(f"AreShut new_{tree[0]} xs = " + (facts[0] if len(facts) == 1 else " × ".join(f"({fact})" for fact in facts)))
+    return lines + ["AreShut _ xs = Unit {0}"]
+
+def none_are_taken():
+    """That a maker which takes encodings isn't one that takes none."""
+    return [f"none_are_taken new_{tree[0]} xs h = absurd (true≢false h)" for tree in makers(grammar.rows()) if encodings_in(tree)] + ["none_are_taken _ xs h = tt"]
+
+def built_noted():
+    """That what is made of annotated arguments is the annotated tree."""
+    lines = []
+    for tree in makers(grammar.rows()):
+        apart = encodings_in(tree)
+        def fact(i, sort):
+            if i in apart: return f"(shut_there s xs {i} {'h' if len(apart) == 1 else f'h.{apart.index(i)}'})"
+            return f"({READ.get(sort, 'tree')}_there s xs {i})"
+        facts = [fact(i, sort) for i, (name, sort) in enumerate(tree[1:])]
+        lines.append(f"built_noted s new_{tree[0]} xs h = " + (applied(["ap", "both", "three", "four", "five"][len(facts) - 1], [f"term_.{tree[0]}", *facts]) if facts else "refl"))
+    return lines
+
+# ## Common productions
+
+def is_rare():
+    """That a production which is none of the common ones is rare."""
+    return [f"is_rare Production.{p} other = absurd (other.not_{snake(p)} refl)" for p in words.COMMON] + ["is_rare _ other = tt"]
+
+def rare_answers(function, goal, before, production, after, imports=(), others=()):
+    """The answer that a production is rare, after the arms of all that are common, and others."""
+    return "\n".join([f"-- {WRITTEN}", *imports, "use Rattle.cpp_link.proofs.Making.{is_rare}", f"use Rattle.cpp_link.proofs.linked.Linked.{function}.Goals as goal", "",
+        f"pub {goal} : goal.{goal}", f"{goal} c = {before}is_rare {production} (record {{", *[f"  not_{snake(p)} = c.in_default.not-{p};" for p in words.COMMON], "})" + after, *others]) + "\n"
+
+# ## Families of rare productions
+
+def families():
+    """The productions of each family, and those that are common."""
+    return {**{family: productions.split() for module in family_code.FAMILIES.values() for family, (says, productions) in module.items()}, "Common": words.COMMON}
+
+def family_specs(found):
+    """The family of each production."""
+    return "\n".join([f"-- {WRITTEN} The families of productions, by what they stand for.", "use Rattle.cpp_grammar.specs.declared.production.Production.{Production}",
+        "use Rattle.cpp_link.specs.declared.families.Family.{Family}", "", "unfoldable pub family_of : Production → Family",
+        *[f"family_of Production.{p} = Family.{family}" for family, productions in found.items() for p in productions]]) + "\n"
+
+def family_laws(found):
+    """That a production of a family is one of those that its function has an arm for, and that one of the family Common isn't rare."""
+    lines = [f"-- {WRITTEN} A production of a family is one of those that its function has an arm for.", "use Rattle.std.proofs.Common.{◌≡◌, refl, sym, subst}",
+        "use Rattle.cpp_grammar.specs.declared.production.Production.{Production}", "use Rattle.cpp_link.specs.declared.families.Family.{Family}",
+        "use Rattle.cpp_link.specs.Families.{family_of}", "use Rattle.cpp_link.specs.Making.{IsRare}"]
+    for family, productions in found.items():
+        name, others = snake(family), [f"n{i}" for i in range(len(productions))]
+        lines += ["", f"abbrev Is{family} : Family → Type 0", f"Is{family} Family.{family} = Unit {{0}}", f"Is{family} _ = ⊥", ""]
+        if family == "Common":
+            lines += [f"pub {name} : (p : Production) → family_of p ≡ Family.{family} → IsRare p → ⊥", "unfolding family_of", *[f"{name} Production.{p} is rare = rare" for p in productions],
+                f"{name} _ is rare = subst Is{family} (sym is) tt"]
+        else:
+            lines += [f"pub {name} : (p : Production) → family_of p ≡ Family.{family}", *[f"    → (p ≡ Production.{p} → ⊥)" for p in productions], "    → ⊥", "unfolding family_of",
+                *[applied(name, [f"Production.{p}", "is", *others]) + f" = {other} refl" for p, other in zip(productions, others)],
+                applied(name, ["_", "is", *others]) + f" = subst Is{family} (sym is) tt"]
+    return "\n".join(lines) + "\n"
+
+def family_answers(family, productions):
+    """The answer that a family's function has an arm for each of its productions."""
+    return "\n".join([f"-- {WRITTEN}", f"use Rattle.cpp_link.proofs.FamilyArms.{{{snake(family)}}}", f"use Rattle.cpp_link.proofs.linked.Linked.outcome_of_{snake(family)}.Goals as goal", "",
+        "pub unreachable-requires : goal.unreachable-requires", f"unreachable-requires c = {snake(family)} c.args.production c.requires.family", *[f"    c.in_default.not-{p}" for p in productions]]) + "\n"
+
+# the ABI's reading refuses a constructor that is inherited
+UNREAD_IMPORTS = ["use Rattle.std.proofs.Common.{sym, ◌∙◌}", "use Rattle.cpp_link.proofs.Inherited.{inheriting_unread}"]
+UNREAD_ANSWER = ["", "pub returns-in-Inheriting-clause-closes : goal.returns-in-Inheriting-clause-closes", "returns-in-Inheriting-clause-closes c =",
+    "    inheriting_unread c.args.symbol.now c.args.self.now c.args.self.now c.args.frame.now c.args.parts.now.items c.args.parts.now.items (sym c.production_of-production.ensures ∙ c.in-Inheriting.is)"]
+
+def handed_answers():
+    """What `finish_rule` hands to `finish_as`, and what it has from it, passed on."""
+    had = " ".join(f"{clause} = had.{clause};" for clause in ("closes", "adds", "few", "makes", "pays", "roomy")).rstrip(";")
+    given = "; ".join(f"{clause} = c.requires.{clause}" for clause in ("room", "«open»", "base", "place"))
+    lines = []
+    for p in words.COMMON:
+        at = "" if p == words.COMMON[0] else f"-in-{p}"
+        requires, returns = f"finish_as-requires{at}", f"returns-in-{p}"
+        lines += ["", f"pub {requires} : goal.{requires}", f"{requires} c =",
+            f"    record {{ common = λ rare. rare; numbered = sym c.in-{p}.is ∙ c.production_of-production.ensures; {given} }}",
+            "", f"pub {returns} : goal.{returns}", f"{returns} c =", f"    let had = c.finish_as{at}.ensures in", f"    record {{ {had} }}"]
+    return lines
+
+def arms(function, productions):
+    """The arms of a match that hand these productions to a function, as rt fmt lays them out."""
+    for p in productions:
+        line = f"            Production::{p} => self.{function}(symbol, Production::{p}, frame, parts),"
+        if len(line) <= 100: yield line
+        else: yield from [f"            Production::{p} => self.{function}(", "                symbol,", f"                Production::{p},", "                frame,", "                parts,", "            ),"]
+
+def may_leave(crates):
+    """What may leave a tree that is no candidate yet: the productions of the kinds whose trees become candidates later, but for those that make a name."""
+    text = read(f"{crates}/cpp_link/proofs/CandidatesFew.antt")
+    kinds = set(re.findall(r"nat_eq k (\w+)", re.search(r"^becomes_candidate k =\n((?:    .*\n)+)", text, re.M)[1]))
+    names = set(re.findall(r"^makes_name Production\.(\w+) = true$", text, re.M))
+    grammar.build(widened=True)
+    begun = {p for kind, (empty, alternatives) in grammar.K.items() if snake(kind).upper() in kinds for on, p in alternatives} - names
+    leaving = [p for p in grammar.P if p in begun]
+    grammar.build()
+    return by_production("may_leave", {p: "true" for p in leaving}, "false")
+
+# how many nodes code of its own makes of the values of its parts, where that isn't always as many as its row says
+MAKES_AT_END = {"closure": "lambda_at_end known", "inheriting": "inheriting_at_end (part known 1)", "by_letters": "operation_at_end (part known 0)", "enclosed": "enclosed_at_end known",
+                "elements": "elements_at_end known", "substitution": "0"}
+
+def makes_at_end():
+    """How many nodes a production makes at its end, of the values of its parts."""
+    def value(form):
+        if form == "in_place" or form.startswith("a_name "): return "name_at_end known"
+        if m := re.fullmatch(r"own (\w+) \d", form): return MAKES_AT_END.get(m[1])
+    found = {p: value(row.form) for p, row in grammar.rows().items()}
+    return [*[f"makes_at_end Production.{p} known = {v}" for p, v in found.items() if v], "makes_at_end p known = made_at_end p"]
