@@ -1,0 +1,1 @@
+"""The parts of truth.py, and the sources that it compiles."""
