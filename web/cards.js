@@ -58,8 +58,6 @@ export function card(name, number, options, { asksDetails, changes }) {
     ].filter(Boolean).join(" · ");
     part(".copy").onclick = ({ target }) => copy(target, name.text ?? name.word);
     part(".copy").setAttribute("aria-label", isRead ? "Copy this text" : "Copy this name");
-    part(".widen").hidden = !name.wideReads;
-    part(".widen").onclick = () => changes("wide", true);
     part(".raise").hidden = name.status !== STATUS.TOO_LONG || options.limit >= 1e9;
     part(".raise").onclick = () => changes("limit", Math.min(GREATEST_LIMIT, Math.max(1000, options.limit * 10)));
     const details = part("details");

@@ -80,16 +80,13 @@ function optionsNow() {
     return {
         brief: controls.brief.checked,
         noParameters: controls.noParameters.checked,
-        wide: controls.wide.checked,
         legacy: controls.legacy.checked,
-        ascii: !controls.letters.checked,
         limit: isNumber ? Number(controls.limit.value) : DEFAULT_LIMIT,
     };
 }
 
 function changes(name, value) {
-    if (typeof value === "boolean") controls[name].checked = value;
-    else controls[name].value = value;
+    controls[name].value = value;
     ask();
     input.focus();
 }

@@ -51,9 +51,6 @@ function read(word, options) {
     if (status >= STATUS.MALFORMED && status <= STATUS.BAD_VALUE) {
         found.offset = offset;
         found.unit = unitAt(word, offset);
-        if (!options.wide && !found.isRust) {
-            found.wideReads = library.text(bytes, options.limit, flagsOf({ ...options, wide: true })).status === STATUS.OK;
-        }
     }
     return found;
 }
@@ -66,16 +63,19 @@ async function view({ id, text, options }) {
         known = new Map();
         knownFor = key;
     }
+    const answer = (word) => {
+        if (!known.has(word)) known.set(word, read(word, options));
+        return known.get(word);
+    };
     const parts = [];
     const names = [];
     const numbers = new Map();
     let seen = 0;
     let slice = began;
-    for (const { word, index } of namesOf(text, options.ascii)) {
+    for (const { word, index } of namesOf(text, (word) => answer(word).status === STATUS.OK)) {
         let number = numbers.get(word);
         if (number === undefined) {
-            if (!known.has(word)) known.set(word, read(word, options));
-            number = names.push({ ...known.get(word), times: 0 }) - 1;
+            number = names.push({ ...answer(word), times: 0 }) - 1;
             numbers.set(word, number);
         }
         names[number].times += 1;

@@ -2,9 +2,13 @@ package symdemangle
 
 import (
 	"fmt"
+	"os"
 	"strings"
 	"testing"
 )
+
+// Whether the library is one that doesn't know types and words within runs (tests/callers/older.c).
+var isOlder = os.Getenv("SYMDEMANGLE_OLDER") != ""
 
 func TestText(t *testing.T) {
 	long := strings.Repeat("a", 5000)
@@ -33,6 +37,80 @@ func TestText(t *testing.T) {
 	if _, err := Text("_Z1fY", 0); err.Error() != "malformed symbol at 4" {
 		t.Error(err)
 	}
+	if _, err := Text("main", 0); err.Error() != "not a symbol" {
+		t.Error(err)
+	}
+}
+
+func TestLimit(t *testing.T) {
+	if text, err := (Options{Limit: 6}).Text("_Z1fv"); err != nil || text != "f()" {
+		t.Error(text, err)
+	}
+	if _, err := (Options{Limit: 5}).Text("_Z1fv"); err == nil || err.(*Error).Status != 4 {
+		t.Error(err)
+	}
+	if text, err := (Options{Limit: 5}).Filter("at _Z1fv"); err != nil || text != "at _Z1fv" {
+		t.Error(text, err)
+	}
+	if text, err := (Options{}).Text("_Z1fv"); err != nil || text != "f()" {
+		t.Error(text, err)
+	}
+}
+
+func TestTexts(t *testing.T) {
+	long := strings.Repeat("a", 30000)
+	names := []string{"_Z1fv", "main", "", "_RNvC3foo30000" + long, "_RNvC3foo30000" + long, "_Z1fY"}
+	texts, errs := Options{Flags: Wide}.Texts(names)
+	wanted := []string{"f()", "main", "", "foo::" + long, "foo::" + long, "_Z1fY"}
+	for i, name := range names {
+		if texts[i] != wanted[i] || (errs[i] == nil) != (texts[i] != name) {
+			t.Error(i, texts[i], errs[i])
+		}
+	}
+	if e := errs[5].(*Error); *e != (Error{1, 4}) {
+		t.Error(e)
+	}
+	if texts, errs := (Options{}).Texts(nil); len(texts) != 0 || len(errs) != 0 {
+		t.Error(texts, errs)
+	}
+	if texts, errs := (Options{}).Texts([]string{""}); texts[0] != "" || errs[0].(*Error).Status != 11 {
+		t.Error(texts, errs)
+	}
+	texts, errs = Options{Limit: 5}.Texts([]string{"_Z1fv"})
+	if texts[0] != "_Z1fv" || errs[0].(*Error).Status != 4 {
+		t.Error(texts, errs)
+	}
+}
+
+func TestUnknownFlag(t *testing.T) {
+	unknown := Options{Flags: 1 << 31}
+	texts, errs := unknown.Texts([]string{"_Z1fv", "main"})
+	if texts[0] != "_Z1fv" || texts[1] != "main" || errs[0].(*Error).Status != 8 || errs[1].(*Error).Status != 8 {
+		t.Error(texts, errs)
+	}
+	if _, err := unknown.Text("_Z1fv"); err == nil || err.(*Error).Status != 8 {
+		t.Error(err)
+	}
+	if _, err := unknown.Filter("_Z1fv"); err == nil || err.(*Error).Status != 8 {
+		t.Error(err)
+	}
+}
+
+func TestTypes(t *testing.T) {
+	wanted := "char const*"
+	if isOlder {
+		wanted = "PKc"
+	}
+	texts, errs := Options{Flags: Types}.Texts([]string{"PKc", "_Z1fv", "?"})
+	if texts[0] != wanted || texts[1] != "f()" || texts[2] != "?" || (errs[0] == nil) == isOlder || errs[2] == nil {
+		t.Error(texts, errs)
+	}
+	if text, err := Text("PKc", Types); (err == nil) == isOlder || (err == nil && text != wanted) {
+		t.Error(text, err)
+	}
+	if text, err := Text("_Z1fv", Types); err != nil || text != "f()" {
+		t.Error(text, err)
+	}
 }
 
 func TestFilter(t *testing.T) {
@@ -41,6 +119,30 @@ func TestFilter(t *testing.T) {
 	}
 	if text, err := Filter("", 0); err != nil || text != "" {
 		t.Error(text, err)
+	}
+	for text, wanted := range map[string]string{
+		".text._ZN1A1fEv": ".text.A::f()",
+		"‘_Z1fv’":         "‘f()’",
+		"self._Zoom":      "self._Zoom",
+	} {
+		if isOlder {
+			wanted = text
+		}
+		if filtered, err := Filter(text, Types); err != nil || filtered != wanted {
+			t.Error(text, filtered, err)
+		}
+	}
+	if text, err := Filter("‘_Z1fv’", ASCIIWords); err != nil || text != "‘f()’" {
+		t.Error(text, err)
+	}
+}
+
+func BenchmarkText(b *testing.B) {
+	b.ReportAllocs()
+	for i := 0; i < b.N; i++ {
+		if _, err := Text("_ZN3foo3barEPKc", Wide); err != nil {
+			b.Fatal(err)
+		}
 	}
 }
 

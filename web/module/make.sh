@@ -23,7 +23,7 @@ proved=null
 if [ -z "$library" ]; then
     library=$work/library.bc
     (cd crates/symdemangle && rt lib)
-    "$here/library.py" crates/symdemangle "$library"
+    tools/portable/proved_module.py crates/symdemangle "$library"
     proved="\"$(cat "$library.proved")\""
 fi
 

@@ -14,16 +14,26 @@ Traceback (most recent call last):
 symdemangle.Refused: malformed symbol at 4
 
 Each call takes the same options: `brief` leaves out template and generic arguments, `no_parameters` what follows a C++ function's
-name, `wide=False` reads the ABI's first grammar alone, `legacy=False` Rust's older names as names of C++, and `limit` is what a text may cost. Names are strings or bytes; where they
-aren't UTF-8, strings have them as surrogates, as file names in Python.
+name, `wide=False` reads the ABI's first grammar alone, `legacy=False` Rust's older names as names of C++, `types` reads a name that
+begins as no symbol does as a C++ type (`PKc`), and `limit`, from 0 to 4294967295, is what a text may cost. Names are strings or bytes;
+where they aren't UTF-8, strings have them as surrogates, as file names in Python.
+
+A call takes up to 226 bytes of memory for a byte of the name, and `press` 523 (measured), whatever the limit. So cut names that someone
+else chose: 4,096 bytes hold nearly all real ones.
 """
 
 from __future__ import annotations
 
 import ctypes
+import operator
 import os
+import re
+import sys
 from dataclasses import dataclass
-from typing import TYPE_CHECKING, Any, BinaryIO, Callable, Iterable, NamedTuple, Union
+from functools import cached_property, lru_cache
+from typing import TYPE_CHECKING, BinaryIO, Callable, Iterable, NamedTuple, Union
+
+from ._stream import Pieces
 
 if TYPE_CHECKING:
     from typing_extensions import TypedDict, Unpack
@@ -35,6 +45,8 @@ if TYPE_CHECKING:
         no_parameters: bool
         wide: bool
         legacy: bool
+        types: bool
+        within: bool
         ascii_words: bool
         limit: int
 
@@ -46,10 +58,13 @@ __all__ = [
 ]
 
 DEFAULT_LIMIT = 1_000_000
-Name = Union[str, bytes]
+_GREATEST_LIMIT = 2**32 - 1
+Name = Union[str, bytes, bytearray, memoryview]
 
-_OK, _MEMORY, _BUFFER = 0, 5, 6
-_BRIEF, _NO_PARAMETERS, _WIDE, _LEGACY, _UNDERSCORE, _ASCII_WORDS = 1, 2, 4, 8, 16, 32
+_OK, _MEMORY, _BUFFER, _FLAGS, _NO_SYMBOL = 0, 5, 6, 8, 11
+_BRIEF, _NO_PARAMETERS, _WIDE, _LEGACY, _UNDERSCORE, _ASCII_WORDS, _WITHIN, _TYPES = (1 << i for i in range(8))
+# What the first library didn't know: where a call is refused for these, it is made again without them.
+_NEWER = _WITHIN | _TYPES
 
 
 class Refused(ValueError):
@@ -80,21 +95,45 @@ class Tally(NamedTuple):
 
 @dataclass(frozen=True)
 class Options:
-    """How names are read and shown. `ascii_words` ends the words of a filtered text at bytes from 0x80."""
+    """How names are read and shown. With `types` a name that begins as no symbol does is read as a C++ type. The words of a filtered text
+    are those of the program `demangle`; with `within=False` those of `symfilt`, which begin where a run does; with `ascii_words` these,
+    ended at bytes from 0x80. A library that is older than `types` and `within` is asked without them."""
 
     brief: bool = False
     no_parameters: bool = False
     wide: bool = True
     legacy: bool = True
+    types: bool = False
+    within: bool = True
     ascii_words: bool = False
     limit: int = DEFAULT_LIMIT
 
-    @property
+    def __post_init__(self) -> None:
+        try:
+            limit = operator.index(self.limit)
+        except TypeError:
+            raise TypeError(f"limit: a whole number is needed, not {type(self.limit).__name__}") from None
+        if not 0 <= limit <= _GREATEST_LIMIT:
+            raise ValueError(f"limit: {limit} isn't from 0 to {_GREATEST_LIMIT}")
+        object.__setattr__(self, "limit", limit)
+
+    @cached_property
     def flags(self) -> int:
-        return (
-            _BRIEF * self.brief + _NO_PARAMETERS * self.no_parameters + _WIDE * self.wide + _LEGACY * self.legacy + _UNDERSCORE
-            + _ASCII_WORDS * self.ascii_words
-        )
+        """The flags of a call that takes names."""
+        asked = {
+            _BRIEF: self.brief, _NO_PARAMETERS: self.no_parameters, _WIDE: self.wide, _LEGACY: self.legacy, _UNDERSCORE: True,
+            _TYPES: self.types,
+        }
+        return sum(flag for flag, is_asked in asked.items() if is_asked)
+
+    @property
+    def words(self) -> int:
+        """The flag of the words of a filtered text, 0 where there is none."""
+        return _ASCII_WORDS if self.ascii_words else _WITHIN if self.within else 0
+
+
+# The options that were asked for last.
+_known_options = lru_cache(64, typed=True)(Options)
 
 
 class _Result(ctypes.Structure):
@@ -109,10 +148,18 @@ class _Tally(ctypes.Structure):
     _fields_ = [("words", ctypes.c_uint64), ("replaced", ctypes.c_uint64), ("refused", ctypes.c_uint64)]
 
 
+# What the library that a wheel brings is called, and an installed one.
+_FILES = {
+    "win32": ("symdemangle.dll", "symdemangle.dll"),
+    "darwin": ("libsymdemangle.dylib", "libsymdemangle.0.1.dylib"),
+}
+
+
 def _load() -> ctypes.CDLL:
     """The library of SYMDEMANGLE_LIBRARY, that which the wheel brought, or the installed one."""
-    own = os.path.join(os.path.dirname(__file__), "libsymdemangle.so")
-    library = ctypes.CDLL(os.environ.get("SYMDEMANGLE_LIBRARY") or (own if os.path.exists(own) else "libsymdemangle.so.0.1"))
+    brought, installed = _FILES.get(sys.platform, ("libsymdemangle.so", "libsymdemangle.so.0.1"))
+    own = os.path.join(os.path.dirname(__file__), brought)
+    library = ctypes.CDLL(os.environ.get("SYMDEMANGLE_LIBRARY") or (own if os.path.exists(own) else installed))
     text, size, number, result = ctypes.c_char_p, ctypes.c_size_t, ctypes.c_uint32, ctypes.POINTER(_Result)
     buffer = [ctypes.c_void_p, size]
     calls = {
@@ -133,20 +180,57 @@ def _load() -> ctypes.CDLL:
 _library = _load()
 
 
-def _bytes(name: Name) -> bytes:
-    return name if isinstance(name, bytes) else name.encode("utf-8", "surrogateescape")
+def _asked(options: Keywords) -> Options:
+    try:
+        return _known_options(**options)
+    except TypeError:
+        return Options(**options)  # which says what is wrong
+
+
+def _bytes(given: Name, argument: str) -> bytes:
+    """The bytes of a name or text. UnicodeEncodeError where a string has none, as half of a surrogate pair."""
+    if isinstance(given, str):
+        return given.encode("utf-8", "surrogateescape")
+    return _given_bytes(given, argument, "str or bytes")
+
+
+def _given_bytes(given: Union[bytes, bytearray, memoryview], argument: str, needed: str = "bytes") -> bytes:
+    if isinstance(given, bytes):
+        return given
+    if isinstance(given, (bytearray, memoryview)):
+        return bytes(given)
+    raise TypeError(f"{argument}: {needed} is needed, not {type(given).__name__}")
+
+
+def _name(given: Name) -> bytes:
+    """The bytes of a name. A string that has none is no symbol."""
+    try:
+        return _bytes(given, "name")
+    except UnicodeEncodeError:
+        raise Refused(_NO_SYMBOL, 0) from None
 
 
 def _string(text: bytes) -> str:
     return text.decode("utf-8", "surrogateescape")
 
 
-def _written(call: Callable[..., int], room: int = 2048) -> bytes:
+def _shown(name: Name) -> str:
+    """A name as it is."""
+    return name if isinstance(name, str) else _string(bytes(name))
+
+
+def _told(call: Callable[[int], int], flags: int) -> int:
+    """The status of a call with these flags, or without the newer ones where the library doesn't know them."""
+    status = call(flags)
+    return call(flags & ~_NEWER) if status == _FLAGS and flags & _NEWER else status
+
+
+def _written(call: Callable[..., int], flags: int, room: int = 2048) -> bytes:
     """What a call writes into a buffer that is large enough."""
     result = _Result()
     while True:
         buffer = ctypes.create_string_buffer(room)
-        status = call(buffer, room, ctypes.byref(result))
+        status = _told(lambda known: call(known, buffer, room, ctypes.byref(result)), flags)
         if status == _OK:
             return ctypes.string_at(buffer, result.length)
         if status == _MEMORY:
@@ -157,7 +241,7 @@ def _written(call: Callable[..., int], room: int = 2048) -> bytes:
 
 
 def _text(name: bytes, options: Options) -> bytes:
-    return _written(lambda *buffer: _library.symdemangle_text(name, len(name), options.limit, options.flags, *buffer))
+    return _written(lambda flags, *buffer: _library.symdemangle_text(name, len(name), options.limit, flags, *buffer), options.flags)
 
 
 def library_version() -> int:
@@ -167,7 +251,7 @@ def library_version() -> int:
 
 def try_demangle(name: Name, **options: Unpack[Keywords]) -> str:
     """The text of a name; Refused says why it has none."""
-    return _string(_text(_bytes(name), Options(**options)))
+    return _string(_text(_name(name), _asked(options)))
 
 
 def demangle(name: Name, **options: Unpack[Keywords]) -> str:
@@ -175,91 +259,115 @@ def demangle(name: Name, **options: Unpack[Keywords]) -> str:
     try:
         return try_demangle(name, **options)
     except Refused:
-        return name if isinstance(name, str) else _string(name)
+        return _shown(name)
+
+
+def _joined(names: list[Name]) -> tuple[bytes, ctypes.Array[ctypes.c_size_t]]:
+    """The bytes of many names, one after the other, and where each ends. A string that has none is empty, so no symbol."""
+    each = []
+    for name in names:
+        try:
+            each.append(_bytes(name, "names"))
+        except UnicodeEncodeError:
+            each.append(b"")
+    ends, at = (ctypes.c_size_t * len(each))(), 0
+    for i, name in enumerate(each):
+        at += len(name)
+        ends[i] = at
+    return b"".join(each), ends
 
 
 def demangle_all(names: Iterable[Name], **options: Unpack[Keywords]) -> list[str]:
     """The texts of many names by one call of the library, or the names where they have none."""
-    asked = Options(**options)
-    each = [_bytes(name) for name in names]
-    joined, ends, at = b"".join(each), (ctypes.c_size_t * len(each))(), 0
-    for i, name in enumerate(each):
-        at += len(name)
-        ends[i] = at
+    asked, given = _asked(options), list(names)
+    joined, ends = _joined(given)
     room = 4 * len(joined) + 4096
-    buffer, results = ctypes.create_string_buffer(room), (_Result * len(each))()
-    _library.symdemangle_texts(joined, len(joined), ends, len(each), asked.limit, asked.flags, buffer, room, results)
+    buffer, results = ctypes.create_string_buffer(room), (_Result * len(given))()
+
+    def call(flags: int) -> int:
+        return int(_library.symdemangle_texts(joined, len(joined), ends, len(given), asked.limit, flags, buffer, room, results))
+
+    if _told(call, asked.flags) != _OK:
+        return [_shown(name) for name in given]
     written, texts, at = memoryview(buffer), [], 0
-    for name, result in zip(each, results):
+    for name, result in zip(given, results):
         if result.status == _OK:
             texts.append(_string(bytes(written[at : at + result.length])))
             at += result.length
         elif result.status in (_BUFFER, _MEMORY):
             texts.append(demangle(name, **options))
         else:
-            texts.append(_string(name))
+            texts.append(_shown(name))
     return texts
 
 
 def _filtered(text: bytes, options: Options) -> tuple[bytes, Tally]:
     tally = _Tally()
 
-    def call(*buffer: Any) -> int:
-        *room, result = buffer
-        return int(
-            _library.symdemangle_filter(text, len(text), options.limit, options.flags, *room, ctypes.byref(tally), result)
-        )
+    def call(flags: int, buffer: object, room: int, result: object) -> int:
+        told = ctypes.byref(tally)
+        return int(_library.symdemangle_filter(text, len(text), options.limit, flags, buffer, room, told, result))
 
-    filtered = _written(call, 2 * len(text) + 4096)
+    # a filtered text has no types
+    filtered = _written(call, options.flags & ~_TYPES | options.words, 2 * len(text) + 4096)
     return filtered, Tally(tally.words, tally.replaced, tally.refused)
 
 
-def filter_bytes(text: bytes, **options: Unpack[Keywords]) -> bytes:
+def filter_bytes(text: Union[bytes, bytearray, memoryview], **options: Unpack[Keywords]) -> bytes:
     """A text with each word that is a symbol replaced by its text."""
-    return _filtered(text, Options(**options))[0]
+    return _filtered(_given_bytes(text, "text"), _asked(options))[0]
 
 
-def filter_text(text: str, **options: Unpack[Keywords]) -> str:
-    """The same of a string."""
-    return _string(filter_bytes(_bytes(text), **options))
+# What of a string has no bytes.
+_WITHOUT_BYTES = re.compile("([\ud800-\udc7f\udd00-\udfff]+)")
 
 
-# Bytes of words are letters here, all others blanks.
-_LETTERS = bytes(
-    ord("a") if byte >= 0x80 or chr(byte).isalnum() or chr(byte) in "_.$" else ord(" ") for byte in range(256)
-)
+def filter_text(text: Name, **options: Unpack[Keywords]) -> str:
+    """The same of a string. What of it has no bytes, as half of a surrogate pair, belongs to no word."""
+    asked = _asked(options)
+    try:
+        return _string(_filtered(_bytes(text, "text"), asked)[0])
+    except UnicodeEncodeError:
+        parts = _WITHOUT_BYTES.split(_shown(text))
+        parts[::2] = [_string(_filtered(_bytes(part, "text"), asked)[0]) for part in parts[::2]]
+        return "".join(parts)
 
 
 def filter_stream(source: BinaryIO, sink: BinaryIO, **options: Unpack[Keywords]) -> Tally:
     """Writes what a source gives to a sink, with each word that is a symbol replaced by its text, as soon as whole words are there.
-    It holds one piece of the source, and the longest word."""
-    asked = Options(**options)
+    It holds one piece of the source, and a run of up to 131,072 bytes."""
+    asked, total = _asked(options), Tally(0, 0, 0)
+
+    def filtered(text: bytes) -> bytes:
+        nonlocal total
+        made, tally = _filtered(text, asked)
+        total = Tally(*(a + b for a, b in zip(total, tally)))
+        return made
+
+    def write(text: bytes) -> None:
+        sink.write(text)
+        sink.flush()
+
     read = getattr(source, "read1", source.read)
-    total, held = Tally(0, 0, 0), b""
+    pieces = Pieces(filtered, write, asked.words == _WITHIN, asked.ascii_words)
     while True:
         piece = read(1 << 16)
-        held += piece
-        cut = held.translate(_LETTERS).rfind(b" ") + 1 if piece else len(held)
-        if cut:
-            filtered, tally = _filtered(held[:cut], asked)
-            sink.write(filtered)
-            sink.flush()
-            total = Tally(*(a + b for a, b in zip(total, tally)))
-            held = held[cut:]
         if not piece:
+            pieces.end()
             return total
+        pieces.push(piece)
 
 
 def press(name: Name) -> str:
     """The spelling of a name in which each part that repeats is a reference, so that different spellings of the same symbol become
     equal; Refused says why there is none."""
-    given = _bytes(name)
-    return _string(_written(lambda *buffer: _library.symdemangle_press(given, len(given), _UNDERSCORE, *buffer)))
+    given = _name(name)
+    return _string(_written(lambda flags, *buffer: _library.symdemangle_press(given, len(given), flags, *buffer), _UNDERSCORE))
 
 
 def counts(name: Name, *, wide: bool = True) -> Counts:
     """The work that reading a name takes; Refused says why it isn't read."""
-    given, made, result = _bytes(name), _Counts(), _Result()
+    given, made, result = _name(name), _Counts(), _Result()
     flags = Options(wide=wide).flags
     status = _library.symdemangle_count(given, len(given), flags, ctypes.byref(made), ctypes.byref(result))
     if status == _MEMORY:

@@ -5,6 +5,9 @@
 //! before either an underscore may be, as on macOS.
 //! Names in a symbol are bytes, so texts are bytes too; what shows itself has U+FFFD for what isn't UTF-8.
 //!
+//! A call takes up to 226 bytes of memory for a byte of the name, and [`press_into`] 523 (measured), whatever the limit. So names that someone
+//! else chose should be cut: 4,096 bytes hold nearly all real ones.
+//!
 //! ```
 //! assert_eq!(symdemangle::demangle("_RNvC3foo3bar").to_string(), "foo::bar");
 //! assert_eq!(symdemangle::demangle("_ZN3foo3barEPKc").to_string(), "foo::bar(char const*)");
@@ -17,15 +20,15 @@
 //!
 //! # The library
 //!
-//! The crate links `libsymdemangle.a`, which symfilt's packages and its `tools/install.sh --libraries PREFIX` install;
-//! `SYMDEMANGLE_DIR` names its folder where that isn't a usual one. The feature `unlinked` looks for none, to check or to document
-//! code without it. The crate needs `alloc` and not `std`.
+//! The crate brings the library as one C file and compiles it. With the feature `installed` it links `libsymdemangle.a` instead;
+//! `SYMDEMANGLE_DIR` names its folder where that isn't a usual one. The feature `unlinked` does neither, to check or to document
+//! code without a library. The crate needs `alloc` and not `std`.
 //!
 //! # Coming from `rustc-demangle`
 //!
 //! | `rustc_demangle` | here |
 //! |---|---|
-//! | `demangle(s)`, shown by `{}` or `{:#}` | [`demangle`]`(s)`, the same |
+//! | `demangle(s)`, shown by `{}`, `{:#}` or `{:?}` | [`demangle`]`(s)`, the same |
 //! | `try_demangle(s)` | [`try_demangle`]`(s)` |
 //! | `Demangle::as_str` | [`Demangle::as_str`] |
 //! | `demangle_line(..)` | [`filter_into`] |
@@ -82,6 +85,9 @@ pub enum Error {
     TooManyBytes,
     /// It begins as no symbol does.
     NoSymbol,
+    /// The library that was linked is older than an option that was asked for. No option of this version is answered so: over a library
+    /// that doesn't know [`Options::within`] or [`Options::types`], calls do without.
+    OlderLibrary,
 }
 
 impl fmt::Display for Error {
@@ -94,6 +100,7 @@ impl fmt::Display for Error {
             Error::Memory => f.write_str("out of memory"),
             Error::TooManyBytes => f.write_str("more than 16777216 bytes"),
             Error::NoSymbol => f.write_str("not a symbol"),
+            Error::OlderLibrary => f.write_str("the library is too old for an option"),
         }
     }
 }
@@ -109,6 +116,8 @@ pub struct Options {
     no_parameters: bool,
     wide: bool,
     legacy: bool,
+    types: bool,
+    within: bool,
     ascii_words: bool,
     limit: u32,
 }
@@ -120,6 +129,8 @@ impl Default for Options {
             no_parameters: false,
             wide: true,
             legacy: true,
+            types: false,
+            within: true,
             ascii_words: false,
             limit: DEFAULT_LIMIT,
         }
@@ -149,7 +160,19 @@ impl Options {
         Options { legacy, ..self }
     }
 
-    /// Ends words at bytes from 0x80, as at typographic quotes, where a text is filtered.
+    /// Reads a name that begins as no symbol does as a C++ type, as `typeid(x).name()` gives it. Over a library that is older than this
+    /// option no types are read.
+    pub const fn types(self, types: bool) -> Options {
+        Options { types, ..self }
+    }
+
+    /// Finds the words of a text as the program `demangle` does, also within runs: in the names of sections, in typographic quotes, after
+    /// escapes. It is the default. Else, and over a library that is older than this option, a word begins where a run of its letters does.
+    pub const fn within(self, within: bool) -> Options {
+        Options { within, ..self }
+    }
+
+    /// Begins words where runs do, and ends them at bytes from 0x80, where a text is filtered: in place of [`Options::within`].
     pub const fn ascii_words(self, ascii_words: bool) -> Options {
         Options { ascii_words, ..self }
     }
@@ -164,6 +187,12 @@ impl Options {
     pub fn demangle(self, name: &str) -> Demangle<'_> {
         let text = self.text(name.as_bytes()).ok();
         Demangle { name, text }
+    }
+
+    /// The bytes of a name's text, or of the name where it has none: for names that may be no UTF-8.
+    #[must_use]
+    pub fn demangle_bytes(self, name: &[u8]) -> Cow<'_, [u8]> {
+        self.text(name).map_or(Cow::Borrowed(name), Cow::Owned)
     }
 
     /// A name that has a text.
@@ -190,6 +219,18 @@ pub fn demangle(name: &str) -> Demangle<'_> {
     Options::default().demangle(name)
 }
 
+/// The bytes of a name's text, or of the name where it has none, by [`Options::default`]: for names that may be no UTF-8, which names of
+/// C++ may be.
+///
+/// ```
+/// assert_eq!(*symdemangle::demangle_bytes(b"_Z2f\xffv"), *b"f\xff()");
+/// assert_eq!(*symdemangle::demangle_bytes(b"main\xff"), *b"main\xff");
+/// ```
+#[must_use]
+pub fn demangle_bytes(name: &[u8]) -> Cow<'_, [u8]> {
+    Options::default().demangle_bytes(name)
+}
+
 /// A name that has a text, by [`Options::default`].
 ///
 /// # Errors
@@ -201,8 +242,8 @@ pub fn try_demangle(name: &str) -> Result<Demangle<'_>, Error> {
 
 /// A name that shows itself by its text, or as it is where it has none.
 ///
-/// `{:#}` is `{}` without the hash at the end of Rust's older mangling. Texts of v0 symbols have none.
-#[derive(Clone, Debug, PartialEq, Eq, Hash)]
+/// `{:#}` is `{}` without the hash at the end of Rust's older mangling. Texts of v0 symbols have none. `{:?}` is `{}`.
+#[derive(Clone, PartialEq, Eq, Hash)]
 pub struct Demangle<'a> {
     name: &'a str,
     text: Option<Vec<u8>>,
@@ -263,6 +304,12 @@ impl fmt::Display for Demangle<'_> {
     }
 }
 
+impl fmt::Debug for Demangle<'_> {
+    fn fmt(&self, f: &mut fmt::Formatter<'_>) -> fmt::Result {
+        fmt::Display::fmt(self, f)
+    }
+}
+
 /// The work that a symbol of n bytes made.
 #[repr(C)]
 #[derive(Clone, Copy, Debug, Default, PartialEq, Eq, Hash)]
@@ -315,7 +362,7 @@ pub fn demangle_into(name: &[u8], options: Options, buffer: &mut Vec<u8>) -> Res
     write_into(buffer, |buffer| library::text(name, options, buffer))
 }
 
-/// Puts a text into `buffer` with each word that is a symbol replaced by its text, as the program's filter does, and says how
+/// Puts a text into `buffer` with each word that is a symbol replaced by its text, as the program `demangle` does, and says how
 /// many such words it has. One set of lists serves all words; a word that is refused stays as it is.
 ///
 /// # Errors
@@ -379,10 +426,12 @@ impl<'a> Block<'a> {
         self.outcomes.resize(self.names.len(), Outcome::default());
         self.buffer.resize(4 * Self::BYTES, 0);
         let status = library::texts(&self.bytes, &self.ends, options, &mut self.buffer, &mut self.outcomes);
-        debug_assert!(status == Status::OK);
+        let refused = status.answer(0).err();
         let mut from = 0;
         for (name, outcome) in self.names.drain(..).zip(&self.outcomes) {
-            if outcome.status == Status::BUFFER {
+            if let Some(error) = refused {
+                each(name, Err(error));
+            } else if outcome.status == Status::BUFFER {
                 let answer = demangle_into(name, options, &mut self.alone);
                 each(name, answer.map(|()| self.alone.as_slice()));
             } else if let Err(error) = outcome.answer() {

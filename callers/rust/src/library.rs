@@ -19,13 +19,20 @@ pub struct Status(u32);
 impl Status {
     pub const OK: Status = Status(0);
     pub const BUFFER: Status = Status(6);
+    const FLAGS: Status = Status(8);
 }
 
 impl Outcome {
-    /// What it means, of a call whose buffer was large enough and whose flags it knows.
+    /// What it means, of a call whose buffer was large enough.
     pub fn answer(self) -> Result<(), Error> {
-        let at = self.offset;
-        match self.status.0 {
+        self.status.answer(self.offset)
+    }
+}
+
+impl Status {
+    /// What it means with this offset, of a call whose buffer was large enough.
+    pub fn answer(self, at: u32) -> Result<(), Error> {
+        match self.0 {
             0 => Ok(()),
             1 => Err(Error::Malformed { at }),
             2 => Err(Error::BadReference { at }),
@@ -33,6 +40,7 @@ impl Outcome {
             4 => Err(Error::TooLong),
             5 => Err(Error::Memory),
             7 => Err(Error::TooManyBytes),
+            8 => Err(Error::OlderLibrary),
             11 => Err(Error::NoSymbol),
             other => unreachable!("status {other}"),
         }
@@ -88,7 +96,11 @@ unsafe extern "C" {
 }
 
 const UNDERSCORE: u32 = 16;
+const ASCII_WORDS: u32 = 32;
+const WITHIN: u32 = 64;
+const TYPES: u32 = 128;
 
+/// The flags of a call that takes names.
 fn flags(options: Options) -> u32 {
     let flag = |is_set, flag| if is_set { flag } else { 0 };
     flag(options.brief, 1)
@@ -96,7 +108,26 @@ fn flags(options: Options) -> u32 {
         | flag(options.wide, 4)
         | flag(options.legacy, 8)
         | UNDERSCORE
-        | flag(options.ascii_words, 32)
+        | flag(options.types, TYPES)
+}
+
+/// The flags of a call that filters a text, which has no types.
+fn flags_of_words(options: Options) -> u32 {
+    let words = match options {
+        Options { ascii_words: true, .. } => ASCII_WORDS,
+        Options { within: true, .. } => WITHIN,
+        _ => 0,
+    };
+    flags(options.types(false)) | words
+}
+
+/// Calls with these flags, and without the newer ones where the library is older than they are.
+fn told(flags: u32, mut call: impl FnMut(u32) -> Status) -> Status {
+    let older = flags & !(WITHIN | TYPES);
+    match call(flags) {
+        Status::FLAGS if older != flags => call(older),
+        status => status,
+    }
 }
 
 // SAFETY, of each call below: a slice's pointer isn't null and is valid for its length; what is lent to be written is borrowed
@@ -104,17 +135,17 @@ fn flags(options: Options) -> u32 {
 
 pub fn text(name: &[u8], options: Options, buffer: &mut [u8]) -> Outcome {
     let mut outcome = Outcome::default();
-    unsafe {
+    told(flags(options), |flags| unsafe {
         symdemangle_text(
             name.as_ptr(),
             name.len(),
             options.limit,
-            flags(options),
+            flags,
             buffer.as_mut_ptr(),
             buffer.len(),
             &mut outcome,
         )
-    };
+    });
     outcome
 }
 
@@ -127,41 +158,42 @@ pub fn texts(
     outcomes: &mut [Outcome],
 ) -> Status {
     assert_eq!(ends.len(), outcomes.len());
-    unsafe {
+    told(flags(options), |flags| unsafe {
         symdemangle_texts(
             names.as_ptr(),
             names.len(),
             ends.as_ptr(),
             ends.len(),
             options.limit,
-            flags(options),
+            flags,
             buffer.as_mut_ptr(),
             buffer.len(),
             outcomes.as_mut_ptr(),
         )
-    }
+    })
 }
 
 pub fn filter(text: &[u8], options: Options, buffer: &mut [u8], tally: &mut Tally) -> Outcome {
     let mut outcome = Outcome::default();
-    unsafe {
+    told(flags_of_words(options), |flags| unsafe {
         symdemangle_filter(
             text.as_ptr(),
             text.len(),
             options.limit,
-            flags(options),
+            flags,
             buffer.as_mut_ptr(),
             buffer.len(),
             tally,
             &mut outcome,
         )
-    };
+    });
     outcome
 }
 
 pub fn count(name: &[u8], options: Options, counts: &mut Counts) -> Outcome {
     let mut outcome = Outcome::default();
-    unsafe { symdemangle_count(name.as_ptr(), name.len(), flags(options), counts, &mut outcome) };
+    let flags = flags(options.types(false));
+    unsafe { symdemangle_count(name.as_ptr(), name.len(), flags, counts, &mut outcome) };
     outcome
 }
 

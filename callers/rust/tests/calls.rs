@@ -1,6 +1,11 @@
 use symdemangle::{
-    Counts, Error, Options, Tally, counts, demangle, demangle_into, filter_into, for_each_text, press_into, try_demangle,
+    Counts, Error, Options, Tally, counts, demangle, demangle_bytes, demangle_into, filter_into, for_each_text, press_into, try_demangle,
 };
+
+/// Whether the library is one that doesn't know types and words within runs (tests/callers/older.c).
+fn is_older() -> bool {
+    std::env::var_os("SYMDEMANGLE_OLDER").is_some()
+}
 
 /// By the ABI's first grammar, at a limit.
 fn plain(limit: u32) -> Options {
@@ -108,10 +113,52 @@ fn a_text_with_symbols_in_it() {
     assert_eq!(buffer, b"at foo::bar. (_RNvC3fo) A::A()");
     assert_eq!(tally, Tally { words: 3, replaced: 2, refused: 1 });
     let quoted = "\u{2018}_Z1fv\u{2019}".as_bytes();
-    filter_into(quoted, Options::default(), &mut buffer).unwrap();
+    filter_into(quoted, Options::default().within(false), &mut buffer).unwrap();
     assert_eq!(buffer, quoted);
     filter_into(quoted, Options::default().ascii_words(true), &mut buffer).unwrap();
     assert_eq!(buffer, "\u{2018}f()\u{2019}".as_bytes());
+}
+
+#[test]
+fn words_within_runs() {
+    let mut buffer = Vec::new();
+    let texts = [
+        (".text._ZN1A1fEv", ".text.A::f()"),
+        ("\u{2018}_Z1fv\u{2019}", "\u{2018}f()\u{2019}"),
+        ("__imp__Z1fv", "__imp_f()"),
+        ("self._Zoom", "self._Zoom"),
+    ];
+    for (text, filtered) in texts {
+        filter_into(text.as_bytes(), Options::default().types(true), &mut buffer).unwrap();
+        assert_eq!(buffer, if is_older() { text } else { filtered }.as_bytes());
+    }
+    filter_into(b"at _Z1fv", Options::default(), &mut buffer).unwrap();
+    assert_eq!(buffer, b"at f()");
+}
+
+#[test]
+fn types() {
+    let types = Options::default().types(true);
+    let text = if is_older() { "PKc" } else { "char const*" };
+    assert_eq!(types.demangle("PKc").to_string(), text);
+    assert_eq!(types.demangle("_Z1fv").to_string(), "f()");
+    assert_eq!(types.demangle("?").to_string(), "?");
+    assert_eq!(demangle("PKc").to_string(), "PKc");
+    assert!(counts(b"_Z1fv", types).is_ok());
+    let mut all = Vec::new();
+    for_each_text([b"_Z1fv".as_slice(), b"PKc", b"?"], types, |name, text| {
+        all.extend_from_slice(text.unwrap_or(name));
+        all.push(b' ');
+    });
+    assert_eq!(String::from_utf8(all).unwrap(), format!("f() {text} ? "));
+}
+
+#[test]
+fn names_that_are_bytes() {
+    assert_eq!(*demangle_bytes(b"_Z2f\xffv"), *b"f\xff()");
+    assert_eq!(*demangle_bytes(b"_RNvC3foo3bar"), *b"foo::bar");
+    assert_eq!(*demangle_bytes(b"main\xff"), *b"main\xff");
+    assert_eq!(*Options::default().limit(3).demangle_bytes(b"_Z1fv"), *b"_Z1fv");
 }
 
 #[test]
@@ -123,6 +170,11 @@ fn a_name_shows_itself() {
     assert_eq!(name.text(), Some(b"<foo::A<u8>>::baz".as_slice()));
     assert_eq!(demangle("main").to_string(), "main");
     assert_eq!(demangle("main").text(), None);
+    assert_eq!(format!("{name:?}"), "<foo::A<u8>>::baz");
+    assert_eq!(format!("{:?}", demangle("main")), "main");
+    let older = "_ZN4core9panicking5panic17h0123456789abcdefE";
+    assert_eq!(format!("{:?}", demangle(older)), "core::panicking::panic::h0123456789abcdef");
+    assert_eq!(format!("{:#?}", demangle(older)), "core::panicking::panic");
     assert_eq!(demangle("_Z1f\u{fc}v").to_string(), "_Z1f\u{fc}v");
     assert_eq!(demangle("_Z2\u{fc}v").to_string(), "\u{fc}()");
 }

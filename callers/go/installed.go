@@ -1,0 +1,6 @@
+//go:build symdemangle_installed
+
+package symdemangle
+
+// #cgo pkg-config: symdemangle
+import "C"

@@ -1,0 +1,56 @@
+/** What a text may cost where nothing else is said: its bytes, and 1 for each item that it is put together from. */
+export const DEFAULT_LIMIT: 1000000;
+
+/** How names are read and shown. */
+export interface Options {
+    /** Leaves out template and generic arguments. */
+    brief?: boolean;
+    /** Leaves out what follows a C++ function's name, and its return type. */
+    noParameters?: boolean;
+    /** Reads newer and rarer C++ forms, too: true where nothing else is said. */
+    wide?: boolean;
+    /** Shows Rust's older names as Rust paths: true where nothing else is said. */
+    legacy?: boolean;
+    /** What a text may cost, from 0 to 4,294,967,295. 25,000 is ample for names that someone else chose. */
+    limit?: number;
+}
+
+/** How many words of a text begin as symbols do, were replaced by a text, and were not. */
+export interface Tally {
+    words: number;
+    replaced: number;
+    refused: number;
+}
+
+/** The work that a symbol of n bytes made: at most 4n + 4 rows, 4n + 8 nodes and 32n + 48 steps. */
+export interface Counts {
+    rows: number;
+    nodes: number;
+    steps: number;
+}
+
+/** Why a name has no text. */
+export class Refused extends Error {
+    /** One of the numbers of symdemangle_status. */
+    readonly status: number;
+    /** How many bytes are before the first bad one. */
+    readonly offset: number;
+}
+
+/** The text of a name, or the name where it has none. */
+export function demangle(name: string | Uint8Array, options?: Options): string;
+/** The text of a name; throws Refused where it has none. */
+export function tryDemangle(name: string | Uint8Array, options?: Options): string;
+/** The texts of many names, or the names where they have none. */
+export function demangleAll(names: Iterable<string | Uint8Array>, options?: Options): string[];
+/** A text with each word that is a symbol replaced by its text. */
+export function filterText(text: string, options?: Options): string;
+/** The same of bytes, and how many such words there were. */
+export function filterBytes(text: string | Uint8Array, options?: Options): { bytes: Uint8Array; tally: Tally };
+/** The spelling of a name in which each part that repeats is a reference, so that different spellings of the same symbol become equal;
+ *  throws Refused where there is none. */
+export function press(name: string | Uint8Array): string;
+/** The work that reading a name takes; throws Refused where it isn't read. */
+export function counts(name: string | Uint8Array, options?: { wide?: boolean }): Counts;
+/** The library's version, as "0.1.0". */
+export function version(): string;

@@ -1,0 +1,52 @@
+#!/bin/bash
+# The recipes of dist/packaging, over a folder that tools/portable/make.sh made: tests/packaged/recipes.sh DIST WORK
+#
+# Debian's package is built and looked at by lintian, vcpkg's is built by CMake alone; those of conda, Homebrew and nix are read. FULL=yes in
+# the environment has Debian's optimised and its tests run, as a release does. What isn't installed is named and left out.
+set -euo pipefail
+cd "$(dirname "$0")/../.."
+dist=$(realpath "$1")
+mkdir -p "$2"
+work=$(cd "$2" && pwd)
+recipes=dist/packaging
+
+has() { # has PROGRAM WHAT : whether a program is installed
+    command -v "$1" >/dev/null || { echo "$1 isn't installed: $2 isn't tested"; return 1; }
+}
+quiet() { # quiet COMMAND.. : what it prints is shown where it fails
+    "$@" >"$work/out" 2>&1 || { tail -n 40 "$work/out"; return 1; }
+}
+
+# One version in every place that tells one.
+version=$(sed -n 's/^#define SYMDEMANGLE_VERSION_[A-Z]* \([0-9]*\)$/\1/p' callers/c/symdemangle.h | paste -sd .)
+for line in "debian/changelog:symdemangle ($version-1)" "conda/meta.yaml:version: \"$version\"" "homebrew/symdemangle.rb:symdemangle-c-$version.tar" \
+    "nix/default.nix:version = \"$version\"" "vcpkg/vcpkg.json:\"version\": \"$version\"" "../../callers/npm/package.json:\"version\": \"$version\""; do
+    grep -qF "${line#*:}" "$recipes/${line%%:*}" || { echo "${line%%:*} isn't of version $version"; exit 1; }
+done
+
+! has ruby "Homebrew's recipe" || quiet ruby -c $recipes/homebrew/symdemangle.rb
+! has nix-instantiate "nix's recipe" || quiet nix-instantiate --parse $recipes/nix/default.nix
+if python3 -c 'import yaml' 2>/dev/null; then
+    quiet python3 -c 'import sys, yaml; it = yaml.safe_load(open(sys.argv[1])); assert it["build"]["script"] and it["test"]["commands"]' $recipes/conda/meta.yaml
+else
+    echo "Python's yaml isn't installed: conda's recipe isn't tested"
+fi
+quiet python3 -m json.tool $recipes/vcpkg/vcpkg.json
+source=$work/symdemangle-$version
+rm -rf "$source"
+cp -r "$dist" "$source"
+rm -rf "$source/packaging"
+cp -r $recipes "$source/packaging"
+! has cmake "vcpkg's recipe" || quiet cmake "-DDIST=$source" "-DOUT=$work/vcpkg" -P tests/packaged/vcpkg.cmake
+
+if has dpkg-buildpackage "Debian's recipe" && has dh "Debian's recipe"; then
+    cp -r $recipes/debian "$source/debian"
+    (cd "$source" && DEB_BUILD_OPTIONS="parallel=1${FULL:- nocheck noopt}" quiet dpkg-buildpackage -us -uc -b)
+    for package in symdemangle libsymdemangle0.1 libsymdemangle-dev; do
+        dpkg-deb -x "$work/${package}_$version-1_$(dpkg --print-architecture).deb" "$work/root"
+    done
+    [ "$("$work/root/usr/bin/demangle" _Z1fv)" = 'f()' ] && [ "$("$work/root/usr/bin/symfilt" _Z1fv)" = 'f()' ] || { echo "Debian's programs"; exit 1; }
+    ! has lintian "what lintian finds in Debian's packages" || quiet lintian --allow-root --fail-on error,warning \
+        --suppress-tags bogus-mail-host,bogus-mail-host-in-debian-changelog,initial-upload-closes-no-bugs,hardening-no-fortify-functions "$work"/*.changes
+fi
+echo 'recipes: ok'
