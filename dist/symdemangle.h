@@ -1,0 +1,193 @@
+/* The names that C++ and Rust compilers give to functions and data (Itanium C++ ABI 5.1; RFC 2603, "v0", and Rust's older
+   mangling), demangled within a limit on what a text costs. The steps of a call grow no faster than the bytes that it is given
+   and the texts that the limit allows, and no call recurses ("What a call takes", below).
+
+   The shortest way, for a C string:
+
+       char *text = symdemangle_string("_ZN3foo3barEPKc", SYMDEMANGLE_WIDE + SYMDEMANGLE_LEGACY);
+       puts(text ? text : "not a symbol");                    // foo::bar(char const*)
+       symdemangle_free(text);
+
+   Without an allocation for the text, with a reason where there is none; 4 KiB serve nearly all symbols, and a second call the
+   others:
+
+       char few[4096], *text = few;
+       symdemangle_result result;
+       size_t capacity = sizeof few;
+       while (symdemangle_text(name, length, SYMDEMANGLE_DEFAULT_LIMIT, SYMDEMANGLE_WIDE, text, capacity, &result)
+              == SYMDEMANGLE_BUFFER && text == few)
+           text = malloc(capacity = result.length);           // null is answered SYMDEMANGLE_NULL
+       if (result.status == SYMDEMANGLE_OK)
+           printf("%.*s\n", (int)result.length, text);
+       else
+           fprintf(stderr, "%s at byte %u\n", symdemangle_message(result.status), (unsigned)result.offset);
+       if (text != few)
+           free(text);
+
+   A call without a buffer, to learn the length first, does all the work, and the second call does it again.
+
+   Who has many names gives them to one call, symdemangle_texts. Who meets them one by one, as a profiler does, links
+   libsymdemangle_arena.a and lends it a block (symdemangle_arena.h): such a call takes 12 % fewer instructions for C++ names
+   and 16 % fewer for Rust's, and no malloc.
+
+   It needs C from C99 on, or C++ from C++11 on (symdemangle.hpp has the same for std::string), and a library for 64-bit x86
+   Linux, the only machine that it is built for. Each call is a function of the library, so other languages call them by the
+   same names.
+
+   What holds of every call:
+   - It answers one of the numbers of symdemangle_status. With any answer but SYMDEMANGLE_OK buffer, counts and tally stay as they
+     are; with it, what follows the text in the buffer does.
+   - A name is bytes with a length, and needs no 0 byte. A text gets no 0 byte after it; symdemangle_string alone takes a C string
+     and makes one.
+   - Bytes, ends, results and buffer may be null where their length is 0, and a tally always. Any other null is SYMDEMANGLE_NULL.
+   - What is lent to one call doesn't overlap, and no other thread touches it during the call.
+   - The calls are thread-safe: they share no state, and hold no memory after they return (except for what symdemangle_string makes).
+   - None recurses on its input; the most stack that was measured is below 16 KiB, malloc's part included.
+   - They call malloc, realloc and free, so they must not run in a signal handler, nor in the forked child of a process that
+     has threads. symdemangle_arena.h has the library that calls none of these.
+
+   What a call takes:
+   - A symbol of n bytes is read in at most 32n + 48 steps, into at most 4n + 4 rows and 4n + 8 nodes, and its text is written
+     in at most `limit` + 1 steps. This is proved. symdemangle_press takes no limit.
+   - How many bytes of memory that takes isn't proved. Measured were up to 226 for each byte of a name, and 523 by
+     symdemangle_press, whatever the limit; the text is beside that. The longest name, of 16,777,216 bytes, would take 3.6 GB, and
+     8.4 GB pressed. So leave out names of such a length that someone else chose.
+   - symdemangle_filter keeps at most as many bytes of the filtered text as the buffer has; besides, it takes what one word of at
+     most 65,536 bytes and its text take.
+
+   What stays, from one release to the next:
+   - With the same first two numbers of the version: the names here, their types, the numbers of the statuses and flags, and
+     every text. A program that was linked with an earlier one of these may be run with a later one.
+   - A change of any of these changes the second number (the first, from 1.0 on), the shared library's name with it
+     (libsymdemangle.so.0.1), and is in CHANGELOG.md. New calls, flags, and statuses of these may come with any version. */
+#ifndef SYMDEMANGLE_H
+#define SYMDEMANGLE_H
+
+#include <stddef.h>
+#include <stdint.h>
+
+#define SYMDEMANGLE_VERSION_MAJOR 0
+#define SYMDEMANGLE_VERSION_MINOR 1
+#define SYMDEMANGLE_VERSION_PATCH 0
+/* One number, which rises from each version to the next. */
+#define SYMDEMANGLE_VERSION                                                                                                    \
+    (SYMDEMANGLE_VERSION_MAJOR * 1000000 + SYMDEMANGLE_VERSION_MINOR * 1000 + SYMDEMANGLE_VERSION_PATCH)
+
+/* What a text may cost where a caller has no limit of its own: its bytes, and 1 for each item that it is put together from. The
+   costliest of 353,228 real Rust symbols costs 12,204, so 25,000 is ample for names that someone else chose. */
+#define SYMDEMANGLE_DEFAULT_LIMIT 1000000
+
+#ifdef __cplusplus
+extern "C" {
+#endif
+
+/* What a call answers; 1 to 5 are the refusals of a symbol. */
+enum symdemangle_status {
+    SYMDEMANGLE_OK = 0,
+    SYMDEMANGLE_MALFORMED = 1,     /* `offset`: how many bytes are before the first one that no symbol has there */
+    SYMDEMANGLE_BAD_REFERENCE = 2, /* `offset`: the same for the first reference that names nothing */
+    SYMDEMANGLE_BAD_VALUE = 3,     /* `offset`: the same for the first number that is out of range */
+    SYMDEMANGLE_TOO_LONG = 4,      /* the text costs more than the limit */
+    SYMDEMANGLE_MEMORY = 5,        /* an allocation was refused */
+    SYMDEMANGLE_BUFFER = 6,        /* `length`: how many bytes the buffer needs */
+    SYMDEMANGLE_SIZE = 7,          /* the symbol has more than 16,777,216 bytes, and wasn't read */
+    SYMDEMANGLE_FLAGS = 8,         /* a flag that isn't one of symdemangle_flags, or, of symdemangle_press, SYMDEMANGLE_WIDE */
+    SYMDEMANGLE_NULL = 9,          /* a null pointer with a length, or a null result or counts */
+    SYMDEMANGLE_ENDS = 10,         /* of symdemangle_texts: the ends go down, or pass the bytes */
+    SYMDEMANGLE_NO_SYMBOL = 11     /* the name begins with neither _Z nor _R, and isn't read as a type */
+};
+
+/* What is asked for, added together. One that says nothing to a call changes nothing in it. */
+enum symdemangle_flags {
+    SYMDEMANGLE_BRIEF = 1,         /* template and generic arguments are left out */
+    SYMDEMANGLE_NO_PARAMETERS = 2, /* each C++ function is its name alone, without return type and parameters */
+    SYMDEMANGLE_WIDE = 4,          /* newer and rarer C++ forms are read, too: recommended. What has a text without it has the
+                                      same text with it; a later version may read more */
+    SYMDEMANGLE_LEGACY = 8,        /* Rust's older names (_ZN..17h<16 digits>E), which are names of C++ too, are shown as the Rust
+                                      paths that they stand for, without the hash; no text of any other name changes */
+    SYMDEMANGLE_UNDERSCORE = 16,   /* a name may also begin with __Z or __R, as on macOS: its first underscore is dropped, and
+                                      `offset` counts it. symdemangle_filter always takes such words */
+    SYMDEMANGLE_ASCII_WORDS = 32,  /* of symdemangle_filter: a word ends at a byte from 0x80, as at typographic quotes, and so
+                                      has no names with such bytes */
+    SYMDEMANGLE_WITHIN = 64,       /* of symdemangle_filter: words are those of the program `demangle`: they begin within runs of
+                                      word bytes, too, as in .text._Z1fv and after typographic quotes, and may have names with
+                                      bytes from 0x80: recommended. With it SYMDEMANGLE_ASCII_WORDS changes nothing */
+    SYMDEMANGLE_TYPES = 128        /* of symdemangle_text, _texts and _string: a name that begins as no symbol does is read as a
+                                      C++ type, as typeid(..).name() gives it (PKc: char const*), where it has at most 65,536
+                                      bytes, all of them those of words, and no dot. What is no type is refused as a symbol is */
+};
+
+/* What comes with a status: of SYMDEMANGLE_OK the bytes that were written, of SYMDEMANGLE_BUFFER those that are needed, else 0;
+   and where the first bad byte, reference or number is, else 0. `status` is what the call answered. */
+typedef struct {
+    size_t length;
+    uint32_t offset;
+    uint32_t status;
+} symdemangle_result;
+
+/* The work that a symbol of n bytes made: rows of its shape (at most 4n + 4), nodes of the table in which its parts are
+   shared (4n + 8), and counted steps (32n + 48). */
+typedef struct {
+    uint32_t rows;
+    uint32_t nodes;
+    uint32_t steps;
+} symdemangle_counts;
+
+/* How many words of a filtered text begin as symbols do, were replaced by a text, and were not. */
+typedef struct {
+    uint64_t words;
+    uint64_t replaced;
+    uint64_t refused;
+} symdemangle_tally;
+
+/* The version of the library that is there when the program runs, as SYMDEMANGLE_VERSION is that of the header. */
+uint32_t symdemangle_version(void);
+
+/* A status in a few words, as "not a symbol": a constant string, for any number. */
+const char *symdemangle_message(uint32_t status);
+
+/* Writes the text of a name to the front of the buffer, if it costs at most `limit`. A name that begins with "_Z" is read as C++,
+   one that begins with "_R" as Rust, any other as a C++ type where SYMDEMANGLE_TYPES asks for it; a type's text costs what that of
+   its _ZTI symbol does. SYMDEMANGLE_OK, _MALFORMED, _BAD_REFERENCE, _BAD_VALUE, _TOO_LONG, _MEMORY, _BUFFER, _SIZE,
+   _FLAGS, _NULL, _NO_SYMBOL. */
+uint32_t symdemangle_text(const char *name, size_t name_length, uint32_t limit, uint32_t flags, char *buffer, size_t capacity,
+                          symdemangle_result *result);
+
+/* The same for a C string within SYMDEMANGLE_DEFAULT_LIMIT, as a new C string; null where the name has no text, is null, or where
+   memory runs out. libsymdemangle_arena.a doesn't have it. */
+char *symdemangle_string(const char *name, uint32_t flags);
+
+/* Gives back what symdemangle_string made; null is given back by doing nothing. */
+void symdemangle_free(char *string);
+
+/* The texts of many names, with one set of lists for all of them: the call for who has more than one. Name i is in `names` from
+   ends[i - 1], of the first from 0, to ends[i]. What symdemangle_text would answer for it is in results[i]; the texts of those with
+   SYMDEMANGLE_OK are in the buffer, one after the other from its front. One that finds too little of the buffer left is told
+   SYMDEMANGLE_BUFFER, and later, shorter ones may still fit. Here `ends` and `results` have `count` entries. SYMDEMANGLE_OK (each
+   name is answered, want of memory too), _FLAGS, _ENDS, _NULL; with any answer but SYMDEMANGLE_OK the results stay as they are. */
+uint32_t symdemangle_texts(const char *names, size_t names_length, const size_t *ends, size_t count, uint32_t limit,
+                           uint32_t flags, char *buffer, size_t capacity, symdemangle_result *results);
+
+/* Writes a text with each word that is a symbol replaced by its text, as the program's filter does: many symbols in one call,
+   with one set of lists for all of them. Words are runs of ASCII letters, digits, "_", ".", "$" and bytes from 0x80, without the
+   dots at their end (SYMDEMANGLE_WITHIN and SYMDEMANGLE_ASCII_WORDS find others); those of more than 65,536 bytes, and those that
+   are refused, stay as they are. Where the buffer is too small, the rest of the text is counted and not kept. `tally` may be null.
+   SYMDEMANGLE_OK, _MEMORY, _BUFFER, _FLAGS, _NULL. */
+uint32_t symdemangle_filter(const char *text, size_t text_length, uint32_t limit, uint32_t flags, char *buffer, size_t capacity,
+                            symdemangle_tally *tally, symdemangle_result *result);
+
+/* The work that reading a name's symbol takes, which no limit bounds. SYMDEMANGLE_OK, _MALFORMED, _BAD_REFERENCE, _BAD_VALUE,
+   _MEMORY, _SIZE, _FLAGS, _NULL, _NO_SYMBOL. */
+uint32_t symdemangle_count(const char *name, size_t name_length, uint32_t flags, symdemangle_counts *counts,
+                           symdemangle_result *result);
+
+/* Writes the pressed spelling of a name: the one in which each part that repeats is a reference, so that different spellings of the
+   same symbol become equal. An underscore that was dropped is before it again. SYMDEMANGLE_OK, _MALFORMED, _BAD_REFERENCE,
+   _BAD_VALUE, _MEMORY, _BUFFER, _SIZE, _FLAGS, _NULL, _NO_SYMBOL. */
+uint32_t symdemangle_press(const char *name, size_t name_length, uint32_t flags, char *buffer, size_t capacity,
+                           symdemangle_result *result);
+
+#ifdef __cplusplus
+}
+#endif
+#endif

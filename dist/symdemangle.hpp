@@ -1,0 +1,176 @@
+// symdemangle.h for C++: texts as std::string, and std::optional where a name may have none. It needs C++17.
+//
+//     std::cout << symdemangle::text_or_name("_ZN3foo3barEPKc");      // foo::bar(char const*)
+//     std::cout << symdemangle::type_or_name("PKc");                  // char const*
+//
+// What memory runs out for throws std::bad_alloc; nothing else throws. Over a shared library of an earlier version, which doesn't know
+// SYMDEMANGLE_WITHIN or SYMDEMANGLE_TYPES, these calls do without: words begin where runs do, and no types are read.
+#ifndef SYMDEMANGLE_HPP
+#define SYMDEMANGLE_HPP
+
+#if (defined(_MSVC_LANG) ? _MSVC_LANG : __cplusplus) < 201703L
+#error "symdemangle.hpp needs C++17 (-std=c++17); symdemangle.h serves from C++11 on"
+#else
+
+#include "symdemangle.h"
+
+#include <cstdint>
+#include <new>
+#include <optional>
+#include <string>
+#include <string_view>
+#include <vector>
+
+namespace symdemangle {
+
+// What is asked for: a sum of symdemangle_flags, and what a text may cost. A text is filtered by the words of the program demangle.
+struct options {
+    std::uint32_t flags = SYMDEMANGLE_WIDE | SYMDEMANGLE_LEGACY | SYMDEMANGLE_UNDERSCORE | SYMDEMANGLE_WITHIN;
+    std::uint32_t limit = SYMDEMANGLE_DEFAULT_LIMIT;
+};
+
+// Why a name has no text, and how many bytes are before the first bad one.
+struct refusal {
+    std::uint32_t status = SYMDEMANGLE_OK;
+    std::uint32_t offset = 0;
+    const char *what() const noexcept { return symdemangle_message(status); }
+};
+
+// The work that a symbol made.
+using counts = symdemangle_counts;
+
+// How many words of a text begin as symbols do, were replaced by a text, and were not.
+using tally = symdemangle_tally;
+
+namespace detail {
+
+// Which of the flags say something to a call that takes names. Those of the words of a text are left out, so that a library that knows
+// them not yet isn't asked for them.
+constexpr std::uint32_t of_names(std::uint32_t flags) noexcept
+{
+    return flags & ~std::uint32_t{SYMDEMANGLE_WITHIN};
+}
+
+// Calls with a buffer on the stack, and once more with one of the length that was told; null where there is no text.
+template <class Call> std::optional<std::string> written(Call call, symdemangle_result &result)
+{
+    char few[4096];
+    std::optional<std::string> text;
+    if (call(few, sizeof few) == SYMDEMANGLE_OK) {
+        text.emplace(few, result.length);
+    } else if (result.status == SYMDEMANGLE_BUFFER) {
+        text.emplace(result.length, '\0');
+        if (call(&(*text)[0], text->size()) != SYMDEMANGLE_OK)
+            text.reset();
+    }
+    if (result.status == SYMDEMANGLE_MEMORY)
+        throw std::bad_alloc();
+    return text;
+}
+
+inline void tell(const symdemangle_result &result, refusal *why) noexcept
+{
+    if (why)
+        *why = {result.status, result.offset};
+}
+
+} // namespace detail
+
+// The text of a name, if it has one; else `why`, where that is given, says why not.
+inline std::optional<std::string> text(std::string_view name, options asked = {}, refusal *why = nullptr)
+{
+    symdemangle_result result;
+    auto made = detail::written(
+        [&](char *buffer, std::size_t capacity) {
+            return symdemangle_text(name.data(), name.size(), asked.limit, detail::of_names(asked.flags), buffer, capacity, &result);
+        },
+        result);
+    detail::tell(result, why);
+    return made;
+}
+
+// The text of a name, or the name where it has none.
+inline std::string text_or_name(std::string_view name, options asked = {})
+{
+    auto made = text(name, asked);
+    return made ? *made : std::string(name);
+}
+
+// The text of a type, as typeid(x).name() gives it, or of a symbol; the name where it has none.
+inline std::string type_or_name(std::string_view name, options asked = {})
+{
+    refusal why;
+    auto made = text(name, {asked.flags | SYMDEMANGLE_TYPES, asked.limit}, &why);
+    return made ? *made : why.status == SYMDEMANGLE_FLAGS ? text_or_name(name, asked) : std::string(name);
+}
+
+// The texts of many names, or the names of those that have none, with one set of lists for all of them.
+inline std::vector<std::string> texts_or_names(const std::vector<std::string_view> &names, options asked = {})
+{
+    std::string all;
+    std::vector<std::size_t> ends;
+    for (std::string_view name : names)
+        ends.push_back(all.append(name).size());
+    std::string buffer(4 * all.size() + 4096, '\0');
+    std::vector<symdemangle_result> results(names.size());
+    if (symdemangle_texts(all.data(), all.size(), ends.data(), ends.size(), asked.limit, detail::of_names(asked.flags), &buffer[0],
+                          buffer.size(), results.data()) != SYMDEMANGLE_OK)
+        return std::vector<std::string>(names.begin(), names.end()); // a flag that is none
+    std::vector<std::string> texts;
+    std::size_t from = 0;
+    for (std::size_t i = 0; i < names.size(); i++) {
+        if (results[i].status == SYMDEMANGLE_OK) {
+            texts.emplace_back(buffer, from, results[i].length);
+            from += results[i].length;
+        } else if (results[i].status == SYMDEMANGLE_BUFFER || results[i].status == SYMDEMANGLE_MEMORY) {
+            texts.push_back(text_or_name(names[i], asked));
+        } else {
+            texts.emplace_back(names[i]);
+        }
+    }
+    return texts;
+}
+
+// A text with each word that is a symbol replaced by its text, and how many such words it has; null where a flag is none.
+inline std::optional<std::string> filtered(std::string_view log, options asked = {}, tally *found = nullptr)
+{
+    symdemangle_result result;
+    auto made = detail::written(
+        [&](char *buffer, std::size_t capacity) {
+            return symdemangle_filter(log.data(), log.size(), asked.limit, asked.flags, buffer, capacity, found, &result);
+        },
+        result);
+    if (result.status == SYMDEMANGLE_FLAGS && detail::of_names(asked.flags) != asked.flags)
+        return filtered(log, {detail::of_names(asked.flags), asked.limit}, found);
+    return made;
+}
+
+// The spelling of a name in which each part that repeats is a reference, so that different spellings of the same symbol become
+// equal; null where it isn't read.
+inline std::optional<std::string> pressed(std::string_view name, refusal *why = nullptr)
+{
+    symdemangle_result result;
+    auto made = detail::written(
+        [&](char *buffer, std::size_t capacity) {
+            return symdemangle_press(name.data(), name.size(), SYMDEMANGLE_UNDERSCORE, buffer, capacity, &result);
+        },
+        result);
+    detail::tell(result, why);
+    return made;
+}
+
+// The work that reading a name takes; null where it isn't read.
+inline std::optional<counts> counted(std::string_view name, options asked = {}, refusal *why = nullptr)
+{
+    symdemangle_result result;
+    counts made = {0, 0, 0};
+    symdemangle_count(name.data(), name.size(), detail::of_names(asked.flags), &made, &result);
+    if (result.status == SYMDEMANGLE_MEMORY)
+        throw std::bad_alloc();
+    detail::tell(result, why);
+    return result.status == SYMDEMANGLE_OK ? std::optional<counts>(made) : std::nullopt;
+}
+
+} // namespace symdemangle
+#endif
+#endif
