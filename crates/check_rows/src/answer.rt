@@ -1,4 +1,4 @@
-// What calls answer, in the words of a row, and whether each answers what stands there.
+// What calls answer, in the words of a row, and whether each answers what the row says.
 
 use std::alloc::{AllocError, Global};
 use sym_core::Refusal;
@@ -6,7 +6,7 @@ use sym_core::Refusal;
 /// What is in a list before a call appends to it.
 pub const BEFORE: &[u8] = b"> ";
 
-/// What became of a row as far as its calls were asked. Where memory ran out, it is that alone.
+/// What became of a row over the calls made so far. Where memory ran out, only that is recorded.
 #[derive(Clone, Copy)]
 pub struct Verdict {
     pub alloc: Global,
@@ -24,7 +24,7 @@ impl Verdict {
         }
     }
 
-    /// Notes whether what has to hold does.
+    /// Notes whether a condition that has to hold does.
     pub fn require(&mut self, holds: bool) {
         if !holds {
             self.failed = true;
@@ -44,7 +44,7 @@ impl Verdict {
         }
     }
 
-    /// Notes whether a symbol is refused for the reason in a row.
+    /// Checks the row's reason for a refusal.
     pub fn refusal(&mut self, refusal: Refusal, wanted: &[u8]) {
         match reason(self.alloc, refusal) {
             Ok(reason) => self.require(reason.as_bytes() == wanted),
@@ -52,7 +52,7 @@ impl Verdict {
         }
     }
 
-    /// Notes whether a call answers what stands in a row.
+    /// Notes whether a call answers what the row says.
     pub fn says(&mut self, answer: Result<Vec<u8>, Refusal>, wanted: &[u8]) {
         match answer {
             Ok(text) => self.text(&text, wanted),
@@ -60,7 +60,7 @@ impl Verdict {
         }
     }
 
-    /// The same, of a call that has no answer where it doesn't keep to what it promises beside that.
+    /// Likewise for a call that has no answer where it breaks another promise.
     pub fn soundly_says(&mut self, answer: Result<Option<Vec<u8>>, Refusal>, wanted: &[u8]) {
         match answer {
             Ok(Some(text)) => self.text(&text, wanted),
@@ -69,7 +69,7 @@ impl Verdict {
         }
     }
 
-    /// Notes whether a call appended to a list what stands in a row. One that refuses leaves the list as it was.
+    /// Notes whether a call appended to a list what the row says. A call that refuses leaves the list as it was.
     pub fn appended(&mut self, answer: Result<(), Refusal>, list: &[u8], wanted: &[u8]) {
         let Some(text) = list.strip_prefix(BEFORE) else {
             self.require(false);
@@ -117,7 +117,7 @@ pub fn unspelled(alloc: Global, field: &[u8]) -> Result<Vec<u8>, AllocError> {
     Ok(bytes)
 }
 
-/// Why a symbol has no text. Want of memory is no reason.
+/// Why a symbol has no text. Want of memory isn't such a reason.
 fn reason(alloc: Global, refusal: Refusal) -> Result<String, AllocError> {
     match refusal {
         Refusal::Malformed { at } => format!(in alloc; "malformed at {at}"),

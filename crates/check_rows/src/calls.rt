@@ -1,4 +1,4 @@
-// A symbol through each call: whole and in pieces, step by step, with lists of its own and with lists that are used again.
+// A symbol through each call: whole and in pieces, step by step, with fresh lists and with lists used before.
 
 ghost use Rattle.sym_core.specs.Number.{FitsSymbol};
 
@@ -14,7 +14,7 @@ use sym_demangle::Workspace;
 use sym_filter::{Demangled, Demangler};
 use sym_print::Detail;
 
-/// Whether a symbol of so many bytes may have these counts.
+/// Whether a symbol of this length may have these counts.
 fn are_few(counts: Counts, len: usize) -> bool {
     let Counts { rows, nodes, steps } = counts;
     rows <= steps
@@ -23,7 +23,7 @@ fn are_few(counts: Counts, len: usize) -> bool {
         && steps as usize <= most_steps(len)
 }
 
-/// Notes whether a demangler that counts answered this, with what a list then has.
+/// Notes whether a counting demangler answered this, with what a list then holds.
 fn counted(verdict: &mut Verdict, answer: Demangled, list: &[u8], row: Row<'_>) {
     match answer {
         Demangled::Text(counts) => {
@@ -70,7 +70,7 @@ fn ask_appending<D: Demangler>(
     answer
 }
 
-/// Asks both calls of a demangler for a symbol's text, and answers what the one that counts does.
+/// Calls both text functions of a demangler for a symbol, and answers what the counting one does.
 pub fn ask<D: Demangler>(
     verdict: &mut Verdict,
     demangler: &D,

@@ -11,7 +11,7 @@ use sym_core::fits;
 pub enum Change {
     /// It ends there.
     Cut,
-    /// Another byte is there.
+    /// A different byte.
     Put(u8),
 }
 
@@ -28,7 +28,7 @@ fn changed(alloc: Global, s: &[u8], place: usize, change: Change) -> Result<Vec<
     Ok(changed)
 }
 
-/// What is answered for a symbol that is changed at a place: what a field has after the place and a blank, where it begins so.
+/// The answer for a symbol that is changed at a place: what a field has after the place and a blank, where it begins with them.
 fn answer_at<'a>(
     alloc: Global,
     field: Option<&&'a [u8]>,
@@ -61,8 +61,8 @@ fn ask_changed(
     }
 }
 
-/// Asks for the text of a symbol that is changed at a place, where it is malformed there unless another answer is said, and answers
-/// whether one is.
+/// Asks for the text of a symbol that is changed at a place, where it is malformed there unless another answer is given, and
+/// answers whether one is.
 fn ask_at(
     verdict: &mut Verdict,
     lists: &mut AllLists,
@@ -81,8 +81,8 @@ fn ask_at(
     Ok(false)
 }
 
-/// Asks for the text of a symbol that is changed at each place in turn. It is malformed there, but for the places of which a row
-/// says otherwise: the place, a blank, and the answer.
+/// Demangles a symbol with each of its bytes changed in turn. The changed symbol is malformed at that byte, except where the
+/// row says otherwise: the place, a blank, and the answer.
 pub fn ask_each_place(
     verdict: &mut Verdict,
     lists: &mut AllLists,

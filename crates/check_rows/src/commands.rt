@@ -11,7 +11,7 @@ use sym_filter::{FilterFault, Letters, ListSink, ReaderSource};
 use sym_print::Detail;
 use symfilt_command::{run, run_over};
 
-/// What a program has to write where a row says nothing of it but that there is some.
+/// What a program has to write where a row says only that it writes something.
 const ANY: &[u8] = b"*";
 
 /// How a program has to end, and what it has to write.
@@ -43,7 +43,7 @@ fn words_of<'a>(
     Ok(words)
 }
 
-/// The words of a command line of demangle, each of any bytes, in the same way.
+/// The words of a command line of demangle, each of any bytes, written in the same way.
 fn byte_words_of(alloc: Global, field: &[u8]) -> Result<Vec<&[u8]>, AllocError> {
     let mut words = Vec::new(alloc);
     words.push("demangle".as_bytes())?;
@@ -100,7 +100,7 @@ fn run_demangle(verdict: &mut Verdict, words: &[&[u8]], input: &[u8], wanted: En
     ended(verdict, status, &out.into_list(), &err.into_list(), wanted);
 }
 
-/// What `demangle` filters by with these options, where they say nothing but how much of a symbol is shown.
+/// What `demangle` filters by with these options, where they say only how much of a symbol is shown.
 fn shown_by(options: &[u8]) -> Option<Filtering> {
     let detail = match options {
         b"-" => Detail::Full,
@@ -118,7 +118,7 @@ fn shown_by(options: &[u8]) -> Option<Filtering> {
     })
 }
 
-/// What symfilt is to do with these words; it has to end so, unless it is to filter.
+/// What symfilt is to do with these words. It has to end this way unless it is to filter.
 fn asked_of_symfilt(verdict: &mut Verdict, words: &[&str], wanted: Ending<'_>) -> Run {
     let mut out = Vec::new(verdict.alloc);
     let mut err = Vec::new(verdict.alloc);
@@ -130,7 +130,7 @@ fn asked_of_symfilt(verdict: &mut Verdict, words: &[&str], wanted: Ending<'_>) -
     asked
 }
 
-/// Asks the library's call and the streams to filter a text, if that is what the command's words ask for.
+/// Filters a text with the library's call and with the streams, if that is what the command's words ask for.
 fn ask_filters(
     verdict: &mut Verdict,
     asked: Run,
@@ -147,7 +147,7 @@ fn ask_filters(
     Ok(())
 }
 
-/// Asks the program with these options to filter a text to this one, and the static library.
+/// Checks that the program with these options filters a text to this one, and so does the static library.
 ///
 /// # Errors
 ///
@@ -171,7 +171,7 @@ pub fn ask_to_filter(
     Ok(())
 }
 
-/// Asks the program to end so on these words.
+/// Checks that the program ends this way on these words.
 ///
 /// # Errors
 ///
@@ -188,7 +188,7 @@ pub fn ask_to_end(
     Ok(())
 }
 
-/// Asks `demangle` to end so on these words over an input, and the static library to filter the input as it does.
+/// Checks that `demangle` ends this way on these words over an input, and that the static library filters the input as it does.
 ///
 /// # Errors
 ///

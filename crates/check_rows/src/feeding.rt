@@ -6,12 +6,12 @@ use std::alloc::Global;
 use sym_core::Refusal;
 use sym_shape::{Grammar, Reader};
 
-/// How many steps a symbol of so many bytes may take, those of its reader and of its linker together.
+/// The most steps that a symbol of this length may take, its reader's and its linker's together.
 pub fn most_steps(len: usize) -> usize {
     len.saturating_mul(32).saturating_add(48)
 }
 
-/// Whether a reader that had so many bytes before the last piece, and has so many with it, refuses as soon as these show why.
+/// Whether a reader refuses as soon as its bytes show why, given how many it had before the last piece and has with it.
 fn is_prompt(refusal: Refusal, before: u32, len: u32, ended: bool) -> bool {
     match refusal {
         Refusal::Malformed { at } => before <= at && (at < len || ended),
@@ -20,8 +20,8 @@ fn is_prompt(refusal: Refusal, before: u32, len: u32, ended: bool) -> bool {
     }
 }
 
-/// Feeds a reader that took so many steps a piece, and reads what is there step by step. It answers how many steps were taken
-/// then, or none where one isn't as it has to be.
+/// Feeds one piece to a reader that has taken this many steps, and steps until the piece is consumed. Answers the count of
+/// steps by then, or none where a step isn't as it has to be.
 fn feed<G: Grammar>(
     reader: &mut Reader<G>,
     grammar: &G,

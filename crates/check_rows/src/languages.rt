@@ -29,7 +29,7 @@ impl AllLists {
     }
 }
 
-/// Asks the demangler that reads legacy Rust names, too, for a symbol's text, and answers what it does.
+/// The answer of the demangler that also reads legacy Rust names, for a symbol's text.
 fn ask_legacy<C: Cpp>(
     verdict: &mut Verdict,
     languages: Languages<C>,
@@ -41,7 +41,7 @@ fn ask_legacy<C: Cpp>(
     ask(verdict, &Legacy { languages }, lists, row)
 }
 
-/// Asks the demangler of both languages for a symbol's text, with C++ by a grammar, and answers what it does.
+/// The answer of the demangler of both languages, with a grammar of C++, for a symbol's text.
 fn ask_by<C: Cpp>(verdict: &mut Verdict, lists: &mut Lists<C>, row: Row<'_>) -> Demangled
     requires { FitsSymbol row.s.now }
 {
@@ -56,7 +56,7 @@ fn ask_by<C: Cpp>(verdict: &mut Verdict, lists: &mut Lists<C>, row: Row<'_>) -> 
     ask(verdict, &languages, lists, row)
 }
 
-/// Asks the demangler of both languages for a symbol's text, and answers what it does.
+/// The answer of the demangler of both languages for a symbol's text.
 pub fn ask_demangler(verdict: &mut Verdict, lists: &mut AllLists, row: Row<'_>) -> Demangled
     requires { FitsSymbol row.s.now }
 {
@@ -66,7 +66,7 @@ pub fn ask_demangler(verdict: &mut Verdict, lists: &mut AllLists, row: Row<'_>) 
     ask_by(verdict, &mut lists.abi, row)
 }
 
-/// Asks each call of the mangling that a symbol is of, C++ by a row's grammar, for its text.
+/// Asks each call of the symbol's mangling for its text, C++ by a row's grammar.
 fn ask_mangling_of(verdict: &mut Verdict, lists: &mut AllLists, row: Row<'_>)
     requires { FitsSymbol row.s.now }
 {

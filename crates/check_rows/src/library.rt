@@ -20,7 +20,7 @@ use sym_print::Detail;
 /// What is in a buffer before a call writes to it.
 const UNWRITTEN: u8 = 0xa5;
 
-/// What is in each number before a call tells it.
+/// The value of each number before a call sets it.
 const UNTOLD: u32 = 0xa5a5_a5a5;
 
 /// What a row has where a name is no symbol and can't be a type.
@@ -78,7 +78,7 @@ fn is_unwritten(buffer: &[u8]) -> bool {
     buffer.iter().all(|byte| *byte == UNWRITTEN)
 }
 
-/// A tally that nothing was told to.
+/// A tally that no call has set.
 fn untallied() -> TextTally {
     TextTally {
         words: UNTOLD as u64,
@@ -87,7 +87,7 @@ fn untallied() -> TextTally {
     }
 }
 
-/// Whether a tally is told with status 0 alone, and its words are those that were replaced and those that weren't.
+/// Whether a tally is set exactly with status 0, and its words are those that were replaced and those that weren't.
 fn is_tallied(status: u32, tally: TextTally) -> bool {
     let untold = UNTOLD as u64;
     if status == OK {
@@ -123,7 +123,7 @@ fn outcome_of(verdict: &mut Verdict, asked: Asked<'_>, buffer: &mut [u8]) -> Out
     outcome
 }
 
-/// Asks a call for this status, with which it tells nothing else, and writes nothing.
+/// Checks that a call has this status, sets nothing else, and writes nothing.
 fn ask_status(verdict: &mut Verdict, asked: Asked<'_>, status: u32) {
     let mut buffer = [UNWRITTEN; 8];
     let outcome = outcome_of(verdict, asked, &mut buffer);
@@ -135,7 +135,7 @@ fn ask_status(verdict: &mut Verdict, asked: Asked<'_>, status: u32) {
     );
 }
 
-/// The refusal that a status and an offset tell of a symbol after so many bytes, if they tell one.
+/// The refusal that a status and an offset denote for a symbol after this many bytes, if they denote one.
 fn refusal_of(outcome: Outcome, skipped: u32) -> Option<Refusal> {
     let at = outcome.offset.wrapping_sub(skipped);
     match outcome.status {
@@ -147,7 +147,8 @@ fn refusal_of(outcome: Outcome, skipped: u32) -> Option<Refusal> {
     }
 }
 
-/// Asks a call with a buffer for its text of so many bytes, or that the buffer is too small, and that the rest isn't written.
+/// Checks that a call with a buffer writes its text of this length, or says that the buffer is too small, and leaves the rest
+/// unwritten.
 fn ask_to_write(verdict: &mut Verdict, asked: Asked<'_>, room: usize, len: usize, wanted: &[u8]) {
     let Ok(mut buffer) = vec![in verdict.alloc; UNWRITTEN; room] else {
         verdict.lack();
@@ -198,8 +199,8 @@ fn underscored(alloc: Global, name: &[u8]) -> Result<Vec<u8>, AllocError> {
     Ok(longer)
 }
 
-/// Asks a call for its answer for a name, as it is and after an underscore that is asked for, and that it tells that there is no
-/// symbol after one that isn't, nor without the name's first byte.
+/// Checks a call's answer for a name, as it is and after an underscore that the flag allows. The call has to say that there is
+/// no symbol after an underscore that no flag allows, nor without the name's first byte.
 fn ask_for_name(verdict: &mut Verdict, asked: Asked<'_>, wanted: &[u8]) {
     let name = asked.bytes;
     let Ok(longer) = underscored(verdict.alloc, name) else {
@@ -233,7 +234,7 @@ fn is_named(name: &[u8]) -> bool {
     name.starts_with(b"_Z") || name.starts_with(b"_R")
 }
 
-/// Counts that nothing was put into.
+/// Counts that no call has set.
 fn uncounted() -> SymbolCounts {
     SymbolCounts {
         rows: UNTOLD,
@@ -242,12 +243,12 @@ fn uncounted() -> SymbolCounts {
     }
 }
 
-/// Whether nothing was put into counts.
+/// Whether no call has set the counts.
 fn is_uncounted(counts: SymbolCounts) -> bool {
     counts.rows == UNTOLD && counts.nodes == UNTOLD && counts.steps == UNTOLD
 }
 
-/// Whether the call that counts puts these counts of a symbol.
+/// Whether the counting call sets these counts for a symbol.
 fn are_put(outcome: Outcome, counts: SymbolCounts, wanted: Counts) -> bool {
     let is_told = outcome.status == OK && outcome.offset == 0;
     let are_same = counts.rows == wanted.rows
@@ -256,7 +257,7 @@ fn are_put(outcome: Outcome, counts: SymbolCounts, wanted: Counts) -> bool {
     is_told && are_same
 }
 
-/// Asks the call that counts for the counts of a symbol that is read, and why another isn't, as a demangler answered them.
+/// Checks the counting call: the counts of a symbol that is read, or why it isn't, as a demangler answered them.
 pub fn ask_library_to_count(verdict: &mut Verdict, row: Row<'_>, answer: Demangled) {
     let s = row.s;
     let mut counts = uncounted();
@@ -277,7 +278,7 @@ pub fn ask_library_to_count(verdict: &mut Verdict, row: Row<'_>, answer: Demangl
     verdict.require(holds);
 }
 
-/// What nothing was told to of one of many names.
+/// The outcome of one of many names before a call sets it.
 fn untold() -> Outcome {
     Outcome {
         length: UNTOLD as usize,
@@ -286,12 +287,12 @@ fn untold() -> Outcome {
     }
 }
 
-/// Whether nothing was told of one of many names.
+/// Whether no call has set the outcome of one of many names.
 fn is_untold(outcome: Outcome) -> bool {
     outcome.status == UNTOLD && outcome.offset == UNTOLD && outcome.length == UNTOLD as usize
 }
 
-/// Asks the call over many names for this status, with which it tells of none and writes nothing.
+/// Checks that the call over many names has this status, sets no outcome and writes nothing.
 fn ask_status_of_all(
     verdict: &mut Verdict,
     names: &[u8],
@@ -307,8 +308,8 @@ fn ask_status_of_all(
     verdict.require(status == wanted && nothing && is_unwritten(&buffer));
 }
 
-/// Asks the call over many names to refuse ends that aren't as many as the outcomes, go down or pass the names, and a number of no
-/// flag.
+/// Checks that the call over many names refuses ends that are fewer or more than the outcomes, that decrease or that pass the
+/// names, and a number that is no flag.
 fn ask_with_wrong_ends(verdict: &mut Verdict, s: &[u8], flags: u32) {
     let len = s.len();
     let past = len.saturating_add(1);
@@ -321,7 +322,7 @@ fn ask_with_wrong_ends(verdict: &mut Verdict, s: &[u8], flags: u32) {
     ask_status_of_all(verdict, s, &[len], &mut one, NO_FLAG, FLAGS);
 }
 
-/// Asks the call over one name for what was told of it among many, over what was left of the buffer.
+/// Checks that the call over one name, with what was left of the buffer, agrees with the call over many on that name.
 fn ask_alone(verdict: &mut Verdict, asked: Asked<'_>, told: Outcome, left: &[u8]) {
     let Ok(mut buffer) = vec![in verdict.alloc; UNWRITTEN; left.len()] else {
         verdict.lack();
@@ -340,7 +341,7 @@ fn ask_alone(verdict: &mut Verdict, asked: Asked<'_>, told: Outcome, left: &[u8]
     }
 }
 
-/// Asks the call over one name for what was told of each of many.
+/// Checks that the call over one name agrees with the call over many on each of them.
 fn ask_each_alone(
     verdict: &mut Verdict,
     names: &[&[u8]],
@@ -364,7 +365,7 @@ fn ask_each_alone(
     verdict.require(is_unwritten(left));
 }
 
-/// Names one after the other, and a buffer of so many bytes after them.
+/// Names one after the other, and a buffer of this length after them.
 fn joined(alloc: Global, names: &[&[u8]], room: usize) -> Result<Vec<u8>, AllocError> {
     let mut all = Vec::new(alloc);
     for name in names {
@@ -375,7 +376,7 @@ fn joined(alloc: Global, names: &[&[u8]], room: usize) -> Result<Vec<u8>, AllocE
     Ok(all)
 }
 
-/// Asks the call over many names, with a buffer of so many bytes, for what the call over one answers for each of three.
+/// Checks that the call over many names, with a buffer of this length, agrees with the call over one on each of three.
 fn ask_together(verdict: &mut Verdict, names: [&[u8]; 3], limit: u32, flags: u32, room: usize) {
     let Ok(mut all) = joined(verdict.alloc, &names, room) else {
         verdict.lack();
@@ -394,7 +395,7 @@ fn ask_together(verdict: &mut Verdict, names: [&[u8]; 3], limit: u32, flags: u32
     ask_each_alone(verdict, &names, limit, flags, buffer, &outcomes);
 }
 
-/// Asks the call over many names for a name's text twice, with room for it, and where a byte of that is missing once.
+/// Calls the call over many names twice for a name's text, with room for it, and once with a byte too few.
 fn ask_twice(verdict: &mut Verdict, asked: Asked<'_>) {
     let Asked {
         bytes,
@@ -409,14 +410,14 @@ fn ask_twice(verdict: &mut Verdict, asked: Asked<'_>) {
     ask_together(verdict, names, limit, flags, enough.saturating_sub(1));
 }
 
-/// Asks the call that counts for this status alone.
+/// Checks that the counting call has this status and sets nothing.
 fn ask_status_of_counting(verdict: &mut Verdict, s: &[u8], flags: u32, status: u32) {
     let mut counts = uncounted();
     let outcome = counts_of(verdict.alloc, s, flags, &mut counts);
     verdict.require(outcome.status == status && outcome.offset == 0 && is_uncounted(counts));
 }
 
-/// Asks the calls to refuse a number of no flag, and pressing what the wide grammar adds.
+/// Checks that the calls refuse a number that is no flag, and pressing of what only the wide grammar has.
 fn ask_with_wrong_flags(verdict: &mut Verdict, s: &[u8]) {
     let limit = u32::MAX;
     ask_status(verdict, Asked::new(Call::Text, s, limit, NO_FLAG), FLAGS);
@@ -426,7 +427,7 @@ fn ask_with_wrong_flags(verdict: &mut Verdict, s: &[u8]) {
     ask_status_of_counting(verdict, s, NO_FLAG, FLAGS);
 }
 
-/// Asks each call of the static library that gives a symbol's text. A name that begins as no symbol does is told as that.
+/// Checks each call of the static library that gives a symbol's text. A name that begins as no symbol does is reported as such.
 pub fn ask_library(verdict: &mut Verdict, row: Row<'_>) {
     let flags = flags_of(row.detail, row.wide, row.legacy);
     let asked = Asked::new(Call::Text, row.s, row.limit, flags);
@@ -467,7 +468,7 @@ pub fn ask_library_to_filter(
     ask_call(verdict, asked, wanted);
 }
 
-/// Asks each call of the static library that reads a symbol to tell that this one has too many bytes.
+/// Checks that each call of the static library that reads a symbol reports that this one has too many bytes.
 pub fn ask_oversize(verdict: &mut Verdict, s: &[u8]) {
     let limit = u32::MAX;
     ask_status(verdict, Asked::new(Call::Text, s, limit, 0), SIZE);
@@ -478,8 +479,8 @@ pub fn ask_oversize(verdict: &mut Verdict, s: &[u8]) {
     ask_together(verdict, names, limit, 0, 6);
 }
 
-/// Asks the calls over one name and over many for a type's text, or why it has none, and each call to tell that it is no symbol, where
-/// types aren't asked for or aren't read.
+/// Checks the calls over one name and over many for a type's text, or for why it has none. Each call has to say that the name
+/// is no symbol where types aren't requested or can't be read.
 pub fn ask_library_for_type(verdict: &mut Verdict, name: &[u8], limit: u32, wanted: &[u8]) {
     let asked = Asked::new(Call::Text, name, limit, TYPES);
     let wide = Asked {
@@ -507,7 +508,7 @@ pub fn ask_library_for_type(verdict: &mut Verdict, name: &[u8], limit: u32, want
     ask_status_of_counting(verdict, name, TYPES, NO_SYMBOL);
 }
 
-/// Asks the static library's calls for names to tell that this one begins as no symbol does.
+/// Checks that the static library's calls for names report that this one begins as no symbol does.
 pub fn ask_nameless(verdict: &mut Verdict, word: &[u8]) {
     let asked = Asked::new(Call::Text, word, u32::MAX, UNDERSCORE);
     ask_status(verdict, asked, NO_SYMBOL);

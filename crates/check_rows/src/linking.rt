@@ -9,7 +9,7 @@ use std::alloc::Global;
 use sym_core::Refusal;
 use sym_demangle::Linker;
 
-/// Whether a linker with nothing left to do, which took so many steps, says so again; or none.
+/// Whether a finished linker that took this many steps repeats its answer, or none.
 fn done_again<M: Calls>(linker: &mut Linker<M>, taken: usize) -> Result<Option<bool>, Refusal>
     ensures { IfOk result (λ step. IfSome step (λ done. done ≡ true → linker.new.done ≡ true)) }
 {
@@ -20,13 +20,13 @@ fn done_again<M: Calls>(linker: &mut Linker<M>, taken: usize) -> Result<Option<b
     }
 }
 
-/// Whether a linker refuses for this reason again, and then took so many steps.
+/// Whether a linker refuses for this reason once more, and took this many steps by then.
 fn refuses_again<M: Calls>(linker: &mut Linker<M>, refusal: Refusal, taken: usize) -> bool {
     linker.step() == Err(refusal) && linker.steps() as usize == taken
 }
 
-/// One step of a linker that took so many: whether nothing is left to do, or none where it isn't counted, or answers otherwise
-/// when it is asked again.
+/// One step of a linker after this many: whether nothing is left to do, or none where the step isn't counted or a repeated call
+/// answers otherwise.
 fn step<M: Calls>(linker: &mut Linker<M>, taken: usize) -> Result<Option<bool>, Refusal>
     ensures { IfOk result (λ step. IfSome step (λ done. done ≡ true → linker.new.done ≡ true)) }
 {
@@ -86,13 +86,13 @@ fn reading_steps<M: Calls>(alloc: Global, s: &[u8]) -> Result<Option<usize>, Ref
     }
 }
 
-/// Whether a symbol's counts are so many rows and so many steps.
+/// Whether a symbol's counts are these rows and these steps.
 fn has_counts<M: Calls>(symbol: &M::Symbol, rows: usize, steps: usize) -> bool {
     let counts = M::counts(symbol);
     counts.rows as usize == rows && counts.steps as usize == steps
 }
 
-/// A symbol of so many rows that is linked step by step, after a reader that took so many steps; none where a step isn't as it
+/// A symbol of this many rows that is linked step by step, after a reader that took these steps. None where a step isn't as it
 /// has to be, or the symbol's counts are others.
 fn linked_after<M: Calls>(
     alloc: Global,
@@ -115,7 +115,7 @@ fn linked_after<M: Calls>(
     }
 }
 
-/// A symbol that is read and linked step by step, each of which is counted; none where a step isn't as it has to be, or the
+/// A symbol that is read and linked step by step, with each step counted. None where a step isn't as it has to be, or the
 /// symbol's counts are others.
 pub fn linked_in_steps<M: Calls>(alloc: Global, s: &[u8]) -> Result<Option<M::Symbol>, Refusal>
     requires { FitsSymbol s.now }

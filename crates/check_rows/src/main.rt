@@ -69,7 +69,8 @@ fn check_each<R: Print + AllocGlobal>(
     Ok(outcome)
 }
 
-/// What has the lists of both grammars. A function that has them as what they are is proved over all that they are made of.
+/// What holds the lists of both grammars. A function with the lists as separate arguments is proved over all that they are made
+/// of.
 trait Held {
     fn lists(&mut self) -> &mut AllLists;
 }

@@ -9,7 +9,7 @@ use std::alloc::{AllocError, Global};
 use sym_core::Refusal;
 use sym_print::{Item, Layout, Part, Printer, push_reversed};
 
-/// Whether a printer answers this again, and took so many steps before and after it.
+/// Whether a printer repeats this answer, and counts these steps before and after.
 fn answers_again<Y: Layout>(
     printer: &mut Printer<Y::Ctx>,
     y: &Y,
@@ -22,8 +22,8 @@ fn answers_again<Y: Layout>(
     printer.steps() == taken && printer.step(y) == answer && printer.steps() == taken
 }
 
-/// One step of a printer, the one of this number: whether nothing is left to do, or none where it isn't counted, or answers
-/// otherwise when it is asked again.
+/// One step of a printer, the one with this number: whether nothing is left to do, or none where the step isn't counted or a
+/// repeated call answers otherwise.
 fn step<Y: Layout>(
     printer: &mut Printer<Y::Ctx>,
     y: &Y,
@@ -42,7 +42,7 @@ fn step<Y: Layout>(
     Ok(Some(answer?))
 }
 
-/// The text of an item that is printed step by step, each of which is counted; none where a step isn't as it has to be, or there
+/// The text of an item that is printed step by step, with each step counted. None where a step isn't as it has to be, or there
 /// are more than the limit and one.
 pub fn printed_in_steps<Y: Layout>(
     alloc: Global,
@@ -103,8 +103,8 @@ fn take<Y: Layout>(
     }
 }
 
-/// Takes the parts that wait, and those of their items, until none is left. It answers whether none is, after at most as many of
-/// them as the limit.
+/// Takes the waiting parts, and those of their items, until none is left. Answers whether none is left after at most as many
+/// parts as the limit.
 ///
 /// # Errors
 ///
@@ -131,8 +131,8 @@ fn take_all<Y: Layout>(
     Ok(false)
 }
 
-/// The text of an item, put together of the parts of items and the bytes of texts alone; none where there are more of them
-/// than the text costs.
+/// The text of an item, built only from the parts of items and the bytes of texts. None where there are more of them than the
+/// text costs.
 ///
 /// # Errors
 ///

@@ -108,7 +108,7 @@ fn ask_for_reason(verdict: &mut Verdict, lists: &mut AllLists, row: Row<'_>) {
     }
 }
 
-/// A symbol's text, as a row spells it, if it has so many bytes.
+/// A symbol's text, as a row spells it, if it has this length.
 fn spelled_text(alloc: Global, row: Row<'_>, len: u32) -> Result<Option<Vec<u8>>, Refusal>
     requires { FitsSymbol row.s.now }
 {
@@ -122,7 +122,7 @@ fn spelled_text(alloc: Global, row: Row<'_>, len: u32) -> Result<Option<Vec<u8>>
     Ok(None)
 }
 
-/// Asks for a text of so many bytes at its cost, and whether it is too long one below.
+/// Checks that a text of this length is answered at its cost, and that one below its cost it is too long.
 fn ask_for_length(verdict: &mut Verdict, lists: &mut AllLists, row: Row<'_>, len: u32) {
     verdict.require(row.limit > 0 && fits(row.s));
     if !fits(row.s) {
@@ -145,7 +145,7 @@ fn ask_for_length(verdict: &mut Verdict, lists: &mut AllLists, row: Row<'_>, len
     ask_each(verdict, lists, row.with(below, TOO_LONG));
 }
 
-/// A front, with bytes after it so many times, and an end.
+/// A front, repeated bytes after it, and an end.
 fn repeated(
     alloc: Global,
     front: &[u8],
@@ -434,7 +434,7 @@ fn of_changes(
     }
 }
 
-/// Asks what a row says that is of no text and of no refusal.
+/// Checks what a row says that is neither a text nor a refusal.
 fn of_other(
     verdict: &mut Verdict,
     lists: &mut AllLists,
@@ -455,7 +455,7 @@ fn of_other(
     Ok(())
 }
 
-/// Asks what a row says of a legacy name, by each grammar of C++, or of no text and of no refusal.
+/// Checks what a row says of a legacy name, by each grammar of C++, or what is neither a text nor a refusal.
 fn of_legacy_or_other(
     verdict: &mut Verdict,
     lists: &mut AllLists,

@@ -7,7 +7,7 @@ use sym_filter::{Sink, Source};
 /// What the next call of a stream over memory does.
 #[derive(Clone, Copy, Debug, PartialEq, Eq)]
 pub enum Call {
-    // it moves at most so many bytes
+    // the most bytes that it moves
     Moves(usize),
     Fails,
 }

@@ -13,7 +13,7 @@ use symfilt_command::{filter_asked, run, run_to};
 /// More reads than the text of a row needs.
 const READS: u64 = 1_000;
 
-/// The calls at each of which a stream fails in turn.
+/// The calls that fail in turn in each stream.
 const CALLS: usize = 40;
 
 /// The bytes that a read moves while a write is to fail.
@@ -31,7 +31,7 @@ fn with_failure(good: usize, failure: Call) -> [Call; CALLS] {
     calls
 }
 
-/// Whether these bytes may have gone out where others had to: all, or a beginning after a fault.
+/// Whether these bytes may have been written where others had to be: all of them, or a beginning after a fault.
 fn may_be_written(ended: bool, written: &[u8], wanted: &[u8]) -> bool {
     if ended {
         return written == wanted;
@@ -39,7 +39,7 @@ fn may_be_written(ended: bool, written: &[u8], wanted: &[u8]) -> bool {
     wanted.starts_with(written)
 }
 
-/// Notes whether a fault is said so.
+/// Notes whether a fault is reported as such.
 fn ask_to_say(verdict: &mut Verdict, fault: FilterFault, words: &str) {
     match format!(in verdict.alloc; "{fault}") {
         Ok(said) => verdict.require(said.as_str() == words),
@@ -54,7 +54,7 @@ fn ask_for_words(verdict: &mut Verdict) {
     ask_to_say(verdict, FilterFault::Memory, "out of memory");
 }
 
-/// Filters what comes from a source, where the writes go as a script says. It fails where a read or a write did, and at nothing else.
+/// Filters what comes from a source, where a script decides the writes. It fails exactly where a read or a write did.
 fn ask_to_filter_over(
     verdict: &mut Verdict,
     filtering: Filtering,
@@ -105,7 +105,7 @@ fn ask_with_failures(verdict: &mut Verdict, filtering: Filtering, text: &[u8], w
     ask_to_filter_over(verdict, filtering, source, &[], wanted);
 }
 
-/// Asks for a text to be filtered however its bytes come and go.
+/// Checks that a text is filtered whatever the pieces in which its bytes are read and written.
 pub fn ask_streams(verdict: &mut Verdict, filtering: Filtering, text: &[u8], wanted: &[u8]) {
     ask_in_pieces(verdict, filtering, text, wanted);
     ask_with_failures(verdict, filtering, text, wanted);
@@ -131,7 +131,7 @@ pub fn ask_long_word(verdict: &mut Verdict, row: Row<'_>, text: &[u8]) {
     ask_to_filter_over(verdict, filtering, source, &[], wanted);
 }
 
-/// Writes the lines of a command line to sinks whose writes go as scripts say. It fails where one of them did.
+/// Writes the lines of a command line to sinks, where scripts decide the writes. It fails where one of them did.
 fn ask_to_write_over(
     verdict: &mut Verdict,
     words: &[&str],

@@ -59,7 +59,7 @@ fn push_part(
     Ok(())
 }
 
-/// Ends a node of so many parts.
+/// Ends a node of this many parts.
 fn end_node(parts: u32, tree: &mut Vec<u8>) -> Result<(), AllocError> {
     if parts == 0 {
         return Ok(());
@@ -90,7 +90,7 @@ fn push_offset(
     tree.extend_from_slice(symbol.bytes_of(offset.digits))
 }
 
-/// Appends in braces by what a pointer is adjusted.
+/// Appends in braces what a pointer is adjusted by.
 fn push_adjustment(
     symbol: &itanium::Symbol,
     adjustment: Adjustment,

@@ -1,5 +1,5 @@
-//! A small grammar in the manner of Rust's symbols, to show how one is written: paths, types with lifetimes, arrays, and
-//! lists of types.
+//! A small grammar in the manner of Rust's symbols, to show how one is written: paths, types with lifetimes, arrays, and lists
+//! of types.
 #![tactic(auto)]
 
 use sym_core::{NameClass, NumberKind};
@@ -219,7 +219,7 @@ static SYMBOLS: [[Sym; 5]; 11] = [
     START, WHOLE, CRATE, GENERIC, LETTER, REFERENCE, ARRAY, NAMED, LAST, MORE, LIFETIME,
 ];
 
-/// How many symbols come after each of them, up to an end.
+/// How many symbols follow each of them, up to an end.
 static AFTER: [u8; 55] = [
     0, 0, 0, 0, 2, 1, 0, 0, 0, 1, 0, 0, 0, 0, 2, 1, 0, 0, 0, 0, 0, 0, 0, 0, 2, 1, 0, 0, 0, 3, 2, 1,
     0, 0, 1, 0, 0, 0, 0, 0, 0, 0, 0, 0, 2, 1, 0, 0, 0, 1, 0, 0, 0, 0, 0,

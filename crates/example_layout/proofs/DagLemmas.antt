@@ -1,4 +1,4 @@
--- Each node of a linked table stands for the tree over its parts' trees.
+-- Each node of a linked table denotes the tree over its parts' trees.
 use Rattle.std.proofs.Common.{◌≡◌, ℕ, zero, suc, ◌+◌, ◌<◌, Bool, true, false, List, [], ◌∷◌, ◌++◌, length, get_or, refl, sym, ap, ◌∙◌, arith, length-append, take, subst, ap₂}
 use Rattle.std.proofs.lemmas.List.{get_or_append_left}
 use Rattle.std.specs.List.{All}
@@ -63,7 +63,7 @@ linked-below i [] k d linked h = absurd (omega arith)
 linked-below i (node ∷ rest) zero d linked h = below-same i (i + 0) node (omega arith) linked.0
 linked-below i (node ∷ rest) (suc k) d linked h = below-same (i + 1 + k) (i + suc k) (get_or rest k d) (omega arith) (linked-below (i + 1) rest k d linked.1 (omega arith))
 
--- each node's parts come before it
+-- each node's parts precede it
 pub below-at : (nodes : List Node) (k : ℕ) (d : Node) → IsLinked 0 nodes → k < length nodes → IsBelow k (get_or nodes k d)
 below-at nodes k d linked h = below-same (0 + k) k (get_or nodes k d) (omega arith) (linked-below 0 nodes k d linked h)
 

@@ -1,4 +1,4 @@
--- A table of nodes that share their parts, and the trees that they stand for with nothing shared.
+-- A table of nodes that share their parts, and the trees that they denote with nothing shared.
 use Rattle.std.specs.Prelude.{◌≡◌, ℕ, zero, suc, ◌+◌, ◌<◌, Bool, true, false, List, [], ◌∷◌, ◌++◌, length, take, slice_index_or, nat_eq, if◌then◌else◌}
 use Rattle.sym_print.specs.declared.layout.Item.{Item}
 use Rattle.sym_print.specs.declared.layout.Part.{Part}
@@ -34,7 +34,7 @@ abbrev pub IsBelow : ℕ → Node → Type 0
 IsBelow i (Leaf _) = Unit {0}
 IsBelow i (Pair left right) = (left < i) × (right < i)
 
--- each node's parts come before it
+-- each node's parts precede it
 abbrev pub IsLinked : ℕ → List Node → Type 0
 IsLinked i [] = Unit {0}
 IsLinked i (node ∷ rest) = IsBelow i node × IsLinked (i + 1) rest
@@ -75,7 +75,7 @@ MayCome nodes (Own bytes count) = (count ≡ 1) × (length bytes ≡ 24)
 MayCome nodes (Fixed number) = number < 2
 MayCome nodes _ = ⊥
 
--- a leaf, and pairs above it, each of the node before it twice
+-- a leaf, and pairs above it, each holding the node before it twice
 abbrev pub doubled : ℕ → List Node
 doubled zero = Leaf 120 ∷ []
 doubled (suc below) = doubled below ++ Pair below below ∷ []

@@ -1,4 +1,4 @@
-//! A table of nodes that share their parts, printed as the tree that it stands for.
+//! A table of nodes that share their parts, printed as the tree that it denotes.
 #![tactic(auto)]
 
 ghost use Rattle.std.specs.Prelude.{◌≡◌, ◌+◌, ◌<◌, ◌≤◌, length, vec_len, vec_capacity, [], true, IfOk, IfErr};
@@ -21,14 +21,14 @@ pub enum Node {
     Pair(u32, u32),
 }
 
-/// A table of nodes, of which the last stands for the others. It can be printed where the parts of each come before it.
+/// A table of nodes; the last one is the whole. It can be printed where the parts of each precede it.
 #[derive(Drop)]
 pub struct Dag {
     pub nodes: Vec<Node>,
 }
 
 impl Dag {
-    /// A leaf, and so many pairs above it, each of the node before it twice.
+    /// A leaf, and n pairs above it, each holding the node before it twice.
     ///
     /// Errors: `Memory`.
     pub fn doubling(alloc: Global, levels: u32) -> Result<Dag, Refusal>

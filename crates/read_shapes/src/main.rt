@@ -8,7 +8,7 @@ use std::io::{self, Read};
 use sym_core::{Refusal, fits};
 use sym_shape::{Shape, read_into};
 
-/// Prints what comes of one symbol.
+/// Prints the result for one symbol.
 fn show(rt: &impl Print, shape: &mut Shape, symbol: &[u8]) -> io::Result<()> {
     if !fits(symbol) {
         return println!(rt; "too long");

@@ -1,5 +1,5 @@
-//! Reads numbers and names, one on each line of standard input, and prints for each what the calls of `sym_core` answer.
-//! Before the text of a line come, with blanks after them, a word for what it is and the place where it begins.
+//! Reads numbers and names, one on each line of standard input, and prints for each what the calls of `sym_core` answer. A word
+//! for what the text is and the place where it begins precede it on the line, with blanks after them.
 #![tactic(auto)]
 
 ghost use Rattle.std.specs.Prelude.{◌≤◌, length};
@@ -136,7 +136,7 @@ fn show_decimal(rt: &impl Print, alloc: Global, s: &[u8], minus: bool) -> io::Re
     show_text(rt, &text)
 }
 
-/// Prints whether a symbol of so many bytes is one that is read.
+/// Prints whether a symbol of this length can be read.
 fn show_fit(rt: &impl Print, alloc: Global, digits: &[u8]) -> io::Result<()> {
     let mut symbol = Vec::new(alloc);
     match count_of(digits) {

@@ -20,7 +20,7 @@ use Rattle.sym_calls.specs.declared.filtering.TextTally.{TextTally}
 use Rattle.sym_calls.specs.declared.outcome.Outcome.{Outcome}
 use Rattle.sym_calls.specs.Calls.{CountingEndsAs, CountingEndsBy, Ending, EndsAs, IsCounted, IsTallied, IsTextWritten, NameCounted, Tallied, answered, answers_at, filter_told, ending_of, named, name_or_type_told, name_told, numbers_of, press_told, refused, status_alone, text_told, told_of, written}
 
--- what follows so many bytes, as a slice
+-- what follows the first n bytes, as a slice
 pub rest-of : (at : ℕ) (bytes : List ℕ) → take (length bytes - at) (drop at bytes) ≡ drop at bytes
 rest-of at bytes = take_all (length bytes - at) (drop at bytes) (omega (arith, length-drop at bytes))
 
@@ -32,7 +32,7 @@ written-low : (bytes buffer : List ℕ) → (written bytes buffer).status ≤ 6
 unfolding written
 written-low bytes buffer = low-cond (nat_le (length bytes) (length buffer)) _ _ (omega arith) (omega arith)
 
--- an answer for a symbol may be one for want of memory
+-- an answer for a symbol may be replaced by a want of memory
 pub answered-low : (answer : Result (List ℕ) Refusal) (skip : ℕ) (buffer : List ℕ) → (answered answer skip buffer).status ≤ 6
 unfolding answered refused
 answered-low (Ok bytes) skip buffer = written-low bytes buffer
@@ -42,7 +42,7 @@ answered-low (Err (BadValue at)) skip buffer = omega arith
 answered-low (Err TooLong) skip buffer = omega arith
 answered-low (Err Memory) skip buffer = omega arith
 
--- a refusal is what was answered, but for want of memory
+-- a refusal is what was answered, unless memory ran out
 pub refusal-ends : (e : Refusal) (answer : Result (List ℕ) Refusal) (skip : ℕ) (buffer : List ℕ) (found : Ending) → (e ≢ Memory → answer ≡ Err e) → found ≡ refused e skip buffer → EndsAs (answered answer skip buffer) buffer found
 unfolding answered refused
 refusal-ends Memory answer skip buffer found given is = inr (answered-low answer skip buffer, is)
@@ -110,13 +110,13 @@ pub no-lists-end : (answers : Answering) (asked : Asked) (name buffer : List ℕ
     → found ≡ status_alone 5 buffer → EndsAs (name_told answers asked name buffer) buffer found
 no-lists-end answers asked name buffer kind found is told = name-ends answers asked name buffer kind found is (no-symbol-lists _ kind.skip buffer found told)
 
--- one that has no symbol, or a symbol of too many bytes
+-- a name that has no symbol, or a symbol of too many bytes
 pub no-name-ends : (answers : Answering) (asked : Asked) (name buffer : List ℕ) (status : ℕ) (found : Ending) → named asked.underscore name ≡ Err status
     → found ≡ status_alone status buffer → EndsAs (name_told answers asked name buffer) buffer found
 unfolding told_of
 no-name-ends answers asked name buffer status found is told = inl (told ∙ sym (ap (λ r. told_of answers r name buffer) is))
 
--- a call whose flags are some
+-- a call with valid flags
 pub text-ends : (option : Option Asked) (asked : Asked) (limit : ℕ) (name buffer : List ℕ) (found : Ending) → option ≡ Some asked
     → EndsAs (name_or_type_told (answers_at asked limit) asked name buffer) buffer found → EndsAs (text_told option limit name buffer) buffer found
 unfolding text_told
@@ -151,7 +151,7 @@ counting-ends option asked kind name wide old new found is same known ends =
 pub no-filter-ends : (bytes buffer : List ℕ) (found : Ending) → found ≡ status_alone 5 buffer → EndsAs (written bytes buffer) buffer found
 no-filter-ends bytes buffer found told = inr (written-low bytes buffer, told)
 
--- what is answered at a limit and a detail that are those asked for, where it is known whether legacy Rust names are paths
+-- what is answered at the requested limit and detail, where it is known whether legacy Rust names are paths
 pub by-legacy : {A W : Type 0} → (P : Answering → A → Type 0) (cpp : Mangled W) (asked : Asked) (legacy : Bool) (limit of_languages : ℕ) (detail : Detail) (found : A) → asked.legacy ≡ legacy → of_languages ≡ limit → detail ≡ asked.detail
     → P (answers_by cpp legacy of_languages detail) found → P (answers_by cpp asked.legacy limit asked.detail) found
 by-legacy P cpp asked legacy limit of_languages detail found is same_limit same_detail given =
@@ -173,13 +173,13 @@ refusal-counts (BadReference at) answer are_counts skip counts found given is = 
 refusal-counts (BadValue at) answer are_counts skip counts found given is = inr (refl, inr (BadValue at, (λ e. cc), (given (λ e. cc)).0, is))
 refusal-counts TooLong answer are_counts skip counts found given is = absurd ((given (λ e. cc)).1 refl)
 
--- one that is read
+-- a symbol that is read
 pub read-counts : (answer : Result (List ℕ) Refusal) (are_counts : Counts → Type 0) (skip : ℕ) (old new : SymbolCounts) (read : Counts) (found : Ending)
     → found ≡ status_alone 0 [] → numbers_of new ≡ read → are_counts read → IsCounted answer are_counts skip old new found
 unfolding IsCounted
 read-counts answer are_counts skip old new read found told same are = inl (told, subst are_counts (sym same) are)
 
--- one for whose lists there is no memory
+-- a symbol for whose lists there is no memory
 pub no-lists-count : (answer : Result (List ℕ) Refusal) (are_counts : Counts → Type 0) (skip : ℕ) (counts : SymbolCounts) (found : Ending)
     → found ≡ status_alone 5 [] → IsCounted answer are_counts skip counts counts found
 unfolding IsCounted

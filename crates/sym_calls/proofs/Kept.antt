@@ -29,6 +29,6 @@ Adds-as old new a b same h = subst (λ (t : List ℕ). Adds old new t) same h
 pub Adds-join : (old mid new : Counted) (a b : List ℕ) → Adds old mid a → Adds mid new b → Adds old new (a ++ b)
 Adds-join old mid new a b h i = λ most text so_far. Holds-as new most ((text ++ a) ++ b) (text ++ (a ++ b)) (append_assoc text a b) (i most (text ++ a) (h most text so_far))
 
--- with a dot more
+-- with one more dot
 pub Adds-dot : (old mid new : Counted) (n : ℕ) → Adds old mid (replicate n 46) → Adds mid new (46 ∷ []) → Adds old new (replicate (n + 1) 46)
 Adds-dot old mid new n h i = Adds-as old new (replicate n 46 ++ 46 ∷ []) (replicate (n + 1) 46) (replicate_more n 46) (Adds-join old mid new (replicate n 46) (46 ∷ []) h i)

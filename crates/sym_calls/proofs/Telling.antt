@@ -1,4 +1,4 @@
--- How many names are told of, one after the other.
+-- How many names get their outcomes, one after the other.
 use Rattle.std.proofs.Common.{◌≡◌, ◌≤◌, ◌<◌, inl, inr, ℕ, ◌+◌, ◌-◌, Bool, true, false, cond, List, [], ◌∷◌, ◌++◌, length, take, drop, get_or, set, Option, Some, Result, Ok, Err, refl, sym, ap, ap₂, subst, ◌∙◌, arith}
 use Rattle.std.specs.Prelude.{nat_eq, nat_le, ◌==◌, ◌&&◌, if◌then◌else◌}
 use Rattle.std.proofs.lemmas.Bool.{le-leb, leb-true}
@@ -20,12 +20,12 @@ both : (a b : Bool) → a && b ≡ true → (a ≡ true) × (b ≡ true)
 both true b holds = (refl, holds)
 both false b holds = cc
 
--- the ends after one that goes up
+-- the ends after one that increases
 pub ends-on : (from most : ℕ) (ends : List ℕ) (i : ℕ) → i < length ends → from ≤ get_or ends i 0 → are_ends from most (drop i ends) ≡ are_ends (get_or ends i 0) most (drop (i + 1) ends)
 unfolding are_ends
 ends-on from most ends i within up = ap (λ l. are_ends from most l) (drop_more ends i 0 within) ∙ ap (λ b. b && are_ends (get_or ends i 0) most (drop (i + 1) ends)) (le-leb from (get_or ends i 0) up)
 
--- one that goes down
+-- an end that decreases
 pub ends-down : (from most : ℕ) (ends : List ℕ) (i : ℕ) → i < length ends → nat_le from (get_or ends i 0) ≡ false → are_ends from most (drop i ends) ≡ false
 unfolding are_ends
 ends-down from most ends i within down = ap (λ l. are_ends from most l) (drop_more ends i 0 within) ∙ ap (λ b. b && are_ends (get_or ends i 0) most (drop (i + 1) ends)) down
@@ -103,7 +103,7 @@ buffer-within at n buffer after whole within is_whole fits =
     let all : length whole ≡ length (take at buffer) + length after = ap (λ l. length l) is_whole ∙ length-append (take at buffer) after in
     omega (arith, front, all, fits)
 
--- one more name is told of
+-- one more name gets its outcome
 pub told-more : (answers : Answering) (asked : Asked) (names ends first buffer front after whole : List ℕ) (from at i : ℕ) (told : Outcome) (others : List Outcome)
     → i < length ends → i < length others → length front ≡ at → whole ≡ front ++ after
     → IsTold answers asked (take (get_or ends i 0 - from) (drop from names)) buffer told after
@@ -122,7 +122,7 @@ told-more answers asked names ends first buffer front after whole from at i told
     (subst (λ l. AreTold answers asked names 0 ends first (front ++ (take n after ++ new)) l) (sym told_of)
     (sofar (take n after ++ new) (told ∷ rest) (subst (λ l. AreTold answers asked names from l buffer (take n after ++ new) (told ∷ rest)) (sym (drop_more ends i 0 in_ends)) here)))
 
--- all names are told of
+-- all names get their outcomes
 pub told-all : (answers : Answering) (asked : Asked) (names ends first buffer : List ℕ) (from at i : ℕ) (others : List Outcome)
     → length ends ≤ i → length others ≡ length ends
     → ((new : List ℕ) (rest : List Outcome) → AreTold answers asked names from (drop i ends) (drop at buffer) new rest → AreTold answers asked names 0 ends first (take at buffer ++ new) (take i others ++ rest))

@@ -24,11 +24,11 @@ none-second true false c is = refl
 none-second true true c is = cc
 none-second false b c is = refl
 
--- a name is read as one alone where it has no symbol
+-- a name is read as a single one where it has no symbol
 is-nameless : (types : Bool) (status : ℕ) (name : List ℕ) → ReadsType types status name true → status ≡ 11
 is-nameless types status name is = eqb-true status 11 (second types (status == 11) (is_type_word name) is)
 
--- the outcome of a call that is other than that is one for a symbol, and may be one for want of memory
+-- any other outcome of a call is one for a symbol, and may be a want of memory
 low-reads : (types : Bool) (status : ℕ) (name : List ℕ) → status ≤ 6 → ReadsType types status name false
 low-reads types status name low = none-second types (status == 11) (is_type_word name) (ne_eqb status 11 (λ is. omega (arith, low, is)))
 
@@ -42,7 +42,7 @@ buffer-is outcome after ending is = ap (λ (e : Ending). e.buffer) is
 not-nameless : (outcome : Outcome) → outcome.status ≤ 6 → outcome.status ≡ 11 → ⊥
 not-nameless outcome low is = omega (arith, low, is)
 
--- a name that is told as a type
+-- a name that is answered as a type
 pub type-told : (types : Bool) (answers : Answering) (kind : Result Kind ℕ) (name before after : List ℕ) (outcome : Outcome) (found : Ending) → ReadsType types outcome.status name true
     → EndsAs (told_of answers kind name before) before (ending_of outcome after) → EndsAs (answered (type_answer answers name) 0 after) after found → EndsAs (type_or_told types answers kind name before) before found
 unfolding told_of type_or_told

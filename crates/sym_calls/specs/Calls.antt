@@ -21,18 +21,18 @@ use Rattle.sym_calls.specs.declared.filtering.TextTally.{TextTally}
 unfoldable pub has : (flags flag : ℕ) → Bool
 has flags flag = not (bit_and flags flag == 0)
 
--- how much of a symbol flags ask for: 1 is brief, 2 without parameters
+-- how much of a symbol flags request: 1 is brief, 2 without parameters
 unfoldable pub detail_of : ℕ → Detail
 detail_of flags =
     if has flags 1 then (if has flags 2 then Detail.BriefNoParameters else Detail.Brief)
     else (if has flags 2 then Detail.NoParameters else Detail.Full)
 
--- which letters words of a text have: with 64 words begin within runs, too, and with 32 alone they have those of ASCII
+-- which letters words of a text have: with 64 words begin within runs, too, and with 32 they have only those of ASCII
 unfoldable pub letters_of : ℕ → Letters
 letters_of flags = if has flags 64 then Letters.Within else (if has flags 32 then Letters.Ascii else Letters.Any)
 
--- what flags ask for, if each is one: 4 is the wide grammar, 8 that legacy Rust names are paths, 16 that a name may begin with an
--- underscore, 128 that a name without a symbol may be a type
+-- what flags request, if each is one: 4 is the wide grammar, 8 that legacy Rust names are paths, 16 that a name may begin with
+-- an underscore, 128 that a name without a symbol may be a type
 unfoldable pub asked_of : ℕ → Option Asked
 asked_of flags =
     if nat_lt flags 256 then Some (record { detail = detail_of flags; wide = has flags 4; legacy = has flags 8; underscore = has flags 16; letters = letters_of flags; types = has flags 128 })
@@ -42,8 +42,8 @@ asked_of flags =
 abbrev pub answers_at : Asked → (limit : ℕ) → Answering
 answers_at asked limit = answers_by (cpp_by asked.wide) asked.legacy limit asked.detail
 
--- The kind of a name whose symbol is read, by how it begins; or the status of one that names none (11), also where there is an
--- underscore before its symbol that isn't asked for, or whose symbol has too many bytes (7).
+-- The kind of a name whose symbol is read, by how it begins; or the status of one that names none (11), also where an
+-- underscore that no flag allows precedes its symbol, or whose symbol has too many bytes (7).
 unfoldable pub named : (underscore : Bool) → List ℕ → Result Kind ℕ
 named underscore name =
     elim (kind_by_beginning name) [
@@ -52,7 +52,7 @@ named underscore name =
           else (if nat_le (length (symbol_of kind name)) MOST_BYTES then Ok kind else Err 7)
     ]
 
--- how a call ends: its status, the buffer after it, and what is told with the status
+-- how a call ends: its status, the buffer after it, and what is reported with the status
 pub record Ending : Type 0 where
   pub status : ℕ
   pub buffer : List ℕ
@@ -63,11 +63,11 @@ pub record Ending : Type 0 where
 abbrev pub ending_of : Outcome → List ℕ → Ending
 ending_of outcome buffer = record { status = outcome.status; buffer = buffer; length = outcome.length; offset = outcome.offset }
 
--- a status alone; the buffer stays as it was
+-- only a status; the buffer stays as it was
 abbrev pub status_alone : ℕ → List ℕ → Ending
 status_alone status buffer = record { status = status; buffer = buffer; length = 0; offset = 0 }
 
--- a status with the offset of a byte in a symbol that is after so many bytes; no greater number than 2^32 - 1 is told
+-- a status with the offset of a byte in a symbol that begins after n bytes; no number above 2^32 - 1 is reported
 abbrev pub status_at : (status offset skip : ℕ) → List ℕ → Ending
 status_at status offset skip buffer = record { status = status; buffer = buffer; length = 0; offset = min (offset + skip) 4294967295 }
 
@@ -90,7 +90,7 @@ unfoldable pub answered : Result (List ℕ) Refusal → (skip : ℕ) → List �
 answered (Ok bytes) skip buffer = written bytes buffer
 answered (Err refusal) skip buffer = refused refusal skip buffer
 
--- A symbol with this answer has a text, and a call that writes it to the buffer ends so.
+-- A symbol with this answer has a text, and a call that writes it to the buffer ends this way.
 abbrev pub IsTextWritten : Result (List ℕ) Refusal → (old_buffer : List ℕ) → (found : Ending) → Type 0
 IsTextWritten answer old_buffer found = (text : List ℕ) × (answer ≡ Ok text) × (found ≡ written text old_buffer)
 
@@ -103,8 +103,8 @@ told_of answers (Err status) name buffer = status_alone status buffer
 abbrev pub name_told : Answering → Asked → (name buffer : List ℕ) → Ending
 name_told answers asked name buffer = told_of answers (named asked.underscore name) name buffer
 
--- What is answered for a name by its symbol; or by the type that it may be, where it begins as no symbol does (11), and types are
--- asked for.
+-- What is answered for a name by its symbol; or by the type that it may be, where it begins as no symbol does (11), and types
+-- are requested.
 unfoldable pub type_or_told : (types : Bool) → Answering → Result Kind ℕ → (name buffer : List ℕ) → Ending
 type_or_told types answers (Ok kind) name buffer = told_of answers (Ok kind) name buffer
 type_or_told types answers (Err status) name buffer =
@@ -118,7 +118,7 @@ unfoldable pub text_told : Option Asked → (limit : ℕ) → (name buffer : Lis
 text_told None limit name buffer = status_alone 8 buffer
 text_told (Some asked) limit name buffer = name_or_type_told (answers_at asked limit) asked name buffer
 
--- the pressed spelling of a name's symbol, which the wide grammar doesn't go with
+-- the pressed spelling of a name's symbol, which isn't defined with the wide grammar
 unfoldable pub press_told : Option Asked → (name buffer : List ℕ) → Ending
 press_told None name buffer = status_alone 8 buffer
 press_told (Some asked) name buffer = if asked.wide then status_alone 8 buffer else name_told pressed_of asked name buffer
@@ -128,7 +128,8 @@ unfoldable pub filter_told : Option Asked → (limit : ℕ) → (text buffer : L
 filter_told None limit text buffer = status_alone 8 buffer
 filter_told (Some asked) limit text buffer = written (filtered_at asked.letters (answers_at asked limit) text) buffer
 
--- A call ends so; or for want of memory with the buffer as it was, but for one whose arguments alone decide how it ends.
+-- A call ends this way, or runs out of memory and leaves the buffer as it was; calls that their arguments alone refuse never
+-- run out.
 abbrev pub EndsAs : (wanted : Ending) → (old_buffer : List ℕ) → (found : Ending) → Type 0
 EndsAs wanted old_buffer found = (found ≡ wanted) ⊎ ((wanted.status ≤ 6) × (found ≡ status_alone 5 old_buffer))
 
@@ -136,7 +137,7 @@ EndsAs wanted old_buffer found = (found ≡ wanted) ⊎ ((wanted.status ≤ 6) �
 abbrev pub tally_of : TextTally → Tally
 tally_of tally = record { words = tally.words; replaced = tally.replaced; refused = tally.refused }
 
--- what is told of a filtered text's words: with status 0 this tally, else nothing
+-- what is reported of a filtered text's words: with status 0 this tally, else nothing
 abbrev pub Tallied : Tally → (old new : TextTally) → (status : ℕ) → Type 0
 Tallied counted old new status = ((status ≡ 0) × (tally_of new ≡ counted)) ⊎ ((status ≢ 0) × (new ≡ old))
 
@@ -149,27 +150,27 @@ IsTallied (Some asked) limit text old new status = Tallied (tally_at asked.lette
 abbrev pub numbers_of : SymbolCounts → Counts
 numbers_of counts = record { rows = counts.rows; nodes = counts.nodes; steps = counts.steps }
 
--- How counting ends for a symbol with this answer at a limit of 0: with counts that are its own, where it is read; or with why it
--- isn't, or for want of memory, and the counts as they were.
+-- How counting ends for a symbol with this answer at a limit of 0: with the symbol's counts, where it is read; or with the
+-- reason why it isn't, or a want of memory, and the counts as they were.
 unfoldable pub IsCounted : Result (List ℕ) Refusal → (are_counts : Counts → Type 0) → (skip : ℕ) → (old new : SymbolCounts) → Ending → Type 0
 IsCounted answer are_counts skip old new found =
     ((found ≡ status_alone 0 []) × are_counts (numbers_of new))
     ⊎ ((new ≡ old) × ((found ≡ status_alone 5 [])
     ⊎ ((refusal : Refusal) × (refusal ≢ TooLong) × (answer ≡ Err refusal) × (found ≡ refused refusal skip []))))
 
--- of the symbol of a name, with C++ by the wide grammar or the other
+-- for the symbol of a name, with C++ by the wide grammar or the other
 unfoldable pub CountingEndsBy : (wide : Bool) → Kind → List ℕ → (old new : SymbolCounts) → Ending → Type 0
 CountingEndsBy true kind symbol old new found =
     IsCounted (wide_answer_of 0 Detail.Full kind symbol) (AreWideCountsOf kind.lang symbol) kind.skip old new found
 CountingEndsBy false kind symbol old new found =
     IsCounted (answer_of 0 Detail.Full kind symbol) (AreCountsOf kind.lang symbol) kind.skip old new found
 
--- of a name, or a status where it has no symbol that is read
+-- for a name, or a status where it has no symbol that is read
 unfoldable pub NameCounted : (wide : Bool) → Result Kind ℕ → (name : List ℕ) → (old new : SymbolCounts) → Ending → Type 0
 NameCounted wide (Ok kind) name old new found = CountingEndsBy wide kind (symbol_of kind name) old new found
 NameCounted wide (Err status) name old new found = (new ≡ old) × (found ≡ status_alone status [])
 
--- How counting ends; of details only the grammar says anything to it.
+-- How counting ends; of a detail only the grammar matters.
 unfoldable pub CountingEndsAs : Option Asked → (name : List ℕ) → (old new : SymbolCounts) → Ending → Type 0
 CountingEndsAs None name old new found = (new ≡ old) × (found ≡ status_alone 8 [])
 CountingEndsAs (Some asked) name old new found = NameCounted asked.wide (named asked.underscore name) name old new found

@@ -2,7 +2,7 @@
 use Rattle.std.specs.Prelude.{◌≡◌, ◌≤◌, ℕ, List, ◌++◌, length}
 use Rattle.sym_calls.specs.declared.counted.Counted.{Counted}
 
--- The count is that of the text's bytes; the list has the text where they are at most so many, and never more bytes than that.
+-- The count is that of the text's bytes; the list has the text where that has at most n bytes, and never more bytes than n.
 abbrev pub Holds : Counted → (most : ℕ) → List ℕ → Type 0
 Holds counted most text = (counted.most ≡ most) × (counted.count ≡ length text) × (length text ≤ most → counted.list.items ≡ text) × (length counted.list.items ≤ most)
 

@@ -1,4 +1,4 @@
-// A filtered text, which is kept as far as a buffer's bytes go, and counted past them.
+// A filtered text, which is kept up to the length of a buffer, and counted beyond it.
 ghost use Rattle.std.specs.Prelude.{◌≡◌, ◌+◌, ◌^◌, ◌≤◌, ◌<◌, ℕ, List, [], false, length, take, replicate, OnOk, IfOk};
 ghost use Rattle.sym_filter.specs.Carried.{TakesText};
 ghost use Rattle.sym_filter.specs.Places.{START};
@@ -11,7 +11,7 @@ use sym_filter::escapes::{Escape, first_segment};
 use sym_filter::words::{Taken, Words};
 use sym_filter::{Demangler, Letters, Tally};
 
-/// How many bytes a text has, and the text itself, where they are at most so many.
+/// How many bytes a text has, and the text itself, where there are at most n.
 #[derive(Drop)]
 pub(crate) struct Counted {
     pub(crate) list: Vec<u8>,
@@ -20,7 +20,7 @@ pub(crate) struct Counted {
 }
 
 impl Counted {
-    /// A text of no byte.
+    /// An empty text.
     fn new(alloc: Global, most: usize) -> Counted
         ensures { Holds result most [] }
     {
@@ -68,8 +68,8 @@ impl Counted {
     }
 }
 
-/// The filtered text of a text in memory, where it has at most so many bytes, and how many it has. Apart from the words and the
-/// demangler's lists, no more is held than so many bytes and one word's text.
+/// The filtered text of a text in memory, where it has at most n bytes, and how many it has. Apart from the words and the
+/// demangler's lists, no more is held than n bytes and one word's text.
 ///
 /// # Errors
 ///
@@ -107,8 +107,8 @@ pub(crate) fn filter_counted<D: Demangler>(
     Ok((kept, words.tally()))
 }
 
-/// Takes bytes from the front of a text, up to the end of its first escape or all of them, and keeps what is known of the filtered
-/// text by them. Answers how many they are.
+/// Takes bytes from the front of a text, up to the end of its first escape or all of them, and keeps what is known of the
+/// filtered text by them. Answers how many they are.
 fn take_segment<D: Demangler>(
     demangler: &D,
     lists: &mut D::Lists,

@@ -24,8 +24,8 @@ pub struct SymbolCounts {
     pub steps: u32,
 }
 
-/// Puts the counts of a name's symbol into the caller's. Else the outcome tells why the symbol isn't read, and the counts stay as
-/// they are.
+/// Puts the counts of a name's symbol into the caller's. Otherwise the outcome says why the symbol isn't read, and the counts
+/// stay as they are.
 #[tactic(auto, unfolding(crate::specs::Calls::CountingEndsAs, crate::specs::Calls::NameCounted))]
 pub fn counts_of(alloc: Global, name: &[u8], flags: u32, counts: &mut SymbolCounts) -> Outcome
     ensures { CountingEndsAs (asked_of flags) name.now counts.old counts.new (ending_of result []) }

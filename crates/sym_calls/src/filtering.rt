@@ -22,7 +22,7 @@ pub struct TextTally {
     pub refused: u64,
 }
 
-/// Writes a text that was kept to the front of the buffer, or tells how large that has to be.
+/// Writes a text that was kept to the front of the buffer, or says how large that has to be.
 #[tactic(auto, unfolding(crate::specs::Calls::written))]
 fn write_kept(kept: &Counted, buffer: &mut [u8]) -> Outcome
     ensures { (text : List ℕ) → Holds kept.now (length buffer.old) text → ending_of result buffer.new ≡ written text buffer.old }
@@ -37,7 +37,7 @@ fn write_kept(kept: &Counted, buffer: &mut [u8]) -> Outcome
     write(&kept.list, buffer)
 }
 
-/// Tells of a text that was filtered.
+/// The outcome of a filtered text.
 fn told(kept: &Counted, counted: Tally, buffer: &mut [u8], tally: &mut TextTally) -> Outcome
     ensures ending { (text : List ℕ) → Holds kept.now (length buffer.old) text → ending_of result buffer.new ≡ written text buffer.old }
     ensures tally { Tallied counted tally.old tally.new result.status }
@@ -70,7 +70,7 @@ fn filter_by<D: Demangler>(
     }
 }
 
-/// Writes a text that is filtered as is asked for, with a grammar of C++, to the front of the buffer.
+/// Writes a text that is filtered as requested, with a grammar of C++, to the front of the buffer.
 fn filter_in<C: Cpp>(
     alloc: Global,
     cpp: C,
@@ -92,7 +92,8 @@ fn filter_in<C: Cpp>(
 }
 
 /// Writes a text to the front of the buffer with each word that is a symbol replaced by the symbol's text, where that costs at
-/// most the limit, and tells how many words name symbols. Else the outcome tells why not, and buffer and tally stay as they are.
+/// most the limit, and counts the words that name symbols. Otherwise the outcome says why not, and buffer and tally stay as
+/// they are.
 #[tactic(auto, unfolding(crate::specs::Calls::filter_told, crate::specs::Calls::IsTallied))]
 pub fn filter_of(
     alloc: Global,

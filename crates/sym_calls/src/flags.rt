@@ -1,4 +1,4 @@
-// What a caller's flags ask for.
+// What a caller's flags request.
 ghost use Rattle.std.specs.Prelude.{◌≡◌, ◌≤◌, ◌==◌, ◌&&◌, IfOk, length};
 ghost use Rattle.sym_core.specs.Number.{FitsSymbol};
 ghost use Rattle.sym_filter.specs.Kinds.{kind_by_beginning, symbol_of};
@@ -15,22 +15,22 @@ use type_names::is_type_word;
 
 /// Template and generic arguments are left out.
 pub const BRIEF: u32 = 1;
-/// Each C++ function is its name alone, without its return type and parameters.
+/// Each C++ function is just its name, without its return type and parameters.
 pub const NO_PARAMETERS: u32 = 2;
 /// C++ is read by the wide grammar.
 pub const WIDE: u32 = 4;
-/// Rust's legacy names are shown as the paths that they stand for.
+/// Rust's legacy names are shown as the paths that they denote.
 pub const LEGACY: u32 = 8;
 /// A name may begin with an underscore before its symbol.
 pub const UNDERSCORE: u32 = 16;
-/// Words of a text have ASCII letters alone.
+/// Words of a text have only ASCII letters.
 pub const ASCII_WORDS: u32 = 32;
-/// Words of a text begin within its runs, too, as the program `demangle` finds them. Then `ASCII_WORDS` says nothing.
+/// Words of a text begin within its runs, too, as the program `demangle` finds them. Then `ASCII_WORDS` has no effect.
 pub const WITHIN: u32 = 64;
 /// A name that begins as no symbol does is read as a C++ type.
 pub const TYPES: u32 = 128;
 
-/// What flags ask for.
+/// What flags request.
 #[derive(Clone, Copy)]
 pub struct Asked {
     pub detail: Detail,
@@ -42,7 +42,7 @@ pub struct Asked {
 }
 
 impl Asked {
-    /// Both manglings for what is asked, at a limit and with a grammar of C++.
+    /// Both manglings for the request, at a limit and with a grammar of C++.
     pub(crate) fn languages<C: Cpp>(self, limit: u32, cpp: C) -> Languages<C>
         ensures limit { result.limit ≡ limit }
         ensures detail { result.detail ≡ self.detail }
@@ -54,7 +54,7 @@ impl Asked {
         }
     }
 
-    /// The same, with Rust's legacy names as paths.
+    /// Likewise, with Rust's legacy names as paths.
     pub(crate) fn with_legacy<C: Cpp>(self, limit: u32, cpp: C) -> Legacy<C>
         ensures limit { result.languages.limit ≡ limit }
         ensures detail { result.languages.detail ≡ self.detail }
@@ -88,7 +88,7 @@ impl Asked {
         }
     }
 
-    /// Whether a name is read as a type, of which this status was told by its symbol.
+    /// Whether a name is read as a type, once its symbol has this status.
     pub(crate) fn reads_type(self, status: u32, name: &[u8]) -> bool
         ensures { result ≡ (self.types && (status == 11 && is_type_word name.now)) }
     {
@@ -112,7 +112,7 @@ fn has(flags: u32, flag: u32) -> bool
     flags & flag != 0
 }
 
-/// How much of a symbol flags ask for.
+/// How much of a symbol flags request.
 #[tactic(auto, unfolding(crate::specs::Calls::detail_of))]
 fn detail_of(flags: u32) -> Detail
     ensures { result ≡ detail_of flags }
@@ -137,7 +137,7 @@ fn letters_of(flags: u32) -> Letters
     }
 }
 
-/// What flags ask for, if each of them is one.
+/// What flags request, if each of them is one.
 #[tactic(auto, unfolding(crate::specs::Calls::asked_of))]
 pub(crate) fn asked_of(flags: u32) -> Option<Asked>
     ensures { result ≡ asked_of flags }

@@ -1,10 +1,10 @@
-// What a call tells its caller: a status with what comes with it, and the bytes in the caller's buffer.
+// What a call reports to its caller: a status with what goes with it, and the bytes in the caller's buffer.
 ghost use Rattle.std.specs.Prelude.{◌≡◌};
 ghost use Rattle.sym_calls.specs.Calls.{ending_of, refused, written};
 
 use sym_core::Refusal;
 
-/// What is told of a name or of a text: its status, with how many bytes were written or are needed, and how many bytes are before
+/// The outcome of a name or of a text: its status, with how many bytes were written or are needed, and how many bytes precede
 /// the first bad byte, reference or number; 0 where there is none of these.
 #[repr(C)]
 #[derive(Clone, Copy)]
@@ -14,9 +14,9 @@ pub struct Outcome {
     pub status: u32,
 }
 
-/// A text or a spelling is in the buffer, or counts are told.
+/// A text or a spelling is in the buffer, or counts are reported.
 pub const OK: u32 = 0;
-/// No symbol has these bytes. The offset is that of the first one which none has there.
+/// No symbol has these bytes. The offset is that of the first byte that no symbol has there.
 pub const MALFORMED: u32 = 1;
 /// A reference names nothing. The offset is its own.
 pub const BAD_REFERENCE: u32 = 2;
@@ -30,14 +30,14 @@ pub const MEMORY: u32 = 5;
 pub const BUFFER: u32 = 6;
 /// The symbol has too many bytes.
 pub const SIZE: u32 = 7;
-/// There is no such flag, or this call can't do what it asks for.
+/// There is no such flag, or this call can't do what it requests.
 pub const FLAGS: u32 = 8;
-/// The ends of names go down, pass their text, or aren't as many as the outcomes. (9 is the header's: a pointer is null.)
+/// The ends of names decrease, pass their text, or are fewer or more than the outcomes. (9 is the header's: a pointer is null.)
 pub const ENDS: u32 = 10;
 /// The name begins as no symbol does.
 pub const NO_SYMBOL: u32 = 11;
 
-/// A status that nothing comes with.
+/// A status with nothing else.
 pub(crate) fn alone(status: u32) -> Outcome
     ensures { result ≡ record { length = 0; offset = 0; status = status } }
 {
@@ -66,7 +66,7 @@ fn at(status: u32, offset: u32) -> Outcome
     }
 }
 
-/// A refusal of a symbol that is after so many bytes: its number, and its offset if it has one.
+/// The refusal of a symbol that begins after n bytes: its number, and its offset if it has one.
 #[tactic(auto, unfolding(crate::specs::Calls::refused))]
 pub(crate) fn of_refusal(refusal: Refusal, skip: u32, buffer: &[u8]) -> Outcome
     ensures { ending_of result buffer.now ≡ refused refusal skip buffer.now }
@@ -80,7 +80,7 @@ pub(crate) fn of_refusal(refusal: Refusal, skip: u32, buffer: &[u8]) -> Outcome
     }
 }
 
-/// Writes bytes to the front of the buffer, or tells how large it has to be.
+/// Writes bytes to the front of the buffer, or says how large it has to be.
 #[tactic(auto, unfolding(crate::specs::Calls::written))]
 pub(crate) fn write(bytes: &[u8], buffer: &mut [u8]) -> Outcome
     ensures { ending_of result buffer.new ≡ written bytes.now buffer.old }

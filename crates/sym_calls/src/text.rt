@@ -62,7 +62,7 @@ pub(crate) fn name_with<D: Demangler>(
     }
 }
 
-/// The same with lists of its own.
+/// Likewise with lists of its own.
 fn name_by<D: Demangler>(
     alloc: Global,
     demangler: &D,
@@ -85,8 +85,8 @@ fn name_by<D: Demangler>(
     symbol_with(demangler, &mut lists, &mut text, kind, symbol, buffer)
 }
 
-/// Writes the text of a symbol to the front of the buffer with the lists of the short way alone, if the symbol goes that way and its
-/// text costs at most the limit.
+/// Writes the text of a symbol to the front of the buffer with only the lists of the short way, if the symbol goes that way and
+/// its text costs at most the limit.
 fn write_short<M: Mangling>(
     alloc: Global,
     symbol: &[u8],
@@ -104,7 +104,7 @@ fn write_short<M: Mangling>(
     Some(write(M::text(&direct), buffer))
 }
 
-/// The same of a C++ symbol of which less is shown than all of it.
+/// Likewise for a C++ symbol that is shown only in part.
 fn write_less<C: Cpp>(
     alloc: Global,
     symbol: &[u8],
@@ -123,7 +123,7 @@ fn write_less<C: Cpp>(
     Some(write(C::text(&direct), buffer))
 }
 
-/// The same of a Rust symbol without its generic arguments.
+/// Likewise for a Rust symbol without its generic arguments.
 fn brief_once(alloc: Global, symbol: &[u8], limit: u32, buffer: &mut [u8]) -> Option<Outcome>
     requires { FitsSymbol symbol.now }
     ensures told { IfSome result (λ outcome. IsTextWritten (answer v0_mangled Brief symbol.now limit) buffer.old (ending_of outcome buffer.new)) }
@@ -136,7 +136,7 @@ fn brief_once(alloc: Global, symbol: &[u8], limit: u32, buffer: &mut [u8]) -> Op
     Some(write(V0::text(&direct), buffer))
 }
 
-/// The same in its language. A Rust symbol has no parameters.
+/// Likewise in its language. A Rust symbol has no parameters.
 fn short_once<C: Cpp>(
     alloc: Global,
     languages: &Languages<C>,
@@ -222,8 +222,8 @@ fn type_by<D: Demangler>(alloc: Global, demangler: &D, name: &[u8], buffer: &mut
     }
 }
 
-/// What is told of a name, of which this outcome was told by its symbol: the same, or what is told of the type, where there is no
-/// symbol, types are asked for and the name can be one.
+/// The outcome of a name whose symbol has this outcome: the same, or that of the type, where there is no symbol, types are
+/// requested and the name can be one.
 pub(crate) fn or_type<D: Demangler>(
     alloc: Global,
     demangler: &D,
@@ -241,7 +241,7 @@ pub(crate) fn or_type<D: Demangler>(
     outcome
 }
 
-/// Writes the text of a name's symbol, or of its type, as is asked for, with a grammar of C++, to the front of the buffer.
+/// Writes the text of a name's symbol, or of its type, as requested, with a grammar of C++, to the front of the buffer.
 fn text_in<C: Cpp>(
     alloc: Global,
     cpp: C,
@@ -262,8 +262,8 @@ fn text_in<C: Cpp>(
     or_type(alloc, &languages, asked, name, buffer, outcome)
 }
 
-/// Writes the text of a name's symbol, or of the type that a name is, where types are asked for, to the front of the buffer, if it
-/// costs at most the limit. Else the outcome tells why not, and the buffer stays as it is.
+/// Writes the text of a name's symbol, or of the type that a name is, where types are requested, to the front of the buffer, if
+/// it costs at most the limit. Otherwise the outcome says why not, and the buffer stays as it is.
 #[tactic(auto, unfolding(crate::specs::Calls::text_told))]
 pub fn text_of(alloc: Global, name: &[u8], limit: u32, flags: u32, buffer: &mut [u8]) -> Outcome
     ensures { EndsAs (text_told (asked_of flags) limit name.now buffer.old) buffer.old (ending_of result buffer.new) }
@@ -277,8 +277,8 @@ pub fn text_of(alloc: Global, name: &[u8], limit: u32, flags: u32, buffer: &mut 
     text_in(alloc, Abi, asked, limit, name, buffer)
 }
 
-/// Writes the pressed spelling of a name's symbol to the front of the buffer, in which each repeated part is a reference. Else the
-/// outcome tells why not, and the buffer stays as it is.
+/// Writes the pressed spelling of a name's symbol, where each repeated part is a reference, to the front of the buffer.
+/// Otherwise the outcome says why not, and the buffer stays as it is.
 #[tactic(auto, unfolding(crate::specs::Calls::press_told))]
 pub fn press_of(alloc: Global, name: &[u8], flags: u32, buffer: &mut [u8]) -> Outcome
     ensures { EndsAs (press_told (asked_of flags) name.now buffer.old) buffer.old (ending_of result buffer.new) }

@@ -12,7 +12,7 @@ use sym_filter::Demangler;
 use sym_languages::languages::{Cpp, Lists};
 use sym_languages::{Abi, Wide};
 
-/// Whether ends go up, from 0 to at most the length of a text.
+/// Whether ends increase, from 0 to at most the length of a text.
 fn are_ends(ends: &[usize], len: usize) -> bool
     ensures { result ≡ are_ends 0 len ends.now }
 {
@@ -54,7 +54,7 @@ fn placed(outcome: Outcome) -> usize
     }
 }
 
-/// Writes the texts of names to the buffer, one after the other, and tells of each.
+/// Writes the texts of names to the buffer, one after the other, and sets the outcome of each.
 fn tell_each<D: Demangler>(
     alloc: Global,
     demangler: &D,
@@ -91,7 +91,7 @@ fn tell_each<D: Demangler>(
     OK
 }
 
-/// The same as is asked for, with a grammar of C++.
+/// Likewise as requested, with a grammar of C++.
 fn tell_in<C: Cpp>(
     alloc: Global,
     cpp: C,
@@ -131,12 +131,13 @@ fn tell_in<C: Cpp>(
     )
 }
 
-/// Writes the texts of many names to the buffer, one after the other, and tells of each name what `text_of` would. Name i is in
-/// `names` from the end before it, 0 for the first, to `ends[i]`. A name whose text finds too little of the buffer left is told
-/// how much it needs, and those after it may still find some.
+/// Writes the texts of many names to the buffer, one after the other, and sets for each name the outcome that `text_of` would
+/// give. Name i is in `names` from the end before it, 0 for the first, to `ends[i]`. A name whose text finds too little of the
+/// buffer left gets the size that it needs, and those after it may still find some.
 ///
-/// It answers 0 where each name was told of, `FLAGS` where a flag is none, and `ENDS` where the ends go down, pass the length of
-/// `names`, or aren't as many as the outcomes; with these two nothing is written. Want of memory is told of a name.
+/// It answers 0 where each name got its outcome, `FLAGS` where a flag is none, and `ENDS` where the ends decrease, pass the
+/// length of `names`, or are fewer or more than the outcomes; with these two nothing is written. Want of memory is reported for
+/// a name.
 #[tactic(auto, unfolding(crate::specs::Texts::TextsEndAs))]
 pub fn texts_of(
     alloc: Global,

@@ -6,7 +6,7 @@ use Rattle.clap.specs.Words.{Kinds, IsAmong}
 use Rattle.clap.specs.declared.error.kind.ErrorKind.{ErrorKind}
 use Rattle.clap.specs.declared.error.kind.ErrorKind.TheVariants.{OutOfMemory}
 
--- an error of another kind than want of memory is one of the faults
+-- an error other than want of memory is one of the faults
 pub faulty : (kinds : Kinds) (kind : ErrorKind) → kind ≢ OutOfMemory → (kind ≡ OutOfMemory) ⊎ IsAmong kind kinds → kinds ≢ []
 faulty [] kind known (inl memory) = absurd (known memory)
 faulty [] kind known (inr among) = absurd among

@@ -1,4 +1,4 @@
--- What the parser of the command line finds, by what it is told.
+-- What the parser of the command line finds, by its settings.
 use Rattle.std.proofs.Common.{◌≡◌, ◌∙◌, ap, ap₂, refl, subst, map, Bor, [], ℕ, List, Option, Some, None, Result, Ok, Err}
 use Rattle.std.specs.Option.{UnwrapsOrElse}
 use Rattle.std.specs.Prelude.{option_map, unwrap_or, IsSomeAnd, IfOk, false, true}
@@ -22,11 +22,11 @@ pub given : {T : Type 0} (found : Option T) (value : T) → IsSomeAnd found (λ 
 given (Some other) value same = ap (λ v. Some v) same
 given None value some = absurd some
 
--- a command with one argument more
+-- a command with one more argument
 pub with_argument : (old new : Command) (argument : Arg) (app : App) (rule : Rule) → AddsArg old argument new → argument.global ≡ false → app_of old ≡ app → rule_of argument ≡ rule → app_of new ≡ with_rule app rule
 with_argument old new argument app rule adds local is is_rule = adds.shape local ∙ ap₂ with_rule is is_rule
 
--- what is found in words, where it is known what the parser is told
+-- what is found in words, where the parser's settings are known
 pub found_rows : {E : Type 0} (app told : App) (words : List Text) (result : Result ArgMatches E) → app ≡ told → is_simple told ≡ true
     → IfOk result (HasMatchesOf app words) → IfOk result (λ matches. rows_of (found_of matches) ≡ matches_of told words)
 found_rows app told words (Ok matches) same simple has = (has (ap is_simple same ∙ simple)).0 ∙ ap (λ (a : App). matches_of a words) same

@@ -112,7 +112,7 @@ pub OnErr-anyway : {A E : Type 0} (r : Result A E) (P : Type 0) → P → OnErr 
 OnErr-anyway (Ok x) P p = tt
 OnErr-anyway (Err e) P p = p
 
--- what is said of success alone
+-- what only success says
 pub IfOk-not : {A E : Type 0} (r : Result A E) (P : A → Type 0) (y : E) → r ≡ Err y → IfOk r P
 IfOk-not (Ok x) P y is = absurd cc
 IfOk-not (Err e) P y is = tt

@@ -10,7 +10,7 @@ use Rattle.sym_command.specs.Lines.{Counting, AreLines, complaint_of, status_of}
 abbrev pub Says : Option (List ℕ) → Option (List ℕ) → Type 0
 Says old new = (said : List ℕ) × Appends old new said
 
--- two streams took bytes of which this holds
+-- two streams took bytes that satisfy this
 pub record Took (out out' err err' : Option (List ℕ)) (holds : List ℕ → List ℕ → Type 0) : Type 0 where
   pub lines : List ℕ
   pub said : List ℕ

@@ -1,4 +1,4 @@
--- The command line: which options there are, what they ask, and what its parser finds in its words.
+-- The command line: which options there are, what they request, and what its parser finds in its words.
 use Rattle.std.specs.Prelude.{◌≡◌, ◌⊎◌, ◌<◌, ◌^◌, ℕ, pos, List, [], ◌∷◌, Bool, true, false, Option, Some, None, codes, unwrap_or, if◌then◌else◌}
 use Rattle.std.specs.Str.Parse.{IsNumeral, digits_value, without_leading_plus}
 use Rattle.clap.specs.Lexer.{usize_max}
@@ -14,7 +14,7 @@ use Rattle.sym_command.specs.declared.options.Asked.TheVariants.{Text as PlainTe
 use Rattle.sym_command.specs.declared.options.Options.{Options}
 use Rattle.sym_command.specs.declared.outcome.Filtering.{Filtering}
 
--- ## What the parser is told
+-- ## The parser's settings
 
 -- an option that takes no value
 abbrev pub flag : Text → Rule
@@ -46,21 +46,21 @@ command_line = record {
   subs = [];
 }
 
--- ## What the options ask
+-- ## What the options request
 
--- the detail that two flags ask for
+-- the detail that two flags request
 abbrev pub detail_by : Bool → Bool → Detail
 detail_by false false = Full
 detail_by true false = Brief
 detail_by false true = NoParameters
 detail_by true true = BriefNoParameters
 
--- the letters of words that `--ascii-words` asks for
+-- the letters of words that `--ascii-words` requests
 abbrev pub letters_by : Bool → Letters
 letters_by true = Ascii
 letters_by false = Any
 
--- what `--press` and `--wide` ask of each symbol, which don't go together
+-- what `--press` and `--wide` request for each symbol; they don't go together
 abbrev pub asked_by : Bool → Bool → Option Asked
 asked_by false false = Some PlainText
 asked_by false true = Some WideText
@@ -117,11 +117,12 @@ filtering_at PlainText options = Some (record { limit = options.limit; detail = 
 filtering_at WideText options = Some (record { limit = options.limit; detail = options.detail; letters = options.letters; wide = true; legacy = options.legacy })
 filtering_at Pressed options = None
 
--- how standard input is filtered as options ask: not where they ask for counts or pressed spellings, which need a symbol
+-- how standard input is filtered as the options request: not where they request counts or pressed spellings, which need a
+-- symbol
 abbrev pub filtering_by : Options → Option Filtering
 filtering_by options = if options.stats then None else filtering_at options.asked options
 
--- there is no symbol, and standard input is to be filtered so
+-- there is no symbol, and standard input is to be filtered this way
 pub record AsksFilter (rows : List Row) (filtering : Filtering) : Type 0 where
   pub options : Options
   pub given : AreGiven rows options
@@ -138,6 +139,6 @@ AreRefused rows = AreOptions rows None ⊎ ((options : Options) × AreGiven rows
 abbrev pub found_in : List Text → List Row
 found_in words = matches_of command_line words
 
--- the kinds of fault for which it refuses them, help and the version among them: none where it takes them
+-- the kinds of fault that it refuses them for, help and the version among them: none where it accepts them
 abbrev pub faults_in : List Text → Kinds
 faults_in words = fault_of command_line words

@@ -42,7 +42,7 @@ pub record IsCountsLine (are_counts : Counts → Type 0) (line : List ℕ) : Typ
   pub are : are_counts counts
   pub is : line ≡ counts_text counts.rows counts.nodes counts.steps ++ 10 ∷ []
 
--- what follows a word's line: the line of counts where they are asked for and the symbol is read, else nothing
+-- what follows a word's line: the line of counts where they are requested and the symbol is read, else nothing
 abbrev pub IsBehindLine : (Counts → Type 0) → Bool → List ℕ → Type 0
 IsBehindLine are_counts true line = IsCountsLine are_counts line
 IsBehindLine are_counts false line = line ≡ []
@@ -67,7 +67,7 @@ reason_of Memory = []
 abbrev pub complaint_with : List ℕ → List ℕ → List ℕ
 complaint_with word reason = codes "symfilt: " ++ (word ++ (codes ": " ++ reason))
 
--- the line on standard error that says of a word why it has no text, if it has none
+-- the line on standard error that says why a word has no text, if it has none
 abbrev pub complaint_about : List ℕ → Option (Result (List ℕ) Refusal) → List ℕ
 complaint_about word None = complaint_with word (codes "not a symbol") ++ 10 ∷ []
 complaint_about word (Some (Ok text)) = []

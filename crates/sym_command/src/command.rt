@@ -14,7 +14,7 @@ pub const ANSWERED: u8 = 0;
 /// The status where a word has none.
 const REFUSED: u8 = 1;
 
-/// The status of a command line that was refused, or asked for help.
+/// The status of a command line that was refused, or that requested help.
 pub const WRONG_USE: u8 = 2;
 
 /// The status where reading, writing or memory failed.

@@ -1,4 +1,5 @@
-//! What the programs' command lines are made of: options and what they ask, the lines of each word, complaints and statuses.
+//! What the programs' command lines are made of: options and what they request, the lines of each word, complaints and
+//! statuses.
 #![tactic(auto)]
 
 mod command;

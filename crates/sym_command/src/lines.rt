@@ -127,7 +127,7 @@ fn push_counted<D: Demangler>(
     }
 }
 
-/// Appends the line of a symbol of which no counts are asked for, or a beginning of it, and says whether it has a text.
+/// Appends the line of a symbol without counts, or a beginning of it, and says whether it has a text.
 fn push_answer<D: Demangler>(
     alloc: Global,
     demangler: &D,
@@ -196,7 +196,7 @@ fn complaint(alloc: Global, word: &str, refusal: Refusal) -> Result<String, Allo
     format!(in alloc; "symfilt: {word}: {reason}")
 }
 
-/// Why a symbol has no text. Want of memory is no reason of the symbol's.
+/// Why a symbol has no text. Want of memory isn't a property of the symbol.
 pub fn reason(alloc: Global, refusal: Refusal) -> Result<String, AllocError>
     ensures said { IfOk result (λ text. string_bytes text ≡ reason_of refusal) }
     ensures memory { OnOk result (refusal ≢ Refusal.Memory) }

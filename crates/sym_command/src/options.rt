@@ -9,7 +9,7 @@ use std::alloc::{AllocError, Global};
 use sym_filter::Letters;
 use sym_print::Detail;
 
-/// The greatest cost of a text where no other limit is asked for.
+/// The greatest cost of a text where no other limit is given.
 const DEFAULT_LIMIT: u32 = 1_000_000;
 
 const VERSION: &str =
@@ -41,7 +41,7 @@ const NO_PARAMS: &str = "Print each C++ function by its name, without return typ
 const ASCII_WORDS: &str =
     "Let the words of standard input end at bytes that aren't ASCII, as at the quotes that compilers put around symbols";
 
-/// What is asked of each symbol.
+/// What is requested for each symbol.
 #[derive(Clone, Copy, Debug, PartialEq, Eq)]
 pub enum Asked {
     /// Its text.
@@ -60,15 +60,15 @@ pub struct Options {
     pub letters: Letters,
     pub stats: bool,
     pub asked: Asked,
-    /// Whether legacy Rust names have the texts of their paths. It says nothing to pressed spellings.
+    /// Whether legacy Rust names have the texts of their paths. It has no effect on pressed spellings.
     pub legacy: bool,
 }
 
-/// The options and symbols that the words of a command line of symfilt have, the program's name first.
+/// The options and symbols in the words of a command line of symfilt, the program's name first.
 ///
 /// # Errors
 ///
-/// What the parser says of words that it doesn't take, of a wish for help or the version, and of want of memory.
+/// What the parser says of words that it doesn't accept, of a request for help or the version, and of want of memory.
 pub fn found_in<'a>(alloc: Global, words: &'a [&'a str]) -> Result<ArgMatches<'a>, Error>
     ensures found { IfOk result (λ matches. rows_of (found_of matches) ≡ matches_of command_line (map (λ word. word.now) words.entry.now)) }
     ensures fails { FailsBy (fault_of command_line (map (λ word. word.now) words.entry.now)) result }
@@ -120,7 +120,7 @@ fn with_details<'a>(alloc: Global, command: Command<'a>) -> Result<Command<'a>, 
     with_flag(alloc, named, "ascii-words", ASCII_WORDS)
 }
 
-/// A command line with one option more, which takes no value.
+/// A command line with one more option, which takes no value.
 ///
 /// # Errors
 ///
@@ -169,7 +169,7 @@ fn symbols<'a>(alloc: Global) -> Arg<'a>
         .help("Symbols; with none, standard input is filtered")
 }
 
-/// The detail that two flags ask for.
+/// The detail that two flags request.
 pub fn detail_of(brief: bool, no_params: bool) -> Detail
     ensures { result ≡ detail_by brief no_params }
 {
@@ -181,7 +181,7 @@ pub fn detail_of(brief: bool, no_params: bool) -> Detail
     }
 }
 
-/// The letters of words that a flag asks for.
+/// The letters of words that a flag requests.
 fn letters_of(ascii_words: bool) -> Letters
     ensures { result ≡ letters_by ascii_words }
 {
@@ -191,7 +191,7 @@ fn letters_of(ascii_words: bool) -> Letters
     Letters::Any
 }
 
-/// What two flags ask of each symbol, which don't go together.
+/// What two flags request for each symbol; they don't go together.
 fn asked_of(press: bool, wide: bool) -> Option<Asked>
     ensures { result ≡ asked_by press wide }
 {
@@ -203,7 +203,7 @@ fn asked_of(press: bool, wide: bool) -> Option<Asked>
     }
 }
 
-/// The limit that is asked for.
+/// The given limit.
 pub fn limit_of(matches: &ArgMatches<'_>) -> u32
     ensures { IsLimit (rows_of (found_of matches.now)) result }
 {
@@ -239,7 +239,7 @@ pub fn symbols_of<'m, 'a>(matches: &'m ArgMatches<'a>) -> &'m [&'a str]
     matches.get_strs("SYMBOL").unwrap_or_default()
 }
 
-/// How an input is filtered as options ask, if they don't need a symbol.
+/// How an input is filtered as the options request, if they don't need a symbol.
 pub fn filtering_of(options: Options) -> Option<Filtering>
     ensures { result ≡ filtering_by options }
 {

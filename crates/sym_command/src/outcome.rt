@@ -1,4 +1,4 @@
-// What a command line asks of the program.
+// What a command line requests of the program.
 use sym_filter::Letters;
 use sym_print::Detail;
 

@@ -5,7 +5,7 @@ ghost use Rattle.sym_filter.specs.Streams.{Puts, PutsFront, writer_faults};
 use std::alloc::Global;
 use sym_filter::{FilterFault, Sink, write_out};
 
-/// From how many bytes on lines are written.
+/// The number of waiting bytes from which on lines are written.
 const PAGE_SIZE: usize = 4_096;
 
 /// Lines that wait to be written: answers, and what is said of words that have no text.

@@ -1,4 +1,4 @@
--- What idna answers, as what the name stands for.
+-- What idna answers, as what the name denotes.
 use Rattle.std.proofs.Common.{◌≡◌, ℕ, ◌≤◌, Bool, true, false, cond, nat_le, List, length, Option, Some, None, option_and_then, option_map, refl, sym, ap, ◌∙◌, le-leb}
 use Rattle.std.specs.Prelude.{encode_utf8_all, chars}
 use Rattle.std.specs.Str.{IsUtf8}

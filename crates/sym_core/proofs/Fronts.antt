@@ -5,7 +5,7 @@ use Rattle.std.proofs.Math.Seq.{take-append-add}
 use Rattle.sym_core.specs.Number.{AreDigitsOf, ending_of, IsNumber, BeginsNumber, HasNumber, HasNoNumber}
 use Rattle.sym_core.specs.declared.NumberKind.{NumberKind}
 
--- the longest number at the front of q: so many digits
+-- the longest number at the front of q: this many digits
 pub record ReadsNumber (kind : NumberKind) (q : List ℕ) (size : ℕ) : Type 0 where
   pub digits : List ℕ
   pub rest : List ℕ
@@ -94,7 +94,7 @@ has_no_number kind q size k = (
         k.next b r (take (n - size - 1) r ++ is.0) e
         (subst (IsNumber kind) (ap (λ u. u ++ is.0) front ∙ append_assoc k.front (b ∷ take (n - size - 1) r) is.0) is.1)
 
--- the digits of the longest number in front are such as the kind has
+-- the digits of the longest number at the front are digits of the kind
 pub front_digits : (kind : NumberKind) (q : List ℕ) (size : ℕ) → HasNumber kind q size → AreDigitsOf kind (take size q)
 front_digits kind q size h =
     let r = reads_number kind q size h in

@@ -44,11 +44,11 @@ value_onto-append : (kind : NumberKind) (v : ℕ) (xs ys : List ℕ) → value_o
 value_onto-append kind v [] ys = refl
 value_onto-append kind v (x ∷ xs) ys = value_onto-append kind (v * radix_of kind + digit_value kind x) xs ys
 
--- one digit more after those of a front
+-- one more digit after those of a front
 pub value_of-more : (kind : NumberKind) (ds : List ℕ) (i : ℕ) → i < length ds → value_of kind (take (i + 1) ds) ≡ value_of kind (take i ds) * radix_of kind + digit_value kind (get_or ds i 0)
 value_of-more kind ds i lt = ap (value_of kind) (take_more ds i 0 lt) ∙ value_onto-append kind 0 (take i ds) (get_or ds i 0 ∷ [])
 
--- the same at a place
+-- likewise at a place
 pub value_of-next : (kind : NumberKind) (s : List ℕ) (at end : ℕ) → at ≤ end → end < length s → value_of kind (take (end + 1 - at) (drop at s)) ≡ value_of kind (take (end - at) (drop at s)) * radix_of kind + digit_value kind (get_or s end 0)
 value_of-next kind s at end le lt =
     let one : end + 1 - at ≡ end - at + 1 = omega arith in
@@ -60,7 +60,7 @@ value_of-next kind s at end le lt =
 pub decimal_small : (b : ℕ) → is_decimal_digit b ≡ true → (48 ≤ b) × (b ≤ 57)
 decimal_small b h = grind (arith, nat_tests)
 
--- one decimal digit more
+-- one more decimal digit
 pub ten_more : (v d n m : ℕ) → v < 10 ^ n → d ≤ 9 → m ≡ n + 1 → v * 10 + d < 10 ^ m
 ten_more v d n m below small is =
     let one : 10 ^ m ≡ 10 ^ n * 10 = ap (λ k. 10 ^ k) (is ∙ omega arith) ∙ pow-suc 10 n in
@@ -72,7 +72,7 @@ digit_at kind ds i are h = All-from_recursion (λ b. is_digit_of kind b ≡ true
 hex-digit-small : (b : ℕ) → is_digit_of Hex b ≡ true → digit_value Hex b < 16
 hex-digit-small b h = grind (arith, nat_tests)
 
--- the digits of a Hex number stand for less than 16 to the power of their count
+-- the digits of a Hex number denote less than 16 to the power of their count
 pub hex-below : (v : ℕ) (ds : List ℕ) → AreDigits Hex ds → value_onto Hex v ds < (v + 1) * 16 ^ length ds
 hex-below v [] are = rw (pow-zero 16) (omega arith)
 hex-below v (d ∷ ds) are =

@@ -30,7 +30,7 @@ own_found names bytes most end high few each stops = record {
       ap (is_name_byte names) (sym same) ∙ stops lt more);
 }
 
--- What comes after a name's length: a separator or none, its bytes so far, and what follows.
+-- What follows a name's length: a separator or none, its bytes so far, and the rest.
 pub record IsFront (names : NameClass) (digits sep part rest : List ℕ) (most : ℕ) : Type 0 where
   pub length_is : AreDigitsOf Length digits
   pub most_is : most ≡ value_of Length digits
@@ -55,7 +55,7 @@ separated Rust digits (c ∷ d ∷ sep) part rest most f named full =
 abbrev token_of : List ℕ → List ℕ → List ℕ → Token
 token_of digits sep part = record { before = digits ++ sep; own = part; behind = [] }
 
--- a mark doesn't come after an unmarked length
+-- a mark doesn't follow an unmarked length
 no_mark : (names : NameClass) (sep part rest : List ℕ) (b : ℕ) → ends_name names b ≡ false → IsSeparated names (sep ++ (part ++ rest)) (length sep) → sep ≡ [] → part ≡ [] → (r : List ℕ) → rest ≡ b ∷ r → b ≡ 95 → ⊥
 no_mark Cpp sep part rest b clash mark p q r e is = cc
 no_mark Rust sep part rest b clash mark p q r e is = elim mark [
@@ -63,7 +63,7 @@ no_mark Rust sep part rest b clash mark p q r e is = elim mark [
   | inr none ↦ none.1 r (ap (λ v. v ++ (part ++ rest)) p ∙ ap (λ v. v ++ rest) q ∙ e ∙ ap (λ c. c ∷ r) is)
 ]
 
--- these bytes don't go on with a name: the first may not be in it here
+-- these bytes don't continue a name: the first may not be in it here
 abbrev pub IsForeign : NameClass → List ℕ → List ℕ → List ℕ → Type 0
 IsForeign names sep part w = (b : ℕ) (r : List ℕ) → w ≡ b ∷ r → (is_name_byte names b ≡ false) ⊎ ((sep ≡ []) × (part ≡ []) × (is_decimal_digit b ≡ true))
 
@@ -213,7 +213,7 @@ name_whole names digits sep part rest q most at place f named full split from to
         let on = extended_name names (token_of digits sep part) other b m (front_name names digits sep part rest most f named full) is_other e in
         absurd (no_mark names sep part rest b on.clash f.mark on.unmarked on.nothing_own (m ++ behind) g on.mark)
 
--- the mark depends on the next byte alone
+-- the mark depends only on the next byte
 mark_same : (names : NameClass) (sep part : List ℕ) (b : ℕ) (r s : List ℕ) (n : ℕ) → IsSeparated names (sep ++ (part ++ b ∷ r)) n → IsSeparated names (sep ++ (part ++ b ∷ s)) n
 mark_same Cpp sep part b r s n h = h
 mark_same Rust [] [] b r s n h = elim h [
@@ -304,7 +304,7 @@ name_broken names digits sep part rest q most size f short split foreign longest
     nameless Cpp none = omega (arith, none)
     nameless Rust none = none
 
--- a name isn't empty-handed: a C++ name's length isn't 0
+-- a name isn't empty: a C++ name's length isn't 0
 zero_name : (t : Token) (w : List ℕ) → IsName Cpp t → bytes_of t ≡ 48 ∷ w → ⊥
 zero_name t w h e = by_digits h.digits h.length_is.1 h.counted (sym (name_bytes Cpp t h) ∙ e)
   where

@@ -46,7 +46,7 @@ run_more p s at end digits last k low high = elim (cases_lt k end) [
   | inr behind ↦ (let same : end ≡ k = omega (arith, behind) in ap (λ n. p (get_or s n 0)) (sym same) ∙ last)
 ]
 
--- what it leaves where it has come as far as it may
+-- what it leaves where it has gone as far as it may
 pub run_reached : (kind : NumberKind) (s : List ℕ) (at end stop most : ℕ) → at ≤ end → end ≤ stop → stop ≤ length s → ((k : ℕ) → at ≤ k → k < end → is_digit_of kind (get_or s k 0) ≡ true) → stop - at ≤ most → (stop - at ≡ most) ⊎ (length s ≤ stop) → stop ≤ end → IsRun kind (drop at s) most (end - at)
 run_reached kind s at end stop most low high within digits few full come =
     run_found kind s at end most low (omega arith) digits (omega arith) (elim full [

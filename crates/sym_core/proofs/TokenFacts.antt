@@ -32,7 +32,7 @@ same_number kind s t p q e =
     let digits = append_cancel_right s.own t.own (ending_of kind) (sym (number_bytes kind s p) ∙ e ∙ number_bytes kind t q) in
     token_path s t (p.bare ∙ sym q.bare) digits (p.ends ∙ sym q.ends)
 
--- a Length or Digits that begins another goes on by a digit
+-- a Length or Digits that begins another continues by a digit
 abbrev pub GoesOn : NumberKind → Token → ℕ → Type 0
 GoesOn kind s b = (ends_number kind b ≡ false) × ((u : Token) × IsNumberToken kind u × (bytes_of u ≡ bytes_of s ++ b ∷ []))
 
@@ -144,7 +144,7 @@ tail_stops Rust [] (b ∷ own) h = h.0
 tail_stops Rust (c ∷ []) own h = ap is_decimal_digit h
 tail_stops Rust (c ∷ d ∷ separator) own h = absurd h
 
--- a separator is told from a name's first byte
+-- a separator differs from a name's first byte
 pub same_tail : (names : NameClass) (sep own other_sep other : List ℕ) → IsSeparator names sep own → IsSeparator names other_sep other → sep ++ own ≡ other_sep ++ other → (sep ≡ other_sep) × (own ≡ other)
 same_tail Cpp [] own [] other p q e = (refl, e)
 same_tail Cpp (c ∷ sep) own other_sep other p q e = absurd p
@@ -231,7 +231,7 @@ only_mark t b m q e = by_digits q.digits q.length_is.1 q.counted e
         by_tail q.separator t.own q.separated (omega (arith, count, zero_first)) tail
     by_digits (d ∷ e ∷ ds) form count h = (let zero_first : d ≡ 48 = cc in absurd (form.0 zero_first))
 
--- a name goes on to another only from the empty name, by an '_'
+-- a name extends to another only from the empty name, by an '_'
 pub record NameGoesOn (names : NameClass) (s : Token) (p : IsName names s) (b : ℕ) (m : List ℕ) : Type 0 where
   pub clash : ends_name names b ≡ false
   pub alone : m ≡ []

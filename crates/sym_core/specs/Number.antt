@@ -69,11 +69,11 @@ FitsSymbol s = length s ≤ MOST_BYTES
 abbrev pub BeginsNumber : NumberKind → List ℕ → Type 0
 BeginsNumber kind bytes = (more : List ℕ) × IsNumber kind (bytes ++ more)
 
--- the longest number at the front has so many digits
+-- the longest number at the front has this many digits
 abbrev pub HasNumber : NumberKind → List ℕ → ℕ → Type 0
 HasNumber kind s size = IsLongestFront (IsNumber kind) s (size + length (ending_of kind))
 
--- no number is at the front, and the longest front that begins one has so many bytes
+-- no number is at the front, and the longest front that begins one has this many bytes
 abbrev pub HasNoNumber : NumberKind → List ℕ → ℕ → Type 0
 HasNoNumber kind s size = ((n : ℕ) → n ≤ length s → ¬ (IsNumber kind (take n s))) × IsLongestFront (BeginsNumber kind) s size
 

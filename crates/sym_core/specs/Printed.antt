@@ -4,7 +4,7 @@ use Rattle.std.specs.List.{list_all}
 use Rattle.idna.specs.Punycode.{decode}
 use Rattle.unicode_ident.specs.Ident.{is_xid_continue}
 
--- a minus where it is asked for, and the decimal
+-- a minus where it is requested, and the decimal
 abbrev pub signed_text : Bool → ℕ → List ℕ
 signed_text minus value = (if minus then 45 ∷ [] else []) ++ decimal value
 
@@ -24,7 +24,7 @@ hyphenated (byte ∷ rest) =
 abbrev pub identifier_text : List ℕ → Option (List ℕ)
 identifier_text chars = if list_all is_xid_continue chars then Some (encode_utf8_all chars) else None
 
--- the text that a Punycode name stands for, if it is short enough and that of an identifier
+-- the text that a Punycode name denotes, if it is short enough and that of an identifier
 abbrev pub decoded_name : List ℕ → Option (List ℕ)
 decoded_name bytes = if nat_le (length bytes) 2000 then option_and_then identifier_text (decode (hyphenated bytes)) else None
 

@@ -7,7 +7,7 @@ use Rattle.sym_core.specs.declared.NumberKind.TheVariants.{Length, Decimal, Seq3
 use Rattle.sym_core.specs.declared.NameClass.{NameClass}
 use Rattle.sym_core.specs.declared.NameClass.TheVariants.{Cpp, Rust}
 
--- so many digits may come at the front of q, if the kind has a limit
+-- q may begin with this many digits, if the kind has a limit
 abbrev pub IsLimit : NumberKind → List ℕ → ℕ → Type 0
 IsLimit Length q most = ((most ≡ 1) × ((r : List ℕ) × (q ≡ 48 ∷ r))) ⊎ ((most ≡ 9) × ((r : List ℕ) → q ≡ 48 ∷ r → ⊥))
 IsLimit Base62 q most = most ≡ 11
@@ -40,12 +40,12 @@ is_marked Seq36 = true
 is_marked Base62 = true
 is_marked Hex = true
 
--- so many bytes of a separator come before these
+-- this many bytes of a separator precede these
 abbrev pub IsSeparated : NameClass → List ℕ → ℕ → Type 0
 IsSeparated Cpp tail n = n ≡ 0
 IsSeparated Rust tail n = ((n ≡ 1) × ((r : List ℕ) × (tail ≡ 95 ∷ r))) ⊎ ((n ≡ 0) × ((r : List ℕ) → tail ≡ 95 ∷ r → ⊥))
 
--- a name of so many bytes would begin with a digit straight after its length
+-- a name of this length would begin with a digit straight after its length
 abbrev pub is_bare_digit : ℕ → ℕ → List ℕ → Bool
 is_bare_digit most skipped [] = false
 is_bare_digit most skipped (b ∷ own) = nat_lt 0 most && skipped == 0 && is_decimal_digit b
@@ -54,7 +54,7 @@ is_bare_digit most skipped (b ∷ own) = nat_lt 0 most && skipped == 0 && is_dec
 abbrev pub ReachesNameBytes : NameClass → List ℕ → ℕ → Type 0
 ReachesNameBytes names bytes end = (k : ℕ) → k < end → is_name_byte names (get_or bytes k 0) ≡ true
 
--- so many of the bytes are a name's own: as many as may be, or up to one that may not
+-- the first n of the bytes are a name's own: as many as may be, or up to one that may not
 pub record IsOwn (names : NameClass) (bytes : List ℕ) (most size : ℕ) : Type 0 where
   pub part : List ℕ
   pub rest : List ℕ

@@ -1,4 +1,4 @@
--- What the digits of a number stand for.
+-- What the digits of a number denote.
 use Rattle.std.specs.Prelude.{ℕ, ◌+◌, ◌-◌, ◌*◌, List, [], ◌∷◌, if◌then◌else◌}
 use Rattle.sym_core.specs.Number.{is_decimal_digit, is_lower_letter}
 use Rattle.sym_core.specs.declared.NumberKind.{NumberKind}
@@ -11,23 +11,23 @@ radix_of Base62 = 62
 radix_of Hex = 16
 radix_of _ = 10
 
--- what a digit counts: 0 to 9, then the letters, of Base62 the lower-case ones first
+-- what a digit counts: 0 to 9, then the letters; in Base62 the lower-case ones first
 abbrev pub digit_value : NumberKind → ℕ → ℕ
 digit_value Seq36 byte = if is_decimal_digit byte then byte - 48 else byte - 55
 digit_value Base62 byte = if is_decimal_digit byte then byte - 48 else (if is_lower_letter byte then byte - 87 else byte - 29)
 digit_value Hex byte = if is_decimal_digit byte then byte - 48 else byte - 87
 digit_value _ byte = byte - 48
 
--- the number that the digits stand for, after others that stand for v
+-- the number that the digits denote, after others that denote v
 abbrev pub value_onto : NumberKind → ℕ → List ℕ → ℕ
 value_onto kind v [] = v
 value_onto kind v (digit ∷ rest) = value_onto kind (v * radix_of kind + digit_value kind digit) rest
 
--- the number that the digits stand for
+-- the number that the digits denote
 abbrev pub value_of : NumberKind → List ℕ → ℕ
 value_of kind digits = value_onto kind 0 digits
 
--- the value of a number whose lone ending is 0: one more than its digits stand for
+-- the value of a number whose lone ending is 0: one more than its digits denote
 abbrev pub counted_value : NumberKind → List ℕ → ℕ
 counted_value kind [] = 0
 counted_value kind (digit ∷ rest) = value_of kind (digit ∷ rest) + 1

@@ -31,7 +31,7 @@ pub struct Span {
 /// How a number is spelled.
 #[derive(Clone, Copy, Debug, PartialEq, Eq)]
 pub enum NumberKind {
-    /// One to nine decimal digits, the first no zero unless it stands alone: how long a name is.
+    /// One to nine decimal digits, the first no zero unless it is the only one: how long a name is.
     Length,
     /// Decimal digits, maybe none, and an `_`.
     Decimal,

@@ -38,7 +38,7 @@ fn append(out: &mut Vec<u8>, front: &[u8], text: &[u8], back: &[u8]) -> Result<S
     })
 }
 
-/// Appends a decimal, after a minus where that is asked for, and answers its span in the list.
+/// Appends a decimal, after a minus where one is requested, and answers its span in the list.
 ///
 /// # Errors
 ///
@@ -91,7 +91,7 @@ fn is_identifier(text: &str) -> bool
     text.chars().all(unicode_ident::is_xid_continue)
 }
 
-/// The text that a Punycode name stands for, if it is short enough and that of an identifier.
+/// The text that a Punycode name denotes, if it is short enough and that of an identifier.
 fn decoded(alloc: Global, bytes: &[u8]) -> Result<Option<String>, Refusal>
     requires { AreNameBytes NameClass.Rust bytes.now }
     ensures text { IfOk result (λ found. MatchOption found (decoded_name bytes.now ≡ None) (λ text. decoded_name bytes.now ≡ Some (string_bytes text))) }

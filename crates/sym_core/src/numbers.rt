@@ -64,7 +64,7 @@ pub fn has_mark(kind: NumberKind) -> bool
     !matches!(kind, NumberKind::Length | NumberKind::Digits)
 }
 
-/// How many digits may come at most; of kinds with no limit more than there are bytes.
+/// How many digits there may be at most; for kinds without a limit, more than there are bytes.
 fn most_digits(s: &[u8], at: usize, kind: NumberKind) -> usize
     requires fits { FitsSymbol s.now }
     requires within { at ≤ length s.now }
@@ -78,7 +78,7 @@ fn most_digits(s: &[u8], at: usize, kind: NumberKind) -> usize
     }
 }
 
-/// The place so many bytes after another, or the end of the bytes where there are fewer.
+/// The place n bytes after another, or the end of the bytes where there are fewer.
 pub fn reach(s: &[u8], at: usize, most: usize) -> usize
     requires { at ≤ length s.now }
     ensures low { at ≤ result }
@@ -89,7 +89,7 @@ pub fn reach(s: &[u8], at: usize, most: usize) -> usize
     at + most.min(s.len() - at)
 }
 
-/// The end of the digits at a place, of which there may be so many.
+/// The end of the digits at a place, at most n of them.
 fn digits_end(s: &[u8], at: usize, kind: NumberKind, most: usize) -> usize
     requires { at ≤ length s.now }
     ensures low { at ≤ result }
@@ -104,14 +104,14 @@ fn digits_end(s: &[u8], at: usize, kind: NumberKind, most: usize) -> usize
     end
 }
 
-/// Digits of a Length: the place after them, and what they stand for.
+/// Digits of a Length: the place after them, and what they denote.
 #[derive(Clone, Copy)]
 pub struct CountedLength {
     pub to: usize,
     pub value: u32,
 }
 
-/// The digits of a Length at a place, of which there may be so many, counted as they are found.
+/// The digits of a Length at a place, at most n of them, counted as they are found.
 fn count_length(s: &[u8], at: usize, most: usize) -> CountedLength
     requires within { at ≤ length s.now }
     requires few { most ≤ 9 }
@@ -130,7 +130,7 @@ fn count_length(s: &[u8], at: usize, most: usize) -> CountedLength
     CountedLength { to, value }
 }
 
-/// The longest Length at a place, with what it stands for, or the place where it breaks off.
+/// The longest Length at a place, with what it denotes, or the place where it breaks off.
 pub fn find_length(s: &[u8], at: usize) -> Result<CountedLength, usize>
     requires fits { FitsSymbol s.now }
     requires within { at ≤ length s.now }

@@ -86,7 +86,7 @@ fn is_nameless(most: usize, names: NameClass) -> bool
     }
 }
 
-/// How many bytes of a separator come before a name's own bytes.
+/// How many bytes of a separator precede a name's own bytes.
 fn separator_len(tail: &[u8], names: NameClass) -> usize
     ensures within { result ≤ length tail.now }
     ensures separated { IsSeparated names tail.now result }
@@ -103,7 +103,7 @@ fn separator_len(tail: &[u8], names: NameClass) -> usize
     }
 }
 
-/// How many of the first bytes, up to so many and by fours, may be in a name.
+/// How many of the first bytes, up to n and by fours, may be in a name.
 fn own_fours(bytes: &[u8], most: usize, names: NameClass) -> usize
     ensures within { result ≤ length bytes.now }
     ensures few { result ≤ most }
@@ -122,7 +122,7 @@ fn own_fours(bytes: &[u8], most: usize, names: NameClass) -> usize
     end
 }
 
-/// How many of the bytes are a name's own, of which there may be so many.
+/// How many of the bytes are a name's own, at most n.
 fn own_len(bytes: &[u8], most: usize, names: NameClass) -> usize
     ensures within { result ≤ length bytes.now }
     ensures own { IsOwn names bytes.now most result }
@@ -134,7 +134,7 @@ fn own_len(bytes: &[u8], most: usize, names: NameClass) -> usize
     end
 }
 
-/// Whether a name of so many bytes would begin with a digit straight after its length.
+/// Whether a name of this length would begin with a digit straight after its length.
 fn is_bare_digit(own: &[u8], most: usize, skipped: usize) -> bool
     ensures { result ≡ bare_digit most skipped own.now }
 {

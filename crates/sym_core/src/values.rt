@@ -1,4 +1,4 @@
-// Numbers: what they stand for.
+// Numbers: what they denote.
 #![tactic(auto)]
 
 ghost use Rattle.std.specs.Prelude.{◌≡◌, ◌<◌, ◌≤◌, ◌^◌, length, true, MatchOption, IfSome};
@@ -36,7 +36,7 @@ fn digit(kind: NumberKind, byte: u8) -> u8
     }
 }
 
-/// The number that the digits stand for, or None past 64 bits or where a byte is no digit.
+/// The number that the digits denote, or None beyond 64 bits or where a byte is no digit.
 #[cold]
 fn long_value(kind: NumberKind, digits: &[u8]) -> Option<u64>
     ensures value { AreDigits kind digits.now → MatchOption result (2 ^ 64 ≤ value_of kind digits.now) (λ v. v ≡ value_of kind digits.now) }
@@ -53,10 +53,10 @@ fn long_value(kind: NumberKind, digits: &[u8]) -> Option<u64>
     Some(value)
 }
 
-/// So many digits of any kind stand for a number that 64 bits hold.
+/// This many digits of any kind denote a number that 64 bits hold.
 const SHORT: usize = 10;
 
-/// The number that a few digits stand for, or None where a byte is no digit.
+/// The number that a few digits denote, or None where a byte is no digit.
 fn short_value(kind: NumberKind, digits: &[u8]) -> Option<u64>
     requires { length digits.now ≤ SHORT }
     ensures value { AreDigits kind digits.now → MatchOption result (2 ^ 64 ≤ value_of kind digits.now) (λ v. v ≡ value_of kind digits.now) }
@@ -72,7 +72,7 @@ fn short_value(kind: NumberKind, digits: &[u8]) -> Option<u64>
     Some(value)
 }
 
-/// The number that the digits stand for, or None past 64 bits or where a byte is no digit.
+/// The number that the digits denote, or None beyond 64 bits or where a byte is no digit.
 fn value(kind: NumberKind, digits: &[u8]) -> Option<u64>
     ensures value { AreDigits kind digits.now → MatchOption result (2 ^ 64 ≤ value_of kind digits.now) (λ v. v ≡ value_of kind digits.now) }
     ensures digits { IfSome result (λ v. AreDigits kind digits.now) }
@@ -83,7 +83,7 @@ fn value(kind: NumberKind, digits: &[u8]) -> Option<u64>
     short_value(kind, digits)
 }
 
-/// One more than the digits stand for, 0 where there are none, or None past 64 bits or where a byte is no digit.
+/// One more than the digits denote, 0 where there are none, or None beyond 64 bits or where a byte is no digit.
 fn counted(kind: NumberKind, digits: &[u8]) -> Option<u64>
     ensures value { AreDigits kind digits.now → MatchOption result (2 ^ 64 ≤ counted_value kind digits.now) (λ v. v ≡ counted_value kind digits.now) }
     ensures digits { IfSome result (λ v. AreDigits kind digits.now) }
@@ -105,7 +105,7 @@ fn digit36(byte: u8) -> u8
     }
 }
 
-/// The number that the digits stand for in base 10, or None past 64 bits.
+/// The number that the digits denote in base 10, or None beyond 64 bits.
 fn decimal_value(digits: &[u8]) -> Option<u64>
     ensures { MatchOption result (2 ^ 64 ≤ value_of NumberKind.Decimal digits.now) (λ v. v ≡ value_of NumberKind.Decimal digits.now) }
 {
@@ -117,7 +117,7 @@ fn decimal_value(digits: &[u8]) -> Option<u64>
     Some(value)
 }
 
-/// The number that the digits stand for in base 36, or None past 64 bits.
+/// The number that the digits denote in base 36, or None beyond 64 bits.
 fn base36_value(digits: &[u8]) -> Option<u64>
     ensures { MatchOption result (2 ^ 64 ≤ value_of NumberKind.Seq36 digits.now) (λ v. v ≡ value_of NumberKind.Seq36 digits.now) }
 {
@@ -129,8 +129,8 @@ fn base36_value(digits: &[u8]) -> Option<u64>
     Some(value)
 }
 
-/// The value of a Decimal number by its digits: 0 where there are none, else one more than they stand for.
-/// None past 64 bits. A byte that is no digit counts something too.
+/// The value of a Decimal number by its digits: 0 where there are none, else one more than they denote. None past 64 bits. A
+/// byte that is no digit counts something too.
 pub fn value10(digits: &[u8]) -> Option<u64>
     ensures { MatchOption result (2 ^ 64 ≤ counted_value NumberKind.Decimal digits.now) (λ v. v ≡ counted_value NumberKind.Decimal digits.now) }
 {
@@ -140,8 +140,8 @@ pub fn value10(digits: &[u8]) -> Option<u64>
     decimal_value(digits)?.checked_add(1)
 }
 
-/// The value of a Seq36 number by its digits: 0 where there are none, else one more than they stand for.
-/// None past 64 bits. A byte that is no digit counts something too.
+/// The value of a Seq36 number by its digits: 0 where there are none, else one more than they denote. None past 64 bits. A byte
+/// that is no digit counts something too.
 pub fn value36(digits: &[u8]) -> Option<u64>
     ensures { MatchOption result (2 ^ 64 ≤ counted_value NumberKind.Seq36 digits.now) (λ v. v ≡ counted_value NumberKind.Seq36 digits.now) }
 {
@@ -151,8 +151,8 @@ pub fn value36(digits: &[u8]) -> Option<u64>
     base36_value(digits)?.checked_add(1)
 }
 
-/// The value of a Base62 number by its digits, which are tested as they are counted: 0 where there are none, else one more than they stand for.
-/// None past 64 bits, and where a byte is no digit.
+/// The value of a Base62 number by its digits, which are tested as they are counted: 0 where there are none, else one more than
+/// they denote. None past 64 bits, and where a byte is no digit.
 pub fn value62(digits: &[u8]) -> Option<u64>
     ensures value { AreDigits NumberKind.Base62 digits.now → MatchOption result (2 ^ 64 ≤ counted_value NumberKind.Base62 digits.now) (λ v. v ≡ counted_value NumberKind.Base62 digits.now) }
     ensures digits { IfSome result (λ v. AreDigits NumberKind.Base62 digits.now) }
@@ -173,7 +173,7 @@ pub fn value16(digits: &[u8]) -> Option<u128>
     Some(value)
 }
 
-/// The value of a Length by its digits, of which there are one to nine.
+/// The value of a Length by its digits; there are one to nine.
 pub fn length_of(digits: &[u8]) -> u32
     requires count { (0 < length digits.now) × (length digits.now ≤ 9) }
     requires digits { AreDigits NumberKind.Length digits.now }

@@ -10,17 +10,17 @@ use Rattle.sym_shape.specs.Fed.{IsReason}
 use Rattle.sym_shape.specs.Reader.{IsMalformedOrMemory}
 use Rattle.sym_shape.specs.Table.{Table}
 
--- once the end is told, a reader's reason is that of the whole symbol
+-- once a reader has the end, its reason is that of the whole symbol
 pub reason_told : (g : Table) (s : List ℕ) (ended : Bool) (e : Refusal) → ended ≡ true → IsReason g ended s e → IsMalformedOrMemory g s e
 reason_told g s ended (Malformed at) told reason = subst (λ b. IsReason g b s (Malformed at)) told reason
 reason_told g s ended e told reason = reason
 
--- before that it is that of the symbol whatever comes after
+-- before that it is that of the symbol whatever follows
 pub reason_whatever : (g : Table) (s rest : List ℕ) (ended : Bool) (e : Refusal) → ended ≡ false → IsReason g ended s e → IsMalformedOrMemory g (s ++ rest) e
 reason_whatever g s rest ended (Malformed at) untold reason = subst (λ b. IsReason g b s (Malformed at)) untold reason rest
 reason_whatever g s rest ended e untold reason = reason
 
--- the bytes of a reader that read what it had, was fed the rest, and was told the end
+-- the bytes of a reader that read what it had, was fed the rest, and was given the end
 pub fed_all : (told more ran first rest : List ℕ) → told ≡ more ++ [] → more ≡ ran ++ rest → ran ≡ first → told ≡ first ++ rest
 fed_all told more ran first rest end fed same = end ∙ append-nil more ∙ fed ∙ ap (λ bs. bs ++ rest) same
 

@@ -1,4 +1,4 @@
--- How a linker goes on by a driver's steps.
+-- How a linker continues by a driver's steps.
 use Rattle.std.proofs.Common.{◌≡◌, ◌∙◌, ap, subst, ℕ, ◌+◌, ◌*◌, ◌≤◌, List, [], length, Bool, true, false, Option, Some, Result, Ok, Err, arith}
 use Rattle.std.specs.Prelude.{None}
 use Rattle.sym_core.specs.declared.refusal.Refusal.{Refusal}
@@ -32,14 +32,14 @@ driving_same view d s rs rows shape nodes steps refused next frames parts same s
     subst (λ b. IsDriving (view b) b rows shape nodes steps refused next frames parts) same
     (subst (λ r. IsDriving (view d) d r shape nodes steps refused next frames parts) same_rows driving)
 
--- what the symbol means is there
+-- the symbol's meaning is linked
 done_same : {N P K V S C : Type 0} (view : List ℕ → View N P K V S C) (d s : List ℕ) (rs rows : List Row) (shape : Tree) (nodes : N) (parts : List P) → d ≡ s → rs ≡ rows
     → IsDone (view d) d rs (meaning_of (view d) shape) nodes parts → IsDone (view s) s rows (meaning_of (view s) shape) nodes parts
 done_same view d s rs rows shape nodes parts same same_rows done =
     subst (λ b. IsDone (view b) b rows (meaning_of (view b) shape) nodes parts) same
     (subst (λ r. IsDone (view d) d r (meaning_of (view d) shape) nodes parts) same_rows done)
 
--- a linker that isn't done goes on
+-- a linker that isn't done continues
 pub goes_on : {N P K V S C : Type 0} (g : Table) (view : List ℕ → View N P K V S C) (d s : List ℕ) (rs rows : List Row) (read : ℕ) (nodes new : N) (steps new_steps : ℕ)
     (refused new_refused : Option Refusal) (next new_next : ℕ) (frames new_frames : List (Frame K)) (parts new_parts : List P) (done : Bool)
     (is : IsLinker g (view s) s rows read nodes steps refused next frames parts done) → done ≡ false → d ≡ s → rs ≡ rows

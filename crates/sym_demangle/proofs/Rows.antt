@@ -6,7 +6,7 @@ use Rattle.sym_shape.specs.declared.rule.Row.{Row}
 use Rattle.sym_shape.specs.Table.{Table}
 use Rattle.sym_shape.specs.Tree.{AreRowsOf}
 
--- they are there, and counted
+-- the rows exist, and are counted
 pub rows_there : {A : Type 0} (count : A → ℕ) (g : Table) (s : List ℕ) (rows : List Row) (result : Result A Refusal) → AreRowsOf g s rows → IfOk result (λ a. count a ≡ length rows)
     → IfOk result (λ a. (rows : List Row) × AreRowsOf g s rows × (count a ≡ length rows))
 rows_there count g s rows (Ok a) are is = (rows, are, is)

@@ -1,4 +1,4 @@
--- What a linker has done is what the symbol's shape stands for.
+-- What a linker has done is what the symbol's shape denotes.
 use Rattle.std.proofs.Common.{◌≡◌, refl, sym, ◌∙◌, ap, subst, inl, inr, ℕ, ◌+◌, ◌*◌, ◌≤◌, List, [], length, Bool, true, false, Option, Some, Result, Ok, Err, arith}
 use Rattle.std.specs.Prelude.{None}
 use Rattle.sym_core.specs.Number.{FitsSymbol}

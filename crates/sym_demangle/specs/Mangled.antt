@@ -18,31 +18,31 @@ IsBadToken (BadReference at) = ⊤
 IsBadToken (BadValue at) = ⊤
 IsBadToken _ = ⊥
 
--- A mangling: its grammar, what a shape stands for, and how that is shown. W are the trees that symbols stand for.
+-- A mangling: its grammar, what a shape denotes, and how that is shown. W are the trees that symbols denote.
 pub record Mangled (W : Type 0) : Type 0 where
   pub table : Table
   pub unfolded : Tree → Result W Refusal
   pub shown : Detail → W → Unshared
   pub lawful : IsLawful table
 
--- what is well shaped is refused for a bad token alone
+-- what is well shaped is refused only for a bad token
 abbrev pub RefusesBadTokens : {W : Type 0} → Mangled W → Type 0
 RefusesBadTokens m = (shape : Tree) → IsTree m.table (Kind 0) shape → IfErr (m.unfolded shape) IsBadToken
 
--- the symbol's one shape stands for this
+-- the symbol's one shape denotes this
 abbrev pub StandsFor : {W : Type 0} → Mangled W → List ℕ → Result W Refusal → Type 0
 StandsFor m s result = (shape : Tree) × IsTree m.table (Kind 0) shape × (spell shape ≡ s) × (result ≡ m.unfolded shape)
 
--- a linker refuses for want of memory, or because the symbol's shape stands for the refusal
+-- a linker refuses for want of memory, or because the symbol's shape denotes the refusal
 abbrev pub IsRefused : {W : Type 0} → Mangled W → List ℕ → Refusal → Type 0
 IsRefused m s refusal = (refusal ≡ Memory) ⊎ StandsFor m s (Err refusal)
 
--- what a symbol reads as: it isn't well shaped, or else what its shape stands for
+-- what a symbol reads as: it isn't well shaped, or else what its shape denotes
 pub data IsReading {W : Type 0} (m : Mangled W) (s : List ℕ) (result : Result W Refusal) : Type 0 where
   misshapen : (at : ℕ) → IsMalformed m.table s at → result ≡ Err (Malformed at) → IsReading m s result
   well_shaped : StandsFor m s result → IsReading m s result
 
--- what is answered of what is read
+-- the answer for what is read
 abbrev pub answer_of_symbol : {W : Type 0} → Mangled W → Detail → ℕ → Result W Refusal → Result (List ℕ) Refusal
 answer_of_symbol m detail limit (Ok symbol) = text_within limit (m.shown detail symbol)
 answer_of_symbol m detail limit (Err refusal) = Err refusal
@@ -56,13 +56,13 @@ pub data IsAnswer {W : Type 0} (m : Mangled W) (detail : Detail) (s : List ℕ) 
   malformed : (at : ℕ) → IsMalformed m.table s at → result ≡ Err (Malformed at) → IsAnswer m detail s limit result
   shaped : (shape : Tree) → IsTree m.table (Kind 0) shape → spell shape ≡ s → result ≡ answer_of_shape m detail limit shape → IsAnswer m detail s limit result
 
--- The answer to a symbol at a limit: that of its shape, or its first bad byte. A list of which an item is no byte is
--- refused at once.
+-- The answer to a symbol at a limit: that of its shape, or its first bad byte. A list with an item that is no byte is refused
+-- at once.
 unfoldable pub answer : {W : Type 0} → Mangled W → Detail → List ℕ → ℕ → Result (List ℕ) Refusal
 answer m detail s limit = outcome m.table m.lawful (answer_of_shape m detail limit) (λ at. Err (Malformed at)) (Err (Malformed 0)) s
 
 -- A refusal has its reason in the symbol: only what isn't well shaped is malformed, and only what is well shaped is refused for
--- a bad token or for what its text costs. Want of memory is no fact of a symbol.
+-- a bad token or for what its text costs. Want of memory isn't a property of the symbol.
 abbrev pub HasReason : Table → List ℕ → Refusal → Type 0
 HasReason g s (Malformed at) = IsMalformed g s at
 HasReason g s (BadReference at) = IsWellShaped g s

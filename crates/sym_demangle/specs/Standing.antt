@@ -26,7 +26,7 @@ pub record Progress : Type 0 where
   pub refused : Option Refusal
   pub lists : List Listed
 
--- nothing is linked yet, and so many nodes are there
+-- nothing is linked yet, and this many nodes exist
 abbrev pub unlinked : (bytes : List ℕ) → (rows read_steps nodes : ℕ) → List Listed → Progress
 unlinked bytes rows read_steps nodes lists =
     record { bytes = bytes; rows = rows; read_steps = read_steps; steps = 0; nodes = nodes; done = false; refused = None; lists = lists }
@@ -40,32 +40,32 @@ pub record AreFewInAll (progress : Progress) : Type 0 where
   pub steps : progress.read_steps + progress.steps ≤ 32 * length progress.bytes + 48
   pub rows : progress.rows ≤ 4 * length progress.bytes + 4
 
--- so many steps a linker takes for the one tree that spells the symbol
+-- the steps that a linker takes for the one tree that spells the symbol
 abbrev pub AreLinkSteps : Table → List ℕ → ℕ → Type 0
 AreLinkSteps g s steps = (tree : Tree) → IsTree g (Kind 0) tree → spell tree ≡ s → steps ≡ link_steps tree
 
--- so many steps reading the symbol takes, those of the reader and of the linker
+-- the steps that reading the symbol takes, those of the reader and of the linker
 abbrev pub AreStepsInAll : Table → List ℕ → ℕ → Type 0
 AreStepsInAll g s steps = (tree : Tree) → IsTree g (Kind 0) tree → spell tree ≡ s → steps ≡ read_steps tree + link_steps tree
 
--- So many nodes are those of the one tree that spells the symbol, where a language says which those of a tree are.
+-- The count is that of the nodes of the one tree that spells the symbol, where a language says which nodes a tree has.
 abbrev pub AreNodesOf : Table → (Are : Tree → ℕ → Type 0) → List ℕ → ℕ → Type 0
 AreNodesOf g Are s nodes = (tree : Tree) → IsTree g (Kind 0) tree → spell tree ≡ s → Are tree nodes
 
--- A table has its first nodes, of which there are few, and those that the language counts.
+-- A table has its first nodes, which are few, and those that the language counts.
 pub record CountsNodes {N P K V S C : Type 0} (view : View N P K V S C) (count : N → ℕ) (first : ℕ) : Type 0 where
   pub few : first ≤ 8
   pub most : (nodes : N) → count nodes ≤ view.size nodes + first
   pub least : (nodes : N) (bytes : ℕ) → view.IsPaid nodes bytes → view.size nodes + first ≤ count nodes
 
--- a table of nodes with which a symbol begins
+-- a table of nodes that a symbol begins with
 pub record Begins {N P K V S C : Type 0} (view : View N P K V S C) (nodes : N) : Type 0 where
   pub size : view.size nodes ≡ 0
   pub holds : view.Holds nodes view.first
   pub paid : view.IsPaid nodes 0
 
--- A linker of the rows of a symbol's one tree is on its way, or at its end. The tree is one of the mangling's table, and with it one
--- of that for which the nodes are made, which may have more trees.
+-- A linker of the rows of a symbol's one tree is on its way, or at its end. The tree is one of the mangling's table, and so
+-- also of the table that the nodes are made for, which may have more trees.
 pub record IsLinker {N P K V S C : Type 0} (g : Table) (view : View N P K V S C) (s : List ℕ) (rows : List Row) (read : ℕ) (nodes : N) (steps : ℕ)
     (refused : Option Refusal) (next : ℕ) (frames : List (Frame K)) (parts : List P) (done : Bool) : Type 0 where
   pub shape : Tree

@@ -41,8 +41,8 @@ fn link<M: Mangling>(alloc: Global, bytes: Vec<u8>, shape: Shape) -> Result<M::S
 ///
 /// # Errors
 ///
-/// `Malformed` at the first bad byte of a symbol that isn't well shaped, `BadReference` and `BadValue` at the first bad token of
-/// one that is, `Memory` where a list couldn't grow.
+/// `Malformed` at the first bad byte of a symbol that isn't well shaped, `BadReference` and `BadValue` at the first bad token
+/// of one that is, `Memory` where a list couldn't grow.
 pub fn read<M: Mangling>(alloc: Global, s: &[u8]) -> Result<M::Symbol, Refusal>
     requires { FitsSymbol s.now }
     ensures bytes { IfOk result (λ symbol. M.bytes_of symbol ≡ s.now) }
@@ -60,7 +60,7 @@ pub fn read<M: Mangling>(alloc: Global, s: &[u8]) -> Result<M::Symbol, Refusal>
     link::<M>(alloc, bytes, shape)
 }
 
-/// Reads the symbol that a reader was fed, whose end was told. Its bytes aren't copied.
+/// Reads the symbol that a reader was fed up to its end. Its bytes aren't copied.
 ///
 /// # Errors
 ///

@@ -13,7 +13,7 @@ pub fn each_has_an_answer<M: Mangling>()
     ensures { (detail : Detail) (s : List ℕ) (limit : ℕ) → AreBytes s → IsAnswer M.mangled detail s limit (answer M.mangled detail s limit) }
 {}
 
-/// A symbol has one answer, of a list of bytes the one that `answer` gives.
+/// A symbol has one answer: for a list of bytes, the one that `answer` gives.
 pub fn one_answer<M: Mangling>()
     ensures one { (detail : Detail) (s : List ℕ) (limit : ℕ) (a b : Result (List ℕ) Refusal) → IsAnswer M.mangled detail s limit a → IsAnswer M.mangled detail s limit b → a ≡ b }
     ensures given { (detail : Detail) (s : List ℕ) (limit : ℕ) (result : Result (List ℕ) Refusal) → AreBytes s → IsAnswer M.mangled detail s limit result → result ≡ answer M.mangled detail s limit }

@@ -1,4 +1,4 @@
-// From the rows of a symbol's shape to what the symbol stands for.
+// From the rows of a symbol's shape to what the symbol denotes.
 
 ghost use Rattle.std.specs.Prelude.{◌≡◌, ◌+◌, ◌≤◌, length, true, false, Some, None, Ok, Err, OnOk, OnErr, IfOk, IfErr, IfSome};
 ghost use Rattle.sym_core.specs.Number.{FitsSymbol};
@@ -17,7 +17,7 @@ use sym_core::Refusal;
 use sym_link::driver::Driver;
 use sym_shape::Shape;
 
-/// Links a symbol: goes over the rows of its shape, and makes nodes for what they stand for.
+/// Links a symbol: goes over the rows of its shape, and makes nodes for what they denote.
 ///
 /// `step` is called until it answers true, or `run` once; then `finish` gives the symbol.
 #[derive(Drop)]
@@ -41,7 +41,7 @@ impl<M: Mangling> Model for Linker<M> {
     ghost invariant = { λ l. IsLinker M.mangled.table (M.Linked.view l.bytes.items) l.bytes.items l.shape.rows l.shape.steps l.linked l.driver.steps l.driver.refused l.driver.next l.driver.frames.items l.driver.parts.items l.done };
 }
 
-/// The symbol over whose rows a driver has gone. It takes no memory.
+/// The symbol whose rows a driver has gone over. It takes no memory.
 #[inline(always)]
 pub(crate) fn finished<M: Mangling>(
     bytes: Vec<u8>,
@@ -104,7 +104,7 @@ impl<M: Mangling> Linker<M> {
         ensures bytes { self.new.bytes ≡ self.old.bytes }
         ensures rows { self.new.rows ≡ self.old.rows }
         ensures read_steps { self.new.read_steps ≡ self.old.read_steps }
-        // A step is counted, the first that refuses too, and goes on.
+        // A step is counted, also the first that refuses, and the linker continues.
         ensures moved { result ≡ Ok false → (self.new.steps ≡ self.old.steps + 1) × (self.new.done ≡ false) }
         ensures counted { self.old.refused ≡ None → OnErr result (self.new.steps ≡ self.old.steps + 1) }
         // Nothing is left to do, and nothing was done.
@@ -117,7 +117,7 @@ impl<M: Mangling> Linker<M> {
         ensures refused { IfErr result (IsRefused M.mangled self.old.bytes) }
         ensures kept { IfErr result (λ e. self.new.refused ≡ Some e) }
         ensures again { IfSome self.old.refused (λ e. (result ≡ Err e) × (self.new ≡ self.old)) }
-        // One that has answered true answers true again, and doesn't change.
+        // A linker that has answered true answers true again, and doesn't change.
         ensures done_again { self.old.done ≡ true → self.old.refused ≡ None → (result ≡ Ok true) × (self.new ≡ self.old) }
         // A step that is counted adds at most two nodes, refused or not, and no other adds any.
         ensures nodes { AddsTwoEach self.old self.new }
@@ -161,7 +161,7 @@ impl<M: Mangling> Linker<M> {
         ensures refused { IfErr result (IsRefused M.mangled self.old.bytes) }
         ensures kept { IfErr result (λ e. self.new.refused ≡ Some e) }
         ensures again { IfSome self.old.refused (λ e. (result ≡ Err e) × (self.new ≡ self.old)) }
-        // One that is done doesn't change.
+        // A finished linker doesn't change.
         ensures done_again { self.old.done ≡ true → self.old.refused ≡ None → (result ≡ Ok tt) × (self.new ≡ self.old) }
         // Steps are counted, refused or not.
         ensures counted { self.old.steps ≤ self.new.steps }

@@ -1,4 +1,4 @@
-// What a mangling tells the linker, and what it makes of a linked symbol.
+// What a mangling gives the linker, and what it makes of a linked symbol.
 
 ghost use Rattle.std.specs.Prelude.{◌≡◌, ℕ, List, OnOk, IfErr, Ok, true};
 ghost use Rattle.sym_core.specs.Number.{FitsSymbol};
@@ -20,7 +20,7 @@ use sym_link::language::Linking;
 use sym_print::{Detail, Item, Layout};
 use sym_shape::grammar::Grammar;
 
-/// A mangling: its grammar, the nodes that are made of a shape's rows, and the symbol that these come to.
+/// A mangling: its grammar, the nodes that are made of a shape's rows, and the symbol that these yield.
 pub trait Mangling: Grammar + Copy {
     /// The nodes of a symbol that is being linked.
     type Linked: Linking + Drop;
@@ -28,10 +28,10 @@ pub trait Mangling: Grammar + Copy {
     /// A symbol that was read.
     type Symbol: Layout + Drop;
 
-    /// The lists of the short way, by which the text of a symbol of common parts is written while it is read.
+    /// The lists of the short way, which writes the text of a symbol of common parts while reading it.
     type Direct: Drop;
 
-    // what a symbol stands for
+    // what a symbol denotes
     ghost Whole: { Type 0 };
 
     ghost mangled: { Mangled Whole };
@@ -47,7 +47,7 @@ pub trait Mangling: Grammar + Copy {
 
     ghost nodes_of: { Self.Symbol → ℕ };
 
-    // whether a symbol of a shape has so many nodes
+    // whether a symbol of a shape has this many nodes
     ghost are_nodes: { Tree → ℕ → Type 0 };
 
     // the text that was written last
@@ -96,8 +96,8 @@ pub trait Mangling: Grammar + Copy {
     /// The lists of the short way. They take no memory.
     fn direct(alloc: Global) -> Self::Direct;
 
-    /// Writes the text of a symbol in full, if the symbol is one that goes the short way and its text costs at most the limit, and
-    /// answers whether it did. Where it didn't, nothing is known of the symbol.
+    /// Writes the text of a symbol in full, if the symbol goes the short way and its text costs at most the limit, and answers
+    /// whether it did. Where it didn't, nothing is known of the symbol.
     fn write(direct: &mut Self::Direct, symbol: &[u8], limit: u32) -> bool
         requires { FitsSymbol symbol.now }
         ensures { result ≡ true → IsAnswer mangled details.Full symbol.now limit (Ok (written direct.new)) };
@@ -106,7 +106,7 @@ pub trait Mangling: Grammar + Copy {
     fn text(direct: &Self::Direct) -> &[u8]
         ensures { result.now ≡ written direct.now };
 
-    /// What is well shaped is refused for a bad token alone.
+    /// What is well shaped is refused only for a bad token.
     fn refuses_bad_tokens()
         ensures { RefusesBadTokens mangled };
 
@@ -114,9 +114,9 @@ pub trait Mangling: Grammar + Copy {
 
     ghost counts_nodes: { (s : List ℕ) → CountsNodes (Self.Linked.view s) count_of first_nodes };
 
-    // The nodes are made of each tree of the mangling's table. The table that they speak of may have more.
+    // The nodes are made of each tree of the mangling's table. The table that they are made for may have more.
     ghost view_table: { (s : List ℕ) → GrowsInto mangled.table (Self.Linked.view s).table };
 
-    // a symbol's shape whose meaning is a refusal stands for that refusal
+    // a symbol's shape whose meaning is a refusal denotes that refusal
     ghost fails: { (shape : Tree) (refusal : Refusal) → IsTree mangled.table (Kind 0) shape → Fails refusal (meaning_of (Self.Linked.view (spell shape)) shape) → Fails refusal (mangled.unfolded shape) };
 }

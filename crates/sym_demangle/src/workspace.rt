@@ -20,12 +20,12 @@ use sym_link::driver::Driver;
 use sym_print::{Detail, Layout, Printer};
 use sym_shape::{Reader, Shape, read_into};
 
-/// The lists with which symbols are read and printed, one after the other.
+/// The lists that symbols are read and printed with, one after the other.
 ///
-/// They grow with the largest symbol and text so far, and stay as large: nothing gives their memory back but the end of the
-/// workspace. A symbol takes its lists along; `recycle` gives them back.
+/// They grow with the largest symbol and text so far, and stay as large: only the end of the workspace gives their memory back.
+/// A symbol takes its lists along; `recycle` gives them back.
 ///
-/// Of a symbol whose bytes come in pieces `read_ahead` reads those that are there; the answers are the same without it.
+/// If a symbol's bytes arrive in pieces, `read_ahead` reads those that have arrived; the answers are the same without it.
 #[derive(Drop)]
 pub struct Workspace<M: Mangling> {
     alloc: Global,
@@ -35,7 +35,7 @@ pub struct Workspace<M: Mangling> {
     driver: Driver<M::Linked>,
     printer: Printer<<M::Symbol as Layout>::Ctx>,
     direct: M::Direct,
-    // what was read ahead of a symbol, whose end isn't told
+    // what was read ahead of a symbol whose end isn't known yet
     ahead: Reader<M>,
     ghost ahead_is_open: { ahead.ended ≡ false },
     // and for which there was memory
@@ -71,7 +71,7 @@ fn forget_memory<M: Mangling>(reader: &mut Reader<M>, refusal: Refusal)
     }
 }
 
-/// Feeds a reader more bytes, and reads what is there.
+/// Feeds a reader more bytes, and reads what has arrived.
 fn read_more<M: Mangling>(reader: &mut Reader<M>, more: &[u8])
     requires open { reader.old.ended ≡ false }
     requires room { length reader.old.bytes + length more.now ≤ MOST_BYTES }
@@ -87,7 +87,7 @@ fn read_more<M: Mangling>(reader: &mut Reader<M>, more: &[u8])
     }
 }
 
-/// Tells a reader the rest of its symbol's bytes and their end, and reads them.
+/// Feeds a reader the rest of its symbol's bytes and their end, and reads them.
 fn read_rest<M: Mangling>(reader: &mut Reader<M>, rest: &[u8]) -> Result<(), Refusal>
     requires open { reader.old.ended ≡ false }
     requires fits { FitsSymbol (reader.old.bytes ++ rest.now) }
@@ -119,8 +119,9 @@ impl<M: Mangling> Workspace<M> {
         }
     }
 
-    /// Reads what is there of a symbol that may go on, where that is half as much again as was read ahead before: a token
-    /// that comes in small pieces isn't read again for each. Reading a symbol that begins with these bytes goes on from there.
+    /// Reads what has arrived of a symbol that may continue, once that is half as much again as was read ahead before: a token
+    /// that arrives in small pieces isn't read again for each. Reading a symbol that begins with these bytes continues from
+    /// there.
     pub fn read_ahead(&mut self, front: &[u8])
         requires { FitsSymbol front.now }
     {
@@ -138,7 +139,7 @@ impl<M: Mangling> Workspace<M> {
         read_more(&mut self.ahead, more);
     }
 
-    /// Reads the symbol that was read ahead, to whose bytes these come.
+    /// Reads the symbol that was read ahead, given the rest of its bytes.
     fn read_on(&mut self, rest: &[u8]) -> Result<M::Symbol, Refusal>
         requires fits { FitsSymbol (self.old.ahead.bytes ++ rest.now) }
         ensures bytes { IfOk result (λ symbol. M.bytes_of symbol ≡ self.old.ahead.bytes ++ rest.now) }
@@ -165,7 +166,7 @@ impl<M: Mangling> Workspace<M> {
         self.link()
     }
 
-    /// Goes over the rows of the symbol that the bytes are, whose shape was read.
+    /// Goes over the rows of the symbol with these bytes, whose shape was read.
     #[inline(always)]
     fn run(&mut self) -> Result<(), Refusal>
         requires fits { FitsSymbol self.old.bytes.items }
@@ -184,7 +185,7 @@ impl<M: Mangling> Workspace<M> {
         Ok(())
     }
 
-    /// The symbol over whose rows the driver has gone, which takes the bytes.
+    /// The symbol whose rows the driver has gone over, which takes the bytes.
     #[inline(always)]
     fn finish(&mut self) -> M::Symbol
         requires { IsLinker M.mangled.table (M.Linked.view self.old.bytes.items) self.old.bytes.items self.old.shape.rows self.old.shape.steps
@@ -200,7 +201,7 @@ impl<M: Mangling> Workspace<M> {
         finished::<M>(bytes, &self.shape, &mut self.linked, &self.driver)
     }
 
-    /// Links the symbol that the bytes are, whose shape was read.
+    /// Links the symbol with these bytes, whose shape was read.
     fn link(&mut self) -> Result<M::Symbol, Refusal>
         requires fits { FitsSymbol self.old.bytes.items }
         requires rows { AreRowsOf M.mangled.table self.old.bytes.items self.old.shape.rows }
@@ -221,8 +222,8 @@ impl<M: Mangling> Workspace<M> {
     ///
     /// # Errors
     ///
-    /// `Malformed` at the first bad byte of a symbol that isn't well shaped, `BadReference` and `BadValue` at the first bad token of
-    /// one that is, `Memory` where a list couldn't grow.
+    /// `Malformed` at the first bad byte of a symbol that isn't well shaped, `BadReference` and `BadValue` at the first bad
+    /// token of one that is, `Memory` where a list couldn't grow.
     // As a call of its own in printing and pressing it took 0.3 % more instructions over real Rust symbols.
     #[inline(always)]
     pub fn read(&mut self, s: &[u8]) -> Result<M::Symbol, Refusal>
@@ -277,8 +278,8 @@ impl<M: Mangling> Workspace<M> {
         self.bytes = M::recycle(&mut self.linked, symbol);
     }
 
-    /// Appends the text of a symbol in a detail, if it costs at most the limit. In full one of common parts is written while it is
-    /// read, and its rows and nodes are never made.
+    /// Appends the text of a symbol in a detail, if it costs at most the limit. In full, a symbol of common parts is written
+    /// while it is read, and its rows and nodes are never made.
     ///
     /// # Errors
     ///

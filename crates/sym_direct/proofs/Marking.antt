@@ -7,7 +7,7 @@ use Rattle.std.proofs.lemmas.List.Elements.{All-append}
 use Rattle.std.proofs.Math.Seq.{drop-cons}
 use Rattle.sym_direct.specs.Marked.{opens, closes, visible, unless_within, HasNoZero}
 
--- So many bytes are kept of those before a place, and what is visible of all is what they are and what is visible after it.
+-- Some bytes are kept of those before a place, and what is visible of all is what they are and what is visible after it.
 pub record AreClosedUp (all bytes : List ℕ) (kept depth at : ℕ) : Type 0 where
   pub kept_few : kept ≤ at
   pub depth_few : depth ≤ at
@@ -31,7 +31,7 @@ not-chosen : (b : Bool) (xs ys : List ℕ) → b ≡ false → elim b [ true ↦
 not-chosen false xs ys is = refl
 not-chosen true xs ys is = cc is
 
--- what is left of bytes of which the first is no opening mark
+-- what is left of bytes that begin with no opening mark
 abbrev unless_closed : (depth byte : ℕ) (bytes : List ℕ) → List ℕ
 unless_closed depth byte bytes = elim (nat_eq byte closes) [ true ↦ visible (depth - 1) bytes | false ↦ unless_within depth byte (visible depth bytes) ]
 
@@ -115,7 +115,7 @@ closed-up all bytes kept depth at less p other is = record {
   plain = p.plain;
 }
 
--- or goes on,
+-- or the byte is left out, within a stretch
 pub passed-by : (all bytes : List ℕ) (kept depth at : ℕ) → at < length bytes → AreClosedUp all bytes kept depth at
     → get_or bytes at 0 ≢ opens → get_or bytes at 0 ≢ closes → depth ≢ 0 → AreClosedUp all bytes kept depth (at + 1)
 unfolding unless_within

@@ -16,12 +16,12 @@ use Rattle.sym_direct.specs.Holes.{Language, Opened, opened, Reads, ReadsRest, S
 drop-more : (at : ℕ) (s a rest : List ℕ) → drop at s ≡ a ++ rest → drop (at + length a) s ≡ rest
 drop-more at s a rest e = sym (drop-drop (length a) at s) ∙ ap (λ l. drop (length a) l) e ∙ drop-append_seam a rest
 
--- what is there in two pieces is there as one
+-- two pieces in a row are there as one
 pub stands-join : (s : List ℕ) (at : ℕ) (a b : List ℕ) → StandsAt s at a → StandsAt s (at + length a) b → StandsAt s at (a ++ b)
 stands-join s at a b first second =
     (second.0, first.1 ∙ ap (λ l. a ++ l) (sym (drop-more at s a first.0 first.1) ∙ second.1) ∙ sym (append_assoc a b second.0))
 
--- what is there as one is there in two pieces
+-- one piece is there as two in a row
 pub stands-split : (s : List ℕ) (at : ℕ) (a b : List ℕ) → StandsAt s at (a ++ b) → StandsAt s at a × StandsAt s (at + length a) b
 stands-split s at a b whole =
     let e = whole.1 ∙ append_assoc a b whole.0 in
@@ -37,7 +37,7 @@ comes-moved l s os vs at to st same = subst (λ k. Comes l s os vs k st) same
 
 -- ## Rules
 
--- a rule is read whose parts are
+-- a rule is read once its parts are
 unfoldable pub reads-rule : {V S C : Type 0} (l : Language V S C) (s : List ℕ) (kind : ℕ) (rule : Rule) (taken : List ℕ) (context : C) (at : ℕ)
     (st begun inner after : S) (bytes : List ℕ) (vs : List V) (w : V)
     → TakesRule l.table kind rule taken
@@ -120,14 +120,14 @@ ends l s rule known os at st w after needs closes =
 
 -- ## Parts without a row, and tokens
 
--- nothing stands for a kind that may be empty
+-- a kind that may be empty denotes nothing
 pub expects-empty : {V S C : Type 0} (l : Language V S C) (s : List ℕ) (kind : ℕ) (context : C) (os : List (Opened V S C)) (at : ℕ) (st : S)
     → Expects l s (Kind kind) context os at st → l.table.may_be_empty kind ≡ true → Comes l s os (l.reading s).rowless at st
 expects-empty l s kind context os at st expects may =
     comes-moved l s os (l.reading s).rowless (at + 0) at st (omega arith)
     (expects [] (l.reading s).rowless st (record { shape = empty; shaped = may; spelled = refl; unfolds = refl }) (stands-none s at))
 
--- a byte that the rule has
+-- a fixed byte of the rule
 pub expects-byte : {V S C : Type 0} (l : Language V S C) (s : List ℕ) (b : ℕ) (context : C) (os : List (Opened V S C)) (at : ℕ) (st : S)
     → Expects l s (Byte b) context os at st → StandsAt s at (b ∷ []) → Comes l s os (l.reading s).rowless (at + 1) st
 expects-byte l s b context os at st expects stands =
@@ -143,7 +143,7 @@ expects-token l s x context os at st t v after expects is means stands =
 
 -- ## Moves of a rule
 
--- the first part of a rule is expected
+-- expects the first part of a rule
 pub first-of : {V S C : Type 0} (l : Language V S C) (s : List ℕ) (kind : ℕ) (rule : Rule) (taken : List ℕ) (context : C)
     (os : List (Opened V S C)) (at : ℕ) (st begun : S) (x : Sym) (todo : List Sym) (next : Next V S C)
     → TakesRule l.table kind rule taken
@@ -156,7 +156,7 @@ first-of l s kind rule taken context os at st begun x todo next takes begins par
     (subst (λ xs. Needs l s os (standing rule taken at context st) [] xs (at + length taken) begun) parts
     (opens l s kind rule taken context os at st begun takes begins expects stands))
 
--- a part has come, and the next one is expected
+-- a part was read, and the next one is expected
 pub next-of : {V S C : Type 0} (l : Language V S C) (s : List ℕ) (rule : Open S C) (known : List V) (v : List V) (x : Sym) (todo : List Sym)
     (os : List (Opened V S C)) (at : ℕ) (st : S) (next : Next V S C)
     → (l.reading s).between rule (known ++ v) st ≡ Ok next
@@ -164,7 +164,7 @@ pub next-of : {V S C : Type 0} (l : Language V S C) (s : List ℕ) (rule : Open 
     → Expects l s x next.context (opened rule next.values todo ∷ os) at next.state
 next-of l s rule known v x todo os at st next goes comes = needs-next l s rule (known ++ v) x todo os at st next goes comes
 
--- the last part has come, and the rule closes
+-- the last part was read, and the rule closes
 pub last-of : {V S C : Type 0} (l : Language V S C) (s : List ℕ) (rule : Open S C) (known : List V) (v : List V) (os : List (Opened V S C))
     (at : ℕ) (st : S) (w : V) (after : S)
     → (l.reading s).close rule (known ++ v) st ≡ Ok (found w after)

@@ -62,7 +62,7 @@ unmarked-hidden (byte ∷ bytes) plain depth rest =
     let parts = first-unmarked byte bytes plain in
     visible-byte (suc depth) byte (bytes ++ rest) parts.0 ∙ unmarked-hidden bytes parts.1 depth rest
 
--- and left outside of all,
+-- and kept outside of all stretches,
 pub unmarked-seen : (bytes : List ℕ) → IsUnmarked bytes → IsSeenAs bytes bytes
 unfolding unless_within
 unmarked-seen [] plain rest = refl
@@ -70,7 +70,7 @@ unmarked-seen (byte ∷ bytes) plain rest =
     let parts = first-unmarked byte bytes plain in
     visible-byte 0 byte (bytes ++ rest) parts.0 ∙ ap (λ l. byte ∷ l) (unmarked-seen bytes parts.1 rest)
 
--- so are the ones after the others.
+-- and so are bytes that follow others.
 pub hidden-append : (xs ys : List ℕ) → IsHidden xs → IsHidden ys → IsHidden (xs ++ ys)
 hidden-append xs ys one two depth rest = ap (visible (suc depth)) (append_assoc xs ys rest) ∙ one depth (ys ++ rest) ∙ two depth rest
 
@@ -90,7 +90,7 @@ stretch-left bytes hidden depth rest =
     ∙ visible-closed (suc depth) closes rest refl refl
     ∙ ap (λ n. visible n rest) back
 
--- So bytes before a stretch are what is seen of both,
+-- So bytes before a stretch are the visible part of both,
 around : (bytes inner rest : List ℕ) → (bytes ++ (opens ∷ []) ++ inner ++ (closes ∷ [])) ++ rest ≡ bytes ++ (opens ∷ (inner ++ closes ∷ rest))
 around bytes inner rest =
     append_assoc (bytes ++ (opens ∷ []) ++ inner) (closes ∷ []) rest

@@ -9,12 +9,12 @@ opens = 1
 abbrev pub closes : ℕ
 closes = 2
 
--- a byte that is in so many stretches, before what is left of those after it
+-- a byte inside n stretches, before what is left of those after it
 unfoldable pub unless_within : (depth byte : ℕ) → List ℕ → List ℕ
 unless_within zero byte rest = byte ∷ rest
 unless_within (suc depth) byte rest = rest
 
--- what is left of bytes that begin in so many stretches
+-- what is left of bytes that begin inside n stretches
 unfoldable pub visible : (depth : ℕ) → List ℕ → List ℕ
 visible depth [] = []
 visible depth (byte ∷ bytes) = elim (nat_eq byte opens) [

@@ -6,8 +6,8 @@ ghost use Rattle.sym_direct.specs.Marked.{visible, HasNoZero};
 
 use std::alloc::Global;
 
-/// So many entries have room at least where a list first gets memory, and so many bytes where bytes are added together: most
-/// symbols need no more.
+/// The least room for entries when a list first gets memory, and for bytes where bytes are added together: most symbols need no
+/// more.
 const ENTRIES_AT_ONCE: usize = 16;
 
 const BYTES_AT_ONCE: usize = 128;
@@ -18,13 +18,13 @@ pub const OPENS: u8 = 1;
 /// The mark after it.
 pub const CLOSES: u8 = 2;
 
-/// A list that has at most so many entries at any time.
+/// A list that has at most this many entries at any time.
 #[derive(Drop)]
 pub struct Bounded<T> {
     list: Vec<T>,
     room: usize,
-    // So many entries need no more memory. So to add one is a comparison and a store; a call of `Vec::push` for each byte took 6 % of a
-    // symbol's instructions.
+    // This many entries need no more memory. So to add one is a comparison and a store; a call of `Vec::push` for each byte
+    // took 6 % of a symbol's instructions.
     ready: usize,
     pub ghost fits: { length list.items ≤ room },
     pub ghost is_small: { room < 2 ^ 32 },
@@ -41,7 +41,7 @@ impl<T: Copy> Bounded<T> {
         }
     }
 
-    /// Empties the list, and gives it room for so many entries.
+    /// Clears the list and reserves space for n entries.
     pub fn begin(&mut self, room: u32)
         ensures items { self.new.list.items ≡ [] }
         ensures room { self.new.room ≡ room }
@@ -51,7 +51,7 @@ impl<T: Copy> Bounded<T> {
         self.ready = self.room.min(self.list.capacity());
     }
 
-    /// Sees to memory for more entries, if there is room for them, and for some at once, as far as there is.
+    /// Reserves memory for more entries, if there is room for them, some of them at once, as far as there is.
     #[inline(never)]
     fn make_ready(&mut self, more: usize, at_once: usize) -> Option<()>
         ensures ready { OnSome result (length self.new.list.items + more ≤ self.new.ready) }
@@ -104,7 +104,7 @@ impl<T: Copy> Bounded<T> {
         Some(())
     }
 
-    /// Takes the last entry away.
+    /// Removes the last entry.
     #[inline(always)]
     pub fn pop(&mut self) -> Option<T>
         ensures items { self.old.list.items ≡ self.new.list.items ++ option_to_list result }
@@ -177,7 +177,7 @@ impl Bounded<u8> {
         Some(())
     }
 
-    /// Takes its first bytes away.
+    /// Removes its first bytes.
     // `rotate_left` would clear kilobytes of the stack for the bytes that go to the end.
     pub fn drop_first(&mut self, count: usize)
         requires within { count ≤ length self.old.list.items }
@@ -206,7 +206,7 @@ fn copy_to_end(bytes: &mut Vec<u8>, from: usize, to: usize) -> Option<()>
     Some(())
 }
 
-/// How many bytes are before the first that is a mark or 0.
+/// How many bytes precede the first that is a mark or 0.
 fn front_size(bytes: &[u8]) -> usize
     ensures within { result ≤ length bytes.now }
     ensures each { (k : ℕ) → k < result → 2 < get_or bytes.now k 0 }

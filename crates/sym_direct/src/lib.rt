@@ -1,4 +1,4 @@
-//! What a symbol's rules still need while it is read from left to right and nothing is known of what comes after, in any language,
+//! What a symbol's rules still need while it is read from left to right and nothing is known of what follows, in any language,
 //! and lists that grow up to a bound.
 #![tactic(auto)]
 

@@ -87,13 +87,13 @@ read_counts readings symbol read counts rows steps nodes (shape, are_rows, same)
       steps_enough = enough;
     }
 
--- what was done with a symbol of a language, where the language is known by an equation
+-- the result for a symbol of a language, where an equation says which language it is
 pub demangled_in : (answers : Lang → Result (List ℕ) Refusal) (counting : Lang → List ℕ → Counts → Type 0) (lang known : Lang) (symbol old new : List ℕ) (demangled : Demangled) → lang ≡ known
     → IsDemangled (answers known) (counting known symbol) old new demangled → IsDemangled (answers lang) (counting lang symbol) old new demangled
 demangled_in answers counting lang known symbol old new demangled same is =
     subst (λ l. IsDemangled (answers l) (counting l symbol) old new demangled) (sym same) is
 
--- what is answered for a Rust symbol in a detail that shows arguments where the wanted one does
+-- the answer for a Rust symbol in a detail that shows arguments where the requested one does
 pub rust_answered : {W : Type 0} (cpp : Mangled W) (limit : ℕ) (detail shown : Detail) (lang : Lang) (symbol : List ℕ) → AreBytes symbol → lang ≡ Rust → has_arguments shown ≡ has_arguments detail
     → answer v0_mangled shown symbol limit ≡ language_answer_by cpp limit detail lang symbol
 rust_answered cpp limit detail shown lang symbol bytes is same =
@@ -108,7 +108,7 @@ pub unread_pressed : {W : Type 0} (m : Mangled W) (answer : List ℕ → Result 
 unread_pressed m answer front symbol refusal law short (inl memory) other = absurd (other memory)
 unread_pressed m answer front symbol refusal law short (inr is) other = (ap (with_front front) (law is), short)
 
--- one that is read, whose pressed spelling was appended
+-- a symbol that is read, whose pressed spelling was appended
 pub pressed_given : (front old new bytes spelling : List ℕ) (answer : Result (List ℕ) Refusal) → answer ≡ Ok spelling → bytes ≡ spelling → new ≡ old ++ (front ++ bytes)
     → (text : List ℕ) × (with_front front answer ≡ Ok text) × (new ≡ old ++ text)
 pressed_given front old new bytes spelling answer law is pushed =

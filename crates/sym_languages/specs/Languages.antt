@@ -44,7 +44,8 @@ answer_of limit detail kind symbol = language_answer limit detail kind.lang symb
 abbrev pub wide_answer_of : ℕ → Detail → Kind → List ℕ → Result (List ℕ) Refusal
 wide_answer_of limit detail kind symbol = language_answer_by wide_mangled limit detail kind.lang symbol
 
--- with this grammar of C++; legacy Rust names, each of which is a C++ symbol, are answered as these or as the paths that they stand for
+-- with this grammar of C++; legacy Rust names, each of them a C++ symbol, are answered as these or as the paths that they
+-- denote
 abbrev pub answers_by : {W : Type 0} → Mangled W → (legacy : Bool) → (limit : ℕ) → Detail → Answering
 answers_by cpp legacy limit detail =
     if legacy then (λ kind symbol. legacy_answer limit symbol (language_answer_by cpp limit detail kind.lang symbol))
@@ -54,7 +55,7 @@ answers_by cpp legacy limit detail =
 abbrev pub cpp_by : (wide : Bool) → Mangled Term
 cpp_by wide = if wide then wide_mangled else cpp_mangled
 
--- what comes before an answer that isn't a refusal
+-- what precedes an answer that isn't a refusal
 abbrev pub with_front : List ℕ → Result (List ℕ) Refusal → Result (List ℕ) Refusal
 with_front front (Ok text) = Ok (front ++ text)
 with_front front (Err refusal) = Err refusal
@@ -64,20 +65,20 @@ abbrev pub pressed_language : Lang → List ℕ → Result (List ℕ) Refusal
 pressed_language Cpp symbol = pressed_answer cpp_mangled cpp_spelling.pressed symbol
 pressed_language Rust symbol = pressed_answer v0_mangled rust_spelling.pressed symbol
 
--- the pressed spelling comes after the underscore that was dropped
+-- the pressed spelling follows the underscore that was dropped
 abbrev pub pressed_of : Kind → List ℕ → Result (List ℕ) Refusal
 pressed_of kind symbol = with_front (underscore_of kind.skip) (pressed_language kind.lang symbol)
 
--- The symbols of a mangling that are read: W are the trees that they stand for, R what is kept of them.
+-- The symbols of a mangling that are read: W are the trees that they denote, R what is kept of them.
 pub record Readings (W R : Type 0) : Type 1 where
   pub mangled : Mangled W
   -- what holds of each of them
   pub IsRead : R → Type 0
   pub bytes_of : R → List ℕ
   pub whole_of : R → W
-  -- whether a symbol of a shape has so many nodes
+  -- whether a symbol of a shape has this many nodes
   pub are_nodes : Tree → ℕ → Type 0
-  -- the most nodes that a byte brings
+  -- the most nodes for each byte
   pub nodes_a_byte : ℕ
 
 abbrev pub cpp_readings : Readings Term cpp.ReadSymbol
@@ -110,8 +111,8 @@ v0_readings = record {
   nodes_a_byte = 4;
 }
 
--- The counts of a symbol that is read and stands for a tree: the rows, the steps and the nodes of its one shape. There is at least a
--- step for each row, and no more of each than its bytes allow.
+-- The counts of a symbol that is read and denotes a tree: the rows, the steps and the nodes of its one shape. There is at least
+-- a step for each row, and no more of each than its bytes allow.
 pub record AreCounts {W R : Type 0} (readings : Readings W R) (symbol : List ℕ) (counts : Counts) : Type 0 where
   pub shape : List Row
   pub are_rows : AreRowsOf readings.mangled.table symbol shape
@@ -126,7 +127,7 @@ pub record AreCounts {W R : Type 0} (readings : Readings W R) (symbol : List ℕ
   pub steps_few : counts.steps ≤ 32 * length symbol + 48
   pub steps_enough : counts.rows ≤ counts.steps
 
--- of each language, where C++ is read so
+-- of each language, with this reading of C++
 abbrev pub AreCountsBy : {W R : Type 0} → Readings W R → Lang → List ℕ → Counts → Type 0
 AreCountsBy cpp Cpp symbol counts = AreCounts cpp symbol counts
 AreCountsBy cpp Rust symbol counts = AreCounts v0_readings symbol counts

@@ -1,4 +1,4 @@
--- What is answered where the pressed spelling of a symbol is asked for.
+-- What is answered where the pressed spelling of a symbol is requested.
 use Rattle.std.specs.Prelude.{◌≡◌, ℕ, ◌*◌, ◌≤◌, List, length, Result, Ok, Err}
 use Rattle.std.proofs.Common.{sym, ap, ◌∙◌}
 use Rattle.sym_core.specs.declared.refusal.Refusal.{Refusal}
@@ -13,8 +13,8 @@ abbrev pub pressed_if_read : {W : Type 0} → (pressed : W → List ℕ) → Res
 pressed_if_read pressed (Ok whole) = Ok (pressed whole)
 pressed_if_read pressed (Err refusal) = Err refusal
 
--- The answer to a symbol of a mangling whose trees have these pressed spellings: that of what its shape stands for, or its first
--- bad byte. It has no limit. A list of which an item is no byte is refused at once.
+-- The answer to a symbol of a mangling whose trees have these pressed spellings: that of what its shape denotes, or its first
+-- bad byte. It has no limit. A list with an item that is no byte is refused at once.
 unfoldable pub pressed_answer : {W : Type 0} → Mangled W → (pressed : W → List ℕ) → List ℕ → Result (List ℕ) Refusal
 pressed_answer m pressed s =
     outcome m.table m.lawful (λ shape. pressed_if_read pressed (m.unfolded shape)) (λ at. Err (Malformed at)) (Err (Malformed 0)) s
@@ -33,7 +33,7 @@ reading_pressed m pressed s result bytes (well_shaped (shape, is, text, e)) =
     outcome_shaped m.table m.lawful (λ shape. pressed_if_read pressed (m.unfolded shape)) (λ at. Err (Malformed at)) (Err (Malformed 0)) s shape bytes is text
     ∙ ap (pressed_if_read pressed) (sym e)
 
--- What is answered has at most so many bytes for each byte of a symbol that fits.
+-- What is answered has at most this many bytes for each byte of a symbol that fits.
 abbrev pub AnswersAreShort : {W : Type 0} → Mangled W → (pressed : W → List ℕ) → (a_byte : ℕ) → Type 0
 AnswersAreShort m pressed a_byte =
     (s text : List ℕ) → FitsSymbol s → AreBytes s → pressed_answer m pressed s ≡ Ok text → length text ≤ a_byte * length s

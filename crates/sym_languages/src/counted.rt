@@ -11,7 +11,7 @@ pub trait Counted: Mangling {
     // what holds of each symbol that was read
     ghost is_read: { Self.Symbol → Type 0 };
 
-    // the most nodes that a byte brings
+    // the most nodes for each byte
     ghost nodes_a_byte: { ℕ };
 
     /// The rows, nodes and steps that reading a symbol took.

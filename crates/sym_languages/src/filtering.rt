@@ -9,8 +9,8 @@ use std::alloc::Global;
 use sym_filter::{FilterFault, Sink, Source, Tally, filter_with};
 use sym_print::Detail;
 
-/// Reads all that the source gives, and writes it with each word that names a symbol replaced by the symbol's whole text,
-/// where that costs at most the limit.
+/// Reads all that the source gives, and writes it with each word that names a symbol replaced by the symbol's whole text, where
+/// that costs at most the limit.
 pub fn filter<R: Source, W: Sink>(
     alloc: Global,
     reader: &mut R,

@@ -21,8 +21,8 @@ use sym_print::Detail;
 
 /// A grammar of C++ symbols.
 pub trait Cpp: Counted {
-    /// Writes the text of a symbol of which less is shown than all of it, if the symbol is one that goes the short way and its text
-    /// costs at most the limit, and answers whether it did. Where it didn't, nothing is known of the symbol.
+    /// Writes the text of a symbol that is shown only in part, if the symbol goes the short way and its text costs at most the
+    /// limit, and answers whether it did. Where it didn't, nothing is known of the symbol.
     fn write_less(direct: &mut Self::Direct, symbol: &[u8], limit: u32, detail: Detail) -> bool
         requires { FitsSymbol symbol.now }
         ensures { result ≡ true → IsAnswer Self.mangled detail symbol.now limit (Ok (Self.written direct.new)) };
@@ -40,7 +40,8 @@ impl Cpp for Wide {
     }
 }
 
-/// Both manglings, at a limit on the cost of a text and a detail, with the grammar by which C++ symbols are read: `Abi` or `Wide`.
+/// Both manglings, at a limit on the cost of a text and a detail, with the grammar that C++ symbols are read by: `Abi` or
+/// `Wide`.
 #[derive(Clone, Copy, Drop)]
 pub struct Languages<C: Cpp> {
     pub limit: u32,
@@ -68,7 +69,7 @@ impl<C: Cpp> Lists<C> {
         }
     }
 
-    /// Reads what is there of a symbol that may go on.
+    /// Reads what has arrived of a symbol that may continue.
     pub fn read_ahead(&mut self, lang: Lang, front: &[u8])
         requires { FitsSymbol front.now }
     {
@@ -135,7 +136,7 @@ fn with_parameters(detail: Detail) -> Detail
     }
 }
 
-/// Appends the text of a C++ symbol, where it has one: where less than all is shown by a short way as well, if the symbol goes that.
+/// Appends the text of a C++ symbol, where it has one. A symbol shown only in part goes a short way, too, if it can.
 fn append_cpp<C: Cpp>(
     lists: &mut Lists<C>,
     symbol: &[u8],
@@ -170,7 +171,7 @@ fn append_rust<C: Cpp>(
     }
 }
 
-/// Appends the text of a Rust symbol without its generic arguments, where it has one: by a short way, if the symbol goes that.
+/// Appends the text of a Rust symbol without its generic arguments, where it has one: by a short way, if the symbol goes it.
 fn append_brief<C: Cpp>(
     lists: &mut Lists<C>,
     symbol: &[u8],
@@ -225,7 +226,7 @@ fn demangle_in<M: Counted>(
         Ok(()) => Demangled::Text(counts),
         Err(refusal) => match refusal {
             Refusal::TooLong => Demangled::TooLong(counts),
-            // want of memory is all else that printing is refused for
+            // otherwise printing is refused only for want of memory
             _ => Demangled::Refused(Refusal::Memory),
         },
     }

@@ -1,4 +1,4 @@
-// Legacy Rust names, as the paths that they stand for, before both manglings.
+// Legacy Rust names, as the paths that they denote, before both manglings.
 ghost use Rattle.std.specs.Prelude.{◌≡◌, IfSome};
 ghost use Rattle.sym_core.specs.Number.{FitsSymbol};
 ghost use Rattle.rust_legacy.specs.Path.{AreRead};
@@ -12,8 +12,8 @@ use std::alloc::{AllocError, Global};
 use sym_core::{Counts, Refusal};
 use sym_filter::{Demangled, Demangler, Kind, Lang};
 
-/// Both manglings, where a legacy Rust name, which is a C++ symbol too, has its path's text, at the limit of the others. The detail
-/// changes nothing in that text. The counts of such a name are those of the C++ symbol.
+/// Both manglings, where a legacy Rust name, which is a C++ symbol too, has its path's text, at the limit of the others. The
+/// detail doesn't change that text. The counts of such a name are those of the C++ symbol.
 #[derive(Clone, Copy, Drop)]
 pub struct Legacy<C: Cpp> {
     pub languages: Languages<C>,
@@ -52,7 +52,7 @@ impl<C: Cpp> Demangler for Legacy<C> {
             Ok(()) => Demangled::Text(counts),
             Err(refusal) => match refusal {
                 Refusal::TooLong => Demangled::TooLong(counts),
-                // want of memory is all else that a path is refused for
+                // otherwise a path is refused only for want of memory
                 _ => Demangled::Refused(Refusal::Memory),
             },
         }
@@ -74,7 +74,7 @@ impl<C: Cpp> Demangler for Legacy<C> {
 }
 
 /// Appends the text of a symbol whose names may be those of a legacy name.
-// out of line, so that all others pay nothing for it
+// out of line, so that all other symbols pay nothing for it
 #[inline(never)]
 fn append_named<C: Cpp>(
     legacy: &Legacy<C>,

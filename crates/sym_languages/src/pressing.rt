@@ -1,4 +1,4 @@
-// Symbols of both manglings spelled again in place of printed.
+// Symbols of both manglings spelled again instead of printed.
 ghost use Rattle.std.specs.Prelude.{◌≡◌, ◌++◌, ℕ, List, Result, Ok, Err, OnOk, OnErr, IfOk, IfErr};
 ghost use Rattle.sym_core.specs.declared.refusal.Refusal.{Refusal};
 ghost use Rattle.sym_core.specs.declared.refusal.Refusal.TheVariants.{Memory};
@@ -31,7 +31,7 @@ pub trait Pressable: Counted {
     ///
     /// # Errors
     ///
-    /// `Memory` alone.
+    /// Only `Memory`.
     fn press(alloc: Global, symbol: &Self::Symbol) -> Result<Vec<u8>, Refusal>
         ensures pressed { IfOk result (λ out. out.items ≡ pressed symbol.now) }
         ensures memory { IfErr result (λ e. e ≡ Memory) };

@@ -1,4 +1,4 @@
--- What is there where a language is one by meaning, and what part a rule is at.
+-- What holds where a language is one by meaning, and what part a rule is at.
 use Rattle.std.proofs.Common.{◌≡◌, refl, arith, append-nil, ℕ, ◌+◌, List, [], ◌∷◌, length, Ok}
 use Rattle.sym_shape.specs.Tree.{Forest, branch, empty, token, fixed, nothing, grown, row_count_all}
 use Rattle.sym_link.specs.Machine.{ended}
@@ -19,7 +19,7 @@ plain_ended language rule known from (grown (fixed byte) rest) state none =
 plain_ended language rule known from (grown (token t) rest) state none = absurd (omega (arith, none))
 plain_ended language rule known from (grown (branch r taken parts) rest) state none = absurd (omega (arith, none))
 
--- In a language by meaning the parts without a row that come before the next part change nothing.
+-- In a language by meaning the parts without a row before the next part change nothing.
 pub plain_next : {V S C : Type 0} (language : Language V S C) (rule : Open S C) (known : List V) (from : ℕ) (left : Forest) (state : S)
     → next_of (by_meaning language) rule known from left state
     ≡ Ok (record { context = language.context_behind rule.rule.number rule.context known; values = known; state = state })

@@ -1,4 +1,4 @@
--- What the driver's functions are to show, over plain variables.
+-- What the driver's functions have to show, over plain variables.
 use Rattle.std.proofs.lemmas.List.{length-take-le}
 use Rattle.std.proofs.Common.{if◌then◌else◌, add-zero, take, true, false, ◌≡◌, ◌≢◌, ◌⊎◌, inl, inr, refl, sym, ◌∙◌, ap, subst, arith, ℕ, ◌+◌, ◌-◌, ◌*◌, ◌<◌, ◌≤◌, List, [], ◌∷◌, ◌++◌, length, drop, Ok, Err, length-append, length-drop}
 use Rattle.std.specs.Prelude.{Result, slice_index_or, OnOk, Option, Some, None}
@@ -206,7 +206,7 @@ more_rows view s shape due nodes next codes code parts d laws can =
       | inr tok ↦ tok.more
     ]
 
--- what is asked where a token is taken
+-- what is required where a token is taken
 pub record TokenAsks {N P K V S C : Type 0} (view : View N P K V S C) (s : List ℕ) (nodes : N) (frame : Frame K) (parts : List P) (row : Row) : Type 0 where
   pub room : HasRoom view s nodes (owed_behind view frame parts)
   pub stands : IsOpen view s nodes frame parts
@@ -266,7 +266,7 @@ row_ends shape place row rule taken inner is =
       length-rows_of_all inner (place + length taken) (is.number + 1),
     )
 
--- what is asked where a rule begins
+-- what is required where a rule begins
 pub record RuleAsks {N P K V S C : Type 0} (view : View N P K V S C) (s : List ℕ) (shape : List Row) (nodes : N) (frame : Frame K) (parts : List P) (row : Row) : Type 0 where
   pub room : HasRoom view s nodes (owed_behind view frame parts)
   pub stands : IsOpen view s nodes frame parts
@@ -297,7 +297,7 @@ early_base : {N P K V S C : Type 0} (view : View N P K V S C) (s : List ℕ) (sh
 early_base view s shape whole due nodes next lower code parts i none =
     omega (arith, i.inside.place, i.early (sym (as_many (view.IsPart nodes) (drop code.base parts) i.known i.inside.parts) ∙ length-drop code.base parts ∙ omega (arith, none)))
 
--- where a token is taken in a rule that ends there, so many steps are left
+-- where a token is taken in a rule that ends there, n steps are left
 abbrev pub CountsTaken : Due → (end next : ℕ) → ℕ → Type 0
 CountsTaken (waiting m) end next n = m ≡ n + 1
 CountsTaken (starting m most) end next n = (n ≡ m + 1) × (end ≡ next + 1)
@@ -490,7 +490,7 @@ token_refused_within view s shape whole left most old new next lower code parts 
 
 -- ## The first row
 
--- what is asked where the root begins
+-- what is required where the root begins
 pub record RootAsks {N P K V S C : Type 0} (view : View N P K V S C) (s : List ℕ) (shape : List Row) (nodes : N) (row : Row) : Type 0 where
   pub room : HasRoom view s nodes 0
   pub end : row.end ≤ length shape
@@ -596,7 +596,7 @@ pub driving_on : {N P K V S C : Type 0} (view : View N P K V S C) (s : List ℕ)
 driving_on view s shape tree nodes steps None next codes parts open_still driving = driving
 driving_on view s shape tree nodes steps (Some e) next codes parts open_still driving = absurd (open_still e refl)
 
--- a move that goes on
+-- a move that continues
 pub step_moved : {N P K V S C : Type 0} (view : View N P K V S C) (s : List ℕ) (shape : List Row) (tree : Tree) (new : N) (steps : ℕ) (refused : Option Refusal)
     (next behind : ℕ) (codes new_codes : List (Frame K)) (new_parts : List P) (result : Result (Option ℕ) Refusal) (moved : Option ℕ) → result ≡ Ok moved → moved ≡ Some behind
     → ((e : Refusal) → refused ≡ Some e → ⊥) → steps + length codes ≤ 2 * next → next ≤ 2 * steps

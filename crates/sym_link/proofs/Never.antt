@@ -1,10 +1,10 @@
--- A move that can't be.
+-- A move that is impossible.
 use Rattle.std.proofs.Common.{◌≡◌, ◌∙◌, ℕ, List, [], ◌∷◌, ◌++◌, length, length-append, Option, Some, Result, Ok, Err, ap, sym, arith}
 use Rattle.std.specs.Prelude.{None, IsErrAnd}
 use Rattle.sym_core.specs.declared.refusal.Refusal.{Refusal}
 use Rattle.sym_shape.proofs.Keeping.{never_ok}
 
--- where a row comes next, something is left to do
+-- where a row follows, something is left to do
 pub never_some : (next : ℕ) → ◌≡◌ {A = Result (Option ℕ) Refusal} (Ok (Some next)) (Ok None) → ⊥
 never_some next is =
     let some : ◌≡◌ {A = Option ℕ} (Some next) None = cc in

@@ -1,4 +1,4 @@
--- What a step of the machine comes to where the next row begins a rule, or is that of a token.
+-- The result of a step of the machine where the next row begins a rule, or is that of a token.
 use Rattle.std.proofs.Common.{◌≡◌, refl, sym, ◌∙◌, ap, arith, ℕ, ◌+◌, List, [], ◌∷◌, ◌++◌, length, length-append, Ok}
 use Rattle.std.specs.Result.{IfOk}
 use Rattle.sym_shape.specs.declared.rule.Rule.{Rule}
@@ -12,7 +12,7 @@ use Rattle.sym_link.specs.Linking.{next_of, Begun, begun, taken_in}
 use Rattle.sym_link.proofs.Steps.{bind_assoc, bind_same, entered_outcome, step_outcome}
 use Rattle.sym_link.proofs.Results.{bind_where, bind_ok, ok_any, ok_bind, ok_weaker}
 
--- where the parts that are left are, past those that have no row
+-- the place of the remaining parts, past those that have no row
 record IsSkipped {V S : Type 0} (from : ℕ) (left : Forest) (p : Passed V S) : Type 0 where
   left_is : p.left ≡ skipped left
   from_is : p.from ≡ skipped_from from left
@@ -70,7 +70,7 @@ entering_step reading top frames known state rule taken inner rest left_is =
     ∙ sym (bind_assoc start (λ p. reading.between top.rule p.known p.state >>= begun reading rule taken place inner) (λ b. Ok (after b)))
     ∙ ap (λ r. r >>= λ b. Ok (after b)) (sym (bind_assoc start (λ p. reading.between top.rule p.known p.state) (begun reading rule taken place inner)))
 
--- what will come of the rules where one begins
+-- the result for the open rules where one begins
 pub entering_outcome : {V S C : Type 0} (reading : Reading V S C) (top : Frame V S C) (frames : List (Frame V S C)) (known : List V) (state : S)
     (rule : Rule) (taken : List ℕ) (inner rest : Forest) → skipped top.left ≡ grown (branch rule taken inner) rest
     → ((next_of reading top.rule known top.from top.left state >>= begun reading rule taken (skipped_from top.from top.left) inner)
@@ -83,7 +83,7 @@ entering_outcome reading top frames known state rule taken inner rest left_is =
     ∙ ap (λ r. r >>= outcome reading) (sym (entering_step reading top frames known state rule taken inner rest left_is))
     ∙ step_outcome reading (top ∷ frames) known state
 
--- what will come of a whole whose rule begins
+-- the result for a whole whose rule begins
 pub root_outcome : {V S C : Type 0} (reading : Reading V S C) (context : C) (state : S) (rule : Rule) (taken : List ℕ) (inner : Forest)
     → (begun reading rule taken 0 inner (record { context = context; values = []; state = state })
     >>= λ b. outcome_of reading (frame b.rule (0 + length taken) inner b.values ∷ []) [] b.state)
@@ -132,7 +132,7 @@ token_step reading top frames known state t rest left_is =
     ∙ sym (bind_assoc start (λ p. reading.between top.rule p.known p.state >>= taken_in reading t place) (λ f. Ok (after f)))
     ∙ ap (λ r. r >>= λ f. Ok (after f)) (sym (bind_assoc start (λ p. reading.between top.rule p.known p.state) (taken_in reading t place)))
 
--- what will come of the rules where a token is taken
+-- the result for the open rules where a token is taken
 pub token_outcome : {V S C : Type 0} (reading : Reading V S C) (top : Frame V S C) (frames : List (Frame V S C)) (known : List V) (state : S)
     (t : Token) (rest : Forest) → skipped top.left ≡ grown (token t) rest
     → ((next_of reading top.rule known top.from top.left state >>= taken_in reading t (skipped_from top.from top.left))

@@ -45,7 +45,7 @@ passed_none reading rule known from (grown (token t) rest) state none = refl
 passed_none reading rule known from (grown (branch r taken parts) rest) state none = refl
 passed_none reading rule known from nothing state none = refl
 
--- so many values are known as there are parts
+-- as many values are known as there are parts
 own_length : {N P K V S C : Type 0} (view : View N P K V S C) (s : List ℕ) (nodes : N) (frame : Frame K) (parts : List P) (rule : Open S C) (known : List V) (state : S)
     → IsAt view s nodes frame (drop frame.base parts) rule known state → length parts - frame.base ≡ length known
 own_length view s nodes frame parts rule known state at = sym (length-drop frame.base parts) ∙ as_many (view.IsPart nodes) (drop frame.base parts) known at.parts
@@ -65,7 +65,7 @@ module _ {N P K V S C : Type 0} (view : View N P K V S C) (s : List ℕ) (Surrou
   after : Later view.reading p.rule p.known p.from p.state p.left
   after = later view.reading p.rule p.known p.from p.state p.left more
 
-  -- one is passed, and what it stands for is put after the other parts
+  -- one is passed, and what it denotes is put after the other parts
   pub passing_next : (context : K) (part : P) → GoesOn view s Surrounds old new frame parts middle (Ok context) → view.Grows old new
       → AreAll (view.IsPart new) (part ∷ []) view.reading.rowless
       → Passing view s new frame lower (middle ++ part ∷ []) to whole
@@ -136,7 +136,7 @@ passing_done view s nodes frame lower parts to whole p enough =
 
 -- ## One after the other
 
--- a rule whose frame has a part less
+-- a rule whose frame has one part less
 pub owed_pushed : {N P K V S C : Type 0} (view : View N P K V S C) (old new : N) (frame : Frame K) (parts middle : List P) (part : P) (x : ℕ) → frame.base ≤ length middle
     → Adds view old new x (owed_next view frame middle) → Adds view old new x (owed_behind view frame (middle ++ part ∷ []))
 owed_pushed view old new frame parts middle part x within adds =
@@ -182,7 +182,7 @@ module _ {N P K V S C : Type 0} (view : View N P K V S C) (s : List ℕ) (laws :
   one_each : Stands view.table s 1 rule (length known) from left
   one_each = subst (λ n. Stands view.table s n rule (length known) from left) laws.one is.stands
 
-  -- before the next part that has a row, after which there are so many parts
+  -- before the next part that has a row, n parts being after it
   pub row_first : (held after to : ℕ) → IsAhead view.table frame.rule held after to → held ≡ length parts - frame.base → (next : Tree) (rest : Forest) → skipped left ≡ grown next rest
       → after ≡ tree_count rest → Passing view s old frame (take frame.base parts) parts to (passed view.reading rule known from left state)
   row_first held after to ahead held_is next rest left_is told =

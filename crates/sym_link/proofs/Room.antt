@@ -34,7 +34,7 @@ pub only_refused : {A B : Type 0} (few apart : Type 0) (a b c : List Listed) (e 
     → OnlyForRoom {A = A} few b c (Err e) → OnlyForRoom {A = B} apart a c (Err e)
 only_refused few apart a b c e so ab only is = elim (only cc) [ inl lacks ↦ inl (lacked_before a b c ab lacks) | inr more ↦ inr (so more) ]
 
--- a call with lists of its own, beside which there is another list
+-- a call with lists of its own, beside another list
 pub list_more : {A : Type 0} (apart : Type 0) (x y : Listed) (a b : List Listed) (result : Result A Refusal)
     → OnlyForRoom apart a b result → OnlyForRoom apart (x ∷ a) (y ∷ b) result
 list_more apart x y a b result only is = elim (only is) [ inl lacks ↦ inl (inr lacks) | inr more ↦ inr more ]

@@ -141,7 +141,7 @@ stands_take g s n rule held from first rest st one =
       spelled = subst (λ f. drop rule.place s ≡ rule.taken ++ (spell_all f ++ st.behind)) same st.spelled;
     }
 
--- what is where the parts that are left are
+-- what is at the place of the remaining parts
 pub stands_left : {S C : Type 0} (g : Table) (s : List ℕ) (n : ℕ) (rule : Open S C) (held from : ℕ) (left : Forest) (st : Stands g s n rule held from left)
     → drop from s ≡ spell_all left ++ st.behind
 stands_left g s n rule held from left st =
@@ -154,7 +154,7 @@ stands_left g s n rule held from left st =
     ap (λ k. drop k s) (omega (arith, st.starts, size)) ∙ sym (drop-drop (length front) rule.place s) ∙ ap (λ x. drop (length front) x) whole
     ∙ drop-append_seam front (spell_all left ++ st.behind)
 
--- a rule that begins is where it is the next part
+-- a rule that begins is at the place where it is the next part
 pub stands_inner : {S C : Type 0} (g : Table) (s : List ℕ) (n : ℕ) (rule : Open S C) (held from : ℕ) (inner_rule : Rule) (taken : List ℕ) (inner rest : Forest) (context : C) (state : S)
     → IsSound g → Stands g s n rule held from (grown (branch inner_rule taken inner) rest)
     → Stands g s n (standing inner_rule taken from context state) 0 (from + length taken) inner
@@ -175,7 +175,7 @@ stands_inner g s n rule held from inner_rule taken inner rest context state soun
           ∙ append_assoc (taken ++ spell_all inner) (spell_all rest) st.behind ∙ append_assoc taken (spell_all inner) (spell_all rest ++ st.behind);
     }
 
--- what is where the next part with a row is, which is a rule's
+-- what is at the place of the next part with a row, which is a rule's
 pub stands_next : {S C : Type 0} (g : Table) (s : List ℕ) (n : ℕ) (rule : Open S C) (held from : ℕ) (left : Forest) (inner_rule : Rule) (taken : List ℕ) (inner rest : Forest)
     → Stands g s n rule held from left → skipped left ≡ grown (branch inner_rule taken inner) rest
     → (behind : List ℕ) × (drop (skipped_from from left) s ≡ taken ++ (spell_all inner ++ behind))
@@ -252,7 +252,7 @@ all_passed (grown (fixed byte) rest) none = omega (arith, all_passed rest (omega
 all_passed (grown (token t) rest) none = absurd (omega (arith, none))
 all_passed (grown (branch rule taken parts) rest) none = absurd (omega (arith, none))
 
--- and else those before the next one that has a row
+-- and otherwise those before the next one that has a row
 some_passed : (left rest : Forest) (next : Tree) → skipped left ≡ grown next rest → skips left + 1 + tree_count rest ≡ tree_count left
 some_passed nothing rest next is = cc
 some_passed (grown empty others) rest next is = omega (arith, some_passed others rest next is)
@@ -290,12 +290,12 @@ abbrev are_none : List Sym → Bool
 are_none [] = true
 are_none (x ∷ xs) = false
 
--- each of these symbols but the last has one
+-- each of these symbols except the last has one
 abbrev pub are_rows : Table → List Sym → Bool
 are_rows g [] = true
 are_rows g (x ∷ xs) = (are_none xs || has_row g x) && are_rows g xs
 
--- where each part of a rule but the last has a row, the next one has
+-- where each part of a rule except the last has a row, the next one has
 pub ahead_by_rows : (g : Table) (number held after : ℕ)
     → ((kind : ℕ) (rule : Rule) (taken : List ℕ) → kind < g.kinds → TakesRule g kind rule taken → rule.number ≡ number → are_rows g (symbols_of rule) ≡ true)
     → IsAhead g number held after held

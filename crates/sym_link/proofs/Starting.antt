@@ -55,7 +55,7 @@ root_row g s shape tree is r =
     ∙ ap (λ rs. record { rule = r.rule.number; after = 0; from = 0; to = 0 + length (r.taken ++ spell_all r.inner); end = 0 + 1 + row_count_all r.inner } ∷ rs)
     (sym (append-nil (rows_of_all r.inner (0 + length r.taken) (0 + 1))))
 
--- the rule that begins, around which nothing is known
+-- the rule that begins, with nothing known around it
 abbrev BeginsRoot : {V S C : Type 0} → Rule → (taken : List ℕ) → Begun V S C → Type 0
 BeginsRoot {S = S} {C = C} rule taken b = (b.values ≡ []) × ((context : C) × (before : S) × (b.rule ≡ standing rule taken 0 context before))
 

@@ -36,7 +36,7 @@ dropped_one xs more n x d h = rw add-one (dropped xs more n x d h)
 pub dropped_next : {A : Type 0} (xs more : List A) (n : ℕ) (x : A) → drop n xs ≡ x ∷ more → (drop (n + 1) xs ≡ more) × (n < length xs)
 dropped_next xs more n x h = let is = dropped_one xs more n x x h in (is.0, is.1)
 
--- what is right of each value is right of the one that is there
+-- what is right of each value is right of the present one
 pub of_ok : {A : Type 0} (m : Result A Refusal) (x : A) (P : A → Type 0) → m ≡ Ok x → IfOk m P → P x
 of_ok m x P is p = subst (λ r. IfOk r P) is p
 
@@ -78,7 +78,7 @@ token_pending top frames from number t rest =
     let second : number + (1 + row_count_all rest) ≡ number + 1 + row_count_all rest = omega arith in
     rw second refl
 
--- so many parts come after the base as there are values
+-- as many parts follow the base as there are values
 own_count : {P V : Type 0} (Is : P → V → Type 0) (parts new_parts own : List P) (values : List V) (base : ℕ) → base ≤ length parts
     → new_parts ≡ take base parts ++ own → AreAll Is own values → length new_parts - base ≡ length values
 own_count Is parts new_parts own values base within are_parts are =

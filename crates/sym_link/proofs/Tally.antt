@@ -1,4 +1,4 @@
--- A language whose nodes are counted keeps to what it keeps to without the count, and says the same of a symbol.
+-- A language with counted nodes keeps to what it keeps to without the count, and says the same of a symbol.
 use Rattle.std.proofs.Common.{◌≡◌, refl, sym, ◌∙◌, ap, subst, arith, add-zero, ℕ, ◌+◌, List, [], ◌∷◌, ◌++◌, length, take, drop, Ok, Err}
 use Rattle.std.specs.Prelude.{Result, OnOk}
 use Rattle.std.specs.Result.{IfOk}
@@ -63,7 +63,7 @@ tallied_threads view makes threads = record {
   one = threads.one;
 }
 
--- ## What is there
+-- ## What exists
 
 pub room_untallied : {N P K V S C : Type 0} (view : View N P K V S C) (makes : Makes V S C) (s : List ℕ) (nodes : N) (more : ℕ)
     → HasRoom (tallied_view view makes) s nodes more → HasRoom view s nodes more
@@ -222,7 +222,7 @@ module _ {V S C : Type 0} (reading : Reading V S C) (makes : Makes V S C) where
       bind_assoc (reading.token place t next.state) (with_nodes n) (λ one. Ok (found (next.values ++ one.value ∷ []) one.state))
       ∙ sym (bind_assoc (reading.token place t next.state) (λ one. Ok (found (next.values ++ one.value ∷ []) one.state)) (with_nodes n))
 
--- ## Nodes that are made where rules close alone
+-- ## Nodes that are made only where rules close
 
 module _ {V S C : Type 0} (reading : Reading V S C) (number : ℕ → ℕ) where
   abbrev counting : Reading V (Tally S) C
@@ -410,7 +410,7 @@ module _ {N P K V S C : Type 0} (view : View N P K V S C) (makes : Makes V S C) 
       → IsDone counted s rows (meaning_of counted shape) nodes parts → view.size nodes ≡ count (meaning_of counted shape)
   done_nodes s rows shape nodes parts count counts done = rw done.means (done.holds.1 ∙ sym (counts (found (done.value ∷ []) done.state)))
 
--- ## The moments of a language that makes nodes where rules close alone
+-- ## The moments of a language that makes nodes only where rules close
 
 module _ {N P K V S C : Type 0} (view : View N P K V S C) (number : ℕ → ℕ) where
   abbrev closing_view : View N P K V (Tally S) C

@@ -1,4 +1,4 @@
--- A small language, in which a rule means the number of its parts, of which it may have at most three.
+-- A small language: a rule means the number of its parts, at most three.
 use Rattle.std.specs.Prelude.{◌≡◌, ℕ, ◌+◌, ◌*◌, ◌<◌, ◌≤◌, nat_lt, List, [], ◌∷◌, ◌++◌, length, get_or, true, false, if◌then◌else◌, Result, Ok, Err, vec_capacity}
 use Rattle.sym_core.specs.declared.NumberKind.{NumberKind}
 use Rattle.sym_core.specs.declared.refusal.Refusal.{Refusal}
@@ -45,7 +45,7 @@ counted_language = record {
   meaning = λ number at known. if nat_lt 3 (length known) then Err (Refusal.BadValue at.place) else Ok (found (length known) (at.state + 1));
 }
 
--- for which number a part stands
+-- the number that a part denotes
 abbrev pub IsNumber : Counts → Part → ℕ → Type 0
 IsNumber nodes (parts.Token span) value = span.to ≡ span.from + value
 IsNumber nodes (parts.Node node) value = (node < length nodes.counts.items) × (get_or nodes.counts.items node 0 ≡ value)

@@ -1,4 +1,4 @@
--- How a driver's frames and parts are those of the machine that unfolds a tree.
+-- How a driver's frames and parts correspond to those of the machine that unfolds a tree.
 use Rattle.std.specs.Prelude.{◌≡◌, ◌≢◌, ◌⊎◌, ℕ, ◌+◌, ◌*◌, ◌≤◌, List, [], ◌∷◌, ◌++◌, length, drop, Result, Ok, Err, Option, Some, None, Bool, true, false}
 use Rattle.sym_core.specs.Number.{FitsSymbol}
 use Rattle.sym_core.specs.declared.refusal.Refusal.{Refusal}
@@ -26,8 +26,8 @@ pub record IsShape (g : Table) (s : List ℕ) (rows : List Row) (tree : Tree) : 
 abbrev pub meaning_of : {N P K V S C : Type 0} → View N P K V S C → Tree → Result (Found (List V) S) Refusal
 meaning_of view tree = unfold_tree view.reading view.around 0 tree view.first
 
--- The last frame of code is that of the innermost rule, and the parts after its base stand for the values that are known.
--- So many more values are awaited of the part that has begun last.
+-- The last frame of code is that of the innermost rule, and the parts after its base denote the known values. The part that has
+-- begun last still owes this many values.
 pub record IsTop {N P K V S C : Type 0} (view : View N P K V S C) (s : List ℕ) (nodes : N) (top : machine.Frame V S C) (known : List V)
     (awaited row : ℕ) (codes : List (Frame K)) (parts : List P) : Type 0 where
   pub lower : List (Frame K)
@@ -52,23 +52,23 @@ HoldsAll view s nodes (top ∷ frames) known awaited row codes parts =
     (one : IsTop view s nodes top known awaited row codes parts)
     × HoldsAll view s nodes frames top.outer 1 (row + row_count_all top.left) one.lower one.below
 
--- the place where the parts are that the innermost rule has left, and the end of the symbol where no rule is open
+-- the place of the parts that the innermost rule has left, or the end of the symbol where no rule is open
 abbrev pub left_from : {V S C : Type 0} → (end : ℕ) → List (machine.Frame V S C) → ℕ
 left_from end [] = end
 left_from end (top ∷ frames) = top.from
 
--- each rule ends where those parts are that the rule around it has left
+-- each rule ends where the parts begin that the rule around it has left
 abbrev pub Nests : {V S C : Type 0} → (end : ℕ) → List (machine.Frame V S C) → Type 0
 Nests end [] = Unit {0}
 Nests end (top ∷ frames) = (top.from + length (spell_all top.left) ≡ left_from end frames) × Nests end frames
 
--- a rule of which nothing is known yet has the place before its own bytes
+-- a rule that is still unknown has the place before its own bytes
 abbrev pub IsEarly : {V S C : Type 0} → (reached : ℕ) → List (machine.Frame V S C) → (known : List V) → Type 0
 IsEarly reached [] known = Unit {0}
 IsEarly reached (top ∷ frames) known = length known ≡ 0 → reached ≤ top.rule.place
 
--- A rule has begun in a step after which there are at most so many nodes. If it closes in that step, it adds no more than that,
--- where it closes with these parts or is refused before.
+-- A rule has begun in a step that ends with at most n nodes. If it closes in that step, it adds no more than that, where it
+-- closes with these parts or is refused before.
 pub record BeginsWithin {N P K V S C : Type 0} (view : View N P K V S C) (nodes : N) (top : machine.Frame V S C) (known : List V) (most : ℕ) : Type 0 where
   pub none_known : known ≡ []
   pub size : view.size nodes ≤ most
@@ -76,14 +76,14 @@ pub record BeginsWithin {N P K V S C : Type 0} (view : View N P K V S C) (nodes 
       → view.size nodes + view.owes top.rule.rule.number 0 + view.closes top.rule.rule.number own ≤ most + view.owes top.rule.rule.number (length own)
   pub refused : closes_at_once top.left ≡ true → view.size nodes + view.closes top.rule.rule.number [] ≤ most
 
--- so it is of the innermost of the open rules in the step in which it begins
+-- this holds of the innermost open rule in the step in which it begins
 abbrev pub IsLight : {N P K V S C : Type 0} → View N P K V S C → (nodes : N) → Due → List (machine.Frame V S C) → (known : List V) → Type 0
 IsLight view nodes (waiting n) frames known = Unit {0}
 IsLight view nodes (starting n most) [] known = ⊥
 IsLight view nodes (starting n most) (top ∷ frames) known = BeginsWithin view nodes top known most
 
--- A driver is on the way to what comes of the whole, in so many steps. The open rules with the parts that they have left
--- are known to proofs alone, and so is the place up to which the bytes have paid.
+-- A driver is on the way to the result of the whole, in n steps. The open rules with the parts that they have left are known
+-- only to proofs, and so is the place up to which the bytes have paid.
 pub record Follows {N P K V S C : Type 0} (view : View N P K V S C) (s : List ℕ) (shape : List Row) (whole : Result (Found (List V) S) Refusal) (due : Due)
     (nodes : N) (next : ℕ) (codes : List (Frame K)) (parts : List P) : Type 0 where
   pub frames : List (machine.Frame V S C)
@@ -103,20 +103,20 @@ pub record Follows {N P K V S C : Type 0} (view : View N P K V S C) (s : List �
   pub light : IsLight view nodes due frames known
   pub paid : view.IsPaid nodes reached
 
--- after a move the driver is on the way still, with so many steps left, or what was to come is the refusal
+-- after a move the driver is still on the way, with n steps left, or the result is the refusal
 abbrev pub FollowsAfter : {N P K V S C A : Type 0} → View N P K V S C → (s : List ℕ) → (shape : List Row) → Result (Found (List V) S) Refusal → (steps : ℕ)
     → (nodes : N) → (next : ℕ) → List (Frame K) → List P → Result A Refusal → Type 0
 FollowsAfter view s shape whole steps nodes next codes parts (Ok done) = Follows view s shape whole (waiting steps) nodes next codes parts
 FollowsAfter view s shape whole steps nodes next codes parts (Err e) = Fails e whole
 
--- after a move the driver is on the way to this row, with so many steps left, or what was to come is the refusal
+-- after a move the driver is on the way to this row, with n steps left, or the result is the refusal
 abbrev pub FollowsOn : {N P K V S C : Type 0} → View N P K V S C → (s : List ℕ) → (shape : List Row) → (whole : Result (Found (List V) S) Refusal) → (steps : ℕ)
     → (nodes : N) → List (Frame K) → List P → Result ℕ Refusal → Type 0
 FollowsOn view s shape whole steps nodes codes parts (Ok next) = Follows view s shape whole (waiting steps) nodes next codes parts
 FollowsOn view s shape whole steps nodes codes parts (Err e) = Fails e whole
 
--- After the token that is all a rule has, and where the rule has none, the rule may close with so many steps left after it; or it
--- has other rows, and waits for them with so many steps left.
+-- After the only token of a rule, and where the rule has none, the rule may close with n steps left after it; or it has other
+-- rows, and waits for them with n steps left.
 abbrev pub FollowsAlone : {N P K V S C : Type 0} → View N P K V S C → (s : List ℕ) → (shape : List Row) → (whole : Result (Found (List V) S) Refusal) → (left : ℕ)
     → (nodes : N) → (lower : List (Frame K)) → (frame : Frame K) → List P → Result ℕ Refusal → Type 0
 FollowsAlone view s shape whole left nodes lower frame parts (Ok behind) =
@@ -160,7 +160,7 @@ pub record CanTake {N P K V S C : Type 0} (view : View N P K V S C) (s : List �
   pub open_still : frame.end ≢ next
   pub fits : Fits s shape
 
--- after its token there are at most so many nodes, also where the rule closes there
+-- after its token there are at most n nodes, also where the rule closes there
 abbrev pub StaysWithin : {N P K V S C : Type 0} → View N P K V S C → (nodes : N) → Frame K → List P → (most : ℕ) → Result ℕ Refusal → Type 0
 StaysWithin view nodes frame parts most (Ok behind) =
     (view.size nodes ≤ most) × (frame.end ≡ behind → view.size nodes + view.closes frame.rule (drop frame.base parts) ≤ most)
@@ -182,7 +182,7 @@ pub record CanBegin {N P K V S C : Type 0} (view : View N P K V S C) (s : List �
   pub fresh : IsFresh view nodes next codes parts
   pub fits : Fits s shape
 
--- a driver that took so many steps is on the way to what a tree means, from its beginning on, with the rest of the tree's steps left
+-- a driver that took n steps is on the way to what a tree means, from its beginning on, with the rest of the tree's steps left
 abbrev pub IsOnWay : {N P K V S C : Type 0} → View N P K V S C → (s : List ℕ) → (shape : List Row) → Tree → (taken : ℕ) → (nodes : N) → (next : ℕ) → List (Frame K) → List P → Type 0
 IsOnWay view s shape tree taken nodes next codes parts =
     (IsFresh view nodes next codes parts × (taken ≡ 0))
@@ -196,7 +196,7 @@ pub record CanMove {N P K V S C : Type 0} (view : View N P K V S C) (s : List �
   pub on_way : IsOnWay view s shape tree taken nodes next codes parts
   pub fits : Fits s shape
 
--- The one part stands for what the whole means.
+-- The one part denotes what the whole means.
 pub record IsDone {N P K V S C : Type 0} (view : View N P K V S C) (s : List ℕ) (shape : List Row) (whole : Result (Found (List V) S) Refusal)
     (nodes : N) (parts : List P) : Type 0 where
   pub part : P
@@ -209,28 +209,30 @@ pub record IsDone {N P K V S C : Type 0} (view : View N P K V S C) (s : List ℕ
   pub size : view.size nodes ≤ view.most (length s)
   pub paid : view.IsPaid nodes (length s)
 
--- A move goes on to the next row or comes to another one, and is one step; or nothing is left to do, and all steps are taken.
+-- A move continues to the next row or to another one, and is one step; or nothing is left to do, and all steps are taken.
 abbrev pub Moves : {N P K V S C : Type 0} → View N P K V S C → (s : List ℕ) → (shape : List Row) → Tree → (taken : ℕ) → (nodes : N) → List (Frame K) → List P → Result (Option ℕ) Refusal → Type 0
 Moves view s shape tree taken nodes codes parts (Ok (Some next)) = (left : ℕ) × (taken + 1 + left ≡ link_steps tree) × Follows view s shape (meaning_of view tree) (waiting left) nodes next codes parts
 Moves view s shape tree taken nodes codes parts (Ok None) = IsDone view s shape (meaning_of view tree) nodes parts × (taken ≡ link_steps tree)
 Moves view s shape tree taken nodes codes parts (Err e) = Fails e (meaning_of view tree)
 
--- A move takes at most two rows. One that takes a row leaves at most one open rule more, one that takes two leaves none more, and one
--- that takes none closes a rule. So, with the open rules, the moves so far are at most two for each row, and at least one for two rows.
+-- A move takes at most two rows. A move that takes one row leaves at most one more open rule, one that takes two leaves none
+-- more, and one that takes none closes a rule. So, with the open rules, the moves so far are at most two for each row, and at
+-- least one for two rows.
 abbrev pub CountsMove : (rows next before after : ℕ) → Result (Option ℕ) Refusal → Type 0
 CountsMove rows next before after (Ok (Some behind)) = (2 * next + after + 1 ≤ 2 * behind + before) × (behind ≤ next + 2)
 CountsMove rows next before after (Ok None) = Unit {0}
 CountsMove rows next before after (Err e) = 2 * next + 1 ≤ 2 * rows + before
 
--- A driver that took so many steps is on its way, and has as many left as the tree takes in all; or what the symbol means is
--- the refusal that it keeps.
+-- A driver that took n steps is on its way, and the steps left add up with these to the tree's; or what the symbol means is the
+-- refusal that it keeps.
 abbrev pub IsDriving : {N P K V S C : Type 0} → View N P K V S C → (s : List ℕ) → (shape : List Row) → Tree → (nodes : N) → (steps : ℕ) → Option Refusal
     → (next : ℕ) → List (Frame K) → List P → Type 0
 IsDriving view s shape tree nodes steps None next codes parts =
     IsOnWay view s shape tree steps nodes next codes parts × (steps + length codes ≤ 2 * next) × (next ≤ length shape) × (next ≤ 2 * steps)
 IsDriving view s shape tree nodes steps (Some e) next codes parts = Fails e (meaning_of view tree) × (steps ≤ 2 * length shape)
 
--- What a step comes to: all is done, in as many steps as the tree takes, and nothing was to do; or it moved on, and is counted; or a refusal, which is kept.
+-- The result of a step: all is done, in as many steps as the tree takes, and nothing was to do; or it moved on, and is counted;
+-- or a refusal, which is kept.
 abbrev pub IsStepTo : {N P K V S C : Type 0} → View N P K V S C → (s : List ℕ) → (shape : List Row) → Tree → (nodes : N) → (steps new_steps : ℕ) → (refused new_refused : Option Refusal)
     → List P → Result Bool Refusal → Type 0
 IsStepTo view s shape tree nodes steps new_steps refused new_refused parts (Ok true) =

@@ -1,4 +1,4 @@
--- How the nodes that a language makes are what its reading says.
+-- How the nodes that a language makes correspond to what its reading says.
 use Rattle.std.specs.Prelude.{◌≡◌, ℕ, ◌+◌, ◌-◌, ◌*◌, ◌≤◌, List, [], ◌∷◌, ◌++◌, length, take, drop, true, false, if◌then◌else◌, Result, Ok, Err, Vec}
 use Rattle.std.specs.Result.{IfOk}
 use Rattle.std.specs.Global.{Global}
@@ -28,30 +28,30 @@ pub record View (N P K V S C : Type 0) : Type 1 where
   -- the context around a whole symbol, and the state before it
   pub around : C
   pub first : S
-  -- for which value a part stands, to which open rule what is kept belongs, and which state the language has
+  -- which value a part denotes, which open rule the kept state belongs to, and which state the language has
   pub IsPart : N → P → V → Type 0
   pub IsKept : N → K → Open S C → Type 0
   pub Holds : N → S → Type 0
   -- the new nodes are the old ones and more
   pub Grows : (old new : N) → Type 0
-  -- how many nodes there are, how many a rule may add still once its parts have so many values, and how many a symbol of
-  -- so many bytes may have
+  -- how many nodes there are, how many a rule may still add once n of its parts have values, and how many a symbol of n bytes
+  -- may have
   pub size : N → ℕ
   pub owes : Owes
   -- how many it may add after these parts, where no other part with a row comes or it is refused
   pub closes : (number : ℕ) → List P → ℕ
   pub most : (bytes : ℕ) → ℕ
-  -- what the language has written beside the nodes is paid for by so many bytes of the symbol
+  -- what the language has written beside the nodes is paid for by this many bytes of the symbol
   pub IsPaid : N → (bytes : ℕ) → Type 0
-  -- its lists, and which bytes of a token take memory beside them in a rule of this number
+  -- its lists, and which bytes of a token take memory besides them in a rule of this number
   pub lists : N → List Listed
   pub TakesMemory : (number : ℕ) → (own : List ℕ) → Type 0
 
--- how many nodes the rule of a frame may add still, after these parts
+-- how many nodes the rule of a frame may still add, after these parts
 abbrev pub owed_behind : {N P K V S C : Type 0} → View N P K V S C → Frame K → List P → ℕ
 owed_behind view frame parts = view.owes frame.rule (length parts - frame.base)
 
--- how many it may add still after the part that begins there
+-- how many it may still add after the part that begins there
 abbrev pub owed_next : {N P K V S C : Type 0} → View N P K V S C → Frame K → List P → ℕ
 owed_next view frame parts = view.owes frame.rule (length parts - frame.base + 1)
 
@@ -59,8 +59,8 @@ owed_next view frame parts = view.owes frame.rule (length parts - frame.base + 1
 abbrev pub values_at_once : (rowless : ℕ) → Forest → ℕ
 values_at_once rowless parts = if no_part_has_row parts then 0 else (values_in rowless (passed_by parts) + 1)
 
--- A rule that has these parts and closes in the step that begins it adds at most two nodes with what is added to the rule around
--- it, which may add so many before and after: where the rule closes, and where it is refused before.
+-- A rule that has these parts and closes in the step that begins it adds at most two nodes, together with what is added to the
+-- rule around it, by how much that may add before and after: where the rule closes, and where it is refused before.
 pub record AddTwo {N P K V S C : Type 0} (view : View N P K V S C) (before behind number : ℕ) (parts : Forest) : Type 0 where
   pub closed : (own : List P) → length own ≡ values_at_once (length view.reading.rowless) parts
       → before + view.owes number 0 + view.closes number own ≤ behind + view.owes number (length own) + 2
@@ -71,7 +71,7 @@ pub record IsLinking {N P K V S C : Type 0} (view : View N P K V S C) : Type 0 w
   pub sound : IsSound view.table
   -- a symbol has a row
   pub starts : view.table.may_be_empty 0 ≡ false
-  -- what stood for something stands for it still
+  -- what denoted something denotes it still
   pub part_stays : (old new : N) (part : P) (value : V) → view.Grows old new → view.IsPart old part value → view.IsPart new part value
   pub kept_stays : (old new : N) (kept : K) (rule : Open S C) → view.Grows old new → view.IsKept old kept rule → view.IsKept new kept rule
   -- what some bytes pay for, more bytes pay for
@@ -81,7 +81,7 @@ pub record IsLinking {N P K V S C : Type 0} (view : View N P K V S C) : Type 0 w
       → IfOk (view.reading.between rule known state) (λ next. length next.values ≡ length known)
   -- what the rules of a symbol's tree may add isn't more than the symbol may have
   pub few : (tree : Tree) → IsTree view.table (Kind 0) tree → row_count tree ≤ 4 * length (spell tree) + 4 → cost view.owes tree ≤ view.most (length (spell tree))
-  -- a rule adds at most two nodes, and where it closes no more than it may add still
+  -- a rule adds at most two nodes, and where it closes no more than it may still add
   pub two : (number held : ℕ) → view.owes number held ≤ 2
   pub closing : (number : ℕ) (own : List P) → view.closes number own ≤ view.owes number (length own)
   -- and so does one that closes in the step that begins it, together with the rule around it
@@ -89,13 +89,14 @@ pub record IsLinking {N P K V S C : Type 0} (view : View N P K V S C) : Type 0 w
       → Stands view.table s (length view.reading.rowless) around held from left → skipped left ≡ grown (branch rule taken parts) rest → closes_at_once parts ≡ true
       → AddTwo view (view.owes around.rule.number held) (view.owes around.rule.number (held + values_in (length view.reading.rowless) (passed_by left) + 1)) rule.number parts
 
--- the symbol can be read, and the language may add so many nodes
+-- the symbol can be read, and the language may add n nodes
 pub record HasRoom {N P K V S C : Type 0} (view : View N P K V S C) (s : List ℕ) (nodes : N) (more : ℕ) : Type 0 where
   pub fits : FitsSymbol s
   pub size : view.size nodes + more ≤ view.most (length s)
   pub paid : view.IsPaid nodes (length s)
 
--- The frame of code is that of an open rule of the symbol: so many values are known, and `left` are the parts that are left.
+-- The frame of code is that of an open rule of the symbol: the first n values are known, and `left` are the parts that are
+-- left.
 pub record IsInside {N P K V S C : Type 0} (view : View N P K V S C) (s : List ℕ) (nodes : N) (frame : Frame K) (own : List P)
     (rule : Open S C) (known : List V) (from : ℕ) (left : Forest) (state : S) : Type 0 where
   pub number : frame.rule ≡ rule.rule.number
@@ -130,7 +131,7 @@ pub record IsTokenRow (s : List ℕ) (row : Row) (t : Token) (place : ℕ) : Typ
   pub to : row.to ≡ row.from + length t.own
   pub own : take (row.to - row.from) (drop row.from s) ≡ t.own
 
--- what goes into the next part that has a row
+-- the inputs of the next part that has a row
 abbrev pub next_of : {V S C : Type 0} → Reading V S C → Open S C → (known : List V) → (from : ℕ) → (left : Forest) → S → Result (Next V S C) Refusal
 next_of reading rule known from left state = passed reading rule known from left state >>= λ p. reading.between rule p.known p.state
 
@@ -157,20 +158,20 @@ Begins {P = P} {V = V} {S = S} {C = C} view nodes lower parts (Ok kept) read =
     × (own : List P) × (parts ≡ lower ++ own) × AreAll (view.IsPart nodes) own begun.values
 Begins view nodes lower parts (Err e) read = Fails e read
 
--- the parts after the lower ones stand for what is read
+-- the parts after the lower ones denote what is read
 abbrev pub Takes : {N P K V S C : Type 0} → View N P K V S C → (nodes : N) → (lower parts : List P) → Result (Unit {0}) Refusal → Result (Found (List V) S) Refusal → Type 0
 Takes {P = P} {V = V} {S = S} view nodes lower parts (Ok done) read =
     (known : List V) × (state : S) × (read ≡ Ok (found known state)) × view.Holds nodes state
     × (own : List P) × (parts ≡ lower ++ own) × AreAll (view.IsPart nodes) own known
 Takes view nodes lower parts (Err e) read = Fails e read
 
--- the part stands for what is read
+-- the part denotes what is read
 abbrev pub Gives : {N P K V S C : Type 0} → View N P K V S C → (nodes : N) → Result P Refusal → Result (Found V S) Refusal → Type 0
 Gives {V = V} {S = S} view nodes (Ok part) read =
     (value : V) × (state : S) × (read ≡ Ok (found value state)) × view.IsPart nodes part value × view.Holds nodes state
 Gives view nodes (Err e) read = Fails e read
 
--- after the lower parts there is one part, which stands for what is read
+-- after the lower parts there is one part, which denotes what is read
 abbrev pub Puts : {N P K V S C : Type 0} → View N P K V S C → (nodes : N) → (lower parts : List P) → Result (Unit {0}) Refusal → Result (Found V S) Refusal → Type 0
 Puts {P = P} view nodes lower parts (Ok done) read = (part : P) × (parts ≡ lower ++ part ∷ []) × Gives view nodes (Ok part) read
 Puts view nodes lower parts (Err e) read = Fails e read
@@ -199,14 +200,14 @@ TakesToken {V = V} {S = S} {C = C} view s old new frame parts new_parts row resu
     → Takes view new (take frame.base parts) new_parts result
     (next_of view.reading around known from left state >>= taken_in view.reading t (skipped_from from left))
 
--- The frame's rule closes over its parts as the reading says: one part, which stands for what it means, takes their place.
+-- The frame's rule closes over its parts as the reading says: one part, which denotes what it means, takes their place.
 abbrev pub ClosesRule : {N P K V S C : Type 0} → View N P K V S C → (s : List ℕ) → (old new : N) → Frame K → (parts new_parts : List P) → Result (Unit {0}) Refusal → Type 0
 ClosesRule {V = V} {S = S} {C = C} view s old new frame parts new_parts result =
     (rule : Open S C) (known : List V) (from : ℕ) (left : Forest) (state : S)
     → IsInside view s old frame (drop frame.base parts) rule known from left state → row_count_all left ≡ 0
     → Puts view new (take frame.base parts) new_parts result (ended view.reading rule known from left state)
 
--- The nodes are the old ones and at most so many more as may be added less than before.
+-- The nodes are the old ones and new ones, at most as many as the allowance shrinks by.
 abbrev pub Adds : {N P K V S C : Type 0} → View N P K V S C → (old new : N) → (before after : ℕ) → Type 0
 Adds view old new before after = view.Grows old new × (view.size new + after ≤ view.size old + before)
 
@@ -218,7 +219,7 @@ AddsFew view old new frame parts = view.size new ≤ view.size old + view.closes
 abbrev pub Pays : {N P K V S C : Type 0} → View N P K V S C → (old new : N) → (at to : ℕ) → Type 0
 Pays view old new at to = view.IsPaid old at → view.IsPaid new to
 
--- the lists that a call of the language puts something on: that of the parts, and its own
+-- the lists to which a call of the language adds: that of the parts, and its own
 abbrev pub lists_with : {N P K V S C : Type 0} → View N P K V S C → N → Vec P Global → List Listed
 lists_with view nodes parts = one_by_one parts ∷ view.lists nodes
 
@@ -238,7 +239,7 @@ TokenNeedsRoom view s old new frame parts new_parts row result =
     OnlyForRoom (view.TakesMemory frame.rule (take (row.to - row.from) (drop row.from s)))
     (lists_with view old parts) (lists_with view new new_parts) result
 
--- A rule is in the symbol whose next part with a row is a token that takes memory of its own.
+-- The symbol has a rule whose next part with a row is a token that takes memory of its own.
 pub record TokenTakesMemory {N P K V S C : Type 0} (view : View N P K V S C) (s : List ℕ) : Type 0 where
   pub rule : Open S C
   pub held : ℕ
@@ -250,7 +251,7 @@ pub record TokenTakesMemory {N P K V S C : Type 0} (view : View N P K V S C) (s 
   pub left_is : skipped left ≡ grown (token t) rest
   pub apart : view.TakesMemory rule.rule.number t.own
 
--- the lists that a move of the driver puts something on: that of the frames, and those of the language's calls
+-- the lists to which a move of the driver adds: that of the frames, and those of the language's calls
 abbrev pub all_lists : {N P K V S C : Type 0} → View N P K V S C → N → Vec (Frame K) Global → Vec P Global → List Listed
 all_lists view nodes frames parts = one_by_one frames ∷ lists_with view nodes parts
 

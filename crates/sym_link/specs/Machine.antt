@@ -6,8 +6,8 @@ use Rattle.sym_shape.specs.Tree.{Tree, Forest, branch, empty, token, fixed, noth
 use Rattle.sym_link.specs.Reading.{Found, Open, Reading, ◌>>=◌}
 use Rattle.sym_link.specs.Unfold.{found, standing, unfold_forest}
 
--- An open rule: the parts that are left, the place from which they are, and the values of the parts so far of the rule
--- around it.
+-- An open rule: the parts that are left, the place that they begin at, and the values of the parts so far of the rule around
+-- it.
 pub record Frame (V S C : Type 0) : Type 0 where
   pub rule : Open S C
   pub from : ℕ
@@ -26,7 +26,7 @@ frame rule from left outer = record { rule = rule; from = from; left = left; out
 abbrev pub machine : {V S C : Type 0} → List (Frame V S C) → (known : List V) → S → Machine V S C
 machine frames known state = record { frames = frames; known = known; state = state }
 
--- what will come of the open rules
+-- the result for the open rules
 abbrev pub outcome_of : {V S C : Type 0} → Reading V S C → List (Frame V S C) → (known : List V) → S → Result (Found (List V) S) Refusal
 outcome_of reading [] known state = Ok (found known state)
 outcome_of reading (top ∷ frames) known state =
@@ -37,7 +37,7 @@ outcome_of reading (top ∷ frames) known state =
 abbrev pub outcome : {V S C : Type 0} → Reading V S C → Machine V S C → Result (Found (List V) S) Refusal
 outcome reading m = outcome_of reading m.frames m.known m.state
 
--- A tree begins after these values: its rule opens, or its value is there at once.
+-- A tree begins after these values: its rule opens, or its value is known at once.
 abbrev pub entered : {V S C : Type 0} → Reading V S C → C → (place : ℕ) → Tree → List (Frame V S C) → (known : List V) → S → Result (Machine V S C) Refusal
 entered reading context place (branch rule taken parts) frames known state =
     reading.begin (standing rule taken place context state) parts
@@ -47,7 +47,7 @@ entered reading context place (fixed byte) frames known state = Ok (machine fram
 entered reading context place (token t) frames known state =
     reading.token place t state >>= λ one. Ok (machine frames (known ++ one.value ∷ []) one.state)
 
--- the parts of a rule that are left after the next ones that have no row, where they are, and what is known and the state there
+-- the remaining parts of a rule after the next ones that have no row, their place, and what is known and the state there
 pub record Passed (V S : Type 0) : Type 0 where
   pub known : List V
   pub from : ℕ
@@ -62,7 +62,7 @@ passed reading rule known from (grown (fixed byte) rest) state =
     reading.between rule known state >>= λ next. passed reading rule (next.values ++ reading.rowless) (from + 1) rest next.state
 passed reading rule known from left state = Ok (record { known = known; from = from; left = left; state = state })
 
--- what a rule means whose parts that are left have no row
+-- what a rule means whose remaining parts have no row
 abbrev pub ended : {V S C : Type 0} → Reading V S C → Open S C → (known : List V) → (from : ℕ) → (left : Forest) → S → Result (Found V S) Refusal
 ended reading rule known from left state = passed reading rule known from left state >>= λ p. reading.close rule p.known p.state
 
@@ -81,7 +81,7 @@ step_of reading (top ∷ frames) known state =
     passed reading top.rule known top.from top.left state
     >>= λ p. advanced reading top frames p.known p.from p.left p.state
 
--- the rows that are left, the next of which has this number
+-- the rows that are left, the next having this number
 abbrev pub pending : {V S C : Type 0} → List (Frame V S C) → (number : ℕ) → List Row
 pending [] number = []
 pending (top ∷ frames) number = rows_of_all top.left top.from number ++ pending frames (number + row_count_all top.left)

@@ -1,9 +1,9 @@
--- How many nodes the rules of a tree may add, where a rule says how many it may add still.
+-- How many nodes the rules of a tree may add, where a rule says how many it may still add.
 use Rattle.std.specs.Prelude.{ℕ, ◌+◌, List, [], ◌∷◌, length}
 use Rattle.sym_shape.specs.Tree.{Tree, Forest, branch, empty, token, fixed, nothing, grown}
 use Rattle.sym_link.specs.Machine.{Frame}
 
--- how many nodes the rule of a number may add still, once its parts have so many values
+-- how many nodes the rule of a number may still add, once n of its parts have values
 abbrev pub Owes : Type 0
 Owes = (number held : ℕ) → ℕ
 
@@ -19,7 +19,7 @@ abbrev mutual
   cost_all owes nothing = 0
   cost_all owes (grown tree rest) = cost owes tree + cost_all owes rest
 
--- What open rules may add still, of the innermost of which so many values are known: they and the parts that they have left.
+-- What open rules may still add, with n values of the innermost known: they and the parts that they have left.
 abbrev pub owed : {V S C : Type 0} → Owes → List (Frame V S C) → (held : ℕ) → ℕ
 owed owes [] held = 0
 owed owes (top ∷ frames) held = owes top.rule.rule.number held + cost_all owes top.left + owed owes frames (length top.outer + 1)

@@ -10,7 +10,7 @@ pub record Listed : Type 0 where
   pub held : ℕ
   pub most : ℕ
 
--- a list on which one item at a time is put
+-- a list that takes one item at a time
 abbrev pub one_by_one : {A : Type 0} → Vec A Global → Listed
 one_by_one items = record { room = vec_capacity items; held = length items.items; most = 1 }
 

@@ -11,7 +11,7 @@ no_part_has_row (grown (fixed byte) rest) = no_part_has_row rest
 no_part_has_row (grown (token t) rest) = false
 no_part_has_row (grown (branch rule taken parts) rest) = false
 
--- A rule with such parts closes in the step that begins it: none of them has a row, or a token alone has one.
+-- A rule with such parts closes in the step that begins it: none of them has a row, or only a token has one.
 abbrev pub closes_at_once : Forest → Bool
 closes_at_once nothing = true
 closes_at_once (grown empty rest) = closes_at_once rest
@@ -31,8 +31,8 @@ abbrev mutual
   link_steps_all nothing = 0
   link_steps_all (grown tree rest) = link_steps tree + link_steps_all rest
 
--- the steps that are left: between two steps, or within the one in which the innermost rule begins, after which there are at most so
--- many nodes
+-- the steps that are left: between two steps, or within the one in which the innermost rule begins, which ends with at most n
+-- nodes
 pub data Due : Type 0 where
   waiting : ℕ → Due
   starting : (steps most : ℕ) → Due
@@ -42,19 +42,19 @@ abbrev pub steps_ahead : {V S C : Type 0} → List (Frame V S C) → ℕ
 steps_ahead [] = 0
 steps_ahead (top ∷ frames) = link_steps_all top.left + 1 + steps_ahead frames
 
--- so many steps are left with these open rules
+-- n steps are left with these open rules
 abbrev pub IsDue : {V S C : Type 0} → Due → List (Frame V S C) → Type 0
 IsDue (waiting n) frames = steps_ahead frames ≡ n
 IsDue (starting n most) [] = ⊥
 IsDue (starting n most) (top ∷ frames) = (if closes_at_once top.left then 0 else (link_steps_all top.left + 1)) + steps_ahead frames ≡ n
 
--- where a rule closes, so many steps are left after it
+-- where a rule closes, n steps are left after it
 abbrev pub CountsClose : Due → ℕ → Type 0
 CountsClose (waiting m) n = m ≡ n + 1
 CountsClose (starting m most) n = m ≡ n
 
--- Where a token is taken, after which so many rows are in its rule, so many steps are left. One that is alone in a rule that
--- begins takes none, and the rule is then still to close.
+-- Where a token is taken, with n rows of its rule after it, these steps are left. The only token of a rule that begins takes
+-- none, and the rule is then still to close.
 abbrev pub CountsToken : Due → (behind : ℕ) → ℕ → Type 0
 CountsToken (waiting m) behind n = m ≡ n + 1
 CountsToken (starting m most) behind n = (n ≡ m + 1) × (behind ≡ 0)

@@ -1,4 +1,4 @@
--- How many nodes are made of a symbol: a reading that counts them beside what it reads.
+-- How many nodes are made of a symbol: a reading that counts them besides what it reads.
 use Rattle.std.specs.Prelude.{◌≡◌, ℕ, ◌+◌, List, Ok}
 use Rattle.sym_shape.specs.Tree.{Tree, Forest, branch, empty, token, fixed, nothing, grown}
 use Rattle.sym_link.specs.Reading.{Open, Reading, ◌>>=◌}
@@ -13,7 +13,7 @@ pub record Tally (S : Type 0) : Type 0 where
 abbrev pub tally : {S : Type 0} → S → ℕ → Tally S
 tally state nodes = record { state = state; nodes = nodes }
 
--- How many nodes a rule makes, whose parts so far have these values: before its next part, and where it closes.
+-- How many nodes a rule whose parts so far have these values makes: before its next part, and where it closes.
 pub record Makes (V S C : Type 0) : Type 0 where
   pub before : Open S C → (known : List V) → S → ℕ
   pub at_end : Open S C → (known : List V) → S → ℕ
@@ -36,7 +36,7 @@ tallied reading makes = record {
       >>= λ one. Ok (found one.value (tally one.state (now.nodes + makes.at_end (untallied rule) known now.state)));
 }
 
--- The same language, whose nodes are as many as its reading makes.
+-- The same language, with as many nodes as its reading makes.
 abbrev pub tallied_view : {N P K V S C : Type 0} → View N P K V S C → Makes V S C → View N P K V (Tally S) C
 tallied_view view makes = record {
   table = view.table;
@@ -56,7 +56,7 @@ tallied_view view makes = record {
   TakesMemory = view.TakesMemory;
 }
 
--- ## A language that makes nodes where rules close alone, as many as the rule's number says
+-- ## A language that makes nodes only where rules close, as many as the rule's number says
 
 abbrev pub closing_makes : {V S C : Type 0} → (number : ℕ → ℕ) → Makes V S C
 closing_makes number = record { before = λ rule known state. 0; at_end = λ rule known state. number rule.rule.number }

@@ -14,13 +14,13 @@ use Rattle.sym_link.specs.Machine.{Passed, passed}
 use Rattle.sym_link.specs.Driving.{AreAll, Fails}
 use Rattle.sym_link.specs.Linking.{View, IsLinking, IsRuleRow, IsTokenRow, Gives, Puts, AddsFew}
 
--- how many parts without a row come first
+-- how many parts without a row are first
 abbrev pub skips : Forest → ℕ
 skips (grown empty rest) = 1 + skips rest
 skips (grown (fixed byte) rest) = 1 + skips rest
 skips left = 0
 
--- A rule of the grammar is at its place in the symbol, where the byte is that it takes.
+-- A rule of the grammar is at its place in the symbol, which holds the byte that it takes.
 pub record IsThere {S C : Type 0} (g : Table) (s : List ℕ) (rule : Open S C) : Type 0 where
   pub kind : ℕ
   pub is_kind : kind < g.kinds
@@ -45,7 +45,7 @@ pub record IsOpenAt {N P K V S C : Type 0} (view : View N P K V S C) (s : List �
   pub state : S
   pub at : IsAt view s nodes frame (drop frame.base parts) rule known state
 
--- What goes into the next part is what is read: its context, the values so far, and the state.
+-- The inputs of the next part are what is read: its context, the values so far, and the state.
 abbrev pub Goes : {N P K V S C : Type 0} → View N P K V S C → (IsContext : N → K → C → Type 0) → (nodes : N) → (lower parts : List P)
     → Result K Refusal → Result (Next V S C) Refusal → Type 0
 Goes {P = P} {V = V} {S = S} {C = C} view IsContext nodes lower parts (Ok context) read =
@@ -53,7 +53,8 @@ Goes {P = P} {V = V} {S = S} {C = C} view IsContext nodes lower parts (Ok contex
     × (own : List P) × (parts ≡ lower ++ own) × AreAll (view.IsPart nodes) own next.values
 Goes view IsContext nodes lower parts (Err e) read = Fails e read
 
--- Before the next part of the frame's rule at most so many nodes are added as it may add less after those parts.
+-- The nodes added before the next part of the frame's rule are at most the difference of what the rule may still add before and
+-- after.
 abbrev pub AddsBefore : {N P K V S C A : Type 0} → View N P K V S C → (old new : N) → Frame K → (parts own : List P) → Result A Refusal → Type 0
 AddsBefore view old new frame parts own (Ok done) = view.size new + view.closes frame.rule own ≤ view.size old + view.closes frame.rule (drop frame.base parts)
 AddsBefore view old new frame parts own (Err e) = AddsFew view old new frame parts
@@ -65,8 +66,8 @@ GoesOn {V = V} {S = S} {C = C} view s IsContext old new frame parts new_parts re
     (rule : Open S C) (known : List V) (state : S) → IsAt view s old frame (drop frame.base parts) rule known state
     → Goes view IsContext new (take frame.base parts) new_parts result (view.reading.between rule known state)
 
--- Some parts without a row of the frame's rule are passed, of those before the part with this number. What comes of
--- them all is known.
+-- Some parts without a row of the frame's rule are passed, of those before the part with this number. The result of them all is
+-- known.
 pub record Passing {N P K V S C : Type 0} (view : View N P K V S C) (s : List ℕ) (nodes : N) (frame : Frame K) (lower parts : List P) (to : ℕ)
     (whole : Result (Passed V S) Refusal) : Type 0 where
   pub rule : Open S C
@@ -85,7 +86,7 @@ abbrev pub PassesOne : {N P K V S C : Type 0} → View N P K V S C → (s : List
 PassesOne view s nodes frame lower parts to whole (Ok done) = Passing view s nodes frame lower parts to whole
 PassesOne view s nodes frame lower parts to whole (Err e) = Fails e whole
 
--- All are passed, and the parts stand for the values there.
+-- All are passed, and the parts denote the values there.
 abbrev pub Passes : {N P K V S C : Type 0} → View N P K V S C → (nodes : N) → Frame K → (lower parts : List P) → Result (Unit {0}) Refusal → Result (Passed V S) Refusal → Type 0
 Passes {P = P} {V = V} {S = S} view nodes frame lower parts (Ok done) whole =
     (p : Passed V S) × (whole ≡ Ok p) × view.Holds nodes p.state × (take frame.base parts ≡ lower) × (frame.base ≤ length parts)
@@ -124,11 +125,11 @@ abbrev pub IsTaken : {N P K V S C : Type 0} → View N P K V S C → (s : List �
 IsTaken {S = S} view s old new row result =
     (state : S) (t : Token) (place : ℕ) → IsTokenRow s row t place → view.Holds old state → Gives view new result (view.reading.token place t state)
 
--- the rule of the grammar that has this number, if any, has so many parts
+-- the rule of the grammar that has this number, if any, has n parts
 abbrev pub IsCount : Table → (number count : ℕ) → Type 0
 IsCount g number count = (kind : ℕ) (rule : Rule) (taken : List ℕ) → kind < g.kinds → TakesRule g kind rule taken → rule.number ≡ number → length (symbols_of rule) ≡ count
 
--- where so many parts of that rule are passed, so many of them come before the next one that has a row, after which there are so many
+-- once this many parts of that rule are passed, this many more precede the next one that has a row, and this many follow that
 abbrev pub IsAhead : Table → (number held after ahead : ℕ) → Type 0
 IsAhead g number held after ahead =
     (kind : ℕ) (rule : Rule) (taken : List ℕ) → kind < g.kinds → TakesRule g kind rule taken → rule.number ≡ number

@@ -11,7 +11,7 @@ use std::alloc::Global;
 use sym_core::{Refusal, Span};
 use sym_shape::rule::Row;
 
-/// What a part stands for.
+/// What a part denotes.
 #[derive(Clone, Copy, Debug, PartialEq, Eq)]
 pub enum Part {
     /// A token, which means the number of its bytes.
@@ -142,7 +142,7 @@ impl Linking for Counts {
     ghost laws = { counting_laws };
 }
 
-/// The number that a part stands for.
+/// The number that a part denotes.
 fn number_of(nodes: &Counts, part: Part) -> usize
     requires { (value : ℕ) × IsNumber nodes.now part value }
     ensures { (value : ℕ) → IsNumber nodes.now part value → result ≡ value }

@@ -13,7 +13,7 @@ use std::alloc::Global;
 use sym_core::Refusal;
 use sym_shape::rule::{Row, TOKEN};
 
-/// The frame of the rule that is open innermost.
+/// The frame of the innermost open rule.
 #[inline(always)]
 fn innermost<K: Copy>(frames: &[Frame<K>]) -> Option<&Frame<K>>
     ensures some { IfSome result (λ frame. EndsWith frames.now frame.now) }
@@ -25,7 +25,7 @@ fn innermost<K: Copy>(frames: &[Frame<K>]) -> Option<&Frame<K>>
     }
 }
 
-/// The frame of the rule that is open innermost, where one is.
+/// The frame of the innermost open rule, if there is one.
 #[inline(always)]
 fn top<K: Copy>(frames: &[Frame<K>]) -> &Frame<K>
     requires { 0 < length frames.now }
@@ -34,7 +34,7 @@ fn top<K: Copy>(frames: &[Frame<K>]) -> &Frame<K>
     &frames[frames.len() - 1]
 }
 
-/// Takes the frame of the rule that is open innermost off the others.
+/// Removes the frame of the innermost open rule.
 fn take_off<K: Copy>(frames: &mut Vec<Frame<K>>)
     ensures items { frames.new.items ≡ take (length frames.old.items - 1) frames.old.items }
     ensures keeps { vec_capacity frames.old ≤ vec_capacity frames.new }
@@ -42,7 +42,7 @@ fn take_off<K: Copy>(frames: &mut Vec<Frame<K>>)
     let _frame = frames.pop();
 }
 
-/// Closes the innermost rule. Its frame is then to be taken off.
+/// Closes the innermost rule. Its frame is then to be removed.
 #[inline(always)]
 fn leave<L: Linking>(
     language: &mut L,
@@ -61,7 +61,7 @@ fn leave<L: Linking>(
     language.close(symbol, frame, parts)
 }
 
-/// Takes the token of a rule that has begun, if its rows are a token alone. It answers the number of the next row.
+/// Takes the token of a rule that has begun, if a token is its only row. It answers the number of the next row.
 #[inline(always)]
 fn take_alone<L: Linking>(
     language: &mut L,
@@ -90,10 +90,10 @@ fn take_alone<L: Linking>(
     Ok(next)
 }
 
-/// Pushes the new rule's frame. A rule that has no row of its own closes at once, and one that has
-/// a token alone takes it and closes. It answers the number of the next row.
+/// Pushes the new rule's frame. A rule that has no row of its own closes at once, and one whose only row is a token takes it
+/// and closes. It answers the number of the next row.
 // Closes in one place: `#[inline(always)]` holds only up to a size that counts what is inlined in turn. With two places this
-// stayed a call with four productions more in Rust's loop, and the filter took 19 % more instructions.
+// stayed a call with four more productions in Rust's loop, and the filter took 19 % more instructions.
 #[inline(always)]
 fn close_lone_token<L: Linking>(
     language: &mut L,
@@ -292,8 +292,8 @@ impl<L: Linking> Driver<L> {
         self.refused = Some(refusal);
     }
 
-    /// Takes the next row, with the token that is all its rule has, or closes the innermost rule. That is counted.
-    /// It answers whether nothing was left to do, and then does nothing and counts nothing.
+    /// Takes the next row, with the token that is all its rule has, or closes the innermost rule. That is counted. Answers
+    /// whether nothing was left to do; then it does nothing and counts nothing.
     ///
     /// # Errors
     ///

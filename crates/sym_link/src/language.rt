@@ -1,27 +1,27 @@
-// What a language tells the driver.
+// What a language gives the driver.
 //
 // A language has a reading (`specs/Reading.antt`), which says what a tree means with no word of rows, frames or nodes. The
-// driver goes over the rows, and the language makes nodes at four moments: the root begins, a rule begins in another
-// one, a token is taken, and a rule closes. An instance gives a `view` (`specs/Linking.antt`), and shows of each moment
-// (`opens`, `takes`, `closes`): if the frame, the parts after `frame.base` and the nodes stand for an open rule of the
-// reading, for the values of its parts so far and for the state, then after the call they stand for what the reading
-// says, or the refusal is the reading's. A refusal for want of memory says nothing of the symbol.
+// driver goes over the rows, and the language makes nodes at four moments: the root begins, a rule begins in another one, a
+// token is taken, and a rule closes. An instance gives a `view` (`specs/Linking.antt`), and shows of each moment (`opens`,
+// `takes`, `closes`): if the frame, the parts after `frame.base` and the nodes denote an open rule of the reading, the values
+// of its parts so far and the state, then after the call they denote what the reading says, or the refusal is the reading's. A
+// refusal for want of memory says nothing of the symbol.
 //
 // - At each moment but the root's a rule is open at the frame (`IsOpen`), so the language may go by what the frame and its
-//   parts stand for.
-// - The premises of a moment are one record, `IsInside`. A language that gives no value to parts without a row uses of it
-//   `kept`, `parts`, `holds` and `place` alone. Where the language is one by meaning (`specs/Cases.antt`), `plain_next` and
-//   `plain_ended` in `proofs/Cases.antt` bring the reading's side to what the next part goes into, and to what the rule means.
+//   parts denote.
+// - The premises of a moment are one record, `IsInside`. A language that gives no value to parts without a row uses of it only
+//   `kept`, `parts`, `holds` and `place`. Where the language is one by meaning (`specs/Cases.antt`), `plain_next` and
+//   `plain_ended` in `proofs/Cases.antt` reduce the reading's side to the inputs of the next part, and to what the rule means.
 //   `stands` says which rule of the grammar it is and which parts it has passed, for a language that wants to know.
-// - `adds`: the nodes are the old ones and at most so many more. `Grows` is what must be kept, so that parts and frames stand
-//   for what they stood for (the laws `part_stays`, `kept_stays`). `few`: so it is of a call that is refused, too. With the laws
-//   `two` and `two_at_once` a step of the driver adds at most two nodes.
+// - `adds`: the nodes are the old ones and at most n more. `Grows` is what must be kept, so that parts and frames denote what
+//   they denoted (the laws `part_stays`, `kept_stays`). `few`: the same holds of a call that is refused. With the laws `two`
+//   and `two_at_once` a step of the driver adds at most two nodes.
 // - `pays`: what the language writes beside its nodes is paid for by bytes of the symbol. Bytes up to `at` have paid so far,
 //   where `at` is a place that no row so far lies after. A token pays with the bytes up to its end; as the first part with a
 //   row of its rule (then the frame has no parts, if parts without a row have no value) with those from the rule's place on.
 //   Before each call the bytes of the whole symbol have paid (`room`), so `IsPaid` may hold other invariants, too.
 // - `full`: `Memory` is answered only where a list, the language's or that of the parts, had no room for what was put on it
-//   (`lists`), or for a token that takes memory of its own (`TakesMemory`). With `keeps` this goes on over calls.
+//   (`lists`), or for a token that takes memory of its own (`TakesMemory`). With `keeps` this persists over calls.
 // - `laws`: see `IsLinking`.
 //
 // An impl writes the clauses of its methods out, with its own view in the place of `view`.
@@ -33,9 +33,9 @@ ghost use Rattle.sym_link.specs.Room.{KeepRoom, OnlyForRoom};
 use sym_core::Refusal;
 use sym_shape::rule::Row;
 
-/// A rule that is open: where its parts begin, its place, the row after it, what the language keeps for it, and its number.
+/// An open rule: where its parts begin, its place, the row after it, what the language keeps for it, and its number.
 ///
-/// The moments of a language have it by reference. By value it was taken apart and put together again at each call, which took
+/// The moments of a language take it by reference. By value it was taken apart and put together again at each call, which took
 /// 8 % of the instructions over real C++ symbols. Its fields leave no gap in memory where what is kept leaves none: 40 bytes
 /// for C++.
 #[derive(Clone, Copy, Debug, PartialEq, Eq)]
@@ -49,7 +49,7 @@ pub struct Frame<K> {
 
 /// A language over the nodes that it has made so far.
 pub trait Linking {
-    /// What a part of a symbol stands for, in terms of nodes.
+    /// What a part of a symbol denotes, in terms of nodes.
     type Part: Copy;
 
     /// What the language keeps for an open rule.
@@ -61,7 +61,7 @@ pub trait Linking {
 
     ghost Context: { Type 0 };
 
-    /// How the nodes are what the language's reading says, in a symbol.
+    /// How the nodes correspond to what the language's reading says, in a symbol.
     ghost view: { List ℕ → View Self Self.Part Self.Kept Value State Context };
 
     /// The rule of the whole symbol begins.

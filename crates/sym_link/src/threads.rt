@@ -1,7 +1,7 @@
 // A language in which each part has one value, also one with no row, and something is done before each part.
 //
-// Such a language says what is done before a part, whatever part that is, and its code need not know of parts without a
-// row: `pass` does what comes before each of those, as soon as a part with a row is there, or the rule closes.
+// Such a language says what is done before a part, whatever part that is, and its code need not know of parts without a row:
+// `pass` does what precedes each of those, as soon as the rule reaches a part with a row, or closes.
 //
 // Where something is done before a part, or a rule closes, the frame and the parts are those of an open rule (`IsOpenAt`).
 
@@ -19,7 +19,7 @@ use sym_shape::rule::Row;
 
 /// A language over the nodes that it has made so far, in which something is done before each part.
 pub trait Threading {
-    /// What a part of a symbol stands for, in terms of nodes.
+    /// What a part of a symbol denotes, in terms of nodes.
     type Part: Copy;
 
     /// What the language keeps for an open rule, and what holds around its next part.
@@ -38,7 +38,7 @@ pub trait Threading {
     // what a part without a row is
     ghost absent: { Self.Part };
 
-    /// What a part without a row stands for.
+    /// What a part without a row denotes.
     fn nothing(&self) -> Self::Part
         ensures is { result ≡ absent }
         ensures stands { (s : List ℕ) → AreAll ((view s).IsPart self.now) (result ∷ []) (view s).reading.rowless };
@@ -61,7 +61,7 @@ pub trait Threading {
         ensures keeps { KeepsRoom (view symbol.now) self.old self.new parts.old parts.new }
         ensures full { NeedsRoom (view symbol.now) self.old self.new parts.old parts.new result };
 
-    /// The rule of a row begins, around which this holds.
+    /// The rule of a row begins, in these surroundings.
     fn begin(
         &mut self,
         symbol: &[u8],
@@ -96,7 +96,7 @@ pub trait Threading {
         ensures keeps { KeepsRoom (view symbol.now) self.old self.new parts.old parts.new }
         ensures full { NeedsRoom (view symbol.now) self.old self.new parts.old parts.new result };
 
-    /// What a token stands for.
+    /// What a token denotes.
     fn text(&mut self, symbol: &[u8], row: Row) -> Result<Self::Part, Refusal>
         requires from { row.from ≤ row.to }
         requires to { row.to ≤ length symbol.now }
@@ -111,8 +111,8 @@ pub trait Threading {
     fn count(&self, rule: u16) -> usize
         ensures { (s : List ℕ) → IsCount (view s).table rule result };
 
-    /// How many parts of the rule with a number come before the next one that has a row, where so many have begun, and so
-    /// many come after it.
+    /// How many parts of the rule with a number are before the next one that has a row, once this many have begun, and how many
+    /// are after it.
     fn ahead(&self, rule: u16, held: usize, after: u8) -> usize
         ensures { (s : List ℕ) → IsAhead (view s).table rule held after result };
 
@@ -146,7 +146,7 @@ fn pass_one<L: Threading>(
     Ok(())
 }
 
-/// Passes the parts without a row of the frame's rule that come before the part with this number.
+/// Passes the parts without a row of the frame's rule that precede the part with this number.
 #[inline(always)]
 pub fn pass<L: Threading>(
     language: &mut L,

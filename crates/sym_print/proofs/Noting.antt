@@ -1,4 +1,4 @@
--- What is noted stays so while entries are taken.
+-- What is noted still holds while entries are taken.
 use Rattle.std.proofs.Common.{◌≡◌, ℕ, ◌+◌, ◌-◌, ◌<◌, ◌≤◌, Some, List, [], ◌∷◌, ◌++◌, length, take, drop, reverse, refl, sym, ap, ◌∙◌, subst, append_assoc, append-nil, arith, inl, inr, ◌⊎◌, ⊎_elim}
 use Rattle.std.proofs.lemmas.List.{drop-append-le, length-append, length-drop, take-append-le, take_all}
 use Rattle.std.proofs.Math.Numerals.{lt_of_le_of_ne}
@@ -179,7 +179,7 @@ module _ {C : Type 0} (unshared : Item C → Unshared) (bytes_of : Part C → Li
       (All-weaker (IsBegun unshared bytes_of stack text spent taken) (λ b. b.below ≤ length stack) (λ b i. i.place) notes.begun.items h.begun)
       (subst (λ k. EndsAt k notes.begun.items → ⊥) is unmet)
 
-  -- a text was written and taken away
+  -- a text was written and removed
   pub moves-text : (stack new : List (Part C)) (next : Part C) (text written : List ℕ) (spent paid taken counted : ℕ) → IsNext stack next → IsText next
       → new ≡ take (length stack - 1) stack → written ≡ text ++ bytes_of next → paid ≡ spent + length (bytes_of next) → counted ≡ taken + 1 → 0 < length (bytes_of next)
       → Moves stack new text written spent paid taken counted
@@ -197,7 +197,7 @@ module _ {C : Type 0} (unshared : Item C → Unshared) (bytes_of : Part C → Li
     few = omega (arith, pays, counts);
   }
 
-  -- the text of an item was written again and the item taken away
+  -- the text of an item was written again and the item was removed
   pub moves-again : (stack new : List (Part C)) (note : Note C) (i : Item C) (text written : List ℕ) (spent paid taken counted : ℕ) → IsNext stack (Sub i) → note.item ≡ i → IsNote unshared text note
       → new ≡ take (length stack - 1) stack → written ≡ text ++ text_of (unshared note.item) → paid ≡ spent + note.cost → counted ≡ taken + note.steps
       → Moves stack new text written spent paid taken counted

@@ -31,7 +31,7 @@ module _ {C : Type 0} where
       let one : parts ≡ next ∷ [] = put ∙ ap (λ xs. xs ++ next ∷ []) empty in
       ap (λ xs. left ++ reverse xs) one ∙ sym popped
 
-  -- it may come where all may
+  -- it may be asked for where all may
   pub next_may_come : (P : Part C → Type 0) (stack : List (Part C)) (next : Part C) → All P stack → IsNext stack next → P next
   next_may_come P stack next all h =
       subst P (get_or_from_slice_get stack (length stack - 1) next next h)
@@ -43,11 +43,11 @@ module _ {C : Type 0} where
       subst (All P) (sym (reverse-append (x ∷ []) xs))
       (All-push P (reverse xs) x (All-reverse P xs (All-tail P x xs all)) (All-head P x xs all))
 
-  -- all that stands on the stack may come, once an item's parts are in its place
+  -- all that is on the stack may be asked for, once an item's parts are in its place
   pub All-visit : (P : Part C → Type 0) (stack parts : List (Part C)) → All P stack → All P parts → All P (take (length stack - 1) stack ++ reverse parts)
   All-visit P stack parts old new = All-append P (take (length stack - 1) stack) (reverse parts) (All-take P (length stack - 1) stack old) (All-reverse P parts new)
 
-  -- the same, where the item was taken from the stack before
+  -- likewise, where the item was taken from the stack before
   pub All-turn : (P : Part C → Type 0) (held below after left : List (Part C)) (i : Item C) → held ≡ below ++ Sub i ∷ [] → after ≡ below ++ reverse left
       → All P held → All P left → All P after
   All-turn P held below after left i was is old new =
@@ -179,7 +179,7 @@ module _ {C : Type 0} (unshared : Item C → Unshared) (bytes_of : Part C → Li
   unfolding count
   steps_of_next stack next h = omega (arith, ap count (next_is_last stack next h), steps_of_stack-append (take (length stack - 1) stack) (next ∷ []))
 
-  -- an item's parts in its place, of which the first may be written already, print what it does
+  -- an item's parts in its place, the first of them possibly written already, print what it does
   pub text_of_visit : (stack parts left : List (Part C)) (i : Item C) (old new : List ℕ) → IsNext stack (Sub i) → unshared i ≡ joined unshared bytes_of parts
       → new ++ text_of (joined unshared bytes_of left) ≡ old ++ text_of (joined unshared bytes_of parts)
       → new ++ text_of_stack unshared bytes_of (take (length stack - 1) stack ++ reverse left) ≡ old ++ text_of_stack unshared bytes_of stack
@@ -206,7 +206,7 @@ module _ {C : Type 0} (unshared : Item C → Unshared) (bytes_of : Part C → Li
   steps_of_visit stack parts left i old new h e paid =
       omega (arith, paid, steps_of_stack-append (take (length stack - 1) stack) (reverse left), steps_of_stack-reverse left, ap steps_of_parts e, steps_of_next stack (Sub i) h)
 
-  -- the same three, where the item was taken from the stack before
+  -- likewise for all three, where the item was taken from the stack before
   pub text_of_turn : (held below after parts left : List (Part C)) (i : Item C) (old new whole : List ℕ) → held ≡ below ++ Sub i ∷ [] → after ≡ below ++ reverse left
       → unshared i ≡ joined unshared bytes_of parts → new ++ text_of (joined unshared bytes_of left) ≡ old ++ text_of (joined unshared bytes_of parts)
       → old ++ text_of_stack unshared bytes_of held ≡ whole → new ++ text_of_stack unshared bytes_of after ≡ whole
@@ -270,7 +270,7 @@ module _ {C : Type 0} (unshared : Item C → Unshared) (bytes_of : Part C → Li
   steps_of_text (Sub i) h = elim h [ ]
   steps_of_text _ h = refl
 
-  -- a byte text that is written is in the text and no more above the stack
+  -- a byte text that is written is in the text and no longer above the stack
   pub text_of_put : (held below : List (Part C)) (part : Part C) (old new whole : List ℕ) → held ≡ below ++ part ∷ [] → IsText part → new ≡ old ++ bytes_of part
       → old ++ text_of_stack unshared bytes_of held ≡ whole → new ++ text_of_stack unshared bytes_of below ≡ whole
   unfolding shown one
@@ -309,7 +309,7 @@ module _ {C : Type 0} (unshared : Item C → Unshared) (bytes_of : Part C → Li
   unfolding price
   part_too_dear held below part limit spent was dear = omega (arith, ap price was, cost_of_stack-append below (part ∷ []), spends-le part, dear)
 
-  -- a byte text, once written, is in the text and no more on the stack
+  -- a byte text, once written, is in the text and no longer on the stack
   pub text_of_write : (stack left : List (Part C)) (next : Part C) (text written own : List ℕ)
       → IsNext stack next → IsText next → left ≡ take (length stack - 1) stack → own ≡ bytes_of next → written ≡ text ++ own
       → written ++ text_of_stack unshared bytes_of left ≡ text ++ text_of_stack unshared bytes_of stack

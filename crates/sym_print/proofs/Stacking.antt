@@ -11,7 +11,7 @@ use Rattle.sym_print.specs.Joined.{joined, IsText}
 use Rattle.sym_print.specs.Stacked.{Stacked}
 use Rattle.sym_print.proofs.Building.{then-bytes}
 
--- one part more is above the others
+-- one more part is above the others
 above : {X : Type 0} (below added old new : List X) (x : X) → new ≡ old ++ x ∷ [] → old ≡ below ++ reverse added → new ≡ below ++ reverse (x ∷ added)
 above below added old new x e is =
     e ∙ ap (λ l. l ++ x ∷ []) is ∙ append_assoc below (reverse added) (x ∷ []) ∙ ap (λ l. below ++ l) (sym (reverse-append (x ∷ []) added))

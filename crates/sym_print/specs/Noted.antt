@@ -46,7 +46,7 @@ module _ {C : Type 0} where
   abbrev pub EndsAt : ℕ → List (Begun C) → Type 0
   EndsAt height begun = (b : Begun C) × (outer : List (Begun C)) × (begun ≡ outer ++ b ∷ []) × (b.below ≡ height)
 
--- What is noted is so.
+-- What is noted holds.
 pub record AreNoted {C : Type 0} (unshared : Item C → Unshared) (bytes_of : Part C → List ℕ) (notes : Notes C) (stack : List (Part C)) (text : List ℕ) (spent taken : ℕ) : Type 0 where
   pub known : All (IsNote unshared text) notes.known.items
   pub begun : All (IsBegun unshared bytes_of stack text spent taken) notes.begun.items

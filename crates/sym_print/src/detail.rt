@@ -11,11 +11,11 @@ pub enum Detail {
     Full,
     /// Names without their template or generic arguments.
     Brief,
-    /// Each C++ function by its name alone, with its template arguments: without its return type, its parameters and the
-    /// qualifiers after them. So are an enclosing function, what a thunk leads to and a function in template arguments; types
-    /// of functions are whole, and so is anything else.
+    /// Each C++ function by its name only, with its template arguments: without its return type, its parameters and the
+    /// qualifiers after them. This includes an enclosing function, the target of a thunk and a function in template arguments;
+    /// types of functions are whole, and so is anything else.
     NoParameters,
-    /// The same, and names without their template or generic arguments.
+    /// Likewise, and names without their template or generic arguments.
     BriefNoParameters,
 }
 

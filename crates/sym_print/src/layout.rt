@@ -14,11 +14,11 @@ use sym_core::Span;
 pub struct Item<C> {
     /// The node's number in the symbol's table.
     pub node: u32,
-    /// Which of its texts is meant, as the part of a declarator left of the name. The layout gives the numbers.
+    /// Which of its texts is meant, as the part of a declarator left of the name. The layout assigns the numbers.
     pub form: u32,
     /// A place among the node's parts, for a form that prints the rest of a list.
     pub at: u32,
-    /// What is handed down to it, as an index into a parameter pack or the number of lifetimes bound around it.
+    /// What it inherits, as an index into a parameter pack or the number of lifetimes bound around it.
     pub ctx: C,
 }
 
@@ -50,13 +50,13 @@ impl<C> Default for Part<C> {
 
 /// A value that can be printed item by item.
 ///
-/// It stands for trees in which nothing is shared: `unshared` says what an item prints, all the way down. An item's text is
-/// that of its parts in order, and its cost is 1, plus the lengths of its texts, plus the costs of the items among its parts.
-/// So these are defined over items whose parts have a smaller rank; `specs/Unfold.antt` makes such a tree of parts and a rank.
-/// The laws are clauses of the methods: the parts that `fill` and `push_parts` answer are those of the tree, they may be asked
-/// about, there are at most eight, and no text is empty. No method takes memory.
+/// It denotes trees in which nothing is shared: `unshared` says what an item prints, all the way down. An item's text is that
+/// of its parts in order, and its cost is 1, plus the lengths of its texts, plus the costs of the items among its parts. So
+/// these are defined over items whose parts have a smaller rank; `specs/Unfold.antt` makes such a tree of parts and a rank. The
+/// laws are clauses of the methods: the parts that `fill` and `push_parts` answer are those of the tree, they may be asked |
+/// for, there are at most eight, and no text is empty. No method takes memory.
 pub trait Layout {
-    /// What an item is told beside its node, as an index into a parameter pack.
+    /// The context that an item carries besides its node, as an index into a parameter pack.
     type Ctx: Copy;
 
     ghost use Rattle.sym_print.specs.declared.layout.Item.{Item};
@@ -65,7 +65,7 @@ pub trait Layout {
     ghost use Rattle.sym_print.specs.Joined.{joined, IsText};
     ghost use Rattle.sym_print.specs.Stacked.{Stacked};
 
-    // the parts that this value may be asked about: an item's parts, or a text's bytes
+    // the parts that this value may be asked for: an item's parts, or a text's bytes
     ghost may_come: { Self → Part Self.Ctx → Type 0 };
 
     // what an item prints, with nothing shared
@@ -83,10 +83,10 @@ pub trait Layout {
 
     /// Pushes the parts of an item onto a stack that has room for eight, the first on top.
     ///
-    /// This is what a printer asks for. A layout builds them there, the last part first, or moves what `fill` answers by
+    /// This is what a printer calls. A layout builds them there, the last part first, or moves what `fill` answers by
     /// `push_reversed`.
-    // With a list between layout and stack the printer takes a third more instructions. To hand the first part back, so that it needn't be
-    // read again, is slower too: a part is too large to be returned in registers.
+    // With a list between layout and stack the printer takes a third more instructions. Returning the first part, so that it
+    // needn't be read again, is slower too: a part is too large to be returned in registers.
     fn push_parts(&self, item: Item<Self::Ctx>, stack: &mut Vec<Part<Self::Ctx>>)
         requires may_come { may_come self.now (Part.Sub item) }
         requires room { vec_len stack.old + 8 ≤ vec_capacity stack.old }
@@ -102,7 +102,7 @@ pub trait Layout {
         ensures not_empty { 0 < length result.now };
 
     /// Whether what an item prints is noted once it is written, and written again from there where the same item comes again.
-    /// Any answer is right: of most items the parts are as fast.
+    /// Any answer is right: for most items the parts are as fast.
     fn is_noted(&self, _item: Item<Self::Ctx>) -> bool
         requires may_come { may_come self.now (Part.Sub _item) }
     {

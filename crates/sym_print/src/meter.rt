@@ -50,7 +50,7 @@ impl Meter {
         };
     }
 
-    /// Spends `cost` in so many steps at once.
+    /// Spends `cost` in n steps at once.
     pub(crate) fn pay_steps(&mut self, cost: u32, steps: u64)
         requires affords { self.old.spent + cost ≤ self.old.limit }
         requires paid { steps ≤ cost }

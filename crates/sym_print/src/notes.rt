@@ -70,7 +70,7 @@ impl<C: Copy> Notes<C> {
         self.begun.clear();
     }
 
-    /// Whether the innermost item that is being written is whole, where so many entries are left.
+    /// Whether the innermost item that is being written is whole, when n entries are left.
     #[inline(always)]
     pub(crate) fn is_whole(&self, height: usize) -> bool
         ensures whole { result ≡ true → EndsAt height self.now.begun.items }

@@ -19,7 +19,7 @@ use Rattle.sym_shape.proofs.Moves.{beginning}
 use Rattle.sym_shape.proofs.Uniqueness.{one_tree}
 use Rattle.sym_shape.proofs.Steps.{first_parse, step_close, step_byte, step_empty, step_rule, step_leaf, step_token, refuse_behind, refuse_byte, refuse_kind, refuse_token, whole_read, takes_none, at_most_steps}
 
--- a parse that has so many steps left to take ends
+-- a parse with n steps left to take ends
 abbrev Ends : Table → List ℕ → ℕ → Type 0
 Ends g s n = (steps at : ℕ) (stack : List Entry) (rows : List Row) → 14 + 18 * length s ≤ steps + n → IsParse g true s steps at stack rows → Decided g s
 
@@ -111,7 +111,7 @@ one_bad g s a b p q = elim (cases_order a b) [
   | inr (inr behind) ↦ absurd (q.next (omega (arith, p.within)) (shorter_begins g s (b + 1) a (omega arith) p.front))
 ]
 
--- a list that isn't only of bytes can be told
+-- it is decidable whether a list has only bytes
 pub are_bytes : (s : List ℕ) → AreBytes s ⊎ (AreBytes s → ⊥)
 are_bytes [] = inl (λ i. none i)
   where

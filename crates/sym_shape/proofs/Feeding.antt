@@ -21,7 +21,7 @@ use Rattle.sym_shape.proofs.Fronts.{front_begins}
 use Rattle.sym_shape.proofs.Runs.{few_stepped}
 use Rattle.sym_shape.proofs.Steps.{both_not, same_start, whole_read, whole_steps}
 
--- what goes on with the next byte of more goes on with that of less
+-- what continues with the next byte of more continues with that of less
 agrees_less : (q piece w : List ℕ) → Agrees false (q ++ piece) w → Agrees false q w
 agrees_less [] piece w h = λ told. cc
 agrees_less (b ∷ q) piece w h = h
@@ -57,7 +57,7 @@ fed g bytes piece steps at stack rows h = record {
   counted = h.counted;
 }
 
--- the end is told
+-- the reader gets the end
 pub told : (g : Table) (bytes : List ℕ) (steps at : ℕ) (stack : List Entry) (rows : List Row) → IsParse g false bytes steps at stack rows → IsParse g true bytes steps at stack rows
 told g bytes steps at stack rows h = record {
   within = h.within;
@@ -65,7 +65,7 @@ told g bytes steps at stack rows h = record {
   counted = h.counted;
 }
 
--- a refusal before the end holds for whatever comes after
+-- a refusal before the end holds for whatever follows
 pub so_far : (g : Table) (ended : Bool) (bytes : List ℕ) (at : ℕ) → IsMalformed g bytes at → IsKnown ended bytes at → IsMalformedSoFar g ended bytes at
 so_far g true bytes at h known = h
 so_far g false bytes at h (inr told) = absurd (true≢false (sym told))

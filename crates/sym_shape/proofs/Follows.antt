@@ -1,4 +1,4 @@
--- What comes after the symbols on the reader's stack.
+-- What follows the symbols on the reader's stack.
 use Rattle.std.proofs.Common.{◌≡◌, ℕ, true, ◌&&◌, inl, inr, List, [], ◌∷◌, ◌++◌, refl}
 use Rattle.std.proofs.lemmas.Bool.{or_left, or_right, and_from, or_cases, and_parts}
 use Rattle.sym_shape.specs.declared.rule.Sym.{Sym}
@@ -36,6 +36,6 @@ follow_at g lawful x xs f (b ∷ w) known followed h e =
     let first = forest_first g lawful xs f b w known h e in
     followed.0 b first.0 first.1
 
--- what the symbols after it spell may come after a symbol
+-- what the symbols after it spell may follow a symbol
 pub forest_follows : (g : Table) (lawful : IsLawful g) (x : Sym) (xs : List Sym) (f : Forest) → AreSymbols g xs → IsFollowed g (x ∷ xs) → AreTrees g xs f → MayFollow g x (spell_all f)
 forest_follows g lawful x xs f known followed h = follow_at g lawful x xs f (spell_all f) known followed h refl

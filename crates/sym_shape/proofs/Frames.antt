@@ -46,16 +46,16 @@ without_last xs ys front x e is = is ∙ ap₂ (λ n zs. take n zs) less e ∙ t
     less : length xs - 1 ≡ length front
     less = omega (arith, ap length e, length-append front (x ∷ []))
 
--- a frame asks for its next symbol
+-- a frame expects its next symbol
 pub asks : (listed : ℕ → List Sym) (g : Table) (ended : Bool) (bytes : List ℕ) (steps at : ℕ) (top : Frame) (below : List Frame) (rows : List Row) (x : Sym) → IsFramed listed g ended bytes steps at top below rows → HasNext listed top x → IsParse g ended bytes steps at (Symbol x ∷ unfolded listed (passed top) (reverse below)) rows
 asks listed g ended bytes steps at top below rows x h next = subst (λ es. IsParse g ended bytes steps at es rows) (unfolded_next listed top (reverse below) x next) h
 
--- a frame whose symbols are read asks for its end
+-- a frame whose symbols are read expects its end
 asks_end : (listed : ℕ → List Sym) (g : Table) (ended : Bool) (bytes : List ℕ) (steps at : ℕ) (top q : Frame) (below : List Frame) (rows : List Row) (last : HasLast below q) → IsFramed listed g ended bytes steps at top below rows → listed top.place ≡ [] → IsParse g ended bytes steps at (Close top.row ∷ unfolded listed q (reverse last.0)) rows
 asks_end listed g ended bytes steps at top q below rows last h bare =
     subst (λ es. IsParse g ended bytes steps at es rows) (ap (λ fs. unfolded listed top (reverse fs)) last.1 ∙ ap (λ fs. unfolded listed top fs) (reverse_last last.0 q) ∙ unfolded_end listed top q (reverse last.0) bare) h
 
--- the row that ends is there
+-- the row that ends exists
 pub end_open : (listed : ℕ → List Sym) (g : Table) (ended : Bool) (bytes : List ℕ) (steps at : ℕ) (top q : Frame) (below : List Frame) (rows : List Row) → IsFramed listed g ended bytes steps at top below rows → listed top.place ≡ [] → HasLast below q → top.row < length rows
 end_open listed g ended bytes steps at top q below rows h bare last = (asks_end listed g ended bytes steps at top q below rows last h bare).reading.opened.0
 
@@ -163,6 +163,6 @@ pub frame_broken : (listed : ℕ → List Sym) (g : Table) (lawful : IsLawful g)
 frame_broken listed g lawful ended bytes steps at bad x top below rows h next from breaks le =
     broken_waits g lawful ended bytes steps at bad x (unfolded listed (passed top) (reverse below)) rows (asks listed g ended bytes steps at top below rows x h next) from breaks le
 
--- the kind that is asked for is one of the grammar
+-- the expected kind is one of the grammar
 pub next_kind : (listed : ℕ → List Sym) (g : Table) (ended : Bool) (bytes : List ℕ) (steps at k : ℕ) (top : Frame) (below : List Frame) (rows : List Row) → IsFramed listed g ended bytes steps at top below rows → HasNext listed top (Kind k) → k < g.kinds
 next_kind listed g ended bytes steps at k top below rows h next = (asks listed g ended bytes steps at top below rows (Kind k) h next).reading.known.0

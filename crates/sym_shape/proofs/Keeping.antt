@@ -1,4 +1,4 @@
--- A refusal that is kept or isn't, and answers that can't be.
+-- A refusal that is kept or isn't, and impossible answers.
 use Rattle.std.proofs.Common.{◌≡◌, sym, ◌∙◌, Bool, true, false, Option, Some, Result, Ok, Err}
 use Rattle.std.specs.Prelude.{None}
 use Rattle.sym_core.specs.declared.refusal.Refusal.{Refusal}

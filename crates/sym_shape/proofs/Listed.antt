@@ -8,7 +8,7 @@ use Rattle.std.specs.List.{range_with_len}
 use Rattle.sym_shape.specs.Listing.{letter_below, unless_blank, up_to_end, listed_in, counts_after, StandsAt}
 use Rattle.sym_shape.specs.declared.rule.Sym.{Sym}
 
--- no letter comes before a row or after it
+-- no letter precedes a row or follows it
 pub no_letter_before : (row : List ℕ) (byte : ℕ) → byte < 36 → letter_below row byte ≡ None
 unfolding letter_below
 no_letter_before row byte lt = ap (λ b. cond b None (unless_blank (slice_get row (byte - 36)))) (lt-ltb byte 36 lt)
@@ -43,7 +43,7 @@ place_within symbols place x there = elim (cases_lt place (length symbols)) [
   | inr past ↦ absurd (omega (arith, ap length (sym (ap up_to_end (drop_all place symbols past)) ∙ there.left)))
 ]
 
--- how many symbols of its rule come after the one at a place
+-- how many symbols of its rule follow the one at a place
 pub after_at : (symbols : List Sym) (place : ℕ) → get_or (counts_after symbols) place 0 ≡ length (listed_in symbols (place + 1))
 after_at [] place = ap (λ xs. length (up_to_end xs)) (sym (drop_all {X = Sym} (place + 1) [] (omega arith)))
 after_at (x ∷ xs) zero = refl

@@ -143,7 +143,7 @@ takes_byte g n ended p q c es rows r = record {
       byte_continues g c (symbols_in es) old.0 w old.1 old.2);
 }
 
--- only this token may be read here, whatever comes after what is known
+-- only this token may be read here, whatever follows what is known
 abbrev pub IsSettled : Table → Bool → Sym → Token → List ℕ → Type 0
 IsSettled g ended x t q = (w v : List ℕ) (other : Token) → Agrees ended q w → IsToken g.names x other → MayFollow g x v → bytes_of other ++ v ≡ bytes_of t ++ w → other ≡ t
 

@@ -16,7 +16,7 @@ agrees_self : (ended : Bool) (q : List ℕ) → (q ≡ [] → ended ≡ true) �
 agrees_self ended [] told = λ e. refl
 agrees_self ended (b ∷ q) told = (q, refl)
 
--- Nothing that goes on with the next byte completes c: c ends before the first bad byte.
+-- Nothing that continues with the next byte completes c: c ends before the first bad byte.
 pub malformed : (g : Table) (ended : Bool) (c q : List ℕ) → BeginsWellShaped g c → ((w : List ℕ) → Agrees ended q w → IsWellShaped g (c ++ w) → ⊥) → (q ≡ [] → ended ≡ true) → IsMalformed g (c ++ q) (length c)
 malformed g ended c q front none told = record {
   refused = λ whole. none q (agrees_self ended q told) whole;
@@ -40,7 +40,7 @@ begins_here g lawful ended p q es rows r =
     let made = r.sound some.0 some.1 in
     (spell_all some.0, (made.0, made.1, made.2))
 
--- nothing that the stack spells goes on with the next byte
+-- nothing that the stack spells continues with the next byte
 pub refused_here : {n : ℕ} (g : Table) (lawful : IsLawful g) (ended : Bool) (p q : List ℕ) (es : List Entry) (rows : List Row) → IsReading g n ended p q es rows → ((w : List ℕ) → Agrees ended q w → Spell g (symbols_in es) w → ⊥) → (q ≡ [] → ended ≡ true) → IsMalformed g (p ++ q) (length p)
 refused_here g lawful ended p q es rows r none told =
     malformed g ended p q (begins_here g lawful ended p q es rows r) (λ w agrees whole. none w agrees (r.complete w agrees whole)) told
@@ -97,7 +97,7 @@ refused_behind g lawful ended p b q rows r = refused_here g lawful ended p (b �
     none : (w : List ℕ) → Agrees ended (b ∷ q) w → Spell g [] w → ⊥
     none w agrees spelled = none_of agrees.0 spelled.0 spelled.1 (spelled.2 ∙ agrees.1)
 
--- another byte than the one that is wanted, or the end
+-- another byte than the expected one, or the end
 pub refused_byte : {n : ℕ} (g : Table) (lawful : IsLawful g) (ended : Bool) (p : List ℕ) (c : ℕ) (q : List ℕ) (es : List Entry) (rows : List Row) → IsReading g n ended p q (Symbol (Byte c) ∷ es) rows → (q ≡ [] → ended ≡ true) → ((r : List ℕ) → q ≡ c ∷ r → ⊥) → IsMalformed g (p ++ q) (length p)
 refused_byte g lawful ended p c q es rows r told other = refused_here g lawful ended p q (Symbol (Byte c) ∷ es) rows r (λ w agrees spelled. none q other told w agrees spelled.0 spelled.1 spelled.2) told
   where

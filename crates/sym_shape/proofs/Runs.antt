@@ -9,7 +9,7 @@ use Rattle.sym_shape.specs.Law.{IsLawful}
 use Rattle.sym_shape.specs.Reader.{to_do, IsParsing, IsRun, AreFew}
 use Rattle.sym_shape.proofs.Steps.{at_most_steps, at_most_rows, whole_read, whole_steps}
 
--- the counts of a parse, with one step and one row more
+-- the counts of a parse, with one more step and one more row
 pub few_more : (listed : ℕ → List Sym) (g : Table) (ended : Bool) (bytes : List ℕ) (old : Parse) (steps rows : ℕ) → IsParsing listed g ended bytes old → steps ≤ old.steps + 1 → rows ≤ length old.rows.items + 1 → rows ≤ steps → AreFew steps rows (length bytes)
 few_more listed g ended bytes old steps rows h s r each =
     let most_steps = at_most_steps g old.steps old.at (to_do listed old) (length old.rows.items) h.counted in

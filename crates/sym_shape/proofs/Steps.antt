@@ -40,7 +40,7 @@ cut bytes at c rest le e =
       back = ap (λ v. drop (at + length c) v) whole ∙ drop_at (before ++ c) rest (at + length c) size;
     }
 
--- counts: a step that takes an entry off
+-- counts: a step that removes an entry
 drop_entry : (g : Table) (steps at : ℕ) (e : Entry) (es : List Entry) (rows : ℕ) → (c : IsCounted g steps at (e ∷ es) rows) → c.chains ≡ 0 → IsCounted g (steps + 1) at es rows
 drop_entry g steps at e es rows c none = record {
   chains = 0;
@@ -62,7 +62,7 @@ eat_entry g steps at size e es rows more c some one = record {
   each = omega (arith, c.each);
 }
 
--- an entry is taken off by the step that put it there
+-- an entry is removed by the step that put it there
 leaf_counted : (g : Table) (steps at : ℕ) (e : Entry) (es : List Entry) (rows made : ℕ) → (c : IsCounted g steps at (e ∷ es) rows) → c.chains ≡ 0 → made ≡ rows → IsCounted g steps at es made
 leaf_counted g steps at e es rows made c none same = record {
   chains = 0;
@@ -92,7 +92,7 @@ step_close g ended bytes steps at i stack rows h =
       counted = subst (λ n. IsCounted g (steps + 1) at stack n) (sym (length-closed rows i at (length rows))) (drop_entry g steps at (Close i) stack (length rows) counted (no_chains_closed g counted.chains i stack counted.stands));
     }
 
--- reading goes on after the next bytes
+-- reading continues after the next bytes
 goes_on : {count : ℕ} (g : Table) (ended : Bool) (bytes : List ℕ) (at : ℕ) (c rest : List ℕ) (es : List Entry) (rows : List Row) → Cut bytes at c rest → IsReading g count ended (take at bytes ++ c) rest es rows → IsReading g count ended (take (at + length c) bytes) (drop (at + length c) bytes) es rows
 goes_on {count = count} g ended bytes at c rest es rows k r =
     subst (λ u. IsReading g count ended u (drop (at + length c) bytes) es rows) (sym k.front) (subst (λ u. IsReading g count ended (take at bytes ++ c) u es rows) (sym k.back) r)
@@ -385,7 +385,7 @@ whole_read g ended bytes steps at stack rows made h bare end same =
     let text : take at bytes ++ [] ≡ bytes = append-nil (take at bytes) ∙ take_all at bytes (omega (arith, end)) in
     (read.0, read.1, read.2 ∙ text, same ∙ read.3)
 
--- all is read, in so many steps
+-- all is read, in n steps
 pub whole_steps : (g : Table) (lawful : IsLawful g) (ended : Bool) (bytes : List ℕ) (steps at : ℕ) (stack : List Entry) (rows : List Row) → IsParse g ended bytes steps at stack rows → stack ≡ [] → at ≡ length bytes → AreStepsOf g bytes steps
 whole_steps g lawful ended bytes steps at stack rows h bare end =
     let all = subst (λ es. IsParse g ended bytes steps at es rows) bare h in

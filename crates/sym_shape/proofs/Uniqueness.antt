@@ -58,7 +58,7 @@ same_rule g lawful k rule other taken also parts others b v w known p q e f =
     let two = chosen_rule g lawful k rule other also others b w known found q f in
     record { rules = two.rules; takes = sym one.takes ∙ two.takes }
 
--- a kind isn't empty where what begins it comes next
+-- a kind isn't empty where a byte comes next that begins it
 pub not_empty : (g : Table) (lawful : IsLawful g) (k : ℕ) (xs : List Sym) (rest : Forest) (rule : Rule) (taken : List ℕ) (parts : Forest) (tail : List ℕ) → AreSymbols g (Kind k ∷ xs) → IsFollowed g (Kind k ∷ xs) → g.may_be_empty k ≡ true → AreTrees g xs rest → IsTree g (Kind k) (branch rule taken parts) → spell_all rest ≡ (taken ++ spell_all parts) ++ tail → ⊥
 not_empty g lawful k xs rest rule taken parts tail known followed bare p q e =
     let some = filled (taken ++ spell_all parts) (branch_filled g lawful k rule taken parts known.0 q) in

@@ -10,9 +10,9 @@ use Rattle.sym_shape.specs.Tree.{IsMalformed}
 use Rattle.sym_shape.specs.Reader.{IsParsing, AreFew, to_do}
 use Rattle.sym_shape.specs.Room.{Room}
 
--- the bytes fed so far, whether the end was told, whether an answer was given since then, the refusal if there
--- was one, the steps taken, how many rows they made, how many rules are being read around another one, and how many bytes,
--- rows and rules there is room for
+-- the bytes fed so far, whether the end was given, whether an answer was given since then, the refusal if there was one, the
+-- steps taken, how many rows they made, how many rules are being read around another one, and how many bytes, rows and rules
+-- there is room for
 pub record Fed : Type 0 where
   pub bytes : List ℕ
   pub ended : Bool
@@ -28,7 +28,7 @@ pub record Fed : Type 0 where
 abbrev pub unfed : (byte_room : ℕ) → Room → Fed
 unfed byte_room room = record { bytes = []; ended = false; ready = false; refused = None; steps = 0; rows = 0; rules = 0; byte_room = byte_room; room = room }
 
--- the reader with room for so many bytes
+-- the reader with room for n bytes
 abbrev pub with_room : Fed → (bytes : ℕ) → Fed
 with_room fed bytes = record fed { byte_room = bytes }
 
@@ -36,12 +36,12 @@ with_room fed bytes = record fed { byte_room = bytes }
 abbrev pub refusing : Fed → Refusal → Fed
 refusing fed refusal = record fed { refused = Some refusal }
 
--- a piece of no bytes tells the end
+-- a piece without bytes is the end
 abbrev pub tells_end : List ℕ → Bool
 tells_end [] = true
 tells_end (b ∷ piece) = false
 
--- the reader with a piece more
+-- the reader with one more piece
 abbrev pub with_piece : Fed → List ℕ → Fed
 with_piece fed piece = record fed { bytes = fed.bytes ++ piece; ended = tells_end piece }
 
@@ -50,7 +50,7 @@ abbrev pub is_answer : Result Bool Refusal → Bool
 is_answer (Ok more) = more
 is_answer (Err refusal) = true
 
--- the first bad byte is known: of these bytes once the end is told, before that whatever comes after them
+-- the first bad byte is known: of these bytes once the end is given, before that whatever follows them
 abbrev pub IsMalformedSoFar : Table → Bool → List ℕ → ℕ → Type 0
 IsMalformedSoFar g true bytes at = IsMalformed g bytes at
 IsMalformedSoFar g false bytes at = (more : List ℕ) → IsMalformed g (bytes ++ more) at
@@ -67,7 +67,7 @@ IsReason g ended bytes TooLong = ⊥
 abbrev pub IsWithinBounds : Fed → Type 0
 IsWithinBounds fed = AreFew fed.steps fed.rows (length fed.bytes)
 
--- a reader that has refused is right to; one that hasn't may go on, and has read all where it is ready
+-- a reader that has refused is right to; one that hasn't may continue, and has read all where it is ready
 abbrev pub IsOver : (ℕ → List Sym) → Table → List ℕ → Bool → Bool → Option Refusal → Parse → Type 0
 IsOver listed g bytes ended ready None parse =
     IsParsing listed g ended bytes parse × (ready ≡ true → (ended ≡ true) × (to_do listed parse ≡ []) × (parse.at ≡ length bytes))

@@ -12,7 +12,7 @@ use Rattle.sym_shape.specs.Reading.{Entry, Close, entries_of, open_row, place_be
 abbrev pub passed : Frame → Frame
 passed frame = record frame { place = frame.place + 1 }
 
--- the frame asks for the symbol
+-- the frame expects the symbol
 abbrev pub HasNext : (ℕ → List Sym) → Frame → Sym → Type 0
 HasNext listed frame x = StandsAt listed frame.place x
 
@@ -20,7 +20,7 @@ HasNext listed frame x = StandsAt listed frame.place x
 abbrev pub rule_frame : ℕ → ℕ → Frame
 rule_frame place number = record { place = place; row = number }
 
--- what a frame and those below it, the uppermost first, still ask for; the lowest ends no row
+-- what a frame and those below it, the uppermost first, still expect; the lowest ends no row
 abbrev pub unfolded : (ℕ → List Sym) → Frame → List Frame → List Entry
 unfolded listed frame [] = entries_of (listed frame.place)
 unfolded listed frame (f ∷ fs) = entries_of (listed frame.place) ++ Close frame.row ∷ unfolded listed f fs
@@ -29,8 +29,8 @@ unfolded listed frame (f ∷ fs) = entries_of (listed frame.place) ++ Close fram
 abbrev pub HasLast : List Frame → Frame → Type 0
 HasLast frames frame = (front : List Frame) × (frames ≡ front ++ frame ∷ [])
 
--- A rule is taken after whose kind the top frame goes on with so many symbols: its frame is then on top, or it is a leaf, whose row
--- has ended.
+-- A rule is taken, and after its kind the top frame continues with n symbols: its frame is then on top, or it is a leaf, whose
+-- row has ended.
 abbrev pub IsTaken : Rule → (place after : ℕ) → Frame → ℕ → List Frame → List Row → Frame → List Frame → List Row → Type 0
 IsTaken rule place after top at below rows frame deeper made =
     ((deeper ≡ below ++ top ∷ []) × (frame ≡ rule_frame place (length rows)) × (made ≡ rows ++ open_row rule after at at 0 ∷ []) × (0 < length (symbols_of rule)))

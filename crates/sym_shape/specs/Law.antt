@@ -21,19 +21,19 @@ can_be_empty g Name = false
 can_be_empty g (Number kind) = false
 can_be_empty g (Byte c) = false
 
--- the byte may come after the symbol
+-- the byte may follow the symbol
 abbrev pub may_follow : Table → Sym → ℕ → Bool
 may_follow g (Kind k) b = g.after k b
 may_follow g Name b = ends_name g.names b
 may_follow g (Number kind) b = ends_number kind b
 may_follow g (Byte c) b = true
 
--- the byte begins what these symbols spell, or they may all be empty and it comes after their kind
+-- the byte begins what these symbols spell, or they may all be empty and it follows their kind
 abbrev pub comes_next : Table → ℕ → List Sym → ℕ → Bool
 comes_next g k [] b = g.after k b
 comes_next g k (x ∷ xs) b = begins g x b || (can_be_empty g x && comes_next g k xs b)
 
--- after each symbol of a rule of kind k there comes only what may
+-- each symbol of a rule of kind k is followed only by what may follow it
 abbrev pub KeepsAfter : Table → ℕ → List Sym → Type 0
 KeepsAfter g k [] = ⊤
 KeepsAfter g k (x ∷ xs) = ((b : ℕ) → b < 256 → comes_next g k xs b ≡ true → may_follow g x b ≡ true) × KeepsAfter g k xs
@@ -49,7 +49,7 @@ abbrev pub AreSymbols : Table → List Sym → Type 0
 AreSymbols g [] = ⊤
 AreSymbols g (x ∷ xs) = IsSymbol g x × AreSymbols g xs
 
--- a kind's rank is above those of the kinds that its chains begin with, so at most three chains stand on one another
+-- a kind's rank is above those of the kinds that its chains begin with, so at most three chains rest on one another
 abbrev pub rank_of : Table → Sym → ℕ
 rank_of g (Kind k) = g.rank k
 rank_of g Name = 0
@@ -93,9 +93,9 @@ pub record IsLawfulRule (g : Table) (k : ℕ) (rule : Rule) : Type 0 where
 pub record IsLawful (g : Table) : Type 0 where
   pub start : 0 < g.kinds
   pub rule : (k b : ℕ) (rule : Rule) → k < g.kinds → b < 256 → g.rule k b ≡ Some rule → IsLawfulRule g k rule
-  -- what begins a kind that may be empty doesn't come after it
+  -- what begins a kind that may be empty doesn't follow it
   pub apart : (k b : ℕ) → k < g.kinds → b < 256 → g.may_be_empty k ≡ true → is_some (g.rule k b) ≡ true → g.after k b ≡ false
-  -- at most three chains stand on one another
+  -- at most three chains rest on one another
   pub rank : (k : ℕ) → k < g.kinds → g.rank k ≤ 3
   -- each kind has a tree
   pub height : (k : ℕ) → k < g.kinds → (g.may_be_empty k ≡ true) ⊎ HasLowRule g k

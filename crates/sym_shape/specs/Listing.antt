@@ -5,8 +5,8 @@ use Rattle.sym_shape.specs.declared.listing.TheConstants.{FIRST, BLANK}
 use Rattle.sym_shape.specs.declared.rule.Sym.{Sym}
 use Rattle.sym_shape.specs.declared.rule.Sym.TheVariants.{Kind, Name, Number, Byte}
 
--- Where `listed` are those symbols that are from a place on, to the end of their rule: the symbol is there, and
--- after it the others.
+-- Where `listed` are those symbols that are from a place on, to the end of their rule: the symbol is there, and after it the
+-- others.
 pub record StandsAt (listed : ℕ → List Sym) (place : ℕ) (x : Sym) : Type 0 where
   pub left : listed place ≡ x ∷ listed (place + 1)
   pub room : place < 65535
@@ -24,7 +24,7 @@ up_to_end (Number kind ∷ xs) = Number kind ∷ up_to_end xs
 abbrev pub listed_in : List Sym → ℕ → List Sym
 listed_in symbols place = up_to_end (drop place symbols)
 
--- how many symbols of its rule come after each one of a list
+-- how many symbols of its rule follow each one of a list
 abbrev pub counts_after : List Sym → List ℕ
 counts_after [] = []
 counts_after (x ∷ xs) = length (up_to_end xs) ∷ counts_after xs

@@ -27,7 +27,7 @@ BreaksToken names x q size = HasNoToken (IsToken names x) q size
 abbrev pub FindsToken : NameClass → Sym → List ℕ → ℕ → Result TokenPlace ℕ → Type 0
 FindsToken names x bytes at found = Finds (IsToken names x) bytes at found
 
--- a token of the symbol is at a place, and what comes after it is known
+-- a token of the symbol is at a place, and what follows it is known
 abbrev pub IsWholeToken : NameClass → Sym → Bool → List ℕ → ℕ → TokenPlace → Type 0
 IsWholeToken names x ended bytes at place = ReadsToken names x (drop at bytes) at place × IsKnown ended bytes place.end
 
@@ -54,7 +54,7 @@ to_do listed parse = unfolded listed parse.top (reverse parse.below.items)
 abbrev pub IsParsing : (ℕ → List Sym) → Table → Bool → List ℕ → Parse → Type 0
 IsParsing listed g ended bytes parse = IsParse g ended bytes parse.steps parse.at (to_do listed parse) parse.rows.items
 
--- nothing is left to do with these bytes: they begin a well shaped symbol, and once the end is told all is read
+-- nothing is left to do with these bytes: they begin a well shaped symbol, and once the end is given all is read
 pub record IsAtRest (listed : ℕ → List Sym) (g : Table) (ended : Bool) (bytes : List ℕ) (old new : Parse) : Type 0 where
   pub same : new ≡ old
   pub begins : BeginsWellShaped g bytes
@@ -64,7 +64,7 @@ pub record IsAtRest (listed : ℕ → List Sym) (g : Table) (ended : Bool) (byte
 abbrev pub MakesRow : Parse → Parse → Type 0
 MakesRow old new = length new.rows.items ≤ length old.rows.items + 1
 
--- what a step comes to: a move, which is counted; it waits for bytes, or all is read; or a refusal
+-- the result of a step: a move, which is counted; it waits for bytes, or all is read; or a refusal
 abbrev pub IsStep : (ℕ → List Sym) → Table → Bool → List ℕ → Parse → Parse → Result Bool Refusal → Type 0
 IsStep listed g ended bytes old new (Ok false) = IsParse g ended bytes (old.steps + 1) new.at (to_do listed new) new.rows.items × (new.steps ≡ old.steps) × MakesRow old new
 IsStep listed g ended bytes old new (Ok true) = IsAtRest listed g ended bytes old new
@@ -74,7 +74,7 @@ IsStep listed g ended bytes old new (Err (BadReference at)) = ⊥
 IsStep listed g ended bytes old new (Err (BadValue at)) = ⊥
 IsStep listed g ended bytes old new (Err TooLong) = ⊥
 
--- the same with the step counted
+-- likewise with the step counted
 abbrev pub IsAdvance : (ℕ → List Sym) → Table → Bool → List ℕ → Parse → Parse → Result Bool Refusal → Type 0
 IsAdvance listed g ended bytes old new (Ok false) = IsParsing listed g ended bytes new × (new.steps ≡ old.steps + 1) × MakesRow old new
 IsAdvance listed g ended bytes old new (Ok true) = IsAtRest listed g ended bytes old new
@@ -96,7 +96,7 @@ IsMalformedOrMemory g bytes TooLong = ⊥
 abbrev pub MakeRows : Parse → Parse → Type 0
 MakeRows old new = (old.steps ≤ new.steps) × (length new.rows.items + old.steps ≤ length old.rows.items + new.steps)
 
--- steps and rows are few for so many bytes
+-- steps and rows are few for n bytes
 pub record AreFew (steps rows bytes : ℕ) : Type 0 where
   pub steps_few : steps ≤ 18 * bytes + 14
   pub rows_few : rows ≤ 4 * bytes + 4
@@ -107,7 +107,7 @@ pub record AreSpent (bytes : List ℕ) (old new : Parse) : Type 0 where
   pub made : MakeRows old new
   pub few : AreFew new.steps (length new.rows.items) (length bytes)
 
--- one move or more, none, or no memory for one; how far they have come is told apart from the parse
+-- one move or more, none, or no memory for one; how far they went is kept apart from the parse
 abbrev pub HasAdvanced : (ℕ → List Sym) → Table → Bool → List ℕ → Progress → Parse → Parse → Result (Option Progress) Refusal → Type 0
 HasAdvanced listed g ended bytes progress old new (Ok (Some further)) = IsParse g ended bytes further.steps further.at (to_do listed new) new.rows.items × (progress.steps < further.steps) × (length new.rows.items + progress.steps ≤ length old.rows.items + further.steps)
 HasAdvanced listed g ended bytes progress old new (Ok None) = new ≡ old

@@ -10,7 +10,7 @@ use Rattle.sym_shape.specs.Table.{Table, symbols_of}
 use Rattle.sym_shape.specs.Tree.{Tree, Forest, nothing, grown, spell, spell_all, IsTree, AreTrees, rows_of, read_steps, IsWellShaped}
 use Rattle.sym_shape.specs.Law.{begins, can_be_empty, may_follow, AreSymbols, rank_of}
 
--- what is still to be done: read a symbol, or end the row of a rule all of whose symbols are read
+-- what is still to be done: read a symbol, or end the row of a rule whose symbols are all read
 pub data Entry : Type 0 where
   Symbol : Sym → Entry
   Close : ℕ → Entry
@@ -72,23 +72,23 @@ steps_left (Close i ∷ es) f = 1 + steps_left es f
 steps_left (Symbol x ∷ es) nothing = 0
 steps_left (Symbol x ∷ es) (grown t f) = read_steps t + steps_left es f
 
--- each row that is to be ended is there
+-- each row that is to be ended exists
 abbrev pub AreOpen : List Entry → ℕ → Type 0
 AreOpen [] n = ⊤
 AreOpen (Symbol x ∷ es) n = AreOpen es n
 AreOpen (Close i ∷ es) n = (i < n) × AreOpen es n
 
--- what comes first of these symbols
+-- the first of these symbols
 abbrev pub first_of : Table → List Sym → ℕ → Bool
 first_of g [] b = false
 first_of g (x ∷ xs) b = begins g x b || (can_be_empty g x && first_of g xs b)
 
--- after each symbol there comes only what may
+-- each symbol is followed only by what may follow it
 abbrev pub IsFollowed : Table → List Sym → Type 0
 IsFollowed g [] = ⊤
 IsFollowed g (x ∷ xs) = ((b : ℕ) → b < 256 → first_of g xs b ≡ true → may_follow g x b ≡ true) × IsFollowed g xs
 
--- w goes on with the byte that comes next, if it is known which
+-- w continues with the next byte, if that is known
 abbrev pub Agrees : Bool → List ℕ → List ℕ → Type 0
 Agrees ended [] w = ended ≡ true → w ≡ []
 Agrees ended (b ∷ q) w = (rest : List ℕ) × (w ≡ b ∷ rest)
@@ -116,9 +116,9 @@ abbrev pub TakesNone : Table → ℕ → Bool → List ℕ → Type 0
 TakesNone g k ended [] = ended ≡ true
 TakesNone g k ended (b ∷ q) = g.rule k b ≡ None
 
--- p is read in so many steps, q is known of what follows (all of it, if the end is told), and the stack and the
--- rows fit: whatever the symbols on the stack spell completes p, with these rows and steps; and each well shaped
--- symbol that goes on with the next byte is completed so.
+-- p is read in n steps, q is known of what follows (all of it, if the end is given), and the stack and the rows fit: whatever
+-- the symbols on the stack spell completes p, with these rows and steps; and this completes each well shaped symbol that
+-- continues with the next byte.
 pub record IsReading (g : Table) (steps : ℕ) (ended : Bool) (p q : List ℕ) (es : List Entry) (rows : List Row) : Type 0 where
   pub known : AreSymbols g (symbols_in es)
   pub followed : IsFollowed g (symbols_in es)
@@ -126,7 +126,7 @@ pub record IsReading (g : Table) (steps : ℕ) (ended : Bool) (p q : List ℕ) (
   pub sound : (f : Forest) → AreTrees g (symbols_in es) f → IsCompleted g p (spell_all f) (finished es f (length p) rows) (steps + steps_left es f)
   pub complete : (w : List ℕ) → Agrees ended q w → IsWellShaped g (p ++ w) → Spell g (symbols_in es) w
 
--- so many chains stand on one another here
+-- this many chains rest on one another here
 abbrev pub StandsOn : Table → ℕ → List Entry → Type 0
 StandsOn g zero es = ⊤
 StandsOn g (suc n) [] = ⊥

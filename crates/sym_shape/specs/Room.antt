@@ -2,7 +2,7 @@
 use Rattle.std.specs.Prelude.{ℕ, ◌+◌, ◌<◌, ◌≤◌, ◌⊎◌, vec_capacity}
 use Rattle.sym_shape.specs.declared.parse.Parse.{Parse}
 
--- so many rows, and so many rules that are being read around another one
+-- the rows, and the rules that are being read around another one
 pub record Room : Type 0 where
   pub rows : ℕ
   pub rules : ℕ
@@ -19,6 +19,6 @@ room_of parse = record { rows = vec_capacity parse.rows; rules = vec_capacity pa
 abbrev pub KeepsRoom : (old new : Room) → Type 0
 KeepsRoom old new = (old.rows ≤ new.rows) × (old.rules ≤ new.rules)
 
--- after so many rows and rules there was no room for so many more rows, or for one more rule
+-- after these rows and rules there was no room for this many more rows, or for one more rule
 abbrev pub LacksRoom : (more : ℕ) → Room → (rows rules : ℕ) → Type 0
 LacksRoom more room rows rules = (room.rows < rows + more) ⊎ (room.rules < rules + 1)

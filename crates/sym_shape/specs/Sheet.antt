@@ -17,7 +17,7 @@ use Rattle.sym_shape.specs.Table.{Table, symbols_of}
 abbrev pub classes_of : Choice → List ByteRange
 classes_of c = take c.ranges c.bytes
 
--- The rules of a kind, whether it may be empty, what may come after it, its rank and its height.
+-- The rules of a kind, whether it may be empty, what may follow it, its rank and its height.
 pub record KindSheet : Type 0 where
   pub choices : List Choice
   pub may_be_empty : Bool
@@ -36,7 +36,7 @@ abbrev pub choice_at : List Choice → ℕ → Option Rule
 choice_at [] b = None
 choice_at (c ∷ cs) b = if in_ranges (classes_of c) b then Some c.rule else choice_at cs b
 
--- the grammar of a sheet; `blank` stands for what isn't there
+-- the grammar of a sheet; `blank` is the default
 abbrev pub table_of : KindSheet → List KindSheet → NameClass → Table
 table_of blank sheet names = record {
   kinds = length sheet;

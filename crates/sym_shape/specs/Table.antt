@@ -7,8 +7,8 @@ use Rattle.sym_shape.specs.declared.rule.Rule.{Rule}
 use Rattle.sym_shape.specs.declared.rule.Sym.{Sym}
 use Rattle.sym_shape.specs.declared.rule.Sym.TheVariants.{Kind, Name, Number, Byte}
 
--- A grammar: the rule that a kind takes at a byte, whether the kind may be empty, the bytes that may come after
--- it, how many chains may stand on one another from it, how high its lowest tree is, and the names of the grammar.
+-- A grammar: the rule that a kind takes at a byte, whether the kind may be empty, the bytes that may follow it, how many chains
+-- may rest on one another from it, how high its lowest tree is, and the names of the grammar.
 pub record Table : Type 0 where
   pub kinds : ℕ
   pub rule : ℕ → ℕ → Option Rule

@@ -58,7 +58,7 @@ abbrev mutual
 abbrev pub IsWellShaped : Table → List ℕ → Type 0
 IsWellShaped g s = (tree : Tree) × IsTree g (Kind 0) tree × (spell tree ≡ s)
 
--- some well shaped symbol begins so
+-- some well shaped symbol begins this way
 abbrev pub BeginsWellShaped : Table → List ℕ → Type 0
 BeginsWellShaped g front = (rest : List ℕ) × IsWellShaped g (front ++ rest)
 
@@ -103,7 +103,7 @@ abbrev pub tree_count : Forest → ℕ
 tree_count nothing = 0
 tree_count (grown tree rest) = 1 + tree_count rest
 
--- the rows of a tree after which there are so many others in its rule, and which begins at a place, the first row with this number
+-- the rows of a tree that n others follow in its rule, and that begins at a place, the first row with this number
 abbrev mutual
   pub rows_of : Tree → (after at number : ℕ) → List Row
   rows_of (branch rule taken parts) after at number =
@@ -119,7 +119,7 @@ abbrev mutual
   rows_of_all (grown tree rest) at number =
       rows_of tree (tree_count rest) at number ++ rows_of_all rest (at + length (spell tree)) (number + row_count tree)
 
--- so many steps the reader takes for the one tree that spells the symbol
+-- the steps that the reader takes for the one tree that spells the symbol
 abbrev pub AreStepsOf : Table → List ℕ → ℕ → Type 0
 AreStepsOf g s steps = (tree : Tree) → IsTree g (Kind 0) tree → spell tree ≡ s → steps ≡ read_steps tree
 

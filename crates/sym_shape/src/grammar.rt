@@ -1,4 +1,4 @@
-// What a grammar tells the reader.
+// What a grammar gives the reader.
 ghost use Rattle.std.specs.Prelude.{◌≡◌, ℕ, ◌+◌, ◌<◌, ◌∷◌, [], List, length, IfSome, MatchOption};
 ghost use Rattle.sym_shape.specs.declared.rule.Sym.{Sym};
 ghost use Rattle.sym_shape.specs.declared.rule.Sym.TheVariants.{Kind};
@@ -11,17 +11,17 @@ use sym_core::NameClass;
 
 /// A grammar that one byte of look-ahead decides.
 ///
-/// Kinds are the numbers below the table's `kinds`, and kind 0 is the start kind. What begins a kind are the bytes at
-/// which `rule` answers one. Which bytes may come after a kind, how many chains may stand on one another from it, and how
-/// high its lowest tree is are members of the table alone (`after`, `rank`, `height`): the laws speak of them, no code asks.
+/// Kinds are the numbers below the table's `kinds`, and kind 0 is the start kind. A kind begins with the bytes at which `rule`
+/// answers one. Which bytes may follow a kind, how many chains may rest on one another from it, and how high its lowest tree is
+/// are members only of the table (`after`, `rank`, `height`): the laws speak of them, no code reads them.
 pub trait Grammar {
-    /// The grammar, which depends on the type alone.
+    /// The grammar, which depends only on the type.
     ghost table: { Table };
 
-    /// For each place of the list those symbols that are from there on, to the end of their rule.
+    /// For each place of the list the symbols that are from there on, to the end of their rule.
     ghost listed: { ℕ → List Sym };
 
-    /// At the first place is the start kind alone.
+    /// The first place holds only the start kind.
     ghost start: { listed 0 ≡ Kind 0 ∷ [] };
 
     /// The rule that a kind takes at a byte.
@@ -38,12 +38,12 @@ pub trait Grammar {
     fn symbol(&self, place: u32) -> Option<Sym>
         ensures { MatchOption result (listed place ≡ []) (StandsAt listed place) };
 
-    /// How many symbols of its rule come after the one at a place.
+    /// How many symbols of its rule follow the one at a place.
     fn after(&self, place: u32) -> u8
         requires { (x : Sym) × StandsAt listed place x }
         ensures { result ≡ length (listed (place + 1)) };
 
-    /// Whether the kind may stand for no bytes.
+    /// Whether the kind may spell no bytes.
     fn may_be_empty(&self, kind: u16) -> bool
         requires { kind < table.kinds }
         ensures { result ≡ table.may_be_empty kind };

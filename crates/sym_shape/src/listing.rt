@@ -13,11 +13,10 @@ const LAST: u8 = b'z';
 /// What is in a row where no rule is taken.
 const BLANK: u8 = b' ';
 
-/// What is in a list of symbols after those of a rule. So no rule of a list has a byte 0 among its symbols.
+/// What follows the symbols of a rule in a list. So no rule of a list has a byte 0 among its symbols.
 pub const END: Sym = Sym::Byte(0);
 
-/// The symbols of rules in one list: each rule's in six places, of which the last ones are ends, and before them the start
-/// kind.
+/// The symbols of rules in one list: each rule's in six places, the last of which are ends, and before them the start kind.
 #[macro_export]
 macro_rules! symbols_listed {
     ($([$first:expr, $second:expr, $third:expr, $fourth:expr, $fifth:expr],)*) => {
@@ -28,7 +27,7 @@ macro_rules! symbols_listed {
     };
 }
 
-/// The letter of a row that is below a byte: rows go from `$` to `z`, and no rule is taken at another byte.
+/// The letter of a row that is below a byte: rows extend from `$` to `z`, and no rule is taken at another byte.
 #[inline(always)]
 pub fn letter_in(row: &[u8; 87], byte: u8) -> Option<u8>
     ensures { result ≡ letter_below row.now byte }

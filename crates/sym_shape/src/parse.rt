@@ -27,14 +27,14 @@ pub struct Parse {
     pub steps: u32,
 }
 
-/// The place that moves have come to, and the steps that are counted.
+/// The place that moves have reached, and the steps that are counted.
 #[derive(Clone, Copy)]
 struct Progress {
     at: usize,
     steps: u32,
 }
 
-/// So many steps further, at a place.
+/// The next n steps, at a place.
 fn further(progress: Progress, at: usize, steps: u32) -> Option<Progress>
     requires { progress.steps + steps < 2 ^ 32 }
     ensures { result ≡ Some (record { at = at; steps = progress.steps + steps }) }
@@ -45,7 +45,7 @@ fn further(progress: Progress, at: usize, steps: u32) -> Option<Progress>
     })
 }
 
-/// The lowest frame, which asks for the start kind alone.
+/// The lowest frame, which awaits only the start kind.
 const LOWEST: Frame = Frame { place: 0, row: 0 };
 
 /// Ends the row of a rule.
@@ -70,7 +70,7 @@ fn uppermost(below: &[Frame]) -> Option<Frame>
     below.last().copied()
 }
 
-/// Takes the uppermost frame off.
+/// Removes the uppermost frame.
 fn drop_uppermost(below: &mut Vec<Frame>)
     ensures items { below.new.items ≡ take (length below.old.items - 1) below.old.items }
     ensures capacity { vec_capacity below.new ≡ vec_capacity below.old }
@@ -86,8 +86,8 @@ fn behind(rule: &Rule, at: usize) -> usize
     if rule.eats { at + 1 } else { at }
 }
 
-/// Takes a rule whose symbols are at a place of the list, after whose kind the top frame goes on, with so many symbols. The
-/// rule's frame is then on top, unless it is a leaf, whose row has ended.
+/// Takes a rule whose symbols are at a place of the list; after its kind the top frame continues with n symbols. The rule's
+/// frame is then on top, unless it is a leaf, whose row has ended.
 #[inline(always)]
 fn take_rule(
     below: &mut Vec<Frame>,
@@ -132,7 +132,7 @@ fn take_rule(
     Ok(())
 }
 
-/// Puts the row of a token, after which its rule has so many symbols, after the others.
+/// Puts the row of a token, with n symbols of its rule after it, after the others.
 fn push_token(rows: &mut Vec<Row>, after: u8, place: TokenPlace) -> Result<(), Refusal>
     requires few { length rows.old.items + 1 < 2 ^ 32 }
     requires own { place.from < 2 ^ 32 }
@@ -203,7 +203,7 @@ fn next_byte(bytes: &[u8], at: usize) -> Option<u8>
     }
 }
 
-/// Whether more bytes may come at a place.
+/// Whether more bytes may follow at a place.
 fn may_go_on(at: usize, bytes: &[u8], ended: bool) -> bool
     ensures waits { OnTrue result (ended ≡ false) }
     ensures all { OnTrue result (length bytes.now ≤ at) }
@@ -212,7 +212,7 @@ fn may_go_on(at: usize, bytes: &[u8], ended: bool) -> bool
     !ended && at >= bytes.len()
 }
 
-/// The place of a token that a symbol asks for, if it is there whole.
+/// The place of a token that a symbol expects, if the whole token is there.
 #[inline(always)]
 fn complete_token<G: Grammar>(
     grammar: &G,
@@ -285,7 +285,7 @@ impl Parse {
         }
     }
 
-    /// Begins another symbol with the lists that are there.
+    /// Begins another symbol with the existing lists.
     pub fn restart(&mut self)
         ensures todo { (listed : ℕ → List Sym) → to_do listed self.new ≡ entries_of (listed 0) }
         ensures rows { self.new.rows.items ≡ [] }
@@ -359,7 +359,7 @@ impl Parse {
         Ok(())
     }
 
-    /// Ends the row of a rule all of whose symbols are read, unless it is the lowest.
+    /// Ends the row of a rule whose symbols are all read, unless it is the lowest.
     #[inline(always)]
     fn leave_rule<G: Grammar>(
         &mut self,
@@ -441,7 +441,7 @@ impl Parse {
         }
     }
 
-    /// Reads a fixed byte or a token that is there.
+    /// Reads a fixed byte or a token at the place.
     #[inline(always)]
     fn pass_symbol<G: Grammar>(
         &mut self,
@@ -505,7 +505,7 @@ impl Parse {
         }
     }
 
-    /// The move that the top frame asks for.
+    /// The move that the top frame requires.
     fn step<G: Grammar>(&mut self, grammar: &G, bytes: &[u8], ended: bool) -> Result<bool, Refusal>
         requires fits { FitsSymbol bytes.now }
         requires parsing { IsParsing G.listed G.table ended bytes.now self.old }
@@ -528,7 +528,7 @@ impl Parse {
         }
     }
 
-    /// All symbols of the top frame are read: its row ends; or all is read, or there are bytes after.
+    /// All symbols of the top frame are read: its row ends; or all is read, or there are bytes after it.
     fn end_frame<G: Grammar>(&mut self, bytes: &[u8], ended: bool) -> Result<bool, Refusal>
         requires fits { FitsSymbol bytes.now }
         requires parsing { IsParsing G.listed G.table ended bytes.now self.old }
@@ -620,7 +620,7 @@ impl Parse {
         }
     }
 
-    /// Leaves a kind of which no rule can be taken here.
+    /// Leaves a kind where no rule of it can be taken.
     fn leave_kind<G: Grammar>(
         &mut self,
         grammar: &G,
@@ -643,7 +643,7 @@ impl Parse {
         Err(Refusal::Malformed { at: self.at as u32 })
     }
 
-    /// Reads a token, or says where it breaks off. One that ends with the bytes may still go on.
+    /// Reads a token, or says where it breaks off. One that ends with the bytes may still continue.
     fn read_token<G: Grammar>(
         &mut self,
         grammar: &G,

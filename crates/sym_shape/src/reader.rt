@@ -14,10 +14,10 @@ use std::alloc::Global;
 use std::marker::{Model, PhantomData};
 use sym_core::Refusal;
 
-/// Reads a symbol that comes in pieces.
+/// Reads a symbol that arrives in pieces.
 ///
-/// After each piece `step` is called until it answers true, or `run` once. A piece of no bytes tells the end;
-/// once the reader is then `ready`, `finish` gives the shape.
+/// After each piece `step` is called until it answers true, or `run` once. A piece without bytes is the end; once the reader is
+/// then `ready`, `finish` gives the shape.
 #[derive(Drop)]
 pub struct Reader<G: Grammar> {
     bytes: Vec<u8>,
@@ -41,7 +41,7 @@ impl<G: Grammar> Model for Reader<G> {
 }
 
 impl<G: Grammar> Reader<G> {
-    /// A reader to which nothing is fed. Its lists take memory only once they grow, so no refusal comes here.
+    /// A reader that was fed nothing. Its lists take memory only once they grow, so nothing is refused here.
     pub fn new(alloc: Global, grammar: &G) -> Result<Self, Refusal>
         ensures { result ≡ Ok (unfed 0 no_room) }
     {
@@ -55,7 +55,7 @@ impl<G: Grammar> Reader<G> {
         })
     }
 
-    /// A reader to which nothing is fed, with the lists of one that has finished: it takes no memory.
+    /// A reader that was fed nothing, with the lists of one that has finished: it takes no memory.
     pub fn with_lists(grammar: &G, mut bytes: Vec<u8>, shape: Shape) -> Self
         ensures { result ≡ unfed (vec_capacity bytes) result.room }
     {
@@ -97,14 +97,14 @@ impl<G: Grammar> Reader<G> {
         &self.bytes
     }
 
-    /// Whether the end was told.
+    /// Whether the end was given.
     pub fn ended(&self) -> bool
         ensures { result ≡ self.now.ended }
     {
         self.ended
     }
 
-    /// Whether the end was told and `step` has since answered true or a refusal.
+    /// Whether the end was given and `step` has since answered true or a refusal.
     pub fn ready(&self) -> bool
         ensures { result ≡ self.now.ready }
     {
@@ -119,18 +119,18 @@ impl<G: Grammar> Reader<G> {
         self.parse.steps
     }
 
-    /// Takes a piece of the symbol; one of no bytes tells the end.
+    /// Takes a piece of the symbol; one without bytes is the end.
     ///
     /// # Errors
     ///
-    /// The refusal that the reader has already answered, or `Memory`. A refused piece isn't kept and tells no end.
+    /// The refusal that the reader has already answered, or `Memory`. A refused piece isn't kept and doesn't count as the end.
     pub fn feed(&mut self, piece: &[u8]) -> Result<(), Refusal>
         requires open { self.old.ended ≡ false }
         requires room { length self.old.bytes + length piece.now ≤ MOST_BYTES }
         ensures ok { OnOk result (self.new ≡ with_room (with_piece self.old piece.now) self.new.byte_room) }
         ensures open { OnOk result (self.old.refused ≡ None) }
         ensures refused { IfErr result (λ refusal. self.new ≡ with_room (refusing self.old refusal) self.new.byte_room) }
-        // A refusal is answered again; a new one is of memory alone.
+        // A refusal is answered again; a new one can only be `Memory`.
         ensures again { IfSome self.old.refused (λ refusal. result ≡ Err refusal) }
         ensures memory { self.old.refused ≡ None → IfErr result (λ refusal. refusal ≡ Refusal.Memory) }
         ensures full { self.old.refused ≡ None → OnErr result (self.old.byte_room < length self.old.bytes + length piece.now) }
@@ -152,9 +152,9 @@ impl<G: Grammar> Reader<G> {
         }
     }
 
-    /// One step; true where it wants more bytes, or the end was told and all is read.
+    /// One step; true where it wants more bytes, or the end was given and all is read.
     ///
-    /// A step that answers true isn't counted. One that waits for a token reads again as much of it as is there.
+    /// A step that answers true isn't counted. One that waits for a token reads again what has arrived of it.
     ///
     /// # Errors
     ///
@@ -169,7 +169,7 @@ impl<G: Grammar> Reader<G> {
         // A move is counted, and makes at most one row.
         ensures moved { result ≡ Ok false → self.new.steps ≡ self.old.steps + 1 }
         ensures one_row { self.new.rows ≤ self.old.rows + 1 }
-        // Bytes are wanted only after such as begin a well shaped symbol; the step isn't counted.
+        // More bytes are wanted only after bytes that begin a well shaped symbol; the step isn't counted.
         ensures wants { result ≡ Ok true → BeginsWellShaped G.table self.old.bytes }
         ensures steps { result ≡ Ok true → self.new.steps ≡ self.old.steps }
         ensures rows { result ≡ Ok true → self.new.rows ≡ self.old.rows }
@@ -178,7 +178,7 @@ impl<G: Grammar> Reader<G> {
         ensures refused { IfErr result (λ refusal. self.new.refused ≡ Some refusal) }
         ensures reason { IfErr result (IsReason G.table self.old.ended self.old.bytes) }
         ensures counted { self.old.refused ≡ None → OnErr result (self.new.steps ≡ self.old.steps + 1) }
-        // It is of memory where a list had no room.
+        // It is `Memory` where a list had no room.
         ensures full { self.old.refused ≡ None → result ≡ Err Refusal.Memory → LacksRoom 1 self.old.room self.new.rows self.new.rules }
         ensures room { KeepsRoom self.old.room self.new.room }
         ensures byte_room { self.new.byte_room ≡ self.old.byte_room }
@@ -223,7 +223,7 @@ impl<G: Grammar> Reader<G> {
         ensures open { OnOk result (self.new.refused ≡ None) }
         ensures refused { IfErr result (λ refusal. self.new.refused ≡ Some refusal) }
         ensures reason { IfErr result (IsReason G.table self.old.ended self.old.bytes) }
-        // It is of memory where a list had no room: a token and its rule are two rows.
+        // It is `Memory` where a list had no room: a token and its rule are two rows.
         ensures full { self.old.refused ≡ None → result ≡ Err Refusal.Memory → LacksRoom 2 self.old.room self.new.rows self.new.rules }
         ensures room { KeepsRoom self.old.room self.new.room }
         ensures byte_room { self.new.byte_room ≡ self.old.byte_room }

@@ -27,7 +27,7 @@ pub struct Rule {
 pub struct Row {
     /// The number of the rule, or `TOKEN`.
     pub rule: u16,
-    /// How many symbols of the rule around it come after the one that it was read for.
+    /// How many symbols of the rule around it follow the one that it was read for.
     pub after: u8,
     /// Where the bytes of its subtree begin; of a name its own bytes, of a number its digits.
     pub from: u32,

@@ -1,4 +1,4 @@
--- Numbers that are handed out in order, each the place of an entry in a map.
+-- Numbers that are assigned in order, each the place of an entry in a map.
 use Rattle.std.proofs.Common.{◌≡◌, ℕ, zero, suc, ◌+◌, ◌<◌, ◌≤◌, ◌⊎◌, inl, inr, length, List, [], ◌∷◌, ◌++◌, take, slice_get, Some, refl, ap, arith, sym, subst, ◌∙◌, length-append}
 use Rattle.std.specs.Prelude.{max, fold}
 use Rattle.std.proofs.Math.Dec.{eqb}
@@ -27,7 +27,7 @@ grows [] j low = absurd (omega (arith, low))
 grows (m ∷ ms) zero low = refl
 grows (m ∷ ms) (suc j) low = ap (λ l. m ∷ l) (grows ms j (omega (arith, low)))
 
--- the entries of so many numbers are at most as many
+-- the entries of n numbers are at most as many
 pub entries-front : (ns : List ℕ) → ((i : ℕ) → i < length ns → number_at ns i ≤ entries_of (take i ns)) → (i : ℕ) → i ≤ length ns → entries_of (take i ns) ≤ i
 entries-front ns next zero low = omega arith
 entries-front ns next (suc i) low =
@@ -39,14 +39,14 @@ entries-front ns next (suc i) low =
       next i (omega (arith, low)),
     )
 
--- numbers that are handed out in order are below the count of things
+-- numbers that are assigned in order are below the count of things
 pub numbers-below : (ns : List ℕ) → ((i : ℕ) → i < length ns → number_at ns i ≤ entries_of (take i ns)) → AreBelow ns (length ns)
 numbers-below ns next i low = omega (arith, next i low, entries-front ns next i (omega (arith, low)), low)
 
 pub entries-few : (ns : List ℕ) → ((i : ℕ) → i < length ns → number_at ns i ≤ entries_of (take i ns)) → entries_of ns ≤ length ns
 entries-few ns next = subst (λ l. entries_of l ≤ length ns) (whole-front ns) (entries-front ns next (length ns) (omega arith))
 
--- ## One number more
+-- ## One more number
 
 abbrev pub Same : ℕ → ℕ → Type 0
 Same a b = a ≡ b
@@ -133,7 +133,7 @@ counted-more firsts ns es new key n f own e = record {
             ap (slice_get new) (ap (number_at (ns ++ n ∷ [])) a ∙ new-number ns n) ∙ e.stored.1
             ∙ ap Some (sym e.stored.2 ∙ own ∙ ap (number_at firsts) (sym a))
 
--- what the numbers of first things tell of the things
+-- what the numbers of first things say of the things
 pub through : {A : Type 0} (thing : ℕ → A) (count : ℕ) (firsts numbers : List ℕ) → length firsts ≡ count → TellApart thing firsts
     → AreNumbered (number_at firsts) (length firsts) numbers → AreNumbered thing count numbers
 through thing count firsts numbers many apart are = record {

@@ -1,11 +1,11 @@
 -- Maps whose keys are compared by a test: where a key is, and what is in the map after one more. Lists of the numbers that keys
--- have, and a list after one element more.
+-- have, and a list after one more element.
 use Rattle.std.proofs.Common.{◌≡◌, ℕ, zero, suc, ◌+◌, ◌<◌, ◌≤◌, ◌⊎◌, inl, inr, length, List, [], ◌∷◌, ◌++◌, slice_get, get_or, Some, None, Bool, true, false, refl, ap, arith, sym, subst, ◌∙◌, length-append}
 use Rattle.std.specs.Prelude.{max, if◌then◌else◌, ◌||◌, ◌==◌, not}
 use Rattle.std.proofs.lemmas.Bool.{eqb-true, eq-eqb}
 use Rattle.std.specs.List.{IsDistinct, list_any, position_or_len, AllByRecursion}
 
--- ## Lists after one element more
+-- ## Lists after one more element
 
 pub last-or : (i n : ℕ) → i < n + 1 → (i < n) ⊎ (i ≡ n)
 last-or i n low = go (i == n) refl

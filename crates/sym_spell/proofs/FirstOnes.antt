@@ -1,4 +1,4 @@
--- First nodes by a map from keys: what the map and the list of first nodes are after one node more.
+-- First nodes by a map from keys: what the map and the list of first nodes are after one more node.
 use Rattle.std.proofs.Common.{◌≡◌, ℕ, ◌<◌, ◌⊎◌, inl, inr, length, List, [], ◌∷◌, ◌++◌, Option, Some, None, Bool, true, false, refl, ap, arith, sym, subst, ◌∙◌, length-append}
 use Rattle.std.specs.Prelude.{cond}
 use Rattle.sym_spell.specs.Numbers.{number_at, TellApart}

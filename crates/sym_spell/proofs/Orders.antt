@@ -1,4 +1,4 @@
--- Orders of keys, a field at a time: what they take for equal, and what a map that goes by one has at equal keys.
+-- Orders of keys, a field at a time: what they take for equal, and what a map in such an order has at equal keys.
 use Rattle.std.proofs.Common.{◌≡◌, ℕ, ◌<◌, List, [], ◌∷◌, true, refl, ap, subst, Ordering, Less, Equal, Greater}
 use Rattle.std.specs.Ordering.{MatchOrdering, nat_cmp, ordering_then, is_eq}
 use Rattle.std.specs.Cmp.Lexicographic.{slice_cmp}

@@ -1,4 +1,4 @@
--- Spellings one after the other, and digits that are the same by whatever function they are told.
+-- Spellings one after the other, and digits that are the same whatever function gives them.
 use Rattle.std.proofs.Common.{◌≡◌, ℕ, zero, suc, ◌+◌, ◌/◌, ◌%◌, ◌<◌, length, List, [], ◌∷◌, ◌++◌, Bool, true, false, refl, ap, arith, append_assoc, append-nil, length-append}
 use Rattle.std.specs.Prelude.{nat_lt}
 use Rattle.std.proofs.lemmas.Bool.{ltb-true, lt-ltb}
@@ -38,7 +38,7 @@ nothing-and-at f place cs = moved f (place + 0) place cs (omega arith)
 pub nothing-and : {C : Type 0} (f : Pressing C) → ◌≡◌ {A = Pressing C} (nothing and f) f
 nothing-and f = fun_ext (λ place. fun_ext (λ cs. nothing-and-at f place cs))
 
--- two functions that tell the same digits write the same
+-- two functions that give the same digits write the same
 pub digits-same : (base : ℕ) (f g : ℕ → ℕ) → ((n : ℕ) → n % base < base) → ((d : ℕ) → d < base → f d ≡ g d) → (most n : ℕ) → digits_in base f most n ≡ digits_in base g most n
 digits-same base f g rest same zero n = refl
 digits-same base f g rest same (suc most) n = go (nat_lt n base) refl (digits-same base f g rest same most (n / base))

@@ -1,7 +1,7 @@
 -- The digits of numbers, and how they are written from the last one on.
 use Rattle.std.specs.Prelude.{◌≡◌, ℕ, zero, suc, ◌+◌, ◌*◌, ◌/◌, ◌%◌, ◌<◌, ◌≤◌, ◌⊎◌, List, [], ◌∷◌, ◌++◌, length, drop, true, false, if◌then◌else◌, ◌==◌, nat_lt}
 
--- the digits of a number in a base, at most so many, without zeros in front
+-- the digits of a number in a base, at most n, without zeros in front
 abbrev pub digits_in : (base : ℕ) → (digit : ℕ → ℕ) → (most n : ℕ) → List ℕ
 digits_in base digit zero n = []
 digits_in base digit (suc most) n =
@@ -18,11 +18,11 @@ digit62 d = if nat_lt d 10 then 48 + d else (if nat_lt d 36 then 87 + d else 29 
 abbrev pub digit36 : ℕ → ℕ
 digit36 d = if nat_lt d 10 then 48 + d else 55 + d
 
--- the digits of a base: capital letters come first in base 36 alone
+-- the digits of a base: capital letters come first only in base 36
 abbrev pub digit_in : (base : ℕ) → ℕ → ℕ
 digit_in base d = if base == 36 then digit36 d else digit62 d
 
--- how many numbers so many digits can write
+-- how many numbers n digits can write
 abbrev pub most_of : (base count : ℕ) → ℕ
 most_of base zero = 1
 most_of base (suc k) = base * most_of base k

@@ -25,7 +25,7 @@ pub record AreNumbered {A : Type 0} (thing : ℕ → A) (count : ℕ) (numbers :
   pub equal : (i j : ℕ) → i < length numbers → j < length numbers → thing i ≡ thing j → number_at numbers i ≡ number_at numbers j
   pub next : (i : ℕ) → i < length numbers → number_at numbers i ≤ entries_of (take i numbers)
 
--- The first things have these numbers, each the place of its entry, and the entries are as many as the numbers tell.
+-- The first things have these numbers, each the place of its entry, and there are as many entries as the numbers say.
 pub record AreCounted (firsts numbers entries : List ℕ) : Type 0 where
   pub numbered : AreNumbered (number_at firsts) (length numbers) numbers
   pub each : (i : ℕ) → i < length numbers → slice_get entries (number_at numbers i) ≡ Some (number_at firsts i)

@@ -15,7 +15,7 @@ use sym_core::Refusal;
 ///
 /// # Errors
 ///
-/// `Memory` alone.
+/// Only `Memory`.
 pub fn first_with<K: Ord + Drop>(
     nodes: &mut BTreeMap<K, u32>,
     key: K,

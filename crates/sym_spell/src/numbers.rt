@@ -1,4 +1,4 @@
-// Numbers of nodes, given out in the order of the nodes.
+// Numbers of nodes, assigned in the order of the nodes.
 #![tactic(auto)]
 
 ghost use Rattle.std.specs.Prelude.{◌≡◌, ◌<◌, ◌≤◌, length, IfOk, IfErr};
@@ -29,14 +29,14 @@ impl Model for Numbers {
 }
 
 impl Numbers {
-    /// Numbers nodes by the first nodes that equal them, with one look-up in a map for each. A first node that no node
-    /// before has gets the next number, counted from 0.
+    /// Numbers nodes by the first nodes that equal them, with one look-up in a map for each. A first node that no earlier node
+    /// had gets the next number, counted from 0.
     ///
     /// The map has room for each node from the start, so that no choice of first nodes makes its look-ups long.
     ///
     /// # Errors
     ///
-    /// `Memory` alone.
+    /// Only `Memory`.
     pub fn of_firsts(alloc: Global, firsts: &[u32]) -> Result<Numbers, Refusal>
         requires few { length firsts.now ≤ 4294967295 }
         ensures numbers { IfOk result (AreNumbered (number_at firsts.now) (length firsts.now)) }

@@ -62,7 +62,7 @@ refused-run rows out err err' (Err fault) refused is says = tt
 pub refused-stopped : (rows : List Row) (out err err' : Option (List ℕ)) (result : Result Run FilterFault) → Says err err' → OnErr result (Took out out err err' (IsStoppedOf rows))
 refused-stopped rows out err err' result says = OnErr-anyway result _ (Took-said out err err' (IsStoppedOf rows) says (λ said. inr refl))
 
--- symbols that are answered, and those of which some are
+-- symbols with answers, and the case that there are some
 pub answered-run : (rows : List Row) (options : Options) (words : List Bytes) (status : ℕ) (out out' err err' : Option (List ℕ)) → AreGiven rows options → words ≡ symbols_of rows → words ≢ []
     → Took out out' err err' (AnswersWords (answers_of options) (counting_of options) options.stats words status) → Took out out' err err' (IsRunOf rows (Done status))
 answered-run rows options words status out out' err err' given are some took = record {
@@ -94,7 +94,7 @@ begun-run rows options words out out' err err' given are took = record {
 
 -- ## Without a symbol
 
--- what is asked of the filter, where nothing was written
+-- what is required of the filter, where nothing was written
 pub record AsksAlone (words : List Bytes) (filtering : Filtering) (lines said : List ℕ) : Type 0 where
   pub no_line : lines ≡ []
   pub nothing_said : said ≡ []

@@ -18,7 +18,7 @@ use Rattle.sym_command.specs.declared.outcome.Filtering.{Filtering}
 use Rattle.sym_command.specs.declared.outcome.Run.{Run}
 use Rattle.sym_command.specs.declared.outcome.Run.TheVariants.{Done, Filter}
 
--- what is asked of each symbol: its text, with C++ by either grammar, or its pressed spelling
+-- what is requested for each symbol: its text, with C++ by either grammar, or its pressed spelling
 abbrev pub answers_at : Asked → (legacy : Bool) → ℕ → Detail → Answering
 answers_at Text legacy limit detail = answers_by cpp_mangled legacy limit detail
 answers_at WideText legacy limit detail = answers_by wide_mangled legacy limit detail
@@ -42,15 +42,15 @@ filter_answers filtering = answers_at (if filtering.wide then WideText else Text
 
 -- ## What a command line did, by what its parser found
 
--- its symbols are answered as its options ask
+-- its symbols are answered as its options request
 pub record AreAnswered (rows : List Row) (status : ℕ) (lines said : List ℕ) : Type 0 where
   pub options : Options
   pub given : AreGiven rows options
   pub some : symbols_of rows ≢ []
   pub answered : AnswersWords (answers_of options) (counting_of options) options.stats (symbols_of rows) status lines said
 
--- One with symbols has answered them; one whose options are refused has written no line; and one that asks for the filter has
--- written nothing.
+-- A command line with symbols has answered them; one whose options are refused has written no line; and one that requests the
+-- filter has written nothing.
 abbrev pub IsRunOf : List Row → Run → List ℕ → List ℕ → Type 0
 IsRunOf rows (Done status) lines said = AreAnswered rows status lines said ⊎ ((status ≡ 2) × (lines ≡ []) × AreRefused rows)
 IsRunOf rows (Filter filtering) lines said = (lines ≡ []) × (said ≡ []) × AsksFilter rows filtering
@@ -63,19 +63,19 @@ pub record AreBegun (rows : List Row) (lines said : List ℕ) : Type 0 where
 
 -- ## What the words of a command line did
 
--- Its parser takes them, and they did what it found; or it refuses them, or they ask for help, and no line was written.
+-- Its parser accepts them, and they did what it found; or it refuses them, or they request help, and no line was written.
 abbrev pub IsRun : List Bytes → Run → List ℕ → List ℕ → Type 0
 IsRun words run lines said =
     ((faults_in words ≡ []) × IsRunOf (found_in words) run lines said) ⊎ ((faults_in words ≢ []) × (run ≡ Done 2) × (lines ≡ []))
 
--- A command line that a fault stopped has written beginnings of the lines of its symbols, or, before it knew them, nothing but what
+-- A command line that a fault stopped has written beginnings of the lines of its symbols, or, before it knew them, only what
 -- its parser says.
 abbrev pub IsStopped : List Bytes → List ℕ → List ℕ → Type 0
 IsStopped words lines said = AreBegun (found_in words) lines said ⊎ (lines ≡ [])
 
 -- ## What the program did over an input and its two outputs
 
--- They ask for the filter, and the input was filtered.
+-- They request the filter, and the input was filtered.
 pub record Filtered (words : List Bytes) (coming coming' out out' err err' : Option (List ℕ)) : Type 0 where
   pub filtering : Filtering
   pub asked : IsRun words (Filter filtering) [] []
@@ -96,7 +96,7 @@ Ends words coming coming' out out' err err' status =
     ((coming' ≡ coming) × Took out out' err err' (IsRun words (Done status)))
     ⊎ ((status ≡ 0) × Filtered words coming coming' out out' err err')
 
--- the same up to a fault
+-- likewise up to a fault
 abbrev pub Stops : List Bytes → (coming coming' out out' err err' : Option (List ℕ)) → Type 0
 Stops words coming coming' out out' err err' =
     ((coming' ≡ coming) × Took out out' err err' (IsStopped words)) ⊎ FilteredFront words coming coming' out out' err err'

@@ -52,7 +52,7 @@ pub fn run_over<S: Source, W: Sink, E: Sink>(
     }
 }
 
-/// Filters an input as a command line asks.
+/// Filters an input as a command line requests.
 ///
 /// # Errors
 ///
@@ -126,8 +126,8 @@ pub fn run(alloc: Global, words: &[&str], out: &mut Vec<u8>, err: &mut Vec<u8>) 
     }
 }
 
-/// Writes the lines for the words of a command line, the program's name first, and says what the program is to do. A word's lines
-/// wait until they are some kilobytes with those before, so that the words need the memory of the dearest.
+/// Writes the lines for the words of a command line, the program's name first, and says what the program is to do. A word's
+/// lines wait until they and those before are some kilobytes, so all words together need only the memory of the dearest.
 pub fn run_to<W: Sink, E: Sink>(
     alloc: Global,
     words: &[&str],
@@ -148,7 +148,7 @@ pub fn run_to<W: Sink, E: Sink>(
     }
 }
 
-/// Writes what the command line's parser says of an error, or a wish for help or the version.
+/// Writes what the command line's parser says of an error, or of a request for help or the version.
 fn refuse<E: Sink>(alloc: Global, error: &Error, err: &mut E) -> Result<Run, FilterFault>
     requires err_failures { E.failure_count err.old < 2 ^ 64 - 1 }
     ensures says { Says (E.taken err.old) (E.taken err.new) }
@@ -207,7 +207,7 @@ fn answer_all<W: Sink, E: Sink>(
     }
 }
 
-/// Writes the lines of words as the options ask, and answers the status.
+/// Writes the lines of words as the options request, and answers the status.
 fn answer_symbols<W: Sink, E: Sink>(
     alloc: Global,
     options: Options,

@@ -11,7 +11,7 @@ use Rattle.sym_filter.specs.declared.kinds.TheConstants.{LONGEST_WORD}
 use Rattle.sym_filter.specs.Bytes.{is_byte_of}
 use Rattle.sym_filter.specs.Runs.{Answering}
 
--- the bytes of a type: those of words except for the dot, from which on a symbol has a suffix
+-- the bytes of a type: those of words except for the dot, which begins a symbol's suffix
 abbrev pub is_type_byte : ℕ → Bool
 is_type_byte byte = is_byte_of Any byte && not (byte == 46)
 
@@ -36,13 +36,14 @@ before_front (BadValue at) = BadValue (at - 4)
 before_front TooLong = TooLong
 before_front Memory = Memory
 
--- what a type has by the answer for the symbol of its information
+-- what a type has, by the answer for the symbol of its information
 abbrev pub type_by : Result (List ℕ) Refusal → Result (List ℕ) Refusal
 type_by (Ok text) = after_words text
 type_by (Err refusal) = Err (before_front refusal)
 
--- The text of a type: that of the symbol of its information without the words that this begins with; or why it has none, which is why
--- that symbol has none. A type's limit and references are those of that symbol, and its places are counted from its own first byte.
+-- The text of a type: that of the symbol of its information without the words that this begins with; or why it has none, which
+-- is why that symbol has none. A type's limit and references are those of that symbol, and its places are counted from its own
+-- first byte.
 abbrev pub type_answer : Answering → List ℕ → Result (List ℕ) Refusal
 type_answer answers name = type_by (answers (record { lang = Cpp; skip = 0 }) (codes "_ZTI" ++ name))
 

@@ -1,5 +1,5 @@
-//! Names that are C++ types, as `typeid(x).name()` has them: the texts of the symbols of their information, without the words that these
-//! begin with.
+//! Names that are C++ types, as `typeid(x).name()` has them: the texts of the symbols of their information, without the words
+//! that these begin with.
 #![tactic(auto)]
 
 ghost use Rattle.std.specs.Prelude.{◌≡◌, ◌≤◌, ◌&&◌, length, option_map, IfOk};
@@ -113,28 +113,28 @@ fn before_front(refusal: Refusal) -> Refusal
     }
 }
 
-/// Whether a name can be a type: it is no longer than a word, and of the letters of words without a dot.
+/// Whether a name can be a type: it is no longer than a word, and has only the letters of words, without a dot.
 pub fn is_type_word(name: &[u8]) -> bool
     ensures { result ≡ is_type_word name.now }
 {
     name.len() <= LONGEST_WORD && are_type_bytes(name)
 }
 
-/// Whether each byte may stand in a type.
+/// Whether each byte may occur in a type.
 fn are_type_bytes(bytes: &[u8]) -> bool
     ensures { result ≡ list_all is_type_byte bytes.now }
 {
     bytes.iter().all(|byte| is_type_byte(*byte))
 }
 
-/// Whether a byte may stand in a type.
+/// Whether a byte may occur in a type.
 fn is_type_byte(byte: u8) -> bool
     ensures { result ≡ is_type_byte byte }
 {
     is_byte_of(Letters::Any, byte) && byte != b'.'
 }
 
-/// Appends the text of a type, out of that of its information.
+/// Appends the text of a type, taken from that of its information.
 fn append_after_words(text: &[u8], out: &mut Vec<u8>) -> Result<(), Refusal>
     ensures { IsAppended (after_words text.now) out.old.items out.new.items result }
 {

@@ -5,7 +5,7 @@ use Rattle.sym_calls.specs.Texts.{are_ends}
 use Rattle.sym_calls.proofs.Telling.{ends-on, ends-down}
 use Rattle.sym_calls.proofs.texts.are_ends.Goals as goal
 
--- an end goes down
+-- an end decreases
 pub returns-then-end-from : goal.returns-then-end-from
 returns-then-end-from c =
     sym (c.loop-end.invariant ∙ ends-down c.loop-end.from c.args.len c.args.ends.now c.loop-end.end-index c.loop-end-test.true (lt-leb c.loop-end.from (get_or c.args.ends.now c.loop-end.end-index 0) c.if-end-from.true))

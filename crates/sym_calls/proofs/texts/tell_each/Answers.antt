@@ -14,7 +14,7 @@ slice_bounds-name-start g c = (ends-at c.each.from (length c.args.names.now) c.a
 pub slice_bounds-name-end : goal.slice_bounds-name-end
 slice_bounds-name-end g c = (ends-at c.each.from (length c.args.names.now) c.args.ends.now c.each.i c.each-test.true c.each.invariant.ends).1
 
--- one more name is told of
+-- one more name gets its outcome
 pub each-preserved : goal.each-preserved
 each-preserved g c =
     let answers = g.D.Demangler.answer c.args.demangler.now in

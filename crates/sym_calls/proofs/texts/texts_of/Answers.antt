@@ -6,7 +6,7 @@ use Rattle.sym_calls.proofs.Ending.{by-width}
 use Rattle.sym_calls.proofs.Telling.{not-as-many, not-ends, texts-refused, texts-told}
 use Rattle.sym_calls.proofs.texts.texts_of.Goals as goal
 
--- the outcomes aren't as many as the ends
+-- the outcomes are fewer or more than the ends
 pub returns-then-outcomes-ends : goal.returns-then-outcomes-ends
 returns-then-outcomes-ends c =
     texts-refused _ c.in-Some.asked c.args.limit c.args.names.now c.args.ends.now c.args.buffer.now c.args.outcomes.now (sym c.asked_of.ensures ∙ c.in-Some.is)

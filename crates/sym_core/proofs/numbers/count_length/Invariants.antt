@@ -1,4 +1,4 @@
--- the digits so far, and what they stand for
+-- the digits so far, and what they denote
 use Rattle.std.proofs.Common.{◌≡◌, ℕ, ◌<◌, ◌≤◌, ◌-◌, ◌^◌, take, drop, get_or, true}
 use Rattle.sym_core.specs.Number.{is_digit_of}
 use Rattle.sym_core.specs.Value.{value_of}

@@ -5,7 +5,7 @@ use Rattle.sym_core.specs.declared.NumberKind.{NumberKind}
 use Rattle.sym_core.specs.declared.NumberKind.TheVariants.{Length, Decimal, Seq36, Base62, Hex, Digits}
 use Rattle.sym_core.proofs.values.short_value.Goals as goal
 
--- one digit more after at most nine
+-- one more digit after at most nine
 one_more : (kind : NumberKind) (v : ℕ) → v < 62 ^ 9 → v * radix_of kind + radix_of kind ≤ 62 ^ 10
 one_more Length v small = omega (arith, small)
 one_more Decimal v small = omega (arith, small)

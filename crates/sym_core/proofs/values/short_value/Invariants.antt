@@ -3,7 +3,7 @@ use Rattle.sym_core.specs.Number.{AreDigits}
 use Rattle.sym_core.specs.Value.{value_onto, value_of}
 use Rattle.sym_core.proofs.values.short_value.Given as goal
 
--- the digits so far are digits, and stand for the value, which is small
+-- the digits so far are digits, and denote the value, which is small
 abbrev pub invariant-loop-byte : goal.invariant-loop-byte
 invariant-loop-byte l =
     (value_onto l.kind l.value (drop l.byte-index l.digits) ≡ value_of l.kind l.digits)

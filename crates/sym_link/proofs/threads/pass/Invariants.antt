@@ -1,4 +1,4 @@
--- Some parts are passed: what comes of them all is known still, and the bounds go on.
+-- Some parts are passed: the result of them all is still known, and the bounds persist.
 use Rattle.std.proofs.Common.{◌-◌, ◌+◌, ◌≤◌, ℕ, List, drop, length}
 use Rattle.std.specs.Prelude.{Result}
 use Rattle.sym_core.specs.declared.refusal.Refusal.{Refusal}

@@ -1,4 +1,4 @@
--- The parse fits the bytes where it has come to, each step has made at most one row, and the lists hold no less.
+-- The parse fits the bytes up to its place, each step has made at most one row, and the lists hold no less.
 use Rattle.std.proofs.Common.{◌+◌, ◌-◌, ◌*◌, ◌≤◌, length}
 use Rattle.sym_shape.specs.Reader.{IsParse, to_do}
 use Rattle.sym_shape.specs.Room.{KeepsRoom, room_of}
