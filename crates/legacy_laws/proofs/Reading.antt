@@ -1,4 +1,4 @@
--- Each legacy name is read by the grammars of C++, as data that is named by a nested name.
+-- Each legacy name is read by the grammars of C++, as data with a nested name.
 use Rattle.std.proofs.Common.{◌≡◌, ℕ, zero, suc, ◌+◌, ◌-◌, ◌<◌, ◌≤◌, List, [], ◌∷◌, length, drop, Bool, true, false, cond, ◌&&◌, refl, ap, sym, subst, ◌∙◌, arith}
 use Rattle.std.specs.Prelude.{Option, Some, None, Ok, codes, unwrap_or}
 use Rattle.std.specs.List.{list_all}
@@ -25,7 +25,7 @@ use Rattle.legacy_laws.proofs.Bytes.{end_here, front_here, legacy_drop, name_her
 
 -- ## Reading
 
--- one name more of a nested name
+-- one more name of a nested name
 one_name : (s : Symbol) (kind : Kind) (outer : List Opened) (around : Around) (t : Term) (at : ℕ) (st : State) (name : List ℕ) (end : ℕ)
     → IsRest kind → NestGoesOn s kind outer around t false at st → IsNameAt s.bytes at name end
     → NestGoesOn s Kind.NestTail outer around (within t (source false name)) false end (with_candidate around t st)
@@ -38,7 +38,7 @@ one_name s kind outer around t at st name end rest goes is =
     let tail = next.onward u end now (named.bare end now (expects-empty s Kind.MaybeArguments (after u false around) named.inner end now named.awaits refl)) in
     record { inner = tail.inner; awaits = tail.awaits; passes = λ v here then_ comes. goes.passes v here then_ (tail.passes v here then_ comes) }
 
--- what comes of names and the E after them
+-- the result of names and the E after them
 record Ends (s : Symbol) (outer : List Opened) (suffix : List ℕ) : Type 0 where
   term : Term
   end : ℕ
@@ -47,7 +47,7 @@ record Ends (s : Symbol) (outer : List Opened) (suffix : List ℕ) : Type 0 wher
   suffix_is : drop end s.bytes ≡ suffix
   within : end ≤ length s.bytes
 
--- what there is after the first name
+-- what follows the first name
 record Later (depth : ℕ) (q : List ℕ) (name : Name) (path : Path) : Type 0 where
   later : Path
   is : names_in depth (drop name.size q) ≡ Some later
@@ -94,7 +94,7 @@ rest_read (suc depth) s path outer around t at st are is goes =
 
 -- ## From the definition
 
--- names of which there are some begin with one
+-- a nonempty list of names begins with one
 first_of : (depth : ℕ) (q : List ℕ) (path : Path) → names_in depth q ≡ Some path → 0 < length path.names
     → (more : ℕ) × (name : Name) × (name_in q ≡ Some name) × Later more q name path
 first_of zero q path is some = absurd (cc (is))
@@ -110,7 +110,7 @@ names_cond : (b : Bool) (names : List (List ℕ)) → cond {A = Option (List (Li
 names_cond true names is = sym (ap (λ o. unwrap_or o names) is)
 names_cond false names is = absurd (cc (is))
 
--- the hash is one name more
+-- the hash is one more name
 hash_more : (all names : List (List ℕ)) → before_hash all ≡ Some names → length names + 1 ≤ length all
 hash_more [] names is = absurd (cc (is))
 hash_more (name ∷ []) names is = omega (arith, ap length (names_cond (is_hash name) names is))
@@ -159,7 +159,7 @@ right_suffix : (all : Option Path) (path : Path) → with_suffix all ≡ Some pa
 right_suffix None path is same = absurd (cc (same))
 right_suffix (Some all) path is same = ap (λ o. is_suffix (unwrap_or o path).suffix) (sym same) ∙ suffix_cond (is_suffix all.suffix) all path is
 
--- what is asked of a legacy name
+-- what is required of a legacy name
 record Asked (s : List ℕ) (path : Path) : Type 0 where
   front : begins_with (codes "_ZN") s ≡ true
   bytes : list_all is_legacy_byte s ≡ true
@@ -208,7 +208,7 @@ names_read s first second depth later front are first_is second_is later_is suff
     let comes = items.onward nothing_there rest.end rest.state (expects-empty s Kind.Items (in_types 2 (tree_of name)) items.inner rest.end rest.state items.awaits refl) in
     finish s opened_ (encoding_of name (no_items nothing_there)) rest.end rest.state later.suffix comes rest.suffix_is rest.within are suffix
 
--- Each legacy name stands for a tree of C++, by either grammar.
+-- Each legacy name denotes a tree of C++, by either grammar.
 pub legacy_read : (s : Symbol) (path : Path) → legacy_of s.bytes ≡ Some path → (t : Term) × StandsFor (mangled_of s) s.bytes (Ok t)
 legacy_read s path is =
     let asks = asked_of s.bytes path is in

@@ -32,7 +32,7 @@ use Rattle.rust_direct.proofs.PathsRead.{form-held, path-says, stands-written, w
 
 -- ## What is opened
 
--- the path is expected that arguments belong to
+-- expects the path that arguments belong to
 pub generic-begun : (brief : Bool) (s : List ℕ) (old new : Direct) (is_value : Bool) → AwaitsPath brief s old → StandsAt s old.at (73 ∷ [])
     → new.waiting.list.items ≡ old.waiting.list.items ++ opens.Generic is_value old.at ∷ []
     → new.waiting.room ≡ old.waiting.room → new.at ≡ old.at + 1 → new.text ≡ old.text → new.aside ≡ old.aside → new.is_aside ≡ old.is_aside
@@ -55,7 +55,7 @@ generic-begun brief s old new is_value awaits letter waiting room at text aside 
       };
     }
 
--- ## Something waits from here on
+-- ## An entry waits from here on
 
 pub keeps-pushed : (brief : Bool) (s : List ℕ) (old new : Direct) (entry : Open) (st : State) → Pushes old new entry → Keeps brief s old st → Keeps brief s new st
 keeps-pushed brief s old new entry st p h = keeps-same brief s old new st p.text p.aside p.is_aside p.notes p.numbers p.room h
@@ -264,7 +264,7 @@ argument-separated brief s old new p writes =
       };
     }
 
--- no separator comes before the first one
+-- no separator precedes the first one
 pub argument-first : (brief : Bool) (s : List ℕ) (w : Direct) → IsWriting brief s w (steps.Arguments true) → AwaitsArgument brief s w true
 argument-first brief s w p = record {
   state = p.state;

@@ -16,7 +16,7 @@ use Rattle.rust_direct.proofs.NamePlaces.{own-is}
 digit-small : (b : ℕ) → is_digit_of Base62 b ≡ true → digit_value Base62 b < 62
 digit-small b h = grind (arith, nat_tests)
 
--- digits stand for less than 62 to the power of their count
+-- n digits denote less than 62 to the power of n
 below : (v : ℕ) (ds : List ℕ) → AreDigits Base62 ds → value_onto Base62 v ds < (v + 1) * 62 ^ length ds
 below v [] are = rw (pow-zero 62) (omega arith)
 below v (d ∷ ds) are =

@@ -22,7 +22,7 @@ use Rattle.rust_direct.proofs.Again.{path-needs}
 use Rattle.rust_direct.proofs.ArgumentsRead.{type-held, keeps-pushed, parked-pushed, turned}
 use Rattle.rust_direct.proofs.Opened.{wrapped}
 
--- the path of an impl is expected, which isn't shown
+-- expects the path of an impl, which isn't shown
 pub impl-begun : (brief : Bool) (s : List ℕ) (old new : Direct) (count end : ℕ) (plain : Bool) → AwaitsPath brief s old → StandsAt s old.at (77 ∷ [])
     → IsDisambiguatorAt s (old.at + 1) count end → old.is_aside ≡ false → new.waiting.list.items ≡ old.waiting.list.items ++ opens.Impl old.at ∷ []
     → new.waiting.room ≡ old.waiting.room

@@ -18,7 +18,7 @@ use Rattle.rust_direct.proofs.Opened.{keeps-opened, stands-opened}
 use Rattle.rust_direct.proofs.PathsRead.{path-held}
 use Rattle.rust_direct.proofs.PrintedPaths.{impl-prints, trait-prints}
 
--- Where nothing is written yet of what isn't shown, its text may begin after any other.
+-- While nothing hidden is written yet, the hidden text may begin after any other.
 unbegun-any : (brief : Bool) (s : List ℕ) (waiting : List Open) (os : List Opened) (text any parked : List ℕ) → IsUnbegun waiting → Stands brief s waiting os text parked
     → Stands brief s waiting os any parked
 unbegun-any brief s [] os text any parked is h = absurd is

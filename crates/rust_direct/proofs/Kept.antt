@@ -47,19 +47,19 @@ numbered-stays brief is_aside text aside more notes v None p = tt
 numbered-stays brief is_aside text aside more notes v (Some zero) p = tt
 numbered-stays brief is_aside text aside more notes v (Some (suc k)) p = noted-stays brief is_aside text aside more (slice_get notes k) v p
 
--- notes stay so where more is written
+-- notes still hold where more is written
 pub notes-stay : (brief : Bool) (is_aside : Bool) (text aside more : List ℕ) (notes : List Note) (numbers : List ℕ) (ended : List Ended)
     → AreNotes brief is_aside text aside notes numbers ended → AreNotes brief is_aside (text ++ more) aside notes numbers ended
 notes-stay brief is_aside text aside more notes numbers ended p =
     λ place. numbered-stays brief is_aside text aside more notes (ended_at ended place) (slice_get numbers place) (p place)
 
--- the same of a writer
+-- likewise for a writer
 notes-written : (brief : Bool) (old new : Direct) (bytes : List ℕ) (st : State) → Writes old new bytes → AreNotesOf brief old st → AreNotesOf brief new st
 notes-written brief old new bytes st writes p =
     rw (writes.text, writes.aside, writes.is_aside, writes.notes, writes.numbers)
     (notes-stay brief old.is_aside old.text.list.items old.aside.list.items bytes old.notes.list.items old.numbers.items st.ended p)
 
--- ## A turn to the other text
+-- ## A switch to the other text
 
 home-turned : (brief : Bool) (is_aside note_aside : Bool) (text aside : List ℕ) (n : Note) (v : Value)
     → IsNote brief (home is_aside note_aside text aside) n v → IsNote brief (home (not is_aside) note_aside aside text) n v
@@ -151,7 +151,7 @@ notes-more brief is_aside text aside notes numbers ended n place v p inside is o
         (subst (λ o. Is (ended_at ended other) o) (sym (get-other numbers place other (length notes + 1) (λ e. apart (sym e))))
         (numbered-more brief is_aside text aside notes n (ended_at ended other) (slice_get numbers other) (p other)))
 
--- the same of a writer
+-- likewise for a writer
 notes-noted : (brief : Bool) (old new : Direct) (place from : ℕ) (forms : Forms) (st : State) (v : Value) (front bytes : List ℕ) → Notes old new place from forms
     → AreNotesOf brief old st → old.text.list.items ≡ front ++ bytes → from ≡ length front → Says brief forms v bytes → AreNotesOf brief new (with_ended place v st)
 notes-noted brief old new place from forms st v front bytes noted p written from_is says =
@@ -192,7 +192,7 @@ none-noted brief is_aside text aside n ended = λ place. zeros n place (ended_at
 
 -- ## Rooms, and all that is kept
 
--- the rooms stay so where the lists have the same
+-- the rooms still hold where the lists have the same
 pub rooms-same : (s : List ℕ) (old new : Direct) → new.text.room ≡ old.text.room → new.aside.room ≡ old.aside.room → new.notes.room ≡ old.notes.room
     → length new.numbers.items ≡ length old.numbers.items → new.waiting.room ≡ old.waiting.room → HasRooms s old → HasRooms s new
 rooms-same s old new text aside notes numbers waiting p = rw (text, aside, notes, numbers, waiting) p
@@ -238,7 +238,7 @@ keeps-noted brief s old new place from forms st v front bytes n p written from_i
 
 -- ## What is open
 
--- the last of a list is the first of it turned
+-- the last of a list is the first of its reverse
 pub reverse-last : {X : Type 0} (xs : List X) (x : X) → reverse (xs ++ x ∷ []) ≡ x ∷ reverse xs
 reverse-last xs x = reverse-append xs (x ∷ [])
 

@@ -110,7 +110,7 @@ identifier-comes s os at st count middle name end (inr some) is expects =
 
 -- ## Paths
 
--- a rule takes the byte where a path is wanted
+-- a rule takes the byte where a path is expected
 abbrev pub TakesAll : Rule → List ℕ → Type 0
 TakesAll rule taken = (w : Wanted) → TakesRule v0_table (kind_of w) rule taken
 

@@ -23,7 +23,7 @@ dyn_rule = taking Production.Dyn (Kind BINDER ∷ Kind BOUNDS ∷ Kind LIFETIME 
 takes-dyn : TakesRule v0_table TYPE dyn_rule (68 ∷ [])
 takes-dyn = record { byte = 68; is_byte = omega arith; found = refl; takes = refl }
 
--- an erased lifetime comes
+-- an erased lifetime is read
 lifetime-comes : (s : List ℕ) (os : List Opened) (at : ℕ) (st : State) → Expects s LIFETIME os at st → StandsAt s at (76 ∷ 95 ∷ [])
     → Comes s os (a_lifetime 0) (at + 1 + 1) (behind st)
 lifetime-comes s os at st expects stands =
@@ -84,7 +84,7 @@ bound-opens s os at st expects =
     (moves.first-of rust_language s BOUNDS more_rule [] 0 os at st st (Kind PATH) (Kind BINDINGS ∷ Kind BOUNDS ∷ [])
     (record { context = 0; values = []; state = within Production.BoundsMore st }) takes-more (λ f. refl) refl refl expects (moves.stands-none s at))
 
--- the path of a bound is read, and they go on
+-- the path of a bound is read, and they continue
 pub bound-goes-on : (s : List ℕ) (outer : List Opened) (place : ℕ) (made : tree.Bounds → tree.Bounds) (here : ℕ) (now : State)
     (goes : BoundsGoOn s outer place made here now) (place0 : ℕ) (before : State) (p : tree.Path) (at : ℕ) (st : State)
     → Comes s (bound_awaits place0 before goes.inner) (a_path p) at st

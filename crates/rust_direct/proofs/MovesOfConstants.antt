@@ -88,7 +88,7 @@ signed-there b is none = false≢true (subst (λ k. is_signed k ≡ true) none i
 
 -- ## Integers
 
--- a number in base 16 comes
+-- a number in base 16 is read
 hex-comes : (s : List ℕ) (os : List Opened) (at : ℕ) (st : State) (n end : ℕ) (v : ℕ → Value) → ((own : List ℕ) → token_of st.inside st.minus own ≡ v (value16 own))
     → direct.Expects rust_language s (Number Hex) 0 os at st → IsHexAt s at n end → Comes s os (v n) end st
 hex-comes s os at st n end v means expects is =
@@ -236,7 +236,7 @@ constant_rule = taking Production.ConstantArgument (Kind CONSTANT ∷ Kind ARGUM
 takes-constant : TakesRule v0_table ARGUMENTS constant_rule (75 ∷ [])
 takes-constant = record { byte = 75; is_byte = omega arith; found = refl; takes = refl }
 
--- a constant is read among arguments, and they go on
+-- a constant is read among arguments, and they continue
 pub constant-goes-on : (s : List ℕ) (outer : List Opened) (place : ℕ) (p : tree.Path) (made : tree.Arguments → tree.Arguments) (at : ℕ) (st : State)
     (c : tree.Constant) (end : ℕ) → ArgumentsGoOn s outer place p made at st → StandsAt s at (75 ∷ []) → IsConstantAt s (at + 1) c end
     → ArgumentsGoOn s outer place p (λ r. made (tree.constant_argument c r)) end (with_ended (at + 1) (a_constant c) st)

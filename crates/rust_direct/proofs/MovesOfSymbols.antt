@@ -1,4 +1,4 @@
--- The moves of whole symbols: their beginning, the crate that asked for them, and their suffix.
+-- The moves of whole symbols: their beginning, the instantiating crate, and their suffix.
 use Rattle.std.proofs.Common.{◌≡◌, ℕ, ◌+◌, ◌<◌, ◌≤◌, List, [], ◌∷◌, ◌++◌, length, drop, take, true, Option, Some, None, Ok, refl, ap, sym, subst, ◌∙◌, arith, append-nil}
 use Rattle.std.specs.Prelude.{if◌then◌else◌}
 use Rattle.std.specs.List.{AllByRecursion}
@@ -55,7 +55,7 @@ takes-suffix = record { byte = 46; is_byte = omega arith; found = refl; takes = 
 abbrev RestComes : (s : List ℕ) → List Opened → (at : ℕ) → State → Type 0
 RestComes s os at st = (vs : List Value) × ComesAll s os vs at st
 
--- bytes of a suffix come, which may be none
+-- bytes of a suffix are read; there may be none
 rest-comes : (s : List ℕ) (bs : List ℕ) (os : List Opened) (at : ℕ) (st : State) → AllByRecursion (λ c. is_suffix_byte c ≡ true) bs
     → Expects s SUFFIX_REST os at st → StandsAt s at bs → (now : State) × RestComes s os (at + length bs) now
 rest-comes s [] os at st each expects stands =

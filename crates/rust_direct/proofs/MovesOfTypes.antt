@@ -117,7 +117,7 @@ takes-basic b filled = found-in basic_texts b all filled
       ),
     )
 
--- a basic type comes
+-- a basic type is read
 pub basic-comes : (s : List ℕ) (os : List Opened) (at : ℕ) (st : State) (b : ℕ) → 1 ≤ length (basic_text b) → Expects s TYPE os at st
     → StandsAt s at (b ∷ []) → Ends s os at (a_type (tree.basic b)) (at + 1) st
 basic-comes s os at st b filled expects stands =
@@ -267,7 +267,7 @@ takes-path path e = record { byte = 66; is_byte = omega arith; found = refl; tak
 takes-path other_path e = record { byte = 66; is_byte = omega arith; found = refl; takes = refl }
 takes-path type e = cc e
 
--- a path comes that came before
+-- a back reference to a path is read
 pub path-referred : (s : List ℕ) (w : Wanted) (os : List Opened) (at : ℕ) (st : State) (n end : ℕ) (p : tree.Path) → is_for_type w ≡ false
     → Expects s (kind_of w) os at st → StandsAt s at (66 ∷ []) → IsNumberAt s (at + 1) n end → as_path (ended_at st.ended (n + 2)) ≡ Some p
     → need p ≡ 0 → Ends s os at (a_path p) end st
@@ -279,7 +279,7 @@ path-referred s w os at st n end p for_path expects stands is names none =
     moves.last-of rust_language s rule [] (number n ∷ []) os end (within Production.PathReference st) (a_path p) (with_ended at (a_path p) st)
     (rw (names, none) refl) counted
 
--- a type comes that came before
+-- a back reference to a type is read
 pub type-referred : (s : List ℕ) (os : List Opened) (at : ℕ) (st : State) (n end : ℕ) (t : tree.Ty)
     → Expects s TYPE os at st → StandsAt s at (66 ∷ []) → IsNumberAt s (at + 1) n end → as_type (ended_at st.ended (n + 2)) ≡ Some t
     → need_of_type t ≡ 0 → Ends s os at (a_type t) end st
@@ -306,7 +306,7 @@ counted_rule = taking Production.Disambiguator (Number Base62 ∷ [])
 takes-counted : TakesRule v0_table DISAMBIGUATOR counted_rule (115 ∷ [])
 takes-counted = record { byte = 115; is_byte = omega arith; found = refl; takes = refl }
 
--- a disambiguator comes, or none
+-- a disambiguator is read, or none
 disambiguator-comes : (s : List ℕ) (os : List Opened) (at : ℕ) (st : State) (count end : ℕ) → IsDisambiguatorAt s at count end
     → Expects s DISAMBIGUATOR os at st
     → ((count ≡ 0) × ComesAll s os [] end st) ⊎ Comes s os (a_disambiguator count) end (behind st)
@@ -482,7 +482,7 @@ takes-definition path = record { byte = 89; is_byte = omega arith; found = refl;
 takes-definition other_path = record { byte = 89; is_byte = omega arith; found = refl; takes = refl }
 takes-definition type = record { byte = 89; is_byte = omega arith; found = refl; takes = refl }
 
--- the type is expected as which a trait is taken
+-- expects the type that is taken as a trait
 pub definition-opens : (s : List ℕ) (w : Wanted) (os : List Opened) (at : ℕ) (st : State) → Expects s (kind_of w) os at st
     → StandsAt s at (89 ∷ []) → ImplementingGoesOn s os at (λ t r. a_path (tree.trait_definition t r)) (at + 1) st
 definition-opens s w os at st expects stands =

@@ -1,4 +1,4 @@
--- A text is written, and something waits for what comes after it.
+-- A text is written, and an entry waits for what follows it.
 use Rattle.std.proofs.Common.{◌≡◌, ℕ, List, ◌∷◌, ◌++◌, length, reverse, ap, ◌∙◌, append_assoc, Bool}
 use Rattle.rust_grammar.specs.Value.{State}
 use Rattle.rust_direct.specs.declared.open.Open.{Open}

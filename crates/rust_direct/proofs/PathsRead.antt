@@ -49,7 +49,7 @@ form-held brief false forms.Typed v bytes is h = absurd (false≢true is)
 form-held brief true forms.Unnamed v bytes is h = absurd (false≢true is)
 form-held brief false forms.Unnamed v bytes is h = absurd (false≢true is)
 
--- a path with its texts is noted and handed on
+-- a path with its texts is noted and forwarded
 pub path-says : (brief : Bool) (f : Forms) (p : tree.Path) (bytes : List ℕ) → is_path f ≡ true → PathHas brief f p bytes → Says brief f (a_path p) bytes × Holds brief f (a_path p) bytes
 path-says brief forms.Alike p bytes is h = ((p, refl, h), (p, refl, h))
 path-says brief forms.Valued p bytes is h = ((p, refl, h), (p, refl, h))
@@ -59,7 +59,7 @@ path-says brief forms.Unnamed p bytes is h = absurd h
 
 -- ## What waits
 
--- what is open stays so where a text is written
+-- the open entries stay where a text is written
 pub stands-written : (brief : Bool) (s : List ℕ) (old new : Direct) (bytes : List ℕ) (os : List Opened) (text : List ℕ) → Writes old new bytes
     → Stands brief s (reverse old.waiting.list.items) os text (parked_of old) → Stands brief s (reverse new.waiting.list.items) os text (parked_of new)
 stands-written brief s old new bytes os text writes h =
@@ -67,11 +67,11 @@ stands-written brief s old new bytes os text writes h =
     (subst (λ b. Stands brief s (reverse old.waiting.list.items) os text (cond b new.aside.list.items [])) (sym writes.is_aside)
     (subst (λ a. Stands brief s (reverse old.waiting.list.items) os text (cond old.is_aside a.list.items [])) (sym writes.aside) h))
 
--- what waited is this
+-- the waiting entry is this
 pub waited-for : (brief : Bool) (s : List ℕ) (w : Direct) (entry known : Open) (from : ℕ) (f : Forms) → entry ≡ known → Arrives brief s w entry from f → Arrives brief s w known from f
 waited-for brief s w entry known from f is = subst (λ e. Arrives brief s w e from f) is
 
--- something waits from here on
+-- an entry waits from here on
 pub waits-too : (brief : Bool) (s : List ℕ) (old new : List Open) (entry : Open) (os : List Opened) (text parked : List ℕ) → new ≡ old ++ entry ∷ []
     → Stands brief s (entry ∷ reverse old) os text parked → Stands brief s (reverse new) os text parked
 waits-too brief s old new entry os text parked is h = subst (λ ws. Stands brief s ws os text parked) (sym (ap reverse is ∙ reverse-last old entry)) h
@@ -220,13 +220,13 @@ is-of-path brief forms.Plain p bytes h = refl
 is-of-path brief forms.Typed p bytes h = absurd h
 is-of-path brief forms.Unnamed p bytes h = absurd h
 
--- what has no bytes between its places
+-- an empty span
 pub piece-empty : (s : List ℕ) (from to : ℕ) → to ≤ from → take (to - from) (drop from s) ≡ []
 piece-empty s from to none =
     let nothing : to - from ≡ 0 = omega (arith, none) in
     ap (λ n. take n (drop from s)) nothing
 
--- Its name is read and noted, and an empty one follows, of what it is the parent of.
+-- Its name is read and noted, and an empty one follows, with it as the parent.
 pub unnamed-read : (brief : Bool) (s : List ℕ) (old noted taken : Direct) (place from : ℕ) (f : Forms) (o : Option Open) (letter outer end : ℕ)
     → IsEndedWithRoom brief s old place from f → Notes old noted place from f
     → noted.waiting.list.items ≡ taken.waiting.list.items ++ option_to_list o → o ≡ Some (opens.Nest letter outer)

@@ -1,4 +1,4 @@
--- The bounds of a `dyn` of which the text is known.
+-- The bounds of a `dyn`, with known text.
 use Rattle.std.proofs.Common.{◌≡◌, refl, ap, sym, subst, ◌∙◌, ℕ, List, [], ◌++◌, true, false, arith, codes, length-append, append-nil, Some, Bool}
 use Rattle.sym_print.specs.Unshared.{done, text_of}
 use Rattle.sym_print.specs.Building.{◌then◌, ◌also◌, ◌perhaps◌}
@@ -10,7 +10,7 @@ use Rattle.rust_direct.specs.Bounds.{BoundsBegin}
 use Rattle.rust_direct.proofs.WrittenTexts.{perhaps-text, written-plain, written-after, one-written, after-others}
 use Rattle.rust_direct.proofs.PrintedPaths.{then-cost, perhaps-cost}
 
--- nothing comes before the first bound
+-- nothing precedes the first bound
 pub no-bounds-begin : (brief : Bool) → BoundsBegin brief (λ b. b) [] []
 no-bounds-begin brief = record { plain = refl; text_is = λ rest more p. p; cost = λ rest. omega arith; needs_none = λ rest h. h }
 

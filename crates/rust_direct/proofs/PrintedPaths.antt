@@ -1,4 +1,4 @@
--- Paths of which the text is known.
+-- Paths with known text.
 use Rattle.std.proofs.Common.{◌≡◌, refl, ap, sym, subst, ◌∙◌, ℕ, ◌+◌, ◌*◌, ◌≤◌, List, [], ◌∷◌, ◌++◌, length, Bool, true, false, arith, codes, length-append, append-nil, append_assoc, nat_le, Option, Some, None}
 use Rattle.sym_print.specs.declared.detail.Detail.TheVariants.{Full, Brief}
 use Rattle.sym_print.specs.Unshared.{Unshared, done, text_of, cost_of, cost_of_parts}
@@ -23,7 +23,7 @@ perhaps-cost (Some u) rest = refl
 
 -- ## Names
 
--- an identifier that is no Punycode
+-- an identifier that isn't in Punycode
 abbrev named : (count : ℕ) → (name : List ℕ) → Identifier
 named count name = record { disambiguator = count; name = record { punycode = false; bytes = name } }
 
@@ -69,7 +69,7 @@ nested-prints brief value letter p bytes count (b ∷ bs) lower filled plain pri
       needs_none = prints.needs_none;
     }
 
--- Its name leaves room for one part more that has no text.
+-- Its name leaves room for one more part without text.
 pub nested-room : (brief : Bool) (value : Bool) (letter : ℕ) (p : Path) (bytes : List ℕ) (count : ℕ) (name : List ℕ) → nat_le 97 letter ≡ true → 1 ≤ length name
     → PathPrints brief value p bytes → HasRoom brief value (nested letter p (named count name)) (bytes ++ codes "::" ++ name)
 unfolding path_parts need
@@ -106,7 +106,7 @@ opening-length true value = omega arith
 opening-length false true = omega arith
 opening-length false false = omega arith
 
--- nothing comes before the first argument
+-- nothing precedes the first argument
 pub none-begin : (brief : Bool) → ArgumentsBegin brief (λ a. a) [] []
 none-begin brief = record { plain = refl; text_is = λ rest more p. p; cost = λ rest. omega arith; needs_none = λ rest h. h }
 
@@ -157,7 +157,7 @@ lifetime-begins brief made separator bytes begin = record {
   needs_none = λ rest h. begin.needs_none (lifetime_argument 0 rest) (omega (arith, h));
 }
 
--- no argument comes after these
+-- no argument follows these
 pub arguments-end : (brief : Bool) (made : Arguments → Arguments) (separator bytes : List ℕ) → ArgumentsBegin brief made separator bytes → ArgumentsPrint brief (made no_arguments) bytes
 unfolding path_parts need
 arguments-end brief made separator bytes begin = record {

@@ -1,4 +1,4 @@
--- Closures, shims and constants of which the text is known.
+-- Closures, shims and constants with known text.
 use Rattle.std.proofs.Common.{◌≡◌, refl, ap, sym, subst, ◌∙◌, ℕ, ◌+◌, ◌≤◌, List, [], ◌∷◌, ◌++◌, length, Bool, true, false, arith, codes, length-append, append-nil, append_assoc, nat_le}
 use Rattle.std.specs.Prelude.{decimal}
 use Rattle.std.proofs.lemmas.Fmt.{decimal_nonempty}
@@ -19,7 +19,7 @@ use Rattle.rust_direct.proofs.PrintedPaths.{then-cost, one-cost}
 
 -- ## Closures and shims
 
--- an identifier that is no Punycode
+-- an identifier that isn't in Punycode
 abbrev named : (count : ℕ) → (name : List ℕ) → Identifier
 named count name = record { disambiguator = count; name = record { punycode = false; bytes = name } }
 

@@ -44,7 +44,7 @@ shown-answer brief s text limit size shown short =
 pub whole-shown : (brief : Bool) (s bytes : List ℕ) → brief ≡ false → IsWhole brief s bytes → IsShown brief s (length bytes) bytes
 whole-shown brief s bytes is p = record { whole = p.whole; stands = p.stands; text_is = p.text_is.whole is; cost = p.cost }
 
--- and where they aren't what is seen of it.
+-- and its visible part where they aren't.
 pub brief-shown : (brief : Bool) (s old new : List ℕ) → brief ≡ true → IsWhole brief s old → new ≡ visible 0 old → IsShown brief s (length old) new
 brief-shown brief s old new is p left =
     record { whole = p.whole; stands = p.stands; text_is = text-seen brief _ old is p.text_is ∙ sym left; cost = p.cost }
@@ -112,7 +112,7 @@ path-ended brief s w from f arrives is =
       ends = (waits.2 held.0 w.at arrives.state (subst (λ v. Comes s r.os v w.at arrives.state) held.1 r.comes)).none;
     }
 
--- the path of the crate that asked for it is expected
+-- expects the path of the instantiating crate
 pub other-begun : (brief : Bool) (s : List ℕ) (old new : Direct) (from : ℕ) (f : Forms) (is_value : Bool) → Arrives brief s old opens.Symbol from f → has_form true f ≡ true
     → old.is_aside ≡ false → new.waiting.list.items ≡ old.waiting.list.items ++ opens.Other ∷ [] → new.waiting.room ≡ old.waiting.room → new.text ≡ old.aside → new.aside ≡ old.text
     → new.is_aside ≡ not old.is_aside → new.notes ≡ old.notes → new.numbers ≡ old.numbers → new.at ≡ old.at → IsWriting brief s new (steps.Path is_value)
@@ -161,7 +161,7 @@ other-read brief s old new from f arrives is hidden text aside is_aside notes nu
 
 -- ## The end
 
--- what a symbol has from a place on is there, and ends with it
+-- the rest of a symbol from a place on is there, and the symbol ends with it
 rest-stands : (s suffix : List ℕ) (at : ℕ) → at ≤ length s → suffix ≡ take (length s - at) (drop at s)
     → StandsAt s at suffix × (at + length suffix ≡ length s)
 rest-stands s suffix at inside is =

@@ -23,7 +23,7 @@ use Rattle.rust_direct.proofs.Opened.{keeps-opened, stands-opened, wrapped}
 
 -- ## Impls
 
--- the path of an impl of a trait is expected, which isn't shown
+-- expects the path of an impl of a trait, which isn't shown
 pub trait-begun : (brief : Bool) (s : List ℕ) (old new : Direct) (count end : ℕ) (plain : Bool) → AwaitsPath brief s old → StandsAt s old.at (88 ∷ [])
     → IsDisambiguatorAt s (old.at + 1) count end → old.is_aside ≡ false
     → new.waiting.list.items ≡ old.waiting.list.items ++ opens.TraitImpl old.at ∷ [] → new.waiting.room ≡ old.waiting.room
@@ -106,7 +106,7 @@ trait-typed brief s old middle new place from a from_is writes pushes =
 
 -- ## Traits as a type implements them
 
--- the type is expected that implements a trait
+-- expects the type that implements a trait
 pub definition-begun : (brief : Bool) (s : List ℕ) (old new : Direct) (from behind : ℕ) → AwaitsPath brief s old → StandsAt s old.at (89 ∷ []) → behind ≡ old.at + 1
     → from ≡ length old.text.list.items → Opens old new (codes "<") (opens.Implementing old.at from) behind → IsWriting brief s new steps.Type
 definition-begun brief s old new from behind awaits letter next from_is opened =
@@ -135,7 +135,7 @@ definition-begun brief s old new from behind awaits letter next from_is opened =
       };
     }
 
--- the type is read that implements a trait, and the trait is expected
+-- the type that implements a trait is read, and the trait is expected
 pub implementing-read : (brief : Bool) (s : List ℕ) (old middle new : Direct) (place from here : ℕ) (f : Forms) (plain : Bool)
     → Arrives brief s old (opens.Implementing place from) here f → is_type f ≡ true → Writes old middle (codes " as ")
     → Pushes middle new (opens.Implemented place from) → IsWriting brief s new (steps.Path plain)
@@ -170,7 +170,7 @@ implementing-read brief s old middle new place from here f plain arrives is writ
       };
     }
 
--- the trait is read that a type implements
+-- the trait that a type implements is read
 pub implemented-read : (brief : Bool) (s : List ℕ) (old middle : Direct) (place from here : ℕ) (f : Forms) → Arrives brief s old (opens.Implemented place from) here f
     → has_form false f ≡ true → Writes old middle (codes ">") → IsEnded brief s middle place from forms.Alike forms.Alike
 implemented-read brief s old middle place from here f arrives is writes =

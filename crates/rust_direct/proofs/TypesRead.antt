@@ -1,4 +1,4 @@
--- Types that were read and written: those of one type, and those that came before.
+-- Types that were read and written: those of one type, and back references.
 use Rattle.std.proofs.Common.{◌≡◌, ℕ, suc, ◌+◌, List, [], ◌∷◌, length, slice_get, true, Some, refl, ap, subst, ◌∙◌, Bool}
 use Rattle.std.proofs.lemmas.Bool.{false≢true}
 use Rattle.sym_direct.specs.Holes.{StandsAt}
@@ -22,7 +22,7 @@ use Rattle.rust_direct.proofs.PrintedTypes.{path-is-type}
 use Rattle.rust_direct.proofs.PathsRead.{stands-written}
 use Rattle.rust_direct.proofs.Again.{note-found}
 
--- ## What came before
+-- ## Back references
 
 path-as-type : (v : Value) (p : tree.Path) → as_path (Some v) ≡ Some p → as_type (Some v) ≡ Some (tree.path_type p)
 path-as-type (a_path q) p is = let same : q ≡ p = cc is in ap (λ x. Some (tree.path_type x)) same
@@ -39,7 +39,7 @@ type-said brief forms.Plain v bytes is h = (tree.path_type h.0, path-as-type v h
 type-said brief forms.Typed v bytes is h = (h.0, h.1, h.2, (h.0, refl, h.2))
 type-said brief forms.Unnamed v bytes is h = absurd (false≢true is)
 
--- a type is expected as nothing else
+-- expects a plain type
 as-wanted : (w : Wanted) → is_for_type w ≡ true → kind_of w ≡ TYPE
 as-wanted path e = absurd (false≢true e)
 as-wanted other_path e = absurd (false≢true e)

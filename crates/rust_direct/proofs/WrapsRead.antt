@@ -45,7 +45,7 @@ wrap-begun brief s old new mark closing made at entry a goes holds is opened =
       };
     }
 
--- nothing comes after the type
+-- nothing follows the type
 bare : (brief : Bool) (mark bytes : List ℕ) (t : tree.Ty) → TypePrints brief t (mark ++ bytes) → Holds brief forms.Typed (a_type t) (mark ++ bytes ++ [])
 bare brief mark bytes t prints = (t, refl, subst (λ l. TypePrints brief t l) (sym (append-nil (mark ++ bytes))) prints)
 

@@ -1,4 +1,4 @@
--- Texts and the bytes as which they are written.
+-- Texts and the bytes that they are written as.
 use Rattle.std.proofs.Common.{◌≡◌, refl, ap, sym, subst, ◌∙◌, ℕ, ◌+◌, ◌≤◌, ◌<◌, ◌^◌, ◌%◌, List, [], ◌∷◌, ◌++◌, Bool, true, false, arith, codes, append-nil, append_assoc, Option, Some, None}
 use Rattle.std.specs.Prelude.{decimal, if◌then◌else◌, ◌==◌}
 use Rattle.std.proofs.lemmas.Bool.{false≢true}
@@ -40,11 +40,11 @@ written-append brief x y xs ys p q = record {
   hidden = λ is. hidden-append xs ys (p.hidden is) (q.hidden is);
 }
 
--- one after a text without marks
+-- a marked text after one without marks
 pub written-after : (brief : Bool) (own y ys : List ℕ) → IsUnmarked own → IsWrittenAs brief y ys → IsWrittenAs brief (own ++ y) (own ++ ys)
 written-after brief own y ys plain q = written-append brief own y own ys (written-plain brief own plain) q
 
--- a text without marks after one
+-- a text without marks after a marked one
 pub written-before : (brief : Bool) (x xs own : List ℕ) → IsUnmarked own → IsWrittenAs brief x xs → IsWrittenAs brief (x ++ own) (xs ++ own)
 written-before brief x xs own plain p = written-append brief x own xs own p (written-plain brief own plain)
 
@@ -55,7 +55,7 @@ written-as brief x y xs ys e f p = subst (λ l. IsWrittenAs brief y l) f (subst 
 pub written-spelled : (brief : Bool) (text bytes : List ℕ) → text ≡ bytes → IsUnmarked bytes → IsWrittenAs brief text bytes
 written-spelled brief text bytes e plain = subst (λ l. IsWrittenAs brief l bytes) (sym e) (written-plain brief bytes plain)
 
--- what is seen of the bytes of a whole text is the text
+-- the visible part of the bytes of a whole text is the text
 pub text-seen : (brief : Bool) (text bytes : List ℕ) → brief ≡ true → IsWrittenAs brief text bytes → text ≡ visible 0 bytes
 unfolding visible
 text-seen brief text bytes is p = sym (ap (visible 0) (sym (append-nil bytes)) ∙ p.seen is [] ∙ append-nil text)

@@ -29,13 +29,13 @@ pub record Awaits (brief : Bool) (s : List ℕ) (w : Direct) (for_type : Bool) :
 abbrev pub AwaitsPath : (brief : Bool) (s : List ℕ) → Direct → Type 0
 AwaitsPath brief s w = (for_type : Bool) × Awaits brief s w for_type
 
--- A path or a type is read, and what waited for it is taken out.
+-- A path or a type is read, and the entry that waited for it is removed.
 pub record Arrives (brief : Bool) (s : List ℕ) (w : Direct) (entry : Open) (from : ℕ) (forms : Forms) : Type 0 where
   pub state : State
   pub keeps : Keeps brief s w state
   pub read : IsRead brief s w state (entry ∷ reverse w.waiting.list.items) from forms
 
--- What began at a place is read, which is to be noted.
+-- What began at a place is read, and is to be noted.
 pub record IsEnded (brief : Bool) (s : List ℕ) (w : Direct) (place from : ℕ) (noted forms : Forms) : Type 0 where
   pub before : State
   pub keeps : Keeps brief s w before
@@ -58,7 +58,7 @@ pub record IsEndedWithRoom (brief : Bool) (s : List ℕ) (w : Direct) (place fro
   pub has : PathHas brief forms p ended.bytes
   pub room : HaveRoom brief forms p ended.bytes
 
--- The path of an impl is read, which isn't shown: its type is expected, in angles.
+-- The path of an impl is read, which isn't shown: expects its type, in angles.
 pub record AwaitsImplType (brief : Bool) (s : List ℕ) (w : Direct) (place : ℕ) : Type 0 where
   pub state : State
   pub keeps : Keeps brief s w state
@@ -68,7 +68,7 @@ pub record AwaitsImplType (brief : Bool) (s : List ℕ) (w : Direct) (place : �
   pub goes : TypeGoesOn s outer place (λ t. a_path (made t)) w.at state
   pub stands : Stands brief s (reverse w.waiting.list.items) outer w.text.list.items (parked_of w)
 
--- The same of an impl of a trait: after its type the trait is expected.
+-- Likewise for an impl of a trait: after its type the trait is expected.
 pub record AwaitsTraitType (brief : Bool) (s : List ℕ) (w : Direct) (place : ℕ) : Type 0 where
   pub state : State
   pub keeps : Keeps brief s w state
@@ -86,7 +86,7 @@ pub record IsSymbolEnded (brief : Bool) (s : List ℕ) (w : Direct) : Type 0 whe
   pub prints : PathPrints brief true p w.text.list.items
   pub ends : EndsSymbol s p w.at
 
--- an argument is expected, after what separates it from the one before
+-- expects an argument, after what separates it from the one before
 pub record AwaitsArgument (brief : Bool) (s : List ℕ) (w : Direct) (is_first : Bool) : Type 0 where
   pub state : State
   pub keeps : Keeps brief s w state

@@ -41,12 +41,12 @@ pub record IsHexAt (s : List ℕ) (at : ℕ) (n : ℕ) (end : ℕ) : Type 0 wher
   pub stands : StandsAt s at (bytes_of token)
   pub ends : end ≡ at + length (bytes_of token)
 
--- Where a constant is expected at the place, this one comes, and this is the place after it.
+-- A constant expected at the place is this one, and this is the place after it.
 abbrev pub IsConstantAt : (s : List ℕ) → (at : ℕ) → tree.Constant → (end : ℕ) → Type 0
 IsConstantAt s at c end =
     (os : List Opened) (st : State) → Expects s CONSTANT os at st → Comes s os (a_constant c) end (with_ended at (a_constant c) st)
 
--- The type of an integer and its sign are read, and its digits are expected. Zero has no minus.
+-- The type of an integer and its sign are read; expects its digits. Zero has no minus.
 abbrev pub BeginsInteger : (s : List ℕ) → (at digits : ℕ) → (minus : Bool) → Type 0
 BeginsInteger s at digits minus =
     (letter : ℕ) × ((n end : ℕ) → IsHexAt s digits n end → IsConstantAt s at (tree.integer letter (minus && nat_lt 0 n) n) end)
@@ -59,14 +59,14 @@ pub record WritesConstant (s : List ℕ) (old new : Direct) (at end : ℕ) : Typ
   pub writes : Writes old new own
   pub comes : IsConstantAt s at c end
 
--- The size of an array is expected, whose type is read.
+-- Expects the size of an array whose type is read.
 pub record SizeGoesOn (s : List ℕ) (outer : List Opened) (place : ℕ) (t : tree.Ty) (at : ℕ) (st : State) : Type 0 where
   pub inner : List Opened
   pub production : Production
   pub awaits : Expects s CONSTANT inner at (within production st)
   pub passes : (c : tree.Constant) (at : ℕ) (st : State) → Comes s inner (a_constant c) at st → Ends s outer place (a_type (tree.array t c)) at st
 
--- The type of an array is expected, and after it the size.
+-- Expects the type of an array, and after it the size.
 pub record ArrayGoesOn (s : List ℕ) (outer : List Opened) (place : ℕ) (at : ℕ) (st : State) : Type 0 where
   pub inner : List Opened
   pub production : Production

@@ -1,4 +1,4 @@
--- What the rules of a Rust symbol that are open still need. No lifetime is bound: where one is, the symbol is given up.
+-- What the open rules of a Rust symbol still need. No lifetime is bound: a symbol that binds one is given up.
 use Rattle.std.specs.Prelude.{◌≡◌, ◌⊎◌, ℕ, ◌+◌, ◌≤◌, List, [], ◌∷◌, Bool, true, false, Option, Some, None, Ok, length}
 use Rattle.std.specs.List.{AllByRecursion}
 use Rattle.sym_core.specs.declared.NumberKind.TheVariants.{Base62}
@@ -18,21 +18,21 @@ use Rattle.rust_grammar.specs.Mangled.{v0_mangled}
 use Rattle.rust_grammar.specs.Value.{Value, State, a_path, a_type, some_types}
 use Rattle.rust_grammar.specs.Unfold.{v0, at_first, as_type, arguments_part, identifier_part, greatest_u64}
 
--- Rust as a language to be read so. What it says of a rule depends on the symbol: a suffix is what is left of it.
+-- Rust as a language for this reader. What it says of a rule depends on the symbol: a suffix is the rest of it.
 abbrev pub rust_language : Language Value State ℕ
 rust_language = record { table = v0_table; reading = λ s. v0 s; first_context = 0; first_state = at_first }
 
 abbrev pub Opened : Type 0
 Opened = direct.Opened Value State ℕ
 
--- the innermost of the open rules has the next ones of its values, none or one
+-- the innermost open rule has its next values, none or one
 abbrev pub ComesAll : (s : List ℕ) → List Opened → List Value → (at : ℕ) → State → Type 0
 ComesAll s os vs at state = direct.Comes rust_language s os vs at state
 
 abbrev pub Comes : (s : List ℕ) → List Opened → Value → (at : ℕ) → State → Type 0
 Comes s os v at state = ComesAll s os (v ∷ []) at state
 
--- a kind is expected next
+-- expects a kind next
 abbrev pub Expects : (s : List ℕ) → (kind : ℕ) → List Opened → (at : ℕ) → State → Type 0
 Expects s kind os at state = direct.Expects rust_language s (OfKind kind) 0 os at state
 
@@ -42,7 +42,7 @@ Expects s kind os at state = direct.Expects rust_language s (OfKind kind) 0 os a
 abbrev pub within : Production → State → State
 within p state = record { ended = state.ended; inside = Some p; minus = false }
 
--- the state after what no reference may name
+-- the state after something that no reference may name
 abbrev pub behind : State → State
 behind state = record { ended = state.ended; inside = None; minus = false }
 
@@ -52,7 +52,7 @@ with_ended place v state = record { ended = record { place = place; value = v } 
 
 -- ## What is expected
 
--- a path, the path of the crate that asked for the symbol, or a type
+-- a path, the path of the instantiating crate, or a type
 pub data Wanted : Type 0 where
   path : Wanted
   other_path : Wanted
@@ -95,11 +95,11 @@ IsDisambiguatorAt s at count end =
 abbrev pub IsSmallNumberAt : (s : List ℕ) → (at end : ℕ) → Type 0
 IsSmallNumberAt s at end = (n : ℕ) × IsNumberAt s at n end × (n + 1 ≤ greatest_u64)
 
--- a disambiguator is at the place, or none, whatever it counts, and this is the place after it
+-- a disambiguator is at the place, or none, whatever its number, and this is the place after it
 abbrev pub HasDisambiguator : (s : List ℕ) → (at end : ℕ) → Type 0
 HasDisambiguator s at end = (count : ℕ) × IsDisambiguatorAt s at count end
 
--- an identifier that is no Punycode
+-- an identifier that isn't in Punycode
 abbrev pub identifier : (count : ℕ) → (name : List ℕ) → tree.Identifier
 identifier count name = record { disambiguator = count; name = record { punycode = false; bytes = name } }
 
@@ -132,7 +132,7 @@ IsSuffix [] = ⊥
 IsSuffix (d ∷ []) = ⊥
 IsSuffix (d ∷ b ∷ bs) = (d ≡ 46) × AllByRecursion (λ c. is_suffix_byte c ≡ true) (b ∷ bs)
 
--- a symbol with this path and this suffix, and any crate that asked for it
+-- a symbol with this path and this suffix, and any instantiating crate
 abbrev pub IsSymbol : (s : List ℕ) → tree.Path → (suffix : List ℕ) → Type 0
 IsSymbol s p suffix =
     (other : Option tree.Path) × StandsFor v0_mangled s (Ok (record { path = p; instantiating = other; suffix = suffix }))
@@ -142,7 +142,7 @@ pub record EndsSymbol (s : List ℕ) (p : tree.Path) (at : ℕ) : Type 0 where
   pub ends : at ≡ length s → IsSymbol s p []
   pub ends_in : (suffix : List ℕ) → StandsAt s at suffix → at + length suffix ≡ length s → IsSuffix suffix → IsSymbol s p suffix
 
--- The path of a symbol is read, and that of the crate that asked for it may be there.
+-- The path of a symbol is read, and that of the instantiating crate may follow.
 pub record OtherGoesOn (s : List ℕ) (p : tree.Path) (at : ℕ) (st : State) : Type 0 where
   pub inner : List Opened
   pub awaits : Expects s OTHER_PATH inner at (within Production.Symbol st)
@@ -151,46 +151,46 @@ pub record OtherGoesOn (s : List ℕ) (p : tree.Path) (at : ℕ) (st : State) : 
 
 -- ## Paths
 
--- The parent of a path in a namespace is read: its name is expected.
+-- The parent of a path in a namespace is read: expects its name.
 pub record NameGoesOn (s : List ℕ) (outer : List Opened) (letter place : ℕ) (p : tree.Path) (at : ℕ) (st : State) : Type 0 where
   pub inner : List Opened
   pub awaits : Expects s IDENTIFIER inner at (within Production.Nested st)
   pub onward : (v : Value) (name : tree.Identifier) (at : ℕ) (st : State) → identifier_part (v ∷ []) ≡ Ok (name, []) → Comes s inner v at st
       → Comes s outer (a_path (tree.nested letter p name)) at (with_ended place (a_path (tree.nested letter p name)) st)
 
--- what waited for a path or a type has it
+-- the entry that waited for a path or a type has it
 abbrev pub Ends : (s : List ℕ) → (outer : List Opened) → (place : ℕ) → Value → (at : ℕ) → State → Type 0
 Ends s outer place v at st = Comes s outer v at (with_ended place v st)
 
--- the value is this type: a path is one, too
+-- the value is this type: a path is also one
 abbrev pub IsType : Value → tree.Ty → Type 0
 IsType v t = as_type (Some v) ≡ Some t
 
--- a type that comes inside ends what is made of it
+-- a type accepted inside ends what is made of it
 abbrev pub TypePasses : (s : List ℕ) → (inner outer : List Opened) → (place : ℕ) → (made : tree.Ty → Value) → Type 0
 TypePasses s inner outer place made =
     (v : Value) (t : tree.Ty) (at : ℕ) (st : State) → IsType v t → Comes s inner v at st → Ends s outer place (made t) at st
 
--- a path that comes inside ends what is made of it
+-- a path accepted inside ends what is made of it
 abbrev pub PathPasses : (s : List ℕ) → (inner outer : List Opened) → (place : ℕ) → (made : tree.Path → Value) → Type 0
 PathPasses s inner outer place made =
     (p : tree.Path) (at : ℕ) (st : State) → Comes s inner (a_path p) at st → Ends s outer place (made p) at st
 
--- A type is expected, which is the last part of what is made of it.
+-- Expects a type, the last part of what is made of it.
 pub record TypeGoesOn (s : List ℕ) (outer : List Opened) (place : ℕ) (made : tree.Ty → Value) (at : ℕ) (st : State) : Type 0 where
   pub inner : List Opened
   pub production : Production
   pub awaits : Expects s TYPE inner at (within production st)
   pub passes : TypePasses s inner outer place made
 
--- A path is expected, which is the last part of what is made of it.
+-- Expects a path, the last part of what is made of it.
 pub record PathGoesOn (s : List ℕ) (outer : List Opened) (place : ℕ) (made : tree.Path → Value) (at : ℕ) (st : State) : Type 0 where
   pub inner : List Opened
   pub production : Production
   pub awaits : Expects s PATH inner at (within production st)
   pub passes : PathPasses s inner outer place made
 
--- Arguments of a path go on after others, up to an E.
+-- Arguments of a path continue after others, up to an E.
 pub record ArgumentsGoOn (s : List ℕ) (outer : List Opened) (place : ℕ) (p : tree.Path) (made : tree.Arguments → tree.Arguments) (at : ℕ) (st : State)
     : Type 0 where
   pub inner : List Opened
@@ -199,28 +199,28 @@ pub record ArgumentsGoOn (s : List ℕ) (outer : List Opened) (place : ℕ) (p :
   pub closes : (vs : List Value) (a : tree.Arguments) (at : ℕ) (st : State) → arguments_part vs ≡ Ok (a, []) → ComesAll s inner vs at st
       → StandsAt s at (69 ∷ []) → Ends s outer place (a_path (tree.generic p (made a))) (at + 1) st
 
--- Types of a tuple go on after others, up to an E.
+-- Types of a tuple continue after others, up to an E.
 pub record TypesGoOn (s : List ℕ) (outer : List Opened) (place : ℕ) (made : tree.Tys → tree.Tys) (at : ℕ) (st : State) : Type 0 where
   pub inner : List Opened
   pub production : Production
   pub awaits : Expects s TYPES inner at (within production st)
   pub closes : (ts : tree.Tys) (at : ℕ) (st : State) → Comes s inner (some_types ts) at st → Ends s outer place (a_type (tree.tuple (made ts))) at st
 
--- The type is expected that implements a trait, and after it the trait.
+-- Expects the type that implements a trait, and after it the trait.
 pub record ImplementingGoesOn (s : List ℕ) (outer : List Opened) (place : ℕ) (made : tree.Ty → tree.Path → Value) (at : ℕ) (st : State) : Type 0 where
   pub inner : List Opened
   pub production : Production
   pub awaits : Expects s TYPE inner at (within production st)
   pub onward : (v : Value) (t : tree.Ty) (at : ℕ) (st : State) → IsType v t → Comes s inner v at st → PathGoesOn s outer place (made t) at st
 
--- The path of an impl is expected, and after it its type.
+-- Expects the path of an impl, and after it its type.
 pub record ImplGoesOn (s : List ℕ) (outer : List Opened) (place : ℕ) (made : tree.Path → tree.Ty → Value) (at : ℕ) (st : State) : Type 0 where
   pub inner : List Opened
   pub production : Production
   pub awaits : Expects s PATH inner at (within production st)
   pub onward : (q : tree.Path) (at : ℕ) (st : State) → Comes s inner (a_path q) at st → TypeGoesOn s outer place (made q) at st
 
--- The path of an impl of a trait is expected, and after it the type and the trait.
+-- Expects the path of an impl of a trait, and after it the type and the trait.
 pub record TraitGoesOn (s : List ℕ) (outer : List Opened) (place : ℕ) (made : tree.Path → tree.Ty → tree.Path → Value) (at : ℕ) (st : State)
     : Type 0 where
   pub inner : List Opened

@@ -8,7 +8,7 @@ use Rattle.sym_core.specs.Value.{value_of}
 use Rattle.sym_direct.specs.Holes.{StandsAt}
 use Rattle.rust_direct.specs.Holes.{IsNameAt}
 
--- Digits are at the place. If they are the length of a name, its own bytes, this many, are from here on.
+-- Digits are at the place. If they are the length of a name, its own bytes, as many as that, are from here on.
 pub record IsLengthRead (s : List ℕ) (at from size : ℕ) : Type 0 where
   pub digits : List ℕ
   pub are_digits : AreDigitsOf Length digits
@@ -17,7 +17,7 @@ pub record IsLengthRead (s : List ℕ) (at from size : ℕ) : Type 0 where
   pub size_is : size ≡ value_of Length digits
   pub some : 0 < size
 
--- the byte belongs to a length, or parts it from the name
+-- the byte belongs to a length, or separates it from the name
 abbrev pub goes_on : ℕ → Bool
 goes_on b = is_decimal_digit b || b == 95
 

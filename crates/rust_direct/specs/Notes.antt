@@ -5,7 +5,7 @@ use Rattle.rust_grammar.specs.Unfold.{ended_at}
 use Rattle.rust_direct.specs.declared.open.Note.{Note}
 use Rattle.rust_direct.specs.PrintsInForm.{Says}
 
--- The list in which a note is. What is read and not shown is written aside; while it is, that list is the one that is written to.
+-- The list that holds a note. What is read and not shown is written aside; meanwhile that list is the one that is written to.
 abbrev pub home : (is_aside : Bool) → (note_is_aside : Bool) → (text aside : List ℕ) → List ℕ
 home true true text aside = text
 home false false text aside = text

@@ -1,4 +1,4 @@
--- Trees of Rust of which the text is known, where no lifetime is bound.
+-- Trees of Rust with known text, where no lifetime is bound.
 use Rattle.std.specs.Prelude.{◌≡◌, ℕ, ◌+◌, ◌*◌, ◌≤◌, List, [], ◌∷◌, ◌++◌, length, Bool, true, false, Option, Some, None, codes, cond}
 use Rattle.sym_print.specs.declared.detail.Detail.{Detail}
 use Rattle.sym_print.specs.declared.detail.Detail.TheVariants.{Full, Brief}
@@ -13,8 +13,8 @@ abbrev pub detail_by : (brief : Bool) → Detail
 detail_by true = Brief
 detail_by false = Full
 
--- A text was written as these bytes: as it is where all is shown, else so that it is what is seen of them, unless they are in a stretch
--- that is left out.
+-- A text was written as these bytes: as it is where all is shown, and otherwise in a form whose visible bytes are the text's,
+-- unless they are in a stretch that is left out.
 pub record IsWrittenAs (brief : Bool) (text bytes : List ℕ) : Type 0 where
   pub whole : brief ≡ false → text ≡ bytes
   pub seen : brief ≡ true → IsSeenAs bytes text
@@ -25,18 +25,18 @@ pub record Shows (brief : Bool) (parts : Unshared) (bytes : List ℕ) : Type 0 w
   pub text_is : IsWrittenAs brief (text_of parts) bytes
   pub cost : 1 + cost_of parts ≤ 4 * length bytes
 
--- parts that have this text, none of which is ever left out
+-- parts that have this text, none of them ever left out
 pub record Spells (parts : Unshared) (bytes : List ℕ) : Type 0 where
   pub text_is : text_of parts ≡ bytes
   pub plain : IsUnmarked bytes
   pub cost : 1 + cost_of parts ≤ 4 * length bytes
 
--- A path with this text in a form: after a value its arguments come after `::`. It needs no lifetime that is bound around it.
+-- A path with this text in a form: after a value its arguments follow `::`. It needs no lifetime that is bound around it.
 pub record PathPrints (brief : Bool) (value : Bool) (p : Path) (bytes : List ℕ) : Type 0 where
   pub shows : Shows brief (path_parts (detail_by brief) 0 value p) bytes
   pub needs_none : need p ≡ 0
 
--- What prints the path costs at least one less than it may: one part more that has no text is within the bound.
+-- What prints the path costs at least one less than it may: one more part without text is within the bound.
 abbrev pub HasRoom : (brief : Bool) (value : Bool) → Path → (bytes : List ℕ) → Type 0
 HasRoom brief value p bytes = 2 + cost_of (path_parts (detail_by brief) 0 value p) ≤ 4 * length bytes
 
@@ -56,7 +56,7 @@ abbrev pub cost_of_some : Option Unshared → ℕ
 cost_of_some None = 0
 cost_of_some (Some parts) = cost_of parts
 
--- what comes before the arguments of a path, and after them: a mark where they aren't shown
+-- what precedes the arguments of a path, and follows them: a mark where they aren't shown
 abbrev pub opening : (brief : Bool) (value : Bool) → List ℕ
 opening true value = opens ∷ []
 opening false value = cond value (codes "::<") (codes "<")
@@ -71,7 +71,7 @@ pub record ArgumentsPrint (brief : Bool) (args : Arguments) (bytes : List ℕ) :
   pub cost : cost_of_some (arguments_from (detail_by brief) 0 [] args) ≤ 4 * length bytes
   pub needs_none : need_of_arguments args ≡ 0
 
--- Arguments so far have this text, whatever follows them; a separator comes before the next one.
+-- Arguments so far have this text, whatever follows them; a separator precedes the next one.
 pub record ArgumentsBegin (brief : Bool) (made : Arguments → Arguments) (separator bytes : List ℕ) : Type 0 where
   pub plain : IsUnmarked separator
   pub text_is : (rest : Arguments) (more : List ℕ) → IsWrittenAs brief (text_of_some (arguments_from (detail_by brief) 0 separator rest)) more
@@ -79,7 +79,7 @@ pub record ArgumentsBegin (brief : Bool) (made : Arguments → Arguments) (separ
   pub cost : (rest : Arguments) → cost_of_some (arguments_from (detail_by brief) 0 [] (made rest)) ≤ 4 * length bytes + cost_of_some (arguments_from (detail_by brief) 0 separator rest)
   pub needs_none : (rest : Arguments) → need_of_arguments rest ≡ 0 → need_of_arguments (made rest) ≡ 0
 
--- the same of the types of a tuple
+-- likewise for the types of a tuple
 pub record TypesBegin (brief : Bool) (made : Tys → Tys) (separator bytes : List ℕ) : Type 0 where
   pub plain : IsUnmarked separator
   pub text_is : (rest : Tys) (more : List ℕ) → IsWrittenAs brief (text_of_some (types_from (detail_by brief) 0 separator rest)) more

@@ -1,4 +1,5 @@
--- What a writer's lists say while a symbol is read: what is open waits for what comes next, and what was written is its text.
+-- What a writer's lists say while a symbol is read: the open entries wait for what comes next, and what was written is its
+-- text.
 use Rattle.std.specs.Prelude.{◌≡◌, ℕ, ◌+◌, ◌*◌, ◌≤◌, List, [], ◌∷◌, ◌++◌, length, reverse, Bool, true, false, Ok, codes, cond}
 use Rattle.sym_print.specs.Unshared.{text_of, cost_of}
 use Rattle.sym_demangle.specs.Mangled.{StandsFor}
@@ -30,7 +31,7 @@ pub record IsWhole (brief : Bool) (s : List ℕ) (text : List ℕ) : Type 0 wher
   pub text_is : IsWrittenAs brief (text_of (symbol_parts (detail_by brief) whole)) text
   pub cost : cost_of (symbol_parts (detail_by brief) whole) ≤ 4 * length text
 
--- The symbol is one with this text, which costs at most four for each of so many bytes.
+-- The symbol has this text, which costs at most four for each of n bytes.
 pub record IsShown (brief : Bool) (s : List ℕ) (size : ℕ) (text : List ℕ) : Type 0 where
   pub whole : tree.Symbol
   pub stands : StandsFor v0_mangled s (Ok whole)
@@ -75,8 +76,8 @@ pub record TypesCount (is_first : Bool) (made : tree.Tys → tree.Tys) : Type 0 
 
 -- ## What is open
 
--- A path or a type comes for the last of the open ones, after what is written. Where it is read and not shown, the text that is
--- shown is the parked one. After the path of an impl that isn't shown itself, whatever is written, the impl's own text begins.
+-- The innermost entry accepts a path or a type, after what is written. Where it is read and not shown, the shown text is
+-- parked. After the path of an impl that isn't shown itself, the impl's own text begins, whatever was written.
 abbrev pub Stands : (brief : Bool) (s : List ℕ) → List Open → List Opened → (text parked : List ℕ) → Type 0
 Stands brief s [] os text parked = ⊥
 Stands brief s (opens.Symbol ∷ rest) os text parked =
@@ -145,7 +146,7 @@ Stands brief s (opens.Array place from ∷ rest) os text parked =
     × ((v : Value) (t : tree.Ty) (at : ℕ) (st : State) → IsType v t → Comes s os v at st → SizeGoesOn s outer place t at st)
     × Stands brief s rest outer front parked
 
--- Nothing is written yet of what isn't shown: for what is read only paths wait whose texts begin with its own.
+-- Nothing hidden is written yet: only paths wait for what is read, and their texts begin with its own.
 abbrev pub IsUnbegun : List Open → Type 0
 IsUnbegun [] = ⊥
 IsUnbegun (opens.Nest letter place ∷ rest) = IsUnbegun rest
@@ -157,7 +158,7 @@ IsUnbegun (opens.InnerImpl place ∷ rest) = Unit {0}
 IsUnbegun (opens.InnerTraitImpl place ∷ rest) = Unit {0}
 IsUnbegun (_ ∷ rest) = ⊥
 
--- the text that is shown, while what isn't shown is written
+-- the shown text, while hidden text is written
 abbrev pub parked_of : Direct → List ℕ
 parked_of w = cond w.is_aside w.aside.list.items []
 
@@ -171,7 +172,7 @@ pub record IsAwaited (brief : Bool) (s : List ℕ) (w : Direct) (state : State) 
   pub awaits : Expects s (kind_of wanted) os w.at state
   pub stands : Stands brief s (reverse w.waiting.list.items) os w.text.list.items (parked_of w)
 
--- a path or a type was read, which is from a place on
+-- a path or a type was read, which extends from a place on
 pub record IsRead (brief : Bool) (s : List ℕ) (w : Direct) (state : State) (waiting : List Open) (from : ℕ) (forms : Forms) : Type 0 where
   pub os : List Opened
   pub v : Value
@@ -183,7 +184,7 @@ pub record IsRead (brief : Bool) (s : List ℕ) (w : Direct) (state : State) (wa
   pub comes : Comes s os v w.at state
   pub stands : Stands brief s waiting os front (parked_of w)
 
--- arguments go on: what is between them and the next one
+-- arguments continue: what is between them and the next one
 abbrev pub separator_of : (is_first : Bool) → List ℕ
 separator_of is_first = cond is_first [] (codes ", ")
 
@@ -234,7 +235,7 @@ HasRooms s w = AreRooms s w.text.room w.aside.room w.notes.room (length w.number
 abbrev pub Keeps : (brief : Bool) (s : List ℕ) → Direct → State → Type 0
 Keeps brief s w st = AreNotesOf brief w st × HasRooms s w
 
--- a writer that has come so far, and what comes next
+-- a writer that has come this far, and what comes next
 pub record IsWriting (brief : Bool) (s : List ℕ) (w : Direct) (step : Step) : Type 0 where
   pub state : State
   pub keeps : Keeps brief s w state

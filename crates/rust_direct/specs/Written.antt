@@ -34,7 +34,7 @@ pub record Notes (old new : Direct) (place from : ℕ) (forms : Forms) : Type 0 
 abbrev pub piece : List ℕ → (from to : ℕ) → List ℕ
 piece bytes from to = take (to - from) (drop from bytes)
 
--- a text was written, something waits, and the place is another one
+-- a text was written, an entry waits, and the place is another one
 pub record Opens (old new : Direct) (bytes : List ℕ) (entry : Open) (at : ℕ) : Type 0 where
   pub text : new.text.list.items ≡ old.text.list.items ++ bytes
   pub aside : new.aside ≡ old.aside
@@ -46,7 +46,7 @@ pub record Opens (old new : Direct) (bytes : List ℕ) (entry : Open) (at : ℕ)
   pub waiting_room : new.waiting.room ≡ old.waiting.room
   pub at_is : new.at ≡ at
 
--- something waits from here on, and nothing else changed
+-- an entry waits from here on, and nothing else changed
 pub record Pushes (old new : Direct) (entry : Open) : Type 0 where
   pub waiting : new.waiting.list.items ≡ old.waiting.list.items ++ entry ∷ []
   pub room : new.waiting.room ≡ old.waiting.room

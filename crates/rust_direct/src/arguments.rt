@@ -42,7 +42,7 @@ impl Direct {
         Some(Step::Arguments { is_first: true })
     }
 
-    /// Writes what comes before arguments: a mark where they aren't to be shown.
+    /// Writes what precedes arguments: a mark where they aren't to be shown.
     #[inline(always)]
     fn push_opening<S: Showing>(&mut self, is_value: bool) -> Option<()>
         ensures { OnSome result (Writes self.old self.new (opening S.IS_BRIEF is_value)) }
@@ -56,7 +56,7 @@ impl Direct {
         self.push_byte(b'<')
     }
 
-    /// Writes what comes after them.
+    /// Writes what follows them.
     #[inline(always)]
     fn push_closing<S: Showing>(&mut self) -> Option<()>
         ensures { OnSome result (Writes self.old self.new (closing S.IS_BRIEF)) }
@@ -85,7 +85,7 @@ impl Direct {
         self.next_argument::<S>(s, byte, false)
     }
 
-    /// Reads an argument, up to the first type that is in it.
+    /// Reads an argument, up to the first type in it.
     // <generic-arg> = <lifetime> | <type> | "K" <const>
     #[inline(always)]
     fn next_argument<S: Showing>(&mut self, s: &[u8], byte: u8, is_first: bool) -> Option<Step>

@@ -1,4 +1,4 @@
-// Types by what they implement.
+// `dyn` types.
 
 ghost use Rattle.std.specs.Prelude.{◌≡◌, ◌∷◌, [], false, true};
 ghost use Rattle.std.specs.Option.{IfSome};

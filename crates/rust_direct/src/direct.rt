@@ -3,7 +3,7 @@
 use crate::open::{Note, Open};
 use sym_direct::Bounded;
 
-/// The lists with which texts are written, one after the other.
+/// The lists that texts are written with, one after the other.
 #[derive(Drop)]
 pub struct Direct {
     pub(crate) text: Bounded<u8>,

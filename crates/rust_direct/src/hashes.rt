@@ -50,7 +50,7 @@ fn are_digits(bytes: &[u8]) -> bool
     true
 }
 
-/// Whether a number whose first digit this is stays below 64 bits with as many digits as a hash has.
+/// Whether a number with this first digit stays below 64 bits with as many digits as a hash has.
 #[inline(always)]
 fn is_low(byte: u8) -> bool
     ensures { result ≡ true → digit_value Base62 byte ≤ 20 }

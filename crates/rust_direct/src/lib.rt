@@ -1,8 +1,8 @@
 //! The text of a Rust symbol, written while its bytes are read.
 //!
-//! Symbols of common parts are read so: paths, impls, closures, and types that bind no lifetime. What is left to the general way is
-//! listed in docs/ARCHITECTURE.md ("The short ways"). A symbol with anything of that is given up, and is to be read by its grammar: no
-//! answer depends on this crate, which `rust_short_way` takes step by step, and `rust_v0` may leave out.
+//! Symbols of common parts are read this way: paths, impls, closures, and types that bind no lifetime. What is left to the
+//! general way is listed in docs/ARCHITECTURE.md ("The short ways"). A symbol with any of that is given up, and is read by its
+//! grammar: no answer depends on this crate, which `rust_short_way` takes step by step, and `rust_v0` may leave out.
 #![tactic(auto)]
 
 mod arguments;

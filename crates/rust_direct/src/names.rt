@@ -74,7 +74,7 @@ fn is_digit(byte: u8) -> bool
     b'0' <= byte && byte <= b'9'
 }
 
-/// Whether a byte after a length may belong to it, or part it from the name.
+/// Whether a byte after a length may belong to it, or separate it from the name.
 #[inline(always)]
 fn goes_on(byte: u8) -> bool
     ensures { result ≡ goes_on byte }
@@ -113,7 +113,7 @@ fn any_name_at(s: &[u8], at: usize) -> Option<TokenPlace>
     })
 }
 
-/// The name at a place, where so much of its length is read.
+/// The name at a place, once this much of its length is read.
 #[inline(always)]
 fn own_at(s: &[u8], at: usize, from: usize, size: usize) -> Option<TokenPlace>
     requires fits { FitsSymbol s.now }

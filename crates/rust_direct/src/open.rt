@@ -1,4 +1,4 @@
-// What is open around what is being read, and what comes next.
+// The entries open around what is being read, and what comes next.
 
 ghost use Rattle.std.specs.Prelude.{◌≡◌};
 ghost use Rattle.rust_direct.specs.PrintsInForm.{has_form, is_path, is_type, form_of};
@@ -8,7 +8,7 @@ ghost use Rattle.rust_direct.specs.PrintsInForm.{has_form, is_path, is_type, for
 pub enum Forms {
     /// a path that looks the same after a value and in a type
     Alike,
-    /// a path as it comes after a value: `Vec::<u8>`
+    /// a path as it follows a value: `Vec::<u8>`
     Valued,
     /// a path as it is in a type: `Vec<u8>`
     Plain,
@@ -18,7 +18,7 @@ pub enum Forms {
     Unnamed,
 }
 
-/// Whether it is a path as it comes after a value, or as it is elsewhere.
+/// Whether it is a path as it follows a value, or as it is elsewhere.
 #[inline(always)]
 pub fn has_form(is_value: bool, forms: Forms) -> bool
     ensures { result ≡ has_form is_value forms }
@@ -72,7 +72,7 @@ pub fn form_of(is_value: bool) -> Forms
     }
 }
 
-/// What a reference may name: its text, by its place in the text or in what is read and not shown.
+/// What a reference may name: its text, by its place in the shown or in the hidden text.
 #[derive(Clone, Copy)]
 pub struct Note {
     pub from: usize,
@@ -81,7 +81,7 @@ pub struct Note {
     pub is_aside: bool,
 }
 
-/// What comes after a type or a path that waits.
+/// What follows a type or a path that waits.
 #[derive(Clone, Copy)]
 pub enum Closing {
     Nothing,
@@ -89,12 +89,12 @@ pub enum Closing {
     Angle,
 }
 
-/// What waits for the path or the type that is being read.
+/// The entries that wait for the path or the type that is being read.
 #[derive(Clone, Copy)]
 pub enum Open {
     /// the symbol waits for its path
     Symbol,
-    /// the symbol waits for the path of the crate that asked for it
+    /// the symbol waits for the path of the instantiating crate
     Other,
     /// a path in a namespace waits for its parent
     Nest {
@@ -128,7 +128,7 @@ pub enum Open {
     InnerTraitImpl {
         place: usize,
     },
-    /// something waits for the type at its end
+    /// an entry waits for the type at its end
     Wrap {
         place: usize,
         from: usize,

@@ -18,7 +18,7 @@ use crate::tokens::{is_namespace, number_at};
 use sym_direct::byte_at;
 
 impl Direct {
-    /// Reads a path, up to the first that is in it.
+    /// Reads a path, up to the first path in it.
     // <path> = "C" <identifier> | "N" <namespace> <path> <identifier> | "I" <path> {<generic-arg>} "E" | "M" <impl-path> <type>
     //        | "X" <impl-path> <type> <path> | "Y" <type> <path> | <backref>
     pub(crate) fn path_at<S: Showing>(&mut self, s: &[u8], is_value: bool) -> Option<Step>
@@ -149,7 +149,7 @@ impl Direct {
         Some(())
     }
 
-    /// The empty name of what a path is the parent of, as that of a constructor or of a type's constant: it prints nothing.
+    /// The empty name after a parent path, as that of a constructor or of a type's constant: it prints nothing.
     // <path> = "N" <namespace> <path> <identifier>
     #[inline(never)]
     fn unnamed_ended<S: Showing>(

@@ -15,7 +15,7 @@ use std::alloc::Global;
 use std::mem;
 use sym_direct::{Bounded, byte_at};
 
-/// The longest symbol that is written so, in bytes: the lists stay small, and real symbols are shorter.
+/// The longest symbol that is written this way, in bytes: the lists stay small, and real symbols are shorter.
 const LONGEST: usize = 4_096;
 
 impl Direct {
@@ -40,7 +40,7 @@ impl Direct {
         self.text.as_slice()
     }
 
-    /// Empties the lists, and gives them room for a symbol of so many bytes: for so much text that is shown, and for so much that isn't.
+    /// Clears the lists and reserves space for a symbol of n bytes, for shown and for hidden text.
     pub fn restart(&mut self, shown: u32, hidden: u32, size: u32)
         requires shown { shown ≤ 8 * size + 1024 }
         requires hidden { hidden ≤ 8 * size + 1024 }
@@ -55,7 +55,8 @@ impl Direct {
         self.waiting.begin(size);
     }
 
-    /// Takes a step: an argument, its type, the path that this is, and the end of what waited for it, as far as they come.
+    /// Takes a step: an argument, its type, the path in it, and the end of the entry that waited for it, as far as they are
+    /// there.
     // A step for each of these took 11 % more instructions.
     #[inline(always)]
     pub fn take<S: Showing>(&mut self, s: &[u8], step: Step) -> Option<Step>
@@ -108,7 +109,7 @@ impl Direct {
         }
     }
 
-    /// Hands on what is read, if that is next.
+    /// Forwards what is read, if that is next.
     #[inline(always)]
     fn take_value<S: Showing>(&mut self, s: &[u8], step: Step) -> Option<Step>
         requires fits { FitsSymbol s.now }
@@ -150,7 +151,7 @@ impl Direct {
         self.numbers.resize(size, 0).ok()
     }
 
-    /// The path of a symbol is read: that of the crate that asked for it follows, or the end.
+    /// The path of a symbol is read: that of the instantiating crate follows, or the end.
     // <symbol-name> = "_R" <path> [<instantiating-crate>] [<vendor-specific-suffix>]
     pub(crate) fn symbol_ended<S: Showing>(
         &mut self,
@@ -176,7 +177,7 @@ impl Direct {
         Some(Step::Path { is_value: false })
     }
 
-    /// The path of the crate that asked for a symbol is read.
+    /// The path of the instantiating crate is read.
     // <symbol-name> = "_R" <path> [<instantiating-crate>] [<vendor-specific-suffix>]
     pub(crate) fn other_ended<S: Showing>(
         &mut self,
@@ -228,7 +229,7 @@ impl Direct {
         Some(Step::Ended)
     }
 
-    /// Leaves out of what was written what isn't to be shown.
+    /// Removes what isn't to be shown from what was written.
     #[inline(always)]
     pub fn show<S: Showing>(&mut self, _s: &[u8]) -> Option<()>
         requires { IsWhole S.IS_BRIEF _s.now self.old.text.list.items }

@@ -72,7 +72,7 @@ impl Direct {
         self.begin_trait_type::<S>(_s, place)
     }
 
-    /// The type that implements a trait comes after an angle.
+    /// The type that implements a trait follows an angle.
     // <path> = "X" <impl-path> <type> <path>
     #[inline(always)]
     fn begin_trait_type<S: Showing>(&mut self, _s: &[u8], place: usize) -> Option<Step>
@@ -98,7 +98,7 @@ impl Direct {
         Some(Step::Type)
     }
 
-    /// The type is read that implements a trait, and the trait follows.
+    /// The type that implements a trait is read, and the trait follows.
     // <path> = "X" <impl-path> <type> <path> | "Y" <type> <path>
     pub(crate) fn implementing_ended<S: Showing>(
         &mut self,
@@ -119,7 +119,7 @@ impl Direct {
         Some(Step::Path { is_value: false })
     }
 
-    /// The trait is read that a type implements.
+    /// The trait that a type implements is read.
     // <path> = "X" <impl-path> <type> <path> | "Y" <type> <path>
     pub(crate) fn implemented_ended<S: Showing>(
         &mut self,

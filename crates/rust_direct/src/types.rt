@@ -47,7 +47,7 @@ fn basic_text(letter: u8) -> &'static [u8]
 }
 
 impl Direct {
-    /// Reads a type, up to the first that is in it.
+    /// Reads a type, up to the first type in it.
     // <type> = <basic-type> | <path> | "S" <type> | "T" {<type>} "E" | "R" [<lifetime>] <type> | "Q" [<lifetime>] <type> | "P" <type>
     //        | "O" <type> | <backref> | ..
     pub(crate) fn type_at<S: Showing>(&mut self, s: &[u8]) -> Option<Step>

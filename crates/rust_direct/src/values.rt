@@ -1,4 +1,4 @@
-// What was read is handed on to what waits for it.
+// What was read is forwarded to the entry that waits for it.
 
 ghost use Rattle.std.specs.Option.{IfSome};
 ghost use Rattle.sym_core.specs.Number.{FitsSymbol};
@@ -11,8 +11,8 @@ use crate::open::{Forms, Open, Step};
 use crate::showing::Showing;
 
 impl Direct {
-    /// Takes out what waits for a path or a type that is read. What waits for the name of a path in a namespace has it first, and then
-    /// takes that path's place.
+    /// Removes the entry that waits for a path or a type that is read. An entry that waits for the name of a path in a
+    /// namespace has it first, and then takes that path's place.
     #[inline(always)]
     fn take_waiting<S: Showing>(&mut self, s: &[u8], from: usize, forms: Forms) -> Option<Open>
         requires fits { FitsSymbol s.now }
@@ -31,7 +31,7 @@ impl Direct {
         }
     }
 
-    /// Hands a path or a type on to what waits for it.
+    /// Forwards a path or a type to the entry that waits for it.
     pub(crate) fn pass<S: Showing>(&mut self, s: &[u8], from: usize, forms: Forms) -> Option<Step>
         requires fits { FitsSymbol s.now }
         requires writing { IsWriting S.IS_BRIEF s.now self.old (steps.Value from forms) }

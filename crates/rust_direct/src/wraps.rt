@@ -104,7 +104,7 @@ impl Direct {
         }
     }
 
-    /// The type is read that something waited for.
+    /// The type that an entry waited for is read.
     pub(crate) fn wrap_ended<S: Showing>(
         &mut self,
         s: &[u8],

@@ -36,7 +36,7 @@ impl Direct {
         self.text.push_pair(first, second)
     }
 
-    /// Writes a text, and goes on at another place with what something waits for.
+    /// Writes a text, and continues at another place with what an entry waits for.
     #[inline(always)]
     pub(crate) fn push_open(&mut self, text: &[u8], entry: Open, at: usize) -> Option<()>
         ensures { OnSome result (Opens self.old self.new text.now entry at) }
@@ -71,7 +71,7 @@ impl Direct {
         Some(())
     }
 
-    /// What began at a place is read: it is noted, and handed on.
+    /// What began at a place is read: it is noted, and forwarded.
     #[inline(always)]
     pub(crate) fn ended<S: Showing>(
         &mut self,

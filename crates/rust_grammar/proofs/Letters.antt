@@ -13,7 +13,7 @@ use Rattle.rust_grammar.specs.Rules.{kinds, no_kind}
 use Rattle.rust_grammar.specs.declared.table.Head.{Head}
 use Rattle.rust_grammar.specs.declared.table.TheConstants.{LETTERS, SYMBOLS, AFTER}
 
--- the letter of a kind's row below a byte; `row` stands for what isn't there
+-- the letter of a kind's row below a byte; `row` is the default
 unfoldable pub letter : List ℕ → ℕ → ℕ → Option ℕ
 letter row k byte = letter_below (get_or LETTERS k row) byte
 
@@ -57,7 +57,7 @@ places head = refl
 pub place_at : (head : Head) (n : ℕ) → n < 49 → listed_in SYMBOLS (n * 6 + 6) ≡ symbols_of (listed_rule head n)
 place_at head n = alike_at (λ n. listed_in SYMBOLS (n * 6 + 6)) (λ n. symbols_of (listed_rule head n)) 49 n (places head)
 
--- what the code lists of each place is how many symbols come after it
+-- what the code lists of each place is how many symbols follow it
 after_each : AFTER ≡ counts_after SYMBOLS
 after_each = refl
 

@@ -6,7 +6,7 @@ use Rattle.sym_shape.specs.declared.rule.Sym.{Sym}
 use Rattle.rust_grammar.specs.declared.table.Head.{Head}
 use Rattle.rust_grammar.specs.declared.table.TheConstants.{HEADS, SYMBOLS}
 
--- the rule with a number in the lists; `head` stands for what isn't there
+-- the rule with a number in the lists; `head` is the default
 unfoldable pub listed_rule : Head → ℕ → Rule
 listed_rule head number = record {
   number = (get_or HEADS number head).number;

@@ -14,7 +14,7 @@ productions =
     ∷ BoundsEnd ∷ BoundsMore ∷ Binding ∷ SignedConstant ∷ UnsignedConstant ∷ BoolConstant ∷ CharConstant
     ∷ Placeholder ∷ ConstantReference ∷ Minus ∷ False ∷ True ∷ []
 
--- the production that a rule's number stands for
+-- the production that a rule's number denotes
 abbrev pub production_of : ℕ → Option Production
 production_of number = slice_get productions number
 

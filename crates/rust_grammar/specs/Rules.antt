@@ -56,7 +56,7 @@ paths = each (codes "BCMXYNI")
 abbrev pub types : List ByteRange
 types = range 65 68 ∷ range 70 70 ∷ range 73 73 ∷ range 77 84 ∷ range 88 89 ∷ basic_letters
 
--- what may come after a path, a name, a type or a constant
+-- what may follow a path, a name, a type or a constant
 abbrev pub behind_component : List ByteRange
 behind_component = digits ++ types ++ each (codes ".EKL")
 
@@ -64,7 +64,7 @@ abbrev pub symbol_rules : List Choice
 symbol_rules =
     takes (each (codes "_")) rules.Symbol (Byte 82 ∷ Kind PATH ∷ Kind OTHER_PATH ∷ Kind SUFFIX ∷ []) ∷ []
 
--- the forms of a path; its reference is told apart, since a type has one of its own
+-- the forms of a path; its reference is set apart, since a type has one of its own
 abbrev pub path_forms : List Choice
 path_forms =
     takes (each (codes "C")) rules.Crate (Kind IDENTIFIER ∷ [])
@@ -192,8 +192,8 @@ truth_rules =
     takes (each (codes "0")) rules.False []
     ∷ takes (each (codes "1")) rules.True [] ∷ []
 
--- a kind that is never empty: its rules, what may come after it, how many chains stand on one another in it, and
--- the height of its lowest tree
+-- a kind that is never empty: its rules, what may follow it, how many chains rest on one another in it, and the height of its
+-- lowest tree
 abbrev pub kind : List Choice → List ByteRange → ℕ → ℕ → KindSheet
 kind choices after rank height = record { choices = choices; may_be_empty = false; after = after; rank = rank; height = height }
 

@@ -1,5 +1,5 @@
--- What a symbol's shape stands for: the parts of each rule in the order of their bytes, and then the rule's
--- production says what they make together.
+-- What a symbol's shape denotes: the parts of each rule in the order of their bytes, and then the rule's production says what
+-- they make together.
 use Rattle.std.specs.Prelude.{ℕ, ◌+◌, drop, slice_index, List, [], ◌∷◌, Bool, true, false, ◌&&◌, ◌||◌, if◌then◌else◌, ◌==◌, nat_le, nat_lt, Option, Some, None, Result, Ok, Err}
 use Rattle.sym_core.specs.declared.refusal.Refusal.{Refusal}
 use Rattle.sym_core.specs.declared.refusal.Refusal.TheVariants.{BadReference, BadValue, Malformed}
@@ -16,7 +16,7 @@ use Rattle.rust_tree.specs.Nodes.{most_bound}
 use Rattle.rust_tree.specs.Symbol as tree
 use Rattle.rust_tree.specs.Need.{need, need_of_type}
 
--- the value of a number in base 62: 0 where it has no digits, else one more than they stand for
+-- the value of a number in base 62: 0 where it has no digits, else one more than they denote
 abbrev pub value62 : List ℕ → ℕ
 value62 = counted_value Base62
 
@@ -140,14 +140,14 @@ pub record At : Type 0 where
   pub bound : ℕ
   pub ended : List Ended
 
--- the byte that is there
+-- the byte at the place
 abbrev pub byte_at : At → ℕ
 byte_at at = slice_index at.symbol at.place
 
 abbrev pub Meaning : Type 0
 Meaning = Result (Found Value State) Refusal
 
--- nothing to which a reference could lead has ended
+-- nothing has ended that a reference could lead to
 abbrev pub plain : At → Value → Meaning
 plain at value = Ok (record { value = value; state = record { ended = at.ended; inside = None; minus = false } })
 
@@ -184,11 +184,11 @@ abbrev pub as_constant : Option Value → Option tree.Constant
 as_constant (Some (a_constant constant)) = Some constant
 as_constant _ = None
 
--- What ended that a reference names. Its number counts the bytes after `_R`.
+-- The ended node that a reference names. Its number counts the bytes after `_R`.
 abbrev pub referred : At → ℕ → Option Value
 referred at n = ended_at at.ended (n + 2)
 
--- the tree that is referred to needs no more lifetimes than are bound here
+-- the referenced tree needs no more lifetimes than are bound here
 abbrev pub refers_to_path : At → Option tree.Path → Meaning
 refers_to_path at None = Err (BadReference at.place)
 refers_to_path at (Some path) = if nat_le (need path) at.bound then ends_path at path else Err (BadReference at.place)
@@ -234,7 +234,7 @@ meaning rules.Symbol at parts = do
   other ← other_path_part path.1
   suffix ← suffix_part other.1
   plain at (a_symbol (record { path = path.0; instantiating = other.0; suffix = suffix.0 }))
--- a suffix goes on to the symbol's end
+-- a suffix extends to the symbol's end
 meaning rules.Suffix at parts = plain at (a_suffix (drop at.place at.symbol))
 meaning rules.SuffixByte at parts = plain at suffix_rest
 meaning rules.PathReference at parts = do
@@ -388,8 +388,8 @@ abbrev pub meaning_of : Option Production → At → List Value → Meaning
 meaning_of None at parts = Err no_such_parts
 meaning_of (Some production) at parts = meaning production at parts
 
--- How many lifetimes are bound around the next part of a rule: a binder of `F` holds for all after it, a binder of
--- `D` for its bounds alone.
+-- How many lifetimes are bound around the next part of a rule: a binder of `F` holds for all after it, a binder of `D` only for
+-- its bounds.
 abbrev pub bound_behind : Option Production → ℕ → List Value → ℕ
 bound_behind (Some rules.Function) outer (a_binder lifetimes ∷ _) = outer + lifetimes
 bound_behind (Some rules.Dyn) outer (a_binder lifetimes ∷ []) = outer + lifetimes
@@ -433,7 +433,7 @@ v0 s = record {
 abbrev pub at_first : State
 at_first = record { ended = []; inside = None; minus = false }
 
--- what the whole symbol stands for
+-- what the whole symbol denotes
 abbrev pub symbol_of : List Value → Result tree.Symbol Refusal
 symbol_of (a_symbol symbol ∷ []) = Ok symbol
 symbol_of _ = Err no_such_parts

@@ -1,4 +1,4 @@
--- What the parts of a symbol stand for.
+-- What the parts of a symbol denote.
 use Rattle.std.specs.Prelude.{ℕ, List, Bool, Option}
 use Rattle.rust_grammar.specs.declared.production.Production.{Production}
 use Rattle.rust_tree.specs.Symbol as tree

@@ -1,4 +1,4 @@
-//! The Rust v0 symbols (RFC 2603): their grammar as a table, what each shape stands for, and how that is shown.
+//! The Rust v0 symbols (RFC 2603): their grammar as a table, what each shape denotes, and how that is shown.
 #![tactic(auto)]
 
 mod grammar;

@@ -24,7 +24,7 @@ const BASE62: Sym = Number(NumberKind::Base62);
 
 const HEX: Sym = Number(NumberKind::Hex);
 
-/// What is there where a rule has no symbol.
+/// The placeholder where a rule has no symbol.
 const NONE: Sym = END;
 
 // For each kind a row: for each byte from `$` to `z` the letter of the rule that the kind takes there. A rule has one letter,
@@ -67,7 +67,7 @@ struct Head {
     count: u8,
 }
 
-// A rule that takes the byte at which it is chosen, with so many symbols.
+// A rule that takes the byte at which it is chosen, with this many symbols.
 macro_rules! takes {
     ($production:ident, $count:expr) => {
         Head {
@@ -78,7 +78,7 @@ macro_rules! takes {
     };
 }
 
-// A rule that takes no byte of its own, with so many symbols.
+// A rule that takes no byte of its own, with this many symbols.
 macro_rules! chains {
     ($production:ident, $count:expr) => {
         Head {
@@ -195,7 +195,7 @@ static SYMBOLS: [Sym; 300] = symbols_listed! {
     [NONE, NONE, NONE, NONE, NONE], // [: BoundsEnd
 };
 
-// How many symbols come after each of them, up to an end.
+// How many symbols follow each of them, up to an end.
 static AFTER: [u8; 300] = [
     0, 0, 0, 0, 0, 2, 1, 0, 0, 0, 0, 2, 1, 0, 0, 0, 0, 0, 0, 0, 0, 0, 0, 2, 1, 0, 0, 0, 0, 0, 0, 0,
     0, 0, 0, 0, 0, 0, 0, 0, 0, 0, 0, 0, 0, 0, 0, 1, 0, 0, 0, 0, 0, 1, 0, 0, 0, 0, 0, 0, 0, 0, 0, 0,
@@ -262,7 +262,7 @@ pub fn symbol(place: u32) -> Option<Sym>
     symbol_at(&SYMBOLS, place)
 }
 
-/// How many symbols of its rule come after the one at a place.
+/// How many symbols of its rule follow the one at a place.
 #[inline]
 pub fn after(place: u32) -> u8
     requires { (x : Sym) × StandsAt (listed_in SYMBOLS) place x }

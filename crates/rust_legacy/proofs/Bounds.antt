@@ -15,7 +15,7 @@ use Rattle.rust_legacy.specs.Path.{begins_with}
 use Rattle.rust_legacy.specs.Tokens.{Token, either, escape_of, is_plain, is_shown, numbered, or_all, texts_in, texts_of, token_as, token_of}
 use Rattle.rust_legacy.proofs.Texts.{whole_cost, whole_text}
 
--- a token of bytes has some of them, and its text no more bytes than they
+-- a token of bytes is nonempty, and its text no longer than it
 pub record Fits (bytes : List ℕ) (token : Token) : Type 0 where
   pub some : 0 < token.size
   pub within : token.size ≤ length bytes

@@ -9,7 +9,7 @@ use Rattle.sym_core.specs.declared.NumberKind.{NumberKind}
 pub rest_whole : (bytes : List ℕ) (n : ℕ) → take (length bytes - n) (drop n bytes) ≡ drop n bytes
 rest_whole bytes n = take_rest bytes n
 
--- the front that has digits alone
+-- the front that is all digits
 pub digits-front : (kind : NumberKind) (xs : List ℕ) → AreDigits kind (take (prefix_len (is_digit_of kind) xs) xs)
 digits-front kind [] = tt
 digits-front kind (x ∷ xs) =

@@ -1,4 +1,4 @@
--- Which symbols are legacy names, by what is asked of them.
+-- Which symbols are legacy names, by the tests of the code.
 use Rattle.std.proofs.Common.{◌≡◌, ℕ, ◌<◌, List, [], ◌∷◌, length, drop, Bool, true, false, cond, ◌&&◌, refl, ap, sym, ◌∙◌, arith}
 use Rattle.std.specs.Prelude.{Option, Some, None, codes, unwrap_or}
 use Rattle.std.specs.List.{list_all}

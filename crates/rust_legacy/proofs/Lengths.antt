@@ -18,7 +18,7 @@ by_length zero count size s =
 abbrev found : (count size : ℕ) → List ℕ → Option Name
 found count size s = Some (record { bytes = take size (drop count s); size = count + size })
 
--- whether all is asked that a name is asked
+-- whether a name meets all its requirements
 asked : (count size : ℕ) (s : List ℕ) (few some whole : Bool) → nat_le count 9 ≡ few → nat_lt 0 size ≡ some → nat_le (count + size) (length s) ≡ whole
     → by_length false count size s ≡ cond (few && some && whole) (found count size s) None
 asked count size s few some whole a b c =
@@ -51,7 +51,7 @@ no_end (x ∷ rest) some = by (is_decimal_digit x) (nat_eq 69 x) refl refl some
     by false true a b more = absurd (omega (arith, more))
     by true true a b more = (let same : 69 ≡ x = grind (arith, nat_tests, b) in absurd (cc (ap is_decimal_digit same, a)))
 
--- what is read of a name's length tells the name
+-- what is read of a name's length determines the name
 pub length_is : (s : List ℕ) (at to value : ℕ) → at < to → to ≤ length s → to - at ≤ 9
     → to - at + prefix_len is_decimal_digit (drop to s) ≡ prefix_len is_decimal_digit (drop at s) → prefix_len is_decimal_digit (drop to s) ≡ 0
     → value ≡ value_of Length (take (to - at) (drop at s)) → begins_with (codes "0") (drop at s) ≡ false → 0 < value → HasLength s at to value
@@ -97,7 +97,7 @@ first_digit s at within is = by (is_decimal_digit (get_or s at 0)) (nat_eq (get_
           ap (begins_with (codes "0")) (drop_more s at 0 within) ∙ ap (λ x. x && true) other,
         ))
 
--- a number whose first digit isn't a zero isn't one
+-- a number whose first digit isn't a zero isn't zero
 pub first_above : (s : List ℕ) (at to value : ℕ) → at ≤ to → to < length s → is_decimal_digit (get_or s to 0) ≡ true
     → begins_with (codes "0") (drop at s) ≡ false → (at < to → 0 < value) → 0 < value * 10 + (get_or s to 0 - 48)
 first_above s at to value low within digit first some = by (nat_lt at to) refl

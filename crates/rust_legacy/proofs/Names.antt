@@ -81,7 +81,7 @@ both : (a b : Bool) → (a && b) ≡ true → (a ≡ true) × (b ≡ true)
 both true b h = (refl, h)
 both false b h = (h, absurd (cc (h)))
 
--- what is asked of a name at the front, and what it is
+-- what is required of a name at the front, and what it is
 given : (b : Bool) (found name : Name) → cond {A = Option Name} b (Some found) None ≡ Some name → (b ≡ true) × (found ≡ name)
 given true found name is = (refl, ap (λ o. unwrap_or o found) is)
 given false found name is = absurd (cc (is))
@@ -122,17 +122,17 @@ AreNames-low s from to [] are = omega (arith, are)
 AreNames-low s from to (name ∷ rest) are =
     omega (arith, (name_size (drop from s) (record { bytes = name; size = are.0 }) are.1).0, AreNames-low s (from + are.0) to rest are.2)
 
--- so where they go nowhere there are none
+-- so where they end nowhere there are none
 pub AreNames-none : (s : List ℕ) (from : ℕ) (names : List (List ℕ)) → AreNames s from from names → names ≡ []
 AreNames-none s from [] are = refl
 AreNames-none s from (name ∷ rest) are = absurd (omega (arith, AreNames-low s from from (name ∷ rest) are))
 
--- and where they go somewhere there are some
+-- and where they end somewhere there are some
 pub some_names : (s : List ℕ) (from to : ℕ) (names : List (List ℕ)) → AreNames s from to names → (from ≡ to → ⊥) → 0 < length names
 some_names s from to [] are far = absurd (far are)
 some_names s from to (name ∷ rest) are far = omega arith
 
--- what path names make, of which the last is told apart
+-- what path names make, with the last one set apart
 pub path_read : (s : List ℕ) (front : List (List ℕ)) (last suffix : List ℕ) (all : Option Path) → all ≡ Some (record { names = front ++ last ∷ []; suffix = suffix })
     → path_in all ≡ path_before_hash suffix (cond {A = Option (List (List ℕ))} (is_hash last) (Some front) None)
 path_read s front last suffix all whole = ap path_in whole ∙ ap (path_before_hash suffix) (before_hash-append front last)
@@ -144,7 +144,7 @@ pub some_path : (suffix : List ℕ) (b : Bool) (front : List (List ℕ)) → b �
 some_path suffix b [] is some = absurd (omega (arith, some))
 some_path suffix b (name ∷ rest) is some = ap (λ v. before_suffix suffix v (name ∷ rest)) is
 
--- where E is, what is at least one byte
+-- where an E is, there is at least one byte
 pub ended_within : (s : List ℕ) (at : ℕ) → begins_with (codes "E") (drop at s) ≡ true → at < length s
 ended_within s at is = by (drop at s) refl is
   where

@@ -35,7 +35,7 @@ first_name s at to (name ∷ rest) found some are is =
     let same : record { bytes = name; size = are.0 } ≡ found = ap (λ o. unwrap_or o found) (sym are.1 ∙ is) in
     (rest, ap (λ n. n.bytes ∷ rest) same, subst (λ n. AreNames s (at + n.size) to rest) same are.2)
 
--- before each name but the first there is ::
+-- before each name except the first there is ::
 pub front_later : (at : ℕ) → 3 < at → front_at at ≡ codes "::"
 front_later at later = by (nat_le at 3) refl
   where
@@ -43,7 +43,7 @@ front_later at later = by (nat_le at 3) refl
     by true e = (let early : at ≤ 3 = grind (arith, nat_tests, e) in absurd (omega (arith, early, later)))
     by false e = refl
 
--- names of which the first is known: what they show, and what they cost
+-- names with a known first one: what they show, and what they cost
 pub record Parted (front : List ℕ) (names : List (List ℕ)) (name : List ℕ) (rest : List (List ℕ)) : Type 0 where
   pub text : text_of (names_parts front names) ≡ front ++ (text_of (shown_name name) ++ text_of (names_parts (codes "::") rest))
   pub cost : names_cost front names ≡ 1 + length front + cost_of (shown_name name) + names_cost (codes "::") rest

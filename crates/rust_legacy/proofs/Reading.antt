@@ -11,8 +11,8 @@ use Rattle.rust_legacy.specs.declared.path.PathPlace.{PathPlace}
 use Rattle.rust_legacy.proofs.Legacy.{is_legacy, not_named, not_suffix}
 use Rattle.rust_legacy.proofs.Names.{AreNames-joined, AreNames-none, after, before_suffix, ended, ended_within, name_size, names_after, no_name, not_ended, one_name, path_read, some_names, some_path, with_names, with_names-None, with_names-Some, with_names-joined}
 
--- The names before a place are read, and the one that begins at another is the last of them: what names there are is told by what is
--- from there on.
+-- The names before a place are read, and the one that begins at another is the last of them: the rest from there on determines
+-- the names.
 pub record Reads (s : List ℕ) (hash at : ℕ) : Type 0 where
   pub before : List (List ℕ)
   pub last : List (List ℕ)
@@ -101,7 +101,7 @@ few_names s hash at r is first =
     let none : r.before ≡ [] = AreNames-none s 3 r.before (subst (λ n. AreNames s 3 n r.before) first r.are) in
     one_not s (r.before ++ r.last) (drop (at + 1) s) (all_names s hash at r is) (omega (arith, ap (λ n. length (n ++ r.last)) none, r.few))
 
--- names of which the last is no hash, and there is one
+-- a nonempty list of names that ends in no hash
 abbrev NoHash : Option Path → Type 0
 NoHash None = ⊤
 NoHash (Some path) = (before_hash path.names ≡ None) × (0 < length path.names)
@@ -163,7 +163,7 @@ no_room s hash at r more short =
     not_named s (ap path_in r.whole
     ∙ no_hash_path (with_names r.before (with_names r.last (names_in r.depth (drop at s)))) (no_hash_before r.before _ (no_hash_before r.last _ none)))
 
--- what is at a place that no name begins at, or after which no hash has room
+-- no name begins at this place, or no hash has room after it
 pub not_read : (s : List ℕ) (hash at : ℕ) → Reads s hash at → (begins_with (codes "E") (drop at s) ≡ false → legacy_of s ≡ None)
     → (is_end (drop at s) ≡ true → hash ≡ 3) → legacy_of s ≡ None
 not_read s hash at r none few = by (begins_with (codes "E") (drop at s)) (is_suffix (drop 1 (drop at s))) refl refl
@@ -173,7 +173,7 @@ not_read s hash at r none few = by (begins_with (codes "E") (drop at s)) (is_suf
     by true false e f = suffix_not s (r.before ++ r.last) (drop (at + 1) s) (all_names s hash at r e) (ap is_suffix (sym (drop-drop 1 at s)) ∙ f)
     by true true e f = few_names s hash at r e (few (ap (λ b. b && is_suffix (drop 1 (drop at s))) e ∙ f))
 
--- the same where the last name may have fewer bytes than it tells
+-- likewise where the last name may have fewer bytes than its length says
 pub not_read_on : (s : List ℕ) (hash at : ℕ) → (at ≤ length s → Reads s hash at) → (length s < at → legacy_of s ≡ None) → length s ≤ at + 17
     → (is_end (drop at s) ≡ true → hash ≡ 3) → legacy_of s ≡ None
 not_read_on s hash at reads past short few = by (nat_le at (length s)) refl
@@ -188,7 +188,7 @@ pub both : (a b : Bool) → (a && b) ≡ true → (a ≡ true) × (b ≡ true)
 both true b h = (refl, h)
 both false b h = absurd (cc (h))
 
--- all that is asked of names by their lengths
+-- all that is required of names by their lengths
 pub are_read : (s : List ℕ) (hash at : ℕ) → Reads s hash at → is_end (drop at s) ≡ true → hash ≢ 3 → AreRead s (record { hash = hash; end = at + 1 })
 are_read s hash at r is far = by r.last refl
   where
@@ -231,7 +231,7 @@ not_nested (a ∷ b ∷ c ∷ rest) long other = by (nat_eq 95 a) (nat_eq 90 b) 
     by true false z e = refl
     by false y z e = refl
 
--- what a call found, said otherwise
+-- what a call found, in other words
 pub match_on : {T : Type 0} (o : Option T) (P P' : Type 0) (Q Q' : T → Type 0) → MatchOption o P Q → (P → P') → ((x : T) → Q x → Q' x) → MatchOption o P' Q'
 match_on None P P' Q Q' h f g = f h
 match_on (Some x) P P' Q Q' h f g = g x h

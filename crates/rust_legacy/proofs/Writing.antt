@@ -28,7 +28,7 @@ wider refusal left text cost mid limit whole all old (inr long) room dear = inr 
 front_within : (n : ℕ) (xs ys : List ℕ) → take n xs ≡ ys → n ≡ length ys → n ≤ length xs
 front_within n xs ys is same = omega (arith, length-take n xs, ap length is, same)
 
--- what was kept twice is kept
+-- what was kept in both steps is kept
 pub keeps_on : (old mid new : Vec ℕ Global) → Keeps old mid → Keeps mid new → Keeps old new
 keeps_on old mid new a b =
     let n = vec_len old in
@@ -43,7 +43,7 @@ keeps_on old mid new a b =
 pub keeps_same : (old : Vec ℕ Global) → Keeps old old
 keeps_same old = record { front = ap (λ n. take n old.items) old.ok.0 ∙ take-length old.items; capacity = omega arith }
 
--- what a result says, said otherwise
+-- what a result says, in other words
 pub ok_on : {T E : Type 0} (r : Result T E) (P Q : T → Type 0) → IfOk r P → ((x : T) → P x → Q x) → IfOk r Q
 ok_on (Ok x) P Q h f = f x h
 ok_on (Err e) P Q h f = tt

@@ -20,8 +20,8 @@ pub record Name : Type 0 where
   pub bytes : List ℕ
   pub size : ℕ
 
--- The name at the front: its length, of one to nine digits, the first no zero, and so many bytes. The digits are as many as there are,
--- so that the first of its bytes is none.
+-- The name at the front: its length, of one to nine digits, the first no zero, and that many bytes. The length takes all the
+-- digits, so the name's first byte is no digit.
 abbrev pub name_in : List ℕ → Option Name
 name_in s =
     let count = prefix_len is_decimal_digit s in
@@ -39,7 +39,8 @@ abbrev pub with_name : List ℕ → Option Path → Option Path
 with_name name None = None
 with_name name (Some path) = Some (record { names = name ∷ path.names; suffix = path.suffix })
 
--- the names at the front, and what is after the E that ends them. There are fewer names than bytes: so many is depth enough
+-- the names at the front, and what follows the E that ends them. There are fewer names than bytes, so their count is depth
+-- enough
 abbrev pub names_in : (depth : ℕ) → List ℕ → Option Path
 names_in zero s = None
 names_in (suc depth) s =
@@ -58,7 +59,7 @@ before_hash [] = None
 before_hash (name ∷ []) = if is_hash name then Some [] else None
 before_hash (name ∷ next ∷ rest) = elim (before_hash (next ∷ rest)) [ Some names ↦ Some (name ∷ names) | None ↦ None ]
 
--- the path whose names are followed by a hash: there is at least one
+-- the path whose names end in a hash: there is at least one name before it
 abbrev pub path_before_hash : (suffix : List ℕ) → Option (List (List ℕ)) → Option Path
 path_before_hash suffix (Some (name ∷ rest)) = Some (record { names = name ∷ rest; suffix = suffix })
 path_before_hash suffix _ = None
@@ -75,8 +76,8 @@ abbrev pub with_suffix : Option Path → Option Path
 with_suffix (Some path) = if is_suffix path.suffix then Some path else None
 with_suffix None = None
 
--- The path that a symbol stands for, if it is a legacy name: _ZN, one or more names, a hash, E, and a suffix or nothing; each byte a
--- letter, a digit, _, . or $.
+-- The path that a symbol denotes, if it is a legacy name: _ZN, one or more names, a hash, E, and a suffix or nothing; each byte
+-- a letter, a digit, _, . or $.
 unfoldable pub legacy_of : List ℕ → Option Path
 legacy_of s = if begins_with (codes "_ZN") s && list_all is_legacy_byte s then with_suffix (path_in (names_in (length s) (drop 3 s))) else None
 
@@ -87,19 +88,19 @@ abbrev pub AreNames : (s : List ℕ) → (from to : ℕ) → List (List ℕ) →
 AreNames s from to [] = from ≡ to
 AreNames s from to (name ∷ rest) = (size : ℕ) × (name_in (drop from s) ≡ Some (record { bytes = name; size = size })) × AreNames s (from + size) to rest
 
--- a path stands so: its names go from the symbol's fourth byte to its hash, and its suffix begins after its E
+-- where a path is: its names extend from the symbol's fourth byte to its hash, and its suffix begins after its E
 abbrev pub StandsAt : (s : List ℕ) → Path → PathPlace → Type 0
 StandsAt s path place =
     AreNames s 3 place.hash path.names × (drop place.end s ≡ path.suffix) × (place.hash < place.end) × (place.end ≤ length s)
 
--- the symbol is a legacy name, and its path stands so
+-- the symbol is a legacy name, and its path is there
 abbrev pub IsPlaced : (s : List ℕ) → PathPlace → Type 0
 IsPlaced s place = (path : Path) × (legacy_of s ≡ Some path) × StandsAt s path place
 
 -- ## Lengths
 
--- the digits of a length are from one place to another, and stand for a value: the name at the first is so many bytes after them, if
--- there are so many, else none is there, nor the E that ends names
+-- the digits of a length are from one place to another, and denote a value: the name at the first is that many bytes after
+-- them, if there are that many; otherwise there is no name, nor the E that ends names
 abbrev pub HasLength : (s : List ℕ) → (at to value : ℕ) → Type 0
 HasLength s at to value =
     (at < to) × (to ≤ length s) × (0 < value) × (begins_with (codes "E") (drop at s) ≡ false)
@@ -110,7 +111,7 @@ HasLength s at to value =
 abbrev pub is_end : List ℕ → Bool
 is_end s = begins_with (codes "E") s && is_suffix (drop 1 s)
 
--- the names of a symbol are two or more, of which the last is at a place, and a suffix or nothing comes after their E
+-- the names of a symbol are two or more, the last is at a place, and a suffix or nothing follows their E
 abbrev pub AreRead : (s : List ℕ) → PathPlace → Type 0
 AreRead s place =
     (names : List (List ℕ)) × (last : List ℕ) × (names_in (length s) (drop 3 s) ≡ Some (record { names = names ++ last ∷ []; suffix = drop place.end s }))

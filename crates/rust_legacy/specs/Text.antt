@@ -16,13 +16,13 @@ name_parts (text ∷ next ∷ rest) = bytes text (item (name_parts (next ∷ res
 abbrev pub shown_name : List ℕ → Unshared
 shown_name name = name_parts (texts_of (bare_name name))
 
--- names, the first after a text: that, its item, and the item of the names after it, which come after ::
+-- names, the first after a text: that, its item, and the item of the names after it, each of them after ::
 abbrev pub names_parts : (front : List ℕ) → List (List ℕ) → Unshared
 names_parts front [] = done
 names_parts front (name ∷ []) = front then item (shown_name name) done
 names_parts front (name ∷ next ∷ rest) = front then item (shown_name name) (item (names_parts (codes "::") (next ∷ rest)) done)
 
--- what comes before the name at a place in a symbol: :: but before the first one, whose place is 3
+-- what precedes the name at a place in a symbol: ::, except before the first one, whose place is 3
 abbrev pub front_at : (at : ℕ) → List ℕ
 front_at at = if nat_le at 3 then [] else codes "::"
 
@@ -35,10 +35,10 @@ suffix_parts (byte ∷ rest) = bytes (codes " (") (bytes (byte ∷ rest) (bytes 
 abbrev pub shown_path : Path → Unshared
 shown_path path = item (names_parts [] path.names) (suffix_parts path.suffix)
 
--- what is answered for a legacy name: the text of its path where that costs at most the limit
+-- the answer for a legacy name: the text of its path where that costs at most the limit
 abbrev pub legacy_text : (limit : ℕ) → List ℕ → Option (Result (List ℕ) Refusal)
 legacy_text limit s = elim (legacy_of s) [ Some path ↦ Some (text_within limit (shown_path path)) | None ↦ None ]
 
--- what is answered for a symbol where legacy names are paths: to one that isn't a legacy name, the other answer
+-- the answer for a symbol where legacy names are paths: for one that isn't a legacy name, the other answer
 abbrev pub legacy_answer : (limit : ℕ) → List ℕ → (other : Result (List ℕ) Refusal) → Result (List ℕ) Refusal
 legacy_answer limit s other = elim (legacy_text limit s) [ Some answer ↦ answer | None ↦ other ]

@@ -6,7 +6,7 @@ use Rattle.sym_core.specs.Value.{value_of}
 use Rattle.sym_core.specs.declared.NumberKind.TheVariants.{Hex}
 use Rattle.rust_legacy.specs.Path.{begins_with}
 
--- a text, and how many bytes stand for it
+-- a text, and how many bytes denote it
 pub record Token : Type 0 where
   pub text : List ℕ
   pub size : ℕ
@@ -15,7 +15,7 @@ pub record Token : Type 0 where
 abbrev pub is_shown : ℕ → Bool
 is_shown code = (nat_le 32 code && nat_lt code 127) || (nat_le 160 code && nat_lt code 55296) || (nat_le 57344 code && nat_lt code 1114112)
 
--- a character that an escape of so many bytes stands for
+-- a character that an escape of n bytes denotes
 abbrev pub token_as : (code size : ℕ) → Token
 token_as code size = record { text = encode_utf8_all (code ∷ []); size = size }
 
@@ -39,17 +39,17 @@ escape_of bytes =
     (either (begins_with (codes "$RP$") bytes) 41 4 (either (begins_with (codes "$C$") bytes) 44 3
     (if begins_with (codes "$u") bytes then numbered bytes else None))))))))
 
--- a byte that stands for itself
+-- a byte that denotes itself
 abbrev pub is_plain : ℕ → Bool
 is_plain byte = not ((byte == 46) || (byte == 36))
 
--- a dollar that begins no escape stands for itself, and so do all bytes after it
+-- a dollar that begins no escape denotes itself, and so do all bytes after it
 abbrev pub or_all : List ℕ → Option Token → Token
 or_all bytes None = record { text = bytes; size = length bytes }
 or_all bytes (Some token) = token
 
--- the first token of bytes: two dots stand for ::, one for itself, an escape for its character, and other bytes up to a dot or dollar
--- for themselves
+-- the first token of bytes: two dots denote ::, one dot itself, an escape its character, and other bytes up to a dot or dollar
+-- themselves
 abbrev pub token_of : List ℕ → Token
 token_of bytes =
     if begins_with (codes "..") bytes then record { text = codes "::"; size = 2 }
@@ -57,7 +57,7 @@ token_of bytes =
     else (if begins_with (codes "$") bytes then or_all bytes (escape_of bytes)
     else record { text = take (prefix_len is_plain bytes) bytes; size = prefix_len is_plain bytes }))
 
--- the texts of the tokens of bytes, at most so many; each stands for one byte at least
+-- the texts of the first n tokens of bytes; each denotes one byte at least
 abbrev pub texts_in : (most : ℕ) → List ℕ → List (List ℕ)
 texts_in zero bytes = []
 texts_in (suc most) [] = []
@@ -67,6 +67,6 @@ texts_in (suc most) (byte ∷ rest) = (token_of (byte ∷ rest)).text ∷ texts_
 abbrev pub texts_of : List ℕ → List (List ℕ)
 texts_of bytes = texts_in (length bytes) bytes
 
--- a name without the underscore that comes before an escape
+-- a name without the underscore before an escape
 abbrev pub bare_name : List ℕ → List ℕ
 bare_name name = if begins_with (codes "_$") name then drop 1 name else name

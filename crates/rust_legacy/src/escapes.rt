@@ -13,7 +13,7 @@ use sym_core::value16;
 /// The most digits of a character's number.
 const MOST_DIGITS: usize = 6;
 
-/// The character that an escape stands for, and how many bytes it has.
+/// The character that an escape denotes, and how many bytes the escape has.
 #[derive(Clone, Copy)]
 pub struct Escape {
     pub code: char,
@@ -90,7 +90,7 @@ fn numbered(bytes: &[u8]) -> Option<Escape>
     })
 }
 
-/// A character that an escape of so many bytes stands for.
+/// A character that an escape of n bytes denotes.
 fn one(code: char, size: usize) -> Option<Escape>
     ensures { result ≡ Some (record { code = code; size = size }) }
 {

@@ -1,4 +1,4 @@
-// What follows of legacy names from their definition alone.
+// What follows from the definition of legacy names.
 #![tactic(auto)]
 
 ghost use Rattle.std.specs.Prelude.{◌≡◌, ◌*◌, ◌≤◌, ℕ, List, length, Some};

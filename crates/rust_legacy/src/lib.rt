@@ -1,4 +1,4 @@
-//! Legacy Rust names: which symbols are, and the path that one stands for.
+//! Legacy Rust names: which symbols are, and the path that each denotes.
 #![tactic(auto)]
 
 mod escapes;

@@ -11,15 +11,15 @@ ghost use Rattle.rust_legacy.specs.Path.{AreRead, HasLength, IsPlaced, begins_wi
 use crate::escapes::digits_in;
 use sym_core::NumberKind;
 
-/// Where a name is in a symbol: its bytes, which come after its length.
+/// Where a name is in a symbol: its bytes, after its length.
 #[derive(Clone, Copy)]
 pub struct NamePlace {
     pub from: usize,
     pub to: usize,
 }
 
-/// Where the path of a legacy name is in its symbol: its names go from the fourth byte to `hash`, where the length of its hash
-/// is, and its suffix begins at `end`, after its `E`. Both are counts of bytes.
+/// Where the path of a legacy name is in its symbol: its names extend from the fourth byte to `hash`, where the length of its
+/// hash is, and its suffix begins at `end`, after its `E`. Both are counts of bytes.
 #[derive(Clone, Copy)]
 pub struct PathPlace {
     pub hash: usize,
@@ -57,7 +57,7 @@ fn is_legacy_byte(byte: u8) -> bool
     LEGACY_BYTES[byte as usize]
 }
 
-/// Whether each byte may be in a legacy name, and how many turns that took. All are looked at, with no branch for each.
+/// Whether each byte may be in a legacy name, and how many turns that took. All are examined, with no branch for each.
 fn are_legacy_bytes(bytes: &[u8]) -> (bool, usize)
     ensures are { result.0 ≡ list_all is_legacy_byte bytes.now }
     ensures turns { result.1 ≤ length bytes.now }
@@ -98,14 +98,14 @@ fn has_digit(s: &[u8], at: usize) -> bool
 /// The most digits of a length.
 const MOST_DIGITS: usize = 9;
 
-/// Where the digits of a length end, of which there are so many at most, and what they stand for.
+/// Where the digits of a length end (there are at most n), and what they denote.
 #[derive(Clone, Copy)]
 struct Length {
     to: usize,
     value: usize,
 }
 
-/// The first digits at a place, at most so many: nine, or as many bytes as there are. Each turn of its loop reads one.
+/// The first digits at a place, at most n: nine, or as many bytes as there are. Each turn of its loop reads one.
 #[inline(always)]
 fn length_at(s: &[u8], at: usize, most: usize) -> Length
     requires within { at + most ≤ length s.now }
@@ -136,7 +136,7 @@ fn begins_length(byte: u8) -> bool
     b'1' <= byte && byte <= b'9'
 }
 
-/// The length of a name that is at a place, with a name after it or not. At most so many digits are looked at.
+/// The length of a name that is at a place, with a name after it or not. At most n digits are examined.
 #[inline(always)]
 fn name_length(s: &[u8], at: usize, most: usize) -> Option<Length>
     requires within { at + most ≤ length s.now }
@@ -205,7 +205,7 @@ fn is_suffix(suffix: &[u8]) -> bool
     suffix.is_empty() || suffix[0] == b'.' && suffix.len() > 1
 }
 
-/// Where names are, the last of them at a place, if they end at another: an `E` is there, and a suffix or nothing after it.
+/// Where names are, the last of them at a place, if they end at another: there is an `E`, with a suffix or nothing after it.
 #[tactic(auto, using(crate::proofs::Digits::rest_whole))]
 #[inline(always)]
 fn ended(s: &[u8], hash: usize, at: usize) -> Option<PathPlace>
@@ -223,11 +223,11 @@ fn ended(s: &[u8], hash: usize, at: usize) -> Option<PathPlace>
     Some(PathPlace { hash, end: at + 1 })
 }
 
-/// Where the names of a symbol are, by their lengths alone, if they can be those of a legacy name, and how many turns that took: one
-/// for each name, and one for each digit of its length. Other symbols pay for this and no more.
-// 53 instructions a C++ symbol, on average over 20,000. A look at fixed places from the end won't do: a suffix is as long as it likes
-// and ends in any byte. The turns are counted so that a clause can bound them: put in place at each call, a count that nobody reads is
-// no instruction.
+/// Where the names of a symbol are, by their lengths only, if they can be those of a legacy name, and how many turns that took:
+/// one for each name, and one for each digit of its length. Other symbols pay for this and no more.
+// 53 instructions a C++ symbol, on average over 20,000. Fixed places from the end can't be tested instead: a suffix is of any
+// length and ends in any byte. The turns are counted so that a clause can bound them: where the call is inlined, a count that
+// nobody reads is no instruction.
 #[inline(always)]
 pub fn names_of(symbol: &[u8]) -> (Option<PathPlace>, usize)
     ensures place { MatchOption result.0 (legacy_of symbol.now ≡ None) (AreRead symbol.now) }

@@ -44,7 +44,7 @@ fn write_name(left: u32, name: &[u8], out: &mut Vec<u8>) -> Result<u32, Refusal>
     write_tokens(left, name, out)
 }
 
-/// Writes what comes before the name at a place, and answers what is left.
+/// Writes what precedes the name at a place, and answers what is left.
 #[inline(always)]
 fn write_front(left: u32, at: usize, out: &mut Vec<u8>) -> Result<u32, Refusal>
     ensures ok { IfOk result (λ now. IsWritten left now (front_at at) (length (front_at at)) out.old.items out.new.items) }

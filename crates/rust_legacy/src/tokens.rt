@@ -46,7 +46,7 @@ fn plain_in(bytes: &[u8]) -> usize
     at
 }
 
-/// Writes the first token of bytes, and answers what is left and how many bytes stand for it.
+/// Writes the first token of bytes, and answers what is left and how many bytes denote it.
 pub fn write_token(left: u32, bytes: &[u8], out: &mut Vec<u8>) -> Result<(u32, usize), Refusal>
     requires { 0 < length bytes.now }
     ensures ok { IfOk result (λ r. IsWritten left r.0 (token_of bytes.now).text (length (token_of bytes.now).text) out.old.items out.new.items) }

@@ -3,7 +3,7 @@
 
 ghost use Rattle.std.specs.Prelude.{◌≡◌, ◌-◌};
 
-/// The number of a lifetime as a text counts, the outermost bound one being 0, where so many are bound. As the symbol counts, the
+/// The number of a lifetime as a text counts, the outermost bound one being 0, where n are bound. As the symbol counts, the
 /// innermost one is 1.
 #[inline(always)]
 pub fn from_outermost(bound: u64, lifetime: u64) -> u64
@@ -12,7 +12,7 @@ pub fn from_outermost(bound: u64, lifetime: u64) -> u64
     bound.saturating_sub(lifetime)
 }
 
-/// How many lifetimes what has a binder of so many needs to be bound around it, by how many are needed within.
+/// How many bound lifetimes a construct with a binder of n needs around it, by how many are needed within.
 #[inline(always)]
 pub fn around_binder(within: u64, binder: u64) -> u64
     ensures { result ≡ within - binder }

@@ -13,7 +13,7 @@ use Rattle.rust_grammar.specs.Unfold.{At, as_path, as_type, ends_path, ends_type
 use Rattle.rust_references.specs.Named.{NamesPath, NamesType}
 use Rattle.rust_references.specs.declared.targets.Target.{Target}
 
--- what holds of a node that may stand there, and of the refusal where it may not, holds of either
+-- what holds of a node that is allowed there, and of the refusal where it isn't, holds of either
 by_test : (P : Result ℕ Refusal → Type 0) (test : Bool) (node : ℕ) (e : Refusal) (result : Result ℕ Refusal) → result ≡ (if test then Ok node else Err e)
     → (test ≡ true → P (Ok node)) → (test ≡ false → P (Err e)) → P result
 by_test P true node e result is stands refused = subst P (sym is) (stands refl)

@@ -1,4 +1,4 @@
--- What a reference names, by what it means: a node that has ended and ends there again, or why it may not stand there.
+-- The node a back reference resolves to, or why it can't: what a reference names, by its meaning.
 use Rattle.std.specs.Prelude.{◌≡◌, ℕ, List, Option, Some, Result, Ok, Err}
 use Rattle.sym_core.specs.declared.refusal.Refusal.{Refusal}
 use Rattle.rust_tree.specs.Symbol as tree

@@ -8,7 +8,7 @@ use Rattle.rust_grammar.specs.Value.{Value, Ended}
 use Rattle.rust_grammar.specs.Unfold.{ended_at, as_path}
 use Rattle.rust_references.specs.declared.targets.Target.{Target}
 
--- what is noted of a place is what ended that began there; a path may have ended as a type
+-- what is noted of a place is what began there and has ended; a path may have ended as a type
 abbrev pub IsNoted : List Tree → Target → Option Value → Type 0
 IsNoted all Target.Nothing found = found ≡ None
 IsNoted all (Target.Path node) found =

@@ -13,7 +13,7 @@ use crate::targets::Target;
 use rust_tree::Nodes;
 use sym_core::Refusal;
 
-/// The path that a reference at a place names, which has ended as found, where so many lifetimes are bound.
+/// The path that a reference at a place names, which has ended as found, where n lifetimes are bound.
 ///
 /// # Errors
 ///
@@ -31,7 +31,7 @@ pub fn path_named(nodes: &Nodes, found: Target, place: u32, bound: u64) -> Resul
     }
 }
 
-/// The type that a reference at a place names, which may have ended as a path, where so many lifetimes are bound.
+/// The type that a reference at a place names, which may have ended as a path, where n lifetimes are bound.
 ///
 /// # Errors
 ///

@@ -3,7 +3,7 @@
 ghost use Rattle.std.specs.Prelude.{◌≡◌, ◌≤◌, ◌-◌};
 ghost use Rattle.rust_grammar.specs.Unfold.{At, referred, ended_at};
 
-/// What a back reference to a place stands for: the node of what began there and has ended.
+/// What a back reference to a place denotes: the node of what began there and has ended.
 #[derive(Clone, Copy)]
 pub enum Target {
     Nothing,

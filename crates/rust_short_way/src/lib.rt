@@ -12,20 +12,20 @@ ghost use Rattle.rust_direct.specs.Awaits.{IsFresh};
 
 use rust_direct::{Brief, Direct, Showing, Step, Whole};
 
-/// The most bytes of text that are written for each byte of a symbol, and those that are written anyway.
+/// The most bytes of text that are written for each byte of a symbol, and those that are written in any case.
 const BYTES_A_BYTE: usize = 8;
 
 const BYTES_ANYWAY: usize = 1_024;
 
-/// The most steps that are taken for each byte of a symbol: each reads a byte, or ends what was read. Where a step reads on in a loop,
-/// as over the letters or the names of paths around others, each turn of that reads a byte of its own.
+/// The most steps that are taken for each byte of a symbol: each reads a byte, or ends what was read. Where a step loops, as
+/// over letters or over the names of enclosing paths, each turn of the loop reads a byte of its own.
 const ROUNDS_A_BYTE: usize = 8;
 
-/// Writes the text of a symbol in full, if the symbol is one that can be read so and the text costs at most a limit, and
-/// answers whether it did. Where it didn't, nothing is known of the symbol, and the lists are empty.
+/// Writes the text of a symbol in full, if the short way reads the symbol and the text costs at most a limit, and answers
+/// whether it did. Where it didn't, nothing is known of the symbol, and the lists are empty.
 ///
-/// Whatever is answered, at most eight bytes for each of the symbol's and a kilobyte are written, and as many of what is not
-/// shown, at most eight steps for each byte are taken, and no list has more entries than the symbol has bytes: each step begins with
+/// Whatever is answered, at most eight bytes for each of the symbol's and a kilobyte are written, and as many of hidden text,
+/// at most eight steps for each byte are taken, and no list has more entries than the symbol has bytes: each step begins with
 /// lists that have room for no more. The lists only grow in a call.
 pub fn write(direct: &mut Direct, s: &[u8], limit: u32) -> bool
     requires { FitsSymbol s.now }

@@ -13,7 +13,7 @@ nested-row : fields_of (of_path (tree.nested 118 foo (record { disambiguator = 2
     ≡ record { production = 6; numbers = 118 ∷ 2 ∷ []; texts = codes "bar" ∷ [] ∷ []; parts = of_path foo ∷ [] }
 nested-row = refl
 
--- the node of a path stands for it as a type
+-- the node of a path denotes it as a type
 trait_impl-row : fields_of (of_path (tree.trait_impl 0 foo (tree.path_type foo) foo))
     ≡ record { production = 3; numbers = 0 ∷ 0 ∷ []; texts = [] ∷ [] ∷ []; parts = of_path foo ∷ of_path foo ∷ of_path foo ∷ [] }
 trait_impl-row = refl

@@ -89,7 +89,7 @@ value-before (suc k) (suc n) later few =
     ∙ ap (λ d. value_onto Hex (m / 16 * 16 + d) later) (value-glyph (m % 16) small)
     ∙ ap (λ v. value_onto Hex v later) split
 
--- the digits of a number stand for it
+-- the digits of a number denote it
 pub value-hexadecimal : (n : ℕ) → value_of Hex (hexadecimal n) ≡ n
 unfolding hexadecimal
 value-hexadecimal n = value-before n n [] (omega arith)

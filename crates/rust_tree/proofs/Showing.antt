@@ -1,4 +1,4 @@
--- What is shown so far, said in other words.
+-- What is shown so far, in other words.
 use Rattle.std.proofs.Common.{append-nil, ◌≡◌, ℕ, ◌+◌, ◌-◌, ◌*◌, ◌^◌, ◌<◌, ◌≤◌, inl, inr, List, [], ◌∷◌, ◌++◌, length, take, codes, decimal, Bool, true, false, ◌==◌, if◌then◌else◌, Option, Some, None, zero, suc, refl, sym, ap, ◌∙◌, arith, subst}
 use Rattle.sym_print.specs.Held.{Held}
 use Rattle.sym_print.specs.declared.detail.Detail.{Detail}

@@ -45,7 +45,7 @@ got-there [] i h = absurd (omega arith)
 got-there (x ∷ xs) zero h = (x, refl)
 got-there (x ∷ xs) (suc i) h = got-there xs i (omega arith)
 
--- an item of a front comes before its end, and in the whole
+-- an item of a front precedes its end, and is in the whole
 pub got-early : {A : Type 0} (n : ℕ) (xs : List A) (i : ℕ) (x : A) → slice_get (take n xs) i ≡ Some x → (i < n) × (slice_get xs i ≡ Some x)
 got-early zero xs i x h = absurd (let e : None ≡ Some x = h in cc)
 got-early (suc n) [] i x h = absurd (let e : None ≡ Some x = h in cc)
@@ -218,7 +218,7 @@ module _ (all more : List Tree) where
   tree_of-grown s text (Node.Constant constant) h = refl
   tree_of-grown s text (Node.Symbol whole) h = ap of_symbol (symbol_of-grown s whole h)
 
--- ## The same with a longer text list too
+-- ## Likewise with a longer text list
 
 pub within-grown : (text more : List ℕ) (span : Span) → IsWithin span text → IsWithin span (text ++ more)
 within-grown text more span h = (h.0, omega (arith, h.1, length-append text more))
@@ -461,7 +461,7 @@ node-added s table entry parts needed new are text =
       need = subst (λ a. entry.need ≡ need_of_tree (tree_of s a entry.node)) (sym are) (needed ∙ ap need_of_tree (sym same));
     }
 
--- what a push gives: the table is one still, and the node's number stands for its tree
+-- what a push gives: the table is one still, and the node's number denotes its tree
 pub push-stands : (s : List ℕ) (old new : Table) (node : Node) (t : Tree) (number : ℕ) → IsTable s old → Makes s old node t
     → new.nodes ≡ old.nodes ++ record { node = node; need = needs old.nodes node } ∷ [] → new.text ≡ old.text → number ≡ length old.nodes
     → IsTable s new × (slice_get (trees s new.nodes) number ≡ Some t)
@@ -511,7 +511,7 @@ trees-grown s old new grows =
     let g = trees_onto-grows s (trees s old.nodes) grows.more_nodes in
     (g.0, ap (trees s) grows.nodes ∙ trees_onto-append s [] old.nodes grows.more_nodes ∙ g.1)
 
--- what stood for a tree stands for it still
+-- what denoted a tree denotes it still
 pub tree-stays : (s : List ℕ) (old new : Table) (k : ℕ) (t : Tree) → Grows old new → slice_get (trees s old.nodes) k ≡ Some t → slice_get (trees s new.nodes) k ≡ Some t
 tree-stays s old new k t grows h =
     let g = trees-grown s old new grows in

@@ -27,7 +27,7 @@ by_name name plain punycode = if name.punycode then punycode else plain
 abbrev pub one_if : Bool → ℕ
 one_if b = if b then 1 else 0
 
--- a type as a part: the tree of a path stands for the path as a type too
+-- a type as a part: the tree of a path denotes the path as a type too
 abbrev pub type_part : tree.Ty → Tree
 type_part (tree.path_type path) = of_path path
 type_part type = of_type type
@@ -107,7 +107,7 @@ fields_of (of_bindings bindings) = bindings_fields bindings
 fields_of (of_constant constant) = constant_fields constant
 fields_of (of_symbol symbol) = symbol_fields symbol
 
--- ## The tree of fields. What isn't there is an empty tree.
+-- ## The tree of fields. A missing field is an empty tree.
 
 abbrev pub number_in : Fields → (k : ℕ) → ℕ
 number_in given k = slice_index given.numbers k

@@ -2,12 +2,12 @@
 use Rattle.std.specs.Prelude.{ℕ, zero, suc, ◌*◌, ◌/◌, ◌%◌, List, [], ◌∷◌, true, false, ◌==◌}
 use Rattle.std.specs.Fmt.{digit_glyph}
 
--- what so many hexadecimal digits count to
+-- the number that n hexadecimal digits denote
 abbrev pub reach : ℕ → ℕ
 reach zero = 1
 reach (suc more) = 16 * reach more
 
--- the digits of a number, at most so many, before later ones
+-- the digits of a number, at most n, before later ones
 unfoldable pub hexadecimal_before : (most n : ℕ) → (later : List ℕ) → List ℕ
 hexadecimal_before zero n later = later
 hexadecimal_before (suc more) n later =

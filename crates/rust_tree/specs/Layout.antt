@@ -45,7 +45,7 @@ binder_in (tree.function binder is_unsafe abi parameters returned) = binder
 binder_in (tree.dyn binder _ lifetime) = binder
 binder_in _ = 0
 
--- a function's type without its binder, where so many lifetimes are bound, its own among them
+-- a function's type without its binder, where n lifetimes are bound, its own among them
 abbrev pub signature_in : Context → tree.Ty → Unshared
 signature_in c (tree.function binder is_unsafe abi parameters returned) =
     signature_parts is_unsafe abi (types_from c.detail c.bound [] parameters) (is_unit returned) (type_parts c.detail c.bound returned)
@@ -112,8 +112,8 @@ HasForm all node Form.Bound = (bounds : tree.Bounds) × IsBounds all node bounds
 HasForm all node Form.FirstBinding = (bindings : tree.Bindings) × IsBindings all node bindings
 HasForm all node Form.MoreBindings = (bindings : tree.Bindings) × IsBindings all node bindings
 
--- Each node after another one may bind so many lifetimes, and a signature's own are bound already: with this no
--- number of bound lifetimes comes near 64 bits.
+-- Each node after another one may bind this many lifetimes, and a signature's own are bound already: with this no number of
+-- bound lifetimes comes near 64 bits.
 abbrev pub levels : Form → (node : ℕ) → ℕ
 levels Form.Signature node = node
 levels _ node = node + 1
@@ -121,7 +121,7 @@ levels _ node = node + 1
 abbrev pub HasDepth : Form → (node bound : ℕ) → Type 0
 HasDepth form node bound = bound + most_bound * levels form node ≤ most_bound * 2 ^ 32
 
--- the parts that may be asked about
+-- the parts that the layout may be asked for
 abbrev pub MayCome : ReadSymbol → Part Context → Type 0
 MayCome y (part.Sub i) = HasForm (trees_of y) i.node (form_of i.form) × HasDepth (form_of i.form) i.node i.ctx.bound
 MayCome y (part.Symbol span) = IsWithin span y.bytes × (span.from < span.to)
@@ -131,12 +131,12 @@ MayCome y (part.Own bytes count) = (0 < count) × (count ≤ 24) × (length byte
 
 -- ## Lists of parts
 
--- The parts that a list was given may come, and are what is shown; the first comes last.
+-- The parts that a list was given may be asked for, and are what is shown; the first is last in it.
 pub record Shows (y : ReadSymbol) (below held : Held Context) (shown : Unshared) : Type 0 where
   pub stacked : Stacked (unshared_of y) (bytes_of_part y) (MayCome y) below.items held.items shown
   pub capacity : held.capacity ≡ below.capacity
 
--- there is something in a list
+-- something is in a list
 abbrev pub any_arguments : tree.Arguments → Bool
 any_arguments tree.no_arguments = false
 any_arguments _ = true
@@ -157,7 +157,7 @@ abbrev pub is_empty : List ℕ → Bool
 is_empty [] = true
 is_empty (_ ∷ _) = false
 
--- an item before what is after it, if there is to be one
+-- an item before what is after it, if it is to be added
 abbrev pub item_if : Bool → Unshared → Unshared → Unshared
 item_if true parts rest = parts also rest
 item_if false parts rest = rest

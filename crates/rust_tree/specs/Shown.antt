@@ -26,7 +26,7 @@ basic_text = text_at basic_texts
 unfoldable pub numbered_lifetime : ℕ → List ℕ
 numbered_lifetime number = if nat_lt number 26 then 39 ∷ (97 + number) ∷ [] else 39 ∷ 95 ∷ decimal number
 
--- a lifetime where so many are bound around it
+-- a lifetime where n are bound around it
 unfoldable pub lifetime_text : ℕ → ℕ → List ℕ
 lifetime_text bound zero = codes "'_"
 lifetime_text bound (suc k) = numbered_lifetime (bound - suc k)
@@ -53,7 +53,7 @@ lifetime_parts bound lifetime = lifetime_text bound lifetime then done
 unfoldable pub namespace_text : ℕ → List ℕ
 namespace_text letter = if letter == 67 then codes "closure" else (if letter == 83 then codes "shim" else letter ∷ [])
 
--- a name and what comes before it, unless the name is empty
+-- a name and what precedes it, unless the name is empty
 abbrev pub name_behind : (before : List ℕ) → (name : List ℕ) → Unshared → Unshared
 name_behind before [] rest = rest
 name_behind before (b ∷ bs) rest = before then (b ∷ bs) then rest
@@ -76,7 +76,7 @@ argument_list false value arguments rest = rest
 abbrev pub generic_parts : (all : Bool) → (value : Bool) → (parent : Unshared) → (arguments : Option Unshared) → Unshared
 generic_parts all value parent arguments = parent also argument_list all value arguments done
 
--- the names of so many lifetimes, from this number on
+-- the names of n lifetimes, from this number on
 unfoldable pub names_from : (separator : List ℕ) → (number : ℕ) → (count : ℕ) → Option Unshared
 names_from separator number zero = None
 names_from separator number (suc more) =
@@ -121,7 +121,7 @@ abbrev pub dyn_lifetime : (bound lifetime : ℕ) → Unshared → Unshared
 dyn_lifetime bound zero rest = rest
 dyn_lifetime bound (suc k) rest = codes " + " then lifetime_text bound (suc k) then rest
 
--- A bound of a `dyn`: its bindings, if it has any, come after the arguments of its path. In brief the path stands alone.
+-- A bound of a `dyn`: its bindings, if it has any, follow the arguments of its path. In brief it is just the path.
 abbrev pub behind_arguments : (arguments : Option Unshared) → Unshared → Unshared
 behind_arguments None rest = rest
 behind_arguments (Some arguments) rest = arguments also codes ", " then rest
@@ -136,7 +136,7 @@ plain_bound true path (Some bindings) = path also codes "<" then bindings also c
 plain_bound all path _ = path also done
 
 unfoldable mutual
-  -- a path, where so many lifetimes are bound
+  -- a path, where n lifetimes are bound
   pub path_parts : Detail → (bound : ℕ) → (value : Bool) → Path → Unshared
   path_parts detail bound value (crate_root name) = name_text name.name then done
   path_parts detail bound value (inherent_impl disambiguator path type) =
@@ -199,7 +199,7 @@ bound_parts detail bound (generic parent arguments) bindings =
     generic_bound (has_arguments detail) (path_parts detail bound false parent) (arguments_from detail bound [] arguments) (bindings_from detail bound [] bindings)
 bound_parts detail bound path bindings = plain_bound (has_arguments detail) (path_parts detail bound false path) (bindings_from detail bound [] bindings)
 
--- a whole symbol; the path of the crate that asked for it isn't shown
+-- a whole symbol; the path of the instantiating crate isn't shown
 abbrev pub suffix_parts : List ℕ → Unshared → Unshared
 suffix_parts [] rest = rest
 suffix_parts (b ∷ bs) rest = codes " (" then (b ∷ bs) then codes ")" then rest

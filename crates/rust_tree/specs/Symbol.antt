@@ -1,4 +1,4 @@
--- What a symbol stands for: a tree in which nothing is shared and no back reference is left.
+-- What a symbol denotes: a tree in which nothing is shared and no back reference is left.
 use Rattle.std.specs.Prelude.{ℕ, List, Bool, Option}
 
 -- a name as the symbol spells it; a name in Punycode is marked
@@ -17,9 +17,8 @@ pub data Abi : Type 0 where
   c_abi : Abi
   named_abi : Name → Abi
 
--- A lifetime is the number of lifetimes from the inside that are bound up to it, from 1, and 0 where it is erased.
--- A binder is the number of lifetimes that it binds, 0 where there is none. A basic type and the type of an
--- integer are their letters.
+-- A lifetime is the number of bound lifetimes from the inside up to it, from 1, and 0 where it is erased. A binder is the
+-- number of lifetimes that it binds, 0 where there is none. A basic type and the type of an integer are their letters.
 mutual
   pub data Path : Type 0 where
     crate_root : Identifier → Path
@@ -66,7 +65,7 @@ mutual
     character : ℕ → Constant
     placeholder : Constant
 
--- a symbol: its path, the path of the crate that asked for an instance, and its suffix with the dot
+-- a symbol: its path, the path of the crate that instantiates it, and its suffix with the dot
 pub record Symbol : Type 0 where
   pub path : Path
   pub instantiating : Option Path

@@ -1,4 +1,4 @@
--- What one node of a symbol stands for.
+-- What one node of a symbol denotes.
 use Rattle.std.specs.Prelude.{ℕ, max, Option, Some, None}
 use Rattle.rust_tree.specs.Symbol.{Path, Arguments, Ty, Tys, Bounds, Bindings, Constant, Symbol}
 use Rattle.rust_tree.specs.Need.{need, need_of_arguments, need_of_type, need_of_types, need_of_bounds, need_of_bindings}

@@ -34,7 +34,7 @@ has_letter production = (production == NESTED) || ((production == PUNYCODE_NESTE
 abbrev pub IsLettered : Node → Type 0
 IsLettered view = has_letter view.production ≡ true → get_or view.numbers 0 0 < 256
 
--- Two views have the same production and numbers, texts of the same bytes, and as many parts; the parts are equal in turn.
+-- Two views have the same production and numbers, texts of the same bytes, and equally many parts; the parts are equal in turn.
 pub record AreAlike (s t : List ℕ) (first second : Node) (one other : Tree) : Type 0 where
   pub production : first.production ≡ second.production
   pub numbers : first.numbers ≡ second.numbers
@@ -42,7 +42,7 @@ pub record AreAlike (s t : List ℕ) (first second : Node) (one other : Tree) : 
   pub parts : first.parts ≡ second.parts
   pub equal : (k : ℕ) → k < first.parts → slice_get (fields_of one).parts k ≡ slice_get (fields_of other).parts k
 
--- the node of a path is used as a type, and no other node stands for the path as one
+-- the node of a path is used as a type, and no other node denotes the path as one
 abbrev pub HasNoPathType : List Tree → Type 0
 HasNoPathType all = (k : ℕ) (path : tree.Path) → slice_get all k ≡ Some (of_type (tree.path_type path)) → ⊥
 

@@ -1,4 +1,4 @@
-// What an item is told beside its node.
+// The context that an item carries besides its node.
 
 use sym_print::Detail;
 

@@ -9,9 +9,9 @@ ghost use Rattle.rust_tree.specs.Forms.{form_of};
 pub enum Form {
     /// The symbol with its suffix.
     Root,
-    /// A path whose arguments come after `::`.
+    /// A path whose arguments follow `::`.
     ValuePath,
-    /// A path whose arguments come after it.
+    /// A path whose arguments follow it directly.
     PlainPath,
     /// A type, or a path as one.
     Ty,

@@ -1,4 +1,4 @@
-//! What a Rust symbol stands for: its nodes, which share their parts, and how they are shown.
+//! What a Rust symbol denotes: its nodes, which share their parts, and how they are shown.
 #![tactic(auto)]
 
 mod basic_types;

@@ -33,7 +33,7 @@ impl Model for Nodes {
 }
 
 impl Nodes {
-    /// A table of no nodes.
+    /// A table without nodes.
     pub fn new(alloc: Global) -> Nodes
         ensures nodes { result.nodes ≡ [] }
         ensures text { result.text ≡ [] }
@@ -289,7 +289,7 @@ impl Nodes {
         Ok(span)
     }
 
-    /// Adds to the text list a decimal, after a minus where that is asked for, and answers its span.
+    /// Adds to the text list a decimal, after a minus where one is requested, and answers its span.
     ///
     /// # Errors
     ///
@@ -314,7 +314,7 @@ impl Nodes {
         Ok(span)
     }
 
-    /// Takes all nodes and the text list away, and keeps their memory.
+    /// Removes all nodes and the text list, and keeps their memory.
     pub fn clear(&mut self)
         ensures nodes { self.new.nodes ≡ [] }
         ensures text { self.new.text ≡ [] }

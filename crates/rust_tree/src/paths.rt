@@ -82,7 +82,7 @@ impl Symbol {
         self.push_text(parts, texts::LESS);
     }
 
-    /// Adds what comes before arguments.
+    /// Adds what precedes arguments.
     #[inline(always)]
     pub(crate) fn push_open_angle<S: PartList<Context>>(&self, parts: &mut S, value: bool)
         requires { 1 ≤ S.room parts.old }

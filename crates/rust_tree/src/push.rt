@@ -106,7 +106,7 @@ impl Symbol {
         }
     }
 
-    /// Adds what a name prints, if that is something.
+    /// Adds what a name prints, if it prints something.
     #[inline(always)]
     pub(crate) fn push_name<S: PartList<Context>>(&self, parts: &mut S, name: Name)
         requires { 0 < S.room parts.old }
@@ -206,7 +206,7 @@ impl Symbol {
         }
     }
 
-    /// Adds a lifetime where so many are bound.
+    /// Adds a lifetime where n are bound.
     pub(crate) fn push_lifetime<S: PartList<Context>>(
         &self,
         parts: &mut S,

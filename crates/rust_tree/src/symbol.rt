@@ -36,7 +36,7 @@ impl Model for Symbol {
 }
 
 impl Symbol {
-    /// The symbol with these nodes, the last of which is the whole.
+    /// The symbol with these nodes, the last being the whole.
     pub fn new(bytes: Vec<u8>, nodes: Nodes, root: u32, rows: u32, steps: u32) -> Symbol
         requires { IsRead (record { bytes = bytes.items; table = nodes; root = root; rows = rows; steps = steps }) }
         ensures { result ≡ record { bytes = bytes.items; table = nodes; root = root; rows = rows; steps = steps } }

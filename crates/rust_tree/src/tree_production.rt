@@ -1,7 +1,7 @@
 // The productions of trees: what the view of a node has for each.
 //
-// What a production doesn't name is 0 or no bytes; no production has a second text. A type that is a part is the node of
-// a type or of a path. The text of a name is what the symbol spells and not what it prints.
+// What a production doesn't mention is 0 or no bytes; no production has a second text. A type that is a part is the node of a
+// type or of a path. The text of a name is what the symbol spells and not what it prints.
 
 /// A crate. Numbers: its disambiguator, 0 where it has none. Texts: its name, which isn't in Punycode. Parts: none.
 pub const CRATE_ROOT: u16 = 0;
@@ -16,7 +16,7 @@ pub const INHERENT_IMPL: u16 = 2;
 /// path of the trait.
 pub const TRAIT_IMPL: u16 = 3;
 
-/// A trait as a type has it. Parts: the type and the path of the trait.
+/// A trait as a type implements it. Parts: the type and the path of the trait.
 pub const TRAIT_DEFINITION: u16 = 4;
 
 /// A path after another one. Numbers: the letter of its namespace, and its disambiguator, 0 where it has none. Texts:
@@ -45,8 +45,7 @@ pub const TYPE_ARGUMENT: u16 = 11;
 /// A basic type. Numbers: its letter. Parts: none.
 pub const BASIC: u16 = 12;
 
-/// A path as a type. Parts: the path. No node has this production, since the node of a path stands for it as a type
-/// too.
+/// A path as a type. Parts: the path. No node has this production, since the node of a path denotes it as a type too.
 pub const PATH_TYPE: u16 = 13;
 
 /// An array. Parts: the type of its elements, and the constant that is its size.
@@ -84,8 +83,7 @@ pub const ABI_FUNCTION: u16 = 23;
 /// A function's type of an ABI whose name is in Punycode, otherwise as `ABI_FUNCTION`.
 pub const PUNYCODE_ABI_FUNCTION: u16 = 24;
 
-/// A type that is dynamic. Numbers: how many lifetimes it binds, and its own lifetime, 0 where that is erased. Parts:
-/// its bounds.
+/// A `dyn` type. Numbers: how many lifetimes it binds, and its own lifetime, 0 where that is erased. Parts: its bounds.
 pub const DYN: u16 = 25;
 
 /// The end of a list of types. Parts: none.
@@ -122,6 +120,6 @@ pub const CHARACTER: u16 = 35;
 /// A constant that isn't known. Parts: none.
 pub const PLACEHOLDER: u16 = 36;
 
-/// A whole symbol. Texts: its suffix with the dot. Parts: its path and, where there is one, the path of the crate that
-/// asked for it.
+/// A whole symbol. Texts: its suffix with the dot. Parts: its path and, where there is one, the path of the instantiating
+/// crate.
 pub const SYMBOL: u16 = 37;

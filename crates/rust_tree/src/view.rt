@@ -40,7 +40,7 @@ struct NodeView {
 
 const NO_TEXT: Span = Span { from: 0, to: 0 };
 
-/// A node of these numbers, this text, and so many of these parts.
+/// A node of these numbers and this text, with the first n of these parts.
 fn view_of(production: u16, numbers: [u64; 2], text: Span, count: u32, parts: [u32; 3]) -> NodeView
     ensures { result ≡ seen_of production numbers text count parts }
 {
@@ -55,7 +55,7 @@ fn view_of(production: u16, numbers: [u64; 2], text: Span, count: u32, parts: [u
     }
 }
 
-/// A node of one number alone.
+/// A node with only a number.
 fn leaf(production: u16, number: u64) -> NodeView
     ensures { result ≡ seen_of production (number ∷ 0 ∷ []) no_text 0 (0 ∷ 0 ∷ 0 ∷ []) }
 {

@@ -1,4 +1,4 @@
--- A node that is added stands for what its production means.
+-- A node that is added denotes what its production means.
 use Rattle.std.proofs.Common.{◌≡◌, refl, ap, arith, ℕ, ◌<◌, inl, List, ◌∷◌, length, Option, Some, None, Ok}
 use Rattle.std.specs.Prelude.{slice_get, slice_set}
 use Rattle.std.proofs.lemmas.List.{length-set}

@@ -11,14 +11,14 @@ use Rattle.rust_grammar.specs.Unfold.{Meaning}
 use Rattle.rust_v0.proofs.Meanings.{goes_on_same}
 use Rattle.rust_v0.proofs.Taking.{fails_memory}
 
--- a part that stands for what is read was put, if memory let it
+-- a part that denotes what is read was put, if memory allowed it
 pub put_gives : (s : List ℕ) (linked : RustNodes) (lower new_parts : List Part) (part : Part) (result : Result (Unit {0}) Refusal) (read : Meaning)
     → OnOk result (new_parts ≡ lower ++ part ∷ []) → IfErr result (λ e. e ≡ refusals.Memory) → Gives (v0_view s) linked (Ok part) read
     → Puts (v0_view s) linked lower new_parts result read
 put_gives s linked lower new_parts part (Ok done) read items memory gives = (part, items, gives)
 put_gives s linked lower new_parts part (Err e) read items memory gives = fails_memory e read memory
 
--- where no node was added, at most one was
+-- where no node was added, the count grew by at most one
 pub same_adds : (s : List ℕ) (old new : RustNodes) (result : Result (Unit {0}) Refusal) → new.nodes ≡ old.nodes → length new.targets.items ≡ length old.targets.items
     → OnOk result (Adds (v0_view s) old new 1 0)
 same_adds s old new (Ok done) nodes places = (goes_on_same old new nodes places, omega (arith, ap (λ t. length t.nodes) nodes))

@@ -1,4 +1,4 @@
--- A rule that begins: how many lifetimes are bound around it, and where it is.
+-- A rule that begins: how many lifetimes are bound around it, and its place.
 use Rattle.std.proofs.Common.{◌≡◌, refl, ap, sym, ◌∙◌, ℕ, ◌+◌, ◌*◌, ◌<◌, ◌≤◌, zero, suc, inl, inr, List, [], ◌∷◌, length, get_or, Bool, true, false, not, ◌&&◌, ◌||◌, Option, Some, Ok, Err, arith, cond}
 use Rattle.std.specs.Prelude.{min, ◌^◌}
 use Rattle.std.proofs.lemmas.Bool.{false≢true, and_parts, cases_Bool}
@@ -75,7 +75,7 @@ skipped_further from (grown (fixed byte) rest) = omega (arith, skipped_further (
 skipped_further from (grown (token t) rest) = omega arith
 skipped_further from (grown (branch rule taken parts) rest) = omega arith
 
--- a part of a rule that binds comes after the rule's own byte
+-- a part of a rule that binds follows the rule's own byte
 pub behind_own : (s : List ℕ) (around : Open State ℕ) (held from : ℕ) (left : Forest) → Stands v0_table s 0 around held from left
     → binds (production_of around.rule.number) ≡ true → around.place + 1 ≤ skipped_from from left
 behind_own s around held from left stands is =

@@ -23,13 +23,13 @@ pub one_by_node : (number : ℕ) (production : Production) → production_of num
 unfolding nodes_of_production
 one_by_node number production is reference part = rw (is, reference, part) refl
 
--- so many nodes were added, whatever became of the part
+-- this many nodes were added, whatever became of the part
 pub made_so_many : (old new : RustNodes) (result : Result (Unit {0}) Refusal) (made more : ℕ) → length new.nodes.nodes ≡ length old.nodes.nodes + more → made ≡ more
     → OnOk result (length new.nodes.nodes ≡ length old.nodes.nodes + made)
 made_so_many old new (Ok done) made more is same = omega (arith, is, same)
 made_so_many old new (Err e) made more is same = tt
 
--- and so it is of the nodes after those that each table begins with
+-- likewise for the nodes after those at the front of each table
 pub size_added : {A : Type 0} (old new : RustNodes) (result : Result A Refusal) (more : ℕ) → 3 ≤ length old.nodes.nodes → OnOk result (length new.nodes.nodes ≡ length old.nodes.nodes + more)
     → OnOk result (length new.nodes.nodes - 3 ≡ length old.nodes.nodes - 3 + more)
 size_added old new (Ok done) more begun is = omega (arith, begun, is)

@@ -1,4 +1,4 @@
--- What is noted of places stays so, and what ends is noted.
+-- What is noted of places stays, and what ends is noted.
 use Rattle.std.proofs.Common.{◌≡◌, ◌≢◌, sym, ◌∙◌, ℕ, ◌<◌, inl, inr, List, ◌∷◌, ◌++◌, length, replicate, false, Option, Some}
 use Rattle.std.specs.Prelude.{slice_set, ◌==◌}
 use Rattle.std.proofs.lemmas.List.{get_or-set_same, get_or-set_other}

@@ -19,7 +19,7 @@ use Rattle.rust_grammar.specs.Unfold.{no_such_parts}
 use Rattle.rust_grammar.specs.Mangled.{answer_of_shape}
 use Rattle.rust_v0.proofs.Shapes.{shape_of}
 
--- what the shape that was read is answered with; a symbol that isn't well shaped counts as a no_such_parts one
+-- the answer for the shape that was read; a symbol that isn't well shaped has the refusal `no_such_parts`
 abbrev pub answer_at : Detail → ℕ → Option Tree → Result (List ℕ) Refusal
 answer_at detail limit None = Err no_such_parts
 answer_at detail limit (Some shape) = answer_of_shape detail limit shape
@@ -27,7 +27,7 @@ answer_at detail limit (Some shape) = answer_of_shape detail limit shape
 abbrev pub answer : Detail → ℕ → List ℕ → Result (List ℕ) Refusal
 answer detail limit bytes = answer_at detail limit (shape_of bytes)
 
--- ## Rows, and a test of them that computes
+-- ## Rows, and a test that computes them
 
 record Row : Type 0 where
   pub detail : Detail
@@ -40,7 +40,7 @@ record Row : Type 0 where
 abbrev prints : String → List ℕ → ℕ → Row
 prints symbol text cost = record { detail = Detail.Full; symbol = codes symbol; wanted = Ok text; cost = cost }
 
--- the same in the brief detail
+-- likewise in the brief detail
 abbrev briefly : String → List ℕ → ℕ → Row
 briefly symbol text cost = record { detail = Detail.Brief; symbol = codes symbol; wanted = Ok text; cost = cost }
 

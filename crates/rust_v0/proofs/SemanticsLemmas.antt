@@ -25,7 +25,7 @@ use Rattle.rust_v0.specs.Made.{ground, HasLists, MadeGives}
 use Rattle.rust_v0.specs.CodeSemantics as semantics
 use Rattle.rust_v0.proofs.OperandLemmas.{letter_agrees, name_agrees, identifier_agrees, path_agrees, type_node_agrees, constant_agrees, lifetime_agrees, truth_agrees, abi_value_agrees, types_agrees, number_agrees, integer_agrees, disambiguator_agrees, binder_agrees, some_lifetime_agrees, unsafe_mark_agrees, minus_agrees, abi_agrees, arguments_agrees, bounds_agrees, bindings_agrees, suffix_agrees, other_path_agrees}
 
--- readings that agree, and go on in the same way, agree
+-- readings that agree, and continue in the same way, agree
 lift : {X A : Type 0} (g : Ground) (s : List ℕ) (table : Table) (at : At) (R : X → A → Type 0) (r : Result (X × List Part) Refusal) (read : Next A) → Agree g R r read
     → (k : X × List Part → Result Made Refusal) (m : A × List Value → Meaning)
     → ((found : X × List Part) (a : A) (values : List Value) → R found.0 a → AreAll (IsPart g) found.1 values → MadeGives s table at (k found) (m (a, values)))

@@ -1,4 +1,4 @@
--- A reader of shapes for computing examples: it goes as deep as its fuel.
+-- A reader of shapes for computing examples: its depth is bounded by its fuel.
 use Rattle.std.specs.Prelude.{ℕ, zero, suc, ◌+◌, ◌-◌, ◌*◌, List, [], ◌∷◌, ◌++◌, length, take, drop, Bool, true, false, ◌&&◌, ◌||◌, ◌==◌, nat_le, Option, Some, None}
 use Rattle.sym_core.specs.declared.NumberKind.{NumberKind}
 use Rattle.sym_core.specs.declared.NumberKind.TheVariants.{Base62, Hex}
@@ -45,7 +45,7 @@ abbrev pub decimal_value : ℕ → List ℕ → ℕ
 decimal_value high [] = high
 decimal_value high (d ∷ ds) = decimal_value (10 * high + (d - 48)) ds
 
--- a length of its own, or `0` alone
+-- a length of its own, or a single `0`
 abbrev pub length_at : List ℕ → List ℕ × List ℕ
 length_at [] = ([], [])
 length_at (b ∷ bs) = elim (b == 48) [ true ↦ (b ∷ [], bs) | false ↦ longest is_decimal_digit (b ∷ bs) ]

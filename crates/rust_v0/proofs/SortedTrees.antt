@@ -1,4 +1,4 @@
--- The values of the trees of each kind have the sorts of the kind, and so a well shaped symbol is refused for a bad token alone.
+-- The values of the trees of each kind have the sorts of the kind, and so a well shaped symbol is refused only for a bad token.
 use Rattle.std.proofs.Common.{◌≡◌, refl, sym, ap, ◌∙◌, subst, ℕ, ◌+◌, List, [], ◌∷◌, ◌++◌, length, Bool, true, false, Option, Some, Ok, Err}
 use Rattle.std.specs.Prelude.{Result, IfErr}
 use Rattle.std.specs.List.{list_all}
@@ -42,7 +42,7 @@ closed s kind rule is inner fill =
     (subst (λ (o : Option Production). Makes (made_by is.production) (meaning_of o (at_rule s rule inner.state) inner.value)) (sym is.is) (made is.production (at_rule s rule inner.state) inner.value fill))
     (λ f one. ap (λ v. v ∷ []) one)
 
--- the same by how its parts are read
+-- likewise by how its parts are read
 rule_closed : (s : List ℕ) (kind : ℕ) (rule : Open State ℕ) (is : IsSorted kind rule.rule) (parts : Result (Found (List Value) State) Refusal)
     → Gives (λ f. Fill (slots_of is.production) f.value) parts
     → Gives (λ f. sorts_of f.value ≡ made_by is.production ∷ []) (parts >>= λ inner. meaning_of (production_of rule.rule.number) (at_rule s rule inner.state) inner.value >>= alone)
@@ -129,7 +129,7 @@ whole_rule s rule taken parts takes are =
     ended (Ok f) option = whole_symbol f.value (option is_whole refl)
     ended (Err e) bad = bad
 
--- what a well shaped symbol's shape stands for is refused for a bad token alone
+-- what a well shaped symbol's shape denotes is refused only for a bad token
 pub well_shaped_refused : (shape : Tree) → IsTree v0_table (Kind 0) shape → IfErr (unfolded shape) IsBadToken
 well_shaped_refused (branch rule taken parts) (takes, are) = whole_rule (spell (branch rule taken parts)) rule taken parts takes are
 well_shaped_refused empty is = absurd (false≢true is)

@@ -1,4 +1,4 @@
--- Of which sorts the parts of each rule are, and that these are the ones that its production asks for.
+-- The sorts of each rule's parts, which are those that its production requires.
 use Rattle.std.proofs.Common.{◌≡◌, refl, sym, ap, ◌∙◌, subst, ℕ, zero, suc, List, [], ◌∷◌, ◌++◌, map, get_or, Bool, true, false, ◌&&◌, ◌||◌, eqb, inl, inr, Option, Some, None}
 use Rattle.std.specs.Prelude.{if◌then◌else◌}
 use Rattle.std.specs.List.{list_all}
@@ -115,7 +115,7 @@ abbrev pub is_among : Sort → List Sort → Bool
 is_among s [] = false
 is_among s (t ∷ ts) = is_same s t || is_among s ts
 
--- ## What a production asks for
+-- ## What a production requires
 
 pub data Slot : Type 0 where
   -- a part of one of these sorts
@@ -126,7 +126,7 @@ pub data Slot : Type 0 where
 abbrev pub one : Sort → Slot
 one s = one_of (s ∷ [])
 
--- whether parts of these sorts fill the slots; there may be more after them
+-- whether parts of these sorts fill the slots; more parts may follow
 abbrev pub fills : List Slot → List Sort → Bool
 fills [] sorts = true
 fills (one_of wanted ∷ slots) [] = false
@@ -256,7 +256,7 @@ kind_sorts =
 abbrev pub sorts_of_kind : ℕ → List Sort
 sorts_of_kind kind = get_or kind_sorts kind []
 
--- each alone
+-- each one by itself
 abbrev singles : List Sort → List (List Sort)
 singles [] = []
 singles (s ∷ ss) = (s ∷ []) ∷ singles ss
@@ -266,7 +266,7 @@ abbrev or_nothing : Bool → List (List Sort) → List (List Sort)
 or_nothing true all = [] ∷ all
 or_nothing false all = all
 
--- of which sorts the values of a part may be, by the symbol of the rule
+-- the sorts that a part's values may have, by the symbol of the rule
 abbrev pub options : Production → Sym → List (List Sort)
 options production (Kind kind) = or_nothing (v0_table.may_be_empty kind) (singles (sorts_of_kind kind))
 options production Name = (token_sort production ∷ []) ∷ []

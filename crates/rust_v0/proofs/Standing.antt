@@ -1,4 +1,4 @@
--- What a linker has done is what the symbol's shape stands for.
+-- What a linker has done is what the symbol's shape denotes.
 use Rattle.std.proofs.Common.{◌≡◌, refl, sym, ap, ◌∙◌, subst, inl, inr, ℕ, ◌+◌, ◌*◌, ◌≤◌, List, [], ◌∷◌, length, Option, Some, None, Ok, Err, arith, cond}
 use Rattle.std.specs.Prelude.{Result, codes}
 use Rattle.std.specs.Result.{IfOk}
@@ -105,7 +105,7 @@ symbol_part g part y is = absurd is
 unfolded_is : (s : List ℕ) (shape : Tree) → spell shape ≡ s → unfolded shape ≡ (meaning_of (v0_view s) shape >>= λ whole. symbol_of whole.value)
 unfolded_is s shape spelled = ap (λ u. unfold_tree (v0 u) 0 0 shape at_first >>= λ whole. symbol_of whole.value) spelled
 
--- the one part is the node of a symbol, for which the shape stands
+-- the one part is the node of a symbol, which the shape denotes
 pub record HasWhole (s : List ℕ) (shape : Tree) (linked : RustNodes) (parts : List Part) : Type 0 where
   pub node : ℕ
   pub whole : tree.Symbol
@@ -166,7 +166,7 @@ reads s shape linked parts w node rows steps is fits few each all = record {
   counted = each;
 }
 
--- the symbol that was read stands for its shape
+-- the symbol that was read denotes its shape
 pub whole_read : (y : ReadSymbol) (s : List ℕ) (shape : Tree) (linked : RustNodes) (parts : List Part) (w : HasWhole s shape linked parts) (node rows steps : ℕ)
     → y ≡ record { bytes = s; table = linked.nodes; root = node; rows = rows; steps = steps } → parts ≡ Part.Symbol node ∷ [] → Ok (whole_of y) ≡ unfolded shape
 whole_read y s shape linked parts w node rows steps is there =

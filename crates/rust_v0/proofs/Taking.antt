@@ -208,7 +208,7 @@ minus_is g (p ∷ []) (value.minus_mark ∷ []) are = absurd are.0
 minus_is g (p ∷ []) (v ∷ []) are = refl
 minus_is g (p ∷ q ∷ ps) (v ∷ w ∷ vs) are = two_parts p q ps ∙ sym (two_values v w vs)
 
--- what the code sees of a token is what the reading does
+-- what the code takes a token for is what the reading does
 pub own_in_code : (g : Ground) (o : Option Production) (sort : TokenSort) (slice ps : List Part) (known : List Value) (bytes own : List ℕ) (code_place place at : ℕ)
     → slice ≡ ps → sort ≡ sort_of o → bytes ≡ own → code_place ≡ place → AreAll (IsPart g) ps known → IsOwn (sort_of o) own (length known) place at
     → IsOwn sort bytes (length slice) code_place at

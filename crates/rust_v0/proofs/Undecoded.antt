@@ -4,7 +4,7 @@ use Rattle.std.specs.Prelude.{nat_le, codes}
 use Rattle.std.proofs.lemmas.Bool.{leb-true}
 use Rattle.sym_core.specs.Printed.{printed_name, IsDecoded}
 
--- a name of one byte more is decoded, or longer than those that are
+-- a name with one more byte is decoded, or longer than those that are
 undecoded_by : (b : ℕ) (rest : List ℕ) (room held : ℕ) (short : Bool) → nat_le (length (b ∷ rest)) 2000 ≡ short → room < held + length (printed_name true (b ∷ rest))
     → IsDecoded true (b ∷ rest) ⊎ (room < held + length (b ∷ rest) + 10)
 undecoded_by b rest room held true is lacks = inl (refl, omega arith, leb-true (length (b ∷ rest)) 2000 is)

@@ -277,8 +277,8 @@ char_constant place parts = do
   found ← operands.number parts
   character place found.0
 
--- What a rule makes of its parts, in a symbol and at a place in it, where so many lifetimes are bound. A reference is
--- looked up, not made.
+-- What a rule makes of its parts, in a symbol and at a place in it, where n lifetimes are bound. A reference is looked up, not
+-- made.
 abbrev pub made : Production → (s : List ℕ) → (place bound : ℕ) → List Part → Outcome
 made rules.Symbol s place bound parts = symbol parts
 made rules.PathReference s place bound parts = Err no_such_parts

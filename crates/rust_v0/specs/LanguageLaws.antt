@@ -1,4 +1,4 @@
--- What is linked keeps to what every language does.
+-- Linking keeps to what every language does.
 use Rattle.std.proofs.Common.{refl, arith, ℕ, List, Option, Some, None, [], sym, subst, ◌∙◌}
 use Rattle.sym_link.specs.Linking.{IsLinking}
 use Rattle.sym_link.specs.Sound.{lawful_sound}

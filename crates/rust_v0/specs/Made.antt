@@ -16,11 +16,11 @@ pub data Made : Type 0 where
   Part : part.Part → Made
   Node : node.Node → Made
 
--- what parts speak of, with a table
+-- what parts refer to, with a table
 abbrev pub ground : List ℕ → Table → Ground
 ground s table = record { symbol = s; text = table.text; all = trees s table.nodes }
 
--- the first nodes are the lists that have no items
+-- the first nodes are the empty lists
 pub record HasLists (ground : Ground) : Type 0 where
   pub arguments : IsArguments ground.all EMPTY_ARGUMENTS tree.no_arguments
   pub bounds : IsBounds ground.all EMPTY_BOUNDS tree.no_bounds

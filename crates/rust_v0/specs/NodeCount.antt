@@ -11,7 +11,7 @@ use Rattle.rust_grammar.specs.Productions.{production_of, is_reference, makes_pa
 use Rattle.rust_grammar.specs.Value.{Value, State}
 use Rattle.rust_v0.specs.RustNodes.{v0_view, first_nodes}
 
--- A production makes one node where it closes, but for a reference, which names a node that is there, and for what is a part of
+-- A production makes one node where it closes, except for a reference, which names an existing node, and for what is a part of
 -- another production's node.
 unfoldable pub nodes_of_production : Option Production → ℕ
 nodes_of_production None = 0
@@ -21,14 +21,14 @@ nodes_of_production (Some production) = if is_reference production || makes_part
 abbrev pub made_by : (number : ℕ) → ℕ
 made_by number = nodes_of_production (production_of number)
 
--- the nodes of a symbol of this shape: those with which each table begins, and those that its rules make
+-- the nodes of a symbol of this shape: those at the front of each table, and those that its rules make
 abbrev pub nodes_of_shape : Tree → ℕ
 nodes_of_shape shape = first_nodes + nodes_in made_by shape
 
--- a symbol of this shape has so many nodes
+-- a symbol of this shape has this many nodes
 abbrev pub are_nodes : Tree → ℕ → Type 0
 are_nodes shape nodes = nodes ≡ nodes_of_shape shape
 
--- Rust's language, whose nodes are counted
+-- Rust's language, with its nodes counted
 abbrev pub v0_counted : List ℕ → View RustNodes Part BoundLifetimes Value (Tally State) ℕ
 v0_counted s = tallied_view (v0_view s) (closing_makes made_by)

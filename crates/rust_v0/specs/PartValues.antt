@@ -1,4 +1,4 @@
--- How the parts of code are the values of the reading.
+-- How the parts of code correspond to the values of the reading.
 use Rattle.std.specs.Prelude.{◌≡◌, ℕ, ◌≤◌, ◌<◌, ◌^◌, List, [], Option, Some, None, Result, Ok, Err}
 use Rattle.sym_core.specs.declared.Span.{Span}
 use Rattle.sym_core.specs.declared.refusal.Refusal.{Refusal}
@@ -16,13 +16,13 @@ use Rattle.rust_grammar.specs.Unfold.{value16, Part as Next}
 use Rattle.rust_v0.specs.declared.part.Part.{Part}
 use Rattle.rust_v0.specs.declared.part.Integer.{Integer}
 
--- what parts speak of: the symbol, the text list and the trees of the nodes
+-- what parts refer to: the symbol, the text list and the trees of the nodes
 pub record Ground : Type 0 where
   pub symbol : List ℕ
   pub text : List ℕ
   pub all : List Tree
 
--- a number, which isn't there past 64 bits
+-- a number, which is absent beyond 64 bits
 abbrev pub IsNumber : Option ℕ → ℕ → Type 0
 IsNumber None n = 2 ^ 64 ≤ n
 IsNumber (Some m) n = (m ≡ n) × (n < 2 ^ 64)
@@ -49,7 +49,7 @@ IsNameOf ground name spelled = IsName ground.symbol ground.text name spelled
 abbrev pub IsIdentifier : Ground → Name → ℕ → tree.Identifier → Type 0
 IsIdentifier ground name disambiguator identifier = IsNameOf ground name identifier.name × (disambiguator ≡ identifier.disambiguator)
 
--- a part stands for a value
+-- a part denotes a value
 abbrev pub IsPart : Ground → Part → Value → Type 0
 IsPart ground (Part.Number m) (value.number n) = IsNumber m n
 IsPart ground (Part.Integer found) (value.an_integer integer) = IsSomeInteger ground found integer
@@ -75,7 +75,7 @@ IsPart ground Part.SuffixRest value.suffix_rest = Unit {0}
 IsPart ground (Part.Symbol node) (value.a_symbol symbol) = IsSymbol ground.all node symbol
 IsPart ground _ _ = ⊥
 
--- A reading of the parts at the front agrees with that of their values, where the part that is read is seen by R.
+-- A reading of the parts at the front agrees with that of their values, where R relates the part that is read to its value.
 abbrev pub Agree : {X A : Type 0} → Ground → (X → A → Type 0) → Result (X × List Part) Refusal → Next A → Type 0
 Agree {A = A} ground R (Ok found) read = (a : A) × (values : List Value) × (read ≡ Ok (a, values)) × R found.0 a × AreAll (IsPart ground) found.1 values
 Agree ground R (Err e) read = read ≡ Err e

@@ -1,4 +1,4 @@
--- How the nodes that have been made are what the reading of a symbol says.
+-- How the nodes made so far agree with the reading of a symbol.
 use Rattle.std.specs.Prelude.{◌≡◌, ℕ, ◌+◌, ◌-◌, ◌*◌, ◌≤◌, ◌<◌, List, [], ◌∷◌, true, length, Option, Some, Result, Err, IfErr}
 use Rattle.sym_core.specs.Printed.{IsDecoded}
 use Rattle.sym_link.specs.Linking.{View}
@@ -20,7 +20,7 @@ use Rattle.rust_v0.specs.PartValues.{IsPart}
 use Rattle.rust_v0.specs.Made.{ground, HasLists}
 use Rattle.rust_v0.specs.Tokens.{HasZero}
 
--- the nodes are a table of the symbol, begun with the lists that have no items, and what has ended is noted by its place in the symbol
+-- the nodes are a table of the symbol, begun with the empty lists, and what has ended is noted by its place in the symbol
 pub record Keeps (s : List ℕ) (linked : RustNodes) (ended : List Ended) : Type 0 where
   pub places : length s < length linked.targets.items
   pub table : IsTable s linked.nodes
@@ -31,13 +31,13 @@ pub record Keeps (s : List ℕ) (linked : RustNodes) (ended : List Ended) : Type
 abbrev pub first_nodes : ℕ
 first_nodes = 3
 
--- So many lifetimes are bound around the rule: at most as a symbol can bind before its place.
+-- The lifetimes bound around the rule: at most as many as a symbol can bind before its place.
 pub record IsKept (linked : RustNodes) (kept : BoundLifetimes) (place bound : ℕ) : Type 0 where
   pub is : kept.bound ≡ bound
   pub few : bound ≤ most_bound * place
   pub there : place < length linked.targets.items
 
--- one table of nodes goes on another
+-- one table of nodes extends another
 pub record GoesOn (old new : RustNodes) : Type 0 where
   pub nodes : Grows old.nodes new.nodes
   pub places : length old.targets.items ≤ length new.targets.items
@@ -60,7 +60,7 @@ pub record AddsOne {X : Type 0} (old new : RustNodes) (result : Result X Refusal
   pub node_room : old.nodes.node_room ≤ new.nodes.node_room
   pub text_room : new.nodes.text_room ≡ old.nodes.text_room
 
--- the text list is paid for by so many bytes, and begins with the decimal of zero
+-- the text list is paid for by this many bytes, and begins with the decimal of zero
 pub record IsPaid (linked : RustNodes) (bytes : ℕ) : Type 0 where
   pub begun : first_nodes ≤ length linked.nodes.nodes
   pub text : length linked.nodes.text ≤ 4 * bytes + 20

@@ -1,4 +1,4 @@
-// The four moments at which the driver asks Rust's language: at the root, and where a rule opens, a token comes and a rule
+// The four moments at which the driver calls Rust's language: at the root, and where a rule opens, a token is taken and a rule
 // closes.
 
 ghost use Rattle.std.specs.Bool.{OnTrue, OnFalse};
@@ -32,16 +32,16 @@ const FUNCTION: u16 = Production::Function as u16;
 /// The number of the rule of a `dyn` type.
 const DYN: u16 = Production::Dyn as u16;
 
-/// Whether a rule may begin with a binder. It is asked at each rule that opens, and by the rule's number takes two comparisons,
-/// where a match on the production takes twice as many instructions.
+/// Whether a rule may begin with a binder. This is tested at each rule that opens, and by the rule's number takes two
+/// comparisons, where a match on the production takes twice as many instructions.
 fn may_bind(rule: u16) -> bool
     ensures { OnFalse result ((bound : ℕ) (parts : List Part) → operands.bound_behind (production_of rule) bound parts ≡ bound) }
 {
     rule == FUNCTION || rule == DYN
 }
 
-/// How many lifetimes are bound around the next part of the rule of a frame, whose parts are those from its base on: a binder
-/// of a function's type holds for all after it, one of a `dyn` type for its bounds alone.
+/// How many lifetimes are bound around the next part of a frame's rule, given the rule's parts, those from the frame's base on:
+/// a binder of a function's type holds for all after it, one of a `dyn` type only for its bounds.
 #[inline(always)]
 fn bound_behind(frame: Frame<BoundLifetimes>, parts: &[Part]) -> u64
     requires { frame.base ≤ length parts.now }
@@ -281,8 +281,8 @@ impl RustNodes {
         put(parts, frame.base, part_of(added))
     }
 
-    /// Closes the rule of a frame by a call. A frame of its own for it lets the others stay in registers. The copy is made in this
-    /// function, as in `take_rare`.
+    /// Closes the rule of a frame by a call. A frame of its own for it lets the others stay in registers. The copy is made in
+    /// this function, as in `take_rare`.
     #[inline(always)]
     fn close_rare(
         &mut self,
@@ -337,8 +337,8 @@ impl RustNodes {
         }
     }
 
-    /// Closes the rule of a frame. The five commonest productions close in the driver's loop, others by a call. Either looks the
-    /// production up by the rule's number: one comparison, where handing the production on takes a register of the loop, and 2.4 %
+    /// Closes the rule of a frame. The five commonest productions close in the driver's loop, others by a call. Both look the
+    /// production up by the rule's number: one comparison, where passing the production takes a register of the loop, and 2.4 %
     /// more instructions over real symbols.
     #[inline(always)]
     fn close_rule(

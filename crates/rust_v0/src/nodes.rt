@@ -1,5 +1,5 @@
 // The table of the nodes that a symbol is linked to: how it begins, what is added where a rule closes, and what references
-// stand for.
+// denote.
 
 ghost use Rattle.std.specs.Prelude.{◌≡◌, ◌≢◌, ℕ, ◌+◌, ◌<◌, ◌≤◌, ◌++◌, ◌^◌, List, [], length, get_or, slice_index, Some, Option, slice_set, replicate, true, false, Ok, IfOk, OnOk, IfErr};
 ghost use Rattle.sym_core.specs.declared.refusal.Refusal.TheVariants as refusals;
@@ -41,7 +41,7 @@ pub struct BoundLifetimes {
     pub bound: u64,
 }
 
-/// The nodes of a symbol that is being linked, and what a back reference to each of its places stands for.
+/// The nodes of a symbol that is being linked, and what a back reference to each of its places denotes.
 #[derive(Drop)]
 pub struct RustNodes {
     pub nodes: Nodes,
@@ -65,7 +65,7 @@ pub fn reach(targets: &mut Vec<Target>, place: usize) -> Result<(), Refusal>
     Ok(())
 }
 
-/// What ended that began at the place that a reference names, whose number counts the bytes after `_R`.
+/// What began and ended at the place that a reference names, whose number counts the bytes after `_R`.
 fn referred(targets: &[Target], number: Option<u64>) -> Target
     ensures { (n : ℕ) → IsNumber number n → result ≡ get_or targets.now (n + 2) target.Nothing }
 {
@@ -81,7 +81,7 @@ fn referred(targets: &[Target], number: Option<u64>) -> Target
     }
 }
 
-/// Notes what has ended that began at a place.
+/// Notes what began at a place and has ended.
 fn note(targets: &mut Vec<Target>, place: u32, target: Target)
     ensures length { length targets.new.items ≡ length targets.old.items }
     ensures noted { place < length targets.old.items → targets.new.items ≡ slice_set targets.old.items place target }
@@ -117,8 +117,8 @@ impl RustNodes {
         }
     }
 
-    /// Forgets the symbol, and begins another one with the lists that have no items, and a text list with the decimal of zero
-    /// alone. The memory of the lists is kept.
+    /// Forgets the symbol, and begins another one with empty lists, and a text list with only the decimal of zero. The memory
+    /// of the lists is kept.
     ///
     /// # Errors
     ///
@@ -140,7 +140,7 @@ impl RustNodes {
         Ok(())
     }
 
-    /// A table for a symbol, of the lists that have no items, and a text list with the decimal of zero alone.
+    /// A table for a symbol, of empty lists, and a text list with only the decimal of zero.
     ///
     /// # Errors
     ///
@@ -237,7 +237,7 @@ impl RustNodes {
         }
     }
 
-    /// What a reference means, whose parts are these.
+    /// What a reference with these parts means.
     pub fn reference(
         &mut self,
         production: Production,

@@ -1,4 +1,4 @@
-// What the parts of a rule stand for, in terms of nodes.
+// What the parts of a rule denote, in terms of nodes.
 
 ghost use Rattle.std.specs.Prelude.{◌≡◌};
 ghost use Rattle.rust_v0.specs.CodeSemantics as semantics;
@@ -14,12 +14,12 @@ pub struct Integer {
     pub printed: Span,
 }
 
-/// What a part of a symbol stands for. Paths, types, constants and lists are their nodes.
+/// What a part of a symbol denotes. Paths, types, constants and lists are their nodes.
 #[derive(Clone, Copy)]
 pub enum Part {
-    /// A number, or none where it is past 64 bits.
+    /// A number, or none where it is beyond 64 bits.
     Number(Option<u64>),
-    /// An integer, or none where it is past 128 bits.
+    /// An integer, or none where it is beyond 128 bits.
     Integer(Option<Integer>),
     Letter(u8),
     Name(Name),
@@ -43,7 +43,7 @@ pub enum Part {
     Symbol(u32),
 }
 
-/// A part that stands for a node which was just added: small enough to be handed on in registers, as `Part` isn't.
+/// A part that denotes a node which was just added: small enough to be passed in registers, as `Part` isn't.
 #[derive(Clone, Copy)]
 pub enum Added {
     Path(u32),

@@ -342,7 +342,7 @@ fn counted(place: u32, number: Option<u64>) -> Result<u64, Refusal>
     }
 }
 
-/// `<disambiguator> = "s" <base-62-number>`, where it comes before a path: one more than the number.
+/// `<disambiguator> = "s" <base-62-number>`, where it precedes a path: one more than the number.
 pub fn disambiguator(place: u32, parts: &[Part]) -> Result<Part, Refusal>
     ensures is { of_part result ≡ semantics.disambiguator place parts.now }
     ensures never { IfErr result (λ e. e ≢ refusals.Memory) }

@@ -1,4 +1,4 @@
--- The writer has come to the step that is next, and has taken no more than it may.
+-- The writer has reached the next step, and has taken no more than it may.
 use Rattle.std.specs.Prelude.{◌≤◌, ◌-◌, ◌*◌, length}
 use Rattle.rust_direct.specs.WriterInvariant.{IsWriting}
 use Rattle.rust_short_way.proofs.run.Given as goal

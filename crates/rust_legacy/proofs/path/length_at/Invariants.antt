@@ -1,4 +1,4 @@
--- the digits so far, and what they stand for
+-- the digits so far, and what they denote
 use Rattle.std.proofs.Common.{◌≡◌, ◌≤◌, ◌<◌, ◌+◌, ◌-◌, ◌^◌, false, take, drop}
 use Rattle.std.specs.Prelude.{codes}
 use Rattle.std.specs.List.{prefix_len}

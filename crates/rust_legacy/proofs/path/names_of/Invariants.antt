@@ -1,4 +1,4 @@
--- The names up to the place are read, or the last one has fewer bytes than it tells.
+-- The names up to the place are read, or the last one has fewer bytes than its length says.
 use Rattle.std.proofs.Common.{◌≡◌, ◌≤◌, ◌<◌, ◌-◌, ◌+◌, ◌^◌, length}
 use Rattle.std.specs.Prelude.{None}
 use Rattle.rust_legacy.specs.Path.{legacy_of}

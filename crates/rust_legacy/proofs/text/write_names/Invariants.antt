@@ -1,4 +1,5 @@
--- Whichever names they are: what is written, and what the rest of them show, are the whole; so are what is spent and what is left to spend.
+-- Whichever names they are: what is written, and what the rest of them show, are the whole; likewise what is spent and what is
+-- left to spend.
 use Rattle.std.proofs.Common.{◌≡◌, ◌≤◌, ◌-◌, ◌+◌, ◌++◌, ℕ, List, []}
 use Rattle.sym_print.specs.Unshared.{text_of}
 use Rattle.rust_legacy.specs.Path.{AreNames}

@@ -1,4 +1,4 @@
--- What is written, and what is left to write, are the whole; so are what is spent and what is left to spend.
+-- What is written, and what is left to write, are the whole; likewise what is spent and what is left to spend.
 use Rattle.std.proofs.Common.{◌≡◌, ◌≤◌, ◌-◌, ◌+◌, ◌++◌, length, drop}
 use Rattle.rust_legacy.specs.Tokens.{texts_of}
 use Rattle.rust_legacy.specs.Writing.{Keeps}

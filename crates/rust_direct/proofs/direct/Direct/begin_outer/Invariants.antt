@@ -1,4 +1,4 @@
--- A path is expected, after those that are around it.
+-- Expects a path, after those around it.
 use Rattle.std.specs.Prelude.{◌-◌, length, false}
 use Rattle.rust_direct.specs.Awaits.{Awaits}
 use Rattle.rust_direct.proofs.direct.Direct.begin_outer.Given as goal

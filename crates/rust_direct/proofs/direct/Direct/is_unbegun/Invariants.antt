@@ -1,4 +1,4 @@
--- If nothing is written yet by what is left, nothing is by all.
+-- If the rest has written nothing yet, the whole hasn't.
 use Rattle.std.specs.Prelude.{length, reverse}
 use Rattle.rust_direct.specs.WriterInvariant.{IsUnbegun}
 use Rattle.rust_direct.proofs.direct.Direct.is_unbegun.Given as goal
