@@ -68,7 +68,7 @@ argument-stands : (s : Symbol) (scope : Scope) (is_pack : Bool) (from number : �
 argument-stands s scope false from number known owner rest os text p = p
 argument-stands s scope true from number known owner rest os text p = p
 
--- nothing comes before the first argument, or before the first element of a pack that is the first argument
+-- nothing precedes the first argument, or the first element of a pack that is the first argument
 none-before : (detail : Detail) (is_pack : Bool) → ComeBefore detail is_pack nowhere [] []
 none-before detail is_pack = record { none = λ e. refl; prints = none-print detail 3; count_is = λ e. refl; no_pack = refl }
 
@@ -77,7 +77,7 @@ argument-scoped : (scope : Scope) (around : Around) (is_pack : Bool) (from numbe
 argument-scoped scope around false from number known opened = none-scoped scope around (opens.Argument from number known ∷ opened) refl
 argument-scoped scope around true from number known opened = none-scoped scope around (opens.Element from number known ∷ opened) refl
 
--- an argument comes next after these, or an element of the pack, and what is before it is written
+-- an argument comes next after these, or an element of the pack, and what precedes it is written
 argument-next : (s : Symbol) (old new : Direct) (is_pack : Bool) (from number place : ℕ) (known : Arguments) (kept : Kept s old) (owner : Open) (rest : List Open)
     (front : List ℕ) (template : Term) (name : List ℕ) (ts : List Term) (texts : List ℕ) (before : List Term) (before_text : List ℕ) → ComeBefore (detail_of s) is_pack known before before_text
     → IsTemplate (detail_of s) kept.scope.names owner front template name old.text.list.items
@@ -122,7 +122,7 @@ argument-next s old new is_pack from number place known kept owner rest front te
 pub argument-type : (s : Symbol) (w : Direct) → AwaitsArgumentOfName s w → IsWriting s w steps.Type
 argument-type s w a = record { kept = a.kept; is_before = (a.awaited, inr (inl (any-argument s a.around a.os w.at a.state a.awaits))) }
 
--- the first argument does
+-- the first argument begins
 pub argument-begins : (s : Symbol) (old new : Direct) (from : ℕ) → IsWriting s old (steps.List true)
     → EndsNamed (reverse old.waiting.list.items) → from ≡ length old.text.list.items
     → new.waiting.list.items ≡ old.waiting.list.items ++ opens.Argument from 0 nowhere ∷ [] → new.text ≡ old.text → new.candidates ≡ old.candidates → new.has_scope ≡ old.has_scope → new.at ≡ old.at
@@ -170,7 +170,7 @@ next-argument-begins s old mid new is_pack last from number known p writes from_
     (ap reverse waits ∙ reverse-last mid.waiting.list.items entry
     ∙ ap (λ ws. entry ∷ ws) (ap (λ v. reverse v.list.items) writes.waiting ∙ p.open_is)) text candidates scope_same (at ∙ writes.at)
 
--- or the first element of a pack that comes after others
+-- or the first element of a pack after other arguments
 pub pack-after : (s : Symbol) (old mid new : Direct) (last from number : ℕ) (known : Arguments) → AwaitsKnownArgument s old false last known
     → StandsAt s.bytes old.at (74 ∷ []) → Writes old mid (codes ", ") → from ≡ length mid.text.list.items → number ≡ last + 1
     → new.waiting.list.items ≡ (mid.waiting.list.items ++ opens.Pack ∷ []) ++ opens.Element from number (record known { before = number }) ∷ []
@@ -297,7 +297,7 @@ argument-belongs detail names false known opened owner rest before before_text c
 argument-belongs detail names true known opened owner rest before before_text come is =
     (is, all-as detail names (is_noted owner) 3 before before_text come.prints)
 
--- others may follow, of which nothing is known
+-- unknown arguments may follow
 pub known-passes : (s : Symbol) (w : Direct) (is_pack : Bool) (last : ℕ) (known : Arguments) → AwaitsKnownArgument s w is_pack last known
     → IsWriting s w (steps.List false)
 known-passes s w is_pack last known p = let listing = arguments_or_pack is_pack p.before p.before_text in record {
@@ -324,7 +324,7 @@ known-passes s w is_pack last known p = let listing = arguments_or_pack is_pack 
   );
 }
 
--- ## What is known of them
+-- ## What is known of the arguments
 
 pub earlier-there : (ts : List Term) (t u : Term) (k : ℕ) → slice_get ts k ≡ Some u → slice_get (ts ++ t ∷ []) k ≡ Some u
 earlier-there [] t u k e = cc e
@@ -335,7 +335,7 @@ pub last-there : (ts : List Term) (t : Term) → slice_get (ts ++ t ∷ []) (len
 last-there [] t = refl
 last-there (v ∷ ts) t = last-there ts t
 
--- what is among some is among others where it is an element of these
+-- what is among some is among all that include these
 among-others : {detail : Detail} {text : List ℕ} {place : Argument} {number : ℕ} {ts : List Term} (h : IsAmong detail text place number ts) (k : ℕ) (us : List Term)
     → slice_get us k ≡ Some h.own → IsAmong detail text place k us
 among-others h k us is = record { bytes = h.bytes; placed = h.placed; own = h.own; there = is; prints = h.prints }
@@ -418,14 +418,14 @@ argument-awaits s old new is_pack from to number known more is_reference p waits
 
 -- ## The end
 
--- what is open around arguments is no pack
+-- the entry open around arguments is no pack
 no-pack-around : (s : Symbol) (w : Direct) (is_pack : Bool) (last : ℕ) (known : Arguments) (p : AwaitsKnownArgument s w is_pack last known) (opened : List Open)
     → opened ≡ p.owner ∷ p.rest → (rest : List Open) → opened ≡ opens.Pack ∷ rest → ⊥
 no-pack-around s w is_pack last known p opened is rest e =
     let same : p.owner ≡ opens.Pack = cc (sym is ∙ e) in
     subst (λ o. IsTemplate (detail_of s) p.scope.names o p.front p.template p.name w.text.list.items) same p.is_template
 
--- those that are known so far
+-- the arguments known so far
 single-known : (s : Symbol) (w : Direct) (last : ℕ) (known : Arguments) (p : AwaitsKnownArgument s w false last known) (k : ℕ) → IsKnown known k
     → IsAmong (detail_of s) w.text.list.items (place_of known k) k p.ts
 single-known s w last known p k o =
@@ -510,7 +510,7 @@ elements-known s w last size known p size_is = (
     count_is : known.before ≡ length p.before
     count_is = p.come_before.count_is refl
 
--- after an element of the pack they end with it
+-- after an element of the pack the pack ends, and with it the arguments
 pub pack-closes : (s : Symbol) (w new : Direct) (last size : ℕ) (known : Arguments) (p : AwaitsKnownArgument s w true last known)
     → StandsAt s.bytes w.at (69 ∷ []) → StandsAt s.bytes (w.at + 1) (69 ∷ []) → reverse new.waiting.list.items ≡ p.owner ∷ p.rest → new.text ≡ w.text
     → new.candidates ≡ w.candidates → new.has_scope ≡ w.has_scope → new.at ≡ w.at + 1 + 1 → size ≡ last + 1 - known.before

@@ -35,7 +35,7 @@ use Rattle.cpp_direct.proofs.TypesRead.{code_in, letter-listed}
 
 -- ## Encodings
 
--- an encoding that comes ends the symbol
+-- an accepted encoding ends the symbol
 pub encoded-whole : (s : Symbol) (opened_ : SymbolOpened s) (e : Term) (at : ℕ) (st : State) → Comes s opened_.inner (tree e true) at st → Encoded s e at
 encoded-whole s opened_ e at st comes = record {
   ends = λ here. opened_.ends e st (subst (λ n. Comes s opened_.inner (tree e true) n st) here comes);
@@ -50,7 +50,7 @@ whole-behind s lead e at apart p = record { whole = λ f. p; entity = λ is. abs
 no-object : (s : List ℕ) → is_local s ≡ false → is_guard s ≡ false → is_object s ≡ false
 no-object s apart other = rw (apart, other) refl
 
--- the encoding of a symbol is expected, and nothing is written yet
+-- expects the encoding of a symbol, with nothing written yet
 pub encoding-awaited : (s : Symbol) (w : Direct) → w.text.list.items ≡ [] → w.candidates.list.items ≡ [] → StandsAt s.bytes 0 (95 ∷ 90 ∷ []) → w.at ≡ 2
     → is_local s.bytes ≡ false → is_guard s.bytes ≡ false → AwaitsEncoding s w
 unfolding first_state
@@ -70,11 +70,11 @@ encoding-awaited s w no_text no_candidate starts at_is apart other =
           });
     }
 
--- the name of an encoding is expected
+-- expects the name of an encoding
 pub encoding-expected : (s : Symbol) (w : Direct) (p : AwaitsEncoding s w) → EncodingOpened s p.outer w.at p.state
 encoding-expected s w p = encoding-opens s p.outer p.around w.at p.state p.awaits
 
--- after a name that comes there may be items
+-- after such a name there may be items
 items-taken : (s : Symbol) (w : Direct) (p : AwaitsEncoding s w) (v : Value) (at : ℕ) (st : State) → ItemsOpened s p.outer w.at v at st
     → TakesItems s w.text.list.items v at st
 unfolding in_types
@@ -109,7 +109,7 @@ name-awaited s w p = record {
 
 -- ## Thunks and clones
 
--- the base encoding of a thunk or of a clone is expected, after a text that is shown before it
+-- expects the base encoding of a thunk or of a clone, after a text that precedes it
 base-awaited : (s : Symbol) (opened_ : SymbolOpened s) (made : Term → Term) (k : List ℕ) (w : Direct)
     → is_local s.bytes ≡ false → is_guard s.bytes ≡ false → BaseOpened s opened_.inner 2 made w.at first_state
     → w.text.list.items ≡ k → 1 ≤ length k → w.candidates.list.items ≡ []
@@ -138,7 +138,7 @@ thunk-awaited s opened_ by w apart other base text_is no_candidate =
     base-awaited s opened_ (thunk (adjusting by)) (thunk_text (adjusting by)) w apart other base text_is (thunk-filled (adjusting by)) no_candidate
     (thunk-shows (detail_of s) (adjusting by))
 
--- what was read without a text and written after it, where nothing was there before
+-- what was read without a text and written after it, where nothing was written before
 thunk-written : (old middle new : Direct) (text : List ℕ) → IsFresh old → Reads old middle [] → Writes middle new text
     → (new.text.list.items ≡ text) × (new.candidates.list.items ≡ [])
 thunk-written old middle new text fresh reads writes = (
@@ -190,7 +190,7 @@ clone-begins s old new letter fresh apart other wide is starts bytes writes =
 
 -- ## Special objects
 
--- a letter that has a text as that of a special object is one
+-- a letter that has a text as that of a special object is such a letter
 special-known : (letter : ℕ) → look_up (letter ∷ []) special_texts ≢ [] → is_special_letter letter ≡ true
 unfolding is_special_letter special_texts code_in codes_pass among
 special-known letter there = letter-listed special_texts special_letters letter refl there
@@ -232,7 +232,8 @@ special-begins s w letter apart other starts stands at_is written filled none_ w
 
 -- ## Nested names
 
--- where the name of a function or of data is expected, after the N and the qualifiers of a member function the first piece of a nested one is
+-- where the name of a function or of data is expected, after the N and a member function's qualifiers a nested name's first
+-- piece is
 pub nest-awaited : (s : Symbol) (w : Direct) (kept : Kept s w) (purpose : Purpose) (encoding : ℕ) (inner : List Opened) (at first : ℕ) (place : MarkPlace)
     → is_type purpose ≡ false → Expects s Kind.CompleteName (in_name encoding) inner at kept.state → StandsAt s.bytes at (78 ∷ []) → first ≡ at + 1
     → IsMarkPlace s.bytes first place → w.at ≡ place.end
@@ -255,7 +256,7 @@ nest-awaited s w kept purpose encoding inner at first place own expects letter n
       serves = serves nest.inner nest.onward;
     }
 
--- that of a symbol's encoding is
+-- the name of a symbol's encoding is expected
 pub nested-begins : (s : Symbol) (old : Direct) (first : ℕ) (place : MarkPlace) → AwaitsName s old → StandsAt s.bytes old.at (78 ∷ []) → first ≡ old.at + 1
     → IsMarkPlace s.bytes first place → AwaitsNest s (record old { at = place.end }) (purposes.Name place.mark)
 nested-begins s old first place p letter next is =
@@ -265,7 +266,7 @@ nested-begins s old first place p letter next is =
 
 -- ## Guard variables
 
--- the name of an object is expected of which a symbol names the guard variable
+-- expects the name of the object that a guard variable guards
 pub object-begins : (s : Symbol) (old new : Direct) → IsFresh old → is_local s.bytes ≡ false → is_guard s.bytes ≡ true
     → StandsAt s.bytes 0 (95 ∷ 90 ∷ []) → StandsAt s.bytes 2 (71 ∷ 86 ∷ []) → Writes old new (codes "guard variable for ") → AwaitsName s (record new { has_scope = true; at = 4 })
 unfolding first_state

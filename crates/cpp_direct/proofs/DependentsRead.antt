@@ -74,7 +74,7 @@ number-tested around k at st later few named =
     subst (λ n. ◌≡◌ {A = Going} (parameter_so_far around at n [] st)
     (Ok (record { context = after (parameter k) true around; values = tree (parameter k) true ∷ []; state = later }))) (sym (digits-count k few)) (rw named refl)
 
--- the parameter comes
+-- the parameter is accepted
 number-comes : (s : Symbol) (kind : Kind) (around : Around) (os : List Opened) (k at : ℕ) (st later : State) → IsTyped kind → k ≤ most_by_digit
     → ((place : ℕ) → parameter_named around place k st ≡ Ok later) → Expects s kind around os at st → StandsAt s.bytes at (84 ∷ (parameter_digits k ++ 95 ∷ []))
     → Comes s os (tree (parameter k) true) (at + 1 + length (parameter_digits k ++ 95 ∷ [])) later
@@ -95,7 +95,7 @@ parameter-comes s kind around os k at st typed few scope expects stands =
     number-comes s kind around os k at st (with_candidate around (parameter k) st) typed few
     (λ place. parameter-found around k place st scope.all scope.scope_is scope.there.1 (ap length_if_pack scope.there.0 ∙ scope.no_pack)) expects stands
 
--- the digit of a parameter's number comes before its line
+-- the digit of a parameter's number precedes its underscore
 pub digit-stands : (s : List ℕ) (at k digit : ℕ) → digit ≡ 48 + k → StandsAt s at (digit ∷ []) → StandsAt s (at + 1) (95 ∷ [])
     → StandsAt s at (parameter_digits (k + 1) ++ 95 ∷ [])
 digit-stands s at k digit is first line =
@@ -159,7 +159,7 @@ parameter-done s old mid new all k p n a few letter line found is single real wr
     (parameter-comes s a.kind a.around a.os k old.at a.state a.typed few (scope-named s old all k a found single) a.awaits
     (stands-join s.bytes old.at (84 ∷ []) (parameter_digits k ++ 95 ∷ []) letter line))) a.stands
 
--- An rvalue reference to it is read, which is this argument itself where that is a reference.
+-- An rvalue reference to it is read; where the argument is a reference, it is that argument itself.
 pub forwarded-done : (s : Symbol) (old mid one new : Direct) (all : Arguments) (k : ℕ) (p : Argument) (n from : ℕ) (a : AwaitsType s old) → k ≤ most_by_digit → IsReferable a.kind
     → StandsAt s.bytes old.at (79 ∷ []) → StandsAt s.bytes (old.at + 1) (84 ∷ []) → StandsAt s.bytes (old.at + 1 + 1) (parameter_digits k ++ 95 ∷ [])
     → argument_of (reverse old.waiting.list.items) ≡ Some all → p ≡ place_of all k → IsSingle all k → all.encoding ≢ 0 → p.is_reference ≡ true
@@ -191,7 +191,7 @@ forwarded-done s old mid one new all k p n from a few referable mark letter line
     (parameter-comes s Kind.Type a.around reference.inner k (old.at + 1) a.state tt few (scope-named s old all k a found single) reference.awaits
     (stands-join s.bytes (old.at + 1) (84 ∷ []) (parameter_digits k ++ 95 ∷ []) letter line)))) a.stands
 
--- ## The same once more
+-- ## The argument once more
 
 -- it is written once more
 pub again-inside : (s : Symbol) (w : Direct) (k : Candidate) → IsNamedAgain s w k → (k.from ≤ k.to) × (k.to ≤ length w.text.list.items)
@@ -228,7 +228,7 @@ dependent-again s w new k all p found real writes =
 abbrev pub begun : State → State
 begun st = record st { packs = None }
 
--- a pack of so many was named
+-- a pack of this many elements was named
 abbrev named_many : ℕ → State → State
 named_many n st = record st { packs = Some n }
 
@@ -238,7 +238,7 @@ pack-found : (around : Around) (k at : ℕ) (st : State) (ts : List Term) → Is
 unfolding parameter_named with_packs appended under_expansion length_if_pack
 pack-found around k at st ts p = rw (p.scope_is, lt-ltb k (count p.all) p.there.1, p.there.0, parameter_named) refl
 
--- the parameter comes
+-- the parameter is accepted
 pack-comes : (s : Symbol) (kind : Kind) (around : Around) (os : List Opened) (k at : ℕ) (st : State) (ts : List Term) → IsTyped kind → k ≤ most_by_digit → IsPackThere around k ts
     → Expects s kind (under_expansion around) os at (begun st) → StandsAt s.bytes at (84 ∷ (parameter_digits k ++ 95 ∷ []))
     → Comes s os (tree (parameter k) true) (at + 1 + length (parameter_digits k ++ 95 ∷ [])) (with_candidate around (parameter k) (named_many (count (list_of ts)) st))
@@ -258,7 +258,7 @@ abbrev with_trees : Around → List Term → State → State
 with_trees around [] st = st
 with_trees around (t ∷ ts) st = with_trees around ts (with_candidate around t st)
 
--- after the letter of a reference what it is to comes
+-- after `R` or `O` comes the referenced type
 marked-comes : (s : Symbol) (byte : ℕ) (made : Term → Term) (around : Around) (os : List Opened) (k at : ℕ) (st : State) (ts : List Term) → k ≤ most_by_digit → IsPackThere around k ts
     → (StandsAt s.bytes at (byte ∷ []) → TypeOpens s Kind.Type os (under_expansion around) made (at + 1) (begun st))
     → StandsAt s.bytes at (byte ∷ 84 ∷ (parameter_digits k ++ 95 ∷ []))
@@ -273,7 +273,7 @@ marked-comes s byte made around os k at st ts few there opens stands =
     (o.onward (parameter k) (at + 1 + 1 + length (parameter_digits k ++ 95 ∷ [])) own
     (pack-comes s Kind.Type around o.inner k (at + 1) st ts tt few there o.awaits both.1))
 
--- what the pattern makes of it comes
+-- what the pattern makes of it is accepted
 pattern-comes : (s : Symbol) (pattern : Pattern) (around : Around) (os : List Opened) (k at : ℕ) (st : State) (ts : List Term) → k ≤ most_by_digit → IsPackThere around k ts
     → Expects s Kind.Type (under_expansion around) os at (begun st) → StandsAt s.bytes at (pattern_letters pattern ++ 84 ∷ (parameter_digits k ++ 95 ∷ []))
     → Comes s os (tree (made_by pattern (parameter k)) true) (at + length (pattern_letters pattern ++ 84 ∷ (parameter_digits k ++ 95 ∷ [])))
@@ -305,7 +305,7 @@ with_expansion pattern k size around st =
     with_candidate around (expansion (made_by pattern (parameter k)))
     (record (with_trees around (trees_of pattern (parameter k)) (named_many size st)) { packs = st.packs })
 
--- an expansion comes, where a parameter is expected
+-- an expansion is accepted, where a parameter is expected
 pub expansion-comes : (s : Symbol) (pattern : Pattern) (around : Around) (os : List Opened) (k at : ℕ) (st : State) (ts : List Term) → k ≤ most_by_digit → IsPackThere around k ts
     → Expects s Kind.Item around os at st → StandsAt s.bytes at (expansion_letters pattern k)
     → Comes s os (tree (expansion (made_by pattern (parameter k))) true) (at + length (expansion_letters pattern k)) (with_expansion pattern k (count (list_of ts)) around st)
@@ -349,7 +349,7 @@ none-written w = record {
   rounds = refl;
 }
 
--- none is written yet
+-- no element is written yet
 pub none-expanded : {detail : Detail} (pattern : Pattern) (w : Direct) (ts : List Term) → AreExpanded detail pattern w w ts 0
 none-expanded pattern w ts = record {
   done = [];
@@ -445,7 +445,7 @@ expanded-more {detail} pattern before w one two new ts argument number place mar
       };
     }
 
--- so many candidates of which nothing is known
+-- this many unknown candidates
 trees-hidden : (s : Symbol) (scope : Scope) (text : List ℕ) (around : Around) (ts : List Term) (ks : List Candidate) (st : State) → AreCandidates s scope text ks st.candidates
     → AreCandidates s scope text (ks ++ replicate (length ts) hidden) (with_trees around ts st).candidates
 trees-hidden s scope text around [] ks st known = subst (λ l. AreCandidates s scope text l st.candidates) (sym (append-nil ks)) known
@@ -478,7 +478,7 @@ expansion-kept s w new around pattern k size kept text candidates scope_ =
     kept-as s w new (with_expansion pattern k size around kept.state) kept text candidates scope_
     (expansion-hidden s kept.scope w.text.list.items w.candidates.list.items around pattern k size kept.state kept.keeps.candidates)
 
--- parameters go on after it
+-- parameters continue after it
 expansion-goes : (s : Symbol) (pattern : Pattern) (w : Direct) (is_first : Bool) (mark : Mark) (start : ℕ) (argument : Arguments)
     (a : AreParametersRead s w 3 is_first mark start argument) → argument.has_pack ≡ true → argument.before ≤ most_by_digit
     → StandsAt s.bytes w.at (expansion_letters pattern argument.before)

@@ -55,7 +55,7 @@ normal-other xs at inside other =
     front d [] not_zero = refl
     front d (e ∷ ds) not_zero = rw (ne_eqb d 48 not_zero, normal) refl
 
--- and so does a last one
+-- and neither does a last one
 pub normal-short : (ds : List ℕ) → length ds ≤ 1 → normal ds ≡ ds
 unfolding normal
 normal-short [] few = refl
@@ -64,7 +64,7 @@ normal-short (d ∷ e ∷ ds) few = absurd (omega (arith, few))
 
 -- ## Numbers
 
--- digits alone are a number that isn't negative
+-- digits without a sign are a number that isn't negative
 pub plain-digits : (ns ds : List ℕ) (n : Bool) → ns ≡ normal ds → n ≡ false → ns ≡ number_text (signed_digits n ds)
 unfolding signed_digits
 plain-digits ns ds n is e = is ∙ sym (ap (λ b. number_text (signed_digits b ds)) e)
@@ -189,7 +189,7 @@ cast-integer-read s old middle new letter first is cast next begun read =
 
 -- ## Elements
 
--- one more was read and written
+-- one more element was read and written
 pub element-added : (s : Symbol) (w : Direct) (kept : Kept s w) {opened : List Open} {text : List ℕ} (p : IsListing (detail_of s) kept.scope.names opened text)
     (more : List ℕ) (ts : List Term) (texts : List ℕ) (t : Term) (bytes : List ℕ)
     → PrintAllAs (detail_of s) kept.scope.names (may_name p.listing p.owner) (extra_of p.listing) ts texts → IsElement (detail_of s) (extra_of p.listing) t bytes
@@ -213,7 +213,7 @@ element-added s w kept p more ts texts t bytes elements element open_is is writt
       );
     }
 
--- one that is a literal
+-- an element that is a literal
 pub literal-added : (s : Symbol) (old new : Direct) → AwaitsNextArgument s old → IsLiteralRead s old new → IsWriting s new (steps.List false)
 literal-added s old new a l =
     let p = a.place in
@@ -332,7 +332,7 @@ pub record EndsOtherwise (text : List ℕ) : Type 0 where
   pub long : ends_with nat_eq text (codes "(long") ≡ false
   pub blank_long : ends_with nat_eq text (codes " long") ≡ false
 
--- a type that follows a bracket at the end of one is none
+-- a type after a bracket at the end of one is none of these
 no-integer-type : (text front bytes : List ℕ) → text ≡ front ++ codes "(" ++ bytes → EndsOtherwise text → EndsAsInteger bytes → ⊥
 no-integer-type text front bytes e other ending = go ending.1
   where

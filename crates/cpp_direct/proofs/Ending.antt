@@ -59,7 +59,7 @@ whole-suffixed s e at text (d ∷ rest) encoded shows stands ended is = record {
   cost = suffix-cost (detail_of s) e text shows d rest;
 }
 
--- what a symbol has from a place on is there, and ends with it
+-- the rest of a symbol from a place on is there, and the symbol ends with it
 pub rest-stands : (s suffix : List ℕ) (at : ℕ) → at ≤ length s → suffix ≡ take (length s - at) (drop at s)
     → StandsAt s at suffix × (at + length suffix ≡ length s)
 rest-stands s suffix at inside is =
@@ -100,7 +100,7 @@ ends-plain s suffix w p inside is none = record {
       (omega (arith, none, (rest-stands s.bytes suffix w.at inside is).1));
 }
 
--- and where it has one
+-- and also where it has one
 pub ends-suffixed : (s : Symbol) (suffix : List ℕ) (w first second last : Direct) → IsSymbolEnded s w → w.at ≤ length s.bytes
     → suffix ≡ take (length s.bytes - w.at) (drop w.at s.bytes) → IsSuffix suffix
     → Writes w first (codes " (") → Writes first second suffix → Writes second last (codes ")") → IsWriting s last steps.Ended
@@ -162,7 +162,7 @@ separated : (is_first : Bool) (ts : List Term) (l : List ℕ) → (is_first ≡ 
 separated true ts l none some = append-nil l ∙ ap (λ us. in_front_of_next us l) (sym (none refl))
 separated false ts l none some = sym (next-written ts l (some refl))
 
--- what comes before a parameter is the text of those before it
+-- what precedes a parameter is the text of those before it
 pub next-separated : (s : Symbol) {extra : ℕ} (w : Direct) (is_first : Bool) (mark : Mark) (start : ℕ) (argument : Arguments)
     (a : AreParametersRead s w extra is_first mark start argument) (text : List ℕ) → text ≡ w.text.list.items ++ separator is_first
     → text ≡ a.front ++ codes "(" ++ in_front_of_next a.ts a.texts
@@ -170,7 +170,7 @@ next-separated s w is_first mark start argument a text is =
     is ∙ ap (λ l. l ++ separator is_first) a.written ∙ append_assoc (a.front ++ codes "(") a.texts (separator is_first)
     ∙ ap (λ l. a.front ++ codes "(" ++ l) (separated is_first a.ts a.texts a.none a.some)
 
--- a name is one where parameters go on after none
+-- a name becomes one whose parameters continue after none
 pub none-go_on : (s : Symbol) (argument : Arguments) (lead : List ℕ) (v : Value) (at : ℕ) (st : State) (p : TakesItems s lead v at st)
     → HasScope argument p.around → ParametersGoOn s argument lead (λ l. encoding_of v l) [] at st
 none-go_on s argument lead v at st p scoped =
@@ -191,7 +191,7 @@ parameter-goes_on s argument becomes make ts at st p t here now goes = record {
       (p.onward (tree (list t (no_items l)) true) there then_ (goes.onward l there then_ comes));
 }
 
--- a parameter comes next, for what is open so once the parameter is taken
+-- a parameter comes next, for what is then open once the parameter is taken
 pub item-comes : (s : Symbol) (old new : Direct) (kept : Kept s old) (argument : Arguments) (becomes : Term → (at : ℕ) → State → Type 0) (make : Term → Term) (ts : List Term) (at : ℕ)
     (goes : ItemsGoOn s argument becomes make ts at kept.state) (ws : List Open) → new.text ≡ old.text → new.candidates ≡ old.candidates → new.has_scope ≡ old.has_scope
     → new.at ≡ at → reverse new.waiting.list.items ≡ ws
@@ -205,7 +205,7 @@ item-comes s old new kept argument becomes make ts at goes ws text candidates sc
     (stands element.inner (λ t here now comes. parameter-goes_on s argument becomes make ts at kept.state goes t here now (element.onward t here now comes)))
     scoped
 
--- what is before it is written
+-- what precedes it is written
 pub parameter-expected : (s : Symbol) (w last : Direct) (is_first : Bool) (mark : Mark) (start : ℕ) (argument : Arguments)
     → AreParametersRead s w 3 is_first mark start argument → Writes w last (separator is_first) → IsWriting s last steps.Type
 parameter-expected s w last is_first mark start argument a one =
@@ -292,9 +292,9 @@ first-expected s w first last mark start argument p one text candidates scope_sa
       goes = subst (λ n. ParametersGoOn s argument p.lead p.make [] n p.state) (sym (at ∙ one.at)) p.goes;
     }
 
--- ## What comes before an encoding's text
+-- ## What precedes an encoding's text
 
--- where that is taken away, what is left of the candidates is some
+-- where that is removed, the remaining candidates are some of the old ones
 cut-kept : (s : Symbol) (old new : Direct) (start : ℕ) → Cuts old new start → Kept s old → Kept s new
 cut-kept s old new start cuts kept = go cuts.candidates
   where
@@ -307,7 +307,7 @@ cut-kept s old new start cuts kept = go cuts.candidates
     }
     go (inr none) = record { state = record kept.state { candidates = [] }; scope = no_scope; keeps = none-kept s new none (λ e. (kept.keeps.unknown (sym cuts.scope ∙ e)).1) }
 
--- and the text is what came after it
+-- and the text is what followed it
 cut-text : (old new : Direct) (start : ℕ) (aside text : List ℕ) → Cuts old new start → start ≡ length aside → old.text.list.items ≡ aside ++ text
     → new.text.list.items ≡ text
 cut-text old new start aside text cuts start_is written =
@@ -358,8 +358,8 @@ front-same s w new mark start argument p text candidates scope_same at = record 
   goes = subst (λ n. ParametersGoOn s argument p.lead (encoding_of p.v) (p.returned ∷ []) n p.state) (sym at) p.goes;
 }
 
--- An encoding that has a return type ends what the one without it does: where no local entity is, after what comes of the type. Before an
--- entity a function shows no return type.
+-- An encoding that has a return type ends what the one without it does: the return type precedes the text where there is no
+-- local entity. Before an entity a function shows no return type.
 returned-behind : (s : Symbol) {scope : Scope} {argument : Arguments} {mark : Mark} {v : Value} {name text : List ℕ} (is : IsInstance (detail_of s) scope text argument mark v name)
     (r items : Term) (at : ℕ) (lead front : List ℕ) → (is_local s.bytes ≡ true → front ≡ lead)
     → (is_local s.bytes ≡ false → (bytes : List ℕ) → Shows (detail_of s) (plain_encoding mark is.own items) bytes
@@ -384,7 +384,7 @@ returned-behind s {mark = mark} {v = v} is r items at lead front hidden shown p 
       };
     }
 
--- after the return type parameters are awaited, where this was written since
+-- after the return type expects parameters, where this was written since
 front-leads : (s : Symbol) (w last : Direct) (mark : Mark) (start to : ℕ) (argument : Arguments) (p : IsFrontRead s w mark start argument) (front lead : List ℕ)
     → Keeps s p.scope last p.state.candidates
     → IsOwnName (detail_of s) p.scope last.text.list.items argument p.is_instance.own p.name → Fronts s.is_bare front to lead p.name → last.text.list.items ≡ front
@@ -448,7 +448,7 @@ front-turned s w here first last mark start argument p whole_ plain text candida
       front-shows (has-parameters s whole_) is.own (qualifiers (has_const mark)) (called_on mark) (parameters items) bytes shows p.returned p.bytes p.is_reference p.prints,
     )) goes)
 
--- the return type is read, and after it the name is written once more, with what comes before it
+-- the return type is read, and after it the name is written once more, with what precedes it
 pub front-hidden : (s : Symbol) (w last : Direct) (mark : Mark) (start begins : ℕ) (argument : Arguments) → IsFrontRead s w mark start argument
     → s.is_bare ≡ false → is_local s.bytes ≡ true → begins ≡ length w.text.list.items → Writes w last (take (start - 0) (drop 0 w.text.list.items))
     → AwaitsParameters s last mark begins argument
@@ -492,7 +492,7 @@ void-read s argument becomes make at st p stands =
     p.onward (tree (list t nil) true) (at + 1) st
     (goes.onward nothing_there (at + 1) st (expects-empty s Kind.Items p.around goes.inner (at + 1) st goes.awaits refl))
 
--- a name with its parameters is a function, after which something may be that prints nothing
+-- a name with its parameters is a function, followed at most by something that prints nothing
 items-ended : (s : Symbol) {scope : Scope} {extra : ℕ} {ts : List Term} {texts text : List ℕ} (here : Direct) (mark : Mark) (start : ℕ) (argument : Arguments)
     (p : HasParameters s extra scope text mark start argument ts texts) (shown : List ℕ) (e items : Term) → here.text.list.items ≡ p.front ++ codes "(" ++ shown → Kept s here
     → e ≡ function p.is_function.own (qualifiers (has_const mark)) (called_on mark) absent items
@@ -535,7 +535,7 @@ void-ended s w first here mark start argument p stands one text candidates scope
     (subst (λ n. EncodedBehind s p.lead e n) (omega (arith, at, one.at))
     (void-read s argument (λ u there then_. EncodedBehind s p.lead u there) p.make w.at p.state p.goes stands))
 
--- those that aren't a lone void are its parameters
+-- parameters that aren't a lone void are the function's
 pub function-ended : (s : Symbol) (w : Direct) (mark : Mark) (start : ℕ) (argument : Arguments)
     → (r : (extra : ℕ) × (extra ≤ 6) × AreParametersRead s w extra false mark start argument) → r.2.texts ≢ codes "void" → IsFunctionEnded s w mark start
 unfolding no_items may_be_empty
@@ -568,7 +568,7 @@ nothing-ended s w here is_first mark start argument p t kept text none apart goe
     made (u ∷ us) = p.is_function.makes u (list_with us (list t nil))
         ∙ ap (function p.is_function.own (qualifiers (has_const mark)) (called_on mark) absent) (parameters-before (u ∷ us) t apart)
 
--- a function is an encoding once its last bracket is written, and what comes before its text is taken away
+-- a function is an encoding once its last bracket is written, and what precedes its text is removed
 pub function-closed : (s : Symbol) (w last new : Direct) (mark : Mark) (start : ℕ) → IsFunctionEnded s w mark start → s.is_bare ≡ false
     → Writes w last (codes ")") → Cuts last new start → IsEncodingEnded s new mark
 function-closed s w last new mark start p whole_ one cuts =
@@ -594,8 +594,8 @@ function-closed s w last new mark start p whole_ one cuts =
       behind = subst (λ n. EncodedBehind s p.lead p.e n) (sym (cuts.at ∙ one.at)) p.behind;
     }
 
--- and where functions are shown by their names alone, once what follows the name is taken away: the name is written again, and all
--- that is before that
+-- likewise where only the names of functions are shown, once what follows the name is removed: the name is written again, and
+-- the rest before it goes
 pub function-named : (s : Symbol) (w last new : Direct) (mark : Mark) (start end : ℕ) (p : IsFunctionEnded s w mark start) → s.is_bare ≡ true
     → end ≡ length w.text.list.items → Writes w last (take (start - 0) (drop 0 w.text.list.items)) → Cuts last new end → IsEncodingEnded s new marks.Plain
 function-named s w last new mark start end p bare end_is one cuts =
@@ -629,14 +629,14 @@ name-within s w mark start p bare =
     let named = p.lead ++ p.name in
     omega (arith, fronts.2, ap length p.written, length-append (p.front ++ codes "(") p.texts, length-append p.front (codes "("), ap length fronts.1, length-append named fronts.0)
 
--- a text that ends so
+-- a text with this end
 pub ends-so : (text front last : List ℕ) → text ≡ front ++ last → ends_with nat_eq text last ≡ pointwise nat_eq last last
 ends-so text front last e =
     let size : length text - length last ≡ length front = omega (arith, ap length e, length-append front last) in
     ap (λ n. pointwise nat_eq last (drop n text)) size ∙ ap (λ l. pointwise nat_eq last (drop (length front) l)) e
     ∙ ap (λ l. pointwise nat_eq last l) (drop-append_seam front last)
 
--- parameters that don't end so aren't a lone void
+-- parameters with another end aren't a lone void
 pub no-void : (text name parameters : List ℕ) → text ≡ name ++ codes "(" ++ parameters → ends_with nat_eq text (codes "(void") ≡ false
     → parameters ≢ codes "void"
 no-void text name parameters e other same =

@@ -1,4 +1,5 @@
--- Functions within something else, a type that is in one or the address of one: from their names to their ends.
+-- Functions within something else, a function that contains a type or one whose address is an argument: from their names to
+-- their ends.
 use Rattle.cpp_direct.proofs.Begins.{nest-awaited}
 use Rattle.cpp_direct.proofs.Ending.{no-void, item-comes, next-written, parameter-goes_on, qualifiers-text, types-scoped, plain-text, void-read}
 use Rattle.cpp_direct.proofs.Kept.{kept-read, kept-same, kept-written, reverse-last, value-added, front-left, kept-closed, kept-cut, value-comes}
@@ -52,13 +53,13 @@ use Rattle.cpp_direct.specs.declared.open.Hiding.TheVariants as hidings
 abbrev pub WithinOpen : Type 1
 WithinOpen = Scope → List Open → (front : List ℕ) → (e : Term) → (at : ℕ) → State → Type 0
 
--- what is so of a function's name after a text
+-- what holds of a function's name after a text
 abbrev pub LeadsSo : Type 1
 LeadsSo = Scope → (own : Term) → (front name : List ℕ) → Type 0
 
 -- ## Names
 
--- The name of a function is expected, of which something becomes.
+-- Expects the name of a function, and makes something of the function.
 record NameOpened (s : Symbol) (becomes : Term → (at : ℕ) → State → Type 0) (at : ℕ) (st : State) : Type 0 where
   pub inner : List Opened
   pub awaits : Expects s Kind.CompleteName (in_name at) inner at st
@@ -84,7 +85,7 @@ name-opens s os around at st becomes expects then_ =
       };
     }
 
--- these may be named in its types
+-- its types may name these arguments
 items-scoped : {s : Symbol} {encoding : ℕ} {becomes : Term → (at : ℕ) → State → Type 0} (argument : Arguments) (v : Value) (at : ℕ) (st : State)
     (p : ItemsOf s encoding becomes v at st) → HasScope argument p.around → ItemsGoOn s argument becomes (λ l. encoding_of v l) [] at st
 items-scoped argument v at st p scoped =
@@ -96,7 +97,7 @@ returned-first : {s : Symbol} {argument : Arguments} {becomes : Term → (at : �
 returned-first make r at st p =
     record { around = p.around; inner = p.inner; outside = p.outside; scoped = p.scoped; awaits = p.awaits; onward = p.onward }
 
--- ## Parameters that come
+-- ## Parameters
 
 -- no parameter is there yet
 abbrev led-by : (s : Symbol) (extra : ℕ) (mark : Mark) (own returned : Term) (make : Term → Term) (front name : List ℕ) → PrintsName (detail_of s) own name
@@ -127,7 +128,7 @@ led-more s {extra = extra} {ts = ts} {texts = texts} f t bytes element = record 
   elements = next-prints-in (types_of f.own) extra ts texts t bytes f.elements element;
 }
 
--- a function without a return type awaits its parameters
+-- a function without a return type expects its parameters
 pub plain-awaits : {s : Symbol} {extra : ℕ} {mark : Mark} {from : ℕ} {argument : Arguments} {Leads : LeadsSo} {Within : WithinOpen} (w : Direct) (kept : Kept s w)
     (p : HasNameSo s w.text.list.items mark from) → has_return_type p.own ≡ false → Leads kept.scope p.own p.lead p.name
     → ItemsGoOn s argument (Within kept.scope (reverse w.waiting.list.items) p.lead) (λ l. encoding_of p.v l) [] w.at kept.state
@@ -153,7 +154,7 @@ led-expected {s = s} {argument = argument} {entry = entry} {rest = rest} {ts = t
     item-comes s w w kept argument (Within kept.scope rest h.front) h.make ts w.at goes (entry ∷ rest) refl refl refl refl waits
     (λ os onward. stands os (ts, texts, h, written, onward)) (scoped goes.around goes.scoped)
 
--- the first one does
+-- and so does the first one
 pub first-led : {s : Symbol} {extra : ℕ} {mark : Mark} {argument : Arguments} {Leads : LeadsSo} {Within : WithinOpen} (Now : Term → List ℕ → List ℕ → Type 0) (w first last : Direct) (entry : Open)
     (p : AwaitsLedParameters s w extra mark argument Leads Within) → Now p.own p.front p.name → Writes w first (codes "(")
     → last.waiting.list.items ≡ first.waiting.list.items ++ entry ∷ [] → last.text ≡ first.text → last.candidates ≡ first.candidates
@@ -207,7 +208,7 @@ pub name-inside : (text front name rest : List ℕ) (to : ℕ) → text ≡ fron
 name-inside text front name rest to written to_is =
     omega (arith, to_is, ap length written, length-append (front ++ name) rest)
 
--- a function was read, and what is open waits for it
+-- a function was read, and the open entry waits for it
 function-read : {s : Symbol} {Leads : List ℕ → Type 0} {Within : WithinOpen} {rest : List Open} (w : Direct) (mark : Mark) (place : ℕ) (kept : Kept s w) (e : Term) (front bytes : List ℕ)
     → Leads front → w.text.list.items ++ mark_text mark ≡ front ++ bytes → Encloses (detail_of s) e bytes → reverse w.waiting.list.items ≡ rest
     → w.at ≡ place → Within kept.scope rest front e place kept.state → IsLedFunctionRead s w mark Leads Within
@@ -242,7 +243,7 @@ void-shown {s = s} {Within = Within} {mark = mark} {argument = argument} w new n
     (ap (λ v. reverse v.list.items) one.waiting) (one.at ∙ at)
     (void-read s argument (Within p.scope (reverse w.waiting.list.items) p.front) p.make w.at p.state p.goes stands)
 
--- where functions are shown by their names alone, nothing is written for it
+-- where only the names of functions are shown, nothing is written for it
 pub void-unshown : {s : Symbol} {Leads : LeadsSo} {Now : List ℕ → Type 0} {Within : WithinOpen} {extra : ℕ} {mark : Mark} {argument : Arguments} (w : Direct) (n : ℕ)
     (p : AwaitsLedParameters s w extra mark argument Leads Within) → Now p.front → StandsAt s.bytes w.at (118 ∷ []) → n ≡ w.at + 1 → s.is_bare ≡ true
     → IsLedFunctionRead s (record w { at = n }) marks.Plain Now Within
@@ -253,19 +254,19 @@ void-unshown {s = s} {Within = Within} {mark = mark} {argument = argument} w n p
     (name-encloses (has-none s bare) p.own p.name p.prints (qualifiers (has_const mark)) (called_on mark) p.returned nil))
     refl at (void-read s argument (Within p.scope (reverse w.waiting.list.items) p.front) p.make w.at p.state p.goes stands)
 
--- so is that of one of which a parameter was read
+-- and so is that of a function with one parameter read
 pub led-inside : {s : Symbol} {extra : ℕ} {mark : Mark} {argument : Arguments} {entry : Open} {Leads : LeadsSo} {Within : WithinOpen} (w : Direct) (to : ℕ)
     (p : IsLedParameterRead s w extra mark argument entry Leads Within) → to ≡ length (p.front ++ p.name) → to ≤ length w.text.list.items
 led-inside w to p to_is =
     name-inside w.text.list.items p.front p.name (codes "(" ++ p.texts) to (p.written ∙ append_assoc (p.front ++ p.name) (codes "(") p.texts) to_is
 
--- what was opened for them is shut
+-- what was opened for the parameters is closed
 led-popped : {s : Symbol} {extra : ℕ} {mark : Mark} {argument : Arguments} {entry : Open} {Leads : LeadsSo} {Within : WithinOpen} (w shut : Direct)
     (p : IsLedParameterRead s w extra mark argument entry Leads Within) → shut.waiting.list.items ≡ take (length w.waiting.list.items - 1) w.waiting.list.items
     → reverse shut.waiting.list.items ≡ p.rest
 led-popped {entry = entry} w shut p waits = popped w.waiting.list.items shut.waiting.list.items p.rest entry (length w.waiting.list.items) refl p.open_is waits
 
--- parameters that aren't a lone void make a function, and what is open waits for it
+-- parameters that aren't a lone void make a function, and the open entry waits for it
 parameters-end : {s : Symbol} {w : Direct} {extra : ℕ} {mark : Mark} {argument : Arguments} {entry : Open} {Leads : LeadsSo} {Within : WithinOpen}
     (p : IsLedParameterRead s w extra mark argument entry Leads Within) (text : List ℕ) → text ≡ w.text.list.items → ends_with nat_eq text (codes "(void") ≡ false
     → (p.make (list_of p.ts) ≡ function p.own (qualifiers (has_const mark)) (called_on mark) p.returned (list_of p.ts))
@@ -300,7 +301,7 @@ function-shown {s = s} {extra = extra} {mark = mark} w shut last p whole_text le
     (function-encloses (detail_of s) p.own (qualifiers (has_const mark)) (called_on mark) (list_of p.ts) bytes shows)))
     (ap (λ v. reverse v.list.items) one.waiting ∙ led-popped w shut p waits) (one.at ∙ at) end.1
 
--- what was written after the name is taken away, where functions are shown by their names alone
+-- what was written after the name is removed, where only the names of functions are shown
 pub function-unshown : {s : Symbol} {Leads : LeadsSo} {Now : List ℕ → Type 0} {Within : WithinOpen} {extra : ℕ} {mark : Mark} {argument : Arguments} {entry : Open} (w shut new : Direct) (to : ℕ)
     (p : IsLedParameterRead s w extra mark argument entry Leads Within) (text : List ℕ) → Now p.front → text ≡ w.text.list.items → ends_with nat_eq text (codes "(void") ≡ false
     → to ≡ length (p.front ++ p.name) → AreNamed (p.front ++ p.name) p.scope
@@ -329,9 +330,9 @@ marks-shown {s = s} old new mark p writes =
     function-read new marks.Plain old.at (kept-written s old new (mark_text mark) writes p.kept) p.e p.front p.bytes p.leads
     (append-nil new.text.list.items ∙ writes.text ∙ p.written) p.encloses (ap (λ v. reverse v.list.items) writes.waiting) writes.at p.within
 
--- ## Types that are in functions, from their Z to their end
+-- ## Types in functions, from their Z to their end
 
--- the name of a function in which a type is
+-- the name of a function that contains a type
 enclosing-opens : (s : Symbol) (w : Direct) (a : AwaitsNamedType s w) → StandsAt s.bytes w.at (90 ∷ [])
     → NameOpened s (TypeWithin s (below s a.scope (reverse w.waiting.list.items)) w.text.list.items) (w.at + 1) a.state
 unfolding is_function_type
@@ -365,7 +366,7 @@ nest-within s old first second place a letter next nested then_ is =
     let items = e.onward v here now (named_ t listed here now comes) in
     items-scoped nowhere v here now items (nowhere-scoped items.around))
 
--- one by itself is read
+-- a source name is read
 pub source-within : (s : Symbol) (old start new : Direct) (name : List ℕ) (from : ℕ) → AwaitsNamedType s old → StandsAt s.bytes old.at (90 ∷ [])
     → start.text ≡ old.text → start.candidates ≡ old.candidates → start.waiting ≡ old.waiting → start.has_scope ≡ old.has_scope
     → start.at ≡ old.at + 1 → IsNameAt s.bytes start.at name new.at → name ≢ [] → Reads start new (source_text name) → from ≡ length start.text.list.items
@@ -405,7 +406,7 @@ name-within s old kept t mark is_instance n returns here is_name =
       goes = serves t old.nest.is_listed (old.at + 1) kept.state (nest-comes s old kept.state t n here);
     }
 
--- after its return type, which is a builtin one, a function awaits its parameters
+-- after its return type, which is a builtin one, a function expects its parameters
 pub returned-awaits : (s : Symbol) (w : Direct) (n : ℕ) (mark : Mark) (from letter : ℕ) → IsEnclosingNamed s w mark true from
     → look_up (letter ∷ []) builtin_texts ≢ [] → (letter ≢ 0 → StandsAt s.bytes w.at (letter ∷ [])) → n ≡ w.at + 1
     → AwaitsEnclosingParameters s (record w { at = n }) mark from
@@ -485,7 +486,7 @@ type-within s old pushed read last new from awaits one p n is prints two digit t
 
 -- ## Addresses of functions, as arguments of a name, from their X to their last E
 
--- what comes before the parts of a nested name
+-- what precedes the parts of a nested name
 abbrev pub address_letters : List ℕ
 address_letters = codes "XadL_ZN"
 
@@ -497,7 +498,7 @@ address-opens-name s w a letters =
     name-opens s here.inner a.around (w.at + 6) a.state (AddressWithin s (below s a.scope (reverse w.waiting.list.items)) (w.text.list.items ++ codes "&")) here.awaits
     (λ e there then_ comes. (a.os, w.text.list.items, refl, λ ends. here.onward e there then_ comes ends, a.stands))
 
--- after its first bytes and its qualifiers the first piece of a nested name is expected
+-- after its first bytes and its qualifiers expects the first piece of a nested name
 pub address-nested : (s : Symbol) (old pushed opened_ : Direct) (encoding second : ℕ) (place : MarkPlace) → AwaitsArgumentOfName s old
     → StandsAt s.bytes old.at address_letters → encoding ≡ old.at + 6 → Writes old pushed (codes "&")
     → opened_.waiting.list.items ≡ pushed.waiting.list.items ++ opens.Address encoding ∷ [] → opened_.text ≡ pushed.text
@@ -597,7 +598,7 @@ address-scoped s old new mark is_instance to argument noted p waiting first now 
           (types-scoped here argument items.around p.own (λ real. (items.encoding_is, items.no_lambda)) (items.scope_is ∙ ap arguments_of p.named_so.tree_is) names));
     }
 
--- the return type is expected after the name
+-- expects the return type after the name
 pub front-addressed : (s : Symbol) (w new : Direct) (mark : Mark) (to : ℕ) (argument : Arguments) (p : IsAddressScoped s w mark true to argument)
     → new.waiting.list.items ≡ w.waiting.list.items ++ opens.AddressedFront mark to argument ∷ [] → new.text ≡ w.text
     → new.candidates ≡ w.candidates → new.has_scope ≡ w.has_scope → new.at ≡ w.at → IsWriting s new steps.Type
@@ -632,7 +633,7 @@ value-addressed-front s w is_reference is_dependent mark to argument p found =
       goes = waits.1 v.own w.at p.state v.comes;
     }
 
--- it is taken away
+-- it is removed
 pub front-cut : (s : Symbol) (w shut new : Direct) (mark : Mark) (to : ℕ) (argument : Arguments) (p : IsAddressedFrontRead s w mark to argument)
     → shut.text ≡ w.text → shut.candidates ≡ w.candidates → shut.has_scope ≡ w.has_scope → shut.at ≡ w.at
     → shut.waiting.list.items ≡ take (length w.waiting.list.items - 1) w.waiting.list.items
@@ -675,7 +676,7 @@ value-addressed s w is_reference is_dependent mark to argument p found =
           (type-in types 3 v.own v.bytes is_reference (as-in (detail_of s) p.scope.names is_dependent types v.own v.bytes is_reference h.leads.given v.prints)),
     )
 
--- Its E is read and that of its address, which comes like a type.
+-- Its E is read and that of its address, which is accepted like a type.
 pub address-ended : (s : Symbol) (w new : Direct) → IsAddressedRead s w marks.Plain → StandsAt s.bytes w.at (69 ∷ 69 ∷ []) → new.text ≡ w.text
     → AreLeft hidings.Dependent w.candidates.list.items new.candidates.list.items → new.waiting ≡ w.waiting → new.at ≡ w.at + 2 → IsWriting s new (steps.Value false false)
 address-ended s w new p letters text are waiting at =

@@ -1,4 +1,4 @@
--- A type was read, and is handed to what waits for it.
+-- A type was read, and is forwarded to the entry that waits for it.
 use Rattle.std.proofs.Common.{◌≡◌, ℕ, ◌-◌, length, List, [], ◌∷◌, ◌++◌, reverse, slice_get, Bool, true, false, Option, Some, refl, ap, sym, ◌∙◌, subst, codes, append_assoc, ◌+◌}
 use Rattle.std.proofs.lemmas.Bool.{false≢true}
 use Rattle.cpp_grammar.specs.Term.{Term, special, instance}
@@ -121,7 +121,7 @@ value-parameter s w is_reference is_dependent mark start argument p found =
     parameter-got s w mark start argument p.kept last.0 v.os v.own v.front v.bytes v.stands last.1 v.written v.comes
     (type-in types 3 v.own v.bytes is_reference (as-in (detail_of s) p.scope.names is_dependent types v.own v.bytes is_reference f.given v.prints))
 
--- what a special object is of was read
+-- the type of a special object was read
 pub special-read : (s : Symbol) (w : Direct) → IsElementRead s w opens.Special → IsSymbolEnded s w
 special-read s w p =
     let waits = p.read.stands in
@@ -181,7 +181,7 @@ value-enumerator s w is_reference p found =
     go (opens.Pack ∷ owner ∷ rest) is waits = number (of_pack waits.0 waits.1) (opens.Pack ∷ owner ∷ rest) owner rest is (refl, waits.2) waits.3
     go (owner ∷ rest) is waits = number of_template (owner ∷ rest) owner rest is refl waits
 
--- what waits for no type that names an argument of the function's template
+-- an entry that accepts a type which names no argument of the function's template
 pub passed-closed : (o : Open) → ((x : ℕ) → o ≡ opens.Pointer x → ⊥) → ((x : ℕ) → o ≡ opens.Lvalue x → ⊥) → ((x : ℕ) → o ≡ opens.Rvalue x → ⊥)
     → ((x : ℕ) → o ≡ opens.Const x → ⊥) → ((x : Mark) (y : ℕ) (z : Arguments) → o ≡ opens.Parameters x y z → ⊥)
     → ((x : Mark) (y : ℕ) (z : Arguments) → o ≡ opens.Front x y z → ⊥) → IsPassedClosed o
@@ -193,7 +193,7 @@ passed-closed (opens.Parameters x y z) p l r c f k = absurd (f x y z refl)
 passed-closed (opens.Front x y z) p l r c f k = absurd (k x y z refl)
 passed-closed _ p l r c f k = tt
 
--- what is none of those that wait for something else
+-- an entry that isn't one of those that wait for something else
 pub takes-elements : (o : Open) → IsPassedClosed o → ((x : Bool) → o ≡ opens.Returned x → ⊥) → ((x : Bool) → o ≡ opens.Signature x → ⊥)
     → (o ≡ opens.Special → ⊥) → (o ≡ opens.Enumerator → ⊥) → ((x : Mark) (y z : ℕ) → o ≡ opens.Enclosing x y z → ⊥)
     → ((x y : ℕ) (z : Arguments) → o ≡ opens.Argument x y z → ⊥) → ((x : ℕ) (y : Option Purpose) → o ≡ opens.Lambda x y → ⊥) → ((x y : ℕ) (z : Arguments) → o ≡ opens.Element x y z → ⊥)
@@ -228,9 +228,9 @@ argument-read s w o p takes =
     (ap (λ l. l ++ p.read.bytes) waits.written ∙ append_assoc (led_by (detail_of s) place.listing place.front place.name) (in_front_of_next waits.ts waits.texts) p.read.bytes)
     (waits.onward p.read.own w.at p.read.state p.read.comes)
 
--- ## How it is noted of a list that one of its elements names arguments of the function's template
+-- ## A list notes that one of its elements names arguments of the function's template
 
--- it is noted of what is open
+-- the open entry notes it
 noted-now : (o noted : Open) → IsDependentNow o noted → is_noted noted ≡ true
 noted-now (opens.TypeArguments from is_dependent) noted is = ap is_noted is
 noted-now (opens.NestArguments nest) noted is = ap is_noted is.1
@@ -238,7 +238,7 @@ noted-now (opens.FirstArguments nest) noted is = ap is_noted is.1
 noted-now (opens.LevelArguments is_dependent) noted is = ap is_noted is
 noted-now _ noted is = absurd is
 
--- which is in a type
+-- and that entry is in a type
 noted-within : (o noted : Open) → IsDependentNow o noted → is_within_type o ≡ true
 noted-within (opens.TypeArguments from is_dependent) noted is = refl
 noted-within (opens.NestArguments nest) noted is = ap is_type is.0
@@ -272,7 +272,7 @@ noted-template detail names (opens.LevelArguments is_dependent) noted front t na
     subst (λ o. IsTemplate detail names o front t name text) (sym is) p
 noted-template detail names _ noted front t name text is p = absurd is
 
--- the same becomes of the instance
+-- it becomes the same instance
 noted-owns : (s : Symbol) (scope : Scope) (o noted : Open) (rest : List Open) (front : List ℕ) (u : Term) (at : ℕ) (st : State) → IsDependentNow o noted
     → IsNaming scope rest → Owns s o (below s scope rest) front u at st → Owns s noted (below s scope rest) front u at st
 noted-owns s scope (opens.TypeArguments from is_dependent) noted rest front u at st is naming p =
@@ -285,7 +285,7 @@ noted-owns s scope (opens.LevelArguments is_dependent) noted rest front u at st 
     subst (λ o. Owns s o (below s scope rest) front u at st) (sym is) (p.0, p.1, (λ named. naming), p.3)
 noted-owns s scope _ noted rest front u at st is naming p = absurd is
 
--- a type was awaited as an argument
+-- expects a type as an argument
 noted-awaits : (s : Symbol) (scope : Scope) (o noted : Open) (rest : List Open) (os : List Opened) (text : List ℕ) → IsDependentNow o noted
     → Stands s scope (o ∷ rest) os text → AwaitsElementOf s scope.names of_template o (below s scope rest) os text
 noted-awaits s scope (opens.TypeArguments from is_dependent) noted rest os text is p = p
@@ -294,7 +294,7 @@ noted-awaits s scope (opens.FirstArguments nest) noted rest os text is p = p
 noted-awaits s scope (opens.LevelArguments is_dependent) noted rest os text is p = p
 noted-awaits s scope _ noted rest os text is p = absurd is
 
--- such a type was read as an argument of what was opened last, which is noted
+-- such a type was read as an argument of the innermost entry, which notes it
 pub listed-noted : (s : Symbol) (w new : Direct) (is_reference : Bool) (ws : List Open) (owner noted : Open) → IsWriting s w (steps.Value is_reference true)
     → w.waiting.list.items ≡ ws ++ owner ∷ [] → IsDependentNow owner noted → new.waiting.list.items ≡ ws ++ noted ∷ []
     → new.text ≡ w.text → new.candidates ≡ w.candidates → new.has_scope ≡ w.has_scope → new.at ≡ w.at → IsWriting s new (steps.List false)

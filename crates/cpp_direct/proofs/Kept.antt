@@ -52,7 +52,7 @@ placed-moved text more bytes grown at_is end_is p = record {
   to_is = end_is ∙ p.to_is;
 }
 
--- so is what ends it
+-- and so is what ends it
 pub placed-last : {text : List ℕ} (front bytes : List ℕ) (from to : ℕ) → text ≡ front ++ bytes → from ≡ length front → to ≡ length text
     → IsBetween text from to bytes
 placed-last front bytes from to written from_is to_is = record {
@@ -65,7 +65,7 @@ placed-last front bytes from to written from_is to_is = record {
 
 -- ## Candidates
 
--- candidates are so elsewhere where each is
+-- candidates hold elsewhere where each does
 pub candidates-as : (s : Symbol) (scope other : Scope) (text new : List ℕ) → ((k : Candidate) (c : values.Candidate) → IsCandidate s scope text k c → IsCandidate s other new k c)
     → (ks : List Candidate) (cs : List values.Candidate) → AreCandidates s scope text ks cs → AreCandidates s other new ks cs
 candidates-as s scope other text new each [] [] p = tt
@@ -73,7 +73,7 @@ candidates-as s scope other text new each (k ∷ ks) (c ∷ cs) p = ((λ e. each
 candidates-as s scope other text new each [] (c ∷ cs) p = absurd p
 candidates-as s scope other text new each (k ∷ ks) [] p = absurd p
 
--- they stay so where more is written
+-- they still hold where more is written
 pub candidates-stay : (s : Symbol) (scope : Scope) (text more : List ℕ) (ks : List Candidate) (cs : List values.Candidate) → AreCandidates s scope text ks cs
     → AreCandidates s scope (text ++ more) ks cs
 candidates-stay s scope text more = candidates-as s scope scope text (text ++ more) (λ k c p.
@@ -126,7 +126,7 @@ none-kept s w none typed = record {
   unknown = λ e. (refl, typed e);
 }
 
--- what is there has this text and these candidates
+-- what was written has this text and these candidates
 pub keeps-as : (s : Symbol) {scope : Scope} (old new : Direct) (cs : List values.Candidate) {text : List ℕ} {ks : List Candidate}
     → new.text.list.items ≡ text → new.candidates.list.items ≡ ks → new.has_scope ≡ old.has_scope
     → AreCandidates s scope text ks cs → AreNamed text scope → HasSingles scope → (old.has_scope ≡ false → (scope ≡ no_scope) × (is_object s.bytes ≡ false))
@@ -139,7 +139,7 @@ keeps-as s {scope = scope} old new cs {text = text} text_is candidates_are scope
   unknown = λ none. unknown (sym scope_same ∙ none);
 }
 
--- other candidates are there
+-- with other candidates
 abbrev pub kept-as : (s : Symbol) (old new : Direct) (st : State) (kept : Kept s old) {ks : List Candidate} → new.text ≡ old.text
     → new.candidates.list.items ≡ ks → new.has_scope ≡ old.has_scope → AreCandidates s kept.scope old.text.list.items ks st.candidates → Kept s new
 kept-as s old new st kept text candidates scope_same are = record {
@@ -170,7 +170,7 @@ kept-grown s old new bytes text candidates scope_same kept = record {
 abbrev pub kept-written : (s : Symbol) (old new : Direct) (bytes : List ℕ) → Writes old new bytes → Kept s old → Kept s new
 kept-written s old new bytes writes kept = kept-grown s old new bytes writes.text writes.candidates writes.scope kept
 
--- the same where something was read
+-- likewise where something was read
 abbrev pub kept-read : (s : Symbol) (old new : Direct) (bytes : List ℕ) → Reads old new bytes → Kept s old → Kept s new
 kept-read s old new bytes reads kept = kept-grown s old new bytes reads.text reads.candidates reads.scope kept
 
@@ -194,7 +194,7 @@ keeps-unless s old new kept true front bytes from t around d written from_is pri
 keeps-unless s old new kept false front bytes from t around d written from_is prints made_in text added_is scope_same =
     (kept-with s old new kept front bytes from t around false d written from_is (prints refl) made_in text added_is scope_same).keeps
 
--- the same unless it is one already
+-- likewise unless it is one already
 abbrev pub kept-unless : (s : Symbol) (old new : Direct) (kept : Kept s old) (listed : Bool) (front bytes : List ℕ) (from : ℕ) (t : Term) (around : Around) (d : Bool)
     → old.text.list.items ≡ front ++ bytes → from ≡ length front → (listed ≡ false → PrintsAs (detail_of s) kept.scope.names d t bytes false)
     → (d ≡ true → IsMadeIn kept.scope around.encoding)
@@ -217,7 +217,7 @@ kept-argument s old new kept p bytes t around placed prints made_in text added_i
 
 -- ## What waits
 
--- a type is expected after the same text, for what was opened last
+-- expects a type after the same text, for the innermost entry
 abbrev pub awaited-in : (s : Symbol) (scope : Scope) (old new : Direct) (around : Around) (os : List Opened) {ws : List Open}
     → new.text.list.items ≡ old.text.list.items → reverse new.waiting.list.items ≡ ws → around.prefix ≡ outermost → Stands s scope ws os old.text.list.items
     → IsScoped scope around ws → AwaitsTypeIn s scope new
@@ -307,7 +307,7 @@ candidate-inside s w n k kept ordered found =
 
 -- ## What is open
 
--- the last of a list is the first of it turned
+-- the last of a list is the first of its reverse
 pub reverse-last : {X : Type 0} (xs : List X) (x : X) → reverse (xs ++ x ∷ []) ≡ x ∷ reverse xs
 reverse-last xs x = reverse-append xs (x ∷ [])
 
@@ -385,7 +385,7 @@ pub opened-so : (r : Option Step) (step : Step) (A : Type 0) (P : Step → Type 
 opened-so None step A P is goes = tt
 opened-so (Some next) step A P is goes = subst P (sym is.0) (goes is.1)
 
--- ## Where what was written after a place is taken away
+-- ## Where what was written after a place is removed
 
 -- a candidate that ends in the front of a text is one of that
 pub candidate-kept : {s : Symbol} {scope : Scope} (text kept rest : List ℕ) (k : Candidate) (c : values.Candidate) → text ≡ kept ++ rest → IsCandidate s scope text k c
@@ -417,7 +417,7 @@ one-left hiding scope left text kept stay k n c (inr none) p ordered =
     let never : 1 ≤ 0 = subst (λ (m : Candidate). m.from ≤ m.to) none ordered in
     absurd (omega (arith, never))
 
--- Where those that don't stay are nowhere, all are candidates if each is that stays.
+-- Where the candidates that don't stay are nowhere, all are candidates if each that stays is one.
 pub candidates-left : (s : Symbol) (hiding : Hiding) (scope left : Scope) (text kept : List ℕ)
     → ((k : Candidate) (c : values.Candidate) → Stays hiding k → IsCandidate s scope text k c → IsCandidate s left kept k c) → (ks ns : List Candidate) (cs : List values.Candidate)
     → AreLeft hiding ks ns → AreCandidates s scope text ks cs → AreCandidates s left kept ns cs
@@ -429,7 +429,7 @@ candidates-left s hiding scope left text kept stay [] (n ∷ ns) cs are p = absu
 candidates-left s hiding scope left text kept stay (k ∷ ks) [] cs are p = absurd are
 candidates-left s hiding scope left text kept stay (k ∷ ks) (n ∷ ns) [] are p = absurd p
 
--- what a writer keeps where what follows this is taken away, if the arguments that may be named are in it
+-- what a writer keeps where what follows this is removed, if the arguments that may be named are in what stays
 abbrev pub kept-cut : (s : Symbol) (old new : Direct) (kept : Kept s old) (left rest : List ℕ) (to : ℕ) → old.text.list.items ≡ left ++ rest → to ≡ length left
     → new.text.list.items ≡ left → AreLeft (hidings.After to) old.candidates.list.items new.candidates.list.items → new.has_scope ≡ old.has_scope
     → AreNamed left kept.scope → Kept s new
@@ -442,7 +442,7 @@ kept-cut s old new kept left rest to written to_is left_is are scope_same named 
       old.candidates.list.items new.candidates.list.items kept.state.candidates are kept.keeps.candidates) named kept.keeps.single kept.keeps.unknown;
 }
 
--- the front of a text that was taken
+-- the front of a text that was shortened
 pub front-left : (text left rest : List ℕ) (to : ℕ) → text ≡ left ++ rest → to ≡ length left → take to text ≡ left
 front-left text left rest to written to_is = ap (λ n. take n text) to_is ∙ ap (λ l. take (length left) l) written ∙ take-append_seam left rest
 
@@ -475,13 +475,13 @@ kept-closed s old new kept are text typed = record {
 
 -- ## One after the other
 
--- those before a place were gone over, and the others are as they were
+-- those before a place were visited, and the others are as they were
 abbrev pub AreGoneOver : (hiding : Hiding) → (at : ℕ) → (old now : List Candidate) → Type 0
 AreGoneOver hiding zero old now = now ≡ old
 AreGoneOver hiding (suc at) (k ∷ old) (n ∷ now) = IsLeft hiding k n × AreGoneOver hiding at old now
 AreGoneOver hiding (suc at) _ _ = ⊥
 
--- so is the next one
+-- so was the next one
 pub one-gone : (hiding : Hiding) (at : ℕ) (old now : List Candidate) (n other : Candidate) → AreGoneOver hiding at old now → at < length now
     → IsLeft hiding (get_or now at other) n → AreGoneOver hiding (suc at) old (slice_set now at n)
 one-gone hiding zero (k ∷ old) (m ∷ now) n other gone below is = (subst (λ x. IsLeft hiding x n) (cc gone) is, cc gone)
@@ -490,7 +490,7 @@ one-gone hiding (suc at) (k ∷ old) (m ∷ now) n other gone below is = (gone.0
 one-gone hiding (suc at) [] (m ∷ now) n other gone below is = absurd gone
 one-gone hiding at old [] n other gone below is = absurd (omega (arith, below))
 
--- and so are all at the end
+-- and so were all at the end
 pub all-gone : (hiding : Hiding) (at : ℕ) (old now : List Candidate) → AreGoneOver hiding at old now → length now ≤ at → AreLeft hiding old now
 all-gone hiding zero [] [] gone over = tt
 all-gone hiding zero (k ∷ old) [] gone over = cc gone

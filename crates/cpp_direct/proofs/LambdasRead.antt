@@ -60,7 +60,7 @@ lambda-told s old new digit is stands ends reads = (
 abbrev lambda_front : List ℕ
 lambda_front = codes "::{lambda("
 
--- its bracket is by itself
+-- the bracket of its parameters, as a text of its own
 pub lambda-bracket : (f b l : List ℕ) → (f ++ (b ++ codes "::{lambda(")) ++ l ≡ (f ++ (b ++ codes "::{lambda")) ++ codes "(" ++ l
 lambda-bracket f b l = simp append_assoc
 
@@ -211,7 +211,7 @@ lambda-ended s w next pushed numbered new from nested p apart ends at one number
           (ended_ number new.at is ending (omega (arith, here, numbered_at, place)));
     }
 
--- one in a function comes as a type, after its discriminator
+-- a lambda in a function is accepted as a type, after its discriminator
 pub ended-in-function : (s : Symbol) (old last new : Direct) (from : ℕ) → IsLambdaRead s old from None
     → (digit : Discriminator) → IsDiscriminatorAt s.bytes old.at digit last.at → Reads old last []
     → new.candidates.list.items ≡ added last from false false → new.text ≡ last.text → new.waiting ≡ last.waiting
@@ -224,7 +224,7 @@ ended-in-function s old last new from p digit is read candidates text waiting sc
     (λ e. absurd (false≢true e)) text candidates scope (ap (λ v. reverse v.list.items) (waiting ∙ read.waiting)) (λ e. absurd (false≢true e))
     (subst (λ k. Comes s w.0 (tree t true) k (with_candidate w.1 t p.state)) (sym here) (w.2 digit last.at is)) w.3
 
--- after one in a nested name this goes on
+-- after a lambda in a nested name this continues
 pub ended-in-name : (s : Symbol) (w : Direct) (from : ℕ) (purpose : Purpose) → IsLambdaRead s w from (Some purpose)
     → IsWriting s (record w { nest = record { from = from; class_from = from; class_to = from; purpose = purpose; is_listed = false; has_class = false; is_instance = false; is_dependent = false } }) steps.Tail
 ended-in-name s w from purpose p =

@@ -192,7 +192,7 @@ byte-is b is =
     let more : 0 < b = ltb-true 0 b both.0 in
     (ltb-true b 256 both.1, λ e. omega (arith, e, more))
 
--- within a nested name what begins with a c has a kind of its own, and any other operator is chosen as elsewhere
+-- within a nested name what begins with a c has its own kind, and any other operator is chosen as elsewhere
 is_component : ℕ → ℕ → Bool
 is_component first second = (nat_eq first 99 && is_mark (choose Kind.OperatorAfterC second)) || same_choice (choose Kind.Operator first) (choose Kind.OtherOperator first)
 
@@ -200,7 +200,7 @@ is_component first second = (nat_eq first 99 && is_mark (choose Kind.OperatorAft
 is_code : ℕ → ℕ → Bool
 is_code first second = ((is_byte first && is_byte second) && is_code_by (choose Kind.Operator first) second) && is_component first second
 
--- They are read so.
+-- They are read as that operator.
 pub record IsOperator (first second : ℕ) : Type 0 where
   pub production : Production
   pub kind : Kind

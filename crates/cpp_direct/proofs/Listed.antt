@@ -29,7 +29,7 @@ use Rattle.cpp_direct.proofs.Kept.{kept-grown, kept-same, made-here, scoped-with
 
 -- ## What is open
 
--- the one that was opened last
+-- the innermost open entry
 pub last-found : (xs : List Open) (x : Open) → slice_get xs (length xs - 1) ≡ Some x → (rest : List Open) × (reverse xs ≡ x ∷ rest)
 last-found xs x found = go (reverse xs) refl
   where
@@ -45,7 +45,7 @@ last-found xs x found = go (reverse xs) refl
               ∙ get_or_from_slice_get xs (length xs - 1) x y found),
         )
 
--- the same, and what was open before it, where it is taken away
+-- likewise, and what was open before it, where it is removed
 opened-last : (ws ps : List Open) (x owner : Open) (rest : List Open) → reverse ws ≡ owner ∷ rest → ws ≡ ps ++ x ∷ []
     → (owner ≡ x) × (rest ≡ reverse ps)
 opened-last ws ps x owner rest turned is =
@@ -72,7 +72,7 @@ pub element-kind : (l : Listing) → IsArgumentKind (element_kind l)
 element-kind of_template = tt
 element-kind (of_pack before written) = tt
 
--- a list goes on after one more
+-- a list continues after one more element
 pub element-goes-on : (s : Symbol) (kind : Kind) (scoped : Around → Type 0) (closes : Term → (at : ℕ) → State → Type 0) (ts : List Term) (t : Term)
     (before at : ℕ) (earlier st : State) (goes : ElementsGoOn s kind scoped closes ts before earlier) → ListGoesOn s kind goes.1 goes.0 t at st
     → ElementsGoOn s kind scoped closes (ts ++ t ∷ []) at st
@@ -133,7 +133,7 @@ pub record IsClosed (s : Symbol) (w : Direct) (owner : Open) : Type 0 where
   pub owns : Owns s owner (below s scope (reverse w.waiting.list.items)) front (instance template (list_with ts tail)) w.at state
   pub known : AreKnown (detail_of s) w.text.list.items w.argument ts tail
 
--- the last bracket is written, and what was opened last is taken away
+-- the last bracket is written, and the innermost entry is removed
 pub closed-by : (s : Symbol) (old mid new : Direct) (x owner : Open) → IsListEnded s old new.argument → Writes old mid (closing_bracket (detail_of s))
     → new.text ≡ mid.text → new.candidates ≡ mid.candidates → new.has_scope ≡ mid.has_scope → new.at ≡ mid.at
     → mid.waiting.list.items ≡ new.waiting.list.items ++ x ∷ [] → x ≡ owner → IsClosed s new owner
@@ -164,7 +164,7 @@ closed-by s old mid new x owner p writes same candidates scope_same at items is 
       known = subst (λ l. AreKnown (detail_of s) l new.argument p.ts p.tail) (sym text) (known-stay old.text.list.items (closing_bracket (detail_of s)) new.argument p.ts p.tail p.known);
     }
 
--- what is known of them is known of the arguments of what they make
+-- known elements are known arguments of what the list makes
 closed-arguments : (s : Symbol) (w : Direct) (owner : Open) (p : IsClosed s w owner)
     → HasArguments (detail_of s) w.text.list.items w.argument (instance p.template (list_with p.ts p.tail))
 unfolding arguments_of
@@ -308,7 +308,7 @@ template-listed s scope w st of_template owner rest front template name ts texts
 template-listed s scope w st (of_pack before more) owner rest front template name ts texts text no_pack belongs elements written goes =
     absurd (no_pack (owner ∷ rest) belongs.0)
 
--- what is open last is no pack
+-- the innermost entry is no pack
 pub no-pack : (w : Direct) (owner : Open) → slice_get w.waiting.list.items (length w.waiting.list.items - 1) ≡ Some owner → (owner ≡ opens.Pack → ⊥)
     → (rest : List Open) → reverse w.waiting.list.items ≡ opens.Pack ∷ rest → ⊥
 no-pack w owner found other rest e = other (cc (sym (last-found w.waiting.list.items owner found).1 ∙ e))
@@ -344,7 +344,7 @@ ended-so s w first to tail argument is_tail p apart owns are_known =
       owns = owns place.owner place.rest place.front place.template a.3;
     }
 
--- what is known of arguments of which nothing is
+-- what is known of unknown arguments
 pub nothing-known : {detail : Detail} (text : List ℕ) (ts : List Term) (tail : Term) → AreKnown detail text nowhere ts tail
 nothing-known text ts tail = (λ k single. absurd (none-known k single.0), λ e. cc e)
 
@@ -357,7 +357,7 @@ list-ends s w first argument p stands apart are_known =
     ended-so s w first (w.at + 1) nil argument (inl refl) p apart (λ o rest front template goes.
     goes.5 nothing_there w.at p.state (expects-empty s Kind.ArgumentList goes.0 goes.1 w.at p.state goes.4 refl) stands) are_known
 
--- a pack of nothing and an E end them too
+-- an empty pack and an E end them too
 pub empty-pack-ends : (s : Symbol) (w : Direct) (first : Bool) (argument : Arguments) (p : IsWriting s w (steps.List first))
     → StandsAt s.bytes w.at (74 ∷ 69 ∷ 69 ∷ []) → ((rest : List Open) → reverse w.waiting.list.items ≡ opens.Pack ∷ rest → ⊥)
     → AreKnown (detail_of s) w.text.list.items argument p.is_before.1 (list (pack nil) nil) → IsListEnded s (record w { at = w.at + 3 }) argument
@@ -377,7 +377,7 @@ empty-pack-ends s w first argument p stands apart are_known =
     (behind.5 nothing_there (w.at + 1 + 1) p.state
     (expects-empty s Kind.ArgumentList behind.0 behind.1 (w.at + 1 + 1) p.state behind.4 refl) ends.1))) are_known
 
--- where it is all, it is known
+-- if it is the whole list, it is known
 pub none-packed : {detail : Detail} (text : List ℕ) (is_first : Bool) (ts : List Term) → (is_first ≡ true → ts ≡ [])
     → AreKnown detail text (record nowhere { has_pack = is_first }) ts (list (pack nil) nil)
 unfolding element count
@@ -441,7 +441,7 @@ pack-ends s w new p stands rest last text candidates scope_same at now = go p.is
           );
         }
 
--- one more element is expected, and a comma comes before it but at the first
+-- expects one more element, with a comma before it except at the first
 pub argument-expected : (s : Symbol) (w new : Direct) (first : Bool) → IsWriting s w (steps.List first)
     → new.text.list.items ≡ w.text.list.items ++ comma first → new.candidates ≡ w.candidates → new.waiting ≡ w.waiting
     → new.has_scope ≡ w.has_scope → new.at ≡ w.at
@@ -477,7 +477,7 @@ first-expected s w self first p is same =
     subst (λ d. AwaitsNextArgument s d) (sym same)
     (argument-expected s w w true (subst (λ f. IsWriting s w (steps.List f)) is p) (sym (append-nil w.text.list.items)) refl refl refl refl)
 
--- a pack goes on after its J
+-- a pack continues after its J
 pub pack-goes-on : (s : Symbol) (owner : Open) (below_ : Below) (front : List ℕ) (template : Term) (ts : List Term) (texts : List ℕ) (at : ℕ) (st : State)
     → ArgumentsGoOn s owner below_ front template ts at st → StandsAt s.bytes at (74 ∷ []) → GoesOn s (of_pack ts texts) owner below_ front template [] (at + 1) st
 pack-goes-on s owner below_ front template ts texts at st goes stands =
@@ -535,7 +535,7 @@ pub record ListWaits (s : Symbol) (scope : Scope) (opened : List Open) (os : Lis
   pub onward : (t : Term) (at : ℕ) (st : State) → Comes s os (tree t true) at st
       → GoesOn s place.listing place.owner (below s scope place.rest) place.front place.template (ts ++ t ∷ []) at st
 
--- what is open takes arguments
+-- the open entry accepts arguments
 abbrev pub TakesArguments : Open → Type 0
 TakesArguments (opens.TypeArguments from is_dependent) = Unit {0}
 TakesArguments (opens.NestArguments nest) = Unit {0}
@@ -544,7 +544,7 @@ TakesArguments (opens.NameArguments from) = Unit {0}
 TakesArguments (opens.LevelArguments is_dependent) = Unit {0}
 TakesArguments _ = ⊥
 
--- or is a pack of them
+-- or is a pack of such types
 abbrev pub TakesElements : Open → Type 0
 TakesElements opens.Pack = Unit {0}
 TakesElements o = TakesArguments o
@@ -558,7 +558,8 @@ template-takes detail names (opens.NameArguments from) front t name text is = tt
 template-takes detail names (opens.LevelArguments is_dependent) front t name text is = tt
 template-takes detail names _ front t name text is = absurd is
 
--- an element of theirs is awaited as what is open stands, they have no arguments that types name, and the type of an enumerator is awaited so
+-- an element of theirs is expected as the open entries have it; they have no arguments that types name, and the type of an
+-- enumerator is expected likewise
 arguments-stand : (s : Symbol) (scope : Scope) (owner : Open) (rest : List Open) (os : List Opened) (text : List ℕ) → TakesArguments owner
     → (AwaitsElementOf s scope.names of_template owner (below s scope rest) os text → Stands s scope (owner ∷ rest) os text)
     × (Stands s scope (owner ∷ rest) os text → AwaitsElementOf s scope.names of_template owner (below s scope rest) os text) × (arguments_in owner ≡ None)
@@ -582,7 +583,7 @@ list-scoped s scope around opened text p scoped = go p.listing p.belongs
     go (of_pack before written) is =
         subst (λ ws. IsScoped scope around ws) (sym is.0) (none-scoped scope around (opens.Pack ∷ p.owner ∷ p.rest) refl)
 
--- it is open so
+-- the entry is open this way
 list-stands : (s : Symbol) (scope : Scope) (opened : List Open) (os : List Opened) (text : List ℕ) → ListWaits s scope opened os text
     → Stands s scope opened os text
 list-stands s scope opened os text w =
@@ -616,7 +617,7 @@ waits-of s scope owner rest os text p = record {
   onward = p.8;
 }
 
--- and what is open so is a list
+-- and an entry that is open this way is a list
 pub list-waits : (s : Symbol) {scope : Scope} (o : Open) (rest : List Open) (os : List Opened) (text : List ℕ) → TakesElements o
     → Stands s scope (o ∷ rest) os text → ListWaits s scope (o ∷ rest) os text
 list-waits s opens.Pack [] os text takes p = absurd p

@@ -43,7 +43,7 @@ pub takes-it : (s : Symbol) (kind : Kind) (p : Production) (byte : ℕ) (taken :
     → taken ≡ (if not (is_chain p) then byte ∷ [] else []) → TakesRule (table_by s.is_wide) (number_of_kind kind) (rule_of p) taken
 takes-it s kind p byte taken chosen small takes = takes-by s.is_wide kind (number_of_kind kind) byte p taken (kind-at kind) chosen small takes
 
--- one that the wide grammar alone has
+-- a production that only the wide grammar has
 pub takes-wide : (s : Symbol) (kind : Kind) (p : Production) (byte : ℕ) (taken : List ℕ) → s.is_wide ≡ true → wide_choose kind byte ≡ Some p → byte < 256
     → taken ≡ (if not (is_chain p) then byte ∷ [] else []) → TakesRule (table_by s.is_wide) (number_of_kind kind) (rule_of p) taken
 takes-wide s kind p byte taken wide chosen small takes =
@@ -74,7 +74,7 @@ opens-by s kind p taken around os at st takes begins expects stands =
     subst (λ l. Needs s os (standing (rule_of p) taken at around st) [] l (at + length taken) st) (its_symbols p)
     (moves.opens (cpp_language s) s.bytes (number_of_kind kind) (rule_of p) taken around os at st st takes (begins-so p taken around at st begins) expects stands)
 
--- the same where the production begins well with whatever parts are in the symbol
+-- likewise where the production begins well with whatever parts are in the symbol
 pub opens-where : (s : Symbol) (kind : Kind) (p : Production) (byte : ℕ) (taken : List ℕ) (around : Around) (os : List Opened) (at : ℕ) (st : State)
     → choose kind byte ≡ Some p → byte < 256 → taken ≡ (if not (is_chain p) then byte ∷ [] else [])
     → ((f : Forest) → AreTrees (table_by s.is_wide) (parts_of p) f → StandsAt s.bytes (at + length taken) (spell_all f) → opening p f at st ≡ Ok st)
@@ -151,7 +151,8 @@ ends s p taken at0 around before known os at st w after needs closes =
     moves.ends (cpp_language s) s.bytes (standing (rule_of p) taken at0 around before) known os at st w after needs
     (closed-so p taken at0 around before known st w after closes)
 
--- A value comes for a production where another comes for one like it: the reader goes on alike after both to the last part, and closes both alike.
+-- Two rules that continue alike are closed alike: the reader handles both the same way up to the last part, and closes both the
+-- same way.
 pub comes-alike : (s : Symbol) (os : List Opened) (p q : Production) (taken : List ℕ) (at0 : ℕ) (around : Around) (before : State) (x : Sym) (v w : Value) (at : ℕ)
     (st now : State) (context : Around) (vs ws : List Value) (state : State)
     → ◌≡◌ {A = Going} (between p around at0 (v ∷ []) st) (Ok (record { context = context; values = vs; state = state }))
@@ -181,7 +182,7 @@ comes-alike s os p q taken at0 around before x v w at st now context vs ws state
         part_of y shaped.0 spelled (unfold_tree cpp context at y state) refl (sym (rw (at_number q, on) refl) ∙ e)
     go (grown y (grown z more)) shaped spelled e = absurd shaped.1
 
--- nothing stands for a kind that may be empty
+-- a kind that may be empty denotes nothing
 pub expects-empty : (s : Symbol) (kind : Kind) (around : Around) (os : List Opened) (at : ℕ) (st : State)
     → Expects s kind around os at st → may_be_empty kind ≡ true → Comes s os nothing_there at st
 unfolding cpp
@@ -191,13 +192,14 @@ expects-empty s kind around os at st expects may =
 
 -- ## Holes
 
--- Moves find their rule, their place and their state in the types of these records, which say where a hole is and what came into it.
+-- Moves take their rule, their place and their state from the types of these records, which say where a hole is and what filled
+-- it.
 
--- A part is expected here.
+-- Expects a part here.
 pub record Hole (s : Symbol) (x : Sym) (around : Around) (os : List Opened) (at : ℕ) (st : State) : Type 0 where
   pub expects : ExpectsSym s x around os at st
 
--- A value came here.
+-- A value was accepted here.
 pub record Filled (s : Symbol) (os : List Opened) (v : Value) (at : ℕ) (st : State) : Type 0 where
   pub comes : Comes s os v at st
 
@@ -206,16 +208,16 @@ pub hole : (s : Symbol) (kind : Kind) (around : Around) (os : List Opened) (at :
     → Hole s (OfKind (number_of_kind kind)) around os at st
 hole s kind around os at st expects = record { expects = expects }
 
--- and what came has filled one
+-- and an accepted value has filled one
 pub came : (s : Symbol) (os : List Opened) (v : Value) (at : ℕ) (st : State) → Comes s os v at st → Filled s os v at st
 came s os v at st comes = record { comes = comes }
 
--- what is awaited is one
+-- what is expected is a hole
 pub hole-of : {s : Symbol} {kind : Kind} {around : Around} {at : ℕ} {st : State} {Onward : List Opened → Type 0} (a : Awaits s kind around at st Onward)
     → Hole s (OfKind (number_of_kind kind)) around a.inner at st
 hole-of a = record { expects = a.awaits }
 
--- a hole awaits its part, where it is known how the reader goes on after that
+-- a hole expects its part, if the reader's continuation after that is known
 pub awaited : {s : Symbol} {kind : Kind} {around : Around} {os : List Opened} {at : ℕ} {st : State} {Onward : List Opened → Type 0}
     → Hole s (OfKind (number_of_kind kind)) around os at st → Onward os → Awaits s kind around at st Onward
 awaited {os = os} h onward = record { inner = os; awaits = h.expects; onward = onward }
@@ -224,7 +226,7 @@ awaited {os = os} h onward = record { inner = os; awaits = h.expects; onward = o
 abbrev pub open_at : {s : Symbol} {x : Sym} {around : Around} {os : List Opened} {at : ℕ} {st : State} → Hole s x around os at st → List Opened
 open_at {os = os} h = os
 
--- a value came into a hole
+-- a value fills a hole
 pub fill : {s : Symbol} {x : Sym} {around : Around} {os : List Opened} {at : ℕ} {st : State} → Hole s x around os at st → (v : Value) (to : ℕ)
     (now : State) → Comes s os v to now → Filled s os v to now
 fill h v to now comes = record { comes = comes }
@@ -237,7 +239,7 @@ pub hole-at : {s : Symbol} {x : Sym} {around : Around} {os : List Opened} {at : 
     → Hole s x around os to st
 hole-at {s = s} {x = x} {around = around} {os = os} {st = st} to h same = subst (λ k. Hole s x around os k st) same h
 
--- ## Productions that are taken
+-- ## Productions that are chosen
 
 -- A kind takes a production, and these bytes with it: one, or none.
 pub record Taken (s : Symbol) (kind : Kind) (p : Production) (bytes : List ℕ) : Type 0 where
@@ -256,7 +258,7 @@ begins-untested Production.Lambda is f at st = absurd (false≢true is)
 begins-untested Production.Unnamed is f at st = absurd (false≢true is)
 begins-untested _ is f at st = refl
 
--- a production is taken at a byte, which it eats
+-- a production is taken at a byte, which it consumes
 unfoldable pub is_eater : Option Production → Production → ℕ → Bool
 is_eater choice p byte = takes p choice && (is_small byte && (not (is_chain p) && is_untested p))
 
@@ -273,13 +275,13 @@ unfoldable pub is_left : Kind → Production → ℕ → Bool
 unfolding is_leaver takes is_small is_untested choose alternatives pick is_in in_ranges among is_chain number_of
 is_left kind p byte = is_leaver (choose kind byte) p byte
 
--- a production that begins well, at a byte at which it is chosen
+-- a production that begins well, at a byte that selects it
 pub chosen-byte : (s : Symbol) (kind : Kind) (p : Production) (byte : ℕ) → choose kind byte ≡ Some p → byte < 256 → is_chain p ≡ false
     → ((f : Forest) (at : ℕ) (st : State) → opening p f at st ≡ Ok st) → Taken s kind p (byte ∷ [])
 chosen-byte s kind p byte chosen below chain begun =
     record { takes_rule = takes-it s kind p byte (byte ∷ []) chosen below (rw chain refl); begins = begun }
 
--- so a production is taken and its byte eaten
+-- so a production is taken and its byte consumed
 pub eats : (s : Symbol) (kind : Kind) (p : Production) (byte : ℕ) → is_eaten kind p byte ≡ true → Taken s kind p (byte ∷ [])
 unfolding is_eaten is_eater takes is_small is_untested choose alternatives pick is_in in_ranges among is_chain number_of
 eats s kind p byte is =
@@ -320,7 +322,7 @@ eats-widely s kind p byte wide is =
 
 -- ## Moves
 
--- the first part of a production that eats its byte is expected
+-- expects the first part of a production that consumes its byte
 pub byte-opens : {s : Symbol} {kind : Kind} {p : Production} {byte : ℕ} {around : Around} {os : List Opened} {at : ℕ} {st : State} {x : Sym} {todo : List Sym}
     {context : Around} {values : List Value} {state : State}
     → Taken s kind p (byte ∷ []) → Hole s (OfKind (number_of_kind kind)) around os at st → StandsAt s.bytes at (byte ∷ [])
@@ -333,7 +335,7 @@ byte-opens {s = s} {kind = kind} {p = p} {byte = byte} {around = around} {os = o
           (opens-by s kind p (byte ∷ []) around os at st t.takes_rule (λ f. t.begins f at st) h.expects stands));
     }
 
--- the first part of one that leaves its byte is
+-- the first part of a production that doesn't take its byte
 pub chain-opens : {s : Symbol} {kind : Kind} {p : Production} {around : Around} {os : List Opened} {at : ℕ} {st : State} {x : Sym} {todo : List Sym}
     {context : Around} {values : List Value} {state : State}
     → Taken s kind p [] → Hole s (OfKind (number_of_kind kind)) around os at st
@@ -347,7 +349,7 @@ chain-opens {s = s} {kind = kind} {p = p} {around = around} {os = os} {at = at} 
           (opens-by s kind p [] around os at st t.takes_rule (λ f. t.begins f at st) h.expects (stands-none s.bytes at))));
     }
 
--- a production without parts that eats its byte stands for a value
+-- a production without parts that takes its byte denotes a value
 pub byte-fills : {s : Symbol} {kind : Kind} {p : Production} {byte : ℕ} {around : Around} {os : List Opened} {at : ℕ} {st : State} {w : Value} {after : State}
     → Taken s kind p (byte ∷ []) → Hole s (OfKind (number_of_kind kind)) around os at st → StandsAt s.bytes at (byte ∷ [])
     → parts_of p ≡ [] → close p byte around at st [] st ≡ Ok (found w after) → Filled s os w (at + 1) after
@@ -359,7 +361,7 @@ byte-fills {s = s} {kind = kind} {p = p} {byte = byte} {around = around} {os = o
           (opens-by s kind p (byte ∷ []) around os at st t.takes_rule (λ f. t.begins f at st) h.expects stands)) closes;
     }
 
--- a part came, and the next one is expected
+-- a part was read, and the next one is expected
 pub next-part : {s : Symbol} (p : Production) {taken : List ℕ} {at0 : ℕ} {around : Around} {before : State} {known : List Value} {v : Value} {x : Sym}
     {todo : List Sym} {os : List Opened} {at : ℕ} {st : State} {context : Around} {values : List Value} {state : State}
     → Filled s (opened (standing (rule_of p) taken at0 around before) known (x ∷ todo) ∷ os) v at st
@@ -368,7 +370,7 @@ pub next-part : {s : Symbol} (p : Production) {taken : List ℕ} {at0 : ℕ} {ar
 next-part {s = s} p {taken = taken} {at0 = at0} {around = around} {before = before} {known = known} {v = v} {x = x} {todo = todo} {os = os} {at = at} {st = st} {context = context} {values = values} {state = state} f goes =
     record { expects = needs-next s p taken at0 around before (known ++ v ∷ []) x todo os at st context values state goes f.comes }
 
--- the last part came, and the rule closes
+-- the last part was read, and the rule closes
 pub closes : {s : Symbol} (p : Production) {taken : List ℕ} {at0 : ℕ} {around : Around} {before : State} {known : List Value} {v : Value}
     {os : List Opened} {at : ℕ} {st : State} {w : Value} {after : State}
     → Filled s (opened (standing (rule_of p) taken at0 around before) known [] ∷ os) v at st
@@ -378,12 +380,12 @@ closes {s = s} p {taken = taken} {at0 = at0} {around = around} {before = before}
 
 -- ## Parts without a row, and tokens
 
--- nothing stands for a kind that may be empty
+-- a kind that may be empty denotes nothing
 pub none-fills : {s : Symbol} {around : Around} {os : List Opened} {at : ℕ} {st : State} (kind : Kind) → Hole s (OfKind (number_of_kind kind)) around os at st
     → may_be_empty kind ≡ true → Filled s os nothing_there at st
 none-fills {s = s} {around = around} {os = os} {at = at} {st = st} kind h may = record { comes = expects-empty s kind around os at st h.expects may }
 
--- a byte that the rule has
+-- a fixed byte of the rule
 pub fixed-fills : {s : Symbol} {b : ℕ} {around : Around} {os : List Opened} {at : ℕ} {st : State} → Hole s (Byte b) around os at st
     → StandsAt s.bytes at (b ∷ []) → Filled s os nothing_there (at + 1) st
 unfolding cpp
@@ -427,7 +429,7 @@ first-named around piece st first = ap (λ x. named_so_far around (extended x pi
 
 -- ## Kinds with more alternatives
 
--- what a kind with more trees awaits, one with fewer does
+-- what a kind with more trees expects, one with fewer does
 pub fewer : {s : Symbol} {x y : Sym} {around : Around} {os : List Opened} {at : ℕ} {st : State}
     → ((t : Tree) → IsTree (table_by s.is_wide) y t → IsTree (table_by s.is_wide) x t) → Hole s x around os at st → Hole s y around os at st
 fewer same h = record {
@@ -439,7 +441,7 @@ pub alone-arguments : (s : Symbol) (around : Around) (os : List Opened) (at : �
 unfolding number_of_kind
 alone-arguments s around os at st expects = (fewer (arguments-by s.is_wide) (hole s Kind.MaybeArguments around os at st expects)).expects
 
--- by the wide grammar a nested name may end after the arguments of a name that an S stands for
+-- in the wide grammar a nested name may end after the arguments of a substituted name
 pub any-tail : (s : Symbol) (around : Around) (os : List Opened) (at : ℕ) (st : State) → s.is_wide ≡ true → Expects s Kind.NestMoreOrEnd around os at st → Expects s Kind.NestTail around os at st
 unfolding number_of_kind
 any-tail s around os at st wide expects = (fewer (tails-by s.is_wide wide) (hole s Kind.NestMoreOrEnd around os at st expects)).expects

@@ -45,14 +45,14 @@ encoding-opens s os around at st expects =
     let items = next-part p (fill name v here now comes) refl in
     awaited items (λ l there then_ last. (closes p (fill items l there then_ last) refl).comes))
 
--- what comes after the T of a special name
+-- what follows the T of a special name
 special-expected : (s : Symbol) (os : List Opened) (around : Around) (at : ℕ) (st : State) → Expects s Kind.Encoding around os at st → StandsAt s.bytes at (84 ∷ [])
     → Hole s (OfKind (number_of_kind Kind.Special)) (in_name at) (opened (standing (rule_of Production.Special) (84 ∷ []) at around st) [] [] ∷ os) (at + 1) st
 unfolding is_eaten number_of_kind parts_of between close unfolding_.behind meaning part byte_of tree_of text_of piece_of letter_of is_there
 special-expected s os around at st expects stands =
     byte-opens (eats s Kind.Encoding Production.Special 84 refl) (hole s Kind.Encoding around os at st expects) stands refl refl
 
--- a special object begins with a T and its letter, and its type is expected
+-- a special object begins with a T and its letter, and expects its type
 pub special-opens : (s : Symbol) (os : List Opened) (around : Around) (b at : ℕ) (st : State) → is_special_letter b ≡ true
     → Expects s Kind.Encoding around os at st → StandsAt s.bytes at (84 ∷ b ∷ []) → SpecialOpened s os at b (at + 2) st
 unfolding is_eaten number_of_kind parts_of between close unfolding_.behind meaning part byte_of tree_of text_of piece_of letter_of is_there is_special_letter each_passes
@@ -65,7 +65,7 @@ special-opens s os around b at st is expects stands =
 
 -- ## Thunks
 
--- a thunk begins with a T, an h and an offset, and the encoding is expected that it calls
+-- a thunk begins with a T, an h and an offset, and expects the encoding that it calls
 pub thunk-opens : (s : Symbol) (os : List Opened) (around : Around) (at end : ℕ) (st : State) → Expects s Kind.Encoding around os at st
     → StandsAt s.bytes at (84 ∷ []) → StandsAt s.bytes (at + 1) (104 ∷ []) → (is : IsOffsetAt s.bytes (at + 1 + 1) end)
     → BaseOpened s os at (thunk (adjusting (non_virtual (signed_digits is.negative is.digits)))) end st
@@ -78,7 +78,7 @@ thunk-opens s os around at end st expects first second is =
     awaited encoding
     (λ e here now comes. (closes Production.Special (closes p (fill encoding (tree e true) here now comes) refl) refl).comes)
 
--- a virtual one begins with a T, a v and two offsets
+-- a virtual thunk begins with a T, a v and two offsets
 pub virtual-thunk-opens : (s : Symbol) (os : List Opened) (around : Around) (at middle end : ℕ) (st : State) → Expects s Kind.Encoding around os at st
     → StandsAt s.bytes at (84 ∷ []) → StandsAt s.bytes (at + 1) (118 ∷ []) → (is : IsOffsetAt s.bytes (at + 1 + 1) middle) (then_ : IsOffsetAt s.bytes middle end)
     → BaseOpened s os at (thunk (adjusting (by_table (signed_digits is.negative is.digits) (signed_digits then_.negative then_.digits)))) end st
@@ -95,7 +95,7 @@ virtual-thunk-opens s os around at middle end st expects first second is then_ =
 
 -- ## After a G
 
--- what comes after the G of a special name
+-- what follows the G of a special name
 other-expected : (s : Symbol) (os : List Opened) (around : Around) (at : ℕ) (st : State) → Expects s Kind.Encoding around os at st → StandsAt s.bytes at (71 ∷ [])
     → Hole s (OfKind (number_of_kind Kind.SpecialAfterG)) (in_name at)
     (opened (standing (rule_of Production.OtherSpecial) [] at around st) (letter 71 ∷ []) [] ∷ os) (at + 1) st
@@ -105,7 +105,7 @@ other-expected s os around at st expects stands =
     let mark = chain-opens (leaves s Kind.Encoding p 71 refl) (hole s Kind.Encoding around os at st expects) refl refl in
     next-part p (byte-fills (eats s Kind.SpecialMark Production.Mark 71 refl) mark stands refl refl) refl
 
--- a guard variable begins with GV, and the name is expected of what it guards
+-- a guard variable begins with GV, and expects the name of what it guards
 pub guard-opens : (s : Symbol) (os : List Opened) (around : Around) (at : ℕ) (st : State)
     → Expects s Kind.Encoding around os at st → StandsAt s.bytes at (71 ∷ 86 ∷ []) → GuardOpened s os at (at + 2) st
 unfolding is_eaten number_of_kind parts_of between close unfolding_.behind meaning part byte_of tree_of text_of piece_of letter_of is_there qualifiers_of ref_of
@@ -116,7 +116,7 @@ guard-opens s os around at st expects stands =
     awaited (hole-at (at + 2) name (omega arith))
     (λ v here now comes. (closes Production.OtherSpecial (closes q (fill name v here now comes) refl) refl).comes)
 
--- by the wide grammar a clone begins with GT and its letter, and the encoding is expected of which it is one
+-- in the wide grammar a clone begins with GT and its letter, and expects the encoding that it is a clone of
 pub clone-opens : (s : Symbol) (os : List Opened) (around : Around) (b at : ℕ) (st : State) → s.is_wide ≡ true → is_eaten Kind.CloneLetter Production.Mark b ≡ true
     → Expects s Kind.Encoding around os at st → StandsAt s.bytes at (71 ∷ 84 ∷ b ∷ []) → BaseOpened s os at (clone b) (at + 3) st
 unfolding is_eaten is_eaten_widely number_of_kind parts_of between close unfolding_.behind meaning part byte_of tree_of text_of piece_of letter_of is_there
@@ -131,7 +131,7 @@ clone-opens s os around b at st wide is expects stands =
 
 -- ## Names
 
--- the parts of a nested name, const where its third part is there, and called on what its fourth says
+-- the parts of a nested name: const where its third part is present, and called on what its fourth says
 nest-goes : (s : Symbol) (os : List Opened) (around : Around) (q r : Value) (at : ℕ) (st : State) (here : ℕ) (now : State)
     → Filled s (opened (standing (rule_of Production.NestedName) (78 ∷ []) at around st) (nothing_there ∷ nothing_there ∷ q ∷ [])
     (OfKind (number_of_kind Kind.Nest) ∷ []) ∷ os) r here now
@@ -199,7 +199,7 @@ name-nested s os around const on at st expects stands = go on stands
     go lvalue_only there = referred 82 refl there
     go rvalue_only there = referred 79 refl there
 
--- a name of its own, with or without arguments after it
+-- a source name, with or without arguments after it
 pub name-source : (s : Symbol) (os : List Opened) (around : Around) (at : ℕ) (name : List ℕ) (end : ℕ) (st : State)
     → Expects s Kind.CompleteName around os at st → around.prefix ≡ outermost → IsNameAt s.bytes at name end
     → Named s os around (alone (source false name)) end st
@@ -209,7 +209,7 @@ name-source s os around at name end st expects first is =
     let own = chain-opens (leaves s Kind.CompleteName p 48 refl) (hole s Kind.CompleteName around os at st expects) refl refl in
     named-by p (next-part p (name-fills name end own is) (first-named around (source false name) st first)) (λ byte now began later v. refl)
 
--- one with internal linkage, after an L
+-- a name with internal linkage, after an L
 pub name-internal : (s : Symbol) (os : List Opened) (around : Around) (at : ℕ) (name : List ℕ) (end : ℕ) (st : State)
     → Expects s Kind.CompleteName around os at st → around.prefix ≡ outermost → StandsAt s.bytes at (76 ∷ []) → IsNameAt s.bytes (at + 1) name end
     → Named s os around (alone (source true name)) end st
@@ -219,7 +219,7 @@ name-internal s os around at name end st expects first stands is =
     let own = byte-opens (eats s Kind.CompleteName p 76 refl) (hole s Kind.CompleteName around os at st expects) stands refl refl in
     named-by p (next-part p (name-fills name end own is) (first-named around (source true name) st first)) (λ byte now began later v. refl)
 
--- an operator of its own
+-- an operator name
 pub name-operator : (s : Symbol) (os : List Opened) (around : Around) (at : ℕ) (st : State) (first second : ℕ) → IsOperator first second
     → Expects s Kind.CompleteName around os at st → around.prefix ≡ outermost → StandsAt s.bytes at (first ∷ second ∷ [])
     → Named s os around (alone (operator first second)) (at + 2) st
@@ -271,7 +271,7 @@ suffix-byte b is =
     in-class false false true l h = refl
     in-class false false false l h = h
 
--- what stands for these bytes of a suffix, which may be none
+-- what these bytes of a suffix denote; there may be none
 more-comes : (s : Symbol) (bs : List ℕ) (os : List Opened) (around : Around) (at : ℕ) (st : State)
     → AllByRecursion (λ c. is_suffix_byte c ≡ true) bs → Expects s Kind.SuffixMore around os at st → StandsAt s.bytes at bs
     → (v : Value) × (text_of v ≡ bs) × Comes s os v (at + length bs) st
@@ -309,7 +309,7 @@ suffix-comes s (d ∷ b ∷ bs) os around at st is expects stands =
 
 -- ## Symbols
 
--- a symbol is expected at the front
+-- expects a symbol at the front
 symbol-expected : (s : Symbol) → Expects s Kind.Symbol first_around [] 0 first_state
 unfolding number_of_kind
 symbol-expected s bytes vs end reads stands =

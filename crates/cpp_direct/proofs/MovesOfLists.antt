@@ -1,5 +1,5 @@
--- The moves in lists of arguments and of items: arguments are opened and closed, and a list goes on after each of its elements,
--- also after one that is a member of an instance of a template.
+-- The moves in lists of arguments and of items: arguments are opened and closed, and a list continues after each of its
+-- elements, also after a member of an instance of a template.
 use Rattle.std.proofs.Common.{◌≡◌, ℕ, ◌+◌, ◌⊎◌, inl, inr, length, List, [], ◌∷◌, Bool, true, false, nat_eq, Ok, refl, ap, subst, arith}
 use Rattle.sym_shape.specs.declared.rule.Sym.TheVariants.{Kind as OfKind}
 use Rattle.sym_link.specs.Unfold.{standing}
@@ -46,7 +46,7 @@ arguments-open s os around t listed at st expects stands =
 
 -- ## Elements
 
--- a list goes on where its rest is expected
+-- a list continues where its rest is expected
 goes-on : {s : Symbol} {kind : Kind} {around : Around} {inner outer : List Opened} {at : ℕ} {st : State} (t : Term)
     → Hole s (OfKind (number_of_kind kind)) around inner at st
     → ((l : Value) (to : ℕ) (now : State) → Filled s inner l to now → Filled s outer (tree (list t (no_items l)) true) to now)
@@ -69,12 +69,12 @@ listed-awaits s Kind.PackList os around at st is expects =
     (λ t here now comes. goes-on t (next-part p (fill one (tree t true) here now comes) refl) (λ l to later last. closes p last refl))
 listed-awaits s _ os around at st is expects = absurd is
 
--- one that is a type
+-- an element that is a type
 type-awaits : (s : Symbol) (kind : Kind) (os : List Opened) (around : Around) (at : ℕ) (st : State) → AwaitsElementAs s Kind.Argument kind os around at st
     → AwaitsElement s kind os around at st
 type-awaits s kind os around at st e = record { inner = e.inner; awaits = any-argument s around e.inner at st e.awaits; onward = e.onward }
 
--- an element of a list of arguments or items is expected, which is a type
+-- expects an element of a list of arguments or items, which is a type
 pub element-awaits : (s : Symbol) (kind : Kind) (os : List Opened) (around : Around) (at : ℕ) (st : State)
     → IsListKind kind → Expects s kind around os at st → AwaitsElement s kind os around at st
 unfolding is_eaten is_left number_of_kind parts_of between close unfolding_.behind meaning part byte_of tree_of text_of piece_of letter_of is_there
@@ -169,7 +169,7 @@ integer-element s kind os around b negative digits at end st kind_is letter_is e
 
 -- ## Enumerators
 
--- the type of an enumerator comes as a candidate, which it becomes unless it is one
+-- the type of an enumerator is accepted as a candidate, which it becomes unless it is one
 enumeration-passes : (s : Symbol) (os : List Opened) (around : Around) (place : ℕ) (before : State) (t : Term) (listed : Bool) (at : ℕ) (st : State)
     → Comes s (opened (standing (rule_of Production.IntegerLiteral) [] place around before) [] (OfKind (number_of_kind Kind.Integer) ∷ []) ∷ os)
     (tree t listed) at st

@@ -67,7 +67,7 @@ source-comes s kind os around e at name end st taken expects is =
     let own = chain-opens (leaves s kind p 48 taken) (hole s kind (after e true around) os at st expects) refl refl in
     (closes p (none-fills Kind.MaybeArguments (next-part p (name-fills name end own is) refl) refl) refl).comes
 
--- one with internal linkage
+-- an entity with internal linkage
 internal-comes : (s : Symbol) (os : List Opened) (around : Around) (e : Term) (at : ℕ) (name : List ℕ) (end : ℕ) (st : State)
     → Expects s Kind.Entity (after e true around) os at st → StandsAt s.bytes at (76 ∷ []) → IsNameAt s.bytes (at + 1) name end
     → Comes s os (tree (within e (source true name)) false) end st
@@ -89,7 +89,7 @@ name-comes s os around e at false name end st expects marked is =
 
 -- ## Local names
 
--- a local name begins with a Z and the encoding that its entity is in
+-- a local name begins with a Z and the encoding that contains its entity
 pub local-opens : (s : Symbol) (os : List Opened) (around : Around) (at : ℕ) (st : State)
     → Expects s Kind.CompleteName around os at st → StandsAt s.bytes at (90 ∷ []) → LocalOpened s os around (at + 1) st
 unfolding is_eaten number_of_kind parts_of between close unfolding_.behind meaning part byte_of tree_of text_of piece_of letter_of is_there qualifiers_of ref_of
@@ -105,7 +105,7 @@ local-opens s os around at st expects stands =
 
 -- ## Types in functions
 
--- a source name is the name of one
+-- a source name is the name of a type in a function
 pub source-name-piece : (s : Symbol) (at : ℕ) (name : List ℕ) (end : ℕ) → IsNameAt s.bytes at name end → IsPieceAt s at (source false name) end
 unfolding is_left
 source-name-piece s at name end is os around e st expects = source-comes s Kind.TypeEntity os around e at name end st refl expects is
@@ -193,7 +193,7 @@ lambda-piece s at digit end is stands ends_ os around e st expects =
     let arguments = next-part p (filled-at end named (omega (arith, ends_, ap length (append-nil bytes)))) refl in
     (closes p (none-fills Kind.MaybeArguments arguments refl) refl).comes
 
--- such a type begins with a Z and the encoding that it is in
+-- such a type begins with a Z and the encoding that contains it
 pub local-type-opens : (s : Symbol) (kind : Kind) (os : List Opened) (around : Around) (at : ℕ) (st : State) → IsNamedKind kind
     → Expects s kind around os at st → StandsAt s.bytes at (90 ∷ []) → LocalTypeOpened s os around (at + 1) st
 unfolding is_eaten number_of_kind parts_of between close unfolding_.behind meaning part byte_of tree_of text_of piece_of letter_of is_there
@@ -214,13 +214,13 @@ local-type-opens s kind os around at st named_ expects stands =
 
 -- ## Lambdas
 
--- what becomes of the parameters of a lambda, before the E after them
+-- what the parameters of a lambda become, before the E after them
 abbrev pub LambdaEnds : (s : Symbol) → (os : List Opened) → (e : Term) → (items : Term) → (at : ℕ) → State → Type 0
 LambdaEnds s os e items at st =
     (number : Option ℕ) (end : ℕ) → IsLambdaDigit number → StandsAt s.bytes at (lambda_ending number) → end ≡ at + length (lambda_ending number)
     → Comes s os (tree (within e (lambda_with items number)) false) end st
 
--- The first parameter of a lambda is expected.
+-- Expects the first parameter of a lambda.
 pub record LambdaOpened (s : Symbol) (os : List Opened) (e : Term) (at : ℕ) (st : State) : Type 0 where
   pub around : Around
   pub outside : around.prefix ≡ outermost

@@ -38,7 +38,7 @@ piece-comes s os around at st name end expects is =
 
 -- ## What a nested name begins with
 
--- a nested name goes on after what is read of it
+-- a nested name continues after what is read of it
 goes-on : {s : Symbol} {kind : Kind} {around : Around} {inner outer : List Opened} {u : Term} {listed : Bool} {at : ℕ} {st : State}
     → Hole s (OfKind (number_of_kind kind)) (after u listed around) inner at st
     → ((v : Value) (to : ℕ) (now : State) → Filled s inner v to now → Filled s outer v to now) → NestGoesOn s kind outer around u listed at st
@@ -63,7 +63,7 @@ unfolding is_eaten number_of_kind parts_of between close unfolding_.behind meani
 behind-s s os around at st expects here =
     byte-opens (eats s Kind.Nest Production.NestWithS 83 refl) (hole s Kind.Nest around os at st expects) here refl refl
 
--- a name that an S stands for
+-- a substituted name
 nest-known : (s : Symbol) (os : List Opened) (around : Around) (at : ℕ) (st : State) (t : Term) (end : ℕ)
     → Expects s Kind.Nest around os at st → StandsAt s.bytes at (83 ∷ [])
     → ((inner : List Opened) → Hole s (OfKind (number_of_kind Kind.Abbreviation)) around inner (at + 1) st → Filled s inner (tree t true) end st)
@@ -130,7 +130,7 @@ unfolding with_prefix appended after prefix_tree prefix_listed
 prefix-appended around t true st = refl
 prefix-appended around t false st = refl
 
--- a component follows, before which the name so far is a candidate
+-- a component follows, and the name so far is a candidate before it
 pub component-awaits : (s : Symbol) (kind : Kind) (os : List Opened) (around : Around) (t : Term) (listed : Bool) (at : ℕ) (st : State)
     → IsRest kind → Expects s kind (after t listed around) os at st
     → AwaitsComponent s os around t at (unless_listed listed around t st)
@@ -161,7 +161,7 @@ first-arguments s os around t listed at st expects stands =
     let next = next-part p (fixed-fills (next-part p (fill arguments l to later comes) refl) ended) refl in
     awaited next (λ w onto newer came. goes-on (next-part p (fill next (tree w false) onto newer came) refl) (λ v to now f. closes p f refl)))
 
--- arguments of a name that an S stands for, after which it may end by the wide grammar
+-- arguments of a substituted name, after which it may end in the wide grammar
 pub instance-arguments : (s : Symbol) (os : List Opened) (around : Around) (t : Term) (listed : Bool) (at : ℕ) (st : State)
     → Expects s Kind.NestRestOrEnd (after t listed around) os at st → StandsAt s.bytes at (73 ∷ [])
     → AwaitsInstance s os around t listed at st
@@ -176,7 +176,7 @@ instance-arguments s os around t listed at st expects stands =
     awaited (fewer (lists-by s.is_wide) arguments) (λ l to later comes ended.
     goes-on (next-part p (fixed-fills (next-part p (fill arguments l to later comes) refl) ended) refl) (λ v onto now f. closes p f refl))
 
--- what is awaited within what comes is awaited of it
+-- a component that is expected inside is expected outside
 pub component-outside : (s : Symbol) (inner outer : List Opened) (around : Around) (t : Term) (at : ℕ) (st : State)
     → SamePasses s inner outer → AwaitsComponent s inner around t at st → AwaitsComponent s outer around t at st
 component-outside s inner outer around t at st passes a = awaited {os = a.inner} (hole-of a) (λ u to later comes.
@@ -216,7 +216,7 @@ nest-end s os around t listed at st expects stands =
 
 -- ## Components
 
--- what is named by a production whose arguments are expected
+-- what is named by a production that expects arguments
 pub named-by : {s : Symbol} {os : List Opened} (p : Production) {taken : List ℕ} {at0 : ℕ} {around outer : Around} {before : State} {u : Term} {at : ℕ} {st : State}
     → Hole s (OfKind (number_of_kind Kind.MaybeArguments)) (after u false outer) (opened (standing (rule_of p) taken at0 around before) (tree u false ∷ []) [] ∷ os) at st
     → ((byte : ℕ) (here : Around) (began later : State) (v : Value)
@@ -284,7 +284,7 @@ named-outside s inner outer around t at st passes n = record {
   renamed = λ u to later comes. passes (tree u false) to later (n.renamed u to later comes);
 }
 
--- one that begins with a c
+-- an operator that begins with a c
 operator-behind-c : (s : Symbol) (os : List Opened) (around : Around) (t : Term) (at : ℕ) (st : State) (second : ℕ)
     → Taken s Kind.OperatorAfterC Production.Mark (second ∷ [])
     → Expects s Kind.Component (after t true around) os at st → StandsAt s.bytes at (99 ∷ second ∷ [])
@@ -318,7 +318,7 @@ constructor-taken s digit (inl (low, high)) =
 constructor-taken s digit (inr (wide, is)) =
     eats-widely s Kind.ConstructorDigit Production.Mark digit wide (elim is [ inl four ↦ rw four refl | inr five ↦ rw five refl ])
 
--- that of a destructor
+-- the digit of a destructor
 destructor-taken : (s : Symbol) (digit : ℕ) → IsDestructorDigit s.is_wide digit → Taken s Kind.DestructorDigit Production.Mark (digit ∷ [])
 unfolding is_eaten is_eaten_widely
 destructor-taken s digit (inl (low, high)) =

@@ -1,4 +1,4 @@
--- Moves within types, arrays and function types: a byte or a name is read, and a type opens, or one comes.
+-- Moves within types, arrays and function types: a byte or a name is read, and a type opens, or is accepted.
 use Rattle.std.proofs.lemmas.Bool.{eq-eqb}
 use Rattle.std.proofs.Math.Bool.{and-false, and-true}
 use Rattle.std.proofs.Common.{◌≡◌, ℕ, ◌+◌, ◌-◌, List, [], ◌∷◌, slice_get, Bool, true, false, ◌&&◌, ◌||◌, not, nat_eq, Option, Some, None, Result, Ok, Err, refl, ap, subst, ◌∙◌, arith, length}
@@ -48,7 +48,7 @@ unfolding close unfolding_.behind meaning listed_value with_type with_unqualifie
 qualified-closes around at before t true st other = rw other refl
 qualified-closes around at before t false st other = rw other refl
 
--- what a type may be by its kind is chosen there
+-- the alternatives of a type by its kind are chosen there
 whole-taken : (kind : Kind) → IsQualifiable kind
     → (is_left kind Production.PlainType 80 ≡ true) × (is_eaten kind Production.ConstType 75 ≡ true)
 unfolding is_eaten is_left
@@ -57,14 +57,14 @@ whole-taken Kind.Item whole = (refl, refl)
 whole-taken Kind.ItemButRef whole = (refl, refl)
 whole-taken _ whole = absurd whole
 
--- such a type is one of any kind
+-- such a type is a type of any kind
 pub typed : (k : Kind) → IsQualifiable k → IsTyped k
 typed Kind.Type is = tt
 typed Kind.Item is = tt
 typed Kind.ItemButRef is = tt
 typed _ is = absurd is
 
--- A solid type is expected where a whole one is, be it a function type or not.
+-- A solid type is expected where a whole one is, function type or not.
 abbrev pub WholeOpens : (s : Symbol) (outer : List Opened) (around : Around) (at : ℕ) (st : State) → Type 0
 WholeOpens s outer around at st = Awaits s Kind.Solid around at st (λ inner.
     (t : Term) (listed : Bool) (end : ℕ) (now : State) → Comes s inner (tree t listed) end now
@@ -98,7 +98,7 @@ solid-opens s _ around os at st typed expects = absurd typed
 
 -- ## Builtin types
 
--- a builtin type comes, which is no candidate
+-- a builtin type is accepted, which is no candidate
 pub builtin-comes : (s : Symbol) (kind : Kind) (around : Around) (os : List Opened) (at : ℕ) (st : State) (b : ℕ) → IsTyped kind
     → is_builtin b ≡ true → Expects s kind around os at st → StandsAt s.bytes at (b ∷ []) → Comes s os (tree (builtin (b ∷ [])) true) (at + 1) st
 unfolding is_eaten number_of_kind parts_of between close unfolding_.behind meaning part byte_of tree_of text_of piece_of letter_of is_there is_function_type is_builtin each_passes
@@ -115,7 +115,7 @@ builtin-with-d-taken byte is = (
   tested builtin_letters_with_d (λ b. is_left Kind.ItemAfterD Production.ItemIsType b) refl byte is,
 )
 
--- one with a code of two letters comes after its D
+-- one with a code of two letters is accepted after its D
 after-d-comes : {s : Symbol} {around : Around} {os : List Opened} {at : ℕ} {st : State} (b : ℕ) → is_builtin_with_d b ≡ true
     → Hole s (OfKind (number_of_kind Kind.AfterD)) around os at st → StandsAt s.bytes at (b ∷ [])
     → Filled s os (tree (builtin (68 ∷ b ∷ [])) true) (at + 1) st
@@ -131,7 +131,7 @@ item-after-d-comes {s = s} b is h stands =
     let p = Production.ItemIsType in
     closes p (after-d-comes b is (chain-opens (leaves s Kind.ItemAfterD p b (builtin-with-d-taken b is).1) h refl refl) stands) refl
 
--- and so does one with a code of two letters
+-- and so is one with a code of two letters
 pub builtin-with-d-comes : (s : Symbol) (kind : Kind) (around : Around) (os : List Opened) (at : ℕ) (st : State) (b : ℕ) → IsTyped kind
     → is_builtin_with_d b ≡ true → Expects s kind around os at st → StandsAt s.bytes at (68 ∷ b ∷ [])
     → Comes s os (tree (builtin (68 ∷ b ∷ [])) true) (at + 2) st
@@ -215,7 +215,7 @@ named-so s around os inner t listed at st solid passes awaits bare argued = reco
   argued = λ a end now comes. passes (instance t a) false end now refl (argued a end now comes);
 }
 
--- the names of types are chosen where one is expected: after an N, an S or a Z, or with its length
+-- the names of types are chosen where one is expected: after an N, an S or a Z, or with their length
 pub named-taken : (kind : Kind) → IsNamedKind kind
     → (is_left kind Production.SourceName 48 ≡ true) × (is_eaten kind Production.TypeWithS 83 ≡ true)
     × (is_eaten kind Production.NestedType 78 ≡ true) × (is_eaten kind Production.LocalType 90 ≡ true)
@@ -268,7 +268,7 @@ std-opens s kind around os at st name end is_named solid stands is =
     let tagless = none-fills Kind.MaybeTags (next-part p named refl) refl in
     w.onward (in_std (source false name)) false end st (closes Production.TypeInStd (closes p tagless refl) refl).comes
 
--- one of the letters after an S that stand for a name of std
+-- one of the letters after an S that denote a name of std
 pub abbreviation-fills : {s : Symbol} {around : Around} {os : List Opened} {at : ℕ} {st : State} (letter : ℕ) → is_abbreviated letter ≡ true
     → Hole s (OfKind (number_of_kind Kind.Abbreviation)) around os at st → StandsAt s.bytes at (letter ∷ [])
     → Filled s os (tree (abbreviation letter) true) (at + 1) st
@@ -384,7 +384,7 @@ plain-array-opens s kind os around at st digits end whole expects stands is =
     awaited type (λ u here now comes. w.onward (array (values.normal digits) u) false here now
     (closes Production.ArrayType (closes Production.AnyArray (closes p (fill type (tree u true) here now comes) refl) refl) refl).comes)
 
--- the same where the array is pointed or referred to
+-- likewise where the array is behind a pointer or a reference
 pub array-opens : (s : Symbol) (access : Access) (kind : Kind) (os : List Opened) (around : Around) (at : ℕ) (st : State) (digits : List ℕ) (end : ℕ)
     → IsQualifiable kind → (access ≡ accesses.Lvalue → IsReferable kind) → Expects s kind around os at st → StandsAt s.bytes at (access_letters access)
     → IsSizeAt s.bytes (at + length (access_letters access)) digits end → ArrayOpened s os around access digits end st
@@ -428,7 +428,7 @@ function-opens s kind os around at st whole outside expects stands =
       passes = λ l there then_ last. w.onward (plain_function r l) false there then_ (closes p (fill rest (signature l any_value) there then_ last) refl).comes;
     })
 
--- and after PF that of one that is pointed to
+-- and after PF that of the function type pointed to
 pub pointed-function-opens : (s : Symbol) (kind : Kind) (os : List Opened) (around : Around) (at : ℕ) (st : State) → IsQualifiable kind
     → around.prefix ≡ outermost → Expects s kind around os at st → StandsAt s.bytes at (80 ∷ 70 ∷ []) → FunctionOpened s os around true (at + 2) st
 pointed-function-opens s kind os around at st whole outside expects stands =
@@ -448,7 +448,7 @@ pointed-function-opens s kind os around at st whole outside expects stands =
       };
     }
 
--- parameters go on after one of them
+-- parameters continue after one of them
 parameters-go-on : {s : Symbol} {outer : List Opened} {made_in : Around} {is_pointer : Bool} {made : Term → Term} {at : ℕ} {st : State} {t : Term}
     (g : SignatureGoesOn s outer made_in is_pointer made at st) {inner : List Opened} {here : ℕ} {now : State}
     → Hole s (OfKind (number_of_kind Kind.FunctionRest)) g.around inner here now
@@ -487,7 +487,7 @@ signature-ends s outer made_in is_pointer made at st g stands =
 
 -- ## References as parameters
 
--- After the letter of a reference it is expected what it is to, and parameters go on after it.
+-- After the letter of a reference expects the referenced type; parameters continue after it.
 referred : {s : Symbol} {outer : List Opened} {made_in : Around} {is_pointer : Bool} {made : Term → Term} {at : ℕ} {st : State}
     (g : SignatureGoesOn s outer made_in is_pointer made at st) (is_lvalue : Bool) (item : Production) {os : List Opened}
     → Hole s (OfKind (number_of_kind Kind.Type)) g.around
@@ -517,7 +517,7 @@ referred {s = s} {at = at} {st = st} g is_lvalue item {os = os} type goes same e
           (λ l there then_ last. ended (list u l) there then_ (closes p last refl));
     }
 
--- a parameter that is a reference is expected after its letter
+-- expects a parameter that is a reference, after its letter
 pub reference-opens : (s : Symbol) (outer : List Opened) (made_in : Around) (is_pointer is_lvalue : Bool) (made : Term → Term) (at : ℕ) (st : State)
     → SignatureGoesOn s outer made_in is_pointer made at st → StandsAt s.bytes at (reference_letter is_lvalue ∷ [])
     → ReferenceOpened s outer made_in is_pointer is_lvalue made at st

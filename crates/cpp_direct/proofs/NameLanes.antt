@@ -1,4 +1,4 @@
--- Bytes that are looked at together: from the mask of sixteen of them that none is barred.
+-- Bytes that are examined together: none of sixteen is barred, by their mask.
 use Rattle.std.proofs.Common.{◌≡◌, ℕ, ◌+◌, ◌-◌, ◌%◌, ◌^◌, ◌<◌, ◌≤◌, Bool, true, false, not, ◌||◌, List, map, length, get_or, Fits, w8, refl, sym, ap, ◌∙◌, subst, arith, nat_lt}
 use Rattle.std.proofs.lemmas.Bool.{agree_below, agree_below_at, not-true, ltb-true, ltb-false}
 use Rattle.std.proofs.lemmas.Simd.{map-map, mask_l-mod, length-chunk, get_or-chunk, leading_from_mask_l}
@@ -27,7 +27,7 @@ module _ (q : ℕ → Bool) (d : List ℕ) (i : ℕ) (z : List ℕ) (f : ℕ →
       subst (λ x. stops x ≡ false) (get_or-chunk i 16 d n 0 to)
       (not-true _ (prefix_len_passes (λ x. not (stops x)) (chunk i 16 d) n 0 (omega (arith, leading_from_mask_l stops (chunk i 16 d) unset, long, to))))
 
-  -- where no lane is set, each byte passes that is passed where its lane isn't set
+  -- where no lane is set, each byte passes: a byte passes where its lane isn't set
   pub none_of : agree_below (λ x. stops x || q x) (λ _. true) 256 ≡ true → (k : ℕ) → i ≤ k → k < i + 16 → q (get_or d k 0) ≡ true
   none_of all k low high =
       let n = k - i in

@@ -228,7 +228,7 @@ own-each s from size own within few own_is each k less =
     (sym (ap (λ l. get_or l k 0) own_is ∙ get_or-take size (drop from s) k 0 (omega (arith, less, counted)) ∙ get_or-drop from s k 0))
     (each (from + k) (omega (arith, less, counted, within, few)))
 
--- a name's own bytes come after its length
+-- a name's own bytes follow its length
 pub own-placed : (s : List ℕ) (at from size : ℕ) (own : List ℕ) → IsLengthRead s at from size → from ≤ length s → size ≤ length s - from
     → own ≡ take size (drop from s) → is_decimal_digit (get_or own 0 0) ≡ false → ReachesNameBytes Cpp own (length own)
     → IsNamePlace s at (record { from = from; to = from + size })

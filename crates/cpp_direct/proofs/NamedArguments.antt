@@ -32,7 +32,7 @@ is_single a number = nat_lt number a.count && (not a.has_pack || nat_lt number a
 abbrev own_at : (text : List ℕ) → Argument → Named
 own_at text p = record { bytes = take (p.to - p.from) (drop p.from text); reference = p.is_reference }
 
--- the same, if that is known and no element of the pack
+-- likewise, if that is known and no element of the pack
 abbrev names_at : (text : List ℕ) → Arguments → Names
 names_at text a number = single_text (is_single a number) (own_at text (place_of a number))
 
@@ -87,7 +87,7 @@ arguments-given {detail} text a own has number n is =
 
 -- ## Where they may be named from
 
--- what was made where none may be named names none
+-- what was made where no argument may be named names none
 candidate-given : (s : Symbol) (scope : Scope) (text : List ℕ) (k : Candidate) (c : values.Candidate) → IsCandidate s no_scope text k c → IsCandidate s scope text k c
 candidate-given s scope text k c p = record {
   bytes = p.bytes;
@@ -101,7 +101,7 @@ candidate-given s scope text k c p = record {
     go true e prints = absurd ((p.made_in e).1 refl)
     go false e prints = prints
 
--- those of a name that was written may be named
+-- the arguments of a name that was written may be named
 abbrev pub scope_at : (text : List ℕ) → Arguments → Scope
 scope_at text a = record { arguments = a; names = names_at text a }
 
@@ -110,7 +110,7 @@ named-there text a own names number single =
     let h = names.0 number single in
     (h.bytes, text-there text a number h.bytes single h.placed, h.placed)
 
--- where none may be named before
+-- where none could be named before
 pub scope-kept : (s : Symbol) (old new : Direct) (kept : Kept s old) (a : Arguments) (own : Term) → HasArguments (detail_of s) old.text.list.items a own
     → old.has_scope ≡ false → new.has_scope ≡ true → new.text ≡ old.text → new.candidates ≡ old.candidates
     → Keeps s (scope_at old.text.list.items a) new kept.state.candidates

@@ -1,4 +1,4 @@
--- A component of a nested name is written: where the writer is then.
+-- A component of a nested name is written: the state of the writer then.
 use Rattle.std.proofs.Common.{◌≡◌, ◌≢◌, ℕ, ◌+◌, ◌-◌, inl, inr, length, List, [], ◌∷◌, ◌++◌, take, drop, reverse, Bool, true, false, refl, ap, sym, ◌∙◌, subst, arith, codes, append_assoc, append-nil}
 use Rattle.std.proofs.lemmas.Bool.{false≢true}
 use Rattle.cpp_grammar.specs.Term.{Term, within, instance, source, operator, constructor, destructor}
@@ -36,7 +36,7 @@ pub record Goes (old new : Direct) (bytes : List ℕ) : Type 0 where
   pub purpose : new.nest.purpose ≡ old.nest.purpose
   pub dependent : new.nest.is_dependent ≡ old.nest.is_dependent
 
--- the place is another one, and nothing else
+-- only the place changes
 pub record Moves (old new : Direct) (by : ℕ) : Type 0 where
   pub text : new.text.list.items ≡ old.text.list.items
   pub candidates : new.candidates ≡ old.candidates
@@ -69,7 +69,7 @@ serves-go s scope old new bytes outer front g p =
 
 -- ## The name of a class once more
 
--- a constructor or a destructor comes after a name, and was written but for the name of its class
+-- a constructor or a destructor follows a name, and was written except for the name of its class
 class-awaits : (s : Symbol) (old new : Direct) (kept : Kept s old) (t own : Term) (mark : List ℕ) (n : IsNestSoFar s kept.scope old t) → old.nest.is_dependent ≡ false
     → Goes old new mark → new.nest ≡ old.nest → NestNamed s n.outer n.around own new.at kept.state
     → Prints (detail_of s) own (n.bytes ++ mark ++ n.is_nest.class) false → has_return_type own ≡ false → is_structor own ≡ true → AwaitsClass s new
@@ -116,7 +116,7 @@ destructor-digit-some is_wide digit (inl (low, high)) e = omega (arith, low, e)
 destructor-digit-some is_wide digit (inr (wide, inl four)) e = omega (arith, four, e)
 destructor-digit-some is_wide digit (inr (wide, inr five)) e = omega (arith, five, e)
 
--- a constructor was read, and was written but for its class
+-- a constructor was read, and was written except for its class
 pub constructor-awaits : (s : Symbol) (old between new : Direct) (digit : ℕ) → Writes between new (codes "::") → Moves old between 2
     → IsWriting s old steps.Component → StandsAt s.bytes old.at (67 ∷ []) → StandsAt s.bytes (old.at + 1) (digit ∷ []) → IsConstructorDigit s.is_wide digit
     → old.nest.has_class ≡ true → old.nest.is_dependent ≡ false → AwaitsClass s new
@@ -131,7 +131,7 @@ constructor-awaits s old between new digit w m p letter next is has closed =
     (component-constructor s awaits.inner n.around t old.at p.state digit awaits.awaits (stands-join s.bytes old.at (67 ∷ []) (digit ∷ []) letter next) is))
     (constructor-prints t n.bytes n.is_nest.class (closed-prints p.scope.names closed n.is_nest.prints) (n.is_nest.names_class has closed) digit) refl refl
 
--- the same of a destructor
+-- likewise for a destructor
 pub destructor-awaits : (s : Symbol) (old between new : Direct) (digit : ℕ) → Writes between new (codes "::~") → Moves old between 2
     → IsWriting s old steps.Component → StandsAt s.bytes old.at (68 ∷ []) → StandsAt s.bytes (old.at + 1) (digit ∷ []) → IsDestructorDigit s.is_wide digit
     → old.nest.has_class ≡ true → old.nest.is_dependent ≡ false → AwaitsClass s new
@@ -185,7 +185,7 @@ named-again s old new p g at nest =
       no_structor = λ e. absurd (false≢true (sym classless ∙ e));
     }
 
--- the same by what is at the place of the class
+-- likewise by what is at the place of the class
 pub class-named : (s : Symbol) (old between : Direct) (p : AwaitsClass s old)
     → Writes old between (take (old.nest.class_to - old.nest.class_from) (drop old.nest.class_from old.text.list.items))
     → IsNestNamed s (record between { nest = record between.nest { is_listed = false; has_class = false; is_instance = false } })
@@ -206,7 +206,7 @@ class-named s old between p w =
 
 -- ## A piece of a name
 
--- what a nested name becomes by a piece that is a class from a place to a place
+-- what a nested name becomes by a piece that is a class between two places
 abbrev pub renamed : Direct → (from to : ℕ) → Direct
 renamed w from to = record w { nest = record w.nest { class_from = from; class_to = to; is_listed = false; has_class = true; is_instance = false } }
 
@@ -261,7 +261,7 @@ pub moves-to : (old new : Direct) (at by : ℕ) → new ≡ record old { at = at
 moves-to old new at by same e =
     subst (λ (d : Direct). Moves old d by) (sym same) (record { text = refl; candidates = refl; waiting = refl; scope = refl; nest = refl; at = e })
 
--- The same of a writer that goes on so.
+-- Likewise for a writer that continues.
 piece-follows : (s : Symbol) (old start marked read : Direct) (by from to : ℕ) (piece : Term) (x : List ℕ) (p : IsWriting s old steps.Component)
     → IsPiece (detail_of s) piece x → opening_text piece ≡ codes "<" → Moves old start by → Writes start marked (codes "::") → Reads marked read x
     → NestNamed s p.is_before.1.outer p.is_before.1.around (within p.is_before.0 piece) read.at p.state

@@ -45,7 +45,7 @@ use Rattle.cpp_direct.proofs.TypesRead.{abbreviation-listed}
 
 -- ## What types may name
 
--- where a nested name goes on they may name the same
+-- where a nested name continues, they may name the same
 pub nest-scoped : (s : Symbol) {scope : Scope} (old new : Direct) (around : Around) → new.waiting.list.items ≡ old.waiting.list.items
     → new.nest.purpose ≡ old.nest.purpose → new.nest.is_dependent ≡ old.nest.is_dependent → IsNestScoped s scope old around → IsNestScoped s scope new around
 nest-scoped s {scope} old new around waiting_is purpose_same dependent_same n = record {
@@ -78,7 +78,7 @@ nest-further s {scope} old new n u bytes written waiting_is purpose_same depende
       (subst (λ (p : Purpose). Serves s p (below s scope (reverse old.waiting.list.items)) n.outer n.front) (sym purpose_same) n.serves);
 }
 
--- one that names any is in their encoding
+-- a candidate that names any is in their encoding
 nest-here : (s : Symbol) {scope : Scope} (w : Direct) (around : Around) → IsNestScoped s scope w around → (IsOwn w.nest.purpose → w.nest.is_dependent ≡ false)
     → w.nest.is_dependent ≡ true → IsMadeIn scope around.encoding
 nest-here s {scope} w around n closed e =
@@ -95,7 +95,7 @@ no-function detail names false t bytes prints = prints.no_function
 
 -- ## A name with or without arguments
 
--- no arguments come after a name
+-- no arguments follow a name
 pub named-goes-on : (s : Symbol) (w : Direct) → IsNestNamed s w → IsWriting s w steps.Tail
 unfolding may_be_empty
 named-goes-on s w n = record {
@@ -113,7 +113,7 @@ named-goes-on s w n = record {
   );
 }
 
--- a tag comes after it
+-- a tag follows it
 pub named-tagged : (s : Symbol) (old new : Direct) (tag : List ℕ) → s.is_wide ≡ true → IsNestNamed s old → IsTagAt s.bytes old.at tag new.at
     → Reads old new (tag_text tag) → IsNestNamed s new
 unfolding with_tag has_return_type arguments_of is_structor
@@ -161,7 +161,7 @@ named-tagged s old new tag wide n is reads =
       no_structor = λ e. n.no_structor (classed e);
     }
 
--- arguments come after it
+-- arguments follow it
 pub named-opens : (s : Symbol) (old mid new : Direct) → IsNestNamed s old → StandsAt s.bytes old.at (73 ∷ [])
     → Lists old mid (added old old.nest.from false old.nest.is_dependent) → OpensArguments (detail_of s) mid new (opens.NestArguments mid.nest)
     → IsWriting s new (steps.List true)
@@ -189,25 +189,25 @@ named-opens s old mid new n here lists opening_ =
       )),
     )
 
--- ## A name that an S stands for
+-- ## A substituted name
 
 -- what follows it is read
 pub known-goes-on : (s : Symbol) (w : Direct) → IsNestKnown s w → IsWriting s w steps.Rest
 known-goes-on s w n = record { kept = n.kept; is_before = (n.own, Kind.NestRestOrEnd, tt, n.nesting) }
 
--- what comes inside comes outside
+-- what is accepted inside is accepted outside
 nest-outside : (s : Symbol) (kind : Kind) (inner outer : List Opened) (around : Around) (t : Term) (listed : Bool) (at : ℕ) (st : State)
     → SamePasses s inner outer → NestGoesOn s kind inner around t listed at st → NestGoesOn s kind outer around t listed at st
 nest-outside s kind inner outer around t listed at st passes g =
     record { inner = g.inner; awaits = g.awaits; passes = λ v to later came. passes v to later (g.passes v to later came) }
 
--- by the wide grammar it may end after its arguments
+-- in the wide grammar it may end after its arguments
 may-end : (s : Symbol) (outer : List Opened) (around : Around) (t : Term) (listed : Bool) (at : ℕ) (st : State) → s.is_wide ≡ true
     → NestGoesOn s Kind.NestMoreOrEnd outer around t listed at st → NestGoesOn s Kind.NestTail outer around t listed at st
 may-end s outer around t listed at st wide g =
     record { inner = g.inner; awaits = any-tail s (after t listed around) g.inner at st wide g.awaits; passes = g.passes }
 
--- by the wide grammar arguments come after it, where it is a type
+-- in the wide grammar arguments follow it, where it is a type
 pub known-opens : (s : Symbol) (old new : Direct) → IsNestKnown s old → s.is_wide ≡ true → old.nest.purpose ≡ purposes.Type → StandsAt s.bytes old.at (73 ∷ [])
     → OpensArguments (detail_of s) old new (opens.NestArguments old.nest) → IsWriting s new (steps.List true)
 unfolding inside
@@ -296,7 +296,7 @@ first-opens s kind old mid new kept t first n here lists opening_ =
 
 -- ## The end of a nested name
 
--- a name that ends comes outside
+-- a finished name is accepted outside
 pub nest-comes : (s : Symbol) {scope : Scope} (old : Direct) (st : State) (t : Term) (n : IsNesting s scope Kind.NestTail old t st)
     → StandsAt s.bytes old.at (69 ∷ []) → Comes s n.outer (tree t old.nest.is_listed) (old.at + 1) st
 nest-comes s old st t n here = n.goes.passes (tree t old.nest.is_listed) (old.at + 1) st
@@ -348,7 +348,7 @@ name-comes s old kept t mark is_function argument_ n no_return returns names her
       awaits = serves t old.nest.is_listed (old.at + 1) kept.state (nest-comes s old kept.state t n here);
     }
 
--- the E of one that an operator ends
+-- the E of a nested name that an operator ends
 pub operator-ends : (s : Symbol) (w : Direct) (mark : Mark) → IsOperatorRead s w → StandsAt s.bytes w.at (69 ∷ [])
     → w.nest.purpose ≡ purposes.Name mark → IsNameEnded s (record w { at = w.at + 1 }) mark false nowhere w.nest.from
 unfolding may_be_empty
@@ -384,7 +384,7 @@ class-nest {detail} names text front before class nest t written from_is class_f
   names_class = λ e none. names_class;
 }
 
--- one that a reference stands for
+-- a name that a reference denotes
 pub classless-nest : {detail : Detail} (names : Names) (front bytes : List ℕ) (nest : Nest) (t : Term) → nest.from ≡ length front → nest.class_from ≡ length front
     → nest.class_to ≡ length front → nest.has_class ≡ false → (IsOwn nest.purpose → nest.is_dependent ≡ false) → PrintsAs detail names nest.is_dependent t bytes false
     → IsNest detail names front bytes (front ++ bytes) nest t
@@ -450,7 +450,7 @@ nest-begins s old new purpose a t bytes text_is candidates_are waiting_is scope_
   );
 }
 
--- and after one that an S stands for
+-- and after a substituted name
 known-begins : (s : Symbol) (old new : Direct) (purpose : Purpose) (a : AwaitsNest s old purpose) (t : Term) (bytes : List ℕ)
     → new.text.list.items ≡ old.text.list.items ++ bytes → new.candidates ≡ old.candidates → new.waiting ≡ old.waiting → new.has_scope ≡ old.has_scope
     → new.nest.purpose ≡ purpose → (new.nest.is_dependent ≡ true → IsNaming a.scope (reverse old.waiting.list.items))
@@ -465,7 +465,7 @@ known-begins s old new purpose a t bytes text_is candidates_are waiting_is scope
   no_structor = no_structor;
 }
 
--- a nest whose class is written at these places
+-- a nest whose class is written between these places
 abbrev pub nest_of : (from class_from class_to : ℕ) → Purpose → (is_listed has_class : Bool) → Nest
 nest_of from class_from class_to purpose is_listed has_class = record {
   from = from;
@@ -536,7 +536,7 @@ own-closed (purposes.Name mark) true typed own = absurd (false≢true (typed ref
 own-closed (purposes.Enclosing mark) true typed own = absurd (false≢true (typed refl))
 own-closed (purposes.Address mark) true typed own = absurd (false≢true (typed refl))
 
--- what a reference stands for may be named here
+-- what a reference denotes may be named here
 named-again : (s : Symbol) {scope : Scope} (around : Around) (open_ : List Open) (c : values.Candidate) (st : State) (bytes : List ℕ) (d : Bool)
     → PrintsAs (detail_of s) scope.names d c.tree bytes false → HasSingles scope → (d ≡ true → IsScoped scope around open_)
     → (d ≡ true → IsNaming scope open_) → (d ≡ true → IsMadeIn scope c.encoding) → (place : ℕ)

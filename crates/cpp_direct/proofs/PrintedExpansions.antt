@@ -26,7 +26,7 @@ record IsPacked (c : Context) (k : ℕ) (ts : List Term) : Type 0 where
 abbrev each : Pattern → (number : ℕ) → Term
 each pattern k = made_by pattern (parameter k)
 
--- ## One of them
+-- ## A single element
 
 -- the elements of a pack
 element-of : (ts : List Term) (k : ℕ) (t : Term) → slice_get ts k ≡ Some t → element (list_of ts) k ≡ t
@@ -98,7 +98,7 @@ rest-goes : (c : Context) (k : ℕ) (ts : List Term) (pattern : Pattern) (n : �
 unfolding expand_rest is_below
 rest-goes c k ts pattern n p lt = rw (packs-are c k ts pattern p, lt-ltb n (count (list_of ts)) (omega (arith, lt, count-of ts)), expand_rest) refl
 
--- the parts of one after the first
+-- the parts of an element after the first
 abbrev next_parts : (detail : Detail) → Context → (t : Term) → (m : ℕ) → List ℕ → Type 0
 next_parts detail c t m l = (text_of (shown_by detail (expand_rest c t m)) ≡ l) × (cost_of (shown_by detail (expand_rest c t m)) ≤ 1 + 4 * length l)
 
@@ -182,7 +182,8 @@ expanded {detail} c k pattern t rest b texts packed one others =
       void = λ h. cc h;
     }
 
--- The types of a name of whose arguments one is a pack of these: an expansion of it prints what its pattern makes of each of them.
+-- The types of a name whose arguments include a pack of these: an expansion of it prints what its pattern makes of each
+-- element.
 pub expansion-element : {detail : Detail} (name all : Term) (k : ℕ) (ts : List Term) (pattern : Pattern) (bytes : List ℕ) → ts ≢ []
     → arguments_of name ≡ Some all → element all k ≡ pack (list_of ts)
     → PrintAllBy (PrintsMade detail pattern) ts bytes → IsElementIn detail (types_of name) 6 (expansion (made_by pattern (parameter k))) bytes

@@ -1,4 +1,4 @@
--- Lists of trees of which the texts are known.
+-- Lists of trees with known texts.
 use Rattle.sym_print.specs.declared.detail.Detail.{Detail}
 use Rattle.std.proofs.Common.{◌≡◌, ◌≢◌, inl, inr, refl, ap, sym, subst, ◌∙◌, ℕ, ◌+◌, ◌*◌, ◌≤◌, List, [], ◌∷◌, ◌++◌, length, Bool, true, false, None, arith, codes, length-append, append-nil, append_assoc}
 use Rattle.sym_print.specs.Unshared.{text_of, cost_of}
@@ -36,7 +36,7 @@ first-is c e rest filled = rw (filled, first_parts) refl
 element-text : (l r x b y : List ℕ) → l ++ r ≡ b → x ≡ y → l ++ (r ++ x) ≡ b ++ y
 element-text l r x b y e f = sym (append_assoc l r x) ∙ ap (λ k. k ++ x) e ∙ ap (λ k. b ++ k) f
 
--- After the elements of a list this comes, and prints nothing there. It may cost so much.
+-- After the elements of a list this follows, and prints nothing there. It may cost this much.
 record EndsList (detail : Detail) (c : Context) (most : ℕ) (tail : Term) : Type 0 where
   first_text : text_of (shown_by detail (list_part first c tail)) ≡ []
   first_cost : cost_of (shown_by detail (list_part first c tail)) ≤ 1 + most
@@ -138,7 +138,7 @@ pub list-more : (ts : List Term) (t r : Term) → list_with (ts ++ t ∷ []) r �
 list-more [] t r = refl
 list-more (u ∷ ts) t r = ap (λ l. list u l) (list-more ts t r)
 
--- Elements that print in one sense do so in another that follows from it.
+-- Elements that print in one sense do so in another that the first implies.
 each-by : (by so : Term → List ℕ → Type 0) → ((t : Term) (b : List ℕ) → by t b → so t b) → (ts : List Term) (texts : List (List ℕ)) → PrintEachBy by ts texts
     → PrintEachBy so ts texts
 each-by by so follows [] [] each = tt
@@ -149,16 +149,16 @@ each-by by so follows (t ∷ ts) [] each = elim each [ ]
 all-by : (by so : Term → List ℕ → Type 0) → ((t : Term) (b : List ℕ) → by t b → so t b) → (ts : List Term) (l : List ℕ) → PrintAllBy by ts l → PrintAllBy so ts l
 all-by by so follows ts l all = (all.0, each-by by so follows ts all.0 all.1, all.2)
 
--- What may cost so much may cost more.
+-- A greater cost is allowed wherever a smaller one is.
 pub all-more : (detail : Detail) (c : Context) (few most : ℕ) → few ≤ most → (ts : List Term) (l : List ℕ) → PrintAllIn detail c few ts l → PrintAllIn detail c most ts l
 all-more detail c few most le ts l all = all-by (IsElementIn detail c few) (IsElementIn detail c most)
     (λ t b p. record { both_texts = p.both_texts; cost = omega (arith, p.cost, le); filled = p.filled; void = p.void }) ts l all
 
--- What print anywhere print in a context.
+-- What prints anywhere prints in a context.
 pub all-in : (detail : Detail) (c : Context) (extra : ℕ) (ts : List Term) (l : List ℕ) → PrintAll detail extra ts l → PrintAllIn detail c extra ts l
 all-in detail c extra ts l all = all-by (IsElement detail extra) (IsElementIn detail c extra) (λ t b p. element-in c extra t b p) ts l all
 
--- What a list prints in a context whose last elements may be nothing,
+-- What a list prints in a context whose last elements may be empty,
 pub list-text-before : (detail : Detail) (c : Context) (extra : ℕ) (ts : List Term) (tail : Term) (l : List ℕ) → IsTail tail → PrintAllIn detail c extra ts l
     → text_of (shown_by detail (list_part first c (list_with ts tail))) ≡ l
 list-text-before detail c extra ts tail l is all = (first-shown c extra ts tail all.0 1 (ends-list c tail is) all.1).0 ∙ all.2
@@ -253,7 +253,7 @@ type-element extra t b r p = record {
   void = p.void;
 }
 
--- What prints in a context prints so as an element there.
+-- What prints in a context prints as an element there.
 pub type-in : {detail : Detail} (c : Context) (extra : ℕ) (t : Term) (b : List ℕ) (r : Bool) → PrintsIn detail c extra t b r
     → IsElementIn detail c extra t b
 type-in c extra t b r p = record {
@@ -335,7 +335,7 @@ next-prints-by by [] l t b all p = go all.0 all.1 all.2
     go (c ∷ texts) each is = absurd each
 next-prints-by by (u ∷ ts) l t b all p = another-prints by u ts l t b all p
 
--- One more prints after those before it,
+-- One more element prints after those before it,
 pub next-prints : {detail : Detail} (extra : ℕ) (ts : List Term) (l : List ℕ) (t : Term) (b : List ℕ) → PrintAll detail extra ts l → IsElement detail extra t b
     → PrintAll detail extra (ts ++ t ∷ []) (in_front_of_next ts l ++ b)
 next-prints {detail} extra ts l t b all p = next-prints-by (IsElement detail extra) ts l t b all p
@@ -370,7 +370,7 @@ pub all-given : (detail : Detail) (names : Names) (is_dependent : Bool) (extra :
 all-given detail names is_dependent extra ts l all =
     all-by (IsElementAs detail names is_dependent extra) (IsElementGiven detail names extra) (λ t b p. element-given detail names is_dependent extra t b p) ts l all
 
--- In a context where parameters name such arguments they print so.
+-- In a context where parameters name such arguments the list prints.
 pub all-as-in : (detail : Detail) (names : Names) (is_dependent : Bool) (c : Context) (extra : ℕ) (ts : List Term) (l : List ℕ) → IsGiven detail names c
     → PrintAllAs detail names is_dependent extra ts l → PrintAllIn detail c extra ts l
 all-as-in detail names is_dependent c extra ts l given all =

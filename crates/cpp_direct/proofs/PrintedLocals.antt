@@ -152,14 +152,14 @@ unfolding function_full
 bare-is-full true name q ref items = refl
 bare-is-full false name q ref items = refl
 
--- So do functions that have no return type.
+-- And so do functions that have no return type.
 pub function-encloses : (d : Detail) (name : Term) (q : Qualifiers) (ref : RefQualifier) (items : Term) (b : List ℕ)
     → Shows d (function name q ref absent items) b → Encloses d (function name q ref absent items) b
 unfolding bare_parts full_parts prefix_item is_open pack_length
 function-encloses d name q ref items b p =
     encloses-as d (function name q ref absent items) b (bare-is-full (has_parameters d) name q ref items) (λ c. refl) refl (λ k. refl) p
 
--- Of one that has a return type this isn't shown there.
+-- The return type of a function that has one isn't shown there.
 pub returned-enclosing : (d : Detail) (name : Term) (q : Qualifiers) (ref : RefQualifier) (returned items : Term) (b : List ℕ)
     → Encloses d (function name q ref absent items) b → Encloses d (function name q ref returned items) b
 unfolding bare_parts prefix_item is_open pack_length parts_in
@@ -183,7 +183,7 @@ object-enclosing d v b p =
     subst (λ t. Encloses d t b) (sym e)
     (encloses-as d (object (tree_of v) (qualifiers_of v) (ref_of v)) b refl (λ c. refl) refl (λ k. refl) (subst (λ t. Shows d t b) e p))
 
--- ## Functions by their names alone
+-- ## Functions by their names only
 
 named_parts : (detail : Detail) → has_parameters detail ≡ false → (name : Term) (q : Qualifiers) (ref : RefQualifier) (returned items : Term)
     → parts_in detail closed full (function name q ref returned items) ≡ as_item left closed name ∷ []
@@ -216,7 +216,7 @@ returned-shows {detail} alone name q ref returned items b p =
       shown_cost = omega (arith, p.shown_cost, cost_shown detail full closed e ps is refl, cost_shown detail full closed plain ps plain_is refl);
     }
 
--- Before what is in it a function shows its name, too.
+-- A function shows its name also before what is in it.
 pub name-encloses : {detail : Detail} → has_parameters detail ≡ false → (name : Term) (b : List ℕ) → PrintsName detail name b → (q : Qualifiers) (ref : RefQualifier)
     (returned items : Term) → Encloses detail (function name q ref returned items) b
 name-encloses {detail} alone name b p q ref returned items =

@@ -19,7 +19,7 @@ use Rattle.cpp_direct.proofs.PrintedParts.{text_shown, cost_shown, alone_shown, 
 use Rattle.cpp_direct.proofs.PrintedTypes.{made-prints}
 use Rattle.cpp_grammar.specs.Values.{normal}
 
--- what a tree is beside its text at the left
+-- what a tree is besides its text at the left
 pub record Besides : Type 0 where
   pub behind : List (PartOf Item)
   pub reference : Bool
@@ -59,7 +59,7 @@ nothing_besides c t = record {
   integer = false;
 }
 
--- a tree that is a name or a value, and nothing besides, prints its text in a context,
+-- a tree that is just a name or a value prints its text in a context,
 pub own-in : {detail : Detail} (c : Context) (extra : ℕ) (t : Term) (bytes : List ℕ) → text_of (written_of detail left c t) ≡ bytes
     → 1 + cost_of (written_of detail left c t) + cost_of (written_of detail right c t) ≤ extra + 4 * length bytes → 1 ≤ length bytes
     → besides c t ≡ nothing_besides c t → PrintsIn detail c extra t bytes false
@@ -84,7 +84,7 @@ own-prints t bytes n is_closed packless opening is =
     made-prints t bytes false (λ c. own-in c 0 t bytes (n.left_text c) (omega (arith, n.cost c)) (omega (arith, n.cost c)) (is c)) is_closed packless (ap (λ b. b.pack) (is closed))
     (λ c. ap (λ b. b.prefix) (is c)) opening (λ e. absurd (false≢true (sym (ap (λ b. b.integer) (is closed)) ∙ e))) (λ e. cc e)
 
--- a tree of which one text is written at the left, and nothing at the right, names something by it
+-- a tree that writes one text at the left, and nothing at the right, names something by it
 one-text-names : {detail : Detail} (t : Term) (b : List ℕ) → ((c : Context) → parts_in detail c left t ≡ text b ∷ [])
     → ((c : Context) → written_in detail c left t ≡ unmarked_parts (has_arguments detail) (parts_in detail c left t))
     → ((c : Context) → parts_in detail c right t ≡ []) → IsUnmarked b → 1 ≤ length b → PrintsName detail t b
@@ -109,7 +109,7 @@ source-filled name filled = go _
     go true = omega arith
     go false = length-filled name filled
 
--- what prints so names something so
+-- what prints this way names something by it
 pub as-name : {detail : Detail} (t : Term) (b : List ℕ) (reference : Bool) → Prints detail t b reference → PrintsName detail t b
 as-name t b reference p = record { left_text = p.left_text; cost = p.cost }
 
@@ -137,7 +137,7 @@ at-letter P letter c before others there e = go before refl e
     go true is h = others is
     go false is h = subst P (sym (eqb-true letter c h)) there
 
--- the name of a type whose integers are without it
+-- the name of a type whose integers don't show it
 builtin-ends : (letter : ℕ) → is_plain_integer (builtin (letter ∷ [])) ≡ true → EndsAsInteger (look_up (letter ∷ []) builtin_texts)
 unfolding is_plain_integer look_up builtin_texts same_bytes
 builtin-ends letter e =
@@ -214,7 +214,7 @@ std-names {detail} p x texts costs some = record {
   cost = λ c. omega (arith, some, std-cost detail c p x (costs c), cost_shown detail right c (in_std p) [] refl refl, length-append (codes "std::") x);
 }
 
--- A source name in std prints so.
+-- A source name in std prints that way.
 pub std-prints : {detail : Detail} (internal : Bool) (name : List ℕ) → name ≢ [] → IsUnmarked name
     → Prints detail (in_std (source internal name)) (codes "std::" ++ source_text name) false
 unfolding parts_in left_parts right_parts piece_parts not_empty is_open pack_length last_piece opening_text besides
@@ -230,13 +230,13 @@ operator-names {detail} a b =
     let filled : 1 ≤ length (operator_text a b) = omega (arith, length-append (codes "operator") (look_up (a ∷ b ∷ []) operator_texts)) in
     one-text-names (alone (operator a b)) (operator_text a b) (λ c. refl) (λ c. refl) (λ c. refl) (operator-unmarked a b) filled
 
--- It prints so, unless a blank is between it and arguments.
+-- It prints that way, unless a blank is between it and arguments.
 pub operator-prints : {detail : Detail} (a b : ℕ) → is_angle a b ≡ false → Prints detail (alone (operator a b)) (operator_text a b) false
 unfolding parts_in left_parts right_parts piece_parts not_empty is_open pack_length last_piece opening_text besides
 operator-prints {detail} a b plain =
     own-prints (alone (operator a b)) (operator_text a b) (operator-names a b) refl (λ scope. refl) (rw plain refl) (λ c. refl)
 
--- The same in std.
+-- Likewise in std.
 pub std-operator-names : {detail : Detail} (a b : ℕ) → PrintsName detail (in_std (operator a b)) (codes "std::" ++ operator_text a b)
 std-operator-names {detail} a b =
     let filled : 1 ≤ length (operator_text a b) = omega (arith, length-append (codes "operator") (look_up (a ∷ b ∷ []) operator_texts)) in
@@ -447,7 +447,7 @@ pub cast-integer-prints : {detail : Detail} (letter : ℕ) → is_plain_integer 
 cast-integer-prints letter cast there n filled digits_plain =
     enumerator-prints (builtin (letter ∷ [])) (look_up (letter ∷ []) builtin_texts) false (builtin-prints letter there) cast n filled digits_plain
 
--- a type with another name is none whose integers are without it
+-- a type with another name isn't one whose integers omit it
 pub not-integer : {detail : Detail} (t : Term) (b : List ℕ) (r : Bool) → Prints detail t b r → (EndsAsInteger b → ⊥) → is_plain_integer t ≡ false
 not-integer t b r p other = go (is_plain_integer t) refl
   where

@@ -55,7 +55,7 @@ source-piece {detail} internal name filled plain = record {
   no_structor = λ t. refl;
 }
 
--- after which arguments are in brackets
+-- and arguments after it are in brackets
 pub source-opening : (internal : Bool) (name : List ℕ) → opening_text (source internal name) ≡ codes "<"
 unfolding opening_text
 source-opening internal name = refl
@@ -76,7 +76,7 @@ operator-piece {detail} a b = record {
   no_structor = λ t. refl;
 }
 
--- but for << and <, after which a blank comes before them
+-- except for << and <, where a blank precedes the bracket
 pub operator-opening : (a b : ℕ) → is_angle a b ≡ false → opening_text (operator a b) ≡ codes "<"
 unfolding opening_text
 operator-opening a b plain = rw plain refl
@@ -144,7 +144,7 @@ within-as detail names true t b prints p x is opening =
     made-given names (within t p) (b ++ codes "::" ++ x) false (λ c given. within-in c 3 t b (prints.prints c given) (prints.as_prefix c) p x is)
     (λ arguments single. rw (prints.packless arguments single, is.packless arguments) refl) refl refl (λ c. refl) opening
 
--- It names its class without what it is in.
+-- It names its class without its scope.
 pub within-class : {detail : Detail} (t : Term) (b : List ℕ) → Prints detail t b false → (p : Term) (x : List ℕ) → IsPiece detail p x
     → NamesClass detail (within t p) x
 unfolding parts_in base_parts
@@ -350,7 +350,7 @@ tagged-names {detail} of_structor t b p tag plain = record {
   cost = λ c. omega (arith, tagged-costs detail 0 of_structor t b tag c (omega (arith, p.cost c)));
 }
 
--- A type with one does so,
+-- A type with a tag does so,
 pub tagged-prints : {detail : Detail} (of_structor : Bool) (t : Term) (b : List ℕ) → Prints detail t b false → (tag : List ℕ) → IsUnmarked tag
     → Prints detail (tagged of_structor t tag) (b ++ tag_text tag) false
 unfolding parts_in left_parts right_parts piece_parts not_empty is_open pack_length last_piece opening_text besides
@@ -372,7 +372,7 @@ tagged-as detail names true of_structor t b p tag plain =
     (omega (arith, (p.prints c given).some, length-append b (tag_text tag))) refl)
     p.packless refl refl (λ c. refl) refl
 
--- one in another name
+-- a tagged name in another name
 pub within-tagged : {detail : Detail} (t : Term) (b : List ℕ) → Prints detail t b false → (p : Term) (x : List ℕ) → IsPiece detail p x
     → (tag : List ℕ) → IsUnmarked tag → NamesClass detail (with_tag (within t p) tag) x
 unfolding with_tag parts_in base_parts base_tagged not_empty
@@ -392,7 +392,7 @@ std-tagged internal name filled plain tag tag_plain =
     base-names (with_tag own tag) (b ++ tag_text tag) (source_text name)
     (tagged-names (is_structor own) own b (as-name own b false (std-prints internal name filled plain)) tag tag_plain) (λ c. refl) (λ c. refl) (source-unmarked name plain)
 
--- one with a tag already, which names its class so, where at the base it has the same text at most at one more
+-- a tagged name with one more tag names its class as before, where at the base it has the same text, at a cost of at most one more
 again-by : {detail : Detail} (of_structor : Bool) (t : Term) (b : List ℕ) → Prints detail t b false → (before tag class : List ℕ) → IsUnmarked before → IsUnmarked tag
     → NamesClass detail (tagged of_structor t before) class
     → ((c : Context) → text_of (written_of detail base c (tagged of_structor (tagged of_structor t before) tag)) ≡ text_of (written_of detail base c (tagged of_structor t before)))

@@ -25,7 +25,7 @@ bare-by : (is_brief : Bool) → has_parameters (detail_by true is_brief) ≡ fal
 bare-by true = refl
 bare-by false = refl
 
--- functions are shown with their parameters, or by their names alone
+-- functions are shown with their parameters, or by their names only
 pub has-parameters : (s : Symbol) → s.is_bare ≡ false → has_parameters (detail_of s) ≡ true
 has-parameters s whole = ap (λ b. has_parameters (detail_by b s.is_brief)) whole ∙ whole-by s.is_brief
 
@@ -115,14 +115,14 @@ pub text_shown : (d : Detail) (form : Form) (context : Context) (t : Term) (ps :
 text_shown d form context t ps e same =
     ap text_of (writes_parts d form context t) ∙ ap (λ xs. text_of (printed_by d xs)) same ∙ ap (λ xs. text_of (shown_by d xs)) e
 
--- the same of the cost
+-- likewise for the cost
 pub cost_shown : (d : Detail) (form : Form) (context : Context) (t : Term) (ps : List (PartOf Item)) → parts_in d context form t ≡ ps
     → written_in d context form t ≡ unmarked_parts (has_arguments d) (parts_in d context form t)
     → cost_of (written_of d form context t) ≡ cost_of (shown_by d ps)
 cost_shown d form context t ps e same =
     ap cost_of (writes_parts d form context t) ∙ ap (λ xs. cost_of (printed_by d xs)) same ∙ ap (λ xs. cost_of (shown_by d xs)) e
 
--- a text comes before what is after it, be it empty or not
+-- a text precedes what is after it, be it empty or not
 first-printed : (d : Detail) (b : List ℕ) (ps : List (PartOf Item)) → text_of (printed_by d (text b ∷ ps)) ≡ b ++ text_of (printed_by d ps)
 unfolding not_empty
 first-printed d [] ps = refl
@@ -142,7 +142,7 @@ pub first_cost_shown : (d : Detail) (b : List ℕ) (ps : List (PartOf Item)) →
 first_cost_shown d b ps =
     omega (arith, first-cost-printed d (unmarked (has_arguments d) b) (unmarked_parts (has_arguments d) ps), length-unmarked (has_arguments d) b)
 
--- a text alone
+-- a text as the only part
 pub alone_shown : (d : Detail) (b : List ℕ) → IsUnmarked b → text_of (shown_by d (text b ∷ [])) ≡ b
 unfolding not_empty
 alone_shown d b plain = first_shown d b [] plain ∙ append-nil b
@@ -169,7 +169,7 @@ pub text-append : (detail : Detail) (ps qs : List (PartOf Item))
     → text_of (printed_by detail (ps ++ qs)) ≡ text_of (printed_by detail ps) ++ text_of (printed_by detail qs)
 text-append detail ps qs = parts-joined (λ i. written detail i) ps qs
 
--- cost what both do
+-- and cost what both do
 pub cost-append : (detail : Detail) (ps qs : List (PartOf Item))
     → 1 + cost_of (printed_by detail (ps ++ qs)) ≡ cost_of (printed_by detail ps) + cost_of (printed_by detail qs)
 unfolding not_empty
@@ -183,7 +183,7 @@ unmarked-append shown [] qs = refl
 unmarked-append shown (text b ∷ ps) qs = ap (λ rs. text (unmarked shown b) ∷ rs) (unmarked-append shown ps qs)
 unmarked-append shown (sub i ∷ ps) qs = ap (λ rs. sub i ∷ rs) (unmarked-append shown ps qs)
 
--- the same of parts without marks
+-- likewise for parts without marks
 pub text_append : (detail : Detail) (ps qs : List (PartOf Item))
     → text_of (shown_by detail (ps ++ qs)) ≡ text_of (shown_by detail ps) ++ text_of (shown_by detail qs)
 text_append detail ps qs =
@@ -205,7 +205,7 @@ unfolding text_part not_empty
 part-text detail [] plain = refl
 part-text detail (b ∷ bs) plain = alone_shown detail (b ∷ bs) plain
 
--- which costs its length
+-- and costs its length
 pub part-cost : (detail : Detail) (b : List ℕ) → cost_of (shown_by detail (text_part b)) ≡ 1 + length b
 unfolding text_part not_empty
 part-cost detail [] = omega arith

@@ -1,4 +1,4 @@
--- Encodings of which the text is known, and the symbols that they are.
+-- Encodings with a known text, and the symbols that they are.
 use Rattle.std.proofs.Common.{◌≡◌, ◌≢◌, refl, ap, sym, ◌∙◌, ℕ, ◌*◌, ◌≤◌, List, [], ◌∷◌, ◌++◌, length, Bool, true, false, ◌&&◌, arith, codes, nat_eq, length-append, append-nil, append_assoc, subst}
 use Rattle.sym_print.specs.declared.detail.Detail.{Detail}
 use Rattle.sym_print.specs.Details.{has_arguments, has_parameters}
@@ -27,7 +27,7 @@ signed_text : (x y z b l q : List ℕ) → x ≡ b → y ≡ l → z ≡ q → (
 signed_text x y z b l q e f g =
     rw (e, f, g) (ap (λ s. s ++ (codes ")" ++ q)) (sym (append_assoc b (codes "(") l)) ∙ sym (append_assoc (b ++ codes "(" ++ l) (codes ")") q))
 
--- a function that has no return type is shown so
+-- a function that has no return type is shown this way
 plain_parts : (detail : Detail) → has_parameters detail ≡ true → (name : Term) (q : Qualifiers) (ref : RefQualifier) (items : Term)
     → parts_in detail closed full (function name q ref absent items) ≡ function_bare true name q ref items
 unfolding parts_in full_parts function_full
@@ -61,7 +61,7 @@ function-shows {detail} shown name b p items l all q ref =
       );
     }
 
--- what prints something is there
+-- what prints something isn't absent
 not-absent : {detail : Detail} (c : Context) (t : Term) (b : List ℕ) (r : Bool) → PrintsIn detail c 3 t b r → t ≡ absent → ⊥
 unfolding parts_in left_parts not_empty
 not-absent {detail} c t b r p e =
@@ -158,7 +158,7 @@ thunk-filled (adjusting (non_virtual a)) = omega arith
 thunk-filled (adjusting (by_table a b)) = omega arith
 thunk-filled (covariant a b) = omega arith
 
--- What prints a text and an encoding shows them.
+-- An encoding after a text shows both.
 led-shows : (d : Detail) (made : Term) (k : List ℕ) (e : Term) (b : List ℕ) → parts_in d closed full made ≡ text k ∷ as_item full closed e ∷ []
     → written_in d closed full made ≡ unmarked_parts (has_arguments d) (parts_in d closed full made) → IsUnmarked k → 1 ≤ length k → Shows d e b
     → Shows d made (k ++ b)
@@ -228,7 +228,7 @@ parameters-same element rest apart = go (is_void element) (is_nil rest) refl ref
     go true false e f = refl
     go false b e f = refl
 
--- elements that don't print the word void alone are the parameters
+-- elements are the parameters unless they print only the word void
 pub parameters-kept : (detail : Detail) (c : Context) (extra : ℕ) (ts : List Term) (l : List ℕ) → PrintAllIn detail c extra ts l → l ≢ codes "void"
     → parameters (list_of ts) ≡ list_of ts
 unfolding parameters is_nil
@@ -241,7 +241,7 @@ parameters-kept detail c extra (t ∷ []) l all apart = parameters-same t nil (�
     go (b ∷ []) each is e = apart (sym is ∙ each.0.void e)
     go (b ∷ d ∷ bs) each is e = elim each.1 [ ]
 
--- nor are those of which the last one is none
+-- likewise elements whose last one isn't void
 pub parameters-before : (ts : List Term) (t : Term) → is_void t ≡ false → parameters (list_with ts (list t nil)) ≡ list_with ts (list t nil)
 unfolding parameters is_nil
 parameters-before [] t apart = parameters-same t nil (λ e f. false≢true (sym apart ∙ e))
@@ -254,7 +254,7 @@ unfolding encoding_of
 encoding-plain v mark own is none t rest =
     rw (ap has_return_type is.tree_is ∙ none, encoding_of) (rw (is.tree_is, is.qualifiers_are, is.mark_is) refl)
 
--- Of a name that has one the first item is the return type.
+-- The first item of a name that has one is the return type.
 pub encoding-returned : (v : Value) (mark : Mark) (own : Term) → IsNamedSo v own mark → has_return_type own ≡ true → (r items : Term)
     → encoding_of v (list r items) ≡ function own (qualifiers (has_const mark)) (called_on mark) r (parameters items)
 unfolding encoding_of

@@ -65,7 +65,7 @@ made-prints t b r h is_closed packless no_pack as_prefix opening integer referen
   integer = integer;
 }
 
--- What prints in each context where parameters name arguments with these texts prints so where they do.
+-- What prints in each context where parameters name arguments with these texts prints wherever they do.
 pub made-given : {detail : Detail} (names : Names) (t : Term) (b : List ℕ) (r : Bool) → ((c : Context) → IsGiven detail names c → PrintsIn detail c 3 t b r)
     → ((arguments : Term) → AreSingle names arguments → pack_length arguments t ≡ None) → is_function_type t ≡ false → length_if_pack t ≡ None
     → ((c : Context) → prefix_item c t ≡ as_item left c t) → opening_text (last_piece t) ≡ codes "<" → PrintsGiven detail names t b r
@@ -89,7 +89,7 @@ pub prints-as-given : (detail : Detail) (names : Names) (is_dependent : Bool) (t
 prints-as-given detail names false t b r p = prints-given names t b r p
 prints-as-given detail names true t b r p = p
 
--- In a context where they do it prints so.
+-- In a context where they do it prints.
 pub as-in : (detail : Detail) (names : Names) (is_dependent : Bool) (c : Context) (t : Term) (b : List ℕ) (r : Bool) → IsGiven detail names c
     → PrintsAs detail names is_dependent t b r → PrintsIn detail c 3 t b r
 as-in detail names is_dependent c t b r given p = (prints-as-given detail names is_dependent t b r p).prints c given
@@ -105,7 +105,7 @@ types-given {detail} names name all e known k n is =
 
 -- ## Marks
 
--- A type prints another and a mark after it, and what that has at the right.
+-- A type prints another and a mark after it, and then the right text of the other.
 record IsMarked (detail : Detail) (c : Context) (t made : Term) (mark : List ℕ) : Type 0 where
   pub left_is : parts_in detail c left made ≡ as_item left c t ∷ text mark ∷ []
   pub right_is : parts_in detail c right made ≡ as_item right c t ∷ []
@@ -142,7 +142,7 @@ marked-in {detail} c extra t made mark b r q p m reference_is no_function_head f
   some = omega (arith, m.some, length-append b mark);
 }
 
--- and, so, wherever the type does
+-- and so it does wherever the type does
 marked-as : (detail : Detail) (names : Names) (is_dependent : Bool) (t made : Term) (mark b : List ℕ) (r q : Bool)
     → ((c : Context) (extra : ℕ) → PrintsIn detail c extra t b r → IsMarked detail c t made mark)
     → ((c : Context) (extra : ℕ) → PrintsIn detail c extra t b r → (is_reference (head c made) ≡ q) × (is_funarr (head c made) ≡ false))
@@ -292,7 +292,7 @@ parameter-given names k n e =
     made-given names (parameter k) n.bytes n.reference (λ c given. parameter-in c k n.bytes n.reference (given k n e))
     (λ arguments single. single k n e) refl refl (λ c. refl) refl
 
--- An rvalue reference to a reference prints what this does.
+-- An rvalue reference to a reference prints what that reference prints.
 pub rvalue-again : {detail : Detail} (c : Context) (k : ℕ) (b : List ℕ) → Prints detail (argument c k) b true → PrintsIn detail c 3 (rvalue (parameter k)) b true
 unfolding parts_in left_parts right_parts not_empty head head_closed head_with argument is_empty is_function_type is_void reference_parts closing_right
 rvalue-again {detail} c k b p =

@@ -52,11 +52,11 @@ arguments-stay text more a name has = (
   },
 )
 
--- of none that are known nothing is to be said
+-- nothing is to be shown of unknown arguments
 pub no-arguments : {detail : Detail} (text : List ℕ) (name : Term) → HasArguments detail text nowhere name
 no-arguments text name = (λ k single. absurd (none-known k single.0), λ e. cc e)
 
--- they stay also while they are read
+-- they also stay while they are read
 pub among-stay : {detail : Detail} (text more : List ℕ) (a : Arguments) (ts : List Term) → AreAmong detail text a ts → AreAmong detail (text ++ more) a ts
 among-stay text more a ts known k o = one-stays text more (place_of a k) k ts (known k o)
 
@@ -112,7 +112,7 @@ entry-scoped scope around entry p rest apart own named h q e =
     let same : p ≡ q = cc (sym own ∙ is) in
     (named ∙ same, subst (λ (k : Arguments). HasScope k around) same h)
 
--- which encoding is theirs says nothing of where they are
+-- where they are doesn't depend on which encoding is theirs
 pub arguments-named : {detail : Detail} (text : List ℕ) (place : ℕ) (a : Arguments) (name : Term) → HasArguments detail text a name
     → HasArguments detail text (record a { encoding = place }) name
 arguments-named text place a name has = (
@@ -160,12 +160,12 @@ pub member-named : (t : Term) (mark : Mark) → IsNamedSo (values.named t (quali
 unfolding tree_of qualifiers_of ref_of
 member-named t mark = record { tree_is = refl; qualifiers_are = refl; mark_is = refl }
 
--- and any other by itself
+-- and any other is read as it is
 pub plain-named : (t : Term) → IsNamedSo (tree t false) t marks.Plain
 unfolding tree_of qualifiers_of ref_of
 plain-named t = record { tree_is = refl; qualifiers_are = refl; mark_is = refl }
 
--- they are written so
+-- they are written that way
 abbrev pub has-member : (s : Symbol) (text : List ℕ) (mark : Mark) (from : ℕ) (t : Term) (lead name : List ℕ) → text ≡ lead ++ name → from ≡ length lead
     → PrintsName (detail_of s) t name → HasNameSo s text mark from
 has-member s text mark from t lead name written from_is prints = record {

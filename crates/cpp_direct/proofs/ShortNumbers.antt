@@ -37,7 +37,7 @@ on-other : (run b : ℕ) (bs : List ℕ) → is_decimal_digit b ≡ false → sh
 unfolding short_numbers
 on-other run b bs other is = subst (λ d. elim d [ true ↦ nat_lt run 19 && short_numbers (run + 1) bs | false ↦ short_numbers 0 bs ] ≡ true) other is
 
--- a symbol's byte is gone over
+-- one byte of a symbol is examined
 pub goes-on-digit : (run b : ℕ) (bs : List ℕ) → is_decimal_digit b ≡ true → run < 19 → short_numbers (run + 1) bs ≡ true → short_numbers run (b ∷ bs) ≡ true
 unfolding short_numbers
 goes-on-digit run b bs digit few is =
@@ -49,7 +49,7 @@ unfolding short_numbers
 goes-on-other run b bs other is =
     subst (λ d. elim d [ true ↦ nat_lt run 19 && short_numbers (run + 1) bs | false ↦ short_numbers 0 bs ] ≡ true) (sym other) is
 
--- a symbol is gone over byte by byte
+-- a symbol is examined byte by byte
 pub digit-passed : (s : List ℕ) (at run next : ℕ) (digit : Bool) → at < length s → digit ≡ is_decimal_digit (get_or s at 0) → digit ≡ true → run < 19 → next ≡ run + 1
     → (short_numbers run (drop at s) ≡ true → short_numbers 0 s ≡ true) → short_numbers next (drop (at + 1) s) ≡ true → short_numbers 0 s ≡ true
 digit-passed s at run next digit inside is true_ few_ next_is before rest =
@@ -137,7 +137,7 @@ own-stands s at t bare stands =
     let all = (stands-split s at (bytes_of t) [] stands).0 in
     (stands-split s at t.own t.behind (subst (λ b. StandsAt s at (b ++ t.own ++ t.behind)) bare all)).0
 
--- Whatever is there as the parts of a lambda, its number has 64 bits.
+-- Whatever the parts of a lambda are, its number has 64 bits.
 pub lambda-begins : (wide : Bool) (s : List ℕ) (at place : ℕ) (st : State) → short_numbers 0 s ≡ true → (f : Forest) → AreTrees (table_by wide) (parts_of Production.Lambda) f
     → StandsAt s at (spell_all f) → opening Production.Lambda f place st ≡ Ok st
 unfolding parts_of opening last_token

@@ -42,7 +42,7 @@ return-opens : (s : Symbol) (is_pointer : Bool) (kind : Kind) (os : List Opened)
 return-opens s true kind os around at st whole outside expects stands = pointed-function-opens s kind os around at st whole outside expects stands
 return-opens s false kind os around at st whole outside expects stands = function-opens s kind os around at st whole outside expects stands
 
--- a function type begins, where what was opened last takes one
+-- a function type begins, where the innermost entry accepts one
 pub function-begins : (s : Symbol) (old new : Direct) (is_pointer : Bool) → IsWriting s old steps.Type
     → StandsAt s.bytes old.at (if is_pointer then 80 ∷ 70 ∷ [] else 70 ∷ []) → TakesFunction (reverse old.waiting.list.items) → new.waiting.list.items ≡ old.waiting.list.items ++ opens.Returned is_pointer ∷ []
     → new.at ≡ old.at + (if is_pointer then 2 else 1) → new.text ≡ old.text → new.candidates ≡ old.candidates → new.has_scope ≡ old.has_scope → IsWriting s new steps.Type
@@ -58,7 +58,7 @@ function-begins s old new is_pointer p letters takes waits at text candidates sc
 
 -- ## After the return type
 
--- the parameters come
+-- the parameters follow
 pub signature-begins : (s : Symbol) (old new : Direct) (is_pointer : Bool) (p : IsReturned s old is_pointer)
     → new.text.list.items ≡ old.text.list.items ++ opening_text is_pointer → new.candidates ≡ old.candidates → new.has_scope ≡ old.has_scope
     → reverse new.waiting.list.items ≡ opens.Signature is_pointer ∷ p.taker.rest → new.at ≡ old.at → AwaitsSignature s new is_pointer true
@@ -80,7 +80,7 @@ signature-begins s old new is_pointer p text candidates scope_same waits at =
 
 -- ## Parameters
 
--- one comes next, and the comma before it is written but for the first one
+-- an element comes next, with a comma before it unless it is the first
 pub parameter-next : (s : Symbol) (old new : Direct) (is_pointer is_first : Bool) → AwaitsSignature s old is_pointer is_first
     → new.text.list.items ≡ old.text.list.items ++ comma is_first → new.candidates ≡ old.candidates → new.waiting ≡ old.waiting
     → new.has_scope ≡ old.has_scope → new.at ≡ old.at → AwaitsParameter s new is_pointer
@@ -99,7 +99,7 @@ parameter-next s old new is_pointer is_first a text candidates waiting scope_sam
       goes = subst (λ n. SignatureGoesOn s a.taker.outer a.taker.made_in is_pointer (λ l. plain_function a.first.own (list_with a.ts l)) n a.state) (sym at) a.goes;
     }
 
--- a signature goes on after one more
+-- a signature continues after one more
 one-more : (s : Symbol) (outer : List Opened) (made_in : Around) (is_pointer : Bool) (returned : Term) (ts : List Term) (t : Term) (at : ℕ) (st : State)
     → SignatureGoesOn s outer made_in is_pointer (λ l. plain_function returned (list_with ts (list t l))) at st
     → SignatureGoesOn s outer made_in is_pointer (λ l. plain_function returned (list_with (ts ++ t ∷ []) l)) at st
@@ -114,7 +114,7 @@ one-more s outer made_in is_pointer returned ts t at st g = record {
       (sym (list-more ts t l)) (g.passes l there then_ comes);
 }
 
--- where a parameter comes, it is the signature's
+-- where a parameter is accepted, it is the signature's
 signature-stands : (s : Symbol) (w : Direct) (is_pointer : Bool) (a : AwaitsParameter s w is_pointer) (os : List Opened)
     → ((t : Term) (at : ℕ) (st : State) → Comes s os (tree t true) at st
     → SignatureGoesOn s a.taker.outer a.taker.made_in is_pointer (λ l. plain_function a.first.own (list_with a.ts (list t l))) at st)
@@ -130,7 +130,7 @@ signature-stands s w is_pointer a os onward = (
   λ t at st comes. one-more s a.taker.outer a.taker.made_in is_pointer a.first.own a.ts t at st (onward t at st comes),
 )
 
--- a parameter comes that is no reference
+-- accepts a parameter that is no reference
 pub parameter-comes : (s : Symbol) (w : Direct) (is_pointer : Bool) → AwaitsParameter s w is_pointer → NoReference s.bytes w.at → IsWriting s w steps.Type
 parameter-comes s w is_pointer a none =
     let p = parameter-opens s a.taker.outer a.taker.made_in is_pointer (λ l. plain_function a.first.own (list_with a.ts l)) w.at a.state a.goes in
@@ -145,7 +145,7 @@ pub no-reference : (s : List ℕ) (at b : ℕ) → (b ≢ 0 → StandsAt s at (b
 no-reference s at b stands some other another =
     ((λ p. other (same-byte s at b 82 (stands some) p)), λ p. another (same-byte s at b 79 (stands some) p))
 
--- what waits for what a reference is to stands there
+-- the entry that waits for the referenced type is there
 reference-stands : (s : Symbol) (scope : Scope) (is_lvalue : Bool) (rest : List Open) (os : List Opened) (text : List ℕ) (from : ℕ)
     → Marks s (below s scope rest) os text from (reference is_lvalue) → Stands s scope (reference_entry is_lvalue from ∷ rest) os text
 reference-stands s scope true rest os text from marks = marks
@@ -157,7 +157,7 @@ reference-scoped : (scope : Scope) (around : Around) (is_lvalue : Bool) (from : 
 reference-scoped scope around true from is_pointer rest = none-scoped scope around (opens.Lvalue from ∷ opens.Signature is_pointer ∷ rest) refl
 reference-scoped scope around false from is_pointer rest = none-scoped scope around (opens.Rvalue from ∷ opens.Signature is_pointer ∷ rest) refl
 
--- a parameter comes that is a reference
+-- accepts a parameter that is a reference
 pub reference-comes : (s : Symbol) (old new : Direct) (is_pointer is_lvalue : Bool) (from : ℕ) → AwaitsParameter s old is_pointer
     → from ≡ length old.text.list.items → StandsAt s.bytes old.at (reference_letter is_lvalue ∷ [])
     → OpensEntry old new (reference_entry is_lvalue from) → IsWriting s new steps.Type
@@ -235,9 +235,9 @@ void-closed s old new is_pointer a stands text candidates scope_same waits at =
           (signature-ends s a.taker.outer a.taker.made_in is_pointer (λ l. plain_function a.first.own (list v l)) (old.at + 1) a.state g both.1));
     }
 
--- ## Handed on
+-- ## Forwarded
 
--- one more candidate of which nothing is known
+-- one more unknown candidate
 pub one-hidden : (s : Symbol) (scope : Scope) (text : List ℕ) (ks : List Candidate) (cs : List values.Candidate) (c : values.Candidate)
     → AreCandidates s scope text ks cs → AreCandidates s scope text (ks ++ hidden ∷ []) (cs ++ c ∷ [])
 one-hidden s scope text ks cs c p = candidates-more text ks cs hidden c p (λ ordered. absurd (omega (arith, ordered)))
@@ -260,7 +260,7 @@ hidden-candidates : (s : Symbol) (scope : Scope) (w : Direct) (is_pointer : Bool
 hidden-candidates s scope w true text made_in t st p = hidden-accessed s scope accesses.Pointer w.candidates.list.items text made_in t st p
 hidden-candidates s scope w false text made_in t st p = hidden-accessed s scope accesses.Plain w.candidates.list.items text made_in t st p
 
--- what waits for the function type, once its own entry is taken away
+-- what waits for the function type, once its own entry is removed
 pub still-popped : (s : Symbol) (old new : Direct) (is_pointer : Bool) (p : IsFunctionRead s old is_pointer) (left : List Open) (size : ℕ)
     → new.waiting ≡ old.waiting → size ≡ length new.waiting.list.items → left ≡ take (size - 1) new.waiting.list.items → reverse left ≡ p.taker.rest
 still-popped s old new is_pointer p left size same length_is is =
@@ -292,7 +292,7 @@ function-handed s old new is_pointer p text candidates scope_same waits at =
       takes = subst TakesFunction (sym waits) p.taker.takes;
     }
 
--- what takes a function type, and isn't parameters or a special object, takes elements
+-- an entry that accepts a function type, and isn't parameters or a special object, accepts elements
 pub takes-as-element : (o : Open) (rest : List Open) → TakesFunction (o ∷ rest) → ((x : Mark) (y : ℕ) (z : Arguments) → o ≡ opens.Parameters x y z → ⊥)
     → (o ≡ opens.Special → ⊥) → ((x : Mark) (y t : ℕ) → o ≡ opens.Enclosing x y t → ⊥) → TakesElements o
 takes-as-element (opens.TypeArguments from is_dependent) rest takes apart z m = tt
@@ -312,7 +312,7 @@ referred : (s : Symbol) (access : Access) (at : ℕ) → access ≡ accesses.Lva
 referred s access at is stands =
     (stands-split s.bytes at (82 ∷ []) (65 ∷ []) (subst (λ a. StandsAt s.bytes at (access_letters a)) is stands)).0
 
--- an array begins, where what was opened last takes one
+-- an array begins, where the innermost entry accepts one
 pub array-begins : (s : Symbol) (old new : Direct) (access : Access) (digits : List ℕ) (from to : ℕ) → IsWriting s old steps.Type
     → StandsAt s.bytes old.at (access_letters access) → TakesFunction (reverse old.waiting.list.items)
     → IsSizeAt s.bytes (old.at + length (access_letters access)) digits new.at
@@ -399,9 +399,9 @@ array-written s readable w begun first second third last access from to p size t
       takes = subst TakesFunction (sym open_is) p.taker.takes;
     }
 
--- ## An array handed on
+-- ## An array, forwarded
 
--- what was opened last takes what prints on both sides of a name
+-- the innermost entry accepts what prints on both sides of a name
 pub passed-on : (s : Symbol) (w : Direct) (o : Open) → IsElementPassed s w → slice_get w.waiting.list.items (length w.waiting.list.items - 1) ≡ Some o
     → IsElementRead s w o
 passed-on s w o p found =

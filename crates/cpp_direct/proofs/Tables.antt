@@ -41,7 +41,7 @@ takes-by false kind k byte p taken at chosen small takes =
     record { byte = byte; is_byte = small; found = rule_at_kind k kind byte at ∙ ap rule_taken chosen; takes = takes }
 takes-by true kind k byte p taken at chosen small takes = takes-in-wide kind k byte p taken at (wide_kept kind byte p small chosen) small takes
 
--- one that the wide grammar alone has
+-- a production that only the wide grammar has
 pub takes-wide : (is_wide : Bool) (kind : Kind) (k byte : ℕ) (p : Production) (taken : List ℕ) → is_wide ≡ true → slice_get kinds k ≡ Some kind
     → wide_choose kind byte ≡ Some p → byte < 256 → taken ≡ (if not (is_chain p) then byte ∷ [] else []) → TakesRule (table_by is_wide) k (rule_of p) taken
 takes-wide true kind k byte p taken is at chosen small takes = takes-in-wide kind k byte p taken at chosen small takes
@@ -89,7 +89,7 @@ grows j k small big at_small at_big same empties empty is = wide_empty_at k big 
 grows j k small big at_small at_big same empties (token t) is = absurd is
 grows j k small big at_small at_big same empties (fixed byte) is = absurd is
 
--- what may come after a parameter or a substitution may come after any name
+-- what may follow a parameter or a substitution may follow any name
 pub arguments-by : (is_wide : Bool) (t : Tree) → IsTree (table_by is_wide) (OfKind ARGUMENTS_ALONE) t → IsTree (table_by is_wide) (OfKind MAYBE_ARGUMENTS) t
 unfolding kinds may_be_empty in_ranges among is_in pick number_of wide_choose wide_alternatives same_choice each_below
 arguments-by true t is = grows ARGUMENTS_ALONE MAYBE_ARGUMENTS Kind.ArgumentsAlone Kind.MaybeArguments refl refl refl refl t is
@@ -106,7 +106,7 @@ unfolding kinds may_be_empty in_ranges among is_in pick number_of wide_choose wi
 lists-by true t is = grows ARGUMENT_LIST ARGUMENTS_FIRST Kind.ArgumentList Kind.ArgumentsFirst refl refl refl refl t is
 lists-by false t is = list_first t is
 
--- by the wide grammar a nested name may end after the arguments of a name that an S stands for, too
+-- in the wide grammar a nested name may also end after the arguments of a substituted name
 pub tails-by : (is_wide : Bool) → is_wide ≡ true → (t : Tree) → IsTree (table_by is_wide) (OfKind NEST_TAIL) t → IsTree (table_by is_wide) (OfKind NEST_MORE_OR_END) t
 unfolding kinds may_be_empty in_ranges among is_in pick number_of wide_choose wide_alternatives same_choice each_below
 tails-by true is t tree = grows NEST_TAIL NEST_MORE_OR_END Kind.NestTail Kind.NestMoreOrEnd refl refl refl refl t tree
@@ -119,7 +119,7 @@ item-by false t is = abi_argument t is
 
 -- ## Symbols
 
--- what a whole tree says, the symbol stands for
+-- what a whole tree says, the symbol denotes
 pub stands-by : (is_wide : Bool) (s : List ℕ) (shape : Tree) (t : Term) → IsTree (table_by is_wide) (OfKind SYMBOL) shape → spell shape ≡ s
     → unfold_cpp shape ≡ Ok t → StandsFor (mangled_by is_wide) s (Ok t)
 stands-by true s shape t shaped spelled is = (shape, shaped, spelled, sym (meaning_stays shape t shaped is))

@@ -35,7 +35,7 @@ use Rattle.cpp_direct.proofs.PrintedNames.{source-prints, std-prints, abbreviati
 
 -- ## What calls give
 
--- a byte that is this one is there
+-- this very byte is there
 pub there : (s : List ℕ) (at b d : ℕ) → b ≡ d → 1 ≤ d → (b ≢ 0 → StandsAt s at (b ∷ [])) → StandsAt s at (d ∷ [])
 there s at b d is some stands = subst (λ k. StandsAt s at (k ∷ [])) is (stands (λ z. omega (arith, is, some, z)))
 
@@ -49,7 +49,7 @@ then-there s front at next b d first next_is is some stands =
 pub some-text : (text same : List ℕ) → text ≡ same → false ≡ (length text == 0) → same ≢ []
 some-text text same is filled none = cc (filled ∙ ap (λ l. length l == 0) (is ∙ none))
 
--- what is open without its last
+-- the open entries without the last
 pub popped : (xs ys rest : List Open) (x : Open) (n : ℕ) → n ≡ length xs → reverse xs ≡ x ∷ rest → ys ≡ take (n - 1) xs → reverse ys ≡ rest
 popped xs ys rest x n size e is =
     let whole : xs ≡ reverse rest ++ x ∷ [] = sym (reverse-reverse xs) ∙ ap reverse e ∙ reverse-append (x ∷ []) rest in
@@ -80,7 +80,7 @@ named-kept s old new from listed r a lists =
     kept-unless s old new a.kept listed a.front a.bytes from a.own a.around false a.written a.from_is
     (λ e. subst (λ b. Prints (detail_of s) a.own a.bytes b) (a.no_reference e) a.prints) (λ e. absurd (false≢true e)) lists.text lists.candidates lists.scope
 
--- nothing comes after the name of a type
+-- nothing follows the name of a type
 pub bare-done : (s : Symbol) (old new : Direct) (from : ℕ) (listed r : Bool) → IsTypeNamed s old from listed r
     → Lists old new (added_unless old listed from false) → IsWriting s new (steps.Value r false)
 unfolding may_be_empty
@@ -219,7 +219,7 @@ names-awaited s w a = record {
   begins = solid-opens s a.kind a.around a.os w.at a.state a.typed a.awaits;
 }
 
--- a name was read where one was awaited
+-- a name was read where one was expected
 named-from : (s : Symbol) (old new : Direct) (from : ℕ) (listed r : Bool) (a : AwaitsNamedType s old) (own : Term) (bytes : List ℕ)
     → TypeNamed s a.os a.around own listed new.at a.state → new.candidates ≡ old.candidates → new.has_scope ≡ old.has_scope
     → new.text.list.items ≡ old.text.list.items ++ bytes → from ≡ length old.text.list.items → Prints (detail_of s) own bytes r
@@ -295,7 +295,7 @@ substitution-named s old mid new n from digits k a stands is ordered found reads
     (subst (λ n. IsSeqAt s.bytes (old.at + 1) digits n) (sym writes.at) is))
     (writes.candidates ∙ reads.candidates) (writes.scope ∙ reads.scope) written begins prints (λ e. cc e) (writes.waiting ∙ reads.waiting)
 
--- one that names an argument
+-- a name of an argument
 pub named-again : (s : Symbol) (old new : Direct) (n : ℕ) (digits : List ℕ) (k : Candidate) → AwaitsNamedType s old → StandsAt s.bytes old.at (83 ∷ [])
     → IsSeqAt s.bytes (old.at + 1) digits new.at → k.from ≤ k.to → slice_get old.candidates.list.items (counted_value Seq36 digits) ≡ Some k
     → Reads (record old { at = n }) new [] → k.is_dependent ≡ true → IsNamedAgain s new k
@@ -338,7 +338,7 @@ pointer-opened s old new from a begins stands entered =
     type-opened s old new (opens.Pointer from) from pointer a (pointer-opens s a.kind a.around a.os old.at a.state a.typed a.awaits stands) begins
     (λ m. m) a.scoped entered
 
--- what waits for what a reference is to
+-- the entry that waits for a referenced type
 abbrev pub reference_entry : (is_lvalue : Bool) → (from : ℕ) → Open
 reference_entry true from = opens.Lvalue from
 reference_entry false from = opens.Rvalue from
@@ -355,7 +355,7 @@ reference-opened s old new false from a begins stands entered =
     type-opened s old new (opens.Rvalue from) from rvalue a (reference-type-opens s a.kind false a.around a.os old.at a.state may a.awaits stands) begins
     (λ m. m) a.scoped entered
 
--- a plain type is expected after a K, where a whole one is
+-- expects a plain type after a K, where a whole one is expected
 pub const-opened : (s : Symbol) (old new : Direct) (from : ℕ) → IsWriting s old steps.Type → from ≡ length old.text.list.items
     → StandsAt s.bytes old.at (75 ∷ []) → OpensEntry old new (opens.Const from) → IsWriting s new steps.Plain
 const-opened s old new from p begins stands entered =

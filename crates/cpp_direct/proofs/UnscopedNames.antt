@@ -1,4 +1,4 @@
--- Names of encodings that are in no class, and of local entities: where a writer is after them.
+-- Names of encodings that are in no class, and of local entities: the state of the writer after them.
 use Rattle.cpp_direct.proofs.Unmarked.{name-unmarked}
 use Rattle.cpp_direct.proofs.Scopes.{no-arguments}
 use Rattle.std.proofs.Common.{◌≡◌, ◌≢◌, ℕ, ◌+◌, length, List, [], ◌∷◌, ◌++◌, Bool, true, false, not, cond, refl, ap, sym, subst, ◌∙◌, arith, append_assoc, codes, append-nil}
@@ -46,7 +46,7 @@ not-so false other e h = sym e
 
 -- ## What was read
 
--- a name that comes awaits its items, and arguments may come after it
+-- an accepted name expects its items, and arguments may follow it
 named-has : (s : Symbol) (w : Direct) (p : AwaitsEncoding s w) (t : Term) (at : ℕ)
     → Named s (encoding-expected s w p).inner (in_name w.at) t at p.state → HasName s w.text.list.items w.at t at p.state
 named-has s w p t at is = record {
@@ -176,7 +176,7 @@ unscoped-bare s w from takes p = record {
       (expects-empty s Kind.MaybeArguments (after p.own false (in_name p.encoding)) p.has.inner w.at p.state p.has.awaits refl);
 }
 
--- a tag comes after it
+-- a tag follows it
 pub unscoped-tagged : (s : Symbol) (old new : Direct) (from : ℕ) (takes : Bool) (tag : List ℕ) → s.is_wide ≡ true → IsUnscoped s old from takes
     → IsTagAt s.bytes old.at tag new.at → Reads old new (tag_text tag) → IsUnscoped s new from takes
 unfolding with_tag has_return_type arguments_of is_structor
@@ -236,7 +236,7 @@ object-comes s opened_ encoding_ v at st comes =
     let items = encoding_.onward v at st comes in
     items.onward nothing_there at st (expects-empty s Kind.Items (in_types 2 (tree_of v)) items.inner at st items.awaits refl)
 
--- the encoding is expected that an entity is in, after this text, which is shown before that of an entity
+-- expects the encoding that contains an entity, after this text, which is shown before that of an entity
 entity-awaited : (s : Symbol) (opened_ : SymbolOpened s) (w : Direct) (lead : List ℕ) (outer : List Opened) (made : Term → Term) → is_local s.bytes ≡ true
     → w.text.list.items ≡ lead → w.candidates.list.items ≡ [] → (w.text.list.items ≡ [] → w.at ≡ encoding_place s.bytes) → LocalOpened s outer (in_name 2) w.at first_state
     → ((t : Term) (at : ℕ) (st : State) → Comes s outer (named t unqualified any_value) at st → Comes s opened_.inner (tree (made t) true) at st)
@@ -264,7 +264,7 @@ entity-awaited s opened_ w lead outer made is_there text_is none begins here com
   };
 }
 
--- that of a symbol that has no other text
+-- likewise for a symbol that has no other text
 pub local-begins : (s : Symbol) (w : Direct) → IsFresh w → is_local s.bytes ≡ true → StandsAt s.bytes 0 (95 ∷ 90 ∷ []) → StandsAt s.bytes 2 (90 ∷ [])
     → AwaitsEncoding s (record w { at = 3 })
 unfolding tree_of qualifiers_of ref_of first_state
@@ -275,7 +275,7 @@ local-begins s w fresh is_there starts letter =
     (λ none. sym (ap (λ b. cond b 3 2) is_there)) (local-opens s encoding_.inner (in_name 2) 2 first_state encoding_.awaits letter)
     (λ t at st comes. object-comes s opened_ encoding_ (named t unqualified any_value) at st comes) (λ t bytes p. p)
 
--- the same of a guard variable
+-- likewise for a guard variable
 pub guard-begins : (s : Symbol) (old new : Direct) → IsFresh old → is_local s.bytes ≡ true → StandsAt s.bytes 0 (95 ∷ 90 ∷ []) → StandsAt s.bytes 2 (71 ∷ 86 ∷ [])
     → StandsAt s.bytes 4 (90 ∷ []) → Writes old new (codes "guard variable for ") → AwaitsEncoding s (record new { at = 5 })
 unfolding tree_of qualifiers_of ref_of first_state

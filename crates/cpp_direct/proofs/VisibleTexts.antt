@@ -38,11 +38,11 @@ unmarked-join (x ∷ xs) ys = ap (λ l. unmarked_byte false x ∷ l) (unmarked-j
 
 -- ## Parts
 
--- in a stretch nothing is seen of it
+-- in a stretch nothing is visible of it
 abbrev IsHidden : Unshared → Type 0
 IsHidden u = (depth : ℕ) (rest : List ℕ) → visible (suc depth) (text_of u ++ rest) ≡ visible (suc depth) rest
 
--- outside of all the text of the other one is seen
+-- outside of all stretches the text of the other one is visible
 abbrev IsSeen : (u shown : Unshared) → Type 0
 IsSeen u v = (rest : List ℕ) → visible 0 (text_of u ++ rest) ≡ unmarked false (text_of v) ++ visible 0 rest
 
@@ -149,7 +149,7 @@ views d c left t = inl refl
 views d c low t = inl refl
 views d c form t = inl refl
 
--- so much is said of what is written of an item and of what it prints, each down to a depth
+-- this much is written of an item and of what it prints, each down to a depth
 step : (Q : List (PartOf Item) → List (PartOf Item) → Type 0) (d : Detail) → has_arguments d ≡ false
     → ((ps : List (PartOf Item)) → Q (not_empty (unmarked_parts false ps)) (not_empty ps))
     → ((c : Context) (t a : Term) → Q (not_empty (written_instance false c t a)) (not_empty (instance_parts false c t a)))
@@ -245,7 +245,7 @@ same-to d whole (suc n) i =
 
 -- ## Symbols
 
--- a text of which no byte is 0 without its marks has none
+-- a text without a byte 0 has no marks
 none-marked : (bytes : List ℕ) → HasNoZero (unmarked false bytes) → IsUnmarked bytes
 none-marked [] plain = refl
 none-marked (byte ∷ bytes) plain =
@@ -277,7 +277,7 @@ brief-shown s brief old new p is plain =
       cost = omega (arith, p.cost, shown-cost d none i);
     }
 
--- and where arguments are shown all of it is.
+-- and where arguments are shown that is all of it.
 pub whole-shown : (s : Symbol) → s.is_brief ≡ false → (bytes : List ℕ) → IsWhole s bytes → IsShown s (length bytes) bytes
 unfolding printed
 whole-shown s whole bytes p =
@@ -291,7 +291,7 @@ whole-shown s whole bytes p =
       cost = omega (arith, p.cost, ap cost_of same);
     }
 
--- So is what is left where something is.
+-- The same holds for what is left where something is.
 pub left-shown : {T : Type 0} (r : Option T) (s : Symbol) → s.is_brief ≡ true → (old new : List ℕ) → IsWhole s old → OnSome r (new ≡ visible 0 old)
     → OnSome r (HasNoZero new) → OnSome r (IsShown s (length old) new)
 left-shown None s brief old new p is plain = tt

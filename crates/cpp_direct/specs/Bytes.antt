@@ -1,10 +1,10 @@
--- The bytes at which a reader goes one way or another.
+-- The bytes at which a reader branches.
 use Rattle.std.specs.Prelude.{ℕ, List, ◌∷◌, ◌+◌, [], Bool, true, false, ◌||◌, ◌&&◌, nat_eq, nat_lt, cond}
 use Rattle.sym_core.specs.Number.{is_decimal_digit}
 use Rattle.cpp_grammar.specs.Grammar.{among}
 use Rattle.cpp_direct.specs.Letters.{builtin_letters, builtin_letters_with_d, abbreviation_letters}
 
--- the letters of the builtin types, but for those after a D
+-- the letters of the builtin types, except for those after a D
 unfoldable pub is_builtin : ℕ → Bool
 is_builtin byte = among builtin_letters byte
 
@@ -12,11 +12,11 @@ is_builtin byte = among builtin_letters byte
 unfoldable pub is_builtin_with_d : ℕ → Bool
 is_builtin_with_d byte = among builtin_letters_with_d byte
 
--- the letters after an S that stand for a class of std, or for std itself
+-- the letters after an S that denote a class of std, or std itself
 unfoldable pub is_abbreviated : ℕ → Bool
 is_abbreviated byte = among abbreviation_letters byte
 
--- no twenty digits are side by side, so many of them at the front
+-- no twenty digits are side by side; this counts those at the front
 unfoldable pub short_numbers : (run : ℕ) → List ℕ → Bool
 short_numbers run [] = true
 short_numbers run (b ∷ bs) = elim (is_decimal_digit b) [ true ↦ nat_lt run 19 && short_numbers (run + 1) bs | false ↦ short_numbers 0 bs ]

@@ -1,5 +1,5 @@
--- A symbol that is read from left to right while nothing is known of what comes after: what the rules that are open still need,
--- and that the whole is read once they have it.
+-- A symbol that is read from left to right while nothing is known of what follows: what the open rules still need, and that the
+-- whole is read once they have it.
 use Rattle.std.specs.Prelude.{◌≡◌, ℕ, ◌+◌, List, [], ◌∷◌, ◌++◌, length, Bool, true, false}
 use Rattle.sym_core.specs.declared.NameClass.TheVariants.{Cpp}
 use Rattle.sym_core.specs.declared.NumberKind.{NumberKind}
@@ -19,7 +19,7 @@ use Rattle.cpp_grammar.specs.Between.{after, no_items}
 use Rattle.cpp_grammar.specs.Unfolding.{cpp, first_around, first_state}
 use Rattle.cpp_direct.specs.Symbol.{Symbol, table_by}
 
--- C++ as a language to be read so
+-- C++ as a language for this reader
 abbrev pub cpp_language : Symbol → Language Value State Around
 cpp_language s = record { table = table_by s.is_wide; reading = λ bytes. cpp; first_context = first_around; first_state = first_state }
 
@@ -37,7 +37,7 @@ ReadsRest s rule known todo at bytes before vs after = direct.ReadsRest (cpp_lan
 abbrev pub StandsAt : (s : List ℕ) → (at : ℕ) → (bytes : List ℕ) → Type 0
 StandsAt s at bytes = direct.StandsAt s at bytes
 
--- The innermost of the open rules has the next one of its values: each part has one in C++.
+-- The innermost open rule has its next value: in C++ each part has one.
 abbrev pub Comes : (s : Symbol) → List Opened → Value → (at : ℕ) → State → Type 0
 Comes s os v at state = direct.Comes (cpp_language s) s.bytes os (v ∷ []) at state
 
@@ -50,7 +50,7 @@ ExpectsSym s x around os at state = direct.Expects (cpp_language s) s.bytes x ar
 abbrev pub Expects : (s : Symbol) → Kind → Around → List Opened → (at : ℕ) → State → Type 0
 Expects s kind around os at state = ExpectsSym s (OfKind (number_of_kind kind)) around os at state
 
--- A part of this kind is expected, and the reader goes on so after it.
+-- Expects a part of this kind, after which the reader continues this way.
 pub record Awaits (s : Symbol) (kind : Kind) (around : Around) (at : ℕ) (st : State) (Onward : List Opened → Type 0) : Type 0 where
   pub inner : List Opened
   pub awaits : Expects s kind around inner at st
@@ -73,7 +73,7 @@ unless_listed false around t state = with_candidate around t state
 
 -- ## What is read
 
--- a name is at the place, with these bytes of its own, and this is the place after it
+-- a name is at the place, with these bytes, and this is the place after it
 pub record IsNameAt (s : List ℕ) (at : ℕ) (name : List ℕ) (end : ℕ) : Type 0 where
   pub token : Token
   pub is_name : IsName Cpp token
@@ -119,11 +119,11 @@ IsListKind Kind.PackList = Unit {0}
 IsListKind Kind.Items = Unit {0}
 IsListKind _ = ⊥
 
--- what comes inside comes outside as well
+-- what is accepted inside is accepted outside as well
 abbrev pub SamePasses : (s : Symbol) → (inner outer : List Opened) → Type 0
 SamePasses s inner outer = (v : Value) (at : ℕ) (st : State) → Comes s inner v at st → Comes s outer v at st
 
--- a type that comes inside makes the one that comes outside, which is a candidate
+-- a type accepted inside makes the outer one, which is a candidate
 abbrev pub TypePasses : (s : Symbol) → (inner outer : List Opened) → Around → (made : Term → Term) → Type 0
 TypePasses s inner outer around made =
     (t : Term) (at : ℕ) (st : State) → Comes s inner (tree t true) at st → Comes s outer (tree (made t) true) at (with_candidate around (made t) st)
@@ -149,7 +149,7 @@ pub record Named (s : Symbol) (outer : List Opened) (around : Around) (t : Term)
   pub argued : (a : Term) (at : ℕ) (st : State) → Comes s inner (tree a true) at st → Comes s outer (tree (instance t a) false) at st
   pub renamed : (u : Term) (at : ℕ) (st : State) → Comes s inner (bare_name u) at st → Comes s outer (tree u false) at st
 
--- Of a nested name this much is read, and what comes of it comes outside.
+-- This much of a nested name is read, and what it becomes is accepted outside.
 pub record NestGoesOn (s : Symbol) (kind : Kind) (outer : List Opened) (around : Around) (t : Term) (listed : Bool) (at : ℕ) (st : State) : Type 0 where
   pub inner : List Opened
   pub awaits : Expects s kind (after t listed around) inner at st
@@ -168,16 +168,16 @@ pub record NestNamed (s : Symbol) (outer : List Opened) (around : Around) (t : T
   pub argued : (a : Term) (at : ℕ) (st : State) → Comes s inner (tree a true) at st → NestGoesOn s Kind.NestTail outer around (instance t a) false at st
   pub renamed : (u : Term) (at : ℕ) (st : State) → Comes s inner (bare_name u) at st → NestGoesOn s Kind.NestTail outer around u false at st
 
--- A list goes on after an element.
+-- A list continues after an element.
 abbrev pub ListGoesOn : (s : Symbol) (kind : Kind) (outer : List Opened) (around : Around) (t : Term) (at : ℕ) (st : State) → Type 0
 ListGoesOn s kind outer around t at st = Awaits s kind around at st (λ inner.
     (l : Value) (at : ℕ) (st : State) → Comes s inner l at st → Comes s outer (tree (list t (no_items l)) true) at st)
 
--- An element of a list is expected, which is read as this.
+-- Expects an element of a list, which is read as this.
 abbrev pub AwaitsElementAs : (s : Symbol) (as_kind kind : Kind) (outer : List Opened) (around : Around) (at : ℕ) (st : State) → Type 0
 AwaitsElementAs s as_kind kind outer around at st = Awaits s as_kind around at st (λ inner.
     (t : Term) (at : ℕ) (st : State) → Comes s inner (tree t true) at st → ListGoesOn s kind outer around t at st)
 
--- one that is a type
+-- an element that is a type
 abbrev pub AwaitsElement : (s : Symbol) (kind : Kind) (outer : List Opened) (around : Around) (at : ℕ) (st : State) → Type 0
 AwaitsElement s kind outer around at st = AwaitsElementAs s Kind.Item kind outer around at st

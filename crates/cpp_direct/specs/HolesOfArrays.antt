@@ -1,4 +1,4 @@
--- What is expected within an array, and what comes of it.
+-- What is expected within an array, and what becomes of it.
 use Rattle.std.specs.Prelude.{ℕ, List, [], ◌∷◌, Bool, true, false, codes}
 use Rattle.sym_core.specs.declared.NumberKind.TheVariants.{Decimal}
 use Rattle.cpp_grammar.specs.declared.kind.Kind.{Kind}
@@ -43,7 +43,7 @@ array_opening accesses.Plain = codes " ["
 array_opening accesses.Pointer = codes " (*)["
 array_opening accesses.Lvalue = codes " (&)["
 
--- After its size the type of an array's elements is expected.
+-- After its size expects the type of an array's elements.
 abbrev pub ArrayOpened : (s : Symbol) (outer : List Opened) (around : Around) (access : Access) (digits : List ℕ) (at : ℕ) (st : State) → Type 0
 ArrayOpened s outer around access digits at st = Awaits s Kind.Type around at st (λ inner.
     (t : Term) (at : ℕ) (st : State) → Comes s inner (tree t true) at st

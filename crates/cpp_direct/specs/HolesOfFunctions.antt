@@ -1,4 +1,4 @@
--- What is expected within a function type, and what comes of it.
+-- What is expected within a function type, and what becomes of it.
 use Rattle.std.specs.Prelude.{◌≡◌, ℕ, ◌+◌, List, Bool, true, false}
 use Rattle.cpp_grammar.specs.declared.kind.Kind.{Kind}
 use Rattle.cpp_grammar.specs.Term.{Term, any_value, function_type, pointer, lvalue, rvalue, list}
@@ -7,7 +7,7 @@ use Rattle.cpp_grammar.specs.Values.{State, Around, outermost, tree, signature}
 use Rattle.cpp_direct.specs.Symbol.{Symbol}
 use Rattle.cpp_direct.specs.Holes.{Awaits, Comes, Expects, Opened, TypePasses, with_candidate}
 
--- a function type with this return type and these parameters, and nothing else to it
+-- a plain function type with this return type and these parameters
 abbrev pub plain_function : (returned : Term) → (items : Term) → Term
 plain_function returned items = function_type false false any_value returned (parameters items)
 
@@ -21,7 +21,7 @@ abbrev pub with_pointed : (is_pointer : Bool) → Around → Term → State → 
 with_pointed true around t st = with_candidate around (pointer t) (with_candidate around t st)
 with_pointed false around t st = with_candidate around t st
 
--- Of a function type, or of one that is pointed to, this much is read, and parameters go on.
+-- This much is read of a function type, or of a pointer to one, and parameters continue.
 pub record SignatureGoesOn (s : Symbol) (outer : List Opened) (made_in : Around) (is_pointer : Bool) (made : Term → Term) (at : ℕ) (st : State) : Type 0 where
   pub around : Around
   pub outside : around.prefix ≡ outermost
@@ -55,7 +55,7 @@ abbrev pub reference_letter : (is_lvalue : Bool) → ℕ
 reference_letter true = 82
 reference_letter false = 79
 
--- A parameter is expected that is a reference, after its letter: what it is a reference to comes first.
+-- Expects a parameter that is a reference, after its letter: the referenced type comes first.
 pub record ReferenceOpened (s : Symbol) (outer : List Opened) (made_in : Around) (is_pointer is_lvalue : Bool) (made : Term → Term) (at : ℕ) (st : State) : Type 0 where
   pub around : Around
   pub outside : around.prefix ≡ outermost

@@ -15,13 +15,13 @@ template_named name = alone (source false name)
 abbrev pub member_of : (instance : Term) → (name : List ℕ) → Term
 member_of u name = operation 115 114 u (alone (source false name))
 
--- An E, the name of a member of this instance and an E are expected, and the member comes.
+-- Expects an E, the name of a member of this instance and an E, and accepts the member.
 abbrev pub MemberComes : (s : Symbol) → List Opened → (instance : Term) → (at : ℕ) → State → Type 0
 MemberComes s os u at st =
     (name : List ℕ) (end : ℕ) → StandsAt s.bytes at (69 ∷ []) → IsNameAt s.bytes (at + 1) name end → StandsAt s.bytes end (69 ∷ [])
     → Comes s os (tree (member_of u name) true) (end + 1) st
 
--- After the name of a template and an I arguments are expected; after their E a member of the instance is.
+-- After the name of a template and an I expects arguments; after their E, a member of the instance.
 abbrev pub LevelOpened : (s : Symbol) (outer : List Opened) (around : Around) (name : List ℕ) (at : ℕ) (st : State) → Type 0
 LevelOpened s outer around name at st = Awaits s Kind.ArgumentList (inside around) at st (λ inner.
     (l : Value) (at : ℕ) (st : State) → Comes s inner l at st → StandsAt s.bytes at (69 ∷ [])

@@ -1,4 +1,4 @@
--- What is expected in lists, in encodings and in whole symbols that are read from left to right, and what comes of it.
+-- What is expected in lists, in encodings and in whole symbols that are read from left to right, and what becomes of it.
 use Rattle.std.specs.Prelude.{◌≡◌, ℕ, ◌+◌, List, [], ◌∷◌, ◌++◌, length, Bool, true, false, Ok}
 use Rattle.std.specs.List.{AllByRecursion}
 use Rattle.sym_core.specs.declared.NumberKind.TheVariants.{Digits}
@@ -16,7 +16,7 @@ use Rattle.cpp_direct.specs.ItemBytes.{is_suffix_byte}
 
 -- ## Lists
 
--- After an I the arguments are expected; at an E they are the arguments of what comes before them.
+-- After an I the arguments are expected; at an E they are the arguments of what precedes them.
 abbrev pub ArgumentsOpened : (s : Symbol) (outer : List Opened) (around : Around) (at : ℕ) (st : State) → Type 0
 ArgumentsOpened s outer around at st = Awaits s Kind.ArgumentList (inside around) at st (λ inner.
     (l : Value) (at : ℕ) (st : State) → Comes s inner l at st → StandsAt s.bytes at (69 ∷ [])
@@ -28,13 +28,13 @@ IsArgumentKind Kind.ArgumentList = Unit {0}
 IsArgumentKind Kind.PackList = Unit {0}
 IsArgumentKind _ = ⊥
 
--- After an L a literal is expected, which ends at an E.
+-- After an L expects a literal, which ends at an E.
 abbrev pub LiteralOpened : (s : Symbol) (kind : Kind) (outer : List Opened) (around : Around) (at : ℕ) (st : State) → Type 0
 LiteralOpened s kind outer around at st = Awaits s Kind.Literal around at st (λ inner.
     (t : Term) (at : ℕ) (st : State) → Comes s inner (tree t true) at st → StandsAt s.bytes at (69 ∷ [])
     → ListGoesOn s kind outer around t (at + 1) st)
 
--- After a J the elements of a pack are expected, which ends at an E.
+-- After a J expects the elements of a pack, which ends at an E.
 abbrev pub PackOpened : (s : Symbol) (outer : List Opened) (around : Around) (at : ℕ) (st : State) → Type 0
 PackOpened s outer around at st = Awaits s Kind.PackList around at st (λ inner.
     (l : Value) (at : ℕ) (st : State) → Comes s inner l at st → StandsAt s.bytes at (69 ∷ [])
@@ -44,12 +44,12 @@ PackOpened s outer around at st = Awaits s Kind.PackList around at st (λ inner.
 abbrev pub IsDigitsAt : (s : List ℕ) → (at : ℕ) → (digits : List ℕ) → (end : ℕ) → Type 0
 IsDigitsAt s at digits end = IsNumberAt Digits s at digits end
 
--- what comes before the digits of an integer
+-- what precedes the digits of an integer
 abbrev pub minus_sign : Bool → List ℕ
 minus_sign true = 110 ∷ []
 minus_sign false = []
 
--- After an L the type of an enumerator is expected, then its number and an E.
+-- After an L expects the type of an enumerator, then its number and an E.
 pub record EnumeratorOpened (s : Symbol) (kind : Kind) (outer : List Opened) (around : Around) (at : ℕ) (st : State) : Type 0 where
   pub inner : List Opened
   pub opens : TreeOpens s Kind.LiteralType inner around at st
@@ -57,7 +57,7 @@ pub record EnumeratorOpened (s : Symbol) (kind : Kind) (outer : List Opened) (ar
       → StandsAt s.bytes at (minus_sign negative) → IsDigitsAt s.bytes (at + length (minus_sign negative)) digits end → StandsAt s.bytes end (69 ∷ [])
       → ListGoesOn s kind outer around (integer t (signed_digits negative digits)) (end + 1) st
 
--- After XadL_Z the encoding is expected whose address an argument is, then two E.
+-- After XadL_Z expects the encoding whose address an argument is, then two E.
 abbrev pub AddressOpened : (s : Symbol) (outer : List Opened) (around : Around) (at : ℕ) (st : State) → Type 0
 AddressOpened s outer around at st = Awaits s Kind.Encoding around at st (λ inner.
     (e : Term) (at : ℕ) (st : State) → Comes s inner (tree e true) at st → StandsAt s.bytes at (69 ∷ 69 ∷ [])
@@ -65,17 +65,17 @@ AddressOpened s outer around at st = Awaits s Kind.Encoding around at st (λ inn
 
 -- ## Encodings
 
--- The items of an encoding with this name are expected; there may be none.
+-- Expects the items of an encoding with this name; there may be none.
 abbrev pub ItemsOpened : (s : Symbol) (outer : List Opened) (encoding : ℕ) (name : Value) (at : ℕ) (st : State) → Type 0
 ItemsOpened s outer encoding name at st = Awaits s Kind.Items (in_types encoding (tree_of name)) at st (λ inner.
     (l : Value) (at : ℕ) (st : State) → Comes s inner l at st → Comes s outer (tree (encoding_of name (no_items l)) true) at st)
 
--- The name of an encoding that begins here is expected.
+-- Expects the name of an encoding that begins here.
 abbrev pub EncodingOpened : (s : Symbol) (outer : List Opened) (at : ℕ) (st : State) → Type 0
 EncodingOpened s outer at st = Awaits s Kind.CompleteName (in_name at) at st (λ inner.
     (v : Value) (here : ℕ) (st : State) → Comes s inner v here st → ItemsOpened s outer at v here st)
 
--- The type of a special object of an encoding that begins at a place is expected.
+-- Expects the type of a special object of an encoding that begins at a place.
 abbrev pub SpecialOpened : (s : Symbol) (outer : List Opened) (encoding letter : ℕ) (at : ℕ) (st : State) → Type 0
 SpecialOpened s outer encoding letter at st = Awaits s Kind.Type (in_name encoding) at st (λ inner.
     (t : Term) (at : ℕ) (st : State) → Comes s inner (tree t true) at st → Comes s outer (tree (special letter t) true) at st)
@@ -90,7 +90,7 @@ pub record IsOffsetAt (s : List ℕ) (at : ℕ) (end : ℕ) : Type 0 where
   pub line : StandsAt s behind (95 ∷ [])
   pub ends : end ≡ behind + 1
 
--- The base encoding of one that begins at a place is expected, of a thunk or of a clone, and this is made of it.
+-- Expects the base encoding of a thunk or of a clone that begins at a place, and makes this of it.
 abbrev pub BaseOpened : (s : Symbol) (outer : List Opened) (encoding : ℕ) (made : Term → Term) (at : ℕ) (st : State) → Type 0
 BaseOpened s outer encoding made at st = Awaits s Kind.Encoding (in_name encoding) at st (λ inner.
     (e : Term) (at : ℕ) (st : State) → Comes s inner (tree e true) at st → Comes s outer (tree (made e) true) at st)
@@ -100,17 +100,17 @@ abbrev pub const_letter : (const : Bool) → List ℕ
 const_letter true = 75 ∷ []
 const_letter false = []
 
--- and the one after it that tells what the function may be called on
+-- and the one after it, which says what the function may be called on
 abbrev pub mark_letters : (const : Bool) → RefQualifier → List ℕ
 mark_letters const any_value = const_letter const
 mark_letters const lvalue_only = const_letter const ++ 82 ∷ []
 mark_letters const rvalue_only = const_letter const ++ 79 ∷ []
 
--- what a nested name begins with that has these qualifiers
+-- how a nested name with these qualifiers begins
 abbrev pub nest_marks : (const : Bool) → RefQualifier → List ℕ
 nest_marks const on = 78 ∷ mark_letters const on
 
--- The parts of a nested name are expected, which has these qualifiers.
+-- Expects the parts of a nested name that has these qualifiers.
 abbrev pub NestOpened : (s : Symbol) (outer : List Opened) (around : Around) (const : Bool) (on : RefQualifier) (at : ℕ) (st : State) → Type 0
 NestOpened s outer around const on at st = Awaits s Kind.Nest around at st (λ inner.
     (t : Term) (listed : Bool) (at : ℕ) (st : State) → Comes s inner (tree t listed) at st
@@ -124,7 +124,7 @@ IsSuffix [] = ⊥
 IsSuffix (d ∷ []) = ⊥
 IsSuffix (d ∷ b ∷ bs) = (d ≡ 46) × AllByRecursion (λ c. is_suffix_byte c ≡ true) (b ∷ bs)
 
--- The encoding of a symbol is expected, which ends the symbol or comes before its suffix.
+-- Expects the encoding of a symbol, which ends the symbol or precedes its suffix.
 pub record SymbolOpened (s : Symbol) : Type 0 where
   pub inner : List Opened
   pub awaits : Expects s Kind.Encoding first_around inner 2 first_state

@@ -1,4 +1,4 @@
--- What is expected in the name of a local entity, and what comes of it.
+-- What is expected in the name of a local entity, and what becomes of it.
 use Rattle.std.specs.Prelude.{◌≡◌, ◌≢◌, ℕ, ◌+◌, ◌≤◌, List, [], ◌∷◌, ◌++◌, Bool, true, false, cond, Option, Some, None}
 use Rattle.cpp_grammar.specs.declared.kind.Kind.{Kind}
 use Rattle.cpp_grammar.specs.Term.{Term, any_value, of_name, local, within, source, lambda}
@@ -9,13 +9,13 @@ use Rattle.cpp_direct.specs.Symbol.{Symbol}
 use Rattle.cpp_direct.specs.Holes.{Awaits, Comes, Expects, IsNameAt, Opened, StandsAt}
 use Rattle.cpp_direct.specs.HolesOfLists.{IsDigitsAt}
 
--- What comes after the name of an entity: nothing, a digit after a _, or digits after two and before another one.
+-- What follows the name of an entity: nothing, a digit after a _, or digits after two and before another one.
 pub data Discriminator : Type 0 where
   unnumbered : Discriminator
   by_digit : ℕ → Discriminator
   by_digits : List ℕ → Discriminator
 
--- what it stands for
+-- what it denotes
 abbrev pub discriminator_value : Discriminator → Value
 discriminator_value unnumbered = nothing_there
 discriminator_value (by_digit digit) = text (digit ∷ [])
@@ -45,7 +45,7 @@ local_in e p digit = local e (within e p) (discriminator_of (discriminator_value
 abbrev pub entity_in : (e : Term) → (internal : Bool) → (name : List ℕ) → (digit : Discriminator) → Term
 entity_in e internal name digit = local_in e (source internal name) digit
 
--- The encoding is expected in which an entity is.
+-- Expects the encoding that contains an entity.
 abbrev pub LocalOpened : (s : Symbol) (outer : List Opened) (around : Around) (at : ℕ) (st : State) → Type 0
 LocalOpened s outer around at st = Awaits s Kind.Encoding around at st (λ inner.
     (e : Term) (at : ℕ) (st : State) → Comes s inner (tree e true) at st → (internal : Bool) (name : List ℕ) (digit : Discriminator) (end : ℕ)
@@ -57,7 +57,7 @@ IsPieceAt s at p end =
     (os : List Opened) (around : Around) (e : Term) (st : State) → Expects s Kind.TypeEntity (after e true around) os at st
     → Comes s os (tree (within e p) false) end st
 
--- The name of a type in this encoding is expected, and something becomes of the type.
+-- Expects the name of a type in this encoding, and makes something of the type.
 pub record EntityOpened (s : Symbol) (becomes : Term → (at : ℕ) → State → Type 0) (e : Term) (at : ℕ) (st : State) : Type 0 where
   pub around : Around
   pub inner : List Opened
@@ -65,7 +65,7 @@ pub record EntityOpened (s : Symbol) (becomes : Term → (at : ℕ) → State �
   pub onward : (p : Term) (at : ℕ) (st : State) → Comes s inner (tree (within e p) false) at st → (digit : Discriminator) (end : ℕ)
       → IsDiscriminatorAt s.bytes at digit end → becomes (local_in e p digit) end st
 
--- The encoding is expected in which a type is.
+-- Expects the encoding that contains a type.
 abbrev pub LocalTypeOpened : (s : Symbol) (outer : List Opened) (around : Around) (at : ℕ) (st : State) → Type 0
 LocalTypeOpened s outer around at st = Awaits s Kind.Encoding around at st (λ inner.
     (e : Term) (at : ℕ) (st : State) → Comes s inner (tree e true) at st → StandsAt s.bytes at (69 ∷ [])
@@ -94,7 +94,7 @@ lambda_with items number = lambda (parameters items) (local_number (lambda_digit
 abbrev pub lambda_ending : Option ℕ → List ℕ
 lambda_ending number = 69 ∷ (lambda_digits number ++ 95 ∷ [])
 
--- The name is expected of which a variable is the guard, in an encoding that begins at a place.
+-- Expects the name of the variable that a guard variable guards, in an encoding that begins at a place.
 abbrev pub GuardOpened : (s : Symbol) (outer : List Opened) (encoding : ℕ) (at : ℕ) (st : State) → Type 0
 GuardOpened s outer encoding at st = Awaits s Kind.CompleteName (in_name encoding) at st (λ inner.
     (v : Value) (at : ℕ) (st : State) → Comes s inner v at st

@@ -7,7 +7,7 @@ use Rattle.cpp_grammar.specs.Between.{inside, no_items}
 use Rattle.cpp_direct.specs.Symbol.{Symbol}
 use Rattle.cpp_direct.specs.Holes.{Awaits, AwaitsComponent, Comes, NestGoesOn, Opened, StandsAt, unless_listed, with_candidate}
 
--- a nested name may go on as one of these kinds
+-- a nested name may continue as one of these kinds
 abbrev pub IsRest : Kind → Type 0
 IsRest Kind.NestRestAlone = Unit {0}
 IsRest Kind.NestRestOrEnd = Unit {0}
@@ -21,13 +21,13 @@ IsFirstRest Kind.NestRestAlone = Unit {0}
 IsFirstRest Kind.NestRestOrEnd = Unit {0}
 IsFirstRest _ = ⊥
 
--- Arguments of the name so far are expected after an I, and after their E a component.
+-- Expects arguments of the name so far after an I, and after their E a component.
 abbrev pub AwaitsArguments : (s : Symbol) (outer : List Opened) (around : Around) (t : Term) (listed : Bool) (at : ℕ) (st : State) → Type 0
 AwaitsArguments s outer around t listed at st = Awaits s Kind.ArgumentList (inside around) (at + 1) (unless_listed listed around t st) (λ inner.
     (l : Value) (at : ℕ) (st : State) → Comes s inner l at st → StandsAt s.bytes at (69 ∷ [])
     → AwaitsComponent s outer around (instance t (no_items l)) (at + 1) (with_candidate around (instance t (no_items l)) st))
 
--- The same of a name that an S stands for: after the E a component follows, or by the wide grammar the name ends.
+-- Likewise for a substituted name: after the E a component follows, or in the wide grammar the name ends.
 abbrev pub AwaitsInstance : (s : Symbol) (outer : List Opened) (around : Around) (t : Term) (listed : Bool) (at : ℕ) (st : State) → Type 0
 AwaitsInstance s outer around t listed at st = Awaits s Kind.ArgumentList (inside around) (at + 1) (unless_listed listed around t st) (λ inner.
     (l : Value) (at : ℕ) (st : State) → Comes s inner l at st → StandsAt s.bytes at (69 ∷ [])

@@ -1,4 +1,4 @@
--- What is expected within a type, and what comes of it.
+-- What is expected within a type, and what becomes of it.
 use Rattle.std.specs.Prelude.{◌≡◌, ℕ, List, [], ◌∷◌, Bool, true, false}
 use Rattle.cpp_grammar.specs.declared.kind.Kind.{Kind}
 use Rattle.cpp_grammar.specs.Term.{Term, qualified}
@@ -7,7 +7,7 @@ use Rattle.cpp_grammar.specs.References.{is_function_type}
 use Rattle.cpp_direct.specs.Symbol.{Symbol}
 use Rattle.cpp_direct.specs.Holes.{Awaits, Comes, Opened, StandsAt, TypeNamed, TypePasses, unless_listed}
 
--- const and nothing else
+-- only const
 abbrev pub as_const : Term → Term
 as_const t = qualified (record { restrict = false; volatile = false; const = true }) t
 
@@ -28,23 +28,23 @@ IsNamedKind Kind.Solid = Unit {0}
 IsNamedKind Kind.LiteralType = Unit {0}
 IsNamedKind _ = ⊥
 
--- A type of this kind is expected within another, which is made of it.
+-- Expects a type of this kind within another, which is made of it.
 abbrev pub TypeOpens : (s : Symbol) (kind : Kind) (outer : List Opened) (around : Around) (made : Term → Term) (at : ℕ) (st : State) → Type 0
 TypeOpens s kind outer around made at st = Awaits s kind around at st (λ inner.
     TypePasses s inner outer around made)
 
--- a tree of this kind, which is no function type, becomes a candidate unless it is one already or never is one
+-- a tree of this kind, other than a function type, becomes a candidate unless it is one already or never is one
 abbrev pub TreePasses : (s : Symbol) → (inner outer : List Opened) → Around → Type 0
 TreePasses s inner outer around =
     (t : Term) (listed : Bool) (at : ℕ) (st : State) → is_function_type t ≡ false → Comes s inner (tree t listed) at st
     → Comes s outer (tree t true) at (unless_listed listed around t st)
 
--- A part of this kind is expected, which is the whole type.
+-- Expects a part of this kind, which is the whole type.
 abbrev pub TreeOpens : (s : Symbol) (kind : Kind) (outer : List Opened) (around : Around) (at : ℕ) (st : State) → Type 0
 TreeOpens s kind outer around at st = Awaits s kind around at st (λ inner.
     TreePasses s inner outer around)
 
--- A name of a type is expected after an S.
+-- Expects a name of a type after an S.
 abbrev pub NameOpens : (s : Symbol) (kind : Kind) (outer : List Opened) (around : Around) (at : ℕ) (st : State) → Type 0
 NameOpens s kind outer around at st = Awaits s kind around at st (λ inner.
     (t : Term) (listed : Bool) (at : ℕ) (st : State) → Comes s inner (tree t listed) at st → TypeNamed s outer around t listed at st)

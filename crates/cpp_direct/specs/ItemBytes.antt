@@ -1,4 +1,4 @@
--- Classes of bytes that are looked at while a symbol is read from left to right.
+-- Classes of bytes that are examined while a symbol is read from left to right.
 use Rattle.std.specs.Prelude.{ℕ, Bool, ◌||◌, ◌&&◌, nat_le, codes}
 use Rattle.cpp_grammar.specs.Grammar.{among}
 use Rattle.cpp_direct.specs.Letters.{integer_letters, special_letters}

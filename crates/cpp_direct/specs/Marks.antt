@@ -1,4 +1,4 @@
--- The qualifiers of member functions: where they are, what they are of, and what is written of them.
+-- The qualifiers of member functions: where they are, what they qualify, and what is written for them.
 use Rattle.std.specs.Prelude.{◌≡◌, ℕ, ◌+◌, List, [], length, Bool, true, false, codes}
 use Rattle.cpp_grammar.specs.Term.{RefQualifier, any_value, lvalue_only, rvalue_only}
 use Rattle.cpp_direct.specs.declared.marks.MarkPlace.{MarkPlace}

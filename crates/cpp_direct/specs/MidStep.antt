@@ -35,12 +35,12 @@ use Rattle.cpp_direct.specs.Marks.{has_const, called_on, mark_text}
 use Rattle.cpp_direct.specs.Prints.{NamesClass, Prints, PrintsName, IsElement, PrintAll, Shows, Encloses, sign_text, PrintsAs, PrintsIn, PrintAllAs, IsGiven, PrintAllBy, PrintsMade, pattern_letters}
 use Rattle.cpp_direct.specs.WriterInvariant.{AwaitsItems, TakesItems, Encoded, EncodedBehind, Fronts, IsListing, IsTail, IsTemplate, GoesOn, EnumeratorGoesOn, Owns, ParametersGoOn, Serves, Stands, TakesFunction, opening_text, qualifiers, arguments_or_pack, extra_of, led_by, list_with, in_front_of_next, ComeBefore, AreAmong, HasArguments, HasNameSo, HasPack, IsAmong, IsPackOf, IsSingle, IsKnown, IsMadeIn, IsScoped, is_type, place_of, IsNaming, IsNestScoped, Scope, below, is_noted, may_name, encoding_place, IsNesting, Kept, IsBetween, AwaitsTypeIn, HasInstance, HasParameters, IsNestSoFar, FirstType, IsTaken}
 
--- the digits after the T of a parameter with this number, of which there is one at most
+-- the digits after the T of a parameter with this number; there is at most one digit
 abbrev pub parameter_digits : (number : ℕ) → List ℕ
 parameter_digits zero = []
 parameter_digits (suc before) = (48 + before) ∷ []
 
--- that is so up to this number
+-- that holds up to this number
 abbrev pub most_by_digit : ℕ
 most_by_digit = 10
 
@@ -75,7 +75,7 @@ pub record AwaitsName (s : Symbol) (w : Direct) : Type 0 where
   pub awaits : Expects s Kind.CompleteName (in_name encoding) outer w.at state
   pub onward : (v : Value) (at : ℕ) (st : State) → Comes s outer v at st → AwaitsItems s w.text.list.items v at st
 
--- the name of an encoding that began before is expected, after the L of internal linkage or without
+-- expects the name of an encoding that began before, after the L of internal linkage or without one
 pub record AwaitsSource (s : Symbol) (w : Direct) (is_internal : Bool) : Type 0 where
   pub before : ℕ
   pub awaits : AwaitsEncoding s (record w { at = before })
@@ -90,7 +90,7 @@ pub record HasName (s : Symbol) (lead : List ℕ) (encoding : ℕ) (t : Term) (a
   pub argued : (a : Term) (at : ℕ) (st : State) → Comes s inner (tree a true) at st → AwaitsItems s lead (tree (instance t a) false) at st
   pub renamed : (u : Term) (at : ℕ) (st : State) → Comes s inner (bare_name u) at st → AwaitsItems s lead (tree u false) at st
 
--- The name of an encoding that is in no class was read, and written from a place on. It takes arguments after it, or may have none.
+-- The name of an encoding that is in no class was read, and written from a place on. It accepts arguments, or may have none.
 pub record IsUnscoped (s : Symbol) (w : Direct) (from : ℕ) (takes : Bool) : Type 0 where
   pub kept : Kept s w
   pub open kept use *
@@ -117,7 +117,7 @@ pub record AwaitsType (s : Symbol) (w : Direct) : Type 0 where
   pub referable : IsReferable kind ⊎ NoReference s.bytes w.at
   pub awaits : Expects s kind around os w.at state
 
--- a type is expected that is a name
+-- expects a type that is a name
 pub record AwaitsNamedType (s : Symbol) (w : Direct) : Type 0 where
   pub kept : Kept s w
   pub open kept use *
@@ -127,7 +127,7 @@ pub record AwaitsNamedType (s : Symbol) (w : Direct) : Type 0 where
   pub is_named : IsNamedKind kind
   pub begins : TreeOpens s kind os around w.at state
 
--- A substitution was read that names a type, which names an argument of the function's template.
+-- A substitution was read for a type that names an argument of the function's template.
 pub record IsNamedAgain (s : Symbol) (w : Direct) (k : Candidate) : Type 0 where
   pub before : ℕ
   pub awaits : AwaitsNamedType s (record w { at = before })
@@ -156,7 +156,7 @@ pub record IsTypeNamed (s : Symbol) (w : Direct) (from : ℕ) (is_listed is_refe
   pub stands : Stands s scope (reverse w.waiting.list.items) outer front
   pub scoped : IsScoped scope around (reverse w.waiting.list.items)
 
--- A type was read that what waits for it marks. It was written from a place on, but for its mark.
+-- A type was read that the waiting entry marks. It was written from a place on, except for its mark.
 pub record AwaitsMark (s : Symbol) (w : Direct) (mark : List ℕ) (from : ℕ) (is_reference is_dependent : Bool) : Type 0 where
   pub kept : Kept s w
   pub open kept use *
@@ -181,13 +181,13 @@ abbrev pub argument_entry : (is_pack : Bool) → (from number : ℕ) → (known 
 argument_entry false from number known = opens.Argument from number known
 argument_entry true from number known = opens.Element from number known
 
--- and what is open around that
+-- and the entry open around that
 abbrev pub argument_around : (is_pack : Bool) → (owner : Open) → (rest : List Open) → List Open
 argument_around false owner rest = owner ∷ rest
 argument_around true owner rest = opens.Pack ∷ owner ∷ rest
 
--- An argument of a name was read, or an element of a pack among them, after so many others. It is a type, or the first argument
--- and a literal.
+-- An argument of a name was read, or an element of a pack among them, after n others. It is a type, or the first argument and a
+-- literal.
 pub record IsArgumentRead (s : Symbol) (w : Direct) (is_pack : Bool) (from number : ℕ) (known : Arguments) (is_reference : Bool) : Type 0 where
   pub kept : Kept s w
   pub open kept use *
@@ -213,7 +213,7 @@ pub record IsArgumentRead (s : Symbol) (w : Direct) (is_pack : Bool) (from numbe
   pub prints : Prints (detail_of s) t bytes is_reference
   pub goes : GoesOn s (arguments_or_pack is_pack before before_text) owner (below s scope rest) front template (ts ++ t ∷ []) w.at state
 
--- Another one is expected, after so many and one more, of which some are known.
+-- Expects another argument after n + 1, with the known ones recorded.
 pub record AwaitsKnownArgument (s : Symbol) (w : Direct) (is_pack : Bool) (last : ℕ) (known : Arguments) : Type 0 where
   pub kept : Kept s w
   pub open kept use *
@@ -247,7 +247,7 @@ pub record AwaitsNest (s : Symbol) (w : Direct) (purpose : Purpose) : Type 0 whe
   pub scoped : is_type purpose ≡ true → IsScoped scope around (reverse w.waiting.list.items)
   pub serves : Serves s purpose (below s scope (reverse w.waiting.list.items)) outer w.text.list.items
 
--- A name that an S stands for was read at the front of a nested one.
+-- A substituted name was read at the front of a nested one.
 pub record IsNestKnown (s : Symbol) (w : Direct) : Type 0 where
   pub kept : Kept s w
   pub open kept use *
@@ -256,7 +256,7 @@ pub record IsNestKnown (s : Symbol) (w : Direct) : Type 0 where
   pub listed : w.nest.is_listed ≡ true
   pub no_structor : w.nest.has_class ≡ true → is_structor own ≡ false
 
--- A component of a nested name was read, or a name in std. Arguments may come after it, or tags.
+-- A component of a nested name was read, or a name in std. Arguments or tags may follow it.
 pub record IsNestNamed (s : Symbol) (w : Direct) : Type 0 where
   pub kept : Kept s w
   pub open kept use *
@@ -287,7 +287,7 @@ pub record IsOperatorRead (s : Symbol) (w : Direct) : Type 0 where
   pub no_return : has_return_type own ≡ false
   pub serves : Serves s w.nest.purpose (below s scope (reverse w.waiting.list.items)) outer front
 
--- A constructor or a destructor was read, and was written but for the name of its class.
+-- A constructor or a destructor was read, and was written except for the name of its class.
 pub record AwaitsClass (s : Symbol) (w : Direct) : Type 0 where
   pub kept : Kept s w
   pub open kept use *
@@ -314,7 +314,8 @@ AreKnown detail text a ts tail =
     ((number : ℕ) → IsSingle a number → IsAmong detail text (place_of a number) number ts)
     × (a.has_pack ≡ true → (es : List Term) × HasPack (list_with ts tail) a.before es × IsPackOf detail text a es)
 
--- The arguments of what was opened last are read and their E, but for their last bracket. Those that are known are at their places.
+-- The innermost argument list has been read up to its E; its closing bracket is still to be written. The known arguments are at
+-- their places.
 pub record IsListEnded (s : Symbol) (w : Direct) (argument : Arguments) : Type 0 where
   pub kept : Kept s w
   pub open kept use *
@@ -334,7 +335,7 @@ pub record IsListEnded (s : Symbol) (w : Direct) (argument : Arguments) : Type 0
   pub owns : Owns s owner (below s scope rest) front (instance template (list_with ts tail)) w.at state
   pub known : AreKnown (detail_of s) w.text.list.items argument ts tail
 
--- An element is expected, and the comma before it is written.
+-- Expects an element, with the comma before it written.
 pub record AwaitsNextArgument (s : Symbol) (w : Direct) : Type 0 where
   pub kept : Kept s w
   pub open kept use *
@@ -354,7 +355,7 @@ pub record IsLiteralRead (s : Symbol) (old new : Direct) : Type 0 where
   pub goes_on : (kind : Kind) (around : Around) (os : List Opened) (st : State) → IsArgumentKind kind → Expects s kind around os old.at st
       → ListGoesOn s kind os around own new.at st
 
--- The type of an enumerator was read, which is an element. Its number is expected.
+-- The type of an enumerator was read, which is an element. Expects its number.
 pub record AwaitsNumber (s : Symbol) (w : Direct) : Type 0 where
   pub kept : Kept s w
   pub open kept use *
@@ -371,7 +372,7 @@ pub record AwaitsNumber (s : Symbol) (w : Direct) : Type 0 where
   pub written : w.text.list.items ≡ led_by (detail_of s) place.listing place.front place.name ++ in_front_of_next ts texts ++ codes "(" ++ bytes
   pub goes : EnumeratorGoesOn s place.listing place.owner (below s scope place.rest) place.front place.template ts type w.at state
 
--- An instance was read and written of which a member is an element. The member's name is expected, between two Es.
+-- An instance was read and written that has a member as an element. Expects the member's name, between two Es.
 pub record AwaitsMember (s : Symbol) (w : Direct) (is_dependent : Bool) : Type 0 where
   pub kept : Kept s w
   pub open kept use *
@@ -385,8 +386,8 @@ pub record AwaitsMember (s : Symbol) (w : Direct) (is_dependent : Bool) : Type 0
   pub follows : MemberComes s outer own w.at state
   pub stands : Stands s scope (reverse w.waiting.list.items) outer front
 
--- The name of an encoding was read and written from a place on, but for its qualifier. The known ones of these arguments are at their
--- places.
+-- The name of an encoding was read and written from a place on, except for its qualifier. The known arguments among these are
+-- at their places.
 pub record IsNameEnded (s : Symbol) (w : Direct) (mark : Mark) (is_instance : Bool) (argument : Arguments) (from : ℕ) : Type 0 where
   pub kept : Kept s w
   pub open kept use *
@@ -397,7 +398,7 @@ pub record IsNameEnded (s : Symbol) (w : Direct) (mark : Mark) (is_instance : Bo
   pub names : HasArguments (detail_of s) w.text.list.items argument own
   pub awaits : AwaitsItems s lead v w.at state
 
--- The same, and the known ones of these arguments are those that types may name from here on.
+-- Likewise, and the known ones of these arguments are those that types may name from here on.
 pub record IsNameScoped (s : Symbol) (w : Direct) (mark : Mark) (is_instance : Bool) (argument : Arguments) (from : ℕ) : Type 0 where
   pub ended : IsNameEnded s w mark is_instance argument from
   pub given : IsGiven (detail_of s) ended.scope.names (types_of ended.own)
@@ -405,7 +406,7 @@ pub record IsNameScoped (s : Symbol) (w : Direct) (mark : Mark) (is_instance : B
   pub items : TakesItems s ended.lead ended.v w.at ended.state
   pub encoded : argument.encoding ≢ 0 → (from ≡ 0) × (argument.encoding ≡ encoding_place s.bytes)
 
--- The return type of a function was read, and comes after the function's name and what is written before it.
+-- The return type of a function was read, and follows the function's name and what is written before it.
 pub record IsFrontRead (s : Symbol) (w : Direct) (mark : Mark) (start : ℕ) (argument : Arguments) : Type 0 where
   pub kept : Kept s w
   pub open kept use *
@@ -419,7 +420,7 @@ pub record IsFrontRead (s : Symbol) (w : Direct) (mark : Mark) (start : ℕ) (ar
   pub written : w.text.list.items ≡ front ++ bytes
   pub goes : ParametersGoOn s argument lead (encoding_of v) (returned ∷ []) w.at state
 
--- A function's name was read and written, and what comes before it. Its parameters are expected.
+-- A function's name was read and written, with what precedes it. Expects its parameters.
 pub record AwaitsParameters (s : Symbol) (w : Direct) (mark : Mark) (start : ℕ) (argument : Arguments) : Type 0 where
   pub kept : Kept s w
   pub open kept use *
@@ -428,7 +429,7 @@ pub record AwaitsParameters (s : Symbol) (w : Direct) (mark : Mark) (start : ℕ
   pub written : w.text.list.items ≡ front
   pub goes : ParametersGoOn s argument lead make [] w.at state
 
--- this is passed on to what is open where it names no argument of the function's template alone
+-- this is forwarded to the open entries only where it names no argument of the function's template
 abbrev pub IsPassedClosed : Open → Type 0
 IsPassedClosed (opens.Pointer from) = ⊥
 IsPassedClosed (opens.Lvalue from) = ⊥
@@ -438,7 +439,7 @@ IsPassedClosed (opens.Front mark start argument) = ⊥
 IsPassedClosed (opens.Parameters mark start argument) = ⊥
 IsPassedClosed _ = Unit {0}
 
--- what is open for arguments of which one names an argument of the function's template
+-- what is open for arguments that include one naming an argument of the function's template
 abbrev pub IsDependentNow : (old new : Open) → Type 0
 IsDependentNow (opens.TypeArguments from is_dependent) new = new ≡ opens.TypeArguments from true
 IsDependentNow (opens.NestArguments nest) new = (nest.purpose ≡ purposes.Type) × (new ≡ opens.NestArguments (record nest { is_dependent = true }))
@@ -446,7 +447,8 @@ IsDependentNow (opens.FirstArguments nest) new = (nest.purpose ≡ purposes.Type
 IsDependentNow (opens.LevelArguments is_dependent) new = new ≡ opens.LevelArguments true
 IsDependentNow _ new = ⊥
 
--- Of a function these parameters were read, or none where the first one is expected. Each may cost so much more than its text.
+-- These parameters of a function were read, or none where the first one is expected. Each may cost this much more than its
+-- text.
 pub record AreParametersRead (s : Symbol) (w : Direct) (extra : ℕ) (is_first : Bool) (mark : Mark) (start : ℕ) (argument : Arguments) : Type 0 where
   pub kept : Kept s w
   pub open kept use *
@@ -461,12 +463,12 @@ pub record AreParametersRead (s : Symbol) (w : Direct) (extra : ℕ) (is_first :
   pub written : w.text.list.items ≡ front ++ codes "(" ++ texts
   pub goes : ParametersGoOn s argument lead make ts w.at state
 
--- what comes before an element of a list, the first one or another one
+-- what precedes an element of a list, the first one or another one
 abbrev pub separator : (is_first : Bool) → List ℕ
 separator true = []
 separator false = codes ", "
 
--- what comes before the element of a list with this number
+-- what precedes the element of a list with this number
 abbrev pub comma_text : (number : ℕ) → List ℕ
 comma_text zero = []
 comma_text (suc k) = codes ", "
@@ -475,7 +477,7 @@ comma_text (suc k) = codes ", "
 abbrev pub expansion_letters : Pattern → (number : ℕ) → List ℕ
 expansion_letters pattern number = 68 ∷ 112 ∷ (pattern_letters pattern ++ 84 ∷ (parameter_digits number ++ 95 ∷ []))
 
--- What a pattern makes of so many elements of a pack was written, or of all.
+-- What a pattern makes of the first n elements of a pack was written, or of all.
 pub record AreExpanded (detail : Detail) (pattern : Pattern) (old new : Direct) (ts : List Term) (number : ℕ) : Type 0 where
   pub done : List Term
   pub rest : List Term
@@ -485,7 +487,7 @@ pub record AreExpanded (detail : Detail) (pattern : Pattern) (old new : Direct) 
   pub prints : PrintAllBy (PrintsMade detail pattern) done bytes
   pub writes : Writes old new bytes
 
--- A function was read and written but for its last bracket and its qualifiers.
+-- A function was read and written except for its last bracket and its qualifiers.
 pub record IsFunctionEnded (s : Symbol) (w : Direct) (mark : Mark) (start : ℕ) : Type 0 where
   pub kept : Kept s w
   pub open kept use *
@@ -503,7 +505,7 @@ pub record IsFunctionEnded (s : Symbol) (w : Direct) (mark : Mark) (start : ℕ)
   pub shows : s.is_bare ≡ false → Shows (detail_of s) e (name ++ codes "(" ++ texts ++ codes ")" ++ mark_text mark)
   pub behind : EncodedBehind s lead e w.at
 
--- An encoding was read and written after a text, but for its qualifier.
+-- An encoding was read and written after a text, except for its qualifier.
 pub record IsEncodingEnded (s : Symbol) (w : Direct) (mark : Mark) : Type 0 where
   pub kept : Kept s w
   pub open kept use *
@@ -515,7 +517,7 @@ pub record IsEncodingEnded (s : Symbol) (w : Direct) (mark : Mark) : Type 0 wher
   pub encloses : Encloses (detail_of s) e bytes
   pub behind : EncodedBehind s lead e w.at
 
--- The encoding of a symbol was read and written, as it is shown in a detail.
+-- The encoding of a symbol was read and written, as a detail shows it.
 pub record IsSymbolEnded (s : Symbol) (w : Direct) : Type 0 where
   pub kept : Kept s w
   pub open kept use *
@@ -525,7 +527,7 @@ pub record IsSymbolEnded (s : Symbol) (w : Direct) : Type 0 where
 
 -- ## Function types
 
--- A type was read after a text, as an element or a parameter of these that are open.
+-- A type was read after a text, as an element or a parameter of these open entries.
 pub record ElementOf (s : Symbol) (w : Direct) (waits : List Open) : Type 0 where
   pub kept : Kept s w
   pub open kept use *
@@ -538,18 +540,18 @@ pub record ElementOf (s : Symbol) (w : Direct) (waits : List Open) : Type 0 wher
   pub comes : Comes s os (tree own true) w.at state
   pub stands : Stands s scope waits os front
 
--- The same, and this is what is open.
+-- Likewise, and this is what is open.
 pub record IsElementRead (s : Symbol) (w : Direct) (o : Open) : Type 0 where
   pub rest : List Open
   pub open_is : reverse w.waiting.list.items ≡ o ∷ rest
   pub read : ElementOf s w (o ∷ rest)
 
--- The same of a type that prints on both sides of a name, where what is open takes it.
+-- Likewise for a type that prints on both sides of a name, where the open entry accepts it.
 pub record IsElementPassed (s : Symbol) (w : Direct) : Type 0 where
   pub read : ElementOf s w (reverse w.waiting.list.items)
   pub takes : TakesFunction (reverse w.waiting.list.items)
 
--- what takes a function type or an array that comes after a text
+-- an entry that accepts a function type or an array after a text
 pub record Taker (s : Symbol) (scope : Scope) : Type 0 where
   pub rest : List Open
   pub front : List ℕ
@@ -571,7 +573,7 @@ pub record IsArrayRead (s : Symbol) (w : Direct) (access : Access) (from to : �
   pub comes : Comes s taker.outer (tree (accessed access (array (values.normal digits) first.own)) true) w.at
       (with_accessed access taker.made_in (array (values.normal digits) first.own) state)
 
--- Of a function type the return type was read, or a parameter.
+-- The return type of a function type was read, or a parameter.
 pub record AwaitsSignature (s : Symbol) (w : Direct) (is_pointer is_first : Bool) : Type 0 where
   pub kept : Kept s w
   pub open kept use *
@@ -609,7 +611,7 @@ pub record IsReturned (s : Symbol) (w : Direct) (is_pointer : Bool) : Type 0 whe
   pub written : w.text.list.items ≡ taker.front ++ first.bytes
   pub goes : SignatureGoesOn s taker.outer taker.made_in is_pointer (λ l. plain_function first.own l) w.at state
 
--- A function type was read, or a pointer to one, and written but for its last bracket.
+-- A function type was read, or a pointer to one, and written except for its last bracket.
 pub record IsFunctionRead (s : Symbol) (w : Direct) (is_pointer : Bool) : Type 0 where
   pub kept : Kept s w
   pub open kept use *

@@ -15,7 +15,7 @@ use Rattle.cpp_direct.specs.Holes.{Comes, Expects, Opened}
 use Rattle.cpp_direct.specs.MidStepOfLocals.{AwaitsLedParameters, IsLedFunctionRead, IsLedParameterRead}
 use Rattle.cpp_direct.specs.WriterInvariant.{AddressWithin, AwaitsTypeIn, HasAddressedFront, HasArguments, HasNameSo, IsAddressed, ItemsGoOn, Kept, Stands, below, no_scope}
 
--- An argument of a name is expected, for which what takes a type is open.
+-- Expects an argument of a name, with an entry open that accepts a type.
 pub record AwaitsArgumentOfName (s : Symbol) (w : Direct) : Type 0 where
   pub kept : Kept s w
   pub open kept use *
@@ -23,8 +23,8 @@ pub record AwaitsArgumentOfName (s : Symbol) (w : Direct) : Type 0 where
   pub open awaited use *
   pub awaits : Expects s Kind.Argument around os w.at state
 
--- The name of a function whose address is an argument was read and written after a text. What is open takes the name. The known arguments
--- that it ends in are at their places.
+-- The name of a function whose address is an argument was read and written after a text. The open entry accepts the name. The
+-- known arguments that it ends in are at their places.
 pub record IsAddressNamed (s : Symbol) (w : Direct) (mark : Mark) : Type 0 where
   pub kept : Kept s w
   pub open kept use *
@@ -51,7 +51,7 @@ pub record IsAddressedFrontRead (s : Symbol) (w : Direct) (mark : Mark) (to : �
   pub reads : w.text.list.items ≡ text ++ bytes
   pub goes : ItemsGoOn s argument (AddressWithin s (below s no_scope rest) lead) (λ l. encoding_of v l) (returned ∷ []) w.at state
 
--- Its name is written, and its return type was read if it has one. Its parameters are expected.
+-- Its name is written, and its return type was read if it has one. Expects its parameters.
 abbrev pub AwaitsAddressedParameters : (s : Symbol) → (w : Direct) → Mark → (to : ℕ) → Arguments → Type 0
 AwaitsAddressedParameters s w mark to argument =
     AwaitsLedParameters s w 3 mark argument (λ scope. IsAddressed s scope to argument) (λ scope waits. AddressWithin s (below s no_scope waits))
@@ -62,6 +62,6 @@ IsAddressedParameterRead s w mark to =
     (argument : Arguments) × IsLedParameterRead s w 3 mark argument (opens.Addressed mark to argument) (λ scope. IsAddressed s scope to argument)
     (λ scope waits. AddressWithin s (below s no_scope waits))
 
--- Such a function was read and written, but for its qualifier. It is in no object's name.
+-- Such a function was read and written, except for its qualifier. It is in no object's name.
 abbrev pub IsAddressedRead : (s : Symbol) → (w : Direct) → Mark → Type 0
 IsAddressedRead s w mark = IsLedFunctionRead s w mark (λ front. is_object s.bytes ≡ false) (λ scope waits. AddressWithin s (below s no_scope waits))

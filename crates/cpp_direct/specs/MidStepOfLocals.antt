@@ -21,7 +21,7 @@ use Rattle.cpp_direct.specs.MidStep.{IsEncodingEnded}
 
 -- ## Local entities
 
--- The name of a local entity is expected after the E of the encoding before it, and after the L of internal linkage or without.
+-- Expects the name of a local entity after the E of the encoding before it, and after the L of internal linkage or without one.
 pub record AwaitsEntity (s : Symbol) (w : Direct) (is_internal : Bool) : Type 0 where
   pub before : ℕ
   pub ended : IsEncodingEnded s (record w { at = before }) marks.Plain
@@ -32,8 +32,8 @@ pub record AwaitsEntity (s : Symbol) (w : Direct) (is_internal : Bool) : Type 0 
 
 -- ## Types in functions
 
--- The name of a function in which a type is was read and written from a place on, but for its qualifier. Its return type is expected if
--- it is an instance of a function template.
+-- The name of a function that contains a type was read and written from a place on, except for its qualifier. Expects its
+-- return type if it is an instance of a function template.
 pub record IsEnclosingNamed (s : Symbol) (w : Direct) (mark : Mark) (is_instance : Bool) (from : ℕ) : Type 0 where
   pub kept : Kept s w
   pub open kept use *
@@ -42,8 +42,8 @@ pub record IsEnclosingNamed (s : Symbol) (w : Direct) (mark : Mark) (is_instance
   pub returns : has_return_type own ≡ is_instance
   pub goes : ItemsGoOn s nowhere (TypeWithin s (below s scope (reverse w.waiting.list.items)) lead) (λ l. encoding_of v l) [] w.at state
 
--- The name of a function was read after a text, and its return type if it has one. Its parameters are expected. This is so of its name, and of
--- where it was read and of what is open.
+-- The name of a function was read after a text, and its return type if it has one. Expects its parameters. This holds of its
+-- name, of where it was read and of the open entries.
 pub record AwaitsLedParameters (s : Symbol) (w : Direct) (extra : ℕ) (mark : Mark) (argument : Arguments)
     (Leads : Scope → (own : Term) → (front name : List ℕ) → Type 0)
     (Within : Scope → List Open → (front : List ℕ) → (e : Term) → (at : ℕ) → State → Type 0) : Type 0 where
@@ -54,7 +54,7 @@ pub record AwaitsLedParameters (s : Symbol) (w : Direct) (extra : ℕ) (mark : M
   pub written : w.text.list.items ≡ front ++ name
   pub goes : ItemsGoOn s argument (Within scope (reverse w.waiting.list.items) front) make [] w.at state
 
--- A parameter of such a function was read, for which this was opened.
+-- A parameter was read of a function for which this was opened.
 pub record IsLedParameterRead (s : Symbol) (w : Direct) (extra : ℕ) (mark : Mark) (argument : Arguments) (entry : Open)
     (Leads : Scope → (own : Term) → (front name : List ℕ) → Type 0)
     (Within : Scope → List Open → (front : List ℕ) → (e : Term) → (at : ℕ) → State → Type 0) : Type 0 where
@@ -70,7 +70,7 @@ pub record IsLedParameterRead (s : Symbol) (w : Direct) (extra : ℕ) (mark : Ma
   pub written : w.text.list.items ≡ front ++ name ++ codes "(" ++ texts
   pub goes : ItemsGoOn s argument (Within scope rest front) make ts w.at state
 
--- Parameters are expected of one in which a type is, from a place on.
+-- Expects parameters of a function that contains a type, from a place on.
 abbrev pub AwaitsEnclosingParameters : (s : Symbol) → (w : Direct) → Mark → (from : ℕ) → Type 0
 AwaitsEnclosingParameters s w mark from =
     AwaitsLedParameters s w 6 mark nowhere (λ scope own front name. from ≡ length front) (λ scope waits. TypeWithin s (below s scope waits))
@@ -80,8 +80,8 @@ abbrev pub IsEnclosingParameterRead : (s : Symbol) → (w : Direct) → Mark →
 IsEnclosingParameterRead s w mark from to =
     IsLedParameterRead s w 6 mark nowhere (opens.Enclosing mark from to) (λ scope. IsEnclosing from to) (λ scope waits. TypeWithin s (below s scope waits))
 
--- A function was read and written after a text of which this is so, but for its qualifier. So is this of where it was read and of what is
--- open.
+-- A function was read and written after a text that satisfies this, except for its qualifier. The place where it was read and
+-- the open entries satisfy it, too.
 pub record IsLedFunctionRead (s : Symbol) (w : Direct) (mark : Mark) (Leads : List ℕ → Type 0)
     (Within : Scope → List Open → (front : List ℕ) → (e : Term) → (at : ℕ) → State → Type 0) : Type 0 where
   pub kept : Kept s w
@@ -94,12 +94,12 @@ pub record IsLedFunctionRead (s : Symbol) (w : Direct) (mark : Mark) (Leads : Li
   pub written : w.text.list.items ++ mark_text mark ≡ front ++ bytes
   pub within : Within scope (reverse w.waiting.list.items) front e w.at state
 
--- Such a one in which a type is was, from a place on.
+-- A function that contains a type was read and written this way, from a place on.
 abbrev pub IsEnclosingRead : (s : Symbol) → (w : Direct) → Mark → (from : ℕ) → Type 0
 IsEnclosingRead s w mark from =
     IsLedFunctionRead s w mark (λ front. from ≡ length front) (λ scope waits. TypeWithin s (below s scope waits))
 
--- The name of a type is expected after the E of the function that it is in, which was written from a place on.
+-- Expects the name of a type after the E of the function that contains it, which was written from a place on.
 pub record AwaitsTypeName (s : Symbol) (w : Direct) (from : ℕ) : Type 0 where
   pub before : ℕ
   pub read : IsEnclosingRead s (record w { at = before }) marks.Plain from
@@ -118,7 +118,7 @@ pub record IsLambdaOpened (s : List ℕ) (old new : Direct) (from : ℕ) (nested
   pub at : new.at ≡ old.at + 2
   pub waiting : new.waiting.list.items ≡ old.waiting.list.items ++ opens.Lambda from nested ∷ []
 
--- A parameter of a lambda was read, which is a type that is in a function, or a component of a nested name.
+-- A parameter of a lambda was read: a type in a function, or a component of a nested name.
 pub record IsLambdaParameterRead (s : Symbol) (w : Direct) (from : ℕ) (nested : Option Purpose) : Type 0 where
   pub kept : Kept s w
   pub open kept use *
@@ -133,7 +133,7 @@ pub record IsLambdaParameterRead (s : Symbol) (w : Direct) (from : ℕ) (nested 
   pub written : w.text.list.items ≡ front ++ (bytes ++ codes "::{lambda(") ++ texts
   pub goes : ItemsGoOn s nowhere (LambdaWithin s nested (below s scope rest) front e) (λ l. l) ts w.at state
 
--- A lambda was read, and written after what it is in.
+-- A lambda was read, and written after its scope.
 pub record IsLambdaRead (s : Symbol) (w : Direct) (from : ℕ) (nested : Option Purpose) : Type 0 where
   pub kept : Kept s w
   pub open kept use *

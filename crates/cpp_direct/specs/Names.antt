@@ -9,12 +9,12 @@ use Rattle.cpp_grammar.specs.Texts.{look_up, operator_texts, same_bytes}
 use Rattle.cpp_direct.specs.declared.names.NamePlace.{NamePlace}
 use Rattle.cpp_direct.specs.Holes.{StandsAt, IsNameAt}
 
--- A symbol that isn't too long to be read, and of which each byte may be in a name.
+-- A symbol that isn't too long to be read, and whose bytes may all be in a name.
 pub record IsReadable (s : List ℕ) : Type 0 where
   pub fits : FitsSymbol s
   pub plain : ReachesNameBytes Cpp s (length s)
 
--- The length of a name is at the place. The name's own bytes, this many, would be from here on.
+-- The length of a name is at the place. The name's own bytes, as many as that, would be from here on.
 pub record IsLengthRead (s : List ℕ) (at from size : ℕ) : Type 0 where
   pub digits : List ℕ
   pub are_digits : AreDigitsOf Length digits
@@ -37,11 +37,11 @@ is_angle first second = same_bytes (first ∷ second ∷ []) (codes "ls") || sam
 abbrev pub operator_text : (first second : ℕ) → List ℕ
 operator_text first second = codes "operator" ++ look_up (first ∷ second ∷ []) operator_texts
 
--- The digit of a constructor: 1, 2 or 3, and by the wide grammar 4 or 5.
+-- The digit of a constructor: 1, 2 or 3, and in the wide grammar 4 or 5.
 abbrev pub IsConstructorDigit : (is_wide : Bool) → (digit : ℕ) → Type 0
 IsConstructorDigit is_wide digit = ((49 ≤ digit) × (digit ≤ 51)) ⊎ ((is_wide ≡ true) × ((digit ≡ 52) ⊎ (digit ≡ 53)))
 
--- That of a destructor: 0, 1 or 2, and by the wide grammar 4 or 5.
+-- The digit of a destructor: 0, 1 or 2, and in the wide grammar 4 or 5.
 abbrev pub IsDestructorDigit : (is_wide : Bool) → (digit : ℕ) → Type 0
 IsDestructorDigit is_wide digit = ((48 ≤ digit) × (digit ≤ 50)) ⊎ ((is_wide ≡ true) × ((digit ≡ 52) ⊎ (digit ≡ 53)))
 

@@ -1,4 +1,4 @@
--- Trees of which the text is known: those that print it at the left and nothing at the right, wherever they are.
+-- Trees with known text: they print it at the left and nothing at the right, wherever they are.
 use Rattle.std.specs.Prelude.{◌≡◌, ℕ, ◌+◌, ◌*◌, ◌≤◌, List, [], ◌∷◌, ◌++◌, length, Bool, true, false, cond, Option, None, Some, codes, ◌⊎◌}
 use Rattle.sym_print.specs.declared.detail.Detail.{Detail}
 use Rattle.sym_print.specs.Unshared.{Unshared, text_of, cost_of}
@@ -18,7 +18,7 @@ use Rattle.cpp_direct.specs.declared.open.Pattern.TheVariants as patterns
 abbrev pub written_of : Detail → Form → Context → Term → Unshared
 written_of detail form context t = written detail (record { tree = t; form = form; context = context })
 
--- the name of a builtin type whose integers are without it is one of these words, or ends in one after a blank
+-- the name of a builtin type whose integers omit it is one of these words, or ends in one after a blank
 abbrev pub EndsAsInteger : List ℕ → Type 0
 EndsAsInteger bytes =
     (front : List ℕ) × ((bytes ≡ codes "int") ⊎ (bytes ≡ front ++ codes " int") ⊎ (bytes ≡ codes "long") ⊎ (bytes ≡ front ++ codes " long"))
@@ -46,7 +46,7 @@ pub record PrintsName (detail : Detail) (t : Term) (bytes : List ℕ) : Type 0 w
   pub left_text : (context : Context) → text_of (written_of detail left context t) ≡ bytes
   pub cost : (context : Context) → 1 + cost_of (written_of detail left context t) + cost_of (written_of detail right context t) ≤ 4 * length bytes
 
--- A tree with this text in a context. It may cost so much more than one that has this text wherever it is.
+-- A tree with this text in a context. It may cost this much more than one that has this text wherever it is.
 pub record PrintsIn (detail : Detail) (context : Context) (extra : ℕ) (t : Term) (bytes : List ℕ) (reference : Bool) : Type 0 where
   pub left_text : text_of (written_of detail left context t) ≡ bytes
   pub right_text : text_of (written_of detail right context t) ≡ []
@@ -91,7 +91,7 @@ abbrev pub PrintsAs : (detail : Detail) → Names → (is_dependent : Bool) → 
 PrintsAs detail names false t bytes reference = Prints detail t bytes reference
 PrintsAs detail names true t bytes reference = PrintsGiven detail names t bytes reference
 
--- ## Patterns, by which a parameter expands a pack
+-- ## Patterns of a parameter that expands a pack
 
 -- the letters before the parameter
 abbrev pub pattern_letters : Pattern → List ℕ
@@ -107,7 +107,7 @@ made_by patterns.Lvalue t = lvalue t
 made_by patterns.ConstLvalue t = lvalue (as_const t)
 made_by patterns.Rvalue t = rvalue t
 
--- What it has after the text of a type, which is a reference or isn't. An rvalue reference to a reference is what this is.
+-- What it has after the text of a type, which is a reference or isn't. An rvalue reference to a reference is that reference.
 abbrev pub IsMarkedBy : Pattern → (reference : Bool) → (marks : List ℕ) → Type 0
 IsMarkedBy patterns.Same reference marks = marks ≡ []
 IsMarkedBy patterns.Lvalue reference marks = (reference ≡ false) × (marks ≡ codes "&")
@@ -115,12 +115,12 @@ IsMarkedBy patterns.ConstLvalue reference marks = (reference ≡ false) × (mark
 IsMarkedBy patterns.Rvalue true marks = marks ≡ []
 IsMarkedBy patterns.Rvalue false marks = marks ≡ codes "&&"
 
--- a tree of which a pattern makes one with this text
+-- a tree that a pattern turns into one with this text
 abbrev pub PrintsMade : (detail : Detail) → Pattern → Term → List ℕ → Type 0
 PrintsMade detail pattern t bytes =
     (own : List ℕ) × (reference : Bool) × (marks : List ℕ) × Prints detail t own reference × IsMarkedBy pattern reference marks × (bytes ≡ own ++ marks)
 
--- A tree whose class is named so where it comes before a constructor or a destructor.
+-- A tree that names its class this way before a constructor or a destructor.
 pub record NamesClass (detail : Detail) (t : Term) (class : List ℕ) : Type 0 where
   pub base_text : (context : Context) → text_of (written_of detail base context t) ≡ class
   pub base_cost : (context : Context) → cost_of (written_of detail left context t) + cost_of (written_of detail right context t) + cost_of (written_of detail base context t)
@@ -149,7 +149,7 @@ pub record Encloses (detail : Detail) (t : Term) (bytes : List ℕ) : Type 0 whe
   pub is_closed : is_open t ≡ false
   pub packless : (scope : Term) → pack_length scope t ≡ None
 
--- what comes before a lambda has this text: the function that it is in, or the name so far of which it is a component
+-- what precedes a lambda has this text: the function that contains it, or the name so far that it extends
 abbrev pub Leads : (detail : Detail) → (nested : Option Purpose) → Term → (bytes : List ℕ) → Type 0
 Leads detail None e bytes = Encloses detail e bytes
 Leads detail (Some purpose) e bytes = Prints detail e bytes false
@@ -173,13 +173,13 @@ abbrev pub list_of : List Term → Term
 list_of [] = nil
 list_of (t ∷ ts) = list t (list_of ts)
 
--- texts one after the other, with a comma and a blank between two of them
+-- texts one after the other, with a comma and a blank between any two
 abbrev pub joined : List (List ℕ) → List ℕ
 joined [] = []
 joined (b ∷ []) = b
 joined (b ∷ c ∷ bs) = b ++ codes ", " ++ joined (c ∷ bs)
 
--- A tree prints this text as the element of a list. It may cost so much more than a type with that text.
+-- A tree prints this text as the element of a list. It may cost this much more than a type with that text.
 pub record IsElement (detail : Detail) (extra : ℕ) (t : Term) (bytes : List ℕ) : Type 0 where
   pub both_texts : (context : Context) → text_of (written_of detail left context t) ++ text_of (written_of detail right context t) ≡ bytes
   pub cost : (context : Context) → 1 + cost_of (written_of detail left context t) + cost_of (written_of detail right context t) ≤ extra + 4 * length bytes
@@ -188,7 +188,7 @@ pub record IsElement (detail : Detail) (extra : ℕ) (t : Term) (bytes : List �
   pub packless : (scope : Term) → pack_length scope t ≡ None
   pub void : is_void t ≡ true → bytes ≡ codes "void"
 
--- The same in a context.
+-- Likewise in a context.
 pub record IsElementIn (detail : Detail) (context : Context) (extra : ℕ) (t : Term) (bytes : List ℕ) : Type 0 where
   pub both_texts : text_of (written_of detail left context t) ++ text_of (written_of detail right context t) ≡ bytes
   pub cost : 1 + cost_of (written_of detail left context t) + cost_of (written_of detail right context t) ≤ extra + 4 * length bytes
@@ -211,7 +211,7 @@ PrintEach detail extra ts texts = PrintEachBy (IsElement detail extra) ts texts
 abbrev pub PrintAll : (detail : Detail) (extra : ℕ) → List Term → (bytes : List ℕ) → Type 0
 PrintAll detail extra ts bytes = PrintAllBy (IsElement detail extra) ts bytes
 
--- the same in a context
+-- likewise in a context
 abbrev pub PrintEachIn : (detail : Detail) → Context → (extra : ℕ) → List Term → List (List ℕ) → Type 0
 PrintEachIn detail context extra ts texts = PrintEachBy (IsElementIn detail context extra) ts texts
 

@@ -38,11 +38,12 @@ pub record IsBetween (text : List ℕ) (from to : ℕ) (bytes : List ℕ) : Type
 abbrev pub IsPlaced : (text : List ℕ) → Argument → (bytes : List ℕ) → Type 0
 IsPlaced text p bytes = IsBetween text p.from p.to bytes
 
--- of no argument it is known where it is
+-- no argument has a known position
 abbrev pub nowhere : Arguments
 nowhere = record { from = 0; ends = replicate MOST_KNOWN 0; references = replicate MOST_KNOWN false; count = 0; encoding = 0; has_pack = false; before = 0; elements = 0 }
 
--- where the text with this number begins: the first one at a place, and any other after the end of that before it, a comma and a space
+-- where the text with this number begins: the first one at a place, and any other after the end of the one before it, a comma
+-- and a space
 abbrev pub begin_by : (from : ℕ) → (ends : List ℕ) → (number : ℕ) → ℕ
 begin_by from ends zero = from
 begin_by from ends (suc before) = get_or ends before 0 + 2
@@ -176,11 +177,11 @@ HasSingles scope = (number : ℕ) (own : Named) → scope.names number ≡ Some 
 
 -- ## Candidates
 
--- it was made in the encoding whose arguments may be named, and it is known where that begins
+-- it was made in the encoding whose arguments may be named, and the beginning of that is known
 abbrev pub IsMadeIn : Scope → (encoding : ℕ) → Type 0
 IsMadeIn scope encoding = (encoding ≡ scope.arguments.encoding) × (scope.arguments.encoding ≢ 0)
 
--- What a substitution may name prints the text that is at its place. Where it names arguments they are those that types may name.
+-- What a substitution may name prints the text at its place. Where it names arguments they are those that types may name.
 pub record IsCandidate (s : Symbol) (scope : Scope) (text : List ℕ) (k : Candidate) (c : values.Candidate) : Type 0 where
   pub bytes : List ℕ
   pub placed : IsBetween text k.from k.to bytes
@@ -188,21 +189,21 @@ pub record IsCandidate (s : Symbol) (scope : Scope) (text : List ℕ) (k : Candi
   pub prints : PrintsAs (detail_of s) scope.names k.is_dependent c.tree bytes k.is_reference
   pub made_in : k.is_dependent ≡ true → IsMadeIn scope c.encoding
 
--- each candidate is so, but for those that end before they begin, of which nothing is known
+-- each candidate satisfies this, except for those that end before they begin, which are unknown
 abbrev pub AreCandidates : (s : Symbol) → Scope → (text : List ℕ) → List Candidate → List values.Candidate → Type 0
 AreCandidates s scope text [] [] = Unit {0}
 AreCandidates s scope text (k ∷ ks) (c ∷ cs) = (k.from ≤ k.to → IsCandidate s scope text k c) × AreCandidates s scope text ks cs
 AreCandidates s scope text _ _ = ⊥
 
--- What a writer keeps: its candidates, and the arguments that types may name, of which none are known before the symbol's own name, but
--- for those of a function whose address is an argument of that. After an object's name there are no types.
+-- What a writer keeps: its candidates, and the arguments that types may name. None of these is known before the symbol's own
+-- name, except for those of a function whose address is an argument of that name. After an object's name there are no types.
 pub record Keeps (s : Symbol) (scope : Scope) (w : Direct) (cs : List values.Candidate) : Type 0 where
   pub candidates : AreCandidates s scope w.text.list.items w.candidates.list.items cs
   pub named : AreNamed w.text.list.items scope
   pub single : HasSingles scope
   pub unknown : w.has_scope ≡ false → (scope ≡ no_scope) × (is_object s.bytes ≡ false)
 
--- a writer keeps this after it has come so far
+-- a writer keeps this up to here
 pub record Kept (s : Symbol) (w : Direct) : Type 0 where
   pub state : State
   pub scope : Scope
@@ -212,6 +213,6 @@ pub record Kept (s : Symbol) (w : Direct) : Type 0 where
 abbrev pub IsScoped : Scope → Around → List Open → Type 0
 IsScoped scope around open_ = (a : Arguments) → argument_of open_ ≡ Some a → (scope.arguments ≡ a) × HasScope a around
 
--- types name its arguments here, and it is known where their encoding begins
+-- types name its arguments here, and the beginning of their encoding is known
 abbrev pub IsNaming : Scope → List Open → Type 0
 IsNaming scope open_ = (argument_of open_ ≡ Some scope.arguments) × (scope.arguments.encoding ≢ 0)

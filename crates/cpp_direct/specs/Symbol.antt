@@ -1,4 +1,4 @@
--- A symbol, the grammar of C++ by which it is read, and how much of it is shown.
+-- A symbol, the grammar of C++ that reads it, and how much of it is shown.
 use Rattle.std.specs.Prelude.{ℕ, List, Bool, true, false}
 use Rattle.sym_print.specs.declared.detail.Detail.{Detail}
 use Rattle.sym_print.specs.declared.detail.Detail.TheVariants.{Full, Brief, NoParameters, BriefNoParameters}
@@ -8,8 +8,8 @@ use Rattle.cpp_grammar.specs.Table.{abi, wide}
 use Rattle.cpp_grammar.specs.Mangled.{cpp_mangled, wide_mangled}
 use Rattle.cpp_grammar.specs.Term.{Term}
 
--- the bytes of a symbol, whether it is read by the wide grammar, whether functions are shown by their names alone, and whether
--- names are shown without their template arguments
+-- the bytes of a symbol, whether the wide grammar reads it, whether only the names of functions are shown, and whether names
+-- are shown without their template arguments
 pub record Symbol : Type 0 where
   pub bytes : List ℕ
   pub is_wide : Bool
@@ -29,7 +29,7 @@ detail_by false false = Full
 abbrev pub detail_of : Symbol → Detail
 detail_of s = detail_by s.is_bare s.is_brief
 
--- the symbol of which so much is shown
+-- the symbol with this much of it shown
 abbrev pub symbol_as : (is_wide : Bool) → Detail → (bytes : List ℕ) → Symbol
 symbol_as is_wide Full bytes = symbol_by is_wide false false bytes
 symbol_as is_wide Brief bytes = symbol_by is_wide false true bytes
@@ -41,7 +41,7 @@ abbrev pub table_by : (is_wide : Bool) → Table
 table_by true = wide
 table_by false = abi
 
--- what is promised of the symbols of that grammar
+-- the promise about the symbols of that grammar
 abbrev pub mangled_by : (is_wide : Bool) → Mangled Term
 mangled_by true = wide_mangled
 mangled_by false = cpp_mangled

@@ -1,4 +1,5 @@
--- What a writer's lists say while a symbol is read: what is open waits for what comes next, and what was written is its text.
+-- What a writer's lists say while a symbol is read: the open entries wait for what comes next, and what was written is its
+-- text.
 use Rattle.sym_print.specs.declared.detail.Detail.{Detail}
 use Rattle.std.specs.Prelude.{◌≡◌, ◌≢◌, ◌⊎◌, ℕ, ◌+◌, ◌*◌, ◌≤◌, List, [], ◌∷◌, ◌++◌, ◌-◌, length, take, drop, reverse, Bool, true, false, Option, Some, None, Ok, codes, ◌&&◌}
 use Rattle.sym_print.specs.Unshared.{text_of, cost_of}
@@ -49,19 +50,19 @@ pub record Encoded (s : Symbol) (e : Term) (at : ℕ) : Type 0 where
       → StandsFor (mangled_of s) s.bytes (Ok (symbol e suffix))
 
 -- An encoding with this tree ends the symbol at the place, after a text: what the whole makes of it shows the text before its
--- own. Of a thunk that text says that it is one; else it is empty.
+-- own. For a thunk that text says that it is one; otherwise it is empty.
 pub record EndsBehind (s : Symbol) (lead : List ℕ) (e : Term) (at : ℕ) : Type 0 where
   pub made : Term
   pub encoded : Encoded s made at
   pub shows : (bytes : List ℕ) → Shows (detail_of s) e bytes → Shows (detail_of s) made (lead ++ bytes)
 
--- The same of an entity in the encoding, with this name: it shows the text, and that of the encoding and of the name.
+-- Likewise for an entity in the encoding, with this name: it shows the text, and that of the encoding and of the name.
 pub record EntityBehind (s : Symbol) (lead : List ℕ) (e : Term) (name : List ℕ) (at : ℕ) : Type 0 where
   pub made : Term
   pub encoded : Encoded s made at
   pub shows : (bytes : List ℕ) → Encloses (detail_of s) e bytes → Shows (detail_of s) made (lead ++ (bytes ++ codes "::" ++ source_text name))
 
--- An encoding with this tree ends at the place, after a text. It ends the symbol, or a local entity comes after it.
+-- An encoding with this tree ends at the place, after a text. It ends the symbol, or a local entity follows it.
 pub record EncodedBehind (s : Symbol) (lead : List ℕ) (e : Term) (at : ℕ) : Type 0 where
   pub whole : is_local s.bytes ≡ false → EndsBehind s lead e at
   pub entity : is_local s.bytes ≡ true → (internal : Bool) (name : List ℕ) (digit : Discriminator) (end : ℕ) → IsEntityAt s.bytes at internal name digit end
@@ -90,14 +91,15 @@ pub record IsWhole (s : Symbol) (text : List ℕ) : Type 0 where
   pub text_is : text_of (written (detail_of s) (root_item whole)) ≡ text
   pub cost : cost_of (written (detail_of s) (root_item whole)) ≤ 4 * length text
 
--- The symbol is shown by this text, which costs at most four times so much.
+-- The symbol is shown by this text, which costs at most four times its length.
 pub record IsShown (s : Symbol) (most : ℕ) (text : List ℕ) : Type 0 where
   pub whole : Term
   pub stands : StandsFor (mangled_of s) s.bytes (Ok whole)
   pub text_is : text_of (shown (detail_of s) (root_item whole)) ≡ text
   pub cost : cost_of (shown (detail_of s) (root_item whole)) ≤ 4 * most
 
--- The name of an encoding that begins at a place was read, and items may follow. All of them make an encoding, of which something becomes.
+-- The name of an encoding that begins at a place was read, and items may follow. Together they make an encoding, which becomes
+-- something.
 pub record ItemsOf (s : Symbol) (encoding : ℕ) (becomes : Term → (at : ℕ) → State → Type 0) (v : Value) (at : ℕ) (st : State) : Type 0 where
   pub around : Around
   pub inner : List Opened
@@ -148,12 +150,12 @@ pub record IsNest (detail : Detail) (names : Names) (front bytes text : List ℕ
 
 -- ## Lists
 
--- a list of these elements, and of what comes after them
+-- a list of these elements, and of those after them
 abbrev pub list_with : List Term → Term → Term
 list_with [] rest = rest
 list_with (t ∷ ts) rest = list t (list_with ts rest)
 
--- after the elements that print something there may be a pack of nothing
+-- an empty pack may follow the elements that print something
 abbrev pub IsTail : Term → Type 0
 IsTail rest = (rest ≡ nil) ⊎ (rest ≡ list (pack nil) nil)
 
@@ -162,7 +164,7 @@ abbrev pub in_front_of_next : List Term → List ℕ → List ℕ
 in_front_of_next [] l = l
 in_front_of_next (t ∷ ts) l = l ++ codes ", "
 
--- Parameters go on after these. All of them make an encoding, of which something becomes. They may name arguments.
+-- Parameters continue after these. Together they make an encoding, which becomes something. They may name arguments.
 pub record ItemsGoOn (s : Symbol) (argument : Arguments) (becomes : Term → (at : ℕ) → State → Type 0) (make : Term → Term) (ts : List Term) (at : ℕ) (st : State) : Type 0 where
   pub around : Around
   pub inner : List Opened
@@ -196,14 +198,14 @@ pub record IsFunction (detail : Detail) (extra : ℕ) (scope : Scope) (text : Li
   pub open is_own use *
   pub elements : PrintAllIn detail (types_of own) extra ts texts
 
--- What is written of a function before its parameters. Its text begins at this place in it. Where functions are shown by their names
--- alone, it ends there.
+-- What is written of a function before its parameters. Its text begins at this place in it. Where only the names of functions
+-- are shown, it ends there.
 abbrev pub Fronts : (is_bare : Bool) → (front : List ℕ) → (start : ℕ) → (lead name : List ℕ) → Type 0
 Fronts false front start lead name = (aside : List ℕ) × (front ≡ aside ++ lead ++ name) × (start ≡ length aside)
 Fronts true front start lead name =
     (aside : List ℕ) × (front ≡ lead ++ name ++ aside) × (start ≡ length (lead ++ name))
 
--- A function's name and the parameters so far are written, and what comes before them.
+-- A function's name and the parameters so far are written, with what precedes them.
 pub record HasParameters (s : Symbol) (extra : ℕ) (scope : Scope) (text : List ℕ) (mark : Mark) (start : ℕ) (argument : Arguments) (ts : List Term) (texts : List ℕ) : Type 0 where
   pub front : List ℕ
   pub lead : List ℕ
@@ -223,7 +225,7 @@ pub record IsLedFunction (detail : Detail) (extra : ℕ) (mark : Mark) (ts : Lis
   pub makes : (t rest : Term) → make (list t rest) ≡ function own (qualifiers (has_const mark)) (called_on mark) returned (parameters (list t rest))
   pub elements : PrintAllIn detail (types_of own) extra ts texts
 
--- So they are, and this is so of the function's name after that text.
+-- They are written, and this holds of the function's name after that text.
 pub record HasLed (detail : Detail) (extra : ℕ) (mark : Mark) (Leads : (own : Term) → (front name : List ℕ) → Type 0) (ts : List Term) (texts : List ℕ) : Type 0 where
   pub is_led : IsLedFunction detail extra mark ts texts
   pub open is_led use *
@@ -242,7 +244,7 @@ pub record IsAddressed (s : Symbol) (scope : Scope) (to : ℕ) (argument : Argum
   pub there : AreNamed (front ++ name) scope
   pub typed : is_object s.bytes ≡ false
 
--- It is, and the function has a return type.
+-- Likewise, and the function has a return type.
 pub record HasAddressedFront (s : Symbol) (scope : Scope) (text : List ℕ) (mark : Mark) (to : ℕ) (argument : Arguments) : Type 0 where
   pub from : ℕ
   pub has : HasNameSo s text mark from
@@ -259,7 +261,7 @@ pub record IsInstance (detail : Detail) (scope : Scope) (text : List ℕ) (argum
   pub is_own : IsOwnName detail scope text argument own name
   pub open is_own use *
 
--- It is written, up to this place, after a text that is empty where no local entity is.
+-- It is written, up to this place, after a text that is empty where there is no local entity.
 pub record HasInstance (s : Symbol) (scope : Scope) (text : List ℕ) (mark : Mark) (start : ℕ) (argument : Arguments) : Type 0 where
   pub v : Value
   pub lead : List ℕ
@@ -281,25 +283,25 @@ pub record Below : Type 1 where
 abbrev pub scoped_in : Open → Below → Around → Type 0
 scoped_in entry below around = is_within_type entry ≡ true → below.scoped around
 
--- A type that comes is marked.
+-- An accepted type is marked.
 abbrev pub Marks : (s : Symbol) → Below → List Opened → (text : List ℕ) → (from : ℕ) → (made : Term → Term) → Type 0
 Marks s below os text from made =
     (outer : List Opened) × (around : Around) × (from ≡ length text) × TypePasses s os outer around made × below.scoped around × below.waits outer text
 
--- An encoding with this tree ends at the place, and a type that is in it comes for what is open below, after this text.
+-- An encoding with this tree ends at the place, and the entry below accepts a type that is in it, after this text.
 abbrev pub TypeWithin : (s : Symbol) → Below → (front : List ℕ) → (e : Term) → (at : ℕ) → State → Type 0
 TypeWithin s below front e at st =
     (outer : List Opened) × (around : Around)
     × (StandsAt s.bytes at (69 ∷ []) → EntityOpened s (λ t end now. Comes s outer (tree t true) end (with_candidate around t now)) e (at + 1) st)
     × below.waits outer front
 
--- A function with this tree ends at the place, and its address comes for what is open below, after this text but for its &.
+-- A function with this tree ends at the place, and its address is accepted by the entry below, after this text without its &.
 abbrev pub AddressWithin : (s : Symbol) → Below → (front : List ℕ) → (e : Term) → (at : ℕ) → State → Type 0
 AddressWithin s below front e at st =
     (outer : List Opened) × (before : List ℕ) × (front ≡ before ++ codes "&")
     × (StandsAt s.bytes at (69 ∷ 69 ∷ []) → Comes s outer (tree (address_of e) true) (at + 2) st) × below.waits outer before
 
--- A nested name that comes is what it is read as, and what types may name in it.
+-- An accepted nested name is what it is read as, and what types may name in it.
 abbrev pub Serves : (s : Symbol) → Purpose → Below → List Opened → (front : List ℕ) → Type 0
 Serves s purposes.Type below os front =
     (outer : List Opened) × (around : Around)
@@ -317,8 +319,8 @@ Serves s (purposes.Address mark) below os front =
     → Comes s outer (named t (qualifiers (has_const mark)) (called_on mark)) at st)
     × below.waits outer front
 
--- A lambda was read after this tree, as a type in a function before its discriminator, or as a component of a nested name: what becomes
--- of it.
+-- A lambda was read after this tree, as a type in a function before its discriminator, or as a component of a nested name: what
+-- it becomes.
 abbrev pub LambdaComes : (s : Symbol) → (nested : Option Purpose) → Below → (front : List ℕ) → (e : Term) → (lambda : Term) → (at : ℕ) → State → Type 0
 LambdaComes s None below front e p at st =
     (outer : List Opened) × (around : Around)
@@ -335,7 +337,7 @@ LambdaWithin s nested below front e items at st =
     (number : Option ℕ) (end : ℕ) → IsLambdaDigit number → StandsAt s.bytes at (lambda_ending number) → end ≡ at + length (lambda_ending number)
     → LambdaComes s nested below front e (lambda_with items number) end st
 
--- An instance is read, after this text: what becomes of it.
+-- An instance is read, after this text: what it becomes.
 abbrev pub Owns : (s : Symbol) → Open → Below → (front : List ℕ) → Term → (at : ℕ) → State → Type 0
 Owns s (opens.TypeArguments from is_dependent) below front u at st =
     (outer : List Opened) × (around : Around) × Comes s outer (tree u true) at (with_candidate around u st)
@@ -351,13 +353,13 @@ Owns s (opens.LevelArguments is_dependent) below front u at st =
     (outer : List Opened) × MemberComes s outer u at st × (is_dependent ≡ true → below.naming) × below.waits outer front
 Owns s _ below front u at st = ⊥
 
--- elements go on after these, up to an E, and what becomes of the list that they make
+-- elements continue after these, up to an E, with what the list that they make becomes
 abbrev pub ElementsGoOn : (s : Symbol) → Kind → (scoped : Around → Type 0) → (closes : Term → (at : ℕ) → State → Type 0) → List Term → (at : ℕ) → State → Type 0
 ElementsGoOn s kind scoped closes ts at st =
     (around : Around) × (inner : List Opened) × (around.prefix ≡ outermost) × scoped around × Expects s kind around inner at st
     × ((l : Value) (at : ℕ) (st : State) → Comes s inner l at st → StandsAt s.bytes at (69 ∷ []) → closes (list_with ts (no_items l)) (at + 1) st)
 
--- arguments go on after these
+-- arguments continue after these
 abbrev pub ArgumentsGoOn : (s : Symbol) → Open → Below → (front : List ℕ) → (template : Term) → List Term → (at : ℕ) → State → Type 0
 ArgumentsGoOn s owner below front template ts at st =
     ElementsGoOn s Kind.ArgumentList (scoped_in owner below) (λ l now then. Owns s owner below front (instance template l) now then) ts at st
@@ -377,7 +379,7 @@ abbrev pub extra_of : Listing → ℕ
 extra_of of_template = 3
 extra_of (of_pack before written) = 0
 
--- whether it is noted that arguments of what is open, or its name, name arguments of the function's template
+-- whether it is noted that arguments of the open entry, or its name, name arguments of the function's template
 abbrev pub is_noted : Open → Bool
 is_noted (opens.TypeArguments from is_dependent) = is_dependent
 is_noted (opens.NestArguments nest) = nest.is_dependent
@@ -395,13 +397,13 @@ abbrev pub led_by : Detail → Listing → (front name : List ℕ) → List ℕ
 led_by detail of_template front name = front ++ name ++ opening_bracket detail
 led_by detail (of_pack before written) front name = front ++ name ++ opening_bracket detail ++ in_front_of_next before written
 
--- what becomes of the list
+-- what the list becomes
 abbrev pub Closes : (s : Symbol) → Listing → Open → Below → (front : List ℕ) → (template : Term) → Term → (at : ℕ) → State → Type 0
 Closes s of_template owner below front template l at st = Owns s owner below front (instance template l) at st
 Closes s (of_pack before written) owner below front template l at st =
     ArgumentsGoOn s owner below front template (before ++ pack l ∷ []) at st
 
--- the list goes on after these elements
+-- the list continues after these elements
 abbrev pub GoesOn : (s : Symbol) → Listing → Open → Below → (front : List ℕ) → (template : Term) → List Term → (at : ℕ) → State → Type 0
 GoesOn s listing owner below front template ts at st =
     ElementsGoOn s (element_kind listing) (scoped_in owner below) (λ l now then. Closes s listing owner below front template l now then) ts at st
@@ -410,7 +412,7 @@ GoesOn s listing owner below front template ts at st =
 abbrev pub AreAmong : (detail : Detail) (text : List ℕ) → Arguments → List Term → Type 0
 AreAmong detail text a ts = (number : ℕ) → IsKnown a number → IsAmong detail text (place_of a number) number ts
 
--- this template comes before the arguments
+-- this template precedes the arguments
 abbrev pub IsTemplate : (detail : Detail) → Names → Open → (front : List ℕ) → Term → (name : List ℕ) → (text : List ℕ) → Type 0
 IsTemplate detail names (opens.TypeArguments from is_dependent) front template name text = (from ≡ length front) × Prints detail template name false
 IsTemplate detail names (opens.NestArguments nest) front template name text =
@@ -422,7 +424,7 @@ IsTemplate detail names (opens.NameArguments from) front template name text =
 IsTemplate detail names (opens.LevelArguments is_dependent) front template name text = Prints detail template name false
 IsTemplate detail names _ front template name text = ⊥
 
--- a type comes as an element
+-- accepts a type as an element
 abbrev pub AwaitsElementOf : (s : Symbol) → Names → Listing → Open → Below → List Opened → (text : List ℕ) → Type 0
 AwaitsElementOf s names listing owner below os text =
     (front : List ℕ) × (template : Term) × (name : List ℕ) × (ts : List Term) × (elements : List ℕ)
@@ -435,14 +437,14 @@ abbrev pub arguments_or_pack : (is_pack : Bool) → (before : List Term) → (wr
 arguments_or_pack false before written = of_template
 arguments_or_pack true before written = of_pack before written
 
--- these arguments come before a pack, and before other arguments none does; none of them ends in a pack so far
+-- these arguments precede a pack, and none precede a plain argument; none of them ends in a pack so far
 pub record ComeBefore (detail : Detail) (is_pack : Bool) (known : Arguments) (before : List Term) (written : List ℕ) : Type 0 where
   pub none : is_pack ≡ false → before ≡ []
   pub prints : PrintAll detail 3 before written
   pub count_is : is_pack ≡ true → known.before ≡ length before
   pub no_pack : known.has_pack ≡ false
 
--- a type comes as an argument of a name with this number, or as an element of such a pack
+-- accepts a type as an argument of a name with this number, or as an element of such a pack
 abbrev pub AwaitsArgument : (s : Symbol) → Names → (is_pack : Bool) → (from number : ℕ) → (known : Arguments) → (owner : Open) → Below → List Opened
     → (text : List ℕ) → Type 0
 AwaitsArgument s names is_pack from number known owner below os text =
@@ -454,14 +456,14 @@ AwaitsArgument s names is_pack from number known owner below os text =
     × ((t : Term) (at : ℕ) (st : State) → Comes s os (tree t true) at st
     → GoesOn s (arguments_or_pack is_pack before written) owner below front template (ts ++ t ∷ []) at st)
 
--- a list goes on after an enumerator of this type, once its number and an E are read
+-- a list continues after an enumerator of this type, once its number and an E are read
 abbrev pub EnumeratorGoesOn : (s : Symbol) → Listing → Open → Below → (front : List ℕ) → (template : Term) → List Term → Term → (at : ℕ) → State → Type 0
 EnumeratorGoesOn s listing owner below front template ts t at st =
     (negative : Bool) (digits : List ℕ) (end : ℕ) → StandsAt s.bytes at (minus_sign negative)
     → IsDigitsAt s.bytes (at + length (minus_sign negative)) digits end → StandsAt s.bytes end (69 ∷ [])
     → GoesOn s listing owner below front template (ts ++ integer t (signed_digits negative digits) ∷ []) (end + 1) st
 
--- a type comes as that of an enumerator, which is an element
+-- accepts a type as that of an enumerator, which is an element
 abbrev pub AwaitsEnumerator : (s : Symbol) → Names → Listing → Open → Below → List Opened → (text : List ℕ) → Type 0
 AwaitsEnumerator s names listing owner below os text =
     (front : List ℕ) × (template : Term) × (name : List ℕ) × (ts : List Term) × (elements : List ℕ)
@@ -469,7 +471,7 @@ AwaitsEnumerator s names listing owner below os text =
     × (text ≡ led_by (detail_of s) listing front name ++ in_front_of_next ts elements ++ codes "(")
     × ((t : Term) (at : ℕ) (st : State) → Comes s os (tree t true) at st → EnumeratorGoesOn s listing owner below front template ts t at st)
 
--- what is open is this list of this owner
+-- the open entry is this list of this owner
 abbrev pub Belongs : (detail : Detail) → Names → Listing → (opened : List Open) → (owner : Open) → (rest : List Open) → Type 0
 Belongs detail names of_template opened owner rest = opened ≡ owner ∷ rest
 Belongs detail names (of_pack before written) opened owner rest = (opened ≡ opens.Pack ∷ owner ∷ rest) × PrintAllAs detail names (is_noted owner) 3 before written
@@ -485,18 +487,18 @@ pub record IsListing (detail : Detail) (names : Names) (opened : List Open) (tex
   pub name : List ℕ
   pub is_template : IsTemplate detail names owner front template name text
 
--- what follows the return type of a function type, or of one that is pointed to
+-- what follows the return type of a function type, or of a pointer to one
 abbrev pub opening_text : (is_pointer : Bool) → List ℕ
 opening_text true = codes " (*)("
 opening_text false = codes " ("
 
--- the arguments that are open last are those of a name
+-- the innermost open arguments are those of a name
 abbrev pub EndsNamed : List Open → Type 0
 EndsNamed (opens.NestArguments nest ∷ rest) = Unit {0}
 EndsNamed (opens.NameArguments from ∷ rest) = Unit {0}
 EndsNamed _ = ⊥
 
--- what takes an element or a parameter may take a function type or an array, and so may a special object
+-- an entry that accepts an element or a parameter may accept a function type or an array, and so may a special object
 abbrev pub TakesFunction : List Open → Type 0
 TakesFunction (opens.TypeArguments from is_dependent ∷ rest) = Unit {0}
 TakesFunction (opens.NestArguments nest ∷ rest) = Unit {0}
@@ -509,11 +511,11 @@ TakesFunction (opens.Special ∷ rest) = Unit {0}
 TakesFunction (opens.Enclosing mark from to ∷ rest) = Unit {0}
 TakesFunction _ = ⊥
 
--- what is below, if that waits so
+-- the entry below, if it waits this way
 abbrev pub outside : Scope → List Open → (waits : List Opened → List ℕ → Type 0) → Below
 outside scope rest waits = record { waits = waits; scoped = λ around. IsScoped scope around rest; naming = IsNaming scope rest }
 
--- These take a function type or an array that comes after a text: what waits for it, and what is open around it, where it is made.
+-- These accept a function type or an array after a text: what waits for it, and what is open around it, where it is made.
 pub record IsTaken (below : Below) (rest : List Open) (front : List ℕ) : Type 0 where
   pub outer : List Opened
   pub made_in : Around
@@ -527,15 +529,15 @@ pub record FirstType (s : Symbol) : Type 0 where
   pub is_reference : Bool
   pub prints : Prints (detail_of s) own bytes is_reference
 
--- A parameter comes of such a function, after these, and what is open waits for the function.
+-- Accepts a parameter of such a function, after these; the open entry waits for the function.
 abbrev pub AwaitsLed : (s : Symbol) → (extra : ℕ) → Mark → Arguments → (Leads : (own : Term) → (front name : List ℕ) → Type 0)
     → (Within : (front : List ℕ) → (e : Term) → (at : ℕ) → State → Type 0) → List Opened → (text : List ℕ) → Type 0
 AwaitsLed s extra mark argument Leads Within os text =
     (ts : List Term) × (texts : List ℕ) × (h : HasLed (detail_of s) extra mark Leads ts texts) × (text ≡ h.front ++ h.name ++ codes "(" ++ in_front_of_next ts texts)
     × ((t : Term) (at : ℕ) (st : State) → Comes s os (tree t true) at st → ItemsGoOn s argument (Within h.front) h.make (ts ++ t ∷ []) at st)
 
--- A type comes for the last of the open ones, after what is written, or the name of a function whose address is read. While the types of
--- that function are read, nothing is named by what is open around them.
+-- The innermost entry accepts a type, after what is written, or the name of a function whose address is read. While the types
+-- of that function are read, the entries around it name nothing.
 abbrev pub Stands : (s : Symbol) → Scope → List Open → List Opened → (text : List ℕ) → Type 0
 Stands s scope [] os text = ⊥
 Stands s scope (opens.Pointer from ∷ rest) os text = Marks s (outside scope rest (Stands s scope rest)) os text from pointer
@@ -605,12 +607,12 @@ below s scope rest = outside scope rest (Stands s scope rest)
 
 -- ## What comes next
 
--- where a nested name is read that has come so far: what types may name in it, if it is a type
+-- where a nested name has been read up to here: what types may name in it, if it is a type
 pub record IsNestScoped (s : Symbol) (scope : Scope) (w : Direct) (around : Around) : Type 0 where
   pub scoped : is_type w.nest.purpose ≡ true → IsScoped scope around (reverse w.waiting.list.items)
   pub naming : w.nest.is_dependent ≡ true → IsNaming scope (reverse w.waiting.list.items)
 
--- of a nested name this was read and written
+-- this much of a nested name was read and written
 pub record IsNestSoFar (s : Symbol) (scope : Scope) (w : Direct) (t : Term) : Type 0 where
   pub around : Around
   pub outer : List Opened
@@ -621,18 +623,18 @@ pub record IsNestSoFar (s : Symbol) (scope : Scope) (w : Direct) (t : Term) : Ty
   pub scoped : IsNestScoped s scope w around
   pub serves : Serves s w.nest.purpose (below s scope (reverse w.waiting.list.items)) outer front
 
--- it goes on
+-- the nested name continues
 pub record IsNesting (s : Symbol) (scope : Scope) (kind : Kind) (w : Direct) (t : Term) (st : State) : Type 0 where
   pub so_far : IsNestSoFar s scope w t
   pub open so_far use *
   pub goes : NestGoesOn s kind outer around t w.nest.is_listed w.at st
 
--- a type is expected, an item of a list, or one that is no reference
+-- expects a type, an item of a list, or a type that is no reference
 abbrev pub ExpectsType : (s : Symbol) → Around → List Opened → (at : ℕ) → State → Type 0
 ExpectsType s around os at st =
     Expects s Kind.Type around os at st ⊎ Expects s Kind.Item around os at st ⊎ (Expects s Kind.ItemButRef around os at st × NoReference s.bytes at)
 
--- a type is expected, and these are open
+-- expects a type, with these entries open
 pub record AwaitsTypeIn (s : Symbol) (scope : Scope) (w : Direct) : Type 0 where
   pub os : List Opened
   pub around : Around
@@ -640,7 +642,7 @@ pub record AwaitsTypeIn (s : Symbol) (scope : Scope) (w : Direct) : Type 0 where
   pub stands : Stands s scope (reverse w.waiting.list.items) os w.text.list.items
   pub scoped : IsScoped scope around (reverse w.waiting.list.items)
 
--- a type was read, and written after a front, and these are open
+-- a type was read, and written after a front, with these entries open
 pub record IsTypeRead (s : Symbol) (scope : Scope) (w : Direct) (st : State) (waits : List Open) (is_reference is_dependent : Bool) : Type 0 where
   pub os : List Opened
   pub own : Term
@@ -671,7 +673,7 @@ IsBefore s scope w st steps.Tail =
 IsBefore s scope w st steps.Component = (t : Term) × (n : IsNestSoFar s scope w t) × AwaitsComponent s n.outer n.around t w.at st
 IsBefore s scope w st steps.Ended = IsWhole s w.text.list.items
 
--- a writer that has come so far, and what comes next
+-- a writer that has come this far, and what comes next
 pub record IsWriting (s : Symbol) (w : Direct) (step : Step) : Type 0 where
   pub kept : Kept s w
   pub open kept use *

@@ -19,7 +19,7 @@ pub record Writes (old new : Direct) (bytes : List ℕ) : Type 0 where
   pub at : new.at ≡ old.at
   pub rounds : new.rounds ≡ old.rounds
 
--- the same, and the place is another one
+-- likewise, and the place is another one
 pub record Reads (old new : Direct) (bytes : List ℕ) : Type 0 where
   pub text : new.text.list.items ≡ old.text.list.items ++ bytes
   pub candidates : new.candidates ≡ old.candidates
@@ -28,7 +28,7 @@ pub record Reads (old new : Direct) (bytes : List ℕ) : Type 0 where
   pub scope : new.has_scope ≡ old.has_scope
   pub rounds : new.rounds ≡ old.rounds
 
--- What was written up to a place was taken away, and if there was any of it each candidate.
+-- What was written up to a place was removed, and with it, if there was any, each candidate.
 pub record Cuts (old new : Direct) (start : ℕ) : Type 0 where
   pub text : new.text.list.items ≡ drop start old.text.list.items
   pub candidates : ((start ≡ 0) × (new.candidates ≡ old.candidates)) ⊎ (new.candidates.list.items ≡ [])
@@ -54,7 +54,7 @@ pub record OpensEntry (old new : Direct) (entry : Open) : Type 0 where
   pub nest : new.nest ≡ old.nest
   pub scope : new.has_scope ≡ old.has_scope
 
--- the same of arguments, of which the bracket was written
+-- likewise for arguments, whose bracket was written
 pub record OpensArguments (detail : Detail) (old new : Direct) (entry : Open) : Type 0 where
   pub waiting : new.waiting.list.items ≡ old.waiting.list.items ++ entry ∷ []
   pub at : new.at ≡ old.at + 1
@@ -68,7 +68,7 @@ abbrev pub added : Direct → (from : ℕ) → (is_reference is_dependent : Bool
 added w from is_reference is_dependent =
     w.candidates.list.items ++ record { from = from; to = length w.text.list.items; is_reference = is_reference; is_dependent = is_dependent } ∷ []
 
--- the same unless that is one already
+-- likewise unless that is one already
 abbrev pub added_unless : Direct → (is_listed : Bool) → (from : ℕ) → (is_dependent : Bool) → List Candidate
 added_unless w true from is_dependent = w.candidates.list.items
 added_unless w false from is_dependent = added w from false is_dependent
@@ -87,17 +87,17 @@ abbrev pub Stays : Hiding → Candidate → Type 0
 Stays (hidings.After to) k = k.to ≤ to
 Stays hidings.Dependent k = k.is_dependent ≡ false
 
--- it is what it was and stays so, or it is nowhere
+-- it stays what it was, or it is nowhere
 abbrev pub IsLeft : Hiding → (old new : Candidate) → Type 0
 IsLeft hiding old new = ((new ≡ old) × Stays hiding old) ⊎ (new ≡ hidden)
 
--- each of them is
+-- and so is each of them
 abbrev pub AreLeft : Hiding → (old new : List Candidate) → Type 0
 AreLeft hiding [] [] = Unit {0}
 AreLeft hiding (k ∷ ks) (n ∷ ns) = IsLeft hiding k n × AreLeft hiding ks ns
 AreLeft hiding _ _ = ⊥
 
--- candidates, and such a one for a function type, and one for the pointer to it, if it is one
+-- candidates, with one for a function type, and one for the pointer to it, if it is one
 abbrev pub hidden_behind : (is_pointer : Bool) → List Candidate → List Candidate
 hidden_behind true ks = (ks ++ hidden ∷ []) ++ hidden ∷ []
 hidden_behind false ks = ks ++ hidden ∷ []

@@ -16,7 +16,7 @@ use crate::marks::mark_at;
 use crate::open::{Arguments, Mark, Open, Purpose, Step};
 use crate::tokens::byte_at;
 
-/// What comes before the parts of a nested name in the address of a function that has one.
+/// What precedes the parts of a nested name in the address of a function that has one.
 // <template-arg> ::= X ad L _Z N
 const ADDRESS: &[u8] = b"XadL_ZN";
 
@@ -31,8 +31,8 @@ fn is_address_at(s: &[u8], at: usize) -> bool
 }
 
 impl Direct {
-    /// Reads an argument of a name up to the first type in it. What waits for a type is open already. By the wide grammar it may be
-    /// the address of a function.
+    /// Reads an argument of a name up to the first type in it, with the entry that accepts a type open already. In the wide
+    /// grammar it may be the address of a function.
     // <template-arg> ::= <type> | X <expression> E
     #[inline(always)]
     pub(crate) fn argument_at<G: Grammar>(&mut self, s: &[u8]) -> Option<Step>
@@ -46,8 +46,8 @@ impl Direct {
         Some(Step::Type)
     }
 
-    /// Reads the first bytes of the address of a function, up to its name, in a symbol that isn't a long one: candidates are gone over
-    /// where its return type ends, and where it ends itself.
+    /// Reads the first bytes of the address of a function, up to its name, in a symbol that isn't a long one: candidates are
+    /// visited where its return type ends, and where the function ends.
     // <expression> ::= ad L <mangled-name> E
     #[inline(never)]
     fn begin_address<G: Grammar>(&mut self, s: &[u8]) -> Option<Step>
@@ -71,8 +71,8 @@ impl Direct {
         self.nest_at::<G>(s, Purpose::Address { mark: place.mark })
     }
 
-    /// The name of a function is read whose address is an argument. Its return type follows or its parameters, whose types may name its
-    /// own arguments.
+    /// The name of a function is read whose address is an argument. Its return type or its parameters follow, and their types
+    /// may name the function's own arguments.
     // <encoding> ::= <function name> <bare-function-type>
     #[inline(never)]
     pub(crate) fn addressed_named<G: Grammar>(&mut self, s: &[u8], mark: Mark) -> Option<Step>
@@ -83,7 +83,7 @@ impl Direct {
         let Open::Address { encoding } = self.waiting.pop()? else {
             return None;
         };
-        // data, or one among the types of another one
+        // data, or a function among the types of another one
         if self.has_scope || byte_at(s, self.at) == b'E' {
             return None;
         }
@@ -101,7 +101,7 @@ impl Direct {
         Some(Step::Type)
     }
 
-    /// The return type of such a function is read, of which nothing is shown: its parameters follow.
+    /// The return type of such a function is read and not shown: its parameters follow.
     // <bare-function-type> ::= <return type> <parameter type>+
     pub(crate) fn addressed_front<G: Grammar>(
         &mut self,
@@ -146,8 +146,8 @@ impl Direct {
         Some(Step::Type)
     }
 
-    /// A parameter of such a function is read: another one follows, or its end. Where functions are shown by their names alone, what
-    /// follows the name is taken away.
+    /// A parameter of such a function is read: another one follows, or its end. Where only the names of functions are shown,
+    /// what follows the name is removed.
     // <bare-function-type> ::= <parameter type>+
     pub(crate) fn addressed_parameter<G: Grammar>(
         &mut self,
@@ -185,8 +185,8 @@ impl Direct {
         self.addressed::<G>(s)
     }
 
-    /// Reads the E after such a function, and the one after its address, which is an argument of the name before it. The function's own
-    /// arguments aren't named any more.
+    /// Reads the E after such a function, and the one after its address, which is an argument of the name before it. The
+    /// function's own arguments can't be named any more.
     // <template-arg> ::= X ad L <mangled-name> E E
     fn addressed<G: Grammar>(&mut self, s: &[u8]) -> Option<Step>
         requires read { IsAddressedRead (symbol_by G.IS_WIDE G.IS_BARE G.IS_BRIEF s.now) self.old marks.Plain }

@@ -16,7 +16,7 @@ use crate::lists::normal;
 use crate::open::{Access, Open, Step};
 use sym_core::{NumberKind, find_number};
 
-/// How many letters come before an array's size.
+/// How many letters precede an array's size.
 fn letters(access: Access) -> usize
     ensures { result ≡ length (access_letters access) }
 {
@@ -38,7 +38,7 @@ fn array_opening(access: Access) -> &'static [u8]
     }
 }
 
-/// Whether it is pointed or referred to.
+/// Whether it is behind a pointer or a reference.
 fn is_marked(access: Access) -> bool
     ensures { result ≡ is_marked access }
 {
@@ -50,7 +50,8 @@ fn is_marked(access: Access) -> bool
 }
 
 impl Direct {
-    /// Begins an array, or one that is pointed or referred to, where it is an element, a parameter, or what a special object is of.
+    /// Begins an array, or a pointer or reference to one, where it is an element, a parameter, or the subject of a special
+    /// object.
     // <array-type> ::= A [<array bound number>] _ <element type>
     #[inline(never)]
     pub(crate) fn begin_array<G: Grammar>(&mut self, s: &[u8], access: Access) -> Option<Step>
@@ -76,7 +77,7 @@ impl Direct {
         Some(Step::Type)
     }
 
-    /// The type of an array's elements is read: writes its size, and hands it on.
+    /// The type of an array's elements is read: writes its size, and forwards it.
     // <array-type> ::= A [<array bound number>] _ <element type>
     pub(crate) fn array_ended<G: Grammar>(
         &mut self,

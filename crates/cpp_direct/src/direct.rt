@@ -12,18 +12,18 @@ use crate::symbols::{NO_NEST, NOWHERE};
 use std::alloc::Global;
 use sym_direct::Bounded;
 
-/// The lists with which texts are written, one after the other.
+/// The lists that texts are written with, one after the other.
 #[derive(Drop)]
 pub struct Direct {
     pub(crate) text: Bounded<u8>,
     pub(crate) candidates: Bounded<Candidate>,
     pub(crate) waiting: Bounded<Open>,
     pub(crate) nest: Nest,
-    /// the arguments of the name that was read last: the first of them, if they are types, but no function types and no arrays, where
-    /// the first may be a literal, or the elements of a pack of such types, if this is the only one
+    /// the arguments of the name that was read last: the first of them, if they are types other than function types and arrays
+    /// (the first may also be a literal), or the elements of a pack of such types, if this is the only argument
     pub(crate) argument: Arguments,
-    /// whether the arguments of the symbol's own name are known, which types may name, or while its types are read those of a function
-    /// whose address is an argument, or no types follow the name
+    /// whether the arguments are known that types may name: those of the symbol's own name, or, while its types are read, of a
+    /// function whose address is an argument; or no types follow the name
     pub(crate) has_scope: bool,
     pub(crate) at: usize,
     /// the steps that the last symbol took
@@ -52,7 +52,7 @@ impl Direct {
         self.text.as_slice()
     }
 
-    /// Leaves out of what was written what isn't to be shown. A text that can't be told from one with marks in it is given up.
+    /// Removes what isn't to be shown from what was written. A text that can't be told from one with marks in it is given up.
     #[inline(always)]
     pub fn show<G: Grammar>(&mut self, _s: &[u8]) -> Option<()>
         requires { IsWhole (symbol_by G.IS_WIDE G.IS_BARE G.IS_BRIEF _s.now) self.old.text.list.items }
@@ -65,8 +65,8 @@ impl Direct {
         Some(())
     }
 
-    /// Empties the lists, and gives them the room that they have while a symbol is written: the text so many bytes, at most eight for
-    /// each of the symbol's and a kilobyte, and the others an entry for each byte.
+    /// Clears the lists and reserves their room for a symbol: this many bytes of text, at most eight for each of the symbol's
+    /// and a kilobyte, and an entry for each byte in the other lists.
     #[inline(always)]
     pub fn restart(&mut self, s: &[u8], bytes: u32)
         requires fits { FitsSymbol s.now }
@@ -85,7 +85,7 @@ impl Direct {
         self.has_scope = false;
     }
 
-    /// A symbol is done, after so many steps: the candidates and what was open are forgotten.
+    /// A symbol is done after this many steps: the candidates and the open entries are forgotten.
     #[inline(always)]
     pub fn forget(&mut self, rounds: usize)
         ensures text { self.new.text ≡ self.old.text }

@@ -20,12 +20,12 @@ use crate::marks::mark_at;
 use crate::open::{Mark, Open, Purpose, Step};
 use crate::tokens::byte_at;
 
-/// The longest symbol that is gone over once more, or its candidates are, at a lambda with parameters, at parameters that aren't shown
-/// or at the address of a function, in bytes.
+/// The longest symbol, in bytes, that is scanned once more, or whose candidates are, at a lambda with parameters, at parameters
+/// that aren't shown or at the address of a function.
 pub(crate) const LONGEST_GONE_OVER: usize = 1_024;
 
 impl Direct {
-    /// Reads the first bytes of a type that is in a function, up to the first type in that one's name.
+    /// Reads the first bytes of a type in a function, up to the first type in that function's name.
     // <local-name> ::= Z <function encoding> E <entity name> [<discriminator>]
     #[inline(never)]
     pub(crate) fn begin_enclosing<G: Grammar>(&mut self, s: &[u8]) -> Option<Step>
@@ -46,7 +46,7 @@ impl Direct {
         self.nest_at::<G>(s, Purpose::Enclosing { mark: place.mark })
     }
 
-    /// The name of a function is read in which a type is: its parameters follow, or the type.
+    /// The name of a function that contains a type is read: its parameters follow, or the type.
     // <encoding> ::= <function name> <bare-function-type> | <data name>
     pub(crate) fn enclosing_named<G: Grammar>(
         &mut self,
@@ -64,8 +64,8 @@ impl Direct {
         self.enclosing_parameters::<G>(s, mark, from)
     }
 
-    /// The name of an instance of a function template is read in which a type is. The function's return type follows, a builtin
-    /// one, of which nothing is written.
+    /// The name of an instance of a function template is read that contains a type. The function's return type follows, a
+    /// builtin one, and is not written.
     // <bare-function-type> ::= <return type> <parameter type>+
     pub(crate) fn enclosing_instance<G: Grammar>(
         &mut self,
@@ -84,8 +84,9 @@ impl Direct {
         self.enclosing_parameters::<G>(s, mark, from)
     }
 
-    /// Reads the parameters of a function in which a type is, up to the first type in them. Where functions are shown by their names
-    /// alone, a symbol in which it has any is not to be a long one: they are taken away at their end, with all that they made.
+    /// Reads the parameters of a function that contains a type, up to the first type in them. Where only the names of functions
+    /// are shown, a symbol in which the function has parameters has to be short: they are removed at their end, with all that
+    /// they made.
     // <bare-function-type> ::= <parameter type>+ | v
     fn enclosing_parameters<G: Grammar>(&mut self, s: &[u8], mark: Mark, from: u32) -> Option<Step>
         requires fits { IsReadable s.now }
@@ -110,8 +111,8 @@ impl Direct {
         Some(Step::Type)
     }
 
-    /// A parameter of a function is read in which a type is: another one follows, or the type. Where functions are shown by their
-    /// names alone, what follows the name is taken away.
+    /// A parameter is read of a function that contains a type: another one follows, or the type. Where only the names of
+    /// functions are shown, what follows the name is removed.
     // <bare-function-type> ::= <parameter type>+
     pub(crate) fn enclosing_parameter<G: Grammar>(
         &mut self,
@@ -145,7 +146,7 @@ impl Direct {
         self.enclosing_ended::<G>(s, mark, from)
     }
 
-    /// Writes the qualifiers of a function in which a type is.
+    /// Writes the qualifiers of a function that contains a type.
     fn enclosing_ended<G: Grammar>(&mut self, s: &[u8], mark: Mark, from: u32) -> Option<Step>
         requires fits { IsReadable s.now }
         requires read { IsEnclosingRead (symbol_by G.IS_WIDE G.IS_BARE G.IS_BRIEF s.now) self.old mark from }
@@ -155,7 +156,7 @@ impl Direct {
         self.enclosed::<G>(s, from)
     }
 
-    /// Reads the E after the function that a type is in.
+    /// Reads the E after the function that contains a type.
     // <local-name> ::= Z <function encoding> E <entity name> [<discriminator>]
     fn enclosed<G: Grammar>(&mut self, s: &[u8], from: u32) -> Option<Step>
         requires fits { IsReadable s.now }

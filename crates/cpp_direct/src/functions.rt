@@ -15,8 +15,8 @@ use crate::open::{Open, Step};
 use crate::tokens::byte_at;
 
 impl Direct {
-    /// Whether what was opened last takes what prints on both sides of a name: an element, a parameter, or what a special object is
-    /// of.
+    /// Whether the innermost entry accepts what prints on both sides of a name: an element, a parameter, or the subject of a
+    /// special object.
     pub(crate) fn takes_element(&self) -> bool
         ensures { result ≡ true → TakesFunction (reverse self.now.waiting.list.items) }
     {
@@ -34,7 +34,7 @@ impl Direct {
         }
     }
 
-    /// Begins a function type, or one that is pointed to, where it is an element, a parameter, or what a special object is of.
+    /// Begins a function type, or a pointer to one, where it is an element, a parameter, or the subject of a special object.
     // <function-type> ::= F <bare-function-type> E
     #[inline(never)]
     pub(crate) fn begin_function<G: Grammar>(&mut self, s: &[u8], is_pointer: bool) -> Option<Step>
@@ -64,7 +64,7 @@ impl Direct {
         self.first_parameter::<G>(s, is_pointer)
     }
 
-    /// Reads the first parameter of a function type, unless it is a lone void, which is none.
+    /// Reads the first parameter of a function type, unless it is a lone void, which is no parameter.
     // <bare-function-type> ::= <return type> v
     fn first_parameter<G: Grammar>(&mut self, s: &[u8], is_pointer: bool) -> Option<Step>
         requires fits { IsReadable s.now }
@@ -125,7 +125,7 @@ impl Direct {
         Some(Step::Type)
     }
 
-    /// Writes the end of a function type, and hands it on.
+    /// Writes the end of a function type, and forwards it.
     // <function-type> ::= F <bare-function-type> E
     fn function_ended<G: Grammar>(&mut self, s: &[u8], is_pointer: bool) -> Option<Step>
         requires fits { IsReadable s.now }
@@ -138,7 +138,7 @@ impl Direct {
         self.pass_element::<G>(s)
     }
 
-    /// Hands what prints on both sides of a name on to what takes it.
+    /// Forwards what prints on both sides of a name to the entry that accepts it.
     pub(crate) fn pass_element<G: Grammar>(&mut self, s: &[u8]) -> Option<Step>
         requires fits { IsReadable s.now }
         requires passed { IsElementPassed (symbol_by G.IS_WIDE G.IS_BARE G.IS_BRIEF s.now) self.old }

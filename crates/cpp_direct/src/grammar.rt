@@ -7,7 +7,7 @@ pub trait Grammar {
     /// Whether it is the wide one, which has what compilers write beside the ABI's symbols.
     const IS_WIDE: bool;
 
-    /// Whether functions are shown by their names alone.
+    /// Whether only the names of functions are shown.
     const IS_BARE: bool;
 
     /// Whether names are shown without their template arguments.
@@ -20,8 +20,8 @@ pub trait Grammar {
     ghost IS_BRIEF: { Bool };
 }
 
-/// The wide grammar or that of the ABI's symbols, where functions are shown by their names alone or whole, and names without their
-/// template arguments or with them.
+/// The wide grammar or that of the ABI's symbols, with only the names of functions shown or functions shown whole, and names
+/// without their template arguments or with them.
 pub struct Shown<const WIDE: bool, const BARE: bool, const BRIEF: bool>;
 
 impl<const WIDE: bool, const BARE: bool, const BRIEF: bool> Grammar for Shown<WIDE, BARE, BRIEF> {

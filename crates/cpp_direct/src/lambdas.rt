@@ -85,7 +85,7 @@ impl Direct {
         Some(Step::Type)
     }
 
-    /// Opens the parameters of a lambda, in a symbol that isn't a long one: each lambda goes over it once more.
+    /// Opens the parameters of a lambda, in a symbol that isn't a long one: each lambda scans the symbol once more.
     // <closure-type-name> ::= Ul <lambda-sig> E [<nonnegative number>] _
     fn open_lambda(&mut self, s: &[u8], from: u32, nested: Option<Purpose>) -> Option<()>
         requires { StandsAt s.now self.old.at (85 ∷ []) }
@@ -131,8 +131,8 @@ impl Direct {
         self.lambda_ended::<G>(s, from, nested)
     }
 
-    /// A lambda is read. One in a function is a type. A nested name of which it is a component goes on after it, but a constructor that
-    /// is named after it is given up.
+    /// A lambda is read. One in a function is a type. A nested name that has it as a component continues after it, but a
+    /// constructor that is named after it is given up.
     // <local-name> ::= Z <function encoding> E <entity name> [<discriminator>]
     // <prefix> ::= <prefix> <unqualified-name>
     fn lambda_ended<G: Grammar>(

@@ -14,7 +14,8 @@ use crate::open::{Open, Step};
 use crate::tokens::byte_at;
 
 impl Direct {
-    /// Reads the name of a template of which a member is an argument, up to the first argument of its own. The wide grammar alone has it.
+    /// Reads the name of a template that has a member as an argument, up to the first argument of its own. Only the wide
+    /// grammar has it.
     // <template-arg> ::= X <expression> E
     // <unresolved-name> ::= sr <unresolved-qualifier-level>+ E <base-unresolved-name>
     // <unresolved-qualifier-level> ::= <source-name> <template-args>

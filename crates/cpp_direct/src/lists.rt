@@ -38,7 +38,7 @@ pub fn normal(digits: &[u8]) -> &[u8]
     &digits[at..]
 }
 
-/// Whether it is the digit 0 alone.
+/// Whether it is just the digit 0.
 #[tactic(auto, unfolding(cpp_grammar::specs::Values::is_zero))]
 #[inline(always)]
 fn is_zero(digits: &[u8]) -> bool
@@ -50,7 +50,7 @@ fn is_zero(digits: &[u8]) -> bool
     }
 }
 
-/// Whether the integers of the type with this letter are without it.
+/// Whether the integers of the type with this letter omit the type.
 #[tactic(auto, unfolding(cpp_grammar::specs::Parts::is_plain_integer))]
 #[inline(always)]
 fn is_plain_letter(letter: u8) -> bool
@@ -138,7 +138,7 @@ impl Direct {
         }
     }
 
-    /// Reads a pack of nothing, for which nothing is written, at the end of arguments.
+    /// Reads an empty pack, which isn't written, at the end of arguments.
     // <template-arg> ::= J <template-arg>* E
     #[inline(never)]
     fn empty_pack<G: Grammar>(&mut self, s: &[u8], is_first: bool) -> Option<Step>
@@ -175,7 +175,7 @@ impl Direct {
         self.at = self.at.checked_add(1)?;
         match *self.waiting.as_slice().last()? {
             Open::Pack => {
-                // nothing stands for a pack of nothing, and no comma before it
+                // an empty pack, with no comma before it, denotes nothing
                 if is_first {
                     return None;
                 }
@@ -265,7 +265,7 @@ impl Direct {
         requires awaits { AwaitsNumber (symbol_by G.IS_WIDE G.IS_BARE G.IS_BRIEF s.now) self.old }
         ensures { IfSome result (IsWriting (symbol_by G.IS_WIDE G.IS_BARE G.IS_BRIEF s.now) self.new) }
     {
-        // the integers of some builtin types are without them
+        // the integers of some builtin types omit the type
         if self.text.as_slice().ends_with(b"(int") {
             return None;
         }

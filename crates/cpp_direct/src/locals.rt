@@ -52,7 +52,7 @@ impl Direct {
         self.begin_encoding::<G>(s)
     }
 
-    /// A local entity, after the encoding that it is in.
+    /// A local entity, after the encoding that contains it.
     // <local-name> ::= Z <function encoding> E <entity name> [<discriminator>]
     pub(crate) fn entity<G: Grammar>(&mut self, s: &[u8]) -> Option<Step>
         requires fits { IsReadable s.now }
@@ -84,7 +84,7 @@ impl Direct {
         self.finish::<G>(s)
     }
 
-    /// Reads a discriminator, if there is one. Nothing of it is written.
+    /// Reads a discriminator, if there is one. It isn't written.
     // <discriminator> ::= _ <non-negative number> | __ <non-negative number> _
     pub(crate) fn discriminator(&mut self, s: &[u8]) -> Option<()>
         requires { IsReadable s.now }

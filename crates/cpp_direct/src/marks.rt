@@ -40,7 +40,7 @@ pub fn mark_at(s: &[u8], at: usize) -> Option<MarkPlace>
     }
 }
 
-/// Those of one that is const.
+/// Those of a const one.
 // <CV-qualifiers> [<ref-qualifier>]
 #[inline(always)]
 fn const_mark_at(s: &[u8], _at: usize, behind: usize) -> Option<MarkPlace>

@@ -12,10 +12,10 @@ use crate::tokens::byte_at;
 use std::simd::prelude::*;
 use sym_core::{NameClass, find_name};
 
-/// So many bytes are looked at together.
+/// This many bytes are examined together.
 const LANES: usize = 16;
 
-/// Whether the bytes from a place on, as far as they are looked at together, may be in a name.
+/// Whether the next bytes from a place on, those examined together, may be in a name.
 #[inline(always)]
 fn are_lanes_named(bytes: &[u8], at: usize) -> bool
     requires { at + 16 ≤ length bytes.now }
@@ -40,7 +40,7 @@ fn are_few_named(bytes: &[u8]) -> bool
     are
 }
 
-/// Whether each byte may be in a name. The last sixteen are looked at together wherever they begin.
+/// Whether each byte may be in a name. The last sixteen are examined together wherever they begin.
 pub fn are_name_bytes(bytes: &[u8]) -> bool
     ensures { result ≡ true → ReachesNameBytes Cpp bytes.now (length bytes.now) }
 {
@@ -73,7 +73,7 @@ pub fn is_digit(byte: u8) -> bool
     b'0' <= byte && byte <= b'9'
 }
 
-/// A name's own bytes, so many, after its length, which is at a place.
+/// The n bytes of a name after its length, at a place.
 #[inline(always)]
 fn own_at(s: &[u8], _at: usize, from: usize, size: usize) -> Option<NamePlace>
     requires readable { IsReadable s.now }
@@ -92,7 +92,7 @@ fn own_at(s: &[u8], _at: usize, from: usize, size: usize) -> Option<NamePlace>
     Some(NamePlace { from, to })
 }
 
-/// The same where the length has more than two digits.
+/// Likewise where the length has more than two digits.
 #[inline(never)]
 fn long_name_at(s: &[u8], at: usize) -> Option<NamePlace>
     requires { IsReadable s.now }

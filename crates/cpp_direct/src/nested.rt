@@ -15,10 +15,10 @@ use crate::open::{Arguments, Nest, Open, Purpose, Step};
 use crate::symbols::NOWHERE;
 use crate::tokens::byte_at;
 
-/// How long `std::` is, with which the text of each abbreviation begins: the name of its class follows.
+/// The length of `std::`, which begins the text of each abbreviation: the name of its class follows.
 const STD_LENGTH: u32 = 5;
 
-/// A first piece that is a candidate already, and of which no class is known.
+/// A first piece that is a candidate already, and whose class is unknown.
 #[inline(always)]
 fn listed_nest(from: u32, purpose: Purpose, is_dependent: bool) -> Nest
     ensures { result ≡ record { from = from; class_from = from; class_to = from; purpose = purpose; is_listed = true; has_class = false; is_instance = false; is_dependent = is_dependent } }
@@ -65,7 +65,7 @@ fn is_destructor_digit<G: Grammar>(digit: u8) -> bool
     G::IS_WIDE && b'4' <= digit && digit <= b'5'
 }
 
-/// So many components of a nested name are read in one step at most.
+/// The most components of a nested name that one step reads.
 const COMPONENTS_AT_ONCE: usize = 16;
 
 impl Direct {
@@ -131,7 +131,7 @@ impl Direct {
         self.nest_known::<G>(s)
     }
 
-    /// A name that an S stands for is read, at the front of a nested one. By the wide grammar a type may end after its arguments.
+    /// A substituted name is read, at the front of a nested one. In the wide grammar a type may end after its arguments.
     // <nested-name> ::= N <substitution> <template-args> E
     #[inline(always)]
     fn nest_known<G: Grammar>(&mut self, s: &[u8]) -> Option<Step>
@@ -173,7 +173,7 @@ impl Direct {
         self.nest_named::<G>(s)
     }
 
-    /// The name of a component is read. Arguments may come after it, and by the wide grammar a tag before them.
+    /// The name of a component is read. Arguments may follow it, and in the wide grammar a tag before them.
     // <unqualified-name> ::= <unqualified-name> <abi-tags>
     #[inline(always)]
     fn nest_named<G: Grammar>(&mut self, s: &[u8]) -> Option<Step>
@@ -188,7 +188,7 @@ impl Direct {
         self.nest_tagged::<G>(s)
     }
 
-    /// The name of a component is read, with its tag. Arguments may come after it.
+    /// The name of a component is read, with its tag. Arguments may follow it.
     // <prefix> ::= <template-prefix> <template-args>
     #[inline(always)]
     fn nest_tagged<G: Grammar>(&mut self, s: &[u8]) -> Option<Step>
@@ -266,7 +266,7 @@ impl Direct {
         self.nest.is_instance && self.nest.has_class
     }
 
-    /// The arguments that it ends in, those of them that are known.
+    /// The arguments that it ends in, as far as they are known.
     pub(crate) fn noted(&self) -> Arguments
         ensures known { self.now.nest.is_instance ≡ true → result ≡ self.now.argument }
         ensures none { self.now.nest.is_instance ≡ false → result ≡ nowhere }
@@ -378,7 +378,7 @@ impl Direct {
         self.nest_named::<G>(s)
     }
 
-    /// Reads the E of a nested name after an operator that no arguments are read of.
+    /// Reads the E of a nested name after an operator that takes no arguments.
     fn operator_ended<G: Grammar>(&mut self, s: &[u8]) -> Option<Step>
         requires fits { IsReadable s.now }
         requires read { IsOperatorRead (symbol_by G.IS_WIDE G.IS_BARE G.IS_BRIEF s.now) self.old }

@@ -1,4 +1,4 @@
-// What is open around what is being read, and what comes next.
+// The entries open around what is being read, and what comes next.
 
 /// What a substitution may name: its text, by its place in the text so far. One that ends before it begins has none.
 #[derive(Clone, Copy)]
@@ -6,11 +6,11 @@ pub struct Candidate {
     pub from: u32,
     pub to: u32,
     pub is_reference: bool,
-    /// It names arguments of the function's template: this is its text in the types of that function alone.
+    /// It names arguments of the function's template: this is its text only in the types of that function.
     pub is_dependent: bool,
 }
 
-/// Which candidates have no text any more.
+/// Which candidates lose their text.
 #[derive(Clone, Copy)]
 pub enum Hiding {
     /// those that end after this place
@@ -41,8 +41,8 @@ pub enum Mark {
     ConstRvalue,
 }
 
-/// The first arguments of a name, those of them that are known. If one of them is a pack, its elements are in its place. Between the
-/// texts of two of them are a comma and a space.
+/// The first arguments of a name, as far as they are known. If one of them is a pack, its elements are in its place. Between
+/// the texts of any two are a comma and a space.
 #[derive(Clone, Copy)]
 pub struct Arguments {
     /// the place where the encoding begins whose types may name them, 0 if this isn't known
@@ -57,7 +57,7 @@ pub struct Arguments {
     pub count: u8,
     /// whether the last of them is a pack
     pub has_pack: bool,
-    /// how many arguments come before it
+    /// how many arguments precede it
     pub before: u8,
     /// and how many elements it has
     pub elements: u8,
@@ -81,13 +81,13 @@ pub enum Purpose {
     Type,
     /// the name of the encoding, of a member function with these qualifiers
     Name { mark: Mark },
-    /// the name of a function in which a type is, with these qualifiers
+    /// the name of a function that contains a type, with these qualifiers
     Enclosing { mark: Mark },
     /// the name of a function whose address is an argument, with these qualifiers
     Address { mark: Mark },
 }
 
-/// A nested name so far: where its text begins, and where that of the class is that a constructor would be named after.
+/// A nested name so far: where its text begins, and where the name of the class is that a constructor would repeat.
 #[derive(Clone, Copy)]
 pub struct Nest {
     pub from: u32,
@@ -98,13 +98,13 @@ pub struct Nest {
     pub is_listed: bool,
     /// Its last piece is the name of a class.
     pub has_class: bool,
-    /// It ends in arguments. No name of a class comes before those of a constructor or a destructor.
+    /// It ends in arguments. No class name precedes those of a constructor or a destructor.
     pub is_instance: bool,
     /// It names arguments of the function's template.
     pub is_dependent: bool,
 }
 
-/// How an array is read: by itself, or after a pointer or an lvalue reference.
+/// How an array is read: plain, or after a pointer or an lvalue reference.
 #[derive(Clone, Copy)]
 pub enum Access {
     Plain,
@@ -112,7 +112,7 @@ pub enum Access {
     Lvalue,
 }
 
-/// What waits for the type that is being read.
+/// The entries that wait for the type that is being read.
 #[derive(Clone, Copy)]
 pub enum Open {
     Pointer {
@@ -136,7 +136,7 @@ pub enum Open {
     NestArguments {
         nest: Nest,
     },
-    /// the arguments of a nested name's first piece, after which a component is
+    /// the arguments of a nested name's first piece, with a component after them
     FirstArguments {
         nest: Nest,
     },
@@ -144,8 +144,8 @@ pub enum Open {
     NameArguments {
         from: u32,
     },
-    /// the arguments of a name of which a member is an argument of what was opened before, and whether one of them names an argument
-    /// of the function's template
+    /// the arguments of a name that has a member as an argument of what was opened before, and whether one of them names an
+    /// argument of the function's template
     LevelArguments {
         is_dependent: bool,
     },
@@ -161,8 +161,8 @@ pub enum Open {
         start: u32,
         argument: Arguments,
     },
-    /// the parameters of a function in which a type is; the type's text begins at the first of these places, with the function's
-    /// name, and the name ends at the other
+    /// the parameters of a function that contains a type; the type's text begins at the first of these places, with the
+    /// function's name, and the name ends at the other
     Enclosing {
         mark: Mark,
         from: u32,
@@ -184,15 +184,15 @@ pub enum Open {
         to: u32,
         argument: Arguments,
     },
-    /// the parameters of a lambda that is in a function, whose text begins at this place; or in a nested name, of which it is a
-    /// component, and what that one is read as
+    /// the parameters of a lambda in a function, whose text begins at this place; or of one in a nested name, and what that
+    /// name is read as
     Lambda {
         from: u32,
         nested: Option<Purpose>,
     },
     /// the name of a special symbol
     Special,
-    /// the return type of a function type that is an element or a parameter, by itself or after a pointer
+    /// the return type of a function type that is an element or a parameter, plain or after a pointer
     Returned {
         is_pointer: bool,
     },
@@ -207,7 +207,7 @@ pub enum Open {
         from: u32,
         to: u32,
     },
-    /// an argument of a name, so many after the first one, whose text begins at this place: an element of what was opened before
+    /// the argument of a name with this number, whose text begins at this place: an element of what was opened before
     Argument {
         from: u32,
         number: u8,
@@ -215,7 +215,7 @@ pub enum Open {
     },
     /// the elements of a pack, an argument of what was opened before
     Pack,
-    /// an element of a pack that is the first argument of a name, so many after the first one, whose text begins at this place
+    /// the element with this number of a pack that is the first argument of a name; its text begins at this place
     Element {
         from: u32,
         number: u8,

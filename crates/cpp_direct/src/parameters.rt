@@ -59,7 +59,7 @@ impl Arguments {
         self.at(number)
     }
 
-    /// The same, and the argument with this number is known, if those before it are: its text is from one place to another one.
+    /// Likewise, and the argument with this number is known, if those before it are: its text is from one place to another.
     fn with(self, number: u8, from: u32, to: u32, is_reference: bool) -> Arguments
         ensures more { KnowsMore self result number from to is_reference }
         ensures rest { (result.before ≡ self.before) × (result.has_pack ≡ self.has_pack) }
@@ -115,7 +115,8 @@ fn parameter_number(s: &[u8], at: usize) -> Option<ParameterNumber>
     })
 }
 
-/// Among how many levels of types a type that names an argument of the function's template may be: marks, and arguments of types.
+/// The most levels of types, that is marks and arguments of types, around a type that names an argument of the function's
+/// template.
 const MOST_LEVELS: usize = 16;
 
 /// Whether what is in it is in a type: a mark, or the arguments of a type.
@@ -158,7 +159,7 @@ fn arguments_in(entry: Open) -> Option<Arguments>
     }
 }
 
-/// Whether a function type or an array is at a place, or what points or refers to one: these are elements alone.
+/// Whether a function type or an array is at a place, or a pointer or reference to one: these occur only as elements.
 fn is_element_at(s: &[u8], at: usize) -> bool {
     match byte_at(s, at) {
         b'F' | b'A' => true,
@@ -177,7 +178,7 @@ struct PatternPlace {
     end: usize,
 }
 
-/// The pattern that comes before a parameter.
+/// The pattern before a parameter.
 fn pattern_at(s: &[u8], at: usize) -> Option<PatternPlace>
     ensures stands { IfSome result (λ p. StandsAt s.now at (pattern_letters p.pattern)) }
     ensures end { IfSome result (λ p. p.end ≡ at + length (pattern_letters p.pattern)) }
@@ -211,7 +212,7 @@ fn pattern_at(s: &[u8], at: usize) -> Option<PatternPlace>
     }
 }
 
-/// A parameter that expands the pack that the argument with this number is, and the place after it.
+/// A parameter that expands a pack, the argument with this number, and the place after it.
 #[derive(Clone, Copy)]
 struct Expansion {
     pattern: Pattern,
@@ -243,7 +244,7 @@ fn expansion_at(s: &[u8], at: usize) -> Option<Expansion>
     })
 }
 
-/// What a pattern has after the text of a type. Of a reference it isn't known which one it is.
+/// What a pattern has after the text of a type. For a reference it isn't known which kind it is.
 fn marks_of(pattern: Pattern, is_reference: bool) -> Option<&'static [u8]>
     ensures { IfSome result (λ marks. IsMarkedBy pattern is_reference marks.now) }
 {
@@ -271,7 +272,7 @@ fn marks_of(pattern: Pattern, is_reference: bool) -> Option<&'static [u8]>
 }
 
 impl Direct {
-    /// Whether the arguments that are open last are those of a function's name.
+    /// Whether the innermost open arguments are those of a function's name.
     #[inline(always)]
     fn is_named(&self) -> bool
         ensures { result ≡ true → EndsNamed (reverse self.now.waiting.list.items) }
@@ -286,7 +287,7 @@ impl Direct {
         }
     }
 
-    /// The first element of a list, which is a type. Where it is an argument of a name, it is what T_ stands for.
+    /// The first element of a list, which is a type. Where it is an argument of a name, T_ denotes it.
     // <template-args> ::= I <template-arg>* E
     #[inline(always)]
     pub(crate) fn first_type<G: Grammar>(&mut self, s: &[u8]) -> Option<Step>
@@ -361,8 +362,7 @@ impl Direct {
         Some(Step::Type)
     }
 
-    /// An argument of a name is read, or an element of a pack among them, so many after the first one: where its text is becomes
-    /// known.
+    /// An argument of a name is read, or an element of a pack among them, after n others: the place of its text becomes known.
     #[inline(always)]
     fn note_argument<G: Grammar>(
         &mut self,
@@ -381,8 +381,8 @@ impl Direct {
         known.with(number, from, to, is_reference)
     }
 
-    /// An element of a pack is read, so many after the first argument of a name: others follow, or the end of the pack, and
-    /// after it that of the arguments.
+    /// An element of a pack is read, after n arguments of a name: others follow, or the end of the pack, and after it that of
+    /// the arguments.
     // <template-arg> ::= J <template-arg>* E
     pub(crate) fn element_ended<G: Grammar>(
         &mut self,
@@ -422,7 +422,7 @@ impl Direct {
         )
     }
 
-    /// An element of a pack comes next, after so many others.
+    /// An element of a pack comes next, after n others.
     // <template-arg> ::= J <template-arg>* E
     fn next_element<G: Grammar>(&mut self, s: &[u8], before: u8, known: Arguments) -> Option<Step>
         requires fits { IsReadable s.now }
@@ -461,7 +461,7 @@ impl Direct {
         Some(Step::Type)
     }
 
-    /// Writes what comes before an element of a list, the first one or another one.
+    /// Writes what precedes an element of a list, the first one or another one.
     #[inline(always)]
     fn separate(&mut self, is_first: bool) -> Option<()>
         ensures { OnSome result (Writes self.old self.new (separator is_first)) }
@@ -472,8 +472,7 @@ impl Direct {
         self.push_pair(b',', b' ')
     }
 
-    /// The last parameter may be one that expands the pack that is among the arguments of the function's template. Nothing is written
-    /// of an empty one.
+    /// The last parameter may expand the pack among the arguments of the function's template. An empty one isn't written.
     // <type> ::= Dp <type>
     #[inline(never)]
     fn expansion<G: Grammar>(
@@ -520,7 +519,7 @@ impl Direct {
         Some(())
     }
 
-    /// Writes what comes before the element of a list with this number.
+    /// Writes what precedes the element of a list with this number.
     fn comma(&mut self, number: u8) -> Option<()>
         ensures { OnSome result (Writes self.old self.new (comma_text number)) }
     {
@@ -544,7 +543,8 @@ impl Direct {
         self.push(marks)
     }
 
-    /// The parameter that an expansion has, what its pattern makes of it, and the expansion become candidates. Their texts are nowhere.
+    /// The parameter of an expansion, what its pattern makes of it, and the expansion become candidates. Their texts are
+    /// nowhere.
     fn add_expansion(&mut self, pattern: Pattern) -> Option<()>
         ensures candidates { OnSome result (self.new.candidates.list.items ≡ self.old.candidates.list.items ++ replicate (2 + length (pattern_letters pattern)) hidden) }
         ensures text { self.new.text ≡ self.old.text }
@@ -562,7 +562,7 @@ impl Direct {
         }
     }
 
-    /// An argument of a name is read, so many after the first one: others follow, or the end.
+    /// An argument of a name is read, after n others: others follow, or the end.
     // <template-args> ::= I <template-arg>* E
     pub(crate) fn argument_ended<G: Grammar>(
         &mut self,
@@ -592,7 +592,7 @@ impl Direct {
         self.close_list::<G>(s, more)
     }
 
-    /// An argument of a name comes next, after so many others.
+    /// An argument of a name comes next, after n others.
     // <template-args> ::= I <template-arg>* E
     fn next_argument<G: Grammar>(&mut self, s: &[u8], before: u8, known: Arguments) -> Option<Step>
         requires fits { IsReadable s.now }
@@ -610,7 +610,7 @@ impl Direct {
         self.argument_at::<G>(s)
     }
 
-    /// A pack comes next, after so many arguments of a name and one more.
+    /// A pack comes next, after n + 1 arguments of a name.
     // <template-arg> ::= J <template-arg>* E
     #[inline(never)]
     fn next_pack<G: Grammar>(&mut self, s: &[u8], last: u8, known: Arguments) -> Option<Step>
@@ -644,8 +644,7 @@ impl Direct {
         Some(Step::Type)
     }
 
-    /// An empty pack comes next, after so many arguments of a name and one more. It is the last one, or others follow, of which
-    /// nothing is known.
+    /// An empty pack comes next, after n + 1 arguments of a name. It is the last one, or unknown arguments follow.
     // <template-arg> ::= J <template-arg>* E
     fn last_pack_empty<G: Grammar>(&mut self, s: &[u8], last: u8, known: Arguments) -> Option<Step>
         requires fits { IsReadable s.now }
@@ -670,7 +669,7 @@ impl Direct {
         )
     }
 
-    /// The arguments that types may name in what is open, if it is few levels within the types of a function.
+    /// The arguments that types may name in the open entry, if it is few levels within the types of a function.
     fn argument(&self) -> Option<Arguments>
         ensures { IfSome result (λ a. argument_of (reverse self.now.waiting.list.items) ≡ Some a) }
     {
@@ -697,7 +696,7 @@ impl Direct {
     {
         let read = parameter_number(s, self.at.checked_add(1)?)?;
         let named = self.argument()?;
-        // a pack is named in what is expanded alone
+        // a pack is named only in what is expanded
         let argument = named.single(read.number)?;
         if named.encoding == 0 {
             return None;
@@ -711,7 +710,7 @@ impl Direct {
         })
     }
 
-    /// Reads an rvalue reference, up to the first type that is in it. One to an argument that is a reference itself is this argument.
+    /// Reads an rvalue reference, up to the first type in it. One to an argument that is itself a reference is that argument.
     // <type> ::= O <type>
     #[inline(never)]
     pub(crate) fn rvalue_at<G: Grammar>(&mut self, s: &[u8]) -> Option<Step>
@@ -744,8 +743,8 @@ impl Direct {
         })
     }
 
-    /// Whether a nested name that is read as this may name the arguments of the symbol's own name: a type may, among the types of that
-    /// function.
+    /// Whether a nested name that is read as this may name the arguments of the symbol's own name: a type may, among the types
+    /// of that function.
     pub(crate) fn may_depend(&self, purpose: Purpose) -> bool
         ensures is_type { result ≡ true → is_type purpose ≡ true }
         ensures named { result ≡ true → (a : Arguments) × (argument_of (reverse self.now.waiting.list.items) ≡ Some a) × (a.encoding ≢ 0) }

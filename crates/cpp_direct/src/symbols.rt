@@ -28,7 +28,7 @@ pub const NO_NEST: Nest = Nest {
     is_dependent: false,
 };
 
-/// No argument that is known.
+/// No known argument.
 pub const NOWHERE: Arguments = Arguments {
     from: 0,
     ends: [0; MOST_KNOWN],
@@ -50,7 +50,7 @@ fn has_front(s: &[u8], from: u32) -> bool
     from == 0
 }
 
-/// The place where the encoding begins whose name is written from a place on, 0 if a text comes before it.
+/// The place where the encoding begins whose name is written from a place on, 0 if a text precedes it.
 fn encoding_place(s: &[u8], from: u32) -> u16
     ensures first { result ≢ 0 → from ≡ 0 }
     ensures is { result ≢ 0 → result ≡ encoding_place s.now }
@@ -87,7 +87,7 @@ impl Direct {
         }
     }
 
-    /// Reads the first bytes of a symbol, for which the lists have begun, or gives it up.
+    /// Reads the first bytes of a symbol, once the lists have been prepared, or gives it up.
     // <mangled-name> ::= _Z <encoding>
     pub fn begin<G: Grammar>(&mut self, s: &[u8]) -> Option<Step>
         requires fits { IsReadable s.now }
@@ -196,7 +196,7 @@ impl Direct {
         self.begin_parameters::<G>(s, mark, start, argument)
     }
 
-    /// The arguments of the symbol's own name are known now, which its types may name. It has one name.
+    /// The arguments of the symbol's own name, which its types may name, are known now. It has one name.
     #[inline(always)]
     fn begin_scope(&mut self, s: &[u8], argument: Arguments, from: u32) -> Option<Arguments>
         ensures is { IfSome result (λ a. (a ≡ record argument { encoding = a.encoding }) × (a.encoding ≢ 0 → (from ≡ 0) × (a.encoding ≡ encoding_place s.now))) }
@@ -213,7 +213,8 @@ impl Direct {
         })
     }
 
-    /// Where the text of a function that has no return type begins, after its name was written, or where it ends if that is all of it.
+    /// Where the text of a function that has no return type begins, after its name was written, or where it ends if nothing
+    /// else is shown.
     #[inline(always)]
     fn start<G: Grammar>(&self) -> u32
         ensures whole { G.IS_BARE ≡ false → result ≡ 0 }
@@ -225,7 +226,7 @@ impl Direct {
         0
     }
 
-    /// The return type of a function is expected. It is written after the name, and after it the name once more.
+    /// Expects the return type of a function. It is written after the name, and then the name once more.
     // <bare-function-type> ::= <return type> <parameter type>+
     #[inline(never)]
     fn begin_front<G: Grammar>(
@@ -280,7 +281,7 @@ impl Direct {
         self.begin_parameters::<G>(s, mark, start, argument)
     }
 
-    /// Of a function in which a local entity is the return type isn't shown: the text begins after it.
+    /// A function that contains a local entity doesn't show its return type: the text begins after it.
     #[inline(never)]
     fn front_hidden<G: Grammar>(
         &mut self,
@@ -368,8 +369,8 @@ impl Direct {
         self.close::<G>(s, mark, start)
     }
 
-    /// A function is read, and written but for its last bracket. Where functions are shown by their names alone, what follows its
-    /// name is taken away.
+    /// A function is read, and written except for its last bracket. Where only the names of functions are shown, what follows
+    /// its name is removed.
     pub(crate) fn close<G: Grammar>(&mut self, s: &[u8], mark: Mark, start: u32) -> Option<Step>
         requires fits { IsReadable s.now }
         requires ended { IsFunctionEnded (symbol_by G.IS_WIDE G.IS_BARE G.IS_BRIEF s.now) self.old mark start }
@@ -386,7 +387,7 @@ impl Direct {
         self.end::<G>(s, mark)
     }
 
-    /// The end of an encoding, after its text but for its qualifier: a local entity follows, or the end of the symbol.
+    /// The end of an encoding, after its text without its qualifier: a local entity follows, or the end of the symbol.
     pub(crate) fn end<G: Grammar>(&mut self, s: &[u8], mark: Mark) -> Option<Step>
         requires fits { IsReadable s.now }
         requires ended { IsEncodingEnded (symbol_by G.IS_WIDE G.IS_BARE G.IS_BRIEF s.now) self.old mark }

@@ -1,4 +1,4 @@
-// Thunks: functions that call another one, with what they call it on moved by an offset.
+// Thunks: functions that call another one, and move the object that they call it on by an offset.
 
 ghost use Rattle.std.specs.Prelude.{◌≡◌, ◌+◌, ◌∷◌, [], ℕ, List, false};
 ghost use Rattle.std.specs.Option.{OnSome, IfSome};
@@ -57,7 +57,7 @@ impl Direct {
         self.begin_encoding::<G>(s)
     }
 
-    /// Reads an offset and the _ after it, of which nothing is written.
+    /// Reads an offset and the _ after it, and writes nothing.
     // <number> ::= [n] <non-negative decimal integer>
     fn offset(&mut self, s: &[u8]) -> Option<()>
         requires { IsReadable s.now }
@@ -70,7 +70,7 @@ impl Direct {
         self.distance(s)
     }
 
-    /// Reads digits and the _ after them, of which nothing is written.
+    /// Reads digits and the _ after them, and writes nothing.
     // <non-negative decimal integer>
     pub(crate) fn distance(&mut self, s: &[u8]) -> Option<()>
         requires { IsReadable s.now }

@@ -139,7 +139,7 @@ impl Direct {
         Some(())
     }
 
-    /// Reads the number of a substitution, and finds what it names, where its text is kept.
+    /// Reads the number of a substitution, and finds what it names, if that one's text is kept.
     // <substitution> ::= S <seq-id> _ | S_
     pub(crate) fn substitution(&mut self, s: &[u8]) -> Option<Candidate>
         requires { IsReadable s.now }

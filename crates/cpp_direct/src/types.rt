@@ -27,7 +27,7 @@ fn is_array_behind(s: &[u8], at: usize) -> bool
     }
 }
 
-/// What is open for arguments of which one names an argument of the function's template, if these may do so.
+/// The entry for arguments that include one naming an argument of the function's template, if these may name one.
 fn dependent(entry: Open) -> Option<Open>
     ensures { IfSome result (IsDependentNow entry) }
 {
@@ -47,7 +47,7 @@ fn dependent(entry: Open) -> Option<Open>
     }
 }
 
-/// The same of a nested name that is a type.
+/// Likewise for a nested name that is a type.
 fn dependent_nest(nest: Nest) -> Option<Nest>
     ensures { IfSome result (λ new. (nest.purpose ≡ purposes.Type) × (new ≡ record nest { is_dependent = true })) }
 {
@@ -61,7 +61,7 @@ fn dependent_nest(nest: Nest) -> Option<Nest>
 }
 
 impl Direct {
-    /// Reads a type, up to the first that is in it.
+    /// Reads a type, up to the first type in it.
     // <type> ::= <builtin-type> | <qualified-type> | <class-enum-type> | P <type> | R <type> | O <type> | <substitution>
     pub(crate) fn type_at<G: Grammar>(&mut self, s: &[u8], is_plain: bool) -> Option<Step>
         requires fits { IsReadable s.now }
@@ -103,7 +103,7 @@ impl Direct {
         }
     }
 
-    /// Reads a pointer, up to the first type that is in it.
+    /// Reads a pointer, up to the first type in it.
     // <type> ::= P <type>
     #[inline(always)]
     fn pointer_at<G: Grammar>(&mut self, s: &[u8], is_plain: bool) -> Option<Step>
@@ -123,7 +123,7 @@ impl Direct {
         self.open_type(Open::Pointer { from }, Step::Type)
     }
 
-    /// Reads a type that is a name, up to the first type that is in it.
+    /// Reads a type that is a name, up to the first type in it.
     // <class-enum-type> ::= <name>
     pub(crate) fn named_type<G: Grammar>(&mut self, s: &[u8]) -> Option<Step>
         requires fits { IsReadable s.now }
@@ -214,7 +214,7 @@ impl Direct {
         self.type_named::<G>(s, from, true, candidate.is_reference)
     }
 
-    /// The name of a type is read. Arguments may come after it.
+    /// The name of a type is read. Arguments may follow it.
     // <class-enum-type> ::= <name> | <template-template-param> <template-args>
     #[inline(always)]
     fn type_named<G: Grammar>(
@@ -243,7 +243,7 @@ impl Direct {
         })
     }
 
-    /// Hands a type on to what waits for it.
+    /// Forwards a type to the entry that waits for it.
     pub(crate) fn pass<G: Grammar>(
         &mut self,
         s: &[u8],
@@ -277,7 +277,7 @@ impl Direct {
         }
     }
 
-    /// Hands on a type that names no argument of the function's template.
+    /// Forwards a type that names no argument of the function's template.
     #[inline(always)]
     fn pass_closed<G: Grammar>(&mut self, s: &[u8], entry: Open, is_reference: bool) -> Option<Step>
         requires fits { IsReadable s.now }
@@ -313,7 +313,7 @@ impl Direct {
         }
     }
 
-    /// Hands on a type that names arguments of the function's template, which the arguments of a type may do.
+    /// Forwards a type that names arguments of the function's template, as the arguments of a type may do.
     // <template-arg> ::= <type>
     #[inline(never)]
     fn pass_dependent<G: Grammar>(&mut self, s: &[u8]) -> Option<Step>
@@ -343,7 +343,7 @@ impl Direct {
         Some(Step::List { is_first: false })
     }
 
-    /// Hands a type on to the mark that waits for it.
+    /// Forwards a type to the mark that waits for it.
     #[inline(always)]
     fn pass_to_mark<G: Grammar>(
         &mut self,

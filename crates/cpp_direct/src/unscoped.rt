@@ -16,7 +16,7 @@ use crate::symbols::NOWHERE;
 use crate::tokens::byte_at;
 
 impl Direct {
-    /// A name of its own, after the L of internal linkage or without one.
+    /// A source name, after the L of internal linkage or without one.
     // <unscoped-name> ::= <source-name>
     pub(crate) fn begin_name<G: Grammar>(&mut self, s: &[u8], is_internal: bool) -> Option<Step>
         requires fits { IsReadable s.now }
@@ -65,8 +65,8 @@ impl Direct {
         self.unscoped_named::<G>(s, from, true)
     }
 
-    /// The name of an encoding is read, which was written from a place on. Arguments may come after it, if it is one that takes them,
-    /// and by the wide grammar a tag before them.
+    /// The name of an encoding is read, which was written from a place on. Arguments may follow it, if it accepts them, and in
+    /// the wide grammar a tag before them.
     // <unqualified-name> ::= <unqualified-name> <abi-tags>
     fn unscoped_named<G: Grammar>(&mut self, s: &[u8], from: u32, takes: bool) -> Option<Step>
         requires fits { IsReadable s.now }

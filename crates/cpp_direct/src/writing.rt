@@ -112,7 +112,7 @@ impl Direct {
         self.candidates.push(HIDDEN)
     }
 
-    /// The same unless it is one already.
+    /// Likewise unless it is one already.
     #[inline(always)]
     pub(crate) fn add_unless(
         &mut self,
@@ -137,7 +137,7 @@ impl Direct {
         self.text.repeat(from as usize, to as usize)
     }
 
-    /// Takes away what was written up to a place, and if there was any of it all candidates.
+    /// Removes what was written up to a place, and with it, if there was any, all candidates.
     #[inline(always)]
     pub(crate) fn cut(&mut self, start: u32) -> Option<()>
         ensures { OnSome result (Cuts self.old self.new start) }
@@ -153,7 +153,7 @@ impl Direct {
         Some(())
     }
 
-    /// Takes away what was written after a place. Candidates that end after it are nowhere then.
+    /// Removes what was written after a place. Candidates that end after it are then nowhere.
     pub(crate) fn leave_out(&mut self, to: u32) -> Option<()>
         requires within { to ≤ length self.old.text.list.items }
         ensures text { OnSome result (self.new.text.list.items ≡ take to self.old.text.list.items) }
@@ -169,7 +169,7 @@ impl Direct {
         Some(())
     }
 
-    /// The arguments that types may name aren't named any more. Candidates that name them are nowhere then.
+    /// The arguments that types may name can't be named any more. Candidates that name them are then nowhere.
     pub(crate) fn end_scope(&mut self)
         ensures candidates { AreLeft hidings.Dependent self.old.candidates.list.items self.new.candidates.list.items }
         ensures scope { self.new.has_scope ≡ false }
@@ -181,7 +181,7 @@ impl Direct {
         hide(&mut self.candidates, Hiding::Dependent);
     }
 
-    /// Opens what waits for a type.
+    /// Opens an entry that waits for a type.
     #[inline(always)]
     pub(crate) fn open_type(&mut self, entry: Open, step: Step) -> Option<Step>
         ensures { IfSome result (λ next. (next ≡ step) × OpensEntry self.old self.new entry) }
@@ -201,7 +201,7 @@ impl Direct {
         self.open_type(entry, Step::List { is_first: true })
     }
 
-    /// Ends arguments that were opened so.
+    /// Ends arguments that were opened that way.
     #[inline(always)]
     pub(crate) fn end_arguments<G: Grammar>(&mut self) -> Option<()>
         ensures { OnSome result (Writes self.old self.new (closing_bracket (detail_by G.IS_BARE G.IS_BRIEF))) }
@@ -221,7 +221,7 @@ fn stays(hiding: Hiding, candidate: Candidate) -> bool
     }
 }
 
-/// Candidates that don't stay what they were are nowhere.
+/// Candidates that don't stay what they were become nowhere.
 #[inline(always)]
 fn hide(candidates: &mut Bounded<Candidate>, hiding: Hiding)
     ensures { AreLeft hiding candidates.old.list.items candidates.new.list.items }

@@ -1,4 +1,4 @@
--- The digits from the place on are those without leading zeros, but for the zeros among them.
+-- Without leading zeros, the digits from the place on are those of the whole.
 use Rattle.std.proofs.Common.{◌≡◌, ◌≤◌, ◌-◌, length, drop}
 use Rattle.cpp_grammar.specs.Values as values
 use Rattle.cpp_direct.proofs.lists.normal.Given as goal

@@ -1,4 +1,4 @@
--- If what is left has short numbers, after the digits that are side by side before it, all of it has.
+-- If the rest has short numbers, after the digits that are side by side before it, the whole has.
 use Rattle.std.proofs.Common.{◌≡◌, ◌≤◌, ◌-◌, length, drop, true}
 use Rattle.cpp_direct.specs.Bytes.{short_numbers}
 use Rattle.cpp_direct.proofs.tokens.are_numbers_short.Given as goal

@@ -1,4 +1,4 @@
--- The candidates up to a place were gone over.
+-- The candidates up to a place were visited.
 use Rattle.std.proofs.Common.{◌-◌, length}
 use Rattle.cpp_direct.proofs.Kept.{AreGoneOver}
 use Rattle.cpp_direct.proofs.writing.hide.Given as goal

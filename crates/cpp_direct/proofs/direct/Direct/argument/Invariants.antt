@@ -1,4 +1,4 @@
--- What is open has the arguments that what is left of it has.
+-- The open entries have the arguments that their remainder has.
 use Rattle.std.proofs.Common.{◌≡◌, reverse}
 use Rattle.cpp_direct.specs.WriterInvariant.{argument_of}
 use Rattle.cpp_direct.proofs.direct.Direct.argument.Given as goal

@@ -1,4 +1,4 @@
--- Of so many elements of the pack what the pattern makes of them is written.
+-- What the pattern makes of this many elements of the pack is written.
 use Rattle.std.proofs.Common.{List}
 use Rattle.cpp_grammar.specs.Term.{Term}
 use Rattle.sym_print.specs.declared.detail.Detail.{Detail}
