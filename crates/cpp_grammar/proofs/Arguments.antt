@@ -1,4 +1,4 @@
--- A type is an argument too: another tree of the same bytes, which stands for the same.
+-- A type is an argument too: another tree of the same bytes, which denotes the same.
 use Rattle.std.proofs.Common.{◌≡◌, ℕ, ◌+◌, ◌-◌, List, [], ◌∷◌, ◌++◌, length, slice_get, Bool, true, false, cond, ◌||◌, ◌&&◌, nat_eq, Option, Some, None, Result, Ok, Err, refl, ap, sym, ◌∙◌, subst, lit≤, arith}
 use Rattle.std.proofs.lemmas.Bool.{true≢false, eqb-true, and_parts}
 use Rattle.sym_core.specs.declared.refusal.Refusal.{Refusal}
@@ -53,12 +53,12 @@ tree_one empty around place state = one nothing_there state
 tree_one (token t) around place state = one (text t.own) state
 tree_one (fixed byte) around place state = one nothing_there state
 
--- where the value of a part is one, what follows it has to be the same for one alone
+-- where the value of a part is one, what follows it has to be the same for a single one
 pub first_same : (m : Result Read Refusal) → One m → (f h g k : Read → Result Read Refusal) → ((v : Value) (s : State) → (f (found (v ∷ []) s) >>= g) ≡ (h (found (v ∷ []) s) >>= k)) → ((m >>= f) >>= g) ≡ ((m >>= h) >>= k)
 first_same _ (refused e) f h g k same = refl
 first_same _ (one v s) f h g k same = same v s
 
--- two ways on from one part, or a refusal
+-- two continuations of one part, or a refusal
 then_same : {A : Type 0} (m : Result A Refusal) (f : A → Result Read Refusal) (a b c d e g : Read → Result Read Refusal)
     → ((r : Read) → ((a r >>= b) >>= c) ≡ ((d r >>= e) >>= g)) → ((((m >>= f) >>= a) >>= b) >>= c) ≡ ((((m >>= f) >>= d) >>= e) >>= g)
 then_same (Err x) f a b c d e g same = refl
@@ -68,7 +68,7 @@ then_same (Ok n) f a b c d e g same = go (f n)
     go (Err x) = refl
     go (Ok r) = same r
 
--- ## What it stands for
+-- ## What it denotes
 
 -- a type that is a parameter, and the argument that is one
 abbrev as_type : (digits : Token) (arguments : Tree) → Tree
@@ -77,7 +77,7 @@ as_type digits arguments = branch (rule_of Production.PlainType) [] (grown (bran
 abbrev with_t : Forest → Tree
 with_t parts = branch (rule_of Production.ArgumentWithT) (84 ∷ []) (grown (branch (rule_of Production.ParameterArgument) [] parts) nothing)
 
--- it is named at its T
+-- the place it names is that of its T
 named_same : (digits : Token) (arguments : Tree) (around : Around) (place : ℕ) (state : State) →
     unfold_tree cpp around place (with_t (grown (token digits) (grown arguments nothing))) state ≡ unfold_tree cpp around place (as_type digits arguments) state
 unfolding cpp opening production_at productions rule_of number_of between close unfolding_.behind meaning part byte_of parameter_named parameter_so_far listed_so_far index_of
@@ -106,7 +106,7 @@ named_same digits arguments around place state =
     ≡ ((((parameter_so_far around (at - 1) k [] state >>= first n) >>= old_inner_end) >>= onward_old) >>= old_end)) there
     (then_same (parameter_so_far around (at - 1) k [] state) (first (at + 0 + length (spell (token digits)))) new_inner_end onward_new new_end old_inner_end onward_old old_end (λ r. refl)))
 
--- any other type of its own
+-- any other type with code of its own
 plain_same : (t : Tree) (around : Around) (place : ℕ) (state : State) →
     unfold_tree cpp around place (branch (rule_of Production.PlainArgument) [] (grown t nothing)) state ≡ unfold_tree cpp around place (branch (rule_of Production.PlainType) [] (grown t nothing)) state
 unfolding cpp opening production_at productions rule_of number_of between close unfolding_.behind meaning part byte_of
@@ -120,12 +120,12 @@ plain_same t around place state =
 
 -- ## What is chosen
 
--- an argument begins as a type does, but for a type of its own
+-- an argument begins as a type does, except for a type with code of its own
 unfoldable pub item_stays : (chosen argument : Option Production) → Bool
 item_stays None argument = true
 item_stays (Some p) argument = nat_eq (number_of p) (number_of Production.PlainType) || same_choice (Some p) argument
 
--- and that begins as it does elsewhere, but for a parameter
+-- and that begins as it does elsewhere, except for a parameter
 unfoldable pub solid_stays : (byte : ℕ) → (chosen other argument : Option Production) → Bool
 solid_stays byte None other argument = true
 solid_stays byte (Some p) other argument = elim (nat_eq (number_of p) (number_of Production.Parameter)) [
@@ -133,7 +133,7 @@ solid_stays byte (Some p) other argument = elim (nat_eq (number_of p) (number_of
   | false ↦ same_choice (Some p) other && same_choice (Some Production.PlainArgument) argument
 ]
 
--- so it is in a table
+-- and likewise in a table
 pub record Begins (begins : Kind → List Alternative) : Type 0 where
   pub items : each_below 256 (λ b. item_stays (pick (begins Kind.Item) b) (pick (begins Kind.Argument) b)) ≡ true
   pub solids : each_below 256 (λ b. solid_stays b (pick (begins Kind.Solid) b) (pick (begins Kind.SolidButT) b) (pick (begins Kind.Argument) b)) ≡ true
@@ -203,7 +203,7 @@ module _ (begins : Kind → List Alternative) (fit : Begins begins) where
   parameter_argument (grown (token digits) nothing) trees takes = absurd trees.1
   parameter_argument (grown (token digits) (grown arguments (grown u f))) trees takes = absurd trees.1.1
 
-  -- a type of its own
+  -- a type with code of its own
   solid_argument : (t : Tree) → IsTree (table_with begins) (OfKind SOLID) t → AsArgument (table_with begins) (branch (rule_of Production.PlainType) [] (grown t nothing))
   unfolding rule_of parts_of padded is_chain number_of_kind kinds may_be_empty solid_stays
   solid_argument (branch rule taken parts) is =

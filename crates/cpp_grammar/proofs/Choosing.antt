@@ -123,7 +123,7 @@ is_wide_kind k lt none = elim (slice_get_cases kinds k).1 [
 
 -- ## The production of a tree
 
--- what passes for each of these productions
+-- what holds for each of these productions
 unfoldable pub each_passes : (Production → Bool) → List Alternative → Bool
 each_passes passes [] = true
 each_passes passes (a ∷ rest) = passes a.production && each_passes passes rest
@@ -157,7 +157,7 @@ chosen_rule k rule taken lt takes = go (slice_get kinds k) refl
     go None none = absurd (is_wide_kind k lt none)
     go (Some kind) at = by kind at (wide_choose kind takes.byte) refl (sym (wide_rule_at k kind takes.byte at) ∙ takes.found)
 
--- what passes for each production that a kind has passes for that of its trees
+-- what holds for each production of a kind holds for that of its trees
 pub taken_passes : (passes : ℕ → Production → Bool) → ((kind : Kind) → each_passes (passes (number_of_kind kind)) (wide_alternatives kind) ≡ true) → (k : ℕ) (rule : Rule) (c : Chosen k rule) →
     passes k c.production ≡ true
 unfolding wide_choose

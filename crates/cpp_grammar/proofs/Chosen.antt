@@ -10,7 +10,7 @@ pub either_cond : {A : Type 0} (P : A → Type 0) (b : Bool) (x y : A) → (b �
 either_cond P true x y f g = f refl
 either_cond P false x y f g = g refl
 
--- of what is made of something where it is there
+-- what is made of an optional value where it is present
 pub if_there : {A B : Type 0} (P : B → Type 0) (o : Option A) (x : B) (f : A → B) → P x → ((a : A) → o ≡ Some a → P (f a)) → P (elim o [ None ↦ x | Some a ↦ f a ])
 if_there P None x f none some = none
 if_there P (Some a) x f none some = some a refl

@@ -1,4 +1,4 @@
--- What is done between the parts of a production keeps to what is closed.
+-- The steps between the parts of a production keep what is closed closed.
 use Rattle.std.proofs.Common.{◌≡◌, refl, sym, ◌∙◌, subst, ℕ, ◌-◌, List, [], ◌∷◌, length, Bool, true, false, cond, None, Ok, Err}
 use Rattle.sym_core.specs.declared.refusal.Refusal.TheVariants.{BadReference}
 use Rattle.std.proofs.lemmas.Bool.{true≢false, false≢true}
@@ -26,14 +26,14 @@ pub record Fits (own : Bool) (around inner : Around) : Type 0 where
   pub back : Bare own inner → inner.in_lambda ≡ false → Bare own around × (around.in_lambda ≡ false)
   pub prefix : GoodPrefix (Bare own inner) inner.prefix
 
--- what goes into the next part, where the values so far are closed where something holds
+-- the inputs of the next part, where the values so far are closed under a condition
 pub record Goes (own : Bool) (s : Type 0) (around : Around) (at : ℕ) (state : State) (n : Next Value State Around) : Type 0 where
   pub values : AllGood s n.values
   pub grows : Grows own around at state n.state
   pub fits : Fits own around n.context
   pub bare : s → Bare own n.context
 
--- the same, where it holds that no parameters are named
+-- likewise, where no parameters are named under it
 abbrev GoesOn : (own : Bool) → Around → (at : ℕ) → State → Next Value State Around → Type 0
 GoesOn own around at state n = Goes own (Bare own around) around at state n
 
@@ -97,7 +97,7 @@ candidate_grows : (own : Bool) (around : Around) (at : ℕ) (t : Term) (state : 
 candidate_grows own around at t state true good = grows_one own around at t state good
 candidate_grows own around at t state false good = grows_same own around at state state refl
 
--- a parameter that is an argument itself leaves the candidates
+-- a parameter that is itself an argument leaves the candidates
 kept_grows : (own : Bool) (around : Around) (at : ℕ) (state now : State) (is_name : Bool) → Grows own around at state now → Grows own around at state (cond is_name now (record now { candidates = state.candidates }))
 kept_grows own around at state now true grows = grows
 kept_grows own around at state now false grows = grows_same own around at state (record now { candidates = state.candidates }) refl
@@ -146,7 +146,7 @@ done_goes own unread around place vs state n at here pre all e = let clash : ◌
 within : (own : Bool) (p : Production) (around : Around) (at : ℕ) (state : State) (n : Next Value State Around) → GoesOn own around at state n → Goes own (Within own p around) around at state n
 within own p around at state n g = record { values = all_where (Bare own around) (Within own p around) n.values (λ w. w.0) g.values; grows = g.grows; fits = g.fits; bare = λ w. g.bare w.0 }
 
--- in a signature nothing is named but what is its own
+-- in a signature only its own parameters are named
 signature_goes : (own : Bool) (p : Production) (around : Around) (at : ℕ) (vs : List Value) (state : State) (n : Next Value State Around) → has_signature p ≡ true → AllGood (Within own p around) vs →
     ◌≡◌ {A = Going} (next vs (in_signature around) state) (Ok n) → Goes own (Within own p around) around at state n
 unfolding in_signature

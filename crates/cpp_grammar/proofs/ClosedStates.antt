@@ -30,11 +30,11 @@ use Rattle.cpp_grammar.proofs.ClosedValues.{all_where, prefix_where, Good, AllGo
 abbrev pub Bare : (own : Bool) → Around → Type 0
 Bare own around = (around.scope ≡ None) × (own ≡ true → around.in_lambda ≡ false)
 
--- no parameters are in the parts of this production: in those of a lambda its own may
+-- no parameters are in the parts of this production, except that those of a lambda may have its own
 abbrev pub Within : (own : Bool) → Production → Around → Type 0
 Within own p around = Bare own around × (own ≡ true → has_signature p ≡ false)
 
--- a candidate in which no parameters of a lambda are
+-- a candidate without a lambda's parameters
 abbrev pub IsOutside : (own : Bool) → Candidate → Type 0
 IsOutside own c = own ≡ true → c.in_lambda ≡ false
 
@@ -153,7 +153,7 @@ ok_or d (Err e) = d
 pub ok_same : {A : Type 0} (a b : A) → ◌≡◌ {A = Result A Refusal} (Ok a) (Ok b) → a ≡ b
 ok_same a b e = ap (ok_or a) e
 
--- what comes of a step that wasn't refused
+-- the result of a step that wasn't refused
 pub record Behind {A B : Type 0} (x : Result A Refusal) (f : A → Result B Refusal) (r : B) : Type 0 where
   pub value : A
   pub is : x ≡ Ok value
@@ -253,7 +253,7 @@ gained_grows own (type_of k) around vs v state end pre all good = with_type_grow
 gained_grows own (unqualified_of k) around vs v state end pre all good = with_unqualified_grows own around end (part vs k) state (good_part (Bare own around) vs k all)
 gained_grows own itself around vs v state end pre all good = grows_one own around end (tree_of v) state good
 
--- other packs are no matter
+-- other packs don't matter
 pub grows_packs : (own : Bool) (around : Around) (end : ℕ) (old new : State) (packs : Option ℕ) → Grows own around end old new → Grows own around end old (record new { packs = packs })
 grows_packs own around end old new packs grows = record { more = grows.more; is = grows.is; each = grows.each }
 
@@ -267,7 +267,7 @@ behind_grows own production byte around began vs state end pre all name =
     gained_grows own (row_of production).gain around vs v state end pre all (good_tree (Bare own around) v (meaning_good (Bare own around) production byte around vs pre all (λ n. name))) in
     either_cond (Grows own around end state) (row_of production).restores_packs (record new { packs = began.packs }) new (λ h. grows_packs own around end state new began.packs gains) (λ h. gains)
 
--- what a part comes to is good, and the candidates grow
+-- the value of a part is good, and the candidates grow
 pub record Comes (own : Bool) (around : Around) (end : ℕ) (old : State) (r : Found Value State) : Type 0 where
   pub good : Good (Bare own around) (held r.value)
   pub grows : Grows own around end old r.state
@@ -297,7 +297,7 @@ close_good production byte around place began vs state r end old pre all name e 
 
 -- ## The reading of the wide grammar
 
--- what a substitution comes to is good, and no candidate
+-- the value of a substitution is good, and no candidate
 abbrev IsNamed : Around → State → Found Value State → Type 0
 IsNamed around state r = Good (Bare true around) (held r.value) × (r.state.candidates ≡ state.candidates)
 
@@ -366,7 +366,7 @@ unfolding numbered
 numbered_good around place at n state r all e =
     either (λ x. x ≡ Ok r → IsNamed around state r) (is_counted_alike state.candidates n) _ _ (λ is h. wide_substituted_good around place at n state r all h) (λ is h. absurd cc) e
 
--- a lambda has no free parameters: it is told apart by whether its signature has some
+-- a lambda has no free parameters: the case depends on whether its signature has some
 lambda_good : (s : Type 0) (t : Term) (number : ℕ) → ScopesAreClosed t → Good s (lambda_with t number)
 unfolding lambda_with is_open
 lambda_good s t number scopes =

@@ -73,7 +73,7 @@ unfoldable pub has_encoding : List Sym → Bool
 has_encoding [] = false
 has_encoding (x ∷ xs) = is_encoding x || has_encoding xs
 
--- an encoding comes after a byte
+-- an encoding follows a byte
 behind_a_byte : (p : Production) → is_chain p && has_encoding (parts_of p) ≡ false
 unfolding is_chain parts_of has_encoding is_encoding number_of_kind
 behind_a_byte Production.Mark = refl
@@ -102,7 +102,7 @@ taken_rule k rule taken lt takes =
     let c = chosen_rule k rule taken lt takes in
     record { production = c.production; is = c.is; encoding = implied (opens c.production) (nat_eq k 4) (taken_passes (λ n p. not (opens p) || nat_eq n 4) only_encodings k rule c) }
 
--- ## What a part comes to
+-- ## The value of a part
 
 pub record TreeComes (own : Bool) (around : Around) (end : ℕ) (old : State) (r : Found (List Value) State) : Type 0 where
   pub value : Value
@@ -207,7 +207,7 @@ leaf_comes own around end state v r good e =
 pub grows_on : (own : Bool) (around : Around) (a b : ℕ) (old new : State) → a ≤ b → Grows own around a old new → Grows own around b old new
 grows_on own around a b old new le g = grows_then own around a b old new new le g (grows_same own around b new new refl)
 
--- what is closed stays so between the parts of a production, and after them
+-- what is closed stays closed between the parts of a production, and after them
 pub record KeepsClosed (w : Way) : Type 0 where
   pub plain : IsPlain w
   pub goes : (production : Production) (around : Around) (place : ℕ) (vs : List Value) (state : State) (n : Next Value State Around) (at : ℕ) → StaysInside production →
@@ -224,7 +224,7 @@ opens_apart _ o = cc
 
 -- ## Encodings
 
--- what the parts of an encoding come to
+-- the values of the parts of an encoding
 pub record InnerComes (own : Bool) (production : Production) (around : Around) (end : ℕ) (old : State) (r : Found (List Value) State) : Type 0 where
   pub means : (byte : ℕ) → Good (Bare own around) (held (meaning production byte around r.value))
   pub grows : Grows own around end old r.state
@@ -240,13 +240,13 @@ known k lt = omega (arith, lt, kind_count)
 pub same_found : (vs ws known : List Value) (state : State) (r : Found (List Value) State) → ws ≡ known → ◌≡◌ {A = Result (Found (List Value) State) Refusal} (Ok (found (vs ++ ws) state)) (Ok r) → found (vs ++ known) state ≡ r
 same_found vs ws known state r is e = ap (λ us. found (vs ++ us) state) (sym is) ∙ ok_same (found (vs ++ ws) state) r e
 
--- the next part of a rule, where it is known what goes into it
+-- the next part of a rule, where its inputs are known
 pub record Stepped (w : Way) (rule : Open State Around) (n : Next Value State Around) (at : ℕ) (t : Tree) (f : Forest) (r : Found (List Value) State) : Type 0 where
   pub part : Found (List Value) State
   pub is : unfold_tree (reading_by w) n.context at t n.state ≡ Ok part
   pub rest : unfold_forest (reading_by w) rule (n.values ++ part.value) (at + length (spell t)) f part.state ≡ Ok r
 
--- what goes into a part in which nothing is named
+-- the inputs of a part in which nothing is named
 pub nameless : (at : ℕ) → List Value → State → Next Value State Around
 nameless at vs state = record { context = in_name at; values = vs; state = state }
 
@@ -531,7 +531,7 @@ module _ (w : Way) (keeps : KeepsClosed w) where
     trees_good_by nothing = tt
     trees_good_by (grown t f) = (tree_good_by t, trees_good_by f)
 
-  -- In the tree that a symbol stands for the arguments that are a scope have no free parameters.
+  -- In the tree that a symbol denotes the arguments that are a scope have no free parameters.
   pub scopes_are_closed_by : (shape : Tree) (t : Term) → IsTree wide (OfKind SYMBOL) shape → (unfold_tree (reading_by w) first_around 0 shape first_state >>= λ whole. Ok (first_tree whole.value)) ≡ Ok t → ScopesAreClosed t
   unfolding first_around first_state first_tree is_encoding
   scopes_are_closed_by shape t is e =
@@ -552,7 +552,7 @@ pub tree_good : (t : Tree) (x : Sym) (around : Around) (at : ℕ) (state : State
 unfolding cpp reading_by abi_way
 tree_good t = tree_good_by abi_way abi_keeps t
 
--- In the tree that a symbol stands for the arguments that are a scope have no free parameters.
+-- In the tree that a symbol denotes the arguments that are a scope have no free parameters.
 pub scopes_are_closed : (shape : Tree) (t : Term) → IsTree wide (OfKind SYMBOL) shape → unfold_cpp shape ≡ Ok t → ScopesAreClosed t
 unfolding unfold_cpp cpp reading_by abi_way
 scopes_are_closed shape t is e = scopes_are_closed_by abi_way abi_keeps shape t is e

@@ -1,4 +1,4 @@
--- What productions stand for is closed where the values of their parts are.
+-- What productions denote is closed where the values of their parts are.
 use Rattle.std.proofs.Common.{◌≡◌, refl, ℕ, zero, suc, List, [], ◌∷◌, Bool, true, false, ◌||◌, ◌&&◌, nat_eq}
 use Rattle.std.proofs.lemmas.Bool.{true≢false}
 use Rattle.cpp_grammar.specs.declared.production.Production.{Production}
@@ -16,7 +16,7 @@ use Rattle.cpp_grammar.specs.Meant.{all_given, given, made, meant}
 use Rattle.cpp_grammar.specs.Rows.{row_of}
 use Rattle.cpp_grammar.proofs.Chosen as chosen
 
--- the tree is closed under one condition, and under another one so are the scopes in it
+-- the tree is closed under one condition, and the scopes in it are under another
 pub record GoodIf (q s : Type 0) (t : Term) : Type 0 where
   pub closed : s → is_open t ≡ false
   pub scopes : q → ScopesAreClosed t
@@ -39,7 +39,7 @@ abbrev pub PrefixIf : (q s : Type 0) → Prefix → Type 0
 PrefixIf q s outermost = Unit {0}
 PrefixIf q s (behind t listed) = GoodIf q s t
 
--- where the scopes are closed anyway
+-- where the scopes are closed in any case
 abbrev pub Good : Type 0 → Term → Type 0
 Good s t = GoodIf (Unit {0}) s t
 
@@ -74,13 +74,13 @@ abbrev pub HasClosedName : Production → List Value → Type 0
 HasClosedName Production.Encoding vs = is_open (tree_of (part vs 0)) ≡ false
 HasClosedName _ vs = Unit {0}
 
--- all but an encoding, whose name is known to be closed
+-- every value except an encoding, whose name is known to be closed
 abbrev IsOther : Form → Type 0
 IsOther (own encoding most) = ⊥
 IsOther _ = Unit {0}
 
 module _ {q : Type 0} where
-  -- what is good where something holds is good where more holds
+  -- what is good under a condition is good under a stronger one
   pub good_where : (s u : Type 0) (t : Term) → (u → s) → GoodIf q s t → GoodIf q u t
   good_where s u t less good = record { closed = λ h. good.closed (less h); scopes = good.scopes }
 
@@ -183,7 +183,7 @@ module _ {q : Type 0} where
   good_operator s first nothing_there g = g
   good_operator s first v g = g
 
-  -- the name of a constructor that is inherited
+  -- the name of an inherited constructor
   good_inherited : (s : Type 0) (prefix : Prefix) (digit : ℕ) (v : Value) → PrefixIf q s prefix → GoodIf q s (held v) → GoodIf q s (held (inherited prefix digit v))
   unfolding inherited held is_open
   good_inherited s prefix digit (pair second arguments base) pre g =

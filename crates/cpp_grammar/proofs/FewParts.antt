@@ -17,7 +17,7 @@ use Rattle.cpp_grammar.specs.Texts.{look_up, same_bytes, literal_endings}
 use Rattle.cpp_grammar.proofs.Chosen.{either, either_cond}
 use Rattle.cpp_grammar.proofs.Steps.{first_of_both, second_of_both}
 
--- at most so many parts
+-- at most this many parts
 abbrev HasFew : ℕ → List (PartOf Item) → Type 0
 HasFew n ps = length ps ≤ n
 

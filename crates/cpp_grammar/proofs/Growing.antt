@@ -28,7 +28,7 @@ unfoldable pub each_below : ℕ → (ℕ → Bool) → Bool
 each_below zero p = true
 each_below (suc n) p = p n && each_below n p
 
--- what is chosen among some alternatives is chosen among the later ones too
+-- what some alternatives choose the later ones choose too
 unfoldable keeps_choices : (earlier later : List Alternative) → Bool
 keeps_choices earlier later = each_below 256 (λ b. same_choice (pick earlier b) (pick later b))
 

@@ -15,7 +15,7 @@ use Rattle.cpp_grammar.specs.Grammar.{in_ranges, among, is_in, pick, number_of_k
 use Rattle.cpp_grammar.specs.Table.{abi, abi_listed, listed_rule, sheet, padded, rule_of, rule_taken}
 use Rattle.cpp_grammar.proofs.Choosing.{rule_at_kind, is_kind}
 
--- the letter of a kind's row below a byte; `row` stands for what isn't there
+-- the letter of a kind's row below a byte; `row` is the default
 unfoldable pub letter : List ℕ → ℕ → ℕ → Option ℕ
 letter row k byte = letter_below (get_or LETTERS k row) byte
 
@@ -86,7 +86,7 @@ places head = refl
 pub place_at : (head : Head) (n : ℕ) → n < PRODUCTION_COUNT → abi_listed (n * 6 + 6) ≡ symbols_of (listed_rule head n)
 place_at head n = alike_at (λ n. abi_listed (n * 6 + 6)) (λ n. symbols_of (listed_rule head n)) PRODUCTION_COUNT n (places head)
 
--- what the code lists of each place is how many symbols come after it
+-- what the code lists of each place is how many symbols follow it
 after_each : AFTER ≡ counts_after SYMBOLS
 after_each = refl
 

@@ -1,4 +1,4 @@
--- Of values in which no parameters are free a production makes one in which none are.
+-- From values without free parameters a production makes one without any.
 use Rattle.std.proofs.Common.{◌≡◌, ℕ, List, [], ◌∷◌, false}
 use Rattle.cpp_grammar.specs.declared.production.Production.{Production}
 use Rattle.cpp_grammar.specs.Term.{Term, list}

@@ -43,7 +43,7 @@ unfoldable pub are_name_bytes : List ℕ → Bool
 are_name_bytes [] = true
 are_name_bytes (b ∷ bytes) = is_name_byte Cpp b && are_name_bytes bytes
 
--- some name bytes, the first of which is no digit
+-- some name bytes, and the first is no digit
 unfoldable pub is_own : List ℕ → Bool
 is_own [] = false
 is_own (b ∷ bytes) = not (is_decimal_digit b) && are_name_bytes (b ∷ bytes)
@@ -80,7 +80,7 @@ unfoldable mutual
   read_all (suc n) [] bytes = Some (nothing, bytes)
   read_all (suc n) (s ∷ ss) bytes = read_symbol n s bytes and_then λ r. read_all n ss r.1 and_then λ q. Some (grown r.0 q.0, q.1)
 
--- what a single symbol comes to
+-- the value of a single symbol
 pub data Seen : Type 0 where
   no_shape : Seen
   refused : Refusal → Seen

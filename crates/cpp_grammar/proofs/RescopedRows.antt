@@ -1,4 +1,4 @@
--- Symbols that the reading of the wide grammar alone reads, of shapes of the ABI's grammar.
+-- Symbols that only the reading of the wide grammar accepts, with shapes of the ABI's grammar.
 use Rattle.std.specs.Prelude.{◌≡◌, refl, ℕ, true, Bool, List, [], ◌∷◌, ◌&&◌, Some, None}
 use Rattle.std.specs.Fmt.{digits}
 use Rattle.sym_print.specs.Unfold.{printed_to, printed}

@@ -1,4 +1,4 @@
--- What follows a name in a nested one follows a name that an S stands for too: another tree of the same bytes, which stands for the same.
+-- What follows a name in a nested one follows a substituted name too: another tree of the same bytes, which denotes the same.
 use Rattle.std.proofs.Common.{◌≡◌, ℕ, ◌+◌, List, [], ◌∷◌, ◌++◌, length, Bool, true, false, ◌&&◌, nat_eq, Option, Some, None, Result, refl, ap, sym, ◌∙◌, subst, add-zero, append-nil, lit≤}
 use Rattle.std.proofs.lemmas.Bool.{eqb-true, and_parts}
 use Rattle.sym_core.specs.declared.refusal.Refusal.{Refusal}
@@ -63,7 +63,7 @@ instance_same around place a byte c t state =
     (λ part. unfold_forest cpp old ((tree name true ∷ nothing_there ∷ w ∷ []) ++ part.value) (on + length (spell c) + length (spell t)) nothing part.state) old_end
     (λ x last. refl))))
 
--- a tree of what follows a name that an S stands for, in the place of this one
+-- a tree of what follows a substituted name, in the place of this one
 pub record AsRest (t : Tree) : Type 0 where
   pub tree : Tree
   pub is : IsTree abi (OfKind NEST_REST_OR_END) tree

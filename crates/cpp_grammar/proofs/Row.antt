@@ -1,4 +1,4 @@
--- Rows of symbols with their answers, and a test of them that computes.
+-- Rows of symbols with their answers, and a test that computes them.
 use Rattle.std.specs.Prelude.{ℕ, List, [], ◌∷◌, Bool, true, false, ◌&&◌, nat_eq, codes}
 use Prim.Native.String.{String}
 use Rattle.sym_core.specs.declared.refusal.Refusal.{Refusal}
@@ -13,11 +13,11 @@ pub record Row : Type 0 where
   pub symbol : List ℕ
   pub wanted : Seen
 
--- the symbol has this text, which costs so much
+-- the symbol has this text, at this cost
 abbrev pub prints : String → String → ℕ → Row
 prints symbol text cost = record { detail = Full; symbol = codes symbol; wanted = seen (codes text) cost }
 
--- the same in the brief detail
+-- likewise in the brief detail
 abbrev pub briefly : String → String → ℕ → Row
 briefly symbol text cost = record { detail = Brief; symbol = codes symbol; wanted = seen (codes text) cost }
 

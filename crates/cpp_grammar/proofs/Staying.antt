@@ -1,5 +1,5 @@
--- What the reading of the ABI's grammar doesn't refuse is the same in that of the wide grammar: no parameters are free in what it reads in
--- a lambda's signature.
+-- What the reading of the ABI's grammar doesn't refuse is the same in that of the wide grammar: what it reads in a lambda's
+-- signature has no free parameters.
 use Rattle.std.proofs.Common.{◌≡◌, refl, ap, sym, ◌∙◌, subst, ℕ, zero, suc, ◌+◌, ◌-◌, List, [], ◌∷◌, ◌++◌, length, Bool, true, false, not, ◌||◌, ◌&&◌, cond, nat_eq, nat_lt, ◌<◌, slice_get, Option, Some, None, Result, Ok, Err, lit≤}
 use Rattle.std.proofs.lemmas.Bool.{true≢false, false≢true}
 use Rattle.std.specs.Result.{IfOk}
@@ -44,14 +44,14 @@ use Rattle.cpp_grammar.proofs.Steps.{first_of_both, second_of_both, all_pass, st
 
 -- ## What is closed
 
--- productions whose parts are closed wherever they are: a signature's, and those that stand for one of their parts
+-- productions whose parts are closed wherever they are: a signature's, and those that denote one of their parts
 unfoldable has_closed_parts : Production → Bool
 has_closed_parts Production.Lambda = true
 has_closed_parts Production.Special = true
 has_closed_parts Production.OtherSpecial = true
 has_closed_parts _ = false
 
--- those that stand for what special names stand for
+-- those that denote what special names denote
 unfoldable has_specials : Production → Bool
 has_specials Production.Special = true
 has_specials Production.OtherSpecial = true
@@ -199,7 +199,7 @@ tests_none is_name around place k vs state settled all cs =
     never : (arguments : Term) → around.scope ≡ Some arguments → around.in_lambda ≡ true → HasNone (parameter k)
     never arguments is l = let clash : ◌≡◌ {A = Option Term} None (Some arguments) = sym (settled.bare l) ∙ is in absurd cc
 
-    -- one that is an argument itself is no candidate
+    -- a parameter that is itself an argument is no candidate
     kept : (b : Bool) (now : State) → AllHaveNone now.candidates → AllHaveNone (cond b now (record now { candidates = state.candidates })).candidates
     kept true now all_ = all_
     kept false now all_ = cs
@@ -241,7 +241,7 @@ between_none p around place vs state settled all cs = done_none (before_part (ro
 
 -- ## After the parts of a production
 
--- what an encoding stands for is closed, and what else stands for something closed in a signature
+-- what an encoding denotes is closed, and every other value is closed in a signature
 means_none : (p : Production) (byte : ℕ) (around : Around) (vs : List Value) → Settled around → (are_closed p around ≡ true → AllNone vs) → around.in_lambda ≡ true → HasNone (held (meaning p byte around vs))
 unfolding are_closed has_closed_parts opens meaning held is_open
 means_none Production.Encoding byte around vs settled all l = none_encoding (part vs 0) (no_items (part vs 1))
@@ -333,7 +333,7 @@ named_none_ around place c state r e = go (is_open c.tree) around.in_lambda (not
     go true false true is h = let clash : ◌≡◌ {A = Result (Found Value State) Refusal} (Err (BadReference place)) (Ok r) = h in absurd cc
     go true false false is h = named false (λ l. absurd (false≢true l)) h
 
--- what a production comes to
+-- the value of a production
 record Closes (around : Around) (wide : Result (Found Value State) Refusal) (r : Found Value State) : Type 0 where
   is : wide ≡ Ok r
   value : around.in_lambda ≡ true → HasNone (held r.value)
@@ -383,7 +383,7 @@ close_stays p byte around place began vs state r settled all cs e = closed_stays
 
 -- ## Trees
 
--- the kinds of what special names stand for, which is closed wherever it is
+-- the kinds of what special names denote, which is closed wherever it is
 unfoldable is_special : Sym → Bool
 is_special (OfKind k) = nat_eq k SPECIAL || (nat_eq k SPECIAL_MARK || nat_eq k SPECIAL_AFTER_G)
 is_special _ = false
@@ -443,7 +443,7 @@ special_closes Production.Clone byte around place began vs state one h e = subst
 special_closes Production.Mark byte around place began vs state one h e = subst (λ x. HasNone (held x.value)) (ok_same _ one e) refl
 special_closes _ byte around place began vs state one h e = absurd (false≢true h)
 
--- what parts come to, which is closed where something holds
+-- the values of parts, which are closed where something holds
 record Stays (b : Bool) (wide : Result (Found (List Value) State) Refusal) (r : Found (List Value) State) : Type 0 where
   is : wide ≡ Ok r
   values : b ≡ true → AllNone r.value
@@ -524,7 +524,7 @@ mutual
         candidates = rest.candidates;
       }
 
--- A tree that a symbol stands for by the ABI's grammar it stands for by the wide one.
+-- The tree that a symbol denotes by the ABI's grammar it also denotes by the wide one.
 pub meaning_stays : (shape : Tree) (t : Term) → IsTree wide (OfKind SYMBOL) shape → unfold_cpp shape ≡ Ok t → unfold_wide shape ≡ Ok t
 unfolding unfold_cpp unfold_wide first_around first_state
 meaning_stays shape t is e =

@@ -1,9 +1,9 @@
--- What passes for each step of a row passes for what is done before any of its parts.
+-- What holds for each step of a row holds for what is done before any of its parts.
 use Rattle.std.proofs.Common.{◌≡◌, refl, ℕ, zero, suc, List, [], ◌∷◌, Bool, true, false, ◌&&◌, get_or}
 use Rattle.std.proofs.lemmas.Bool.{false≢true}
 use Rattle.cpp_grammar.specs.Row.{Before, goes, Where, in_its_name, in_its_types, in_a_signature, Row, before_part}
 
--- these steps pass, and what is done before each part after theirs
+-- the condition holds for these steps, and for what is done before each part after theirs
 unfoldable pub all_pass : (Before → Bool) → List Before → Before → Bool
 all_pass passes [] onward = passes onward
 all_pass passes (b ∷ rest) onward = passes b && all_pass passes rest onward

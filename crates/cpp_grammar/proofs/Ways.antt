@@ -1,4 +1,4 @@
--- The two readings of C++, as one that is given what is done between the parts of a production and after them.
+-- The two readings of C++ as a single one, which takes what is done between the parts of a production and after them.
 use Rattle.std.proofs.Common.{◌≡◌, refl, ℕ, List, [], ◌∷◌, Bool, true, false, Result, Ok}
 use Rattle.std.proofs.lemmas.Bool.{true≢false}
 use Rattle.sym_core.specs.declared.refusal.Refusal.{Refusal}
@@ -31,7 +31,7 @@ abi_way = record { own = false; between = between; close = close }
 unfoldable pub wide_way : Way
 wide_way = record { own = true; between = between_wide; close = close_wide }
 
--- the productions in which alone they differ: those of references, lambdas, and constructors that are inherited
+-- the only productions that differ: those of references, lambdas, and inherited constructors
 unfoldable pub differs : Production → Bool
 differs Production.Lambda = true
 differs Production.Parameter = true
@@ -44,7 +44,7 @@ differs Production.Inheriting = true
 differs Production.Holder = true
 differs _ = false
 
--- the productions whose parts are in a signature: lambdas, what is declared of an argument, and what is asked of arguments
+-- the productions with parts in a signature: lambdas, what is declared of an argument, and constraints on arguments
 unfoldable pub has_signature : Production → Bool
 has_signature Production.Lambda = true
 has_signature Production.ValueOf = true
@@ -52,7 +52,7 @@ has_signature Production.OfConcept = true
 has_signature Production.Constraint = true
 has_signature _ = false
 
--- all others go as in the reading of the ABI's grammar
+-- all others agree with the reading of the ABI's grammar
 pub record IsPlain (w : Way) : Type 0 where
   pub between : (p : Production) → differs p ≡ false → (around : Around) (place : ℕ) (vs : List Value) (state : State) → w.between p around place vs state ≡ between p around place vs state
   pub close : (p : Production) → differs p ≡ false → (byte : ℕ) (around : Around) (place : ℕ) (began : State) (vs : List Value) (state : State) →

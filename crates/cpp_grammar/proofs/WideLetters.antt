@@ -15,7 +15,7 @@ use Rattle.cpp_grammar.specs.Table.{wide, wide_sheet, rule_taken}
 use Rattle.cpp_grammar.proofs.Choosing.{wide_rule_at, is_wide_kind}
 use Rattle.cpp_grammar.proofs.Letters.{lettered}
 
--- the letter of a kind's row below a byte; `row` stands for what isn't there
+-- the letter of a kind's row below a byte; `row` is the default
 unfoldable pub wide_letter : List ℕ → ℕ → ℕ → Option ℕ
 wide_letter row k byte = letter_below (get_or WIDE_LETTERS k row) byte
 

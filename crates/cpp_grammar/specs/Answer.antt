@@ -1,4 +1,4 @@
--- What a C++ symbol is answered: its text within a limit, or why it has none.
+-- The answer for a C++ symbol: its text within a limit, or why it has none.
 use Rattle.std.specs.Prelude.{ℕ, List, Result, Ok, Err}
 use Rattle.sym_core.specs.declared.refusal.Refusal.{Refusal}
 use Rattle.sym_print.specs.declared.detail.Detail.{Detail}

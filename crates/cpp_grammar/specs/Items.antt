@@ -5,9 +5,9 @@ use Rattle.cpp_grammar.specs.Scope.{element, pack_length}
 
 -- ## Items
 
--- Left and right are what comes before and after a declared name, low is left of a reference under an lvalue reference,
--- base is the name of a constructor's class, bare an encoding without its return type. First and more are a list's
--- elements, expand the elements of an expansion from a number on.
+-- Left and right are what precedes and follows a declared name; low is left of a reference under an lvalue reference; base is
+-- the name of a constructor's class; bare is an encoding without its return type. First and more are a list's elements; expand
+-- is the elements of an expansion from a number on.
 pub data Form : Type 0 where
   root : Form
   full : Form
@@ -39,11 +39,11 @@ pub record Item : Type 0 where
 abbrev pub closed : Context
 closed = record { scope = None; index = None; in_signature = false }
 
--- in the signature of a lambda that has parameters of its own, which is in this context
+-- in the signature, in this context, of a lambda that has parameters of its own
 abbrev pub signature_in : Context → Context
 signature_in context = record { scope = None; index = context.index; in_signature = true }
 
--- of a pack its element at the index
+-- for a pack, its element at the index
 unfoldable pub indexed : Option ℕ → Term → Term
 indexed (Some i) (pack elements) = element elements i
 indexed index t = t
@@ -52,7 +52,7 @@ indexed index t = t
 abbrev pub auto : Term
 auto = builtin (68 ∷ 97 ∷ [])
 
--- the argument that a parameter stands for; in a tree of a symbol each parameter has one
+-- the argument that a parameter denotes; in a symbol's tree each parameter has one
 unfoldable pub argument : Context → ℕ → Term
 argument context k = elim context.scope [
   | None ↦ elim context.in_signature [ true ↦ auto | false ↦ absent ]
@@ -69,7 +69,7 @@ unfoldable pub collapsed : Head → Head
 collapsed lref = lref
 collapsed _ = rref
 
--- the head of a type, given those of the arguments that its parameters stand for
+-- the head of a type, given the heads of the arguments that its parameters denote
 unfoldable pub head_with : (ℕ → Head) → Term → Head
 head_with h (lvalue t) = lref
 head_with h (rvalue t) = collapsed (head_with h t)

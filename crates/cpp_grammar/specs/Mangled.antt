@@ -14,7 +14,7 @@ use Rattle.cpp_grammar.specs.Answer.{shown, root_item}
 abbrev pub cpp_mangled : Mangled Term
 cpp_mangled = record { table = abi; unfolded = unfold_cpp; shown = λ detail t. shown detail (root_item t); lawful = lawful }
 
--- the same over the wide grammar, by its reading; how a tree is shown is said once
+-- likewise over the wide grammar, by its reading; how a tree is shown is defined once
 abbrev pub wide_mangled : Mangled Term
 wide_mangled = record { table = wide; unfolded = unfold_wide; shown = λ detail t. shown detail (root_item t); lawful = wide_lawful }
 

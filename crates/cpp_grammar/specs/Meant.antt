@@ -1,4 +1,4 @@
--- What a row means: what a production stands for, and what is done before its parts and once they are read.
+-- What a row means: what a production denotes, and what is done before its parts and once they are read.
 use Rattle.std.specs.Prelude.{ℕ, ◌-◌, List, [], ◌∷◌, ◌++◌, Bool, true, false, cond, not, ◌&&◌, nat_eq, None, Err}
 use Rattle.sym_core.specs.declared.refusal.Refusal.TheVariants.{BadReference}
 use Rattle.sym_link.specs.Reading.{◌>>=◌}
@@ -61,7 +61,7 @@ is_listing vs (as_part k) = is_listed (part vs k)
 is_listing vs (unless_there k) = not (is_there (part vs k))
 is_listing vs (as_part_alone k n) = is_listed (part vs k) && not (is_there (part vs n))
 
--- ## What a production stands for
+-- ## What a production denotes
 
 unfoldable pub meant : Form → (byte : ℕ) → Around → List Value → Value
 meant (handed k) byte around vs = part vs k
@@ -106,7 +106,7 @@ unfoldable pub replaced : Value → List Value → List Value
 replaced t [] = []
 replaced t (v ∷ vs) = t ∷ vs
 
--- a parameter stands in the place of its number
+-- a parameter is written in the place of its number
 unfoldable pub tested : (is_name : Bool) → Around → Term → List Value → (now before : State) → Going
 tested is_name around t vs now before =
     next (replaced (tree t true) vs) (cond is_name (after t true around) around) (cond is_name now (record now { candidates = before.candidates }))
@@ -122,7 +122,7 @@ done (tests after_t is_name) around place vs state =
     parameter_named around (cond after_t (place - 1) place) k state >>= λ s. tested is_name around (parameter k) vs s state
 -- the ABI's grammar has no M in a name
 done holds around place vs state = Err (BadReference place)
--- nor a constructor that is inherited
+-- nor an inherited constructor
 done unread around place vs state = Err (BadReference place)
 
 -- ## Once its parts are read

@@ -4,7 +4,7 @@ use Prim.Native.String.{String}
 use Rattle.cpp_grammar.specs.declared.operand.Operand.{Operand}
 use Rattle.cpp_grammar.specs.Texts.{same_bytes}
 
--- the precedences, from that which binds most
+-- the precedences, the tightest binding first
 abbrev pub PRIMARY : ℕ
 PRIMARY = 0
 
@@ -62,7 +62,7 @@ ASSIGN = 17
 abbrev pub ALWAYS : ℕ
 ALWAYS = 18
 
--- an operator's code, the precedence of what it makes, and what is printed: a text, the left operand, a text, the right one, a text
+-- an operator's code, the precedence of its operation, and what is printed: a text, the left operand, a text, the right one, a text
 pub record Operation : Type 0 where
   pub code : List ℕ
   pub precedence : ℕ

@@ -1,4 +1,4 @@
--- What the productions with code of their own stand for, given the values of their parts.
+-- What the productions with code of their own denote, given the values of their parts.
 use Rattle.std.specs.Prelude.{ℕ, List, [], ◌∷◌, true, false}
 use Rattle.cpp_grammar.specs.Term.{any_value, lvalue_only, rvalue_only, non_virtual, by_table, adjusting, covariant, thunk, local, lambda, builtin, integer, nil, list}
 use Rattle.cpp_grammar.specs.Values.{Around, prefix_tree, prefix_listed, Value, nothing_there, text, signed, adjusted, tree, piece, named, signature, tree_of, qualifiers_of, ref_of, letter_of, is_there, mark_of, text_of, signed_of, adjustment_of, normal, signed_digits, local_number, part}

@@ -177,7 +177,7 @@ no_operation = record { code = []; precedence = PRIMARY; front = []; left = Oper
 unfoldable pub printed : (a b : ℕ) → Operation
 printed a b = elim (operation_of_code (a ∷ b ∷ []) operations) [ Some o ↦ o | None ↦ no_operation ]
 
--- what is no operation and no address needs no parentheses
+-- what is neither an operation nor an address needs no parentheses
 unfoldable pub precedence_of : Term → ℕ
 precedence_of (operation a b x y) = (printed a b).precedence
 precedence_of (address_of e) = UNARY
@@ -208,7 +208,7 @@ most_parts (Operand.From least) = 3
 abbrev pub most_of : Operation → ℕ
 most_of o = length (text_part o.front) + most_parts o.left + length (text_part o.between) + most_parts o.right + length (text_part o.back)
 
--- the entity of a local name; in which default argument it is isn't printed
+-- the entity of a local name; its default argument isn't printed
 unfoldable pub entity_of : Term → Term
 entity_of (of_default digits entity) = entity
 entity_of entity = entity
@@ -249,7 +249,7 @@ left_parts d context (encoding_literal e) = as_item bare closed e ∷ []
 left_parts d context (address_of e) = says "&" ∷ as_item bare closed e ∷ []
 left_parts d context _ = []
 
--- under a reference to it a reference is printed low, as an lvalue reference
+-- a reference under a reference is printed low, as an lvalue reference
 unfoldable pub low_parts : Detail → Context → Term → List (PartOf Item)
 low_parts d context (lvalue t) = reference_parts context low t "&"
 low_parts d context (rvalue t) = reference_parts context low t "&"
@@ -300,8 +300,8 @@ own_piece (in_std p) = p
 own_piece (within prefix p) = p
 own_piece t = t
 
--- The name of a class under its tags: the piece of its name without them. Where it is the name of a constructor itself, it is
--- looked at tag by tag.
+-- The name of a class under its tags: the piece of its name without them. Where it is itself the name of a constructor, its
+-- tags are examined one by one.
 unfoldable pub base_tagged : Context → (of_structor : Bool) → (name : Term) → List (PartOf Item)
 base_tagged context true name = as_item base context name ∷ []
 base_tagged context false name = piece_parts context (own_piece (without_tags name))
@@ -326,7 +326,7 @@ types_of name = record { scope = arguments_of name; index = None; in_signature =
 unfoldable pub encoding_text : Qualifiers → RefQualifier → List ℕ
 encoding_text q ref = qualifier_text q ++ ref_text ref
 
--- a function without its return type, or by its name alone
+-- a function without its return type, or just its name
 unfoldable pub function_bare : (parameters_shown : Bool) → Term → Qualifiers → RefQualifier → Term → List (PartOf Item)
 function_bare false name q ref parameters = as_item left closed name ∷ []
 function_bare true name q ref parameters =
@@ -343,7 +343,7 @@ thunk_text (adjusting (non_virtual a)) = codes "non-virtual thunk to "
 thunk_text (adjusting (by_table a b)) = codes "virtual thunk to "
 thunk_text (covariant a b) = codes "covariant return thunk to "
 
--- t of one within a transaction, n of one without
+-- t of a function within a transaction, n of one outside
 unfoldable pub clone_text : (letter : ℕ) → List ℕ
 clone_text letter = elim (nat_eq letter 116) [ true ↦ codes "transaction clone for " | false ↦ codes "non-transaction clone for " ]
 
@@ -370,7 +370,7 @@ root_parts (symbol e []) = as_item full closed e ∷ []
 root_parts (symbol e (b ∷ bs)) = as_item full closed e ∷ says " (" ∷ text (b ∷ bs) ∷ says ")" ∷ []
 root_parts _ = []
 
--- an empty element is passed over
+-- an empty element is skipped
 unfoldable pub first_parts : Context → Term → List (PartOf Item)
 first_parts context (list e rest) = elim (is_empty context e) [
   | true ↦ list_part first context rest
@@ -417,7 +417,7 @@ parts_in d context first t = first_parts context t
 parts_in d context more t = more_parts context t
 parts_in d context (expand i) t = expand_parts context t i
 
--- an empty text isn't a part, so no tree has one, be it a symbol's or not
+-- an empty text isn't a part, so no tree has one, whether a symbol's or not
 unfoldable pub not_empty : List (PartOf Item) → List (PartOf Item)
 not_empty [] = []
 not_empty (text [] ∷ ps) = not_empty ps

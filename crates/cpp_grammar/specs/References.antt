@@ -17,7 +17,7 @@ unfoldable pub is_function_type : Term → Bool
 is_function_type (function_type c_linkage noexcept ref returned parameters) = true
 is_function_type _ = false
 
--- a type is a candidate once it's complete, unless it's builtin, an abbreviation or what a substitution stands for, which are
+-- a type is a candidate once it's complete, unless it's builtin, an abbreviation or what a substitution denotes, which are
 -- marked as listed
 unfoldable pub with_type : Around → Value → State → State
 with_type around v state = elim (is_listed v) [ true ↦ state | false ↦ appended around (tree_of v) state ]
@@ -45,7 +45,8 @@ unfoldable pub packs_in : Option Term → Term → Option ℕ
 packs_in None t = None
 packs_in (Some scope) t = pack_length scope t
 
--- A substitution names a candidate. One with free parameters was made in the same encoding, and isn't named in a lambda's signature.
+-- A substitution names a candidate. One with free parameters was made in the same encoding, and isn't named in a lambda's
+-- signature.
 unfoldable pub substituted : Around → ℕ → Option Candidate → State → Result (Found Value State) Refusal
 substituted around place None state = Err (BadReference place)
 substituted around place (Some c) state =

@@ -1,7 +1,7 @@
--- The reading of the wide grammar (ABI 5.1.8, 5.1.10). It differs from that of the ABI's grammar in the parameters of a lambda's
--- signature, which are the lambda's own, in substitutions of trees that were made where their parameters mean others than those
--- that are meant where they are named, and in names with an M, constructors that are inherited and concepts with arguments, from which
--- on not all compilers count alike.
+-- The reading of the wide grammar (ABI 5.1.8, 5.1.10). It differs from that of the ABI's grammar in three points: the
+-- parameters of a lambda's signature are the lambda's own; a substitution may name a tree that was made where its parameters
+-- meant others than those meant where it is named; and there are names with an M, inherited constructors and concepts with
+-- arguments, from which on compilers differ in how they count.
 use Rattle.std.specs.Prelude.{ℕ, zero, suc, ◌+◌, ◌-◌, ◌^◌, List, [], ◌∷◌, ◌++◌, Bool, true, false, not, ◌||◌, ◌&&◌, nat_eq, nat_lt, cond, slice_get, Option, Some, None, Result, Ok, Err}
 use Rattle.sym_core.specs.declared.refusal.Refusal.{Refusal}
 use Rattle.sym_core.specs.declared.refusal.Refusal.TheVariants.{BadReference}
@@ -25,7 +25,7 @@ use Rattle.cpp_grammar.specs.Unfolding.{opening, close, production_at, byte_of, 
 unfoldable pub generic_number : ℕ → ℕ
 generic_number k = cond (nat_lt k (2 ^ 32)) k (2 ^ 32 - 1)
 
--- a parameter of the lambda in whose signature it is is good whatever its number, and a candidate
+-- a lambda's own parameter, in its signature, is good whatever its number, and a candidate
 unfoldable pub generic_so_far : Around → ℕ → List Value → State → Going
 generic_so_far around k vs state = listed_so_far around (parameter (generic_number k)) vs (appended around (parameter (generic_number k)) state)
 
@@ -36,14 +36,14 @@ parameter_here around place k vs state = elim around.in_lambda [
   | false ↦ parameter_so_far around place k vs state
 ]
 
--- so is a parameter in an expression, which is no candidate
+-- likewise a parameter in an expression, which is no candidate
 unfoldable pub argument_here : Around → (place : ℕ) → ℕ → State → Going
 argument_here around place k state = elim around.in_lambda [
   | true ↦ next (tree (parameter (generic_number k)) true ∷ []) around state
   | false ↦ argument_so_far around place k state
 ]
 
--- a lambda with these parameters: one in whose signature parameters are free has parameters of its own
+-- a lambda with these parameters: if parameters are free in its signature, it has parameters of its own
 unfoldable pub lambda_with : (parameters : Term) → (number : ℕ) → Term
 lambda_with parameters number = elim (is_open parameters) [ true ↦ generic_lambda parameters number | false ↦ lambda parameters number ]
 
@@ -53,22 +53,22 @@ as_generic_lambda v = v
 
 -- ## Names with an M
 
--- What is in the initializer of a variable or of a data member has that one's name, with an M after it, as its prefix. Some
--- compilers count that name among the candidates and some don't, and a symbol doesn't tell by which one it was made. So from that
--- candidate on, the last one before the M, no number is known to name the same tree by all of them. Here the name is a candidate, and
--- is one again with its M, as a mark of that.
+-- The initializer of a variable or of a data member has a prefix: that one's name, with an M after it. Some compilers count the
+-- name among the candidates and some don't, and a symbol doesn't say which one made it. So from that candidate on, the last one
+-- before the M, no number names the same tree by all of them. Here the name is a candidate, and becomes one once more with its
+-- M, as a mark of that.
 
 unfoldable pub with_holder : Around → Term → State → State
 with_holder around t state = record state { candidates = state.candidates ++ (record { tree = t; encoding = around.encoding; in_lambda = around.in_lambda; is_held = true } ∷ []) }
 
--- whether there is a name with its M among the first candidates, which are so many
+-- whether there is a name with its M among the first n candidates
 unfoldable pub has_held : List Candidate → ℕ → Bool
 has_held [] count = false
 has_held (c ∷ cs) zero = false
 has_held (c ∷ cs) (suc count) = c.is_held || has_held cs count
 
--- Whether all compilers count alike up to the candidate of this number: neither it nor one before it has its M, nor has the next one,
--- which would be it again.
+-- Whether all compilers count alike up to the candidate of this number: neither it nor one before it has its M, and the next
+-- one isn't the same name with its M.
 unfoldable pub is_counted_alike : List Candidate → (number : ℕ) → Bool
 is_counted_alike candidates number = not (has_held candidates (number + 2))
 
@@ -76,19 +76,19 @@ unfoldable pub is_instance : Term → Bool
 is_instance (instance template arguments) = true
 is_instance _ = false
 
--- After arguments an M is refused: not all compilers count the name of their template either, and what the arguments name by its
--- number has been read by then.
+-- After arguments an M is refused: compilers also differ in whether they count the name of the arguments' template, and what
+-- the arguments name by its number has been read by then.
 unfoldable pub holder_so_far : Around → (place : ℕ) → State → Going
 holder_so_far around place state = elim (is_instance (prefix_tree around.prefix)) [
   | true ↦ Err (BadReference place)
   | false ↦ let t = holder (prefix_tree around.prefix) in listed_so_far around t [] (with_holder around t state)
 ]
 
--- ## Constructors that are inherited, and concepts
+-- ## Inherited constructors, and concepts
 
--- Nor do all compilers count the base class that is after CI, or the constructor with it, or the name of a concept before its arguments:
--- from there on no number is known to name the same tree by all of them. That class or name is a candidate, unless it is there by its
--- number alone, and again as a mark of that.
+-- Compilers also differ in whether they count the base class after CI, or the constructor with it, or the name of a concept
+-- before its arguments: from there on no number names the same tree by all of them. That class or name is a candidate, unless a
+-- number names it, and becomes one once more as a mark of that.
 
 unfoldable pub with_held : Around → Term → State → State
 with_held around t state = with_holder around t (appended around t state)
@@ -96,18 +96,18 @@ with_held around t state = with_holder around t (appended around t state)
 unfoldable pub held_unless : (listed : Bool) → Around → Term → State → State
 held_unless listed around t state = elim listed [ true ↦ state | false ↦ with_held around t state ]
 
--- The base class is counted before the arguments that the constructor has of its own, and else once it's complete.
+-- The base class is counted before the constructor's own arguments, and otherwise once it's complete.
 unfoldable pub counted_base : Around → (base : Value) → State → State
 counted_base around (pair letter own base) state = state
 counted_base around base state = held_unless (is_listed base) around (tree_of base) state
 
 -- ## Substitutions
 
--- A candidate's free parameters may stand for others here than where it was made: in another encoding, or in a lambda's signature.
+-- A candidate's free parameters may denote others here than where it was made: in another encoding, or in a lambda's signature.
 unfoldable pub is_foreign : Around → Candidate → Bool
 is_foreign around c = is_open c.tree && (around.in_lambda || (c.in_lambda || not (nat_eq c.encoding around.encoding)))
 
--- A tree whose one free parameter has this number, in the scope here, where there is such an argument.
+-- A tree whose one free parameter has this number, in the scope here, which has such an argument.
 unfoldable pub in_scope : Around → (place : ℕ) → Term → (number : ℕ) → State → Result (Found Value State) Refusal
 in_scope around place t k state = elim around.scope [
   | None ↦ Err (BadReference place)
@@ -117,7 +117,7 @@ in_scope around place t k state = elim around.scope [
   ]
 ]
 
--- A tree with several free parameters, of which this is the greatest number: in the scope here there is an argument for each, and
+-- A tree with several free parameters, this being the greatest number: in the scope here there is an argument for each, and
 -- none of its arguments is a pack.
 unfoldable pub under_scope : Around → (place : ℕ) → Term → (greatest : ℕ) → State → Result (Found Value State) Refusal
 under_scope around place t m state = elim around.scope [
@@ -134,8 +134,8 @@ with_free none_free around place t state = Err (BadReference place)
 with_free (one_free k) around place t state = in_scope around place t k state
 with_free (several_free m) around place t state = under_scope around place t m state
 
--- A tree that was made elsewhere is the same tree here.
--- In a signature its parameters are the lambda's own; outside one they are those of the scope.
+-- A tree that was made elsewhere is the same tree here. In a signature its parameters are the lambda's own; outside one they
+-- are those of the scope.
 unfoldable pub restated : Around → (place : ℕ) → Term → State → Result (Found Value State) Refusal
 restated around place t state = elim around.in_lambda [
   | true ↦ Ok (found (tree t true) state)
@@ -150,7 +150,7 @@ substituted_wide around place (Some c) state = elim (is_foreign around c) [
   | false ↦ substituted around place (Some c) state
 ]
 
--- nor is a number named that not all compilers count alike
+-- nor is a number named that compilers count differently
 unfoldable pub numbered : Around → (place : ℕ) → (number : ℕ) → State → Result (Found Value State) Refusal
 numbered around place number state = elim (is_counted_alike state.candidates number) [
   | true ↦ substituted_wide around place (slice_get state.candidates number) state
@@ -185,6 +185,6 @@ cpp_wide = record {
   close = λ rule known state. close_wide (production_at rule.rule.number) (byte_of rule.taken) rule.context rule.place rule.before known state;
 }
 
--- the tree that a symbol of the wide grammar with this shape stands for, or the refusal at its first bad token by place
+-- the tree that a symbol of the wide grammar with this shape denotes, or the refusal at its first bad token by place
 unfoldable pub unfold_wide : Tree → Result Term Refusal
 unfold_wide shape = unfold_tree cpp_wide first_around 0 shape first_state >>= λ whole. Ok (first_tree whole.value)

@@ -1,12 +1,12 @@
--- What a row says of a production: what is done before its parts, what it stands for, and what becomes a candidate once they are read.
--- A part is named by its number. No tree and no function is in a row, so rows are the same for each sort of trees.
+-- What a row says of a production: what is done before its parts, what it denotes, and what becomes a candidate once they are
+-- read. A part is named by its number. A row holds no tree and no function, so rows are the same for each sort of trees.
 use Rattle.std.specs.Prelude.{ℕ, ◌+◌, List, [], ◌∷◌, get_or, Bool}
 use Rattle.cpp_grammar.specs.Makers.{Maker}
 
 -- where an argument of a tree comes from: a part, the name so far, the byte that the production takes, or the row itself
 pub data Source : Type 0 where
   tree_at : ℕ → Source
-  -- a list, which isn't there where it has no items; and one of the parameters of a function, of which a lone void is none
+  -- a list, which is absent where it has no items; and the list of a function's parameters, where a lone void is no parameter
   list_at : ℕ → Source
   parameters_at : ℕ → Source
   piece_at : ℕ → Source
@@ -15,21 +15,21 @@ pub data Source : Type 0 where
   text_at : ℕ → Source
   -- a text of digits without zeros in front
   digits_at : ℕ → Source
-  -- the code of a builtin type: these bytes, and the one that is taken
+  -- the code of a builtin type: these bytes, and the one that the production takes
   code : (front : List ℕ) → Source
   taken : Source
   fixed : ℕ → Source
   letter_at : ℕ → Source
-  -- the letter of a part, or the byte that is taken, where the part has none
+  -- the letter of a part, or the byte that the production takes, where the part has none
   letter_or_taken : ℕ → Source
-  -- the letters of the operator that a part is
+  -- the letters of the operator in a part
   operator_first_at : ℕ → Source
   operator_second_at : ℕ → Source
   -- the number of a lambda or an unnamed type
   number_at : ℕ → Source
   yes : Source
   no : Source
-  -- whether a part is there, and whether its letter is this one
+  -- whether a part is present, and whether its letter is this one
   there_at : ℕ → Source
   letter_is : ℕ → (letter : ℕ) → Source
   qualifiers_at : ℕ → Source
@@ -41,23 +41,23 @@ pub data Source : Type 0 where
 -- a tree that a row makes
 pub data Made : Type 0 where
   of : Maker → List Source → Made
-  -- one that is there already
+  -- an existing one
   only : Source → Made
   -- the name so far with one more piece, or with one more tag
   extending : Made → Made
   tagging : (text : ℕ) → Made
-  -- a name with the arguments that a part is, if it is there
+  -- a name with the arguments in a part, if that is present
   applying : Made → (arguments : ℕ) → Made
-  -- a pack of the elements that a part is
+  -- a pack of the elements in a part
   packing : ℕ → Made
 
--- Whether a tree is marked as listed: as one that is a candidate already, or never is one. A name to which something is added becomes a
--- candidate unless it is.
+-- Whether a tree is marked as listed: as one that is a candidate already, or never is one. A name that something is added to
+-- becomes a candidate unless it is listed.
 pub data Listing : Type 0 where
   listed : Listing
   unlisted : Listing
   as_part : ℕ → Listing
-  -- unless this part is there
+  -- unless this part is present
   unless_there : ℕ → Listing
   as_part_alone : ℕ → (arguments : ℕ) → Listing
 
@@ -92,14 +92,14 @@ pub data Own : Type 0 where
   one_digit : Own
   many_digits : Own
 
--- what a production stands for
+-- what a production denotes
 pub data Form : Type 0 where
-  -- what a part stands for; and the same tree, which is a candidate by now
+  -- what a part denotes; and the same tree, which is a candidate by now
   handed : ℕ → Form
   finished : ℕ → Form
-  -- what a part stands for, or another, where it isn't there
+  -- what a part denotes, or another, where it is absent
   either : (part other : ℕ) → Form
-  -- the byte that is taken
+  -- the byte that the production takes
   the_byte : Form
   -- a tree, a piece of a name, a cell of a list, one more item of a signature
   makes : Made → Listing → Form
@@ -108,10 +108,10 @@ pub data Form : Type 0 where
   a_pair : (letter : Source) → (left right : Made) → Form
   cell : (first rest : ℕ) → Form
   item : (first rest : ℕ) → Form
-  -- the first part with the arguments that the second is, if it is there; one that was tagged is in the place of another name
+  -- the first part with the arguments in the second, if that is present; a tagged one takes the place of another name
   a_name : Listing → Form
   in_place : Form
-  -- its own code makes so many nodes at most
+  -- its own code makes at most this many nodes
   own : Own → (most : ℕ) → Form
 
 -- what surrounds a part
@@ -133,10 +133,11 @@ pub data Gain : Type 0 where
   nothing : Gain
   -- the name so far
   the_prefix : Gain
-  -- the type that a part is, unless it is listed; and if it isn't a function type, which is none where qualifiers follow it
+  -- the type in a part, unless it is listed; and likewise unless it is a function type, which is no candidate where qualifiers
+  -- follow it
   type_of : ℕ → Gain
   unqualified_of : ℕ → Gain
-  -- what the production stands for
+  -- what the production denotes
   itself : Gain
 
 -- what is done before a part
@@ -160,12 +161,12 @@ pub record Row : Type 0 where
   pub gain : Gain
   -- at the end the packs are those of the surroundings again
   pub restores_packs : Bool
-  -- the number that its last token is has 64 bits: this is tested first
+  -- the number in its last token has 64 bits: this is tested first
   pub tests_number : Bool
 
 -- ## Counts
 
--- Before how many parts nothing is done: none, the first ones, or all, which are five at most
+-- The number of parts before which nothing is done: none, the first ones, or all, at most five
 unfoldable pub quiet_from : List Before → Before → (n : ℕ) → ℕ
 quiet_from [] quiet n = 5
 quiet_from [] onward n = n

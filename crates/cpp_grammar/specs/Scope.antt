@@ -1,5 +1,5 @@
--- What the trees of C++ symbols are like: their arguments, free parameters and packs.
--- The scope of an encoding is the list of arguments that its own name ends in. It holds for the encoding's types alone.
+-- What the trees of C++ symbols are like: their arguments, free parameters and packs. The scope of an encoding is the list of
+-- arguments that its own name ends in. It holds only for the encoding's types.
 use Rattle.std.specs.Prelude.{ℕ, zero, suc, Bool, true, false, not, ◌||◌, nat_eq, max, Option, Some, None}
 use Rattle.cpp_grammar.specs.Term.{Term, alone, in_std, within, instance, local, holder, tagged, of_default, parameter, constructor, destructor, inheriting, lambda, conversion, pointer, lvalue, rvalue, array, constrained, bounded, member_pointer, function_type, qualified, vector, complex, expansion, integer, pack, list, absent, decltype, operation}
 
@@ -21,7 +21,7 @@ arguments_of (local encoding entity discriminator) = arguments_of entity
 arguments_of (of_default digits entity) = arguments_of entity
 arguments_of _ = None
 
--- what comes before those arguments
+-- what precedes those arguments
 unfoldable pub before_arguments : Term → Term
 before_arguments (instance template arguments) = template
 before_arguments (local encoding entity discriminator) = before_arguments entity
@@ -41,8 +41,8 @@ unfoldable pub without_tags : Term → Term
 without_tags (tagged of_structor name tag) = without_tags name
 without_tags name = name
 
--- A function's first item is its return type where its name ends in arguments, and what comes before them isn't a
--- constructor or a destructor.
+-- A function's first item is its return type where its name ends in arguments, and what precedes them isn't a constructor or a
+-- destructor.
 unfoldable pub has_return_type : Term → Bool
 has_return_type name = elim (arguments_of name) [ None ↦ false | Some arguments ↦ not (is_structor (before_arguments name)) ]
 
@@ -80,7 +80,7 @@ is_open (pack elements) = is_open elements
 is_open (list first rest) = is_open first || is_open rest
 is_open _ = false
 
--- which parameters are free in a tree: none, one, in one place or in many, or several, of which the greatest has this number
+-- which parameters are free in a tree: none, one, in one place or in many, or several, where the greatest has this number
 pub data Free : Type 0 where
   none_free : Free
   one_free : (number : ℕ) → Free
@@ -132,13 +132,13 @@ unfoldable pub is_list : Term → Bool
 is_list (list first rest) = true
 is_list _ = false
 
--- an argument by itself: no pack of arguments, and no list of them, and no parameter is free in it
+-- an argument proper: neither a pack of arguments nor a list of them, with no free parameter
 unfoldable pub is_alone : Term → Bool
 is_alone (pack elements) = false
 is_alone (list first rest) = false
 is_alone t = not (is_open t)
 
--- among the elements of a list is a pack, or what else is no argument by itself
+-- among the elements of a list is a pack, or something else that isn't an argument proper
 unfoldable pub has_pack : Term → Bool
 has_pack (list first rest) = not (is_alone first) || has_pack rest
 has_pack _ = false

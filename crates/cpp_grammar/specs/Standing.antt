@@ -1,4 +1,4 @@
--- Of what productions stand for: parameters, encodings, references, signatures.
+-- What productions denote: parameters, encodings, references, signatures.
 use Rattle.std.specs.Prelude.{ℕ, List, [], ◌∷◌, Bool, true, false, cond, ◌||◌, ◌&&◌, nat_eq, Option, Some, None}
 use Rattle.cpp_grammar.specs.Term.{RefQualifier, Term, function, object, of_default, operator, builtin, lvalue, rvalue, encoding_literal, address_of, operation, nil, list, absent}
 use Rattle.cpp_grammar.specs.Scope.{has_return_type}
@@ -72,7 +72,8 @@ unfoldable pub operation_or_address : (is_address : Bool) → (first second : �
 operation_or_address true first second (encoding_literal e) right = address_of e
 operation_or_address is_address first second left right = operation first second left right
 
--- The operation of the operator with this first letter, whose second letter and operands these are. What is an expression already is that.
+-- The operation of the operator with this first letter, this second letter and these operands. An existing expression is
+-- itself.
 unfoldable pub operation_by : (first : ℕ) → Value → Value
 operation_by first (pair second left right) = tree (operation_or_address (is_code 97 100 first second) first second left right) true
 operation_by first v = v
@@ -81,7 +82,7 @@ unfoldable pub is_comma : Term → Bool
 is_comma (operation first second left right) = is_code 99 109 first second
 is_comma _ = false
 
--- a comma, > or >>, by which template arguments would seem to go on or to end
+-- a comma, > or >>, which would seem to continue or to end template arguments
 unfoldable pub ends_arguments : Term → Bool
 ends_arguments (operation first second left right) = is_code 99 109 first second || is_code 103 116 first second || is_code 114 115 first second
 ends_arguments _ = false
@@ -93,6 +94,6 @@ in_parentheses t = operation 40 41 t absent
 unfoldable pub enclosed_argument : Value → Value
 enclosed_argument v = elim (ends_arguments (tree_of v)) [ true ↦ tree (in_parentheses (tree_of v)) true | false ↦ v ]
 
--- and one that is an element of a list
+-- and an expression that is an element of a list
 unfoldable pub enclosed_element : Term → Term
 enclosed_element t = elim (is_comma t) [ true ↦ in_parentheses t | false ↦ t ]

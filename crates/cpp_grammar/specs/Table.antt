@@ -18,7 +18,7 @@ use Rattle.cpp_grammar.specs.Follow.{after_ranges, rank, height}
 use Rattle.cpp_grammar.specs.Before.{alternatives_before}
 use Rattle.cpp_grammar.specs.Wide.{wide_alternatives}
 
--- five symbols, of which the last ones don't count
+-- five symbols; the last ones don't count
 unfoldable pub padded : ℕ → List Sym → List Sym
 padded zero symbols = []
 padded (suc n) [] = Byte 0 ∷ padded n []
@@ -66,7 +66,7 @@ abi = table_of blank sheet Cpp
 abbrev pub abi_listed : ℕ → List Sym
 abi_listed place = listed_in SYMBOLS place
 
--- the rule with a number in the code's lists; `head` stands for what isn't there
+-- the rule with a number in the code's lists; `head` is the default
 unfoldable pub listed_rule : Head → ℕ → Rule
 listed_rule head number = record {
   number = number;

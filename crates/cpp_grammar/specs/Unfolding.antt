@@ -1,5 +1,6 @@
--- From the shape of a C++ symbol to the tree that it stands for: each substitution is replaced by the tree that it names.
--- The productions are gone through in the order of their bytes. What is around a part is inherited; the candidates run along.
+-- From the shape of a C++ symbol to the tree that it denotes: each substitution is replaced by the tree that it names. The
+-- productions are visited in the order of their bytes. The surroundings of a part are inherited; the candidates are threaded
+-- through.
 use Rattle.std.specs.Prelude.{ℕ, ◌-◌, ◌^◌, List, [], ◌∷◌, true, false, nat_lt, slice_get, Some, None, Result, Ok, Err}
 use Rattle.sym_core.specs.declared.refusal.Refusal.{Refusal}
 use Rattle.sym_core.specs.declared.refusal.Refusal.TheVariants.{BadReference, BadValue}
@@ -20,7 +21,7 @@ use Rattle.cpp_grammar.specs.Meaning.{meaning}
 
 -- ## Before the parts of a production
 
--- the digits of the last token among these, which of a lambda or an unnamed type is its number
+-- the digits of the last token among these; for a lambda or an unnamed type they are its number
 unfoldable pub last_token : Forest → List ℕ → List ℕ
 last_token nothing digits = digits
 last_token (grown (token t) rest) digits = last_token rest t.own
@@ -43,12 +44,12 @@ unfoldable pub behind : Production → (byte : ℕ) → Around → (began : Stat
 unfolding row_of state_after gained
 behind p byte around began vs state = state_after (row_of p) around began (meaning p byte around vs) vs state
 
--- What a production stands for, that begins at a place, once its parts are read; a substitution may be refused at its S, one
--- byte before.
+-- What a production that begins at a place denotes, once its parts are read; a substitution may be refused at its S, one byte
+-- before.
 unfoldable pub close : Production → (byte : ℕ) → Around → (place : ℕ) → (began : State) → List Value → State → Result (Found Value State) Refusal
 close Production.Substitution byte around place began vs state =
     substituted around (place - 1) (slice_get state.candidates (counted_value Seq36 (text_of (part vs 0)))) state
--- the ABI's grammar has no constructor that is inherited
+-- the ABI's grammar has no inherited constructor
 close Production.Inheriting byte around place began vs state = Err (BadReference place)
 close production byte around place began vs state =
     Ok (found (meaning production byte around vs) (behind production byte around began vs state))
@@ -83,6 +84,6 @@ unfoldable pub first_tree : List Value → Term
 first_tree [] = absent
 first_tree (v ∷ vs) = tree_of v
 
--- the tree that a symbol of this shape stands for, or the refusal at its first bad token by place
+-- the tree that a symbol of this shape denotes, or the refusal at its first bad token by place
 unfoldable pub unfold_cpp : Tree → Result Term Refusal
 unfold_cpp shape = unfold_tree cpp first_around 0 shape first_state >>= λ whole. Ok (first_tree whole.value)

@@ -1,4 +1,4 @@
--- What the parts of a C++ symbol stand for while it is unfolded, and what is known around them.
+-- What the parts of a C++ symbol denote while it is unfolded, and what is known around them.
 use Rattle.std.specs.Prelude.{ℕ, zero, suc, ◌+◌, List, [], ◌∷◌, Bool, true, false, cond, not, ◌&&◌, nat_eq, Option}
 use Rattle.sym_core.specs.declared.NumberKind.TheVariants.{Decimal}
 use Rattle.sym_core.specs.Value.{counted_value}
@@ -12,8 +12,8 @@ pub record Candidate : Type 0 where
   pub in_lambda : Bool
   pub is_held : Bool
 
--- What runs along with the bytes: the candidates so far, and the length of the packs that the innermost expansion has
--- named so far.
+-- The state that is threaded through the bytes: the candidates so far, and the length of the packs that the innermost expansion
+-- has named so far.
 pub record State : Type 0 where
   pub candidates : List Candidate
   pub packs : Option ℕ
@@ -41,7 +41,7 @@ pub record Around : Type 0 where
   pub in_expansion : Bool
   pub prefix : Prefix
 
--- what a part stands for
+-- what a part denotes
 pub data Value : Type 0 where
   nothing_there : Value
   letter : ℕ → Value
@@ -50,12 +50,12 @@ pub data Value : Type 0 where
   adjusted : Adjustment → Value
   -- a tree, and whether it is a candidate already or never is one
   tree : Term → (listed : Bool) → Value
-  -- a piece of a name, of which a name is made next
+  -- a piece of a name, before a name is made of it
   piece : Term → Value
   -- the name of an encoding, with the qualifiers that belong to the encoding
   named : Term → Qualifiers → RefQualifier → Value
-  -- A letter and two trees, of which the second may be absent: the operands of an operator with this second letter, or arguments, with
-  -- the name before them: those of a constructor that is inherited from this base class, or of this concept.
+  -- A letter and two trees; the second may be absent. They are the operands of an operator with this second letter, or
+  -- arguments with the name before them: the name of an inherited constructor's base class, or of this concept.
   pair : (second : ℕ) → (left right : Term) → Value
   -- the parameters of a function type, and its mark
   signature : Term → RefQualifier → Value

@@ -24,8 +24,8 @@ use crate::wide::Wide;
 use sym_shape::grown_keeps;
 
 /// Each tree of the grammar before vector types, noexcept function types and complex types were added is one of
-/// [`Abi`](crate::Abi). So a symbol that was well shaped has the rows that it had, and of one that wasn't the first bad byte
-/// isn't earlier.
+/// [`Abi`](crate::Abi). So a symbol that was well shaped keeps its rows, and the first bad byte of any other symbol isn't
+/// earlier.
 pub fn earlier_trees_stay()
     ensures trees { GrowsInto abi_before abi }
     ensures rows { (s : List ℕ) (before now : List Row) → AreRowsOf abi_before s before → AreRowsOf abi s now → now ≡ before }
@@ -34,8 +34,9 @@ pub fn earlier_trees_stay()
     grown_keeps::<Abi>();
 }
 
-/// Each tree of [`Abi`](crate::Abi) is one of [`Wide`](crate::Wide): the ABI's grammar is the wide one less what that marks as its
-/// own. So a symbol that is well shaped has the same rows there, and of one that isn't the first bad byte isn't earlier there.
+/// Each tree of [`Abi`](crate::Abi) is one of [`Wide`](crate::Wide): the ABI's grammar is the wide one without what that marks
+/// as its own. So a symbol that is well shaped has the same rows there, and the first bad byte of any other symbol isn't
+/// earlier there.
 pub fn abi_trees_stay()
     ensures trees { GrowsInto abi wide }
     ensures rows { (s : List ℕ) (before now : List Row) → AreRowsOf abi s before → AreRowsOf wide s now → now ≡ before }
@@ -44,8 +45,8 @@ pub fn abi_trees_stay()
     grown_keeps::<Wide>();
 }
 
-/// The kinds of what comes after a parameter or a substitution are apart from those of what comes after other names since
-/// [`Wide`](crate::Wide) has no tags there. In [`Abi`](crate::Abi) they have the same trees.
+/// What follows a parameter or a substitution has kinds of its own, since [`Wide`](crate::Wide) has no tags there. In
+/// [`Abi`](crate::Abi) these have the same trees as the kinds of what follows other names.
 pub fn no_tags_in_abi()
     ensures arguments { (shape : Tree) → IsTree abi (Kind MAYBE_ARGUMENTS) shape → IsTree abi (Kind ARGUMENTS_ALONE) shape }
     ensures arguments_behind_names { (shape : Tree) → IsTree abi (Kind ARGUMENTS_ALONE) shape → IsTree abi (Kind MAYBE_ARGUMENTS) shape }
@@ -53,21 +54,21 @@ pub fn no_tags_in_abi()
     ensures rests_behind_names { (shape : Tree) → IsTree abi (Kind NEST_REST_ALONE) shape → IsTree abi (Kind NEST_REST) shape }
 {}
 
-/// The kind of a list of arguments from the first one on is apart from that of the others since in [`Wide`](crate::Wide) the first
-/// argument may be a pack that begins with an I. In [`Abi`](crate::Abi) they have the same trees.
+/// A list of arguments from the first one on has a kind of its own, since in [`Wide`](crate::Wide) the first argument may be a
+/// pack that begins with an I. In [`Abi`](crate::Abi) both kinds have the same trees.
 pub fn no_first_packs_in_abi()
     ensures first { (shape : Tree) → IsTree abi (Kind ARGUMENT_LIST) shape → IsTree abi (Kind ARGUMENTS_FIRST) shape }
     ensures others { (shape : Tree) → IsTree abi (Kind ARGUMENTS_FIRST) shape → IsTree abi (Kind ARGUMENT_LIST) shape }
 {}
 
-/// The reading of the wide grammar differs from that of the ABI's grammar in what that refuses alone: a lambda's signature may name
-/// the lambda's own parameters, a substitution a tree that was made where its parameters mean others than here, and a name may have an
-/// M. What a shape stands for by the one reading it stands for by the other.
+/// The reading of the wide grammar differs from that of the ABI's grammar only in what that refuses: a lambda's signature may
+/// name the lambda's own parameters, a substitution may name a tree that was made where its parameters mean others than here,
+/// and a name may have an M. What a shape denotes by the one reading it denotes by the other.
 pub fn abi_meanings_stay()
     ensures { (shape : Tree) (t : Term) → IsTree wide (Kind 0) shape → unfold_cpp shape ≡ Ok t → unfold_wide shape ≡ Ok t }
 {}
 
-/// The tree that a symbol stands for in [`Abi`](crate::Abi) it stands for in [`Wide`](crate::Wide) too, and its answer is the same
+/// The tree that a symbol denotes in [`Abi`](crate::Abi) it denotes in [`Wide`](crate::Wide) too, and its answer is the same
 /// there. What is refused for a reference may be read there.
 pub fn abi_answers_stay()
     ensures reads { (s : List ℕ) (t : Term) → StandsFor cpp_mangled s (Ok t) → StandsFor wide_mangled s (Ok t) }
@@ -75,7 +76,7 @@ pub fn abi_answers_stay()
     ensures texts { (detail : Detail) (s text : List ℕ) (limit : ℕ) → IsAnswer cpp_mangled detail s limit (Ok text) → IsAnswer wide_mangled detail s limit (Ok text) }
 {}
 
-/// In the tree that a symbol stands for, the arguments that are the scope of an encoding have no free parameters.
+/// In the tree that a symbol denotes, the arguments that are the scope of an encoding have no free parameters.
 pub fn scopes_are_closed()
     ensures wide { (shape : Tree) (t : Term) → IsTree wide (Kind 0) shape → unfold_wide shape ≡ Ok t → ScopesAreClosed t }
     ensures abi { (shape : Tree) (t : Term) → IsTree abi (Kind 0) shape → unfold_cpp shape ≡ Ok t → ScopesAreClosed t }

@@ -1,4 +1,4 @@
-//! The C++ symbols of the Itanium ABI 5.1: their grammar as a table, what each shape stands for, and how that is shown.
+//! The C++ symbols of the Itanium ABI 5.1: their grammar as a table, what each shape denotes, and how that is shown.
 #![tactic(auto)]
 
 mod abi;

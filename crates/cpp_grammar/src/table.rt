@@ -9,7 +9,7 @@ ghost use Rattle.cpp_grammar.specs.declared.table.Head.{Head};
 use sym_core::NumberKind;
 use sym_shape::{END, Rule, Sym, letter_in, place_of, symbol_at, symbols_from, symbols_listed};
 
-/// In the place of a symbol that a rule doesn't have.
+/// The placeholder where a rule has no symbol.
 const NONE: Sym = END;
 
 const MAYBE_SUFFIX: Sym = Sym::Kind(1);
@@ -470,7 +470,7 @@ pub struct Head {
     pub count: u8,
 }
 
-// Rules that take the byte at which they are chosen, with so many symbols.
+// Rules that take the byte at which they are chosen, with this many symbols.
 macro_rules! takes {
     ($count:expr) => {
         Head {
@@ -480,7 +480,7 @@ macro_rules! takes {
     };
 }
 
-// Rules that take no byte of their own, with so many symbols.
+// Rules that take no byte of their own, with this many symbols.
 macro_rules! chains {
     ($count:expr) => {
         Head {
@@ -942,7 +942,7 @@ pub static SYMBOLS: [Sym; 1338] = symbols_listed! {
     [DECIMAL, TYPE, NONE, NONE, NONE], // \xfe LengthArray
 };
 
-// How many symbols come after each of them, up to an end.
+// How many symbols follow each of them, up to an end.
 static AFTER: [u8; 1338] = [
     0, 0, 0, 0, 0, 0, 0, 0, 0, 0, 0, 2, 1, 0, 0, 0, 0, 2, 1, 0, 0, 0, 0, 2, 1, 0, 0, 0, 0, 2, 1, 0,
     0, 0, 0, 1, 0, 0, 0, 0, 0, 1, 0, 0, 0, 0, 0, 1, 0, 0, 0, 0, 0, 5, 4, 3, 2, 1, 0, 3, 2, 1, 0, 0,
@@ -1041,7 +1041,7 @@ pub fn symbol(place: u32) -> Option<Sym>
     symbol_at(&SYMBOLS, place)
 }
 
-/// How many symbols of its rule come after the one at a place.
+/// How many symbols of its rule follow the one at a place.
 #[inline]
 pub fn after(place: u32) -> u8
     requires { (x : Sym) × StandsAt abi_listed place x }

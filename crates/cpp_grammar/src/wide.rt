@@ -9,9 +9,10 @@ use sym_core::NameClass;
 use sym_shape::{Grammar, Rule, Sym};
 
 /// The grammar of [`Abi`](crate::Abi), with what compilers write beside the symbols of the ABI's chapter: constructors and
-/// destructors with the digits 4 and 5, nested names that are a substitution and its arguments, conversions to types, what is in the
-/// initializer of a data member or in a default argument, first arguments that are packs and begin with an I, construction vtables, the
-/// routines of thread-local variables, transaction clones, ABI tags, and decimal, half and sized floats.
+/// destructors with the digits 4 and 5, nested names that are a substitution and its arguments, conversions to types, what is
+/// in the initializer of a data member or in a default argument, first arguments that are packs and begin with an I,
+/// construction vtables, the routines of thread-local variables, transaction clones, ABI tags, and decimal, half and sized
+/// floats.
 pub struct Wide;
 
 /// Whether a kind may be empty.

@@ -45,7 +45,7 @@ same_bytes_sound (x ∷ xs) [] e = cc e
 
 -- ## Texts
 
--- no text but one is empty
+-- only one text is empty
 pub some_text : (n : ℕ) → n < COUNT → nat_eq n NONE ≡ false → 0 < length (fixed_text n)
 unfolding builtin_texts operator_texts abbreviation_texts special_texts named_special_texts literal_endings
 some_text n less other = ltb-true 0 (length (fixed_text n)) (or-second _ _ (holds_below (λ m. nat_eq m NONE || nat_lt 0 (length (fixed_text m))) COUNT n refl less) other)

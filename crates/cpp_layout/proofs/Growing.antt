@@ -32,7 +32,7 @@ pub starts : (y : ReadSymbol) (d : Detail) (held : Held Context) → Shows y d h
 unfolding not_empty
 starts y d held = record { stacked = stacked-nothing (unshared_of y) (bytes_of_part y) (MayCome (table_of y)) held.items; capacity = refl }
 
--- the parts are the same as others that say so
+-- the parts are the same as others with the same description
 pub fills : {below : Held Context} (y : ReadSymbol) (d : Detail) (held : Held Context) (others whole : Others) → Shows y d below held others → others ≡ whole → Shows y d below held whole
 fills {below} y d held others whole shows e = subst (Shows y d below held) e shows
 
@@ -166,7 +166,7 @@ module _ (c : items.Context) (t : Term) where
   unfolding right_parts
   bounded-right bound = refl
 
--- the text of a float of so many bits
+-- the text of a float of this many bits
 pub float-brain : (digits : List ℕ) (end : ℕ) → end ≡ 98 → text (fixed_text BRAIN_FLOAT) ∷ [] ≡ float_parts digits end
 unfolding float_parts
 float-brain digits end is = rw (float_parts, eq-eqb end 98 is) refl
@@ -185,7 +185,7 @@ parameter-same ts form node inner t less e closed =
     ap (λ u. sub (record { tree = u; form = form_of form 0; context = context_of inner }) ∷ []) (tree-in form (shown_in ts inner (tree_at ts node)) less ∙ e)
     ∙ ap (λ x. sub (record { tree = t; form = form_of form 0; context = x }) ∷ []) closed
 
--- what is told of an item may be told by another context that says the same
+-- an item's context may be replaced by another context that says the same
 pub told-so : {below : Held Context} (y : ReadSymbol) (d e : Detail) (held : Held Context) (others : Others) → d ≡ e → Shows y d below held others → Shows y e below held others
 told-so {below} y d e held others is shows = subst (λ x. Shows y x below held others) is shows
 
@@ -205,7 +205,7 @@ module _ (y : ReadSymbol) (c told : Context) (is : c ≡ told) (old new : Held C
 pub told-parts : {below held : Held Context} (y : ReadSymbol) (c told : Context) (parts_of : Context → Others) → c ≡ told → Shows y c.detail below held (parts_of c) → Shows y told.detail below held (parts_of told)
 told-parts {below} {held} y c told parts_of is shows = subst (λ (x : Context). Shows y x.detail below held (parts_of x)) is shows
 
--- told nothing, an item is that of the tree
+-- without context, an item is that of the tree
 module _ (y : ReadSymbol) (d : Detail) (form node : ℕ) where
   pub closed-item : item_in (trees (table_of y)) node form 0 (record { index = None; detail = d; argument = None }) ≡ record { tree = tree_in form (tree_at (trees (table_of y)) node); form = form_of form 0; context = items.closed }
   unfolding tree_if_there

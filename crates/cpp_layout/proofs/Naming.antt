@@ -28,7 +28,7 @@ begins [] ys = refl
 begins (x ∷ xs) [] = refl
 begins (x ∷ xs) (y ∷ ys) = ap (λ b. nat_eq x y && b) (begins xs ys)
 
--- what doesn't begin with its first byte doesn't begin so
+-- what differs in its first byte doesn't begin with it
 pub begins-otherwise : (x : ℕ) (xs ys : List ℕ) → (0 < length ys → slice_index ys 0 ≢ x) → begins_with (x ∷ xs) ys ≡ false
 unfolding begins_with
 begins-otherwise x xs [] other = refl

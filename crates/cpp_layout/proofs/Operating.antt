@@ -28,7 +28,7 @@ abbrev pub any_number : List table.Operation → ℕ → Bool
 any_number [] n = false
 any_number (o ∷ os) n = nat_eq n (number_of o.code) || any_number os n
 
--- what has none of the codes is past the last place
+-- a code that is none of these is past the last place
 pub none_placed : (n : ℕ) (os : List table.Operation) → any_number os n ≡ false → length os ≡ place_of n os
 unfolding place_of
 none_placed n [] none = refl

@@ -29,19 +29,19 @@ prints y i below held table shows =
     let same = subst (Stacked (unshared_of y) (bytes_of_part y) (MayCome (table_of y)) below.items held.items) (sym (printed-parts (parts i.ctx.detail) rank (ranks_fall i.ctx.detail) (item_of (table_of y) i))) shows.stacked in
     record { added = same.added; is = same.is; all = λ k e less. (table, same.all k e less); joined = same.joined }
 
--- a list that is turned round in its place
+-- a list that is reversed in place
 turned : {X : Type 0} (old new : List X) → new ≡ reverse old → refill (length old) old new ≡ reverse old
 turned {X} old new r =
     let same : length new ≡ length old = ap (λ (xs : List X). length xs) r ∙ length-reverse old in
     ap (λ l. take (length old) (new ++ l)) (drop_all (length new) old (omega (arith, same))) ∙ ap (λ l. take (length old) l) (append-nil new) ∙ take_all (length old) new (omega (arith, same)) ∙ r
 
--- parts that were put onto an empty list, the last first, and turned round, are what is shown
+-- parts that were put onto an empty list, the last first, and then reversed, are what is shown
 pub filled : (y : ReadSymbol) (below held new : List (Part Context)) (s : Unshared) → Stacked (unshared_of y) (bytes_of_part y) (MayBeAsked y) below held s → below ≡ [] → new ≡ reverse held
     → s ≡ joined (unshared_of y) (bytes_of_part y) (refill (length held) held new)
 filled y below held new s stacked empty r =
     stacked.joined ∙ sym (ap (joined (unshared_of y) (bytes_of_part y)) (turned held new r ∙ ap reverse (stacked.is ∙ ap (λ l. l ++ reverse stacked.added) empty) ∙ reverse-reverse stacked.added))
 
--- the root, which is told nothing
+-- the root, which carries no context
 pub closed-root : (y : ReadSymbol) (d : Detail) (c : Context) (node : ℕ) → c ≡ record { index = None; detail = d; argument = None }
     → unshared_of y (record { node = node; form = 9; at = 0; ctx = c }) ≡ noted_shown d (tree_at (trees (table_of y)) node)
 closed-root y d c node is =

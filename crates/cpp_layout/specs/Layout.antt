@@ -39,8 +39,8 @@ pub record ReadSymbol : Type 0 where
 abbrev pub table_of : ReadSymbol → Table
 table_of y = over y.bytes y.table
 
--- What holds of each symbol that was read: its nodes are a table, the root is the node of the whole, in which each free parameter
--- carries its argument, what thunks adjust is listed at most once a node, and each count is within its bound.
+-- What holds of each symbol that was read: its nodes are a table; the root is the node of the whole, in which each free
+-- parameter carries its argument; what thunks adjust is listed at most once a node; and each count is within its bound.
 pub record IsRead (y : ReadSymbol) : Type 0 where
   pub table : IsTable (table_of y)
   pub root : y.root < length y.table.nodes
@@ -116,7 +116,7 @@ abbrev pub marked : Bool → PartOf items.Item → (if_so if_not : List ℕ) →
 marked true i if_so if_not = i ∷ text if_so ∷ []
 marked false i if_so if_not = i ∷ text if_not ∷ []
 
--- the same, unless it is one item
+-- likewise, unless it is one item
 abbrev pub referred : Bool → (whole : PartOf items.Item) → List (PartOf items.Item) → List (PartOf items.Item)
 referred true whole others = whole ∷ []
 referred false whole others = others
@@ -195,11 +195,11 @@ unshared_of y i = printed (parts i.ctx.detail) rank (item_of (table_of y) i)
 abbrev pub bytes_of_part : ReadSymbol → Part Context → List ℕ
 bytes_of_part y p = bytes_of (table_of y) p
 
--- the parts that may be asked about
+-- the parts that the layout may be asked for
 abbrev pub MayBeAsked : ReadSymbol → Part Context → Type 0
 MayBeAsked y p = IsTable (table_of y) × MayCome (table_of y) p
 
--- the tree of a symbol that was read, in which a parameter is its number alone
+-- the tree of a symbol that was read, where a parameter is only its number
 abbrev pub whole_of : ReadSymbol → plain.Term
 whole_of y = erase (tree_at (trees (table_of y)) y.root)
 
@@ -213,7 +213,7 @@ shown_symbol detail y = answer.shown detail (answer.root_item (whole_of y))
 abbrev pub shown : Detail → List (PartOf items.Item) → Unshared
 shown d others = printed_parts (printed (parts d) rank) (not_empty others)
 
--- The parts that a list was given may come, and are these; the first comes last.
+-- The parts that a list was given may be asked for, and are these; the first is last in it.
 pub record Shows (y : ReadSymbol) (d : Detail) (below held : Held Context) (others : List (PartOf items.Item)) : Type 0 where
   pub stacked : Stacked (unshared_of y) (bytes_of_part y) (MayCome (table_of y)) below.items held.items (shown d others)
   pub capacity : held.capacity ≡ below.capacity

@@ -10,7 +10,7 @@ abbrev pub with_code : List ℕ → Operation → table.Operation
 with_code code o =
     record { code = code; precedence = o.precedence; front = fixed_text o.front; left = o.left; between = fixed_text o.between; right = o.right; back = fixed_text o.back }
 
--- its texts are numbers that there are
+-- its texts are existing numbers
 abbrev pub HasTexts : Operation → Type 0
 HasTexts o = (o.front < COUNT) × (o.between < COUNT) × (o.back < COUNT)
 

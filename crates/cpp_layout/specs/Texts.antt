@@ -23,7 +23,7 @@ texts = plain_texts ++ (suffix_texts ++ named_texts (λ t. t) builtin_texts (nam
 abbrev pub fixed_text : ℕ → List ℕ
 fixed_text number = elim (slice_get texts number) [ Some text ↦ text | None ↦ [] ]
 
--- ## What comes after a function's parameters
+-- ## What follows a function's parameters
 
 unfoldable pub suffix_of : Qualifiers → RefQualifier → (noexcept : Bool) → List ℕ
 suffix_of q m noexcept = encoding_text q m ++ cond noexcept (codes " noexcept") []

@@ -49,7 +49,7 @@ impl Symbol {
         }
     }
 
-    /// The precedence of a node as an expression: what is no operation and no address needs no parentheses.
+    /// The precedence of a node as an expression: what is neither an operation nor an address needs no parentheses.
     #[tactic(auto, unfolding(cpp_term::specs::Parts::precedence_of, cpp_term::specs::Reargued::reargued, cpp_tree::specs::Nodes::tree_of))]
     fn precedence(&self, node: u32, ctx: Context) -> u8
         requires own { is_again (entry_at self.now.table.nodes node).node ≡ false }
@@ -64,7 +64,7 @@ impl Symbol {
         }
     }
 
-    /// The parts of an operand, which is put in parentheses if its precedence is at least the one that is asked for.
+    /// The parts of an operand, which is put in parentheses if its precedence is at least the given one.
     #[tactic(auto, unfolding(cpp_term::specs::Parts::operand_parts))]
     pub(crate) fn fill_operand<S: PartList<Context>>(
         &self,

@@ -28,7 +28,7 @@ pub(crate) fn is_plain(letter: u8) -> bool
     }
 }
 
-/// The text after the name of the concept that is asked of a placeholder type, by the last letter of its code.
+/// The text after the name of the concept that constrains a placeholder type, by the last letter of its code.
 #[tactic(auto, unfolding(cpp_grammar::specs::Parts::placeholder_text))]
 pub(crate) fn placeholder(letter: u8) -> u16
     ensures text { fixed_text result ≡ placeholder_text letter }
@@ -95,7 +95,7 @@ pub fn abbreviation_text(letter: u8) -> &'static [u8]
     texts::fixed_text(abbreviation(letter))
 }
 
-/// The name of an operator, by the two letters of its code; where no operator has it, `operator` alone.
+/// The name of an operator, by the two letters of its code; just `operator` where no operator has that code.
 pub fn operator_text(first: u8, second: u8) -> &'static [u8]
     ensures { result.now ≡ codes "operator" ++ look_up (first ∷ second ∷ []) operator_texts }
 {
@@ -110,7 +110,7 @@ pub fn special_text(letter: u8) -> &'static [u8]
     texts::fixed_text(special(letter))
 }
 
-/// What comes after the digits of an integer of a builtin type, or nothing.
+/// What follows the digits of an integer of a builtin type, or nothing.
 #[inline(always)]
 pub fn ending_text(letter: u8) -> &'static [u8]
     ensures { result.now ≡ look_up (letter ∷ []) literal_endings }

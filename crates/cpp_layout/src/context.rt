@@ -1,4 +1,4 @@
-// What an item is told beside its node.
+// The context that an item carries besides its node.
 
 #![tactic(auto)]
 
@@ -8,8 +8,8 @@ ghost use Rattle.cpp_tree.specs.Nodes.{under_kept};
 use cpp_tree::node::under_of;
 use sym_print::Detail;
 
-/// An index into packs, how much is shown, and what free parameters have here in place of their own arguments, if there is something:
-/// an argument, or a list with one for each.
+/// An index into packs, how much is shown, and what replaces the free parameters' own arguments here, if anything does: an
+/// argument, or a list with one for each.
 #[derive(Clone, Copy, Debug, PartialEq, Eq)]
 pub struct Context {
     pub index: Option<u32>,
@@ -17,7 +17,7 @@ pub struct Context {
     pub argument: Option<u32>,
 }
 
-/// A node whose tree isn't there again, and what it is told.
+/// A node that isn't an alias, and its context.
 #[derive(Clone, Copy, Debug)]
 pub struct Place {
     pub node: u32,
@@ -25,7 +25,7 @@ pub struct Place {
 }
 
 impl Context {
-    /// What the parts of an encoding are told: it has no index, and its parameters have their own arguments.
+    /// The context of the parts of an encoding: it has no index, and its parameters have their own arguments.
     pub fn closed(detail: Detail) -> Context
         ensures { result ≡ record { index = None; detail = detail; argument = None } }
     {
@@ -36,7 +36,8 @@ impl Context {
         }
     }
 
-    /// What the types of an encoding are told: they have no index, and are under the argument that this word says, if it says one.
+    /// The context of an encoding's types: they have no index, and are under the argument that this word names, if it names
+    /// one.
     pub fn of_types(detail: Detail, under: u32) -> Context
         ensures { result ≡ record { index = None; detail = detail; argument = under_kept under } }
     {
@@ -47,7 +48,7 @@ impl Context {
         }
     }
 
-    /// The same as this one, but that each parameter has its own argument.
+    /// The same context, except that each parameter has its own argument.
     pub fn of_its_own(self) -> Context
         ensures { result ≡ record { index = self.index; detail = self.detail; argument = None } }
     {

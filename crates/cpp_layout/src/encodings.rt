@@ -23,7 +23,7 @@ use cpp_tree::node::{Adjustment, Mark, Node, Qualifiers, Thunk, bit};
 use sym_core::Span;
 use sym_print::{Detail, PartList};
 
-/// The number of the text before what a thunk leads to.
+/// The number of the text before the target of a thunk.
 #[tactic(auto, unfolding(cpp_tree::specs::Nodes::thunk_of, cpp_tree::specs::Nodes::adjustment_of, cpp_grammar::specs::Parts::thunk_text))]
 fn thunk_number(thunk: Option<Thunk>) -> u16
     ensures text { (s : List ℕ) → fixed_text result ≡ thunk_text (thunk_of s thunk) }
@@ -52,7 +52,7 @@ fn suffix_number(qualifiers: Qualifiers, mark: Mark, noexcept: bool) -> u16
 }
 
 impl Symbol {
-    /// Adds what follows a function's parameters, if that is something.
+    /// Adds what follows a function's parameters, if there is anything.
     pub(crate) fn push_suffix<S: PartList<Context>>(
         &self,
         parts: &mut S,
@@ -207,7 +207,7 @@ impl Symbol {
         }
     }
 
-    /// The same without the return type.
+    /// Likewise without the return type.
     fn fill_bare<S: PartList<Context>>(
         &self,
         parts: &mut S,

@@ -15,7 +15,7 @@ use cpp_tree::node::Node;
 use sym_print::PartList;
 
 impl Symbol {
-    /// The parts of the piece that a name has of its own.
+    /// The parts of a name's own piece.
     pub(crate) fn fill_own_piece<S: PartList<Context>>(
         &self,
         parts: &mut S,
@@ -156,7 +156,7 @@ impl Symbol {
         }
     }
 
-    /// The left parts of a node in a form in which it has no others.
+    /// The left parts of a node in a form that has no others.
     fn fill_as_left<S: PartList<Context>>(&self, parts: &mut S, node: u32, ctx: Context)
         requires context { IsThereBelow (length self.now.table.nodes) ctx.argument }
         requires own { is_again (entry_at self.now.table.nodes node).node ≡ false }

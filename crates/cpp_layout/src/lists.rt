@@ -15,7 +15,7 @@ use cpp_tree::node::Node;
 use sym_print::PartList;
 
 impl Symbol {
-    /// The parts of a list's elements from the first one on: one that prints nothing is passed over.
+    /// The parts of a list's elements from the first one on: an element that prints nothing is skipped.
     pub(crate) fn fill_first<S: PartList<Context>>(
         &self,
         parts: &mut S,
@@ -66,8 +66,8 @@ impl Symbol {
         }
     }
 
-    /// The parts of an expansion: the pattern with dots where it holds no pack, nothing where its packs are empty, and else
-    /// its elements from the first on.
+    /// The parts of an expansion: the pattern with dots where it holds no pack, nothing where its packs are empty, and
+    /// otherwise its elements from the first on.
     pub(crate) fn fill_expansion<S: PartList<Context>>(
         &self,
         parts: &mut S,

@@ -29,14 +29,14 @@ use sym_print::{Part, PartList};
 fn is_anonymous(name: &[u8]) -> bool
     ensures { result ≡ begins_with (codes "_GLOBAL__N") name.now }
 {
-    // the first byte tells it of most names
+    // the first byte decides it for most names
     if name.is_empty() || name[0] != b'_' {
         return false;
     }
     name.starts_with(b"_GLOBAL__N")
 }
 
-/// What a source name is shown as: its own bytes, but for an unnamed namespace.
+/// What a source name is shown as: its own bytes, except for an unnamed namespace.
 #[tactic(auto, unfolding(crate::specs::Texts::fixed_text, cpp_grammar::specs::Parts::source_text))]
 #[inline(always)]
 pub fn name_text(name: &[u8]) -> &[u8]
@@ -171,8 +171,8 @@ impl Symbol {
         }
     }
 
-    /// Adds a prefix: a name, what holds a piece in its initializer, which is shown as its name, or the encoding around a local
-    /// entity, which is shown without its return type.
+    /// Adds a prefix: a name, the variable whose initializer contains a piece, which is shown as its name, or the encoding
+    /// around a local entity, which is shown without its return type.
     #[inline(always)]
     pub(crate) fn push_prefix<S: PartList<Context>>(&self, parts: &mut S, prefix: u32, ctx: Context)
         requires context { IsThereBelow (length self.now.table.nodes) ctx.argument }
@@ -222,7 +222,7 @@ impl Symbol {
         }
     }
 
-    /// The entity of a local name. In which default argument it is isn't shown.
+    /// The entity of a local name. Its default argument isn't shown.
     #[inline(always)]
     pub(crate) fn own_entity(&self, entity: u32, ctx: Context) -> Place
         requires table { IsTable (table_of self.now) }
@@ -316,7 +316,8 @@ impl Symbol {
         }
     }
 
-    /// The name of a constructor's class under its tags: its piece. A constructor's own name is looked at tag by tag.
+    /// The name of a constructor's class under its tags: its piece. The tags of a constructor's own name are examined one by
+    /// one.
     pub(crate) fn fill_base_tagged<S: PartList<Context>>(
         &self,
         parts: &mut S,

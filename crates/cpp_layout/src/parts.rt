@@ -122,7 +122,7 @@ impl Symbol {
         }
     }
 
-    /// Adds a list, unless it is that of no elements.
+    /// Adds a list, unless it is the empty one.
     #[inline(always)]
     pub(crate) fn push_list<S: PartList<Context>>(
         &self,
@@ -147,7 +147,7 @@ impl Symbol {
         }
     }
 
-    /// Adds an item of an encoding, which is told nothing.
+    /// Adds an item of an encoding, without context.
     #[inline(always)]
     pub(crate) fn push_closed<S: PartList<Context>>(
         &self,
@@ -165,7 +165,7 @@ impl Symbol {
         self.push_item(parts, node, form, 0, Context::closed(detail));
     }
 
-    /// Adds an item of an encoding's types, which are under the argument that this word says, if it says one.
+    /// Adds an item of an encoding's types, which are under the argument that this word names, if it names one.
     #[inline(always)]
     pub(crate) fn push_typed<S: PartList<Context>>(
         &self,
@@ -185,7 +185,7 @@ impl Symbol {
         self.push_item(parts, node, form, 0, Context::of_types(detail, under));
     }
 
-    /// Adds a list of an encoding's types, unless it is that of no elements.
+    /// Adds a list of an encoding's types, unless it is the empty one.
     #[inline(always)]
     pub(crate) fn push_typed_list<S: PartList<Context>>(
         &self,

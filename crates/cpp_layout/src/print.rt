@@ -93,7 +93,7 @@ impl Symbol {
         self.fill_own(parts, place.node, form, at, place.ctx);
     }
 
-    /// The same of a node whose tree isn't there again.
+    /// Likewise for a node that isn't an alias.
     #[inline(always)]
     fn fill_own<S: PartList<Context>>(
         &self,

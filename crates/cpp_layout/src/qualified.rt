@@ -20,7 +20,7 @@ use crate::{form, texts};
 use cpp_tree::node::{Mark, Node, Qualifiers};
 use sym_print::PartList;
 
-/// The number of the text of qualifiers whose blank comes after them.
+/// The number of the text of qualifiers with their blank at the end.
 fn blanked_number(qualifiers: Qualifiers) -> u16
     ensures some { BLANKED < result → (fixed_text result ≡ blank_last (qualifier_text (qualifiers_of qualifiers))) × (0 < length (fixed_text result)) }
     ensures none { result ≤ BLANKED → blank_last (qualifier_text (qualifiers_of qualifiers)) ≡ [] }
@@ -29,7 +29,7 @@ fn blanked_number(qualifiers: Qualifiers) -> u16
 }
 
 impl Symbol {
-    /// Adds qualifiers before a bracket: the blank comes after them.
+    /// Adds qualifiers before a bracket: their blank is at the end.
     fn push_blanked<S: PartList<Context>>(&self, parts: &mut S, qualifiers: Qualifiers)
         requires { 0 < S.room parts.old }
         ensures shows { (d : Detail) (below : Held Context) (others : List (PartOf items.Item)) → Shows self.now d below (S.held parts.old) others

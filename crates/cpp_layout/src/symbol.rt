@@ -41,7 +41,7 @@ impl Model for Symbol {
 }
 
 impl Symbol {
-    /// The symbol with these nodes, one of which is the whole.
+    /// The symbol with these nodes, one of them being the whole.
     pub fn new(bytes: Vec<u8>, nodes: Nodes, root: u32, rows: u32, steps: u32) -> Symbol
         requires { IsRead (record { bytes = bytes.items; table = nodes; root = root; rows = rows; steps = steps }) }
         ensures { result ≡ record { bytes = bytes.items; table = nodes; root = root; rows = rows; steps = steps } }
@@ -101,8 +101,8 @@ impl Symbol {
         self.nodes.entry(node)
     }
 
-    /// The node that a node stands for, and what it is told: a tree that is there again is that tree, told the argument, unless one
-    /// is told already.
+    /// The node that a node denotes, and its context: an alias denotes its tree, under the alias's argument unless the context
+    /// has one already.
     #[inline(always)]
     pub(crate) fn place(&self, node: u32, ctx: Context) -> Place
         requires table { IsTable (table_of self.now) }
@@ -142,7 +142,7 @@ impl Symbol {
         }
     }
 
-    /// A node as it is stored, which is made of earlier ones.
+    /// A node as it is stored, made of earlier ones.
     #[inline(always)]
     pub(crate) fn stored(&self, node: u32, ctx: Context) -> Node
         requires table { IsTable (table_of self.now) }
@@ -199,9 +199,9 @@ impl Symbol {
 
     /// The view of a node, which is below `counts().nodes`. It takes no memory.
     ///
-    /// The node's tree, in which a parameter is its number alone, is its production over these numbers, the bytes of these
-    /// texts and the trees of its parts, and for `WIDE_THUNK` over its offsets. Two nodes have equal trees exactly where these
-    /// are equal.
+    /// The node's tree, where a parameter is only its number, is its production over these numbers, the bytes of these texts
+    /// and the trees of its parts, and for `WIDE_THUNK` over its offsets. Two nodes have equal trees exactly where these are
+    /// equal.
     pub fn node(&self, node: u32) -> View
         requires { node < length self.now.table.nodes }
         ensures fields { IsView self.now.bytes result (fields_at (table_of self.now) node) }
@@ -287,7 +287,7 @@ impl Symbol {
         )
     }
 
-    /// Whether a node prints nothing: an expansion over packs of no elements, or a list of such.
+    /// Whether a node prints nothing: an expansion over empty packs, or a list of such.
     pub(crate) fn prints_nothing(&self, node: u32, ctx: Context) -> bool
         requires table { IsTable (table_of self.now) }
         requires node { node < length self.now.table.nodes }
@@ -319,7 +319,7 @@ impl Symbol {
         )
     }
 
-    /// What the parameter of a number is given, if something is, or else its own argument.
+    /// The argument of the parameter with a number: the context's, if there is one, or else its own.
     #[inline(always)]
     #[tactic(auto, unfolding(cpp_term::specs::Reargued::argument_or, cpp_tree::specs::Nodes::tree_if_there))]
     fn given_or(&self, given: Option<u32>, number: u32, own: u32) -> u32
@@ -335,8 +335,8 @@ impl Symbol {
         }
     }
 
-    /// What the parameter of a number stands for at an index: its argument, or an element of that. It has what the context gives it,
-    /// if there is something, in place of its own argument.
+    /// What the parameter with a number denotes at an index: its argument, or an element of that. An argument from the context,
+    /// if there is one, replaces the parameter's own.
     pub(crate) fn argument_of(&self, number: u32, own: u32, ctx: Context) -> Place
         requires table { IsTable (table_of self.now) }
         requires own { own < length self.now.table.nodes }

@@ -133,10 +133,10 @@ pub const NAMED_SPECIAL: u16 = 193;
 /// Where the endings of integer literals begin.
 pub const ENDING: u16 = 196;
 
-/// Where the qualifiers begin whose blank comes after them, but for those of no qualifier.
+/// Where the qualifiers with their blank at the end begin, except for those of no qualifier.
 pub const BLANKED: u16 = 200;
 
-/// The name of an operator that has no code.
+/// The name of an operator without a code.
 pub const OPERATOR_ALONE: u16 = 208;
 
 /// Where the texts of operations begin.
@@ -379,7 +379,7 @@ fn builtin_text(number: u16) -> &'static [u8]
     }
 }
 
-/// What comes after a function's parameters.
+/// What follows a function's parameters.
 #[tactic(auto, unfolding(crate::specs::Texts::fixed_text))]
 #[inline(always)]
 fn suffix_text(number: u16) -> &'static [u8]

@@ -18,7 +18,7 @@ use sym_core::Span;
 use sym_print::PartList;
 
 impl Symbol {
-    /// The left parts of a reference: those of the type where it is one itself.
+    /// The left parts of a reference: those of the type where that is a reference itself.
     pub(crate) fn fill_reference<S: PartList<Context>>(
         &self,
         parts: &mut S,
@@ -78,7 +78,7 @@ impl Symbol {
         );
     }
 
-    /// The left parts of a floating type of so many bits.
+    /// The left parts of a floating type of this many bits.
     // <builtin-type> ::= DF <number> _ | DF <number> x | DF <number> b
     pub(crate) fn fill_float<S: PartList<Context>>(
         &self,

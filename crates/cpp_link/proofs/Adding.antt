@@ -1,4 +1,4 @@
--- A part is made of what a production stands for, where nodes were added for it.
+-- A part is made of what a production denotes, where nodes were added for it.
 use Rattle.std.proofs.Common.{◌≡◌, sym, ◌∙◌, ap, subst, arith, ℕ, Bool, ◌+◌, ◌<◌, ◌≤◌, List, length, Result, Ok, Err}
 use Rattle.std.specs.Prelude.{IfOk, IfErr, OnOk, OnErr, IsErrAnd}
 use Rattle.std.proofs.lemmas.Result.{err_from_is_err_and}
@@ -26,7 +26,7 @@ at_most_two (Outcome.Applied name arguments) = omega arith
 at_most_two _ = omega arith
 
 module _ (s : List ℕ) (old new : Linked) (outcome : Outcome) where
-  -- all that is ensured of the part that is made, if it is
+  -- all that is ensured of a part that is made
   abbrev AddsPart : Result Part Refusal → Type 0
   AddsPart result = record {
     grows : Grows s old.nodes new.nodes 2;
@@ -75,7 +75,7 @@ module _ (s : List ℕ) (old new : Linked) (outcome : Outcome) where
         subst (λ r. AddsPart r) (sym passed) refused
 
     module _ (number : ℕ) (adds : AddsNodes s old new count (Ok number)) where
-      -- the part stands for the same
+      -- the part denotes the same
       pub added : length new.nodes.thunks + length old.nodes.nodes ≤ length old.nodes.thunks + length new.nodes.nodes
           → (part : Part) → value_in s new.nodes part ≡ outcome_value s old.nodes outcome → IsThere s (length new.nodes.nodes) part → AddsPart (Ok part)
       added adjusts part same there = record {
@@ -106,7 +106,7 @@ module _ (s : List ℕ) (old new : Linked) (outcome : Outcome) where
           → tree_at (trees_in s new.nodes) number ≡ tree → AddsPart (Ok (Part.Tree number listed))
       plain_tree_added thunks = tree_added (unadjusted thunks)
 
-      -- the part is a pair of which the tree that was added last is one
+      -- the part is a pair, and the tree that was added last is one of the two
       pub pair_added : new.nodes.thunks ≡ old.nodes.thunks → (letter left right : ℕ) (first second : Term) → outcome_value s old.nodes outcome ≡ values.pair letter first second
           → left < length new.nodes.nodes → right < length new.nodes.nodes → tree_at (trees_in s new.nodes) left ≡ first → tree_at (trees_in s new.nodes) right ≡ second
           → AddsPart (Ok (Part.Pair letter left right))

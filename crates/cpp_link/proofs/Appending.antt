@@ -28,7 +28,7 @@ counted_push before (d ∷ cs) c counted apart = (counted.0, counted_push (befor
 pub there_push : (n : ℕ) (cs : List Candidate) (c : Candidate) → AreCandidatesThere n cs → c.node < n → c.is_apart ≡ is_apart_behind false cs → AreCandidatesThere n (cs ++ c ∷ [])
 there_push n cs c there below apart = (nodes_push n cs c there.0 below, counted_push false cs c there.1 apart)
 
--- one that is named, and none
+-- one named candidate, and none
 pub one_noted : (h : Bool) (ts : List Term) (kept : Surroundings) (node : ℕ) (before : State) → with_candidate h (around_of ts kept) ts (Some node) before
     ≡ record before { candidates = before.candidates ++ record { tree = tree_at ts node; encoding = kept.encoding; in_lambda = is_lambda kept.scope; is_held = h } ∷ [] }
 unfolding with_candidate appended with_holder around_of
@@ -51,7 +51,7 @@ unfolding is_apart_behind
 none_apart [] is = refl
 none_apart (c ∷ cs) is = absurd (omega (arith, past_all (c ∷ cs) (length (c ∷ cs) - 1) is))
 
--- the last candidate tells whether it or one before it is a name with its M
+-- the last candidate decides whether it or one before it is a name with its M
 pub last_apart : (before : Bool) (cs : List Candidate) (c : Candidate) → AreCounted before cs → slice_get cs (length cs - 1) ≡ Some c → is_apart_behind before cs ≡ c.is_apart || c.is_held
 unfolding is_apart_behind
 last_apart before cs c counted is = go before cs (length cs - 1) counted (omega (arith, some_past cs (length cs - 1) c is)) is

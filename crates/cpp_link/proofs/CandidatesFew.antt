@@ -1,5 +1,5 @@
--- What a production appends to the candidates, it has made as nodes: a name or a type that is made is appended at most once, then or
--- later. What is made and not appended yet is pending.
+-- What a production appends to the candidates, it has made as nodes: a name or a type that is made is appended at most once,
+-- then or later. What is made and not appended yet is pending.
 use Rattle.std.proofs.Common.{◌≡◌, refl, ap, sym, ◌∙◌, subst, arith, ℕ, zero, suc, ◌+◌, ◌-◌, ◌≤◌, List, [], ◌∷◌, ◌++◌, length, length-append, get_or, Bool, true, false, not, ◌&&◌, ◌||◌, nat_eq, nat_lt, cond, Option, Some, None, Result, Ok, Err}
 use Rattle.std.proofs.lemmas.Bool.{false≢true, and_parts}
 use Rattle.sym_core.specs.declared.refusal.Refusal.{Refusal}
@@ -46,7 +46,7 @@ becomes_candidate k =
     || nat_eq k ARGUMENT_AFTER_T || nat_eq k LEVELED_PARAMETER || nat_eq k UNNESTED_NAME || nat_eq k ANY_ARRAY || nat_eq k ARRAY_REST
     || nat_eq k CONVERTED_SOLID || nat_eq k DECLTYPE_AFTER_D || nat_eq k UNRESOLVED_TYPE
 
--- what goes on with the name so far, and arguments after it
+-- what continues with the name so far, and arguments after it
 unfoldable pub goes_on : ℕ → Bool
 goes_on k = nat_eq k NEST_REST || nat_eq k NEST_TAIL || nat_eq k NEST_REST_OR_END || nat_eq k NEST_REST_ALONE || nat_eq k NEST_MORE_OR_END || nat_eq k BASE_ARGUMENTS
 
@@ -63,7 +63,7 @@ unfoldable pub pending : Sym → Value → ℕ
 pending (OfKind k) v = cond (is_component k) 1 (cond (becomes_candidate k) (unlisted v) (cond (is_arguments k) (in_place v) 0))
 pending _ v = 0
 
--- what is pending before it, that it may append
+-- what is pending before it, and it may append
 unfoldable pub pending_around : Sym → Around → Value → ℕ
 pending_around (OfKind k) around v = cond (goes_on k) (unlisted_around around)
     (cond (is_arguments k) (cond (is_there v) (unlisted_around around) 0) 0)
@@ -138,7 +138,7 @@ may_leave Production.BoundedArray = true
 may_leave Production.LengthArray = true
 may_leave _ = false
 
--- what goes on with the name so far
+-- what continues with the name so far
 unfoldable pub takes_name : Production → Bool
 takes_name Production.NestArguments = true
 takes_name Production.NestInstance = true
@@ -161,7 +161,7 @@ starts_with p around = cond (takes_name p) (unlisted_around around) (cond (begin
 
 -- ## From part to part
 
--- after a part with this value so much is pending, and the rest goes on with it
+-- after a part with this value this much is pending, and the rest continues with it
 pub record Later (x : Sym) (over : ℕ) (rest : List Value → ℕ → Type 0) (next : Next Value State Around) (v : Value) : Type 0 where
   pub now : ℕ
   pub few : now + pending_around x next.context v ≤ over + pending x v
@@ -173,8 +173,8 @@ pub record Onward (x : Sym) (made now : ℕ) (state : State) (rest : List Value 
   pub few : length next.state.candidates + over ≤ length state.candidates + made + now
   pub later : (v : Value) → Later x over rest next v
 
--- After parts with these values so much is pending. Where the production closes, what is appended, and what its value leaves pending,
--- was pending or is made there.
+-- What is pending after parts with these values. Where the production closes, what is appended, and what its value leaves
+-- pending, was pending or is made there.
 abbrev pub Flow : Production → Around → (place : ℕ) → List Sym → List Value → (now : ℕ) → Type 0
 Flow p around place [] vs now =
     (byte : ℕ) (began state : State) (one : Found Value State) → close p byte around place began vs state ≡ Ok one
@@ -318,7 +318,7 @@ none-appended {x} {made} {state} {rest} next few none later_ = record {
 
 -- ## By rows
 
--- the same of a row, whose value leaves so much
+-- likewise for a row, whose value leaves this much pending
 abbrev pub RowFlow : Row → (Value → ℕ) → Around → (place : ℕ) → List Sym → List Value → (now : ℕ) → Type 0
 RowFlow row leave around place [] vs now =
     (byte : ℕ) (began state : State)
@@ -460,7 +460,7 @@ plain-flow p around place keep closes (x ∷ xs) none vs = λ state next e. (
 
 -- ## Names before arguments
 
--- what is pending of it after what may be arguments
+-- how much of it is pending after what may be arguments
 unfoldable pub behind_name : ℕ → Value → ℕ
 behind_name n v = cond (is_there v) 0 n + in_place v
 
@@ -476,7 +476,7 @@ spent-or-not n nothing_there = omega arith
 spent-or-not n (named t qualifiers ref) = omega arith
 spent-or-not n _ = omega arith
 
--- after a name that was made, or one that is a candidate already, what follows goes on with it
+-- after a name that was made, or one that is a candidate already, what follows continues with it
 pub rest-step : (row : Row) (leave : Value → ℕ) (around : Around) (place k made now : ℕ) (state : State) (vs : List Value) (t : Term) (listed : Bool)
     (new : State)
     → ((a : Around) (v : Value) → pending_around (OfKind k) a v ≡ unlisted_around a) → ((v : Value) → pending (OfKind k) v ≡ unlisted v)

@@ -124,7 +124,7 @@ parameter-flow after_t around place = λ state next e. came (going [] around sta
           later = λ w. record { now = behind_name 0 w; few = spent-or-not 0 w; goes = closes (tree t true) w };
         }))
 
--- one in an expression is made, and no candidate: what is pending around it may become one before its arguments
+-- a parameter in an expression is made, and is no candidate: what is pending around it may become one before its arguments
 expression-parameter : (around : Around) (place : ℕ) → By Production.ParameterExpression around place (Number Decimal ∷ OfKind ARGUMENTS_ALONE ∷ []) [] 0
 unfolding pending pending_around few_.unlisted_around goes_on is_arguments is_component becomes_candidate row_of before_part done tested replaced state_after gained nodes_before nodes_at_end leaves makes_name may_leave part
 expression-parameter around place = λ state next e. came (going [] around state) next e (none-appended (going [] around state) (omega arith) (λ v. refl) begun)
@@ -167,7 +167,7 @@ with-s-type around place = λ state next e. came (going [] around state) next e 
       later = λ w. record { now = behind_name (few_.unlisted v) w; few = spent-or-not (few_.unlisted v) w; goes = closes v w };
     })
 
--- ## What is handed on
+-- ## What is forwarded
 
 -- where the value of the only part is the whole's
 handed-flow : (leave : Left) (around : Around) (place : ℕ) (x : Sym) → Untaken x → ((v : Value) → leave v ≤ pending x v) → RowFlow (plain (handed 0) nothing) leave around place (x ∷ []) [] 0
@@ -215,7 +215,7 @@ own-type : (form : Form) (leave : Left) (around : Around) (place : ℕ) (vs : Li
 unfolding state_after gained
 own-type form leave around place vs left one = λ byte began state. omega (arith, left (meant form byte around vs), one vs, appended-one around (tree_of (meant form byte around vs)) state)
 
--- where a type becomes one before what is of it
+-- where a type becomes one before what refers to it
 of-type-flow : (form : Form) (leave : Left) (around : Around) (place : ℕ) (x y : Sym) → Untaken x → Untaken y → ((v : Value) → pending x v ≡ few_.unlisted v)
     → ((byte : ℕ) (vs : List Value) → leave (meant form byte around vs) ≤ nodes_at_end form vs)
     → RowFlow (after_steps (quiet ∷ goes (type_of 0) as_before ∷ []) form) leave around place (x ∷ y ∷ []) [] 0
@@ -236,7 +236,7 @@ of-type-flow form leave around place x y none free is left = λ state next e. ca
 
 -- ## Nested names
 
--- a piece is added to the name so far, and what follows goes on with it
+-- a piece is added to the name so far, and what follows continues with it
 nest-flow : (m : Made) (leave : Left) (around : Around) (place : ℕ) (x : Sym) → ((v : Value) → leave v ≡ few_.unlisted v) → ((vs : List Value) → nodes_made m vs ≡ 1) → Untaken x
     → RowFlow (named_row m (handed 1)) leave around place (x ∷ OfKind NEST_REST ∷ []) [] 0
 unfolding pending pending_around goes_on is_arguments is_component becomes_candidate before_part done replaced state_after gained meant nodes_before nodes_at_end part
@@ -368,7 +368,7 @@ arguments around place = λ state next e. came (going [] (inside around) (with_p
   };
 })
 
--- ## The base class of a constructor that is inherited
+-- ## The base class of an inherited constructor
 
 base-arguments : (around : Around) (place : ℕ) → By Production.BaseArguments around place (OfKind ARGUMENTS_FIRST ∷ Byte 69 ∷ OfKind HELD_ARGUMENTS ∷ []) [] (few_.unlisted_around around)
 unfolding pending pending_around goes_on is_arguments is_component becomes_candidate row_of before_part done around_part packs_within replaced made given all_given built argument tree_in state_after gained meant nodes_before nodes_made nodes_at_end leaves makes_name may_leave part
@@ -387,7 +387,7 @@ base-arguments around place = λ state next e. came (going [] (inside around) (w
     ended-by : (v : Value) → By Production.BaseArguments around place (Byte 69 ∷ OfKind HELD_ARGUMENTS ∷ []) (v ∷ []) 0
     ended-by v = λ state next e. came (going (v ∷ []) around state) next e (none-appended (going (v ∷ []) around state) (omega arith) (λ b. refl) (λ b. instanced v b))
 
--- after the name of a base class its arguments go on with it
+-- after the name of a base class its arguments continue with it
 base-flow : (leave : Left) (around : Around) (place : ℕ) (x : Sym) → Untaken x → ((v : Value) → pending x v ≡ few_.unlisted v) → ((v : Value) → leave v ≡ 0)
     → RowFlow (after_steps (quiet ∷ goes nothing (after_part 0 (as_part 0)) ∷ []) (either 1 0)) leave around place (x ∷ OfKind BASE_ARGUMENTS ∷ []) [] 0
 unfolding pending pending_around few_.unlisted few_.unlisted_around goes_on is_arguments is_component becomes_candidate before_part done around_part packs_within is_listing is_listed after prefix_listed state_after gained nodes_before nodes_at_end part
@@ -414,7 +414,7 @@ substitution-closes around place vs = λ byte began state one e. omega (
   substituted-none around (place - 1) (slice_get state.candidates (counted_value Seq36 (text_of (part vs 0)))) state one e,
 )
 
--- the reading of the ABI's grammar has no constructor that is inherited
+-- the reading of the ABI's grammar has no inherited constructor
 inheriting-closes : (around : Around) (place : ℕ) (vs : List Value) → Flow Production.Inheriting around place [] vs 0
 unfolding close
 inheriting-closes around place vs = λ byte began state one e. absurd (let clash : ◌≡◌ {A = Result (Found Value State) Refusal} (Err (BadReference place)) (Ok one) = e in cc)
@@ -568,5 +568,5 @@ flows Production.ConvertedReference around place = own_type Production.Converted
 flows Production.ConvertedType around place = typed Production.ConvertedType refl around place (OfKind CONVERTED_SOLID) refl (λ a v. refl) (λ v. refl) (λ v. refl)
 flows Production.UnresolvedInType around place = of_type Production.UnresolvedInType refl around place _ (OfKind UNRESOLVED_TYPE) (OfKind UNRESOLVED_NAME) refl (λ a v. refl) (λ a v. refl) (λ v. refl) (λ byte vs. omega arith)
 flows Production.DestroyedType around place = typed Production.DestroyedType refl around place (OfKind UNRESOLVED_TYPE) refl (λ a v. refl) (λ v. refl) (λ v. refl)
--- no candidate becomes of any other before its end
+-- no other becomes a candidate before its end
 flows p around place = simple p refl around place (parts_of p) refl refl (λ vs. λ byte began state. omega arith)

@@ -123,7 +123,7 @@ pending-first k p around v h there =
     go false true false false w is e f = absurd (false≢true f)
     go false false g a w is e f = omega arith
 
--- arguments that are read are there
+-- arguments that are read are present
 arguments-there : (p : Production) (byte : ℕ) (around : Around) (place : ℕ) (began : State) (vs : List Value) (state : State)
     (one : Found Value State)
     → close p byte around place began vs state ≡ Ok one → begins_arguments p ≡ true → is_there one.value ≡ true

@@ -1,4 +1,4 @@
--- The number with which a lambda or an unnamed type ends.
+-- The number at the end of a lambda or an unnamed type.
 use Rattle.std.proofs.Common.{◌≡◌, refl, sym, ◌∙◌, ap, subst, arith, ℕ, zero, suc, ◌+◌, ◌-◌, ◌^◌, ◌<◌, ◌≤◌, List, [], ◌∷◌, ◌++◌, length, take, drop, get_or, Bool, true, false, Result, Ok, Err, append_assoc, length-append}
 use Rattle.std.specs.Prelude.{nat_eq, nat_lt, slice_range, if◌then◌else◌}
 use Rattle.std.proofs.lemmas.Bool.{true≢false, false≢true, eqb-true}
@@ -32,7 +32,7 @@ use Rattle.cpp_link.specs.Numbered.{is_numbered, IsRange}
 use Rattle.cpp_link.specs.LinkReading.{link_begin}
 use Rattle.cpp_link.specs.View.{Surrounds, IsKept, Holds}
 
--- ## Parts of which the last one is a token
+-- ## Parts that end in a token
 
 -- the last of the rows
 record LastRow (rows : List Row) (from to : ℕ) : Type 0 where

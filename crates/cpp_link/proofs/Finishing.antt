@@ -58,7 +58,7 @@ module _ (reading : Reading Value State Around) (closing : Production → Around
           → closing (production_at n) context k rule.before vs state ≡ closing (production_at m) code i rule.before us (record { candidates = cs; packs = packs })
       same_close m n i k code context us vs cs packs state number place surrounded known candidates packed = rw (number, place, surrounded, known, candidates, packed) refl
 
-  -- a part was put that stands for what the rule closes to
+  -- a part was put that denotes what the rule closes to
   put_right : (new : Linked) (new_parts : List Part) (made : Part) (done : Unit {0})
       → ((began : State) → began.packs ≡ packs_of frame.kept → closing p around frame.place began (values_in s old.nodes given) (state_of s old) ≡ Ok (found (value_in s new.nodes made) (state_of s new)))
       → IsThere s (length new.nodes.nodes) made → IsWhole s new → new_parts ≡ take frame.base parts ++ made ∷ []
@@ -104,7 +104,7 @@ few_adds s old new frame parts few =
     let held : owes frame.rule (length (drop frame.base parts)) ≡ owes frame.rule (length parts - frame.base) = ap (λ n. owes frame.rule n) (length-drop frame.base parts) in
     omega (arith, few, (cpp_laws s).closing frame.rule (drop frame.base parts), held)
 
--- so many are made of these parts, and so of the rule's
+-- this many nodes are made of these parts, and so of the rule's
 made_where_closed : (made : Production → List Value → ℕ) (s : List ℕ) (old new : Linked) (frame : Frame Surroundings) (parts own : List Part) (p : Production) → own ≡ drop frame.base parts → p ≡ production_at frame.rule
     → length new.nodes.nodes ≡ length old.nodes.nodes + made p (values_in s old.nodes own)
     → length new.nodes.nodes ≡ length old.nodes.nodes + made (production_at frame.rule) (values_in s old.nodes (drop frame.base parts))
@@ -112,7 +112,7 @@ made_where_closed made s old new frame parts own p same numbered is = rw (← sa
 
 -- ## What is left
 
--- The frame's rule is of this production, and of its own parts, those from its base on, a call was to make the part that they stand for.
+-- The frame's rule is of this production, and a call was to make the part that its own parts, those from its base on, denote.
 module _ (reading : Reading Value State Around) (closing : Production → Around → (place : ℕ) → (began : State) → List Value → State → Result (Found Value State) Refusal) (s : List ℕ)
     (reads : (rule : Open State Around) (known : List Value) (state : State) → open_.IsThere wide s rule → reading.close rule known state ≡ closing (production_at rule.rule.number) rule.context rule.place rule.before known state)
     (made : Production → List Value → ℕ) (old new : Linked) (frame : Frame Surroundings) (parts new_parts : Vec Part Global) (given : List Part) (p : Production)
@@ -156,7 +156,7 @@ module _ (reading : Reading Value State Around) (closing : Production → Around
   pub lacking_finishes : (e : Refusal) → Makes (Err e) → e ≡ Memory → (result : Result (Unit {0}) Refusal) → IsErrAnd result (λ y. y ≡ e) → Finishes by_reading made s old new frame parts new_parts result
   lacking_finishes e gave memory result is = lacking_at (Err e) gave result e is memory (inl (gave.full memory))
 
-  -- what the rule stands for is put in the place of its parts
+  -- what the rule denotes replaces its parts
   pub put_finishes : (called : Part) → Makes (Ok called) → (part : Part) → IsThere s (length new.nodes.nodes) part
       → ((began : State) → began.packs ≡ packs_of frame.kept
       → closing p (around_of (trees_in s old.nodes) frame.kept) frame.place began (values_in s old.nodes own) (state_of s old) ≡ Ok (found (value_in s new.nodes part) (state_of s new)))

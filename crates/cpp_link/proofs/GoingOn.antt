@@ -1,4 +1,4 @@
--- The next part of a rule is gone on to as the reading says.
+-- The linker continues to the next part of a rule as the reading says.
 use Rattle.std.proofs.Common.{subst, ◌≡◌, refl, sym, ◌∙◌, ap, arith, ℕ, suc, ◌+◌, ◌-◌, ◌<◌, ◌≤◌, inl, List, [], ◌∷◌, ◌++◌, length, take, drop, Option, Result, Ok, Err}
 use Rattle.std.proofs.lemmas.List.{length-drop, take-append-drop}
 use Rattle.std.proofs.lemmas.Result.{err_from_is_err_and}
@@ -44,7 +44,8 @@ use Rattle.cpp_link.proofs.RowNodes.{quiet_part}
 use Rattle.cpp_link.proofs.Rooms.{roomy_ok, roomy_refused}
 use Rattle.cpp_link.proofs.Viewing.{parts_are, parts_all}
 
--- What is done before the next part of the frame's rule by this reading of the language, once the parts from its base on are these.
+-- What is done before the next part of the frame's rule by this reading of the language, once the parts from its base on are
+-- these.
 module _ (reading : Reading Value State Around) (before : Production → Around → ℕ → List Value → State → Going)
     (reads : (rule : Open State Around) (known : List Value) (state : State) → reading.between rule known state ≡ before (production_at rule.rule.number) rule.context rule.place known state)
     (s : List ℕ) (old : Linked) (frame : Frame Surroundings) (parts own : List Part) (production : Production) (same : own ≡ drop frame.base parts) (numbered : production ≡ production_at frame.rule) where
@@ -67,7 +68,7 @@ module _ (reading : Reading Value State Around) (before : Production → Around 
           → before (production_at n) context p vs state ≡ before (production_at m) code q us (record { candidates = cs; packs = packs })
       same_before m n q p code context us vs cs packs state number place surrounded known candidates packed = rw (number, place, surrounded, known, candidates, packed) refl
 
-  -- what is gone on with
+  -- what the rule continues with
   abbrev gone : (mid : Linked) (new_parts : List Part) (then : Surroundings) → State → Next Value State Around
   gone mid new_parts then state = record { values = values_in s mid.nodes (drop frame.base new_parts); context = around_of (trees_in s mid.nodes) then; state = state }
 
@@ -206,7 +207,7 @@ module _ (view : View Linked Part Surroundings Value State Around) (s : List ℕ
       record { goes = goes; adds = tt; few = few; makes = tt; pays = tt; count = tt; roomy = roomy_refused old new parts new_parts (Err e) e refl keeps capacity (λ memory. inl (full memory)) } in
       subst (λ r. Advances view s old new frame parts new_parts r) (sym passed) refused
 
-  -- there was no memory, and the rule isn't gone on with whatever is read
+  -- there was no memory, and the rule isn't continued whatever is read
   pub lacking_advances : (result : Result Surroundings Refusal) (e : Refusal) → IsErrAnd result (λ y. y ≡ e) → e ≡ Memory → AddsFew (cpp_view s) old new frame parts.items → LacksRoom old new
       → Advances view s old new frame parts new_parts result
   lacking_advances result e is memory few lacks =

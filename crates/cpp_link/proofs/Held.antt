@@ -28,7 +28,7 @@ use Rattle.cpp_link.proofs.Appending.{past_all, number_apart, all_apart}
 
 -- ## What is done before a part
 
--- the part before which it is
+-- the part it comes before
 pub held_second : (p : Production) (l : Bool) (before : ℕ) → p ≡ Production.Holder → steps_apart p l before ≡ true → before ≡ 1
 unfolding steps_apart
 held_second p l before is apart = eqb-true before 1 (ap (λ q. steps_apart q l before) (sym is) ∙ apart)
@@ -82,7 +82,7 @@ prefix_held : (around : Around) (state : State) → held_unless (prefix_listed a
 unfolding with_prefix
 prefix_held around state = held_again (prefix_listed around.prefix) around (prefix_tree around.prefix) state
 
--- so are the base class of a constructor that is inherited and the name of a concept
+-- likewise the base class of an inherited constructor and the name of a concept
 pub base_read : (s : List ℕ) (y : Stored) (kept then : Surroundings) (place : ℕ) (vs : List Value) (cs : List values.Candidate) (packs : Option ℕ) (name : Option ℕ) → length vs ≡ 0
     → ((state : State) → with_prefix (around_of (trees_in s y) kept) state ≡ with_candidate false (around_of (trees_in s y) kept) (trees_in s y) name state)
     → around_of (trees_in s y) then ≡ inside (around_of (trees_in s y) kept)

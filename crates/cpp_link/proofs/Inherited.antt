@@ -1,4 +1,4 @@
--- What is done with a constructor that is inherited is what the wide reading says.
+-- What is done with an inherited constructor is what the wide reading says.
 use Rattle.std.proofs.Common.{◌≡◌, refl, sym, ◌∙◌, ap, ℕ, ◌<◌, List, length, drop, true, false, Option, Some, None, Err}
 use Rattle.sym_core.specs.declared.refusal.Refusal.TheVariants.{BadReference}
 use Rattle.sym_link.specs.declared.language.Frame.{Frame}

@@ -38,9 +38,9 @@ use Rattle.cpp_link.specs.LinkReading.{in_64_bits, link_meaning, link_close, lin
 use Rattle.cpp_link.proofs.Endings.{opens_plain, last_behind}
 use Rattle.cpp_link.proofs.SameReadings.{BeginsSame, ClosesSame, tree_same}
 
--- ## What comes of a chain of readings
+-- ## The result of a chain of readings
 
--- both come to something
+-- both have a result
 abbrev pub Both : {A B : Type 0} → Result A Refusal → (A → Result B Refusal) → B → Type 0
 Both {A = A} m f y = (x : A) × (m ≡ Ok x) × (f x ≡ Ok y)
 
@@ -162,7 +162,7 @@ abbrev IsPlainLambda : NotedWay → Type 0
 IsPlainLambda way = (around : Around) (place : ℕ) (vs : List Value) (state : State) → way.between Production.Lambda around place vs state ≡ between Production.Lambda around place vs state
 
 module _ (way : NotedWay) (plain_way : IsPlainNoted way) (plain_lambda : IsPlainLambda way) where
-  -- before a part of a production that goes as in the ABI's grammar the same is done
+  -- before a part of a production that agrees with the ABI's grammar the same is done
   plain_step : (rule : Open State Around) (p : Production) → production_at rule.rule.number ≡ p
       → ((around : Around) (place : ℕ) (vs : List Value) (state : State) → way.between p around place vs state ≡ between p around place vs state) → (known : List Value) (at : ℕ) (first : Tree) (rest : Forest) (state : State)
       → unfold_forest (reading_noted_by way) rule known at (grown first rest) state
@@ -261,7 +261,7 @@ module _ (way : NotedWay) (plain_way : IsPlainNoted way) (plain_lambda : IsPlain
   unnamed_closes s kind taken nothing place context before begun inner rest takes trees at is_begun is_inner = absurd trees
   unnamed_closes s kind taken (grown tree (grown second others)) place context before begun inner rest takes trees at is_begun is_inner = absurd trees.1
 
-  -- what a tree comes to is one value
+  -- the value of a tree is single
   one_value : (tree : Tree) (context : Around) (place : ℕ) (state : State) (one : Found (List Value) State) → unfold_tree (reading_noted_by way) context place tree state ≡ Ok one
       → (v : Value) × (one.value ≡ v ∷ [])
   unfolding cpp reading_noted_by
@@ -342,7 +342,7 @@ closes_same s kind rule taken parts place context before begun inner rest known 
     Equal : Rule → Type 0
     Equal r = (linked s).close (standing r taken place context before) inner.value inner.state ≡ cpp.close (standing r taken place context before) inner.value inner.state
 
--- and so it is by the wide grammar
+-- and likewise in the wide grammar
 wide_plain_closes : (s : List ℕ) (p : Production) (byte : ℕ) (around : Around) (place : ℕ) (began : State) (vs : List Value) (state : State) → is_plain p ≡ true
     → link_close_wide s p byte around place began vs state ≡ close_wide p byte around place began vs state
 unfolding link_close_wide close_wide link_meaning is_plain
@@ -388,7 +388,7 @@ wide_closes_same s kind rule taken parts place context before begun inner rest k
 unfoldable numbered_at : Kind → ℕ → Bool
 numbered_at kind byte = elim (wide_choose kind byte) [ None ↦ false | Some p ↦ is_numbered p ]
 
--- none does at the byte with which a symbol begins
+-- none does at the byte that begins a symbol
 none_numbered : (kind : Kind) → numbered_at kind 95 ≡ false
 unfolding numbered_at wide_choose wide_alternatives pick is_in in_ranges among is_numbered
 none_numbered Kind.Symbol = refl
@@ -511,7 +511,7 @@ module _ (s : List ℕ) (shape : Tree) (is : IsTree wide (OfKind SYMBOL) shape) 
         tree_same wide wide_sound s (tallied cpp makes) (tallied (linked s) makes).begin (tallied (linked s) makes).close counts_begin counts_close (OfKind SYMBOL) first_around 0 shape (tally first_state 0) []
         wide_sound.start is at_front
 
--- And so it is by the wide grammar.
+-- And likewise in the wide grammar.
 module _ (s : List ℕ) (shape : Tree) (is : IsTree wide (OfKind SYMBOL) shape) (spelled : spell shape ≡ s) where
   abbrev wide_more : List ℕ
   wide_more = (symbol_begins shape is).0

@@ -1,4 +1,4 @@
--- What comes after a rule, in terms of the nodes that are there once its own is made.
+-- What follows a rule, in terms of the nodes that are there once its own is made.
 use Rattle.std.proofs.Common.{◌≡◌, refl, sym, ◌∙◌, ap, subst, ℕ, ◌-◌, ◌<◌, ◌≤◌, List, [], ◌∷◌, length, Option, Result, Ok, Err, false}
 use Rattle.std.proofs.lemmas.Result.{IfOk-weaker, IfErr-weaker}
 use Rattle.std.specs.Prelude.{slice_get, IfOk, IfErr, OnOk}
@@ -135,7 +135,7 @@ other_close s Production.Substitution byte around place began vs state other own
 other_close s Production.Inheriting byte around place began vs state other own = absurd (own refl)
 other_close s _ byte around place began vs state other own = refl
 
--- it closes to what it stands for
+-- it closes to what it denotes
 pub stands_closes : (s : List ℕ) (p : Production) (byte : ℕ) (around : Around) (place : ℕ) (vs : List Value) (state then : State) (packs : Option ℕ) (v : Value) → (p ≡ Production.Substitution → ⊥) → (p ≡ Production.Inheriting → ⊥)
     → v ≡ link_meaning s p byte place around vs → ((began : State) → began.packs ≡ packs → behind p byte around began vs state ≡ then)
     → (began : State) → began.packs ≡ packs → link_close s p byte around place began vs state ≡ Ok (found v then)

@@ -22,7 +22,7 @@ ending_is s us ts given (Node.Reargued t a) own = absurd (true≢false own)
 ending_is s us ts given Node.Absent own = refl
 ending_is s us ts given _ own = refl
 
--- the operation that takes the address of what a node stands for, whatever the argument under which its parts are
+-- the operation that takes the address of what a node denotes, whatever the argument under which its parts are
 pub address_is : (s : List ℕ) (us : List Thunk) (ts : List Term) (given : Option Term) (encoding first second : ℕ) (t right : Term) → t ≡ reargued given (nodes.tree_of s us ts (Node.EncodingLiteral encoding))
     → operation_or_address true first second t right ≡ address_of (tree_at ts encoding)
 unfolding operation_or_address nodes.tree_of reargued

@@ -1,4 +1,4 @@
--- What a substitution of a tree whose parameter isn't meant here comes to.
+-- The value of a substitution for a tree whose parameter isn't meant here.
 use Rattle.std.proofs.Common.{◌≡◌, refl, ap, ℕ, true, false, Some, None, Result, Err}
 use Rattle.sym_core.specs.declared.refusal.Refusal.{Refusal}
 use Rattle.sym_core.specs.declared.refusal.Refusal.TheVariants.{BadReference}

@@ -1,4 +1,4 @@
--- A piece of a name comes after the name so far.
+-- A piece of a name follows the name so far.
 use Rattle.std.proofs.Common.{◌≡◌, sym, ◌∙◌, ap, subst, lit<, ℕ, List, [], ◌∷◌, length, get_or, true, false}
 use Rattle.cpp_grammar.specs.declared.production.Production.{Production}
 use Rattle.cpp_term.specs.Term as term

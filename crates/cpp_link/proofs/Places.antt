@@ -85,9 +85,9 @@ there_closes s ts (p ∷ []) there = absurd (false≢true there)
 there_closes s ts (p ∷ Part.Nothing ∷ ps) there = absurd (false≢true there)
 there_closes s ts (p ∷ q ∷ ps) there = lit≤ tt
 
--- ## What comes after a name
+-- ## What follows a name
 
--- neither nothing nor a name in its place: its arguments
+-- neither absent nor a name that takes its place: its arguments
 pub record AreArguments (s : List ℕ) (ts : List Term) (t : Term) (p : Part) : Type 0 where
   pub instance_of : applied t (value_of s ts p) ≡ instance t (tree_of (value_of s ts p))
   pub there : is_there (value_of s ts p) ≡ true
@@ -113,7 +113,7 @@ pub nothing_behind : (s : List ℕ) (ts : List Term) (t : Term) (b : Bool)
 unfolding value_of applied is_there tree_of
 nothing_behind s ts t b = ap (λ c. tree t c) (all-and b)
 
--- a name with one after it that takes its place
+-- a name followed by one that takes its place
 pub name_behind : (s : List ℕ) (ts : List Term) (t : Term) (b : Bool) (n : ℕ) (q : Qualifiers) (m : Mark)
     → tree (applied t (value_of s ts (Part.Named n q m))) (b && not (is_there (value_of s ts (Part.Named n q m)))) ≡ tree (tree_at ts n) false
 unfolding value_of applied is_there tree_of

@@ -47,7 +47,7 @@ count_got f k = go productions k
 
 -- ## Lists
 
--- a node that isn't there again says what its tree is, whatever the argument under which its parts are
+-- a node that isn't an alias says what its tree is, whatever the argument under which its parts are
 pub void_is : (s : List ℕ) (us : List Thunk) (ts : List Term) (given : Option Term) (node : Node) → is_again node ≡ false → is_void (reargued given (nodes.tree_of s us ts node)) ≡ void_node node
 unfolding is_void nodes.tree_of void_node reargued is_again
 void_is s us ts given (Node.Reargued t a) own = absurd (true≢false own)

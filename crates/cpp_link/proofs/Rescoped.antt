@@ -59,7 +59,7 @@ named_outside : (in_lambda : Bool) (around : Around) (place k : ℕ) (state : St
 named_outside true around place k state e = absurd (true≢false e)
 named_outside false around place k state e = refl
 
--- where the wide reading does nothing of its own, it goes as in the other reading
+-- where the wide reading does nothing of its own, it agrees with the other reading
 apart_between : (p : Production) (around : Around) (place : ℕ) (vs : List Value) (state : State) → steps_apart p around.in_lambda (length vs) ≡ false → between_wide p around place vs state ≡ between p around place vs state
 unfolding between_wide between steps_apart parameter_here argument_here parameter_named parameter_so_far listed_so_far argument_so_far
 apart_between Production.Parameter around place (v ∷ []) state apart = named_outside around.in_lambda around place (index_of v) state apart
@@ -100,7 +100,7 @@ apart_goes s old new frame parts new_parts before result counted apart goes rule
     same_test : (m n : ℕ) (a b : Bool) (h k : ℕ) → m ≡ n → a ≡ b → h ≡ k → steps_apart (production_at m) a h ≡ false → steps_apart (production_at n) b k ≡ false
     same_test m n a b h k e f g is = rw (← e, ← f, ← g) is
 
--- what is gone on with where the candidates have this mark
+-- what the rule continues with where the candidates have this mark
 pub marking_is : (production : Production) (around : Around) (n : Next Value State Around) (state : State) → with_mark production around n.values n.state ≡ state → going_marked production around (Ok n) ≡ Ok (record n { state = state })
 unfolding going_marked
 marking_is production around n state is = ap (λ x. Ok (record n { state = x })) is
@@ -115,7 +115,7 @@ apart_close s Production.Lambda byte around place began vs state apart other uni
 apart_close s Production.Inheriting byte around place began vs state apart other uninherited = absurd (uninherited refl)
 apart_close s _ byte around place began vs state apart other uninherited = refl
 
--- a rule that is no substitution, no lambda and no constructor that is inherited closes as in the other reading
+-- a rule that is no substitution, no lambda and no inherited constructor closes as in the other reading
 pub apart_closes : (s : List ℕ) (old new : Linked) (frame : Frame Surroundings) (parts new_parts : List Part) (result : Result (Unit {0}) Refusal) → (production_at frame.rule ≡ Production.Substitution → ⊥)
     → (production_at frame.rule ≡ Production.Lambda → ⊥) → (production_at frame.rule ≡ Production.Inheriting → ⊥)
     → ClosesAll (cpp_view s) s old new frame parts new_parts result → ClosesAll (wide_view s) s old new frame parts new_parts result
@@ -143,7 +143,7 @@ wide_byte_serves s rule known state there = by (production_at rule.rule.number) 
 
 -- ## How many nodes are made
 
--- what goes on to the next part by the wide reading, and makes so many nodes before it, goes on to it where they are counted
+-- what continues to the next part by the wide reading, and makes n nodes before it, continues to it where they are counted
 pub goes_counted : (s : List ℕ) (old : Rescoping) (new : Linked) (frame : Frame Surroundings) (parts new_parts : List Part) (result : Result Surroundings Refusal) → 4 ≤ length old.linked.nodes.nodes
     → OnOk result (length new.nodes.nodes ≡ length old.linked.nodes.nodes + makes_before (production_at frame.rule) (values_in s old.linked.nodes (drop frame.base parts)))
     → GoesOn (wide_view s) s (Surrounds s) old.linked new frame parts new_parts result
@@ -158,7 +158,7 @@ unfolding wide_at_end
 apart_end Production.Substitution around known state apart = absurd (apart refl)
 apart_end _ around known state apart = refl
 
--- what closes a rule by the wide reading, and makes so many nodes, closes it where they are counted
+-- what closes a rule by the wide reading, and makes n nodes, closes it where they are counted
 pub closes_counted : (s : List ℕ) (old : Rescoping) (new : Linked) (frame : Frame Surroundings) (parts new_parts : List Part) (result : Result (Unit {0}) Refusal) → 4 ≤ length old.linked.nodes.nodes
     → OnOk result (length new.nodes.nodes ≡ length old.linked.nodes.nodes + wide_ends s old.linked frame.kept (production_at frame.rule) (values_in s old.linked.nodes (drop frame.base parts)))
     → ClosesAll (wide_view s) s old.linked new frame parts new_parts result → ClosesAll (wide_counted s) s old (record { linked = new }) frame parts new_parts result
@@ -185,7 +185,7 @@ closes_counted s old new frame parts new_parts result begun made closes =
               is.number is.kept.surrounds.is (parts_are s old.linked (drop frame.base parts) known is.parts).1 is.holds.candidates is.holds.packs,
         )
 
--- ## A tree that is there again
+-- ## An alias
 
 -- the state in which its node was added
 pub kept_state : (s : List ℕ) (old new : Linked) (packs : Option ℕ) → ((i : ℕ) → i < length old.nodes.nodes → tree_at (trees_in s new.nodes) i ≡ tree_at (trees_in s old.nodes) i)
@@ -227,7 +227,7 @@ pub no_pack : (p : Production) (l : Bool) (before : ℕ) → steps_apart p l bef
 unfolding steps_apart
 no_pack p l before is pack = absurd (false≢true (ap (λ q. steps_apart q l before) (sym pack) ∙ is))
 
--- what is neither a name with its M nor the arguments of a constructor that is inherited is a parameter of a lambda
+-- what is neither a name with its M nor the arguments of an inherited constructor is a parameter of a lambda
 pub apart_generic : (p : Production) (l : Bool) (before : ℕ) → steps_apart p l before ≡ true → (p ≡ Production.Holder → ⊥) → (p ≡ Production.HeldArguments → ⊥) → (is_parameter p ≡ true) × ((l ≡ true) × (before ≡ 1))
 unfolding steps_apart is_parameter
 apart_generic Production.Parameter l before is held own = (refl, second l before is)

@@ -1,4 +1,5 @@
--- Two readings that differ only where rules begin and close mean the same by a tree of whose rules they say the same there.
+-- Two readings that differ only where rules begin and close give a tree the same meaning if they agree there on each of its
+-- rules.
 use Rattle.std.proofs.Common.{◌≡◌, refl, sym, ◌∙◌, ap, ℕ, ◌+◌, ◌<◌, List, [], ◌∷◌, ◌++◌, length, drop, Ok, Err, append_assoc}
 use Rattle.std.specs.Prelude.{Result}
 use Rattle.std.proofs.lemmas.List.{drop-drop}
@@ -14,7 +15,7 @@ use Rattle.sym_link.specs.Reading.{Found, Open, Reading, ◌>>=◌}
 use Rattle.sym_link.specs.Sound.{IsSound}
 use Rattle.sym_link.specs.Unfold.{alone, standing, unfold_tree, unfold_forest}
 
--- what follows is the same where something comes of the first
+-- what follows is the same where the first has a result
 pub bind_known : {A B : Type 0} (m : Result A Refusal) (f g : A → Result B Refusal) → ((x : A) → m ≡ Ok x → f x ≡ g x) → (m >>= f) ≡ (m >>= g)
 bind_known (Ok x) f g same = same x refl
 bind_known (Err e) f g same = refl

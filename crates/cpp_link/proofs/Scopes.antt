@@ -1,4 +1,4 @@
--- The arguments that are named are those of a name in which no parameter is free: none is free in them, nor in one of them.
+-- The named arguments are those of a name in which no parameter is free: none is free in them, nor in one of them.
 use Rattle.std.proofs.Common.{◌≡◌, subst, ℕ, ◌-◌, List, [], ◌∷◌, length, Bool, true, false, cond, Result, Ok, Err}
 use Rattle.std.specs.Prelude.{IfOk}
 use Rattle.sym_core.specs.declared.refusal.Refusal.{Refusal}

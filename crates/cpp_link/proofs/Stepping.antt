@@ -56,7 +56,7 @@ rest_there s n zero (p ∷ ps) there = there.1
 rest_there s n (suc base) [] there = tt
 rest_there s n (suc base) (p ∷ ps) there = rest_there s n base ps there
 
--- the tree that is the first part now is there with those after it
+-- the tree that is the first part now exists, with those after it
 first_there : (s : List ℕ) (n base : ℕ) (parts new_parts : List Part) (node : ℕ) (listed : Bool) → AreThere s n (drop base parts) → node < n
     → drop base new_parts ≡ Part.Tree node listed ∷ drop (base + 1) parts → AreThere s n (drop base new_parts)
 first_there s n base parts new_parts node listed there less own =
@@ -102,7 +102,7 @@ takes_go s old new kept base parts candidate then packs table same candidates ar
   is = same_going _ _ _ _ _ _ (ap (λ y. values_in s y (drop base parts)) (sym same)) (ap (λ y. around_of (trees_in s y) then) (sym same)) is;
 }
 
--- the first part is a tree that is there, and comes before the next one
+-- the first part is an existing tree, and precedes the next one
 pub takes_named : (s : List ℕ) (l : Linked) (kept then : Surroundings) (base : ℕ) (parts new_parts : List Part) (node : ℕ) (listed is_name : Bool)
     → IsTable (over s l.nodes) → AreCandidatesThere (length l.nodes.nodes) l.candidates.items
     → AreThere s (length l.nodes.nodes) (drop base parts) → node < length l.nodes.nodes
@@ -216,7 +216,7 @@ made_counts p old new base parts new_parts part some one no_pack more own =
     (λ is none. pack_there split.0 (λ nothing. no_pack is (split.1 ∙ first_rest split.0 Part.Nothing rest nothing none))) in
     rw (own, split.1) (omega (arith, counts, more))
 
--- where it is refused, too
+-- also where it is refused
 pub made_refused : (p : Production) (old new : Linked) (base : ℕ) (parts : List Part) → 0 < length (drop base parts) → get_or (made_before p) (length (drop base parts)) 0 ≡ 1
     → (p ≡ Production.PackArgument → drop base parts ≡ Part.Nothing ∷ [] → ⊥) → length new.nodes.nodes ≤ length old.nodes.nodes + 1
     → length new.nodes.nodes ≤ length old.nodes.nodes + closes_of p (drop base parts)
@@ -225,7 +225,7 @@ made_refused p old new base parts some one no_pack more =
     let again : drop base parts ≡ split.0 ∷ drop (base + 1) parts = split.1 in
     omega (arith, made_counts p old new base parts parts split.0 some one no_pack more again)
 
--- nothing is made of no elements
+-- no elements make nothing
 pub none_made : (result : Result Step Refusal) (first : Part) → first ≡ Part.Nothing → IfOk result (λ step. nodes_of_step step ≡ pack_makes first) → IfOk result (λ step. nodes_of_step step ≡ 0)
 unfolding pack_makes
 none_made (Ok step) first none makes = makes ∙ ap pack_makes none

@@ -1,4 +1,4 @@
--- Parts that stand for values are there, and stand for the values that they have.
+-- Parts that denote values exist, and denote the values that they have.
 use Rattle.std.proofs.Common.{◌≡◌, refl, sym, ◌∙◌, ap, subst, ℕ, ◌-◌, List, [], ◌∷◌, length, take, drop}
 use Rattle.sym_link.proofs.Lists.{rest_all}
 use Rattle.sym_link.specs.declared.language.Frame.{Frame}
@@ -19,7 +19,7 @@ parts_are s l (p ∷ ps) (v ∷ vs) are = let rest = parts_are s l ps vs are.1 i
 parts_are s l [] (v ∷ vs) are = absurd are
 parts_are s l (p ∷ ps) [] are = absurd are
 
--- the parts of a rule that is open are there
+-- the parts of an open rule exist
 pub open_there : (s : List ℕ) (l : Linked) (frame : Frame Surroundings) (parts own : List Part) → IsOpenAt (cpp_view s) s l frame parts → own ≡ drop frame.base parts
     → AreThere s (length l.nodes.nodes) own
 open_there s l frame parts own o same =

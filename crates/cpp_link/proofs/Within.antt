@@ -1,5 +1,5 @@
--- What is said of a language in which what is linked is within something, or in which another reading is followed, by what is
--- said of the language without.
+-- What holds of a language whose linking is within something, or follows another reading, from what holds of the language
+-- without that.
 use Rattle.std.proofs.Common.{ℕ, List, drop}
 use Rattle.std.specs.Prelude.{Result}
 use Rattle.sym_core.specs.declared.refusal.Refusal.{Refusal}

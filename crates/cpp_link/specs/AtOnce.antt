@@ -1,5 +1,5 @@
--- A rule that closes in the step that begins it adds at most two nodes, with those that the rule around it adds there. A test of the
--- grammar's rules that computes.
+-- A rule that closes in the step that begins it adds at most two nodes, together with those that the rule around it adds there.
+-- A test of the grammar's rules that computes.
 use Rattle.std.proofs.Common.{◌≡◌, refl, sym, ◌∙◌, ap, subst, arith, ℕ, zero, suc, ◌+◌, ◌<◌, ◌≤◌, List, [], ◌∷◌, length, drop, get_or, Bool, true, false, not, ◌&&◌, ◌||◌, cond, if◌then◌else◌, Some, inl, inr}
 use Rattle.std.specs.Prelude.{nat_le}
 use Rattle.std.proofs.lemmas.Bool.{false≢true, and_parts, leb-true, cases_Bool, cases_eq, cases_lt}
@@ -29,7 +29,7 @@ use Rattle.cpp_link.specs.ClosesLaws.{name_one, closes_owed}
 
 -- ## The test
 
--- what a production adds at most where it closes after so many parts
+-- what a production adds at most where it closes after n parts
 unfoldable pack_most_at : (held : ℕ) → ℕ
 pack_most_at zero = 1
 pack_most_at (suc held) = owes_of Production.PackArgument (suc held)
@@ -42,7 +42,7 @@ closes_most Production.TypeTag held = 1
 closes_most Production.PackArgument held = pack_most_at held
 closes_most p held = owes_of p held
 
--- where it does so, it and the rule around it add at most two
+-- where it does, it and the rule around it add at most two
 abbrev adds_two : (before behind : ℕ) → Production → (held : ℕ) → Bool
 adds_two before behind p held = nat_le (before + owes_of p 0 + closes_most p held) (behind + owes_of p held + 2)
 
@@ -54,7 +54,7 @@ may_be_rowless (Byte b ∷ ss) = may_be_rowless ss
 may_be_rowless (Name ∷ ss) = false
 may_be_rowless (Number kind ∷ ss) = false
 
--- so it is of a production that has so many parts, and these symbols left, wherever it closes in the step that begins it
+-- this holds of a production with n parts and these symbols left, wherever it closes in the step that begins it
 abbrev closes_two : (before behind : ℕ) → Production → (held : ℕ) → List Sym → Bool
 closes_two before behind p held [] = adds_two before behind p 0
 closes_two before behind p held (Kind k ∷ ss) = not (wide.may_be_empty k) || closes_two before behind p (held + 1) ss
@@ -67,7 +67,7 @@ abbrev choices_two : (before behind : ℕ) → List Choice → Bool
 choices_two before behind [] = true
 choices_two before behind (c ∷ cs) = closes_two before behind (production_at c.rule.number) 0 (symbols_of c.rule) && choices_two before behind cs
 
--- and of each rule that may begin in a production that has so many parts, and these symbols left
+-- and of each rule that may begin in a production with n parts and these symbols left
 abbrev begins_two : Production → (before held : ℕ) → List Sym → Bool
 begins_two p before held [] = true
 begins_two p before held (Kind k ∷ ss) = choices_two before (owes_of p (held + 1)) (get_or wide_sheet k blank).choices && (not (wide.may_be_empty k) || begins_two p before (held + 1) ss)

@@ -31,7 +31,7 @@ closes_of p parts = owes_of p (length parts)
 unfoldable pub closes : (number : ℕ) → List Part → ℕ
 closes number parts = closes_of (production_at number) parts
 
--- at its end alone, once all its parts are there
+-- only at its end, once all its parts are there
 unfoldable pub ends_of : Production → List Part → ℕ
 ends_of Production.InternalName parts = name_closes parts
 ends_of Production.SourceName parts = name_closes parts

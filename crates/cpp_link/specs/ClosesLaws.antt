@@ -27,7 +27,7 @@ sum_next [] (suc held) = refl
 sum_next (n ∷ ns) zero = refl
 sum_next (n ∷ ns) (suc held) = sum_next ns held
 
--- a production owes no more after one part more
+-- a production owes no more after one more part
 pub quiet_owed : (p : Production) (held : ℕ) → owes_of p (suc held) ≤ owes_of p held
 unfolding owes_of
 quiet_owed p held = omega (arith, sum_next (made_before p) held)
@@ -84,7 +84,7 @@ ends_closes Production.PackArgument (elements ∷ []) = omega arith
 ends_closes Production.PackArgument (elements ∷ p ∷ own) = omega arith
 ends_closes p own = end_owed p (length own)
 
--- ## After one part more, which is none
+-- ## After one more part, which is absent
 
 name_behind : (first part : Part) (rest : List Part) → name_closes ((part ∷ rest) ++ Part.Nothing ∷ []) ≤ name_closes (first ∷ rest)
 unfolding name_closes

@@ -3,7 +3,7 @@ use Rattle.std.specs.Prelude.{◌≡◌, ℕ, ◌+◌, ◌<◌, ◌≤◌, ◌^�
 use Rattle.cpp_tree.specs.Nodes.{Stored, over, tree_at, IsTable}
 use Rattle.cpp_link.specs.Parts.{trees_in}
 
--- the new table is the old one and at most so many nodes more: what was there stands for what it stood for
+-- the new table is the old one and at most n nodes more: existing nodes denote what they denoted
 pub record Grows (s : List ℕ) (old new : Stored) (more : ℕ) : Type 0 where
   pub table : IsTable (over s new)
   pub stays : (i : ℕ) → i < length old.nodes → tree_at (trees_in s new) i ≡ tree_at (trees_in s old) i
@@ -12,7 +12,7 @@ pub record Grows (s : List ℕ) (old new : Stored) (more : ℕ) : Type 0 where
   pub thunks : length old.thunks ≤ length new.thunks
   pub few_thunks : length new.thunks ≤ length old.thunks + 1
 
--- the table is one, and has room for so many nodes more
+-- the table is one, and has room for n more nodes
 pub record HasPlace (s : List ℕ) (y : Stored) (more : ℕ) : Type 0 where
   pub table : IsTable (over s y)
   pub nodes : length y.nodes + more < 2 ^ 32

@@ -1,5 +1,5 @@
--- C++'s reading as the linker follows it, which knows of a text its bytes alone, and not which token of the symbol it was, and
--- of a symbol's first rule nothing but its place. Of each symbol it says what C++'s reading says.
+-- C++'s reading as the linker follows it: of a text it knows only the bytes, and not which token of the symbol it was, and of a
+-- symbol's first rule only the place. It says of each symbol what C++'s reading says.
 use Rattle.std.specs.Prelude.{ℕ, ◌+◌, ◌-◌, ◌^◌, List, length, take, drop, nat_eq, nat_lt, if◌then◌else◌, Result, Ok}
 use Rattle.sym_core.specs.declared.refusal.Refusal.{Refusal}
 use Rattle.sym_shape.specs.Tree.{Forest}
@@ -14,12 +14,12 @@ use Rattle.cpp_term.specs.Between.{no_items}
 use Rattle.cpp_term.specs.Meaning.{parameters, meaning}
 use Rattle.cpp_term.specs.Unfolding.{behind, close, cpp}
 
--- a number, or the greatest one of 64 bits where it is past them
+-- a number, or the greatest one of 64 bits where it is beyond them
 unfoldable pub in_64_bits : ℕ → ℕ
 in_64_bits n = if nat_lt n (2 ^ 64) then n else (2 ^ 64 - 1)
 
--- What a production stands for that begins at a place: a suffix is so many bytes from there on, one more than those after its
--- first, and the number of a lambda or an unnamed type has 64 bits.
+-- What a production that begins at a place denotes: a suffix is n bytes from there on, one more than those after its first, and
+-- the number of a lambda or an unnamed type has 64 bits.
 unfoldable pub link_meaning : List ℕ → Production → (byte place : ℕ) → Around → List Value → Value
 link_meaning s Production.Suffix byte place around vs = text (take (length (text_of (part vs 0)) + 1) (drop place s))
 link_meaning s Production.SuffixByte byte place around vs = text (take (length (text_of (part vs 0)) + 1) (drop place s))
@@ -31,7 +31,7 @@ link_meaning s production byte place around vs = meaning production byte around 
 unfoldable pub link_close : List ℕ → Production → (byte : ℕ) → Around → (place : ℕ) → (began : State) → List Value → State
     → Result (Found Value State) Refusal
 link_close s Production.Substitution byte around place began vs state = close Production.Substitution byte around place began vs state
--- nor has the ABI's grammar a constructor that is inherited
+-- nor has the ABI's grammar an inherited constructor
 link_close s Production.Inheriting byte around place began vs state = close Production.Inheriting byte around place began vs state
 link_close s production byte around place began vs state =
     Ok (found (link_meaning s production byte place around vs) (behind production byte around began vs state))

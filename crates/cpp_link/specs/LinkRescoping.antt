@@ -1,4 +1,4 @@
--- C++'s reading of the wide grammar as the linker follows it, and how many nodes are made of a symbol by it.
+-- C++'s reading of the wide grammar as the linker follows it, and how many nodes it makes of a symbol.
 use Rattle.std.specs.Prelude.{◌≡◌, ℕ, ◌+◌, List, [], ◌∷◌, slice_get, Option, Some, None, Bool, true, false, ◌&&◌, nat_eq, Result, Ok, Err}
 use Rattle.sym_core.specs.declared.refusal.Refusal.{Refusal}
 use Rattle.sym_core.specs.declared.NumberKind.TheVariants.{Seq36}
@@ -55,13 +55,14 @@ is_parameter Production.ParameterArgument = true
 is_parameter Production.ParameterExpression = true
 is_parameter _ = false
 
--- one in an expression
+-- a parameter in an expression
 unfoldable pub is_parameter_argument : Production → Bool
 is_parameter_argument Production.ParameterExpression = true
 is_parameter_argument _ = false
 
--- Before the part after so many of a production the wide reading does something of its own: in a lambda's signature a parameter is named,
--- a name becomes a candidate with its M, or the base class of a constructor that is inherited or the name of a concept is counted.
+-- Before the part after n others of a production the wide reading does something of its own: in a lambda's signature a
+-- parameter is named, a name becomes a candidate with its M, or the base class of an inherited constructor or the name of a
+-- concept is counted.
 unfoldable pub steps_apart : Production → (in_lambda : Bool) → (before : ℕ) → Bool
 steps_apart Production.Parameter in_lambda before = in_lambda && nat_eq before 1
 steps_apart Production.NestParameter in_lambda before = in_lambda && nat_eq before 1
@@ -74,7 +75,8 @@ steps_apart _ in_lambda before = false
 unfoldable pub marked_unless : (listed : Bool) → Around → Term → State → State
 marked_unless listed around t state = elim listed [ true ↦ state | false ↦ with_holder around t state ]
 
--- What is a mark among the candidates then, once the parts stand for these values: a name with its M, a base class, or a concept's name.
+-- What is a mark among the candidates then, once the parts denote these values: a name with its M, a base class, or a concept's
+-- name.
 unfoldable pub with_mark : Production → Around → List Value → State → State
 with_mark Production.Holder around vs state = with_holder around (tree_of (part vs 0)) state
 with_mark Production.HeldArguments around vs state = marked_unless (prefix_listed around.prefix) around (prefix_tree around.prefix) state
@@ -85,7 +87,7 @@ unfoldable pub going_marked : Production → Around → Going → Going
 going_marked production around (Ok next) = Ok (record next { state = with_mark production around next.values next.state })
 going_marked production around (Err e) = Err e
 
--- what the lambda's own parameter of this number comes to, which may be an argument itself
+-- the value of the lambda's own parameter of this number, which may be an argument itself
 unfoldable pub generic_read : (is_argument : Bool) → Around → ℕ → State → Going
 generic_read true around k state = next (tree (parameter (generic_number k) auto) true ∷ []) around state
 generic_read false around k state = generic_so_far around k [] state
@@ -100,7 +102,7 @@ named_by state known = slice_get state.candidates (number_in known)
 
 -- ## What a symbol makes
 
--- a tree that was made elsewhere is there again with an argument
+-- a tree that was made elsewhere has an alias with an argument
 unfoldable pub substituted_nodes : Around → Option Candidate → ℕ
 substituted_nodes around None = 0
 substituted_nodes around (Some c) = elim (is_foreign around c) [ true ↦ 1 | false ↦ 0 ]
@@ -109,7 +111,7 @@ unfoldable pub wide_at_end : Production → Around → List Value → State → 
 wide_at_end Production.Substitution around known state = substituted_nodes around (named_by state known)
 wide_at_end p around known state = makes_at_end p known
 
--- of a rule with these parts, which closes when so much is linked
+-- of a rule with these parts, which closes when this much is linked
 abbrev pub wide_ends : List ℕ → Linked → Surroundings → Production → List Value → ℕ
 wide_ends s l kept p known = wide_at_end p (around_of (trees_in s l.nodes) kept) known (state_of s l)
 
@@ -128,7 +130,7 @@ are_wide_nodes shape nodes = nodes ≡ wide_nodes_of_shape shape
 
 -- ## The language
 
--- C++'s language by the wide grammar: the nodes are the same, and what is read is by another reading
+-- C++'s language by the wide grammar: the nodes are the same, and the reading is another one
 abbrev pub wide_view : List ℕ → View Linked Part Surroundings Value State Around
 wide_view s = record (cpp_view s) { reading = linked_wide s }
 
@@ -152,6 +154,6 @@ within view = record {
   TakesMemory = view.TakesMemory;
 }
 
--- C++'s language by the wide grammar, whose nodes are counted
+-- C++'s language by the wide grammar, with its nodes counted
 abbrev pub wide_counted : List ℕ → View Rescoping Part Surroundings Value (Tally State) Around
 wide_counted s = within (tallied_view (wide_view s) wide_makes)

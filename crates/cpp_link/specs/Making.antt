@@ -6,7 +6,7 @@ use Rattle.cpp_link.specs.declared.linked.Linked.{Linked}
 use Rattle.cpp_link.specs.declared.part.Outcome.{Outcome}
 use Rattle.cpp_link.specs.Parts.{trees_in, candidates_of}
 
--- how many nodes are made of what a production stands for
+-- how many nodes are made of what a production denotes
 unfoldable pub nodes_of_outcome : Outcome → ℕ
 nodes_of_outcome (Outcome.Given part) = 0
 nodes_of_outcome (Outcome.There node listed) = 0

@@ -18,13 +18,13 @@ use Rattle.cpp_references.specs.declared.around.Surroundings.{Surroundings}
 use Rattle.cpp_link.specs.Owed.{made_before, made_at_end}
 use Rattle.cpp_link.specs.View.{cpp_view}
 
--- ## What a production makes, whose parts so far have these values
+-- ## What a production makes whose parts so far have these values
 
--- one node if this is there
+-- one node if this is present
 unfoldable pub one_if_there : Value → ℕ
 one_if_there v = if is_there v then 1 else 0
 
--- One node if there are arguments: a name with tags, which takes the place of another, is made already.
+-- One node if there are arguments: a tagged name, which takes the place of another, is made already.
 unfoldable pub one_if_arguments : Value → ℕ
 one_if_arguments (named t qualifiers ref) = 0
 one_if_arguments v = one_if_there v
@@ -35,7 +35,7 @@ std_before (name ∷ []) = 1
 std_before (name ∷ arguments ∷ []) = one_if_arguments arguments
 std_before _ = 0
 
--- A pack is made of elements. That of none is one that each table begins with.
+-- A pack is made of elements. The empty pack is at the front of each table.
 unfoldable pub pack_before : List Value → ℕ
 pack_before (elements ∷ []) = one_if_there elements
 pack_before _ = 0
@@ -46,15 +46,15 @@ makes_before Production.NestStd known = std_before known
 makes_before Production.PackArgument known = pack_before known
 makes_before p known = get_or (made_before p) (length known) 0
 
--- A name makes one node more where it has arguments, of which its second part is the list.
+-- A name makes one more node where it has arguments; its second part is their list.
 unfoldable pub name_at_end : List Value → ℕ
 name_at_end known = one_if_arguments (part known 1)
 
--- A lambda makes the list of its parameters, unless they are a lone void: the empty list is one that each table begins with.
+-- A lambda makes the list of its parameters, unless they are a lone void: the empty list is at the front of each table.
 unfoldable pub lambda_at_end : List Value → ℕ
 lambda_at_end known = if is_void (tree_of (part known 0)) && is_nil (no_items (part known 1)) then 0 else 1
 
--- one that is inherited makes its name, and one node more where it has arguments of its own
+-- an inherited constructor makes its name, and one node more where it has arguments of its own
 unfoldable pub inheriting_at_end : Value → ℕ
 inheriting_at_end (pair second own base) = 2
 inheriting_at_end base = 1
@@ -66,7 +66,7 @@ enclosed_at_end known = if ends_arguments (tree_of (part known 0)) then 1 else 0
 unfoldable pub elements_at_end : List Value → ℕ
 elements_at_end known = if is_comma (tree_of (part known 0)) then 2 else 1
 
--- an operation is made of operands, and no expression again
+-- an operation is made of operands, and no expression is an alias
 unfoldable pub operation_at_end : Value → ℕ
 operation_at_end (pair second left right) = 1
 operation_at_end v = 0
@@ -133,14 +133,14 @@ abbrev pub counted_nodes : {V S : Type 0} → Result (Found (List V) (Tally S)) 
 counted_nodes (Ok read) = read.state.nodes
 counted_nodes (Err refusal) = 0
 
--- the nodes of a symbol of this shape: the four with which each table begins, and those that its productions make
+-- the nodes of a symbol of this shape: the four at the front of each table, and those that its productions make
 abbrev pub nodes_of_shape : Tree → ℕ
 nodes_of_shape shape = 4 + counted_nodes (unfold_tree (tallied cpp cpp_makes) first_around 0 shape (tally first_state 0))
 
--- a symbol of this shape has so many nodes
+-- a symbol of this shape has this many nodes
 abbrev pub are_nodes : Tree → ℕ → Type 0
 are_nodes shape nodes = nodes ≡ nodes_of_shape shape
 
--- C++'s language, whose nodes are counted
+-- C++'s language, with its nodes counted
 abbrev pub cpp_counted : List ℕ → View Linked Part Surroundings Value (Tally State) Around
 cpp_counted s = tallied_view (cpp_view s) cpp_makes

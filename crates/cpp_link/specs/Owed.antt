@@ -158,7 +158,7 @@ unfoldable pub sum_all : List ℕ → ℕ
 sum_all [] = 0
 sum_all (n ∷ ns) = n + sum_all ns
 
--- what a production may make still, once so many of its parts have begun
+-- what a production may still make once n of its parts have begun
 unfoldable pub owes_of : Production → (held : ℕ) → ℕ
 owes_of p held = sum_all (drop held (made_before p)) + made_at_end p
 

@@ -1,4 +1,4 @@
--- The values that parts stand for: functions of the nodes.
+-- The values that parts denote: functions of the nodes.
 use Rattle.std.specs.Prelude.{◌≡◌, ℕ, ◌<◌, List, [], ◌∷◌, Bool, true, false, ◌||◌, Some, None}
 use Rattle.cpp_term.specs.Term as term
 use Rattle.cpp_term.specs.Term.{Term}
@@ -16,7 +16,7 @@ unfoldable pub use Rattle.cpp_references.specs.Around.{prefix_of, arguments_in, 
 
 -- ## Values
 
--- the value that a part stands for
+-- the value that a part denotes
 unfoldable pub value_of : List ℕ → List Term → Part → Value
 value_of s ts Part.Nothing = values.nothing_there
 value_of s ts (Part.Letter byte) = values.letter byte
@@ -39,7 +39,7 @@ value_in s y p = value_of s (trees_in s y) p
 abbrev pub values_in : List ℕ → Stored → List Part → List Value
 values_in s y ps = values_of s (trees_in s y) ps
 
--- what a production stands for: a part, or one whose node isn't there yet
+-- what a production denotes: a part, or one whose node isn't made yet
 unfoldable pub outcome_value : List ℕ → Stored → Outcome → Value
 outcome_value s y (Outcome.Given part) = value_in s y part
 outcome_value s y (Outcome.There node listed) = values.tree (tree_at (trees_in s y) node) listed
@@ -54,7 +54,7 @@ outcome_value s y (Outcome.Enclosed first rest) = values.tree (term.list (in_par
 outcome_value s y (Outcome.Applied name arguments) = values.tree (term.instance (tree_of_node s y name) (tree_at (trees_in s y) arguments)) false
 outcome_value s y (Outcome.Lambda first rest number) = values.piece (term.lambda (term.list (tree_at (trees_in s y) first) (tree_at (trees_in s y) rest)) number)
 
--- ## Parts that are there
+-- ## Parts that exist
 
 abbrev pub IsThere : List ℕ → ℕ → Part → Type 0
 IsThere s n (Part.Text span) = IsWithin span s
@@ -84,7 +84,7 @@ IsOutcomeThere s held n (Outcome.Enclosed first rest) = (first < n) × (rest < n
 IsOutcomeThere s held n (Outcome.Applied name arguments) = IsBelow s held n name × (arguments < n)
 IsOutcomeThere s held n (Outcome.Lambda first rest number) = (first < n) × (rest < n)
 
--- whether one of these candidates is a name with its M, or one before them
+-- whether one of these candidates, or one before them, is a name with its M
 unfoldable pub is_apart_behind : (before : Bool) → List Candidate → Bool
 is_apart_behind before [] = before
 is_apart_behind before (c ∷ cs) = is_apart_behind (before || c.is_held) cs

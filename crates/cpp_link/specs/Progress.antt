@@ -1,4 +1,4 @@
--- What a call leaves that goes on to the next part of a frame's rule, or closes it.
+-- What a call leaves that continues to the next part of a frame's rule, or closes it.
 use Rattle.std.specs.Prelude.{◌≡◌, ℕ, ◌+◌, ◌<◌, ◌≤◌, List, [], ◌∷◌, ◌++◌, length, drop, Vec, Result, IfOk, IfErr, OnOk, OnErr}
 use Rattle.std.specs.Global.{Global}
 use Rattle.sym_core.specs.declared.refusal.Refusal.{Refusal}
@@ -19,7 +19,7 @@ use Rattle.cpp_link.specs.Room.{KeepsRoom, LacksRoom, IsRoomy}
 use Rattle.cpp_link.specs.View as view
 use Rattle.cpp_link.specs.View.{IsPaid, IsWhole, Surrounds, cpp_view}
 
--- So many nodes were added, if they were, and the last of them is the answer. The candidates and the packs stay.
+-- At most n nodes were added, and the last of them is the answer. The candidates and the packs stay.
 pub record AddsNodes (s : List ℕ) (old new : Linked) (count : ℕ) (result : Result ℕ Refusal) : Type 0 where
   pub grows : Grows s old.nodes new.nodes count
   pub more : OnOk result (length new.nodes.nodes ≡ length old.nodes.nodes + count)
@@ -30,7 +30,7 @@ pub record AddsNodes (s : List ℕ) (old new : Linked) (count : ℕ) (result : R
   pub keeps : KeepsRoom old new
   pub full : OnErr result (LacksRoom old new)
 
--- A rule's part was made, if it was, of so many nodes. There are never more of them than may be made where the rule ends.
+-- A rule's part was made of n nodes, if it was made. There are never more of them than may be made where the rule ends.
 pub record MakesPart (s : List ℕ) (old new : Linked) (most count : ℕ) (result : Result Part Refusal) : Type 0 where
   pub there : IfOk result (λ part. IsThere s (length new.nodes.nodes) part)
   pub grows : OnOk result (view.GoesOn s old new)
@@ -41,7 +41,7 @@ pub record MakesPart (s : List ℕ) (old new : Linked) (most count : ℕ) (resul
   pub keeps : KeepsRoom old new
   pub full : IfErr result (λ e. e ≡ Memory → LacksRoom old new)
 
--- What is done before the next part is what the view's reading says, and that part is surrounded then as it says.
+-- What is done before the next part is what the view's reading says, and so are the surroundings of that part.
 pub record Advances (view : View Linked Part Surroundings Value State Around) (s : List ℕ) (old new : Linked) (frame : Frame Surroundings) (parts new_parts : Vec Part Global) (result : Result Surroundings Refusal) : Type 0 where
   pub goes : GoesOn view s (Surrounds s) old new frame parts.items new_parts.items result
   pub adds : OnOk result (Adds (cpp_view s) old new (owed_behind (cpp_view s) frame parts.items) (owed_next (cpp_view s) frame new_parts.items))
@@ -51,7 +51,8 @@ pub record Advances (view : View Linked Part Surroundings Value State Around) (s
   pub count : OnOk result (length new_parts.items ≡ length parts.items)
   pub roomy : IsRoomy old new parts new_parts result
 
--- The rule closes over all its parts as the view's reading says, and so many nodes are made as its production makes with what they stand for.
+-- The rule closes over all its parts as the view's reading says, and makes as many nodes as its production does with what they
+-- denote.
 pub record Finishes (view : View Linked Part Surroundings Value State Around) (made : Production → List Value → ℕ) (s : List ℕ) (old new : Linked) (frame : Frame Surroundings)
     (parts new_parts : Vec Part Global) (result : Result (Unit {0}) Refusal) : Type 0 where
   pub closes : ClosesAll view s old new frame parts.items new_parts.items result

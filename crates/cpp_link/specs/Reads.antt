@@ -1,4 +1,4 @@
--- What is read of nodes and of references.
+-- What is read from nodes and from references.
 use Rattle.std.specs.Prelude.{ℕ, ◌<◌, List, [], ◌∷◌, Bool, true, false, ◌||◌, ◌&&◌, nat_eq, Option, Some, None, Ok}
 use Rattle.cpp_grammar.specs.Standing.{is_code}
 use Rattle.cpp_term.specs.Term as term
@@ -68,7 +68,7 @@ encoding_by ts name (Some l) items = elim (has_return_type (tree_of name)) [
   | false ↦ term.function (tree_of name) (qualifiers_of name) (ref_of name) absent (parameters items)
 ]
 
--- a tree more or less among the candidates, which may be there as a mark
+-- a tree more or less among the candidates, possibly as a mark
 unfoldable pub with_candidate : (is_held : Bool) → Around → List Term → Option ℕ → State → State
 with_candidate false around ts None state = state
 with_candidate false around ts (Some n) state = appended around (tree_at ts n) state
@@ -90,7 +90,7 @@ unfoldable pub appended_if : Bool → Around → Term → State → State
 appended_if false around t state = state
 appended_if true around t state = appended around t state
 
--- what a step comes to, before a part that this surrounds, after these values
+-- the result of a step, before a part with these surroundings, after these values
 unfoldable pub goes_on : List ℕ → Stored → Surroundings → List Value → List values.Candidate → Option ℕ → Step → Going
 goes_on s y kept vs cs before (Step.Go candidate then packs) =
     Ok (record { values = vs; context = around_of (trees_in s y) then; state = with_candidate false (around_of (trees_in s y) kept) (trees_in s y) candidate (record { candidates = cs; packs = packs }) })

@@ -1,4 +1,4 @@
--- What is linked of a symbol by the wide grammar keeps to what every language does.
+-- Linking by the wide grammar keeps to what every language does.
 use Rattle.std.proofs.Common.{◌≡◌, refl, ℕ, ◌-◌, suc, List, [], ◌∷◌, length, Bool, true, false, Err}
 use Rattle.std.specs.Result.{IfOk}
 use Rattle.sym_core.specs.declared.refusal.Refusal.TheVariants.{BadReference}

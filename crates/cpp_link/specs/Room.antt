@@ -1,4 +1,4 @@
--- Where the lists of a symbol that is linked have no room.
+-- Where the lists of a linked symbol have no room.
 use Rattle.std.specs.Prelude.{◌≡◌, ◌+◌, ◌<◌, ◌≤◌, ◌⊎◌, List, [], ◌∷◌, length, Vec, vec_capacity, Result, Err}
 use Rattle.std.specs.Global.{Global}
 use Rattle.sym_core.specs.declared.refusal.Refusal.{Refusal}

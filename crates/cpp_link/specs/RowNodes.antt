@@ -6,7 +6,7 @@ use Rattle.cpp_term.specs.Between.{no_items}
 use Rattle.cpp_term.specs.Meaning.{is_void, is_nil}
 use Rattle.cpp_link.specs.NodeCount.{one_if_there, one_if_arguments, inheriting_at_end, enclosed_at_end, elements_at_end, operation_at_end}
 
--- for a tree: none for one that is there, a name with tags too, which is in the place of another
+-- for a tree: none for an existing one, nor for a tagged name, which takes the place of another
 unfoldable pub nodes_made : Made → List Value → ℕ
 nodes_made (only source) vs = 0
 nodes_made (applying m k) vs = one_if_arguments (part vs k)
@@ -20,8 +20,8 @@ nodes_before (tests after_t is_name) vs = 1
 nodes_before holds vs = 1
 nodes_before _ vs = 0
 
--- The list of a lambda's parameters isn't made of a lone void: the empty list is one that each table begins with. What a
--- substitution may make at most are trees whose arguments are others here: they are made as parts are.
+-- The list of a lambda's parameters isn't made of a lone void: the empty list is at the front of each table. A substitution
+-- makes at most trees with other arguments here: they are made as parts are.
 unfoldable pub nodes_of : Own → (most : ℕ) → List Value → ℕ
 nodes_of closure most vs = cond (is_void (tree_of (part vs 0)) && is_nil (no_items (part vs 1))) 0 most
 nodes_of substitution most vs = 0

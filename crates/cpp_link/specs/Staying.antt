@@ -1,4 +1,4 @@
--- What was there stands for what it stood for, where nodes are added.
+-- Existing nodes denote what they denoted, where nodes are added.
 use Rattle.std.proofs.Common.{◌≡◌, refl, arith, ℕ, ◌<◌, ◌≤◌, List, [], ◌∷◌, length, Option, Some, None}
 use Rattle.cpp_tree.specs.Nodes.{Stored, tree_at, piece_of, tree_if_there, IsPieceBelow, IsThereBelow}
 use Rattle.cpp_tree.specs.declared.node.Piece.{Piece}
@@ -56,7 +56,7 @@ module _ (s : List ℕ) (old new : Stored) (stays : (i : ℕ) → i < length old
   pub candidates_stay : (cs : List Candidate) → AreCandidatesThere (length old.nodes) cs → candidates_of (trees_in s new) cs ≡ candidates_of (trees_in s old) cs
   candidates_stay cs there = all_stay cs there.0
 
--- what is there is there among more nodes
+-- existing nodes survive additions
 pub there_more : (s : List ℕ) (m n : ℕ) (p : Part) → m ≤ n → IsThere s m p → IsThere s n p
 there_more s m n (Part.Tree node listed) le there = omega (arith, le, there)
 there_more s m n (Part.Piece p) le there = piece p there

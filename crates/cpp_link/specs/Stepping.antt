@@ -18,20 +18,20 @@ abbrev pub nodes_of_step : Step → ℕ
 nodes_of_step (Step.Made node listed is_name is_candidate packs) = 1
 nodes_of_step _ = 0
 
--- A step after so many parts of a production: one that makes another part of the first has a first part, and a node is one
--- that the production makes there.
+-- A step after n parts of a production: one that makes another part of the first has a first part, and a node is one that the
+-- production makes there.
 abbrev pub IsStepOf : Production → (held : ℕ) → Step → Type 0
 IsStepOf production held (Step.Go candidate then packs) = Unit {0}
 IsStepOf production held (Step.Named node listed is_name) = 0 < held
 IsStepOf production held (Step.Made node listed is_name is_candidate packs) = (0 < held) × (get_or (made_before production) held 0 ≡ 1)
 
--- a step after these parts adds at most so many nodes as the production may add less after those
+-- a step after these parts adds at most as many nodes as lie between what the production may still add before and after it
 abbrev pub CountsStep : {A : Type 0} → Production → (old new : Linked) → (own new_own : List Part) → Result A Refusal → Type 0
 CountsStep p old new own new_own (Ok then) = length new.nodes.nodes + closes_of p (new_own ++ Part.Nothing ∷ []) ≤ length old.nodes.nodes + closes_of p own
 CountsStep p old new own new_own (Err e) = length new.nodes.nodes ≤ length old.nodes.nodes + closes_of p own
 
--- A step is taken before the next part of a rule, which this surrounds then: what the nodes, the candidates and the rule's
--- parts stand for now is what the step comes to.
+-- A step is taken before the next part of a rule, with these surroundings after it: the result of the step is what the nodes,
+-- the candidates and the rule's parts denote now.
 pub record Takes (s : List ℕ) (old new : Linked) (kept : Surroundings) (base : ℕ) (parts new_parts : List Part) (step : Step) (then : Surroundings) : Type 0 where
   pub grows : Grows s old.nodes new.nodes (nodes_of_step step)
   pub thunks : new.nodes.thunks ≡ old.nodes.thunks

@@ -2,7 +2,7 @@
 use Rattle.std.specs.Prelude.{ℕ, Bool, true, false}
 use Rattle.cpp_grammar.specs.declared.production.Production.{Production}
 
--- Before so many of the parts of a production nothing is done: before none, the first, or all, which are five at most.
+-- The number of a production's parts before which nothing is done: none, the first, or all, at most five.
 unfoldable pub quiet_parts : Production → ℕ
 quiet_parts Production.InternalName = 1
 quiet_parts Production.LocalTypeName = 1
@@ -64,7 +64,7 @@ quiet_parts Production.FoldPack = 0
 quiet_parts Production.UnresolvedInType = 1
 quiet_parts _ = 5
 
--- some part but the last may have no row: a fixed byte, or a kind that may be empty
+-- some part other than the last may have no row: a fixed byte, or a kind that may be empty
 unfoldable pub skips_parts : Production → Bool
 skips_parts Production.NestedName = true
 skips_parts Production.Symbol = true

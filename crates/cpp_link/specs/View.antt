@@ -1,4 +1,4 @@
--- How the nodes are what the reading of a C++ symbol says.
+-- How the nodes agree with the reading of a C++ symbol.
 use Rattle.std.specs.Prelude.{◌≡◌, ℕ, ◌-◌, ◌*◌, ◌<◌, ◌≤◌, List, length}
 use Rattle.sym_link.specs.Reading.{Open}
 use Rattle.sym_link.specs.Linking.{View}
@@ -15,12 +15,12 @@ use Rattle.cpp_link.specs.Owed.{owes}
 use Rattle.cpp_link.specs.Closes.{closes}
 use Rattle.cpp_link.specs.Parts.{trees_in, value_in, packs_of, around_of, candidates_of, IsClosed, IsThere, IsKeptThere, AreCandidatesThere}
 
--- the part stands for the value
+-- the part denotes the value
 pub record IsPart (s : List ℕ) (l : Linked) (part : Part) (value : Value) : Type 0 where
   pub there : IsThere s (length l.nodes.nodes) part
   pub is : value_in s l.nodes part ≡ value
 
--- this surrounds a part
+-- these are the surroundings of a part
 pub record Surrounds (s : List ℕ) (l : Linked) (kept : Surroundings) (around : Around) : Type 0 where
   pub there : IsKeptThere (length l.nodes.nodes) kept
   pub is : around_of (trees_in s l.nodes) kept ≡ around

@@ -1,4 +1,4 @@
--- What is linked of a C++ symbol keeps to what every language does.
+-- Linking a C++ symbol keeps to what every language does.
 use Rattle.std.proofs.Common.{◌≡◌, refl, ◌∙◌, arith, ℕ, ◌≤◌, false, List, length}
 use Rattle.sym_link.proofs.Tally.{tallied_laws, tallied_threads}
 use Rattle.sym_link.specs.Reading.{Open}
@@ -68,7 +68,7 @@ cpp_laws s = record {
       record { closed = at_once.closed; refused = at_once.refused };
 }
 
--- the symbol's nodes go on one after the other
+-- the symbol's nodes are made one after the other
 pub cpp_threads : (s : List ℕ) → IsThreading (cpp_view s)
 unfolding cpp
 cpp_threads s = record {
@@ -78,7 +78,7 @@ cpp_threads s = record {
   one = refl;
 }
 
--- and so it is where the nodes are counted
+-- and likewise where the nodes are counted
 pub counted_laws : (s : List ℕ) → IsLinking (cpp_counted s)
 counted_laws s = tallied_laws (cpp_view s) cpp_makes (cpp_laws s)
 

@@ -27,7 +27,7 @@ fn is_numbered(production: Production) -> bool
     }
 }
 
-/// Whether the number of a lambda or an unnamed type, of which these are the digits, has 64 bits at most.
+/// Whether the number of a lambda or an unnamed type, with these digits, has 64 bits at most.
 #[tactic(auto, unfolding(cpp_grammar::specs::Values::local_number))]
 fn fits(digits: &[u8]) -> bool
     ensures { result ≡ nat_lt (local_number digits.now) (2 ^ 64) }
@@ -38,7 +38,7 @@ fn fits(digits: &[u8]) -> bool
     }
 }
 
-/// Whether the number that the last row of the rule of a row is has 64 bits at most. It has too many where there is no such row.
+/// Whether the number in the last row of the rule of a row has 64 bits at most. Without such a row it has too many.
 fn last_fits(symbol: &[u8], rows: &[Row], row: Row) -> bool
     ensures { row.end - 1 < length rows.now → (other : Row) → IsRange symbol.now (get_or rows.now (row.end - 1) other)
         → result ≡ nat_lt (local_number (slice_range symbol.now (get_or rows.now (row.end - 1) other).from (get_or rows.now (row.end - 1) other).to)) (2 ^ 64) }
@@ -53,7 +53,7 @@ fn last_fits(symbol: &[u8], rows: &[Row], row: Row) -> bool
 }
 
 impl Linked {
-    /// The rule of a row begins, around which this holds. The number of a lambda or an unnamed type is tested (ABI 5.1.8).
+    /// The rule of a row begins, in these surroundings. The number of a lambda or an unnamed type is tested (ABI 5.1.8).
     ///
     /// # Errors
     ///

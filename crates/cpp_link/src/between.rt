@@ -48,8 +48,8 @@ fn candidate_if(is_candidate: bool, node: u32) -> Option<u32>
     if is_candidate { Some(node) } else { None }
 }
 
-/// Before how many parts of a production nothing is done. These are most, so that is asked by the rule's number before anything
-/// else is looked at.
+/// The number of a production's parts before which nothing is done. These are most, so the rule's number is asked for that
+/// before anything else is examined.
 #[inline(always)]
 pub(crate) fn quiet_parts(number: u16) -> usize
     ensures { result ≡ quiet_parts (production_at number) }
@@ -89,7 +89,7 @@ impl Linked {
         Ok(())
     }
 
-    /// Adds a node, which may become a candidate. The packs have this length then. It answers the node's number.
+    /// Adds a node, which may become a candidate; the packs then have this length. Answers the node's number.
     ///
     /// # Errors
     ///
@@ -139,7 +139,7 @@ impl Linked {
         kept
     }
 
-    /// Takes a step before the next part of a rule, whose parts begin at the base. It answers what surrounds that part.
+    /// Takes a step before the next part of a rule, whose parts begin at the base. Answers the surroundings of that part.
     ///
     /// # Errors
     ///
@@ -200,8 +200,8 @@ impl Linked {
         }
     }
 
-    /// Does what is to be done before the next part of the frame's rule, which is of this production, and answers what
-    /// surrounds that part.
+    /// Does what is to be done before the next part of the frame's rule, which is of this production, and answers the
+    /// surroundings of that part.
     ///
     /// # Errors
     ///
@@ -227,8 +227,7 @@ impl Linked {
         Ok(then)
     }
 
-    /// The same for rare productions: one body serves all of them, and zeroes the room for the nodes of each on
-    /// every call.
+    /// Likewise for rare productions: one body serves all of them, and zeroes the room for the nodes of each on every call.
     ///
     /// # Errors
     ///
@@ -250,7 +249,7 @@ impl Linked {
         self.before_as(symbol, production, frame, parts)
     }
 
-    /// The same, with code of their own for the productions that are common.
+    /// Likewise, with code of their own for the common productions.
     ///
     /// # Errors
     ///
@@ -295,7 +294,7 @@ impl Linked {
         }
     }
 
-    /// What is done before the next part of the frame's rule, and what surrounds that part.
+    /// What is done before the next part of the frame's rule, and the surroundings of that part.
     ///
     /// # Errors
     ///

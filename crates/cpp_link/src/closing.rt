@@ -1,4 +1,4 @@
-// What comes after a rule: types become candidates.
+// What follows a rule: types become candidates.
 
 ghost use Rattle.std.specs.Prelude.{◌≡◌, ℕ, List, length, false};
 ghost use Rattle.cpp_term.specs.Values as values;
@@ -31,7 +31,7 @@ impl Linked {
         self.type_candidate(symbol, kept, part)
     }
 
-    /// What comes after a production, given its parts and the part that it is.
+    /// What follows a production, given its parts and the part that it is.
     #[tactic(auto, unfolding(cpp_term::specs::Unfolding::behind, crate::specs::LinkReading::link_meaning, crate::specs::Reads::with_candidate))]
     #[inline(always)]
     pub fn after_rule(

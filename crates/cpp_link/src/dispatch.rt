@@ -10,8 +10,8 @@ use crate::tables::{PART_COUNTS, PRODUCTIONS, SKIPS_PARTS};
 use cpp_grammar::production::Production;
 
 /// The production of a number.
-// It is looked up wherever it is asked for: some 7 % of linking's instructions, with the other tables. One that is kept in the frame
-// would have to be proved to be its rule's.
+// It is looked up at each use: some 7 % of linking's instructions, with the other tables. A copy kept in the frame would have
+// to be proved to be its rule's.
 pub fn production_of(number: u16) -> Production
     ensures { result ≡ production_at number }
 {
@@ -32,7 +32,7 @@ pub fn part_count(number: u16) -> usize
     }
 }
 
-/// Whether some part but the last of the production with a number may have no row.
+/// Whether some part of the production with a number, other than the last, may have no row.
 #[inline(always)]
 fn skips_parts(number: u16) -> bool
     ensures { result ≡ skips_parts (production_at number) }
@@ -43,8 +43,8 @@ fn skips_parts(number: u16) -> bool
     }
 }
 
-/// How many parts of the production with a number come before the next one that has a row, where so many have begun, and so
-/// many come after it. In most productions each part has a row.
+/// How many parts of the production with a number are before the next one that has a row, once this many have begun, and how
+/// many are after it. In most productions each part has a row.
 #[inline(always)]
 pub fn parts_ahead(number: u16, held: usize, after: u8) -> usize
     ensures { IsAhead wide number held after result }

@@ -1,4 +1,4 @@
-// What the productions of expressions stand for.
+// What the productions of expressions denote.
 
 ghost use Rattle.std.specs.Prelude.{◌≡◌, ℕ, ◌<◌, ◌≤◌, List, length, cond, nat_eq, true};
 ghost use Rattle.cpp_grammar.specs.Standing.{is_code};
@@ -58,7 +58,7 @@ fn is_comma(node: Node) -> bool
     }
 }
 
-/// Whether its operator is a comma, `>` or `>>`, by which template arguments would seem to go on or to end.
+/// Whether its operator is a comma, `>` or `>>`, which would seem to continue or to end template arguments.
 #[tactic(auto, unfolding(crate::specs::Reads::ending_node))]
 fn ends_arguments(node: Node) -> bool
     ensures { result ≡ ending_node node }
@@ -96,7 +96,8 @@ pub(crate) fn second_letter(piece: Piece) -> u8
 }
 
 impl Linked {
-    /// The operation of the operator with this first letter and this second one: the address of an encoding is a node of its own.
+    /// The operation of the operator with this first letter and this second one: the address of an encoding is a node of its
+    /// own.
     #[tactic(auto, unfolding(cpp_tree::specs::Nodes::tree_of))]
     fn operation(&self, symbol: &[u8], first: u8, second: u8, left: u32, right: u32) -> Node
         requires table { IsTable (over symbol.now self.now.nodes) }
@@ -121,8 +122,8 @@ impl Linked {
         }
     }
 
-    /// The operation of an operator with this first letter, whose second letter and operands the first part is, or an expression that
-    /// it is.
+    /// The operation of an operator with this first letter, with the second letter and the operands in the first part, or an
+    /// existing expression.
     #[tactic(auto, unfolding(crate::specs::Parts::outcome_value, crate::specs::Parts::value_of, cpp_term::specs::Meaning::operation_by, crate::specs::Making::nodes_of_outcome, crate::specs::NodeCount::operation_at_end))]
     pub(crate) fn operation_by(&self, symbol: &[u8], first: u8, parts: &[Part]) -> Outcome
         requires table { IsTable (over symbol.now self.now.nodes) }
@@ -197,7 +198,7 @@ impl Linked {
         made(Node::Cell { first, rest }, true)
     }
 
-    /// The letter that the part with this number has, or this one.
+    /// The letter of the part with this number, or this one.
     #[inline(always)]
     pub(crate) fn letter_or(&self, symbol: &[u8], parts: &[Part], k: usize, byte: u8) -> u8
         ensures { result ≡ cond (nat_eq (letter_of (part (values_in symbol.now self.now.nodes parts.now) k)) 0) byte (letter_of (part (values_in symbol.now self.now.nodes parts.now) k)) }

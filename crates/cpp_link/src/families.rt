@@ -1,27 +1,27 @@
-// The families of rare productions, by what they stand for.
+// The families of rare productions, by what they denote.
 
 ghost use Rattle.std.specs.Prelude.{◌≡◌};
 ghost use Rattle.cpp_link.specs.Families.{family_of};
 
 use cpp_grammar::production::Production;
 
-/// What a rare production stands for. Each family has a function, `outcome_of_..` with the family's name. These functions stay calls,
-/// since the stack frame of each has room for the locals of all its arms.
+/// What a rare production denotes. Each family has a function, `outcome_of_..` with the family's name. These functions stay
+/// calls, since the stack frame of each has room for the locals of all its arms.
 #[derive(Clone, Copy)]
 pub enum Family {
-    /// A rare name that one of its parts is.
+    /// A rare name in one of its parts.
     GivenName,
-    /// A rare name that its first part is, perhaps with arguments or tags.
+    /// A rare name in its first part, perhaps with arguments or tags.
     AppliedName,
     /// A piece of a name.
     Piece,
     /// What is within a function.
     LocalName,
-    /// A constructor that is inherited, and the base class that it is of.
+    /// An inherited constructor, and its base class.
     Inherited,
     /// A special name that is no thunk.
     Special,
-    /// A thunk, or by what it adjusts.
+    /// A thunk, or what it adjusts by.
     Thunk,
     /// A number, or the text after a symbol.
     Number,

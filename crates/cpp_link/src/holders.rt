@@ -1,4 +1,4 @@
-// Names with an `M`, by the wide grammar. Not all compilers count the name before it among the candidates.
+// Names with an `M`, in the wide grammar. Compilers differ in whether they count the name before it among the candidates.
 
 ghost use Rattle.std.specs.Prelude.{◌≡◌, ℕ, ◌+◌, ◌-◌, ◌<◌, ◌≤◌, ◌^◌, MatchOption, length, slice_index, true, false, Ok, IfOk, IfErr, OnOk};
 ghost use Rattle.sym_core.specs.Number.{FitsSymbol};
@@ -111,8 +111,8 @@ impl Linked {
         })
     }
 
-    /// The base class of a constructor that is inherited, unless it was counted before arguments of the constructor's own, or is there
-    /// by its number alone.
+    /// The base class of an inherited constructor, unless it was counted before the constructor's own arguments, or a number
+    /// names it.
     #[tactic(auto, unfolding(crate::specs::Reads::with_candidate, crate::specs::Parts::value_of, cpp_term::specs::Rescoping::counted_base))]
     fn base_to_count(&self, symbol: &[u8], base: Part) -> Option<u32>
         requires table { IsTable (over symbol.now self.now.nodes) }
@@ -131,7 +131,7 @@ impl Linked {
         }
     }
 
-    /// A rule closes, of a constructor that is inherited: its base class is counted, where that isn't done.
+    /// The rule of an inherited constructor closes: its base class is counted, unless it was counted before.
     ///
     /// # Errors
     ///
@@ -162,7 +162,7 @@ impl Linked {
         Ok(made)
     }
 
-    /// The frame's rule, a constructor that is inherited, closes: what it is takes the place of its parts.
+    /// The frame's rule, an inherited constructor, closes: what it is takes the place of its parts.
     ///
     /// # Errors
     ///

@@ -42,8 +42,8 @@ pub fn nodes_are_few()
     ensures { (tree : Tree) → IsTree wide (Kind 0) tree → cost owes tree ≤ 2 * length (spell tree) }
 {}
 
-/// Each candidate of a symbol that is read was made as a node, beside the four with which a table begins: a symbol has at least
-/// four nodes more than candidates.
+/// Each candidate of a symbol that is read was made as a node, beside the four at the front of each table: a symbol has at
+/// least four nodes more than candidates.
 pub fn candidates_are_few()
     ensures { CandidatesAreFew }
 {}

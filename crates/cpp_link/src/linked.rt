@@ -26,7 +26,7 @@ pub struct Linked {
     pub packs: Option<u32>,
 }
 
-/// Whether a candidate is a name with its `M`, or one before it is.
+/// Whether a candidate, or one before it, is a name with its `M`.
 pub(crate) fn is_apart(candidate: Candidate) -> bool
     ensures { result ≡ candidate.is_apart || candidate.is_held }
 {
@@ -107,7 +107,7 @@ impl Linked {
         Ok(())
     }
 
-    /// A tree becomes a candidate, which may be there as a mark, or none does.
+    /// A tree becomes a candidate, possibly as a mark, or none does.
     ///
     /// # Errors
     ///
@@ -141,7 +141,7 @@ impl Linked {
         }
     }
 
-    /// What a token stands for.
+    /// What a token denotes.
     #[inline(always)]
     pub fn text_at(&self, symbol: &[u8], row: Row) -> Part
         requires from { row.from ≤ row.to }

@@ -1,4 +1,4 @@
-// What productions stand for, given their parts: a part, or one whose node isn't there yet.
+// What productions denote, given their parts: a part, or one whose node isn't made yet.
 
 ghost use Rattle.std.specs.Prelude.{◌≡◌, ◌<◌, ◌≤◌, length, slice_index, true, ◌^◌};
 ghost use Rattle.cpp_term.specs.Meaning.{meaning};
@@ -19,7 +19,7 @@ use crate::part::{Outcome, Part, Surroundings};
 use cpp_grammar::production::Production;
 use cpp_tree::node::{Mark, Node, Piece, Qualifiers};
 
-/// A node to come, which is a tree.
+/// A node that is still to be made, which is a tree.
 #[inline(always)]
 pub fn made(node: Node, listed: bool) -> Outcome
     ensures { result ≡ Outcome.Made node listed }
@@ -27,7 +27,7 @@ pub fn made(node: Node, listed: bool) -> Outcome
     Outcome::Made { node, listed }
 }
 
-/// A tree that is there.
+/// An existing tree.
 #[inline(always)]
 pub fn tree(node: u32, listed: bool) -> Outcome
     ensures { result ≡ Outcome.There node listed }
@@ -73,7 +73,7 @@ pub(crate) fn qualified(restrict: bool, volatile: bool, const_: bool, ty: u32) -
 }
 
 impl Linked {
-    /// What a rare production that begins at a place stands for, given its parts.
+    /// What a rare production that begins at a place denotes, given its parts.
     #[inline(never)]
     pub fn outcome_of_rare(
         &self,
@@ -130,7 +130,7 @@ impl Linked {
         }
     }
 
-    /// What a common production that begins at a place stands for, given its parts.
+    /// What a common production that begins at a place denotes, given its parts.
     #[tactic(auto, unfolding(cpp_term::specs::Meaning::meaning, cpp_term::specs::Meaning::listed_value, cpp_term::specs::Meaning::with_item, cpp_term::specs::Values::tree_of, cpp_term::specs::Values::is_there, crate::specs::Parts::around_of, crate::specs::Parts::outcome_value, crate::specs::Parts::value_of, cpp_tree::specs::Nodes::tree_of, cpp_tree::specs::Nodes::piece_of, cpp_tree::specs::Nodes::thunk_of, cpp_tree::specs::Nodes::adjustment_of, crate::specs::Owed::made_at_end, crate::specs::Closes::ends_of, crate::specs::Making::nodes_of_outcome, crate::specs::NodeCount::makes_at_end))]
     #[inline(always)]
     pub fn outcome(

@@ -63,7 +63,8 @@ pub fn signed_digits(symbol: &[u8], negative: bool, text: Span) -> Signed
     }
 }
 
-/// The number of a lambda or an unnamed type, or the greatest of 64 bits past them, which is refused where the type begins.
+/// The number of a lambda or an unnamed type, or the greatest of 64 bits where it is beyond them, which is refused where the
+/// type begins.
 #[tactic(auto, unfolding(cpp_grammar::specs::Values::local_number, crate::specs::LinkReading::in_64_bits))]
 pub fn local_number(symbol: &[u8], text: Span) -> u64
     requires { IsWithin text symbol.now }

@@ -53,7 +53,8 @@ impl Linked {
         }
     }
 
-    /// The same where the parameter is an argument itself, or the length of an array: it is no name to go on with, and no candidate.
+    /// Likewise where the parameter is itself an argument, or the length of an array: it is no name to continue, and no
+    /// candidate.
     ///
     /// # Errors
     ///

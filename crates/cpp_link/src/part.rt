@@ -1,11 +1,11 @@
-// What the parts of a symbol stand for, in terms of nodes, and what is kept of what surrounds them.
+// What the parts of a symbol denote, in terms of nodes, and what is kept of their surroundings.
 
 pub use cpp_references::around::{Naming, Prefix, Scope, Surroundings};
 pub use cpp_references::candidates::Candidate;
 use cpp_tree::node::{Adjustment, Mark, Node, Piece, Qualifiers, Signed, Thunk};
 use sym_core::Span;
 
-/// What a part of a symbol stands for. A tree is a node, and whether it is a candidate already or never is one.
+/// What a part of a symbol denotes. A tree is a node, and whether it is a candidate already or never is one.
 #[derive(Clone, Copy)]
 pub enum Part {
     Nothing,
@@ -27,7 +27,7 @@ pub enum Part {
         list: u32,
         mark: Mark,
     },
-    /// A letter and two trees, of which the second may be absent.
+    /// A letter and two trees; the second may be absent.
     Pair {
         letter: u8,
         left: u32,
@@ -35,7 +35,7 @@ pub enum Part {
     },
 }
 
-/// What a production stands for: a part, or one whose node isn't there yet.
+/// What a production denotes: a part, or one whose node isn't made yet.
 #[derive(Clone, Copy)]
 pub enum Outcome {
     Given(Part),
@@ -64,7 +64,7 @@ pub enum Outcome {
         letter: u8,
         value: Signed,
     },
-    /// A pair of which one tree isn't there yet: the right one, or the left one, without which there is no right one.
+    /// A pair with one tree still to be made: the right one, or the left one, without which there is no right one.
     MadeOperand {
         letter: u8,
         left: Option<u32>,
@@ -87,22 +87,22 @@ pub enum Outcome {
     },
 }
 
-/// What is done before the next part of a rule: the state and what surrounds the part.
+/// What is done before the next part of a rule: the state and the surroundings of the part.
 #[derive(Clone, Copy)]
 pub enum Step {
-    /// A tree becomes a candidate or none does, and this surrounds the part.
+    /// A tree becomes a candidate or none does, and these are the surroundings of the part.
     Go {
         candidate: Option<u32>,
         then: Surroundings,
         packs: Option<u32>,
     },
-    /// A node that is there is what the first part is now. It may come before the next part as the name so far.
+    /// An existing node is what the first part is now. It may precede the next part as the name so far.
     Named {
         node: u32,
         listed: bool,
         is_name: bool,
     },
-    /// A node is made, which the first part is now. It may come before the next part as the name so far, and become a candidate.
+    /// A node is made, and becomes the first part. It may precede the next part as the name so far, and become a candidate.
     Made {
         node: Node,
         listed: bool,
@@ -112,7 +112,7 @@ pub enum Step {
     },
 }
 
-/// What comes after a rule: a tree that becomes a candidate or none, and the length of the packs.
+/// What follows a rule: a tree that becomes a candidate or none, and the length of the packs.
 #[derive(Clone, Copy)]
 pub struct AfterRule {
     pub candidate: Option<u32>,

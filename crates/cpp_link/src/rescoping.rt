@@ -1,5 +1,5 @@
-// What is linked of a symbol by the wide grammar: in a lambda's signature parameters are the lambda's own, such a lambda is a piece of
-// its own, and a substitution stands for its tree with the arguments that are meant where it is.
+// Linking a symbol by the wide grammar: in a lambda's signature parameters are the lambda's own, such a lambda is a piece of
+// its own, and a substitution denotes its tree with the arguments that are meant where it occurs.
 
 ghost use Rattle.std.specs.Prelude.{◌≡◌, ℕ, ◌-◌, ◌<◌, ◌≤◌, ◌^◌, ◌∷◌, [], MatchOption, ◌&&◌, ◌||◌, List, length, true, Ok, IfOk, IfErr};
 ghost use Rattle.sym_core.specs.Value.{counted_value};
@@ -39,7 +39,7 @@ use sym_core::{Refusal, Span, value10};
 use sym_link::language::Frame;
 use sym_link::parts::put;
 
-/// What is linked of a symbol that is read by the wide grammar.
+/// What is linked of a symbol that the wide grammar reads.
 #[derive(Drop)]
 pub struct Rescoping {
     pub linked: Linked,
@@ -82,7 +82,7 @@ fn generic_number(counted: Option<u64>) -> u32
 }
 
 impl Linked {
-    /// The parameter of the lambda in whose signature it is, with these digits (ABI 5.1.8). It may be an argument itself.
+    /// A lambda's own parameter, in its signature, with these digits (ABI 5.1.8). It may be passed as an argument.
     #[tactic(auto, unfolding(crate::specs::LinkRescoping::generic_read, cpp_term::specs::Rescoping::generic_so_far, cpp_term::specs::Between::listed_so_far, crate::specs::Reads::goes_on, crate::specs::Reads::behind_first, crate::specs::Reads::named_if, crate::specs::Reads::appended_if, cpp_tree::specs::Nodes::tree_of))]
     fn generic(&self, symbol: &[u8], kept: Surroundings, digits: Span, is_argument: bool) -> Step
         requires table { IsTable (over symbol.now self.now.nodes) }
@@ -116,8 +116,9 @@ impl Linked {
         }
     }
 
-    /// What is done before the next part where the wide reading does something of its own, but for the mark: a parameter of a lambda is
-    /// named, a name has its `M`, or the base class of a constructor that is inherited or the name of a concept becomes a candidate.
+    /// What is done before the next part where the wide reading does something of its own, except for the mark: a parameter of
+    /// a lambda is named, a name has its `M`, or the base class of an inherited constructor or the name of a concept becomes a
+    /// candidate.
     ///
     /// # Errors
     ///
@@ -191,8 +192,8 @@ impl Linked {
         }
     }
 
-    /// What is done before the next part of the frame's rule where the wide reading does something of its own, and what surrounds that
-    /// part.
+    /// What is done before the next part of the frame's rule where the wide reading does something of its own, and the
+    /// surroundings of that part.
     ///
     /// # Errors
     ///
@@ -219,7 +220,7 @@ impl Linked {
         Ok(then)
     }
 
-    /// Whether a candidate's free parameters may stand for others here than where it was made.
+    /// Whether a candidate's free parameters may denote others here than where it was made.
     #[tactic(auto, unfolding(cpp_term::specs::Rescoping::is_foreign, crate::specs::Parts::around_of))]
     fn is_foreign(&self, symbol: &[u8], kept: Surroundings, candidate: Candidate) -> bool
         requires table { IsTable (over symbol.now self.now.nodes) }
@@ -230,8 +231,8 @@ impl Linked {
         self.nodes.is_open(symbol, candidate.node) && (kept.in_lambda() || elsewhere)
     }
 
-    /// A tree that was made elsewhere, with the arguments that are meant here: it is there again with another argument, which is one
-    /// node more whatever the tree is.
+    /// A tree that was made elsewhere, with the arguments that are meant here: an alias with another argument, which is one
+    /// more node whatever the tree is.
     ///
     /// # Errors
     ///
@@ -306,7 +307,7 @@ impl Linked {
         }
     }
 
-    /// The frame's rule, a substitution, closes: what it stands for takes the place of its part.
+    /// The frame's rule, a substitution, closes: what it denotes takes the place of its part.
     ///
     /// # Errors
     ///
@@ -328,7 +329,7 @@ impl Linked {
         put(parts, frame.base, made)
     }
 
-    /// The piece itself, but for a lambda in whose signature parameters are free: that has parameters of its own (ABI 5.1.8).
+    /// The piece itself, unless it is a lambda whose signature has free parameters: that has parameters of its own (ABI 5.1.8).
     // <closure-type-name> ::= Ul <lambda-sig> E [ <nonnegative number> ] _
     #[tactic(auto, unfolding(cpp_tree::specs::Nodes::piece_of))]
     fn piece_as_generic_lambda(&self, symbol: &[u8], piece: Piece) -> Piece

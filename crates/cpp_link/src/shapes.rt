@@ -1,4 +1,4 @@
-// What productions stand for whose parts are told apart.
+// What productions denote that distinguish cases of their parts.
 
 ghost use Rattle.std.specs.Prelude.{◌≡◌, ℕ, ◌≤◌, List, length, true, false, not, ◌&&◌};
 ghost use Rattle.cpp_term.specs.Term as term;
@@ -100,7 +100,7 @@ impl Linked {
         }
     }
 
-    /// The same of a name with a tag, which takes the place of the name without it.
+    /// Likewise for a tagged name, which takes the place of the name without its tag.
     #[tactic(auto, unfolding(cpp_term::specs::Between::applied, cpp_term::specs::Values::tree_of, cpp_term::specs::Values::is_there, crate::specs::Parts::outcome_value, crate::specs::Parts::value_of, cpp_tree::specs::Nodes::tree_of, crate::specs::Making::nodes_of_outcome, crate::specs::NodeCount::name_at_end, crate::specs::NodeCount::one_if_arguments, crate::specs::NodeCount::one_if_there))]
     pub fn in_place(&self, symbol: &[u8], parts: &[Part]) -> Outcome
         requires table { IsTable (over symbol.now self.now.nodes) }
@@ -139,7 +139,7 @@ impl Linked {
         }
     }
 
-    /// What the end of a nested name stands for: the name so far.
+    /// What the end of a nested name denotes: the name so far.
     #[tactic(auto, unfolding(crate::specs::Parts::outcome_value, crate::specs::Parts::value_of, crate::specs::Parts::prefix_of, cpp_term::specs::Values::prefix_tree, cpp_term::specs::Values::prefix_listed, crate::specs::Making::nodes_of_outcome))]
     pub fn nest_end(&self, symbol: &[u8], prefix: Prefix) -> Outcome
         requires table { IsTable (over symbol.now self.now.nodes) }
@@ -154,7 +154,7 @@ impl Linked {
         }
     }
 
-    /// What a reference stands for.
+    /// What a reference denotes.
     #[tactic(auto, unfolding(crate::specs::Parts::outcome_value, cpp_tree::specs::Nodes::tree_of, cpp_term::specs::Meaning::listed_value, cpp_term::specs::Meaning::reference_to, cpp_term::specs::Values::tree_of, crate::specs::Making::nodes_of_outcome))]
     pub fn reference_meant(&self, symbol: &[u8], byte: u8, parts: &[Part]) -> Outcome
         requires table { IsTable (over symbol.now self.now.nodes) }
@@ -170,7 +170,7 @@ impl Linked {
         made(Node::Rvalue(inner), true)
     }
 
-    /// What the rest of a signature stands for that has a mark.
+    /// What the rest of a signature denotes that has a mark.
     #[tactic(auto, unfolding(cpp_term::specs::Meaning::signature_or, crate::specs::Parts::outcome_value, crate::specs::Parts::value_of, crate::specs::Making::nodes_of_outcome))]
     pub fn signature_or(&self, symbol: &[u8], mark: Mark, rest: Part) -> Outcome
         requires table { IsTable (over symbol.now self.now.nodes) }
@@ -218,7 +218,7 @@ impl Linked {
         }
     }
 
-    /// The part with this number, or another, where it isn't there.
+    /// The part with this number, or another, where it is absent.
     pub fn either(&self, symbol: &[u8], parts: &[Part], k: usize, other: usize) -> Part
         ensures is { value_in symbol.now self.now.nodes result ≡ elim (is_there (part (values_in symbol.now self.now.nodes parts.now) k)) [ true ↦ part (values_in symbol.now self.now.nodes parts.now) k | false ↦ part (values_in symbol.now self.now.nodes parts.now) other ] }
         ensures there { AreThere symbol.now (length self.now.nodes.nodes) parts.now → IsThere symbol.now (length self.now.nodes.nodes) result }
@@ -229,7 +229,7 @@ impl Linked {
         self.given(symbol, parts, other)
     }
 
-    /// The name of a constructor that is inherited, with arguments of its own where there are some.
+    /// The name of an inherited constructor, with its own arguments where it has some.
     #[tactic(auto, unfolding(cpp_term::specs::Between::inherited, crate::specs::Parts::outcome_value, crate::specs::Parts::value_of, cpp_tree::specs::Nodes::tree_of, cpp_tree::specs::Nodes::piece_of, crate::specs::Making::nodes_of_outcome))]
     pub fn inherited(&self, symbol: &[u8], prefix: Prefix, parts: &[Part]) -> Outcome
         requires table { IsTable (over symbol.now self.now.nodes) }
@@ -261,7 +261,7 @@ impl Linked {
         }
     }
 
-    /// What a lambda stands for.
+    /// What a lambda denotes.
     #[tactic(auto, unfolding(crate::specs::Parts::outcome_value, crate::specs::Parts::value_of, cpp_tree::specs::Nodes::piece_of, cpp_term::specs::Meaning::parameters, crate::specs::Making::nodes_of_outcome, crate::specs::NodeCount::lambda_at_end))]
     pub fn lambda(&self, symbol: &[u8], parts: &[Part]) -> Outcome
         requires table { IsTable (over symbol.now self.now.nodes) }

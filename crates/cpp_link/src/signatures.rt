@@ -28,7 +28,7 @@ fn is_void(node: Node) -> bool
     }
 }
 
-/// Whether it is the list of no elements.
+/// Whether it is the empty list.
 #[tactic(auto, unfolding(crate::specs::Reads::nil_node))]
 fn is_nil(node: Node) -> bool
     ensures { result ≡ nil_node node }
@@ -93,7 +93,7 @@ impl Linked {
         split_of(opened(&self.nodes, symbol, list))
     }
 
-    /// The parameters that a list of items says: a lone void is none.
+    /// The parameters in a list of items: a lone void is no parameter.
     pub fn parameters(&self, symbol: &[u8], list: u32) -> u32
         requires table { IsTable (over symbol.now self.now.nodes) }
         requires below { list < length self.now.nodes.nodes }
@@ -109,7 +109,7 @@ impl Linked {
         list
     }
 
-    /// What an encoding stands for: an object, or a function with its return type.
+    /// What an encoding denotes: an object, or a function with its return type.
     #[tactic(auto, unfolding(crate::specs::Parts::outcome_value, cpp_tree::specs::Nodes::tree_of, crate::specs::Reads::encoding_by, crate::specs::Making::nodes_of_outcome))]
     #[inline(always)]
     pub fn encoding(&self, symbol: &[u8], parts: &[Part]) -> Outcome

@@ -46,7 +46,7 @@ fn prefix_candidate(kept: Surroundings) -> Option<u32>
 }
 
 impl Linked {
-    /// Nothing is done, and this surrounds the next part.
+    /// Nothing is done, and these are the surroundings of the next part.
     #[inline(always)]
     pub(crate) fn go(&self, then: Surroundings) -> Step
         ensures { result ≡ Step.Go None then self.now.packs }
@@ -148,7 +148,7 @@ impl Linked {
         opened(&self.nodes, symbol, name).node.is_structor()
     }
 
-    /// The list that a part is.
+    /// The list in a part.
     #[inline(always)]
     pub(crate) fn list_in(&self, symbol: &[u8], part: Part) -> u32
         requires table { IsTable (over symbol.now self.now.nodes) }
@@ -159,7 +159,7 @@ impl Linked {
         list_of(part)
     }
 
-    /// The piece of a name that a part is.
+    /// The piece of a name in a part.
     #[inline(always)]
     pub(crate) fn piece_in(&self, symbol: &[u8], part: Part) -> Piece
         requires there { IsThere symbol.now (length self.now.nodes.nodes) part }
@@ -169,7 +169,7 @@ impl Linked {
         piece_of(part)
     }
 
-    /// The text that a part is.
+    /// The text in a part.
     #[inline(always)]
     pub(crate) fn text_in(&self, symbol: &[u8], part: Part) -> Span
         requires there { IsThere symbol.now (length self.now.nodes.nodes) part }
@@ -179,7 +179,7 @@ impl Linked {
         text_of(part)
     }
 
-    /// A pack of the elements that a part is: that of none is there.
+    /// A pack of the elements in a part: the empty one exists already.
     #[tactic(auto, unfolding(crate::specs::Closes::pack_makes, cpp_term::specs::Between::no_items, cpp_term::specs::Values::tree_of, crate::specs::Parts::value_of, cpp_tree::specs::Nodes::tree_of, crate::specs::Reads::goes_on, crate::specs::Reads::behind_first, crate::specs::Reads::named_if, crate::specs::Reads::appended_if, crate::specs::NodeCount::makes_before, crate::specs::NodeCount::pack_before, crate::specs::NodeCount::one_if_there, cpp_term::specs::Values::is_there))]
     #[inline(always)]
     fn pack(&self, symbol: &[u8], elements: Part) -> Step
@@ -225,7 +225,7 @@ impl Linked {
         }
     }
 
-    /// What is done after a name in std and what may come after it: its arguments, or itself with tags.
+    /// What is done after a name in std and what may follow it: its arguments, or the name itself with tags.
     #[tactic(auto, unfolding(cpp_term::specs::Between::named_so_far, cpp_term::specs::Between::applied, cpp_term::specs::Values::tree_of, cpp_term::specs::Values::is_there, cpp_tree::specs::Nodes::tree_of, crate::specs::Parts::value_of, crate::specs::Reads::goes_on, crate::specs::Reads::behind_first, crate::specs::Reads::named_if, crate::specs::Reads::appended_if, crate::specs::Owed::made_before, crate::specs::NodeCount::one_if_arguments, crate::specs::NodeCount::one_if_there))]
     pub(crate) fn std_name(&self, symbol: &[u8], name: u32, behind: Part) -> Step
         requires table { IsTable (over symbol.now self.now.nodes) }

@@ -18,7 +18,7 @@ use sym_core::Span;
 /// No bytes.
 const NO_BYTES: Span = Span { from: 0, to: 0 };
 
-/// The number of no digits.
+/// The number without digits.
 const NO_NUMBER: Signed = Signed {
     negative: false,
     digits: NO_BYTES,
@@ -53,7 +53,7 @@ pub fn node_of(part: Part) -> u32
     }
 }
 
-/// The piece of a name that a part is.
+/// The piece of a name in a part.
 #[tactic(auto, unfolding(crate::specs::Parts::value_of, cpp_term::specs::Values::piece_of, cpp_tree::specs::Nodes::piece_of))]
 #[inline(always)]
 pub fn piece_of(part: Part) -> Piece
@@ -136,7 +136,7 @@ pub fn ref_of(part: Part) -> Mark
     }
 }
 
-/// The letter that a part is.
+/// The letter of a part.
 #[tactic(auto, unfolding(crate::specs::Parts::value_of, cpp_term::specs::Values::letter_of))]
 #[inline(always)]
 pub fn letter_of(part: Part) -> u8
@@ -216,7 +216,7 @@ impl Linked {
         node_of(part(parts, k))
     }
 
-    /// The list that the part with this number is.
+    /// The list in the part with this number.
     #[inline(always)]
     pub fn list(&self, symbol: &[u8], parts: &[Part], k: usize) -> u32
         requires table { IsTable (over symbol.now self.now.nodes) }
@@ -236,7 +236,7 @@ impl Linked {
         part(parts, k)
     }
 
-    /// The piece of a name that the part with this number is.
+    /// The piece of a name in the part with this number.
     pub fn piece(&self, symbol: &[u8], parts: &[Part], k: usize) -> Piece
         ensures is { nodes.piece_of symbol.now (trees_in symbol.now self.now.nodes) result ≡ piece_of (part (values_in symbol.now self.now.nodes parts.now) k) }
         ensures there { AreThere symbol.now (length self.now.nodes.nodes) parts.now → IsPieceBelow symbol.now (length self.now.nodes.nodes) result }
@@ -244,7 +244,7 @@ impl Linked {
         piece_of(part(parts, k))
     }
 
-    /// Of the part with this number the text.
+    /// The text of the part with this number.
     #[inline(always)]
     pub fn text(&self, symbol: &[u8], parts: &[Part], k: usize) -> Span
         ensures is { bytes_at symbol.now result ≡ text_of (part (values_in symbol.now self.now.nodes parts.now) k) }
@@ -253,7 +253,7 @@ impl Linked {
         text_of(part(parts, k))
     }
 
-    /// Of the part with this number the letter.
+    /// The letter of the part with this number.
     #[inline(always)]
     pub fn letter(&self, symbol: &[u8], parts: &[Part], k: usize) -> u8
         ensures { result ≡ letter_of (part (values_in symbol.now self.now.nodes parts.now) k) }
@@ -261,7 +261,7 @@ impl Linked {
         letter_of(part(parts, k))
     }
 
-    /// Whether the part with this number is there.
+    /// Whether the part with this number is present.
     #[inline(always)]
     pub fn there(&self, symbol: &[u8], parts: &[Part], k: usize) -> bool
         ensures { result ≡ is_there (part (values_in symbol.now self.now.nodes parts.now) k) }
@@ -277,7 +277,7 @@ impl Linked {
         is_listed(part(parts, k))
     }
 
-    /// Of the part with this number the qualifiers.
+    /// The qualifiers of the part with this number.
     #[inline(always)]
     pub fn qualifiers(&self, symbol: &[u8], parts: &[Part], k: usize) -> Qualifiers
         ensures { nodes.qualifiers_of result ≡ qualifiers_of (part (values_in symbol.now self.now.nodes parts.now) k) }
@@ -285,7 +285,7 @@ impl Linked {
         qualifiers_of(part(parts, k))
     }
 
-    /// Of the part with this number the mark of a name or a signature.
+    /// The mark of a name or a signature of the part with this number.
     #[inline(always)]
     pub fn reference(&self, symbol: &[u8], parts: &[Part], k: usize) -> Mark
         ensures { nodes.mark_of result ≡ ref_of (part (values_in symbol.now self.now.nodes parts.now) k) }
@@ -293,7 +293,7 @@ impl Linked {
         ref_of(part(parts, k))
     }
 
-    /// The mark that the part with this number is.
+    /// The mark in the part with this number.
     #[inline(always)]
     pub fn mark(&self, symbol: &[u8], parts: &[Part], k: usize) -> Mark
         ensures { nodes.mark_of result ≡ mark_of (part (values_in symbol.now self.now.nodes parts.now) k) }
@@ -301,7 +301,7 @@ impl Linked {
         mark_of(part(parts, k))
     }
 
-    /// The number that the part with this number is.
+    /// The number in the part with this number.
     #[inline(always)]
     pub fn signed(&self, symbol: &[u8], parts: &[Part], k: usize) -> Signed
         ensures is { nodes.signed_of symbol.now result ≡ signed_of (part (values_in symbol.now self.now.nodes parts.now) k) }
@@ -310,7 +310,7 @@ impl Linked {
         signed_of(part(parts, k))
     }
 
-    /// The adjustment that the part with this number is.
+    /// The adjustment in the part with this number.
     #[inline(always)]
     pub fn adjusted(&self, symbol: &[u8], parts: &[Part], k: usize) -> Adjustment
         ensures is { nodes.adjustment_of symbol.now result ≡ adjustment_of (part (values_in symbol.now self.now.nodes parts.now) k) }

@@ -1,5 +1,5 @@
-// The moments at which the driver asks C++'s language by the wide grammar. What is done is what the ABI's grammar does, but for
-// lambdas, the parameters of their signatures, names with an `M`, and substitutions.
+// The moments at which the driver calls C++'s language by the wide grammar. Each does what it does by the ABI's grammar, except
+// for lambdas, the parameters of their signatures, names with an `M`, and substitutions.
 
 ghost use Rattle.std.specs.Prelude.{◌≡◌, ℕ, ◌<◌, ◌≤◌, ◌∷◌, ◌++◌, [], List, length, drop, OnOk, OnErr};
 ghost use Rattle.sym_link.specs.Driving.{AreAll};
@@ -26,7 +26,7 @@ use sym_link::language::{Frame, Linking};
 use sym_link::threads::{Threading, close_by, enter_by, token_by};
 use sym_shape::rule::Row;
 
-/// Whether before the part after so many the wide reading does something of its own.
+/// Whether the wide reading does something of its own before the part after n others.
 #[tactic(auto, unfolding(crate::specs::LinkRescoping::steps_apart))]
 fn steps_apart(production: Production, kept: Surroundings, before: usize) -> bool
     ensures { result ≡ steps_apart production (is_lambda kept.scope) before }
@@ -43,7 +43,7 @@ fn steps_apart(production: Production, kept: Surroundings, before: usize) -> boo
 }
 
 impl Rescoping {
-    /// What is done before the next part of the frame's rule where something is, and what surrounds that part.
+    /// What is done before the next part of the frame's rule where something is, and the surroundings of that part.
     ///
     /// # Errors
     ///

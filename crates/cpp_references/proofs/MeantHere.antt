@@ -1,4 +1,4 @@
--- What a tree that was made elsewhere comes to here.
+-- The value here of a tree that was made elsewhere.
 use Rattle.std.proofs.Common.{◌≡◌, ◌∙◌, sym, ap, ℕ, Bool, true, false, not, ◌&&◌, Option, Some, None, Result, Ok, Err}
 use Rattle.std.specs.Prelude.{nat_lt}
 use Rattle.sym_core.specs.declared.refusal.Refusal.{Refusal}
@@ -45,7 +45,7 @@ module _ (around : Around) (place : ℕ) (t : Term) (state : State) where
   unfolding restated
   outside is = ap (λ b. elim b as (λ _. Named) [ true ↦ Ok (found (tree (reargued (Some auto) t) true) state) | false ↦ of_free (free_in t) ]) is
 
-  -- elsewhere it is by which are free
+  -- elsewhere it depends on which parameters are free
   pub restated_by : around.in_lambda ≡ false → (f : Free) → f ≡ free_in t → restated around place t state ≡ of_free f
   restated_by apart f is = outside apart ∙ ap of_free (sym is)
 

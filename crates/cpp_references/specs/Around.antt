@@ -1,4 +1,4 @@
--- What surrounds a part of a symbol and which trees a substitution may name, over the nodes that are there.
+-- What surrounds a part of a symbol and which trees a substitution may name, over the existing nodes.
 use Rattle.std.specs.Prelude.{◌≡◌, ℕ, ◌<◌, List, [], ◌∷◌, map, Bool, true, false, Option, None, Some, IfSome}
 use Rattle.cpp_term.specs.Term.{Term}
 use Rattle.cpp_term.specs.Scope.{is_open}
@@ -13,7 +13,7 @@ use Rattle.cpp_references.specs.declared.around.Naming.{Naming}
 use Rattle.cpp_references.specs.declared.around.Surroundings.{Surroundings}
 use Rattle.cpp_references.specs.declared.candidates.Candidate.{Candidate}
 
--- the trees of the nodes, and that of a node which isn't there yet
+-- the trees of the nodes, and that of a node which isn't made yet
 abbrev pub trees_in : List ℕ → Stored → List Term
 trees_in s y = trees (over s y)
 
@@ -70,7 +70,7 @@ candidate_of ts c = record { tree = tree_at ts c.node; encoding = c.encoding; in
 abbrev pub candidates_of : List Term → List Candidate → List values.Candidate
 candidates_of ts cs = map (candidate_of ts) cs
 
--- ## What is there
+-- ## What exists
 
 abbrev pub IsPrefixThere : ℕ → Prefix → Type 0
 IsPrefixThere n Prefix.Outermost = Unit {0}

@@ -1,4 +1,4 @@
-// The production that a node stands for, where its tree may be there again.
+// The production that a node denotes, where the node may be an alias.
 
 ghost use Rattle.std.specs.Prelude.{◌≡◌, ◌<◌, length, false};
 ghost use Rattle.cpp_term.specs.Reargued.{reargued};
@@ -8,14 +8,14 @@ ghost use Rattle.cpp_references.specs.Around.{trees_in, tree_of_node};
 use cpp_tree::Nodes;
 use cpp_tree::node::{Node, Placed};
 
-/// A node that isn't there again, and the argument under which its parts are.
+/// A node that isn't an alias, and the argument under which its parts are.
 #[derive(Clone, Copy)]
 pub struct OpenedNode {
     pub node: Node,
     pub under: Option<u32>,
 }
 
-/// The production that a node stands for: where its tree is there again, that of the tree.
+/// The production that a node denotes: for an alias, that of its tree.
 pub fn opened(nodes: &Nodes, symbol: &[u8], node: u32) -> OpenedNode
     requires table { IsTable (over symbol.now nodes.now) }
     requires below { node < length nodes.now.nodes }

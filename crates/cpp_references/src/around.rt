@@ -103,7 +103,7 @@ impl Surroundings {
         }
     }
 
-    /// The same, where a rule begins when the packs have this length.
+    /// Likewise, where a rule begins when the packs have this length.
     #[tactic(auto, unfolding(crate::specs::Around::around_of, crate::specs::Around::packs_in))]
     #[inline(always)]
     pub fn with_packs(self, packs: Option<u32>) -> Surroundings

@@ -78,7 +78,7 @@ fn argument_by(
     }
 }
 
-/// The scope where several parameters are free in a tree which was made elsewhere, of which this is the greatest number.
+/// The scope where several parameters are free in a tree which was made elsewhere, this being the greatest number.
 ///
 /// # Errors
 ///

@@ -19,7 +19,7 @@ use cpp_tree::Nodes;
 use cpp_tree::node::{Node, Placed};
 use sym_core::{Refusal, Span, value10};
 
-/// The number of an element among so many.
+/// The number of an element among n.
 fn below(counted: Option<u64>, count: u32) -> Option<u32>
     ensures { (k : ℕ) → MatchOption counted (2 ^ 64 ≤ k) (λ v. v ≡ k) → MatchOption result (count ≤ k) (λ n. (n ≡ k) × (n < count)) }
 {
@@ -43,7 +43,8 @@ pub fn count(nodes: &Nodes, symbol: &[u8], list: u32) -> u32
     nodes.entry(list).count
 }
 
-/// The arguments that a name ends in, and none where a parameter is free in it: in the name of an encoding none is.
+/// The arguments that a name ends in, and none where a parameter is free in it: no parameter is free in the name of an
+/// encoding.
 pub fn closed_arguments(nodes: &Nodes, symbol: &[u8], name: u32) -> Option<u32>
     requires table { IsTable (over symbol.now nodes.now) }
     requires below { name < length nodes.now.nodes }

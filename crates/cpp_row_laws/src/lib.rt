@@ -1,4 +1,4 @@
-//! What the linker counts of each production is what its row says: laws alone.
+//! What the linker counts of each production is what its row says. This crate has only laws.
 #![tactic(auto)]
 
 mod laws;

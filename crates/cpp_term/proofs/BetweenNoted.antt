@@ -48,7 +48,7 @@ InScope around inner = ((inner.scope ≡ around.scope) × (inner.in_lambda ≡ a
 unfoldable pub parts_place : (own : Bool) → Production → Around → Place
 parts_place own p around = elim (has_signature p && own) [ true ↦ in_own | false ↦ around_place own around ]
 
--- what goes into the next part, both ways
+-- the inputs of the next part, both ways
 pub record Goes (own : Bool) (s : Place) (around : Around) (x : State) (y : value_.State) (n : Next Value State Around) (m : Next value_.Value value_.State value_.Around) : Type 0 where
   pub values : m.values ≡ noted_values s n.values
   pub context : m.context ≡ noted_around own n.context
@@ -126,7 +126,7 @@ candidate_moves : (own : Bool) (around : Around) (x : State) (y : value_.State) 
 candidate_moves own around x y t u true packs e = one_moves own around t u x y packs e
 candidate_moves own around x y t u false packs e = moves_none own around x x y y refl refl packs
 
--- a parameter that is an argument itself leaves the candidates
+-- a parameter that is itself an argument leaves the candidates
 kept_moves : (own : Bool) (around : Around) (x a : State) (y b : value_.State) (is_name : Bool) → Moves own around x y a b →
     Moves own around x y (cond is_name a (record a { candidates = x.candidates })) (cond is_name b (record b { candidates = y.candidates }))
 kept_moves own around x a y b true m = m
@@ -250,7 +250,7 @@ behind_noted own production byte around began first vs x y h packs e =
     choose_cond (Moves own around x y) (row_of production).restores_packs (record new { packs = began.packs }) new (record other { packs = first.packs }) other
     (packs_move own around x new y other began.packs first.packs e moves_) moves_
 
--- what a production comes to, both ways
+-- the value of a production, both ways
 made_close : (own : Bool) (production : Production) (byte : ℕ) (around : Around) (began : State) (first : value_.State) (vs : List Value) (x : State) (y : value_.State) → Inside production vs → Same own around x y → first.packs ≡ began.packs →
     Comes own around x y (found (meaning production byte around vs) (unfolding_.behind production byte around began vs x))
     (found (noted_.meaning production byte (noted_around own around) (noted_values (around_place own around) vs)) (unfolded_.behind production byte (noted_around own around) first (noted_values (around_place own around) vs) y))
@@ -367,13 +367,13 @@ wide_between_noted Production.HeldArguments around place [] x y stays settled pa
 wide_between_noted Production.Holder around place (v ∷ []) x y stays settled packs = holder_goes around x y place packs
 wide_between_noted p around place vs x y stays settled packs = between_noted true p around place vs x y stays packs
 
--- a lambda is told apart alike, and what is in its signature is under its own parameters
+-- the cases of a lambda are decided alike, and what is in its signature is under its own parameters
 lambda_with_noted : (s : Place) (t : Term) (number : ℕ) → wide_.lambda_with (annotate in_own t) number ≡ annotate s (lambda_with t number)
 unfolding lambda_with wide_.lambda_with annotate
 lambda_with_noted s t number =
     choose (λ a b. b ≡ annotate s a) (is_open t) (scope_.is_open (annotate in_own t)) _ _ _ _ (open_noted in_own t) (λ is. refl) (λ is. ap (λ u. term_.lambda u number) (closed_noted in_own s t is))
 
--- `meaning_noted` says it of the place of the values
+-- `meaning_noted` says it at the place of the values
 own_lambda : (s : Place) (byte : ℕ) (around : Around) (other : value_.Around) (vs : List Value) →
     wide_.as_generic_lambda (noted_.meaning Production.Lambda byte other (noted_values in_own vs)) ≡ noted_value s (as_generic_lambda (meaning Production.Lambda byte around vs))
 unfolding as_generic_lambda wide_.as_generic_lambda meaning noted_.meaning noted_value annotate

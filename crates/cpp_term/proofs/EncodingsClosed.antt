@@ -1,4 +1,5 @@
--- In a run without arguments, the parts of a production that are encodings have no free parameters, and neither has what a special name is of.
+-- In a run without arguments, the parts of a production that are encodings have no free parameters, and neither has the subject
+-- of a special name.
 use Rattle.std.proofs.Common.{◌≡◌, refl, ap, sym, ◌∙◌, subst, ℕ, zero, suc, ◌+◌, ◌<◌, ◌≤◌, List, [], ◌∷◌, ◌++◌, length, Bool, true, false, not, ◌||◌, nat_eq, Result, Ok, lit≤, arith}
 use Rattle.std.proofs.lemmas.Bool.{false≢true, eqb-true}
 use Rattle.std.proofs.lemmas.List.{append-nil, append_assoc}
@@ -42,7 +43,7 @@ special_kind p k rule taken is lt takes h =
 
 -- ## Encodings
 
--- what goes into a part in which nothing is named
+-- the inputs of a part in which nothing is named
 nameless_ : (at : ℕ) → List Value → State → Next Value State Around
 nameless_ at vs state = record { context = in_name at; values = vs; state = state }
 

@@ -71,7 +71,7 @@ erased s _ = refl
 pub carries_arguments : (t : Term) → CarriesArguments (annotate nowhere t)
 carries_arguments t = ap (annotate nowhere) (erased nowhere t)
 
--- a tree with arguments, and the tree without that is read
+-- a tree with arguments, and the tree without them, which is read
 pub record IsSymbolTree (read : Result Term Refusal) (t : term_.Term) : Type 0 where
   pub plain : read ≡ Ok (erase t)
   pub carries : CarriesArguments t

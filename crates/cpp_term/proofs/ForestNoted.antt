@@ -27,7 +27,7 @@ use Rattle.cpp_term.proofs.StatesNoted.{Settled, Alike, alike_bind, Same, Moves,
 use Rattle.cpp_term.proofs.BetweenNoted.{InScope, parts_place, Goes}
 use Rattle.cpp_term.proofs.NotedWays.{NotedWay, reading_noted_by, IsNotedBy}
 
--- ## From a part to what it is in, and back
+-- ## From a part to what contains it, and back
 
 pub cancel : (xs as_ bs : List Candidate) → xs ++ as_ ≡ xs ++ bs → as_ ≡ bs
 cancel [] as_ bs e = e
@@ -114,7 +114,7 @@ value_closed s r _ h = refl
 
 -- ## Trees and forests
 
--- a tree of a kind of special names: these are where nothing is named
+-- a tree of a kind of special names: where nothing is named
 unfoldable pub is_special : Sym → Bool
 is_special (OfKind k) = is_special_kind k
 is_special _ = false
@@ -123,7 +123,7 @@ unfoldable pub has_special : List Sym → Bool
 has_special [] = false
 has_special (x ∷ xs) = is_special x || has_special xs
 
--- what parts come to, both ways, where their parameters name this
+-- the values of parts, both ways, where their parameters name this
 pub record Many (own : Bool) (s : Place) (around : Around) (x : State) (y : value_.State) (a : Found (List Value) State) (b : Found (List value_.Value) value_.State) : Type 0 where
   pub values : b.value ≡ noted_values s a.value
   pub moves : Moves own around x y a.state b.state
@@ -143,7 +143,7 @@ alike_map R Q (Err e) (Err d) f r = r
 alike_map R Q (Ok a) (Err d) f r = absurd r
 alike_map R Q (Err e) (Ok b) f r = absurd r
 
--- a rule that is there, annotated
+-- an existing rule, annotated
 abbrev pub noted_open : (own : Bool) → Open State Around → value_.State → Open value_.State value_.Around
 noted_open own rule first = record { rule = rule.rule; taken = rule.taken; place = rule.place; context = noted_around own rule.context; before = first }
 

@@ -1,4 +1,5 @@
--- Laws of the table from which `Insides` is to be shown: encodings are made by productions that open one, and what a special name is of is in the kinds of special names alone.
+-- Laws of the table that imply `Insides`: encodings are made by productions that open one, and what a special name is about
+-- occurs only in the kinds of special names.
 use Rattle.std.proofs.Common.{◌≡◌, refl, ℕ, Bool, true, false, not, ◌||◌, nat_eq}
 use Rattle.cpp_grammar.specs.declared.kind.Kind.{Kind}
 use Rattle.cpp_grammar.specs.declared.production.Production.{Production}

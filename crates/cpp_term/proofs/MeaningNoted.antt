@@ -1,4 +1,4 @@
--- What productions stand for, annotated.
+-- What productions denote, annotated.
 use Rattle.std.proofs.Common.{◌≡◌, refl, ap, sym, ◌∙◌, ℕ, zero, suc, List, [], ◌∷◌, Bool, true, false, not, ◌&&◌, cond, nat_eq, Option, Some, None}
 use Rattle.std.proofs.lemmas.Bool.{true≢false, false≢true, and_parts}
 use Rattle.cpp_grammar.specs.declared.production.Production.{Production}
@@ -296,7 +296,7 @@ return_noted s t = go (scope_.arguments_of (annotate s t)) (arguments_of t) (arg
     go None (Some b) e = absurd (none_some s b e)
     go (Some a) None e = absurd (some_none s a e)
 
--- an encoding: its name is annotated by none, and its items by the arguments of the name
+-- an encoding: its name is annotated without arguments, and its items with the arguments of the name
 pub encoding_noted : (s : Place) (name : Value) (items : Term) →
     noted_.encoding_of (noted_value nowhere name) (annotate (place_in (arguments_of (tree_of name)) false) items) ≡ annotate s (meaning_.encoding_of name items)
 unfolding noted_.encoding_of meaning_.encoding_of annotate

@@ -37,13 +37,13 @@ abi_noted = record { between = between; close = close }
 unfoldable pub wide_noted : NotedWay
 wide_noted = record { between = between_wide; close = close_wide }
 
--- but for references it goes as in the reading of the ABI's grammar
+-- except for references it agrees with the reading of the ABI's grammar
 pub record IsPlainNoted (v : NotedWay) : Type 0 where
   pub between : (p : Production) → differs p ≡ false → (around : Around) (place : ℕ) (vs : List Value) (state : State) → v.between p around place vs state ≡ between p around place vs state
   pub close : (p : Production) → differs p ≡ false → (byte : ℕ) (around : Around) (place : ℕ) (began : State) (vs : List Value) (state : State) →
       v.close p byte around place began vs state ≡ close p byte around place began vs state
 
--- within an encoding it goes as the other does, with arguments
+-- within an encoding it agrees with the other, with arguments
 pub record IsNotedBy (w : Way) (v : NotedWay) : Type 0 where
   pub plain : IsPlainNoted v
   pub goes : (production : Production) (around : leaf_.Around) (place : ℕ) (vs : List leaf_.Value) (x : leaf_.State) (y : State) → StaysInside production → Settled around → y.packs ≡ x.packs →

@@ -14,7 +14,7 @@ use Rattle.cpp_term.specs.Annotated.{Place, nowhere, in_arguments, in_own, place
 pub both : {A B C : Type 0} (f : A → B → C) {a b : A} {c d : B} → a ≡ b → c ≡ d → f a c ≡ f b d
 both f {a} {b} {c} {d} e g = ap (λ x. f x c) e ∙ ap (f b) g
 
--- what two choices come to that are made alike
+-- the results of two choices that are made alike
 pub choose : {A B : Type 0} (R : A → B → Type 0) (b c : Bool) (x z : A) (y w : B) → c ≡ b → (b ≡ true → R x y) → (b ≡ false → R z w) →
     R (elim b [ true ↦ x | false ↦ z ]) (elim c [ true ↦ y | false ↦ w ])
 choose R true true x z y w e f g = f refl
@@ -39,7 +39,7 @@ element_noted s (list first rest) zero = refl
 element_noted s (list first rest) (suc k) = element_noted s rest k
 element_noted s _ k = refl
 
--- annotated, if it is there
+-- annotated, if it is present
 unfoldable pub noted_in : Place → Option Term → Option term_.Term
 noted_in s None = None
 noted_in s (Some t) = Some (annotate s t)
@@ -160,7 +160,7 @@ pack_noted s _ = refl
 
 -- ## Other arguments
 
--- the parameters that are free name what they are given where the tree is
+-- the free parameters name what they are given where the tree is
 abbrev pub NameThis : Place → term_.Term → Free → Type 0
 NameThis r a none_free = Unit {0}
 NameThis r a (one_free k) = argument_in r k ≡ given_for a k

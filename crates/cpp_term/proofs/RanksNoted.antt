@@ -167,7 +167,7 @@ operation_falls r c o x y h g =
     (falls_append r (operand_parts c o.left x) _ (operand_falls r c o.left x h)
     (falls_append r (text_part o.between) _ (falls_text r o.between) (falls_append r (operand_parts c o.right y) _ (operand_falls r c o.right y g) (falls_text r o.back))))
 
--- the entity of a local name weighs no more than what it is in
+-- the entity of a local name weighs no more than what contains it
 entity_weight : (c : Context) (entity : Term) → weight_in c (entity_of entity) ≤ weight_in c entity
 unfolding entity_of weight_in weight
 entity_weight c (of_default digits entity) = omega arith

@@ -312,7 +312,7 @@ given_alone_twice a none_free = refl
 given_alone_twice a (one_free k) = given_twice a k
 given_alone_twice a (several_free m) = refl
 
--- a tree with the head of its one parameter gets that one's argument alone
+-- a tree with the head of its one parameter gets only that one's argument
 pub reargued_lone : (a t : Term) → (head_from t ≡ of_its_own → ⊥) → reargued (Some (given_alone a (free_in t))) t ≡ reargued (Some a) t
 unfolding reargued argument_or head_from collapsed_from free_in given_alone
 reargued_lone a (rvalue t) other = ap (λ x. rvalue x) (reargued_lone a t (λ own. other (ap collapsed_from own)))

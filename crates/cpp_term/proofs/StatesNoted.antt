@@ -1,4 +1,5 @@
--- What runs along with the bytes, annotated: the candidates of an encoding by its scope, and closed ones in any way.
+-- The state that is threaded through the bytes, annotated: the candidates of an encoding by its scope, and closed ones in any
+-- way.
 use Rattle.std.proofs.Common.{◌≡◌, refl, ap, sym, ◌∙◌, subst, ℕ, zero, suc, ◌+◌, List, [], ◌∷◌, ◌++◌, Bool, true, false, not, ◌||◌, ◌&&◌, nat_eq, nat_lt, slice_get, Option, Some, None, Result, Ok, Err}
 use Rattle.std.proofs.lemmas.Bool.{eqb-true, true≢false, false≢true, and_parts}
 use Rattle.std.proofs.lemmas.List.{append_assoc, append-nil}
@@ -190,13 +191,13 @@ get_noted own around (c ∷ cs) (d ∷ ds) (suc n) all = get_noted own around cs
 get_noted own around [] (d ∷ ds) n all = absurd all
 get_noted own around (c ∷ cs) [] n all = absurd all
 
--- what a part comes to, both ways
+-- the value of a part, both ways
 pub record Comes (own : Bool) (around : Around) (x : State) (y : value_.State) (a : Found Value State) (b : Found value_.Value value_.State) : Type 0 where
   pub value : b.value ≡ noted_value (around_place own around) a.value
   pub moves : Moves own around x y a.state b.state
 
--- a candidate that may be named here has its arguments by the scope here
--- a candidate that is open was made in no signature whose parameters are its own
+-- A candidate that may be named here has its arguments by the scope here: an open candidate was made in no signature whose
+-- parameters are its own.
 abbrev pub IsOutside : (own : Bool) → Option Candidate → Type 0
 IsOutside own None = Unit {0}
 IsOutside own (Some c) = is_open c.tree ≡ true → own ≡ true → c.in_lambda ≡ false
@@ -387,7 +388,7 @@ held_noted own around (c ∷ cs) (d ∷ ds) (suc count) all = both (λ a b. a ||
 held_noted own around [] (d ∷ ds) count all = absurd all
 held_noted own around (c ∷ cs) [] count all = absurd all
 
--- compilers count the ones as they count the others
+-- compilers count one list as they count the other
 pub wide_numbered_noted : (around : Around) (place number : ℕ) (x : State) (y : value_.State) → Settled around → Same true around x y →
     Alike (Comes true around x y) (numbered around place number x) (wide_.numbered (noted_around true around) place number y)
 unfolding numbered wide_.numbered is_counted_alike wide_.is_counted_alike

@@ -139,7 +139,7 @@ unfolding in_types
 items_place true at name = refl
 items_place false at name = refl
 
--- what the parts of an encoding come to, both ways
+-- the values of the parts of an encoding, both ways
 record Inner (own : Bool) (p : Production) (around : Around) (x : State) (y : value_.State) (a : Found (List Value) State) (b : Found (List value_.Value) value_.State) : Type 0 where
   means : (byte : ℕ) → noted_.meaning p byte (noted_around own around) b.value ≡ noted_value (around_place own around) (meaning p byte around a.value)
   moves : Moves own around x y a.state b.state
@@ -157,7 +157,7 @@ encoding_made own around byte v w =
     ap (λ t. value_.tree (noted_.encoding_of (noted_value nowhere v) t) true) (items_noted (place_in (arguments_of (tree_of v)) false) w)
     ∙ ap (λ t. value_.tree t true) (encoding_noted (around_place own around) v (no_items w))
 
--- no parameter is free in the name of an encoding, so that its arguments are those of the scope
+-- no parameter is free in the name of an encoding, so its arguments are those of the scope
 arguments_noted : (t : Term) → is_open t ≡ false → between_.closed_arguments (annotate nowhere t) ≡ noted_scope (arguments_of t)
 unfolding between_.closed_arguments
 arguments_noted t closed = ap (λ b. elim b [ true ↦ None | false ↦ scope_.arguments_of (annotate nowhere t) ]) (open_noted nowhere t ∙ closed) ∙ scope_noted t
@@ -258,7 +258,7 @@ module _ (way : Way) (keeps : KeepsClosed way) (noted_way : NotedWay) (ways : Is
       (ways.comes (production_at rule.number) (byte_of taken) around at state other a.value a.state b.state (subst (λ q. Inside q a.value) (sym number) h) settled (same_moves way.own around state a.state other b.state same many.moves) same.packs))
       (λ u v u-is comes. record { values = ap (λ w. w ∷ []) comes.value; moves = moves_then way.own around state a.state u.state other b.state v.state many.moves comes.moves })))
 
-  -- the next part of a rule, where it is known what goes into it
+  -- the next part of a rule, where its inputs are known
   step : (Q : Found (List Value) State → Found (List value_.Value) value_.State → Type 0) (rule : Open State Around) (first : value_.State) (vs : List Value) (us : List value_.Value) (at : ℕ) (x : State) (y : value_.State)
       (t : Tree) (f : Forest) (n : Next Value State Around) (m : Next value_.Value value_.State value_.Around) →
       way.between (production_at rule.rule.number) rule.context rule.place vs x ≡ Ok n → noted_way.between (production_at rule.rule.number) (noted_around way.own rule.context) rule.place us y ≡ Ok m →
@@ -473,7 +473,7 @@ unfold_noted shape is =
     (tree_noted_ abi_way abi_keeps abi_noted abi_is_noted shape (OfKind SYMBOL) unfolding_.first_around 0 unfolding_.first_state unfolded_.first_state (trees_.known 0 (lit≤ tt)) is (omega arith) (λ opening. absurd (false≢true opening)) (λ special. absurd (false≢true special)) (λ l. absurd (false≢true l)) tt tt
     (record { packs = refl; all = tt }))
 
--- And so it is by the wide grammar.
+-- And likewise in the wide grammar.
 pub wide_unfold_noted : (shape : Tree) → IsTree wide (OfKind SYMBOL) shape → wide_.unfold_wide shape ≡ noted_tree (unfold_wide shape)
 unfolding cpp_wide wide_.cpp_wide reading_by reading_noted_by wide_way wide_noted wide_.unfold_wide unfold_wide unfolding_.first_around unfolding_.first_state unfolded_.first_around unfolded_.first_state is_encoding is_special is_special_kind noted_around noted_scope noted_prefix place_in
 wide_unfold_noted shape is =
@@ -496,7 +496,7 @@ all_as_many own around (c ∷ cs) (d ∷ ds) all = ap suc (all_as_many own aroun
 all_as_many own around [] (d ∷ ds) all = absurd all
 all_as_many own around (c ∷ cs) [] all = absurd all
 
--- the reading of a symbol with arguments, beside the one without: as many trees become candidates
+-- the reading of a symbol with arguments, beside the one without: the same number of trees become candidates
 pub record ReadWithArguments (shape : Tree) (read : Found (List Value) State) : Type 0 where
   pub other : Found (List value_.Value) value_.State
   pub is : unfold_tree unfolded_.cpp unfolded_.first_around 0 shape unfolded_.first_state ≡ Ok other

@@ -1,4 +1,4 @@
--- The tree in which each free parameter carries its argument, from the tree without and the arguments that are named.
+-- The tree in which each free parameter carries its argument, from the tree without them and the arguments that are named.
 use Rattle.std.specs.Prelude.{ℕ, List, [], ◌∷◌, Bool, true, false, ◌&&◌, Option, Some, None, Result, Ok, Err}
 use Rattle.sym_core.specs.declared.refusal.Refusal.{Refusal}
 use Rattle.sym_print.specs.Unfold.{PartOf, text, sub}
@@ -88,7 +88,7 @@ annotate s nil = term_.nil
 annotate s (list e rest) = term_.list (annotate s e) (annotate s rest)
 annotate s absent = term_.absent
 
--- the arguments of an encoding are closed, so they are annotated as standing nowhere
+-- the arguments of an encoding are closed, so they are annotated as being nowhere
 unfoldable pub noted_scope : Option Term → Option term_.Term
 noted_scope None = None
 noted_scope (Some arguments) = Some (annotate nowhere arguments)
@@ -99,7 +99,7 @@ place_in None true = in_own
 place_in None false = nowhere
 place_in (Some arguments) in_signature = in_arguments (annotate nowhere arguments)
 
--- what parameters name in what surrounds a part, where those in a lambda's signature may be its own
+-- what parameters name in the surroundings of a part, where those in a lambda's signature may be its own
 abbrev pub around_place : (own : Bool) → Around → Place
 around_place own around = place_in around.scope (own && around.in_lambda)
 
@@ -123,7 +123,7 @@ unfoldable pub noted_prefix : Place → Prefix → value_.Prefix
 noted_prefix s leaf_.outermost = value_.outermost
 noted_prefix s (leaf_.behind t listed) = value_.behind (annotate s t) listed
 
--- what surrounds a part
+-- the surroundings of a part
 unfoldable pub noted_around : (own : Bool) → Around → value_.Around
 noted_around own around = record {
   scope = noted_scope around.scope;

@@ -21,7 +21,7 @@ pub record Item : Type 0 where
 abbrev pub closed : Context
 closed = record { index = None }
 
--- of a pack its element at the index
+-- for a pack, its element at the index
 unfoldable pub indexed : Option ℕ → Term → Term
 indexed (Some i) (pack elements) = element elements i
 indexed index t = t
@@ -30,7 +30,7 @@ indexed index t = t
 abbrev pub auto : Term
 auto = builtin (68 ∷ 97 ∷ [])
 
--- the argument that a parameter stands for
+-- the argument that a parameter denotes
 unfoldable pub argument : Context → Term → Term
 argument context a = indexed context.index a
 

@@ -5,21 +5,21 @@ use Rattle.cpp_grammar.specs.Scope.{Free, one_free}
 use Rattle.cpp_term.specs.Scope.{element, is_alone}
 use Rattle.cpp_term.specs.Items.{HeadClass, collapsed_class}
 
--- an element of a list, if it is an argument by itself
+-- an element of a list, if it is an argument proper
 unfoldable pub if_alone : Term → Term
 if_alone t = elim (is_alone t) [ true ↦ t | false ↦ absent ]
 
--- what a parameter of this number gets: of a list of arguments its own, and any other argument itself
+-- what a parameter of this number gets: its own element of a list of arguments, and any other argument itself
 unfoldable pub given_for : (given : Term) → (number : ℕ) → Term
 given_for (list first rest) k = if_alone (element (list first rest) k)
 given_for a k = a
 
--- what is given, if something is, or else its own argument
+-- the given argument, if there is one, or else its own
 unfoldable pub argument_or : Option Term → (number : ℕ) → (own : Term) → Term
 argument_or None k own = own
 argument_or (Some a) k own = given_for a k
 
--- what the parameter gets that alone is free in a tree
+-- the argument for the one free parameter of a tree
 unfoldable pub given_alone : (given : Term) → Free → Term
 given_alone a (one_free k) = given_for a k
 given_alone a _ = a
@@ -116,7 +116,7 @@ class_from of_its_own own given = own
 class_from of_argument own given = given
 class_from collapsed_of_argument own given = collapsed_class given
 
--- whether the tree prints nothing, by whether the argument is a pack of no elements
+-- whether the tree prints nothing, by whether the argument is an empty pack
 unfoldable pub is_empty_with : (none : Bool) → Term → Bool
 is_empty_with none (expansion pattern) = bare pattern && none
 is_empty_with none (pack elements) = is_empty_with none elements

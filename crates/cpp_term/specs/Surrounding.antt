@@ -44,8 +44,8 @@ extended (behind t listed) piece = within t piece
 unfoldable pub with_tag : Term → List ℕ → Term
 with_tag t tag = tagged (is_structor t) t tag
 
--- A name, with arguments where there are some. A name that follows it is the same with tags, and perhaps arguments after
--- these: it takes its place.
+-- A name, with arguments where there are some. A name that follows it is the same with tags, and perhaps arguments after these:
+-- it takes its place.
 unfoldable pub applied : Term → Value → Term
 applied t (named u qualifiers ref) = u
 applied t v = elim (is_there v) [ true ↦ instance t (tree_of v) | false ↦ t ]
@@ -54,7 +54,7 @@ unfoldable pub no_items : Value → Term
 no_items nothing_there = nil
 no_items v = tree_of v
 
--- The name of a constructor that is inherited from a base class, with arguments of its own where there are some.
+-- The name of a constructor that is inherited from a base class, with its own arguments where it has some.
 unfoldable pub inherited : Prefix → (digit : ℕ) → (base : Value) → Value
 inherited prefix digit (pair letter own base) = tree (instance (extended prefix (inheriting digit base)) own) false
 inherited prefix digit base = tree (extended prefix (inheriting digit (tree_of base))) false
@@ -66,7 +66,7 @@ Going = Result (Next Value State Around) Refusal
 abbrev pub next : List Value → Around → State → Going
 next vs around state = Ok (record { values = vs; context = around; state = state })
 
--- a name that has been made comes before its arguments
+-- a finished name precedes its arguments
 unfoldable pub named_so_far : Around → Term → List Value → State → Going
 named_so_far around t vs state = next (tree t false ∷ vs) (after t false around) state
 

@@ -1,6 +1,6 @@
-//! C++ symbols read into trees in which a template parameter carries the argument that it stands for. A linker keeps such
-//! trees, since how long a part's packs are, and how it is shown, depend on the part alone. The laws here say that they stand
-//! for the trees of `cpp_grammar`, in which a parameter is a number.
+//! C++ symbols read into trees in which a template parameter carries the argument that it denotes. A linker keeps such trees,
+//! since how long a part's packs are, and how it is shown, depend only on the part. The laws here say that they denote the
+//! trees of `cpp_grammar`, where a parameter is a number.
 #![tactic(auto)]
 
 ghost use Rattle.std.specs.Prelude.{◌≡◌, ℕ, List, Bool, false, cond, Option, None, Some, Ok, Err};
@@ -35,15 +35,15 @@ pub fn parts_are_annotated()
     ensures { (detail : Detail) (item : Item) → part_.parts detail (noted_item item) ≡ noted_parts (leaf_.parts detail item) }
 {}
 
-/// A well shaped symbol read with arguments in its parameters comes to the tree of the symbol (ABI 5.1.8, 5.1.10), each free
-/// parameter with its argument; or it's refused for the same reason, at the same place. So it is by the wide grammar.
+/// A well shaped symbol read with arguments in its parameters yields the tree of the symbol (ABI 5.1.8, 5.1.10), each free
+/// parameter with its argument; or it's refused for the same reason, at the same place. The same holds in the wide grammar.
 pub fn trees_are_annotated()
     ensures abi { (shape : Tree) → IsTree wide (Kind 0) shape → unfolded_.unfold_cpp shape ≡ noted_tree (unfolding_.unfold_cpp shape) }
     ensures wide { (shape : Tree) → IsTree wide (Kind 0) shape → wide_.unfold_wide shape ≡ noted_tree (unfold_wide shape) }
 {}
 
-/// Without its arguments the tree that a symbol is read into is the tree of the symbol, and they can be told from that tree: no
-/// two symbols with one tree differ in them. It is an encoding with what follows it.
+/// Without its arguments the tree that a symbol is read into is the tree of the symbol, and that tree determines them: no two
+/// symbols with one tree differ in them. It is an encoding with what follows it.
 pub fn arguments_are_erased()
     ensures tree { (shape : Tree) (t : Term) → IsTree wide (Kind 0) shape → unfolded_.unfold_cpp shape ≡ Ok t → unfolding_.unfold_cpp shape ≡ Ok (erase t) }
     ensures carries { (shape : Tree) (t : Term) → IsTree wide (Kind 0) shape → unfolded_.unfold_cpp shape ≡ Ok t → CarriesArguments t }
@@ -69,9 +69,9 @@ pub fn answers_are_the_same()
     ensures abi { (detail : Detail) (limit : ℕ) (shape : Tree) → IsTree wide (Kind 0) shape → noted_answer detail limit (unfolded_.unfold_cpp shape) ≡ answer_within detail limit (unfolding_.unfold_cpp shape) }
 {}
 
-/// A tree with another argument in each of its free parameters, or with the elements of a list: without one it is the tree, the outer
-/// one of two counts, and it changes nothing where no parameter is free, nor what is left without arguments. The length of its packs, the head of a type and
-/// whether it prints nothing are those of the tree, or follow from the argument.
+/// A tree with another argument in each of its free parameters, or with the elements of a list: without one it is the tree; the
+/// outer of two counts; and it changes nothing where no parameter is free, nor what is left without arguments. The length of
+/// its packs, the head of a type and whether it prints nothing are those of the tree, or follow from the argument.
 pub fn arguments_are_replaced()
     ensures none { (t : Term) → reargued None t ≡ t }
     ensures twice { (c : Option Term) (a t : Term) → reargued (Some a) (reargued c t) ≡ reargued (Some a) t }

@@ -11,7 +11,7 @@ nested-row : fields_of (within foo (operator 112 108)) ≡ record { production =
 unfolding fields_of name_fields
 nested-row = refl
 
--- the prefix comes before a lambda's parameters
+-- the prefix precedes a lambda's parameters
 lambda-row : fields_of (within foo (lambda nil 2)) ≡ record { production = 59; numbers = 2 ∷ 0 ∷ []; texts = [] ∷ [] ∷ []; parts = foo ∷ nil ∷ [] }
 unfolding fields_of name_fields
 lambda-row = refl
@@ -44,7 +44,7 @@ table-row : fields_of (thunk (adjusting (by_table (record { negative = false; di
 unfolding fields_of thunk_fields bit
 table-row = refl
 
--- three offsets are told by themselves
+-- three offsets determine themselves
 abbrev wide : Thunk
 wide = covariant (non_virtual eight) (by_table eight eight)
 

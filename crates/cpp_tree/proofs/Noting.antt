@@ -78,7 +78,7 @@ own-noted again.of_its_own is = refl
 own-noted again.of_argument is = absurd cc
 own-noted again.collapsed_of_argument is = absurd cc
 
--- ## What a tree that is there again is given
+-- ## The argument of an alias
 
 lone-class : (a t : Term) → IsLone a t → items.class_of (reargued (Some a) t) ≡ class_from (head_from t) (items.class_of t) (items.class_of (term.parameter 0 a))
 unfolding class_from
@@ -218,7 +218,7 @@ module _ (y : Table) (table : IsTable y) where
   node-by-argument (Node.Reargued t a) b = by-argument-at t b.0 ∙ sym (by_argument_reargued (Some (tree_at (trees y) a)) (tree_at (trees y) t))
   node-by-argument _ b = refl
 
-  -- ## What a node stands for
+  -- ## What a node denotes
 
   pub place-is : (i : ℕ) → i < length y.nodes → placed_tree (trees y) (resolved_at y.nodes i) ≡ tree_at (trees y) i
   unfolding placed_tree tree_if_there place_of tree_of
@@ -264,7 +264,7 @@ module _ (y : Table) (table : IsTable y) where
   arguments-again a None = refl
   arguments-again a (Some p) = ap Some (sym (reargued_twice (tree_if_there (trees y) p.under) (tree_at (trees y) a) (tree_at (trees y) p.node)))
 
-  -- what a tree that is there again has of its own, by where its head is from
+  -- what an alias has of its own, by where its head is from
   head-at : (t : ℕ) → t < length y.nodes → (by_argument_at y.nodes t).head ≡ head_noted (head_from (tree_at (trees y) t))
   unfolding by_argument_of
   head-at t less = ap (λ l. l.head) (by-argument-at t less)
@@ -415,7 +415,7 @@ module _ (y : Table) (table : IsTable y) where
       → class_is (trees y) (class_by (by_argument_at y.nodes t).head (entry_at y.nodes t).class (argument_class y.nodes a)) ≡ items.class_of (reargued (Some (tree_at (trees y) a)) (tree_at (trees y) t))
   class-again t a less few lone = class-given t a less few ∙ sym (lone-class (tree_at (trees y) a) (tree_at (trees y) t) lone)
 
-  -- and by what its one parameter is given
+  -- and by the argument of its one parameter
   pub class-by-given : (t g : ℕ) (a : Term) → t < length y.nodes → g < length y.nodes → tree_at (trees y) g ≡ given_alone a (free_in (tree_at (trees y) t))
       → class_is (trees y) (class_by (by_argument_at y.nodes t).head (entry_at y.nodes t).class (argument_class y.nodes g)) ≡ items.class_of (reargued (Some a) (tree_at (trees y) t))
   class-by-given t g a less few is =
@@ -640,7 +640,7 @@ module _ (y : Table) (table : IsTable y) where
   alone-node (Node.Reargued t a) flat = absurd (true≢false flat)
   alone-node _ flat = refl
 
-  -- whether a node's tree is an argument by itself
+  -- whether a node's tree is an argument proper
   pub alone-shape : (i : ℕ) → i < length y.nodes → is_argument_node (shape_at y.nodes i) && not (is_open (tree_at (trees y) i)) ≡ is_alone (tree_at (trees y) i)
   unfolding placed_tree
   alone-shape i less =

@@ -111,7 +111,7 @@ placed_behind y i k run u table less is more =
     ∙ ap (λ m. under_tree y u (element (tree_at (trees y) i) m)) (let e : run + suc (k - (run + 1)) ≡ k = omega (arith, more) in e)
     ∙ sym (placed_element y (record { node = i; under = u }) k)
 
--- the list goes on with the last cell's rest
+-- the list continues with the last cell's rest
 pub run_next : (y : Table) (i k run first rest : ℕ) (u : Option ℕ) (s : Placed) → IsTable y → i < length y.nodes → (entry_at y.nodes i).run ≡ run → run < k
     → placed_tree (trees y) s ≡ placed_tree (trees y) (record { node = i - run; under = u }) → s.node < length y.nodes → (entry_at y.nodes s.node).node ≡ Node.Cell first rest
     → element (placed_tree (trees y) (record { node = rest; under = s.under })) (k - (run + 1)) ≡ element (placed_tree (trees y) (record { node = i; under = u })) k
@@ -175,7 +175,7 @@ pub erased_again : (y : Table) (t a : ℕ) (n : Node) → n ≡ Node.Reargued t 
 unfolding tree_of
 erased_again y t a n is = ap (λ x. erase (tree_of y.bytes y.thunks (trees y) x)) is ∙ erase_reargued (Some (tree_at (trees y) a)) (tree_at (trees y) t)
 
--- the fields of a function: under what its types are isn't seen
+-- the fields of a function: the argument under which its types are doesn't show
 pub function_fields : (y : Table) (name returned parameters under : ℕ) (q : Qualifiers) (m : Mark)
     → seen_fields y (seen_of FUNCTION (qualifiers_number (qualifiers_of q) ∷ mark_number (mark_of m) ∷ []) (no_text ∷ no_text ∷ []) 3 (name ∷ returned ∷ parameters ∷ []))
     ≡ fields_of (erase (tree_of y.bytes y.thunks (trees y) (Node.Function name q m returned parameters under)))
@@ -222,7 +222,7 @@ pub is_no_list : (y : Table) (p : Placed) (t : Term) → IsTable y → p.node < 
 is_no_list y p t table less is flat other =
     sym (placed-list y p t is ∙ ap is_list (table.each p.node less).built ∙ no_list_node y.bytes y.thunks (trees y) (entry_at y.nodes p.node).node flat other)
 
--- an element, by whether it is an argument by itself
+-- an element, by whether it is an argument proper
 chosen-by : (t : Term) (b : Bool) → is_alone t ≡ b → if_alone t ≡ elim b as (λ _. Term) [ true ↦ t | false ↦ absent ]
 unfolding if_alone
 chosen-by t b is = ap (λ x. elim x as (λ _. Term) [ true ↦ t | false ↦ absent ]) is
@@ -257,7 +257,7 @@ unfolding given_for is_list
 given_listed (list first rest) k is = refl
 given_listed _ k is = absurd (true≢false (sym is))
 
--- and where not one parameter alone is free
+-- and where not exactly one parameter is free
 pub given_other : (a : Term) (f : Free) → ((k : ℕ) → f ≡ Free.One k → ⊥) → a ≡ given_alone a (free_is f)
 unfolding given_alone free_is
 given_other a Free.None other = refl

@@ -40,7 +40,7 @@ pub told-two : (y : Table) {n shown : Node} {seen : NodeView} {part next : ℕ} 
 told-two y {part = part} {next = next} is fields texts parts count held =
     told-name y is fields texts (λ k b. rw (count, parts) (two-below k part next (held k b).0 (held k b).1)) (omega (arith, count))
 
--- It is seen by a view of these numbers and texts, and of so many parts.
+-- Its view has these numbers and texts, and this many parts.
 seen-by : (y : Table) (m : ℕ) {n shown : Node} {seen : NodeView} {production first second a b count : ℕ} {text : Span} {parts : List ℕ}
     → n ≡ shown → IsBelow y.bytes (length y.thunks) m n → seen ≡ seen_of production (first ∷ second ∷ []) (text ∷ no_text ∷ []) count parts
     → first ≡ a → second ≡ b → seen_fields y (seen_of production (a ∷ b ∷ []) (text ∷ no_text ∷ []) count parts) ≡ fields_of (erase (tree_of y.bytes y.thunks (trees y) shown))

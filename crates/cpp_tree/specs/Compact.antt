@@ -57,7 +57,7 @@ unfoldable pub has_pack_kept : Words → Bool
 has_pack_kept Words.ElementsWithPack = true
 has_pack_kept _ = false
 
--- the free parameters: the number is that of one alone, or the greatest of several
+-- the free parameters: the number is that of the only one, or the greatest of several
 unfoldable pub free_kept : FreeCount → (number : ℕ) → Free
 free_kept FreeCount.None k = Free.None
 free_kept FreeCount.One k = Free.One k
@@ -80,7 +80,7 @@ kept n packs free is_empty by_argument words first second = record {
   has_pack = has_pack_kept words;
 }
 
--- the entry of a list of so many elements
+-- the entry of a list of n elements
 abbrev pub with_elements : (n : Node) (packs : Option ℕ) (free : Free) (is_empty : Bool) (by_argument : ByArgument) (count run : ℕ) (has_pack : Bool) → Entry
 with_elements n packs free is_empty by_argument count run has_pack = record {
   node = n;
@@ -148,7 +148,7 @@ with_tags n packs free by_argument untagged = record {
   has_pack = false;
 }
 
--- the entry of a tree that is there again with an argument, where its head is its own, by the words of the tree
+-- the entry of an alias with an argument, where its head is its own, by the words of the tree
 abbrev pub own_entry : (n : Node) (packs : Option ℕ) (free : Free) (is_empty : Bool) (by_argument : ByArgument) (words : Words) (first second argument : ℕ) → Entry
 own_entry n packs free is_empty by_argument words first second argument = record {
   node = n;
@@ -165,7 +165,7 @@ own_entry n packs free is_empty by_argument words first second argument = record
   has_pack = has_pack_kept words;
 }
 
--- the same, by the entry of the tree and the head that a parameter with the argument has
+-- likewise, by the entry of the tree and the head that a parameter with the argument has
 abbrev pub restated_entry : (n : Node) (packs : Option ℕ) (is_empty : Bool) (own : Entry) (argument : ℕ) (given : HeadClass) → Entry
 restated_entry n packs is_empty own argument given = record {
   node = n;
@@ -182,6 +182,6 @@ restated_entry n packs is_empty own argument given = record {
   has_pack = if_own own.by_argument.head own.has_pack false;
 }
 
--- the entry that is held
+-- the entry that is kept
 abbrev pub entry_of : Compact → Entry
 entry_of c = kept c.node (packs_kept c.packs) (free_kept c.free c.number) c.is_empty c.by_argument c.words c.first c.second

@@ -31,7 +31,7 @@ qualifiers_number q = bit q.restrict + 2 * bit q.volatile + 4 * bit q.const
 abbrev pub linkage_number : (c_linkage noexcept : Bool) → ℕ
 linkage_number c_linkage noexcept = bit c_linkage + 2 * bit noexcept
 
--- what no node stands for has itself for its part
+-- what no node denotes has itself for its part
 abbrev pub no_node : Term → Fields
 no_node t = fields NO_NODE 0 0 [] (t ∷ [])
 
@@ -137,7 +137,7 @@ unfoldable pub offsets_of : Term → Option Thunk
 offsets_of (thunk kind encoding) = Some kind
 offsets_of _ = None
 
--- ## The tree of fields. What isn't there is no tree.
+-- ## The tree of fields. A missing field is no tree.
 
 abbrev number_in : Fields → (k : ℕ) → ℕ
 number_in given k = get_or given.numbers k 0

@@ -1,4 +1,4 @@
--- The trees that nodes stand for.
+-- The trees that nodes denote.
 use Rattle.std.specs.Prelude.{◌≡◌, ℕ, zero, suc, ◌<◌, ◌≤◌, ◌-◌, ◌+◌, List, [], ◌∷◌, ◌++◌, length, get_or, slice_get, slice_range, Bool, true, false, Option, None, Some}
 use Rattle.std.specs.List.{All}
 use Rattle.sym_core.specs.declared.Span.{Span}
@@ -84,7 +84,7 @@ unfoldable pub tree_if_there : List Term → Option ℕ → Option Term
 tree_if_there ts None = None
 tree_if_there ts (Some i) = Some (tree_at ts i)
 
--- what a word says: a node, which is one less, and 0 none
+-- what a word says: a node, which is one less, or none, for 0
 unfoldable pub under_kept : ℕ → Option ℕ
 under_kept zero = None
 under_kept (suc n) = Some n
@@ -286,7 +286,7 @@ abbrev pub IsPlacedThere : ℕ → Option Placed → Type 0
 IsPlacedThere n None = Unit {0}
 IsPlacedThere n (Some a) = IsPlacedBelow n a
 
--- the tree of a name's tags taken away: its own where none are noted
+-- the tree of a name without its tags: its own where none are noted
 unfoldable pub untagged_is : List Term → Term → Option Placed → Term
 untagged_is ts t None = t
 untagged_is ts t (Some p) = placed_tree ts p
@@ -312,12 +312,12 @@ is_again _ = false
 abbrev pub entry_at : List Entry → ℕ → Entry
 entry_at es i = get_or es i (record { node = Node.Absent; packs = None; free = Free.None; is_empty = false; by_argument = by_none false; class = HeadClass.Known Head.Plain; arguments = None; untagged = None; returns = false; count = 0; run = 0; has_pack = false })
 
--- a tree that is there again isn't one that is there again itself
+-- the tree of an alias isn't an alias itself
 abbrev pub IsFlat : List Entry → Node → Type 0
 IsFlat es (Node.Reargued t a) = is_again (entry_at es t).node ≡ false
 IsFlat es _ = Unit {0}
 
--- what a tree is given isn't a list where its head is that of what its one parameter gets
+-- the argument of a tree's one parameter isn't a list where the tree's head is that argument's
 abbrev pub IsLone : (given t : Term) → Type 0
 IsLone a t = (head_from t ≡ again.of_its_own → ⊥) → given_alone a (free_in t) ≡ a
 
@@ -325,8 +325,8 @@ abbrev pub IsSettled : List Term → Node → Type 0
 IsSettled ts (Node.Reargued t a) = IsLone (tree_at ts a) (tree_at ts t)
 IsSettled ts _ = Unit {0}
 
--- What holds of the node at a place: all that is noted follows from its tree. A cell's run is how many of the nodes before it are
--- the cells after it, so that an element is found by a subtraction.
+-- What holds of the node at a place: all that is noted follows from its tree. A cell's run is how many of the nodes before it
+-- are the cells after it, so that an element is found by a subtraction.
 pub record IsEntry (y : Table) (ts : List Term) (i : ℕ) (e : Entry) : Type 0 where
   pub built : tree_at ts i ≡ tree_of y.bytes y.thunks ts e.node
   pub below : IsBelow y.bytes (length y.thunks) i e.node
@@ -348,7 +348,7 @@ pub record IsEntry (y : Table) (ts : List Term) (i : ℕ) (e : Entry) : Type 0 w
   pub run_below : e.run ≤ i
   pub pack_told : e.has_pack ≡ has_pack (tree_at ts i)
 
--- The first four nodes are the absent tree, the empty list, the pack of no elements, and the builtin type auto.
+-- The first four nodes are the absent tree, the empty list, the empty pack, and the builtin type auto.
 pub record IsTable (y : Table) : Type 0 where
   pub fixed : 3 < length y.nodes
   pub no_tree : tree_at (trees y) 0 ≡ term.absent
@@ -361,7 +361,7 @@ pub record IsTable (y : Table) : Type 0 where
 
 -- ## One more node
 
--- The node is made of what is there, and what is noted of it is what its tree would have.
+-- The node is made of existing ones, and what is noted of it is what its tree would have.
 pub record IsNoted (y : Table) (e : Entry) : Type 0 where
   pub below : IsBelow y.bytes (length y.thunks) (length y.nodes) e.node
   pub packs : e.packs ≡ pack_length (tree_of y.bytes y.thunks (trees y) e.node)

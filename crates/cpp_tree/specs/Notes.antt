@@ -71,7 +71,7 @@ frees es _ = Free.None
 abbrev pub by_argument_at : List Entry → ℕ → ByArgument
 by_argument_at es i = (entry_at es i).by_argument
 
--- of a tree over one, and over two: the packs alone
+-- of a tree over one, and over two: only the packs
 unfoldable pub passed : ByArgument → ByArgument
 passed l = record { is_bare = l.is_bare; head = HeadFrom.Own; empty_with = false; empty_without = false }
 
@@ -135,13 +135,13 @@ node_by_argument es (Node.Cell first rest) = of_cell (by_argument_at es first) (
 node_by_argument es (Node.Reargued t a) = by_argument_at es t
 node_by_argument es _ = by_none false
 
--- of a tree that is there again, whether it prints nothing, by its argument
+-- of an alias, whether it prints nothing, by its argument
 unfoldable pub empty_by : (none : Bool) → ByArgument → Bool
 empty_by none l = cond none l.empty_with l.empty_without
 
--- ## The tree that is there again
+-- ## The tree of an alias
 
--- what a node stands for: a tree with another argument, or its own tree
+-- what a node denotes: a tree with another argument, or its own tree
 unfoldable pub place_of : ℕ → Node → Placed
 place_of i (Node.Reargued t a) = record { node = t; under = Some a }
 place_of i _ = record { node = i; under = None }
@@ -306,7 +306,7 @@ is_argument_node (Node.Pack elements) = false
 is_argument_node (Node.Cell first rest) = false
 is_argument_node _ = true
 
--- whether the tree of a node is an argument by itself
+-- whether the tree of a node is an argument proper
 abbrev pub alone_at : List Entry → ℕ → Bool
 alone_at es i = is_argument_node (shape_at es i) && not (has_free (free_is (free_at es i)))
 
@@ -342,6 +342,6 @@ noting es n = record {
   has_pack = having_pack es n;
 }
 
--- a node of which nothing is noted, but whether it prints nothing
+-- a node with nothing noted, except whether it prints nothing
 abbrev pub bare_entry : Node → Bool → Entry
 bare_entry n empty = record { node = n; packs = None; free = Free.None; is_empty = empty; by_argument = by_none empty; class = HeadClass.Known Head.Plain; arguments = None; untagged = None; returns = false; count = 0; run = 0; has_pack = false }

@@ -13,7 +13,7 @@ use Rattle.cpp_tree.specs.Fields.{Fields, fields_of, offsets_of}
 use Rattle.cpp_tree.specs.declared.view.Node.{Node}
 use Rattle.cpp_tree.specs.declared.view.NodeView.{NodeView}
 
--- the tree of a node, in which parameters are their numbers alone
+-- the tree of a node, where parameters are only their numbers
 abbrev pub plain_tree : Table → (node : ℕ) → Term
 plain_tree y node = erase (tree_at (trees y) node)
 
@@ -28,8 +28,8 @@ pub record IsView (s : List ℕ) (view : Node) (given : Fields) : Type 0 where
   pub texts : map (bytes_at s) view.texts ≡ given.texts
   pub parts : view.parts ≡ length given.parts
 
--- Two views have the same production and numbers, texts of the same bytes, and as many parts; the parts are equal in turn, and the
--- offsets of thunks that have more than two.
+-- Two views have the same production and numbers, texts of the same bytes, and equally many parts; the parts are equal in turn,
+-- and so are the offsets of thunks that have more than two.
 pub record AreAlike (s t : List ℕ) (first second : Node) (one other : Term) : Type 0 where
   pub production : first.production ≡ second.production
   pub numbers : first.numbers ≡ second.numbers
@@ -46,7 +46,7 @@ abbrev pub seen_of : (production : ℕ) → (numbers : List ℕ) → (texts : Li
 seen_of production numbers texts count parts =
     record { node = record { production = production; numbers = numbers; texts = texts; parts = count }; parts = parts }
 
--- the same of a name, after a prefix if there is one
+-- likewise for a name, after a prefix if there is one
 abbrev pub seen_behind : (production : ℕ) → (numbers : List ℕ) → (text : Span) → (prefix : Option ℕ) → NodeView
 seen_behind production numbers text None = seen_of production numbers (text ∷ no_text ∷ []) 0 (0 ∷ 0 ∷ 0 ∷ [])
 seen_behind production numbers text (Some prefix) = seen_of production numbers (text ∷ no_text ∷ []) 1 (prefix ∷ 0 ∷ 0 ∷ [])
@@ -55,7 +55,7 @@ abbrev pub prefix_trees : Table → (prefix : Option ℕ) → List Term
 prefix_trees y None = []
 prefix_trees y (Some prefix) = plain_tree y prefix ∷ []
 
--- the fields that a view has, with the trees of its parts
+-- the fields of a view, with the trees of its parts
 abbrev pub seen_fields : Table → NodeView → Fields
 seen_fields y seen = record {
   production = seen.node.production;

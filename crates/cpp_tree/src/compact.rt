@@ -8,8 +8,8 @@ ghost use Rattle.cpp_tree.specs.Notes.{bare_entry};
 
 use crate::node::{ByArgument, Entry, Free, Head, HeadClass, HeadFrom, Node, Placed, under_of};
 
-/// What two words beside a node tell: of a type a list of elements, of a name its arguments or itself without tags, each with the
-/// argument under which it is, and of a list its count and its run, and whether it has a pack among its elements.
+/// What two words beside a node record: of a type a list of elements, of a name its arguments or itself without tags, each with
+/// the argument under which it is, and of a list its count and its run, and whether it has a pack among its elements.
 #[derive(Clone, Copy)]
 pub enum Words {
     Plain,
@@ -25,8 +25,8 @@ pub enum Words {
     ElementsWithPack,
 }
 
-/// How many parameters are free. The number of one alone is beside it, and of several the greatest: an enum that holds the number would
-/// make an entry 56 bytes.
+/// How many parameters are free. The number of the only one is beside it, and of several the greatest: an enum that holds the
+/// number would make an entry 56 bytes.
 #[derive(Clone, Copy)]
 pub enum FreeCount {
     None,
@@ -34,8 +34,8 @@ pub enum FreeCount {
     Several,
 }
 
-/// An entry in 48 bytes: what no node has at once (the arguments of a name, the name under its tags, the elements of a list, the head
-/// of a type) shares the two words.
+/// An entry in 48 bytes: the two words are shared by what no node has at once (the arguments of a name, the name under its
+/// tags, the elements of a list, the head of a type).
 #[derive(Clone, Copy)]
 pub struct Compact {
     pub node: Node,
@@ -43,7 +43,7 @@ pub struct Compact {
     pub packs: u32,
     pub first: u32,
     pub second: u32,
-    /// The number of the free parameter, where one alone is free, and the greatest, where several are.
+    /// The number of the free parameter, where only one is free, and the greatest, where several are.
     pub number: u32,
     pub free: FreeCount,
     pub is_empty: bool,
@@ -62,7 +62,7 @@ pub(crate) fn packs(kept: u32) -> Option<u32>
     if kept == 0 { None } else { Some(kept - 1) }
 }
 
-/// The tree of the node that the first word is, under the argument that the second says.
+/// The tree of the node in the first word, under the argument in the second.
 #[inline(always)]
 fn placed(first: u32, second: u32) -> Placed
     ensures { result ≡ placed_kept first second }
@@ -139,7 +139,7 @@ fn count(words: Words, first: u32) -> u32
     }
 }
 
-/// How many cells come before a cell.
+/// How many cells precede a cell.
 #[inline(always)]
 #[tactic(auto, unfolding(crate::specs::Compact::run_kept))]
 fn run(words: Words, second: u32) -> u32
@@ -178,7 +178,7 @@ fn free_parameters(kept: FreeCount, number: u32) -> Free
 }
 
 impl Compact {
-    /// The entry that is held.
+    /// The entry that is kept.
     #[inline(always)]
     pub(crate) fn entry(self) -> Entry
         ensures { result ≡ entry_of self }
@@ -213,7 +213,7 @@ pub(crate) fn by_none(empty: bool) -> ByArgument
     }
 }
 
-/// A node of which nothing is noted.
+/// A node with nothing noted.
 #[inline(always)]
 #[tactic(auto, unfolding(crate::specs::Compact::packs_kept, crate::specs::Compact::class_kept, crate::specs::Compact::arguments_kept, crate::specs::Compact::untagged_kept, crate::specs::Compact::returns_kept, crate::specs::Compact::count_kept, crate::specs::Compact::run_kept, crate::specs::Compact::has_pack_kept, crate::specs::Compact::free_kept))]
 pub(crate) fn bare(node: Node, is_empty: bool) -> Compact

@@ -35,7 +35,7 @@ impl Nodes {
         }
     }
 
-    /// The element of a list at a place, or the absent tree. Of cells that were made one after the other it is found at once.
+    /// The element of a list at a place, or the absent tree. It is found at once if the cells were made one after the other.
     pub fn element(&self, symbol: &[u8], list: Placed, k: u32) -> Placed
         requires table { IsTable (over symbol.now self.now) }
         requires list { IsPlacedBelow (length self.now.nodes) list }
@@ -74,7 +74,7 @@ impl Nodes {
         }
     }
 
-    /// Of a pack its element at the index.
+    /// For a pack, its element at the index.
     pub fn indexed(&self, symbol: &[u8], index: Option<u32>, argument: Placed) -> Placed
         requires table { IsTable (over symbol.now self.now) }
         requires argument { IsPlacedBelow (length self.now.nodes) argument }
@@ -98,7 +98,7 @@ impl Nodes {
         }
     }
 
-    /// The node of a tree in which no parameter is free: the argument under which it is changes nothing of it.
+    /// The node of a tree in which no parameter is free: the argument under which it is doesn't change it.
     #[inline(always)]
     pub fn closed_node(&self, symbol: &[u8], tree: Placed) -> u32
         requires table { IsTable (over symbol.now self.now) }
@@ -123,7 +123,7 @@ impl Nodes {
         }
     }
 
-    /// Whether a list has a pack among its elements, or another that is no argument by itself.
+    /// Whether a list has a pack among its elements, or another element that isn't an argument proper.
     #[inline(always)]
     pub fn has_pack(&self, symbol: &[u8], list: u32) -> bool
         requires table { IsTable (over symbol.now self.now) }
@@ -133,7 +133,7 @@ impl Nodes {
         self.entry(list).has_pack
     }
 
-    /// An element of a list if it is an argument by itself, or else the absent tree.
+    /// An element of a list if it is an argument proper, or else the absent tree.
     fn if_alone(&self, symbol: &[u8], element: Placed) -> u32
         requires table { IsTable (over symbol.now self.now) }
         requires element { IsPlacedBelow (length self.now.nodes) element }
@@ -150,8 +150,8 @@ impl Nodes {
         ABSENT
     }
 
-    /// What a parameter of this number gets: of a list of arguments its own, and any other argument itself. It is found at once where
-    /// the list's cells were made one after the other.
+    /// What a parameter of this number gets: its own element of a list of arguments, and any other argument itself. It is found
+    /// at once where the list's cells were made one after the other.
     pub fn given_for(&self, symbol: &[u8], given: u32, number: u32) -> u32
         requires table { IsTable (over symbol.now self.now) }
         requires given { given < length self.now.nodes }
@@ -168,7 +168,7 @@ impl Nodes {
         given
     }
 
-    /// What the parameter gets that alone is free in a tree.
+    /// The argument for the one free parameter of a tree.
     pub(crate) fn given_alone(&self, symbol: &[u8], given: u32, free: Free) -> u32
         requires table { IsTable (over symbol.now self.now) }
         requires given { given < length self.now.nodes }

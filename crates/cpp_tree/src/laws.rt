@@ -14,7 +14,7 @@ pub fn fields_make_the_tree()
     ensures { (one : Term) → tree_from (fields_of one) (offsets_of one) ≡ one }
 {}
 
-/// Trees are equal exactly where their views are alike, be they of one symbol or of two.
+/// Trees are equal exactly where their views are alike, whether they are of one symbol or of two.
 pub fn equal_trees_have_equal_views()
     ensures equal { (s t : List ℕ) (first second : Node) (one other : Term) → IsView s first (fields_of one) → IsView t second (fields_of other)
         → AreAlike s t first second one other → one ≡ other }

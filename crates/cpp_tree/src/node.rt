@@ -7,7 +7,7 @@ ghost use Rattle.cpp_tree.specs.Notes.{is_structor_node, is_argument_node};
 
 use sym_core::Span;
 
-/// 1 for what is so.
+/// 1 for what holds.
 #[tactic(auto, unfolding(crate::specs::Fields::bit))]
 pub fn bit(test: bool) -> u8
     ensures is { result ≡ bit test }
@@ -39,7 +39,7 @@ pub fn under_of(word: u32) -> Option<u32>
     if word == 0 { None } else { Some(word - 1) }
 }
 
-/// What is said of a type or a function by const, volatile and restrict.
+/// The const, volatile and restrict of a type or a function.
 #[derive(Clone, Copy)]
 pub struct Qualifiers {
     pub restrict: bool,
@@ -382,7 +382,7 @@ pub struct ByArgument {
     /// Whether one is under no expansion of the tree, so that its packs are the argument's.
     pub is_bare: bool,
     pub head: HeadFrom,
-    /// Whether it prints nothing where the argument is a pack of no elements.
+    /// Whether it prints nothing where the argument is an empty pack.
     pub empty_with: bool,
     /// And where it is none.
     pub empty_without: bool,

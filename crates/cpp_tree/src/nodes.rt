@@ -35,17 +35,17 @@ impl Model for Nodes {
 /// The node where no tree is.
 pub const ABSENT: u32 = 0;
 
-/// The list of no elements.
+/// The empty list.
 pub const NIL: u32 = 1;
 
-/// The pack of no elements. A table begins with it, so that no step of the linker adds more than two nodes.
+/// The empty pack. A table begins with it, so that no step of the linker adds more than two nodes.
 pub const NO_ELEMENTS: u32 = 2;
 
 /// The builtin type auto, which is the argument of a lambda's own parameters.
 pub const AUTO: u32 = 3;
 
 impl Nodes {
-    /// A table of no nodes.
+    /// A table without nodes.
     pub fn new(alloc: Global) -> Nodes
         ensures nodes { result.nodes ≡ [] }
         ensures thunks { result.thunks ≡ [] }
@@ -56,7 +56,7 @@ impl Nodes {
         }
     }
 
-    /// Takes all nodes away, keeps their memory, and puts the four that each table begins with.
+    /// Removes all nodes, keeps their memory, and puts the four at the front of each table.
     ///
     /// # Errors
     ///
@@ -119,7 +119,7 @@ impl Nodes {
         }
     }
 
-    /// A node, which is made of earlier ones.
+    /// A node, made of earlier ones.
     #[inline(always)]
     pub fn node(&self, symbol: &[u8], node: u32) -> Node
         requires table { IsTable (over symbol.now self.now) }
@@ -131,7 +131,7 @@ impl Nodes {
         self.entry(node).node
     }
 
-    /// What a node stands for: the tree that is there again with its argument, or its own tree.
+    /// What a node denotes: the tree of an alias with the alias's argument, or its own tree.
     #[inline(always)]
     pub(crate) fn resolved(&self, symbol: &[u8], node: u32) -> Placed
         requires table { IsTable (over symbol.now self.now) }
@@ -150,7 +150,7 @@ impl Nodes {
         }
     }
 
-    /// What a node stands for under an argument: the outer of two arguments counts.
+    /// What a node denotes under an argument: the outer of two arguments counts.
     #[inline(always)]
     pub fn settled(&self, symbol: &[u8], tree: Placed) -> Placed
         requires table { IsTable (over symbol.now self.now) }
@@ -187,7 +187,7 @@ impl Nodes {
         }
     }
 
-    /// The same of a node.
+    /// Likewise for a node.
     #[inline(always)]
     fn untagged_node(&self, symbol: &[u8], name: u32) -> Placed
         requires table { IsTable (over symbol.now self.now) }
@@ -204,7 +204,7 @@ impl Nodes {
         }
     }
 
-    /// What a tree that is there again is given: the argument of its one parameter where its head is that one's.
+    /// The argument of an alias: that of the tree's one parameter where its head is that one's.
     #[inline(always)]
     fn lone(&self, symbol: &[u8], tree: u32, argument: u32) -> u32
         requires table { IsTable (over symbol.now self.now) }
@@ -221,7 +221,7 @@ impl Nodes {
         }
     }
 
-    /// The node with a tree that isn't there again itself.
+    /// The node with a tree that isn't an alias itself.
     #[inline(always)]
     fn flat(&self, symbol: &[u8], node: Node) -> Node
         requires table { IsTable (over symbol.now self.now) }
@@ -243,8 +243,8 @@ impl Nodes {
         }
     }
 
-    /// Adds a node, and answers its number. It stands for its production over its parts' trees, and earlier nodes for what they
-    /// stood for.
+    /// Adds a node, and answers its number. It denotes its production over its parts' trees, and earlier nodes denote what they
+    /// denoted.
     ///
     /// # Errors
     ///

@@ -22,7 +22,7 @@ use crate::words::{
     of_type, passed,
 };
 
-/// Two words, of which the first is a node and the second the argument under which it is and one more.
+/// Two words: the first is a node, and the second the argument under which it is and one more.
 #[derive(Clone, Copy)]
 struct Pair {
     first: u32,
@@ -84,7 +84,7 @@ fn packs_of_two(one: Compact, other: Compact) -> u32
     }
 }
 
-/// How many parameters are free, and the number of one alone or the greatest of several.
+/// How many parameters are free, and the number of the only one or the greatest of several.
 #[derive(Clone, Copy)]
 struct Freed {
     free: FreeCount,
@@ -127,7 +127,7 @@ fn free_beside(number: u32, part: Compact) -> Freed
     }
 }
 
-/// The free parameters of several, of which this is the greatest number, and of a part.
+/// The free parameters of several, this being the greatest number, and of a part.
 #[inline(always)]
 #[tactic(auto, unfolding(crate::specs::Compact::free_kept, crate::specs::Notes::both_free))]
 fn several_beside(greatest: u32, part: Compact) -> Freed
@@ -196,8 +196,8 @@ fn noted_over_two(
     }
 }
 
-/// What a parameter has of its argument: the length of its packs and one more, 0 where it has none, and of what the words tell
-/// the head.
+/// What a parameter has of its argument: the length of its packs and one more, 0 where it has none, and the head where the
+/// words record it.
 #[derive(Clone, Copy)]
 struct Given {
     packs: u32,
@@ -215,7 +215,7 @@ fn packs_given(is_bare: bool, given: u32) -> u32
     if is_bare { given } else { 0 }
 }
 
-/// The second word of a tree that is there again with this argument, where its head is its own.
+/// The second word of an alias with this argument, where its head is its own.
 #[inline(always)]
 #[tactic(auto, unfolding(crate::specs::Nodes::under_kept, crate::specs::Compact::class_kept, crate::specs::Compact::arguments_kept, crate::specs::Compact::untagged_kept, crate::specs::Compact::returns_kept, crate::specs::Compact::count_kept, crate::specs::Compact::run_kept, crate::specs::Compact::has_pack_kept, crate::specs::Notes::placed_under))]
 fn second_under(held: Compact, argument: u32) -> u32
@@ -232,7 +232,7 @@ fn second_under(held: Compact, argument: u32) -> u32
     }
 }
 
-/// The entry of a tree that is there again with an argument, from that of the tree and what the argument gives.
+/// The entry of an alias with an argument, from that of the tree and what the argument gives.
 #[inline(always)]
 fn restated(
     node: Node,
@@ -396,7 +396,7 @@ impl Nodes {
         }
     }
 
-    /// A tree that is there again with an argument.
+    /// An alias with an argument.
     #[inline(always)]
     fn noted_again(&self, symbol: &[u8], node: Node, tree: u32, argument: u32) -> Compact
         requires table { IsTable (over symbol.now self.now) }
@@ -478,7 +478,7 @@ impl Nodes {
         }
     }
 
-    /// Whether the tree of a node is an argument by itself.
+    /// Whether the tree of a node is an argument proper.
     #[inline(always)]
     fn is_alone(&self, symbol: &[u8], node: u32) -> bool
         requires table { IsTable (over symbol.now self.now) }
@@ -519,7 +519,7 @@ impl Nodes {
         )
     }
 
-    /// A node over a type, of which these words tell.
+    /// A node over a type, recorded by these words.
     #[inline(always)]
     fn noted_type(&self, node: Node, ty: u32, words: Words) -> Compact
         requires { ty < length self.now.nodes }
@@ -529,7 +529,7 @@ impl Nodes {
         noted_over(node, held, passed(held.by_argument), words, 0, 0)
     }
 
-    /// A node over two types, of which these words tell.
+    /// A node over two types, recorded by these words.
     #[inline(always)]
     fn noted_types(&self, node: Node, one: u32, other: u32, words: Words) -> Compact
         requires one { one < length self.now.nodes }
@@ -603,7 +603,7 @@ impl Nodes {
         )
     }
 
-    /// A name with one tag more.
+    /// A name with one more tag.
     #[inline(always)]
     fn noted_tagged(&self, node: Node, name: u32) -> Compact
         requires { name < length self.now.nodes }

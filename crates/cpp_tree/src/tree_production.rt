@@ -1,7 +1,7 @@
 // The productions of trees: what the view of a node has for each.
 //
-// What a production doesn't name is 0, no bytes or no part. A letter is its byte. Qualifiers are one number, the sum of 1 for
-// restrict, 2 for volatile and 4 for const. A mark is 0 for none, 1 for & and 2 for &&. An offset is 1 where it is negative
+// What a production doesn't mention is 0, no bytes or no part. A letter is its byte. Qualifiers are one number, the sum of 1
+// for restrict, 2 for volatile and 4 for const. A mark is 0 for none, 1 for & and 2 for &&. An offset is 1 where it is negative
 // among the numbers, and its digits without zeros in front among the texts.
 
 /// No tree: what takes the place of a return type that a function doesn't have.
@@ -38,14 +38,14 @@ pub const TABLE_THUNK: u16 = 9;
 /// A thunk that adjusts two pointers, each by an offset. Numbers and texts: the two offsets. Parts: its encoding.
 pub const COVARIANT_THUNK: u16 = 10;
 
-/// A thunk that adjusts two pointers, one of them or both by an offset and by one in a table. Its three or four offsets are what
-/// `call_offsets` answers. Parts: its encoding.
+/// A thunk that adjusts two pointers, one of them or both by an offset and by one in a table. Its three or four offsets are
+/// what `call_offsets` answers. Parts: its encoding.
 pub const WIDE_THUNK: u16 = 11;
 
 /// A template with arguments. Parts: the template and the list of the arguments.
 pub const INSTANCE: u16 = 12;
 
-/// A name in a function or an initializer. Parts: the encoding that it is in, and the name, whose prefix is that encoding.
+/// A name in a function or an initializer. Parts: the encoding that contains it, and the name, whose prefix is that encoding.
 pub const LOCAL: u16 = 13;
 
 /// A name in a function or an initializer that has several of it. Texts: the digits of its discriminator. Otherwise as `LOCAL`.
@@ -139,10 +139,10 @@ pub const UNNAMED: u16 = 42;
 /// A string literal.
 pub const STRING_LITERAL: u16 = 43;
 
-/// A name without a piece, which stands for nothing that is spelled.
+/// A name without a piece, which denotes nothing that is spelled.
 pub const NO_PIECE: u16 = 44;
 
-/// A name in std, otherwise as `SOURCE`. So are the next eight, each as the one of its name.
+/// A name in std, otherwise as `SOURCE`. The next eight are in std likewise, each as the one of its name.
 pub const STD_SOURCE: u16 = 45;
 
 /// As `OPERATOR`, in std.
@@ -169,8 +169,8 @@ pub const STD_STRING_LITERAL: u16 = 52;
 /// As `NO_PIECE`, in std.
 pub const STD_NO_PIECE: u16 = 53;
 
-/// A name in a prefix: a name, a parameter, or the encoding around a local entity. Parts: the prefix. Otherwise as `SOURCE`. So
-/// are the next eight, each as the one of its name, with the prefix as first part.
+/// A name in a prefix: a name, a parameter, or the encoding around a local entity. Parts: the prefix. Otherwise as `SOURCE`.
+/// The next eight are in a prefix likewise, each as the one of its name, with the prefix as first part.
 pub const NESTED_SOURCE: u16 = 54;
 
 /// As `OPERATOR`, in a prefix.
@@ -197,31 +197,31 @@ pub const NESTED_STRING_LITERAL: u16 = 61;
 /// As `NO_PIECE`, in a prefix.
 pub const NESTED_NO_PIECE: u16 = 62;
 
-/// A tree for which no node stands: a piece of a name by itself, a name of what is no piece, a builtin type of another code.
-/// Parts: the tree itself. No node has this production.
+/// A tree that no node denotes: a piece of a name by itself, a name of what is no piece, a builtin type of another code. Parts:
+/// the tree itself. No node has this production.
 pub const NO_NODE: u16 = 63;
 
-/// A special name of a name that isn't a guard variable's. Numbers: the last letter of its code, and the sum of the qualifiers of
-/// the name and eight times its mark. Parts: the name. Symbols of the wide grammar alone have it.
+/// A special name of a name that isn't a guard variable's. Numbers: the last letter of its code, and the sum of the qualifiers
+/// of the name and eight times its mark. Parts: the name. Only symbols of the wide grammar have it.
 pub const OF_NAME: u16 = 64;
 
 /// The virtual table of a base class while an object of a class derived from it is constructed. Texts: the digits of the base
-/// class' offset. Parts: the derived class and the base class. Symbols of the wide grammar alone have it.
+/// class' offset. Parts: the derived class and the base class. Only symbols of the wide grammar have it.
 pub const CONSTRUCTION: u16 = 65;
 
-/// A data member or a variable, as the prefix of what is in its initializer. Parts: its name. Symbols of the wide grammar alone
+/// A data member or a variable, as the prefix of what is in its initializer. Parts: its name. Only symbols of the wide grammar
 /// have it.
 pub const HOLDER: u16 = 66;
 
-/// A floating type of so many bits. Numbers: the byte after their digits, `_`, `x` or `b`. Texts: the digits. Symbols of the wide
-/// grammar alone have it.
+/// A floating type of n bits. Numbers: the byte after their digits, `_`, `x` or `b`. Texts: the digits. Only symbols of the
+/// wide grammar have it.
 pub const SIZED_FLOAT: u16 = 67;
 
 /// A name with a tag. Numbers: 1 where it is that of a constructor or a destructor. Texts: the tag. Parts: the name without it.
-/// Symbols of the wide grammar alone have it.
+/// Only symbols of the wide grammar have it.
 pub const TAGGED: u16 = 68;
 
-/// A conversion to a type, in no scope. Parts: the type. Symbols of the wide grammar alone have it, and the next two.
+/// A conversion to a type, in no scope. Parts: the type. Only symbols of the wide grammar have it, and the next two.
 pub const CONVERSION: u16 = 69;
 
 /// As `CONVERSION`, in std.
@@ -230,16 +230,16 @@ pub const STD_CONVERSION: u16 = 70;
 /// As `CONVERSION`, in a prefix: its type is the second part.
 pub const NESTED_CONVERSION: u16 = 71;
 
-/// A function as it is within a transaction, or as it is without one. Numbers: the letter of its code, t or n. Parts: the encoding.
-/// Symbols of the wide grammar alone have it.
+/// A function as it is within a transaction, or as it is without one. Numbers: the letter of its code, t or n. Parts: the
+/// encoding. Only symbols of the wide grammar have it.
 pub const CLONE: u16 = 72;
 
-/// The entity of a local name that is in a default argument. Texts: the digits that say in which. Parts: the entity. Symbols of
-/// the wide grammar alone have it.
+/// The entity of a local name that is in a default argument. Texts: the digits that say in which. Parts: the entity. Only
+/// symbols of the wide grammar have it.
 pub const OF_DEFAULT: u16 = 73;
 
-/// A lambda whose signature names parameters of its own, in no scope, otherwise as `LAMBDA`. Symbols of the wide grammar alone have
-/// it, and the next two.
+/// A lambda whose signature names parameters of its own, in no scope, otherwise as `LAMBDA`. Only symbols of the wide grammar
+/// have it, and the next two.
 pub const GENERIC_LAMBDA: u16 = 74;
 
 /// As `GENERIC_LAMBDA`, in std.
@@ -251,12 +251,12 @@ pub const NESTED_GENERIC_LAMBDA: u16 = 76;
 /// An array whose length is a parameter. Parts: the parameter and the type of its elements.
 pub const BOUNDED: u16 = 77;
 
-/// A placeholder type of which a concept is asked. Numbers: the last letter of its code, k of `auto` and K of `decltype(auto)`. Parts:
-/// the concept. Symbols of the wide grammar alone have it.
+/// A placeholder type constrained by a concept. Numbers: the last letter of its code, k of `auto` and K of `decltype(auto)`.
+/// Parts: the concept. Only symbols of the wide grammar have it.
 pub const CONSTRAINED: u16 = 78;
 
-/// A constructor that is inherited, in no scope. Numbers: its digit, as a letter. Parts: the base class that it is inherited from. Symbols
-/// of the wide grammar alone have it, and the next two.
+/// A constructor that is inherited, in no scope. Numbers: its digit, as a letter. Parts: the base class that it is inherited
+/// from. Only symbols of the wide grammar have it, and the next two.
 pub const INHERITING: u16 = 79;
 
 /// As `INHERITING`, in std.
@@ -265,12 +265,12 @@ pub const STD_INHERITING: u16 = 80;
 /// As `INHERITING`, in a prefix: its base class is the second part.
 pub const NESTED_INHERITING: u16 = 81;
 
-/// The type of an expression. Parts: the expression. Symbols of the wide grammar alone have it, and the next two.
+/// The type of an expression. Parts: the expression. Only symbols of the wide grammar have it, and the next two.
 pub const DECLTYPE: u16 = 82;
 
-/// An operation of an expression. Numbers: the two letters of its operator. Parts: its operands, of which one that it hasn't is absent and
+/// An operation of an expression. Numbers: the two letters of its operator. Parts: its operands; a missing one is absent, and
 /// the second may be a list.
 pub const OPERATION: u16 = 83;
 
-/// A parameter of the function in whose types it is, as an expression. Texts: the digits of its number.
+/// A parameter of the function whose types it occurs in, as an expression. Texts: the digits of its number.
 pub const FUNCTION_PARAMETER: u16 = 84;

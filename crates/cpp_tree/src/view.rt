@@ -109,7 +109,7 @@ const NESTED: Names = Names {
 
 const NO_TEXT: Span = Span { from: 0, to: 0 };
 
-/// A node of these numbers and texts, and of so many of these parts.
+/// A node of these numbers and texts, with the first n of these parts.
 fn seen(
     production: u16,
     numbers: [u64; 2],
@@ -130,7 +130,7 @@ fn seen(
     }
 }
 
-/// A node of one number alone.
+/// A node with only a number.
 fn leaf(production: u16, number: u64) -> NodeView
     ensures { result ≡ seen_of production (number ∷ 0 ∷ []) (no_text ∷ no_text ∷ []) 0 (0 ∷ 0 ∷ 0 ∷ []) }
 {
@@ -161,7 +161,7 @@ fn named(production: u16, numbers: [u64; 2], text: Span, prefix: Option<u32>) ->
     }
 }
 
-/// The number of what a function's type says beside its mark.
+/// The number of what a function's type says besides its mark.
 fn linkage_number(c_linkage: bool, noexcept: bool) -> u64
     ensures { result ≡ linkage_number c_linkage noexcept }
 {
@@ -322,7 +322,7 @@ fn view_of_thunk(symbol: &[u8], nodes: &Nodes, thunk: Option<Thunk>, encoding: u
     }
 }
 
-/// The view of a node, and its parts. Without arguments a tree that is there again is that tree.
+/// The view of a node, and its parts. Without arguments an alias is its tree.
 pub fn view_of(symbol: &[u8], nodes: &Nodes, node: node::Node) -> NodeView
     requires table { IsTable (over symbol.now nodes.now) }
     requires node { IsBelow symbol.now (length nodes.now.thunks) (length nodes.now.nodes) node }
@@ -350,7 +350,7 @@ fn view_of_tree(symbol: &[u8], nodes: &Nodes, tree: u32) -> NodeView
     view_of_own(symbol, nodes, nodes.node(symbol, place.node))
 }
 
-/// The view of a node whose tree isn't there again.
+/// The view of a node that isn't an alias.
 #[tactic(auto, unfolding(crate::specs::Nodes::is_again))]
 fn view_of_own(symbol: &[u8], nodes: &Nodes, node: node::Node) -> NodeView
     requires table { IsTable (over symbol.now nodes.now) }
@@ -510,7 +510,7 @@ pub fn offsets_of(symbol: &[u8], nodes: &Nodes, node: node::Node) -> Option<Thun
     }
 }
 
-/// The same of a node whose tree isn't there again.
+/// Likewise for a node that isn't an alias.
 #[tactic(auto, unfolding(crate::specs::Fields::offsets_of, cpp_term::specs::Erased::erase, crate::specs::Nodes::tree_of, crate::specs::Nodes::is_again))]
 fn own_offsets_of(symbol: &[u8], nodes: &Nodes, node: node::Node) -> Option<Thunk>
     requires table { IsTable (over symbol.now nodes.now) }

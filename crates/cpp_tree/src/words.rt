@@ -1,4 +1,4 @@
-// What is noted of a node by what is noted of its parts: what another argument changes of it, and what its two words tell.
+// What is noted of a node by what is noted of its parts: what another argument changes of it, and what its two words record.
 #![tactic(auto)]
 
 ghost use Rattle.std.specs.Prelude.{◌≡◌, ℕ, Bool, Some, Option, false, not};
@@ -77,7 +77,7 @@ pub(crate) fn collapsed_from(head: HeadFrom) -> HeadFrom
     }
 }
 
-/// What two words tell of a reference to an rvalue of a type.
+/// What two words record of a reference to an rvalue of a type.
 #[inline(always)]
 #[tactic(auto, unfolding(crate::specs::Compact::class_kept, crate::specs::Compact::arguments_kept, crate::specs::Compact::untagged_kept, crate::specs::Compact::returns_kept, crate::specs::Compact::count_kept, crate::specs::Compact::run_kept, crate::specs::Compact::has_pack_kept, crate::specs::Notes::collapses))]
 pub(crate) fn collapsed(words: Words) -> Words
@@ -91,7 +91,7 @@ pub(crate) fn collapsed(words: Words) -> Words
     }
 }
 
-/// What two words tell of a type with the head of a type.
+/// What two words record of a type with the head of a type.
 #[inline(always)]
 #[tactic(auto, unfolding(crate::specs::Compact::class_kept, crate::specs::Compact::arguments_kept, crate::specs::Compact::untagged_kept, crate::specs::Compact::returns_kept, crate::specs::Compact::count_kept, crate::specs::Compact::run_kept, crate::specs::Compact::has_pack_kept))]
 pub(crate) fn of_type(words: Words) -> Words
@@ -107,7 +107,7 @@ pub(crate) fn of_type(words: Words) -> Words
     }
 }
 
-/// What two words tell of a name that ends in a name.
+/// What two words record of a name that ends in a name.
 #[inline(always)]
 #[tactic(auto, unfolding(crate::specs::Compact::class_kept, crate::specs::Compact::arguments_kept, crate::specs::Compact::untagged_kept, crate::specs::Compact::returns_kept, crate::specs::Compact::count_kept, crate::specs::Compact::run_kept, crate::specs::Compact::has_pack_kept))]
 pub(crate) fn of_name(words: Words) -> Words
@@ -120,7 +120,7 @@ pub(crate) fn of_name(words: Words) -> Words
     }
 }
 
-/// What two words tell of an instance of a template.
+/// What two words record of an instance of a template.
 #[inline(always)]
 #[tactic(auto, unfolding(crate::specs::Nodes::under_kept, crate::specs::Compact::class_kept, crate::specs::Compact::arguments_kept, crate::specs::Compact::untagged_kept, crate::specs::Compact::returns_kept, crate::specs::Compact::count_kept, crate::specs::Compact::run_kept, crate::specs::Compact::has_pack_kept))]
 pub(crate) fn of_instance(template: Node) -> Words
@@ -133,7 +133,7 @@ pub(crate) fn of_instance(template: Node) -> Words
     }
 }
 
-/// What two words tell of the elements of a list, by whether a pack is among them.
+/// What two words record of the elements of a list, by whether a pack is among them.
 #[inline(always)]
 #[tactic(auto, unfolding(crate::specs::Compact::class_kept, crate::specs::Compact::arguments_kept, crate::specs::Compact::untagged_kept, crate::specs::Compact::returns_kept, crate::specs::Compact::count_kept, crate::specs::Compact::run_kept, crate::specs::Compact::has_pack_kept))]
 pub(crate) fn of_elements(has_pack: bool) -> Words

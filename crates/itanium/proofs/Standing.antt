@@ -1,4 +1,4 @@
--- A symbol that is linked is what its shape stands for.
+-- A symbol that is linked is what its shape denotes.
 use Rattle.std.proofs.Common.{◌≡◌, refl, sym, ◌∙◌, ap, subst, arith, ℕ, ◌*◌, ◌+◌, ◌<◌, ◌≤◌, List, [], ◌∷◌, length, Bool, true, Result, Ok}
 use Rattle.sym_core.specs.Number.{FitsSymbol}
 use Rattle.sym_shape.specs.declared.rule.Row.{Row}
@@ -33,7 +33,7 @@ use Rattle.cpp_layout.specs.Layout.{IsRead}
 
 -- ## The one part
 
--- the part is this node, which stands for the tree
+-- the part is this node, which denotes the tree
 record IsNode (ts : List Term) (n : ℕ) (p : Part) (t : Term) : Type 0 where
   node : ℕ
   listed : Bool

@@ -1,4 +1,4 @@
--- A symbol whose shape's meaning is a refusal stands for that refusal, by both grammars.
+-- A symbol whose shape means a refusal denotes that refusal, by both grammars.
 use Rattle.std.proofs.Common.{refl, subst}
 use Rattle.sym_core.specs.declared.refusal.Refusal.{Refusal}
 use Rattle.sym_shape.specs.Grown.{GrowsInto}

@@ -23,5 +23,5 @@ pub use wide_symbol::WideSymbol;
 /// Links a symbol.
 pub type Linker = sym_demangle::Linker<Abi>;
 
-/// The lists with which symbols are read and printed, one after the other.
+/// The lists that symbols are read and printed with, one after the other.
 pub type Workspace = sym_demangle::Workspace<Abi>;

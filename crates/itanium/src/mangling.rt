@@ -31,7 +31,7 @@ use sym_core::Refusal;
 use sym_demangle::Mangling;
 use sym_print::Item;
 
-/// The node of a whole symbol, for which the one part stands.
+/// The node of a whole symbol, which the one part denotes.
 fn whole_node(parts: &[Part]) -> u32
     requires { (node : ℕ) × (listed : Bool) × (parts.now ≡ part.Tree node listed ∷ []) }
     ensures { (listed : Bool) × (parts.now ≡ part.Tree result listed ∷ []) }

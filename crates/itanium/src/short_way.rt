@@ -10,29 +10,29 @@ ghost use Rattle.cpp_direct.specs.MidStep.{IsFresh};
 use cpp_direct::{Direct, Grammar, Shown, Step, are_name_bytes};
 use sym_print::Detail;
 
-/// The longest symbol that is written so, in bytes: with its lists, which take some 70 bytes for each at most, a thread keeps 5 MB. The
-/// filter has no longer words.
+/// The longest symbol that is written this way, in bytes: with its lists, which take at most some 70 bytes for each of its
+/// bytes, a thread keeps 5 MB. The filter has no longer words.
 const LONGEST: usize = 65_536;
 
-/// The most bytes of text that are written for each byte of a symbol, and those that are written anyway. Of 725,558 real symbols 70
-/// have longer texts.
+/// The most bytes of text that are written for each byte of a symbol, and those that are written in any case. Of 725,558 real
+/// symbols 70 have longer texts.
 const BYTES_A_BYTE: usize = 8;
 
 const BYTES_ANYWAY: usize = 1_024;
 
-/// The most steps that are taken for each byte of a symbol: each reads a byte, or ends what was read. Where a step reads on in a loop,
-/// over the components of a nested name, each turn of that reads a byte of its own.
+/// The most steps that are taken for each byte of a symbol: each reads a byte, or ends what was read. Where a step loops over
+/// the components of a nested name, each turn of the loop reads a byte of its own.
 const ROUNDS_A_BYTE: usize = 8;
 
-/// Writes the text of a symbol, by the wide grammar or by the default, as much of it as is asked for, if the symbol is one that can be
-/// read so and the text costs at most a limit, and answers whether it did. Where it didn't, nothing is known of the symbol.
+/// Writes the text of a symbol, by the wide grammar or by the default and in the requested detail, if the short way reads the
+/// symbol and the text costs at most a limit, and answers whether it did. Where it didn't, nothing is known of the symbol.
 ///
 /// Whatever is answered, at most eight bytes for each of the symbol's and a kilobyte are written, at most eight steps for each
 /// byte are taken, and no list has more entries than the symbol has bytes: no list has room for more. Text and candidates only
-/// grow, up to the end of a function: of an instance of a function template what was written up to its return type is taken away,
-/// of one whose address is an argument the return type, and of one that is shown by its name what was written after that.
-/// Arguments that aren't shown are written, too, and left out at the end.
-// at each call, which knows what is written and mostly the grammar, so that the others' steps aren't there
+/// grow, up to the end of a function: what was written of an instance of a function template up to its return type is removed
+/// there, and so is the return type of one whose address is an argument, and what was written after the name of one that is
+/// shown only by its name. Arguments that aren't shown are written, too, and left out at the end.
+// inlined at each call, which knows the detail and mostly the grammar: so the steps of the others aren't there
 #[inline(always)]
 pub fn write(direct: &mut Direct, s: &[u8], limit: u32, is_wide: bool, detail: Detail) -> bool
     requires { FitsSymbol s.now }
@@ -55,7 +55,7 @@ pub fn write(direct: &mut Direct, s: &[u8], limit: u32, is_wide: bool, detail: D
     false
 }
 
-/// Writes the text of a symbol of which less is shown than all of it, as `write` does.
+/// Writes the text of a symbol that is shown only in part, as `write` does.
 #[inline(never)]
 pub fn write_less(direct: &mut Direct, s: &[u8], limit: u32, is_wide: bool, detail: Detail) -> bool
     requires { FitsSymbol s.now }
@@ -87,7 +87,7 @@ fn run_by(
     run_as::<false>(direct, s, most, detail, rounds)
 }
 
-/// The same by the wide grammar or by that of the ABI.
+/// Likewise by the wide grammar or by that of the ABI.
 #[inline(always)]
 fn run_as<const WIDE: bool>(
     direct: &mut Direct,
@@ -111,7 +111,7 @@ fn run_as<const WIDE: bool>(
     }
 }
 
-/// Takes steps up to the end of a symbol by a grammar, and counts them. So many bytes at most are written.
+/// Takes steps up to the end of a symbol by a grammar, and counts them. At most this many bytes are written.
 fn run<G: Grammar>(direct: &mut Direct, s: &[u8], most: u32, rounds: &mut usize) -> bool
     requires fits { FitsSymbol s.now }
     requires fresh { IsFresh direct.old }
@@ -147,7 +147,7 @@ fn run<G: Grammar>(direct: &mut Direct, s: &[u8], most: u32, rounds: &mut usize)
     false
 }
 
-/// Leaves what is shown of what was written of a symbol, if at most so many bytes were.
+/// Leaves what is shown of what was written of a symbol, if at most this many bytes were.
 #[inline(always)]
 fn end<G: Grammar>(direct: &mut Direct, s: &[u8], most: u32) -> bool
     requires { IsWhole (symbol_by G.IS_WIDE G.IS_BARE G.IS_BRIEF s.now) direct.old.text.list.items }

@@ -23,8 +23,8 @@ use sym_print::{Item, Layout, Part};
 
 /// A symbol that was read by the wide grammar.
 ///
-/// It has the texts, counts and views of any C++ symbol. But it is no `Symbol`, so it can't be pressed: what pressing promises is said
-/// of the grammar of the ABI, which doesn't read each tree that this one may have.
+/// It has the texts, counts and views of any C++ symbol. But it is no `Symbol`, so it can't be pressed: the promises of
+/// pressing are | about the grammar of the ABI, which doesn't read each tree that this one may have.
 #[derive(Drop)]
 pub struct WideSymbol {
     symbol: Symbol,
@@ -113,9 +113,9 @@ impl WideSymbol {
 
     /// The view of a node, which is below `counts().nodes`. It takes no memory.
     ///
-    /// The node's tree, in which a parameter is its number alone, is its production over these numbers, the bytes of these
-    /// texts and the trees of its parts, and for `WIDE_THUNK` over its offsets. Two nodes have equal trees exactly where these
-    /// are equal.
+    /// The node's tree, where a parameter is only its number, is its production over these numbers, the bytes of these texts
+    /// and the trees of its parts, and for `WIDE_THUNK` over its offsets. Two nodes have equal trees exactly where these are
+    /// equal.
     pub fn node(&self, node: u32) -> Node
         requires { node < length self.now.table.nodes }
         ensures fields { IsView self.now.bytes result (fields_at (table_of self.now) node) }

@@ -15,7 +15,7 @@ use Rattle.cpp_grammar.proofs.Growing.{abi_wide}
 use Rattle.cpp_grammar.proofs.Staying.{meaning_stays}
 use Rattle.cpp_grammar.proofs.laws.abi_answers_stay.Goals as goal
 
--- the shape stands for the same by the wide reading
+-- the shape denotes the same by the wide reading
 stays : (shape : Tree) (t : Term) → IsTree abi (Kind 0) shape → unfold_cpp shape ≡ Ok t → unfold_wide shape ≡ Ok t
 stays shape t is e = meaning_stays shape t (abi_wide (Kind 0) shape is) e
 

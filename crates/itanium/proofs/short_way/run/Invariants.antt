@@ -1,4 +1,4 @@
--- The writer has come to the step that is next, and so many steps may still be taken.
+-- The writer has reached the next step, and n steps may still be taken.
 use Rattle.std.specs.Prelude.{◌≤◌}
 use Rattle.cpp_direct.specs.WriterInvariant.{IsWriting}
 use Rattle.cpp_direct.specs.Symbol.{symbol_by}

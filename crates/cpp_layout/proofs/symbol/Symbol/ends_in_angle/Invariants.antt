@@ -1,4 +1,4 @@
--- The last piece is that of the name that is left, and the node's tree isn't there again.
+-- The last piece is that of the remaining name, and the node isn't an alias.
 use Rattle.std.proofs.Common.{◌≡◌, ◌<◌, length, false}
 use Rattle.cpp_term.specs.Parts.{last_piece}
 use Rattle.cpp_tree.specs.Nodes.{entry_at, is_again, IsThereBelow}

@@ -1,4 +1,4 @@
--- The element that is wanted is the one at the place that is left, of the list that is left.
+-- The requested element is the one at the remaining place of the remaining list.
 use Rattle.std.proofs.Common.{◌≡◌, ◌<◌, length}
 use Rattle.cpp_term.specs.Scope.{element}
 use Rattle.cpp_tree.specs.Nodes.{over, trees, placed_tree, IsThereBelow}
