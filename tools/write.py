@@ -14,6 +14,7 @@ HERE = os.path.dirname(os.path.abspath(__file__))
 sys.path.insert(0, HERE)
 import annotated
 import family_code
+import file_table
 import grammar
 import marked
 import printing
@@ -32,6 +33,7 @@ WHOLE = {
     "tools/printing.py": printing.files,
     "tools/family_code.py": lambda crates: family_code.files(),
     "tools/rust_productions.py": lambda crates: rust_productions.whole_files(),
+    "tools/file_table.py": file_table.files,
 }
 IN_PARTS = {"tools/trees.py": trees.files, "tools/rust_productions.py": rust_productions.files}
 MOST_ROUNDS = 4
