@@ -38,7 +38,7 @@ symfilt=$1
 shift
 echo 'at _Z1fv' | "$symfilt" | grep -qx 'at f()' || { echo "$0: $symfilt is no filter of symbols" >&2; exit 1; }
 
-# what stands in the table: a program, and the options that it is run with
+# a line of the table: a program, and the options that it is run with
 filters=(symfilt)
 [ $ways = no ] || filters+=('symfilt --wide' 'symfilt --no-params' 'symfilt --brief')
 for name in c++filt llvm-cxxfilt rustfilt; do

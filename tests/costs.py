@@ -24,7 +24,7 @@ FULL, WIDE_FULL = 0, 4
 
 
 class Result(ctypes.Structure):
-    """What the library tells of a symbol with its status."""
+    """What the library reports for a symbol with its status."""
 
     _fields_ = [("length", ctypes.c_size_t), ("offset", ctypes.c_uint32), ("status", ctypes.c_uint32)]
 

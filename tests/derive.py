@@ -4,11 +4,11 @@
     tests/derive.py [--wide] [--seed N] [--count N] [--size BYTES]              prints symbols, one a line
     tests/derive.py [--wide] .. --rules [PROGRAM]                               prints how many symbols have each rule
 
-With --wide the table is that of the wide grammar, and the rules that it alone has are taken more often. Each symbol goes on towards
-some rules, which are picked at random, so that a rule which is added to the table occurs as often as the others. References have the
-numbers of candidates and arguments that are there, now and then another one. In some symbols a kind is nested many times within itself,
-as in a chain of tags, some have lists of types each of which has the one before it twice, and some have an encoding in a name's
-arguments, with types whose parameters stand for others outside it. A symbol has at most BYTES bytes (200).
+With --wide the table is that of the wide grammar, and its own rules are taken more often. Each symbol is steered towards some rules,
+which are picked at random, so that a rule which is added to the table occurs as often as the others. References have the numbers of
+existing candidates and arguments, now and then another one. In some symbols a kind is nested many times within itself, as in a chain
+of tags, some have lists of types where each has the one before it twice, and some have an encoding in a name's arguments, with types
+whose parameters denote others outside it. A symbol has at most BYTES bytes (200).
 With a PROGRAM, which has symfilt's command line, the second column says how many of them it answers with a text.
 """
 
@@ -110,7 +110,7 @@ class Table:
 
 
 class Derivation:
-    """A random tree of the start kind, without the numbers of its references. It goes on towards some rules, which are picked at random."""
+    """A random tree of the start kind, without the numbers of its references. It is steered towards some rules, which are picked at random."""
 
     def __init__(self, table, rng):
         self.table, self.rng = table, rng
@@ -217,7 +217,7 @@ def replaced(node, way, new):
 
 
 def read(table, word):
-    """The tree of a word, which has to be a symbol. Its tokens stand for others of their class."""
+    """The tree of a word, which has to be a symbol. Its tokens represent others of their class."""
 
     def tree(kind, at):
         byte = word[at : at + 1].decode()
@@ -245,7 +245,7 @@ def read(table, word):
 
 
 def repeated(rng, table, tree, times, kind=None):
-    """The tree, in which some kind, or the one that is asked for, is nested so many times more within itself; more often than not with
+    """The tree, in which some kind, or the given one, is nested that many times more within itself; more often than not with
     a rule of the wide grammar's own each time."""
     nodes = [(way, part) for way, _, part in parts_within(table, tree) if part is not None]
     own = [way for way, node in nodes if table.is_own(node)]

@@ -1,4 +1,4 @@
-/* Has one read or write fail: the one whose number, counted from 1, stands in FAIL. How it fails stands in FAIL_HOW: `error`
+/* Has one read or write fail: the one whose number, counted from 1, is in FAIL. How it fails is in FAIL_HOW: `error`
    (EIO), `none` (a write takes no byte) or `short` (it moves one byte). It makes the file that FAIL_MARK names where it does.
    It is preloaded. */
 #define _GNU_SOURCE

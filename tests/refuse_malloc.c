@@ -1,4 +1,4 @@
-/* An allocator that refuses one call: the one whose number, counted from 1, stands in REFUSE. It makes the file that
+/* An allocator that refuses one call: the one whose number, counted from 1, is in REFUSE. It makes the file that
    REFUSE_MARK names where it does. It is preloaded. */
 #define _GNU_SOURCE
 #include <dlfcn.h>

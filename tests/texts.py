@@ -35,7 +35,7 @@ def base_62(number):
 
 
 def doubling(times):
-    """A Rust symbol each of whose tuples is twice the one before."""
+    """A Rust symbol where each tuple is twice the one before."""
     symbol = "INvC3foo3bar"
     last, symbol = len(symbol), symbol + "ThhE"
     for _ in range(times):

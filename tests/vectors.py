@@ -28,7 +28,7 @@ class Skipped(Exception):
 
 
 def unescaped(field):
-    """The bytes that a field stands for."""
+    """The bytes that a field denotes."""
     front, *rest = field.split(b"\\")
     out, i = front, 0
     while i < len(rest):

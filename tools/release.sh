@@ -94,7 +94,7 @@ documents() { # documents FOLDER : the copyright and the two changelogs of a pac
 needed_libc() { # needed_libc FILE.. : the newest glibc that files ask for
     objdump -T "$@" | sed -n 's/.*(\?GLIBC_\([0-9][0-9.]*\)).*/\1/p' | sort -V | tail -n 1
 }
-field() { # field PACKAGE NAME : a field of a package in the recipe, with the lines that go on with it
+field() { # field PACKAGE NAME : a field of a package in the recipe, with the lines that continue it
     awk -v package="$1" -v name="$2:" '/^Package:/ { ours = $2 == package } /^[^ ]/ { on = ours && $1 == name } on' $recipe/control
 }
 deb() { # deb PACKAGE RELATION.. : the package of its folder

@@ -5,10 +5,10 @@ const PREVIEW = 4000; // bytes of the result that are shown
 
 let job;
 
-/** Whether this is the job that goes on or is shown. */
+/** Whether this is the job that is running or shown. */
 export const isCurrent = (id) => job?.id === id;
 
-/** Shows a file that the worker was given under `id`, the first of so many. */
+/** Shows a file that the worker was given under `id`, the first of `count`. */
 export function startJob(id, file, count) {
     const [, front, end] = /^(.*?)(\.[^.]*)?$/s.exec(file.name);
     job = { id, file, name: `${front}.demangled${end ?? ".txt"}` };

@@ -9,7 +9,7 @@ const SHOWN_NAMES = 100;
 const MORE_NAMES = 400;
 const LONG_PASTE = 1_000_000; // characters from which a paste is filtered as a file is, since laying it out takes long
 const MOST_ROWS = 18;
-const PATIENCE = 300; // ms after which work is told
+const PATIENCE = 300; // ms after which work is reported
 
 const EXAMPLE = `thread 'main' panicked at src/main.rs:12:
    4: _RNvMs_NtCs1234_4demo5queueINtB4_5QueuejE4push

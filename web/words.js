@@ -7,7 +7,7 @@ const RUN_OR_ESCAPE = new RegExp(`${ESCAPES.source}|[A-Za-z0-9_.$\\u0080-\\uffff
 // What compilers and linkers put before a name.
 const FRONT = /__imp_|_GLOBAL__(?:sub_)?[ID]_/y;
 const MARK = /__?[ZR]/y;
-// A name within source code goes on so.
+// How a name within source code continues.
 const MARK_OF_MEMBER = /__?(?:Z[A-Z0-9]|R[IMNXY])/y;
 
 /** Whether a word begins as a name does. */

@@ -1,4 +1,4 @@
-/* A library that is older than its callers: it knows no flag from SYMDEMANGLE_WITHIN on. Each call is handed on to that of the library
+/* A library that is older than its callers: it knows no flag from SYMDEMANGLE_WITHIN on. Each call is forwarded to that of the library
    under test, whose name begins later_ (objcopy --redefine-sym). */
 #include "symdemangle.h"
 

@@ -65,7 +65,7 @@ static void measure(const char *symbol, size_t length)
         }
 }
 
-/* A front, a part so many times, and an end. */
+/* A front, a part repeated, and an end. */
 static void measure_repeated(const char *front, const char *part, size_t times, const char *end)
 {
     size_t at = strlen(front), each = strlen(part), i;
