@@ -16,7 +16,7 @@ use std::mem;
 use sym_direct::{Bounded, byte_at};
 
 /// The longest symbol that is written this way, in bytes: the lists stay small, and real symbols are shorter.
-const LONGEST: usize = 4_096;
+const LONGEST: usize = 65_536;
 
 impl Direct {
     /// Empty lists: nothing is allocated yet.

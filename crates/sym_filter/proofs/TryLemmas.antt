@@ -4,7 +4,7 @@ use Rattle.std.specs.List.{list_all, list_any, starts_with}
 use Rattle.std.specs.Prelude.{codes, is_some, nat_eq, unwrap_or}
 use Rattle.std.specs.Result.{result_ok}
 use Rattle.std.proofs.lemmas.Bool.{and_parts, and_left, cond-true, cond-false, eqb-true, ne_eqb, lt-leb}
-use Rattle.std.proofs.lemmas.List.{append-nil, drop_more, take-append-drop, length-take, take_more}
+use Rattle.std.proofs.lemmas.List.{drop_all, append-nil, drop_more, take-append-drop, length-take, take_more}
 use Rattle.std.proofs.Math.Seq.{drop-drop}
 use Rattle.sym_filter.specs.declared.kinds.Kind.{Kind}
 use Rattle.sym_filter.specs.declared.kinds.Lang.TheVariants.{Cpp, Rust}
@@ -116,6 +116,24 @@ whole-read answers word h = own-read (text_for answers word) (text_of_parts answ
 
 pub whole-unread : (answers : Answering) (word : List ℕ) → is_some (text_for answers word) ≡ false → either (text_for answers word) (text_of_parts answers word) ≡ text_of_parts answers word
 whole-unread answers word h = ap (λ (o : Option (List ℕ)). either o (text_of_parts answers word)) (nothing_there (text_for answers word) h)
+
+followed_by-nothing : (o : Option (List ℕ)) → followed_by [] o ≡ o
+followed_by-nothing None = refl
+followed_by-nothing (Some text) = ap (λ (t : List ℕ). Some t) (append-nil text)
+
+either-twice : (o other : Option (List ℕ)) → either o (either o other) ≡ either o other
+either-twice None other = refl
+either-twice (Some text) other = refl
+
+-- where nothing is left out at the word's end, its first two tries are one
+pub whole-first : (answers : Answering) (word : List ℕ) → trimmed word ≡ word → text_of_tries answers word ≡ either (text_for answers word) (text_of_parts answers word)
+unfolding text_of_tries
+whole-first answers word same =
+    let later = either (text_for answers word) (text_of_parts answers word) in
+    ap (λ (w : List ℕ). either (followed_by (drop (length w) word) (text_for answers w)) later) same
+    ∙ ap (λ (d : List ℕ). either (followed_by d (text_for answers word)) later) (drop_all (length word) word (omega arith))
+    ∙ ap (λ (o : Option (List ℕ)). either o later) (followed_by-nothing (text_for answers word))
+    ∙ either-twice (text_for answers word) (text_of_parts answers word)
 
 -- what was appended for a try that has no text
 pub nothing-appended : (out out' : List ℕ) (o : Option (List ℕ)) → out' ≡ out ++ unwrap_or o [] → is_some o ≡ false → out' ≡ out

@@ -26,14 +26,56 @@ fn first_set(mask: u64) -> usize
     }
 }
 
+/// The lanes of the bytes from a place on that are `_`, as bits.
+#[inline(always)]
+fn marks(text: &[u8], at: usize) -> u64
+    requires { at + 16 ≤ length text.now }
+    ensures { (first_set result ≤ 16) × (list_all is_no_mark (take (first_set result) (drop at text.now)) ≡ true) }
+{
+    let bytes = u8x16::from_slice(&text[at..]);
+    bytes.simd_eq(u8x16::splat(b'_')).to_bitmask()
+}
+
 /// How many of the bytes from a place on, as far as they are looked at together, are no `_`.
 #[inline(always)]
 pub(crate) fn lanes_before_mark(text: &[u8], at: usize) -> usize
     requires { at + 16 ≤ length text.now }
     ensures { (result ≤ 16) × (list_all is_no_mark (take result (drop at text.now)) ≡ true) }
 {
+    first_set(marks(text, at))
+}
+
+/// Whether no `_` is among the bytes from a place on that are looked at together.
+#[inline(always)]
+fn has_no_mark(text: &[u8], at: usize) -> bool
+    requires { at + 16 ≤ length text.now }
+    ensures { result ≡ true → list_all is_no_mark (take 16 (drop at text.now)) ≡ true }
+{
+    marks(text, at) == 0
+}
+
+/// Whether none is among four times as many.
+#[inline(always)]
+pub(crate) fn block_has_no_mark(text: &[u8], at: usize) -> bool
+    requires { at + 64 ≤ length text.now }
+    ensures { result ≡ true → list_all is_no_mark (take 64 (drop at text.now)) ≡ true }
+{
+    // each is looked at, so that one test does for all four
+    has_no_mark(text, at)
+        & has_no_mark(text, at + LANES)
+        & has_no_mark(text, at + 2 * LANES)
+        & has_no_mark(text, at + 3 * LANES)
+}
+
+/// The lanes of the bytes from a place on that are a backslash or ESC, as bits.
+#[inline(always)]
+fn leads(text: &[u8], at: usize) -> u64
+    requires { at + 16 ≤ length text.now }
+    ensures { (first_set result ≤ 16) × (list_all is_no_lead (take (first_set result) (drop at text.now)) ≡ true) }
+{
     let bytes = u8x16::from_slice(&text[at..]);
-    first_set(bytes.simd_eq(u8x16::splat(b'_')).to_bitmask())
+    let leads = bytes.simd_eq(u8x16::splat(b'\\')) | bytes.simd_eq(u8x16::splat(0x1B));
+    leads.to_bitmask()
 }
 
 /// How many of the bytes from a place on, as far as they are looked at together, are no backslash and not ESC.
@@ -42,9 +84,7 @@ pub(crate) fn lanes_before_lead(text: &[u8], at: usize) -> usize
     requires { at + 16 ≤ length text.now }
     ensures { (result ≤ 16) × (list_all is_no_lead (take result (drop at text.now)) ≡ true) }
 {
-    let bytes = u8x16::from_slice(&text[at..]);
-    let leads = bytes.simd_eq(u8x16::splat(b'\\')) | bytes.simd_eq(u8x16::splat(0x1B));
-    first_set(leads.to_bitmask())
+    first_set(leads(text, at))
 }
 
 /// Whether no backslash and no ESC is among the bytes from a place on that are looked at together.
@@ -53,7 +93,7 @@ fn has_no_lead(text: &[u8], at: usize) -> bool
     requires { at + 16 ≤ length text.now }
     ensures { result ≡ true → list_all is_no_lead (take 16 (drop at text.now)) ≡ true }
 {
-    lanes_before_lead(text, at) == LANES
+    leads(text, at) == 0
 }
 
 /// Whether none is among four times as many.

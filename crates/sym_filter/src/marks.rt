@@ -1,5 +1,5 @@
 // Where in a word the name of a symbol begins.
-ghost use Rattle.std.specs.Prelude.{◌≡◌, ◌≤◌, length, take, drop};
+ghost use Rattle.std.specs.Prelude.{◌≡◌, ◌≤◌, false, length, take, drop};
 ghost use Rattle.sym_filter.specs.Marks.{before_mark, begins_name, from_mark, front_length, is_mark, is_taken};
 
 use crate::kinds::{Kind, Lang, Letters, kind_by_beginning};
@@ -26,7 +26,28 @@ pub(crate) fn mark_in(word: &[u8], place: Place) -> usize
 
 /// How many bytes compilers and linkers have put before a symbol: for an import's address, and for a function that runs when a
 /// program starts or ends.
+#[inline(always)]
 fn front_length(word: &[u8]) -> usize
+    ensures length { result ≡ front_length word.now }
+    ensures within { result ≤ length word.now }
+{
+    if !may_have_front(word) {
+        return 0;
+    }
+    length_of_front(word)
+}
+
+/// Whether the second byte of a word is that of something put before a symbol. It isn't in most words, which begin with `_Z` or `_R`.
+#[inline(always)]
+fn may_have_front(word: &[u8]) -> bool
+    ensures { result ≡ false → front_length word.now ≡ 0 }
+{
+    word.len() > 1 && (word[1] == b'_' || word[1] == b'G')
+}
+
+/// The same as `front_length`, by the whole of what is put before a symbol.
+#[inline(never)]
+fn length_of_front(word: &[u8]) -> usize
     ensures length { result ≡ front_length word.now }
     ensures within { result ≤ length word.now }
 {

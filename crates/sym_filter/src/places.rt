@@ -6,7 +6,7 @@ ghost use Rattle.sym_filter.specs.Places.{START, begins_within, closes, in_stret
 ghost use Rattle.sym_filter.specs.Plain.{is_plain};
 
 use crate::kinds::Letters;
-use crate::lanes::{LANES, lanes_before_mark};
+use crate::lanes::{BLOCK, LANES, block_has_no_mark, lanes_before_mark};
 use crate::words::{closes, is_byte_of};
 
 /// What a stretch begins with: a run, or where words begin within runs a longest part of one that is ASCII.
@@ -136,7 +136,7 @@ pub(crate) fn plain_front(letters: Letters, text: &[u8], place: Place) -> Front
             };
         }
         length += 1;
-        length += before_mark(text, length);
+        length += before_mark(&text[length..]);
     }
     Front {
         length,
@@ -144,17 +144,41 @@ pub(crate) fn plain_front(letters: Letters, text: &[u8], place: Place) -> Front
     }
 }
 
-/// How many bytes from a place on are no `_`, as far as they are looked at together.
+/// How many bytes at the front of a text are no `_`, as far as they are looked at together.
 #[inline(always)]
-fn before_mark(text: &[u8], at: usize) -> usize
-    requires { at ≤ length text.now }
-    ensures within { at + result ≤ length text.now }
-    ensures no_mark { list_all is_no_mark (take result (drop at text.now)) ≡ true }
+fn before_mark(text: &[u8]) -> usize
+    ensures within { result ≤ length text.now }
+    ensures no_mark { list_all is_no_mark (take result text.now) ≡ true }
 {
-    if text.len() - at < LANES {
+    if text.len() < LANES {
         return 0;
     }
-    lanes_before_mark(text, at)
+    let first = lanes_before_mark(text, 0);
+    if first < LANES || text.len() < 2 * LANES {
+        return first;
+    }
+    let second = lanes_before_mark(text, LANES);
+    if second < LANES {
+        return LANES + second;
+    }
+    blocks_before_mark(text)
+}
+
+/// The same where the first bytes are none, by blocks of 64 bytes: in a list of symbols and in the lines of `nm` no block has none.
+fn blocks_before_mark(text: &[u8]) -> usize
+    requires long { 32 ≤ length text.now }
+    requires begins { list_all is_no_mark (take 32 text.now) ≡ true }
+    ensures within { result ≤ length text.now }
+    ensures no_mark { list_all is_no_mark (take result text.now) ≡ true }
+{
+    let mut length = 2 * LANES;
+    'steps: while text.len() - length >= BLOCK {
+        if !block_has_no_mark(text, length) {
+            return length;
+        }
+        length += BLOCK;
+    }
+    length
 }
 
 /// Whether a word may begin in a text, by the byte before it.

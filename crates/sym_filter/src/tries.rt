@@ -25,7 +25,7 @@ pub(crate) fn push_tries<D: Demangler>(
     ensures text { OnOk result (out.new.items ≡ out.old.items ++ word_or_text (within (D.answer demangler.now)) word.now) }
     ensures has_text { IfOk result (λ has_text. has_text ≡ is_some (text_for (within (D.answer demangler.now)) word.now)) }
 {
-    let has_text = append_tries(demangler, lists, word, out)?;
+    let has_text = append_tries(demangler, lists, word, kind, out)?;
     if has_text {
         return Ok(true);
     }
@@ -38,22 +38,46 @@ fn append_tries<D: Demangler>(
     demangler: &D,
     lists: &mut D::Lists,
     word: &[u8],
+    kind: Kind,
     out: &mut Vec<u8>,
 ) -> Result<bool, AllocError>
+    requires { kind_of word.now ≡ Some kind }
     ensures text { OnOk result (out.new.items ≡ out.old.items ++ unwrap_or (text_of_tries (D.answer demangler.now) word.now) []) }
     ensures has_text { IfOk result (λ has_text. has_text ≡ is_some (text_of_tries (D.answer demangler.now) word.now)) }
 {
     let end = trimmed_end(word);
+    if end == word.len() {
+        let whole_read = append_whole(demangler, lists, word, kind, out)?;
+        return Ok(whole_read);
+    }
     let front_read = append_text(demangler, lists, &word[..end], out)?;
     if front_read {
         out.extend_from_slice(&word[end..])?;
         return Ok(true);
     }
-    if end == word.len() {
-        let part_read = append_parts(demangler, lists, word, out)?;
-        return Ok(part_read);
-    }
     let word_read = append_text(demangler, lists, word, out)?;
+    if word_read {
+        return Ok(true);
+    }
+    let part_read = append_parts(demangler, lists, word, out)?;
+    Ok(part_read)
+}
+
+/// The same of a word whose last byte is ASCII and no dot: its first two tries are one.
+#[inline(always)]
+fn append_whole<D: Demangler>(
+    demangler: &D,
+    lists: &mut D::Lists,
+    word: &[u8],
+    kind: Kind,
+    out: &mut Vec<u8>,
+) -> Result<bool, AllocError>
+    requires kind { kind_of word.now ≡ Some kind }
+    requires untrimmed { trimmed word.now ≡ word.now }
+    ensures text { OnOk result (out.new.items ≡ out.old.items ++ unwrap_or (text_of_tries (D.answer demangler.now) word.now) []) }
+    ensures has_text { IfOk result (λ has_text. has_text ≡ is_some (text_of_tries (D.answer demangler.now) word.now)) }
+{
+    let word_read = append_symbol(demangler, lists, word, kind, out)?;
     if word_read {
         return Ok(true);
     }
@@ -96,6 +120,23 @@ fn append_text<D: Demangler>(
     let Some(kind) = kind_of(word) else {
         return Ok(false);
     };
+    let read = append_symbol(demangler, lists, word, kind, out)?;
+    Ok(read)
+}
+
+/// The same of a word that names a symbol of a kind.
+#[inline(always)]
+fn append_symbol<D: Demangler>(
+    demangler: &D,
+    lists: &mut D::Lists,
+    word: &[u8],
+    kind: Kind,
+    out: &mut Vec<u8>,
+) -> Result<bool, AllocError>
+    requires { kind_of word.now ≡ Some kind }
+    ensures text { OnOk result (out.new.items ≡ out.old.items ++ unwrap_or (text_for (D.answer demangler.now) word.now) []) }
+    ensures has_text { IfOk result (λ has_text. has_text ≡ is_some (text_for (D.answer demangler.now) word.now)) }
+{
     match demangler.append(lists, kind, kind.symbol_of(word), out) {
         Ok(()) => Ok(true),
         Err(refusal) => match refusal {

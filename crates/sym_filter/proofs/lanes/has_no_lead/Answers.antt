@@ -1,8 +1,8 @@
 use Rattle.std.proofs.Common.{◌≡◌, subst, take, drop, true, ℕ}
 use Rattle.std.proofs.lemmas.Bool.{eqb-true}
 use Rattle.std.specs.List.{list_all}
-use Rattle.sym_filter.specs.Lanes.{is_no_lead}
+use Rattle.sym_filter.specs.Lanes.{first_set, is_no_lead}
 use Rattle.sym_filter.proofs.lanes.has_no_lead.Goals as goal
 
 pub returns : goal.returns
-returns c = λ all. subst (λ (n : ℕ). list_all is_no_lead (take n (drop c.args.at c.args.text.now)) ≡ true) (eqb-true c.lanes_before_lead.result 16 all) c.lanes_before_lead.ensures.1
+returns c = λ all. subst (λ (mask : ℕ). list_all is_no_lead (take (first_set mask) (drop c.args.at c.args.text.now)) ≡ true) (eqb-true c.leads.result 0 all) c.leads.ensures.1

@@ -1,12 +1,7 @@
-use Rattle.std.proofs.Common.{ℕ, bit_or, refl}
-use Rattle.std.proofs.lemmas.Simd.{zip2_splat, length-chunk}
-use lib.Lanes.{chunk}
+use Rattle.std.proofs.Common.{◌≡◌, ◌≤◌, take, drop, subst, sym, true, ℕ}
+use Rattle.std.specs.List.{list_all}
 use Rattle.sym_filter.specs.Lanes.{is_no_lead}
-use Rattle.sym_filter.proofs.LaneLemmas.{front_is_of, joined}
 use Rattle.sym_filter.proofs.lanes.lanes_before_lead.Goals as goal
 
 pub returns : goal.returns
-returns c =
-    let v = chunk c.args.at 16 c.args.text.now in
-    let long = length-chunk c.args.at 16 c.args.text.now c.requires in
-    front_is_of is_no_lead c.args.text.now c.args.at _ _ c.requires c.type_inv.text c.first_set.ensures _ (joined bit_or _ _ v (zip2_splat {Y = ℕ} _ v 16 92 long) (zip2_splat {Y = ℕ} _ v 16 27 long)) refl
+returns c = subst (λ (n : ℕ). (n ≤ 16) × (list_all is_no_lead (take n (drop c.args.at c.args.text.now)) ≡ true)) (sym c.first_set.ensures) c.leads.ensures

@@ -1,12 +1,7 @@
-use Rattle.std.proofs.Common.{ℕ, refl}
-use Rattle.std.proofs.lemmas.Simd.{zip2_splat, length-chunk}
-use lib.Lanes.{chunk}
+use Rattle.std.proofs.Common.{◌≡◌, ◌≤◌, take, drop, subst, sym, true, ℕ}
+use Rattle.std.specs.List.{list_all}
 use Rattle.sym_filter.specs.Lanes.{is_no_mark}
-use Rattle.sym_filter.proofs.LaneLemmas.{front_is_of}
 use Rattle.sym_filter.proofs.lanes.lanes_before_mark.Goals as goal
 
 pub returns : goal.returns
-returns c =
-    let v = chunk c.args.at 16 c.args.text.now in
-    let long = length-chunk c.args.at 16 c.args.text.now c.requires in
-    front_is_of is_no_mark c.args.text.now c.args.at _ _ c.requires c.type_inv.text c.first_set.ensures _ (zip2_splat {Y = ℕ} _ v 16 95 long) refl
+returns c = subst (λ (n : ℕ). (n ≤ 16) × (list_all is_no_mark (take n (drop c.args.at c.args.text.now)) ≡ true)) (sym c.first_set.ensures) c.marks.ensures

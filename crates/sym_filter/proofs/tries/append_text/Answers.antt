@@ -1,9 +1,8 @@
-use Rattle.std.proofs.Common.{◌≡◌, ◌++◌, ◌∙◌, [], sym, ap, None, Some, Ok, Err}
+use Rattle.std.proofs.Common.{◌≡◌, ◌++◌, ◌∙◌, [], sym, ap, None}
 use Rattle.std.specs.Prelude.{is_some, unwrap_or}
 use Rattle.std.proofs.lemmas.List.{append-nil}
 use Rattle.sym_filter.specs.Kinds.{kind_of}
-use Rattle.sym_filter.specs.Runs.{text_for}
-use Rattle.sym_filter.proofs.RunLemmas.{text_of-symbol, text_for-unnamed}
+use Rattle.sym_filter.proofs.RunLemmas.{text_for-unnamed}
 use Rattle.sym_filter.proofs.tries.append_text.Goals as goal
 
 pub returns-in_default-clause-text : goal.returns-in_default-clause-text
@@ -17,28 +16,3 @@ returns-in_default-clause-has_text g c =
     let answers = g.D.Demangler.answer c.args.demangler.now in
     let none : kind_of c.args.word.now ≡ None = sym c.kind_of.ensures ∙ c.in_default.is in
     sym (ap is_some (text_for-unnamed answers c.args.word.now none))
-
-pub returns-in-Ok-clause-text : goal.returns-in-Ok-clause-text
-returns-in-Ok-clause-text g c =
-    let answers = g.D.Demangler.answer c.args.demangler.now in
-    let named : kind_of c.args.word.now ≡ Some c.in-Some.kind = sym c.kind_of.ensures ∙ c.in-Some.is in
-    let given = c.in-Ok.ensures in
-    let text = text_of-symbol answers c.args.word.now c.symbol_of.result.now c.in-Some.kind (Ok given.0) named c.symbol_of.ensures.symbol given.1 in
-    given.2 ∙ ap (λ o. c.args.out.now.items ++ unwrap_or o []) (sym text)
-
-pub returns-in-Ok-clause-has_text : goal.returns-in-Ok-clause-has_text
-returns-in-Ok-clause-has_text g c =
-    let answers = g.D.Demangler.answer c.args.demangler.now in
-    let named : kind_of c.args.word.now ≡ Some c.in-Some.kind = sym c.kind_of.ensures ∙ c.in-Some.is in
-    let given = c.in-Ok.ensures in
-    sym (ap is_some (text_of-symbol answers c.args.word.now c.symbol_of.result.now c.in-Some.kind (Ok given.0) named c.symbol_of.ensures.symbol given.1))
-
-pub returns-in_default-refusal : goal.returns-in_default-refusal
-returns-in_default-refusal g c =
-    let answers = g.D.Demangler.answer c.args.demangler.now in
-    let named : kind_of c.args.word.now ≡ Some c.in-Some.kind = sym c.kind_of.ensures ∙ c.in-Some.is in
-    let nothing : text_for answers c.args.word.now ≡ None = text_of-symbol answers c.args.word.now c.symbol_of.result.now c.in-Some.kind
-    (Err c.in-Err.refusal) named c.symbol_of.ensures.symbol (c.in-Err.ensures.0 c.in_default-refusal.not-Memory) in record {
-      text = c.in-Err.ensures.1 ∙ sym (ap (λ o. c.args.out.now.items ++ unwrap_or o []) nothing ∙ append-nil c.args.out.now.items);
-      has_text = sym (ap is_some nothing);
-    }

@@ -1,8 +1,8 @@
-use Rattle.std.proofs.Common.{◌≡◌, ◌-◌, ◌++◌, ◌∙◌, [], length, drop, take, sym, ap, arith}
+use Rattle.std.proofs.Common.{◌-◌, ◌++◌, ◌∙◌, [], length, drop, take, sym, ap, arith}
 use Rattle.std.specs.Prelude.{is_some, unwrap_or}
 use Rattle.std.proofs.lemmas.List.{take_all}
 use Rattle.sym_filter.specs.Runs.{text_for, text_of_parts, text_of_tries}
-use Rattle.sym_filter.proofs.TryLemmas.{front-read, front-unread, front-whole, then-pushed, two-parts, whole-read, whole-unread}
+use Rattle.sym_filter.proofs.TryLemmas.{front-read, front-unread, then-pushed, two-parts, whole-read, whole-unread}
 use Rattle.sym_filter.proofs.WordLemmas.{slice_from}
 use Rattle.sym_filter.proofs.tries.append_tries.Goals as goal
 
@@ -23,19 +23,8 @@ returns-then-front_read-clause-has_text g c =
     let front = c.in_ok-front_read.ensures in
     sym (front-read answers word (take end word) end c.trimmed_end-end.ensures.trimmed c.trimmed_end-end.ensures.trimmed c.trimmed_end-end.ensures.within (sym front.has_text ∙ c.if-front_read.true)).1
 
-pub returns-then-end-word : goal.returns-then-end-word
-returns-then-end-word g c =
-    let answers = g.D.Demangler.answer c.args.demangler.now in
-    let word = c.args.word.now in
-    let end = c.trimmed_end-end.result in
-    let front = c.in_ok-front_read.ensures in
-    let front_none = sym front.has_text ∙ c.if-front_read.false in
-    let whole : take end word ≡ word = take_all end word (omega (arith, c.if-end-word.true)) in
-    let tries = front-whole answers word (take end word) c.trimmed_end-end.ensures.trimmed whole front_none in
-    let parts = c.in_ok-part_read.ensures in record {
-      text = then-pushed c.args.out.now.items c.append_text.new.out.items _ (text_for answers (take end word)) (text_of_parts answers word) parts.text front.text front_none ∙ ap (λ o. c.args.out.now.items ++ unwrap_or o []) (sym tries);
-      has_text = parts.has_text ∙ ap is_some (sym tries);
-    }
+pub append_whole-requires-clause-untrimmed : goal.append_whole-requires-clause-untrimmed
+append_whole-requires-clause-untrimmed g c = sym c.trimmed_end-end.ensures.trimmed ∙ take_all c.trimmed_end-end.result c.args.word.now (omega (arith, c.if-end-word.true))
 
 pub returns-then-word_read : goal.returns-then-word_read
 returns-then-word_read g c =
@@ -61,7 +50,7 @@ returns g c =
     let front_none = sym front.has_text ∙ c.if-front_read.false in
     let none = sym own.has_text ∙ c.if-word_read.false in
     let tries = front-unread answers word (take end word) c.trimmed_end-end.ensures.trimmed front_none ∙ whole-unread answers word none in
-    let parts = c.in_ok-part_read-2.ensures in
+    let parts = c.in_ok-part_read.ensures in
     let own_out = then-pushed c.args.out.now.items c.append_text.new.out.items c.append_text-2.new.out.items (text_for answers (take end word)) (text_for answers word) own.text front.text front_none in record {
       text = then-pushed c.args.out.now.items c.append_text-2.new.out.items _ (text_for answers word) (text_of_parts answers word) parts.text own_out none ∙ ap (λ o. c.args.out.now.items ++ unwrap_or o []) (sym tries);
       has_text = parts.has_text ∙ ap is_some (sym tries);

@@ -1,0 +1,8 @@
+use Rattle.std.proofs.Common.{◌≡◌, subst, take, drop, true, ℕ}
+use Rattle.std.proofs.lemmas.Bool.{eqb-true}
+use Rattle.std.specs.List.{list_all}
+use Rattle.sym_filter.specs.Lanes.{first_set, is_no_mark}
+use Rattle.sym_filter.proofs.lanes.has_no_mark.Goals as goal
+
+pub returns : goal.returns
+returns c = λ all. subst (λ (mask : ℕ). list_all is_no_mark (take (first_set mask) (drop c.args.at c.args.text.now)) ≡ true) (eqb-true c.marks.result 0 all) c.marks.ensures.1
