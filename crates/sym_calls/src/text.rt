@@ -1,5 +1,5 @@
 // The text of one name, or its pressed spelling.
-ghost use Rattle.std.specs.Prelude.{◌≡◌, ◌≤◌, List, ℕ, None, length};
+ghost use Rattle.std.specs.Prelude.{◌≡◌, ◌≤◌, List, ℕ, None, length, true};
 ghost use Rattle.std.specs.Option.{IfSome};
 ghost use Rattle.sym_core.specs.Number.{FitsSymbol};
 ghost use Rattle.sym_print.specs.declared.detail.Detail.TheVariants.{Full, Brief};
@@ -19,7 +19,7 @@ use sym_core::Refusal;
 use sym_demangle::Mangling;
 use sym_filter::{Demangled, Demangler, Kind, Lang};
 use sym_languages::languages::Cpp;
-use sym_languages::{Abi, Languages, Pressing, Wide};
+use sym_languages::{Abi, Languages, Legacy, Pressing, Wide, may_be_legacy};
 use sym_print::Detail;
 use type_names::append_type;
 
@@ -206,6 +206,30 @@ fn name_once<C: Cpp>(
     }
 }
 
+/// The same where legacy Rust names are paths: a symbol that can't be such a name takes no more lists than where they aren't.
+fn legacy_once<C: Cpp>(
+    alloc: Global,
+    legacy: &Legacy<C>,
+    asked: Asked,
+    name: &[u8],
+    buffer: &mut [u8],
+) -> Outcome
+    ensures { EndsAs (name_told (answers_by C.mangled true legacy.now.languages.limit legacy.now.languages.detail) asked name.now buffer.old) buffer.old (ending_of result buffer.new) }
+{
+    let kind = match asked.named(name) {
+        Ok(kind) => kind,
+        Err(status) => return alone(status),
+    };
+    let symbol = &name[kind.skip as usize..];
+    if may_be_legacy(symbol) {
+        return name_by(alloc, legacy, asked, name, buffer);
+    }
+    match short_once(alloc, &legacy.languages, kind, symbol, buffer) {
+        Some(outcome) => outcome,
+        None => symbol_by_rows(alloc, legacy, kind, symbol, buffer),
+    }
+}
+
 /// Writes the text of a type to the front of the buffer.
 fn type_by<D: Demangler>(alloc: Global, demangler: &D, name: &[u8], buffer: &mut [u8]) -> Outcome
     requires { length name.now ≤ LONGEST_WORD }
@@ -254,7 +278,7 @@ fn text_in<C: Cpp>(
 {
     if asked.legacy {
         let legacy = asked.with_legacy(limit, cpp);
-        let outcome = name_by(alloc, &legacy, asked, name, buffer);
+        let outcome = legacy_once(alloc, &legacy, asked, name, buffer);
         return or_type(alloc, &legacy, asked, name, buffer, outcome);
     }
     let languages = asked.languages(limit, cpp);

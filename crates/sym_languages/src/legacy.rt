@@ -1,6 +1,7 @@
 // Legacy Rust names, as the paths that they denote, before both manglings.
-ghost use Rattle.std.specs.Prelude.{◌≡◌, IfSome};
+ghost use Rattle.std.specs.Prelude.{◌≡◌, ℕ, List, Result, IfSome, false};
 ghost use Rattle.sym_core.specs.Number.{FitsSymbol};
+ghost use Rattle.sym_core.specs.declared.refusal.Refusal.{Refusal as Refusal-type};
 ghost use Rattle.rust_legacy.specs.Path.{AreRead};
 ghost use Rattle.rust_legacy.specs.Text.{legacy_answer};
 ghost use Rattle.sym_filter.specs.Demangled.{IsAppended, IsDemangled};
@@ -70,6 +71,16 @@ impl<C: Cpp> Demangler for Legacy<C> {
             return self.languages.append(lists, kind, symbol, out);
         };
         append_named(self, lists, kind, symbol, place, out)
+    }
+}
+
+/// Whether a symbol may be a legacy name. For one that can't be, `Legacy` answers what its languages answer.
+pub fn may_be_legacy(symbol: &[u8]) -> bool
+    ensures { result ≡ false → (limit : ℕ) (other : Result (List ℕ) Refusal-type) → legacy_answer limit symbol.now other ≡ other }
+{
+    match names_of(symbol).0 {
+        Some(_) => true,
+        None => false,
     }
 }
 

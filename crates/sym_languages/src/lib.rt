@@ -12,5 +12,5 @@ pub use filtering::{filter, filter_as};
 pub use itanium::{Abi, Wide};
 pub use languages::Languages;
 pub use laws::{pressed_is_short, reading_is_pressed};
-pub use legacy::Legacy;
+pub use legacy::{Legacy, may_be_legacy};
 pub use pressing::Pressing;
