@@ -28,8 +28,7 @@ const STATS: &str = "Show the rows, nodes and steps of each symbol";
 const PRESS: &str =
     "Spell each symbol again with its repeated parts as references, in place of printing it";
 
-const WIDE: &str =
-    "Read C++ symbols that compilers write beside those of the ABI's first grammar, too";
+const WIDE: &str = "Also read newer C++ forms (recommended)";
 
 const LEGACY: &str =
     "Print Rust's older names, which look like C++ and end in a hash, as Rust paths";
