@@ -1,8 +1,9 @@
-"""Reads the files that the scripts take, and fills the templates of what they write."""
+"""Reads the files that the scripts take, tables among them, and fills the templates of what they write."""
 import os
 import re
+import shlex
 
-TEMPLATES = os.path.join(os.path.dirname(os.path.abspath(__file__)), "templates")
+TABLES, TEMPLATES = (os.path.join(os.path.dirname(os.path.abspath(__file__)), folder) for folder in ("tables", "templates"))
 NOTHING = object()
 
 
@@ -12,6 +13,20 @@ def read(path, otherwise=NOTHING):
         return otherwise
     with open(path, encoding="utf-8", errors="replace") as file:
         return file.read()
+
+
+def table(name):
+    """The lines of a table that aren't blank, nor comments."""
+    return [line for line in read(f"{TABLES}/{name}").split("\n") if line.strip() and not line.lstrip().startswith("#")]
+
+
+def entries(name):
+    """The entries of a table by their first words, each with its other words. One with a blank in it is in quotes."""
+    found = {}
+    for line in table(name):
+        sort, *words = shlex.split(line)
+        found.setdefault(sort, []).append(tuple(words))
+    return found
 
 
 def fill(text, /, **holes):

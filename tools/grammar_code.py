@@ -1,13 +1,13 @@
 """Writes the code and the definitions that hold C++'s grammar: from the table of rules.py and its laws to the files of cpp_grammar, by the
 templates of templates/cpp_grammar. grammar.py calls it, once for each of the grammars."""
-import vocabulary as words
 from files import template
 from grammar_laws import klass, sym_class
 from notation import listed, runs, snake
 from rules import K, NAME, P, TOKENS
+from table_code import FIRST, LAST, after_each, letter_rows, symbol_row
 
-# the table has a column for each of these bytes, and in it the letter of the production that is taken, or a blank
-FIRST, LAST, FIRST_LETTER = ord("$"), ord("z"), ord("!")
+# the letter of the production with number 0
+FIRST_LETTER = ord("!")
 
 
 def filled(name, **holes):
@@ -51,21 +51,12 @@ def letter(number):
     return "\\" + char if char in '"\\' else char if ord(char) < 127 else f"\\x{ord(char):02x}"
 
 
-def letters(rules):
-    """The row of a kind: the letter of the production that it takes at each byte."""
-    row, numbers = [" "] * (LAST - FIRST + 1), list(P)
-    for cls, production in rules:
-        for byte in klass(cls, production):
-            row[ord(byte) - FIRST] = letter(numbers.index(production))
-    return "".join(row)
-
-
 def rust_letters(name):
     """The table of rows."""
-    columns = "".join(chr(byte) for byte in range(FIRST, LAST + 1))
+    numbers = {production: letter(number) for number, production in enumerate(P)}
+    kinds = {kind: {byte: numbers[production] for cls, production in rules for byte in klass(cls, production)} for kind, (_, rules) in K.items()}
     return [f"// For each kind a row: for each byte from `{chr(FIRST)}` to `{chr(LAST)}` the letter of the production that the kind takes there.",
-            f"static {name}: [[u8; {LAST - FIRST + 1}]; {len(K)}] = [", f"    // {columns}",
-            *[f'    *b"{letters(rules)}", // {kind}' for kind, (_, rules) in K.items()], "];"]
+            *letter_rows(name, kinds), "];"]
 
 
 def rust_rules(table, letters_of):
@@ -98,12 +89,11 @@ def rust_table():
     heads = [f"    {'takes' if ate else 'chains'}!({len(symbols)}), // {letter(i)} {production}" for i, (production, (ate, symbols)) in enumerate(P.items())]
 
     def cells(symbols):
-        named = [f"Sym::Byte(b{symbol})" if sym_class(symbol) == "byte" else snake(symbol).upper() for symbol in symbols]
-        return ", ".join([*named, *["NONE"] * (5 - len(symbols))])
+        return [f"Sym::Byte(b{symbol})" if sym_class(symbol) == "byte" else snake(symbol).upper() for symbol in symbols]
 
-    return filled("table.rt", constants=constants, first=first, letters=rust_letters("LETTERS"), count=str(len(P)), heads=heads, places=str(6 * len(P) + 6),
-                  symbols=[f"    [{cells(symbols)}], // {letter(i)} {production}" for i, (production, (_, symbols)) in enumerate(P.items())],
-                  after=words.after_each([symbols for _, symbols in P.values()]), rules=rust_rules("abi", "LETTERS"))
+    return filled("table.rt", constants=constants, first=first, letters=rust_letters("LETTERS"), count=str(len(P)), heads=heads,
+                  symbols=[symbol_row(cells(symbols), f"{letter(i)} {production}") for i, (production, (_, symbols)) in enumerate(P.items())],
+                  **after_each([symbols for _, symbols in P.values()]), rules=rust_rules("abi", "LETTERS"))
 
 
 def antt_grammar():

@@ -3,6 +3,7 @@ the letters of basic types, code and definitions."""
 import vocabulary as words
 from files import template
 from notation import runs
+from table_code import after_each, letter_rows, symbol_row
 
 DIGITS, UPPER, LOWER = "0123456789", "ABCDEFGHIJKLMNOPQRSTUVWXYZ", "abcdefghijklmnopqrstuvwxyz"
 SUFFIX_BYTES = "$." + DIGITS + UPPER + "_" + LOWER
@@ -102,25 +103,21 @@ KINDS = {
     "TRUTH": ({"0": "0", "1": "1"}, False),
 }
 
-FIRST, LAST = ord("$"), ord("z")
+def symbol(name):
+    """A symbol in code."""
+    if name[0] == "'":
+        return f"Byte(b{name})"
+    return {"Name": "Name", "Base62": "BASE62", "Hex": "HEX"}.get(name, f"Kind({name})")
 
-def symbol(s): return f"Byte(b{s})" if s[0] == "'" else s if s == "Name" else s.upper() if s in ("Base62", "Hex") else f"Kind({s})"
-
-def letters(rules):
-    row = [" "] * (LAST - FIRST + 1)
-    for letter, bytes in rules.items():
-        for b in bytes: row[ord(b) - FIRST] = letter
-    return "".join(row).replace("\\", "\\\\")
 
 def table():
     """The rule that a kind takes at a byte."""
-    rows = [f'    *b"{letters(rules)}", // {kind}' for kind, (rules, _) in KINDS.items()]
-    first = [f"static LETTERS: [[u8; {LAST - FIRST + 1}]; {len(KINDS)}] = [", "    // " + "".join(chr(byte) for byte in range(FIRST, LAST + 1))]
+    kinds = {kind: {byte: letter.replace("\\", "\\\\") for letter, taken in rules.items() for byte in taken} for kind, (rules, _) in KINDS.items()}
     heads = [f"    {'takes' if takes else 'chains'}!({production}, {len(symbols)}), // {letter}" for letter, (production, takes, symbols) in RULES.items()]
-    cells = [f"    [{', '.join([*map(symbol, symbols), *['NONE'] * (5 - len(symbols))])}], // {letter}: {production}" for letter, (production, _, symbols) in RULES.items()]
+    cells = [symbol_row(list(map(symbol, symbols)), f"{letter}: {production}") for letter, (production, _, symbols) in RULES.items()]
     empty = "        " + "\n            | ".join(f"kind::{kind}" for kind, (_, may_be_empty) in KINDS.items() if may_be_empty)
-    return template("rust_grammar/table.rt", letters=[*first, *rows], heads=heads, symbols=cells, count=str(len(RULES)), places=str(6 * len(RULES) + 6), empty=empty,
-                    after=words.after_each([symbols for _, _, symbols in RULES.values()]))
+    return template("rust_grammar/table.rt", letters=list(letter_rows("LETTERS", kinds)), heads=heads, symbols=cells, count=str(len(RULES)), empty=empty,
+                    **after_each([symbols for _, _, symbols in RULES.values()]))
 
 
 def production_code():
