@@ -3,9 +3,10 @@ import re
 import grammar
 import node_code
 import cpp_trees
-from files import read, template
+from files import template
 from meanings import split
 from notation import snake
+from rules import ABOVE
 
 # the families by file: each with what is said of it, and its productions in the order of their arms
 FAMILIES = {
@@ -178,27 +179,15 @@ def outcome(means, node_of):
 
 # ## Files
 
-def sources():
-    """The ABI's lines over the productions of the grammar's table."""
-    found, above = {}, []
-    for line in "\n".join(read(module.__file__) for module in grammar.TABLES).split("\n"):
-        if re.match(r" +# ", line):
-            above.append(line.strip()[2:])
-            continue
-        name = re.search(r'(?:eats\((?:"[^"]*"|[\w()., ]+?), |chain\()"(\w+)"', line)
-        if name and above: found.setdefault(name[1], above)
-        above = []
-    return {**{production: [f"<type> ::= {letter} <type>"] for tree, production, letter in cpp_trees.WRAPPERS}, **found}
-
 # what each file has from other modules
 USES = [("crate::expressions", "first_letter second_letter".split()), ("crate::meaning", "items made piece qualified tree".split()), ("crate::numbers", "from_byte local_number normal one_byte signed_digits".split()),
         ("cpp_tree::node", "Adjustment Mark Node Piece Thunk".split()), ("cpp_tree::nodes", "ABSENT NIL".split())]
 
-def function(family, says, productions, rows, above, node_of):
+def function(family, says, productions, rows, node_of):
     """The function of a family."""
     arms = []
     for p in productions:
-        arms += [f"            // {line}" for line in above.get(p, [])]
+        arms += [f"            // {line}" for line in ABOVE.get(p, [])]
         arms += arm(p, outcome(rows[p]["means"], node_of))
     is_asked = any(re.search(r"\bbyte\b", a) for a in arms if "//" not in a)
     return template("cpp_link/family.rt", says=says, name=snake(family), family=family, byte="        let byte = symbol[place as usize];\n" if is_asked else "", arms=arms).rstrip("\n")
@@ -206,11 +195,11 @@ def function(family, says, productions, rows, above, node_of):
 def files():
     """What is written: each file's path in the folder of the crates, and its text."""
     grammar.build(widened=True)
-    rows, above = dict(grammar.ROWS), sources()
+    rows = dict(grammar.ROWS)
     grammar.build()
     node_of = {tree: (node, [name for name, _, _ in node_code.fields(tree, given)]) for node, tree, given in node_code.nodes()}
     for module, families in FAMILIES.items():
-        functions = "\n\n".join(function(family, says, productions.split(), rows, above, node_of) for family, (says, productions) in families.items())
+        functions = "\n\n".join(function(family, says, productions.split(), rows, node_of) for family, (says, productions) in families.items())
         code = "\n".join(l for l in functions.split("\n") if not l.strip().startswith("//"))
         uses = []
         for path, names in USES:

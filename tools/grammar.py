@@ -4,35 +4,14 @@
     grammar.py laws        checks the laws of the three grammars, and says how large they are
     grammar.py markdown    prints the table to read
 
-The rules are in cpp_names.py, cpp_types.py, cpp_arguments.py, cpp_wide_forms.py and cpp_expressions.py."""
+The rules are in the tables that rules.py reads."""
 import sys
 
-import cpp_arguments
-import cpp_expressions
-import cpp_names
-import cpp_types
-import cpp_wide_forms
 import grammar_code
 import meanings
 import words
 from grammar_laws import begins_symbol, empty, klass, laws, sym_class
-from rules import DECIMAL, DIGITS, K, MARKED, NAME, P, ROWS, SEQ36, WIDENED
-
-# the modules that enter rules, in the order of their rules
-TABLES = (cpp_names, cpp_types, cpp_arguments, cpp_wide_forms, cpp_expressions)
-
-
-def build(extended=True, widened=False):
-    """Enters one of the grammars: with vector types and the like or without them, and the wide one."""
-    for table in (P, ROWS, K, MARKED):
-        table.clear()
-    WIDENED[0] = widened
-    names = cpp_names.enter()
-    types = cpp_types.enter(names, extended)
-    arguments = cpp_arguments.enter(types)
-    cpp_wide_forms.enter(names, types, arguments)
-    cpp_expressions.enter(types, arguments)
-
+from rules import DECIMAL, DIGITS, K, MARKED, NAME, P, ROWS, SEQ36, build
 
 def rows():
     """What each production does."""

@@ -1,71 +1,134 @@
-"""The table that the rules of C++'s grammar are entered in: productions with their symbols and rows, and kinds with their alternatives.
-cpp_names.py, cpp_types.py, cpp_arguments.py, cpp_wide_forms.py and cpp_expressions.py enter them; grammar.py calls these in order."""
+"""The rules of C++'s grammar: from the tables cpp_names.txt, cpp_types.txt, cpp_arguments.txt, cpp_wide_forms.txt and cpp_expressions.txt to the
+productions with their symbols and rows, and to the kinds with their alternatives.
+
+A table has kinds (`empty`, if they may be), groups of rules that some kinds share, and rules by themselves, that kinds name. A rule is
+
+    BYTES PRODUCTION SYMBOL.. | means .. | before .. | candidate .. | packs .. | tests .. | nodes ..
+
+BYTES are those at which it is taken, and of which it takes one; @NAME are those of CLASSES; - if it takes none, and begins with its first
+symbol. A symbol is a kind, a token, or a byte in quotes. The rest is the production's row, in the words that meanings.py explains. A
+production that was entered before needs no symbols and no row. Other lines: `mark BYTES`, one letter, as a qualifier or the second of an
+operator; `= NAME ..`, the rules of groups, or those of productions; `= NAME but PRODUCTION`. `wide` before a rule says that the wide grammar
+alone has it, `later` that it came with vector types and the like. The lines of the ABI above a rule are repeated above its code."""
+from functools import lru_cache
+
+import cpp_trees
 import vocabulary as words
+from files import TABLES, read
 
 LETTERS = "abcdefghijklmnopqrstuvwxyzABCDEFGHIJKLMNOPQRSTUVWXYZ"
 DIG = "0123456789"
-WORD = LETTERS + DIG + "_.$"
 NAME, DECIMAL, SEQ36, DIGITS = "Name", "Decimal", "Seq36", "Digits"
 # the tokens, each with the bytes that may begin it
 TOKENS = {NAME: DIG, DECIMAL: DIG + "_", SEQ36: DIG + "ABCDEFGHIJKLMNOPQRSTUVWXYZ_", DIGITS: DIG}
-# productions: name -> (eats, symbols); a symbol is a kind's name, a token, or 'x' a fixed byte
-P = {}
-# what each does: name -> its row, in the words that meanings.py explains. `means` says what it stands for, where t1 is the tree of its part
-# 1; `before` what is done before which of its parts; `candidate` what becomes a candidate once they are read; `nodes` how many nodes its own
-# code makes at most
-ROWS = {}
-# kinds: name -> (may be empty, [(class, production)], chain production or list of chains)
-K = {}
-# The ABI's grammar is the wide one less the alternatives that `wide` marks here.
-MARKED = []         # (kind, class, production)
-WIDENED = [False]   # whether K has them
+FILES = ("cpp_names.txt", "cpp_types.txt", "cpp_arguments.txt", "cpp_wide_forms.txt", "cpp_expressions.txt")
+# productions: name -> (eats, symbols); and what each does: name -> its row
+P, ROWS = {}, {}
+# kinds: name -> (may be empty, [(class, production)]). The ABI's grammar is the wide one less the alternatives that are marked here
+K, MARKED = {}, []         # (kind, class, production)
+# the ABI's lines above a production
+ABOVE = {}
 
 
-def prod(name, *symbols, chain=False, **row):
+def letters_of(literals, after_d):
+    """The letters of builtin types with a code of one letter, or after D, whose literals are of these sorts."""
+    return "".join(code[-1] for code, text, literal in words.BUILTINS if (len(code) == 2) == after_d and literal in literals)
+
+
+ANY = {literal for _, _, literal in words.BUILTINS}
+CLASSES = {
+    "@WORD": LETTERS + DIG + "_.$", "@DIGIT": DIG,
+    "@BUILTIN": letters_of(ANY, False), "@BUILTIN_WITH_D": letters_of(ANY, True), "@WIDE_BUILTIN": "".join(code[1] for code, _ in words.WIDE_BUILTINS),
+    "@INTEGER_TYPE": letters_of({words.INTEGER}, False), "@NULL_TYPE": letters_of({words.NULL}, True), "@CHARACTER_TYPE": letters_of({words.CHARACTER}, True),
+    "@ABBREVIATION": "".join(letter for letter, _ in words.ABBREVIATIONS), "@SPECIAL": "".join(letter for letter, _ in words.SPECIALS),
+    # of those of a name the ones after T
+    "@NAMED_SPECIAL": "".join(code[1] for code, _ in words.NAMED_SPECIALS if code[0] == "T"),
+}
+for code, _ in words.OPERATORS:
+    CLASSES["@OPERATOR_" + code[0].upper()] = CLASSES.get("@OPERATOR_" + code[0].upper(), "") + code[1]
+
+
+@lru_cache(maxsize=None)
+def sections(name):
+    """The sections of a table: the words of its head, and its lines, each with the comments above it."""
+    found, above = [], []
+    for line in read(f"{TABLES}/{name}").split("\n"):
+        if line.lstrip().startswith("#"):
+            above.append(line.strip()[2:])
+            continue
+        if line.startswith(" "):
+            found[-1][1].append((line.strip(), above))
+        elif line:
+            found.append((line.split(), []))
+        above = []
+    return found
+
+
+def production(name, eats, symbols, row):
     """Enters a production, which may be entered again as it is."""
-    own = (not chain, list(symbols))
-    assert name not in P or P[name] == own, (name, P.get(name), own)
-    assert not row or name not in ROWS or ROWS[name] == row, (name, ROWS.get(name), row)
-    P[name] = own
+    entered = (eats, symbols)
+    assert not symbols or P.get(name, entered) == entered, (name, P[name], entered)
+    assert not row or ROWS.get(name, row) == row, (name, ROWS[name], row)
+    P.setdefault(name, entered)
     if row:
         ROWS[name] = row
     return name
 
 
-def kind(name, *rules, empty=False):
-    """Enters a kind, with its alternatives in the order of their choice."""
-    MARKED.extend((name, *rule[:2]) for rule in rules if len(rule) == 3)
-    K[name] = (empty, [rule[:2] for rule in rules if len(rule) == 2 or WIDENED[0]])
+def row_of(texts):
+    """A row, by its words."""
+    row = dict(text.split(" ", 1) for text in texts)
+    return {**row, "nodes": int(row["nodes"])} if "nodes" in row else row
 
 
-def wide(rule):
-    """The same alternative, of the wide grammar alone."""
-    return (*rule, "wide")
+class Reader:
+    """What rules refer to: groups, and the first rule of each production."""
+
+    def __init__(self, extended):
+        self.extended, self.groups, self.first = extended, {}, {}
+
+    def rule(self, line, above):
+        """The rule of a line, entered."""
+        (bytes_, name, *symbols), *row = (part.split() for part in line.split(" | "))
+        found = None if bytes_ == "-" else CLASSES.get(bytes_, bytes_)
+        found = (found, production(name, found is not None, symbols, row_of(map(" ".join, row))))
+        if above:
+            ABOVE.setdefault(name, above)
+        return self.first.setdefault(name, found) and found
+
+    def named(self, words_):
+        """The rules of groups and of productions, less one."""
+        names, _, but = " ".join(words_).partition(" but ")
+        for name in names.split():
+            if name == "wrappers":
+                rules = [self.rule(f"{letter} {of} Type | means {tree}(t0)", [f"<type> ::= {letter} <type>"])
+                         for tree, of, letter in cpp_trees.WRAPPERS if self.extended]
+            else:
+                rules = self.groups.get(name) or [self.first[name]]
+            yield from (rule for rule in rules if rule[1] != but)
+
+    def rules(self, line, above):
+        """The rules of a line."""
+        first, _, rest = line.partition(" ")
+        if first == "later":
+            return self.rules(rest, above) if self.extended else []
+        if first == "wide":
+            return [(*rule[:2], "wide") for rule in self.rules(rest, above)]
+        if first == "=":
+            return list(self.named(rest.split()))
+        return [self.rule(f"{rest} Mark" if first == "mark" else line, above)]
 
 
-def eats(cls, name, *symbols, **row):
-    """An alternative that is taken at one of these bytes, and takes it."""
-    return (cls, prod(name, *symbols, **row))
-
-
-def chain(name, *symbols, **row):
-    """An alternative that takes no byte of its own."""
-    return (None, prod(name, *symbols, chain=True, **row))
-
-
-def mark(cls):
-    """One letter, as a qualifier or the second of an operator."""
-    return eats(cls, "Mark", means="byte")
-
-
-def builtins(d, *sorts):
-    """The letters of builtin types with a code of one letter, or after D; of those whose literals are of a sort."""
-    return "".join(code[-1] for code, text, literal in words.BUILTINS if (len(code) == 2) == d and (not sorts or literal in sorts))
-
-
-# the first letters of operators, each with the second letters after it
-OPS = [(first, "".join(code[1] for code, text in words.OPERATORS if code[0] == first)) for first in words.FIRST_LETTERS]
-ABBREVIATED = "".join(letter for letter, text in words.ABBREVIATIONS)
-SPECIAL = "".join(letter for letter, text in words.SPECIALS)
-# of those of a name the ones after T
-NAMED_SPECIAL = "".join(code[1] for code, text in words.NAMED_SPECIALS if code[0] == "T")
+def build(extended=True, widened=False):
+    """Enters one of the grammars: with vector types and the like or without them, and the wide one."""
+    for table in (P, ROWS, K, MARKED):
+        table.clear()
+    reader = Reader(extended)
+    for (sort, *names), lines in (section for name in FILES for section in sections(name)):
+        rules = [rule for line, above in lines for rule in reader.rules(line, above)]
+        if sort == "group":
+            assert names[0] not in reader.groups, f"two groups {names[0]}"
+            reader.groups[names[0]] = rules
+        elif sort == "kind":
+            MARKED.extend((names[0], *rule[:2]) for rule in rules if len(rule) == 3)
+            K[names[0]] = ("empty" in names, [rule[:2] for rule in rules if len(rule) == 2 or widened])

@@ -9,7 +9,6 @@ TABLE = entries("vocabulary.txt")
 INTEGER, CHARACTER, NULL = "integer", "character", "null"
 BUILTINS, WIDE_BUILTINS, OPERATORS = TABLE["builtin"], TABLE["wide_builtin"], TABLE["operator"]
 ABBREVIATIONS, SPECIALS, NAMED_SPECIALS, ENDINGS = TABLE["abbreviation"], TABLE["special"], TABLE["named_special"], TABLE["ending"]
-FIRST_LETTERS = TABLE["first_letters"][0][0]
 COMMON = [production for line in TABLE["common"] for production in line]
 COMMON_BEFORE = list(TABLE["common_before"][0])
 
