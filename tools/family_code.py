@@ -3,51 +3,21 @@ import re
 import grammar
 import node_code
 import cpp_trees
-from files import template
+from files import sections, template
 from meanings import split
 from notation import snake
 from rules import ABOVE
 
-# the families by file: each with what is said of it, and its productions in the order of their arms
-FAMILIES = {
-    "name_meaning": {
-        "GivenName": ("A rare name that one of its parts is.", """NameWithS LocalTypePiece OperatorPiece NestParameter NestInternal NestLocalType NestTag NestStd NestArguments NestInstance Holder
-            ComponentWithC AnyConstructor"""),
-        "AppliedName": ("A rare name that its first part is, perhaps with arguments or tags.", """Tag TypeTag InternalName LocalTypeName OperatorName OtherOperatorName Friend OperatorNameWithC Constructor
-            Destructor StdName AbbreviatedName"""),
-        "Piece": ("A piece of a name.", """InternalPiece OperatorN OperatorD OperatorA OperatorP OperatorC OperatorM OperatorR OperatorO OperatorE OperatorS OperatorI OperatorG FoldOperatorL OperatorL
-            LiteralOperator Conversion Lambda Unnamed"""),
-        "LocalName": ("What is within a function.", "LocalType LocalName DefaultEntity DefaultTypeEntity StringLiteral"),
-        "Inherited": ("A constructor that is inherited, the base class that it is of, or a concept.", "Inheriting HeldArguments NestedBase UnnestedWithS TaggedSource UnnestedBase BaseArguments NamedConcept"),
-        "Special": ("A special name that is no thunk.", "SpecialType SpecialName OtherSpecial Clone ConstructionVtable"),
-        "Thunk": ("A thunk, or by what it adjusts.", "NonVirtualThunk VirtualThunk CovariantThunk NonVirtualOffset VirtualOffset"),
-        "Number": ("A number, or the text after a symbol.", "Negative Positive Discriminator OneDigit ManyDigits Suffix SuffixByte"),
-    },
-    "type_meaning": {
-        "PlainType": ("A rare type that is no compound one.", """TypeWithD PlainWithD ItemWithD ItemIsType Abbreviation BuiltinWithD SizedFloat ConstrainedAuto Vendor Decltype Expansion ConvertedDecltype
-            DestroyedType ConvertedType"""),
-        "CompoundType": ("A rare compound type that isn't a function's.", " ".join(production for tree, production, letter in cpp_trees.WRAPPERS) + """ RestrictType VolatileType MemberPointer ArrayType AnyArray LengthArray BoundedArray Vector ConvertedConst ConvertedPointer
-            ConvertedReference"""),
-        "FunctionType": ("A function's type, and its signature.", "Function NoexceptFunction RefEnd Constraint RestEnd LvalueItem RvalueItem RestItem RestLvalue RestRvalue"),
-        "Argument": ("A template's parameter, or a rare argument.", """Parameter ParameterArgument PackArgument LiteralArgument LiteralElement AnyElement ArgumentWithT LeveledParameter OneLiteral
-            OnePack"""),
-        "Declaration": ("The declaration of a template's parameter, or an argument that begins with one.", "DeclaredArgument AnyType ValueOf OfConcept TemplateOf PackOf Declarations"),
-    },
-    "expression_meaning": {
-        "Operation": ("An expression by the first letter of its operator.", """ExpressionA ExpressionC ExpressionD ExpressionE ExpressionF ExpressionG ExpressionI ExpressionL ExpressionM ExpressionN ExpressionO
-            ExpressionP ExpressionQ ExpressionR ExpressionS ExpressionT Initializer BracedInitializer"""),
-        "Operands": ("An operator's second letter and its operands, or a list of expressions.", """Expression Expressions Unary AddressExpression OfType DestructorName Braces Step Binary Cast Convert Call
-            TypedBraces Conditional New Placed"""),
-        "Pack": ("A fold, or what else is made of a pack.", "LeftFold RightFold FoldOperand FoldPack PackSize ExpandExpression"),
-        "Requirement": ("A requires expression, or what it requires.", "Requires RequiresOf RequiredType ExpressionRequirement NoexceptRequirement ResultRequirement TypeRequirement NestedRequirement"),
-        "Unresolved": ("A name in an expression, or a parameter.", """Unresolved UnresolvedInType Levels LevelsEnd UnresolvedOperator ParameterExpression SimpleId OperatorReference FunctionParameter
-            OuterParameter This ParameterNumber"""),
-        "Literal": ("A literal.", "LiteralWithD AddressedLiteral EncodingLiteral BoolLiteral IntegerLiteral NullLiteral CharLiteral"),
-    },
-}
-SAYS = {"name_meaning": "What the rare productions of names stand for, given their parts.",
-        "type_meaning": "What the rare productions of types and of template arguments stand for, given their parts.",
-        "expression_meaning": "What the productions of expressions stand for, given their parts."}
+# of each file what it says, and its families: each with what is said of it, and its productions in the order of their arms
+SAYS, FAMILIES = {}, {}
+for head, below in sections("cpp_families.txt"):
+    name, says = head.split(": ", 1)
+    if name.startswith("file "):
+        module = name.removeprefix("file ")
+        SAYS[module], FAMILIES[module] = says, {}
+    else:
+        wrapped = " ".join(production for _, production, _ in cpp_trees.WRAPPERS)
+        FAMILIES[module][name] = says, " ".join(line for line, _ in below).replace("wrappers", wrapped).split()
 
 # ## Rust, as rt fmt lays it out
 
@@ -199,7 +169,7 @@ def files():
     grammar.build()
     node_of = {tree: (node, [name for name, _, _ in node_code.fields(tree, given)]) for node, tree, given in node_code.nodes()}
     for module, families in FAMILIES.items():
-        functions = "\n\n".join(function(family, says, productions.split(), rows, node_of) for family, (says, productions) in families.items())
+        functions = "\n\n".join(function(family, says, productions, rows, node_of) for family, (says, productions) in families.items())
         code = "\n".join(l for l in functions.split("\n") if not l.strip().startswith("//"))
         uses = []
         for path, names in USES:

@@ -2,6 +2,7 @@
 import os
 import re
 import shlex
+from functools import lru_cache
 
 TABLES, TEMPLATES = (os.path.join(os.path.dirname(os.path.abspath(__file__)), folder) for folder in ("tables", "templates"))
 NOTHING = object()
@@ -15,15 +16,26 @@ def read(path, otherwise=NOTHING):
         return file.read()
 
 
-def table(name):
-    """The lines of a table that aren't blank, nor comments."""
-    return [line for line in read(f"{TABLES}/{name}").split("\n") if line.strip() and not line.lstrip().startswith("#")]
+@lru_cache(maxsize=None)
+def sections(name):
+    """The sections of a table: the head of each, and the lines that are indented below it, each with the comments above it."""
+    found, above = [], []
+    for line in read(f"{TABLES}/{name}").split("\n"):
+        if line.lstrip().startswith("#"):
+            above.append(line.strip()[2:])
+            continue
+        if line.startswith(" "):
+            found[-1][1].append((line.strip(), above))
+        elif line:
+            found.append((line, []))
+        above = []
+    return found
 
 
 def entries(name):
     """The entries of a table by their first words, each with its other words. One with a blank in it is in quotes."""
     found = {}
-    for line in table(name):
+    for line, _ in sections(name):
         sort, *words = shlex.split(line)
         found.setdefault(sort, []).append(tuple(words))
     return found

@@ -110,7 +110,7 @@ def rare_answers(function, goal, before, production, after, imports=(), others=(
 
 def families():
     """The productions of each family, and those that are common."""
-    return {**{family: productions.split() for module in family_code.FAMILIES.values() for family, (says, productions) in module.items()}, "Common": words.COMMON}
+    return {**{family: productions for module in family_code.FAMILIES.values() for family, (says, productions) in module.items()}, "Common": words.COMMON}
 
 def family_specs(found):
     """The family of each production."""

@@ -10,11 +10,9 @@ symbol. A symbol is a kind, a token, or a byte in quotes. The rest is the produc
 production that was entered before needs no symbols and no row. Other lines: `mark BYTES`, one letter, as a qualifier or the second of an
 operator; `= NAME ..`, the rules of groups, or those of productions; `= NAME but PRODUCTION`. `wide` before a rule says that the wide grammar
 alone has it, `later` that it came with vector types and the like. The lines of the ABI above a rule are repeated above its code."""
-from functools import lru_cache
-
 import cpp_trees
 import vocabulary as words
-from files import TABLES, read
+from files import sections
 
 LETTERS = "abcdefghijklmnopqrstuvwxyzABCDEFGHIJKLMNOPQRSTUVWXYZ"
 DIG = "0123456789"
@@ -46,22 +44,6 @@ CLASSES = {
 }
 for code, _ in words.OPERATORS:
     CLASSES["@OPERATOR_" + code[0].upper()] = CLASSES.get("@OPERATOR_" + code[0].upper(), "") + code[1]
-
-
-@lru_cache(maxsize=None)
-def sections(name):
-    """The sections of a table: the words of its head, and its lines, each with the comments above it."""
-    found, above = [], []
-    for line in read(f"{TABLES}/{name}").split("\n"):
-        if line.lstrip().startswith("#"):
-            above.append(line.strip()[2:])
-            continue
-        if line.startswith(" "):
-            found[-1][1].append((line.strip(), above))
-        elif line:
-            found.append((line.split(), []))
-        above = []
-    return found
 
 
 def production(name, eats, symbols, row):
@@ -124,7 +106,8 @@ def build(extended=True, widened=False):
     for table in (P, ROWS, K, MARKED):
         table.clear()
     reader = Reader(extended)
-    for (sort, *names), lines in (section for name in FILES for section in sections(name)):
+    for head, lines in (section for name in FILES for section in sections(name)):
+        sort, *names = head.split()
         rules = [rule for line, above in lines for rule in reader.rules(line, above)]
         if sort == "group":
             assert names[0] not in reader.groups, f"two groups {names[0]}"
