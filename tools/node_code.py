@@ -3,7 +3,7 @@ noted of them, and what is seen of them. trees.py writes it, from the table of c
 import re
 import cpp_trees
 from notation import camel
-from cpp_trees import OWN, OUTSIDE, INSIDE, SIGNATURE, TREE, PIECE, BYTES, NUMBER, TRUTH, QUALIFIERS, MARK, SIGNED, THUNK, DISCRIMINATOR
+from cpp_trees import NAMED, OWN, OUTSIDE, INSIDE, SIGNATURE, TREE, PIECE, BYTES, NUMBER, TRUTH, QUALIFIERS, MARK, SIGNED, THUNK, DISCRIMINATOR
 
 # a node has the arguments of its tree; these have others. A number of a thunk stands for it, and the letters of a builtin type are told apart
 NAMES = {"list": "Cell", "symbol": "Whole", "clone": "CloneOf"}
@@ -42,11 +42,6 @@ def placed(args, over):
     all_ = bounds(args)
     return [(name, sort, "b" if len(all_) == 1 else f"b.{all_.index((name, sort))}") for name, sort in args if sort in over]
 
-# names of arguments in code, by tree or for each
-NAMED = {"t": "ty", "p": "piece", "q": "qualifiers", "m": "mark", "e": "encoding", "d": "discriminator", "u": "thunk", "k": "number", "a": "argument", "c": "c_linkage", "n": "noexcept",
-         ("array", "t"): "element", ("bounded", "t"): "element", ("vector", "t"): "element", ("member_pointer", "t"): "member", ("integer", "n"): "value", ("again", "t"): "tree",
-         ("operation", "one"): "first", ("operation", "two"): "second", ("operation", "u"): "left", ("operation", "w"): "right", ("vendor", "bytes"): "name", ("boolean", "b"): "truth",
-         ("decltype", "operand"): "expression"}
 TYPES = {NUMBER: "u8", TRUTH: "bool", QUALIFIERS: "Qualifiers", MARK: "Mark", BYTES: "Span", SIGNED: "Signed", DISCRIMINATOR: "Option<Span>", PIECE: "Piece"}
 # what is said of a node that is no tree's, or of one of a node's fields
 SAID = {
