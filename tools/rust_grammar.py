@@ -1,107 +1,36 @@
-"""Writes what repeats Rust's basic types and its rules from vocabulary.py and the table below: the code of rust_grammar's productions and table, the texts and
-the letters of basic types, code and definitions."""
+"""Writes what repeats Rust's basic types and its rules, from vocabulary.py and the table rust_grammar.txt: the code of rust_grammar's
+productions and table, the texts and the letters of basic types, code and definitions."""
+from string import ascii_lowercase, ascii_uppercase, digits
+
 import vocabulary as words
-from files import template
+from files import sections, template
 from notation import runs
 from table_code import after_each, letter_rows, symbol_row
 
-DIGITS, UPPER, LOWER = "0123456789", "ABCDEFGHIJKLMNOPQRSTUVWXYZ", "abcdefghijklmnopqrstuvwxyz"
-SUFFIX_BYTES = "$." + DIGITS + UPPER + "_" + LOWER
-BASIC = "".join(letter for letter, text, constants in words.BASIC_TYPES)
-SIGNED = "".join(letter for letter, text, constants in words.BASIC_TYPES if constants == words.SIGNED)
-UNSIGNED = "".join(letter for letter, text, constants in words.BASIC_TYPES if constants == words.UNSIGNED)
-# what begins a path, and a type
+def basic_letters(*sorts):
+    """The letters of basic types, or of those of which there are such constants."""
+    return "".join(letter for letter, text, constants in words.BASIC_TYPES if not sorts or constants in sorts)
+
+
+BASIC, SIGNED, UNSIGNED = basic_letters(), basic_letters(words.SIGNED), basic_letters(words.UNSIGNED)
+# what begins a path
 PATHS = "BCMXYNI"
-TYPES = PATHS + "ASTRQPOFD" + BASIC
+CLASSES = {"@BASIC": BASIC, "@SIGNED": SIGNED, "@UNSIGNED": UNSIGNED, "@PATH": PATHS, "@TYPE": PATHS + "ASTRQPOFD" + BASIC,
+           "@DIGIT": digits, "@LETTER": ascii_uppercase + ascii_lowercase, "@SUFFIX": "$." + digits + ascii_uppercase + "_" + ascii_lowercase}
 
-# The rules, in the order of the numbers of their productions: the production, the letter of the rule, whether it takes the byte at which it is
-# chosen, its symbols, and what the production is. Most of those that only one capital chooses have that capital.
-TAKES, CHAINS = True, False
-TABLE = [
-    ("Symbol", "Z", TAKES, "'R' PATH OTHER_PATH SUFFIX", "`_R`, a path, the instantiating crate's path or none, a suffix or none."),
-    ("PathReference", "H", TAKES, "Base62", "A path's `B` and the place of an earlier path."),
-    ("Crate", "C", TAKES, "IDENTIFIER", "`C` and the crate's name."),
-    ("InherentImpl", "M", TAKES, "DISAMBIGUATOR PATH TYPE", "`M`, the impl's path, and its type."),
-    ("TraitImpl", "X", TAKES, "DISAMBIGUATOR PATH TYPE PATH", "`X`, the impl's path, its type, and the trait."),
-    ("TraitDefinition", "Y", TAKES, "TYPE PATH", "`Y`, a type and a trait."),
-    ("Nested", "N", TAKES, "NAMESPACE PATH IDENTIFIER", "`N`, a namespace, a path and a name in it."),
-    ("Generic", "I", TAKES, "PATH ARGUMENTS 'E'", "`I`, a path and its arguments, up to `E`."),
-    ("Suffix", ".", TAKES, "SUFFIX_BYTE SUFFIX_REST", "`.` and what a producer put after the symbol."),
-    ("SuffixByte", "?", TAKES, "", "A byte of the suffix, and the bytes after it."),
-    ("SuffixByte", "@", TAKES, "SUFFIX_REST", "A byte of the suffix, and the bytes after it."),
-    ("Namespace", "/", TAKES, "", "The letter of a namespace."),
-    ("Disambiguator", ":", TAKES, "Base62", "`s` and a number."),
-    ("DisambiguatedIdentifier", ";", TAKES, "Base62 NAME", "`s`, a number and a name."),
-    ("PunycodeName", "3", TAKES, "Name", "`u` and a name in Punycode."),
-    ("PlainName", "2", CHAINS, "Name", "A name."),
-    ("LifetimeArgument", "<", CHAINS, "LIFETIME ARGUMENTS", "A lifetime among arguments, and those after it."),
-    ("ConstantArgument", "K", TAKES, "CONSTANT ARGUMENTS", "`K` and a constant, and the arguments after it."),
-    ("TypeArgument", ",", CHAINS, "TYPE ARGUMENTS", "A type among arguments, and those after it."),
-    ("BasicType", "4", TAKES, "", "The letter of a basic type."),
-    ("TypeReference", "B", TAKES, "Base62", "A type's `B` and the place of an earlier type or path."),
-    ("Array", "A", TAKES, "TYPE CONSTANT", "`A`, a type and a length."),
-    ("Slice", "S", TAKES, "TYPE", "`S` and a type."),
-    ("Tuple", "T", TAKES, "TYPES", "`T` and types up to `E`."),
-    ("SharedReference", "R", TAKES, "SOME_LIFETIME TYPE", "`R`, a lifetime or none, and a type."),
-    ("MutableReference", "Q", TAKES, "SOME_LIFETIME TYPE", "`Q`, a lifetime or none, and a type."),
-    ("ConstPointer", "P", TAKES, "TYPE", "`P` and a type."),
-    ("MutPointer", "O", TAKES, "TYPE", "`O` and a type."),
-    ("Function", "F", TAKES, "BINDER UNSAFE ABI TYPES TYPE", "`F`, a binder, `U`, an ABI, the parameters' types up to `E`, and the result."),
-    ("Dyn", "D", TAKES, "BINDER BOUNDS LIFETIME", "`D`, a binder, bounds up to `E`, and a lifetime."),
-    ("TypesEnd", "E", TAKES, "", "The `E` after types."),
-    ("TypesMore", "+", CHAINS, "TYPE TYPES", "A type and those after it."),
-    ("Lifetime", "L", TAKES, "Base62", "`L` and a number."),
-    ("Binder", "G", TAKES, "Base62", "`G` and a number."),
-    ("Unsafe", "U", TAKES, "", "`U`."),
-    ("Abi", "V", TAKES, "ABI_NAME", "`K` and the name of an ABI."),
-    ("AbiC", "W", TAKES, "", "`C` as an ABI."),
-    ("BoundsEnd", "[", TAKES, "", "The `E` after bounds."),
-    ("BoundsMore", ">", CHAINS, "PATH BINDINGS BOUNDS", "A bound of a `dyn` type with its bindings, and those after it."),
-    ("Binding", "=", TAKES, "NAME TYPE BINDINGS", "`p`, a name and a type, and the bindings after it."),
-    ("SignedConstant", "5", TAKES, "MINUS Hex", "The letter of a signed type, `n` or none, and a number."),
-    ("UnsignedConstant", "6", TAKES, "Hex", "The letter of an unsigned type and a number."),
-    ("BoolConstant", "7", TAKES, "TRUTH '_'", "`b` and a truth value."),
-    ("CharConstant", "8", TAKES, "Hex", "`c` and a number."),
-    ("Placeholder", "9", TAKES, "", "`p`."),
-    ("ConstantReference", "J", TAKES, "Base62", "A constant's `B` and the place of an earlier constant."),
-    ("Minus", "-", TAKES, "", "`n`."),
-    ("False", "0", TAKES, "", "`0`."),
-    ("True", "1", TAKES, "", "`1`."),
-]
-# by letter, in the order of the letters: production, whether it takes its byte, symbols
-RULES = {letter: (production, takes, symbols.split()) for production, letter, takes, symbols, _ in sorted(TABLE, key=lambda row: row[1])}
-# by number: the productions, and what each is
-PRODUCTIONS = {production: what for production, _, _, _, what in TABLE}
+# the rules by letter, in the order of the letters: production, whether it takes its byte, symbols; the productions by number, and what each
+# is; and the kinds by number: for each rule, by its letter, the bytes at which it is taken, and whether it may be empty
+RULES, PRODUCTIONS, KINDS = {}, {}, {}
+for head, _ in sections("rust_grammar.txt"):
+    rule, said = head.split(" | ")
+    sort, name, *given = rule.split()
+    if sort == "rule":
+        PRODUCTIONS[name] = said
+        RULES[given[0]] = name, given[1] == "takes", given[2:]
+    else:
+        KINDS[name] = {taken[0]: CLASSES.get(taken[2:], taken[2:]) for taken in said.split()}, given == ["empty"]
+RULES = dict(sorted(RULES.items()))
 
-# the kinds by number: for each rule, by its letter, the bytes at which it is taken; and whether it may be empty
-PATH_FORMS = {"H": "B", "C": "C", "I": "I", "M": "M", "N": "N", "X": "X", "Y": "Y"}
-TYPE_FORMS = {c: c for c in PATHS + "ASTRQPOFD"}
-KINDS = {
-    "SYMBOL": ({"Z": "_"}, False),
-    "PATH": (PATH_FORMS, False),
-    "OTHER_PATH": (PATH_FORMS, True),
-    "SUFFIX": ({".": "."}, True),
-    "SUFFIX_BYTE": ({"?": SUFFIX_BYTES}, False),
-    "SUFFIX_REST": ({"@": SUFFIX_BYTES}, True),
-    "NAMESPACE": ({"/": UPPER + LOWER}, False),
-    "DISAMBIGUATOR": ({":": "s"}, True),
-    "IDENTIFIER": ({"2": DIGITS, ";": "s", "3": "u"}, False),
-    "NAME": ({"2": DIGITS, "3": "u"}, False),
-    "ARGUMENTS": ({",": TYPES, "K": "K", "<": "L"}, True),
-    "TYPE": ({**TYPE_FORMS, "4": BASIC}, False),
-    "TYPES": ({"+": TYPES, "E": "E"}, False),
-    "SOME_LIFETIME": ({"L": "L"}, True),
-    "LIFETIME": ({"L": "L"}, False),
-    "BINDER": ({"G": "G"}, True),
-    "UNSAFE": ({"U": "U"}, True),
-    "ABI": ({"V": "K"}, True),
-    "ABI_NAME": ({"2": DIGITS, "W": "C", "3": "u"}, False),
-    "BOUNDS": ({">": PATHS, "[": "E"}, False),
-    "BINDINGS": ({"=": "p"}, True),
-    "CONSTANT": ({"J": "B", "5": SIGNED, "6": UNSIGNED, "7": "b", "8": "c", "9": "p"}, False),
-    "MINUS": ({"-": "n"}, True),
-    "TRUTH": ({"0": "0", "1": "1"}, False),
-}
 
 def symbol(name):
     """A symbol in code."""

@@ -1,47 +1,28 @@
-"""What each of Rust's productions makes (NODES): from a production's node and tree to its function, in code and in definitions, and why the two
+"""What each of Rust's productions makes (rust_nodes.txt): from a production's node and tree to its function, in code and in definitions, and why the two
 agree."""
+from files import sections
 from rust_parts import WRITTEN, parts_of
 
 # ## What a production makes of its parts
 
 class Made:
-    """What a production makes: the function in code, the node and the names of its fields (one without a name has none), its tree; the production of RFC 2603, and
-    what it is"""
-    def __init__(self, production, function, node, fields, tree, rule, what):
-        self.production, self.function, self.fields, self.rule, self.what = production, function, fields.split(), rule, what
+    """What a production makes: a line of rust_nodes.txt."""
+
+    def __init__(self, words, rule, what):
+        self.rule, self.what = rule, what
+        self.production, self.function, node, tree, *self.fields = words.split()
         self.sort, self.variant = node.split(".")
         self.bare = self.variant.endswith("()")
         self.variant = self.variant.removesuffix("()")
         self.of, self.tree = tree.split(".")
-        self.parts = parts_of(production)
+        self.parts = parts_of(self.production)
+
     def names(self):
         """The names of the parts in definitions."""
         return [field if field == "implemented" else part.own for field, part in zip(self.fields, self.parts)]
 
-NODES = [Made(*row) for row in [
-    ("Crate", "crate_root", "Path.Crate", "spelled", "path.crate_root", '<path> = "C" <identifier>', "the root of a crate."),
-    ("InherentImpl", "inherent_impl", "Path.InherentImpl", "disambiguator path self_type", "path.inherent_impl", '<path> = "M" <impl-path> <type>', "an inherent implementation."),
-    ("TraitImpl", "trait_impl", "Path.TraitImpl", "disambiguator path self_type implemented", "path.trait_impl", '<path> = "X" <impl-path> <type> <path>', "the implementation of a trait."),
-    ("TraitDefinition", "trait_definition", "Path.TraitDefinition", "self_type implemented", "path.trait_definition", '<path> = "Y" <type> <path>', "a trait as a type has it."),
-    ("Nested", "nested", "Path.Nested", "namespace parent spelled", "path.nested", '<path> = "N" <namespace> <path> <identifier>', "a name in a path."),
-    ("Generic", "generic", "Path.Generic", "parent arguments", "path.generic", '<path> = "I" <path> {<generic-arg>} "E"', "a path with its generic arguments."),
-    ("LifetimeArgument", "lifetime_argument", "Arguments.Lifetime", "lifetime rest", "arguments.lifetime_argument", "<generic-arg> = <lifetime>", "and the arguments after it."),
-    ("ConstantArgument", "constant_argument", "Arguments.Constant", "constant rest", "arguments.constant_argument", '<generic-arg> = "K" <const>', "and the arguments after it."),
-    ("TypeArgument", "type_argument", "Arguments.Ty", "argument rest", "arguments.type_argument", "<generic-arg> = <type>", "and the arguments after it."),
-    ("Array", "array", "Ty.Array", "element size", "type.array", '<type> = "A" <type> <const>', "an array."),
-    ("Slice", "slice", "Ty.Slice()", "element", "type.slice", '<type> = "S" <type>', "a slice."),
-    ("Tuple", "tuple", "Ty.Tuple()", "elements", "type.tuple", '<type> = "T" {<type>} "E"', "a tuple."),
-    ("SharedReference", "shared_reference", "Ty.SharedReference", "lifetime referent", "type.shared_reference", '<type> = "R" [<lifetime>] <type>', "a shared reference."),
-    ("MutableReference", "mutable_reference", "Ty.MutableReference", "lifetime referent", "type.mutable_reference", '<type> = "Q" [<lifetime>] <type>', "a mutable reference."),
-    ("ConstPointer", "const_pointer", "Ty.ConstPointer()", "pointee", "type.const_pointer", '<type> = "P" <type>', "a `*const` pointer."),
-    ("MutPointer", "mut_pointer", "Ty.MutPointer()", "pointee", "type.mut_pointer", '<type> = "O" <type>', "a `*mut` pointer."),
-    ("Function", "function", "Ty.Function", "binder is_unsafe abi parameters returned", "type.function", '<type> = "F" [<binder>] ["U"] ["K" <abi>] {<type>} "E" <type>', "a function pointer."),
-    ("Dyn", "dyn_type", "Ty.Dyn", "binder bounds lifetime", "type.dyn", '<type> = "D" <dyn-bounds> <lifetime>', 'where `<dyn-bounds> = [<binder>] {<dyn-trait>} "E"`: a `dyn` type.'),
-    ("TypesMore", "more_types", "Types.More", "first rest", "types.more_types", "{<type>}", "a type, and those after it."),
-    ("BoundsMore", "more_bounds", "Bounds.More", "path bindings rest", "bounds.more_bounds", "<dyn-trait> = <path> {<dyn-trait-assoc-binding>}", "and the bounds after it."),
-    ("Binding", "binding", "Bindings.More", "name bound_type rest", "bindings.more_bindings", '<dyn-trait-assoc-binding> = "p" <undisambiguated-identifier> <type>', "and the bindings after it."),
-    ("BoolConstant", "bool_constant", "Constant.Boolean()", "truth_value", "constant.boolean", '<const> = "b" <const-data>', "false or true."),
-]]
+NODES = [Made(*head.split(" | ")) for head, _ in sections("rust_nodes.txt")]
+
 
 def made_in_code(made):
     """The function of a production, in code."""
