@@ -3,55 +3,40 @@ proof that ranks fall, and what is seen of a tree whatever is in it. What speaks
 Answer and Erased of cpp_term are written by hand."""
 import re
 
-# what stays in cpp_grammar alone, by module
-SHARED = {
-    "Term": "Qualifiers RefQualifier Signed Adjustment Thunk",
-    "Scope": "first_of Free both_free",
-    "Values": "unqualified normal is_zero signed_digits local_number",
-    "Unfolding": "last_token production_at byte_of",
-    "Rescoping": "generic_number",
-    "Standing": "is_code",
-    "Parts": "no_operation printed most_parts qualifier_text ref_text blank_last begins_with source_text encoding_text thunk_text clone_text placeholder_text is_below",
-}
-BY_HAND = ("Items", "Ranks")
+from files import sections
 
-# what differs: each text occurs once
-CHANGED = {
-    "Term": [("  parameter : (number : ℕ) → Term\n", "  -- a parameter by its number, and the argument that it names\n  parameter : (number : ℕ) → (argument : Term) → Term\n")],
-    "Scope": [("is_open (parameter number) =", "is_open (parameter number argument) ="),
-              ("free_in (parameter number) =", "free_in (parameter number argument) ="),
-              ("pack_length : (scope : Term) → Term →", "pack_length : Term →"),
-              ("pack_length scope (parameter number) = length_if_pack (element scope number)", "pack_length (parameter number argument) = length_if_pack argument")],
-    "References": [("packs_in (Some scope) t = pack_length scope t", "packs_in (Some scope) t = pack_length t"),
-                   ("(packs_in around.scope c.tree)", "(pack_length c.tree)"),
-                   ("appended around (parameter k)", "appended around (parameter k (element arguments k))")],
-    "Rescoping": [("listed_so_far around (parameter (generic_number k)) vs (appended around (parameter (generic_number k)) state)",
-                   "listed_so_far around (parameter (generic_number k) auto) vs (appended around (parameter (generic_number k) auto) state)"),
-                  ("next (tree (parameter (generic_number k)) true ∷ [])", "next (tree (parameter (generic_number k) auto) true ∷ [])"),
-                  ("(pack_length arguments t) state >>= λ s. Ok (found (tree t true) s)",
-                   "(pack_length (reargued (Some (element arguments k)) t)) state >>= λ s. Ok (found (tree (reargued (Some (element arguments k)) t) true) s)"),
-                  ("in_lambda [\n  | true ↦ Ok (found (tree t true) state)", "in_lambda [\n  | true ↦ Ok (found (tree (reargued (Some auto) t) true) state)"),
-                  ("    | true ↦ Ok (found (tree t true) state)", "    | true ↦ Ok (found (tree (reargued (Some arguments) t) true) state)"),
-                  ("A tree that was made elsewhere is the same tree here.", "A tree that was made elsewhere is the same tree here, with the arguments that are meant here.")],
-    "Meant": [("tested is_name around (parameter k) vs s state", "tested is_name around (parameter k (argument_at around k)) vs s state")],
-    "Surrounding": [("-- in the types of", "-- The arguments that a name ends in. No parameter is free in the name of an encoding.\nunfoldable pub closed_arguments : Term → Option Term\n"
-                 "closed_arguments name = elim (is_open name) [ true ↦ None | false ↦ arguments_of name ]\n\n-- in the types of"),
-                ("in_types place name = record { scope = arguments_of name;", "in_types place name = record { scope = closed_arguments name;"),
-                ("-- a parameter is tested, and becomes", "-- the argument that a parameter names\nunfoldable pub argument_at : Around → ℕ → Term\n"
-                 "argument_at around k = elim around.scope [ None ↦ absent | Some arguments ↦ element arguments k ]\n\n-- a parameter is tested, and becomes"),
-                ("listed_so_far around (parameter k) vs s", "listed_so_far around (parameter k (argument_at around k)) vs s"),
-                ("next (tree (parameter k) true ∷ [])", "next (tree (parameter k (argument_at around k)) true ∷ [])")],
-    "Parts": [(f"{form}_parts {d}context (parameter k) = as_item {form} closed (argument context k) ∷ []",
-               f"{form}_parts {d}context (parameter k a) = as_item {form} closed (argument context a) ∷ []")
-              for form, d in (("left", "d "), ("low", "d "), ("right", ""), ("base", "d "))]
-             + [("types_of name = record { scope = arguments_of name; index = None; in_signature = false }", "types_of name = closed"),
-                ("list_part first (signature_in context) parameters", "list_part first context parameters"),
-                ("at_index i context = record { scope = context.scope; index = Some i; in_signature = context.in_signature }", "at_index i context = record { index = Some i }")],
-}
-# names that the changes bring in
-BROUGHT = {"Meant": {"Surrounding": ["argument_at"]}, "Rescoping": {"Items": ["auto"], "Reargued": ["reargued"]},
-           "Surrounding": {"Prelude": ["Option", "Some"], "Scope": ["element", "is_open"], "Term": ["absent"]}}
-MODULES = ("Term", "Scope", "Values", "References", "Surrounding", "Standing", "Builders", "Own", "Meant", "Between", "Meaning", "Unfolding", "Rescoping", "Parts")
+
+class Module:
+    """What differs in a module of cpp_term, by its lines in cpp_term.txt: names that are shared, names that are brought in, by module, and the
+    texts that are changed."""
+
+    def __init__(self, lines):
+        self.shared, self.brought, self.changed = [], {}, []
+        before = ""
+        for line, _ in lines:
+            sort, _, rest = line.partition(" ")
+            if sort == "shared":
+                self.shared = rest.split()
+            elif sort == "brought":
+                module, *names = rest.split()
+                self.brought[module] = names
+            else:
+                if sort == "-" and before != "-":
+                    self.changed.append({"-": [], "+": []})
+                self.changed[-1][sort].append(rest)
+            before = sort
+
+    def applied(self, body):
+        """The text with what differs in it: each text that is changed occurs once."""
+        for change in self.changed:
+            old, new = "\n".join(change["-"]), "\n".join(change["+"])
+            assert body.count(old) == 1, (old, body.count(old))
+            body = body.replace(old, new)
+        return body
+
+
+MODULES = {name: Module(lines) for name, lines in sections("cpp_term.txt")}
+BY_HAND = ("Items", "Ranks")
 
 # the proof that ranks fall: what an item weighs depends on its tree alone, which carries the arguments
 FALLING = "cpp_grammar/proofs/RanksFall.antt"
@@ -86,19 +71,17 @@ def used(name, body):
     return re.search(rf"(?<![\w.]){re.escape(name)}(?!\w)", body) is not None
 
 def body_of(module, blocks):
-    shared = SHARED.get(module, "").split()
+    shared = MODULES[module].shared
     kept = [b for b in blocks if not any(n in shared for n in names_of(b))]
     # a heading of which nothing is left
     kept = [b for i, b in enumerate(kept) if not (b.startswith("-- ##") and "\n" not in b and (i + 1 == len(kept) or kept[i + 1].startswith("-- ##")))]
     body = "\n\n".join(kept)
-    for old, new in CHANGED.get(module, []):
-        assert body.count(old) == 1, (module, old, body.count(old))
-        body = body.replace(old, new)
+    body = MODULES[module].applied(body)
     # no scope is passed on
     return body.replace("pack_length scope ", "pack_length ") if module == "Scope" else body
 
 def imports_of(module, uses, body, theirs):
-    out = []
+    out, brought = [], MODULES[module].brought if module in MODULES else {}
     for line in uses:
         passed, path, names = re.match(r"((?:unfoldable pub )?)use (\S+)\.\{(.*)\}", line).groups()
         names = names.split(", ")
@@ -107,12 +90,12 @@ def imports_of(module, uses, body, theirs):
         if passed:
             theirs[module].update(theirs[last])
             out.append((path.replace("cpp_grammar", "cpp_term"), list(theirs[last]), passed)); continue
-        names += [n for n in BROUGHT.get(module, {}).get(last, []) if n not in names]
+        names += [n for n in brought.get(last, []) if n not in names]
         if not path.startswith("Rattle.cpp_grammar.specs.") or "declared" in path:
             out.append((path, [n for n in names if used(n, body)], "")); continue
         out.append((path.replace("cpp_grammar", "cpp_term"), [n for n in names if n in theirs.get(last, ()) and used(n, body)], ""))
         out.append((path, [n for n in names if n not in theirs.get(last, ()) and used(n, body)], ""))
-    for last, names in BROUGHT.get(module, {}).items():
+    for last, names in brought.items():
         if last != "Prelude" and not any(p.endswith("." + last) for p, _, _ in out): out.append((f"Rattle.cpp_term.specs.{last}", names, ""))
     return out
 
