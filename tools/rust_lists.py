@@ -3,7 +3,7 @@ templates/rust_tree."""
 from files import template
 from rust_made import NODES
 from rust_nodes import TEXTUAL
-from rust_spelled import PRESSED
+from rust_parts import BY_NAME
 from rust_trees import FAMILIES
 
 # the lists: what separates their items, and whether they are asked for where it has to be fast
@@ -18,7 +18,7 @@ def filled(name, of):
     if of == "bounds":
         # bounds are told apart by their first path
         some = [f"any-bounds d b sep (tree.more_bounds {path} x r) rest = refl" for path in ("(tree.generic p a)", "_")]
-    return template(f"rust_tree/{name}", of=of, own=of.capitalize(), one=of.capitalize()[:-1], name=PRESSED[of].name, family=FAMILIES[of], separator=separator,
+    return template(f"rust_tree/{name}", of=of, own=of.capitalize(), one=of.capitalize()[:-1], name=BY_NAME[of].called, family=FAMILIES[of], separator=separator,
                     arms=arms, some=some, inline="#[inline(always)]\n" if is_fast else "", bytes="self.now.bytes " if of in TEXTUAL else "",
                     text="self.now.bytes self.now.table.text " if of in TEXTUAL else "").rstrip("\n")
 

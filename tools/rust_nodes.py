@@ -1,8 +1,8 @@
 """What goes through Rust's nodes by their arguments alone: from the nodes that productions make (rust_made.py) to the clauses of rust_tree, and to
 the answers for the views of nodes."""
 from rust_made import NODES
-from rust_parts import WRITTEN
-from rust_spelled import PRESSED, names_of
+from rust_parts import BY_NAME, WRITTEN
+from rust_spelled import names_of
 from rust_trees import FAMILIES, MUTUAL, NUMERIC
 
 # ## What goes through nodes by their arguments alone
@@ -90,7 +90,7 @@ def of_subtrees(lines_of, families):
     """What is said of a node of each family but types, which may be paths too."""
     run = []
     for of in families:
-        name = "c" if of == "constant" else PRESSED[of].name
+        name = "c" if of == "constant" else BY_NAME[of].called
         run.append("\n".join("  " + line for line in [f"-- {WRITTEN}", *lines_of(of, f"({name} : tree.{FAMILIES[of]})", lambda all: f"Is{of.capitalize()} {all} k {name}")]))
     return run
 

@@ -9,7 +9,7 @@ from rust_nodes import (
     of_subtrees, parts_grown, tree_grown, view_answers,
 )
 from rust_parts import PARTS, WRITTEN, agrees, read_in_code, read_in_specs
-from rust_spelled import BINDERS, GOODS, VALUES, Kept, good_then, kept_clause, made_good, made_of_slots, means, slot_then, sorts
+from rust_spelled import BINDERS, Kept, good_then, kept_clause, made_good, made_of_slots, means, slot_then, sorts
 from rust_trees import MUTUAL, equal, itself, same, size, summed, weight
 from splicing import with_runs
 
@@ -31,7 +31,7 @@ def declarations():
     yield "rust_v0/proofs/Meanings.antt", [[f"-- {WRITTEN}\n" + "\n".join(f"made_gives table at rules.{made.production} ps vs other within fits lists are = {made.function}_gives at.symbol table at ps vs lists are" for made in NODES)]]
     yield "rust_v0/proofs/Sorts.antt", list(sorts())
     yield "rust_v0/proofs/SortedParts.antt", [[slot_then(part) for part in PARTS.values()], [f"-- {WRITTEN}\n" + "\n".join(made_of_slots(made) for made in NODES)]]
-    yield "rust_press/proofs/PressRead.antt", [[good_then(part) for part in PARTS.values() if part.name in GOODS],
+    yield "rust_press/proofs/PressRead.antt", [[good_then(part) for part in PARTS.values() if part.good],
         [f"-- {WRITTEN}\n" + "\n".join(made_good(made) for made in NODES if made.production not in BINDERS)]]
     yield "rust_press/specs/Same.antt", [same(["constant"], ""), same(MUTUAL, "  ")]
     yield "rust_press/proofs/Sameness.antt", [equal(["constant"], "") + itself(["constant"], ""), equal(MUTUAL, "  "), itself(MUTUAL, "  ")]
@@ -47,7 +47,7 @@ def declarations():
     yield "rust_tree/proofs/Viewing.antt", [of_subtrees(node_part, UNTYPED), *by_node(node_view, without=("Function",)), *by_node(node_seen, "  ", ("Function",))]
     kept = [Kept(made) for made in NODES if made.of != "constant"]
     def clauses(of): return [f"  -- {WRITTEN}\n" + "\n".join(kept_clause(one) for one in kept if one.made.of == of and one.made.production not in BINDERS)]
-    yield "rust_press/proofs/PressKept.antt", [[means(one) for one in kept], *[clauses(of) for of in VALUES]]
+    yield "rust_press/proofs/PressKept.antt", [[means(one) for one in kept], *[clauses(of) for of in MUTUAL]]
 
 def files(crates):
     """The files that are written, or have declarations that are, by their paths in the folder of the crates, and their texts."""

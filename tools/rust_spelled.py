@@ -1,7 +1,9 @@
 """What the proofs show of Rust's productions: from the sorts of their parts to the sorts of their values, to why what is read can be spelled, and
 to why what is pressed is read as the same tree."""
+from types import SimpleNamespace
+
 import rust_grammar
-from rust_parts import WRITTEN, parts_of
+from rust_parts import BY_NAME, WRITTEN, parts_of
 
 # ## Sorts of values
 
@@ -53,21 +55,6 @@ def made_of_slots(made):
 
 # ## What is read can be spelled
 
-class Good:
-    """What a value of a sort is where it can be spelled, in so many bound lifetimes; what it needs of them, if anything; and why the missing part is so."""
-    def __init__(self, own, need=None, missing=None, second="good.0"): self.own, self.need, self.missing, self.second = own, need, missing, second
-    def whole(self): return f"({self.own} × ({self.need} ≤ b))" if self.need else self.own
-    def spelled(self, fact): return f"{fact}.0" if self.need else fact
-
-GOODS = {
-    "letter": Good("((x < 256) × (in_ranges letters x ≡ true))"), "name": Good("IsSpellableName x"), "identifier": Good("IsSpellableIdentifier x", second="(omega arith, good.0)"),
-    "path": Good("IsSpellable x", "need x"), "type": Good("IsSpellableType x", "need_of_type x"), "constant": Good("IsSpellableConstant x"), "lifetime": Good("(x ≤ most62)", "x"),
-    "truth": Good("Unit {0}"), "abi_value": Good("IsSpellableAbi x"), "bounds": Good("AreSpellableBounds x", "need_of_bounds x"), "types": Good("AreSpellableTypes x", "need_of_types x"),
-    "number": Good("IsGoodNumber p x"), "integer": Good("IsGoodInteger p x"), "disambiguator": Good("(x ≤ greatest_u64)", missing="(omega arith)"),
-    "some_lifetime": Good("(x ≤ most62)", "x", "(omega arith, omega arith)"), "unsafe": Good("Unit {0}", missing="tt"), "minus": Good("Unit {0}", missing="tt"),
-    "abi": Good("IsSpellableAbi x", missing="tt"), "arguments": Good("AreSpellableArguments x", "need_of_arguments x", "(tt, omega arith)"),
-    "bindings": Good("AreSpellableBindings x", "need_of_bindings x", "(tt, omega arith)"),
-}
 # what binds lifetimes is said by hand
 BINDERS = ("Function", "Dyn")
 # what needs nothing to be spelled
@@ -76,13 +63,14 @@ def dashed(name): return name.replace("_", "-")
 
 def good_then(part):
     """That a part can be spelled where all can."""
-    good, lemma = GOODS[part.name], f"{dashed(part.name)}-then"
+    lemma, taken = f"{dashed(part.name)}-then", part.lifetimes and part.lifetimes.replace("@", "x")
+    whole = f"({part.good} × ({taken} ≤ b))" if taken else part.good
     lines = [f"-- {WRITTEN}", f"{lemma} : (p : Production) (b : ℕ) (Q : Found Value State → Type 0) (parts : List Value) (f : {part.tree} × List Value → Meaning) → AllGood p b parts",
-        f"    → ((x : {part.tree}) (rest : List Value) → {good.whole()} → AllGood p b rest → Holds Q (f (x, rest))) → Holds Q ({part.name}_part parts >>= f)"]
-    if good.need and "need" in good.need and part.name in ("type", "arguments", "bindings"): lines.append(f"unfolding {good.need.split()[0]}")
-    for front, fact in zip(part.fronts, ["good.0", good.second]):
+        f"    → ((x : {part.tree}) (rest : List Value) → {whole} → AllGood p b rest → Holds Q (f (x, rest))) → Holds Q ({part.name}_part parts >>= f)"]
+    if part.name in ("type", "arguments", "bindings"): lines.append(f"unfolding {taken.split()[0]}")
+    for front, fact in zip(part.fronts, part.good_fronts):
         lines.append(f"{lemma} p b Q ({front.valued} ∷ rest) f good more = more {f'({front.tree})' if ' ' in front.tree else front.tree} rest {fact} good.1")
-    last = f"more {part.missing[2]} parts {good.missing}" + " good" if part.missing else "tt"
+    last = f"more {part.missing[2]} parts {part.good_missing}" + " good" if part.missing else "tt"
     return "\n".join([*lines, f"{lemma} p b Q parts f good more = {last}"])
 
 def made_good(made):
@@ -91,49 +79,16 @@ def made_good(made):
     for k, part in enumerate(made.parts):
         lines.append(f"    {dashed(part.name)}-then rules.{made.production} at.bound _ {rest} _ {good} (λ x{k} r{k} x{k}-is g{k}.")
         rest, good = f"r{k}", f"g{k}"
-    goods = [(f"x{k}-is", GOODS[part.name]) for k, part in enumerate(made.parts)]
-    spelled = [good.spelled(fact) for (fact, good), part in zip(goods, made.parts) if part.name not in FREE]
+    goods = [(f"x{k}-is", part) for k, part in enumerate(made.parts)]
+    spelled = [f"{fact}.0" if part.lifetimes else fact for fact, part in goods if part.name not in FREE]
     spelled = "tt" if not spelled else spelled[0] if len(spelled) == 1 else f"({', '.join(spelled)})"
-    needed = ["arith"] + [f"{fact}.1" for fact, good in goods if good.need]
+    needed = ["arith"] + [f"{fact}.1" for fact, part in goods if part.lifetimes]
     own = spelled if made.of == "constant" else f"({spelled}, omega {'arith' if len(needed) == 1 else '(' + ', '.join(needed) + ')'})"
     ends = f"({spelled}, endings)" if made.of in ("path", "type", "constant") else "endings"
     return "\n".join([*lines, f"    (λ q. {own}, {ends})" + ")" * len(made.parts)])
 
 # ## What is pressed is read again
 
-class Pressed:
-    """How a part of a sort is called (`@` is its name), pressed, what its values are, and why it is read as them (`GOOD` is why it can be spelled); in which forms its
-    values come, by the argument; what it needs. A type's values are some of two."""
-    def __init__(self, name, press, values, why, sort, forms=None, need=None): self.name, self.press, self.values, self.why, self.sort, self.forms, self.need = name, press, values, why, sort, forms or ["@"], need
-
-def own_values(value): return f"value.{value} @ ∷ []"
-CLOSED = "(omega (arith, need_is))"
-COUNTED = ["zero", "(suc x)"]
-def listed(name, sort, plural, values, forms=None):
-    """What is pressed of a list."""
-    return Pressed(name, f"press_{plural} @", values, f"{plural}-kept s c fits _ _ @ GOOD {CLOSED}", sort, forms, f"need_of_{plural} @")
-
-PRESSED = {
-    "disambiguator": Pressed("d", "press_disambiguator @", "disambiguator_values @", "disambiguator-presses s c _ _ @ GOOD", "ℕ", COUNTED),
-    "path": Pressed("p", "path_or_reference @ (spell_path @)", own_values("a_path"),
-        f"path-presses s c _ _ 1 @ (spell_path @) fits refl {CLOSED} (path-kept s c fits _ _ 1 paths-1 @ GOOD {CLOSED})", "tree.Path", need="need @"),
-    "type": Pressed("t", "type_or_reference @ (spell_type @)", None, f"type-kept s c fits _ _ @ GOOD {CLOSED}", "tree.Ty", need="need_of_type @"),
-    "identifier": Pressed("i", "press_identifier @", "identifier_values @.disambiguator @.name", "identifier-presses s c _ _ @.disambiguator @.name GOOD.0 GOOD.1", "tree.Identifier", COUNTED),
-    "letter": Pressed("n", "letter @", own_values("letter"), "namespace-presses s c _ _ @ GOOD.0 GOOD.1", "ℕ"),
-    "lifetime": Pressed("l", "press_lifetime @", own_values("a_lifetime"), f"lifetime-presses s c _ _ 14 @ refl GOOD {CLOSED}", "ℕ", need="@"),
-    "some_lifetime": Pressed("l", "some_lifetime @", "lifetime_values @", f"some-lifetime-presses s c _ _ @ GOOD {CLOSED}", "ℕ", COUNTED, "@"),
-    "constant": Pressed("k", "press_constant @", own_values("a_constant"), "constant-kept s c fits _ _ @ GOOD", "tree.Constant"),
-    "arguments": listed("a", "tree.Arguments", "arguments", "arguments_values @", ["tree.no_arguments", "(tree.lifetime_argument x a)", "(tree.constant_argument x a)", "(tree.type_argument x a)"]),
-    "types": listed("ts", "tree.Tys", "types", own_values("some_types")),
-    "bounds": listed("bs", "tree.Bounds", "bounds", own_values("some_bounds")),
-    "bindings": listed("b", "tree.Bindings", "bindings", "bindings_values @", ["tree.no_bindings", "(tree.more_bindings x y b)"]),
-    "name": Pressed("m", "press_name @", own_values("a_name"), "name-at s c _ _ 9 @ refl refl GOOD", "tree.Name"),
-    "binder": Pressed("n", "press_binder @", "binder_values @", "binder-presses s c _ _ @ GOOD", "ℕ", COUNTED),
-    "unsafe": Pressed("u", "mark_if @ 85", "unsafe_values @", "unsafe-presses s _ _ _ @", "Bool", ["true", "false"]),
-    "abi": Pressed("a", "press_abi @", "abi_values @", "abi-presses s _ _ _ @ GOOD", "tree.Abi", ["tree.rust_abi", "tree.c_abi", "(tree.named_abi m)"]),
-}
-VALUES = {"path": "a_path", "arguments": "some_arguments", "type": "a_type", "types": "some_types", "bounds": "some_bounds", "bindings": "some_bindings"}
-KINDS_OF = {"arguments": "ARGUMENTS", "type": "TYPE", "types": "TYPES", "bounds": "BOUNDS", "bindings": "BINDINGS"}
 NUMBERS = list(rust_grammar.KINDS)
 
 class Kept:
@@ -141,15 +96,15 @@ class Kept:
     among them), the rule, and the kind and the byte at which it is taken"""
     def __init__(self, made):
         self.made, self.ends = made, made.of in ("path", "type")
-        self.parts, self.names = [PRESSED[part.name] for part in made.parts], names_of([part.name for part in made.parts])
+        self.parts, self.names = made.parts, names_of([part.name for part in made.parts])
         self.tree = f"(tree.{made.tree} {' '.join(self.names)})"
-        self.value = f"(value.{VALUES[made.of]} {self.tree})"
+        self.value = f"(value.{BY_NAME[made.of].fronts[-1].value} {self.tree})"
         self.means = f"{dashed(made.tree)}-means"
         letter, self.takes, symbols = next((letter, takes, symbols) for letter, (own, takes, symbols) in rust_grammar.RULES.items() if own == made.production)
         self.bytes = [ord(symbol[1]) for symbol in symbols if symbol[0] == "'"]
         self.kinds = [f"Byte {ord(symbol[1])}" if symbol[0] == "'" else f"Kind {NUMBERS.index(symbol)}" for symbol in symbols]
         self.rule = f"({'taking' if self.takes else 'chaining'} rules.{made.production} {self.kinds_from(0)})"
-        kind = KINDS_OF.get(made.of, "PATH")
+        kind = made.of.upper()
         self.kind, self.byte = "kind" if made.of == "path" else str(NUMBERS.index(kind)), str(ord(rust_grammar.KINDS[kind][0][letter][0]))
     def kinds_from(self, first): return f"({''.join(f'{kind} ∷ ' for kind in self.kinds[first:])}[])"
     def press_from(self, first):
@@ -158,7 +113,7 @@ class Kept:
         return f"({' and '.join(press[first:])})"
     def need(self):
         """How many lifetimes the tree needs, if its parts need any."""
-        needs = [part.need.replace("@", name) for part, name in zip(self.parts, self.names) if part.need]
+        needs = [part.lifetimes.replace("@", name) for part, name in zip(self.parts, self.names) if part.lifetimes]
         whole = needs[0] if needs else None
         for more in needs[1:]: whole = f"max {f'({whole})' if ' ' in whole else whole} ({more})"
         return whole
@@ -171,8 +126,8 @@ def means(kept):
     """What the values of the parts mean together, by the forms in which they come: a type's by which of two they are."""
     arguments, values, forms, typed = [], [], [[]], None
     for part, name in zip(kept.parts, kept.names):
-        if name == "i": argument, value, choices = "(d : ℕ) (m : tree.Name)", "identifier_values d m", [[count, "m"] for count in COUNTED]
-        else: argument, value, choices = f"({name} : {part.sort})", part.values.replace("@", name) if part.values else "vs", [[form.replace("@", name)] for form in part.forms]
+        if name == "i": argument, value, choices = "(d : ℕ) (m : tree.Name)", "identifier_values d m", [[count, "m"] for count in part.forms]
+        else: argument, value, choices = f"({name} : {part.tree})", part.values.replace("@", name) if part.values else "vs", [[form.replace("@", name)] for form in part.forms]
         if not part.values: typed = name
         arguments.append(argument)
         values.append(value)
@@ -193,7 +148,7 @@ def kept_parts(kept):
     conditions = [k for k, part in enumerate(kept.made.parts) if part.name not in FREE]
     lines, known, front, facts = [], "[]", "(", ["i.disambiguator i.name" if name == "i" else name for name in kept.names]
     for k, kind in enumerate(kept.kinds):
-        part = kept.parts[k] if k < len(kept.parts) else Pressed("", f"letter {kept.bytes[-1]}", "[]", f"byte-presses s c _ _ {kept.bytes[-1]}", None)
+        part = kept.parts[k] if k < len(kept.parts) else SimpleNamespace(press=f"letter {kept.bytes[-1]}", values="[]", why=f"byte-presses s c _ _ {kept.bytes[-1]}")
         name, last = [*kept.names, ""][k], k + 1 == len(kept.kinds)
         values = part.values.replace("@", name) if part.values else None
         good = f"good.{conditions.index(k)}" if k in conditions and len(conditions) > 1 else "good"
@@ -225,5 +180,5 @@ def kept_clause(kept):
 def names_of(parts):
     """The names of the arguments of a tree, by their sorts."""
     names = []
-    for part in parts: names.append("q" if part == "path" and "p" in names else PRESSED[part].name)
+    for part in parts: names.append("q" if part == "path" and "p" in names else BY_NAME[part].called)
     return names
