@@ -12,9 +12,9 @@ from production_clauses import (
     are_shut, built_good, built_noted, by_production, is_rare, makes_at_end, may_leave, none_are_taken, slack, takes_encodings,
 )
 from tree_clauses import (
-    ANNOTATED_FUNCTION, CLOSED_FUNCTION, SCOPED, both_by, both_free, by_each, carried, cases, closed_noted, closed_packs, either,
-    either_open, equal_tree, erased, first, first_of, fold, inside, inside_shut, never_referred, open_erased, reargued,
-    reargued_laws, rebuilt, same_tree, summed, tree_itself, weight_grows, weight_of_scopes, weight_of_terms,
+    ANNOTATED_FUNCTION, CLOSED_FUNCTION, FIRST, SCOPED, both_by, both_free, by_each, carried, cases, closed_noted, closed_packs, either, either_open,
+    equal_tree, erased, first_of, fold, free_half, inside, inside_shut, never_referred, open_erased, reargued, reargued_laws, rebuilt,
+    same_tree, summed, tree_itself, weight_grows, weight_of_scopes, weight_of_terms,
 )
 
 # an expansion is shown by hand, or as other trees
@@ -41,7 +41,7 @@ def of_grammar():
     length = {"parameter": "length_if_pack (element scope number)", **NO_EXPANSION}
     return {
         "specs/Ranks.antt": {"weight": weight_of_scopes()},
-        "specs/Closed.antt": {"ScopesAreClosed": first(fold("ScopesAreClosed", [], " × ".join, "Unit {0}", {"function": CLOSED_FUNCTION}))},
+        "specs/Closed.antt": {"ScopesAreClosed": fold("ScopesAreClosed", [], " × ".join, "Unit {0}", {"function": CLOSED_FUNCTION}, trees=FIRST)},
         "specs/Scope.antt": {"is_open": scoped("is_open", either, "false", {"parameter": "true"}),
                              "free_in": scoped("free_in", both_free, "none_free", {"parameter": "one_free number"}),
                              "pack_length": scoped("pack_length", first_of, "None", length, ["scope"])},
@@ -54,7 +54,7 @@ def of_term():
     """Those of cpp_term."""
     annotated = {"function": ANNOTATED_FUNCTION, "parameter": "term_.parameter k (argument_in s k)", "generic_lambda": "term_.generic_lambda (annotate in_own parameters) number"}
     of_all = {"parameter": "ap scope_.length_if_pack (element_noted nowhere all k) ∙ length_noted nowhere (element all k)", **NO_EXPANSION}
-    renoted = closed_noted("renoted", ["r", "s", "a"], "names_both r a (free_in {0}) (free_in {1}) e", "ap (term_.parameter k) (sym e)")
+    renoted = closed_noted("renoted", ["r", "s", "a"], free_half, "ap (term_.parameter k) (sym e)")
     own, first_by = {"parameter": "refl", **NO_EXPANSION}, both_by("first_of")
     return {
         "specs/Erased.antt": {"erase": rebuilt("erase", [], [], True)},

@@ -1,31 +1,5 @@
-"""What each production does, from the rows of grammar.py: writes them as definitions of cpp_grammar, and counts what they make. grammar.py
-calls it.
-
-The words of a row, of which `1` is a part by its number:
-  means=      part 1          what the part stands for (`, listed`: the same tree, a candidate by now)
-              part 1, or part 0    the same, or another part, where it isn't there
-              byte            the byte that is taken, as a letter
-              array(d0, t1)   a tree of its parts, no candidate yet (`, listed`: a candidate by now, or never one)
-              piece ..        a piece of a name; pair(byte, t0, i1) a letter and two trees
-              cell 0 1        a list's cell; item 0 1: one more item of a signature
-              applied         part 0, with the arguments that part 1 is, if it is there (`, listed alone`, `, listed as t0 alone`, `in place`)
-              closure!        code of its own, in specs/Own.antt, which makes `nodes` nodes at most
-  before=     steps, each with the parts before which it is done: `1:`, `all:`, `rest:`, `rest after 0:`
-              after t0        the part stands in a name, after this (`, listed`, `as it is`); `after the name`: after the name so far
-              inside, in its name, in its types, in a signature, under it     other surroundings of the part
-              list the name, list type 0      this becomes a candidate; other surroundings may follow
-              name = ..       the first part becomes the name so far (`, listed`; `, candidate`: and becomes one)
-              lvalue(t0)      the first part becomes this tree
-              parameter       the first part is the number of a parameter, which is tested (`after its T`, `no candidate`)
-              holder          a name gets an M
-              wide alone      what the wide grammar's reading alone does: specs/Rescoping
-  candidate=  what becomes a candidate at the end: `itself`, `type 0`, `unqualified 0`
-  packs=      `own`: at the end those of the surroundings hold again
-  tests=      `number`: that of the last token is tested first
-An argument of a tree is a part: t1 its tree, i1 as a list that may be missing, parameters1 as those of a function, p1 its piece, x1 its text,
-d1 its digits, l1 its letter, k1 its number, n1 its discriminator, q1, r1, s1 its qualifiers, mark, signed number, has1 whether it is there,
-first1, second1 the letters of the operator that it is;
-or `name`, the name so far; `absent`; `byte`, the byte that is taken (`l0 or byte`); a letter; yes or no; the code of a builtin type, as [D byte]."""
+"""What each production does: from its row to definitions of cpp_grammar, and to how many nodes it makes. grammar.py calls it; cpp_names.txt says what
+the words of a row mean."""
 import re
 import cpp_trees
 from files import template

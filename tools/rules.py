@@ -1,15 +1,5 @@
 """The rules of C++'s grammar: from the tables cpp_names.txt, cpp_types.txt, cpp_arguments.txt, cpp_wide_forms.txt and cpp_expressions.txt to the
-productions with their symbols and rows, and to the kinds with their alternatives.
-
-A table has kinds (`empty`, if they may be), groups of rules that some kinds share, and rules by themselves, that kinds name. A rule is
-
-    BYTES PRODUCTION SYMBOL.. | means .. | before .. | candidate .. | packs .. | tests .. | nodes ..
-
-BYTES are those at which it is taken, and of which it takes one; @NAME are those of CLASSES; - if it takes none, and begins with its first
-symbol. A symbol is a kind, a token, or a byte in quotes. The rest is the production's row, in the words that meanings.py explains. A
-production that was entered before needs no symbols and no row. Other lines: `mark BYTES`, one letter, as a qualifier or the second of an
-operator; `= NAME ..`, the rules of groups, or those of productions; `= NAME but PRODUCTION`. `wide` before a rule says that the wide grammar
-alone has it, `later` that it came with vector types and the like. The lines of the ABI above a rule are repeated above its code."""
+productions with their symbols and rows, and to the kinds with their alternatives. cpp_names.txt says how a rule is written."""
 import cpp_trees
 import vocabulary as words
 from files import sections

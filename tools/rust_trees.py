@@ -1,7 +1,9 @@
 """What goes through Rust's trees by their arguments alone: from the trees that productions make (rust_made.py) to the clauses of rust_press."""
+import sameness
 from rust_made import NODES
 from rust_parts import WRITTEN
 from rust_spelled import names_of
+from sameness import equal_clause, same_clause
 
 # ## What goes through trees by their arguments alone
 
@@ -14,19 +16,18 @@ TREES["constant"] |= {"character": ["letter"], "placeholder": []}
 MUTUAL = [of for of in FAMILIES if of != "constant"]
 NUMERIC = ("letter", "lifetime", "some_lifetime", "disambiguator", "binder")
 
-def tree_pattern(constructor, sorts, letter="a"): return f"({constructor} {' '.join(f'{letter}{i}' for i in range(len(sorts)))})" if sorts else constructor
-
 def by_family(families, indent, signature, clauses, others=None):
     """A declaration for each family: its signature, its clauses by constructor and what is said of others."""
     for of in families:
         lines = [f"-- {WRITTEN}", signature(of), *[clauses(of, constructor, sorts) for constructor, sorts in TREES[of].items()], *([others(of)] if others else [])]
         yield "\n".join(indent + line for own in lines for line in own.split("\n"))
 
+def sort_of(sort): return "truth" if sort == "unsafe" else sort
+
 def same(families, indent):
     """Whether two trees are the same, by family."""
-    def test(sort, i): return f"(a{i} == b{i})" if sort in NUMERIC else f"same_{'truth' if sort == 'unsafe' else sort} a{i} b{i}"
-    def clause(of, constructor, sorts):
-        return f"same_{of} {tree_pattern(constructor, sorts)} {tree_pattern(constructor, sorts, 'b')} = " + (" && ".join(test(sort, i) for i, sort in enumerate(sorts)) or "true")
+    def test(sort): return "({0} == {1})" if sort in NUMERIC else f"same_{sort_of(sort)} {{0}} {{1}}"
+    def clause(of, constructor, sorts): return same_clause(f"same_{of}", constructor, list(map(test, sorts)))
     return list(by_family(families, indent, lambda of: f"{'' if indent else 'abbrev '}pub same_{of} : {FAMILIES[of]} → {FAMILIES[of]} → Bool", clause, lambda of: f"same_{of} _ _ = false"))
 
 def equal(families, indent):
@@ -36,18 +37,15 @@ def equal(families, indent):
         for _ in range(count - 1 - max(i, 1)): whole = f"(both {whole}).0"
         return whole if count == 1 else f"(both {whole}).{min(i, 1)}"
     def clause(of, constructor, sorts):
-        front = f"equal-{of} {tree_pattern(constructor, sorts)} {tree_pattern(constructor, sorts, 'b')} h ="
-        lets = [f"    let e{i} : a{i} ≡ b{i} = {'eqb-true' if sort in NUMERIC else 'equal-' + ('truth' if sort == 'unsafe' else sort)} a{i} b{i} {fact(i, len(sorts))} in" for i, sort in enumerate(sorts)]
-        return "\n".join([front, *lets]) + " cc" if lets else front + " refl"
+        lemmas = ["eqb-true" if sort in NUMERIC else f"equal-{sort_of(sort)}" for sort in sorts]
+        return "\n".join(equal_clause(f"equal-{of}", constructor, lemmas, [fact(i, len(sorts)) for i in range(len(sorts))]))
     return list(by_family(families, indent, lambda of: f"pub equal-{of} : (a b : {FAMILIES[of]}) → same_{of} a b ≡ true → a ≡ b", clause, lambda of: f"equal-{of} _ _ h = cc"))
 
 def itself(families, indent):
     """That each tree is found the same as itself."""
     def clause(of, constructor, sorts):
-        facts = [f"eq-eqb a{i} a{i} refl" if sort in NUMERIC else f"{'truth' if sort == 'unsafe' else sort}-itself a{i}" for i, sort in enumerate(sorts)]
-        whole = facts[0] if facts else "refl"
-        for fact in facts[1:]: whole = f"all ({whole}) ({fact})"
-        return f"{of}-itself {tree_pattern(constructor, sorts)} = {whole}"
+        facts = [f"eq-eqb a{i} a{i} refl" if sort in NUMERIC else f"{sort_of(sort)}-itself a{i}" for i, sort in enumerate(sorts)]
+        return f"{of}-itself {sameness.numbered(constructor, len(sorts))} = {sameness.itself(facts)}"
     return list(by_family(families, indent, lambda of: f"pub {of}-itself : (a : {FAMILIES[of]}) → same_{of} a a ≡ true", clause))
 
 def summed(function, public, sum_of):

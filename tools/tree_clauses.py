@@ -1,12 +1,11 @@
 """What goes through C++'s trees by their arguments alone: from the rows of cpp_trees.py to the clauses of definitions and laws.
 declarations.py says in which file each is."""
-import re
-
 import cpp_trees
 from cpp_trees import (
     BYTES, DISCRIMINATOR, INSIDE, MARK, NUMBER, OUTSIDE, OWN, PIECE, PRESSED, QUALIFIERS, SIGNATURE, SIGNED, THUNK, TREE, TRUTH, named,
 )
-from notation import applied
+from notation import alone_or, applied, rewritten
+from sameness import equal_clause, itself, same_clause
 
 SUBTREES = (OWN, OUTSIDE, INSIDE, SIGNATURE, TREE, PIECE)
 # what is under another scope than the tree itself
@@ -14,17 +13,18 @@ APART = (OWN, OUTSIDE, SIGNATURE)
 SCOPED = (TREE, PIECE)
 
 def pattern(tree): return f"({' '.join([tree[0], *[name for name, sort in tree[1:]]])})" if tree[1:] else tree[0]
-def numbered(tree, letter): return f"({' '.join([tree[0], *[f'{letter}{i}' for i in range(len(tree) - 1)]])})" if tree[1:] else tree[0]
 def arguments(tree, *sorts): return [(name, sort) for name, sort in tree[1:] if sort in sorts]
+def names(tree, *sorts): return [name for name, sort in arguments(tree, *sorts)]
+def in_braces(facts): return [f"({fact})" for fact in facts]
 
 def cases(function, before, after, right, others=None, trees=cpp_trees.TREES):
     """A clause for each tree for which there is a right side."""
-    lines = []
-    for tree in trees:
-        value = right(tree)
-        if value is not None: lines.append(applied(function, [*before, pattern(tree), *after]) + " =" + (value if value.startswith("\n") else " " + value))
-    if others is not None: lines.append(applied(function, [*before, "_", *after]) + f" = {others}")
-    return lines
+    found = [(pattern(tree), right(tree)) for tree in trees] + [("_", others)]
+    return [applied(function, [*before, tree, *after]) + " =" + (value if value.startswith("\n") else " " + value) for tree, value in found if value is not None]
+
+def carried(lines):
+    """The same of trees whose parameters carry their arguments."""
+    return [line.replace("(parameter k)", "(parameter k argument)") for line in lines]
 
 # ## Trees
 
@@ -36,51 +36,55 @@ def fold(function, before, joined, none, special={}, over=SUBTREES, closed=None,
         return joined(parts) if parts else None
     return cases(function, before, [], right, none, trees)
 
-TESTS = {OWN: "tree", OUTSIDE: "tree", INSIDE: "tree", SIGNATURE: "tree", TREE: "tree", PIECE: "tree", BYTES: "bytes", TRUTH: "truth", QUALIFIERS: "qualifiers", MARK: "mark",
-         SIGNED: "signed", THUNK: "thunk", DISCRIMINATOR: "discriminator"}
+# how the parts of a fold are joined
+def summed(first): return lambda parts: " + ".join([first, *parts])
+def either(parts): return " || ".join(parts)
+def joined_by(lemma, *first): return lambda parts: alone_or(parts, lambda several: applied(lemma, [*first, *in_braces(several)]))
+def both_by(lemma): return joined_by("both", lemma)
+both_free, first_of = joined_by("both_free"), joined_by("first_of")
+def either_open(facts): return alone_or(facts, lambda several: applied("either-open", [*[f"(free_in {fact.split()[-1]})" for fact in several], *in_braces(several)]))
+def bare_first(parts): return alone_or(parts, lambda several: applied("bare_first", [*[f"(bare {part.split()[-1]})" for part in several], "(length_if_pack a)", *in_braces(several)]))
 
-def same_tree():
-    """Whether two trees are the same: by their constructors, and argument by argument."""
-    def test(sort, i): return f"nat_eq a{i} b{i}" if sort == NUMBER else f"same_{TESTS[sort]} a{i} b{i}"
-    lines = []
-    for tree in cpp_trees.TREES:
-        tests = " && ".join(test(sort, i) for i, (name, sort) in enumerate(tree[1:]))
-        lines.append(f"same_tree {numbered(tree, 'a')} {numbered(tree, 'b')} = {tests or 'true'}")
-    return lines + ["same_tree _ _ = false"]
-
-def equal_tree():
-    """That trees which `same_tree` finds the same are equal."""
-    def equal(sort, i, fact): return f"let e{i} : a{i} ≡ b{i} = {'eqb-true' if sort == NUMBER else 'equal-' + TESTS[sort]} a{i} b{i} {fact} in"
-    lines = []
-    for tree in cpp_trees.TREES:
-        left = f"equal-tree {numbered(tree, 'a')} {numbered(tree, 'b')} h ="
-        sorts = [sort for name, sort in tree[1:]]
-        facts = {0: [], 1: ["h"], 2: ["(both h).0", "(both h).1"]}.get(len(sorts), [f"p.{i}" for i in range(len(sorts))])
-        lets = [f"    let p = both_{len(sorts)} h in"] if len(sorts) > 2 else []
-        lets += ["    " + equal(sort, i, fact) for i, (sort, fact) in enumerate(zip(sorts, facts))]
-        lines += [left, *lets[:-1], lets[-1] + " cc"] if lets else [left + " refl"]
-    return lines + ["equal-tree _ _ h = absurd (never h)"]
-
-def tree_itself():
-    """That `same_tree` finds each tree the same as itself."""
-    def itself(name, sort): return f"eq-eqb {name} {name} refl" if sort == NUMBER else f"{TESTS[sort]}-itself {name}"
-    def right(tree):
-        facts = [itself(name, sort) for name, sort in tree[1:]]
-        whole = facts[0] if facts else "refl"
-        for fact in facts[1:]: whole = f"all ({whole}) ({fact})"
-        return whole
-    return cases("tree-itself", [], [], right)
-
-def rebuilt(function, before, closed, carried, special={}):
+def rebuilt(function, before, closed, carries, special={}):
     """The tree again, of what is made of its subtrees."""
     def right(tree):
         if tree[0] in special: return special[tree[0]]
-        def part(name, sort):
-            if sort not in SUBTREES: return name
-            return f"({applied(function, [*(closed if sort in (OWN, OUTSIDE) else before), name])})"
+        def part(name, sort): return name if sort not in SUBTREES else f"({applied(function, [*(closed if sort in (OWN, OUTSIDE) else before), name])})"
         return applied("term_." + tree[0], [part(name, sort) for name, sort in tree[1:]])
     lines = cases(function, before, [], right)
-    return [l.replace("(parameter k)", "(parameter k argument)") for l in lines] if carried else lines
+    return carried(lines) if carries else lines
+
+def of_subtrees(tree, constructor, fact, over=SCOPED, letters="xy", given=lambda name, sort: name):
+    """That a tree is another one, since its subtrees are: the constructor over the facts of these."""
+    subtrees = arguments(tree, *over)
+    of = dict(zip((name for name, sort in subtrees), letters))
+    body = applied(constructor, [of.get(name) or given(name, sort) for name, sort in tree[1:]])
+    return applied("ap" if len(subtrees) == 1 else "both", [f"(λ {' '.join(of.values())}. {body})", *[fact(name, sort) for name, sort in subtrees]]) if subtrees else None
+
+# ## Sameness
+
+TESTS = {**{sort: "tree" for sort in SUBTREES}, BYTES: "bytes", TRUTH: "truth", QUALIFIERS: "qualifiers", MARK: "mark", SIGNED: "signed", THUNK: "thunk", DISCRIMINATOR: "discriminator"}
+
+def same_tree():
+    """Whether two trees are the same: by their constructors, and argument by argument."""
+    def test(sort): return "nat_eq {0} {1}" if sort == NUMBER else f"same_{TESTS[sort]} {{0}} {{1}}"
+    return [*[same_clause("same_tree", tree[0], [test(sort) for name, sort in tree[1:]]) for tree in cpp_trees.TREES], "same_tree _ _ = false"]
+
+def equal_tree():
+    """That trees which `same_tree` finds the same are equal."""
+    lines = []
+    for name, *given in cpp_trees.TREES:
+        facts = {1: ["h"], 2: ["(both h).0", "(both h).1"]}.get(len(given), [f"p.{i}" for i in range(len(given))])
+        first = [f"    let p = both_{len(given)} h in"] if len(given) > 2 else []
+        lines += equal_clause("equal-tree", name, ["eqb-true" if sort == NUMBER else "equal-" + TESTS[sort] for _, sort in given], facts, first)
+    return [*lines, "equal-tree _ _ h = absurd (never h)"]
+
+def tree_itself():
+    """That `same_tree` finds each tree the same as itself."""
+    def fact(name, sort): return f"eq-eqb {name} {name} refl" if sort == NUMBER else f"{TESTS[sort]}-itself {name}"
+    return cases("tree-itself", [], [], lambda tree: itself([fact(name, sort) for name, sort in tree[1:]]))
+
+# ## Trees with their arguments
 
 ANNOTATED_FUNCTION = """
     term_.function (annotate nowhere name) q ref (annotate (place_of (scope_.arguments_of (annotate nowhere name))) returned) (annotate (place_of (scope_.arguments_of (annotate nowhere name))) parameters)"""
@@ -88,19 +92,9 @@ ANNOTATED_FUNCTION = """
 def erased():
     """That the annotated tree without its arguments is the tree."""
     within = "(erased (place_of (scope_.arguments_of (annotate nowhere name)))"
-    special = {"function": f"three (λ a b c. function a q ref b c) (erased nowhere name) {within} returned) {within} parameters)"}
-    def right(tree):
-        if tree[0] in special: return special[tree[0]]
-        subtrees = arguments(tree, *SUBTREES)
-        if not subtrees: return None
-        letters = {name: "ab"[i] for i, (name, sort) in enumerate(subtrees)}
-        body = applied(tree[0], [letters.get(name, name) for name, sort in tree[1:]])
-        return applied("ap" if len(subtrees) == 1 else "both", [f"(λ {' '.join(letters.values())}. {body})",
-            *[f"(erased {'nowhere' if sort in (OWN, OUTSIDE) else 'in_own' if sort == SIGNATURE else 's'} {name})" for name, sort in subtrees]])
-    return cases("erased", ["s"], [], right, "refl")
-
-def summed(first): return lambda parts: " + ".join([first, *parts])
-def both_by(lemma): return lambda parts: parts[0] if len(parts) == 1 else applied("both", [lemma, *[f"({p})" for p in parts]])
+    function = f"three (λ a b c. function a q ref b c) (erased nowhere name) {within} returned) {within} parameters)"
+    def fact(name, sort): return f"(erased {'nowhere' if sort in (OWN, OUTSIDE) else 'in_own' if sort == SIGNATURE else 's'} {name})"
+    return cases("erased", ["s"], [], lambda tree: function if tree[0] == "function" else of_subtrees(tree, tree[0], fact, SUBTREES, "ab"), "refl")
 
 WEIGHT_OF_FUNCTION = """
     1 + weight 0 None name + weight (weight 0 None name) (arguments_of name) returned + weight (weight 0 None name) (arguments_of name) parameters"""
@@ -117,189 +111,151 @@ def weight_of_scopes():
 def weight_grows():
     """That a tree weighs no less where its parameters do."""
     def right(tree):
-        parts = [f"weight_grows a b scope {name} h" for name, sort in arguments(tree, *SCOPED)]
+        parts = [f"weight_grows a b scope {name} h" for name in names(tree, *SCOPED)]
         return f"omega ({', '.join(['arith', *parts])})" if parts else None
     return cases("weight_grows", ["a", "b", "scope"], ["h"], right, "omega arith")
 
-def closed_noted(function="closed_noted", before=("s", "r"), halves=None, parameter="absurd (true≢false e)"):
+def applied_to_scoped(tree):
+    """A constructor as a function of those of its arguments that are under its scope."""
+    def argument(name, sort): return name if sort not in (OWN, OUTSIDE) else f"(annotate nowhere {name})"
+    places = [i for i, (name, sort) in enumerate(tree[1:]) if sort in SCOPED]
+    front = [argument(*given) for given in tree[1:places[0] + 1]]
+    behind = [argument(*given) for given in tree[places[0] + 2:] if given[1] not in SCOPED]
+    if behind: return f"(λ x. {applied('term_.' + tree[0], [*front, 'x', *behind])})"
+    return f"({applied('term_.' + tree[0], front)})" if front else "term_." + tree[0]
+
+# the first of a list by another name than that of a fact
+FIRST = named({("list", "e"): "first"})
+
+def open_half(i, a, b): return f"({('or_left', 'or_right')[i]} (is_open {a}) (is_open {b}) e)"
+def free_half(i, a, b): return f"(names_both r a (free_in {a}) (free_in {b}) e).{i}"
+
+def closed_noted(function="closed_noted", before=("s", "r"), half=open_half, parameter="absurd (true≢false e)"):
     """A law of annotated trees by those of their subtrees, and what is known of their free parameters."""
-    known = " ".join(before)
     def right(tree):
         if tree[0] == "parameter": return parameter
-        subtrees = arguments(tree, *SCOPED)
+        subtrees = names(tree, *SCOPED)
         if not subtrees: return None
-        constructor = "term_." + tree[0]
-        def argument(name, sort): return name if sort not in (OWN, OUTSIDE) else f"(annotate nowhere {name})"
-        front, behind, seen = [], [], False
-        for name, sort in tree[1:]:
-            if sort in SCOPED: seen = True
-            elif seen: behind.append(argument(name, sort))
-            else: front.append(argument(name, sort))
-        if behind: made = f"(λ x. {applied(constructor, [*front, 'x', *behind])})"
-        elif front: made = f"({applied(constructor, front)})"
-        else: made = constructor
-        if len(subtrees) == 1: return f"ap {made} ({function} {known} {subtrees[0][0]} e)"
-        a, b = subtrees[0][0], subtrees[1][0]
-        facts = [f"({side} (is_open {a}) (is_open {b}) e)" for side in ("or_left", "or_right")] if halves is None else [f"({halves.format(a, b)}).{i}" for i in (0, 1)]
-        return f"both {made} ({function} {known} {a} {facts[0]}) ({function} {known} {b} {facts[1]})"
-    # the fact is called e
-    return [l.replace("(list e rest) e", "(list first rest) e").replace(f"{function} {known} e ", f"{function} {known} first ").replace("is_open e", "is_open first").replace("free_in e)", "free_in first)")
-            for l in cases(function, list(before), ["e"], right, "refl")]
+        facts = ["e"] if len(subtrees) == 1 else [half(i, *subtrees) for i in (0, 1)]
+        laws = [f"({applied(function, [*before, name, fact])})" for name, fact in zip(subtrees, facts)]
+        return applied("ap" if len(subtrees) == 1 else "both", [applied_to_scoped(tree), *laws])
+    return cases(function, list(before), ["e"], right, "refl", FIRST)
+
+def never_open(name, subtrees):
+    """The fact that a subtree isn't open, from that of the tree."""
+    if len(subtrees) == 1: return "closed"
+    return f"({'or_left' if name == subtrees[0] else 'or_right'} {' '.join(f'(is_open {n})' for n in subtrees)} closed)"
 
 def closed_packs():
     """That a closed tree names no packs."""
-    trees = named(PRESSED)
     def right(tree):
         if tree[0] == "parameter": return "absurd (true≢false closed)"
         # of an expansion no packs are named outside
-        subtrees = arguments(tree, *SCOPED) if tree[0] != "expansion" else []
+        subtrees = names(tree, *SCOPED) if tree[0] != "expansion" else []
         if not subtrees: return "refl" if tree[0] == "symbol" else None
-        if len(subtrees) == 1: return f"closed-packs scope {subtrees[0][0]} closed"
-        a, b = subtrees[0][0], subtrees[1][0]
+        if len(subtrees) == 1: return f"closed-packs scope {subtrees[0]} closed"
+        a, b = subtrees
         return (f"\n    first-none (pack_length scope {a}) (pack_length scope {b}) (closed-packs scope {a} (or_parts (is_open {a}) (is_open {b}) closed).0)"
                 f"\n    (closed-packs scope {b} (or_parts (is_open {a}) (is_open {b}) closed).1)")
-    return cases("closed-packs", ["scope"], ["closed"], right, "refl", trees)
+    return cases("closed-packs", ["scope"], ["closed"], right, "refl", named(PRESSED))
 
-def by_each(function, lemma, before, others, names):
+def by_each(function, lemma, before, others, called):
     """A lemma for each tree, of its arguments and of what is known of its subtrees."""
     def right(tree):
         if tree[0] in others: return f"{lemma}-nowhere {pattern(tree)} _"
         order = others.get(("order", tree[0])) or [name for name, sort in tree[1:]]
         known = [f"({applied(function, [*before, name])})" for name in order if dict(tree[1:])[name] in SUBTREES]
-        return applied(f"{lemma}-{names.get(tree[0], tree[0].replace('_', '-'))}", [*others.get(("before", tree[0]), []), *order, *known])
+        return applied(f"{lemma}-{called.get(tree[0], tree[0].replace('_', '-'))}", [*others.get(("before", tree[0]), []), *order, *known])
     return cases(function, before, [], right, None, named(PRESSED))
+
+# ## What is inside
 
 INSIDE_OF_FUNCTION = """
     Shut (Inside name x ⊎ (ItselfOr returned (Inside returned x) x ⊎ Inside parameters x)) x"""
 # the arguments that are prefixes
 PREFIXES = (("within", "prefix"), ("holder", "name"))
 
-def is_itself(tree, name, sort):
-    """Whether a subtree may be a component itself: lists and pieces are none."""
-    return sort != PIECE and name not in ("entity", "arguments", "parameters", "elements", "rest")
+def itself_as(tree, name):
+    """As what a subtree may be a component itself: lists and pieces are none."""
+    if dict(tree[1:])[name] == PIECE or name in ("entity", "arguments", "parameters", "elements", "rest"): return None
+    return "Prefix" if (tree[0], name) in PREFIXES else "Unqualified" if tree[0] == "qualified" else "Itself"
 
 def inside_shut():
     """Of a closed tree, what is inside is closed."""
     def right(tree, name, closed, fact):
-        below = f"inside-shut {name} x {closed}"
-        if not is_itself(tree, name, dict(tree[1:])[name]): return f"{below} {fact}"
-        lemma = "prefix-shut" if (tree[0], name) in PREFIXES else "unqualified-shut" if tree[0] == "qualified" else "itself-shut"
-        return f"{lemma} {name} x (Inside {name} x) {closed} ({below}) {fact}"
+        below, kind = f"inside-shut {name} x {closed}", itself_as(tree, name)
+        return f"{kind.lower()}-shut {name} x (Inside {name} x) {closed} ({below}) {fact}" if kind else f"{below} {fact}"
     lines = []
     for tree in named(PRESSED):
-        subtrees, left = arguments(tree, *SUBTREES), f"inside-shut {pattern(tree)} x closed"
+        subtrees, left = names(tree, *SUBTREES), f"inside-shut {pattern(tree)} x closed"
         if tree[0] == "symbol": lines.append(f"{left} i = i.0")
         elif tree[0] == "local": lines += [f"{left} (inl s) = s.0", f"{left} (inr i) = inside-shut entity x closed i"]
-        elif not subtrees or any(sort in APART for name, sort in subtrees): continue
-        elif len(subtrees) == 1: lines.append(f"{left} i = {right(tree, subtrees[0][0], 'closed', 'i')}")
+        elif not subtrees or names(tree, *APART): continue
+        elif len(subtrees) == 1: lines.append(f"{left} i = {right(tree, subtrees[0], 'closed', 'i')}")
         else:
-            tests = " ".join(f"(is_open {name})" for name, sort in subtrees)
-            for i, (name, sort) in enumerate(subtrees):
-                lines.append(f"{left} ({'inr' if i else 'inl'} i) =\n    {right(tree, name, f'(or_parts {tests} closed).{i}', 'i')}")
-    return lines + ["inside-shut _ x closed i = first_of (assumption i, search i)"]
+            tests = " ".join(f"(is_open {name})" for name in subtrees)
+            lines += [f"{left} ({side} i) =\n    {right(tree, name, f'(or_parts {tests} closed).{i}', 'i')}" for i, (name, side) in enumerate(zip(subtrees, ("inl", "inr")))]
+    return [*lines, "inside-shut _ x closed i = first_of (assumption i, search i)"]
 
 BEHIND_LETTERS = "IsTemplateBehindLetters own name (name_letters q ref)"
 def never_referred():
     """Where a tree has a template behind the letters of its name, so that no reference names it."""
-    def joined(parts): return parts[0] if len(parts) == 1 else f"{parts[0]} ⊎ {parts[1]}"
     def below(first, *rest): return f"IsNeverReferred own {first}" + (f" ⊎ ({below(*rest)})" if len(rest) > 1 else f" ⊎ {below(*rest)}" if rest else "")
     special = {"function": f"\n    {BEHIND_LETTERS}\n    ⊎ ({below('name', 'returned', 'parameters')})", "object": f"{BEHIND_LETTERS} ⊎ {below('name')}",
                "of_name": f"{BEHIND_LETTERS} ⊎ {below('name')}", "local": f"IsTemplateOf own entity ⊎ ({below('e', 'entity')})"}
-    return fold("IsNeverReferred", ["own"], joined, "⊥", special, trees=named(PRESSED))
+    return fold("IsNeverReferred", ["own"], " ⊎ ".join, "⊥", special, trees=named(PRESSED))
 
 def inside():
     """What is inside a tree, as a component or within one."""
-    # lists and pieces are no components themselves
+    def part(tree, name, sort):
+        if sort in APART and tree[0] not in ("special", "construction"): return f"Shut (Inside {name} x) x"
+        kind = itself_as(tree, name)
+        return f"{kind}Or {name} (Inside {name} x) x" if kind else f"Inside {name} x"
     def right(tree):
         if tree[0] == "function": return INSIDE_OF_FUNCTION
-        parts = []
-        for name, sort in arguments(tree, *SUBTREES):
-            itself = f"ItselfOr {name} (Inside {name} x) x"
-            if tree[0] in ("special", "construction"): parts.append(itself)
-            elif sort in APART: parts.append(f"Shut (Inside {name} x) x")
-            elif (tree[0], name) in PREFIXES: parts.append(f"PrefixOr {name} (Inside {name} x) x")
-            elif tree[0] == "qualified": parts.append(f"UnqualifiedOr {name} (Inside {name} x) x")
-            else: parts.append(itself if is_itself(tree, name, sort) else f"Inside {name} x")
-        if tree[0] in ("special", "construction"): return f"Shut ({' ⊎ '.join(parts)}) x"
-        return " ⊎ ".join(parts) if parts else None
+        whole = " ⊎ ".join(part(tree, name, sort) for name, sort in arguments(tree, *SUBTREES))
+        return f"Shut ({whole}) x" if tree[0] in ("special", "construction") else whole or None
     return cases("Inside", [], ["x"], right, "⊥", named(PRESSED))
 
 # ## Trees whose free parameters carry another argument
-
-def carried(lines): return [l.replace("(parameter k)", "(parameter k argument)") for l in lines]
 
 def reargued():
     """The tree again, with another argument wherever a parameter is free."""
     def right(tree):
         if tree[0] == "parameter": return "parameter k (argument_or c k argument)"
-        if not arguments(tree, *SCOPED): return None
-        return applied(tree[0], [f"(reargued c {name})" if sort in SCOPED else name for name, sort in tree[1:]])
+        return applied(tree[0], [f"(reargued c {name})" if sort in SCOPED else name for name, sort in tree[1:]]) if names(tree, *SCOPED) else None
     return carried(cases("reargued", ["c"], [], right, "t")[:-1]) + ["reargued c t = t"]
 
-def made_again(function, before, parameter, behind=lambda name, subtrees: ""):
+def made_again(function, before, after=(), parameter="refl", made="", given=lambda name, sort: name):
     """A law of each tree by those of its subtrees: both sides are the tree, of other subtrees."""
     def right(tree):
         if tree[0] == "parameter": return parameter
-        subtrees = [name for name, sort in arguments(tree, *SCOPED)]
-        if not subtrees: return None
-        letters = dict(zip(subtrees, "xy"))
-        body = applied(tree[0], [letters.get(name, name) for name, sort in tree[1:]])
-        return applied("ap" if len(subtrees) == 1 else "both", [f"(λ {' '.join(letters.values())}. {body})", *[f"({applied(function, [*before, name])}{behind(name, subtrees)})" for name in subtrees]])
-    return right
-
-def never_open(name, subtrees):
-    """The fact that a subtree isn't open, from that of the tree."""
-    if len(subtrees) == 1: return " closed"
-    side = "or_left" if name == subtrees[0] else "or_right"
-    return f" ({side} {' '.join(f'(is_open {n})' for n in subtrees)} closed)"
-
-def erase_reargued():
-    """That another argument in free parameters is erased with the others."""
-    def right(tree):
-        if tree[0] == "parameter": return None
-        subtrees = [name for name, sort in arguments(tree, *SCOPED)]
-        if not subtrees: return None
-        letters = dict(zip(subtrees, "xy"))
-        body = applied("term_." + tree[0], [letters.get(name, name) if sort not in APART else f"(erase {name})" for name, sort in tree[1:]])
-        return applied("ap" if len(subtrees) == 1 else "both", [f"(λ {' '.join(letters.values())}. {body})", *[f"(erase_reargued c {name})" for name in subtrees]])
-    return cases("erase_reargued", ["c"], [], right, "refl")
+        subtrees = names(tree, *SCOPED)
+        def fact(name, sort): return f"({applied(function, [*before, name, *[never_open(name, subtrees) for _ in after]])})"
+        return of_subtrees(tree, made + tree[0], fact, given=given)
+    return carried(cases(function, before, list(after), right, "refl"))
 
 def reargued_laws():
     """The laws of trees with another argument, by their names."""
-    laws = {}
-    same = made_again("reargued_none", [], "refl")
-    laws["reargued_none"] = carried(cases("reargued_none", [], [], same, "refl"))
-    again = made_again("reargued_twice", ["c", "a"], "refl")
-    laws["reargued_twice"] = carried(cases("reargued_twice", ["c", "a"], [], again, "refl"))
-    closed = made_again("reargued_closed", ["c"], "absurd (true≢false closed)", never_open)
-    laws["reargued_closed"] = carried(cases("reargued_closed", ["c"], ["closed"], closed, "refl"))
-    laws["open_reargued"] = carried(fold("open_reargued", ["c"], both_by("(λ x y. x || y)"), "refl", {}, SCOPED))
-    laws["free_reargued"] = carried(fold("free_reargued", ["c"], both_by("both_free"), "refl", {}, SCOPED))
-    laws["bare_reargued"] = carried(fold("bare_reargued", ["c"], both_by("(λ x y. x || y)"), "refl", {"expansion": "refl", "parameter": "refl"}, SCOPED))
-    def bare(parts): return parts[0] if len(parts) == 1 else applied("bare_first", [f"(bare {p.split()[-1]})" for p in parts] + ["(length_if_pack a)"] + [f"({p})" for p in parts])
-    laws["pack_reargued"] = carried(fold("pack_reargued", ["a"], bare, "refl", {"parameter": "given_length a k", "expansion": None}, SCOPED))
-    laws["erase_reargued"] = erase_reargued()
-    return laws
-
-def either(parts): return " || ".join(parts)
-def both_free(parts): return parts[0] if len(parts) == 1 else applied("both_free", [f"({p})" for p in parts])
-def either_open(facts): return facts[0] if len(facts) == 1 else applied("either-open", [*[f"(free_in {fact.split()[-1]})" for fact in facts], *[f"({fact})" for fact in facts]])
-def first_of(parts): return parts[0] if len(parts) == 1 else applied("first_of", [f"({p})" for p in parts])
+    def law(function, before, joined, special={}): return {function: carried(fold(function, before, joined, "refl", special, SCOPED))}
+    either_by, both_refl = both_by("(λ x y. x || y)"), {"expansion": "refl", "parameter": "refl"}
+    return {
+        "reargued_none": made_again("reargued_none", []), "reargued_twice": made_again("reargued_twice", ["c", "a"]),
+        "reargued_closed": made_again("reargued_closed", ["c"], ["closed"], "absurd (true≢false closed)"),
+        **law("open_reargued", ["c"], either_by), **law("free_reargued", ["c"], both_by("both_free")), **law("bare_reargued", ["c"], either_by, both_refl),
+        **law("pack_reargued", ["a"], bare_first, {"parameter": "given_length a k", "expansion": None}),
+        # another argument in free parameters is erased with the others
+        "erase_reargued": made_again("erase_reargued", ["c"], parameter=None, made="term_.", given=lambda name, sort: f"(erase {name})" if sort in APART else name),
+    }
 
 # ## Declarations
 
-def first(lines):
-    """The same, where the first of a list is called so."""
-    return [re.sub(r"(?<![\w'])e(?![\w'])", "first", l) if "(list e rest)" in l else l for l in lines]
-
 def open_erased():
     """That an annotated tree is open where the tree is."""
-    def joined(parts): return parts[0] if len(parts) == 1 else f"rw ({', '.join(parts)}) refl"
-    lines = fold("open-erased", [], joined, "refl", {"parameter": "refl"}, SCOPED)
-    return [l.replace("(parameter k)", "(parameter k argument)") for l in lines]
+    return carried(fold("open-erased", [], lambda parts: alone_or(parts, rewritten), "refl", {"parameter": "refl"}, SCOPED))
 
 def weight_of_terms():
     """What an annotated tree weighs."""
-    function = "\n    1 + weight name + weight returned + weight parameters"
-    lines = fold("weight", [], summed("1"), "1", {"function": function, "local": "1 + weight entity", "parameter": "2 + weight argument", "expansion": "2 + weight pattern + pack_count pattern"})
-    return [l.replace("(parameter k)", "(parameter k argument)") for l in lines]
+    special = {"function": "\n    1 + weight name + weight returned + weight parameters", "local": "1 + weight entity", "parameter": "2 + weight argument",
+               "expansion": "2 + weight pattern + pack_count pattern"}
+    return carried(fold("weight", [], summed("1"), "1", special))
