@@ -13,34 +13,39 @@ TREES = []
 # how each is pressed: the sort of its spelling, and its parts; and what it needs so that it fits
 SPELLED, FITTING = {}, {}
 COMPONENTS, ENCODINGS = [], []
-# what is said of its node, and what a type is whose left parts end otherwise than a plain one's
-SAYS, HEADS = {}, {}
+# by tree: what is said of its node, what a type is whose left parts end otherwise than a plain one's, its node, what is noted and seen of that
+BELOW = {"says": {}, "head": {}, "node": {}, "noted": {}, "seen": {}}
+SAYS, HEADS, NODES, NOTED, SEEN = BELOW.values()
 # <type> ::= <letter> <type>: tree, production, letter; the text after the type; and what is said of its number
 WRAPPERS, TEXTS, NUMBERED = [], {}, {}
 # names of arguments elsewhere, by where that is
 NAMES = {}
 
 
-def enter(name, arguments, sort="", *parts):
+def enter(name, arguments, sort="", *spelling):
     """Enters a tree."""
     TREES.append((name, *(tuple(argument.split(":")) for argument in arguments)))
-    spelling = [part for part in parts if part.split(" ")[0] not in ("fits", "head", "says")]
     if sort == "component":
         COMPONENTS.append(name)
     if sort.endswith("encoding"):
         ENCODINGS.append(name)
     if spelling or sort.startswith("nowhere"):
         SPELLED[name] = (sort, *spelling)
-    for word, _, rest in (part.partition(" ") for part in parts):
-        if word == "fits":
-            FITTING[name] = [*FITTING.get(name, []), *filter(None, [rest])]
-        elif word in ("head", "says"):
-            {"head": HEADS, "says": SAYS}[word][name] = rest
+
+
+def enter_below(name, line):
+    """Enters what is said of a tree below it."""
+    word, _, rest = line.partition(" ")
+    if word == "fits":
+        FITTING[name] = [*FITTING.get(name, []), *filter(None, [rest])]
+    else:
+        BELOW[word][name] = rest
 
 
 def enter_wrapper(name, letter, text, numbered):
     """Enters a component that is a letter before a type, and is printed as that type with a text after it."""
-    enter(name, ["t:tree"], "component", f'codes "{letter}"', "type.as_type", "fits takes_all slot ≡ true")
+    enter(name, ["t:tree"], "component", f'codes "{letter}"', "type.as_type")
+    enter_below(name, "fits takes_all slot ≡ true")
     WRAPPERS.append((name, camel(name), letter))
     TEXTS[name.upper()] = text
     NUMBERED[name.upper()] = numbered
@@ -54,7 +59,10 @@ for head, below in sections("cpp_trees.txt"):
         enter_wrapper(*shlex.split(head)[1:])
     else:
         own, *rest = head.split(" | ")
-        enter(own.split()[0], own.split()[1:], *rest)
+        tree, *given = own.split()
+        enter(tree, given, *rest)
+        for line, _ in below:
+            enter_below(tree, line)
 PRESSED, SCOPES, VIEWED, NAMED = (NAMES[where] for where in ("pressed", "scopes", "viewed", "code"))
 
 

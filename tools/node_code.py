@@ -5,30 +5,24 @@ import cpp_trees
 from notation import camel
 from cpp_trees import NAMED, OWN, OUTSIDE, INSIDE, SIGNATURE, TREE, PIECE, BYTES, NUMBER, TRUTH, QUALIFIERS, MARK, SIGNED, THUNK, DISCRIMINATOR
 
-# a node has the arguments of its tree; these have others. A number of a thunk stands for it, and the letters of a builtin type are told apart
-NAMES = {"list": "Cell", "symbol": "Whole", "clone": "CloneOf"}
 PIECES = "source operator literal_operator constructor destructor inheriting lambda generic_lambda unnamed string_literal conversion".split()
 # the argument under which the types of an encoding are, if they are under one
 UNDER = "under"
-OTHERS = {
-    "function": [("name", TREE), ("q", QUALIFIERS), ("m", MARK), ("returned", TREE), ("parameters", TREE), ("under", UNDER)],
-    "object": [("name", TREE), ("q", QUALIFIERS), ("m", MARK)],
-    "of_name": [("letter", NUMBER), ("name", TREE), ("q", QUALIFIERS), ("m", MARK)],
-    "thunk": [("u", THUNK), ("e", TREE)],
-    "local": [("e", TREE), ("entity", TREE), ("d", DISCRIMINATOR)],
-    "parameter": [("k", NUMBER), ("a", TREE)],
-    "function_type": [("c", TRUTH), ("n", TRUTH), ("m", MARK), ("returned", TREE), ("parameters", TREE)],
-    "list": [("first", TREE), ("rest", TREE)],
-}
+
+def node_of(tree, *given):
+    """The node of a tree: its name, its tree's, and its arguments, which are the tree's if it has no others."""
+    words = cpp_trees.NODES.get(tree, "").split()
+    others = [tuple(word.split(":")) for word in words if ":" in word]
+    return next((word for word in words if ":" not in word), camel(tree)), tree, others or list(given)
+
 def nodes():
     """The nodes: each with its name, its tree's, and its arguments."""
-    order = ["absent", "nil", *[t[0] for t in cpp_trees.TREES[1:] if t[0] not in ("absent", "nil", "list", *PIECES)], "list", "symbol"]
-    trees = {t[0]: list(t[1:]) for t in cpp_trees.TREES}
-    for tree in order:
-        if tree == "builtin":
-            yield "Builtin", tree, [("letter", NUMBER)]
-            yield "BuiltinWithD", tree, [("letter", NUMBER)]
-        else: yield NAMES.get(tree, camel(tree)), tree, OTHERS.get(tree, trees[tree])
+    rows = {tree[0]: tree for tree in cpp_trees.TREES}
+    others = [tree for tree in rows if tree not in ("absent", "nil", "list", "symbol", *PIECES)]
+    for tree in ["absent", "nil", *others, "list", "symbol"]:
+        # the letters of a builtin type are told apart
+        if tree == "builtin": yield from ((name, tree, [("letter", NUMBER)]) for name in ("Builtin", "BuiltinWithD"))
+        else: yield node_of(*rows[tree])
     # a tree of another node, with another argument in its free parameters
     yield "Reargued", "again", [("t", TREE), ("a", TREE)]
 
@@ -97,14 +91,10 @@ def arms(path, indent, of):
 
 # ## What is noted
 
-# of some nodes more is noted than that of their parts, or that their type is no plain one
-NOTED = {
-    "Alone": "self.noted_piece(symbol, node, piece)", "InStd": "self.noted_piece(symbol, node, piece)", "Within": "self.noted_within(symbol, node, prefix, piece)",
-    "Instance": "self.noted_instance(symbol, node, template, arguments)", "Local": "self.noted_local(node, entity)", "OfDefault": "self.noted_local(node, entity)",
-    "Tagged": "self.noted_tagged(node, name)", "Parameter": "self.noted_parameter(symbol, node, number, argument)", "Rvalue": "self.noted_rvalue(node, ty)",
-    "Qualified": "self.noted_qualified(node, ty)", "Expansion": "self.noted_expansion(node, pattern)", "Pack": "self.noted_pack(node, elements)", "Nil": "bare(node, true)",
-    "Cell": "self.noted_cell(symbol, node, first, rest)", "Reargued": "self.noted_again(symbol, node, tree, argument)",
-}
+# by node: what is noted and seen of those of which it is more than that of their parts; no node here is a tree that is there again, which is
+# shown in its place
+NOTED = {**{node_of(tree)[0]: code for tree, code in cpp_trees.NOTED.items()}, "Reargued": "self.noted_again(symbol, node, tree, argument)"}
+SEEN = {**{node_of(tree)[0]: code for tree, code in cpp_trees.SEEN.items()}, "BuiltinWithD": "leaf(BUILTIN_WITH_D, letter as u64)", "Reargued": "leaf(ABSENT, 0)"}
 def sorts_of(tree): return {t[0]: [sort for name, sort in t[1:]] for t in cpp_trees.TREES}.get(tree, [])
 
 def noting(node, tree, own):
@@ -118,15 +108,6 @@ def noted(): return list(arms("Node::", "            ", noting))
 
 # ## What is seen
 
-# of some nodes more is seen than numbers, a text and parts
-SEEN = {
-    "Thunk": "view_of_thunk(symbol, nodes, nodes.thunk(thunk), encoding)", "OfName": "view_of_special_name(symbol, nodes, letter, name, qualifiers, mark)",
-    "Local": "view_of_local(symbol, nodes, encoding, entity, discriminator)", "Alone": "view_of_name(symbol, nodes, ALONE, None, piece)",
-    "InStd": "view_of_name(symbol, nodes, IN_STD, None, piece)", "Within": "view_of_name(symbol, nodes, NESTED, Some(prefix), piece)",
-    "Parameter": "leaf(PARAMETER, number as u64)", "BuiltinWithD": "leaf(BUILTIN_WITH_D, letter as u64)",
-    # no node here: the tree that is there again is shown in its place
-    "Reargued": "leaf(ABSENT, 0)",
-}
 NUMBERS = {NUMBER: "{0} as u64", TRUTH: "bit({0}) as u64", QUALIFIERS: "{0}.number() as u64", MARK: "{0}.number() as u64", SIGNED: "bit({0}.negative) as u64"}
 TEXTS = {BYTES: "{0}", SIGNED: "{0}.digits"}
 
