@@ -4,10 +4,7 @@ import re
 import node_code
 from files import TEMPLATES, read, template
 from node_code import BELOW, nodes, placed
-
-def answer(goal, value, unfolding=None):
-    """An answer to a goal."""
-    return ["", f"pub {goal} : goal.{goal}", *([unfolding] if unfolding else []), f"{goal} c ={value}"]
+from notation import answer, together
 
 def facts_of(own, args):
     """By each argument's name in code, what is known of it: a part of b where there are several."""
@@ -15,7 +12,7 @@ def facts_of(own, args):
 
 # ## What is noted
 
-NOTES = "unfolding " + " ".join(re.findall(r"^use \S+\.(?:Notes|Compact)\.\{(.*)\}$", read(f"{TEMPLATES}/cpp_tree/noted.antt.in"), re.M)).replace(",", "")
+NOTES = " ".join(re.findall(r"^use \S+\.(?:Notes|Compact)\.\{(.*)\}$", read(f"{TEMPLATES}/cpp_tree/noted.antt.in"), re.M)).replace(",", "")
 
 def noted(crates, others):
     """That each arm notes what there is to note: by what it calls, which asks that the arguments are below."""
@@ -37,10 +34,10 @@ def noted(crates, others):
                 of = next((p for p in re.findall(r"(?<![\w.])\w+", text) if p in taken and p != "symbol"), None)
                 facts.append((name, bound[taken[of]] if of else f"c.requires.{name}"))
             value = f"record {{ {'; '.join(f'{name} = {fact}' for name, fact in facts)} }}" if facts[0][0] else facts[0][1]
-            lines += answer(f"{call}-requires{behind}", f" let b = below-as (over c.args.symbol.now c.args.self.now) (length c.args.self.now.nodes) c.in-{node}.is c.requires.below in {value}")
-        lines += answer(f"returns-in-{node}", f" c.{call}{behind}.ensures ∙ rw c.in-{node}.is refl", NOTES)
-    lines += answer("returns-in_default", "\n".join(["", "    c.bare-in_default.ensures", "    ∙ other-node c.args.self.now.nodes c.args.node (record {",
-        *[f"      not_{node.lower()} = c.in_default.not-{node};" for node in others], "    })"]))
+            lines += ["", *answer(f"{call}-requires{behind}", f" let b = below-as (over c.args.symbol.now c.args.self.now) (length c.args.self.now.nodes) c.in-{node}.is c.requires.below in {value}")]
+        lines += ["", *answer(f"returns-in-{node}", f" c.{call}{behind}.ensures ∙ rw c.in-{node}.is refl", NOTES)]
+    lines += ["", *answer("returns-in_default", "\n".join(["", "    c.bare-in_default.ensures", "    ∙ other-node c.args.self.now.nodes c.args.node (record {",
+        *[f"      not_{node.lower()} = c.in_default.not-{node};" for node in others], "    })"]))]
     return template("cpp_tree/noted.antt", answers=lines)
 
 # ## What is seen
@@ -58,7 +55,7 @@ TOLD = {
     "Within": (*named_as("Node.Within c.in-Within.prefix c.in-Within.piece", "told.parts k b.0 b.1"), "piece", ".1"),
 }
 TABLE, HELD = "(over c.args.symbol.now c.args.nodes.now)", "(length c.args.nodes.now.nodes)"
-UNFOLDING = "unfolding fields_of erase tree_of"
+UNFOLDING = "fields_of erase tree_of"
 
 def seen():
     """That each arm of a node's view shows the node: by the calls that it makes, each of whose steps has the arm's name from its second call on."""
@@ -76,8 +73,8 @@ def seen():
             lemma, fields, others, asked, part = TOLD[node]
             call = node_code.SEEN[node].partition("(")[0]
             behind = place(call, node)
-            if asked: lines += answer(f"{call}-requires{behind}", f" record {{ {asked} = {f'(below-as {shown}){part}' if part else f'below-as {shown}'} }}")
-            lines += answer(goal, "\n    ".join(["", "let y = over c.args.symbol.now c.args.nodes.now in", f"let told = c.{call}{behind}.ensures in", f"{lemma} y c.in-{node}.is {fields} told.texts {others}"]), UNFOLDING)
+            if asked: lines += ["", *answer(f"{call}-requires{behind}", f" record {{ {asked} = {f'(below-as {shown}){part}' if part else f'below-as {shown}'} }}")]
+            lines += ["", *answer(goal, "\n    ".join(["", "let y = over c.args.symbol.now c.args.nodes.now in", f"let told = c.{call}{behind}.ensures in", f"{lemma} y c.in-{node}.is {fields} told.texts {others}"]), UNFOLDING)]
         if node in node_code.SEEN and node not in ("Parameter", "BuiltinWithD"): continue
         own = list(node_code.fields(tree, args))
         numbers, texts, parts = node_code.view(node, tree, own)
@@ -86,8 +83,7 @@ def seen():
         call = "leaf" if not parts and not texts else count if len(parts) in (1, 2) else "seen"
         bound = facts_of(own, args)
         facts = [bound[texts[0].removesuffix(".digits")] if texts else "none-within c.args.symbol.now", *[bound[part] for part in parts]]
-        held = facts[0] if len(facts) == 1 else f"({', '.join(facts)})"
         # (under what a function's types are isn't seen)
         fields = f"(function_fields {TABLE} {' '.join(f'c.in-Function.{name}' for name in [*parts, 'under', 'qualifiers', 'mark'])})" if node == "Function" else "refl"
-        lines += answer(goal, f" seen-{count} {shown} c.{call}{place(call, node)}.ensures {' '.join(known)} {fields} (λ k b. {held})", UNFOLDING if fields == "refl" else None)
+        lines += ["", *answer(goal, f" seen-{count} {shown} c.{call}{place(call, node)}.ensures {' '.join(known)} {fields} (λ k b. {together(facts)})", UNFOLDING if fields == "refl" else None)]
     return template("cpp_tree/seen.antt", answers=lines)

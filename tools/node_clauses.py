@@ -5,7 +5,7 @@ from cpp_trees import (
     BYTES, DISCRIMINATOR, INSIDE, MARK, NUMBER, OUTSIDE, OWN, PIECE, QUALIFIERS, SIGNATURE, SIGNED, THUNK, TREE, TRUTH, VIEWED, named,
 )
 from node_code import BELOW, PIECES, UNDER, bounds, nodes, placed
-from notation import applied
+from notation import applied, rewritten, together
 from tree_clauses import SCOPED, SUBTREES, arguments, cases
 
 # ## Nodes
@@ -108,13 +108,11 @@ def below_later():
     later = {PIECE: "piece-later s m n {0} {1} most", UNDER: "there-later m n (under_kept {0}) {1} most", TREE: "omega (arith, {1}, most)", OWN: "omega (arith, {1}, most)"}
     def right(node, tree, args):
         facts = [later.get(sort, "{1}").format(name, bound) for name, sort, bound in placed(args, tuple(BELOW))]
-        return None if not facts else facts[0] if len(facts) == 1 else f"({', '.join(facts)})"
+        return together(facts) if facts else None
     renamed = {(node, name): {"m": "k", "n": "e", "b": "v"}[name] for node, tree, args in nodes() for name, sort in args if name in ("m", "n", "b")}
     return node_cases("below-later", ["s", "held", "m", "n"], ["b", "most"], right, "tt", renamed)
 
-def rewritten_by(facts): return f"rw ({', '.join(facts)}) refl"
-
-def through(function, text, piece, others, special={}, renamed={}, without=(), one=lambda fact: fact, joined=rewritten_by):
+def through(function, text, piece, others, special={}, renamed={}, without=(), one=lambda fact: fact, joined=rewritten):
     """A fact of a node by those of its parts, with a bound."""
     def right(node, tree, args):
         if node in special: return special[node]
@@ -132,7 +130,7 @@ def node_stays():
     def right(node, tree, args):
         stays = {PIECE: "piece-stays {0} {1}", UNDER: "tree-stays (under_kept {0}) {1}"}
         facts = [stays.get(sort, "early {0} {1}").format(name, bound) for name, sort, bound in placed(args, (TREE, OWN, PIECE, UNDER))]
-        return f"rw ({', '.join(facts)}) refl" if facts else "refl"
+        return rewritten(facts)
     # t is another tree here
     return node_cases("node-stays", [], ["b"], right, None, {(node, name): {"t": "x", "b": "y"}[name] for node, tree, args in nodes() for name, sort in args if name in ("t", "b")})
 

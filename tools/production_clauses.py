@@ -8,7 +8,7 @@ import vocabulary as words
 from cpp_trees import BYTES, DISCRIMINATOR, MARK, NUMBER, OUTSIDE, OWN, QUALIFIERS, SIGNED, TRUTH
 from files import read
 from meanings import makers
-from notation import applied, listed, snake
+from notation import answer, applied, listed, snake, together
 from splicing import WRITTEN
 from tree_clauses import SCOPED, SUBTREES
 
@@ -60,8 +60,7 @@ def built_good():
         scoped = [f"(all {i}).closed" for i, (name, sort) in enumerate(tree[1:]) if sort in SCOPED]
         scopes = [f"(all {i}).scopes n" for i, (name, sort) in enumerate(tree[1:]) if sort in SUBTREES]
         closed = "λ h. refl" if not scoped else scoped[0] if len(scoped) == 1 else f"λ h. {applied('or_no _ _', [f'({fact} h)' for fact in scoped])}"
-        joined = "tt" if not scopes else scopes[0] if len(scopes) == 1 else f"({', '.join(scopes)})"
-        lines.append(f"built_good s new_{tree[0]} xs all = record {{ closed = {closed}; scopes = λ n. {joined} }}")
+        lines.append(f"built_good s new_{tree[0]} xs all = record {{ closed = {closed}; scopes = λ n. {together(scopes)} }}")
     return lines
 
 # what reads an argument of a sort, annotated

@@ -1,6 +1,7 @@
 """What each of Rust's productions makes (rust_nodes.txt): from a production's node and tree to its function, in code and in definitions, and why the two
 agree."""
 from files import sections
+from notation import rewritten, together
 from rust_parts import WRITTEN, parts_of
 
 # ## What a production makes of its parts
@@ -60,8 +61,7 @@ def made_gives(made):
         front = f"{name}.1 {name}s {name}a"
     both = list(zip(made.names(), made.parts))
     nodes = [part.node.replace("@", name) for name, part in both if part.node]
-    needed = "tt" if not nodes else nodes[0] if len(nodes) == 1 else f"({', '.join(nodes)})"
-    facts = ", ".join(fact.replace("@", name) for name, part in both for fact in part.facts)
+    facts = [fact.replace("@", name) for name, part in both for fact in part.facts]
     values = " ".join(f"{name}v" for name, part in both)
-    lines.append(f"    (of_{made.of} (tree.{made.tree} {values}), refl, record {{ parts = {needed}; tree = rw ({facts}) refl }})" + ")" * len(both))
+    lines.append(f"    (of_{made.of} (tree.{made.tree} {values}), refl, record {{ parts = {together(nodes)}; tree = {rewritten(facts)} }})" + ")" * len(both))
     return "\n".join(lines)

@@ -1,5 +1,6 @@
 """What goes through Rust's nodes by their arguments alone: from the nodes that productions make (rust_made.py) to the clauses of rust_tree, and to
 the answers for the views of nodes."""
+from notation import rewritten, together
 from rust_made import NODES
 from rust_parts import BY_NAME, WRITTEN
 from rust_spelled import names_of
@@ -7,9 +8,8 @@ from rust_trees import FAMILIES, MUTUAL, NUMERIC
 
 # ## What goes through nodes by their arguments alone
 
-# the families whose nodes have texts, and the node of each family
+# the families whose nodes have texts
 TEXTUAL = ("path", "type", "bindings")
-NODE_OF = {"path": "Path", "arguments": "Arguments", "type": "Ty", "types": "Types", "bounds": "Bounds", "bindings": "Bindings"}
 SUBTREES = (*MUTUAL, "constant")
 
 def node_pattern(made): return f"({made.sort}.{made.variant} {' '.join('name disambiguator' if part.name == 'identifier' else field for field, part in zip(made.fields, made.parts))})"
@@ -48,7 +48,6 @@ def node_need(of, made):
     for k, more in enumerate(needed[1:]): whole = f"max {f'({whole})' if k else whole} {more}"
     return broken(f"{of}_need{'s' if of in ('path', 'type') else ''} nodes {node_pattern(made)} =", whole[1:-1] if len(needed) == 1 and whole[0] == "(" else whole)
 
-def rewritten(facts): return f"rw ({', '.join(facts)}) refl" if facts else "refl"
 def tree_grown(of, made):
     """That a node's tree stays as nodes are added."""
     return f"{of}_of-grown {'s text ' if of in TEXTUAL else ''}{node_pattern(made)} h = " + rewritten([f"{part.name}-same {field} {fact}" for part, field, fact in conditions(made) if part.name in SUBTREES])
@@ -60,7 +59,7 @@ def parts_grown(of, made):
     def grown(part, field, fact):
         return f"{part.name}-grown all more {field} {fact}" if part.name in SUBTREES else {"abi": f"HasAbi-grown abi {fact}", "binder": fact}.get(part.name, f"HasName-grown name {fact}")
     held = [grown(*one) for one in conditions(made)]
-    return broken(f"{of}_parts-grown {node_pattern(made)} h =", held[0] if len(held) == 1 else f"({', '.join(held)})", "  ")
+    return broken(f"{of}_parts-grown {node_pattern(made)} h =", together(held), "  ")
 
 def node_view(of, made):
     """What is seen of a node: its production, its numbers, its name and its parts."""

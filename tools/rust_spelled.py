@@ -3,6 +3,7 @@ to why what is pressed is read as the same tree."""
 from types import SimpleNamespace
 
 import rust_grammar
+from notation import dashed, together
 from rust_parts import BY_NAME, WRITTEN, parts_of
 
 # ## Sorts of values
@@ -59,7 +60,6 @@ def made_of_slots(made):
 BINDERS = ("Function", "Dyn")
 # what needs nothing to be spelled
 FREE = ("unsafe", "truth")
-def dashed(name): return name.replace("_", "-")
 
 def good_then(part):
     """That a part can be spelled where all can."""
@@ -81,7 +81,7 @@ def made_good(made):
         rest, good = f"r{k}", f"g{k}"
     goods = [(f"x{k}-is", part) for k, part in enumerate(made.parts)]
     spelled = [f"{fact}.0" if part.lifetimes else fact for fact, part in goods if part.name not in FREE]
-    spelled = "tt" if not spelled else spelled[0] if len(spelled) == 1 else f"({', '.join(spelled)})"
+    spelled = together(spelled)
     needed = ["arith"] + [f"{fact}.1" for fact, part in goods if part.lifetimes]
     own = spelled if made.of == "constant" else f"({spelled}, omega {'arith' if len(needed) == 1 else '(' + ', '.join(needed) + ')'})"
     ends = f"({spelled}, endings)" if made.of in ("path", "type", "constant") else "endings"
