@@ -4,7 +4,7 @@ import os
 import re
 
 from files import read, template
-from notation import applied, braced, camel
+from notation import answer, applied, braced, camel
 
 STORED, SHOWN = "c.stored.result c.stored.ensures.own _ c.stored.ensures.tree", "c.args.self.now c.args.ctx.detail"
 CONTEXT, DETAIL = "(context_of c.args.ctx)", "c.args.ctx.detail"
@@ -120,15 +120,15 @@ def of_pieces(matched, steps, function, parts):
         fact = f"ap (λ p. {told} (piece_shown c.args.self.now c.args.ctx p)) (sym c.in-{piece}.is)"
         text = TEXTS.format(steps[function, piece]) + " ∙ " if (function, piece) in steps else ""
         goal = f"returns-in-{piece}-clause-shows"
-        yield [f"pub {goal} : goal.{goal}", f"unfolding piece_of {parts.split()[0]} reargued", f"{goal} g c = fills {SHOWN} _ _ _ {added(*steps[function][piece])} ({text}{fact})"]
+        yield answer(goal, f" fills {SHOWN} _ _ _ {added(*steps[function][piece])} ({text}{fact})", f"piece_of {parts.split()[0]} reargued", "g c")
 
 def answers(matched, steps, function, parts, by):
     """Each arm's answer."""
     head = parts.split()[0]
-    unfolded = " ".join(filter(None, ["unfolding tree_of", head, by, "reargued"]))
+    unfolded = " ".join(filter(None, ["tree_of", head, by, "reargued"]))
     left = function in LEFT
     # a function's marks are shown as qualifiers are; what a tag comes to has its own lemma
-    special = {("fill_right", "FunctionType"): unfolded + " qualifier_text", ("fill_left", "Tagged"): "unfolding tree_of reargued"}
+    special = {("fill_right", "FunctionType"): unfolded + " qualifier_text", ("fill_left", "Tagged"): "tree_of reargued"}
     told = re.sub(r"\bd\b", DETAIL, re.sub(r"\bc\b", CONTEXT, parts))
     for node in matched[function]:
         if (function, node) in BY_HAND: continue
@@ -139,22 +139,22 @@ def answers(matched, steps, function, parts, by):
         if function == "fill_left": facts.append(f"ap (λ t. {told} t) (sym c.stored-stored.ensures.tree)")
         if not left: facts.append(f"ap (λ t. {applied_to(told, 't')}) (sym c.in-{node}.ensures.tree)")
         goal = f"returns-in-{node}-clause-shows"
-        yield [f"pub {goal} : goal.{goal}", special.get((function, node), unfolded), f"{goal} g c = fills {SHOWN} _ _ _ {adds} ({' ∙ '.join(facts)})"]
+        yield answer(goal, f" fills {SHOWN} _ _ _ {adds} ({' ∙ '.join(facts)})", special.get((function, node), unfolded), "g c")
 
 def default(function, lemma, variables, of_others, matched):
     goal = "returns-in_default" + ("" if function in VALUES else "-clause-shows")
     given = " ".join(["_ _ _ _", *(SAID[v] for v in variables)])
     fact = f"{lemma} {given} {STORED} {none(matched[function])}"
     last = " ∙ ap opening_text c.entities.invariant.last" if function == "ends_in_angle" else ""
-    if function in VALUES: return [f"pub {goal} : goal.{goal}", f"{goal} c = {fact}{last}"]
+    if function in VALUES: return answer(goal, f" {fact}{last}")
     parts = f"(starts {SHOWN} _)" if of_others == "[]" else f"c.{'fill_full' if function == 'fill_bare_of' else 'fill_as_left'}.ensures.shows"
-    return [f"pub {goal} : goal.{goal}", f"{goal} g c = fills {SHOWN} _ _ _ {parts} ({fact})"]
+    return answer(goal, f" fills {SHOWN} _ _ _ {parts} ({fact})", given="g c")
 
 def left_defaults(matched):
     name, type_, argument = LEFT
-    yield name, "fill_left_type-requires-clause-kind", f"g c = no-name c.stored-stored.result c.stored-stored.ensures.own {none(matched[name])}"
-    yield type_, "fill_left_argument-requires-clause-kind", f"g c = no-type c.args.node c.requires.kind {none(matched[type_])}"
-    yield argument, "returns-in_default-clause-shows", (f"g c = fills {SHOWN} _ _ _ (starts {SHOWN} _) (left-none _ _ _ _ {DETAIL} {CONTEXT} c.args.node (no-type-flat c.args.node c.requires.kind) c.requires.kind"
+    yield name, "fill_left_type-requires-clause-kind", f"no-name c.stored-stored.result c.stored-stored.ensures.own {none(matched[name])}"
+    yield type_, "fill_left_argument-requires-clause-kind", f"no-type c.args.node c.requires.kind {none(matched[type_])}"
+    yield argument, "returns-in_default-clause-shows", (f"fills {SHOWN} _ _ _ (starts {SHOWN} _) (left-none _ _ _ _ {DETAIL} {CONTEXT} c.args.node (no-type-flat c.args.node c.requires.kind) c.requires.kind"
         f" {none(matched[argument])})")
 
 def matches(crates):
@@ -172,10 +172,10 @@ def files(crates, types):
     matched, steps = matches(crates)
     written = []
     place = "cpp_layout/proofs/symbol/Symbol/{0}/Answers.antt".format
-    for function in LEFT: written += [(place(function), answer) for answer in answers(matched, steps, function, "left_parts d c", "")]
+    for function in LEFT: written += [(place(function), lines) for lines in answers(matched, steps, function, "left_parts d c", "")]
     for function, lemma, variables, of_others, of_tree, by in WHOLE:
-        if function not in VALUES: written += [(place(function), answer) for answer in answers(matched, steps, function, of_tree, by)]
+        if function not in VALUES: written += [(place(function), lines) for lines in answers(matched, steps, function, of_tree, by)]
         written.append((place(function), default(function, lemma, variables, of_others, matched)))
-    for function, parts in PIECES: written += [(place(function), answer) for answer in of_pieces(matched, steps, function, parts)]
-    for function, goal, answer in left_defaults(matched): written.append((place(function), [f"pub {goal} : goal.{goal}", f"{goal} {answer}"]))
+    for function, parts in PIECES: written += [(place(function), lines) for lines in of_pieces(matched, steps, function, parts)]
+    for function, goal, shown in left_defaults(matched): written.append((place(function), answer(goal, f" {shown}", given="g c")))
     return others(matched, types), written, matched
