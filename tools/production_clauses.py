@@ -6,10 +6,9 @@ import family_code
 import grammar
 import vocabulary as words
 from cpp_trees import BYTES, DISCRIMINATOR, MARK, NUMBER, OUTSIDE, OWN, QUALIFIERS, SIGNED, TRUTH
-from files import read
+from files import read, template
 from meanings import makers
-from notation import answer, applied, listed, snake, together
-from splicing import WRITTEN
+from notation import applied, listed, snake, together
 from tree_clauses import SCOPED, SUBTREES
 
 # What is read of a value's parts, and of the arguments of a tree, with arguments in its parameters: of a tree it is annotated.
@@ -100,11 +99,6 @@ def is_rare():
     """That a production which is none of the common ones is rare."""
     return [f"is_rare Production.{p} other = absurd (other.not_{snake(p)} refl)" for p in words.COMMON] + ["is_rare _ other = tt"]
 
-def rare_answers(function, goal, before, production, after, imports=(), others=()):
-    """The answer that a production is rare, after the arms of all that are common, and others."""
-    return "\n".join([f"-- {WRITTEN}", *imports, "use Rattle.cpp_link.proofs.Making.{is_rare}", f"use Rattle.cpp_link.proofs.linked.Linked.{function}.Goals as goal", "",
-        f"pub {goal} : goal.{goal}", f"{goal} c = {before}is_rare {production} (record {{", *[f"  not_{snake(p)} = c.in_default.not-{p};" for p in words.COMMON], "})" + after, *others]) + "\n"
-
 # ## Families of rare productions
 
 def families():
@@ -113,49 +107,32 @@ def families():
 
 def family_specs(found):
     """The family of each production."""
-    return "\n".join([f"-- {WRITTEN} The families of productions, by what they stand for.", "use Rattle.cpp_grammar.specs.declared.production.Production.{Production}",
-        "use Rattle.cpp_link.specs.declared.families.Family.{Family}", "", "unfoldable pub family_of : Production → Family",
-        *[f"family_of Production.{p} = Family.{family}" for family, productions in found.items() for p in productions]]) + "\n"
+    return template("cpp_link/Families.antt", clauses=[f"family_of Production.{p} = Family.{family}" for family, productions in found.items() for p in productions])
+
+def family_law(family, productions):
+    """That a production of a family is one of those that its function has an arm for, and that one of the family Common isn't rare."""
+    name, is_common = snake(family), family == "Common"
+    others = ["rare"] if is_common else [f"n{i}" for i in range(len(productions))]
+    refuted = ["rare"] * len(productions) if is_common else [f"{other} refl" for other in others]
+    premises = " → IsRare p" if is_common else "".join(f"\n    → (p ≡ Production.{p} → ⊥)" for p in productions) + "\n   "
+    clauses = [applied(name, [f"Production.{p}", "is", *others]) + f" = {absurd}" for p, absurd in zip(productions, refuted)]
+    return template("cpp_link/family_law.antt", family=family, name=name, premises=premises, others=" ".join(others), clauses=clauses).rstrip("\n")
 
 def family_laws(found):
-    """That a production of a family is one of those that its function has an arm for, and that one of the family Common isn't rare."""
-    lines = [f"-- {WRITTEN} A production of a family is one of those that its function has an arm for.", "use Rattle.std.proofs.Common.{◌≡◌, refl, sym, subst}",
-        "use Rattle.cpp_grammar.specs.declared.production.Production.{Production}", "use Rattle.cpp_link.specs.declared.families.Family.{Family}",
-        "use Rattle.cpp_link.specs.Families.{family_of}", "use Rattle.cpp_link.specs.Making.{IsRare}"]
-    for family, productions in found.items():
-        name, others = snake(family), [f"n{i}" for i in range(len(productions))]
-        lines += ["", f"abbrev Is{family} : Family → Type 0", f"Is{family} Family.{family} = Unit {{0}}", f"Is{family} _ = ⊥", ""]
-        if family == "Common":
-            lines += [f"pub {name} : (p : Production) → family_of p ≡ Family.{family} → IsRare p → ⊥", "unfolding family_of", *[f"{name} Production.{p} is rare = rare" for p in productions],
-                f"{name} _ is rare = subst Is{family} (sym is) tt"]
-        else:
-            lines += [f"pub {name} : (p : Production) → family_of p ≡ Family.{family}", *[f"    → (p ≡ Production.{p} → ⊥)" for p in productions], "    → ⊥", "unfolding family_of",
-                *[applied(name, [f"Production.{p}", "is", *others]) + f" = {other} refl" for p, other in zip(productions, others)],
-                applied(name, ["_", "is", *others]) + f" = subst Is{family} (sym is) tt"]
-    return "\n".join(lines) + "\n"
+    """The same of each family."""
+    return template("cpp_link/FamilyArms.antt", laws=[family_law(*one) for one in found.items()])
 
 def family_answers(family, productions):
     """The answer that a family's function has an arm for each of its productions."""
-    return "\n".join([f"-- {WRITTEN}", f"use Rattle.cpp_link.proofs.FamilyArms.{{{snake(family)}}}", f"use Rattle.cpp_link.proofs.linked.Linked.outcome_of_{snake(family)}.Goals as goal", "",
-        "pub unreachable-requires : goal.unreachable-requires", f"unreachable-requires c = {snake(family)} c.args.production c.requires.family", *[f"    c.in_default.not-{p}" for p in productions]]) + "\n"
+    return template("cpp_link/unreachable.antt", name=snake(family), others=[f"    c.in_default.not-{p}" for p in productions])
 
-# the ABI's reading refuses a constructor that is inherited
-UNREAD_IMPORTS = ["use Rattle.std.proofs.Common.{sym, ◌∙◌}", "use Rattle.cpp_link.proofs.Inherited.{inheriting_unread}"]
-UNREAD_ANSWER = ["", "pub returns-in-Inheriting-clause-closes : goal.returns-in-Inheriting-clause-closes", "returns-in-Inheriting-clause-closes c =",
-    "    inheriting_unread c.args.symbol.now c.args.self.now c.args.self.now c.args.frame.now c.args.parts.now.items c.args.parts.now.items (sym c.production_of-production.ensures ∙ c.in-Inheriting.is)"]
-
-def handed_answers():
-    """What `finish_rule` hands to `finish_as`, and what it has from it, passed on."""
-    had = " ".join(f"{clause} = had.{clause};" for clause in ("closes", "adds", "few", "makes", "pays", "roomy")).rstrip(";")
-    given = "; ".join(f"{clause} = c.requires.{clause}" for clause in ("room", "«open»", "base", "place"))
-    lines = []
-    for p in words.COMMON:
-        at = "" if p == words.COMMON[0] else f"-in-{p}"
-        requires, returns = f"finish_as-requires{at}", f"returns-in-{p}"
-        lines += ["", f"pub {requires} : goal.{requires}", f"{requires} c =",
-            f"    record {{ common = λ rare. rare; numbered = sym c.in-{p}.is ∙ c.production_of-production.ensures; {given} }}",
-            "", f"pub {returns} : goal.{returns}", f"{returns} c =", f"    let had = c.finish_as{at}.ensures in", f"    record {{ {had} }}"]
-    return lines
+def common_answers():
+    """The paths and the answers of the functions that have an arm for each common production: others are rare. What `finish_rule` hands to
+    `finish_as`, and what it has from it, is passed on; the ABI's reading refuses a constructor that is inherited."""
+    others = [f"  not_{snake(p)} = c.in_default.not-{p};" for p in words.COMMON]
+    handed = [template("cpp_link/handed.antt", production=p, at="" if p == words.COMMON[0] else f"-in-{p}").rstrip("\n") for p in words.COMMON]
+    yield "outcome", template("cpp_link/outcome.antt", others=others)
+    yield "finish_rule", template("cpp_link/finish_rule.antt", others=others, handed=handed)
 
 def arms(function, productions):
     """The arms of a match that hand these productions to a function, as rt fmt lays them out."""

@@ -18,8 +18,7 @@ from node_clauses import NODE_TYPES, by_nodes, noted_nodes
 from node_code import nodes
 from notation import snake
 from production_clauses import (
-    READ_OF_ARGUMENTS, READ_OF_VALUES, UNREAD_ANSWER, UNREAD_IMPORTS, arms, families, family_answers, family_laws, family_specs, handed_answers,
-    rare_answers, read_noted,
+    READ_OF_ARGUMENTS, READ_OF_VALUES, arms, common_answers, families, family_answers, family_laws, family_specs, read_noted,
 )
 from splicing import WRITTEN, extended, rewritten, with_arms, with_constants, with_declarations, with_imports, with_requires
 
@@ -44,14 +43,12 @@ def arms_by_production(found):
 def whole_files(crates):
     """The files of which all is written, by their paths in the folder of the crates, and their texts."""
     found = families()
-    unread = rare_answers("finish_rule", "finish_rare-requires-clause-rare", "", "c.production_of-production.result", "", UNREAD_IMPORTS, [*UNREAD_ANSWER, *handed_answers()])
     return {
         "cpp_link/specs/Families.antt": family_specs(found),
         "cpp_link/proofs/FamilyArms.antt": family_laws(found),
         **{f"{LINKED}/outcome_of_{snake(family)}/Answers.antt": family_answers(family, productions) for family, productions in found.items() if family != "Common"},
         **{path: "\n".join([f"-- {WRITTEN}", *lines]) + "\n" for path, lines in step_code.answers()},
-        f"{LINKED}/finish_rule/Answers.antt": unread,
-        f"{LINKED}/outcome/Answers.antt": rare_answers("outcome", "unreachable-requires", "c.requires.common (", "c.args.production", ")"),
+        **{f"{LINKED}/{function}/Answers.antt": text for function, text in common_answers()},
         "cpp_tree/proofs/nodes/Nodes/noted/Answers.antt": node_answers.noted(crates, [node for node, args in noted_nodes()]),
         "cpp_tree/proofs/view/view_of_own/Answers.antt": node_answers.seen(),
     }
