@@ -11,7 +11,7 @@ import os
 import sys
 
 sys.path.insert(0, os.path.join(os.path.dirname(os.path.abspath(__file__)), "..", "tools"))
-from loading import load
+from files import load
 
 LIMIT = 1_000_000
 CHANGES = (("cut", None), ("put !", b"!"), ("put 0", b"0"), ("put ff", b"\xff"))

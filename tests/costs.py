@@ -15,7 +15,7 @@ import os
 import sys
 
 sys.path.insert(0, os.path.join(os.path.dirname(os.path.abspath(__file__)), "..", "tools"))
-from loading import load
+from files import load
 
 OK, TOO_LONG = 0, 4
 REFUSED = {"Malformed": 1, "BadReference": 2, "BadValue": 3}

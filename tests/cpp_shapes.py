@@ -7,7 +7,7 @@ import os, shlex, subprocess, sys
 
 HERE = os.path.dirname(os.path.abspath(__file__))
 sys.path.insert(0, os.path.join(HERE, "..", "tools"))
-from loading import load
+from files import load
 
 def wanted(reference, table, symbol):
     try: reference.shape(table, symbol)

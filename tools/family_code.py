@@ -158,15 +158,13 @@ def function(family, says, productions, rows, node_of):
     arms = []
     for p in productions:
         arms += [f"            // {line}" for line in ABOVE.get(p, [])]
-        arms += arm(p, outcome(rows[p]["means"], node_of))
+        arms += arm(p, outcome(rows[p].means, node_of))
     is_asked = any(re.search(r"\bbyte\b", a) for a in arms if "//" not in a)
     return template("cpp_link/family.rt", says=says, name=snake(family), family=family, byte="        let byte = symbol[place as usize];\n" if is_asked else "", arms=arms).rstrip("\n")
 
 def files():
     """What is written: each file's path in the folder of the crates, and its text."""
-    grammar.build(widened=True)
-    rows = dict(grammar.ROWS)
-    grammar.build()
+    _, _, rows = grammar.wide()
     node_of = {tree: (node, [name for name, _, _ in node_code.fields(tree, given)]) for node, tree, given in node_code.nodes()}
     for module, families in FAMILIES.items():
         functions = "\n\n".join(function(family, says, productions, rows, node_of) for family, (says, productions) in families.items())

@@ -1,7 +1,9 @@
-"""Reads the files that the scripts take, tables among them, and fills the templates of what they write."""
+"""Reads the files that the scripts take, tables and modules among them, and fills the templates of what they write."""
+import importlib.util
 import os
 import re
 import shlex
+import sys
 from functools import lru_cache
 
 TABLES, TEMPLATES = (os.path.join(os.path.dirname(os.path.abspath(__file__)), folder) for folder in ("tables", "templates"))
@@ -14,6 +16,22 @@ def read(path, otherwise=NOTHING):
         return otherwise
     with open(path, encoding="utf-8", errors="replace") as file:
         return file.read()
+
+
+def sources(folder):
+    """The path of each source below a folder, but for what checks leave in `out`."""
+    for at, folders, names in os.walk(folder):
+        folders[:] = [name for name in folders if name != "out"]
+        yield from (os.path.join(at, name) for name in sorted(names) if name.endswith((".rt", ".antt")))
+
+
+def load(path):
+    """The Python module at a path."""
+    spec = importlib.util.spec_from_file_location(os.path.basename(path)[:-3], path)
+    module = importlib.util.module_from_spec(spec)
+    sys.modules[spec.name] = module
+    spec.loader.exec_module(module)
+    return module
 
 
 @lru_cache(maxsize=None)

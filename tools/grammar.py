@@ -6,6 +6,7 @@
 
 The rules are in the tables that rules.py reads."""
 import sys
+from functools import lru_cache
 
 import grammar_code
 import meanings
@@ -13,11 +14,21 @@ import words
 from grammar_laws import begins_symbol, empty, klass, laws, sym_class
 from rules import DECIMAL, DIGITS, K, MARKED, NAME, P, ROWS, SEQ36, build
 
+
 def rows():
     """What each production does."""
     if not ROWS:
         build()
     return meanings.rows({production: ROWS[production] for production in P})
+
+
+@lru_cache(maxsize=None)
+def wide():
+    """The wide grammar: its kinds, its productions, and what each of these does."""
+    build(widened=True)
+    found = dict(K), dict(P), rows()
+    build()
+    return found
 
 
 def lawful(extended=True, widened=False):

@@ -36,9 +36,7 @@ SLACK_BASE = 10
 
 def slack():
     """Of each kind, as few as its productions allow: cpp_link's Bound proves that these suffice."""
-    grammar.build(widened=True)
-    kinds, productions, rows = dict(grammar.K), dict(grammar.P), grammar.rows()
-    grammar.build()
+    kinds, productions, rows = grammar.wide()
     def needed(p, least):
         eats, symbols = productions[p]
         parts = (least[s] - SLACK_BASE if s in kinds else -4 if s == grammar.NAME else -2 for s in symbols)
@@ -146,11 +144,9 @@ def may_leave(crates):
     text = read(f"{crates}/cpp_link/proofs/CandidatesFew.antt")
     kinds = set(re.findall(r"nat_eq k (\w+)", re.search(r"^becomes_candidate k =\n((?:    .*\n)+)", text, re.M)[1]))
     names = set(re.findall(r"^makes_name Production\.(\w+) = true$", text, re.M))
-    grammar.build(widened=True)
-    begun = {p for kind, (empty, alternatives) in grammar.K.items() if snake(kind).upper() in kinds for on, p in alternatives} - names
-    leaving = [p for p in grammar.P if p in begun]
-    grammar.build()
-    return by_production("may_leave", {p: "true" for p in leaving}, "false")
+    rules, productions, _ = grammar.wide()
+    begun = {p for kind, (empty, alternatives) in rules.items() if snake(kind).upper() in kinds for on, p in alternatives} - names
+    return by_production("may_leave", {p: "true" for p in productions if p in begun}, "false")
 
 # how many nodes code of its own makes of the values of its parts, where that isn't always as many as its row says
 MAKES_AT_END = {"closure": "lambda_at_end known", "inheriting": "inheriting_at_end (part known 1)", "by_letters": "operation_at_end (part known 0)", "enclosed": "enclosed_at_end known",

@@ -6,7 +6,7 @@ the pressed spelling; GENERATOR is one with symbols(seed, count, lang, mode, siz
 symbols that are printed are in cpp_symbols.txt, those that are pressed in crates/check_rows/stdin."""
 import os, re, sys
 
-from loading import load
+from files import load
 
 HERE = os.path.dirname(os.path.abspath(__file__))
 

@@ -68,9 +68,7 @@ def is_name(step): return step.startswith("becomes ") and step.split()[-2] == "t
 
 def steps():
     """What is done before each of the five parts, by production."""
-    grammar.build(widened=True)
-    rows = grammar.rows()
-    grammar.build()
+    _, _, rows = grammar.wide()
     return {p: [row.before[i] if i < len(row.before) else row.onward for i in range(5)] for p, row in rows.items()}
 
 def of_function(found):
@@ -173,8 +171,6 @@ def flow(p, row, parts):
 
 def flows():
     """How candidates flow, for each production of which its row says it."""
-    grammar.build(widened=True)
-    rows, productions = grammar.rows(), dict(grammar.P)
-    grammar.build()
+    _, productions, rows = grammar.wide()
     found = {p: flow(p, row, productions[p][1]) for p, row in rows.items()}
     return [f"flows Production.{p} around place = {lemma}" for p, lemma in found.items() if lemma]

@@ -6,16 +6,12 @@ Names are compared as words, so a definition that shares its name with another t
 are computed and used by nothing. A crate may have to list one that it doesn't name, where a clause of a lower one speaks of it: try."""
 import collections, os, re, sys
 
+from files import sources
+
 DEFINED = re.compile(r"^(?:(?:abbrev|unfoldable|pub) )*([^\s:(){}\[\],;.=]+) : ", re.M)
 WORD = re.compile(r"[^\s(){}\[\],;.|λ↦=\"]+")
 # what the prover calls for, and rows
 LEFT_OUT = re.compile(r"(Answers|Invariants|Proof|Lib)\.antt$|(Rows?|Limits|Presses|KindNumbers)\.antt$|/Rows/")
-
-def sources(crate):
-    for at, folders, names in os.walk(crate):
-        folders[:] = [f for f in folders if f != "out"]
-        for name in sorted(names):
-            if name.endswith((".rt", ".antt")): yield os.path.join(at, name)
 
 def words(text):
     return collections.Counter(w for line in text.split("\n") if not line.lstrip().startswith(("--", "//")) for w in WORD.findall(line))
