@@ -62,6 +62,10 @@ def meant(row):
     said = {name: forms[sort].format(name) for name, sort in row.takes if sort in forms}
     return {**said, "c": "(context_of ctx)", "d": "detail" if row.is_encoding else "ctx.detail"}
 
+# what adds what, and what it is given beside that
+CALLS = {"first*": ("push_list", "form::FIRST", "ctx"), "prefix": ("push_prefix", "ctx"), "clone": ("push_clone_suffix",), "own": ("push_own_text",),
+         "operand": ("fill_operand", "ctx"), **{word: (f"push_{word}",) for word in ("text", "bytes", "decimal", "some", "suffix")}}
+
 def steps(row):
     """What is added from first to last, each the function, what it is given, and whether it is a text that may be empty; and the node of which is asked whether it is a function."""
     sorts, added, asked = dict(row.takes), [], None
@@ -76,12 +80,7 @@ def steps(row):
         elif head in ("left", "right", "base", "piece", "full", "bare"):
             closed = of_encoding or sorts[rest[0]] == "whole"
             call = ("push_closed", [*rest, f"form::{head.upper()}", "detail" if of_encoding else "ctx.detail"]) if closed else ("push_item", [*rest, f"form::{head.upper()}", "0", "ctx"])
-        elif head == "first*": call = "push_list", [*rest, "form::FIRST", "ctx"]
-        elif head == "prefix": call = "push_prefix", [*rest, "ctx"]
-        elif head in ("text", "bytes", "decimal", "some", "suffix"): call = f"push_{head}", rest
-        elif head == "clone": call = "push_clone_suffix", rest
-        elif head == "own": call = "push_own_text", rest
-        elif head == "operand": call = "fill_operand", [*rest, "ctx"]
+        elif head in CALLS: call = CALLS[head][0], [*rest, *CALLS[head][1:]]
         else: call = "push_text", [text(head)]
         added.append((*call, step.startswith("part ")))
     return added, asked
@@ -89,35 +88,30 @@ def steps(row):
 # what is told of the parts that were there: the functions that add parts of one detail alone are told no detail
 TOLD = {"push_item": "_ _", "push_closed": "_ _", "push_list": "_ _", "push_prefix": "_ _", "fill_operand": "_ _"}
 
+REQUIRED = {"an encoding": [], None: [], "its own": ["own { is_again (entry_at self.now.table.nodes node).node ≡ false }"], "a table": ["table { IsTable (table_of self.now) }"]}
+OF_SORTS = {"tree": "{0} {{ {0} < length self.now.table.nodes }}", "bytes": "{0} {{ IsWithin {0} self.now.bytes }}", "signed": "digits {{ IsWithin {0}.digits self.now.bytes }}",
+            "text": "{0} {{ 0 < length (fixed_text {0}) }}"}
+OF_SORTS["whole"] = OF_SORTS["tree"]
+
 def function_of(row):
     """The function."""
     added, asked = steps(row)
-    given = [f"{argument}: {SORTS.get(sort, sort)}" for argument, sort in row.takes] + ["detail: Detail" if row.is_encoding else "ctx: Context"]
+    given = ["&self", "parts: &mut S", *[f"{argument}: {SORTS.get(sort, sort)}" for argument, sort in row.takes], "detail: Detail" if row.is_encoding else "ctx: Context"]
     head = f"    pub(crate) fn {row.name}<S: PartList<Context>>("
-    line = head + ", ".join(["&self", "parts: &mut S", *given]) + ")"
-    yield from [f"    /// {row.says}", *([f"    // {row.source}"] if row.source else [])]
-    yield from [line] if len(line) <= 100 else [head, *[f"        {g}," for g in ["&self", "parts: &mut S", *given]], "    )"]
-    if not row.is_encoding: yield "        requires context { IsThereBelow (length self.now.table.nodes) ctx.argument }"
-    if row.of == "its own": yield "        requires own { is_again (entry_at self.now.table.nodes node).node ≡ false }"
-    if row.of == "a table": yield "        requires table { IsTable (table_of self.now) }"
-    for argument, of in row.takes:
-        if of in ("tree", "whole"): yield f"        requires {argument} {{ {argument} < length self.now.table.nodes }}"
-        if of == "bytes": yield f"        requires {argument} {{ IsWithin {argument} self.now.bytes }}"
-        if of == "signed": yield f"        requires digits {{ IsWithin {argument}.digits self.now.bytes }}"
-        if of == "text": yield f"        requires {argument} {{ 0 < length (fixed_text {argument}) }}"
+    whole = f"{head}{', '.join(given)})"
+    required = [*([] if row.is_encoding else ["context { IsThereBelow (length self.now.table.nodes) ctx.argument }"]), *REQUIRED[row.of],
+                *[OF_SORTS[sort].format(argument) for argument, sort in row.takes if sort in OF_SORTS]]
+    head = [*([f"    // {row.source}"] if row.source else []), *([whole] if len(whole) <= 100 else [head, *[f"        {argument}," for argument in given], "    )"]),
+            *[f"        requires {clause}" for clause in required]]
+    calls = [*([f"        let is_function = self.is_function({asked}, ctx);"] if asked else []),
+             *(["        let operation = operation_of(first, second);"] if "operation." in row.adds else []),
+             *[f"        self.{call}({', '.join(['parts', *what])});" for call, what, part in reversed(added)]]
     said = meant(row)
-    yield "        requires room { 8 ≤ S.room parts.old }"
-    yield f"        ensures shows {{ Shows self.now {said['d']} (S.held parts.old) (S.held parts.new) ({row.shows.format(**said)}) }}"
-    yield "        ensures few { S.room parts.old ≤ S.room parts.new + 8 }"
-    yield "    {"
-    if asked: yield f"        let is_function = self.is_function({asked}, ctx);"
-    if "operation." in row.adds: yield "        let operation = operation_of(first, second);"
-    for call, what, part in reversed(added): yield f"        self.{call}({', '.join(['parts', *what])});"
-    yield "    }"
+    return template("cpp_layout/shown.rt", says=row.says, head=head, detail=said["d"], shows=row.shows.format(**said), calls=calls)
 
 def code():
     """The code of all rows."""
-    functions = "\n\n".join("\n".join(function_of(row)) for row in ROWS)
+    functions = "\n".join(map(function_of, ROWS)).rstrip("\n")
     ghosts = "\n".join(f"{line};" for line in imports(NAMES, functions, "ghost use"))
     return template("cpp_layout/printed.rt", ghosts=ghosts, functions=functions)
 

@@ -2,6 +2,7 @@
 Each is at the end of a declaration of cpp_press_laws or cpp_spelling whose first clauses are by hand: trees.py writes them there."""
 import re
 
+from files import template
 from notation import braced
 from cpp_trees import FITTING, SPELLED
 
@@ -219,25 +220,15 @@ TYPED = {"digits": "(digits : List ℕ) ", "q": "(q : Qualifiers) "}
 
 def lemmas(trees):
     """Path, and the lemma of each of them."""
-    for tree, shape, sort, parts, nowhere in rows(trees):
-        if tree[0] not in FITTING: continue
-        front, a = parts
-        tests, slot = needed(tree)
-        own, bytes_ = tree[0].replace("_", "-"), braced(front.text)
-        names = [name for name, sort in tree[1:] if name != a.tree]
-        binders, given = "".join(TYPED[name] for name in names), "".join(name + " " for name in names)
+    for tree, shape, sort, (front, *after), nowhere in ((*row[:3], row[3] or [None], row[4]) for row in rows(trees)):
+        tests, slot = needed(tree) if tree[0] in FITTING else ([], None)
         if not tests or slot != "any_type": continue
-        known = "".join(f"{test} → " for test in tests[1:])
-        facts = ", ".join(["take", *("digit" for test in tests[1:]), "fits"])
-        premises = " × ".join([f"({tests[0]})", *tests[1:], f"(fits_of type).as_type any_type inner allowed (place + length {bytes_}) cs"])
-        yield "cpp_press_laws/proofs/Fits/Types.antt", [
-            f"pub {own}-fits : (around : Around) {binders}(type : Term) (old new : State) → {known}TypeFits around any_type type old new",
-            f"    → SolidFits takes_all around (tree {shape} false) old new",
-            "unfolding fits_of type_fits fits_nowhere ways_of type_ways no_ways is_open pack_length with_type with_unqualified is_function_type tree_of is_listed",
-            f"{own}-fits around {given}type old new {'digit ' if known else ''}one =", f"    one-part takes_all around {shape} type {bytes_} (λ slot inner allowed place cs. {premises}) old new",
-            "    (record {", "      is = tt;", f"      keeps = λ n. bytes-keep n {shape} type {bytes_} (λ x w. inr w);", "      function = tt;",
-            f"      whole = λ slot n. typed-complete {shape} (λ m. refl) slot (pressed_at n around);",
-            f"    }}) refl (λ arguments. refl) (λ slot take n allowed place cs fits. ({facts})) one"]
+        own, bytes_ = tree[0].replace("_", "-"), braced(front.text)
+        names = [name for name, sort in tree[1:] if name != after[0].tree]
+        premises = [f"({tests[0]})", *tests[1:], f"(fits_of type).as_type any_type inner allowed (place + length {bytes_}) cs"]
+        lemma = template("cpp_press_laws/fits.antt", own=own, shape=shape, bytes=bytes_, binders="".join(TYPED[name] for name in names), given="".join(f"{name} " for name in names),
+                         known="".join(f"{test} → " for test in tests[1:]), digit="digit " * len(tests[1:]), premises=" × ".join(premises), facts=", ".join(["take", *["digit"] * len(tests[1:]), "fits"]))
+        yield "cpp_press_laws/proofs/Fits/Types.antt", lemma.rstrip("\n").split("\n")
 
 def declarations(trees):
     """Path, name, and the lines at its end."""
