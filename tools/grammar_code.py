@@ -1,5 +1,7 @@
 """Writes the code and the definitions that hold C++'s grammar: from the table of rules.py and its laws to the files of cpp_grammar, by the
 templates of templates/cpp_grammar. grammar.py calls it, once for each of the grammars."""
+import os
+
 from files import template
 from grammar_laws import klass, sym_class
 from notation import listed, runs, snake
@@ -10,9 +12,9 @@ from table_code import FIRST, LAST, after_each, letter_rows, symbol_row
 FIRST_LETTER = ord("!")
 
 
-def filled(name, **holes):
-    """A template of cpp_grammar, filled."""
-    return template(f"cpp_grammar/{name}", **holes)
+def filled(path, **holes):
+    """A file of cpp_grammar by its template: its path and its text."""
+    yield f"cpp_grammar/{path}", template(f"cpp_grammar/{os.path.basename(path)}", **holes)
 
 
 def on(chars, production):
@@ -59,29 +61,13 @@ def rust_letters(name):
             *letter_rows(name, kinds), "];"]
 
 
-def rust_rules(table, letters_of):
+def rust_rules(of, letters_of):
     """The calls that look a rule up."""
-    return filled("rules.rt", table=table, letters=letters_of, count=str(len(P))).rstrip("\n")
+    return template("cpp_grammar/rules.rt", table=of, letters=letters_of, count=str(len(P))).rstrip("\n")
 
 
-def rust_kinds():
-    """The kinds, as an enum."""
-    return filled("kind.rt", kinds=[f"    {kind}," for kind in K], numbered=[f"        {i} => Some(Kind::{kind})," for i, kind in enumerate(K)],
-                  empty=[f"        Kind::{kind} => true," for kind, (may_be_empty, _) in K.items() if may_be_empty])
-
-
-def rust_productions():
-    """The productions, as an enum."""
-    return filled("production.rt", productions=[f"    {production}," for production in P])
-
-
-def rust_wide_table():
-    """The rule that a kind of the wide grammar takes at a byte."""
-    return filled("wide_table.rt", letters=rust_letters("WIDE_LETTERS"), rules=rust_rules("wide", "WIDE_LETTERS"))
-
-
-def rust_table():
-    """The same of the ABI's grammar, with the rules' symbols."""
+def table():
+    """What the table of the ABI's grammar is filled with: the rule that a kind takes at a byte, and the rules' symbols."""
     used = {symbol for _, symbols in P.values() for symbol in symbols}
     constants = [f"const {snake(symbol).upper()}: Sym = {rust_symbol(symbol)};\n" for symbol in [*[kind for kind in K if kind in used], *TOKENS]]
     first = ["/// The letter of the production with number 0; the others have the letters after it, in the order of their numbers.",
@@ -91,40 +77,51 @@ def rust_table():
     def cells(symbols):
         return [f"Sym::Byte(b{symbol})" if sym_class(symbol) == "byte" else snake(symbol).upper() for symbol in symbols]
 
-    return filled("table.rt", constants=constants, first=first, letters=rust_letters("LETTERS"), count=str(len(P)), heads=heads,
-                  symbols=[symbol_row(cells(symbols), f"{letter(i)} {production}") for i, (production, (_, symbols)) in enumerate(P.items())],
-                  **after_each([symbols for _, symbols in P.values()]), rules=rust_rules("abi", "LETTERS"))
+    rows = [symbol_row(cells(symbols), f"{letter(i)} {production}") for i, (production, (_, symbols)) in enumerate(P.items())]
+    return {"constants": constants, "first": first, "letters": rust_letters("LETTERS"), "count": str(len(P)), "heads": heads, "symbols": rows,
+            **after_each([symbols for _, symbols in P.values()]), "rules": rust_rules("abi", "LETTERS")}
 
 
-def antt_grammar():
-    """The grammar as definitions."""
-    return filled("Grammar.antt", kind_numbers=[f"number_of_kind Kind.{kind} = {i}" for i, kind in enumerate(K)],
-                  alternatives=[f"alternatives Kind.{kind} = {found}" for kind, found in alternatives().items()],
-                  parts=[f"parts_of Production.{production} = {listed(map(antt_symbol, symbols))}" for production, (_, symbols) in P.items()],
-                  chains=[f"is_chain Production.{production} = true" for production, (ate, _) in P.items() if not ate],
-                  empty=[f"may_be_empty Kind.{kind} = true" for kind, (may_be_empty, _) in K.items() if may_be_empty],
-                  kinds=listed(f"Kind.{kind}" for kind in K), productions=listed(f"Production.{production}" for production in P),
-                  numbers=[f"number_of Production.{production} = {i}" for i, production in enumerate(P)])
+def of_kinds(function, values):
+    """A clause for each of these kinds."""
+    return [f"{function} Kind.{kind} = {value}" for kind, value in values.items()]
 
 
-def antt_kind_numbers():
-    """The numbers of the kinds, as definitions."""
-    kinds = "\n\n".join(f"abbrev pub {snake(kind).upper()} : ℕ\n{snake(kind).upper()} = {i}" for i, kind in enumerate(K))
-    return filled("KindNumbers.antt", kind_count=str(len(K)), production_count=str(len(P)), kinds=kinds)
+def of_productions(function, values):
+    """A clause for each of these productions."""
+    return [f"{function} Production.{production} = {value}" for production, value in values.items()]
 
 
-def antt_follow(after, depth, height):
-    """What may come after each kind, and how its trees are bounded."""
+def numbered(names):
+    """Each name with its number."""
+    return {name: number for number, name in enumerate(names)}
+
+
+def abi_files():
+    """The files of the grammar that is entered: its kinds and productions, its table, and the same as definitions."""
+    may_be_empty = [kind for kind, (empty, _) in K.items() if empty]
+    names = "\n\n".join(f"abbrev pub {snake(kind).upper()} : ℕ\n{snake(kind).upper()} = {i}" for i, kind in enumerate(K))
+    yield from filled("src/kind.rt", kinds=[f"    {kind}," for kind in K], numbered=[f"        {i} => Some(Kind::{kind})," for i, kind in enumerate(K)],
+                      empty=[f"        Kind::{kind} => true," for kind in may_be_empty])
+    yield from filled("src/production.rt", productions=[f"    {production}," for production in P])
+    yield from filled("src/table.rt", **table())
+    yield from filled("specs/Grammar.antt", kind_numbers=of_kinds("number_of_kind", numbered(K)), alternatives=of_kinds("alternatives", alternatives()),
+                      parts=of_productions("parts_of", {production: listed(map(antt_symbol, symbols)) for production, (_, symbols) in P.items()}),
+                      chains=of_productions("is_chain", {production: "true" for production, (ate, _) in P.items() if not ate}),
+                      empty=of_kinds("may_be_empty", dict.fromkeys(may_be_empty, "true")), kinds=listed(f"Kind.{kind}" for kind in K),
+                      productions=listed(f"Production.{production}" for production in P), numbers=of_productions("number_of", numbered(P)))
+    yield from filled("specs/KindNumbers.antt", kind_count=str(len(K)), production_count=str(len(P)), kinds=names)
+
+
+def wide_files(after, depth, height):
+    """Those of the wide grammar: the rule that a kind takes at a byte, what begins each kind and may come after it, and how its trees are bounded."""
     merged = {kind: "".join(f"{low}-{high}" for low, high in runs(after[kind], 1)[0]) for kind in K}
-    return filled("Follow.antt", after=[f'after_ranges Kind.{kind} = codes "{merged[kind]}"' for kind in K],
-                  ranks=[f"rank Kind.{kind} = {depth[kind]}" for kind in K if depth[kind]], heights=[f"height Kind.{kind} = {height[kind]}" for kind in K if height[kind]])
+    yield from filled("src/wide_table.rt", letters=rust_letters("WIDE_LETTERS"), rules=rust_rules("wide", "WIDE_LETTERS"))
+    yield from filled("specs/Wide.antt", alternatives=of_kinds("wide_alternatives", alternatives()))
+    yield from filled("specs/Follow.antt", after=of_kinds("after_ranges", {kind: f'codes "{merged[kind]}"' for kind in K}),
+                      ranks=of_kinds("rank", {kind: depth[kind] for kind in K if depth[kind]}), heights=of_kinds("height", {kind: height[kind] for kind in K if height[kind]}))
 
 
-def antt_wide():
-    """What begins each kind of the wide grammar."""
-    return filled("Wide.antt", alternatives=[f"wide_alternatives Kind.{kind} = {found}" for kind, found in alternatives().items()])
-
-
-def antt_before(later, earlier):
-    """The kinds that began otherwise before there were vector types and the like, by the alternatives of both grammars."""
-    return filled("Before.antt", alternatives=[f"alternatives_before Kind.{kind} = {earlier[kind]}" for kind in later if earlier[kind] != later[kind]])
+def files_before(later, earlier):
+    """That of the kinds that began otherwise before there were vector types and the like, by the alternatives of both grammars."""
+    yield from filled("specs/Before.antt", alternatives=of_kinds("alternatives_before", {kind: earlier[kind] for kind in later if earlier[kind] != later[kind]}))
