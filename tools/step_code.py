@@ -2,64 +2,57 @@
 that hand on what they have no arm for, from the rows of grammar.py. trees.py writes it."""
 import re
 import grammar
-from family_code import Call, Fields, arm
 from files import template
 from notation import snake
+from row_words import code_of
+from rust_layout import arm
 
 FILE = "cpp_link/src/row_steps.rt"
 PARTS = ["first", "second", "third"]
-GO, NOTHING = "Step::Go", "None"
-
-def node(k): return Call("self.node", "symbol", PARTS[int(k)])
-def text(k): return Call("self.text_in", "symbol", PARTS[int(k)])
-def list_of(k): return Call("self.list_in", "symbol", PARTS[int(k)])
-def piece_of(k): return Call("self.piece_in", "symbol", PARTS[int(k)])
-TEMPLATE = Call("self.prefix_node", "symbol", "kept")
 ITS_TYPES = "\n".join(["{", "                let name = self.node(symbol, first);", "                self.go(self.in_encoding(kept, place, closed_arguments(&self.nodes, symbol, name)))", "            }"])
 
 def around(place):
     """What surrounds a part."""
     if place == "as_before": return "kept"
-    if place == "in_its_name": return Call("self.in_encoding", "kept", "place", "None")
-    if place == "in_a_signature": return Call("self.in_signature", "kept")
-    if place == "nameless": return Call("self.inside", "kept")
-    if place == "under_it": return Call("self.under_expansion", "kept")
-    if place == "after_the_name": return Call("self.behind_name", "kept", TEMPLATE, "true")
-    k, mark = re.fullmatch(r"after_part (\d) (.*)", place).groups()
-    listed = {"listed": "true", "unlisted": "false"}.get(mark) or Call("is_listed", PARTS[int(k)])
-    return Call("self.behind_name", "kept", node(k), listed)
+    return re.sub(r"(?<=[ (])\d", lambda part: PARTS[int(part[0])], code_of("places", place))
+
+def letter_of(k): return f"letter_of({PARTS[int(k)]})"
 
 def piece(made):
     """A piece of a name, from what it is made of."""
-    if m := re.fullmatch(r"only \(piece_at (\d)\)", made): return piece_of(m[1])
+    if m := re.fullmatch(r"only \(piece_at (\d)\)", made): return f"self.piece_in(symbol, {PARTS[int(m[1])]})"
     if m := re.fullmatch(r"of new_source \((yes|no) ∷ text_at (\d) ∷ \[\]\)", made):
-        return Fields("Piece::Source", internal="true" if m[1] == "yes" else "false", bytes=text(m[2]))
-    if m := re.fullmatch(r"of new_(\w+) \(letter_at (\d) ∷ \[\]\)", made): return Call(f"Piece::{m[1].capitalize()}", Call("letter_of", PARTS[int(m[2])]))
+        return f"Piece::Source {{ internal: {'true' if m[1] == 'yes' else 'false'}, bytes: self.text_in(symbol, {PARTS[int(m[2])]}) }}"
+    if m := re.fullmatch(r"of new_(\w+) \(letter_at (\d) ∷ \[\]\)", made): return f"Piece::{m[1].capitalize()}({letter_of(m[2])})"
     letter, k = re.fullmatch(r"of new_operator \(fixed (\d+) ∷ letter_at (\d) ∷ \[\]\)", made).groups()
-    return Call("Piece::Operator", f"b'{chr(int(letter))}'", Call("letter_of", PARTS[int(k)]))
+    return f"Piece::Operator(b'{chr(int(letter))}', {letter_of(k)})"
 
 def made_step(made, listed, is_name, is_candidate):
     """The first part becomes a tree."""
+    made = re.sub(r"(?<=_at )\d|(?<=tagging )\d|\d$", lambda part: PARTS[int(part[0])], made) if "extending" not in made else made
     named = "self.listed_name" if listed == "true" else "self.named"
-    if m := re.fullmatch(r"extending \((.*)\)", made): return Call(named, Call("self.extended", "symbol", "kept.prefix()", piece(m[1])))
-    if m := re.fullmatch(r"tagging (\d)", made): return Call(named, Call("self.tagged", "symbol", "kept", text(m[1])))
-    if m := re.fullmatch(r"only \(tree_at (\d)\)", made): return Fields("Step::Named", node=node(m[1]), listed=listed, is_name=is_name)
-    if m := re.fullmatch(r"applying \(only \(tree_at (\d)\)\) (\d)", made): return Call("self.std_name", "symbol", node(m[1]), PARTS[int(m[2])])
-    if m := re.fullmatch(r"of new_in_std \(piece_at (\d) ∷ \[\]\)", made): return Call(named, Call("Node::InStd", piece_of(m[1])))
-    if m := re.fullmatch(r"of new_(lvalue|rvalue) \(tree_at (\d) ∷ \[\]\)", made): new = Call(f"Node::{m[1].capitalize()}", node(m[2]))
-    else: new = Fields("Node::Instance", template=TEMPLATE, arguments=list_of(re.fullmatch(r"of new_instance \(the_name ∷ list_at (\d) ∷ \[\]\)", made)[1]))
-    if is_name == "true" and listed == "false": return Call(named, new)
-    return Fields("Step::Made", node=new, listed=listed, is_name=is_name, is_candidate=is_candidate, packs="self.packs")
+    if m := re.fullmatch(r"extending \((.*)\)", made): return f"{named}(self.extended(symbol, kept.prefix(), {piece(m[1])}))"
+    if m := re.fullmatch(r"tagging (\w+)", made): return f"{named}(self.tagged(symbol, kept, self.text_in(symbol, {m[1]})))"
+    if m := re.fullmatch(r"only \(tree_at (\w+)\)", made): return f"Step::Named {{ node: self.node(symbol, {m[1]}), listed: {listed}, is_name: {is_name} }}"
+    if m := re.fullmatch(r"applying \(only \(tree_at (\w+)\)\) (\w+)", made): return f"self.std_name(symbol, self.node(symbol, {m[1]}), {m[2]})"
+    if m := re.fullmatch(r"of new_in_std \(piece_at (\w+) ∷ \[\]\)", made): return f"{named}(Node::InStd(self.piece_in(symbol, {m[1]})))"
+    if m := re.fullmatch(r"of new_(lvalue|rvalue) \(tree_at (\w+) ∷ \[\]\)", made): new = f"Node::{m[1].capitalize()}(self.node(symbol, {m[2]}))"
+    else:
+        arguments = re.fullmatch(r"of new_instance \(the_name ∷ list_at (\w+) ∷ \[\]\)", made)[1]
+        new = f"Node::Instance {{ template: self.prefix_node(symbol, kept), arguments: self.list_in(symbol, {arguments}) }}"
+    if is_name == "true" and listed == "false": return f"{named}({new})"
+    return f"Step::Made {{ node: {new}, listed: {listed}, is_name: {is_name}, is_candidate: {is_candidate}, packs: self.packs }}"
 
 def code(step):
     """What is done, in code."""
     if m := re.fullmatch(r"becomes \((.*)\) (true|false) (true|false) (true|false)", step): return made_step(*m.groups())
     if step == "goes nothing in_its_types": return ITS_TYPES
-    if step == "goes nothing under_it": return Fields(GO, candidate=NOTHING, then=around("under_it"), packs=NOTHING)
-    if m := re.fullmatch(r"goes nothing \(?(.*?)\)?", step): return Call("self.go", around(m[1] + (")" if "(" in m[1] else "")))
-    if m := re.fullmatch(r"goes the_prefix \(?(.*?)\)?", step): return Fields(GO, candidate=Call("self.prefix_candidate", "symbol", "kept"), then=around(m[1]), packs="self.packs")
-    part_, place = re.fullmatch(r"goes \(type_of (\d)\) \(?(.*?)\)?", step).groups()
-    return Fields(GO, candidate=Call("self.type_candidate", "symbol", "kept", PARTS[int(part_)]), then=around(place), packs="self.packs")
+    candidate, place = re.fullmatch(r"goes (nothing|the_prefix|\(type_of \d\)) (.*)", step).groups()
+    then = around(re.sub(r"^\((.*)\)$", r"\1", place))
+    if place == "under_it": return f"Step::Go {{ candidate: None, then: {then}, packs: None }}"
+    if candidate == "nothing": return f"self.go({then})"
+    found = "self.prefix_candidate(symbol, kept)" if candidate == "the_prefix" else f"self.type_candidate(symbol, kept, {PARTS[int(candidate[-2])]})"
+    return f"Step::Go {{ candidate: {found}, then: {then}, packs: self.packs }}"
 
 # what code by hand does: tests, packs, an M, and what the ABI's grammar doesn't have
 def is_by_hand(step): return step.split()[0] in ("tests", "holds", "unread", "quiet") or "packing" in step
