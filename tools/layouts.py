@@ -3,40 +3,26 @@ a lemma in proofs/Others.antt says what their parts are, and of those with one t
 import os
 import re
 
-from files import read, template
+from files import read, sections, template
 from notation import answer, applied, braced, camel
 
 STORED, SHOWN = "c.stored.result c.stored.ensures.own _ c.stored.ensures.tree", "c.args.self.now c.args.ctx.detail"
 CONTEXT, DETAIL = "(context_of c.args.ctx)", "c.args.ctx.detail"
 BINDERS = {"d": "(d : Detail)", "c": "(c : items.Context)"}
 SAID = {"d": DETAIL, "c": CONTEXT}
-# the functions that add parts: the lemma of other nodes, its variables, what they show, what the tree shows, and definitions that it is by
-WHOLE = [
-    ("fill_right", "right-none", "c", "[]", "right_parts c", ""),
-    ("fill_low", "low-other", "dc", "left_parts d c", "low_parts d c", ""),
-    ("fill_base", "base-other", "dc", "left_parts d c", "base_parts d c", ""),
-    ("fill_own_piece", "own-none", "c", "[]", "piece_parts c (own_piece t)", "own_piece"),
-    ("fill_first_of", "first-none", "c", "[]", "first_parts c", ""),
-    ("fill_more_of", "more-none", "c", "[]", "more_parts c", ""),
-    ("fill_full", "full-none", "d", "[]", "full_parts d", ""),
-    ("fill_bare_of", "bare-other", "d", "full_parts d", "bare_parts d", ""),
-    ("fill_root", "root-none", "", "[]", "root_parts", ""),
-    ("ends_in_angle", "last-none", "", "fixed_text LESS", "opening_text (last_piece t)", "last_piece"),
-    ("precedence", "precedence-none", "", "0", "precedence_of", ""),
-]
-# those that have arms for the pieces of names, and what the tree shows: the rest is by hand
-PIECES = [("fill_piece", "piece_parts c"), ("fill_rare_piece", "piece_parts c"), ("fill_within", "within_parts c prefix"), ("fill_base_within", "base_within c prefix")]
+ARMS = {section: [line.split(" | ") for line, _ in lines] for section, lines in sections("cpp_arms.txt")}
+# the functions that add parts: the lemma of other nodes, its variables, what they show, what the tree shows, and a definition that it is by
+WHOLE = [(*f"{names} ".split(" ")[:3], *shown, *[""] * (3 - len(shown))) for names, *shown in ARMS["whole"]]
+# those that have arms for the pieces of names, and what the tree shows
+PIECES = ARMS["pieces"]
 # those that add none, and say what they find
 VALUES = ("ends_in_angle", "precedence")
 # the left parts are added by three functions, each for the nodes that the one before has no arms for
 LEFT = ["fill_left", "fill_left_type", "fill_left_argument"]
 # what is to be said before the parts are the tree's: of the text that is added, or of the arm
 TEXTS = "ap (λ t. text t ∷ []) c.{0}.ensures.text"
-BEFORE = {("fill_left_type", "Pointer"): f'marked-whole {CONTEXT} _ "*" _ refl', ("fill_left", "Tagged"): f"tagged-whole _ _ {DETAIL} _ _",
-          ("fill_left_argument", "Boolean"): "boolean-whole _", ("fill_left_argument", "Pack"): "append-nil _",
-          ("fill_left_type", "Constrained"): f"ap (λ t. as_item left {CONTEXT} (tree_shown c.args.self.now c.args.ctx c.in-Constrained.concept) ∷ text t ∷ []) c.placeholder.ensures.text"}
-# arms whose answers are by hand
-BY_HAND = [("fill_left", "InStd"), ("fill_left", "Local"), ("fill_base", "Local")]
+BEFORE = {tuple(arm.split()): said.replace("CONTEXT", CONTEXT).replace("DETAIL", DETAIL).replace("SYMBOL", "c.args.self.now c.args.ctx") for arm, said in ARMS["before"]}
+BY_HAND = [tuple(arm.split()) for arm, in ARMS["by_hand"]]
 
 def bodies(crates):
     """The text of each function, by its name."""

@@ -23,23 +23,14 @@ class Row:
         self.is_encoding = self.of == "an encoding"
 
 
-ROWS = [Row(*section) for section in sections("cpp_shown.txt")]
+(_, NAMED), *SHOWN = sections("cpp_shown.txt")
+ROWS = [Row(*section) for section in SHOWN]
+# names that rows and contracts may name, by module, and what modules are called
+NAMES = {module: names for module, names in (line.split(" ", 1) for line, _ in NAMED) if not names.startswith("as ")}
+MODULES = {line.split(" as ")[1]: line.split(" as ")[0] for line, _ in NAMED if " as " in line}
 
 # ## What is written of a row
 
-# names that rows and contracts may name, by module
-NAMES = {
-    "Rattle.std.specs.Prelude": "◌≡◌ ◌+◌ ◌<◌ ◌≤◌ ◌++◌ ◌∷◌ [] length false",
-    "Rattle.sym_print.specs.Unfold": "text sub",
-    "Rattle.cpp_grammar.specs.Parts": "encoding_text clone_text qualifier_text printed",
-    "Rattle.cpp_grammar.specs.Texts": "look_up special_texts named_special_texts literal_endings",
-    "Rattle.cpp_term.specs.Parts": "as_item says text_part own_piece piece_parts prefix_item construction_parts root_parts left_parts right_parts member_parts array_left closing_right function_right sign_part operation_parts",
-    "Rattle.cpp_tree.specs.Nodes": "is_again entry_at tree_at trees IsTable IsWithin IsThereBelow bytes_at qualifiers_of mark_of signed_of",
-    "Rattle.cpp_layout.specs.Texts": "fixed_text",
-    "Rattle.cpp_layout.specs.declared.texts.TheConstants": "AND COLONS RIGHT_BRACKET STD TAG",
-    "Rattle.cpp_layout.specs.Layout": "table_of context_of item_in marked text_if Shows tree_shown",
-}
-MODULES = {"heads": "Rattle.cpp_grammar.specs.Items", "items": "Rattle.cpp_term.specs.Items", "term": "Rattle.cpp_term.specs.Term"}
 COMMON = "Rattle.std.proofs.Common", "refl ap sym ◌∙◌ append-nil ◌∷◌ ◌++◌ []"
 def is_used(name, text):
     """Whether a text names this."""
