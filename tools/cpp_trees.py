@@ -14,8 +14,10 @@ TREES = []
 SPELLED, FITTING = {}, {}
 COMPONENTS, ENCODINGS = [], []
 # by tree: what is said of its node, what a type is whose left parts end otherwise than a plain one's, its node, what is noted and seen of that
-BELOW = {"says": {}, "head": {}, "node": {}, "noted": {}, "seen": {}}
-SAYS, HEADS, NODES, NOTED, SEEN = BELOW.values()
+BELOW = {"says": {}, "head": {}, "node": {}, "noted": {}, "seen": {}, "fields": {}}
+SAYS, HEADS, NODES, NOTED, SEEN, FIELDS = BELOW.values()
+# and of which trees the fields of what is seen are, by production
+FROM = {}
 # <type> ::= <letter> <type>: tree, production, letter; the text after the type; and what is said of its number
 WRAPPERS, TEXTS, NUMBERED = [], {}, {}
 # names of arguments elsewhere, by where that is
@@ -36,8 +38,9 @@ def enter(name, arguments, sort="", *spelling):
 def enter_below(name, line):
     """Enters what is said of a tree below it."""
     word, _, rest = line.partition(" ")
-    if word == "fits":
-        FITTING[name] = [*FITTING.get(name, []), *filter(None, [rest])]
+    if word in ("fits", "from"):
+        said = {"fits": FITTING, "from": FROM}[word]
+        said[name] = [*said.get(name, []), *filter(None, [rest])]
     else:
         BELOW[word][name] = rest
 

@@ -45,14 +45,8 @@ VIEWS = lambda: [t for t in named(VIEWED, ["absent", "nil", "list", "symbol", "f
 def fields_of():
     """What is seen of a tree: production, two numbers, a text, parts."""
     numbers = {QUALIFIERS: "(qualifiers_number {0})", MARK: "(mark_number {0})", NUMBER: "{0}", TRUTH: "(bit {0})", SIGNED: "(bit {0}.negative)"}
-    special = {
-        "of_name": "named_fields letter name q mark", "thunk": "thunk_fields kind encoding", "local": "local_fields around entity discriminator",
-        "function_type": "\n    fields FUNCTION_TYPE (linkage_number c_linkage noexcept) (mark_number mark) [] (returned ∷ parameters ∷ [])",
-        "alone": "name_fields ALONE [] (alone piece) piece", "in_std": "name_fields IN_STD [] (in_std piece) piece",
-        "within": "name_fields NESTED (prefix ∷ []) (within prefix piece) piece",
-    }
     def right(tree):
-        if tree[0] in special: return special[tree[0]]
+        if tree[0] in cpp_trees.FIELDS: return cpp_trees.FIELDS[tree[0]]
         told = [numbers[sort].format(name) for name, sort in tree[1:] if sort in numbers]
         texts = [name if sort == BYTES else f"{name}.digits" for name, sort in tree[1:] if sort in (BYTES, SIGNED)] or ["[]"]
         parts = "".join(f"{name} ∷ " for name, sort in arguments(tree, *SUBTREES))
@@ -63,27 +57,16 @@ def fields_of():
         if line.startswith("fields_of (builtin"):
             lines += ["fields_of (builtin (letter ∷ [])) = fields BUILTIN letter 0 [] []",
                       "fields_of (builtin (d ∷ letter ∷ [])) = if d == 68 then fields BUILTIN_WITH_D letter 0 [] [] else no_node (builtin (d ∷ letter ∷ []))"]
-        else: lines.append(line)
+        else: lines.append(line if len(line) <= 160 else line.replace(" = ", " =\n    "))
     return lines + ["fields_of t = no_node t"]
 
 def tree_from():
     """And the tree of it, by its production."""
     back = {QUALIFIERS: "(qualifiers_in (number_in given {0}))", MARK: "(mark_in (number_in given {0}))", NUMBER: "(number_in given {0})", TRUTH: "(is_so given 0)",
             SIGNED: "(signed_in given 0)", BYTES: "(text_in given 0)"}
-    special = {
-        "of_name": [("GUARD", "of_name GUARD_LETTER (part_in given 0) (qualifiers_in (number_in given 0)) (mark_in (number_in given 1))"),
-                    ("OF_NAME", "of_name (number_in given 0) (part_in given 0) (qualifiers_of_both (number_in given 1)) (mark_of_both (number_in given 1))")],
-        "thunk": [("THUNK", "thunk (adjusting (non_virtual (signed_in given 0))) (part_in given 0)"),
-                  ("TABLE_THUNK", "thunk (adjusting (by_table (signed_in given 0) (signed_in given 1))) (part_in given 0)"),
-                  ("COVARIANT_THUNK", "thunk (covariant (non_virtual (signed_in given 0)) (non_virtual (signed_in given 1))) (part_in given 0)")],
-        "local": [("LOCAL", "local (part_in given 0) (part_in given 1) None"), ("NUMBERED_LOCAL", "local (part_in given 0) (part_in given 1) (Some (text_in given 0))")],
-        "builtin": [("BUILTIN", "builtin (number_in given 0 ∷ [])"), ("BUILTIN_WITH_D", "builtin (68 ∷ number_in given 0 ∷ [])")],
-        "function_type": [("FUNCTION_TYPE", "function_type (c_linkage_in (number_in given 0)) (noexcept_in (number_in given 0)) (mark_in (number_in given 1)) (part_in given 0) (part_in given 1)")],
-        "alone": [], "in_std": [], "within": [],
-    }
     rows = []
     for tree in VIEWS():
-        if tree[0] in special: rows += special[tree[0]]; continue
+        if tree[0] in cpp_trees.FROM: rows += [row.split(" ", 1) for row in cpp_trees.FROM[tree[0]]]; continue
         parts, numbers, given = 0, 0, []
         for name, sort in tree[1:]:
             if sort in SUBTREES: given.append(f"(part_in given {parts})"); parts += 1
