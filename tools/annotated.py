@@ -26,14 +26,18 @@ class Module:
                 self.changed[-1][sort].append(rest)
             before = sort
 
-    def applied(self, body):
-        """The text with what differs in it: each text that is changed occurs once."""
+    def body(self, blocks):
+        """The blocks that aren't shared, with what differs in them; a heading of which nothing is left goes, too."""
+        kept = [block for block in blocks if not any(name in self.shared for name in names_of(block))]
+        text = "\n\n".join(block for block, after in zip(kept, [*kept[1:], "-- ##"]) if not (is_heading(block) and is_heading(after)))
         for change in self.changed:
             old, new = "\n".join(change["-"]), "\n".join(change["+"])
-            assert body.count(old) == 1, (old, body.count(old))
-            body = body.replace(old, new)
-        return body
+            assert text.count(old) == 1, (old, text.count(old))
+            text = text.replace(old, new)
+        return text
 
+
+def is_heading(block): return block.startswith("-- ##") and "\n" not in block
 
 MODULES = {name: Module(lines) for name, lines in sections("cpp_term.txt")}
 BY_HAND = ("Items", "Ranks")
@@ -71,13 +75,8 @@ def used(name, body):
     return re.search(rf"(?<![\w.]){re.escape(name)}(?!\w)", body) is not None
 
 def body_of(module, blocks):
-    shared = MODULES[module].shared
-    kept = [b for b in blocks if not any(n in shared for n in names_of(b))]
-    # a heading of which nothing is left
-    kept = [b for i, b in enumerate(kept) if not (b.startswith("-- ##") and "\n" not in b and (i + 1 == len(kept) or kept[i + 1].startswith("-- ##")))]
-    body = "\n\n".join(kept)
-    body = MODULES[module].applied(body)
-    # no scope is passed on
+    """What a module has; no scope is passed on."""
+    body = MODULES[module].body(blocks)
     return body.replace("pack_length scope ", "pack_length ") if module == "Scope" else body
 
 def imports_of(module, uses, body, theirs):
