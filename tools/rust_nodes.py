@@ -1,5 +1,6 @@
-"""What goes through Rust's nodes by their arguments alone: from the nodes that productions make (rust_made.py) to the clauses of rust_tree, and to
-the answers for the views of nodes."""
+"""What goes through Rust's nodes by their arguments alone: from the nodes that productions make (rust_made.py) to the clauses of rust_tree, to the
+answers for the views of nodes, and to the code that shows lists, its answers and its lemmas, by the templates of templates/rust_tree."""
+from files import template
 from notation import rewritten, together
 from rust_made import NODES
 from rust_parts import BY_NAME, WRITTEN
@@ -126,3 +127,34 @@ def view_answers(of):
         lines += ["", f"pub returns-in-{arm}-clause-seen : goal.returns-in-{arm}-clause-seen", f"returns-in-{arm}-clause-seen c s text all bare h = {shown}"]
     lemmas = ", ".join([f"{of}-by", *(["type-is"] if of == "type" else []), *(["production-by"] if named else [])])
     return "\n".join([f"-- {WRITTEN}", f"use Rattle.rust_tree.proofs.Viewing.{{{lemmas}}}", f"use Rattle.rust_tree.proofs.view.view_of_{of}.Goals as goal", *lines]) + "\n"
+
+# ## Lists
+
+# the lists: what separates their items, and whether they are asked for where it has to be fast
+LISTS = {"arguments": (", ", True), "types": (", ", True), "bounds": (" + ", False), "bindings": (", ", False)}
+
+def list_filled(name, of):
+    """A template for a list, without the newline at its end."""
+    separator, is_fast = LISTS[of]
+    arms = [f"        {of.capitalize()}::{made.variant} {{ .. }} => true," for made in NODES if made.of == of]
+    some = [f"any-{of} d b sep _ rest = refl"]
+    if of == "bounds":
+        # bounds are told apart by their first path
+        some = [f"any-bounds d b sep (tree.more_bounds {path} x r) rest = refl" for path in ("(tree.generic p a)", "_")]
+    return template(f"rust_tree/{name}", of=of, own=of.capitalize(), one=of.capitalize()[:-1], name=BY_NAME[of].called, family=FAMILIES[of], separator=separator,
+                    arms=arms, some=some, inline="#[inline(always)]\n" if is_fast else "", bytes="self.now.bytes " if of in TEXTUAL else "",
+                    text="self.now.bytes self.now.table.text " if of in TEXTUAL else "").rstrip("\n")
+
+def indented(text):
+    """The same, within a block."""
+    return "\n".join("    " + line for line in text.split("\n"))
+
+def in_lists():
+    """Whether there are items, for each list, and then what adds them."""
+    return [indented(list_filled(name, of)) for name in ("any_list.rt", "push_list.rt") for of in LISTS]
+
+def list_answers():
+    """The path and the text of each list's answers."""
+    for of in LISTS:
+        yield f"rust_tree/proofs/symbol/Symbol/push_{of}/Answers.antt", list_filled("push_list.antt", of) + "\n"
+        yield f"rust_tree/proofs/symbol/Symbol/{of}/Answers.antt", list_filled("found_list.antt", of) + "\n"

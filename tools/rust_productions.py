@@ -1,12 +1,11 @@
 """Writes what is said of each of Rust's productions by its parts alone, and of each sort of part: whole files, and in files by hand declarations,
-each below a line that says so. What is said is in rust_parts.py, rust_made.py, rust_spelled.py, rust_trees.py, rust_nodes.py and rust_lists.py."""
+each below a line that says so. What is said is in rust_parts.py, rust_made.py, rust_spelled.py, rust_trees.py and rust_nodes.py."""
 import rust_grammar
-import rust_lists
 from files import read, template
 from rust_made import NODES, made_gives, made_in_code, made_in_specs
 from rust_nodes import (
-    UNTYPED, by_node, need_grown, node_grown, node_need, node_needs, node_part, node_parts, node_same, node_seen, node_tree, node_view,
-    of_subtrees, parts_grown, tree_grown, view_answers,
+    LISTS, UNTYPED, by_node, in_lists, list_answers, list_filled, need_grown, node_grown, node_need, node_needs, node_part, node_parts, node_same,
+    node_seen, node_tree, node_view, of_subtrees, parts_grown, tree_grown, view_answers,
 )
 from rust_parts import PARTS, WRITTEN, agrees, read_in_code, read_in_specs
 from rust_spelled import BINDERS, Kept, good_then, kept_clause, made_good, made_of_slots, means, slot_then, sorts
@@ -20,7 +19,7 @@ def whole_files():
     yield "rust_v0/specs/CodeOperands.antt", template("rust_v0/CodeOperands.antt", operands="\n\n".join(map(read_in_specs, PARTS.values())))
     yield "rust_v0/proofs/OperandLemmas.antt", template("rust_v0/OperandLemmas.antt", lemmas="\n\n".join(map(agrees, PARTS.values())))
     for of in MUTUAL: yield f"rust_tree/proofs/view/view_of_{of}/Answers.antt", view_answers(of)
-    yield from rust_lists.answers()
+    yield from list_answers()
 
 def declarations():
     """The paths of hand-written files, and the declarations that stand in them one after the other, once for each run of them."""
@@ -37,9 +36,9 @@ def declarations():
     yield "rust_press/proofs/Sameness.antt", [equal(["constant"], "") + itself(["constant"], ""), equal(MUTUAL, "  "), itself(MUTUAL, "  ")]
     yield "rust_press/specs/Tasks.antt", [summed("weight", "pub ", weight)]
     yield "rust_press/proofs/PressApart.antt", [summed("size", "", size)]
-    yield "rust_tree/src/symbol.rt", [[rust_lists.filled("found_list.rt", of) for of in rust_lists.LISTS]]
-    yield "rust_tree/src/lists.rt", [rust_lists.in_lists()]
-    yield "rust_tree/proofs/Showing.antt", [[rust_lists.filled("list_lemmas.antt", of) for of in rust_lists.LISTS]]
+    yield "rust_tree/src/symbol.rt", [[list_filled("found_list.rt", of) for of in LISTS]]
+    yield "rust_tree/src/lists.rt", [in_lists()]
+    yield "rust_tree/proofs/Showing.antt", [[list_filled("list_lemmas.antt", of) for of in LISTS]]
     yield "rust_tree/specs/Nodes.antt", [*by_node(node_tree), *by_node(node_parts)]
     yield "rust_tree/specs/Needs.antt", list(by_node(node_need, without=BINDERS))
     yield "rust_tree/proofs/Trees.antt", [of_subtrees(node_grown, UNTYPED), of_subtrees(node_same, UNTYPED), *by_node(tree_grown, "  "), *by_node(parts_grown, "  "),
