@@ -1,8 +1,8 @@
 """What each of Rust's productions makes (rust_nodes.txt): from a production's node and tree to its function, in code and in definitions, and why the two
 agree."""
-from files import sections
+from files import sections, template
 from notation import rewritten, together
-from rust_parts import WRITTEN, parts_of
+from rust_parts import parts_of
 
 # ## What a production makes of its parts
 
@@ -25,43 +25,37 @@ class Made:
 NODES = [Made(*head.split(" | ")) for head, _ in sections("rust_nodes.txt")]
 
 
+def filled(file, of, **holes):
+    """A template for what a production makes, without the newline at its end."""
+    return template(f"rust_v0/{file}", **{name: text for name, text in vars(of).items() if isinstance(text, str)}, **holes).rstrip("\n")
+
+
 def made_in_code(made):
     """The function of a production, in code."""
-    joint = "," if made.what.startswith(("and", "where")) else ":"
-    lines = [f"// {WRITTEN}", f"/// `{made.rule}`{joint} {made.what}", f"pub fn {made.function}(parts: &[Part]) -> Result<Node, Refusal>",
-        f"    ensures is {{ of_node result ≡ semantics.{made.function} parts.now }}", "    ensures never { IfErr result (λ e. e ≢ refusals.Memory) }", "{"]
-    for k, (field, part) in enumerate(zip(made.fields, made.parts)):
-        lines.append(f"    let ({field}, {'_' if k + 1 == len(made.parts) else 'parts'}) = operands::{part.other}(parts)?;")
+    rest = ["parts"] * (len(made.parts) - 1) + ["_"]
+    read = [f"    let ({field}, {after}) = operands::{part.other}(parts)?;" for field, part, after in zip(made.fields, made.parts, rest)]
     fields = [f for field, part in zip(made.fields, made.parts) for f in ([f"name: {field}.0", f"disambiguator: {field}.1"] if part.name == "identifier" else [field])]
-    node = f"Node::{made.sort}({made.sort}::{made.variant}"
-    if made.bare: lines.append(f"    Ok({node}({fields[0]})))")
-    elif len(", ".join(fields)) <= 18: lines.append(f"    Ok({node} {{ {', '.join(fields)} }}))")
-    else: lines += [f"    Ok({node} {{", *[f"        {field}," for field in fields], "    }))"]
-    return "\n".join([*lines, "}"])
+    inside = f"({fields[0]})" if made.bare else f" {{ {', '.join(fields)} }}"
+    if not made.bare and len(", ".join(fields)) > 18: inside = "\n".join([" {", *[f"        {field}," for field in fields], "    }"])
+    return filled("made.rt", made, joint="," if made.what.startswith(("and", "where")) else ":", read=read, made=f"    Ok(Node::{made.sort}({made.sort}::{made.variant}{inside}))")
+
 
 def made_in_specs(made):
     """And in definitions."""
-    lines, parts = [f"-- {WRITTEN}", f"abbrev pub {made.function} : List Part → Outcome", f"{made.function} parts = do"], "parts"
-    for name, part in zip(made.names(), made.parts):
-        lines.append(f"  {name} ← operands.{part.name} {parts}")
-        parts = f"{name}.1"
-    given = " ".join(f"{name}.0.0 {name}.0.1" if part.name == "identifier" else f"{name}.0" for name, part in zip(made.names(), made.parts))
-    return "\n".join([*lines, f"  Ok (Made.Node (Node.{made.sort} ({made.sort}.{made.variant} {given})))"])
+    names = made.names()
+    read = [f"  {name} ← operands.{part.name} {before}" for name, part, before in zip(names, made.parts, ["parts", *[f"{name}.1" for name in names]])]
+    given = " ".join(f"{name}.0.0 {name}.0.1" if part.name == "identifier" else f"{name}.0" for name, part in zip(names, made.parts))
+    return filled("made.antt", made, read=read, given=given)
+
 
 def made_gives(made):
     """That the two agree with what the production means."""
-    lemma = f"{made.function}_gives"
-    lines = [f"-- {WRITTEN}", f"pub {lemma} : (s : List ℕ) (table : Table) (at : At) (ps : List Part) (vs : List Value) → HasLists (ground s table) → AreAll (IsPart (ground s table)) ps vs",
-        f"    → MadeGives s table at (semantics.{made.function} ps) (meaning rules.{made.production} at vs)",
-        "unfolding path_of arguments_of type_of types_of bounds_of bindings_of constant_of", f"{lemma} s table at ps vs lists are ="]
-    front = "ps vs are"
-    for name, part in zip(made.names(), made.parts):
+    names, read, front = made.names(), [], "ps vs are"
+    for name, part in zip(names, made.parts):
         lists = f" lists.{part.name}" if part.first is not None else ""
-        lines += [f"    lift (ground s table) s table at _ _ _ ({part.other}_agrees (ground s table){lists} {front}) _ _", f"    (λ {name} {name}v {name}s h{name} {name}a."]
+        read += [f"    lift (ground s table) s table at _ _ _ ({part.other}_agrees (ground s table){lists} {front}) _ _", f"    (λ {name} {name}v {name}s h{name} {name}a."]
         front = f"{name}.1 {name}s {name}a"
-    both = list(zip(made.names(), made.parts))
-    nodes = [part.node.replace("@", name) for name, part in both if part.node]
-    facts = [fact.replace("@", name) for name, part in both for fact in part.facts]
-    values = " ".join(f"{name}v" for name, part in both)
-    lines.append(f"    (of_{made.of} (tree.{made.tree} {values}), refl, record {{ parts = {together(nodes)}; tree = {rewritten(facts)} }})" + ")" * len(both))
-    return "\n".join(lines)
+    nodes = [part.node.replace("@", name) for name, part in zip(names, made.parts) if part.node]
+    facts = [fact.replace("@", name) for name, part in zip(names, made.parts) for fact in part.facts]
+    values = " ".join(f"{name}v" for name in names)
+    return filled("gives.antt", made, read=read, values=values, closed=")" * len(names), **{"parts": together(nodes), "same": rewritten(facts)})
