@@ -97,13 +97,11 @@ def asked():
 
 # what hands on what it has no arm for, and to what
 HANDED = [("step_second", "step_second_of_name"), ("step_second_of_name", "step_second_of_piece")]
-LINKED = "Rattle.cpp_link.proofs.linked.Linked"
 
 def passed_on(caller, callee, found, functions):
     """That what is asked with may be asked, and that what it ensures is what is to be ensured: each as one record."""
-    lines = [f"pub {callee}-requires : goal.{callee}-requires", f"{callee}-requires c = record {{", *[f"  {of} = c.requires.{of};" for of in ("table", "kept", "first")]]
-    for p in others_than(callee, found, functions): lines.append(f"  {snake(p)} = c.{f'in_default.not-{p}' if p in functions[caller] else f'requires.{snake(p)}'};")
-    return [*lines, "}", "", "pub returns-in_default : goal.returns-in_default", f"returns-in_default c = c.{callee}.ensures"]
+    others = [f"  {snake(p)} = c.{f'in_default.not-{p}' if p in functions[caller] else f'requires.{snake(p)}'};" for p in others_than(callee, found, functions)]
+    return template("cpp_link/passed_on.antt", caller=caller, callee=callee, others=others)
 
 def shown_piece(made):
     """A piece of a name as a tree and in code, by what is read of the first part; the call that reads it; and that the two are the same, by what that call ensures."""
@@ -118,25 +116,21 @@ def pieces(done):
     """Each arm by which a piece comes after the name so far, as one record."""
     met = set()
     def called(name, p):
-        first = name not in met
+        step = f"c.{name}-in-{p}" if name in met else f"c.{name}"
         met.add(name)
-        return f"c.{name}" if first else f"c.{name}-in-{p}"
+        return step
     for p, step in done.items():
         tree, piece_, read, same = shown_piece(re.fullmatch(r"becomes \(extending \((.*)\)\) false true false", step)[1])
-        named, extended, prefix, part = (called(name, p) for name in ("named", "extended", "prefix", read))
-        yield from ["", f"pub returns-in-{p} : goal.returns-in-{p}", "unfolding between named_so_far extended piece_of made_before makes_before", f"returns-in-{p} c =",
-            "    let ts = trees_in c.args.symbol.now c.args.self.now.nodes in", "    let v = value_in c.args.symbol.now c.args.self.now.nodes c.args.first in",
-            f"    piece_behind c.args.symbol.now c.args.self.now c.args.place c.args.kept v c.args.production Production.{p} {named}.result {extended}.result",
-            f"    {prefix}.result {piece_.format(part)} ({tree}) c.in-{p}.is {named}.ensures (λ around state. refl)",
-            f"    {prefix}.ensures {same.format(part)} {extended}.ensures.is {extended}.ensures.there refl refl"]
+        calls = {name: called(name, p) for name in ("named", "extended", "prefix")}
+        part = called(read, p)
+        yield template("cpp_link/piece.antt", production=p, piece=piece_.format(part), tree=tree, same=same.format(part), **calls)
 
 def answers():
-    """The answers of each function that hands on, and of that which makes a name by a piece: their files, and their lines."""
+    """The answers of each function that hands on, and of that which makes a name by a piece: their files, and their texts."""
     found = steps()
-    functions = of_function(found)
-    def file(function, imports, lines): return f"cpp_link/proofs/linked/Linked/{function}/Answers.antt", [*imports, f"use {LINKED}.{function}.Goals as goal", *lines]
-    for caller, callee in HANDED: yield file(caller, [], ["", *passed_on(caller, callee, found, functions)])
-    yield file("step_second_of_piece", template("cpp_link/pieces.antt").split("\n")[:-1], pieces(functions["step_second_of_piece"]))
+    functions, path = of_function(found), "cpp_link/proofs/linked/Linked/{}/Answers.antt".format
+    for caller, callee in HANDED: yield path(caller), passed_on(caller, callee, found, functions)
+    yield path("step_second_of_piece"), template("cpp_link/pieces.antt") + "".join(pieces(functions["step_second_of_piece"]))
 
 # ## Which candidates become of a production
 

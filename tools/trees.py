@@ -47,7 +47,7 @@ def whole_files(crates):
         "cpp_link/specs/Families.antt": family_specs(found),
         "cpp_link/proofs/FamilyArms.antt": family_laws(found),
         **{f"{LINKED}/outcome_of_{snake(family)}/Answers.antt": family_answers(family, productions) for family, productions in found.items() if family != "Common"},
-        **{path: "\n".join([f"-- {WRITTEN}", *lines]) + "\n" for path, lines in step_code.answers()},
+        **{path: f"-- {WRITTEN}\n{text}" for path, text in step_code.answers()},
         **{f"{LINKED}/{function}/Answers.antt": text for function, text in common_answers()},
         "cpp_tree/proofs/nodes/Nodes/noted/Answers.antt": node_answers.noted(crates, [node for node, args in noted_nodes()]),
         "cpp_tree/proofs/view/view_of_own/Answers.antt": node_answers.seen(),
