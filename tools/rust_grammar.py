@@ -49,38 +49,15 @@ def table():
                     **after_each([symbols for _, _, symbols in RULES.values()]))
 
 
-def production_code():
-    """The productions, as an enum."""
-    return template("rust_grammar/production.rt", productions=[f"    /// {what}\n    {production}," for production, what in PRODUCTIONS.items()],
-                    numbered=[f"        {number} => Some(Production::{production})," for number, production in enumerate(PRODUCTIONS)])
-
-
-def basic_code():
-    """The texts of basic types, in code."""
-    return template("rust_tree/basic_types.rt", texts=[f'        {ord(letter)} => b"{text}", // {letter}' for letter, text, _ in words.BASIC_TYPES])
-
-
-def basic_texts():
-    """And in definitions."""
-    return template("rust_tree/BasicTexts.antt", texts=[f'    ({ord(letter)}, codes "{text}") ∷  -- {letter}' for letter, text, _ in words.BASIC_TYPES])
-
-
-def letters_of_types():
-    """The letters of basic types."""
-    ranges = runs(BASIC, 1)[0]
-    return template("rust_grammar/BasicLetters.antt", ranges=", ".join(low if low == high else f"{low} to {high}" for low, high in ranges),
-                    letters=" ∷ ".join(f"range {ord(low)} {ord(high)}" for low, high in ranges) + " ∷ []", signed=SIGNED, unsigned=UNSIGNED)
-
-
-def below_letters():
-    """That no basic type has a text below the letters."""
-    return template("rust_tree/BasicTypes.antt", facts=", ".join(f"ne_eqb {ord(letter)} n (λ e. omega (arith, e, h))" for letter in BASIC))
-
-
 def files():
+    """What is written: each file's path in the folder of the crates, and its text."""
+    ranges = runs(BASIC, 1)[0]
     yield "rust_grammar/src/table.rt", table()
-    yield "rust_grammar/src/production.rt", production_code()
-    yield "rust_grammar/specs/BasicLetters.antt", letters_of_types()
-    yield "rust_tree/src/basic_types.rt", basic_code()
-    yield "rust_tree/specs/BasicTypes.antt", basic_texts()
-    yield "rust_tree/proofs/BasicTypes.antt", below_letters()
+    yield "rust_grammar/src/production.rt", template("rust_grammar/production.rt", productions=[f"    /// {what}\n    {production}," for production, what in PRODUCTIONS.items()],
+        numbered=[f"        {number} => Some(Production::{production})," for number, production in enumerate(PRODUCTIONS)])
+    yield "rust_grammar/specs/BasicLetters.antt", template("rust_grammar/BasicLetters.antt", ranges=", ".join(low if low == high else f"{low} to {high}" for low, high in ranges),
+        letters=" ∷ ".join(f"range {ord(low)} {ord(high)}" for low, high in ranges) + " ∷ []", signed=SIGNED, unsigned=UNSIGNED)
+    # the texts of basic types, in code and in definitions, and that none has a text below the letters
+    yield "rust_tree/src/basic_types.rt", template("rust_tree/basic_types.rt", texts=[f'        {ord(letter)} => b"{text}", // {letter}' for letter, text, _ in words.BASIC_TYPES])
+    yield "rust_tree/specs/BasicTypes.antt", template("rust_tree/BasicTexts.antt", texts=[f'    ({ord(letter)}, codes "{text}") ∷  -- {letter}' for letter, text, _ in words.BASIC_TYPES])
+    yield "rust_tree/proofs/BasicTypes.antt", template("rust_tree/BasicTypes.antt", facts=", ".join(f"ne_eqb {ord(letter)} n (λ e. omega (arith, e, h))" for letter in BASIC))

@@ -1,5 +1,7 @@
 """The words that symbols are made of: from tables/vocabulary.txt to the lists that grammar.py, words.py and rust_grammar.py write every table
 of them from, code and definitions."""
+import re
+
 import cpp_trees
 from files import entries
 
@@ -29,44 +31,14 @@ def precedence(name):
     return PRECEDENCES.index(name.removesuffix("+1")) + name.endswith("+1")
 
 
-def infix(code, sign, own):
-    """An operator between its operands, of which the left one may bind as much."""
-    return code, own, "", f"{own}+1", f" {sign} ", own, ""
-
-
-def assigning(code, sign):
-    """An operator that assigns."""
-    return code, "ASSIGN", "", "OR_IF", f" {sign} ", "ASSIGN+1", ""
-
-
-def before(code, sign):
-    """An operator before its operand."""
-    return code, "UNARY", sign, "UNARY"
-
-
-def after(code, sign):
-    """An operator after its operand."""
-    return code, "POSTFIX", "", "POSTFIX+1", sign
-
-
-def applied(code, word, how):
-    """A word before its operand in parentheses."""
-    return code, "UNARY", f"{word} (", how, ")"
-
-
-def cast(code, word):
-    """A word, a type and an operand."""
-    return code, "POSTFIX", f"{word}<", BOTH, ">(", LEFT, ")"
-
-
-FORMS = {"infix": infix, "assigning": assigning, "before": before, "after": after, "applied": applied, "cast": cast, "row": lambda *row: row}
+FORMS = {name: row for name, *row in TABLE["form"]}
 # what an operation has where its row ends: no text, and no operand
 REST = (None, None, "", NONE, "", NONE, "")
 
 
 def operation(form, *given):
     """The row of an operation: its code, precedence, text, how the left operand is printed, text, how the right one is, text."""
-    row = FORMS[form](*given)
+    row = [re.sub(r"\$(\d)", lambda place: given[int(place[1]) - 1], word) for word in FORMS[form]] if form in FORMS else given
     code, own, front, left, between, right, back = (*row, *REST[len(row):])
     left, right = (how if how in (NONE, LEFT, BOTH, LIST) else precedence(how) for how in (left, right))
     return code, precedence(own), front, left, between, right, back
