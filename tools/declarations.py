@@ -134,18 +134,11 @@ def of_press_laws():
     }
 
 
-def of_spelling():
-    """Those of cpp_spelling."""
-    return {
-        "specs/Weight.antt": {"weight": fold("weight", [], summed("12"), "12", trees=named(PRESSED))},
-        "proofs/Made.antt": {"below-later": below_later()},
-    }
-
-
 def declarations(crates):
     """The path and the name of each declaration, and the lines of its clauses."""
     files = [("cpp_grammar", of_grammar()), ("cpp_term", of_term()), ("cpp_tree", of_tree()), ("cpp_tree", of_notes()), ("cpp_link", of_link(crates)),
-             ("cpp_press", {"proofs/Open.antt": {"open-erased": open_erased()}}), ("cpp_press_laws", of_press_laws()), ("cpp_spelling", of_spelling())]
+             ("cpp_press", {"proofs/Open.antt": {"open-erased": open_erased()}}), ("cpp_press_laws", of_press_laws()), ("cpp_spelling", {"proofs/Made.antt": {"below-later": below_later()}}),
+             ("cpp_spelling", {"specs/Weight.antt": {"weight": fold("weight", [], summed("12"), "12", trees=named(PRESSED))}})]
     for crate, paths in files:
         for path, names in paths.items():
             for name, lines in names.items():

@@ -6,9 +6,8 @@ from files import read
 from notation import dashed
 
 FOLDER = "cpp_press_laws/proofs/Short"
-# the lists: function, file, the lemma whose clauses are read, and that which is used
-LISTS = [("type_rows", "Types", "type-pays", "type-gains"), ("free_rows", "Lists", "free-pays", "free-gains"), ("idle_rows", "Lists", "idle-pays", "idle-gains"),
-         ("qualified_rows", "Qualified", "qualified-pays", "qualified-gains"), ("name_rows", "Names", "name-pays", "name-gains")]
+# the lists, each with its file: the lemma whose clauses are read is called `pays`, and that which is used `gains`
+LISTS = {"type": "Types", "free": "Lists", "idle": "Lists", "qualified": "Qualified", "name": "Names"}
 # productions whose lemma isn't called as they are, in any kind or in one
 CALLED = {"Destructor": "destructor-name", "Constructor": "constructor-name", "AddressedLiteral": "addressed-gains", "IntegerLiteral": "integer-gains", "ReferenceType": "reference-gains",
           ("Plain", "ReferenceType"): "bare-reference-gains", ("Arguments", "Arguments"): "given-gains",
@@ -25,10 +24,10 @@ def declarations(crates):
     """Path, name, and the lines of its clauses."""
     texts = {file: read(f"{crates}/{FOLDER}/{file}.antt") for file in ("Types", "Lists", "Qualified", "Names", "Gains")}
     rows = []
-    for function, file, lemma, used in LISTS:
-        found, lines = listed(texts[file], function, lemma)
-        rows += [(used, class_, set(productions)) for class_, productions in found.items()]
-        yield f"{FOLDER}/{file}.antt", function, lines
+    for sort, file in LISTS.items():
+        found, lines = listed(texts[file], f"{sort}_rows", f"{sort}-pays")
+        rows += [(f"{sort}-gains", class_, set(productions)) for class_, productions in found.items()]
+        yield f"{FOLDER}/{file}.antt", f"{sort}_rows", lines
     signatures = {name: (class_, int(granted or 0)) for text in texts.values()
                   for name, class_, granted in re.findall(r"^pub ([\w-]+) : (?:Free|Idle) Production\.\w+ (\w+)(?: (\d+))?$", text, re.M)}
     classes = dict(re.findall(r"^class_of Kind\.(\w+) = (\w+)$", texts["Gains"], re.M))

@@ -3,7 +3,7 @@ Each is at the end of a declaration of cpp_press_laws or cpp_spelling whose firs
 import re
 
 from files import template
-from notation import braced
+from notation import braced, camel
 from cpp_trees import FITTING, SPELLED
 
 def rows(trees):
@@ -165,12 +165,10 @@ def typed_arguments(trees):
 
 # ## Spelled onto what follows
 
-WAYS = {"as_type": "Type", "under_qualifiers": "UnderQualifiers", "as_prefix": "Prefix", "as_encoding": "Encoding", "as_parameters": "Parameters", "as_elements": "Elements"}
-
 def onto(trees, function, wanted, others):
     """A tree before what follows it, part by part."""
     def part(p):
-        if p.tree: return f"in_way n Way.{WAYS[p.way]} {p.tree}"
+        if p.tree: return f"in_way n Way.{camel(p.way.removeprefix('as_'))} {p.tree}"
         return f"fixed {p.text[6:]}" if re.fullmatch(r'codes "\w+"', p.text) else f"written {braced(p.text)}"
     for tree, shape, sort, parts, nowhere in rows(trees):
         if wanted(sort, parts): yield f"{function} n {shape} rest = {' onto '.join(map(part, parts))} onto rest"

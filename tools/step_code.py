@@ -5,6 +5,7 @@ import grammar
 from files import template
 from notation import snake
 from row_words import code_of
+from rules import TOKENS
 from rust_layout import arm
 
 FILE = "cpp_link/src/row_steps.rt"
@@ -134,7 +135,6 @@ def answers():
 
 # ## Which candidates become of a production
 
-TOKENS = ("Name", "Decimal", "Seq36", "Digits")
 # of kinds that may come after a name, what is known of them
 AFTER_NAMES = {"MaybeArguments": "maybe-arguments", "MaybeTags": "maybe-tags", "Arguments": "arguments-next", "ArgumentsAlone": "arguments-alone"}
 
