@@ -5,6 +5,8 @@ import re
 
 from files import read, sections, template
 from notation import answer, applied, braced, camel
+from printing import imports
+from splicing import WRITTEN
 
 STORED, SHOWN = "c.stored.result c.stored.ensures.own _ c.stored.ensures.tree", "c.args.self.now c.args.ctx.detail"
 CONTEXT, DETAIL = "(context_of c.args.ctx)", "c.args.ctx.detail"
@@ -153,15 +155,21 @@ def matches(crates):
                 if some: steps[function, node] = some.group(1)
     return matched, steps
 
+def whole_file(function, shown):
+    """The file of the answers of a function of which none is by hand."""
+    body = "\n\n".join("\n".join(lines) for lines in shown)
+    uses = [*imports(dict(ARMS["names"]), body, "use"), f"use Rattle.cpp_layout.proofs.symbol.Symbol.{function}.Goals as goal"]
+    return "\n".join([f"-- {WRITTEN}", *uses, "", body]) + "\n"
+
 def files(crates, types):
-    """The file of the lemmas, the answers, each with its path, and the nodes by function."""
+    """The file of the lemmas, the answers by function, those of which are whole files, and the nodes by function."""
     matched, steps = matches(crates)
-    written = []
-    place = "cpp_layout/proofs/symbol/Symbol/{0}/Answers.antt".format
-    for function in LEFT: written += [(place(function), lines) for lines in answers(matched, steps, function, "left_parts d c", "")]
+    written = {function: list(answers(matched, steps, function, "left_parts d c", "")) for function in LEFT}
     for function, lemma, variables, of_others, of_tree, by in WHOLE:
-        if function not in VALUES: written += [(place(function), lines) for lines in answers(matched, steps, function, of_tree, by)]
-        written.append((place(function), default(function, lemma, variables, of_others, matched)))
-    for function, parts in PIECES: written += [(place(function), lines) for lines in of_pieces(matched, steps, function, parts)]
-    for function, goal, shown in left_defaults(matched): written.append((place(function), answer(goal, f" {shown}", given="g c")))
-    return others(matched, types), written, matched
+        shown = [] if function in VALUES else answers(matched, steps, function, of_tree, by)
+        written[function] = [*shown, default(function, lemma, variables, of_others, matched)]
+    for function, parts in PIECES: written[function] = list(of_pieces(matched, steps, function, parts))
+    for function, goal, shown in left_defaults(matched): written[function].append(answer(goal, f" {shown}", given="g c"))
+    by_hand = [*VALUES, *(function for function, _ in [*PIECES, *BY_HAND])]
+    whole = {function: whole_file(function, shown) for function, shown in written.items() if function not in by_hand}
+    return others(matched, types), {function: shown for function, shown in written.items() if function in by_hand}, whole, matched

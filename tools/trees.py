@@ -24,6 +24,7 @@ from splicing import WRITTEN, extended, rewritten, with_arms, with_constants, wi
 
 LINKED = "cpp_link/proofs/linked/Linked"
 NOTED = "cpp_term/proofs/MeaningNoted.antt"
+SHOWN = "cpp_layout/proofs/symbol/Symbol/{0}/Answers.antt"
 
 
 def arms_by_production(found):
@@ -62,9 +63,11 @@ def edits(crates):
     of_arguments = read_noted(READ_OF_ARGUMENTS, "builder_", "Argument", "argument", "noted_argument", "noted_arguments", "argument_noted", "(a_tree x)", "")
     yield from ((NOTED, with_declarations, [list(lemmas)]) for lemmas in (of_values, of_arguments))
     types = {node: [NODE_TYPES[sort] for name, sort in args] for node, tree, args in nodes()}
-    others, answers, matched = layouts.files(crates, types)
+    others, answers, whole, matched = layouts.files(crates, types)
     yield "cpp_layout/proofs/Others.antt", lambda text: others, []
-    yield from ((path, with_declarations, [["\n".join(lines)]]) for path, lines in [*answers, *spellings.lemmas(named(PRESSED))])
+    yield from ((SHOWN.format(function), with_declarations, [["\n".join(lines)]]) for function, shown in answers.items() for lines in shown)
+    yield from ((SHOWN.format(function), lambda text, own: own, [own]) for function, own in whole.items())
+    yield from ((path, with_declarations, [["\n".join(lines)]]) for path, lines in spellings.lemmas(named(PRESSED)))
     for name, functions in (("IsNoName", layouts.LEFT[:1]), ("IsNoType", layouts.LEFT[:2])):
         yield "cpp_layout/specs/Layout.antt", rewritten, [name, by_nodes(name, matched, functions)]
     yield from ((path, extended, [name, lines]) for path, name, lines in spellings.declarations(named(PRESSED)))

@@ -12,6 +12,7 @@ import sys
 
 HERE = os.path.dirname(os.path.abspath(__file__))
 sys.path.insert(0, HERE)
+import alike
 import annotated
 import family_code
 import file_table
@@ -35,7 +36,7 @@ WHOLE = {
     "tools/rust_productions.py": lambda crates: rust_productions.whole_files(),
     "tools/file_table.py": file_table.files,
 }
-IN_PARTS = {"tools/trees.py": trees.files, "tools/rust_productions.py": rust_productions.files}
+IN_PARTS = {"tools/trees.py": trees.files, "tools/rust_productions.py": rust_productions.files, "tools/alike.py": alike.files}
 MOST_ROUNDS = 4
 
 
