@@ -5,7 +5,6 @@ import re
 
 from files import sections
 
-
 class Module:
     """What differs in a module of cpp_term, by its lines in cpp_term.txt: names that are shared, names that are brought in, by module, and the
     texts that are changed."""
@@ -35,7 +34,6 @@ class Module:
             assert text.count(old) == 1, (old, text.count(old))
             text = text.replace(old, new)
         return text
-
 
 def is_heading(block): return block.startswith("-- ##") and "\n" not in block
 

@@ -26,26 +26,22 @@ TEXTS = "ap (λ t. text t ∷ []) c.{0}.ensures.text"
 BEFORE = {tuple(arm.split()): said.replace("CONTEXT", CONTEXT).replace("DETAIL", DETAIL).replace("SYMBOL", "c.args.self.now c.args.ctx") for arm, said in ARMS["before"]}
 BY_HAND = [tuple(arm.split()) for arm, in ARMS["by_hand"]]
 
-def bodies(crates):
-    """The text of each function, by its name."""
-    folder = f"{crates}/cpp_layout/src"
-    for name in sorted(os.listdir(folder)):
-        text = read(f"{folder}/{name}")
-        for function in re.finditer(r"^    (?:pub(?:\(crate\))? )?fn (\w+)[^\n]*\n.*?^    \{\n(.*?)^    \}\n", text, re.M | re.S): yield function.group(1), function.group(2)
+def bodies(text):
+    """The text of each function of a file, by its name."""
+    for function in re.finditer(r"^( *)(?:pub(?:\(crate\))? )?fn (\w+)[^\n]*\n.*?^\1\{\n(.*?)^\1\}\n", text, re.M | re.S): yield function[2], function[3]
 
-def arms(body):
-    """The nodes or pieces that a match has arms for, and the text of each arm."""
-    starts = [m for m in re.finditer(r"^ +(?:(?:Node|Piece)::(\w+)|_ =>)", body, re.M)]
-    return [(m.group(1), body[m.end():after.start()]) for m, after in zip(starts, starts[1:]) if m.group(1)]
+def arms(body, begins="Node|Piece"):
+    """What a match has arms for, and the text of each arm."""
+    starts = [*re.finditer(rf"^ +(?:(?:\w+::)*(?:{begins})::(\w+)|\w+ =>)", body, re.M)]
+    return [(start[1], body[start.end():after.start() if after else None]) for start, after in zip(starts, [*starts[1:], None]) if start[1]]
 
-def calls(body):
-    """Of each arm with a node: the function that adds its last part, and the step that this is."""
+def calls(body, begins="Node|Piece"):
+    """Of each arm: the function that is called last, and the step that this is, which has the arm's name from its second call on."""
     seen, steps = set(), {}
-    for node, text in arms(body):
-        for call in re.finditer(r"(?:self\.)(\w+)\(", text):
-            step = call.group(1) + (f"-in-{node}" if call.group(1) in seen else "")
-            seen.add(call.group(1))
-            steps[node] = call.group(1), step
+    for node, text in arms(body, begins):
+        for call in re.findall(r"(?:self\.|=> )(\w+)\(", text):
+            steps[node] = call, call + (f"-in-{node}" if call in seen else "")
+            seen.add(call)
     return steps
 
 def record_of(function): return "IsOther" + camel(function.replace("fill_", ""))
@@ -147,7 +143,8 @@ def left_defaults(matched):
 
 def matches(crates):
     matched, steps = {}, {}
-    for function, body in bodies(crates):
+    folder = f"{crates}/cpp_layout/src"
+    for function, body in (found for name in sorted(os.listdir(folder)) for found in bodies(read(f"{folder}/{name}"))):
         if function in [*LEFT, *(row[0] for row in [*WHOLE, *PIECES])]:
             matched[function], steps[function] = [node for node, text in arms(body)], calls(body)
             for node, text in arms(body):

@@ -10,7 +10,6 @@ FILE = "cpp_layout/src/printed.rt"
 
 SORTS = {"tree": "u32", "whole": "u32", "text": "u16", "bytes": "Span", "signed": "Signed"}
 
-
 class Row:
     """A function of cpp_shown.txt."""
 
@@ -21,7 +20,6 @@ class Row:
         # each with its sort
         self.takes = [tuple(argument.split(":")) for argument in said["takes"].split()]
         self.is_encoding = self.of == "an encoding"
-
 
 (_, NAMED), *SHOWN = sections("cpp_shown.txt")
 ROWS = [Row(*section) for section in SHOWN]

@@ -3,7 +3,6 @@ import re
 
 from files import sections
 
-
 class Word:
     """A word, with numbers of parts, and its forms: as definitions have it, and as code does, or nothing where that has it by hand."""
 
@@ -11,10 +10,8 @@ class Word:
         word, *self.forms = (column.strip() for column in f"{line} ".split(" | "))
         self.pattern = re.compile(re.sub(r"\\\$\d", r"(\\d)", re.escape(word)))
 
-
 DEFINITION, CODE = 0, 1
 WORDS = {section: [Word(line) for line, _ in lines] for section, lines in sections("cpp_words.txt")}
-
 
 def said(section, text, form=DEFINITION, nodes=0):
     """What a text of such words is, if it is one."""
@@ -25,7 +22,6 @@ def said(section, text, form=DEFINITION, nodes=0):
                 whole = whole.replace(f"${place}", number)
             return whole
     return None
-
 
 def code_of(section, definition):
     """The code of what definitions have in this form."""

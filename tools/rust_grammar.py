@@ -11,7 +11,6 @@ def basic_letters(*sorts):
     """The letters of basic types, or of those of which there are such constants."""
     return "".join(letter for letter, text, constants in words.BASIC_TYPES if not sorts or constants in sorts)
 
-
 BASIC, SIGNED, UNSIGNED = basic_letters(), basic_letters(words.SIGNED), basic_letters(words.UNSIGNED)
 # what begins a path
 PATHS = "BCMXYNI"
@@ -31,13 +30,11 @@ for head, _ in sections("rust_grammar.txt"):
         KINDS[name] = {taken[0]: CLASSES.get(taken[2:], taken[2:]) for taken in said.split()}, given == ["empty"]
 RULES = dict(sorted(RULES.items()))
 
-
 def symbol(name):
     """A symbol in code."""
     if name[0] == "'":
         return f"Byte(b{name})"
     return {"Name": "Name", "Base62": "BASE62", "Hex": "HEX"}.get(name, f"Kind({name})")
-
 
 def table():
     """The rule that a kind takes at a byte."""
@@ -47,7 +44,6 @@ def table():
     empty = "        " + "\n            | ".join(f"kind::{kind}" for kind, (_, may_be_empty) in KINDS.items() if may_be_empty)
     return template("rust_grammar/table.rt", letters=list(letter_rows("LETTERS", kinds)), heads=heads, symbols=cells, count=str(len(RULES)), empty=empty,
                     **after_each([symbols for _, _, symbols in RULES.values()]))
-
 
 def files():
     """What is written: each file's path in the folder of the crates, and its text."""

@@ -1,7 +1,6 @@
 """Expressions of Rust as `rt fmt` lays them out: from the text of an expression, in one line, to its lines in an arm of a match."""
 import re
 
-
 def split(text):
     """What is between the commas of a text that are in no brackets; a letter in quotes may be one."""
     parts, depth = [""], 0
@@ -14,7 +13,6 @@ def split(text):
             parts[-1] += char
     return [part.strip() for part in parts if part.strip()]
 
-
 class Call:
     """A function with what it is given."""
 
@@ -26,7 +24,6 @@ class Call:
 
     def fits(self):
         return all(isinstance(part, str) or part.fits() for part in self.given) and len(", ".join(map(str, self.given))) <= 60
-
 
 class Fields:
     """A structure with its fields."""
@@ -43,7 +40,6 @@ class Fields:
     def fits(self):
         return len(self.inside()) <= 18
 
-
 def parsed(text):
     """A call or a structure, if the text is one, or the text."""
     if found := re.fullmatch(r"([\w.:]+)\((.*)\)", text):
@@ -51,7 +47,6 @@ def parsed(text):
     if found := re.fullmatch(r"([\w:]+) { (.*) }", text):
         return Fields(found[1], [(name, parsed(part)) for name, part in (field.split(": ", 1) for field in split(found[2]))])
     return text
-
 
 def lines(tree, indent, broken=False):
     """The lines of an expression that doesn't fit in one, the first without its indentation."""
@@ -71,7 +66,6 @@ def lines(tree, indent, broken=False):
         out += [f"{indent}    {name}{': ' if name else ''}{first}", *rest]
         out[-1] += ","
     return [*out, indent + ("}" if named else ")")]
-
 
 def arm(production, text):
     """An arm of a match over productions."""

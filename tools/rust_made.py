@@ -24,11 +24,9 @@ class Made:
 
 NODES = [Made(*head.split(" | ")) for head, _ in sections("rust_nodes.txt")]
 
-
 def filled(file, of, **holes):
     """A template for what a production makes, without the newline at its end."""
     return template(f"rust_v0/{file}", **{name: text for name, text in vars(of).items() if isinstance(text, str)}, **holes).rstrip("\n")
-
 
 def made_in_code(made):
     """The function of a production, in code."""
@@ -39,14 +37,12 @@ def made_in_code(made):
     if not made.bare and len(", ".join(fields)) > 18: inside = "\n".join([" {", *[f"        {field}," for field in fields], "    }"])
     return filled("made.rt", made, joint="," if made.what.startswith(("and", "where")) else ":", read=read, made=f"    Ok(Node::{made.sort}({made.sort}::{made.variant}{inside}))")
 
-
 def made_in_specs(made):
     """And in definitions."""
     names = made.names()
     read = [f"  {name} ← operands.{part.name} {before}" for name, part, before in zip(names, made.parts, ["parts", *[f"{name}.1" for name in names]])]
     given = " ".join(f"{name}.0.0 {name}.0.1" if part.name == "identifier" else f"{name}.0" for name, part in zip(names, made.parts))
     return filled("made.antt", made, read=read, given=given)
-
 
 def made_gives(made):
     """That the two agree with what the production means."""

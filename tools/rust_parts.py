@@ -38,16 +38,13 @@ class Part:
         self.called, self.press, self.values = one.get("called"), one.get("press"), one.get("values")
         self.why, self.forms = one.get("why", "").replace("CLOSED", "(omega (arith, need_is))"), one.get("forms", "@").split(" | ")
 
-
 def front_of(names, *given):
     """What may be at the front, by its line."""
     fields = given[4].split() if len(given) > 4 else None
     return Front(*names.split(), *given[:4], fields=fields)
 
-
 PARTS = {head.split()[0]: Part(head, lines) for head, lines in sections("rust_parts.txt")}
 BY_NAME = {part.name: part for part in PARTS.values()}
-
 
 def parts_of(production):
     """The sorts of the parts of a production, by the symbols of its rule: a token's sort is that which its production takes it for."""

@@ -5,7 +5,6 @@ table."""
 FIRST, LAST = ord("$"), ord("z")
 MOST_SYMBOLS = 5
 
-
 def letter_rows(name, kinds):
     """The rows by kind, each with a comment: what a kind takes is by byte, as a byte string has it."""
     columns = "".join(chr(byte) for byte in range(FIRST, LAST + 1))
@@ -14,11 +13,9 @@ def letter_rows(name, kinds):
     for kind, letters in kinds.items():
         yield f'    *b"{"".join(letters.get(column, " ") for column in columns)}", // {kind}'
 
-
 def symbol_row(symbols, comment):
     """The symbols of a rule, in as many places as the longest may have."""
     return f"    [{', '.join([*symbols, *['NONE'] * (MOST_SYMBOLS - len(symbols))])}], // {comment}"
-
 
 def after_each(rules):
     """How many symbols come after each place of a list of symbols, up to an end: it has the start kind and then these rules' symbols, in six
