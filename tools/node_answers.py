@@ -1,6 +1,7 @@
 """The answers of those functions of cpp_tree that have an arm for each node: what is noted of it, and what is seen of it. trees.py writes them.
 A step of a call has the arm's name from the second call of its function on."""
 import re
+import cpp_trees
 import node_code
 from files import TEMPLATES, read, template
 from node_code import BELOW, nodes, placed
@@ -44,16 +45,7 @@ def noted(crates, others):
 
 # what another call tells of some nodes: the lemma, what it takes beside the node and the call's texts, and where that call asks for a bound, its
 # name and which of the node's it is
-def named_as(node, parts): return "told-name", f"(told.fields (erase (tree_of y.bytes y.thunks (trees y) ({node}))))", f"(λ k b. {parts}) told.few"
-def told_of(lemma, parts, fields="told.fields"): return lemma, fields, f"told.parts told.count (λ k b. {parts})"
-TOLD = {
-    "Thunk": (*told_of("told-one", "b.1", "(told.fields ∙ ap (λ u. thunk_fields (thunk_of y.bytes u) (plain_tree y c.in-Thunk.encoding)) c.thunk.ensures)"), None, ""),
-    "OfName": (*told_of("told-one", "b"), None, ""),
-    "Local": (*told_of("told-two", "(b.0, b.1)"), "discriminator", ".2"),
-    "Alone": (*named_as("Node.Alone c.in-Alone.piece", "told.parts k tt b"), "piece", ""),
-    "InStd": (*named_as("Node.InStd c.in-InStd.piece", "told.parts k tt b"), "piece", ""),
-    "Within": (*named_as("Node.Within c.in-Within.prefix c.in-Within.piece", "told.parts k b.0 b.1"), "piece", ".1"),
-}
+TOLD = {node_code.node_of(tree)[0]: said.split(" | ") for tree, said in cpp_trees.TOLD.items()}
 TABLE, HELD = "(over c.args.symbol.now c.args.nodes.now)", "(length c.args.nodes.now.nodes)"
 UNFOLDING = "fields_of erase tree_of"
 
@@ -70,7 +62,8 @@ def seen():
     for node, tree, args in nodes():
         goal, shown = f"returns-in-{node}", f"{TABLE} {HELD} c.in-{node}.is c.requires.node"
         if node in TOLD:
-            lemma, fields, others, asked, part = TOLD[node]
+            lemma, fields, others, *bound = TOLD[node]
+            asked, _, part = bound[0].partition(" ") if bound else ("", "", "")
             call = node_code.SEEN[node].partition("(")[0]
             behind = place(call, node)
             if asked: lines += ["", *answer(f"{call}-requires{behind}", f" record {{ {asked} = {f'(below-as {shown}){part}' if part else f'below-as {shown}'} }}")]
