@@ -4,7 +4,7 @@ import cpp_trees
 from cpp_trees import (
     BYTES, DISCRIMINATOR, INSIDE, MARK, NUMBER, OUTSIDE, OWN, PIECE, QUALIFIERS, SIGNATURE, SIGNED, THUNK, TREE, TRUTH, VIEWED, named,
 )
-from node_code import BELOW, PIECES, UNDER, bounds, nodes, placed
+from node_code import BELOW, PIECES, UNDER, bounds, nodes, placed, sorts_of
 from notation import applied, rewritten, together
 from tree_clauses import SCOPED, SUBTREES, arguments, cases
 
@@ -51,14 +51,11 @@ def fields_of():
         texts = [name if sort == BYTES else f"{name}.digits" for name, sort in tree[1:] if sort in (BYTES, SIGNED)] or ["[]"]
         parts = "".join(f"{name} ∷ " for name, sort in arguments(tree, *SUBTREES))
         return applied("fields", [tree[0].upper(), *(told + ["0", "0"])[:2], texts[0], f"({parts}[])" if parts else "[]"])
-    lines = []
-    for line in cases("fields_of", [], [], right, None, VIEWS()):
-        # the letters of a builtin type are told apart
-        if line.startswith("fields_of (builtin"):
-            lines += ["fields_of (builtin (letter ∷ [])) = fields BUILTIN letter 0 [] []",
-                      "fields_of (builtin (d ∷ letter ∷ [])) = if d == 68 then fields BUILTIN_WITH_D letter 0 [] [] else no_node (builtin (d ∷ letter ∷ []))"]
-        else: lines.append(line if len(line) <= 160 else line.replace(" = ", " =\n    "))
-    return lines + ["fields_of t = no_node t"]
+    # the letters of a builtin type are told apart
+    builtin = ["fields_of (builtin (letter ∷ [])) = fields BUILTIN letter 0 [] []",
+               "fields_of (builtin (d ∷ letter ∷ [])) = if d == 68 then fields BUILTIN_WITH_D letter 0 [] [] else no_node (builtin (d ∷ letter ∷ []))"]
+    shown = [[line if len(line) <= 160 else line.replace(" = ", " =\n    ")] for line in cases("fields_of", [], [], right, "no_node t", VIEWS())]
+    return [line.replace("fields_of _", "fields_of t") for lines in shown for line in (builtin if lines[0].startswith("fields_of (builtin") else lines)]
 
 def tree_from():
     """And the tree of it, by its production."""
@@ -101,7 +98,7 @@ def through(function, text, piece, others, special={}, renamed={}, without=(), o
         if node in special: return special[node]
         if node in without: return None
         # what is under a scope of its own is no part
-        shown = {t[0]: [sort for name, sort in t[1:]] for t in cpp_trees.TREES}[tree] if tree not in ("parameter", "list", "builtin", "again") else [sort for name, sort in args]
+        shown = sorts_of(tree) if tree not in ("parameter", "list", "builtin", "again") else [sort for name, sort in args]
         parts = [(piece if s == PIECE else text).format(name, bound) for (name, sort, bound), s in
                  [((name, sort, bound), s) for (name, sort), s in zip(args, shown) if s in SCOPED for n2, s2, bound in placed(args, (TREE, OWN, PIECE)) if n2 == name]]
         if not parts: return None
@@ -122,7 +119,7 @@ def noted(function, text, piece, joined, others, special={}, without=()):
     def right(node, tree, args):
         if node in special: return special[node]
         if node in without: return None
-        sorts = {t[0]: [sort for name, sort in t[1:]] for t in cpp_trees.TREES}[tree] if tree not in ("parameter", "builtin", "again") else []
+        sorts = sorts_of(tree) if tree not in ("parameter", "builtin") else []
         parts = [(piece if sort == PIECE else text).format(name) for (name, _), sort in zip(args, sorts) if sort in SCOPED]
         return joined(parts) if parts else None
     return node_cases(function, ["es"], [], right, others, {("Expansion", "pattern"): "t", ("Pack", "elements"): "t"})
@@ -141,7 +138,7 @@ def passed_fact(fact): return fact if fact.startswith("piece") else f"ap passed 
 def again_fact(fact, law): return f"{fact} t b.0 ∙ sym ({law} (Some (tree_at (trees y) a)) (tree_at (trees y) t))"
 
 # nodes of which something is noted, by their arguments: numbers of nodes are i and j here
-def is_noted(tree): return tree in ("nil", "parameter", "again") or any(sort in SCOPED for t in cpp_trees.TREES if t[0] == tree for name, sort in t[1:])
+def is_noted(tree): return tree in ("nil", "parameter", "again") or any(sort in SCOPED for sort in sorts_of(tree))
 SORTS = {PIECE: ("p", "Piece"), BYTES: ("d", "Span"), MARK: ("m", "Mark"), QUALIFIERS: ("q", "Qualifiers"), SIGNED: ("v", "Signed"), DISCRIMINATOR: ("d", "Option Span")}
 # the types of a node's arguments
 NODE_TYPES = {TREE: "ℕ", OWN: "ℕ", INSIDE: "ℕ", OUTSIDE: "ℕ", SIGNATURE: "ℕ", NUMBER: "ℕ", THUNK: "ℕ", UNDER: "ℕ", TRUTH: "Bool", **{sort: type for sort, (letter, type) in SORTS.items()}}
