@@ -39,12 +39,11 @@ for code, _ in words.OPERATORS:
 def production(name, eats, symbols, row):
     """Enters a production, which may be entered again as it is."""
     entered = (eats, symbols)
-    assert not symbols or P.get(name, entered) == entered, (name, P[name], entered)
-    assert not row or ROWS.get(name, row) == row, (name, ROWS[name], row)
+    assert not symbols or P.get(name, entered) == entered, f"{name} is entered with other symbols"
+    assert not row or ROWS.get(name, row) == row, f"{name} is entered with another row"
     P.setdefault(name, entered)
     if row:
         ROWS[name] = row
-    return name
 
 
 def row_of(texts):
@@ -60,23 +59,27 @@ class Reader:
         self.extended, self.groups, self.first = extended, {}, {}
 
     def rule(self, line, above):
-        """The rule of a line, entered."""
-        (bytes_, name, *symbols), *row = (part.split() for part in line.split(" | "))
-        found = None if bytes_ == "-" else CLASSES.get(bytes_, bytes_)
-        found = (found, production(name, found is not None, symbols, row_of(map(" ".join, row))))
+        """The rule of a line, entered: the bytes at which it is taken, or nothing, and its production."""
+        rule, *row = line.split(" | ")
+        taken, name, *symbols = rule.split()
+        taken = None if taken == "-" else CLASSES.get(taken, taken)
+        production(name, taken is not None, symbols, row_of(row))
         if above:
             ABOVE.setdefault(name, above)
-        return self.first.setdefault(name, found) and found
+        self.first.setdefault(name, (taken, name))
+        return taken, name
 
-    def named(self, words_):
+    def wrappers(self):
+        """The rules of the wrappers."""
+        for tree, name, letter in cpp_trees.WRAPPERS if self.extended else []:
+            yield self.rule(f"{letter} {name} Type | means {tree}(t0)", [f"<type> ::= {letter} <type>"])
+
+    def named(self, text):
         """The rules of groups and of productions, less one."""
-        names, _, but = " ".join(words_).partition(" but ")
+        names, _, but = text.partition(" but ")
         for name in names.split():
-            if name == "wrappers":
-                rules = [self.rule(f"{letter} {of} Type | means {tree}(t0)", [f"<type> ::= {letter} <type>"])
-                         for tree, of, letter in cpp_trees.WRAPPERS if self.extended]
-            else:
-                rules = self.groups.get(name) or [self.first[name]]
+            assert name == "wrappers" or name in self.groups or name in self.first, f"no rule {name}"
+            rules = self.wrappers() if name == "wrappers" else self.groups.get(name) or [self.first[name]]
             yield from (rule for rule in rules if rule[1] != but)
 
     def rules(self, line, above):
@@ -87,7 +90,7 @@ class Reader:
         if first == "wide":
             return [(*rule[:2], "wide") for rule in self.rules(rest, above)]
         if first == "=":
-            return list(self.named(rest.split()))
+            return list(self.named(rest))
         return [self.rule(f"{rest} Mark" if first == "mark" else line, above)]
 
 
