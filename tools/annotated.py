@@ -26,7 +26,7 @@ class Module:
             before = sort
 
     def body(self, blocks):
-        """The blocks that aren't shared, with what differs in them; a heading of which nothing is left goes, too."""
+        """The blocks that aren't shared, with what differs in them. A heading without blocks goes, too."""
         kept = [block for block in blocks if not any(name in self.shared for name in names_of(block))]
         text = "\n\n".join(block for block, after in zip(kept, [*kept[1:], "-- ##"]) if not (is_heading(block) and is_heading(after)))
         for change in self.changed:

@@ -16,7 +16,7 @@ COMPONENTS, ENCODINGS = [], []
 # by tree: what is said of its node, what a type is whose left parts end otherwise than a plain one's, its node, what is noted and seen of that
 BELOW = {"says": {}, "head": {}, "node": {}, "noted": {}, "seen": {}, "fields": {}, "told": {}}
 SAYS, HEADS, NODES, NOTED, SEEN, FIELDS, TOLD = BELOW.values()
-# and of which trees the fields of what is seen are, by production
+# and the trees that have the fields of what is seen, by production
 FROM = {}
 # <type> ::= <letter> <type>: tree, production, letter; the text after the type; and what is said of its number
 WRAPPERS, TEXTS, NUMBERED = [], {}, {}

@@ -19,7 +19,7 @@ def read(path, otherwise=NOTHING):
 
 
 def sources(folder):
-    """The path of each source below a folder, but for what checks leave in `out`."""
+    """The path of each source below a folder. What checks leave in `out` is no source."""
     for at, folders, names in os.walk(folder):
         folders[:] = [name for name in folders if name != "out"]
         yield from (os.path.join(at, name) for name in sorted(names) if name.endswith((".rt", ".antt")))

@@ -153,13 +153,13 @@ def matches(crates):
     return matched, steps
 
 def whole_file(function, shown):
-    """The file of the answers of a function of which none is by hand."""
+    """The file of the answers of a function that has none by hand."""
     body = "\n\n".join("\n".join(lines) for lines in shown)
     uses = [*imports(dict(ARMS["names"]), body, "use"), f"use Rattle.cpp_layout.proofs.symbol.Symbol.{function}.Goals as goal"]
     return "\n".join([f"-- {WRITTEN}", *uses, "", body]) + "\n"
 
 def files(crates, types):
-    """The file of the lemmas, the answers by function, those of which are whole files, and the nodes by function."""
+    """The file of the lemmas, the answers by function, whole files of answers, and the nodes by function."""
     matched, steps = matches(crates)
     written = {function: list(answers(matched, steps, function, "left_parts d c", "")) for function in LEFT}
     for function, lemma, variables, of_others, of_tree, by in WHOLE:

@@ -91,8 +91,7 @@ def arms(path, indent, of):
 
 # ## What is noted
 
-# by node: what is noted and seen of those of which it is more than that of their parts; no node here is a tree that is there again, which is
-# shown in its place
+# by node: what is noted and seen beside its parts. An alias is no node here: the tree that it denotes is shown in its place
 NOTED = {**{node_of(tree)[0]: code for tree, code in cpp_trees.NOTED.items()}, "Reargued": "self.noted_again(symbol, node, tree, argument)"}
 SEEN = {**{node_of(tree)[0]: code for tree, code in cpp_trees.SEEN.items()}, "BuiltinWithD": "leaf(BUILTIN_WITH_D, letter as u64)", "Reargued": "leaf(ABSENT, 0)"}
 def sorts_of(tree): return {t[0]: [sort for name, sort in t[1:]] for t in cpp_trees.TREES}.get(tree, [])
