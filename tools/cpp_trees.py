@@ -18,6 +18,8 @@ BELOW = {"says": {}, "head": {}, "node": {}, "noted": {}, "seen": {}, "fields": 
 SAYS, HEADS, NODES, NOTED, SEEN, FIELDS, TOLD = BELOW.values()
 # and the trees that have the fields of what is seen, by production
 FROM = {}
+# the right sides of clauses that aren't as a tree's arguments say, by definition or law; none where there is no clause
+CLAUSES = {}
 # <type> ::= <letter> <type>: tree, production, letter; the text after the type; and what is said of its number
 WRAPPERS, TEXTS, NUMBERED = [], {}, {}
 # names of arguments elsewhere, by where that is
@@ -38,7 +40,10 @@ def enter(name, arguments, sort="", *spelling):
 def enter_below(name, line):
     """Enters what is said of a tree below it."""
     word, _, rest = line.partition(" ")
-    if word in ("fits", "from"):
+    if word.startswith("clause"):
+        of, _, right = rest.partition(" ")
+        CLAUSES.setdefault(of, {})[name] = (f"\n    {right}" if word == "clause_below" else right) or None
+    elif word in ("fits", "from"):
         said = {"fits": FITTING, "from": FROM}[word]
         said[name] = [*said.get(name, []), *filter(None, [rest])]
     else:

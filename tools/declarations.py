@@ -12,39 +12,35 @@ from production_clauses import (
     are_shut, built_good, built_noted, by_production, is_rare, makes_at_end, may_leave, none_are_taken, slack, takes_encodings,
 )
 from tree_clauses import (
-    ANNOTATED_FUNCTION, CLOSED_FUNCTION, FIRST, SCOPED, both_by, both_free, by_each, carried, cases, closed_noted, closed_packs, either, either_open,
-    equal_tree, erased, first_of, fold, free_half, inside, inside_shut, never_referred, open_erased, reargued, reargued_laws, rebuilt,
-    same_tree, summed, tree_itself, weight_grows, weight_of_scopes, weight_of_terms,
+    FIRST, SCOPED, both_by, both_free, by_each, carried, cases, closed_noted, closed_packs, either, either_open, equal_tree, erased,
+    first_of, fold, free_half, inside, inside_shut, never_referred, open_erased, reargued, reargued_laws, rebuilt, same_tree,
+    summed, tree_itself, weight_grows,
 )
-
-# an expansion is shown by hand, or as other trees
-NO_EXPANSION = {"expansion": None}
-
 
 def marking(function, marked, value, others, after=()):
     """A value for each of these trees, and another for the others."""
     return cases(function, [], after, lambda tree: value if tree[0] in marked else None, others, named(PRESSED))
 
 
-def scoped(function, joined, none, special, before=()):
+def scoped(function, joined, none, before=()):
     """What is computed of the subtrees under the scope of the whole, by the names that scopes have; parameters first."""
-    return fold(function, list(before), joined, none, special, SCOPED, trees=named(SCOPES, ["parameter"]))
+    return fold(function, list(before), joined, none, over=SCOPED, trees=named(SCOPES, ["parameter"]))
 
 
-def folded(function, joined, none, special=None, before=()):
+def folded(function, joined, none, before=()):
     """What is shown of the subtrees under the scope of the whole."""
-    return fold(function, list(before), joined, none, special or {}, SCOPED)
+    return fold(function, list(before), joined, none, over=SCOPED)
 
 
 def of_grammar():
     """Those of cpp_grammar."""
-    length = {"parameter": "length_if_pack (element scope number)", **NO_EXPANSION}
+    # what a local entity is in is no part of its weight
     return {
-        "specs/Ranks.antt": {"weight": weight_of_scopes()},
-        "specs/Closed.antt": {"ScopesAreClosed": fold("ScopesAreClosed", [], " × ".join, "Unit {0}", {"function": CLOSED_FUNCTION}, trees=FIRST)},
-        "specs/Scope.antt": {"is_open": scoped("is_open", either, "false", {"parameter": "true"}),
-                             "free_in": scoped("free_in", both_free, "none_free", {"parameter": "one_free number"}),
-                             "pack_length": scoped("pack_length", first_of, "None", length, ["scope"])},
+        "specs/Ranks.antt": {"weight": fold("weight", ["a", "scope"], summed("1"), "1", closed=["0", "None"], crate="cpp_grammar/")},
+        "specs/Closed.antt": {"ScopesAreClosed": fold("ScopesAreClosed", [], " × ".join, "Unit {0}", trees=FIRST)},
+        "specs/Scope.antt": {"is_open": scoped("is_open", either, "false"),
+                             "free_in": scoped("free_in", both_free, "none_free"),
+                             "pack_length": scoped("pack_length", first_of, "None", ["scope"])},
         "proofs/RanksFall.antt": {"weight_grows": weight_grows()},
         "proofs/ClosedValues.antt": {"built_good": built_good()},
     }
@@ -52,21 +48,19 @@ def of_grammar():
 
 def of_term():
     """Those of cpp_term."""
-    annotated = {"function": ANNOTATED_FUNCTION, "parameter": "term_.parameter k (argument_in s k)", "generic_lambda": "term_.generic_lambda (annotate in_own parameters) number"}
-    of_all = {"parameter": "ap scope_.length_if_pack (element_noted nowhere all k) ∙ length_noted nowhere (element all k)", **NO_EXPANSION}
     renoted = closed_noted("renoted", ["r", "s", "a"], free_half, "ap (term_.parameter k) (sym e)")
-    own, first_by = {"parameter": "refl", **NO_EXPANSION}, both_by("first_of")
+    first_by = both_by("first_of")
     return {
         "specs/Erased.antt": {"erase": rebuilt("erase", [], [], True)},
-        "specs/Annotated.antt": {"annotate": rebuilt("annotate", ["s"], ["nowhere"], False, annotated)},
-        "specs/Ranks.antt": {"weight": weight_of_terms()},
-        "specs/Reargued.antt": {"reargued": reargued(), "bare": carried(folded("bare", either, "false", {"parameter": "true", **NO_EXPANSION}))},
+        "specs/Annotated.antt": {"annotate": rebuilt("annotate", ["s"], ["nowhere"], False)},
+        "specs/Ranks.antt": {"weight": carried(fold("weight", [], summed("1"), "1", crate="cpp_term/"))},
+        "specs/Reargued.antt": {"reargued": reargued(), "bare": carried(folded("bare", either, "false"))},
         "proofs/Reargued.antt": reargued_laws(),
         "proofs/Erasing.antt": {"erased": erased()},
         "proofs/MeaningNoted.antt": {"takes_encodings": takes_encodings(), "AreShut": are_shut(), "none_are_taken": none_are_taken(), "built_noted": built_noted()},
         "proofs/Notes.antt": {"open_noted": folded("open_noted", both_by("(λ x y. x || y)"), "refl", before=["s"]), "closed_noted": closed_noted(), "renoted": renoted,
-                              "free_noted": folded("free_noted", both_by("both_free"), "refl", before=["s"]), "pack_own": folded("pack_own", first_by, "refl", own),
-                              "pack_none": folded("pack_none", first_by, "refl", own), "pack_some": folded("pack_some", first_by, "refl", of_all, ["all"])},
+                              "free_noted": folded("free_noted", both_by("both_free"), "refl", before=["s"]), "pack_own": folded("pack_own", first_by, "refl"),
+                              "pack_none": folded("pack_none", first_by, "refl"), "pack_some": folded("pack_some", first_by, "refl", ["all"])},
     }
 
 

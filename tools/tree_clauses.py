@@ -2,7 +2,7 @@
 declarations.py says in which file each is."""
 import cpp_trees
 from cpp_trees import (
-    BYTES, DISCRIMINATOR, INSIDE, MARK, NUMBER, OUTSIDE, OWN, PIECE, PRESSED, QUALIFIERS, SIGNATURE, SIGNED, THUNK, TREE, TRUTH, named,
+    BYTES, CLAUSES, DISCRIMINATOR, INSIDE, MARK, NUMBER, OUTSIDE, OWN, PIECE, PRESSED, QUALIFIERS, SIGNATURE, SIGNED, THUNK, TREE, TRUTH, named,
 )
 from notation import alone_or, applied, rewritten
 from sameness import equal_clause, itself, same_clause
@@ -28,8 +28,9 @@ def carried(lines):
 
 # ## Trees
 
-def fold(function, before, joined, none, special={}, over=SUBTREES, closed=None, trees=cpp_trees.TREES):
+def fold(function, before, joined, none, special={}, over=SUBTREES, closed=None, trees=cpp_trees.TREES, crate=""):
     """What is computed of the subtrees, joined; `closed` stands for `before` at trees under a scope of their own."""
+    special = {**special, **CLAUSES.get(crate + function, {})}
     def right(tree):
         if tree[0] in special: return special[tree[0]]
         parts = [applied(function, [*(closed if closed is not None and sort in APART else before), name]) for name, sort in arguments(tree, *over)]
@@ -45,8 +46,9 @@ both_free, first_of = joined_by("both_free"), joined_by("first_of")
 def either_open(facts): return alone_or(facts, lambda several: applied("either-open", [*[f"(free_in {fact.split()[-1]})" for fact in several], *in_braces(several)]))
 def bare_first(parts): return alone_or(parts, lambda several: applied("bare_first", [*[f"(bare {part.split()[-1]})" for part in several], "(length_if_pack a)", *in_braces(several)]))
 
-def rebuilt(function, before, closed, carries, special={}):
+def rebuilt(function, before, closed, carries):
     """The tree again, of what is made of its subtrees."""
+    special = CLAUSES.get(function, {})
     def right(tree):
         if tree[0] in special: return special[tree[0]]
         def part(name, sort): return name if sort not in SUBTREES else f"({applied(function, [*(closed if sort in (OWN, OUTSIDE) else before), name])})"
@@ -86,27 +88,12 @@ def tree_itself():
 
 # ## Trees with their arguments
 
-ANNOTATED_FUNCTION = """
-    term_.function (annotate nowhere name) q ref (annotate (place_of (scope_.arguments_of (annotate nowhere name))) returned) (annotate (place_of (scope_.arguments_of (annotate nowhere name))) parameters)"""
-
 def erased():
     """That the annotated tree without its arguments is the tree."""
     within = "(erased (place_of (scope_.arguments_of (annotate nowhere name)))"
     function = f"three (λ a b c. function a q ref b c) (erased nowhere name) {within} returned) {within} parameters)"
     def fact(name, sort): return f"(erased {'nowhere' if sort in (OWN, OUTSIDE) else 'in_own' if sort == SIGNATURE else 's'} {name})"
     return cases("erased", ["s"], [], lambda tree: function if tree[0] == "function" else of_subtrees(tree, tree[0], fact, SUBTREES, "ab"), "refl")
-
-WEIGHT_OF_FUNCTION = """
-    1 + weight 0 None name + weight (weight 0 None name) (arguments_of name) returned + weight (weight 0 None name) (arguments_of name) parameters"""
-CLOSED_FUNCTION = """
-    HasNoneFree (arguments_of name) × ScopesAreClosed name × ScopesAreClosed returned × ScopesAreClosed parameters"""
-
-def weight_of_scopes():
-    """What a tree weighs, whose parameters weigh as much as what they name."""
-    # what a local entity is in is no part of its weight
-    special = {"function": WEIGHT_OF_FUNCTION, "local": "1 + weight a scope entity", "parameter": "2 + a",
-               "expansion": "2 + weight a scope pattern + pack_count scope pattern"}
-    return fold("weight", ["a", "scope"], summed("1"), "1", special, closed=["0", "None"])
 
 def weight_grows():
     """That a tree weighs no less where its parameters do."""
@@ -170,8 +157,6 @@ def by_each(function, lemma, before, others, called):
 
 # ## What is inside
 
-INSIDE_OF_FUNCTION = """
-    Shut (Inside name x ⊎ (ItselfOr returned (Inside returned x) x ⊎ Inside parameters x)) x"""
 # the arguments that are prefixes
 PREFIXES = (("within", "prefix"), ("holder", "name"))
 
@@ -212,7 +197,7 @@ def inside():
         kind = itself_as(tree, name)
         return f"{kind}Or {name} (Inside {name} x) x" if kind else f"Inside {name} x"
     def right(tree):
-        if tree[0] == "function": return INSIDE_OF_FUNCTION
+        if tree[0] == "function": return CLAUSES["Inside"]["function"]
         whole = " ⊎ ".join(part(tree, name, sort) for name, sort in arguments(tree, *SUBTREES))
         return f"Shut ({whole}) x" if tree[0] in ("special", "construction") else whole or None
     return cases("Inside", [], ["x"], right, "⊥", named(PRESSED))
@@ -237,13 +222,13 @@ def made_again(function, before, after=(), parameter="refl", made="", given=lamb
 
 def reargued_laws():
     """The laws of trees with another argument, by their names."""
-    def law(function, before, joined, special={}): return {function: carried(fold(function, before, joined, "refl", special, SCOPED))}
-    either_by, both_refl = both_by("(λ x y. x || y)"), {"expansion": "refl", "parameter": "refl"}
+    def law(function, before, joined): return {function: carried(fold(function, before, joined, "refl", over=SCOPED))}
+    either_by = both_by("(λ x y. x || y)")
     return {
         "reargued_none": made_again("reargued_none", []), "reargued_twice": made_again("reargued_twice", ["c", "a"]),
         "reargued_closed": made_again("reargued_closed", ["c"], ["closed"], "absurd (true≢false closed)"),
-        **law("open_reargued", ["c"], either_by), **law("free_reargued", ["c"], both_by("both_free")), **law("bare_reargued", ["c"], either_by, both_refl),
-        **law("pack_reargued", ["a"], bare_first, {"parameter": "given_length a k", "expansion": None}),
+        **law("open_reargued", ["c"], either_by), **law("free_reargued", ["c"], both_by("both_free")), **law("bare_reargued", ["c"], either_by),
+        **law("pack_reargued", ["a"], bare_first),
         # another argument in free parameters is erased with the others
         "erase_reargued": made_again("erase_reargued", ["c"], parameter=None, made="term_.", given=lambda name, sort: f"(erase {name})" if sort in APART else name),
     }
@@ -252,10 +237,4 @@ def reargued_laws():
 
 def open_erased():
     """That an annotated tree is open where the tree is."""
-    return carried(fold("open-erased", [], lambda parts: alone_or(parts, rewritten), "refl", {"parameter": "refl"}, SCOPED))
-
-def weight_of_terms():
-    """What an annotated tree weighs."""
-    special = {"function": "\n    1 + weight name + weight returned + weight parameters", "local": "1 + weight entity", "parameter": "2 + weight argument",
-               "expansion": "2 + weight pattern + pack_count pattern"}
-    return carried(fold("weight", [], summed("1"), "1", special))
+    return carried(fold("open-erased", [], lambda parts: alone_or(parts, rewritten), "refl", over=SCOPED))
