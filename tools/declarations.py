@@ -17,6 +17,7 @@ from tree_clauses import (
     summed, tree_itself, weight_grows,
 )
 
+
 def marking(function, marked, value, others, after=()):
     """A value for each of these trees, and another for the others."""
     return cases(function, [], after, lambda tree: value if tree[0] in marked else None, others, named(PRESSED))

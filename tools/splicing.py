@@ -15,13 +15,13 @@ def declared(text, name):
     end = text.find("\n\n", signature.start())
     return text.rfind("\n\n", 0, signature.start()) + 2, len(text.rstrip("\n")) if end < 0 else end
 
-def with_declarations(text, owns):
+def with_declarations(text, owns, mark=WRITTEN):
     """The text, with these declarations: each where it is, or else after the one before, the first at the end."""
     behind = len(text.rstrip("\n"))
     for own in owns:
         name = re.match(r"(?:pub )?(\S+) : ", own).group(1)
         place = declared(text, name)
-        own = f"-- {WRITTEN}\n{own}"
+        own = f"-- {mark}\n{own}"
         if place: text = text[:place[0]] + own + text[place[1]:]
         else: text = f"{text[:behind]}\n\n{own}{text[behind:]}"
         behind = declared(text, name)[1]
