@@ -88,15 +88,15 @@ ALL_TABLES = "builtin_texts operator_texts abbreviation_texts special_texts name
 def unfolding(*names): return f"#[tactic(auto, unfolding({', '.join(names)}))]"
 
 ABBREVIATIONS = [text for _, text in words.ABBREVIATIONS]
-# the texts in groups, in the order of their numbers
+# the texts in groups, in the order of their numbers: a new operator, at the end of the last group, renumbers no text
 GROUPS = {
-    "PLAIN": [text for _, text in words.PLAIN_TEXTS], "SUFFIX": SUFFIXES, "BUILTIN": [text for _, text in BUILTINS], "OPERATOR": ["operator" + text for _, text in words.OPERATORS],
+    "PLAIN": [text for _, text in words.PLAIN_TEXTS], "SUFFIX": SUFFIXES, "BUILTIN": [text for _, text in BUILTINS],
     "ABBREVIATION": ABBREVIATIONS, "LAST_OF_ABBREVIATION": [text.removeprefix("std::") for text in ABBREVIATIONS], "SPECIAL": [text for _, text in words.SPECIALS],
     "NAMED_SPECIAL": [text for _, text in words.NAMED_SPECIALS], "ENDING": [text for _, text in words.ENDINGS], "BLANKED": BLANKED, "OPERATOR_ALONE": ["operator"],
-    "OPERATION": OPERATION_TEXTS, "COUNT": [],
+    "OPERATION": OPERATION_TEXTS, "OPERATOR": ["operator" + text for _, text in words.OPERATORS], "COUNT": [],
 }
 # the functions of texts, in the order in which each leaves to the next one what is past its own
-TEXT_FUNCTIONS = ["fixed_text", "suffix_text", "builtin_text", "operator_text", "remaining_text", "operation_text"]
+TEXT_FUNCTIONS = ["fixed_text", "suffix_text", "builtin_text", "remaining_text", "operation_text", "operator_text"]
 BEGINS = dict(zip(GROUPS, accumulate([0, *map(len, GROUPS.values())])))
 
 def text_arms(*groups):

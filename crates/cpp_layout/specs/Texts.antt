@@ -16,9 +16,9 @@ abbrev pub word_texts : List (List ℕ)
 word_texts = codes "operator" ∷ []
 
 abbrev pub texts : List (List ℕ)
-texts = plain_texts ++ (suffix_texts ++ named_texts (λ t. t) builtin_texts (named_texts (λ t. codes "operator" ++ t) operator_texts
-    (named_texts (λ t. t) abbreviation_texts (named_texts (λ t. drop 5 t) abbreviation_texts
-    (named_texts (λ t. t) special_texts (named_texts (λ t. t) named_special_texts (named_texts (λ t. t) literal_endings (blanked_texts ++ (word_texts ++ operation_texts)))))))))
+texts = plain_texts ++ (suffix_texts ++ named_texts (λ t. t) builtin_texts (named_texts (λ t. t) abbreviation_texts
+    (named_texts (λ t. drop 5 t) abbreviation_texts (named_texts (λ t. t) special_texts (named_texts (λ t. t) named_special_texts
+    (named_texts (λ t. t) literal_endings (blanked_texts ++ (word_texts ++ (operation_texts ++ named_texts (λ t. codes "operator" ++ t) operator_texts [])))))))))
 
 abbrev pub fixed_text : ℕ → List ℕ
 fixed_text number = elim (slice_get texts number) [ Some text ↦ text | None ↦ [] ]

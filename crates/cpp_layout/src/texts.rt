@@ -113,226 +113,226 @@ pub const NONE: u16 = 50;
 /// Where the builtin types begin.
 pub const BUILTIN: u16 = 98;
 
+/// Where the abbreviations begin, and their names without `std::`.
+pub const ABBREVIATION: u16 = 129;
+
+pub const LAST_OF_ABBREVIATION: u16 = 135;
+
+/// Where the special names begin.
+pub const SPECIAL: u16 = 141;
+
+/// Where the special names of names begin.
+pub const NAMED_SPECIAL: u16 = 145;
+
+/// Where the endings of integer literals begin.
+pub const ENDING: u16 = 148;
+
+/// Where the qualifiers with their blank at the end begin, except for those of no qualifier.
+pub const BLANKED: u16 = 152;
+
+/// The name of an operator without a code.
+pub const OPERATOR_ALONE: u16 = 160;
+
+/// Where the texts of operations begin.
+pub const OPERATION: u16 = 161;
+
 /// Where the names of operators begin.
-pub const OPERATOR: u16 = 129;
+pub const OPERATOR: u16 = 236;
 
 /// How many operators there are.
 pub const OPERATORS: u16 = 48;
 
-/// Where the abbreviations begin, and their names without `std::`.
-pub const ABBREVIATION: u16 = 177;
-
-pub const LAST_OF_ABBREVIATION: u16 = 183;
-
-/// Where the special names begin.
-pub const SPECIAL: u16 = 189;
-
-/// Where the special names of names begin.
-pub const NAMED_SPECIAL: u16 = 193;
-
-/// Where the endings of integer literals begin.
-pub const ENDING: u16 = 196;
-
-/// Where the qualifiers with their blank at the end begin, except for those of no qualifier.
-pub const BLANKED: u16 = 200;
-
-/// The name of an operator without a code.
-pub const OPERATOR_ALONE: u16 = 208;
-
-/// Where the texts of operations begin.
-pub const OPERATION: u16 = 209;
-
 /// How many texts there are.
 pub const COUNT: u16 = 284;
+
+/// The name of an operator.
+#[tactic(auto, unfolding(crate::specs::Texts::fixed_text, cpp_grammar::specs::Texts::builtin_texts, cpp_grammar::specs::Texts::operator_texts, cpp_grammar::specs::Texts::abbreviation_texts, cpp_grammar::specs::Texts::special_texts, cpp_grammar::specs::Texts::named_special_texts, cpp_grammar::specs::Texts::literal_endings))]
+#[inline(always)]
+fn operator_text(number: u16) -> &'static [u8]
+    requires { 236 ≤ number }
+    ensures { result.now ≡ fixed_text number }
+{
+    match number {
+        236 => b"operator new",
+        237 => b"operator new[]",
+        238 => b"operator delete",
+        239 => b"operator delete[]",
+        240 => b"operator co_await",
+        241 => b"operator+",
+        242 => b"operator-",
+        243 => b"operator&",
+        244 => b"operator*",
+        245 => b"operator~",
+        246 => b"operator+",
+        247 => b"operator-",
+        248 => b"operator*",
+        249 => b"operator/",
+        250 => b"operator%",
+        251 => b"operator&",
+        252 => b"operator^",
+        253 => b"operator=",
+        254 => b"operator+=",
+        255 => b"operator-=",
+        256 => b"operator*=",
+        257 => b"operator/=",
+        258 => b"operator%=",
+        259 => b"operator&=",
+        260 => b"operator|=",
+        261 => b"operator^=",
+        262 => b"operator<<",
+        263 => b"operator>>",
+        264 => b"operator<<=",
+        265 => b"operator>>=",
+        266 => b"operator==",
+        267 => b"operator!=",
+        268 => b"operator<",
+        269 => b"operator>",
+        270 => b"operator<=",
+        271 => b"operator>=",
+        272 => b"operator<=>",
+        273 => b"operator!",
+        274 => b"operator&&",
+        275 => b"operator||",
+        276 => b"operator++",
+        277 => b"operator--",
+        278 => b"operator,",
+        279 => b"operator->*",
+        280 => b"operator->",
+        281 => b"operator()",
+        282 => b"operator[]",
+        283 => b"operator|",
+        _ => b"",
+    }
+}
 
 /// A text of an operation.
 #[tactic(auto, unfolding(crate::specs::Texts::fixed_text, cpp_grammar::specs::Texts::builtin_texts, cpp_grammar::specs::Texts::operator_texts, cpp_grammar::specs::Texts::abbreviation_texts, cpp_grammar::specs::Texts::special_texts, cpp_grammar::specs::Texts::named_special_texts, cpp_grammar::specs::Texts::literal_endings))]
 #[inline(always)]
 fn operation_text(number: u16) -> &'static [u8]
-    requires { 209 ≤ number }
+    requires { 161 ≤ number }
     ensures { result.now ≡ fixed_text number }
 {
     match number {
-        209 => b"+",
-        210 => b"-",
-        211 => b"&",
-        212 => b"*",
-        213 => b"~",
-        214 => b"!",
-        215 => b"co_await ",
-        216 => b"delete ",
-        217 => b"delete[] ",
-        218 => b"throw ",
-        219 => b"::",
-        220 => b"++",
-        221 => b"--",
-        222 => b".*",
-        223 => b"->*",
-        224 => b" * ",
-        225 => b" / ",
-        226 => b" % ",
-        227 => b" + ",
-        228 => b" - ",
-        229 => b" << ",
-        230 => b" <=> ",
-        231 => b" < ",
-        232 => b" <= ",
-        233 => b" >= ",
-        234 => b" == ",
-        235 => b" != ",
-        236 => b" & ",
-        237 => b" ^ ",
-        238 => b" | ",
-        239 => b" && ",
-        240 => b" || ",
-        241 => b" > ",
-        242 => b" >> ",
-        243 => b", ",
-        244 => b" = ",
-        245 => b" += ",
-        246 => b" -= ",
-        247 => b" *= ",
-        248 => b" /= ",
-        249 => b" %= ",
-        250 => b" &= ",
-        251 => b" |= ",
-        252 => b" ^= ",
-        253 => b" <<= ",
-        254 => b" >>= ",
-        255 => b"[",
-        256 => b"]",
-        257 => b".",
-        258 => b"->",
-        259 => b" ? ",
-        260 => b" : ",
-        261 => b"(",
-        262 => b")",
-        263 => b")(",
-        264 => b"{",
-        265 => b"}",
-        266 => b"dynamic_cast<",
-        267 => b">(",
-        268 => b"static_cast<",
-        269 => b"const_cast<",
-        270 => b"reinterpret_cast<",
-        271 => b"typeid (",
-        272 => b"sizeof (",
-        273 => b"alignof (",
-        274 => b"noexcept (",
-        275 => b"sizeof...(",
-        276 => b"this",
-        277 => b"new",
-        278 => b" ",
-        279 => b"new[]",
-        280 => b"(...",
-        281 => b"...)",
-        282 => b"requires {...}",
-        283 => b"requires (...) {...}",
-        _ => b"",
+        161 => b"+",
+        162 => b"-",
+        163 => b"&",
+        164 => b"*",
+        165 => b"~",
+        166 => b"!",
+        167 => b"co_await ",
+        168 => b"delete ",
+        169 => b"delete[] ",
+        170 => b"throw ",
+        171 => b"::",
+        172 => b"++",
+        173 => b"--",
+        174 => b".*",
+        175 => b"->*",
+        176 => b" * ",
+        177 => b" / ",
+        178 => b" % ",
+        179 => b" + ",
+        180 => b" - ",
+        181 => b" << ",
+        182 => b" <=> ",
+        183 => b" < ",
+        184 => b" <= ",
+        185 => b" >= ",
+        186 => b" == ",
+        187 => b" != ",
+        188 => b" & ",
+        189 => b" ^ ",
+        190 => b" | ",
+        191 => b" && ",
+        192 => b" || ",
+        193 => b" > ",
+        194 => b" >> ",
+        195 => b", ",
+        196 => b" = ",
+        197 => b" += ",
+        198 => b" -= ",
+        199 => b" *= ",
+        200 => b" /= ",
+        201 => b" %= ",
+        202 => b" &= ",
+        203 => b" |= ",
+        204 => b" ^= ",
+        205 => b" <<= ",
+        206 => b" >>= ",
+        207 => b"[",
+        208 => b"]",
+        209 => b".",
+        210 => b"->",
+        211 => b" ? ",
+        212 => b" : ",
+        213 => b"(",
+        214 => b")",
+        215 => b")(",
+        216 => b"{",
+        217 => b"}",
+        218 => b"dynamic_cast<",
+        219 => b">(",
+        220 => b"static_cast<",
+        221 => b"const_cast<",
+        222 => b"reinterpret_cast<",
+        223 => b"typeid (",
+        224 => b"sizeof (",
+        225 => b"alignof (",
+        226 => b"noexcept (",
+        227 => b"sizeof...(",
+        228 => b"this",
+        229 => b"new",
+        230 => b" ",
+        231 => b"new[]",
+        232 => b"(...",
+        233 => b"...)",
+        234 => b"requires {...}",
+        235 => b"requires (...) {...}",
+        _ => operator_text(number),
     }
 }
 
-/// A text after the operators: an abbreviation, a special name, an ending, a qualifier.
+/// A text after the builtin types: an abbreviation, a special name, an ending, a qualifier.
 #[tactic(auto, unfolding(crate::specs::Texts::fixed_text, cpp_grammar::specs::Texts::builtin_texts, cpp_grammar::specs::Texts::operator_texts, cpp_grammar::specs::Texts::abbreviation_texts, cpp_grammar::specs::Texts::special_texts, cpp_grammar::specs::Texts::named_special_texts, cpp_grammar::specs::Texts::literal_endings))]
 #[inline(always)]
 fn remaining_text(number: u16) -> &'static [u8]
-    requires { 177 ≤ number }
-    ensures { result.now ≡ fixed_text number }
-{
-    match number {
-        177 => b"std::allocator",
-        178 => b"std::basic_string",
-        179 => b"std::string",
-        180 => b"std::istream",
-        181 => b"std::ostream",
-        182 => b"std::iostream",
-        183 => b"allocator",
-        184 => b"basic_string",
-        185 => b"string",
-        186 => b"istream",
-        187 => b"ostream",
-        188 => b"iostream",
-        189 => b"vtable for ",
-        190 => b"VTT for ",
-        191 => b"typeinfo for ",
-        192 => b"typeinfo name for ",
-        193 => b"guard variable for ",
-        194 => b"thread-local initialization routine for ",
-        195 => b"thread-local wrapper routine for ",
-        196 => b"u",
-        197 => b"l",
-        198 => b"ul",
-        199 => b"ll",
-        200 => b"ull",
-        201 => b"restrict ",
-        202 => b"volatile ",
-        203 => b"volatile restrict ",
-        204 => b"const ",
-        205 => b"const restrict ",
-        206 => b"const volatile ",
-        207 => b"const volatile restrict ",
-        OPERATOR_ALONE => b"operator",
-        _ => operation_text(number),
-    }
-}
-
-/// The name of an operator.
-#[tactic(auto, unfolding(crate::specs::Texts::fixed_text, cpp_grammar::specs::Texts::builtin_texts, cpp_grammar::specs::Texts::operator_texts))]
-#[inline(always)]
-fn operator_text(number: u16) -> &'static [u8]
     requires { 129 ≤ number }
     ensures { result.now ≡ fixed_text number }
 {
     match number {
-        129 => b"operator new",
-        130 => b"operator new[]",
-        131 => b"operator delete",
-        132 => b"operator delete[]",
-        133 => b"operator co_await",
-        134 => b"operator+",
-        135 => b"operator-",
-        136 => b"operator&",
-        137 => b"operator*",
-        138 => b"operator~",
-        139 => b"operator+",
-        140 => b"operator-",
-        141 => b"operator*",
-        142 => b"operator/",
-        143 => b"operator%",
-        144 => b"operator&",
-        145 => b"operator^",
-        146 => b"operator=",
-        147 => b"operator+=",
-        148 => b"operator-=",
-        149 => b"operator*=",
-        150 => b"operator/=",
-        151 => b"operator%=",
-        152 => b"operator&=",
-        153 => b"operator|=",
-        154 => b"operator^=",
-        155 => b"operator<<",
-        156 => b"operator>>",
-        157 => b"operator<<=",
-        158 => b"operator>>=",
-        159 => b"operator==",
-        160 => b"operator!=",
-        161 => b"operator<",
-        162 => b"operator>",
-        163 => b"operator<=",
-        164 => b"operator>=",
-        165 => b"operator<=>",
-        166 => b"operator!",
-        167 => b"operator&&",
-        168 => b"operator||",
-        169 => b"operator++",
-        170 => b"operator--",
-        171 => b"operator,",
-        172 => b"operator->*",
-        173 => b"operator->",
-        174 => b"operator()",
-        175 => b"operator[]",
-        176 => b"operator|",
-        _ => remaining_text(number),
+        129 => b"std::allocator",
+        130 => b"std::basic_string",
+        131 => b"std::string",
+        132 => b"std::istream",
+        133 => b"std::ostream",
+        134 => b"std::iostream",
+        135 => b"allocator",
+        136 => b"basic_string",
+        137 => b"string",
+        138 => b"istream",
+        139 => b"ostream",
+        140 => b"iostream",
+        141 => b"vtable for ",
+        142 => b"VTT for ",
+        143 => b"typeinfo for ",
+        144 => b"typeinfo name for ",
+        145 => b"guard variable for ",
+        146 => b"thread-local initialization routine for ",
+        147 => b"thread-local wrapper routine for ",
+        148 => b"u",
+        149 => b"l",
+        150 => b"ul",
+        151 => b"ll",
+        152 => b"ull",
+        153 => b"restrict ",
+        154 => b"volatile ",
+        155 => b"volatile restrict ",
+        156 => b"const ",
+        157 => b"const restrict ",
+        158 => b"const volatile ",
+        159 => b"const volatile restrict ",
+        OPERATOR_ALONE => b"operator",
+        _ => operation_text(number),
     }
 }
 
@@ -375,7 +375,7 @@ fn builtin_text(number: u16) -> &'static [u8]
         126 => b"decimal128",
         127 => b"decimal32",
         128 => b"half",
-        _ => operator_text(number),
+        _ => remaining_text(number),
     }
 }
 
