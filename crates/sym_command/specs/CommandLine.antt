@@ -112,15 +112,11 @@ AreOptions rows None = IsFlag rows (codes "press") true × IsFlag rows (codes "w
 abbrev pub symbols_of : List Row → List Text
 symbols_of rows = unwrap_or (all_of (codes "SYMBOL") rows) []
 
-abbrev pub filtering_at : Asked → Options → Option Filtering
-filtering_at PlainText options = Some (record { limit = options.limit; detail = options.detail; letters = options.letters; wide = false; legacy = options.legacy })
-filtering_at WideText options = Some (record { limit = options.limit; detail = options.detail; letters = options.letters; wide = true; legacy = options.legacy })
-filtering_at Pressed options = None
-
--- how standard input is filtered as the options request: not where they request counts or pressed spellings, which need a
--- symbol
+-- how standard input is filtered as the options request: not where they request counts, which need a symbol
 abbrev pub filtering_by : Options → Option Filtering
-filtering_by options = if options.stats then None else filtering_at options.asked options
+filtering_by options =
+    if options.stats then None
+    else Some (record { limit = options.limit; detail = options.detail; letters = options.letters; asked = options.asked; legacy = options.legacy })
 
 -- there is no symbol, and standard input is to be filtered this way
 pub record AsksFilter (rows : List Row) (filtering : Filtering) : Type 0 where

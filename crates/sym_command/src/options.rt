@@ -238,7 +238,7 @@ pub fn symbols_of<'m, 'a>(matches: &'m ArgMatches<'a>) -> &'m [&'a str]
     matches.get_strs("SYMBOL").unwrap_or_default()
 }
 
-/// How an input is filtered as the options request, if they don't need a symbol.
+/// How an input is filtered as the options request, if they request no counts, which need a symbol.
 pub fn filtering_of(options: Options) -> Option<Filtering>
     ensures { result ≡ filtering_by options }
 {
@@ -253,16 +253,11 @@ pub fn filtering_of(options: Options) -> Option<Filtering>
     if stats {
         return None;
     }
-    let wide = match asked {
-        Asked::Text => false,
-        Asked::WideText => true,
-        Asked::Pressed => return None,
-    };
     Some(Filtering {
         limit,
         detail,
         letters,
-        wide,
+        asked,
         legacy,
     })
 }

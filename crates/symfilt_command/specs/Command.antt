@@ -1,5 +1,5 @@
 -- What the program did, by the words of its command line.
-use Rattle.std.specs.Prelude.{◌≡◌, ◌≢◌, ◌⊎◌, ℕ, List, [], Bool, if◌then◌else◌, Option}
+use Rattle.std.specs.Prelude.{◌≡◌, ◌≢◌, ◌⊎◌, ℕ, List, [], Bool, Option}
 use Rattle.std.specs.Io.KnownBytes.{Appends}
 use Rattle.sym_print.specs.declared.detail.Detail.{Detail}
 use Rattle.sym_filter.specs.Runs.{Answering}
@@ -38,7 +38,7 @@ counting_of options = counting_at options.asked
 
 -- what the filter does with the words of standard input
 abbrev pub filter_answers : Filtering → Answering
-filter_answers filtering = answers_at (if filtering.wide then WideText else Text) filtering.legacy filtering.limit filtering.detail
+filter_answers filtering = answers_at filtering.asked filtering.legacy filtering.limit filtering.detail
 
 -- ## What a command line did, by what its parser found
 

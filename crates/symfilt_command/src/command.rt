@@ -72,10 +72,11 @@ pub fn filter_asked<S: Source, W: Sink>(
     ensures read_failed { S.failure_count input.new ≡ S.failure_count input.old + reader_faults result }
     ensures write_failed { W.failure_count out.new ≡ W.failure_count out.old + writer_faults result }
 {
-    if filtering.wide {
-        return filter_in(alloc, Wide, filtering, input, out);
+    match filtering.asked {
+        Asked::Text => filter_in(alloc, Abi, filtering, input, out),
+        Asked::WideText => filter_in(alloc, Wide, filtering, input, out),
+        Asked::Pressed => filter_words(alloc, input, out, &Pressing, filtering.letters),
     }
-    filter_in(alloc, Abi, filtering, input, out)
 }
 
 /// Filters an input with a grammar of C++.
@@ -203,7 +204,7 @@ fn answer_all<W: Sink, E: Sink>(
     }
     match filtering_of(options) {
         Some(filtering) => Ok(Run::Filter(filtering)),
-        None => refuse_run(err, b"symfilt: --press and --stats need a symbol\n"),
+        None => refuse_run(err, b"symfilt: --stats needs a symbol\n"),
     }
 }
 
