@@ -20,7 +20,7 @@ use sym_demangle::Workspace;
 /// the symbol's tree. So symbols with one answer have one tree. Each answer is checked: it is read with the lists, and its nodes are
 /// compared with the symbol's by their numbers.
 ///
-/// Nothing is answered for most trees that the grammar of the ABI doesn't read, since what they are made of has no spelling yet.
+/// Nothing is answered for many trees that the grammar of the ABI doesn't read, since some of their parts have no spelling yet.
 ///
 /// # Errors
 ///
