@@ -57,6 +57,24 @@ func TestLimit(t *testing.T) {
 	}
 }
 
+func TestNamesFromOutside(t *testing.T) {
+	// A<int, int>, A<that, that> and so on, which doubles 36 times
+	name := "_Z1f1AIiiE"
+	for _, digit := range strings.Split("0123456789ABCDEFGHIJKLMNOPQRSTUVWXYZ", "") {
+		name += "S_IS" + digit + "_S" + digit + "_E"
+	}
+	options := Options{Flags: Wide, Limit: 25000}
+	if _, err := options.Text(name); err == nil || err.(*Error).Status != 4 {
+		t.Error(err)
+	}
+	if texts, errs := options.Texts([]string{name, "_Z1fv"}); texts[0] != name || errs[0] == nil || texts[1] != "f()" {
+		t.Error(texts, errs)
+	}
+	if text, err := options.Filter(name + " _Z1fv"); err != nil || text != name+" f()" {
+		t.Error(text, err)
+	}
+}
+
 func TestTexts(t *testing.T) {
 	long := strings.Repeat("a", 30000)
 	names := []string{"_Z1fv", "main", "", "_RNvC3foo30000" + long, "_RNvC3foo30000" + long, "_Z1fY"}

@@ -95,6 +95,14 @@ class Calls(unittest.TestCase):
         self.assertEqual(symdemangle.demangle("_Z1fv", limit=2**32 - 1), "f()")
         self.assertEqual(symdemangle.demangle("_Z1fv", limit=0), "_Z1fv")
 
+    def test_names_from_outside(self):
+        # A<int, int>, A<that, that> and so on, which doubles 36 times
+        name = "_Z1f1AIiiE" + "".join(f"S_IS{digit}_S{digit}_E" for digit in "0123456789ABCDEFGHIJKLMNOPQRSTUVWXYZ")
+        self.refused(name, 4, 0, limit=25_000)
+        self.refused(name, 4, 0)
+        self.assertEqual(symdemangle.demangle_all([name, "_Z1fv"], limit=25_000), [name, "f()"])
+        self.assertEqual(symdemangle.filter_text(f"{name} _Z1fv", limit=25_000), f"{name} f()")
+
     def test_arguments(self):
         for call in (symdemangle.demangle, symdemangle.try_demangle, symdemangle.press, symdemangle.counts):
             with self.assertRaisesRegex(TypeError, "^name: str or bytes is needed, not NoneType$"):

@@ -52,6 +52,21 @@ fn options() {
 }
 
 #[test]
+fn names_from_outside_with_a_limit() {
+    // A<int, int>, A<that, that> and so on, which doubles 36 times
+    let doubled = |digit| format!("S_IS{digit}_S{digit}_E");
+    let name = format!("_Z1f1AIiiE{}", ('0'..='9').chain('A'..='Z').map(doubled).collect::<String>());
+    let options = Options::default().limit(25_000);
+    assert_eq!(options.try_demangle(&name), Err(Error::TooLong));
+    assert_eq!(options.demangle(&name).to_string(), name);
+    assert_eq!(try_demangle(&name), Err(Error::TooLong));
+    let mut log = Vec::new();
+    let tally = filter_into(format!("{name} _Z1fv").as_bytes(), options, &mut log).unwrap();
+    assert_eq!(String::from_utf8(log).unwrap(), format!("{name} f()"));
+    assert_eq!(tally.refused, 1);
+}
+
+#[test]
 fn a_long_text_is_asked_for_again() {
     let name = "a".repeat(5000);
     assert_eq!(demangle(&format!("_RNvC3foo5000{name}")).to_string(), format!("foo::{name}"));
