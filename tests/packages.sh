@@ -57,7 +57,11 @@ sleep 1
 (umask 077 && TZ=Asia/Tokyo tools/release.sh "$work/another/one" >/dev/null)
 diff -r "$work/one" "$work/another/one" || fail 'the release has other bytes the second time'
 (cd "$work/one" && sha256sum --quiet -c SHA256SUMS)
-mkdir "$work/tar" && tar -C "$work/tar" --strip-components=1 -xzf "$work"/one/*.tar.gz
+mkdir "$work/tar" "$work/c"
+tar -C "$work/tar" --strip-components=1 -xzf "$work"/one/symdemangle-[0-9]*.tar.gz
+# The C files are whole; tests/packaged.sh builds them.
+tar -C "$work/c" --strip-components=1 -xzf "$work"/one/symdemangle-c-*.tar.gz
+(cd "$work/c" && grep -E '^[0-9a-f]{64}  ' MANIFEST | sha256sum --quiet -c) || fail 'the tarball of dist'
 for package in "$work"/one/*.deb; do dpkg-deb -x "$package" "$work/deb"; done
 for program in "$work/tar/bin/symfilt" "$work/deb/usr/bin/symfilt" "$work/tar/bin/demangle" "$work/deb/usr/bin/demangle"; do
     [ "$("$program" _Z1fv)" = 'f()' ] || fail "$program"
