@@ -4,7 +4,7 @@
 #   tests/all.sh [-b] [-q] [-s SYMBOLS].. [-r REFERENCE] [-m MODULE] [NAME..]
 #
 #   -b            takes programs and library as they are, as `.ci/run` does; without it rt is asked whether they are of these sources
-#   -q            leaves out what takes many minutes: packages for other machines, a browser
+#   -q            leaves out what takes minutes: packages, other machines, a browser
 #   -s SYMBOLS    a file of symbols, one a line; without one some of the installed libraries (bench/inputs.sh)
 #   -r REFERENCE  another implementation with the same command line, for compare.py and fuzz.py
 #   -m MODULE     another implementation as a module of Python, for costs.py
@@ -95,7 +95,8 @@ leave() { # leave NAME WHY
     out+=("$1")
     told 'left out' "$1" "$2"
 }
-long_ones() { # packages, other machines and the page, which take many minutes
+long_ones() { # packages, other machines and the page, which take minutes
+    local made=()
     if ! command -v dpkg >/dev/null; then
         leave packages "dpkg isn't installed"
     elif [ -n "$(git status --porcelain)" ]; then
@@ -103,14 +104,18 @@ long_ones() { # packages, other machines and the page, which take many minutes
     else
         try packages tests/packages.sh
     fi
-    try packaged tests/packaged.sh
+    # the module for WebAssembly, which the package for JavaScript and the page take; without it each makes it, and says why it can't
+    if { chosen packaged || chosen web; } && command -v wasm-opt >/dev/null && web/module/make.sh "$work/page" >"$work/log" 2>&1; then
+        made=(-w "$work/page")
+    fi
+    try packaged tests/packaged.sh ${made[@]+"${made[@]}"}
     if [ -f dist/symdemangle.c ]; then
         try portable tests/portable.sh ${symbols[@]+"${symbols[@]}"}
     else
         leave portable "there is no dist: tools/portable/make.sh makes it"
     fi
     if command -v node >/dev/null && command -v wasm-opt >/dev/null; then
-        try web tests/web.sh -p "$symfilt" -d "$demangle"
+        try web tests/web.sh ${made[@]+"${made[@]}"} -p "$symfilt" -d "$demangle"
     else
         leave web "node or binaryen's wasm-opt isn't installed"
     fi
@@ -149,7 +154,7 @@ fi
 try callers tests/callers.sh ${symbols[@]+"${symbols[@]}"}
 if [ $is_quick = yes ]; then
     for name in packages packaged portable web; do
-        leave $name "takes many minutes: without -q"
+        leave $name "takes minutes: without -q"
     done
 else
     long_ones

@@ -2,7 +2,7 @@
 # The packages that compile the library's C file, as they are packed: each is unpacked, built and tested without a network, without the
 # kit and without an installed library, by the tests of its caller in callers/.
 #
-#   tests/packaged.sh [-d DIST] [-w PAGE] [-b] [c | rust | go | python | npm | recipes]..
+#   tests/packaged.sh [-d DIST] [-w PAGE] [-b] [python | npm | recipes | rust | go | c]..
 #
 #   -d DIST    the folder that tools/portable/make.sh made, in the place of dist/
 #   -w PAGE    the folder that web/module/make.sh made, with the module of the package for JavaScript
@@ -22,7 +22,8 @@ while getopts d:w:b option; do
     esac
 done
 shift $((OPTIND - 1))
-[ $# -gt 0 ] || set -- c rust go python npm recipes
+# the slowest first
+[ $# -gt 0 ] || set -- python npm recipes rust go c
 if [ -z "$dist" ]; then
     dist=$PWD/dist left=
     if [ ! -f "$dist/symdemangle.c" ]; then
@@ -37,8 +38,7 @@ if [ -z "$dist" ]; then
     fi
 fi
 work=$(mktemp -d)
-now=
-trap 'rm -rf "$work"; [ -z "$now" ] || echo "FAILED: $now"' EXIT
+trap 'rm -rf "$work"' EXIT
 unset SYMDEMANGLE_DIR SYMDEMANGLE_LIBRARY GO_MODULE
 export PKG_CONFIG=false
 
@@ -169,13 +169,32 @@ broken() { # broken LANGUAGE : the tests of a language have to fail where the C 
     echo "seen: $1"
 }
 
+if [ $breaks = yes ]; then
+    for it; do [ "$it" = recipes ] || broken "$it"; done
+    echo 'tests/packaged.sh: ok'
+    exit
+fi
+
+one() { # one LANGUAGE : tries it in a folder of its own, and keeps what is said, and the status
+    set +e
+    (
+        set -e
+        work=$work/$1
+        mkdir "$work"
+        "try_$1"
+    ) >"$work/$1.said" 2>&1
+    echo $? >"$work/$1.status"
+}
+# Two at a time, since most of the time is a compiler's.
 for it; do
-    if [ $breaks = yes ]; then
-        [ "$it" = recipes ] || broken "$it"
-        continue
-    fi
-    now=$it
-    "try_$it"
+    while [ "$(jobs -pr | wc -l)" -ge 2 ]; do wait -n || true; done
+    one "$it" &
 done
-now=
+wait
+failed=
+for it; do
+    cat "$work/$it.said"
+    [ "$(cat "$work/$it.status")" -eq 0 ] || failed+=" $it"
+done
+[ -z "$failed" ] || { echo "FAILED:$failed"; exit 1; }
 echo 'tests/packaged.sh: ok'

@@ -1,6 +1,7 @@
 #!/bin/bash
 # Installs everything under a folder of its own, tries what is there, and removes it again; then makes the release twice and
-# compares, and unpacks both packages: tests/packages.sh. It needs a committed, proved tree, as tools/release.sh does, and dpkg.
+# compares, and unpacks its packages: tests/packages.sh. It needs a committed, proved tree, as tools/release.sh does, and dpkg. What
+# isn't installed (mandoc, mandb, cmake, pkg-config, lintian) is named and left out.
 set -euo pipefail
 cd "$(dirname "$0")/.."
 work=$(mktemp -d)
@@ -11,6 +12,10 @@ fail() {
     exit 1
 }
 
+has() { # has PROGRAM WHAT : whether a program is installed
+    command -v "$1" >/dev/null || { echo "$1 isn't installed: $2 isn't tested"; return 1; }
+}
+
 # One version in every place that tells one.
 version=$(sed -n 's/^#define SYMDEMANGLE_VERSION_[A-Z]* \([0-9]*\)$/\1/p' callers/c/symdemangle.h | paste -sd .)
 grep -q "^version = \"$version\"$" callers/rust/Cargo.toml || fail "callers/rust/Cargo.toml isn't of version $version"
@@ -19,8 +24,8 @@ grep -q "^\.TH SYMFILT 1 [0-9-]* \"symdemangle $version\"" docs/symfilt.1 || fai
 grep -q "^SYMDEMANGLE_${version%.*} {$" callers/archive/names.map || fail "callers/archive/names.map isn't of version $version"
 [ "$(sed -n 's/^## \([0-9.]*\).*/\1/p' CHANGELOG.md | head -n 1)" = "$version" ] || fail "CHANGELOG.md begins with another version than $version"
 grep -q "^\.TH DEMANGLE 1 [0-9-]* \"symdemangle $version\"" docs/demangle.1 || fail "docs/demangle.1 isn't of version $version"
-! command -v mandoc >/dev/null || [ -z "$(mandoc -T lint docs/symfilt.1 docs/demangle.1 | tee /dev/stderr)" ] || fail 'the manual pages'
-if command -v mandb >/dev/null; then
+! has mandoc 'the layout of the manual pages' || [ -z "$(mandoc -T lint docs/symfilt.1 docs/demangle.1 | tee /dev/stderr)" ] || fail 'the manual pages'
+if has mandb 'that apropos finds the pages'; then
     mkdir -p "$work/man/man1" && cp docs/symfilt.1 docs/demangle.1 "$work/man/man1" && mandb -q -c "$work/man"
     [ "$(apropos -M "$work/man" demangle | sed -n 's/ (1).*//p' | sort | paste -sd ' ')" = 'demangle symfilt' ] || fail "apropos doesn't find the pages"
 fi
@@ -71,12 +76,12 @@ for lib in "$work/tar/lib" "$work/deb/usr/lib/x86_64-linux-gnu"; do
     "$work/calls" >/dev/null
 done
 # What is found in them: by CMake in the tarball, wherever that is unpacked; by pkg-config in the package, as in a system's root.
-if command -v cmake >/dev/null; then
+if has cmake 'what CMake finds'; then
     cmake -S tests/callers -B "$work/cmake" -DCMAKE_PREFIX_PATH="$work/tar" -DCALLS="$PWD/callers/c/calls.c" >"$work/out" &&
         cmake --build "$work/cmake" >>"$work/out" || fail "cmake: $(cat "$work/out")"
     for program in symdemangle static shared; do "$work/cmake/calls_$program" >/dev/null || fail "cmake, $program"; done
 fi
-if command -v pkg-config >/dev/null; then
+if has pkg-config 'what pkg-config finds'; then
     found() { PKG_CONFIG_SYSROOT_DIR=$work/deb PKG_CONFIG_LIBDIR=$work/deb/usr/lib/x86_64-linux-gnu/pkgconfig pkg-config "$@"; }
     # shellcheck disable=SC2046
     cc -std=c99 $(found --cflags symdemangle) callers/c/calls.c $(found --libs symdemangle) -o "$work/calls"
@@ -94,9 +99,11 @@ if [ "$(id -u)" -eq 0 ]; then
     inside -P libsymdemangle0.1 libsymdemangle-dev symdemangle
     left=$(cd "$work/root2" && find . -path ./var/lib/dpkg -prune -o -not -type d -print)
     [ -z "$left" ] || fail "the packages left behind: $left"
+else
+    echo "this isn't root: that dpkg installs the packages isn't tested"
 fi
 for package in "$work"/one/*.deb; do dpkg-deb -I "$package" | sed -n 's/^ \(Package\|Version\|Depends\)/\1/p'; done
-if command -v lintian >/dev/null; then
+if has lintian 'what lintian finds in the packages'; then
     lintian --allow-root --fail-on error,warning --suppress-tags bogus-mail-host,bogus-mail-host-in-debian-changelog,initial-upload-closes-no-bugs \
         "$work"/one/*.deb 2>/dev/null || fail 'lintian finds errors or warnings'
 fi

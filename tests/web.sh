@@ -1,11 +1,12 @@
 #!/bin/bash
 # The page in a browser:
 #
-#   tests/web.sh [-l LIBRARY] [-p SYMFILT] [-d DEMANGLE] [-s SHOTS] [-b]
+#   tests/web.sh [-w PAGE | -l LIBRARY] [-p SYMFILT] [-d DEMANGLE] [-s SHOTS] [-b]
 #
 # It makes the page with the module of the proved library, gives the module the rows of crates/check_rows and the program's texts
 # to compare with (tests/web/module.mjs, in Node), and then uses the page as a person does (tests/web/page.mjs, in Chromium).
 #
+#   -w PAGE       the folder that web/module/make.sh made from the proved library, with the module that is tested
 #   -l LIBRARY    an LLVM module of the library, in the place of the proved one
 #   -p SYMFILT    the program symfilt, in the place of the proved one
 #   -d DEMANGLE   the program demangle, in the place of the proved one
@@ -15,9 +16,10 @@
 # What isn't installed (node, chromium, binaryen's wasm-opt) is named, and what needs it is left out.
 set -euo pipefail
 cd "$(dirname "$0")/.."
-library= symfilt=crates/symfilt/out/symfilt demangle=crates/demangle/out/demangle shots= breaks=no
-while getopts l:p:d:s:b option; do
+made= library= symfilt=crates/symfilt/out/symfilt demangle=crates/demangle/out/demangle shots= breaks=no
+while getopts w:l:p:d:s:b option; do
     case $option in
+        w) made=$(realpath "$OPTARG") ;;
         l) library=$(realpath "$OPTARG") ;;
         p) symfilt=$(realpath "$OPTARG") ;;
         d) demangle=$(realpath "$OPTARG") ;;
@@ -33,12 +35,18 @@ has() { # has PROGRAM WHAT : whether a program is installed
     command -v "$1" >/dev/null || { echo "$1 isn't installed: $2 isn't tested"; return 1; }
 }
 has node 'the page' || exit 0
-has wasm-opt 'the page' || exit 0
+[ -n "$made" ] || has wasm-opt 'the page' || exit 0
 
 ${CC:-cc} -std=gnu11 -O1 -Wall -Wextra -Werror tests/web/int128.c -o "$work/int128"
 "$work/int128"
 page=$work/page
-web/module/make.sh "$page" ${library:+"$library"}
+if [ -n "$made" ]; then
+    # the module alone is that folder's; all else is of this tree
+    mkdir "$page"
+    cp "$made/symdemangle.wasm" "$made/module.json" web/*.html web/*.css web/*.js "$page"
+else
+    web/module/make.sh "$page" ${library:+"$library"}
+fi
 ! grep -aE '/(home|work|root|opt|usr|tmp)/' "$page"/* || { echo 'the page names a path of this machine'; exit 1; }
 
 symbols=$work/symbols

@@ -324,10 +324,12 @@ const steps = {
     },
 
     async "what takes long can be stopped"() {
-        const doubled = `_Z1f1AIiiE${[..."0123456789ABCDEFGHIJKLMN"].map((it) => `S_IS${it}_S${it}_E`).join("")}`; // 537 million bytes
+        const parts = `1AIiiE${[..."0123456789ABCDEFGHIJKLMN"].map((it) => `S_IS${it}_S${it}_E`).join("")}`; // 537 million bytes
+        const doubled = `_Z1f${parts}`;
         await puts("");
         await puts("4294967295", "[name=limit]");
-        await puts(doubled);
+        // a hundred names, each of which takes all memory first
+        await puts(Array.from({ length: 100 }, (_, it) => `_Z4f${100 + it}${parts}`).join("\n"));
         await shows("#status", ["Working…"]);
         await picture("working");
         await click("#halt");
