@@ -14,8 +14,8 @@ use Rattle.sym_filter.proofs.StreamLemmas.{Appends-none, Appends-join}
 use Rattle.sym_command.specs.Command.{Took}
 use Rattle.sym_core.specs.declared.refusal.Refusal.{Refusal}
 use Rattle.sym_core.specs.declared.refusal.Refusal.TheVariants.{Memory}
-use Rattle.sym_command.specs.Lines.{answer_for, reason_of}
-use Rattle.demangle_names.specs.Names.{FiltersSome, filtered, LineFront, NameFront, NameFrontBy, NamesFront, line_of, name_stays, reason_by, said_for, said_if, said_line, said_of, stays_by, stays_for, written_for}
+use Rattle.sym_command.specs.Lines.{reason_of}
+use Rattle.demangle_names.specs.Names.{FiltersSome, filtered, LineFront, NameFront, NameFrontBy, NamesFront, line_of, name_stays, reason_by, said_for, said_if, said_of, stays_by, stays_for, written_for}
 
 -- what each of some items brings, with one item more
 pub flat-more : (f : List ℕ → List ℕ) (names all : List (List ℕ)) (name : List ℕ) → all ≡ names ++ name ∷ [] → flat_map f all ≡ flat_map f names ++ f name
@@ -78,12 +78,6 @@ pub why-refused : {A E : Type 0} (bytes : A → List ℕ) (result : Result A E) 
     → IfOk result (λ text. bytes text ≡ reason_of refusal) → OnOk result (refusal ≢ Memory) → IfOk result (λ text. bytes text ≡ reason_by answer)
 why-refused bytes (Ok text) refusal answer is said known = said ∙ ap reason_by (sym (is known))
 why-refused bytes (Err e) refusal answer is said known = tt
-
--- the line that says so
-pub said-line : (answers : Answering) (asked : Bool) (name reason line : List ℕ) → asked ≡ true → reason ≡ reason_by (answer_for answers name)
-    → line ≡ said_line name reason → line ≡ said_if asked answers name
-said-line answers asked name reason line is why made =
-    made ∙ ap (said_line name) why ∙ ap (λ (b : Bool). said_if b answers name) (sym is)
 
 -- ## A name that may be a type
 

@@ -5,11 +5,13 @@
 mod escaping;
 mod names;
 mod options;
+mod reasons;
 mod status;
 mod style;
 
 pub use escaping::push_escaped;
 pub use names::answer_names;
 pub use options::Options;
+pub use reasons::Reasons;
 pub use status::{DONE, status_of};
 pub use style::{Style, style_of};

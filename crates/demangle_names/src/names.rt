@@ -1,23 +1,19 @@
 // Names, whose lines are filtered one by one.
-ghost use Rattle.std.specs.Prelude.{◌≡◌, ◌≢◌, ◌+◌, ◌-◌, ◌^◌, ◌<◌, [], IfOk, OnOk, OnErr, IfErr, map, string_bytes};
+ghost use Rattle.std.specs.Prelude.{◌≡◌, ◌≢◌, ◌+◌, ◌-◌, ◌^◌, ◌<◌, [], IfOk, OnOk, OnErr, IfErr, map};
 ghost use Rattle.std.specs.Io.KnownBytes.{Appends};
 ghost use Rattle.sym_filter.specs.Runs.{tally_at};
 ghost use Rattle.sym_filter.specs.declared.kinds.Letters.TheVariants.{Within};
 ghost use Rattle.sym_filter.specs.Streams.{PutsFront, writer_faults};
 ghost use Rattle.sym_command.specs.Command.{Took};
-ghost use Rattle.sym_command.specs.Lines.{answer_for};
-ghost use Rattle.demangle_names.specs.Names.{AnswersNames, NamesFront, NameFront, LineFront, FiltersSome, filtered, line_of, said_for, said_if, said_line, said_of, name_stays, stays_by, stays_for, written_for, reason_by};
+ghost use Rattle.demangle_names.specs.Names.{AnswersNames, NamesFront, NameFront, LineFront, FiltersSome, filtered, line_of, said_for, said_of, name_stays, stays_by, stays_for, written_for};
 
 use crate::options::Options;
+use crate::reasons::say_why;
 use std::alloc::{AllocError, Global};
-use sym_command::reason;
 use sym_filter::{
-    Demangler, FilterFault, Letters, ReaderSource, Sink, Tally, filter_words, kind_of, write_all,
+    Demangler, FilterFault, Letters, ReaderSource, Sink, Tally, filter_words, write_all,
 };
 use type_names::type_for;
-
-/// Why a name stays that is no symbol.
-const NO_SYMBOL: &str = "not a symbol";
 
 /// Writes the text of each name that is a type, where types are read, and the line of each other one with its symbols replaced; and why
 /// one stays where that is asked. Answers whether one stays.
@@ -172,56 +168,4 @@ fn stays_by(tally: Tally) -> bool
     ensures { result ≡ stays_by tally }
 {
     tally.refused != 0 || tally.replaced == 0
-}
-
-/// Says why a name stays, where that is asked.
-fn say_why<D: Demangler, E: Sink>(
-    alloc: Global,
-    demangler: &D,
-    asked: bool,
-    name: &[u8],
-    err: &mut E,
-) -> Result<(), FilterFault>
-    requires err_failures { E.failure_count err.old < 2 ^ 64 - 1 }
-    ensures ok { OnOk result (Appends (E.taken err.old) (E.taken err.new) (said_if asked (D.answer demangler.now) name.now)) }
-    ensures err { OnErr result (PutsFront (E.taken err.old) (E.taken err.new) [] (said_if asked (D.answer demangler.now) name.now)) }
-    ensures fault { IfErr result (λ fault. fault ≢ FilterFault.Read) }
-    ensures failures { E.failure_count err.new ≡ E.failure_count err.old + writer_faults result }
-{
-    if !asked {
-        return Ok(());
-    }
-    let reason = reason_why(alloc, demangler, name)?;
-    let line = said_line(alloc, name, reason.as_str())?;
-    match write_all(err, &line) {
-        Ok(()) => Ok(()),
-        Err(fault) => Err(fault),
-    }
-}
-
-/// The line that says why a name stays.
-fn said_line(alloc: Global, name: &[u8], reason: &str) -> Result<Vec<u8>, AllocError>
-    ensures { IfOk result (λ line. line.items ≡ said_line name.now reason.now) }
-{
-    let mut line = Vec::from_slice(alloc, b"demangle: ")?;
-    line.extend_from_slice(name)?;
-    line.extend_from_slice(b": ")?;
-    line.extend_from_slice(reason.as_bytes())?;
-    line.push(b'\n')?;
-    Ok(line)
-}
-
-/// Why a name stays, by what is answered for it as a symbol.
-fn reason_why<D: Demangler>(alloc: Global, demangler: &D, name: &[u8]) -> Result<String, AllocError>
-    ensures { IfOk result (λ text. string_bytes text ≡ reason_by (answer_for (D.answer demangler.now) name.now)) }
-{
-    let Some(kind) = kind_of(name) else {
-        return String::from_str(alloc, NO_SYMBOL);
-    };
-    let mut lists = demangler.lists(alloc)?;
-    let mut text = Vec::new(alloc);
-    match demangler.append(&mut lists, kind, kind.symbol_of(name), &mut text) {
-        Ok(()) => String::from_str(alloc, NO_SYMBOL),
-        Err(refusal) => reason(alloc, refusal),
-    }
 }

@@ -180,9 +180,9 @@ fn end_segment<D: Demangler>(
     ensures begins { OnOk result ((held_of words.new ≡ []) × (words.new.dots ≡ 0) × (words.new.place ≡ START) × (words.new.past ≡ false)) }
     ensures letters { OnOk result (words.new.letters ≡ words.old.letters) }
 {
-    let dots = words.end_segment(demangler, lists, out)?;
+    let ended = words.end_segment(demangler, lists, out)?;
     kept.add(out)?;
     out.clear();
-    kept.add_dots(dots)?;
+    kept.add_dots(ended.dots)?;
     Ok(())
 }

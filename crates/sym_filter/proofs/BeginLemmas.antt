@@ -135,7 +135,7 @@ run-named letters runs same are (byte ∷ run) words h = step (eqb byte 95) refl
         named-first (word_of (byte ∷ run)) words (ap kind_of (word_of-word (byte ∷ run)) ∙ kind_of-other byte run (other_byte byte e))
         ∙ sym (ap (λ (t : List ℕ). filter is_named (t ∷ words)) (closed-none letters (named_in letters) (place_after letters START byte) runs same (closed-after letters START byte runs (same byte ∙ parts.0)) run parts.1) ∙ named-first [] words refl)
 
-named-from : (letters : Letters) (run : List ℕ) (words : List (List ℕ)) → list_all (is_byte_of letters) run ≡ true → filter is_named (word_in letters run ∷ words) ≡ filter is_named (from_word letters (named_in letters) START run ∷ words)
+pub named-from : (letters : Letters) (run : List ℕ) (words : List (List ℕ)) → list_all (is_byte_of letters) run ≡ true → filter is_named (word_in letters run ∷ words) ≡ filter is_named (from_word letters (named_in letters) START run ∷ words)
 named-from Any run words h = run-named Any refl (λ byte. refl) (λ run. refl) run words h
 named-from Ascii run words h = run-named Ascii refl (λ byte. refl) (λ run. refl) run words h
 named-from Within run words h = refl

@@ -1,6 +1,7 @@
 pub mod BeginLemmas
 pub mod ByteLemmas
 pub mod CarryLemmas
+pub mod EntryLemmas
 pub mod EscapeLemmas
 pub mod EscapeRows
 pub mod JoinLemmas
@@ -12,6 +13,7 @@ pub mod RunLemmas
 pub mod SplitLemmas
 pub mod StreamLemmas
 pub mod TallyLemmas
+pub mod TextEntryLemmas
 pub mod WordLemmas
 pub mod Limits
 pub mod TriedLemmas

@@ -35,11 +35,11 @@ slice_from xs k = ap (λ n. take n (drop k xs)) (sym (length-drop k xs)) ∙ tak
 begun-changed : (letters : Letters) (answers : Answering) (place : Place) (run : List ℕ) → may_begin letters place ≡ true → is_begun run ≡ true → with_word letters (changed letters answers) place run ≡ changed letters answers place run
 begun-changed letters answers place run begins begun = with_word-begun letters (changed letters answers) place run begins begun (changed-nothing letters answers place)
 
-begun-named : (letters : Letters) (place : Place) (run : List ℕ) → may_begin letters place ≡ true → is_begun run ≡ true → from_word letters (named_in letters) place run ≡ named_in letters place run
+pub begun-named : (letters : Letters) (place : Place) (run : List ℕ) → may_begin letters place ≡ true → is_begun run ≡ true → from_word letters (named_in letters) place run ≡ named_in letters place run
 begun-named letters place run begins begun = from_word-begun letters (named_in letters) place run begins begun (named-nothing letters place)
 
 -- a run that is too long, however it goes on, is passed on to its end
-too_far : (run rest : List ℕ) → LONGEST_WORD < length (word_of run) → fits (word_of (run ++ rest)) ≡ false
+pub too_far : (run rest : List ℕ) → LONGEST_WORD < length (word_of run) → fits (word_of (run ++ rest)) ≡ false
 too_far run rest long = lt-leb (length (word_of (run ++ rest))) LONGEST_WORD (omega (arith, word_of-longer run rest))
 
 pub rest_of-front : (letters : Letters) (answers : Answering) (place : Place) (front more : List ℕ) → list_all (is_byte_of letters) front ≡ true → may_begin letters place ≡ true → ((rest : List ℕ) → is_begun (front ++ rest) ≡ true) → LONGEST_WORD < length (word_of front)
@@ -59,7 +59,7 @@ named_of-front letters place front more h begins begun long =
     ∙ ap (λ (t : List ℕ). filter is_named (t ∷ map (word_in letters) (later_runs letters more))) none ∙ named-first [] (map (word_in letters) (later_runs letters more)) refl
 
 -- a byte after the run ends it
-runs-end : (letters : Letters) (run : List ℕ) (byte : ℕ) (more : List ℕ) → list_all (is_byte_of letters) run ≡ true → is_byte_of letters byte ≡ false → first_run letters (run ++ (byte ∷ more)) ≡ first_run letters (run ++ [])
+pub runs-end : (letters : Letters) (run : List ℕ) (byte : ℕ) (more : List ℕ) → list_all (is_byte_of letters) run ≡ true → is_byte_of letters byte ≡ false → first_run letters (run ++ (byte ∷ more)) ≡ first_run letters (run ++ [])
 runs-end letters run byte more h other =
     first_run-append letters run (byte ∷ more) h ∙ ap (λ t. run ++ t) (cond-false (is_byte_of letters byte) _ _ other) ∙ sym (first_run-append letters run [] h)
 
@@ -143,11 +143,11 @@ counts-named answers tally new word kind b fits h some text counted =
     counted ∙ sym (tally_with_word-named answers tally word b (ap (λ (w : List ℕ). is_some (kind_of w)) h ∙ ap is_some some) (ap (λ (w : List ℕ). is_some (text_for answers w)) h ∙ sym text) fits)
 
 -- nothing counts nothing
-names-nothing : (letters : Letters) (held : List ℕ) (dots : ℕ) (place : Place) → (held ≡ []) × (dots ≡ 0) → [] ≡ filter is_named (name_in letters place held ∷ [])
+pub names-nothing : (letters : Letters) (held : List ℕ) (dots : ℕ) (place : Place) → (held ≡ []) × (dots ≡ 0) → [] ≡ filter is_named (name_in letters place held ∷ [])
 names-nothing letters held dots place nothing =
     sym (ap (λ (t : List ℕ). filter is_named (name_in letters place t ∷ [])) nothing.0 ∙ ap (λ (t : List ℕ). filter is_named (t ∷ [])) (name-nothing letters place) ∙ named-first [] [] refl)
 
-held-names : (letters : Letters) (held : List ℕ) (dots : ℕ) (place : Place) (b : Bool) → IsHeld letters held dots false place → may_begin letters place ≡ b → filter is_named (from_word letters (named_in letters) place (held ++ replicate dots 46) ∷ []) ≡ filter is_named (name_in letters place held ∷ [])
+pub held-names : (letters : Letters) (held : List ℕ) (dots : ℕ) (place : Place) (b : Bool) → IsHeld letters held dots false place → may_begin letters place ≡ b → filter is_named (from_word letters (named_in letters) place (held ++ replicate dots 46) ∷ []) ≡ filter is_named (name_in letters place held ∷ [])
 held-names letters held dots place true h begins =
     ap (λ (t : List ℕ). filter is_named (t ∷ [])) (begun-named letters place (held ++ replicate dots 46) begins h.begins ∙ held-named letters held dots place h.is_word h.fits)
 held-names letters held dots place false h begins =
@@ -182,7 +182,7 @@ rest_after-same letters answers words more same = ap (λ (l : Letters). rest_of 
 tally_after-same : (letters : Letters) (answers : Answering) (words : Words) (more : List ℕ) → words.letters ≡ letters → tally_with (answers_at letters answers) words.tally (named_of letters (held_of words) words.past words.place more) ≡ tally_after answers words more
 tally_after-same letters answers words more same = ap (λ (l : Letters). tally_with (answers_at l answers) words.tally (named_of l (held_of words) words.past words.place more)) (sym same)
 
-all_held : (words : Words) → list_all (is_byte_of words.letters) (held_of words) ≡ true
+pub all_held : (words : Words) → list_all (is_byte_of words.letters) (held_of words) ≡ true
 all_held words = list_all-held words.letters words.held.items words.dots words.is_held.of_run
 
 -- a plain front is taken
@@ -215,7 +215,7 @@ Takes-held answers old new part same past past' place held counted dots =
     }
 
 -- a run whose word is long has bytes
-some_bytes : (run : List ℕ) → LONGEST_WORD < length (word_of run) → 0 < length run
+pub some_bytes : (run : List ℕ) → LONGEST_WORD < length (word_of run) → 0 < length run
 some_bytes [] long = absurd (omega arith)
 some_bytes (byte ∷ run) long = omega arith
 

@@ -1,6 +1,8 @@
 pub mod Bytes
 pub mod Carried
+pub mod CarriedEntries
 pub mod Demangled
+pub mod Entries
 pub mod Escapes
 pub mod Held
 pub mod Kinds

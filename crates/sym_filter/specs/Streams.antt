@@ -6,6 +6,7 @@ use Rattle.sym_filter.specs.declared.kinds.Letters.TheVariants.{Any}
 use Rattle.sym_filter.specs.declared.words.Tally.{Tally}
 use Rattle.sym_filter.specs.declared.streams.FilterFault.{FilterFault}
 use Rattle.sym_filter.specs.declared.streams.FilterFault.TheVariants.{Read, Write, Memory}
+use Rattle.sym_filter.specs.Entries.{Entry, entries_of}
 use Rattle.sym_filter.specs.Runs.{Answering, filtered_at, tally_at}
 
 -- the failures that a read counts
@@ -71,3 +72,23 @@ FiltersAll answers coming coming' taken taken' tally = FiltersAllAt Any answers 
 
 abbrev pub FiltersFront : Answering → (coming coming' taken taken' : Option (List ℕ)) → Type 0
 FiltersFront answers coming coming' taken taken' = FiltersFrontAt Any answers coming coming' taken taken'
+
+-- ## With a report
+
+-- all that a source gave was filtered, and the report was given the text's entries
+pub record TellsAllAt (letters : Letters) (answers : Answering) (coming coming' taken taken' : Option (List ℕ)) (tells : List Entry → Type 0) (tally : Tally) : Type 0 where
+  pub text : List ℕ
+  pub reads : Consumes coming coming' text
+  pub ends : IsAtEnd coming'
+  pub writes : Appends taken taken' (filtered_at letters answers text)
+  pub counts : tally ≡ tally_at letters answers text
+  pub gives : tells (entries_of letters answers text)
+
+-- what went out is a beginning of the filtered text of the bytes that were read, and the report was given a beginning of their entries
+pub record TellsFrontAt (letters : Letters) (answers : Answering) (coming coming' taken taken' : Option (List ℕ)) (stops : List Entry → Type 0) : Type 0 where
+  pub text : List ℕ
+  pub gone : List ℕ
+  pub reads : Consumes coming coming' text
+  pub writes : Appends taken taken' gone
+  pub begins : BeginsWith (filtered_at letters answers text) gone
+  pub gives : stops (entries_of letters answers text)

@@ -1,6 +1,8 @@
 // The filter: words of a text that are symbols are replaced by their texts.
 ghost use Rattle.std.specs.Prelude.{◌≡◌, ◌≢◌, ◌+◌, ◌-◌, ◌^◌, ◌<◌, ◌≤◌, ℕ, List, [], false, length, take, vec_len, replicate, IfOk, OnOk, OnErr, IfErr};
-ghost use Rattle.sym_filter.specs.Streams.{reader_faults, writer_faults, Puts, PutsFront, FiltersAll, FiltersAllAt, FiltersFront, FiltersFrontAt};
+ghost use Rattle.sym_filter.specs.CarriedEntries.{TakesEntries, TakesTextEntries, entries_after, entries_in_rest};
+ghost use Rattle.sym_filter.specs.Entries.{Entry, left_at_end};
+ghost use Rattle.sym_filter.specs.Streams.{reader_faults, writer_faults, Puts, PutsFront, FiltersAll, FiltersAllAt, FiltersFront, FiltersFrontAt, TellsAllAt, TellsFrontAt};
 ghost use Rattle.sym_filter.specs.Carried.{rest_of_text, TakesText};
 ghost use Rattle.sym_filter.specs.Places.{START};
 ghost use Rattle.sym_filter.specs.Words.{rest_after, tally_after, held_of, following, Takes};
@@ -9,6 +11,7 @@ ghost use Rattle.sym_filter.specs.declared.filtering.TheConstants.{READ_SIZE};
 use crate::demangler::Demangler;
 use crate::escapes::{Escape, first_segment};
 use crate::kinds::Letters;
+use crate::reports::{Quiet, Report};
 use crate::streams::{FilterFault, Sink, Source, write_out};
 use crate::words::{Taken, Tally, Words};
 use std::alloc::{AllocError, Global};
@@ -54,6 +57,29 @@ pub fn filter_words<R: Source, W: Sink, D: Demangler>(
     ensures read_failed { R.failure_count reader.new ≡ R.failure_count reader.old + reader_faults result }
     ensures write_failed { W.failure_count writer.new ≡ W.failure_count writer.old + writer_faults result }
 {
+    filter_telling(alloc, reader, writer, demangler, letters, &mut Quiet)
+}
+
+/// The same, with a report that is given the words which are left, with each piece of the text before what is known of it is written.
+pub fn filter_telling<R: Source, W: Sink, D: Demangler, P: Report>(
+    alloc: Global,
+    reader: &mut R,
+    writer: &mut W,
+    demangler: &D,
+    letters: Letters,
+    report: &mut P,
+) -> Result<Tally, FilterFault>
+    requires reader_failures { R.failure_count reader.old < 2 ^ 64 - 1 }
+    requires writer_failures { W.failure_count writer.old < 2 ^ 64 - 1 }
+    requires report_failures { P.failure_count report.old < 2 ^ 64 - 1 }
+    ensures ok { IfOk result (λ tally. TellsAllAt letters (D.answer demangler.now)
+        (R.coming reader.old) (R.coming reader.new) (W.taken writer.old) (W.taken writer.new) (P.Tells report.old report.new) tally) }
+    ensures err { OnErr result (TellsFrontAt letters (D.answer demangler.now)
+        (R.coming reader.old) (R.coming reader.new) (W.taken writer.old) (W.taken writer.new) (P.Stops report.old report.new)) }
+    ensures read_failed { R.failure_count reader.new ≡ R.failure_count reader.old + reader_faults result }
+    ensures same_failures { OnOk result (P.failure_count report.new ≡ P.failure_count report.old) }
+    ensures write_failed { W.failure_count writer.new + P.failure_count report.new ≡ W.failure_count writer.old + P.failure_count report.old + writer_faults result }
+{
     // Asked for its range: a u64, so the proof knows that the reads, and the dots that wait, are bounded.
     let _left = reader.left();
     let mut words = Words::new(alloc, letters);
@@ -77,9 +103,10 @@ pub fn filter_words<R: Source, W: Sink, D: Demangler>(
             piece,
             &mut out,
             writer,
+            report,
         )?;
     }
-    end_text(demangler, &mut lists, &mut words, &mut out, writer)?;
+    end_text(demangler, &mut lists, &mut words, &mut out, writer, report)?;
     Ok(words.tally())
 }
 
@@ -91,7 +118,7 @@ fn room_for_reads(alloc: Global) -> Result<Vec<u8>, AllocError>
 }
 
 /// Takes a piece of the text, and writes what is known of the filtered text by it.
-fn take_piece<W: Sink, D: Demangler>(
+fn take_piece<W: Sink, D: Demangler, P: Report>(
     demangler: &D,
     lists: &mut D::Lists,
     words: &mut Words,
@@ -99,20 +126,35 @@ fn take_piece<W: Sink, D: Demangler>(
     piece: &[u8],
     out: &mut Vec<u8>,
     writer: &mut W,
+    report: &mut P,
 ) -> Result<(), FilterFault>
     requires failures { W.failure_count writer.old < 2 ^ 64 - 1 }
     requires nothing_waits { out.old.items ≡ [] }
     requires room { words.old.dots + length piece.now < 2 ^ 128 }
+    requires report_failures { P.failure_count report.old < 2 ^ 64 - 1 }
     ensures ok { OnOk result ((bytes : List ℕ) × TakesText (D.answer demangler.now) words.old words.new escape.old escape.new piece.now bytes
         × Puts (W.taken writer.old) (W.taken writer.new) [] out.new.items bytes) }
     ensures nothing_waits { OnOk result (out.new.items ≡ []) }
     ensures err { IfErr result (λ fault. (fault ≢ FilterFault.Read)
         × PutsFront (W.taken writer.old) (W.taken writer.new) [] (rest_of_text (D.answer demangler.now) words.old escape.old piece.now)) }
-    ensures failures { W.failure_count writer.new ≡ W.failure_count writer.old + writer_faults result }
+    ensures same_failures { OnOk result ((W.failure_count writer.new ≡ W.failure_count writer.old) × (P.failure_count report.new ≡ P.failure_count report.old)) }
+    ensures failures { W.failure_count writer.new + P.failure_count report.new ≡ W.failure_count writer.old + P.failure_count report.old + writer_faults result }
+    ensures tells { OnOk result ((entries : List Entry) × P.Tells report.old report.new entries
+        × TakesTextEntries (D.answer demangler.now) words.old words.new escape.old escape.new piece.now entries) }
+    ensures told { OnErr result (P.Stops report.old report.new (entries_in_rest (D.answer demangler.now) words.old escape.old piece.now)) }
 {
     let mut at = 0;
     while at < piece.len() {
-        let count = take_segment(demangler, lists, words, escape, &piece[at..], out, writer)?;
+        let count = take_segment(
+            demangler,
+            lists,
+            words,
+            escape,
+            &piece[at..],
+            out,
+            writer,
+            report,
+        )?;
         at += count;
     }
     words.read_ahead(demangler, lists);
@@ -122,7 +164,7 @@ fn take_piece<W: Sink, D: Demangler>(
 
 /// Takes bytes from the front of a text, up to the end of its first escape or all of them, and puts what is known of the filtered text
 /// by them after the bytes that wait to be written. Answers how many they are.
-fn take_segment<W: Sink, D: Demangler>(
+fn take_segment<W: Sink, D: Demangler, P: Report>(
     demangler: &D,
     lists: &mut D::Lists,
     words: &mut Words,
@@ -130,17 +172,23 @@ fn take_segment<W: Sink, D: Demangler>(
     text: &[u8],
     out: &mut Vec<u8>,
     writer: &mut W,
+    report: &mut P,
 ) -> Result<usize, FilterFault>
     requires failures { W.failure_count writer.old < 2 ^ 64 - 1 }
     requires room { words.old.dots + length text.now < 2 ^ 128 }
     requires some { 0 < length text.now }
+    requires report_failures { P.failure_count report.old < 2 ^ 64 - 1 }
     ensures within { IfOk result (λ count. (0 < count) × (count ≤ length text.now)) }
     ensures ok { IfOk result (λ count. (bytes : List ℕ)
         × TakesText (D.answer demangler.now) words.old words.new escape.old escape.new (take count text.now) bytes
         × Puts (W.taken writer.old) (W.taken writer.new) out.old.items out.new.items bytes) }
     ensures err { IfErr result (λ fault. (fault ≢ FilterFault.Read)
         × PutsFront (W.taken writer.old) (W.taken writer.new) out.old.items (rest_of_text (D.answer demangler.now) words.old escape.old text.now)) }
-    ensures failures { W.failure_count writer.new ≡ W.failure_count writer.old + writer_faults result }
+    ensures same_failures { OnOk result ((W.failure_count writer.new ≡ W.failure_count writer.old) × (P.failure_count report.new ≡ P.failure_count report.old)) }
+    ensures failures { W.failure_count writer.new + P.failure_count report.new ≡ W.failure_count writer.old + P.failure_count report.old + writer_faults result }
+    ensures tells { IfOk result (λ count. (entries : List Entry) × P.Tells report.old report.new entries
+        × TakesTextEntries (D.answer demangler.now) words.old words.new escape.old escape.new (take count text.now) entries) }
+    ensures told { OnErr result (P.Stops report.old report.new (entries_in_rest (D.answer demangler.now) words.old escape.old text.now)) }
 {
     let segment = first_segment(words.letters(), text, *escape);
     take_words(
@@ -150,36 +198,60 @@ fn take_segment<W: Sink, D: Demangler>(
         &text[..segment.length],
         out,
         writer,
+        report,
     )?;
     *escape = segment.escape;
     if !segment.ends {
         return Ok(segment.length);
     }
-    end_segment(demangler, lists, words, out, writer)?;
+    end_segment(demangler, lists, words, out, writer, report)?;
     Ok(segment.length)
 }
 
+/// Gives a report the word that is left at the end of some bytes, if one is.
+#[inline(always)]
+fn tell_left<P: Report>(report: &mut P, out: &[u8], left: usize) -> Result<(), FilterFault>
+    requires report_failures { P.failure_count report.old < 2 ^ 64 - 1 }
+    requires within { left ≤ length out.now }
+    ensures tells { OnOk result (P.Tells report.old report.new (left_at_end left out.now)) }
+    ensures stops { IfErr result (λ fault. (fault ≢ FilterFault.Read) × P.Stops report.old report.new (left_at_end left out.now)) }
+    ensures failures { P.failure_count report.new ≡ P.failure_count report.old + writer_faults result }
+{
+    if left == 0 {
+        return Ok(());
+    }
+    report.leaves(&out[out.len() - left..])
+}
+
 /// Takes a part of a segment, and puts what is known of the filtered text by it after the bytes that wait to be written.
-fn take_words<W: Sink, D: Demangler>(
+fn take_words<W: Sink, D: Demangler, P: Report>(
     demangler: &D,
     lists: &mut D::Lists,
     words: &mut Words,
     piece: &[u8],
     out: &mut Vec<u8>,
     writer: &mut W,
+    report: &mut P,
 ) -> Result<(), FilterFault>
     requires failures { W.failure_count writer.old < 2 ^ 64 - 1 }
     requires room { words.old.dots + length piece.now < 2 ^ 128 }
+    requires report_failures { P.failure_count report.old < 2 ^ 64 - 1 }
     ensures ok { OnOk result ((bytes : List ℕ) × Takes (D.answer demangler.now) words.old words.new piece.now bytes
         × Puts (W.taken writer.old) (W.taken writer.new) out.old.items out.new.items bytes) }
     ensures err { IfErr result (λ fault. (fault ≢ FilterFault.Read)
         × PutsFront (W.taken writer.old) (W.taken writer.new) out.old.items (rest_after (D.answer demangler.now) words.old piece.now)) }
-    ensures failures { W.failure_count writer.new ≡ W.failure_count writer.old + writer_faults result }
+    ensures same_failures { OnOk result ((W.failure_count writer.new ≡ W.failure_count writer.old) × (P.failure_count report.new ≡ P.failure_count report.old)) }
+    ensures failures { W.failure_count writer.new + P.failure_count report.new ≡ W.failure_count writer.old + P.failure_count report.old + writer_faults result }
+    ensures tells { OnOk result ((entries : List Entry) × P.Tells report.old report.new entries
+        × TakesEntries (D.answer demangler.now) words.old words.new piece.now entries) }
+    ensures told { OnErr result (P.Stops report.old report.new (entries_after (D.answer demangler.now) words.old piece.now)) }
 {
     let mut at = 0;
     while at < piece.len() {
         let rest = &piece[at..];
         let taken = words.take(demangler, lists, rest, out)?;
+        tell_left(report, out, taken.left)?;
+        report.passes(&rest[..taken.count]);
         put_after(writer, out, taken, &rest[..taken.count])?;
         at += taken.count;
     }
@@ -187,14 +259,16 @@ fn take_words<W: Sink, D: Demangler>(
 }
 
 /// Puts what is still to come of a segment at its end after the bytes that wait to be written.
-fn end_segment<W: Sink, D: Demangler>(
+fn end_segment<W: Sink, D: Demangler, P: Report>(
     demangler: &D,
     lists: &mut D::Lists,
     words: &mut Words,
     out: &mut Vec<u8>,
     writer: &mut W,
+    report: &mut P,
 ) -> Result<(), FilterFault>
     requires failures { W.failure_count writer.old < 2 ^ 64 - 1 }
+    requires report_failures { P.failure_count report.old < 2 ^ 64 - 1 }
     ensures ok { OnOk result (Puts (W.taken writer.old) (W.taken writer.new) out.old.items out.new.items
         (rest_after (D.answer demangler.now) words.old [])) }
     ensures counts { OnOk result (words.new.tally ≡ tally_after (D.answer demangler.now) words.old []) }
@@ -202,31 +276,40 @@ fn end_segment<W: Sink, D: Demangler>(
     ensures letters { OnOk result (words.new.letters ≡ words.old.letters) }
     ensures err { IfErr result (λ fault. (fault ≢ FilterFault.Read)
         × PutsFront (W.taken writer.old) (W.taken writer.new) out.old.items (rest_after (D.answer demangler.now) words.old [])) }
-    ensures failures { W.failure_count writer.new ≡ W.failure_count writer.old + writer_faults result }
+    ensures same_failures { OnOk result ((W.failure_count writer.new ≡ W.failure_count writer.old) × (P.failure_count report.new ≡ P.failure_count report.old)) }
+    ensures failures { W.failure_count writer.new + P.failure_count report.new ≡ W.failure_count writer.old + P.failure_count report.old + writer_faults result }
+    ensures tells { OnOk result (P.Tells report.old report.new (entries_after (D.answer demangler.now) words.old [])) }
+    ensures told { OnErr result (P.Stops report.old report.new (entries_after (D.answer demangler.now) words.old [])) }
 {
-    let dots = words.end_segment(demangler, lists, out)?;
-    write_dots(writer, out, dots)?;
+    let ended = words.end_segment(demangler, lists, out)?;
+    tell_left(report, out, ended.left)?;
+    write_dots(writer, out, ended.dots)?;
     Ok(())
 }
 
 /// Writes what is still to come of the filtered text at the text's end.
-fn end_text<W: Sink, D: Demangler>(
+fn end_text<W: Sink, D: Demangler, P: Report>(
     demangler: &D,
     lists: &mut D::Lists,
     words: &mut Words,
     out: &mut Vec<u8>,
     writer: &mut W,
+    report: &mut P,
 ) -> Result<(), FilterFault>
     requires failures { W.failure_count writer.old < 2 ^ 64 - 1 }
     requires nothing_waits { out.old.items ≡ [] }
+    requires report_failures { P.failure_count report.old < 2 ^ 64 - 1 }
     ensures ok { OnOk result (Puts (W.taken writer.old) (W.taken writer.new) [] []
         (rest_after (D.answer demangler.now) words.old [])) }
     ensures counts { OnOk result (words.new.tally ≡ tally_after (D.answer demangler.now) words.old []) }
     ensures err { IfErr result (λ fault. (fault ≢ FilterFault.Read)
         × PutsFront (W.taken writer.old) (W.taken writer.new) [] (rest_after (D.answer demangler.now) words.old [])) }
-    ensures failures { W.failure_count writer.new ≡ W.failure_count writer.old + writer_faults result }
+    ensures same_failures { OnOk result ((W.failure_count writer.new ≡ W.failure_count writer.old) × (P.failure_count report.new ≡ P.failure_count report.old)) }
+    ensures failures { W.failure_count writer.new + P.failure_count report.new ≡ W.failure_count writer.old + P.failure_count report.old + writer_faults result }
+    ensures tells { OnOk result (P.Tells report.old report.new (entries_after (D.answer demangler.now) words.old [])) }
+    ensures told { OnErr result (P.Stops report.old report.new (entries_after (D.answer demangler.now) words.old [])) }
 {
-    end_segment(demangler, lists, words, out, writer)?;
+    end_segment(demangler, lists, words, out, writer, report)?;
     write_out(writer, out)?;
     Ok(())
 }

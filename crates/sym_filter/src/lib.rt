@@ -9,15 +9,17 @@ mod lanes;
 mod laws;
 mod marks;
 pub mod places;
+pub mod reports;
 pub mod standard;
 pub mod streams;
 mod tries;
 pub mod words;
 
 pub use demangler::{Demangled, Demangler};
-pub use filtering::{filter_with, filter_words};
+pub use filtering::{filter_telling, filter_with, filter_words};
 pub use kinds::{Kind, Lang, Letters, kind_of};
 pub use laws::{filtered_by_joins, filtered_by_splits, tries_decide};
+pub use reports::{Quiet, Report};
 pub use standard::{ListSink, ReaderSource, WriterSink};
 pub use streams::{FilterFault, Sink, Source, write_all, write_out};
 pub use words::Tally;

@@ -1,8 +1,9 @@
 // Words found in a text that comes in any pieces.
-ghost use Rattle.std.specs.Prelude.{◌≡◌, ◌+◌, ◌^◌, ◌<◌, ◌≤◌, ℕ, List, [], ◌++◌, length, take, drop, slice_index, true, false, replicate, OnOk, IfOk, Some, is_some, OnErr};
+ghost use Rattle.std.specs.Prelude.{◌≡◌, ◌+◌, ◌^◌, ◌<◌, ◌≤◌, ℕ, List, [], ◌++◌, length, take, drop, slice_index, true, false, replicate, OnOk, IfOk, Some, is_some, OnErr, if◌then◌else◌};
 ghost use Rattle.std.specs.List.{list_all};
 ghost use Rattle.sym_filter.specs.Bytes.{is_byte_of};
 ghost use Rattle.sym_filter.specs.Runs.{is_begun, answers_at, name_in, text_for, within, word_of, word_or_text, written, IsTally};
+ghost use Rattle.sym_filter.specs.Entries.{left_at_end, left_of, newlines_in};
 ghost use Rattle.sym_filter.specs.Kinds.{kind_of};
 ghost use Rattle.sym_filter.specs.Held.{IsHeld};
 ghost use Rattle.sym_filter.specs.Marks.{before_mark, from_mark};
@@ -125,6 +126,16 @@ pub struct Taken {
     pub dots: u128,
     pub count: usize,
     pub stay: bool,
+    /// How many of the last bytes that were appended are a word that names a symbol and has no text.
+    pub left: usize,
+}
+
+/// The dots that come after the word of a run that was ended, and how many of the last bytes that were appended are that word, where
+/// it names a symbol and has no text.
+#[derive(Clone, Copy, Debug, PartialEq, Eq)]
+pub struct Ended {
+    pub dots: u128,
+    pub left: usize,
 }
 
 /// Where a text is that is filtered.
@@ -145,6 +156,7 @@ pub struct Words {
 }
 
 impl Words {
+    ghost use Rattle.sym_filter.specs.CarriedEntries.{TakesEntries};
     ghost use Rattle.sym_filter.specs.Words.{held_of, following, Takes};
     ghost use Rattle.sym_filter.specs.Runs.{Answering, tally_with_word};
 
@@ -194,6 +206,8 @@ impl Words {
 
     /// Takes bytes from the front of a text, appends what is known of the filtered text by them, and answers what
     /// follows on that.
+    // as a call of its own, which it is where a program has it with two reports, it took a tenth of the filter's instructions over a log
+    #[inline(always)]
     pub fn take<D: Demangler>(
         &mut self,
         demangler: &D,
@@ -207,6 +221,8 @@ impl Words {
         ensures takes { IfOk result (λ taken. (bytes : List ℕ) × (out.new.items ≡ out.old.items ++ bytes)
             × Takes (D.answer demangler.now) self.old self.new (take taken.count text.now)
             (bytes ++ following taken (take taken.count text.now))) }
+        ensures entries { IfOk result (λ taken. (taken.left ≤ length out.new.items) × TakesEntries (D.answer demangler.now) self.old self.new
+            (take taken.count text.now) (left_at_end taken.left out.new.items ++ newlines_in (take taken.count text.now))) }
     {
         if self.held.is_empty() && self.dots == 0 {
             if self.past {
@@ -219,16 +235,18 @@ impl Words {
                     dots: 0,
                     count: front.length,
                     stay: true,
+                    left: 0,
                 });
             }
         }
         let count = run_front(self.letters, text);
         if count == 0 {
-            let dots = self.end_word(demangler, lists, out)?;
+            let ended = self.end_word(demangler, lists, out)?;
             return Ok(Taken {
-                dots,
+                dots: ended.dots,
                 count: 1,
                 stay: true,
+                left: ended.left,
             });
         }
         let taken = self.hold(&text[..count], out)?;
@@ -243,6 +261,8 @@ impl Words {
         ensures within { (0 < result.count) × (result.count ≤ length text.now) }
         ensures takes { (answers : Answering) → Takes answers self.old self.new (take result.count text.now)
             (following result (take result.count text.now)) }
+        ensures entries { (result.left ≡ 0) × ((answers : Answering) → TakesEntries answers self.old self.new (take result.count text.now)
+            (newlines_in (take result.count text.now))) }
     {
         let count = run_front(self.letters, text);
         if count == 0 {
@@ -252,12 +272,14 @@ impl Words {
                 dots: 0,
                 count: 1,
                 stay: true,
+                left: 0,
             };
         }
         Taken {
             dots: 0,
             count,
             stay: true,
+            left: 0,
         }
     }
 
@@ -274,6 +296,7 @@ impl Words {
         ensures place { OnOk result (self.new.place ≡ self.old.place) }
         ensures dots { OnOk result (self.new.dots ≤ self.old.dots + length part.now) }
         ensures count { IfOk result (λ taken. taken.count ≡ length part.now) }
+        ensures none_left { IfOk result (λ taken. taken.left ≡ 0) }
         ensures held { IfOk result (λ taken. taken.stay ≡ false → (self.new.past ≡ false) × (taken.dots ≡ 0)
             × (held_of self.new ≡ held_of self.old ++ part.now) × (out.new.items ≡ out.old.items)) }
         ensures passes { IfOk result (λ taken. taken.stay ≡ true → (self.new.past ≡ true)
@@ -288,6 +311,7 @@ impl Words {
                 dots: 0,
                 count: part.len(),
                 stay: false,
+                left: 0,
             });
         }
         let room = LONGEST_WORD - self.held.len();
@@ -300,6 +324,7 @@ impl Words {
                 dots,
                 count: part.len(),
                 stay: true,
+                left: 0,
             });
         }
         push_word(&mut self.held, dots as usize, &part[..end])?;
@@ -308,6 +333,7 @@ impl Words {
             dots: 0,
             count: part.len(),
             stay: false,
+            left: 0,
         })
     }
 
@@ -319,33 +345,39 @@ impl Words {
         demangler: &D,
         lists: &mut D::Lists,
         out: &mut Vec<u8>,
-    ) -> Result<u128, AllocError>
+    ) -> Result<Ended, AllocError>
         ensures letters { OnOk result (self.new.letters ≡ self.old.letters) }
         ensures text { OnOk result (out.new.items ≡ out.old.items
             ++ written self.old.letters (D.answer demangler.now) self.old.place self.old.held.items) }
         ensures counts { OnOk result (self.new.tally ≡ tally_with_word (answers_at self.old.letters (D.answer demangler.now)) self.old.tally
             (name_in self.old.letters self.old.place self.old.held.items)) }
-        ensures dots { IfOk result (λ dots. dots ≡ self.old.dots) }
+        ensures dots { IfOk result (λ ended. ended.dots ≡ self.old.dots) }
+        ensures left { IfOk result (λ ended. (ended.left ≤ length out.new.items) × (left_at_end ended.left out.new.items
+            ≡ left_of (answers_at self.old.letters (D.answer demangler.now)) (name_in self.old.letters self.old.place self.old.held.items))) }
         ensures ends { OnOk result ((held_of self.new ≡ []) × (self.new.dots ≡ 0) × (self.new.place ≡ START)) }
         ensures past { OnOk result (self.new.past ≡ self.old.past) }
         ensures same { OnErr result (self.new ≡ self.old) }
     {
         if begins_within(self.letters) {
-            let dots = self.end_within(demangler, lists, out)?;
-            return Ok(dots);
+            let ended = self.end_within(demangler, lists, out)?;
+            return Ok(ended);
         }
         let dots = self.dots;
-        match kind_of(&self.held) {
+        let left = match kind_of(&self.held) {
             Some(kind) => {
                 let has_text = push_text(demangler, lists, &self.held, kind, out)?;
                 self.tally.count(has_text);
+                left_bytes(&self.held, has_text)
             }
-            None => out.extend_from_slice(&self.held)?,
-        }
+            None => {
+                out.extend_from_slice(&self.held)?;
+                0
+            }
+        };
         self.held.clear();
         self.dots = 0;
         self.place = START;
-        Ok(dots)
+        Ok(Ended { dots, left })
     }
 
     /// Ends the segment of a text, and with it the run that is held, as `end_word` does.
@@ -354,18 +386,20 @@ impl Words {
         demangler: &D,
         lists: &mut D::Lists,
         out: &mut Vec<u8>,
-    ) -> Result<u128, AllocError>
+    ) -> Result<Ended, AllocError>
         ensures letters { OnOk result (self.new.letters ≡ self.old.letters) }
         ensures text { OnOk result (out.new.items ≡ out.old.items
             ++ written self.old.letters (D.answer demangler.now) self.old.place self.old.held.items) }
         ensures counts { OnOk result (self.new.tally ≡ tally_with_word (answers_at self.old.letters (D.answer demangler.now)) self.old.tally
             (name_in self.old.letters self.old.place self.old.held.items)) }
-        ensures dots { IfOk result (λ dots. dots ≡ self.old.dots) }
+        ensures dots { IfOk result (λ ended. ended.dots ≡ self.old.dots) }
+        ensures left { IfOk result (λ ended. (ended.left ≤ length out.new.items) × (left_at_end ended.left out.new.items
+            ≡ left_of (answers_at self.old.letters (D.answer demangler.now)) (name_in self.old.letters self.old.place self.old.held.items))) }
         ensures begins { OnOk result ((held_of self.new ≡ []) × (self.new.dots ≡ 0) × (self.new.place ≡ START) × (self.new.past ≡ false)) }
     {
-        let dots = self.end_word(demangler, lists, out)?;
+        let ended = self.end_word(demangler, lists, out)?;
         self.past = false;
-        Ok(dots)
+        Ok(ended)
     }
 
     /// Ends the run that is held where words begin within runs.
@@ -376,14 +410,16 @@ impl Words {
         demangler: &D,
         lists: &mut D::Lists,
         out: &mut Vec<u8>,
-    ) -> Result<u128, AllocError>
+    ) -> Result<Ended, AllocError>
         ensures letters { OnOk result (self.new.letters ≡ self.old.letters) }
         ensures text { OnOk result (out.new.items ≡ out.old.items
             ++ before_mark self.old.place self.old.held.items
             ++ word_or_text (within (D.answer demangler.now)) (from_mark self.old.place self.old.held.items)) }
         ensures counts { OnOk result (self.new.tally
             ≡ tally_with_word (within (D.answer demangler.now)) self.old.tally (from_mark self.old.place self.old.held.items)) }
-        ensures dots { IfOk result (λ dots. dots ≡ self.old.dots) }
+        ensures dots { IfOk result (λ ended. ended.dots ≡ self.old.dots) }
+        ensures left { IfOk result (λ ended. (ended.left ≤ length out.new.items) × (left_at_end ended.left out.new.items
+            ≡ left_of (within (D.answer demangler.now)) (from_mark self.old.place self.old.held.items))) }
         ensures ends { OnOk result ((held_of self.new ≡ []) × (self.new.dots ≡ 0) × (self.new.place ≡ START)) }
         ensures past { OnOk result (self.new.past ≡ self.old.past) }
         ensures same { OnErr result (self.new ≡ self.old) }
@@ -392,17 +428,27 @@ impl Words {
         let at = mark_in(&self.held, self.place);
         out.extend_from_slice(&self.held[..at])?;
         let name = &self.held[at..];
-        if let Some(kind) = kind_of(name) {
+        let left = if let Some(kind) = kind_of(name) {
             let has_text = push_tries(demangler, lists, name, kind, out)?;
             self.tally.count(has_text);
+            left_bytes(name, has_text)
         } else {
             out.extend_from_slice(name)?;
-        }
+            0
+        };
         self.held.clear();
         self.dots = 0;
         self.place = START;
-        Ok(dots)
+        Ok(Ended { dots, left })
     }
+}
+
+/// How many bytes of a word are left: all where it has no text.
+#[inline(always)]
+fn left_bytes(word: &[u8], has_text: bool) -> usize
+    ensures { result ≡ (if has_text then 0 else length word.now) }
+{
+    if has_text { 0 } else { word.len() }
 }
 
 /// Appends the text of a word's symbol, or the word where it has none, and says whether it has one.

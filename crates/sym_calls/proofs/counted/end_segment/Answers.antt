@@ -11,8 +11,8 @@ returns-clause-ok g c =
     let words = c.args.words.now in
     let kept = c.args.kept.now in
     let word = written words.letters answers words.place words.held.items in
-    let ended = c.in_ok-dots.ensures in
-    let dots = replicate c.in_ok-dots.dots 46 in
+    let ended = c.in_ok-ended.ensures in
+    let dots = replicate c.in_ok-ended.ended.dots 46 in
     let pushed : c.deref.result.now ≡ word = c.deref.ensures.value ∙ ended.text ∙ ap (λ (t : List ℕ). t ++ word) c.requires.nothing_waits in
     let whole : word ++ dots ≡ rest_after answers words [] = ap (λ (n : ℕ). word ++ replicate n 46) ended.dots ∙ sym (rest_of-end words.letters answers words.held.items words.dots words.past words.place words.is_held) in
     let added = Adds-as kept c.add.new.self c.deref.result.now word pushed c.in_ok-add.ensures in
@@ -21,4 +21,4 @@ returns-clause-ok g c =
 pub returns-clause-counts : goal.returns-clause-counts
 returns-clause-counts g c =
     let words = c.args.words.now in
-    c.in_ok-dots.ensures.counts ∙ tally-end words.letters (answers_at words.letters (g.D.Demangler.answer c.args.demangler.now)) words.tally words.held.items words.dots words.past words.place words.is_held
+    c.in_ok-ended.ensures.counts ∙ tally-end words.letters (answers_at words.letters (g.D.Demangler.answer c.args.demangler.now)) words.tally words.held.items words.dots words.past words.place words.is_held

@@ -1,5 +1,7 @@
 use Rattle.std.proofs.Common.{◌++◌, ◌∙◌, [], List, ℕ, sym, subst}
 use Rattle.std.proofs.lemmas.List.{append-nil}
+use Rattle.sym_filter.specs.CarriedEntries.{entries_after}
+use Rattle.sym_filter.specs.Entries.{Entry}
 use Rattle.sym_filter.specs.Words.{rest_after}
 use Rattle.sym_filter.specs.Streams.{Puts, PutsFront}
 use Rattle.sym_filter.proofs.StreamLemmas.{Puts-join, Puts-same, PutsFront-join, PutsFront-same, IfErr-from_and}
@@ -27,3 +29,13 @@ returns-clause-ok g c =
     let put = subst (λ (t : List ℕ). Puts (g.W.Sink.taken c.args.writer.now) (g.W.Sink.taken c.end_segment.new.writer) t c.end_segment.new.out.items rest) c.requires.nothing_waits c.in_ok-end_segment.ensures.ok in
     let all = Puts-same _ _ [] c.write_out.new.out.items (rest ++ []) rest (append-nil rest) (Puts-join _ _ _ [] c.end_segment.new.out.items c.write_out.new.out.items rest [] put wrote.ok) in
     subst (λ (t : List ℕ). Puts (g.W.Sink.taken c.args.writer.now) (g.W.Sink.taken c.write_out.new.writer) [] t rest) wrote.nothing_waits all
+
+pub returns-in_err-end_segment-clause-told : goal.returns-in_err-end_segment-clause-told
+returns-in_err-end_segment-clause-told g c =
+    IfErr-from_and c.from_residual.result _ _ c.from_residual.ensures.1 (λ fault is_fault. c.in_err-end_segment.ensures.told)
+
+pub returns-in_err-write_out-clause-told : goal.returns-in_err-write_out-clause-told
+returns-in_err-write_out-clause-told g c =
+    let entries = entries_after (g.D.Demangler.answer c.args.demangler.now) c.args.words.now [] in
+    let stops = subst (λ (e : List Entry). g.P.Report.Stops c.args.report.now c.end_segment.new.report e) (append-nil entries) (g.met.P.Report.stops_within c.args.report.now c.end_segment.new.report entries [] c.in_ok-end_segment.ensures.tells) in
+    IfErr-from_and c.from_residual-in_err-write_out.result _ _ c.from_residual-in_err-write_out.ensures.1 (λ fault is_fault. stops)

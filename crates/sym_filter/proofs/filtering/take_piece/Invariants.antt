@@ -1,15 +1,21 @@
 use Rattle.std.proofs.Common.{◌≡◌, ◌≤◌, ◌-◌, List, [], ℕ, length, take}
 use Rattle.sym_filter.specs.Carried.{TakesText}
+use Rattle.sym_filter.specs.CarriedEntries.{TakesTextEntries}
+use Rattle.sym_filter.specs.Entries.{Entry}
 use Rattle.sym_filter.specs.Streams.{Puts}
 use Rattle.sym_filter.proofs.filtering.take_piece.Given as goal
 
 abbrev pub invariant-loop-at : goal.invariant-loop-at
 invariant-loop-at g l = record {
   bytes : List ℕ;
+  entries : List Entry;
   within : l.at ≤ length l.piece;
   takes : TakesText (g.D.Demangler.answer l.demangler) l.fn.words l.words l.fn.escape l.escape (take l.at l.piece) bytes;
   puts : Puts (g.W.Sink.taken l.fn.writer) (g.W.Sink.taken l.writer) [] l.out.items bytes;
+  tells : g.P.Report.Tells l.fn.report l.report entries;
+  gives : TakesTextEntries (g.D.Demangler.answer l.demangler) l.fn.words l.words l.fn.escape l.escape (take l.at l.piece) entries;
   failures : g.W.Sink.failure_count l.writer ≡ g.W.Sink.failure_count l.fn.writer;
+  report_failures : g.P.Report.failure_count l.report ≡ g.P.Report.failure_count l.fn.report;
 }
 
 abbrev pub decreases-loop-at : goal.decreases-loop-at

@@ -1,8 +1,9 @@
-use Rattle.std.proofs.Common.{◌≡◌, ◌∙◌, ◌++◌, sym, ap, ap₂, List, ℕ, None, Some}
+use Rattle.std.proofs.Common.{◌≡◌, ◌∙◌, ◌++◌, cond, length, sym, ap, ap₂, List, ℕ, None, Some}
 use Rattle.std.specs.Prelude.{is_some}
 use Rattle.sym_filter.specs.Kinds.{kind_of}
 use Rattle.sym_filter.specs.Marks.{from_mark}
 use Rattle.sym_filter.specs.Runs.{within, text_for, word_or_text}
+use Rattle.sym_filter.proofs.EntryLemmas.{left-absent, left-present}
 use Rattle.sym_filter.proofs.NameLemmas.{front_of, name_is_word, name_of}
 use Rattle.sym_filter.proofs.RunLemmas.{word_or_text-unnamed}
 use Rattle.sym_filter.proofs.WordLemmas.{counts-unnamed, counts-named}
@@ -40,4 +41,27 @@ returns-clause-counts g c =
       | in_default+in_ok-extend_from_slice-2 w ↦
           let none : kind_of word ≡ None = sym (ap kind_of name) ∙ sym c.kind_of.ensures ∙ w.in_default.is in
           ap (λ s. s.1.1.1.1.1.1.0) w.self-is ∙ counts-unnamed answers self.tally word self.is_counted whole none
+    ]
+
+pub returns-clause-left : goal.returns-clause-left
+returns-clause-left g c =
+    let self = c.args.self.now in
+    let answers = within (g.D.Demangler.answer c.args.demangler.now) in
+    let at = c.mark_in-at.result in
+    let word = from_mark self.place self.held.items in
+    let out = c.match-kind_of.out.items in
+    let count = c.match-kind_of.left in
+    let front = c.extend_from_slice.new.self.items in
+    let name = name_of self.place self.held.items _ _ at c.deref.ensures.value c.deref-3.ensures.value c.mark_in-at.ensures.from in
+    let whole = name_is_word self.place self.held.items _ at c.deref.ensures.value c.mark_in-at.ensures.from self.is_held.is_word in
+    elim c.match-kind_of.branch [
+      | in-Some+in_ok-has_text w ↦
+          let some : kind_of word ≡ Some w.in-Some.kind = sym (ap kind_of name) ∙ sym c.kind_of.ensures ∙ w.in-Some.is in
+          let has = w.in_ok-has_text.ensures.has_text ∙ ap (λ (t : List ℕ). is_some (text_for answers t)) name in
+          let is : out ≡ front ++ word_or_text answers word = ap (λ v. v.items) w.out-is ∙ w.in_ok-has_text.ensures.text ∙ ap (λ (t : List ℕ). front ++ word_or_text answers t) name in
+          let all : count ≡ cond w.in_ok-has_text.has_text 0 (length word) = w.left-is ∙ w.left_bytes-left.ensures ∙ ap (λ (t : List ℕ). cond w.in_ok-has_text.has_text 0 (length t)) name in
+          left-present answers word front out w.in-Some.kind count w.in_ok-has_text.has_text whole some has is all
+      | in_default+in_ok-extend_from_slice-2 w ↦
+          let none : kind_of word ≡ None = sym (ap kind_of name) ∙ sym c.kind_of.ensures ∙ w.in_default.is in
+          left-absent answers word out count w.left-is (ap kind_of whole ∙ none)
     ]

@@ -6,7 +6,7 @@ use Rattle.sym_command.specs.Lines.{answer_for}
 use Rattle.sym_command.proofs.LineLemmas.{answer_for-unnamed, answer_of-symbol}
 use Rattle.demangle_names.specs.Names.{reason_by}
 use Rattle.demangle_names.proofs.NameLemmas.{why-refused}
-use Rattle.demangle_names.proofs.names.reason_why.Goals as goal
+use Rattle.demangle_names.proofs.reasons.reason_why.Goals as goal
 
 pub returns-in_default : goal.returns-in_default
 returns-in_default g c =
