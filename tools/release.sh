@@ -118,10 +118,10 @@ deb "libsymdemangle$abi" "Depends: libc6 (>= $(needed_libc "$work/libsymdemangle
 deb libsymdemangle-dev "Depends: libsymdemangle$abi (= $version-1)" 'Suggests: symdemangle'
 deb symdemangle "Depends: libc6 (>= $(needed_libc "$work"/symdemangle/usr/bin/*))"
 
-# What builds anywhere with a C compiler: dist/.
+# What builds anywhere with a C compiler: what is committed of dist/, in the order of its names.
 if [ -f dist/symdemangle.c ]; then
-    tar -C "$PWD" --transform="s|^dist|symdemangle-$version|" --sort=name --mtime="@$SOURCE_DATE_EPOCH" --owner=0 --group=0 --numeric-owner \
-        --mode=go=rX,u+rw --format=gnu -cf - dist | gzip -9n >"$out/symdemangle-c-$version.tar.gz"
+    git ls-files -z dist | tar -C "$PWD" --transform="s|^dist|symdemangle-$version|" --mtime="@$SOURCE_DATE_EPOCH" --owner=0 --group=0 \
+        --numeric-owner --mode=go=rX,u+rw --format=gnu --null -T - -cf - | gzip -9n >"$out/symdemangle-c-$version.tar.gz"
     released+=("symdemangle-c-$version.tar.gz")
 fi
 
