@@ -14,7 +14,7 @@ SIZES = {"i8": 1, "i16": 2, "i32": 4, "i64": 8, "ptr": 8, "i128": 16, "i1": 1}
 
 @dataclass
 class Instruction:
-    """A line of a function. `word` is the operation or the condition, `to` a second type, `number` an alignment, a place or a size,
+    """A line of a function. `word` is the operation or the condition, `to` a second type, or `disjoint`, `number` an alignment, a place or a size,
     `targets` where control goes on."""
 
     name: str
@@ -39,9 +39,10 @@ def instruction(name, word, line):
 
 
 def read_arithmetic(name, word, line):
-    line.skip("nuw", "nsw", "exact", "disjoint")
+    line.skip("nuw", "nsw", "exact")
+    how = line.take("disjoint")
     type_, both = line.pair()
-    return Instruction(name, "arithmetic", type_, both, word), type_
+    return Instruction(name, "arithmetic", type_, both, word, how), type_
 
 
 def read_real(name, word, line):

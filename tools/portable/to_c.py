@@ -7,7 +7,7 @@ HEAD is a file that TO.c begins with. Functions keep the last part of their Ratt
 path is in a comment above each, and of functions with the same text, which are written once, all paths. Integers are unsigned, and cut to their width wherever C's operation is wider; memory is read and
 written by the calls of prelude.c. It stops at an instruction, an intrinsic, a type or a table that it doesn't know.
 
-operands.py and instructions.py read lines, functions.py a function with its order of blocks; values.py says which values get a
+operands.py and instructions.py read lines, functions.py a function with its order of blocks; wide.py compares bytes together, values.py says which values get a
 variable, expressions.py and computing.py write what is computed, blocks.py where control goes, tables.py what is constant."""
 
 import hashlib
@@ -21,6 +21,7 @@ from expressions import Structs
 from functions import Function
 from operands import Line
 from tables import NAME, Tables
+from wide import widen
 
 class Module:
     """The lines of a module by what they are."""
@@ -148,7 +149,9 @@ def translate(head, source, target):
         (with_addresses if has_addresses else plain).append(text)
     definitions = []
     for lines in module.functions:
-        written = Blocks(Function(lines), structs, tables).write()
+        function = Function(lines)
+        widen(function)
+        written = Blocks(function, structs, tables).write()
         name = tables.names[written.function.name]
         definitions.append(Definition(written, structs, module, name, paths[name]))
     definitions, with_addresses = merged(definitions, with_addresses)
