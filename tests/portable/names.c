@@ -3,6 +3,10 @@
 #include <stdio.h>
 #include <stdlib.h>
 #include <string.h>
+#ifdef _WIN32
+#include <fcntl.h>
+#include <io.h>
+#endif
 
 #include "symdemangle.h"
 
@@ -19,6 +23,9 @@ static void show(const symdemangle_result *result)
 int main(int count, char **words)
 {
     uint32_t sets = count > 1 ? (uint32_t)atoi(words[1]) : 1, flags;
+#ifdef _WIN32
+    _setmode(1, _O_BINARY);
+#endif
     while (fgets(name, sizeof name, stdin)) {
         size_t length = strcspn(name, "\n");
         symdemangle_result result;

@@ -43,6 +43,17 @@ def stamp(crate):
 rtlib.Crate.stamp = stamp
 
 
+def is_proved(crate):
+    """Whether a library is of its files as they are: by the sum that `rt check` leaves with it, or else by times, as `rt ci` leaves none."""
+    if crate.is_built():
+        return True
+    if not os.path.isdir(crate.rlib) or os.path.exists(f"{os.path.dirname(crate.rlib)}/stamp"):
+        return False
+    made = os.path.getmtime(crate.rlib)
+    from_ = [*rtlib.files_of(crate.folder), *(it.rlib for it in crate.below())]
+    return all(os.path.getmtime(file) <= made for file in from_)
+
+
 def toolchain(folder, out):
     """A toolchain folder whose clang keeps the module as `out`."""
     os.makedirs(f"{folder}/bin")
@@ -63,7 +74,7 @@ def main(folder, out):
     os.chdir(folder)
     crate = rtlib.Crate(folder, rtlib.root_above(folder) or folder, {}, name=None)
     for below in crate.below():
-        if not below.is_built():
+        if not is_proved(below):
             sys.exit(f"proved_module.py: {below.folder} isn't proved as it is now: `rt check` there, or `rt ci` for all")
     with tempfile.TemporaryDirectory() as work:
         toolchain(work, out)

@@ -4,11 +4,13 @@
     tools/portable/to_c.py HEAD FROM.ll TO.c
 
 HEAD is a file that TO.c begins with. Functions keep the last part of their Rattle path with three digits of its sum; the whole
-path is in a comment above each, and of functions with the same text, which are written once, all paths. Integers are unsigned, and cut to their width wherever C's operation is wider; memory is read and
-written by the calls of prelude.c. It stops at an instruction, an intrinsic, a type or a table that it doesn't know.
+path is in a comment above each, and of functions with the same text, which are written once, all paths. Integers are unsigned,
+and cut to their width wherever C's operation is wider; memory is read and written by the calls of prelude.c. It stops at an
+instruction, an intrinsic, a type or a table that it doesn't know.
 
-operands.py and instructions.py read lines, functions.py a function with its order of blocks; wide.py compares bytes together, values.py says which values get a
-variable, expressions.py and computing.py write what is computed, blocks.py where control goes, tables.py what is constant."""
+operands.py and instructions.py read lines, functions.py a function with its order of blocks; wide.py compares bytes together;
+values.py says which values get a variable, expressions.py and computing.py write what is computed, blocks.py where control
+goes, tables.py what is constant."""
 
 import hashlib
 import os
