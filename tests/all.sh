@@ -110,7 +110,7 @@ long_ones() { # packages, other machines and the page, which take minutes
     fi
     try packaged tests/packaged.sh ${made[@]+"${made[@]}"}
     if [ -f dist/symdemangle.c ]; then
-        try portable tests/portable.sh ${symbols[@]+"${symbols[@]}"}
+        try portable tests/portable.sh -q ${symbols[@]+"${symbols[@]}"}
     else
         leave portable "there is no dist: tools/portable/make.sh makes it"
     fi

@@ -25,6 +25,8 @@ git rev-parse --verify -q HEAD >/dev/null || refuse "this is no git repository w
 [ -z "$(git status --porcelain)" ] || refuse "the tree isn't what was committed; see \`git status\`"
 [ "${OLD_DIST-}" = passes ] || { grep -qx "sources: $(tools/portable/sources.sh)" dist/MANIFEST && ! grep -q 'not proved' dist/MANIFEST; } ||
     refuse "dist isn't of this tree: \`tools/portable/make.sh dist\` makes it anew"
+(cd dist && grep -E '^[0-9a-f]{64}  ' MANIFEST | sha256sum --quiet --check) >/dev/null 2>&1 ||
+    refuse "a file of dist was changed by hand: \`tools/portable/make.sh dist\` makes it anew"
 for program in symfilt demangle; do
     [ -x crates/$program/out/$program ] || refuse "$program isn't built: \`rt run -- _RNvC3foo3bar\` in crates/$program proves and builds it"
 done
