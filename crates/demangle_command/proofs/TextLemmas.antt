@@ -1,5 +1,5 @@
 -- Words as texts of the parser, and back.
-use Rattle.std.proofs.Common.{◌≡◌, ◌≢◌, ◌∙◌, ap, refl, sym, ℕ, Bool, List, [], ◌∷◌, ◌++◌, length, map, take, get_or, Bor, ◌+◌, ◌<◌, eqb, true, false}
+use Rattle.std.proofs.Common.{◌≡◌, ◌≢◌, ◌∙◌, ap, refl, sym, ℕ, List, [], ◌∷◌, ◌++◌, length, map, take, get_or, Bor, ◌+◌, ◌<◌, eqb, false}
 use Rattle.std.proofs.lemmas.Bool.{false≢true}
 use Rattle.std.proofs.lemmas.List.{map-append}
 use Rattle.clap.specs.Words.{Text}

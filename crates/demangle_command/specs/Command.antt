@@ -1,19 +1,21 @@
 -- What a command line did to an input and two outputs.
 use Rattle.std.specs.Prelude.{◌≡◌, ◌≢◌, ◌⊎◌, ℕ, List, [], ◌∷◌, ◌++◌, Bool, true, false, not, ◌==◌, Option, None, codes}
 use Rattle.std.specs.Fmt.{decimal}
-use Rattle.std.specs.Io.KnownBytes.{Appends}
+use Rattle.std.specs.Io.KnownBytes.{Appends, Consumes, IsAtEnd}
 use Rattle.clap.specs.Words.{Row, Text, IsAmong}
 use Rattle.clap.specs.declared.error.kind.ErrorKind.{ErrorKind}
 use Rattle.clap.specs.declared.error.kind.ErrorKind.TheVariants.{DisplayHelp, DisplayVersion}
 use Rattle.sym_print.specs.declared.detail.Detail.{Detail}
-use Rattle.sym_filter.specs.Runs.{Answering}
+use Rattle.sym_filter.specs.Entries.{entries_of}
+use Rattle.sym_filter.specs.Runs.{Answering, filtered_at, tally_at}
 use Rattle.sym_filter.specs.declared.kinds.Letters.TheVariants.{Within}
-use Rattle.sym_filter.specs.Streams.{FiltersAllAt, FiltersFrontAt, PutsFront}
+use Rattle.sym_filter.specs.Streams.{PutsFront}
 use Rattle.sym_filter.specs.declared.words.Tally.{Tally}
 use Rattle.sym_command.specs.Command.{Took}
 use Rattle.demangle_command.specs.CommandLine.{AreGiven, AreOptions, names_of, found_in, faults_in}
 use Rattle.demangle_command.specs.Json.{answer_by}
 use Rattle.demangle_names.specs.Names.{AnswersNames, NamesFront, status_of}
+use Rattle.demangle_names.specs.Reasons.{said_of_words}
 use Rattle.demangle_command.specs.Styled.{styled_answer}
 use Rattle.demangle_names.specs.declared.options.Options.{Options}
 use Rattle.demangle_names.specs.declared.style.Style.{Style}
@@ -33,18 +35,40 @@ abbrev pub summary_if : Bool → Tally → List ℕ
 summary_if true tally = codes "demangle: " ++ (decimal tally.refused ++ (codes " of " ++ (decimal tally.words ++ (codes " symbols stay" ++ 10 ∷ []))))
 summary_if false tally = []
 
--- It was filtered to its end, and then it was said how much stays, where that is asked.
+-- what is said of the words of an input that are left, where that is asked
+abbrev pub reasons_if : Bool → Answering → List ℕ → List ℕ
+reasons_if true answers text = said_of_words answers (entries_of Within answers text)
+reasons_if false answers text = []
+
+-- It was filtered to its end, and it was said of each word that is left where it is and why, where that is asked.
+pub record TellsInput (answers : Answering) (why : Bool) (coming coming' out out' err err' : Option (List ℕ)) (tally : Tally) : Type 0 where
+  pub text : List ℕ
+  pub reads : Consumes coming coming' text
+  pub ends : IsAtEnd coming'
+  pub writes : Appends out out' (filtered_at Within answers text)
+  pub counts : tally ≡ tally_at Within answers text
+  pub says : Appends err err' (reasons_if why answers text)
+
+-- What was written and what was said are beginnings of that for the bytes that were read.
+pub record TellsInputFront (answers : Answering) (why : Bool) (coming coming' out out' err err' : Option (List ℕ)) : Type 0 where
+  pub text : List ℕ
+  pub reads : Consumes coming coming' text
+  pub writes : PutsFront out out' [] (filtered_at Within answers text)
+  pub says : PutsFront err err' [] (reasons_if why answers text)
+
+-- Then it was said how much stays.
 pub record FiltersInput (answers : Answering) (why strict : Bool) (coming coming' out out' err err' : Option (List ℕ)) (status : ℕ) : Type 0 where
   pub tally : Tally
-  pub filtered : FiltersAllAt Within answers coming coming' out out' tally
-  pub says : Appends err err' (summary_if why tally)
+  pub before : Option (List ℕ)
+  pub filtered : TellsInput answers why coming coming' out out' err before tally
+  pub says : Appends before err' (summary_if why tally)
   pub ends : status ≡ status_of strict (not (tally.refused == 0))
 
--- Before a fault some of it was filtered, and nothing was said; or all of it was, and some was said of it.
+-- Before a fault some of it was filtered, and of some words left it was said why; or all of it was, and some was said of how much stays.
 abbrev pub FiltersInputFront : Answering → (why : Bool) → (coming coming' out out' err err' : Option (List ℕ)) → Type 0
 FiltersInputFront answers why coming coming' out out' err err' =
-    (FiltersFrontAt Within answers coming coming' out out' × (err' ≡ err))
-    ⊎ ((tally : Tally) × FiltersAllAt Within answers coming coming' out out' tally × PutsFront err err' [] (summary_if why tally))
+    TellsInputFront answers why coming coming' out out' err err'
+    ⊎ ((tally : Tally) × (before : Option (List ℕ)) × TellsInput answers why coming coming' out out' err before tally × PutsFront before err' [] (summary_if why tally))
 
 -- ## A command line that its parser takes, by what it found
 

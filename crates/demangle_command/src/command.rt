@@ -1,11 +1,11 @@
 // The command line.
-ghost use Rattle.std.specs.Prelude.{◌≡◌, ◌≢◌, ◌⊎◌, ◌+◌, ◌-◌, ◌^◌, ◌<◌, [], not, ◌==◌, IfOk, OnOk, OnErr, IfErr, map};
+ghost use Rattle.std.specs.Prelude.{◌≡◌, ◌≢◌, ◌⊎◌, ◌+◌, ◌-◌, ◌^◌, ◌<◌, [], not, ◌==◌, IfOk, OnOk, OnErr, IfErr, map, true};
 ghost use Rattle.std.specs.Io.KnownBytes.{Appends};
 ghost use Rattle.clap.specs.Words.{found_of, kind_of, rows_of};
 ghost use Rattle.clap.specs.declared.error.kind.ErrorKind.{ErrorKind as ErrorKind-type};
 ghost use Rattle.sym_filter.specs.Streams.{PutsFront, reader_faults, writer_faults};
 ghost use Rattle.sym_command.specs.Command.{Took, Says};
-ghost use Rattle.demangle_command.specs.Command.{answers_of, Ends, Stops, EndsOf, StopsOf, FiltersInput, FiltersInputFront, IsTold, is_request, summary_if};
+ghost use Rattle.demangle_command.specs.Command.{answers_of, Ends, Stops, EndsOf, StopsOf, FiltersInput, FiltersInputFront, IsTold, TellsInput, TellsInputFront, is_request, summary_if};
 ghost use Rattle.demangle_command.specs.Texts.{texts_of};
 ghost use Rattle.demangle_names.specs.Names.{status_of};
 
@@ -16,10 +16,12 @@ use crate::styled::Styled;
 use crate::texts::{lent_texts, lent_words, texts_of, words_of};
 use clap::error::ErrorKind;
 use clap::{ArgMatches, Error};
-use demangle_names::{DONE, Options, answer_names, status_of};
+use demangle_names::{DONE, Options, Reasons, answer_names, status_of};
 use std::alloc::Global;
 use sym_command::WRONG_USE;
-use sym_filter::{Demangler, FilterFault, Letters, Sink, Source, Tally, filter_words, write_all};
+use sym_filter::{
+    Demangler, FilterFault, Letters, Sink, Source, Tally, filter_telling, filter_words, write_all,
+};
 use sym_languages::{Languages, Wide};
 
 /// Runs the program over an input and two outputs: writes the line of each name with its symbols replaced, or filters the input where
@@ -234,7 +236,7 @@ fn filter_input<D: Demangler, S: Source, W: Sink, E: Sink>(
     ensures write_failed { W.failure_count out.new + E.failure_count err.new
         ≡ W.failure_count out.old + E.failure_count err.old + writer_faults result }
 {
-    let tally = match filter_words(alloc, input, out, demangler, Letters::Within) {
+    let tally = match filter_by(alloc, demangler, options.why, input, out, err) {
         Ok(tally) => tally,
         Err(fault) => return Err(fault),
     };
@@ -242,6 +244,57 @@ fn filter_input<D: Demangler, S: Source, W: Sink, E: Sink>(
         Ok(()) => Ok(status_of(options.strict, tally.refused != 0)),
         Err(fault) => Err(fault),
     }
+}
+
+/// Filters an input, and says of each word that stays where it is and why, where that is asked.
+fn filter_by<D: Demangler, S: Source, W: Sink, E: Sink>(
+    alloc: Global,
+    demangler: &D,
+    why: bool,
+    input: &mut S,
+    out: &mut W,
+    err: &mut E,
+) -> Result<Tally, FilterFault>
+    requires in_failures { S.failure_count input.old < 2 ^ 64 - 1 }
+    requires out_failures { W.failure_count out.old < 2 ^ 64 - 1 }
+    requires err_failures { E.failure_count err.old < 2 ^ 64 - 1 }
+    ensures ok { IfOk result (λ tally. TellsInput (D.answer demangler.now) why (S.coming input.old) (S.coming input.new)
+        (W.taken out.old) (W.taken out.new) (E.taken err.old) (E.taken err.new) tally) }
+    ensures err { OnErr result (TellsInputFront (D.answer demangler.now) why (S.coming input.old) (S.coming input.new)
+        (W.taken out.old) (W.taken out.new) (E.taken err.old) (E.taken err.new)) }
+    ensures err_failures { OnOk result (E.failure_count err.new ≡ E.failure_count err.old) }
+    ensures read_failed { S.failure_count input.new ≡ S.failure_count input.old + reader_faults result }
+    ensures write_failed { W.failure_count out.new + E.failure_count err.new
+        ≡ W.failure_count out.old + E.failure_count err.old + writer_faults result }
+{
+    if why {
+        return filter_saying(alloc, demangler, input, out, err);
+    }
+    filter_words(alloc, input, out, demangler, Letters::Within)
+}
+
+/// Filters an input, and says of each word that stays where it is and why.
+fn filter_saying<D: Demangler, S: Source, W: Sink, E: Sink>(
+    alloc: Global,
+    demangler: &D,
+    input: &mut S,
+    out: &mut W,
+    err: &mut E,
+) -> Result<Tally, FilterFault>
+    requires in_failures { S.failure_count input.old < 2 ^ 64 - 1 }
+    requires out_failures { W.failure_count out.old < 2 ^ 64 - 1 }
+    requires err_failures { E.failure_count err.old < 2 ^ 64 - 1 }
+    ensures ok { IfOk result (λ tally. TellsInput (D.answer demangler.now) true (S.coming input.old) (S.coming input.new)
+        (W.taken out.old) (W.taken out.new) (E.taken err.old) (E.taken err.new) tally) }
+    ensures err { OnErr result (TellsInputFront (D.answer demangler.now) true (S.coming input.old) (S.coming input.new)
+        (W.taken out.old) (W.taken out.new) (E.taken err.old) (E.taken err.new)) }
+    ensures err_failures { OnOk result (E.failure_count err.new ≡ E.failure_count err.old) }
+    ensures read_failed { S.failure_count input.new ≡ S.failure_count input.old + reader_faults result }
+    ensures write_failed { W.failure_count out.new + E.failure_count err.new
+        ≡ W.failure_count out.old + E.failure_count err.old + writer_faults result }
+{
+    let mut reasons = Reasons::new(alloc, demangler, err);
+    filter_telling(alloc, input, out, demangler, Letters::Within, &mut reasons)
 }
 
 /// Says how many symbols of an input stay, where that is asked.

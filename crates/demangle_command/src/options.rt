@@ -24,7 +24,7 @@ const LIMIT: &str = "Longest text, about its bytes [default: 1000000]";
 
 const JSON: &str = "Escape \" and \\ in replaced text";
 
-const WHY: &str = "Say on standard error why a name is left";
+const WHY: &str = "Say on standard error why a name is left, and in which line";
 
 const STRICT: &str = "Exit with status 1 if a name is left";
 

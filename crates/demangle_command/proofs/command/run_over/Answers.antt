@@ -1,4 +1,4 @@
-use Rattle.std.proofs.Common.{◌≡◌, ◌∙◌, List, ℕ, Bor, String, Global, map, subst, ap}
+use Rattle.std.proofs.Common.{◌∙◌, List, ℕ, Bor, String, Global, map, subst, ap}
 use Rattle.std.specs.String.{string_bytes}
 use Rattle.clap.specs.Words.{Text}
 use Rattle.sym_command.proofs.PageLemmas.{OnErr-anyway}
