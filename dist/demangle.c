@@ -143,8 +143,8 @@ COLD static double product(double a, double b) { return a * b; }
 typedef struct{u64 f0;u64 f1;}s_64_64;
 typedef struct{u8* f0;u64 f1;}s_p_64;
 typedef struct{u8 f0;u8 f1;}s_8_8;
-typedef struct{u8 f0;u8* f1;}s_8_p;
 typedef struct{u8 f0;u64 f1;}s_8_64;
+typedef struct{u8 f0;u8* f1;}s_8_p;
 typedef struct{u8 f0;u32 f1;}s_8_32;
 u64 port___sysv_signal(u32,u64);
 u64 port_lseek(u32,u64,u32);
@@ -255,7 +255,6 @@ static const A16 u8 t_7389[5352]={0,0,0,0,3,0,0,0,3,0,0,0,3,0,0,0,3,0,0,0,3,0,0,
 0,0,3,0,0,0,0,0,136,0,3,0,0,0,3,0,0,0,3,0,0,0,3,0,0,0,3,0,0,0,0,0,127,0,0,0,137,0,3,0,0,0,3,0,0,0,3,0,0,0,3,0,0,0,0,0,140,
 0,3,0,0,0,3,0,0,0,3,0,0,0,3,0,0,0,3,0,0,0,0,0,141,0,3,0,0,0,3,0,0,0,3,0,0,0,3,0,0,0,3,0,0,0,0,0,143,0,3,0,0,0,3,0,0,0,3,0,
 0,0,3,0,0,0,3,0,0,0,0,0,144,0,3,95,0,0,0,0,30,0,3,0,0,0,3,0,0,0,3,0,0,0,2,1,0,0,0,0,30,0,3,0,0,0,3,0,0,0,3,0,0,0,3,0,0,0};
-static const A16 u8 t_7c2d[1021]="\2\0\321\0\4\0022\0\0\0002\0\2\0\322\0\4\0022\0\0\0002\0\2\0\323\0\4\0022\0\0\0002\0\2\0\324\0\4\0022\0\0\0002\0\2\0\325\0\4\0022\0\0\0002\0\2\0\326\0\4\0022\0\0\0002\0\2\0\327\0\4\0022\0\0\0002\0\2\0\330\0\4\0022\0\0\0002\0\2\0\331\0\4\0022\0\0\0002\0\21\0\332\0\4\0222\0\0\0002\0\0\0\333\0\1\0002\0\0\0002\0\2\0\334\0\4\0022\0\0\0002\0\2\0\335\0\4\0022\0\0\0002\0\1\0002\0\4\2\334\0\0\0002\0\1\0002\0\4\2\335\0\0\0002\0\4\0002\0\4\5\336\0\4\0042\0\4\0002\0\4\5\337\0\4\0042\0\5\0002\0\4\6\340\0\4\0052\0\5\0002\0\4\6\341\0\4\0052\0\5\0002\0\4\6\342\0\4\0052\0\6\0002\0\4\7\343\0\4\0062\0\6\0002\0\4\7\344\0\4\0062\0\7\0002\0\4\10\345\0\4\0072\0\10\0002\0\4\11\346\0\4\0102\0\11\0002\0\4\12\347\0\4\0112\0\11\0002\0\4\12\350\0\4\0112\0\11\0002\0\4\12\351\0\4\0112\0\12\0002\0\4\13\352\0\4\0122\0\12\0002\0\4\13\353\0\4\0122\0\13\0002\0\4\14\354\0\4\0132\0\14\0002\0\4\15\355\0\4\0142\0\15\0002\0\4\16\356\0\4\0152\0\16\0002\0\4\17\357\0\4\0162\0\17\0002\0\4\20\360\0\4\0172\0\22\0002\0\4\12\361\0\4\0112\0\22\0002\0\4\10\362\0\4\0072\0\22\0002\0\1\0\363\0\4\0222\0\21\0002\0\4\17\364\0\4\0222\0\21\0002\0\4\17\365\0\4\0222\0\21\0002\0\4\17\366\0\4\0222\0\21\0002\0\4\17\367\0\4\0222\0\21\0002\0\4\17\370\0\4\0222\0\21\0002\0\4\17\371\0\4\0222\0\21\0002\0\4\17\372\0\4\0222\0\21\0002\0\4\17\373\0\4\0222\0\21\0002\0\4\17\374\0\4\0222\0\21\0002\0\4\17\375\0\4\0222\0\21\0002\0\4\17\376\0\4\0222\0\1\0002\0\4\1\377\0\1\0\0\1\1\0002\0\4\2\1\1\4\0012\0\1\0002\0\4\2\2\1\4\0012\0\20\0002\0\4\20\3\1\1\0002\0\0\0002\0\1\0\4\1\4\0222\0\1\0002\0\1\0\5\1\3\0\6\1\3\0\5\1\2\0\7\1\1\0\6\1\3\0\5\1\2\0\7\1\3\0\6\1\0\0002\0\2\0\10\1\3\0\11\1\0\0\10\1\3\0\11\1\0\0002\0\1\0\12\1\2\0\13\1\1\0\6\1\1\0\14\1\2\0\13\1\1\0\6\1\1\0\15\1\2\0\13\1\1\0\6\1\1\0\16\1\2\0\13\1\1\0\6\1\2\0\17\1\2\0\6\1\0\0002\0\2\0\17\1\1\0\6\1\0\0002\0\2\0\20\1\2\0\6\1\0\0002\0\2\0\20\1\1\0\6\1\0\0002\0\2\0\21\1\2\0\6\1\0\0002\0\2\0\21\1\1\0\6\1\0\0002\0\2\0\22\1\1\0\6\1\0\0002\0\0\0\23\1\1\0\6\1\0\0002\0\0\0002\0\1\0\333\0\1\0002\0\0\0\24\1\0\0002\0\0\0002\0\0\0\5\1\1\0\6\1\0\0002\0\0\0\325\0\2\0002\0\0\0002\0\1\0\5\1\1\0\7\1\3\0\6\1\2\0\25\1\1\0\26\1\1\0002\0\2\0\27\1\1\0\26\1\1\0002\0\0\0\5\1\3\0\6\1\0\0002\0\0\0002\0\2\0002\0\1\0002\0\0\0\5\1\3\0\6\1\0\0002\0\0\0\30\1\1\0\6\1\0\0002\0\0\0\5\1\1\0\31\1\0\0002\0\0\0\32\1\0\0002\0\0\0002\0\0\0\33\1\0\0002\0\0\0002\0\0\0002\0\0\0002\0\0\0002\0";
 static const A16 u8 t_bac5[10688]={63,59,161,6,41,170,63,17,90,214,59,146,214,83,244,238,7,197,36,164,89,202,199,74,248,101,101,27,102,180,88,149,73,246,45,
 13,240,188,121,93,118,191,62,162,127,225,174,186,220,115,121,16,44,44,216,244,83,111,206,138,223,153,90,233,105,232,75,138,
 155,27,7,121,148,5,193,182,43,160,216,145,132,226,222,108,130,226,72,151,249,70,113,164,54,200,78,182,37,155,22,8,35,27,27,
@@ -566,6 +565,7 @@ static const A16 u8 t_bac5[10688]={63,59,161,6,41,170,63,17,90,214,59,146,214,83
 83,28,128,111,244,58,229,161,196,223,75,177,156,177,91,56,104,35,96,139,177,137,94,202,181,215,158,221,3,158,114,70,66,44,
 56,238,29,44,246,252,209,70,131,106,194,162,7,108,169,27,227,180,146,219,25,158,133,24,36,5,115,139,9,199,147,226,27,98,119,
 82,160,197};
+static const A16 u8 t_c688[1021]="\2\0\241\0\4\0022\0\0\0002\0\2\0\242\0\4\0022\0\0\0002\0\2\0\243\0\4\0022\0\0\0002\0\2\0\244\0\4\0022\0\0\0002\0\2\0\245\0\4\0022\0\0\0002\0\2\0\246\0\4\0022\0\0\0002\0\2\0\247\0\4\0022\0\0\0002\0\2\0\250\0\4\0022\0\0\0002\0\2\0\251\0\4\0022\0\0\0002\0\21\0\252\0\4\0222\0\0\0002\0\0\0\253\0\1\0002\0\0\0002\0\2\0\254\0\4\0022\0\0\0002\0\2\0\255\0\4\0022\0\0\0002\0\1\0002\0\4\2\254\0\0\0002\0\1\0002\0\4\2\255\0\0\0002\0\4\0002\0\4\5\256\0\4\0042\0\4\0002\0\4\5\257\0\4\0042\0\5\0002\0\4\6\260\0\4\0052\0\5\0002\0\4\6\261\0\4\0052\0\5\0002\0\4\6\262\0\4\0052\0\6\0002\0\4\7\263\0\4\0062\0\6\0002\0\4\7\264\0\4\0062\0\7\0002\0\4\10\265\0\4\0072\0\10\0002\0\4\11\266\0\4\0102\0\11\0002\0\4\12\267\0\4\0112\0\11\0002\0\4\12\270\0\4\0112\0\11\0002\0\4\12\271\0\4\0112\0\12\0002\0\4\13\272\0\4\0122\0\12\0002\0\4\13\273\0\4\0122\0\13\0002\0\4\14\274\0\4\0132\0\14\0002\0\4\15\275\0\4\0142\0\15\0002\0\4\16\276\0\4\0152\0\16\0002\0\4\17\277\0\4\0162\0\17\0002\0\4\20\300\0\4\0172\0\22\0002\0\4\12\301\0\4\0112\0\22\0002\0\4\10\302\0\4\0072\0\22\0002\0\1\0\303\0\4\0222\0\21\0002\0\4\17\304\0\4\0222\0\21\0002\0\4\17\305\0\4\0222\0\21\0002\0\4\17\306\0\4\0222\0\21\0002\0\4\17\307\0\4\0222\0\21\0002\0\4\17\310\0\4\0222\0\21\0002\0\4\17\311\0\4\0222\0\21\0002\0\4\17\312\0\4\0222\0\21\0002\0\4\17\313\0\4\0222\0\21\0002\0\4\17\314\0\4\0222\0\21\0002\0\4\17\315\0\4\0222\0\21\0002\0\4\17\316\0\4\0222\0\1\0002\0\4\1\317\0\1\0\320\0\1\0002\0\4\2\321\0\4\0012\0\1\0002\0\4\2\322\0\4\0012\0\20\0002\0\4\20\323\0\1\0002\0\0\0002\0\1\0\324\0\4\0222\0\1\0002\0\1\0\325\0\3\0\326\0\3\0\325\0\2\0\327\0\1\0\326\0\3\0\325\0\2\0\327\0\3\0\326\0\0\0002\0\2\0\330\0\3\0\331\0\0\0\330\0\3\0\331\0\0\0002\0\1\0\332\0\2\0\333\0\1\0\326\0\1\0\334\0\2\0\333\0\1\0\326\0\1\0\335\0\2\0\333\0\1\0\326\0\1\0\336\0\2\0\333\0\1\0\326\0\2\0\337\0\2\0\326\0\0\0002\0\2\0\337\0\1\0\326\0\0\0002\0\2\0\340\0\2\0\326\0\0\0002\0\2\0\340\0\1\0\326\0\0\0002\0\2\0\341\0\2\0\326\0\0\0002\0\2\0\341\0\1\0\326\0\0\0002\0\2\0\342\0\1\0\326\0\0\0002\0\0\0\343\0\1\0\326\0\0\0002\0\0\0002\0\1\0\253\0\1\0002\0\0\0\344\0\0\0002\0\0\0002\0\0\0\325\0\1\0\326\0\0\0002\0\0\0\245\0\2\0002\0\0\0002\0\1\0\325\0\1\0\327\0\3\0\326\0\2\0\345\0\1\0\346\0\1\0002\0\2\0\347\0\1\0\346\0\1\0002\0\0\0\325\0\3\0\326\0\0\0002\0\0\0002\0\2\0002\0\1\0002\0\0\0\325\0\3\0\326\0\0\0002\0\0\0\350\0\1\0\326\0\0\0002\0\0\0\325\0\1\0\351\0\0\0002\0\0\0\352\0\0\0002\0\0\0002\0\0\0\353\0\0\0002\0\0\0002\0\0\0002\0\0\0002\0\0\0002\0";
 static const A16 u8 t_d6e8[161]="\1\0\0\0\0\0\0\0\12\0\0\0\0\0\0\0d\0\0\0\0\0\0\0\350\3\0\0\0\0\0\0\20'\0\0\0\0\0\0\240\206\1\0\0\0\0\0@B\17\0\0\0\0\0\200\226\230\0\0\0\0\0\0\341\365\5\0\0\0\0\0\312\232;\0\0\0\0\0\344\13T\2\0\0\0\0\350vH\27\0\0\0\0\20\245\324\350\0\0\0\0\240rN\30\11\0\0\0@z\20\363Z\0\0\0\200\306\244~\215\3\0\0\0\301o\362\206#\0\0\0\212]xEc\1\0\0d\247\263\266\340\15\0\0\350\211\4#\307\212";
 static const A16 u8 t_de55[4192]={255,255,255,255,255,255,255,255,255,255,255,255,255,255,255,255,255,255,255,255,255,255,255,255,255,255,255,255,255,255,255,
 255,0,0,0,0,0,0,0,0,0,0,0,0,0,0,0,0,0,0,0,0,0,0,0,0,0,0,0,0,0,0,0,0,0,0,0,0,0,0,0,0,0,0,0,0,0,0,0,0,0,0,0,0,0,0,0,0,0,0,0,
@@ -684,17 +684,18 @@ static const A16 u8 t_de55[4192]={255,255,255,255,255,255,255,255,255,255,255,25
 static const A16 u8 t_z0[1]={0};
 static const u16 t_0300[21]={122,50,123,125,126,127,50,128,119,50,50,50,50,124,50,50,50,50,120,50,121};
 static const u16 t_cb34[26]={102,100,101,115,116,114,117,103,106,107,50,108,109,112,113,50,50,50,104,105,50,98,99,110,111,118};
+static const u64 t_08c8[63]={4,7,4,4,11,13,5,14,3,12,4,13,9,18,8,17,5,6,11,10,3,8,8,7,4,14,14,9,10,9,4,14,17,11,12,12,13,9,12,6,7,7,8,11,8,13,18,19,40,
+33,1,1,2,2,3,9,9,18,6,15,15,24,8};
 static const u64 t_0b6b[9]={0,0,2,2,5,0,0,0,0};
 static const u64 t_1c98[9]={0,0,0,0,255,0,0,0,0};
-static const u64 t_249d[79]={4,7,4,4,11,13,5,14,3,12,4,13,9,18,8,17,5,6,11,10,3,8,8,7,4,14,14,9,10,9,4,12,14,15,17,17,9,9,9,9,9,9,9,9,9,9,9,9,9,10,10,
-10,10,10,10,10,10,10,10,11,11,10,10,9,9,10,10,11,9,10,10,10,10,9,11,10,10,10,9};
 static const u64 t_38e2[25]={11,4,4,6,11,5,10,13,3,12,0,4,13,8,17,0,0,0,5,14,0,4,7,9,18};
 static const u64 t_455e[26]={2,4,4,3,3,3,0,2,5,5,0,3,3,4,4,1,0,0,3,3,2,3,0,3,3,1};
 static const u64 t_59f6[75]={1,1,1,1,1,1,9,7,9,6,2,2,2,2,3,3,3,3,3,3,4,5,3,4,4,4,4,3,3,3,4,4,3,4,2,3,4,4,4,4,4,4,4,4,5,5,1,1,1,2,3,3,1,1,2,1,1,13,2,12,
 11,17,8,8,9,10,10,4,3,1,5,4,4,14,20};
 static const u64 t_5b3b[3]={2,5,5};
 static const u64 t_999c[21]={4,0,14,9,10,9,0,4,8,0,0,0,0,14,0,0,0,0,8,0,7};
-static const u64 t_9b8e[32]={14,17,11,12,12,13,9,12,6,7,7,8,11,8,13,18,19,40,33,1,1,2,2,3,9,9,18,6,15,15,24,8};
+static const u64 t_a27e[48]={12,14,15,17,17,9,9,9,9,9,9,9,9,9,9,9,9,9,10,10,10,10,10,10,10,10,10,10,11,11,10,10,9,9,10,10,11,9,10,10,10,10,9,11,10,10,
+10,9};
 static const u64 t_c64f[4]={38,29,38,38};
 static const u64 t_f635[26]={11,4,4,6,11,5,10,13,3,12,0,4,13,8,17,0,0,0,5,14,0,4,7,9,18,3};
 static const u8 t_005e[4]=" / ";
@@ -1192,6 +1193,7 @@ static const u8 t_542c[12702]={32,32,32,32,32,32,32,32,32,32,32,32,32,32,32,32,3
 71,71,71,32,32,32,32,32,32,32,32,32,71,71,73,71,32,32,32,32,32,71,71,32,32,32,32,32,32,32,71,32,32,32,32,32,32,32,32,32,32,
 32,71,32,71,71,71,32,71,32,71,32,32,71,71,71,71,71,32,71,71,32,32,32,32,32,32,32};
 static const u8 t_5513[12]=" volatile &";
+static const u8 t_5532[60]="Say on standard error why a name is left, and in which line";
 static const u8 t_55ea[6]="limit";
 static const u8 t_55ee[18]="unsigned __int128";
 static const u8 t_579a[4]="i32";
@@ -1266,6 +1268,7 @@ static const u8 t_71b3[3]="->";
 static const u8 t_71fc[12]="std::string";
 static const u8 t_727e[12]="vtable for ";
 static const u8 t_7285[5]="-in-";
+static const u8 t_728d[6]="line ";
 static const u8 t_72b0[3]="[=";
 static const u8 t_73e7[3]="&&";
 static const u8 t_750b[15]="string literal";
@@ -1418,7 +1421,6 @@ static const u8 t_b7db[5]="$RP$";
 static const u8 t_b7e9[11]="operator|=";
 static const u8 t_b902[3]=" <";
 static const u8 t_b958[11]="__float128";
-static const u8 t_b981[41]="Say on standard error why a name is left";
 static const u8 t_ba5e[2]=")";
 static const u8 t_bb72[2]="!";
 static const u8 t_bbf4[21]=" volatile & noexcept";
@@ -1595,18 +1597,18 @@ static const u8*const t_e7e8[26]={t_1bef,t_b760,t_411b,t_2ce0,t_e764,t_76a7,t_b9
 t_445b,t_b308,t_61bc,t_4f63,t_ab5d};
 static const u8*const t_1a0f_2[21]={t_9292,0,t_a918,t_bcd9,t_1f9f,t_162d,0,t_a11a,t_9b36,0,0,0,0,t_8dac,0,0,0,0,t_289b,0,t_47de};
 static const u8*const t_7cd2[3]={t_c4eb,t_b0d6,t_fa32};
-static const u8*const t_564c[79]={t_445b,t_b308,t_b760,t_411b,t_1bef,t_c8a2,t_f9b0,t_bfe7,t_6da8,t_c75d,t_fc66,t_f7e4,t_61bc,t_4f63,t_e172,t_55ee,t_76a7,t_2ce0,
-t_e764,t_b958,t_ab5d,t_9b36,t_289b,t_47de,t_9292,t_a918,t_8dac,t_bcd9,t_1f9f,t_162d,t_a11a,t_d1c6,t_6e7d,t_bd50,t_6b56,t_97d0,
-t_46af,t_8d99,t_6f44,t_5eb9,t_cdb9,t_46af,t_8d99,t_5eb9,t_9819,t_8c3a,t_6f44,t_dddf,t_8b4d,t_5925,t_3a9e,t_5dde,t_75c3,t_5f52,
-t_5f91,t_b7e9,t_c1c5,t_1d06,t_9c07,t_0e39,t_af4d,t_67bd,t_8192,t_a111,t_2d08,t_68c0,t_2e43,t_e40a,t_b2ab,t_d2aa,t_a94d,t_c306,
-t_4999,t_8965,t_14b2,t_e0ef,t_1f0f,t_284e,t_e86a};
-static const u8*const t_cc0c[32]={t_5ec9,t_9945,t_71fc,t_e6f6,t_a66e,t_0bf1,t_0929,t_a59d,t_4732,t_67dd,t_662c,t_213a,t_727e,t_0b5b,t_77a1,t_71af,t_c270,t_2b84,
-t_5acd,t_0bfe,t_acac,t_51db,t_f9e0,t_7dd3,t_4d76,t_e25b,t_76ae,t_5a2b,t_0d4d,t_988e,t_c0ca,t_06e5};
+static const u8*const t_a8f4[63]={t_445b,t_b308,t_b760,t_411b,t_1bef,t_c8a2,t_f9b0,t_bfe7,t_6da8,t_c75d,t_fc66,t_f7e4,t_61bc,t_4f63,t_e172,t_55ee,t_76a7,t_2ce0,
+t_e764,t_b958,t_ab5d,t_9b36,t_289b,t_47de,t_9292,t_a918,t_8dac,t_bcd9,t_1f9f,t_162d,t_a11a,t_5ec9,t_9945,t_71fc,t_e6f6,t_a66e,
+t_0bf1,t_0929,t_a59d,t_4732,t_67dd,t_662c,t_213a,t_727e,t_0b5b,t_77a1,t_71af,t_c270,t_2b84,t_5acd,t_0bfe,t_acac,t_51db,t_f9e0,
+t_7dd3,t_4d76,t_e25b,t_76ae,t_5a2b,t_0d4d,t_988e,t_c0ca,t_06e5};
 static const u8*const t_276d[75]={t_a318,t_3973,t_951d,t_6848,t_7ace,t_bb72,t_3989,t_8e4f,t_e321,t_362c,t_7154,t_cfc0,t_d815,t_12ac,t_4674,t_34bb,t_005e,t_306c,
 t_4620,t_d315,t_b43c,t_b7ab,t_fe90,t_a55f,t_9b55,t_eab6,t_29e6,t_4ee0,t_cdfe,t_ffa9,t_b5fb,t_5d00,t_86f2,t_ead1,t_0a07,t_7bac,
 t_0710,t_f0dd,t_5e1c,t_d800,t_becc,t_05d9,t_7e96,t_a267,t_b1e2,t_4af9,t_2458,t_cfae,t_cdb4,t_71b3,t_8712,t_7afd,t_32eb,t_ba5e,
 t_9255,t_021f,t_d10b,t_1810,t_daa9,t_c7fa,t_8b17,t_719d,t_6881,t_aefb,t_49e6,t_4f06,t_b064,t_1eb7,t_1150,t_36a9,t_0ead,t_1a52,
 t_7153,t_1bf4,t_1687};
+static const u8*const t_392a[48]={t_d1c6,t_6e7d,t_bd50,t_6b56,t_97d0,t_46af,t_8d99,t_6f44,t_5eb9,t_cdb9,t_46af,t_8d99,t_5eb9,t_9819,t_8c3a,t_6f44,t_dddf,t_8b4d,
+t_5925,t_3a9e,t_5dde,t_75c3,t_5f52,t_5f91,t_b7e9,t_c1c5,t_1d06,t_9c07,t_0e39,t_af4d,t_67bd,t_8192,t_a111,t_2d08,t_68c0,t_2e43,
+t_e40a,t_b2ab,t_d2aa,t_a94d,t_c306,t_4999,t_8965,t_14b2,t_e0ef,t_1f0f,t_284e,t_e86a};
 static COLD u8 grow_amortized_e1a(u8* a,u64 b);
 static COLD u8 grow_amortized_965(u8* a,u64 b);
 static u8 parts_equal_58b(u8* a,u64 b,u8* c,u64 d);
@@ -1625,9 +1627,9 @@ static u8 write_char_n_times_e6e(u8* a,u32 b,u64 c);
 static u8 cut_and_fill_b75(u8* a,u8* b,u64 c);
 static void lent_words_945(u8* a,u8* b,u64 c);
 static COLD u8 grow_amortized_bd9(u8* a,u64 b);
-static s_8_8 run_over_09d(u8* a,u64 b,u8* c,u8* d,u8* e);
 static u8 add_wide_f1a(u8* a,u32 b);
 static COLD u8 grow_amortized_f15(u8* a);
+static s_8_8 run_texts_e0a(u8* a,u64 b,u8* c,u8* d,u8* e);
 static void found_in_224(u8* a,u8* b,u64 c);
 static void short_alias_7f8(u8* a,u8* b,u32 c);
 static COLD u8 grow_amortized_094(u8* a);
@@ -1798,11 +1800,12 @@ static void quoted_1ce(u8* a,u8* b,u64 c,u8* d,u64 e);
 static void bytes_of_d39(u8* a,u8* b,u64 c);
 static void line_of_0b7(u8* a,u8* b,u64 c);
 static void lists_5fc(u8* a);
-static s_8_8 take_piece_528(u8* a,u8* b,u8* c,u8* d,u8* e,u64 f,u8* g,u8* h);
+static s_8_64 read_ea1(u8* a,u8* b,u64 c);
+static void first_segment_4a3(u8* a,u8 b,u8* c,u64 d,u8 e);
 static void pass_6c7(u8* a,u8* b,u8* c,u64 d);
 static s_8_8 place_in_stretch_597(u8 a,u8* b,u64 c,u8 d);
 static void end_within_406(u8* a,u8* b,u8* c,u8* d,u8* e);
-static s_8_8 append_text_a06(u8* a,u8* b,u8* c,u64 d,u8* e);
+static u64 length_of_front_de8(u8* a,u64 b);
 static void append_c85(u8* a,u8* b,u8* c,u8 d,u8* e,u64 f,u8* g);
 static void append_1e1(u8* a,u8* b,u8* c,u8 d,u8* e,u64 f,u8* g);
 static void append_named_c97(u8* a,u8* b,u8* c,u8 d,u8* e,u64 f,u64 g,u64 h,u8* i);
@@ -2133,12 +2136,19 @@ static void push_numbered_8a9(u8* a,u64 b);
 static void push_function_58c(u8* a,u32 b,u16 c,u64 d,u8 e);
 static void push_dyn_6de(u8* a,u8* b,u32 c,u16 d,u32 e,u64 f,u64 g,u8 h);
 static void fill_bindings_59a(u8* a,u8* b,u32 c,u8 d,u64 e,u8 f);
+static s_8_8 append_text_a06(u8* a,u8* b,u8* c,u64 d,u8* e);
 static s_8_8 append_parts_673(u8* a,u8* b,u8* c,u64 d,u8* e);
 static s_8_8 push_text_7d3(u8* a,u8* b,u8* c,u64 d,u8 e,u32 f,u8* g);
-static s_8_8 end_segment_de1(u8* a,u8* b,u8* c,u8* d,u8* e);
+static COLD void placed_826(u8* a,u64 b,u8* c,u64 d);
+static s_8_8 say_reason_a74(u8* a,u8* b,u64 c,u8* d,u64 e,u8* f);
+static void format_c1f(u8* a,u8* b);
+static s_8_8 end_segment_9fc(u8* a,u8* b,u8* c,u8* d,u8* e,u8* f);
+static void end_segment_a9b(u8* a,u8* b,u8* c,u8* d,u8* e);
+static void read_ahead_f02(u8* a,u64 b,u8* c);
 static s_8_8 write_out_752(u8* a,u8* b);
 static void drop_fa3(u8* a);
-static void format_c1f(u8* a,u8* b);
+static s_8_8 take_piece_8e7(u8* a,u8* b,u8* c,u8* d,u8* e,u64 f,u8* g,u8* h);
+static s_8_8 end_segment_b17(u8* a,u8* b,u8* c,u8* d,u8* e);
 static void drop_bac(u8* a);
 static void first_refused_ea1(u8* a,u8 b,u8* c,u64 d);
 static void file_among_a61(u8* a,u8* b,u64 c);
@@ -2166,8 +2176,8 @@ u32 port_main(void);
 /* std_alloc::vec::Vec::grow_amortized::<#3a71db6cb84fa6fe> */
 /* std_alloc::vec::Vec::grow_amortized::<#13b67eda15e15e37> */
 /* std_alloc::vec::Vec::grow_amortized::<#76da4626077e5326> */
-/* std_alloc::vec::Vec::grow_amortized::<#a8d3122d46899a3f> */
 /* std_alloc::vec::Vec::grow_amortized::<#b60a7a6ed8b5c85d> */
+/* std_alloc::vec::Vec::grow_amortized::<#a8d3122d46899a3f> */
 static COLD u8 grow_amortized_e1a(u8* a,u64 b)
 {
 u64 c,e,f,g,h;
@@ -2237,8 +2247,8 @@ L1:return d;
 /* core::cmp::slices::parts_equal::<i8,31'core::cmp::numbers::U8PartialEq{}> */
 static u8 parts_equal_58b(u8* a,u64 b,u8* c,u64 d)
 {
-u8 e,J,Z,oa,sa,ua,Aa,Ua,jb,Db,Sb,Xb;
-u64 f,g,h,i,j,k,l,m,n,o,p,q,r,s,t,u,v,w,x,y,z,A,B,C,D,E,F,G,H,I,K,L,M,N,O,P,Q,R,S,T,U,V,W,X,Y,aa,ba,ca,da,ea,fa,ga,ha,ia,ja,ka,la,ma,na,pa,qa,ra,ta,va,wa,xa,ya,za,Ba,Ca,Da,Ea,Fa,Ga,Ha,Ia,Ja,Ka,La,Ma,Na,Oa,Pa,Qa,Ra,Sa,Ta,Va,Wa,Xa,Ya,Za,ab,bb,cb,db,eb,fb,gb,hb,ib,kb,lb,mb,nb,ob,pb,qb,rb,sb,tb,ub,vb,wb,xb,yb,zb,Ab,Bb,Cb,Eb,Fb,Gb,Hb,Ib,Jb,Kb,Lb,Mb,Nb,Ob,Pb,Qb,Rb,Tb,Ub,Vb,Wb;
+u8 e,q,t,I;
+u64 f,g,h,i,j,k,l,m,n,o,p,r,s,u,v,w,x,y,z,A,B,C,D,E,F,G,H;
 if(b==d){
 if(b<4){
 if(b==0)e=0;
@@ -2249,183 +2259,64 @@ e=(*a!=*c||*(a+(i64)f)!=*(c+(i64)f))||*(a+(i64)g)!=*(c+(i64)g);}}
 else{
 if(b<9){
 h=b-4;
-i=b-3;
-j=b-2;
-k=b-1;
-e=(((*a!=*c||a[1]!=c[1])||a[2]!=c[2])||a[3]!=c[3])||(((*(a+(i64)h)!=*(c+(i64)h)||*(a+(i64)i)!=*(c+(i64)i))||*(a+(i64)j)!=*(c+(i64)j))||*(a+(i64)k)!=*(c+(i64)k));}
+e=q4(a+(i64)h)!=q4(c+(i64)h)||q4(a)!=q4(c);}
 else{
 if(b<33){
-l=b-8;
-m=umin64(l,8);
-n=m+1;
-o=m+2;
-p=m+3;
-q=m+4;
-r=m+5;
-s=m+6;
-t=m+7;
-u=umin64(l,16);
-v=u+1;
-w=u+2;
-x=u+3;
-y=u+4;
-z=u+5;
-A=u+6;
-B=u+7;
-C=b-7;
-D=b-6;
-E=b-5;
-F=b-4;
-G=b-3;
-H=b-2;
-I=b-1;
-J=((((((((*a!=*c||a[1]!=c[1])||a[2]!=c[2])||a[3]!=c[3])||a[4]!=c[4])||a[5]!=c[5])||a[6]!=c[6])||a[7]!=c[7])||(((((((*(a+(i64)m)!=*(c+(i64)m)||*(a+(i64)n)!=*(c+(i64)n))||*(a+(i64)o)!=*(c+(i64)o))||*(a+(i64)p)!=*(c+(i64)p))||*(a+(i64)q)!=*(c+(i64)q))||*(a+(i64)r)!=*(c+(i64)r))||*(a+(i64)s)!=*(c+(i64)s))||*(a+(i64)t)!=*(c+(i64)t)))||(((((((*(a+(i64)u)!=*(c+(i64)u)||*(a+(i64)v)!=*(c+(i64)v))||*(a+(i64)w)!=*(c+(i64)w))||*(a+(i64)x)!=*(c+(i64)x))||*(a+(i64)y)!=*(c+(i64)y))||*(a+(i64)z)!=*(c+(i64)z))||*(a+(i64)A)!=*(c+(i64)A))||*(a+(i64)B)!=*(c+(i64)B));
-e=J||(((((((*(a+(i64)l)!=*(c+(i64)l)||*(a+(i64)C)!=*(c+(i64)C))||*(a+(i64)D)!=*(c+(i64)D))||*(a+(i64)E)!=*(c+(i64)E))||*(a+(i64)F)!=*(c+(i64)F))||*(a+(i64)G)!=*(c+(i64)G))||*(a+(i64)H)!=*(c+(i64)H))||*(a+(i64)I)!=*(c+(i64)I));}
+i=b-8;
+j=umin64(i,8);
+k=umin64(i,16);
+e=((q8(a+(i64)i)!=q8(c+(i64)i)||q8(a+(i64)k)!=q8(c+(i64)k))||q8(a+(i64)j)!=q8(c+(i64)j))||q8(a)!=q8(c);}
 else{
 if(b<65){
-K=b-32;
-L=b-31;
-M=b-30;
-N=b-29;
-O=b-28;
-P=b-27;
-Q=b-26;
-R=b-25;
-S=b-24;
-T=b-23;
-U=b-22;
-V=b-21;
-W=b-20;
-X=b-19;
-Y=b-18;
-Z=(((((((((((((*(a+(i64)K)!=*(c+(i64)K)||*(a+(i64)L)!=*(c+(i64)L))||*(a+(i64)M)!=*(c+(i64)M))||*(a+(i64)N)!=*(c+(i64)N))||*(a+(i64)O)!=*(c+(i64)O))||*(a+(i64)P)!=*(c+(i64)P))||*(a+(i64)Q)!=*(c+(i64)Q))||*(a+(i64)R)!=*(c+(i64)R))||*(a+(i64)S)!=*(c+(i64)S))||*(a+(i64)T)!=*(c+(i64)T))||*(a+(i64)U)!=*(c+(i64)U))||*(a+(i64)V)!=*(c+(i64)V))||*(a+(i64)W)!=*(c+(i64)W))||*(a+(i64)X)!=*(c+(i64)X))||*(a+(i64)Y)!=*(c+(i64)Y);
-aa=b-17;
-ba=b-16;
-ca=b-15;
-da=b-14;
-ea=b-13;
-fa=b-12;
-ga=b-11;
-ha=b-10;
-ia=b-9;
-ja=b-8;
-ka=b-7;
-la=b-6;
-ma=b-5;
-na=b-4;
-oa=(((((((((((((Z||*(a+(i64)aa)!=*(c+(i64)aa))||*(a+(i64)ba)!=*(c+(i64)ba))||*(a+(i64)ca)!=*(c+(i64)ca))||*(a+(i64)da)!=*(c+(i64)da))||*(a+(i64)ea)!=*(c+(i64)ea))||*(a+(i64)fa)!=*(c+(i64)fa))||*(a+(i64)ga)!=*(c+(i64)ga))||*(a+(i64)ha)!=*(c+(i64)ha))||*(a+(i64)ia)!=*(c+(i64)ia))||*(a+(i64)ja)!=*(c+(i64)ja))||*(a+(i64)ka)!=*(c+(i64)ka))||*(a+(i64)la)!=*(c+(i64)la))||*(a+(i64)ma)!=*(c+(i64)ma))||*(a+(i64)na)!=*(c+(i64)na);
-pa=b-3;
-qa=b-2;
-ra=b-1;
-sa=(((((((((((((((((((((((((*a!=*c||a[1]!=c[1])||a[2]!=c[2])||a[3]!=c[3])||a[4]!=c[4])||a[5]!=c[5])||a[6]!=c[6])||a[7]!=c[7])||a[8]!=c[8])||a[9]!=c[9])||a[10]!=c[10])||a[11]!=c[11])||a[12]!=c[12])||a[13]!=c[13])||a[14]!=c[14])||a[15]!=c[15])||a[16]!=c[16])||a[17]!=c[17])||a[18]!=c[18])||a[19]!=c[19])||a[20]!=c[20])||a[21]!=c[21])||a[22]!=c[22])||a[23]!=c[23])||a[24]!=c[24])||a[25]!=c[25])||a[26]!=c[26];
-e=(((((sa||a[27]!=c[27])||a[28]!=c[28])||a[29]!=c[29])||a[30]!=c[30])||a[31]!=c[31])||(((oa||*(a+(i64)pa)!=*(c+(i64)pa))||*(a+(i64)qa)!=*(c+(i64)qa))||*(a+(i64)ra)!=*(c+(i64)ra));
+l=b-32;
+m=b-24;
+n=b-16;
+o=b-8;
+e=((((((q8(a+(i64)l)!=q8(c+(i64)l)||q8(a+(i64)m)!=q8(c+(i64)m))||q8(a+(i64)n)!=q8(c+(i64)n))||q8(a+(i64)o)!=q8(c+(i64)o))||q8(a)!=q8(c))||q8(a+8)!=q8(c+8))||q8(a+16)!=q8(c+16))||q8(a+24)!=q8(c+24);
 goto L1;}
-ta=0;
-L2:ua=0;
-va=0;
-L3:wa=va+ta;
-xa=(va|1)+ta;
-ya=(va|2)+ta;
-za=(va|3)+ta;
-Aa=(((ua||*(a+(i64)wa)!=*(c+(i64)wa))||*(a+(i64)xa)!=*(c+(i64)xa))||*(a+(i64)ya)!=*(c+(i64)ya))||*(a+(i64)za)!=*(c+(i64)za);
-Ba=va+4;
-if(Ba!=64){
-ua=Aa;
-va=Ba;
+p=0;
+L2:q=0;
+r=0;
+L3:s=r+p;
+t=q4(a+(i64)s)!=q4(c+(i64)s)||q;
+u=r+4;
+if(u!=64){
+q=t;
+r=u;
 goto L3;}
-if(Aa){
-Ca=b-ta;
-Da=ta;}
+if(t){
+v=b-p;
+w=p;}
 else{
-Ea=ta+64;
-Fa=b-Ea;
-if(Fa>63){
-ta=Ea;
+x=p+64;
+y=b-x;
+if(y>63){
+p=x;
 goto L2;}
-Ca=Fa;
-Da=Ea;}
-if(Ca<=31)goto L4;
-Ga=Da;
-L5:Ha=Ga+1;
-Ia=Ga+2;
-Ja=Ga+3;
-Ka=Ga+4;
-La=Ga+5;
-Ma=Ga+6;
-Na=Ga+7;
-Oa=Ga+8;
-Pa=Ga+9;
-Qa=Ga+10;
-Ra=Ga+11;
-Sa=Ga+12;
-Ta=Ga+13;
-Ua=((((((((((((*(a+(i64)Ga)!=*(c+(i64)Ga)||*(a+(i64)Ha)!=*(c+(i64)Ha))||*(a+(i64)Ia)!=*(c+(i64)Ia))||*(a+(i64)Ja)!=*(c+(i64)Ja))||*(a+(i64)Ka)!=*(c+(i64)Ka))||*(a+(i64)La)!=*(c+(i64)La))||*(a+(i64)Ma)!=*(c+(i64)Ma))||*(a+(i64)Na)!=*(c+(i64)Na))||*(a+(i64)Oa)!=*(c+(i64)Oa))||*(a+(i64)Pa)!=*(c+(i64)Pa))||*(a+(i64)Qa)!=*(c+(i64)Qa))||*(a+(i64)Ra)!=*(c+(i64)Ra))||*(a+(i64)Sa)!=*(c+(i64)Sa))||*(a+(i64)Ta)!=*(c+(i64)Ta);
-Va=Ga+14;
-Wa=Ga+15;
-Xa=Ga+16;
-Ya=Ga+17;
-Za=Ga+18;
-ab=Ga+19;
-bb=Ga+20;
-cb=Ga+21;
-db=Ga+22;
-eb=Ga+23;
-fb=Ga+24;
-gb=Ga+25;
-hb=Ga+26;
-ib=Ga+27;
-jb=(((((((((((((Ua||*(a+(i64)Va)!=*(c+(i64)Va))||*(a+(i64)Wa)!=*(c+(i64)Wa))||*(a+(i64)Xa)!=*(c+(i64)Xa))||*(a+(i64)Ya)!=*(c+(i64)Ya))||*(a+(i64)Za)!=*(c+(i64)Za))||*(a+(i64)ab)!=*(c+(i64)ab))||*(a+(i64)bb)!=*(c+(i64)bb))||*(a+(i64)cb)!=*(c+(i64)cb))||*(a+(i64)db)!=*(c+(i64)db))||*(a+(i64)eb)!=*(c+(i64)eb))||*(a+(i64)fb)!=*(c+(i64)fb))||*(a+(i64)gb)!=*(c+(i64)gb))||*(a+(i64)hb)!=*(c+(i64)hb))||*(a+(i64)ib)!=*(c+(i64)ib);
-kb=Ga+28;
-lb=Ga+29;
-mb=Ga+30;
-nb=Ga+31;
-if((((jb||*(a+(i64)kb)!=*(c+(i64)kb))||*(a+(i64)lb)!=*(c+(i64)lb))||*(a+(i64)mb)!=*(c+(i64)mb))||*(a+(i64)nb)!=*(c+(i64)nb)){
-if(b-Ga>31){
+v=y;
+w=x;}
+if(v<=31)goto L4;
+z=w;
+L5:A=z+8;
+B=z+16;
+C=z+24;
+if(((q8(a+(i64)z)!=q8(c+(i64)z)||q8(a+(i64)A)!=q8(c+(i64)A))||q8(a+(i64)B)!=q8(c+(i64)B))||q8(a+(i64)C)!=q8(c+(i64)C)){
+if(b-z>31){
 e=1;
 goto L1;}}
 else{
-ob=Ga+32;
-if(b-ob>31){
-Ga=ob;
+D=z+32;
+if(b-D>31){
+z=D;
 goto L5;}}
-L4:pb=b-32;
-qb=b-31;
-rb=b-30;
-sb=b-29;
-tb=b-28;
-ub=b-27;
-vb=b-26;
-wb=b-25;
-xb=b-24;
-yb=b-23;
-zb=b-22;
-Ab=b-21;
-Bb=b-20;
-Cb=b-19;
-Db=((((((((((((*(a+(i64)pb)!=*(c+(i64)pb)||*(a+(i64)qb)!=*(c+(i64)qb))||*(a+(i64)rb)!=*(c+(i64)rb))||*(a+(i64)sb)!=*(c+(i64)sb))||*(a+(i64)tb)!=*(c+(i64)tb))||*(a+(i64)ub)!=*(c+(i64)ub))||*(a+(i64)vb)!=*(c+(i64)vb))||*(a+(i64)wb)!=*(c+(i64)wb))||*(a+(i64)xb)!=*(c+(i64)xb))||*(a+(i64)yb)!=*(c+(i64)yb))||*(a+(i64)zb)!=*(c+(i64)zb))||*(a+(i64)Ab)!=*(c+(i64)Ab))||*(a+(i64)Bb)!=*(c+(i64)Bb))||*(a+(i64)Cb)!=*(c+(i64)Cb);
-Eb=b-18;
-Fb=b-17;
-Gb=b-16;
-Hb=b-15;
-Ib=b-14;
-Jb=b-13;
-Kb=b-12;
-Lb=b-11;
-Mb=b-10;
-Nb=b-9;
-Ob=b-8;
-Pb=b-7;
-Qb=b-6;
-Rb=b-5;
-Sb=(((((((((((((Db||*(a+(i64)Eb)!=*(c+(i64)Eb))||*(a+(i64)Fb)!=*(c+(i64)Fb))||*(a+(i64)Gb)!=*(c+(i64)Gb))||*(a+(i64)Hb)!=*(c+(i64)Hb))||*(a+(i64)Ib)!=*(c+(i64)Ib))||*(a+(i64)Jb)!=*(c+(i64)Jb))||*(a+(i64)Kb)!=*(c+(i64)Kb))||*(a+(i64)Lb)!=*(c+(i64)Lb))||*(a+(i64)Mb)!=*(c+(i64)Mb))||*(a+(i64)Nb)!=*(c+(i64)Nb))||*(a+(i64)Ob)!=*(c+(i64)Ob))||*(a+(i64)Pb)!=*(c+(i64)Pb))||*(a+(i64)Qb)!=*(c+(i64)Qb))||*(a+(i64)Rb)!=*(c+(i64)Rb);
-Tb=b-4;
-Ub=b-3;
-Vb=b-2;
-Wb=b-1;
-e=(((Sb||*(a+(i64)Tb)!=*(c+(i64)Tb))||*(a+(i64)Ub)!=*(c+(i64)Ub))||*(a+(i64)Vb)!=*(c+(i64)Vb))||*(a+(i64)Wb)!=*(c+(i64)Wb);}}}
-L1:Xb=!e;}
-else Xb=0;
-return Xb;
+L4:E=b-32;
+F=b-24;
+G=b-16;
+H=b-8;
+e=((q8(a+(i64)E)!=q8(c+(i64)E)||q8(a+(i64)F)!=q8(c+(i64)F))||q8(a+(i64)G)!=q8(c+(i64)G))||q8(a+(i64)H)!=q8(c+(i64)H);}}}
+L1:I=!e;}
+else I=0;
+return I;
 }
 
 /* core::str::utf8::from_utf8 */
@@ -9293,6 +9184,7 @@ L3:return x;
 
 /* core::fmt::formatter::Formatter::write_indented::<#5ad7c4a36dfb920e> */
 /* core::fmt::formatter::Formatter::write_indented::<#86a172efa8724158> */
+/* core::fmt::formatter::Formatter::write_indented::<#6100fd3f1e860b45> */
 /* core::fmt::formatter::Formatter::write_indented::<#313070bcd8b0da33> */
 static COLD u8 write_indented_070(u8* a,u8* b,u64 c)
 {
@@ -9323,6 +9215,7 @@ L3:return i;
 
 /* core::fmt::formatter::Formatter::write_indented_line::<#5ad7c4a36dfb920e> */
 /* core::fmt::formatter::Formatter::write_indented_line::<#86a172efa8724158> */
+/* core::fmt::formatter::Formatter::write_indented_line::<#6100fd3f1e860b45> */
 /* core::fmt::formatter::Formatter::write_indented_line::<#313070bcd8b0da33> */
 static u8 write_indented_line_71e(u8* a,u8* b,u64 c,u8 d)
 {
@@ -9916,2159 +9809,6 @@ else d=0;}
 L1:return d;
 }
 
-/* demangle_command::command::run_over::<#86af4cd5c564c229> */
-static s_8_8 run_over_09d(u8* a,u64 b,u8* c,u8* d,u8* e)
-{
-u8 v[31],D[1799],G[1799],L[1799],N[1],Q[1799],ea[1799],ha[1799],ya[1799],Aa[1],Da[1799];
-A16 u8 f[88],g[80],h[32],i[32],j[32],k[32],l[32],m[88],n[80],o[64],p[56],q[40],r[88],s[80],t[24],u[64],w[4],x[4],y[4],z[32],A[24],B[24],C[24],E[1792],F[24],H[1800],I[12],J[1792],K[1792],M[80],O[24],P[1792],R[1800],S[1792],T[1792],U[1792],V[1792],W[1792],X[24],Y[88],Z[80],aa[24],ba[24],ca[24],da[12],fa[1792],ga[24],ia[1800],ja[24],ka[1792],la[1792],ma[1792],na[24],oa[24],pa[24],qa[32],ra[88],sa[80],ta[64],ua[8],va[8],wa[88],xa[80],za[80],Ba[24],Ca[1792],Ea[1800],Fa[1792],Ga[1792],Ha[1792],Ia[1792],Ja[1792],Ka[88],La[80],Ma[32],Na[24],Oa[32],Pa[16],Qa[32],Ra[24],Sa[48],Ta[24],Ua[24],Va[24],Wa[24];
-u8 Xa,cb,sb,ub,wb,Db,Qb,dc,ic,lc,mc,wc,zc,Ac,Ec,Fc,Gc,Hc,Mc,Qc,Zc,ad,jd,kd,od,xd,zd,Fd,Hd,Kd,Ld,Md,Nd,Od,Pd,Sd,ee,we,xe,Ee,Je,Le,Me,Oe,gf,hf,jf,of,Gf,Hf,If,Jf,Lf,Nf,Pf,ag,bg,cg,dg,ug,zg,Xg,Yg,Zg,bh,gh,kh,ph,uh,vh,zh,Ah,Hh,Rh,hi,ni,Gi,Ti,Ui,Vi,Xi,Yi,bj,dj,kj,Pj,Sj,Wj,Zj,ek,fk,ik,rk,Ak,Bk,Ck,Ek,Gk,Ik,Jk,Kk,Lk,Ok,Pk,Tk,ml,sl,Jl,Ol,Sl,am,bm,km;
-u8 *Ya,*Za,*ab,*eb,*hb,*ib,*lb,*nb,*qb,*zb,*Bb,*Eb,*Gb,*Kb,*Mb,*Pb,*Rb,*Wb,*Zb,*bc,*kc,*nc,*oc,*qc,*tc,*xc,*Bc,*Cc,*Ic,*Kc,*Nc,*Uc,*Vc,*Wc,*dd,*ld,*pd,*sd,*Qd,*Td,*Wd,*Xd,*ae,*be,*fe,*he,*le,*ne,*oe,*re,*te,*ze,*Be,*Ce,*He,*Ie,*Ne,*Qe,*ef,*lf,*qf,*Ef,*Ff,*Of,*Qf,*Uf,*eg,*wg,*Cg,*Dg,*fh,*hh,*jh,*lh,*oh,*qh,*yh,*Bh,*Eh,*Kh,*Nh,*Oh,*Th,*ii,*mi,*ri,*si,*Ii,*Ni,*aj,*fj,*ij,*nj,*pj,*xj,*Vj,*dk,*mk,*nk,*ok,*uk,*Fk,*Mk,*Qk,*Vk,*hl,*ol,*rl,*vl,*Dl,*Fl,*Il,*Kl,*Ml,*Rl,*Tl,*Wl,*Xl,*em,*mm,*pm;
-u64 bb,db,fb,jb,kb,mb,ob,pb,rb,tb,vb,xb,yb,Ab,Cb,Fb,Hb,Ib,Jb,Lb,Nb,Ob,Sb,Tb,Ub,Vb,Xb,Yb,ac,cc,ec,fc,gc,hc,jc,pc,rc,sc,uc,vc,yc,Dc,Jc,Lc,Oc,Pc,Rc,Sc,Tc,Xc,Yc,bd,cd,ed,gd,hd,id,md,td,ud,vd,yd,Ad,Bd,Cd,Dd,Ed,Gd,Id,Jd,Rd,Ud,Yd,Zd,ce,de,ge,ie,je,ke,me,pe,qe,se,ue,ve,ye,Ae,De,Ge,Ke,Pe,Re,Se,Te,Ue,Ve,We,Xe,Ye,Ze,af,bf,cf,df,ff,kf,mf,nf,pf,rf,sf,tf,uf,vf,wf,xf,yf,zf,Af,Bf,Cf,Df,Kf,Mf,Rf,Sf,Tf,Vf,Xf,Yf,Zf,gg,hg,ig,jg,kg,lg,mg,ng,og,pg,qg,rg,sg,tg,vg,xg,yg,Bg,Eg,Fg,Gg,Hg,Ig,Jg,Kg,Lg,Mg,Ng,Og,Pg,Qg,Rg,Sg,Tg,Ug,ah,ch,eh,ih,mh,nh,rh,sh,wh,xh,Ch,Dh,Fh,Gh,Jh,Mh,Ph,Qh,Sh,Uh,Vh,Wh,Xh,Yh,Zh,ai,bi,ci,di,ei,fi,gi,ji,ki,li,oi,pi,qi,ti,ui,vi,wi,xi,yi,zi,Ai,Bi,Ci,Di,Ei,Fi,Hi,Ji,Ki,Li,Mi,Oi,Qi,Ri,Si,Zi,cj,ej,gj,hj,jj,mj,oj,qj,rj,sj,uj,vj,wj,yj,zj,Aj,Bj,Cj,Dj,Ej,Fj,Gj,Hj,Ij,Jj,Kj,Lj,Mj,Qj,Rj,Tj,Uj,Xj,Yj,ak,bk,ck,gk,hk,jk,kk,lk,pk,qk,sk,tk,vk,xk,yk,zk,Hk,Nk,Rk,Sk,Uk,Wk,Xk,Yk,Zk,al,bl,cl,dl,el,fl,gl,il,jl,kl,ll,nl,pl,ql,tl,ul,wl,yl,zl,Al,Cl,El,Hl,Ll,Nl,Ql,Ul,Vl,Yl,Zl,cm,dm,fm,hm,im,jm,lm,nm,om,qm;
-s_64_64 gb,Vd,Fe,fg,Ag,dh,Ih,Lh,lj,Bl,Gl,Pl;
-u32 fd,nd,Wf,th,Pi,tj,wk,xl,gm;
-s_p_64 qd;
-s_8_8 Vg,Wg,Wi,Nj,Oj,Dk,rm,sm;
-if(b!=0){
-if(b<0x555555555555556u){
-gb=port_rattle_alloc(b*24,8);
-if((u8)(gb.f0&1)){
-hb=(u8*)gb.f1;
-wp(Wa,hb);
-w8(Wa+8,0);
-w8(Wa+16,b);
-ib=hb;
-jb=0;
-kb=0;
-L1:lb=a+(i64)(kb<<4);
-mb=r8(lb+8);
-nb=rp(lb);
-wp(Va,(u8*)65536);
-memset(Va+8,0,16);
-if(mb==0){
-ob=0;
-pb=0;
-qb=(u8*)65536;
-goto L2;}
-rb=0;
-L3:sb=*(nb+(i64)rb);
-if((i8)sb>-1){
-tb=r8(Va+8);
-if(r8(Va+16)==tb){
-ub=grow_amortized_e1a(Va,1);
-if(!ub)goto L4;
-vb=r8(Va+8);}
-else vb=tb;
-*(rp(Va)+vb)=sb;
-w8(Va+8,vb+1);
-goto L5;}
-wb=add_wide_f1a(Va,sb);
-if(!(wb&1))goto L5;
-L4:if(r8(Va+16)!=0)port_rattle_dealloc(rp(Va));
-xb=r8(Wa+16);
-if(jb==0)goto L6;
-yb=0;
-L7:zb=ib+yb*24;
-if(q8(zb+16)!=0)port_rattle_dealloc(qp(zb));
-Ab=yb+1;
-if(Ab!=jb){
-yb=Ab;
-goto L7;}
-L6:if(xb==0)goto L8;
-Bb=ib;
-goto L9;
-L5:Cb=rb+1;
-if(Cb!=mb){
-rb=Cb;
-goto L3;}
-ob=r8(Va+16);
-pb=r8(Va+8);
-qb=rp(Va);
-L2:if(r8(Wa+16)==jb){
-Db=grow_amortized_f15(Wa);
-if(!Db){
-if(ob!=0)port_rattle_dealloc(qb);
-Gb=rp(Wa);
-Hb=r8(Wa+8);
-Ib=r8(Wa+16);
-if(Hb==0)goto L10;
-Jb=0;
-L11:Kb=Gb+Jb*24;
-if(q8(Kb+16)!=0)port_rattle_dealloc(qp(Kb));
-Lb=Jb+1;
-if(Lb!=Hb){
-Jb=Lb;
-goto L11;}
-L10:if(Ib==0)goto L8;
-Bb=Gb;
-goto L9;}
-Eb=rp(Wa);
-Fb=r8(Wa+8);}
-else{
-Eb=ib;
-Fb=jb;}
-Mb=Eb+Fb*24;
-xp(Mb,qb);
-x8(Mb+8,pb);
-x8(Mb+16,ob);
-Nb=Fb+1;
-w8(Wa+8,Nb);
-Ob=kb+1;
-if(Ob!=b){
-ib=Eb;
-jb=Nb;
-kb=Ob;
-goto L1;}
-Pb=rp(Wa);
-Qb=r8(Wa+16)==0;
-wp(Ua,(u8*)65536);
-memset(Ua+8,0,16);
-if(Nb==0){
-Xa=1;
-Ya=Ua+16;
-Za=Ua+8;
-ab=Pb;
-bb=0;
-cb=Qb;
-db=0;
-eb=(u8*)65536;
-fb=0;
-goto L12;}
-Rb=(u8*)65536;
-Sb=0;
-Tb=0;
-Ub=0;
-Vb=Nb;
-Wb=Pb;
-L13:Xb=Ub;
-Yb=Vb;
-Zb=Wb;
-L14:ac=Yb-1;
-bc=rp(Zb);
-cc=r8(Zb+8);
-if(Xb!=Sb){
-qc=Rb+(Xb<<4);
-xp(qc,bc);
-x8(qc+8,cc);
-rc=Xb+1;
-if(ac!=0){
-Xb=rc;
-Yb=ac;
-Zb=Zb+24;
-goto L14;}
-Xa=0;
-Ya=Ua+16;
-Za=Ua+8;
-ab=Pb;
-bb=Nb;
-cb=Qb;
-db=Tb;
-eb=Rb;
-fb=rc;
-goto L12;}
-wp(Ua,Rb);
-w8(Ua+8,Sb);
-w8(Ua+16,Tb);
-if(Yb>Tb-Sb){
-dc=grow_amortized_bd9(Ua,Yb);
-ec=r8(Ua+8);
-fc=r8(Ua+16);
-if(dc||fc!=ec){
-gc=fc;
-hc=ec;}
-else{
-ic=grow_amortized_bd9(Ua,1);
-if(!ic){
-if(r8(Ua+16)!=0)port_rattle_dealloc(rp(Ua));
-jc=0;
-L15:kc=Pb+jc*24;
-if(q8(kc+16)!=0)port_rattle_dealloc(qp(kc));
-if(jc!=Fb){
-jc=jc+1;
-goto L15;}
-if(Qb){
-lc=2;
-mc=1;
-goto L16;}
-port_rattle_dealloc(Pb);
-lc=2;
-mc=1;
-goto L16;}
-gc=r8(Ua+16);
-hc=r8(Ua+8);}}
-else{
-gc=Tb;
-hc=Sb;}
-nc=rp(Ua);
-oc=nc+(hc<<4);
-xp(oc,bc);
-x8(oc+8,cc);
-pc=hc+1;
-memset(Ua+8,0,16);
-if(ac!=0){
-Rb=nc;
-Sb=pc==0?0:gc;
-Tb=gc;
-Ub=pc;
-Vb=ac;
-Wb=Zb+24;
-goto L13;}
-Xa=0;
-Ya=Ua+16;
-Za=Ua+8;
-ab=Pb;
-bb=Nb;
-cb=Qb;
-db=gc;
-eb=nc;
-fb=pc;
-goto L12;
-L9:port_rattle_dealloc(Bb);}}
-L8:lc=2;
-mc=1;
-goto L16;}
-Xa=1;
-Ya=Ua+16;
-Za=Ua+8;
-ab=(u8*)65536;
-bb=0;
-cb=1;
-db=0;
-eb=(u8*)65536;
-fb=0;
-L12:w8(Za,fb);
-w8(Ya,db);
-memset(Sa,0,48);
-memset(Ta,0,24);
-found_in_224(Sa,eb,fb);
-sc=r8(Sa+40);
-if(*Sa==0){
-tc=rp(Sa+8);
-uc=r8(Sa+16);
-vc=r8(Sa+24);
-wc=Sa[32];
-memset(Qa,0,32);
-memset(Ra,0,24);
-xc=tc;
-yc=uc;
-L17:if(yc==0)zc=0;
-else{
-Ac=equal_d84(qp(xc),q8(xc+8),(u8*)t_e904,6);
-if(!Ac){
-xc=xc+104;
-yc=yc-1;
-goto L17;}
-if(r8(xc+56)==0)zc=0;
-else{
-Bc=rp(xc+48);
-Cc=qp(Bc);
-Dc=q8(Bc+8);
-Ec=equal_d84(Cc,Dc,(u8*)t_9292,4);
-if(Ec)zc=0;
-else{
-Fc=equal_d84(Cc,Dc,(u8*)t_2658,6);
-if(Fc)zc=1;
-else{
-Gc=equal_d84(Cc,Dc,(u8*)t_521f,4);
-if(!Gc){
-Hc=equal_d84(Cc,Dc,(u8*)t_140b,4);
-if(Hc){
-zc=3;
-goto L18;}
-Ic=tc;
-Jc=uc;
-L19:if(Jc==0){
-Kc=(u8*)t_z0;
-Lc=0;}
-else{
-Mc=equal_d84(qp(Ic),q8(Ic+8),(u8*)t_e904,6);
-if(!Mc){
-Ic=Ic+104;
-Jc=Jc-1;
-goto L19;}
-if(r8(Ic+56)==0){
-Kc=(u8*)t_z0;
-Lc=0;}
-else{
-Nc=rp(Ic+48);
-Kc=qp(Nc);
-Lc=q8(Nc+8);}}
-memset(Ma,0,32);
-memset(Oa,0,32);
-quoted_1ce(Oa,(u8*)t_0d38,13,Kc,Lc);
-if(*Oa==0){
-memcpy(Na,Oa+8,24);
-Oc=r8(Na+16);
-Pc=r8(Na+8);
-if(Oc-Pc<33){
-Qc=grow_amortized_e1a(Na,33);
-if(!Qc){
-if(r8(Na+16)==0)goto L20;
-port_rattle_dealloc(rp(Na));
-goto L20;}
-Rc=r8(Na+16);
-Sc=r8(Na+8);}
-else{
-Rc=Oc;
-Sc=Pc;}
-Tc=Sc+33;
-Uc=rp(Na);
-Vc=Uc+(i64)Sc;
-if((u64)Vc-(u64)(u8*)t_e3f0<33){
-*Vc=59;
-Vc[1]=32;
-Vc[2]=107;
-Vc[3]=110;
-Vc[4]=111;
-Vc[5]=119;
-Vc[6]=110;
-Vc[7]=58;
-Vc[8]=32;
-Vc[9]=97;
-Vc[10]=117;
-Vc[11]=116;
-Vc[12]=111;
-Vc[13]=44;
-Vc[14]=32;
-Vc[15]=103;
-Vc[16]=110;
-Vc[17]=117;
-Vc[18]=45;
-Vc[19]=118;
-Vc[20]=51;
-Vc[21]=44;
-Vc[22]=32;
-Vc[23]=114;
-Vc[24]=117;
-Vc[25]=115;
-Vc[26]=116;
-Vc[27]=44;
-Vc[28]=32;
-Vc[29]=110;
-Vc[30]=111;
-Vc[31]=110;
-Vc[32]=101;}
-else memcpy(Vc,(u8*)t_e3f0,33);
-line_of_0b7(Ma,Uc,Tc);
-if(Rc!=0)port_rattle_dealloc(Uc);
-Wc=rp(Ma+8);
-Xc=r8(Ma+16);
-Yc=r8(Ma+24);
-if(*Ma!=0){
-jd=2;
-kd=1;
-goto L21;}
-if(Xc==0){
-Zc=0;
-ad=2;
-goto L22;}
-bd=0;
-L23:cd=Xc-bd;
-dd=rp(e);
-ed=port_write(2,Wc+(i64)bd,cd);
-if((i64)ed<0){
-fd=port_rattle_errno();
-from_raw_os_error_cb0(Ka,fd);
-gd=r8(Ka);
-memcpy(La,Ka+8,80);
-x8(dd+8,1);
-x8(dd+16,gd);
-memcpy(dd+24,La,80);}
-else{
-hd=umin64(ed,cd);
-if(hd!=0){
-id=hd+bd;
-if(id<Xc){
-bd=id;
-goto L23;}
-Zc=0;
-ad=2;
-goto L22;}}
-w8(e+8,r8(e+8)+1);
-Zc=1;
-ad=1;
-L22:if(Yc==0){
-jd=ad;
-kd=Zc;
-goto L21;}
-port_rattle_dealloc(Wc);
-jd=ad;
-kd=Zc;
-goto L21;}
-L20:jd=2;
-kd=1;
-goto L21;}
-zc=2;}}}}
-L18:ld=tc;
-md=uc;
-L24:if(md==0)nd=1000000;
-else{
-od=equal_d84(qp(ld),q8(ld+8),(u8*)t_55ea,5);
-if(!od){
-ld=ld+104;
-md=md-1;
-goto L24;}
-if(r8(ld+56)==0)nd=1000000;
-else{
-pd=rp(ld+48);
-qd=text_ae2(ld[100],rp(pd),r8(pd+8));
-sd=qd.f0;
-td=qd.f1;
-if(td==0)nd=1000000;
-else{
-if(*sd==43){
-if(td==1){
-nd=1000000;
-goto L25;}
-ud=0;
-vd=1;
-L26:xd=*(sd+vd);
-if((u8)(xd-48)>=10){
-nd=1000000;
-goto L25;}
-yd=ud*10;
-zd=xd&15;
-if(yd>(zd^18446744073709551615u)){
-nd=1000000;
-goto L25;}
-Ad=yd+zd;
-if(Ad>4294967295u){
-nd=1000000;
-goto L25;}
-Bd=vd+1;
-if(Bd==td){
-Cd=Ad;
-goto L27;}
-ud=Ad;
-vd=Bd;
-goto L26;}
-Dd=0;
-Ed=0;
-L28:Fd=*(sd+Ed);
-if((u8)(Fd-48)>=10){
-nd=1000000;
-goto L25;}
-Gd=Dd*10;
-Hd=Fd&15;
-if(Gd>(Hd^18446744073709551615u)){
-nd=1000000;
-goto L25;}
-Id=Gd+Hd;
-if(Id>4294967295u){
-nd=1000000;
-goto L25;}
-Jd=Ed+1;
-if(Jd!=td){
-Dd=Id;
-Ed=Jd;
-goto L28;}
-Cd=Id;
-L27:nd=Cd;}}}
-L25:Kd=has_flag_098(tc,uc,(u8*)t_29a8,5);
-Ld=has_flag_098(tc,uc,(u8*)t_22d0,9);
-Md=has_flag_098(tc,uc,(u8*)t_02bd,4);
-Nd=has_flag_098(tc,uc,(u8*)t_8d84,5);
-Od=has_flag_098(tc,uc,(u8*)t_2be2,3);
-Pd=has_flag_098(tc,uc,(u8*)t_3a31,6);
-*Pa=zc;
-memset(Pa+1,0,3);
-w4(Pa+4,nd);
-Pa[8]=Kd?(Ld?3:1):(Ld?2:0);
-memset(Pa+9,0,3);
-Pa[12]=Md;
-memset(Pa+13,0,3);
-Qd=tc;
-Rd=uc;
-L29:if(Rd!=0){
-Sd=equal_d84(qp(Qd),q8(Qd+8),(u8*)t_eaa5,4);
-if(!Sd){
-Qd=Qd+104;
-Rd=Rd-1;
-goto L29;}
-Td=rp(Qd+48);
-Ud=r8(Qd+56);
-if(Ud!=0){
-memset(qa,0,32);
-if(Ud<0x555555555555556u){
-Vd=port_rattle_alloc(Ud*24,8);
-if((u8)(Vd.f0&1)){
-Wd=(u8*)Vd.f1;
-wp(pa,Wd);
-w8(pa+8,0);
-w8(pa+16,Ud);
-Xd=Wd;
-Yd=0;
-Zd=0;
-L30:ae=Td+(i64)(Zd<<4);
-bytes_of_d39(qa,rp(ae),r8(ae+8));
-if(*qa==0){
-be=rp(qa+8);
-ce=r8(qa+16);
-de=r8(qa+24);
-if(r8(pa+16)==Yd){
-ee=grow_amortized_965(pa,1);
-if(!ee){
-if(de!=0)port_rattle_dealloc(be);
-he=rp(pa);
-ie=r8(pa+8);
-je=r8(pa+16);
-if(ie==0)goto L31;
-ke=0;
-L32:le=he+ke*24;
-if(q8(le+16)!=0)port_rattle_dealloc(qp(le));
-me=ke+1;
-if(me!=ie){
-ke=me;
-goto L32;}
-L31:if(je==0)goto L33;
-ne=he;
-goto L34;}
-fe=rp(pa);
-ge=r8(pa+8);}
-else{
-fe=Xd;
-ge=Yd;}
-oe=fe+ge*24;
-xp(oe,be);
-x8(oe+8,ce);
-x8(oe+16,de);
-pe=ge+1;
-w8(pa+8,pe);
-qe=Zd+1;
-if(qe!=Ud){
-Xd=fe;
-Yd=pe;
-Zd=qe;
-goto L30;}
-re=rp(pa);
-se=r8(pa+16);
-lent_words_945(Qa,re,pe);
-if(*Qa!=0){
-if(pe==0)goto L35;
-ej=0;
-L36:fj=re+ej*24;
-if(q8(fj+16)!=0)port_rattle_dealloc(qp(fj));
-if(ej!=ge){
-ej=ej+1;
-goto L36;}
-L35:if(se==0){
-jd=2;
-kd=1;
-goto L21;}
-port_rattle_dealloc(re);
-jd=2;
-kd=1;
-goto L21;}
-te=rp(Qa+8);
-ue=r8(Qa+16);
-ve=r8(Qa+24);
-if(ue==0)we=0;
-else{
-xe=0;
-ye=0;
-L37:ze=te+(i64)(ye<<4);
-Ae=r8(ze+8);
-Be=rp(ze);
-memset(oa,0,24);
-memset(na,0,24);
-if(!(Nd&(Ae<65537)))goto L38;
-Ce=Be;
-De=Ae;
-L39:if(De==0){
-memset(ja,0,24);
-memset(ka,0,1792);
-memset(la,0,1792);
-memset(ma,0,1792);
-lists_5fc(ia);
-Ee=*ia;
-memset(ea,0,7);
-if(Ee==0){
-memcpy(ea+7,ia+8,1792);
-memcpy(ha,ea,1799);
-memcpy(fa,ha+7,1792);
-wp(ga,(u8*)65536);
-memset(ga+8,0,16);
-memset(ca,0,24);
-memset(da,0,12);
-Fe=port_rattle_alloc(4,1);
-if((u8)(Fe.f0&1)){
-Ge=Fe.f1;
-He=(u8*)Ge;
-if(Ge-(u64)(u8*)t_f8a6<4){
-*He=95;
-He[1]=90;
-He[2]=84;
-He[3]=73;}
-else x4(He,1230264927);
-wp(ba,He);
-w8(ba+8,4);
-w8(ba+16,4);
-if(Ae==0){
-Ie=He;
-Je=0;
-Ke=4;}
-else{
-Le=grow_amortized_e1a(ba,Ae);
-if(!Le){
-if(r8(ba+16)==0){
-Me=4;
-goto L40;}
-Ne=rp(ba);
-Oe=4;
-goto L41;}
-Ie=rp(ba);
-Je=r8(ba+16)==0;
-Ke=r8(ba+8);}
-Pe=Ke+Ae;
-Qe=Ie+(i64)Ke;
-if((u64)Qe-(u64)Be<Ae){
-Re=Ae&3;
-if(Ae<4)Se=0;
-else{
-Te=Ae&131068;
-Ue=0;
-Ve=0;
-L42:*(Qe+Ue)=*(Be+Ue);
-We=Ue|1;
-*(Qe+We)=*(Be+We);
-Xe=Ue|2;
-*(Qe+Xe)=*(Be+Xe);
-Ye=Ue|3;
-*(Qe+Ye)=*(Be+Ye);
-Ze=Ue+4;
-af=Ve+4;
-if(af!=Te){
-Ue=Ze;
-Ve=af;
-goto L42;}
-if(Re==0)goto L43;
-Se=Ze;}
-bf=Se;
-cf=0;
-L44:*(Qe+bf)=*(Be+bf);
-df=cf+1;
-if(df!=Re){
-bf=bf+1;
-cf=df;
-goto L44;}}
-else memmove(Qe,Be,Ae);
-L43:wp(ca,(u8*)65536);
-memset(ca+8,0,16);
-append_c85(da,Pa,fa,0,Ie,Pe,ca);
-if(*da==0){
-ef=rp(ca);
-ff=r8(ca+8);
-if(ff<13){
-gf=0;
-hf=0;}
-else{
-jf=parts_equal_58b(ef,13,(u8*)t_77a1,13);
-kf=ff-13;
-if(jf){
-if(kf==0){
-lf=(u8*)65536;
-mf=0;
-nf=0;}
-else{
-of=grow_amortized_e1a(ga,kf);
-if(!of){
-gf=0;
-hf=4;
-goto L45;}
-lf=rp(ga);
-mf=r8(ga+16);
-nf=r8(ga+8);}
-pf=nf+kf;
-qf=lf+(i64)nf;
-if((u64)qf-(u64)(ef+13)<kf){
-rf=kf&3;
-if(ff-14<3)sf=0;
-else{
-tf=kf&0xfffffffffffffffcu;
-uf=0;
-vf=0;
-L46:*(qf+uf)=*(ef+13+uf);
-wf=uf|1;
-*(qf+wf)=*(ef+13+wf);
-xf=uf|2;
-*(qf+xf)=*(ef+13+xf);
-yf=uf|3;
-*(qf+yf)=*(ef+13+yf);
-zf=uf+4;
-Af=vf+4;
-if(Af!=tf){
-uf=zf;
-vf=Af;
-goto L46;}
-if(rf==0)goto L47;
-sf=zf;}
-Bf=sf;
-Cf=0;
-L48:*(qf+Bf)=*(ef+13+Bf);
-Df=Cf+1;
-if(Df!=rf){
-Bf=Bf+1;
-Cf=Df;
-goto L48;}}
-else memmove(qf,ef+13,kf);
-L47:w8(ga+8,pf);
-w8(ga+16,mf);
-gf=1;
-hf=0;}
-else{
-gf=0;
-hf=0;}}
-L45:if(r8(ca+16)!=0)port_rattle_dealloc(ef);
-if(!Je)port_rattle_dealloc(Ie);
-if(!gf){
-Hf=hf;
-goto L49;}
-Ef=ka;
-Ff=ga;
-Gf=1;
-goto L50;}
-If=da[4];
-if(r8(ca+16)!=0)port_rattle_dealloc(rp(ca));
-if(Je){
-Me=If;
-goto L40;}
-Ne=Ie;
-Oe=If;
-L41:port_rattle_dealloc(Ne);
-Me=Oe;}
-else Me=4;
-L40:Hf=Me;
-L49:Jf=r8(ga+16)==0;
-if(Hf==4){
-if(!Jf)port_rattle_dealloc(rp(ga));
-memcpy(la,fa,1792);
-drop_fa3(la);
-goto L51;}
-if(Jf){
-Ef=ma;
-Ff=ja;
-Gf=0;}
-else{
-port_rattle_dealloc(rp(ga));
-Ef=ma;
-Ff=ja;
-Gf=0;}
-L50:memcpy(Ef,fa,1792);
-drop_fa3(Ef);
-memcpy(na,Ff,24);
-memcpy(oa,na,24);
-if(!Gf)goto L52;
-memcpy(aa,oa,24);
-Kf=r8(aa+8);
-if(r8(aa+16)==Kf){
-Lf=grow_amortized_e1a(aa,1);
-if(!Lf){
-if(r8(aa+16)==0){
-Nf=2;
-goto L53;}
-Of=rp(aa);
-Pf=2;
-goto L54;}
-Mf=r8(aa+8);}
-else Mf=Kf;
-Qf=rp(aa);
-*(Qf+Mf)=10;
-Rf=Mf+1;
-if(Rf==0)goto L55;
-Sf=0;
-L56:Tf=Rf-Sf;
-Uf=rp(d);
-Vf=port_write(1,Qf+(i64)Sf,Tf);
-if((i64)Vf<0){
-Wf=port_rattle_errno();
-from_raw_os_error_cb0(Y,Wf);
-Xf=r8(Y);
-memcpy(Z,Y+8,80);
-x8(Uf+8,1);
-x8(Uf+16,Xf);
-memcpy(Uf+24,Z,80);}
-else{
-Yf=umin64(Vf,Tf);
-if(Yf!=0){
-Zf=Yf+Sf;
-if(Zf>=Rf)goto L55;
-Sf=Zf;
-goto L56;}}
-w8(d+8,r8(d+8)+1);
-if(r8(aa+16)==0){
-Nf=1;
-goto L53;}
-Of=Qf;
-Pf=1;
-goto L54;
-L55:if(r8(aa+16)==0){
-ag=0;
-goto L57;}
-port_rattle_dealloc(Qf);
-ag=0;
-goto L57;
-L54:port_rattle_dealloc(Of);
-bg=Pf;
-goto L58;
-L53:bg=Nf;
-goto L58;}
-L51:bg=2;
-goto L58;}
-cg=*Ce;
-if(cg!=46&&*((u8*)t_e4d8+cg)>48){
-Ce=Ce+1;
-De=De-1;
-goto L39;}
-L38:memset(oa,0,24);
-L52:dg=Ae==0;
-if(dg)eg=(u8*)65536;
-else{
-if((i64)Ae<=-1)goto L59;
-fg=port_rattle_alloc(Ae,1);
-if(!(u8)(fg.f0&1))goto L59;
-eg=(u8*)fg.f1;}
-gg=(u64)Be;
-if((u64)eg-gg<Ae){
-hg=Ae&3;
-if(Ae-1<3)ig=0;
-else{
-jg=Ae&0xfffffffffffffffcu;
-kg=0;
-lg=0;
-L60:*(eg+kg)=*(Be+kg);
-mg=kg|1;
-*(eg+mg)=*(Be+mg);
-ng=kg|2;
-*(eg+ng)=*(Be+ng);
-og=kg|3;
-*(eg+og)=*(Be+og);
-pg=kg+4;
-qg=lg+4;
-if(qg!=jg){
-kg=pg;
-lg=qg;
-goto L60;}
-if(hg==0)goto L61;
-ig=pg;}
-rg=ig;
-sg=0;
-L62:*(eg+rg)=*(Be+rg);
-tg=sg+1;
-if(tg!=hg){
-rg=rg+1;
-sg=tg;
-goto L62;}}
-else memmove(eg,Be,Ae);
-L61:wp(X,eg);
-w8(X+8,Ae);
-w8(X+16,Ae);
-ug=grow_amortized_e1a(X,1);
-if(ug){
-vg=r8(X+8);
-wg=rp(X);
-*(wg+vg)=10;
-xg=vg+1;
-yg=r8(X+16);
-memset(S,0,1792);
-memset(T,0,1792);
-memset(U,0,1792);
-memset(V,0,1792);
-memset(W,0,1792);
-*M=2;
-memset(M+1,0,7);
-wp(M+8,(u8*)65536);
-memset(M+16,0,64);
-*N=0;
-wp(O,(u8*)65536);
-memset(O+8,0,16);
-lists_5fc(R);
-zg=*R;
-memset(L,0,7);
-if(zg==0){
-memcpy(L+7,R+8,1792);
-memcpy(Q,L,1799);
-memcpy(P,Q+7,1792);
-Ag=port_rattle_alloc(16384,1);
-if((u8)(Ag.f0&1)){
-Bg=Ag.f1;
-Cg=(u8*)Bg;
-memset(Cg,0,16384);
-Dg=wg;
-Eg=xg;
-Fg=18446744073709551615u;
-L63:if(Fg!=0){
-Gg=Fg-1;
-Hg=umin64(Eg,16384);
-if(Bg-(u64)Dg<Hg){
-Ig=Hg&3;
-if(Eg<4)Jg=0;
-else{
-Kg=Hg&32764;
-Lg=0;
-Mg=0;
-L64:*(Cg+Lg)=*(Dg+Lg);
-Ng=Lg|1;
-*(Cg+Ng)=*(Dg+Ng);
-Og=Lg|2;
-*(Cg+Og)=*(Dg+Og);
-Pg=Lg|3;
-*(Cg+Pg)=*(Dg+Pg);
-Qg=Lg+4;
-Rg=Mg+4;
-if(Rg!=Kg){
-Lg=Qg;
-Mg=Rg;
-goto L64;}
-if(Ig==0)goto L65;
-Jg=Qg;}
-Sg=Jg;
-Tg=0;
-L66:*(Cg+Sg)=*(Dg+Sg);
-Ug=Tg+1;
-if(Ug!=Ig){
-Sg=Sg+1;
-Tg=Ug;
-goto L66;}}
-else{
-memmove(Cg,Dg,Hg);
-if(Eg==0){
-Vg=end_segment_de1(Pa,P,M,O,d);
-if(Vg.f0==0){
-Wg=write_out_752(d,O);
-Xg=Wg.f0;
-if(Xg==0){
-port_rattle_dealloc(Cg);
-memcpy(W,P,1792);
-drop_fa3(W);
-if(r8(O+16)!=0)port_rattle_dealloc(rp(O));
-if(r8(M+24)!=0)port_rattle_dealloc(rp(M+8));
-Yg=r8(M+72)!=0||r8(M+64)==0;
-if(Od&&Yg){
-memset(I,0,12);
-memset(J,0,1792);
-memset(K,0,1792);
-if(Ae-65537>=0xffffffffffff0001u){
-Zg=*Be==95;
-if(Ae==2){
-if(!Zg)goto L67;
-switch(Be[1]){
-case 90:ah=0;
-goto L68;
-case 82:break;
-default:goto L67;
-}}
-else{
-if(!Zg)goto L67;
-switch(Be[1]){
-case 90:ah=0;
-goto L68;
-case 82:break;
-case 95:switch(Be[2]){
-case 90:ah=0x100000000u;
-goto L68;
-case 82:ah=0x100000001u;
-goto L68;
-default:goto L67;
-}
-break;
-default:goto L67;
-}}
-ah=1;
-L68:lists_5fc(H);
-bh=*H;
-memset(D,0,7);
-if(bh!=0)goto L69;
-ch=ah>>32;
-memcpy(D+7,H+8,1792);
-memcpy(G,D,1799);
-memcpy(E,G+7,1792);
-wp(F,(u8*)65536);
-memset(F+8,0,16);
-append_c85(I,Pa,E,ah,Be+(i64)ch,Ae-ch,F);
-if(*I==0){
-dh=port_rattle_alloc(12,1);
-if((u8)(dh.f0&1)){
-eh=dh.f1;
-fh=(u8*)eh;
-if(eh-(u64)(u8*)t_81c5<12){
-*fh=110;
-fh[1]=111;
-fh[2]=116;
-fh[3]=32;
-fh[4]=97;
-fh[5]=32;
-fh[6]=115;
-fh[7]=121;
-fh[8]=109;
-fh[9]=98;
-fh[10]=111;
-fh[11]=108;
-gh=0;
-hh=fh;
-ih=12;}
-else{
-memcpy(fh,(u8*)t_81c5,12);
-gh=0;
-hh=fh;
-ih=12;}}
-else{
-gh=1;
-hh=0;
-ih=0;}
-if(r8(F+16)==0){
-jh=J;
-kh=gh;
-lh=hh;
-mh=ih;
-nh=ih;
-goto L70;}
-oh=J;
-ph=gh;
-qh=hh;
-rh=ih;
-sh=ih;}
-else{
-th=r4(I+8);
-uh=I[4];
-memset(z,0,32);
-switch(uh){
-case 0:w4(w,th);
-wp(A,(u8*)t_aa84);
-w8(A+8,13);
-wp(A+16,w);
-format_c1f(z,A);
-break;
-case 1:w4(x,th);
-wp(B,(u8*)t_19db);
-w8(B+8,17);
-wp(B+16,x);
-format_c1f(z,B);
-break;
-case 2:w4(y,th);
-wp(C,(u8*)t_d9ee);
-w8(C+8,13);
-wp(C+16,y);
-format_c1f(z,C);
-break;
-case 3:memset(v,0,31);
-memset(u+8,0,16);
-memset(u+57,0,7);
-wp(u,(u8*)65536);
-w8(u+48,0);
-u[56]=0;
-w4(u+24,32);
-memset(u+28,0,12);
-w8(u+40,18446744073709551615u);
-vh=grow_amortized_e1a(u,8);
-if(vh){
-wh=r8(u+8);
-xh=wh+8;
-yh=rp(u)+(i64)wh;
-if((u64)yh-(u64)(u8*)t_24f3<8){
-*yh=116;
-yh[1]=111;
-yh[2]=111;
-yh[3]=32;
-yh[4]=108;
-yh[5]=111;
-yh[6]=110;
-yh[7]=103;}
-else x8(yh,0x676e6f6c206f6f74u);
-w8(u+8,xh);
-memcpy(v+7,u,24);
-zh=0;}
-else{
-if(r8(u+16)==0)zh=1;
-else{
-port_rattle_dealloc(rp(u));
-zh=1;}}
-*z=zh;
-memcpy(z+8,v+7,24);
-break;
-case 4:*z=1;
-break;
-default:NEVER;
-}
-Ah=*z;
-Bh=rp(z+8);
-Ch=r8(z+16);
-Dh=r8(z+24);
-if(r8(F+16)==0){
-jh=K;
-kh=Ah;
-lh=Bh;
-mh=Ch;
-nh=Dh;
-goto L70;}
-oh=K;
-ph=Ah;
-qh=Bh;
-rh=Ch;
-sh=Dh;}
-port_rattle_dealloc(rp(F));
-jh=oh;
-kh=ph;
-lh=qh;
-mh=rh;
-nh=sh;
-L70:memcpy(jh,E,1792);
-drop_fa3(jh);
-if(kh!=0){
-Hh=2;
-goto L71;}
-Eh=lh;
-Fh=mh;
-Gh=nh;
-goto L72;}
-L67:Ih=port_rattle_alloc(12,1);
-if((u8)(Ih.f0&1)){
-Jh=Ih.f1;
-Kh=(u8*)Jh;
-if(Jh-(u64)(u8*)t_81c5<12){
-*Kh=110;
-Kh[1]=111;
-Kh[2]=116;
-Kh[3]=32;
-Kh[4]=97;
-Kh[5]=32;
-Kh[6]=115;
-Kh[7]=121;
-Kh[8]=109;
-Kh[9]=98;
-Kh[10]=111;
-Kh[11]=108;}
-else memcpy(Kh,(u8*)t_81c5,12);
-Eh=Kh;
-Fh=12;
-Gh=12;
-goto L72;}
-L69:Hh=2;
-goto L71;
-L72:Lh=port_rattle_alloc(10,1);
-if((u8)(Lh.f0&1)){
-Mh=Lh.f1;
-Nh=(u8*)Mh;
-if(Mh-(u64)(u8*)t_e65e<10){
-*Nh=100;
-Nh[1]=101;
-Nh[2]=109;
-Nh[3]=97;
-Nh[4]=110;
-Nh[5]=103;
-Nh[6]=108;
-Nh[7]=101;
-Nh[8]=58;
-Nh[9]=32;}
-else memcpy(Nh,(u8*)t_e65e,10);
-wp(t,Nh);
-w8(t+8,10);
-w8(t+16,10);
-if(dg){
-Oh=Nh;
-Ph=10;
-Qh=10;}
-else{
-Rh=grow_amortized_e1a(t,Ae);
-if(!Rh){
-if(r8(t+16)==0)goto L73;
-goto L74;}
-Oh=rp(t);
-Ph=r8(t+16);
-Qh=r8(t+8);}
-Sh=Qh+Ae;
-Th=Oh+(i64)Qh;
-if((u64)Th-gg<Ae){
-Uh=Ae&3;
-if(Ae-1<3)Vh=0;
-else{
-Wh=Ae&0xfffffffffffffffcu;
-Xh=0;
-Yh=0;
-L75:*(Th+Xh)=*(Be+Xh);
-Zh=Xh|1;
-*(Th+Zh)=*(Be+Zh);
-ai=Xh|2;
-*(Th+ai)=*(Be+ai);
-bi=Xh|3;
-*(Th+bi)=*(Be+bi);
-ci=Xh+4;
-di=Yh+4;
-if(di!=Wh){
-Xh=ci;
-Yh=di;
-goto L75;}
-if(Uh==0)goto L76;
-Vh=ci;}
-ei=Vh;
-fi=0;
-L77:*(Th+ei)=*(Be+ei);
-gi=fi+1;
-if(gi!=Uh){
-ei=ei+1;
-fi=gi;
-goto L77;}}
-else memmove(Th,Be,Ae);
-L76:w8(t+8,Sh);
-w8(t+16,Ph);
-if(Ph-Sh<2){
-hi=grow_amortized_e1a(t,2);
-if(!hi){
-if(r8(t+16)==0)goto L73;
-goto L74;}
-ii=rp(t);
-ji=r8(t+16);
-ki=r8(t+8);}
-else{
-ii=Oh;
-ji=Ph;
-ki=Sh;}
-li=ki+2;
-mi=ii+(i64)ki;
-if((u64)mi-(u64)(u8*)t_4582<2){
-*mi=58;
-mi[1]=32;}
-else x2(mi,8250);
-w8(t+8,li);
-w8(t+16,ji);
-if(Fh>ji-li){
-ni=grow_amortized_e1a(t,Fh);
-if(!ni){
-if(r8(t+16)==0)goto L73;
-goto L74;}
-oi=r8(t+16);
-pi=r8(t+8);}
-else{
-oi=ji;
-pi=li;}
-qi=pi+Fh;
-ri=rp(t);
-si=ri+(i64)pi;
-if((u64)si-(u64)Eh<Fh){
-ti=Fh&3;
-if(Fh<4)ui=0;
-else{
-vi=Fh&0xfffffffffffffffcu;
-wi=0;
-xi=0;
-L78:*(si+wi)=*(Eh+wi);
-yi=wi|1;
-*(si+yi)=*(Eh+yi);
-zi=wi|2;
-*(si+zi)=*(Eh+zi);
-Ai=wi|3;
-*(si+Ai)=*(Eh+Ai);
-Bi=wi+4;
-Ci=xi+4;
-if(Ci!=vi){
-wi=Bi;
-xi=Ci;
-goto L78;}
-if(ti==0)goto L79;
-ui=Bi;}
-Di=ui;
-Ei=0;
-L80:*(si+Di)=*(Eh+Di);
-Fi=Ei+1;
-if(Fi!=ti){
-Di=Di+1;
-Ei=Fi;
-goto L80;}}
-else memmove(si,Eh,Fh);
-L79:w8(t+8,qi);
-w8(t+16,oi);
-if(oi==qi){
-Gi=grow_amortized_e1a(t,1);
-if(!Gi){
-if(r8(t+16)==0)goto L73;
-goto L74;}
-Hi=r8(t+16);
-Ii=rp(t);
-Ji=r8(t+8);}
-else{
-Hi=oi;
-Ii=ri;
-Ji=qi;}
-*(Ii+Ji)=10;
-Ki=Ji+1;
-if(Ki==0)goto L81;
-Li=0;
-L82:Mi=Ki-Li;
-Ni=rp(e);
-Oi=port_write(2,Ii+(i64)Li,Mi);
-if((i64)Oi<0){
-Pi=port_rattle_errno();
-from_raw_os_error_cb0(r,Pi);
-Qi=r8(r);
-memcpy(s,r+8,80);
-x8(Ni+8,1);
-x8(Ni+16,Qi);
-memcpy(Ni+24,s,80);}
-else{
-Ri=umin64(Oi,Mi);
-if(Ri!=0){
-Si=Ri+Li;
-if(Si>=Ki)goto L81;
-Li=Si;
-goto L82;}}
-w8(e+8,r8(e+8)+1);
-if(Hi!=0)port_rattle_dealloc(Ii);
-if(Gh==0){
-Hh=1;
-goto L71;}
-port_rattle_dealloc(Eh);
-Hh=1;
-goto L71;
-L81:if(Hi!=0)port_rattle_dealloc(Ii);
-if(Gh==0)goto L83;
-port_rattle_dealloc(Eh);
-goto L83;
-L74:port_rattle_dealloc(rp(t));}
-L73:if(Gh==0)Hh=2;
-else{
-port_rattle_dealloc(Eh);
-Hh=2;}
-L71:if(yg==0){
-bg=Hh;
-goto L58;}
-port_rattle_dealloc(wg);
-bg=Hh;
-goto L58;}
-L83:if(yg==0){
-ag=Yg;
-goto L57;}
-port_rattle_dealloc(wg);
-ag=Yg;
-goto L57;}
-Ti=(Xg&1)?Wg.f1:0;}
-else Ti=Vg.f1;
-port_rattle_dealloc(Cg);
-memcpy(V,P,1792);
-drop_fa3(V);
-if(r8(O+16)!=0)port_rattle_dealloc(rp(O));
-if(r8(M+24)==0){
-Ui=Ti;
-goto L84;}
-Vi=Ti;
-goto L85;}}
-L65:Wi=take_piece_528(Pa,P,M,N,Cg,Hg,O,d);
-if(Wi.f0==0){
-Dg=Dg+(i64)Hg;
-Eg=Eg-Hg;
-Fg=Gg;
-goto L63;}
-Xi=Wi.f1;
-port_rattle_dealloc(Cg);
-memcpy(U,P,1792);
-drop_fa3(U);
-if(r8(O+16)!=0)port_rattle_dealloc(rp(O));
-if(r8(M+24)==0){
-Ui=Xi;
-goto L84;}
-Vi=Xi;
-L85:port_rattle_dealloc(rp(M+8));
-Ui=Vi;
-L84:Yi=Ui==1?1:2;
-goto L86;}
-port_rattle_dealloc(Cg);
-memcpy(T,P,1792);
-drop_fa3(T);
-if(r8(O+16)!=0)port_rattle_dealloc(rp(O));
-if(r8(M+24)!=0)port_rattle_dealloc(rp(M+8));}
-else{
-memcpy(S,Q+7,1792);
-drop_fa3(S);}}
-Yi=2;
-L86:if(yg==0){
-bg=Yi;
-goto L58;}
-port_rattle_dealloc(wg);
-bg=Yi;
-goto L58;}
-if(r8(X+16)!=0)port_rattle_dealloc(rp(X));
-L59:bg=2;
-L58:if(ve!=0)port_rattle_dealloc(te);
-if(pe==0)goto L87;
-Zi=0;
-L88:aj=re+Zi*24;
-if(q8(aj+16)!=0)port_rattle_dealloc(qp(aj));
-if(Zi!=ge){
-Zi=Zi+1;
-goto L88;}
-L87:if(se==0){
-jd=bg;
-kd=1;
-goto L21;}
-port_rattle_dealloc(re);
-jd=bg;
-kd=1;
-goto L21;
-L57:bj=xe|ag;
-cj=ye+1;
-if(cj!=ue){
-xe=bj;
-ye=cj;
-goto L37;}
-we=bj;}
-dj=Pd&we;
-if(ve!=0)port_rattle_dealloc(te);
-wp(Ra,re);
-w8(Ra+8,pe);
-w8(Ra+16,se);
-drop_d66(Ra);
-jd=dj;
-kd=0;
-goto L21;}
-gj=r8(pa+16);
-if(Yd==0)goto L89;
-hj=0;
-L90:ij=Xd+hj*24;
-if(q8(ij+16)!=0)port_rattle_dealloc(qp(ij));
-jj=hj+1;
-if(jj!=Yd){
-hj=jj;
-goto L90;}
-L89:if(gj==0)goto L33;
-ne=Xd;
-L34:port_rattle_dealloc(ne);}}
-L33:jd=2;
-kd=1;
-goto L21;}}
-memset(Fa,0,1792);
-memset(Ga,0,1792);
-memset(Ha,0,1792);
-memset(Ia,0,1792);
-memset(Ja,0,1792);
-*za=2;
-memset(za+1,0,7);
-wp(za+8,(u8*)65536);
-memset(za+16,0,64);
-*Aa=0;
-wp(Ba,(u8*)65536);
-memset(Ba+8,0,16);
-lists_5fc(Ea);
-kj=*Ea;
-memset(ya,0,7);
-if(kj==0){
-memcpy(ya+7,Ea+8,1792);
-memcpy(Da,ya,1799);
-memcpy(Ca,Da+7,1792);
-lj=port_rattle_alloc(16384,1);
-if((u8)(lj.f0&1)){
-mj=lj.f1;
-nj=(u8*)mj;
-memset(nj,0,16384);
-L91:oj=r8(c+16);
-if(oj!=0){
-w8(c+16,oj-1);
-pj=rp(c);
-qj=r8(pj+8192);
-rj=r8(pj+8200);
-if(rj==qj){
-sj=port_read(0,nj,16384);
-if((i64)sj<0){
-tj=port_rattle_errno();
-from_raw_os_error_cb0(wa,tj);
-uj=r8(wa);
-memcpy(xa,wa+8,80);
-x8(pj+8216,1);
-x8(pj+8224,uj);
-memcpy(pj+8232,xa,80);
-goto L92;}
-vj=umin64(sj,16384);}
-else{
-wj=rj-qj;
-xj=pj+(i64)qj;
-yj=umin64(wj,16384);
-if(mj-(u64)xj<yj){
-zj=yj&3;
-if(wj<4)Aj=0;
-else{
-Bj=yj&32764;
-Cj=0;
-Dj=0;
-L93:*(nj+Cj)=*(xj+Cj);
-Ej=Cj|1;
-*(nj+Ej)=*(xj+Ej);
-Fj=Cj|2;
-*(nj+Fj)=*(xj+Fj);
-Gj=Cj|3;
-*(nj+Gj)=*(xj+Gj);
-Hj=Cj+4;
-Ij=Dj+4;
-if(Ij!=Bj){
-Cj=Hj;
-Dj=Ij;
-goto L93;}
-if(zj==0)goto L94;
-Aj=Hj;}
-Jj=Aj;
-Kj=0;
-L95:*(nj+Jj)=*(xj+Jj);
-Lj=Kj+1;
-if(Lj!=zj){
-Jj=Jj+1;
-Kj=Lj;
-goto L95;}}
-else memmove(nj,xj,yj);
-L94:Mj=r8(pj+8192);
-w8(pj+8192,umin64(yj,r8(pj+8200)-Mj)+Mj);
-vj=yj;}
-if(vj!=0){
-Dk=take_piece_528(Pa,Ca,za,Aa,nj,vj,Ba,d);
-if(Dk.f0==0)goto L91;
-Ek=Dk.f1;
-port_rattle_dealloc(nj);
-memcpy(Ha,Ca,1792);
-drop_fa3(Ha);
-if(r8(Ba+16)!=0)port_rattle_dealloc(rp(Ba));
-if(r8(za+24)==0){
-Ck=Ek;
-goto L96;}
-port_rattle_dealloc(rp(za+8));
-Ck=Ek;
-goto L96;}
-Nj=end_segment_de1(Pa,Ca,za,Ba,d);
-if(Nj.f0==0){
-Oj=write_out_752(d,Ba);
-Pj=Oj.f0;
-if(Pj==0){
-port_rattle_dealloc(nj);
-memcpy(Ja,Ca,1792);
-drop_fa3(Ja);
-if(r8(Ba+16)!=0)port_rattle_dealloc(rp(Ba));
-if(r8(za+24)!=0)port_rattle_dealloc(rp(za+8));
-Qj=r8(za+56);
-Rj=r8(za+72);
-if(Od){
-w8(ua,Qj);
-w8(va,Rj);
-memset(ta+8,0,16);
-memset(ta+57,0,7);
-wp(ta,(u8*)65536);
-w8(ta+48,0);
-ta[56]=0;
-w4(ta+24,32);
-memset(ta+28,0,12);
-w8(ta+40,18446744073709551615u);
-Sj=grow_amortized_e1a(ta,10);
-if(Sj){
-Tj=r8(ta+8);
-Uj=Tj+10;
-Vj=rp(ta)+(i64)Tj;
-if((u64)Vj-(u64)(u8*)t_e65e<10){
-*Vj=100;
-Vj[1]=101;
-Vj[2]=109;
-Vj[3]=97;
-Vj[4]=110;
-Vj[5]=103;
-Vj[6]=108;
-Vj[7]=101;
-Vj[8]=58;
-Vj[9]=32;}
-else memcpy(Vj,(u8*)t_e65e,10);
-w8(ta+8,Uj);
-Wj=write_piece_7c8(ta,va);
-if(Wj==0){
-w4(ta+24,32);
-memset(ta+28,0,12);
-w8(ta+40,18446744073709551615u);
-if(r8(ta+48)==0){
-Xj=r8(ta+16);
-Yj=r8(ta+8);
-if(Xj-Yj<4){
-Zj=grow_amortized_e1a(ta,4);
-if(!Zj)goto L97;
-ak=r8(ta+16);
-bk=r8(ta+8);}
-else{
-ak=Xj;
-bk=Yj;}
-ck=bk+4;
-dk=rp(ta)+(i64)bk;
-if((u64)dk-(u64)(u8*)t_a428<4){
-*dk=32;
-dk[1]=111;
-dk[2]=102;
-dk[3]=32;}
-else x4(dk,543584032);
-w8(ta+8,ck);
-w8(ta+16,ak);}
-else{
-ek=write_indented_070(ta,(u8*)t_a428,4);
-if(ek!=0)goto L97;}
-fk=write_piece_7c8(ta,ua);
-if(fk==0){
-w4(ta+24,32);
-memset(ta+28,0,12);
-w8(ta+40,18446744073709551615u);
-if(r8(ta+48)==0){
-gk=r8(ta+16);
-hk=r8(ta+8);
-if(gk-hk<14){
-ik=grow_amortized_e1a(ta,14);
-if(!ik)goto L97;
-jk=r8(ta+16);
-kk=r8(ta+8);}
-else{
-jk=gk;
-kk=hk;}
-lk=kk+14;
-mk=rp(ta);
-nk=mk+(i64)kk;
-if((u64)nk-(u64)(u8*)t_6b1b<14){
-*nk=32;
-nk[1]=115;
-nk[2]=121;
-nk[3]=109;
-nk[4]=98;
-nk[5]=111;
-nk[6]=108;
-nk[7]=115;
-nk[8]=32;
-nk[9]=115;
-nk[10]=116;
-nk[11]=97;
-nk[12]=121;
-nk[13]=10;
-ok=mk;
-pk=jk;
-qk=lk;}
-else{
-memcpy(nk,(u8*)t_6b1b,14);
-ok=mk;
-pk=jk;
-qk=lk;}}
-else{
-rk=write_indented_070(ta,(u8*)t_6b1b,14);
-if(rk!=0)goto L97;
-ok=rp(ta);
-pk=r8(ta+16);
-qk=r8(ta+8);}
-if(qk==0)goto L98;
-sk=0;
-L99:tk=qk-sk;
-uk=rp(e);
-vk=port_write(2,ok+(i64)sk,tk);
-if((i64)vk<0){
-wk=port_rattle_errno();
-from_raw_os_error_cb0(ra,wk);
-xk=r8(ra);
-memcpy(sa,ra+8,80);
-x8(uk+8,1);
-x8(uk+16,xk);
-memcpy(uk+24,sa,80);}
-else{
-yk=umin64(vk,tk);
-if(yk!=0){
-zk=yk+sk;
-if(zk>=qk)goto L98;
-sk=zk;
-goto L99;}}
-w8(e+8,r8(e+8)+1);
-if(pk==0){
-Ak=1;
-goto L100;}
-port_rattle_dealloc(ok);
-Ak=1;
-goto L100;
-L98:if(pk==0)goto L101;
-port_rattle_dealloc(ok);
-goto L101;}}}
-L97:if(r8(ta+16)!=0)port_rattle_dealloc(rp(ta));
-Ak=2;
-L100:jd=Ak;
-kd=1;
-goto L21;}
-L101:jd=Pd&(Rj!=0);
-kd=0;
-goto L21;}
-Bk=(Pj&1)?Oj.f1:0;}
-else Bk=Nj.f1;
-port_rattle_dealloc(nj);
-memcpy(Ia,Ca,1792);
-drop_fa3(Ia);
-if(r8(Ba+16)!=0)port_rattle_dealloc(rp(Ba));
-if(r8(za+24)==0){
-Ck=Bk;
-goto L96;}
-port_rattle_dealloc(rp(za+8));
-Ck=Bk;
-goto L96;}
-L92:w8(c+8,r8(c+8)+1);
-port_rattle_dealloc(nj);
-memcpy(Ga,Ca,1792);
-drop_fa3(Ga);
-if(r8(Ba+16)!=0)port_rattle_dealloc(rp(Ba));
-if(r8(za+24)==0)Ck=0;
-else{
-port_rattle_dealloc(rp(za+8));
-Ck=0;}}
-else{
-memcpy(Fa,Ca,1792);
-drop_fa3(Fa);
-Ck=2;}}
-else Ck=2;
-L96:jd=Ck;
-kd=1;
-L21:wp(Ta,tc);
-w8(Ta+8,uc);
-w8(Ta+16,vc);
-drop_3d5(Ta);
-if(wc==1){
-Fk=(u8*)sc;
-Gk=Fk[40];
-Hk=q8(Fk+48);
-memcpy(q,Fk,16);
-memcpy(q+16,Fk+16,24);
-port_rattle_dealloc(Fk);
-memcpy(p,q,16);
-memcpy(p+16,q+16,24);
-w8(p+40,Gk);
-w8(p+48,Hk);
-drop_bac(p);
-Ik=kd;
-Jk=jd;}
-else{
-Ik=kd;
-Jk=jd;}}
-else{
-Kk=Sa[8];
-Lk=Sa[16];
-Mk=rp(Sa+24);
-Nk=r8(Sa+32);
-switch(Kk){
-case 16:Ok=2;
-Pk=1;
-break;
-case 11:case 13:memset(o+8,0,16);
-memset(o+57,0,7);
-wp(o,(u8*)65536);
-w8(o+48,0);
-o[56]=0;
-w4(o+24,32);
-memset(o+28,0,12);
-w8(o+40,18446744073709551615u);
-if(Lk==1){
-if(Nk==0){
-Qk=(u8*)65536;
-Rk=0;
-Sk=0;}
-else{
-Tk=grow_amortized_e1a(o,Nk);
-if(!Tk)goto L102;
-Qk=rp(o);
-Rk=r8(o+16);
-Sk=r8(o+8);}
-Uk=Sk+Nk;
-Vk=Qk+(i64)Sk;
-if((u64)Vk-(u64)Mk>=Nk){
-memmove(Vk,Mk,Nk);
-gl=Rk;
-hl=Qk;
-il=Uk;
-goto L103;}
-Wk=Nk&3;
-if(Nk<4)Xk=0;
-else{
-Yk=Nk&0xfffffffffffffffcu;
-Zk=0;
-al=0;
-L104:*(Vk+Zk)=*(Mk+Zk);
-bl=Zk|1;
-*(Vk+bl)=*(Mk+bl);
-cl=Zk|2;
-*(Vk+cl)=*(Mk+cl);
-dl=Zk|3;
-*(Vk+dl)=*(Mk+dl);
-el=Zk+4;
-fl=al+4;
-if(fl!=Yk){
-Zk=el;
-al=fl;
-goto L104;}
-if(Wk==0){
-gl=Rk;
-hl=Qk;
-il=Uk;
-goto L103;}
-Xk=el;}
-jl=Xk;
-kl=0;
-L105:*(Vk+jl)=*(Mk+jl);
-ll=kl+1;
-if(ll!=Wk){
-jl=jl+1;
-kl=ll;
-goto L105;}
-gl=Rk;
-hl=Qk;
-il=Uk;
-goto L103;}
-ml=grow_amortized_e1a(o,21);
-if(ml){
-nl=r8(o+16);
-ol=rp(o);
-pl=r8(o+8);
-ql=pl+21;
-memset(o+8,0,16);
-rl=ol+(i64)pl;
-if((u64)rl-(u64)(u8*)t_59b6>=21){
-memcpy(rl,(u8*)t_59b6,21);
-gl=nl;
-hl=ol;
-il=ql;
-goto L103;}
-*rl=101;
-rl[1]=114;
-rl[2]=114;
-rl[3]=111;
-rl[4]=114;
-rl[5]=58;
-rl[6]=32;
-rl[7]=111;
-rl[8]=117;
-rl[9]=116;
-rl[10]=32;
-rl[11]=111;
-rl[12]=102;
-rl[13]=32;
-rl[14]=109;
-rl[15]=101;
-rl[16]=109;
-rl[17]=111;
-rl[18]=114;
-rl[19]=121;
-rl[20]=10;
-gl=nl;
-hl=ol;
-il=ql;
-goto L103;}
-L102:if(r8(o+16)!=0)port_rattle_dealloc(rp(o));
-Ok=2;
-Pk=1;
-break;
-L103:if(il==0){
-sl=0;
-goto L106;}
-tl=0;
-L107:ul=il-tl;
-vl=rp(d);
-wl=port_write(1,hl+(i64)tl,ul);
-if((i64)wl<0){
-xl=port_rattle_errno();
-from_raw_os_error_cb0(m,xl);
-yl=r8(m);
-memcpy(n,m+8,80);
-x8(vl+8,1);
-x8(vl+16,yl);
-memcpy(vl+24,n,80);}
-else{
-zl=umin64(wl,ul);
-if(zl!=0){
-Al=zl+tl;
-if(Al<il){
-tl=Al;
-goto L107;}
-sl=0;
-goto L106;}}
-w8(d+8,r8(d+8)+1);
-sl=1;
-L106:if(gl==0){
-Ok=sl;
-Pk=sl;}
-else{
-port_rattle_dealloc(hl);
-Ok=sl;
-Pk=sl;}
-break;
-case 0:case 1:case 2:case 3:case 4:case 5:case 6:case 7:case 8:case 9:case 10:case 12:case 14:case 15:memset(l,0,32);
-memset(i,0,32);
-memset(j,0,32);
-memset(k,0,32);
-switch(Kk){
-case 4:Bl=port_rattle_alloc(43,1);
-if(!(u8)(Bl.f0&1))goto L108;
-Cl=Bl.f1;
-Dl=(u8*)Cl;
-if(Cl-(u64)(u8*)t_5e9c>=43){
-memcpy(Dl,(u8*)t_5e9c,43);
-El=43;
-Fl=Dl;
-goto L109;}
-*Dl=45;
-Dl[1]=45;
-Dl[2]=108;
-Dl[3]=105;
-Dl[4]=109;
-Dl[5]=105;
-Dl[6]=116;
-Dl[7]=32;
-Dl[8]=116;
-Dl[9]=97;
-Dl[10]=107;
-Dl[11]=101;
-Dl[12]=115;
-Dl[13]=32;
-Dl[14]=97;
-Dl[15]=32;
-Dl[16]=110;
-Dl[17]=117;
-Dl[18]=109;
-Dl[19]=98;
-Dl[20]=101;
-Dl[21]=114;
-Dl[22]=32;
-Dl[23]=102;
-Dl[24]=114;
-Dl[25]=111;
-Dl[26]=109;
-Dl[27]=32;
-Dl[28]=48;
-Dl[29]=32;
-Dl[30]=116;
-Dl[31]=111;
-Dl[32]=32;
-Dl[33]=52;
-Dl[34]=50;
-Dl[35]=57;
-Dl[36]=52;
-Dl[37]=57;
-Dl[38]=54;
-Dl[39]=55;
-Dl[40]=50;
-Dl[41]=57;
-Dl[42]=53;
-El=43;
-Fl=Dl;
-goto L109;
-case 0:Gl=port_rattle_alloc(33,1);
-if(!(u8)(Gl.f0&1))goto L108;
-Hl=Gl.f1;
-Il=(u8*)Hl;
-if(Hl-(u64)(u8*)t_d0f8>=33){
-memcpy(Il,(u8*)t_d0f8,33);
-El=33;
-Fl=Il;
-goto L109;}
-*Il=45;
-Il[1]=45;
-Il[2]=108;
-Il[3]=105;
-Il[4]=109;
-Il[5]=105;
-Il[6]=116;
-Il[7]=32;
-Il[8]=97;
-Il[9]=110;
-Il[10]=100;
-Il[11]=32;
-Il[12]=45;
-Il[13]=45;
-Il[14]=102;
-Il[15]=111;
-Il[16]=114;
-Il[17]=109;
-Il[18]=97;
-Il[19]=116;
-Il[20]=32;
-Il[21]=116;
-Il[22]=97;
-Il[23]=107;
-Il[24]=101;
-Il[25]=32;
-Il[26]=97;
-Il[27]=32;
-Il[28]=118;
-Il[29]=97;
-Il[30]=108;
-Il[31]=117;
-Il[32]=101;
-El=33;
-Fl=Il;
-goto L109;
-case 5:first_refused_ea1(j,5,eb,fb);
-quoted_1ce(i,(u8*)t_f9e6,19,rp(j+16),r8(j+24));
-Jl=*i;
-break;
-case 1:case 2:case 3:case 6:case 7:case 8:case 9:case 10:case 11:case 12:case 13:case 14:case 15:first_refused_ea1(k,Kk,eb,fb);
-Kl=rp(k+16);
-Ll=r8(k+24);
-Ml=rp(k);
-Nl=r8(k+8);
-memset(h,0,32);
-Ol=equal_d84(Ml,Nl,(u8*)t_1616,7);
-if(Ol){
-Pl=port_rattle_alloc(43,1);
-if((u8)(Pl.f0&1)){
-Ql=Pl.f1;
-Rl=(u8*)Ql;
-if(Ql-(u64)(u8*)t_5e9c<43){
-*Rl=45;
-Rl[1]=45;
-Rl[2]=108;
-Rl[3]=105;
-Rl[4]=109;
-Rl[5]=105;
-Rl[6]=116;
-Rl[7]=32;
-Rl[8]=116;
-Rl[9]=97;
-Rl[10]=107;
-Rl[11]=101;
-Rl[12]=115;
-Rl[13]=32;
-Rl[14]=97;
-Rl[15]=32;
-Rl[16]=110;
-Rl[17]=117;
-Rl[18]=109;
-Rl[19]=98;
-Rl[20]=101;
-Rl[21]=114;
-Rl[22]=32;
-Rl[23]=102;
-Rl[24]=114;
-Rl[25]=111;
-Rl[26]=109;
-Rl[27]=32;
-Rl[28]=48;
-Rl[29]=32;
-Rl[30]=116;
-Rl[31]=111;
-Rl[32]=32;
-Rl[33]=52;
-Rl[34]=50;
-Rl[35]=57;
-Rl[36]=52;
-Rl[37]=57;
-Rl[38]=54;
-Rl[39]=55;
-Rl[40]=50;
-Rl[41]=57;
-Rl[42]=53;}
-else memcpy(Rl,(u8*)t_5e9c,43);
-wp(h+8,Rl);
-w8(h+16,43);
-w8(h+24,43);
-Sl=0;}
-else{
-memset(h+8,0,24);
-Sl=1;}}
-else{
-quoted_1ce(h,(u8*)t_1c67,14,Kl,Ll);
-Sl=*h;}
-memcpy(i+8,h+8,24);
-Jl=Sl;
-break;
-default:NEVER;
-}
-Tl=rp(i+8);
-Ul=r8(i+16);
-Vl=r8(i+24);
-if(Jl!=0)goto L110;
-line_of_0b7(l,Tl,Ul);
-if(Vl==0)goto L111;
-Wl=Tl;
-goto L112;
-L108:L110:Ok=2;
-Pk=1;
-break;
-L109:line_of_0b7(l,Fl,El);
-Wl=Fl;
-L112:port_rattle_dealloc(Wl);
-L111:Xl=rp(l+8);
-Yl=r8(l+16);
-Zl=r8(l+24);
-if(*l==0){
-if(Yl==0){
-am=0;
-bm=2;
-goto L113;}
-cm=0;
-L114:dm=Yl-cm;
-em=rp(e);
-fm=port_write(2,Xl+(i64)cm,dm);
-if((i64)fm<0){
-gm=port_rattle_errno();
-from_raw_os_error_cb0(f,gm);
-hm=r8(f);
-memcpy(g,f+8,80);
-x8(em+8,1);
-x8(em+16,hm);
-memcpy(em+24,g,80);}
-else{
-im=umin64(fm,dm);
-if(im!=0){
-jm=im+cm;
-if(jm<Yl){
-cm=jm;
-goto L114;}
-am=0;
-bm=2;
-goto L113;}}
-w8(e+8,r8(e+8)+1);
-am=1;
-bm=1;
-L113:if(Zl==0){
-Ok=bm;
-Pk=am;}
-else{
-port_rattle_dealloc(Xl);
-Ok=bm;
-Pk=am;}}
-else{
-Ok=2;
-Pk=1;}
-break;
-default:NEVER;
-}
-if(Lk!=1||sc==0){
-Ik=Pk;
-Jk=Ok;}
-else{
-port_rattle_dealloc(Mk);
-Ik=Pk;
-Jk=Ok;}}
-km=db==0;
-if(Ik==0){
-if(!km)port_rattle_dealloc(eb);
-if(Xa)goto L115;
-lm=0;
-L116:mm=ab+lm*24;
-if(q8(mm+16)!=0)port_rattle_dealloc(qp(mm));
-nm=lm+1;
-if(nm!=bb){
-lm=nm;
-goto L116;}
-L115:if(cb){
-lc=Jk;
-mc=0;}
-else{
-port_rattle_dealloc(ab);
-lc=Jk;
-mc=0;}}
-else{
-if(!km)port_rattle_dealloc(eb);
-if(Xa)goto L117;
-om=0;
-L118:pm=ab+om*24;
-if(q8(pm+16)!=0)port_rattle_dealloc(qp(pm));
-qm=om+1;
-if(qm!=bb){
-om=qm;
-goto L118;}
-L117:if(cb){
-lc=Jk;
-mc=1;}
-else{
-port_rattle_dealloc(ab);
-lc=Jk;
-mc=1;}}
-L16:rm=(s_8_8){0};rm.f0=mc;
-sm=rm;sm.f1=lc;
-return sm;
-}
-
 /* std_alloc::string::add_wide::<#8369687b0ecb5879> */
 /* std_alloc::string::add_wide::<#2cbb67ac55bf10f9> */
 /* std_alloc::string::add_wide::<#049f18ac9ae54c77> */
@@ -12183,6 +9923,2220 @@ w8(a+16,g);
 c=1;}
 else c=0;}
 L1:return c;
+}
+
+/* demangle_command::command::run_texts::<#86af4cd5c564c229> */
+static s_8_8 run_texts_e0a(u8* a,u64 b,u8* c,u8* d,u8* e)
+{
+u8 r[1799],t[1],w[1799],K[1799],N[1799],ca[1799],ea[1],ha[1799],ua[1799],ya[1799];
+A16 u8 f[88],g[80],h[32],i[32],j[32],k[32],l[32],m[88],n[80],o[64],p[56],q[40],s[80],u[24],v[1792],x[1800],y[1792],z[1792],A[1792],B[1792],C[1792],D[24],E[88],F[80],G[24],H[24],I[24],J[12],L[1792],M[24],O[1800],P[24],Q[1792],R[1792],S[1792],T[24],U[24],V[24],W[32],X[88],Y[80],Z[64],aa[8],ba[8],da[80],fa[24],ga[1792],ia[1800],ja[1792],ka[1792],la[1792],ma[1792],na[1792],oa[88],pa[80],qa[32],ra[48],sa[48],ta[16],va[80],wa[24],xa[1792],za[1800],Aa[1792],Ba[1792],Ca[1792],Da[1792],Ea[1792],Fa[24],Ga[88],Ha[80],Ia[32],Ja[24],Ka[32],La[16],Ma[32],Na[24],Oa[48],Pa[24];
+u64 Qa,Sa,Ta,Wa,bb,hb,jb,mb,nb,pb,qb,rb,vb,wb,zb,Ab,Cb,Eb,Fb,Gb,Kb,Qb,Rb,Sb,Ub,Wb,Xb,Yb,Zb,ac,cc,ec,fc,nc,qc,uc,vc,yc,zc,Cc,Ec,Fc,Gc,Ic,Lc,Mc,Oc,Qc,Rc,Uc,Wc,Zc,cd,gd,ld,nd,od,pd,qd,sd,td,ud,vd,xd,yd,zd,Ad,Bd,Dd,Hd,Jd,Kd,Md,Od,Pd,Qd,Rd,Sd,Td,Ud,Vd,Wd,Xd,Yd,Zd,ae,he,je,oe,pe,qe,se,ue,ve,we,Ce,De,Ee,Fe,Ge,He,Ie,Je,Ke,Le,Me,Ne,Oe,Qe,Se,Te,We,Ze,af,bf,cf,df,ef,ff,gf,hf,jf,kf,lf,mf,nf,of,pf,qf,Df,Gf,If,Kf,Lf,Nf,Uf,Xf,bg,cg,gg,hg,jg,lg,mg,ng,og,pg,rg,sg,wg,yg,Cg,Fg,Og,Pg,Rg,Sg,Vg,Xg,Yg,dh,fh,ih,jh,kh,lh,mh,nh,oh,ph,rh,sh,uh,vh,wh,yh,zh,Ah,Bh,Ch,Dh,Eh,Fh,Gh,Hh,Ih,Jh,Kh,Lh,Mh,Nh,Ph,Qh,Rh,Sh,Th,Uh,Wh,Xh,Yh,ai,bi,ci,di,ei,fi,gi,hi,ii,ji,ki,li,mi,oi,ri,vi,wi,xi,zi,Ai,Bi,Ei,Fi,Gi,Hi,Ii,Ji,Ki,Li,Mi,Ni,Oi,Pi,Qi,Ri,Ui,Yi,bj,cj,dj,ej,fj,gj,hj,ij,jj,kj,lj,mj,nj,qj,sj,tj,uj,vj,xj,zj,Aj,Bj,Dj,Ej,Gj,Hj,Ij,Kj,Lj,Mj,Nj,Oj,Pj,Qj,Rj,Sj,Tj,Uj,Vj,Wj,Zj,ck,ik,jk,qk,uk,vk,Ck,Dk,Gk,Hk,Jk,Kk,Lk,Pk,Qk,Sk,Tk,Uk,Yk,Zk,bl,cl,el,gl,hl,il,ml,sl,wl,xl,zl,Bl,Cl,Dl,El,Fl,Gl,Hl,Il,Jl,Kl,Ll,Nl,Ol,Pl,Ql,Sl,Ul,Vl,Yl,Zl,bm,dm,em,fm,hm,jm,mm,qm,sm,vm,zm,Am,Dm,Em,Hm,Im,Km,Mm,Nm,Om;
+u8 *Ra,*Va,*Za,*ab,*gb,*ib,*lb,*sb,*tb,*ub,*Bb,*Jb,*Nb,*Pb,*mc,*pc,*sc,*tc,*wc,*xc,*Bc,*Dc,*Hc,*Jc,*Kc,*Nc,*Pc,*Vc,*Xc,*Yc,*dd,*ed,*jd,*md,*Cd,*Id,*Nd,*be,*ce,*le,*ne,*re,*Ae,*Re,*Xe,*Ye,*Ef,*Jf,*Mf,*Qf,*Wf,*kg,*qg,*Gg,*Qg,*Wg,*qh,*xh,*Zh,*pi,*ui,*Ci,*Di,*Wi,*Xi,*rj,*wj,*Jj,*dk,*ok,*Ek,*Mk,*Vk,*Wk,*Xk,*dl,*kl,*rl,*vl,*Al,*Ml,*Tl,*Wl,*am,*im,*km,*nm,*pm,*rm,*wm,*ym,*Bm,*Cm,*Jm;
+u8 Ua,Xa,Ya,cb,db,eb,fb,kb,ob,xb,yb,Hb,Ib,Mb,Tb,Vb,bc,dc,gc,hc,ic,jc,kc,lc,oc,Ac,Sc,Tc,ad,fd,hd,id,kd,Ed,Fd,Gd,Ld,de,ee,fe,ge,ie,ke,me,xe,ye,ze,Pe,Ue,tf,uf,wf,xf,yf,zf,Bf,Cf,Ff,Hf,Of,Tf,Vf,ag,dg,eg,fg,ig,tg,xg,zg,Ag,Bg,Dg,Eg,Hg,Ig,Jg,Kg,Mg,Ng,ah,bh,eh,th,Oh,Vh,qi,ti,yi,Si,Ti,aj,pj,Fj,Yj,ak,fk,hk,kk,lk,mk,tk,wk,xk,yk,Ak,Bk,Fk,Ik,Nk,Ok,Rk,al,jl,ll,nl,ol,pl,ql,tl,ul,yl,Rl,Xl,om,tm,xm,Fm,Gm;
+u32 Db,Lb,te,yj,fl,cm,Lm;
+s_p_64 Ob;
+s_64_64 rc,bd,Be,Ve,Pf,nk,gm,lm,um;
+s_8_8 rf,sf,vf,Af,Yf,Zf,Lg,Zg,si,Zi,Xj,bk,ek,rk,sk,zk,Pm,Qm;
+s_8_64 Rf,Sf,gk,pk;
+u128 ug,vg,ch,ni,Vi,oj,Cj;
+u16 Tg,Ug,hh;
+v16 gh;
+memset(Oa,0,48);
+memset(Pa,0,24);
+found_in_224(Oa,a,b);
+Qa=r8(Oa+40);
+if(*Oa==0){
+Ra=rp(Oa+8);
+Sa=r8(Oa+16);
+Ta=r8(Oa+24);
+Ua=Oa[32];
+memset(La,0,16);
+memset(Ma,0,32);
+memset(Na,0,24);
+Va=Ra;
+Wa=Sa;
+L1:if(Wa==0)Xa=0;
+else{
+Ya=equal_d84(qp(Va),q8(Va+8),(u8*)t_e904,6);
+if(!Ya){
+Va=Va+104;
+Wa=Wa-1;
+goto L1;}
+if(r8(Va+56)==0)Xa=0;
+else{
+Za=rp(Va+48);
+ab=qp(Za);
+bb=q8(Za+8);
+cb=equal_d84(ab,bb,(u8*)t_9292,4);
+if(cb)Xa=0;
+else{
+db=equal_d84(ab,bb,(u8*)t_2658,6);
+if(db)Xa=1;
+else{
+eb=equal_d84(ab,bb,(u8*)t_521f,4);
+if(!eb){
+fb=equal_d84(ab,bb,(u8*)t_140b,4);
+if(fb){
+Xa=3;
+goto L2;}
+gb=Ra;
+hb=Sa;
+L3:if(hb==0){
+ib=(u8*)t_z0;
+jb=0;}
+else{
+kb=equal_d84(qp(gb),q8(gb+8),(u8*)t_e904,6);
+if(!kb){
+gb=gb+104;
+hb=hb-1;
+goto L3;}
+if(r8(gb+56)==0){
+ib=(u8*)t_z0;
+jb=0;}
+else{
+lb=rp(gb+48);
+ib=qp(lb);
+jb=q8(lb+8);}}
+memset(Ia,0,32);
+memset(Ka,0,32);
+quoted_1ce(Ka,(u8*)t_0d38,13,ib,jb);
+if(*Ka==0){
+memcpy(Ja,Ka+8,24);
+mb=r8(Ja+16);
+nb=r8(Ja+8);
+if(mb-nb<33){
+ob=grow_amortized_e1a(Ja,33);
+if(!ob){
+if(r8(Ja+16)==0)goto L4;
+port_rattle_dealloc(rp(Ja));
+goto L4;}
+pb=r8(Ja+16);
+qb=r8(Ja+8);}
+else{
+pb=mb;
+qb=nb;}
+rb=qb+33;
+sb=rp(Ja);
+tb=sb+(i64)qb;
+if((u64)tb-(u64)(u8*)t_e3f0<33){
+*tb=59;
+tb[1]=32;
+tb[2]=107;
+tb[3]=110;
+tb[4]=111;
+tb[5]=119;
+tb[6]=110;
+tb[7]=58;
+tb[8]=32;
+tb[9]=97;
+tb[10]=117;
+tb[11]=116;
+tb[12]=111;
+tb[13]=44;
+tb[14]=32;
+tb[15]=103;
+tb[16]=110;
+tb[17]=117;
+tb[18]=45;
+tb[19]=118;
+tb[20]=51;
+tb[21]=44;
+tb[22]=32;
+tb[23]=114;
+tb[24]=117;
+tb[25]=115;
+tb[26]=116;
+tb[27]=44;
+tb[28]=32;
+tb[29]=110;
+tb[30]=111;
+tb[31]=110;
+tb[32]=101;}
+else memcpy(tb,(u8*)t_e3f0,33);
+line_of_0b7(Ia,sb,rb);
+if(pb!=0)port_rattle_dealloc(sb);
+ub=rp(Ia+8);
+vb=r8(Ia+16);
+wb=r8(Ia+24);
+if(*Ia!=0){
+Hb=2;
+Ib=1;
+goto L5;}
+if(vb==0){
+xb=0;
+yb=2;
+goto L6;}
+zb=0;
+L7:Ab=vb-zb;
+Bb=rp(e);
+Cb=port_write(2,ub+(i64)zb,Ab);
+if((i64)Cb<0){
+Db=port_rattle_errno();
+from_raw_os_error_cb0(Ga,Db);
+Eb=r8(Ga);
+memcpy(Ha,Ga+8,80);
+x8(Bb+8,1);
+x8(Bb+16,Eb);
+memcpy(Bb+24,Ha,80);}
+else{
+Fb=umin64(Cb,Ab);
+if(Fb!=0){
+Gb=Fb+zb;
+if(Gb<vb){
+zb=Gb;
+goto L7;}
+xb=0;
+yb=2;
+goto L6;}}
+w8(e+8,r8(e+8)+1);
+xb=1;
+yb=1;
+L6:if(wb==0){
+Hb=yb;
+Ib=xb;
+goto L5;}
+port_rattle_dealloc(ub);
+Hb=yb;
+Ib=xb;
+goto L5;}
+L4:Hb=2;
+Ib=1;
+goto L5;}
+Xa=2;}}}}
+L2:Jb=Ra;
+Kb=Sa;
+L8:if(Kb==0)Lb=1000000;
+else{
+Mb=equal_d84(qp(Jb),q8(Jb+8),(u8*)t_55ea,5);
+if(!Mb){
+Jb=Jb+104;
+Kb=Kb-1;
+goto L8;}
+if(r8(Jb+56)==0)Lb=1000000;
+else{
+Nb=rp(Jb+48);
+Ob=text_ae2(Jb[100],rp(Nb),r8(Nb+8));
+Pb=Ob.f0;
+Qb=Ob.f1;
+if(Qb==0)Lb=1000000;
+else{
+if(*Pb==43){
+if(Qb==1){
+Lb=1000000;
+goto L9;}
+Rb=0;
+Sb=1;
+L10:Tb=*(Pb+Sb);
+if((u8)(Tb-48)>=10){
+Lb=1000000;
+goto L9;}
+Ub=Rb*10;
+Vb=Tb&15;
+if(Ub>(Vb^18446744073709551615u)){
+Lb=1000000;
+goto L9;}
+Wb=Ub+Vb;
+if(Wb>4294967295u){
+Lb=1000000;
+goto L9;}
+Xb=Sb+1;
+if(Xb==Qb){
+Yb=Wb;
+goto L11;}
+Rb=Wb;
+Sb=Xb;
+goto L10;}
+Zb=0;
+ac=0;
+L12:bc=*(Pb+ac);
+if((u8)(bc-48)>=10){
+Lb=1000000;
+goto L9;}
+cc=Zb*10;
+dc=bc&15;
+if(cc>(dc^18446744073709551615u)){
+Lb=1000000;
+goto L9;}
+ec=cc+dc;
+if(ec>4294967295u){
+Lb=1000000;
+goto L9;}
+fc=ac+1;
+if(fc!=Qb){
+Zb=ec;
+ac=fc;
+goto L12;}
+Yb=ec;
+L11:Lb=Yb;}}}
+L9:gc=has_flag_098(Ra,Sa,(u8*)t_29a8,5);
+hc=has_flag_098(Ra,Sa,(u8*)t_22d0,9);
+ic=has_flag_098(Ra,Sa,(u8*)t_02bd,4);
+jc=has_flag_098(Ra,Sa,(u8*)t_8d84,5);
+kc=has_flag_098(Ra,Sa,(u8*)t_2be2,3);
+lc=has_flag_098(Ra,Sa,(u8*)t_3a31,6);
+*La=Xa;
+memset(La+1,0,3);
+w4(La+4,Lb);
+La[8]=gc?(hc?3:1):(hc?2:0);
+memset(La+9,0,3);
+La[12]=ic;
+memset(La+13,0,3);
+mc=Ra;
+nc=Sa;
+L13:if(nc!=0){
+oc=equal_d84(qp(mc),q8(mc+8),(u8*)t_eaa5,4);
+if(!oc){
+mc=mc+104;
+nc=nc-1;
+goto L13;}
+pc=rp(mc+48);
+qc=r8(mc+56);
+if(qc!=0){
+memset(W,0,32);
+if(qc<0x555555555555556u){
+rc=port_rattle_alloc(qc*24,8);
+if((u8)(rc.f0&1)){
+sc=(u8*)rc.f1;
+wp(V,sc);
+w8(V+8,0);
+w8(V+16,qc);
+tc=sc;
+uc=0;
+vc=0;
+L14:wc=pc+(i64)(vc<<4);
+bytes_of_d39(W,rp(wc),r8(wc+8));
+if(*W==0){
+xc=rp(W+8);
+yc=r8(W+16);
+zc=r8(W+24);
+if(r8(V+16)==uc){
+Ac=grow_amortized_965(V,1);
+if(!Ac){
+if(zc!=0)port_rattle_dealloc(xc);
+Dc=rp(V);
+Ec=r8(V+8);
+Fc=r8(V+16);
+if(Ec==0)goto L15;
+Gc=0;
+L16:Hc=Dc+Gc*24;
+if(q8(Hc+16)!=0)port_rattle_dealloc(qp(Hc));
+Ic=Gc+1;
+if(Ic!=Ec){
+Gc=Ic;
+goto L16;}
+L15:if(Fc==0)goto L17;
+Jc=Dc;
+goto L18;}
+Bc=rp(V);
+Cc=r8(V+8);}
+else{
+Bc=tc;
+Cc=uc;}
+Kc=Bc+Cc*24;
+xp(Kc,xc);
+x8(Kc+8,yc);
+x8(Kc+16,zc);
+Lc=Cc+1;
+w8(V+8,Lc);
+Mc=vc+1;
+if(Mc!=qc){
+tc=Bc;
+uc=Lc;
+vc=Mc;
+goto L14;}
+Nc=rp(V);
+Oc=r8(V+16);
+lent_words_945(Ma,Nc,Lc);
+if(*Ma!=0){
+if(Lc==0)goto L19;
+If=0;
+L20:Jf=Nc+If*24;
+if(q8(Jf+16)!=0)port_rattle_dealloc(qp(Jf));
+if(If!=Cc){
+If=If+1;
+goto L20;}
+L19:if(Oc==0){
+Hb=2;
+Ib=1;
+goto L5;}
+port_rattle_dealloc(Nc);
+Hb=2;
+Ib=1;
+goto L5;}
+Pc=rp(Ma+8);
+Qc=r8(Ma+16);
+Rc=r8(Ma+24);
+if(Qc==0)Sc=0;
+else{
+Tc=0;
+Uc=0;
+L21:Vc=Pc+(i64)(Uc<<4);
+Wc=r8(Vc+8);
+Xc=rp(Vc);
+memset(U,0,24);
+memset(T,0,24);
+if(!(jc&(Wc<65537)))goto L22;
+Yc=Xc;
+Zc=Wc;
+L23:if(Zc==0){
+memset(P,0,24);
+memset(Q,0,1792);
+memset(R,0,1792);
+memset(S,0,1792);
+lists_5fc(O);
+ad=*O;
+memset(K,0,7);
+if(ad==0){
+memcpy(K+7,O+8,1792);
+memcpy(N,K,1799);
+memcpy(L,N+7,1792);
+wp(M,(u8*)65536);
+memset(M+8,0,16);
+memset(I,0,24);
+memset(J,0,12);
+bd=port_rattle_alloc(4,1);
+if((u8)(bd.f0&1)){
+cd=bd.f1;
+dd=(u8*)cd;
+if(cd-(u64)(u8*)t_f8a6<4){
+*dd=95;
+dd[1]=90;
+dd[2]=84;
+dd[3]=73;}
+else x4(dd,1230264927);
+wp(H,dd);
+w8(H+8,4);
+w8(H+16,4);
+if(Wc==0){
+ed=dd;
+fd=0;
+gd=4;}
+else{
+hd=grow_amortized_e1a(H,Wc);
+if(!hd){
+if(r8(H+16)==0){
+id=4;
+goto L24;}
+jd=rp(H);
+kd=4;
+goto L25;}
+ed=rp(H);
+fd=r8(H+16)==0;
+gd=r8(H+8);}
+ld=gd+Wc;
+md=ed+(i64)gd;
+if((u64)md-(u64)Xc<Wc){
+nd=Wc&3;
+if(Wc<4)od=0;
+else{
+pd=Wc&131068;
+qd=0;
+sd=0;
+L26:*(md+qd)=*(Xc+qd);
+td=qd|1;
+*(md+td)=*(Xc+td);
+ud=qd|2;
+*(md+ud)=*(Xc+ud);
+vd=qd|3;
+*(md+vd)=*(Xc+vd);
+xd=qd+4;
+yd=sd+4;
+if(yd!=pd){
+qd=xd;
+sd=yd;
+goto L26;}
+if(nd==0)goto L27;
+od=xd;}
+zd=od;
+Ad=0;
+L28:*(md+zd)=*(Xc+zd);
+Bd=Ad+1;
+if(Bd!=nd){
+zd=zd+1;
+Ad=Bd;
+goto L28;}}
+else memmove(md,Xc,Wc);
+L27:wp(I,(u8*)65536);
+memset(I+8,0,16);
+append_c85(J,La,L,0,ed,ld,I);
+if(*J==0){
+Cd=rp(I);
+Dd=r8(I+8);
+if(Dd<13){
+Ed=0;
+Fd=0;}
+else{
+Gd=parts_equal_58b(Cd,13,(u8*)t_77a1,13);
+Hd=Dd-13;
+if(Gd){
+if(Hd==0){
+Id=(u8*)65536;
+Jd=0;
+Kd=0;}
+else{
+Ld=grow_amortized_e1a(M,Hd);
+if(!Ld){
+Ed=0;
+Fd=4;
+goto L29;}
+Id=rp(M);
+Jd=r8(M+16);
+Kd=r8(M+8);}
+Md=Kd+Hd;
+Nd=Id+(i64)Kd;
+if((u64)Nd-(u64)(Cd+13)<Hd){
+Od=Hd&3;
+if(Dd-14<3)Pd=0;
+else{
+Qd=Hd&0xfffffffffffffffcu;
+Rd=0;
+Sd=0;
+L30:*(Nd+Rd)=*(Cd+13+Rd);
+Td=Rd|1;
+*(Nd+Td)=*(Cd+13+Td);
+Ud=Rd|2;
+*(Nd+Ud)=*(Cd+13+Ud);
+Vd=Rd|3;
+*(Nd+Vd)=*(Cd+13+Vd);
+Wd=Rd+4;
+Xd=Sd+4;
+if(Xd!=Qd){
+Rd=Wd;
+Sd=Xd;
+goto L30;}
+if(Od==0)goto L31;
+Pd=Wd;}
+Yd=Pd;
+Zd=0;
+L32:*(Nd+Yd)=*(Cd+13+Yd);
+ae=Zd+1;
+if(ae!=Od){
+Yd=Yd+1;
+Zd=ae;
+goto L32;}}
+else memmove(Nd,Cd+13,Hd);
+L31:w8(M+8,Md);
+w8(M+16,Jd);
+Ed=1;
+Fd=0;}
+else{
+Ed=0;
+Fd=0;}}
+L29:if(r8(I+16)!=0)port_rattle_dealloc(Cd);
+if(!fd)port_rattle_dealloc(ed);
+if(!Ed){
+ee=Fd;
+goto L33;}
+be=Q;
+ce=M;
+de=1;
+goto L34;}
+fe=J[4];
+if(r8(I+16)!=0)port_rattle_dealloc(rp(I));
+if(fd){
+id=fe;
+goto L24;}
+jd=ed;
+kd=fe;
+L25:port_rattle_dealloc(jd);
+id=kd;}
+else id=4;
+L24:ee=id;
+L33:ge=r8(M+16)==0;
+if(ee==4){
+if(!ge)port_rattle_dealloc(rp(M));
+memcpy(R,L,1792);
+drop_fa3(R);
+goto L35;}
+if(ge){
+be=S;
+ce=P;
+de=0;}
+else{
+port_rattle_dealloc(rp(M));
+be=S;
+ce=P;
+de=0;}
+L34:memcpy(be,L,1792);
+drop_fa3(be);
+memcpy(T,ce,24);
+memcpy(U,T,24);
+if(!de)goto L36;
+memcpy(G,U,24);
+he=r8(G+8);
+if(r8(G+16)==he){
+ie=grow_amortized_e1a(G,1);
+if(!ie){
+if(r8(G+16)==0){
+ke=2;
+goto L37;}
+le=rp(G);
+me=2;
+goto L38;}
+je=r8(G+8);}
+else je=he;
+ne=rp(G);
+*(ne+je)=10;
+oe=je+1;
+if(oe==0)goto L39;
+pe=0;
+L40:qe=oe-pe;
+re=rp(d);
+se=port_write(1,ne+(i64)pe,qe);
+if((i64)se<0){
+te=port_rattle_errno();
+from_raw_os_error_cb0(E,te);
+ue=r8(E);
+memcpy(F,E+8,80);
+x8(re+8,1);
+x8(re+16,ue);
+memcpy(re+24,F,80);}
+else{
+ve=umin64(se,qe);
+if(ve!=0){
+we=ve+pe;
+if(we>=oe)goto L39;
+pe=we;
+goto L40;}}
+w8(d+8,r8(d+8)+1);
+if(r8(G+16)==0){
+ke=1;
+goto L37;}
+le=ne;
+me=1;
+goto L38;
+L39:if(r8(G+16)==0){
+xe=0;
+goto L41;}
+port_rattle_dealloc(ne);
+xe=0;
+goto L41;
+L38:port_rattle_dealloc(le);
+ye=me;
+goto L42;
+L37:ye=ke;
+goto L42;}
+L35:ye=2;
+goto L42;}
+ze=*Yc;
+if(ze!=46&&*((u8*)t_e4d8+ze)>48){
+Yc=Yc+1;
+Zc=Zc-1;
+goto L23;}
+L22:memset(U,0,24);
+L36:if(Wc==0)Ae=(u8*)65536;
+else{
+if((i64)Wc<=-1)goto L43;
+Be=port_rattle_alloc(Wc,1);
+if(!(u8)(Be.f0&1))goto L43;
+Ae=(u8*)Be.f1;}
+if((u64)Ae-(u64)Xc<Wc){
+Ce=Wc&3;
+if(Wc<4)De=0;
+else{
+Ee=Wc&0xfffffffffffffffcu;
+Fe=0;
+Ge=0;
+L44:*(Ae+Fe)=*(Xc+Fe);
+He=Fe|1;
+*(Ae+He)=*(Xc+He);
+Ie=Fe|2;
+*(Ae+Ie)=*(Xc+Ie);
+Je=Fe|3;
+*(Ae+Je)=*(Xc+Je);
+Ke=Fe+4;
+Le=Ge+4;
+if(Le!=Ee){
+Fe=Ke;
+Ge=Le;
+goto L44;}
+if(Ce==0)goto L45;
+De=Ke;}
+Me=De;
+Ne=0;
+L46:*(Ae+Me)=*(Xc+Me);
+Oe=Ne+1;
+if(Oe!=Ce){
+Me=Me+1;
+Ne=Oe;
+goto L46;}}
+else memmove(Ae,Xc,Wc);
+L45:wp(D,Ae);
+w8(D+8,Wc);
+w8(D+16,Wc);
+Pe=grow_amortized_e1a(D,1);
+if(Pe){
+Qe=r8(D+8);
+Re=rp(D);
+*(Re+Qe)=10;
+Se=Qe+1;
+Te=r8(D+16);
+memset(y,0,1792);
+memset(z,0,1792);
+memset(A,0,1792);
+memset(B,0,1792);
+memset(C,0,1792);
+*s=2;
+memset(s+1,0,7);
+wp(s+8,(u8*)65536);
+memset(s+16,0,64);
+*t=0;
+wp(u,(u8*)65536);
+memset(u+8,0,16);
+lists_5fc(x);
+Ue=*x;
+memset(r,0,7);
+if(Ue==0){
+memcpy(r+7,x+8,1792);
+memcpy(w,r,1799);
+memcpy(v,w+7,1792);
+Ve=port_rattle_alloc(16384,1);
+if((u8)(Ve.f0&1)){
+We=Ve.f1;
+Xe=(u8*)We;
+memset(Xe,0,16384);
+Ye=Re;
+Ze=Se;
+af=18446744073709551615u;
+L47:if(af!=0){
+bf=af-1;
+cf=umin64(Ze,16384);
+if(We-(u64)Ye<cf){
+df=cf&3;
+if(Ze<4)ef=0;
+else{
+ff=cf&32764;
+gf=0;
+hf=0;
+L48:*(Xe+gf)=*(Ye+gf);
+jf=gf|1;
+*(Xe+jf)=*(Ye+jf);
+kf=gf|2;
+*(Xe+kf)=*(Ye+kf);
+lf=gf|3;
+*(Xe+lf)=*(Ye+lf);
+mf=gf+4;
+nf=hf+4;
+if(nf!=ff){
+gf=mf;
+hf=nf;
+goto L48;}
+if(df==0)goto L49;
+ef=mf;}
+of=ef;
+pf=0;
+L50:*(Xe+of)=*(Ye+of);
+qf=pf+1;
+if(qf!=df){
+of=of+1;
+pf=qf;
+goto L50;}}
+else{
+memmove(Xe,Ye,cf);
+if(Ze==0){
+rf=end_segment_b17(La,v,s,u,d);
+if(rf.f0==0){
+sf=write_out_752(d,u);
+tf=sf.f0;
+if(tf==0){
+port_rattle_dealloc(Xe);
+memcpy(C,v,1792);
+drop_fa3(C);
+if(r8(u+16)!=0)port_rattle_dealloc(rp(u));
+if(r8(s+24)!=0)port_rattle_dealloc(rp(s+8));
+uf=r8(s+72)!=0||r8(s+64)==0;
+if(kc&&uf){
+vf=say_reason_a74(La,Xc,Wc,Xc,Wc,e);
+if(vf.f0!=0){
+wf=vf.f1;
+if(Te==0){
+ye=wf;
+goto L42;}
+port_rattle_dealloc(Re);
+ye=wf;
+goto L42;}}
+if(Te==0){
+xe=uf;
+goto L41;}
+port_rattle_dealloc(Re);
+xe=uf;
+goto L41;}
+xf=(tf&1)?sf.f1:0;}
+else xf=rf.f1;
+port_rattle_dealloc(Xe);
+memcpy(B,v,1792);
+drop_fa3(B);
+if(r8(u+16)!=0)port_rattle_dealloc(rp(u));
+if(r8(s+24)==0){
+yf=xf;
+goto L51;}
+zf=xf;
+goto L52;}}
+L49:Af=take_piece_8e7(La,v,s,t,Xe,cf,u,d);
+if(Af.f0==0){
+Ye=Ye+(i64)cf;
+Ze=Ze-cf;
+af=bf;
+goto L47;}
+Bf=Af.f1;
+port_rattle_dealloc(Xe);
+memcpy(A,v,1792);
+drop_fa3(A);
+if(r8(u+16)!=0)port_rattle_dealloc(rp(u));
+if(r8(s+24)==0){
+yf=Bf;
+goto L51;}
+zf=Bf;
+L52:port_rattle_dealloc(rp(s+8));
+yf=zf;
+L51:Cf=yf==1?1:2;
+goto L53;}
+port_rattle_dealloc(Xe);
+memcpy(z,v,1792);
+drop_fa3(z);
+if(r8(u+16)!=0)port_rattle_dealloc(rp(u));
+if(r8(s+24)!=0)port_rattle_dealloc(rp(s+8));}
+else{
+memcpy(y,w+7,1792);
+drop_fa3(y);}}
+Cf=2;
+L53:if(Te==0){
+ye=Cf;
+goto L42;}
+port_rattle_dealloc(Re);
+ye=Cf;
+goto L42;}
+if(r8(D+16)!=0)port_rattle_dealloc(rp(D));
+L43:ye=2;
+L42:if(Rc!=0)port_rattle_dealloc(Pc);
+if(Lc==0)goto L54;
+Df=0;
+L55:Ef=Nc+Df*24;
+if(q8(Ef+16)!=0)port_rattle_dealloc(qp(Ef));
+if(Df!=Cc){
+Df=Df+1;
+goto L55;}
+L54:if(Oc==0){
+Hb=ye;
+Ib=1;
+goto L5;}
+port_rattle_dealloc(Nc);
+Hb=ye;
+Ib=1;
+goto L5;
+L41:Ff=Tc|xe;
+Gf=Uc+1;
+if(Gf!=Qc){
+Tc=Ff;
+Uc=Gf;
+goto L21;}
+Sc=Ff;}
+Hf=lc&Sc;
+if(Rc!=0)port_rattle_dealloc(Pc);
+wp(Na,Nc);
+w8(Na+8,Lc);
+w8(Na+16,Oc);
+drop_d66(Na);
+Hb=Hf;
+Ib=0;
+goto L5;}
+Kf=r8(V+16);
+if(uc==0)goto L56;
+Lf=0;
+L57:Mf=tc+Lf*24;
+if(q8(Mf+16)!=0)port_rattle_dealloc(qp(Mf));
+Nf=Lf+1;
+if(Nf!=uc){
+Lf=Nf;
+goto L57;}
+L56:if(Kf==0)goto L17;
+Jc=tc;
+L18:port_rattle_dealloc(Jc);}}
+L17:Hb=2;
+Ib=1;
+goto L5;}}
+if(kc){
+wp(Fa,La);
+wp(Fa+8,e);
+w8(Fa+16,1);
+memset(Aa,0,1792);
+memset(Ba,0,1792);
+memset(Ca,0,1792);
+memset(Da,0,1792);
+memset(Ea,0,1792);
+*va=2;
+memset(va+1,0,7);
+wp(va+8,(u8*)65536);
+memset(va+16,0,64);
+wp(wa,(u8*)65536);
+memset(wa+8,0,16);
+lists_5fc(za);
+Of=*za;
+memset(ua,0,7);
+if(Of==0){
+memcpy(ua+7,za+8,1792);
+memcpy(ya,ua,1799);
+memcpy(xa,ya+7,1792);
+Pf=port_rattle_alloc(16384,1);
+if((u8)(Pf.f0&1)){
+Qf=(u8*)Pf.f1;
+memset(Qf,0,16384);
+Rf=read_ea1(c,Qf,16384);
+if(Rf.f0!=1){
+Vf=1;
+Wf=(u8*)65536;
+goto L58;}
+Sf=Rf;
+Tf=0;
+Uf=1;
+L59:Xf=Sf.f1;
+if(Xf==0){
+Yf=end_segment_9fc(La,xa,va,wa,d,Fa);
+if(Yf.f0==0){
+Zf=write_out_752(d,wa);
+ag=Zf.f0;
+if(ag==0){
+port_rattle_dealloc(Qf);
+memcpy(Ea,xa,1792);
+drop_fa3(Ea);
+if(r8(wa+16)!=0)port_rattle_dealloc(rp(wa));
+if(r8(va+24)!=0)port_rattle_dealloc(rp(va+8));
+bg=r8(va+56);
+cg=r8(va+72);
+dg=0;
+eg=0;
+goto L60;}
+fg=(ag&1)?Zf.f1:0;}
+else fg=Yf.f1;
+port_rattle_dealloc(Qf);
+memcpy(Da,xa,1792);
+drop_fa3(Da);
+if(r8(wa+16)!=0)port_rattle_dealloc(rp(wa));
+if(r8(va+24)==0){
+bg=0;
+cg=0;
+dg=1;
+eg=fg;
+goto L60;}
+port_rattle_dealloc(rp(va+8));
+bg=0;
+cg=0;
+dg=1;
+eg=fg;
+goto L60;}
+gg=Uf;
+hg=Uf;
+ig=Tf;
+jg=0;
+L61:kg=Qf+(i64)jg;
+memset(ta,0,16);
+first_segment_4a3(ta,*va,kg,Xf-jg,ig);
+lg=r8(ta);
+if(lg==0){
+mg=gg;
+ng=hg;
+goto L62;}
+og=hg;
+pg=0;
+L63:qg=kg+(i64)pg;
+rg=lg-pg;
+memset(sa,0,48);
+sg=r8(va+16);
+tg=sg==0;
+ug=r16(va+32);
+if(tg&&ug==0){
+if(va[50]&1){
+pass_6c7(sa,va,qg,rg);
+vg=r16(sa);
+wg=r8(sa+16);
+xg=sa[24]&1;
+yg=r8(sa+32);
+goto L64;}
+zg=*va;
+Ag=va[48];
+Bg=va[49];
+if(rg==0)Cg=0;
+else{
+Dg=zg+49;
+Eg=zg==2;
+Fg=0;
+L65:Gg=qg+Fg;
+if(*Gg==95){
+if(Fg==0){
+switch(Ag){
+case 0:Hg=zg;
+goto L66;
+case 1:if(Eg){
+switch(Bg){
+case 46:case 36:Ig=1;
+Jg=49;
+goto L67;
+default:break;}}
+break;
+case 2:if(Eg){
+switch(Bg){
+case 46:case 36:Ig=1;
+Jg=49;
+goto L67;
+default:break;}}
+break;
+default:NEVER;
+}}
+else{
+Kg=*((u8*)t_e4d8+Gg[-1]);
+if(Dg>Kg){
+if(Kg<=(zg==0?48:49)){
+Mg=0;
+Ng=0;
+Og=Fg;
+goto L68;}
+Lg=place_in_stretch_597(zg,qg,Fg,Ag);
+Mg=Lg.f1;
+Ng=Lg.f0;
+Og=Fg;
+goto L68;}}}
+Pg=Fg+1;
+Qg=qg+(i64)Pg;
+Rg=rg-Pg;
+if(Rg<16)Sg=0;
+else{
+Tg=cttz(v16_eq(v16_at(Qg),splat(95)),16);
+if((Rg<32)|(Tg<16))Sg=Tg;
+else{
+Ug=cttz(v16_eq(v16_at(Qg+16),splat(95)),16);
+if(Ug<16)Sg=Ug|16;
+else{
+if(Rg<=95){
+Sg=32;
+goto L69;}
+Vg=32;
+L70:Wg=Qg+(i64)Vg;
+if((((v16_eq(v16_at(Wg),splat(95))|v16_eq(v16_at(Wg+16),splat(95)))|v16_eq(v16_at(Wg+32),splat(95)))|v16_eq(v16_at(Wg+48),splat(95)))==0){
+Xg=Vg+64;
+if(Rg-Xg>63){
+Vg=Xg;
+goto L70;}
+Sg=Xg;}
+else Sg=Vg;}}}
+L69:Yg=Sg+Pg;
+if(Yg<rg){
+Fg=Yg;
+goto L65;}
+Cg=Yg;}
+if(*((u8*)t_e4d8+*(qg+(i64)Cg-1))>(zg==0?48:49)){
+Zg=place_in_stretch_597(zg,qg,Cg,Ag);
+ah=Zg.f0;
+bh=Zg.f1;}
+else{
+ah=0;
+bh=0;}
+if(Cg==0){
+Hg=zg;
+goto L66;}
+Mg=bh;
+Ng=ah;
+Og=Cg;
+L68:w2(va+48,(u16)((u32)Mg<<8)|Ng);
+ch=0;
+dh=Og;
+eh=1;
+goto L71;}
+Hg=*va;
+L66:Ig=Hg==2;
+Jg=Hg==1?50:49;
+L67:if(Jg>*((u8*)t_e4d8+*qg))goto L72;
+fh=0;
+L73:if(rg-fh>15){
+gh=v16_at(qg+fh);
+hh=cttz(v16_ne(gh,splat(36))&(v16_ne(gh,splat(46))&(v16_ne(gh,splat(95))&(v16_ult(v16_add(gh,splat(198)),splat(246))&v16_ult(v16_add(v16_or(gh,splat(32)),splat(133)),splat(230))))),16);
+ih=fh+hh;
+if(hh>=16){
+fh=ih;
+goto L73;}
+jh=ih;}
+else jh=fh;
+if(jh>=rg){
+lh=jh;
+goto L74;}
+kh=jh;
+L75:if(Jg>*((u8*)t_e4d8+*(qg+kh)))lh=kh;
+else{
+mh=kh+1;
+if(mh!=rg){
+kh=mh;
+goto L75;}
+lh=rg;}
+L74:if(lh==0)goto L72;
+nh=0;
+oh=lh;
+L76:if(oh==0){
+w16(va+32,ug+lh);
+ch=0;
+dh=lh;
+eh=0;
+goto L71;}
+ph=oh-1;
+if(*(qg+ph)==46){
+nh=nh+1;
+oh=ph;
+goto L76;}
+if(ug+oh>65536-sg){
+qh=rp(va+8);
+rh=r8(wa+16);
+sh=r8(wa+8);
+if(sg>rh-sh){
+th=grow_amortized_e1a(wa,sg);
+if(!th)goto L77;
+uh=r8(wa+16);
+vh=r8(wa+8);}
+else{
+uh=rh;
+vh=sh;}
+wh=vh+sg;
+xh=rp(wa)+(i64)vh;
+if((u64)xh-(u64)qh<sg){
+yh=sg&3;
+if(sg-1<3)zh=0;
+else{
+Ah=sg&0xfffffffffffffffcu;
+Bh=0;
+Ch=0;
+L78:*(xh+Bh)=*(qh+Bh);
+Dh=Bh|1;
+*(xh+Dh)=*(qh+Dh);
+Eh=Bh|2;
+*(xh+Eh)=*(qh+Eh);
+Fh=Bh|3;
+*(xh+Fh)=*(qh+Fh);
+Gh=Bh+4;
+Hh=Ch+4;
+if(Hh!=Ah){
+Bh=Gh;
+Ch=Hh;
+goto L78;}
+if(yh==0)goto L79;
+zh=Gh;}
+Ih=zh;
+Jh=0;
+L80:*(xh+Ih)=*(qh+Ih);
+Kh=Jh+1;
+if(Kh!=yh){
+Ih=Ih+1;
+Jh=Kh;
+goto L80;}}
+else memmove(xh,qh,sg);
+L79:w8(wa+8,wh);
+w8(wa+16,uh);
+w8(va+16,0);
+w16(va+32,0);
+va[50]=1;
+ch=ug;
+dh=lh;
+eh=1;
+goto L71;}
+Lh=ug;
+Mh=sg+Lh;
+if(Mh>sg){
+Nh=r8(va+24);
+if(Nh-sg<Lh){
+Oh=grow_amortized_e1a(va+8,Lh);
+if(!Oh)goto L77;
+Ph=r8(va+16);
+Qh=Ph+Lh;
+Rh=r8(va+24);
+Sh=Ph;}
+else{
+Qh=Mh;
+Rh=Nh;
+Sh=sg;}
+if(Sh<Qh)memset(rp(va+8)+(i64)Sh,46,Lh);
+w8(va+16,Qh);
+w8(va+24,Rh);
+Th=Qh;}
+else{
+if(sg>Mh){
+w8(va+16,Mh);
+Th=Mh;}
+else Th=sg;}
+Uh=r8(va+24);
+if(oh>Uh-Th){
+Vh=grow_amortized_e1a(va+8,oh);
+if(!Vh)goto L77;
+Wh=r8(va+24);
+Xh=r8(va+16);}
+else{
+Wh=Uh;
+Xh=Th;}
+Yh=Xh+oh;
+Zh=rp(va+8)+(i64)Xh;
+if((u64)Zh-(u64)qg<oh){
+ai=oh&3;
+if(nh-lh>0xfffffffffffffffcu)bi=0;
+else{
+ci=oh&0xfffffffffffffffcu;
+di=0;
+ei=0;
+L81:*(Zh+di)=*(qg+di);
+fi=di|1;
+*(Zh+fi)=*(qg+fi);
+gi=di|2;
+*(Zh+gi)=*(qg+gi);
+hi=di|3;
+*(Zh+hi)=*(qg+hi);
+ii=di+4;
+ji=ei+4;
+if(ji!=ci){
+di=ii;
+ei=ji;
+goto L81;}
+if(ai==0)goto L82;
+bi=ii;}
+ki=bi;
+li=0;
+L83:*(Zh+ki)=*(qg+ki);
+mi=li+1;
+if(mi!=ai){
+ki=ki+1;
+li=mi;
+goto L83;}}
+else memmove(Zh,qg,oh);
+L82:w8(va+16,Yh);
+w8(va+24,Wh);
+w16(va+32,lh-oh);
+ch=0;
+dh=lh;
+eh=0;
+goto L71;
+L72:memset(ra,0,48);
+if(!Ig){
+pi=rp(va+8);
+if(sg-65537>=0xffffffffffff0001u){
+qi=*pi==95;
+if(sg==2){
+if(!qi)goto L84;
+switch(pi[1]){
+case 90:ri=0;
+goto L85;
+case 82:break;
+default:goto L84;
+}}
+else{
+if(!qi)goto L84;
+switch(pi[1]){
+case 90:ri=0;
+goto L85;
+case 82:break;
+case 95:switch(pi[2]){
+case 90:ri=0x100000000u;
+goto L85;
+case 82:ri=0x100000001u;
+goto L85;
+default:goto L84;
+}
+break;
+default:goto L84;
+}}
+ri=1;
+L85:si=push_text_7d3(La,xa,pi,sg,ri,ri>>32,wa);
+if(si.f0!=0)goto L86;
+ti=si.f1&1;
+w8(va+56,uadd64(r8(va+56),1));
+ui=va+(u64)(ti?64:72);
+w8(ui,uadd64(r8(ui),1));
+vi=ti?0:sg;
+goto L87;}
+L84:wi=r8(wa+16);
+xi=r8(wa+8);
+if(sg>wi-xi){
+yi=grow_amortized_e1a(wa,sg);
+if(!yi)goto L86;
+zi=r8(wa+16);
+Ai=r8(wa+8);}
+else{
+zi=wi;
+Ai=xi;}
+Bi=Ai+sg;
+Ci=rp(wa);
+memset(wa+8,0,16);
+Di=Ci+(i64)Ai;
+if((u64)Di-(u64)pi<sg){
+Ei=sg&3;
+if(sg<4)Fi=0;
+else{
+Gi=sg&0xfffffffffffffffcu;
+Hi=0;
+Ii=0;
+L88:*(Di+Hi)=*(pi+Hi);
+Ji=Hi|1;
+*(Di+Ji)=*(pi+Ji);
+Ki=Hi|2;
+*(Di+Ki)=*(pi+Ki);
+Li=Hi|3;
+*(Di+Li)=*(pi+Li);
+Mi=Hi+4;
+Ni=Ii+4;
+if(Ni!=Gi){
+Hi=Mi;
+Ii=Ni;
+goto L88;}
+if(Ei==0)goto L89;
+Fi=Mi;}
+Oi=Fi;
+Pi=0;
+L90:*(Di+Oi)=*(pi+Oi);
+Qi=Pi+1;
+if(Qi!=Ei){
+Oi=Oi+1;
+Pi=Qi;
+goto L90;}
+L89:w8(wa+8,Bi);
+w8(wa+16,zi);
+vi=0;}
+else{
+memmove(Di,pi,sg);
+w8(wa+8,Bi);
+w8(wa+16,zi);
+if(tg){
+Ri=0;
+goto L91;}
+vi=0;}
+L87:w8(va+16,0);
+Ri=vi;
+L91:memset(va+32,0,18);
+ni=ug;
+oi=Ri;
+goto L92;}
+end_within_406(ra,va,La,xa,wa);
+if(*ra==0){
+ni=r16(ra+16);
+oi=r8(ra+32);
+goto L92;}
+L86:goto L77;
+L92:vg=ni;
+wg=1;
+xg=1;
+yg=oi;
+goto L64;
+L77:Si=2;
+goto L93;
+L71:Ti=eh;
+Ui=dh;
+Vi=ch;
+goto L94;
+L64:if(yg==0){
+Ti=xg;
+Ui=wg;
+Vi=vg;}
+else{
+Wi=rp(wa)+(i64)(r8(wa+8)-yg);
+memset(qa,0,32);
+placed_826(qa,og,Wi,yg);
+if(*qa!=0){
+Si=2;
+goto L93;}
+Xi=rp(qa+8);
+Yi=r8(qa+24);
+Zi=say_reason_a74(La,Xi,r8(qa+16),Wi,yg,e);
+aj=Zi.f0;
+if(Yi!=0)port_rattle_dealloc(Xi);
+if(aj!=0){
+Si=Zi.f1;
+goto L93;}
+Ti=xg;
+Ui=wg;
+Vi=vg;}
+L94:if(Ui==0)bj=og;
+else{
+cj=Ui&1;
+if(Ui==1){
+dj=og;
+ej=0;}
+else{
+fj=Ui&0xfffffffffffffffeu;
+gj=og;
+hj=0;
+ij=0;
+L95:jj=*(qg+(i64)hj)==10?uadd64(gj,1):gj;
+kj=*(qg+(i64)hj+1)==10?uadd64(jj,1):jj;
+lj=hj+2;
+mj=ij+2;
+if(mj!=fj){
+gj=kj;
+hj=lj;
+ij=mj;
+goto L95;}
+if(cj==0){
+bj=kj;
+goto L96;}
+dj=kj;
+ej=lj;}
+bj=*(qg+(i64)ej)==10?uadd64(dj,1):dj;}
+L96:if(Vi!=0){
+nj=r8(wa+8);
+oj=0;
+L97:if(r8(wa+16)==nj){
+pj=grow_amortized_e1a(wa,1);
+if(!pj){
+Si=2;
+goto L93;}
+qj=r8(wa+8);}
+else qj=nj;
+rj=rp(wa);
+*(rj+qj)=46;
+sj=qj+1;
+w8(wa+8,sj);
+if(sj<16384){
+tj=sj;
+goto L98;}
+uj=0;
+L99:vj=sj-uj;
+wj=rp(d);
+xj=port_write(1,rj+(i64)uj,vj);
+if((i64)xj<0){
+yj=port_rattle_errno();
+from_raw_os_error_cb0(oa,yj);
+zj=r8(oa);
+memcpy(pa,oa+8,80);
+x8(wj+8,1);
+x8(wj+16,zj);
+memcpy(wj+24,pa,80);}
+else{
+Aj=umin64(xj,vj);
+if(Aj!=0){
+Bj=Aj+uj;
+if(Bj<sj){
+uj=Bj;
+goto L99;}
+w8(wa+8,0);
+tj=0;
+goto L98;}}
+w8(d+8,r8(d+8)+1);
+Si=1;
+goto L93;
+L98:Cj=oj+1;
+if(Cj<Vi){
+nj=tj;
+oj=Cj;
+goto L97;}}
+if(Ti){
+Dj=r8(wa+16);
+Ej=r8(wa+8);
+if(Ui>Dj-Ej){
+Fj=grow_amortized_e1a(wa,Ui);
+if(!Fj){
+Si=2;
+goto L93;}
+Gj=r8(wa+16);
+Hj=r8(wa+8);}
+else{
+Gj=Dj;
+Hj=Ej;}
+Ij=Hj+Ui;
+Jj=rp(wa)+(i64)Hj;
+if((u64)Jj-(u64)qg<Ui){
+Kj=Ui&3;
+if(Ui<4)Lj=0;
+else{
+Mj=Ui&0xfffffffffffffffcu;
+Nj=0;
+Oj=0;
+L100:*(Jj+Nj)=*(qg+Nj);
+Pj=Nj|1;
+*(Jj+Pj)=*(qg+Pj);
+Qj=Nj|2;
+*(Jj+Qj)=*(qg+Qj);
+Rj=Nj|3;
+*(Jj+Rj)=*(qg+Rj);
+Sj=Nj+4;
+Tj=Oj+4;
+if(Tj!=Mj){
+Nj=Sj;
+Oj=Tj;
+goto L100;}
+if(Kj==0)goto L101;
+Lj=Sj;}
+Uj=Lj;
+Vj=0;
+L102:*(Jj+Uj)=*(qg+Uj);
+Wj=Vj+1;
+if(Wj!=Kj){
+Uj=Uj+1;
+Vj=Wj;
+goto L102;}}
+else memmove(Jj,qg,Ui);
+L101:w8(wa+8,Ij);
+w8(wa+16,Gj);
+if(Ij>=16384){
+Xj=write_out_752(d,wa);
+Yj=Xj.f0;
+if(Yj!=0){
+Si=(Yj&1)?Xj.f1:0;
+goto L93;}}}
+Zj=Ui+pg;
+if(Zj<lg){
+og=bj;
+pg=Zj;
+goto L63;}
+w8(Fa+16,bj);
+mg=bj;
+ng=bj;
+L62:ak=ta[9];
+if(ta[8]&1){
+bk=end_segment_9fc(La,xa,va,wa,d,Fa);
+if(bk.f0!=0){
+Si=bk.f1;
+goto L93;}}
+ck=lg+jg;
+if(ck<Xf){
+gg=mg;
+hg=ng;
+ig=ak;
+jg=ck;
+goto L61;}
+dk=rp(va+8);
+read_ahead_f02(dk,r8(va+16),xa);
+ek=write_out_752(d,wa);
+fk=ek.f0;
+if(fk!=0){
+hk=(fk&1)?ek.f1:0;
+goto L103;}
+gk=read_ea1(c,Qf,16384);
+if(gk.f0!=1){
+Vf=r8(wa+16)==0;
+Wf=dk;
+goto L58;}
+Sf=gk;
+Tf=ak;
+Uf=mg;
+goto L59;
+L93:hk=Si;
+L103:port_rattle_dealloc(Qf);
+memcpy(Ca,xa,1792);
+drop_fa3(Ca);
+if(r8(wa+16)!=0)port_rattle_dealloc(rp(wa));
+if(r8(va+24)==0){
+bg=0;
+cg=0;
+dg=1;
+eg=hk;
+goto L60;}
+port_rattle_dealloc(rp(va+8));
+bg=0;
+cg=0;
+dg=1;
+eg=hk;
+goto L60;
+L58:port_rattle_dealloc(Qf);
+memcpy(Ba,xa,1792);
+drop_fa3(Ba);
+if(!Vf)port_rattle_dealloc(rp(wa));
+if(r8(va+24)==0){
+bg=0;
+cg=0;
+dg=1;
+eg=0;}
+else{
+port_rattle_dealloc(Wf);
+bg=0;
+cg=0;
+dg=1;
+eg=0;}}
+else{
+memcpy(Aa,xa,1792);
+drop_fa3(Aa);
+bg=0;
+cg=0;
+dg=1;
+eg=2;}}
+else{
+bg=0;
+cg=0;
+dg=1;
+eg=2;}
+L60:ik=bg;
+jk=cg;
+kk=dg;
+lk=eg;}
+else{
+memset(ja,0,1792);
+memset(ka,0,1792);
+memset(la,0,1792);
+memset(ma,0,1792);
+memset(na,0,1792);
+*da=2;
+memset(da+1,0,7);
+wp(da+8,(u8*)65536);
+memset(da+16,0,64);
+*ea=0;
+wp(fa,(u8*)65536);
+memset(fa+8,0,16);
+lists_5fc(ia);
+mk=*ia;
+memset(ca,0,7);
+if(mk==0){
+memcpy(ca+7,ia+8,1792);
+memcpy(ha,ca,1799);
+memcpy(ga,ha+7,1792);
+nk=port_rattle_alloc(16384,1);
+if((u8)(nk.f0&1)){
+ok=(u8*)nk.f1;
+memset(ok,0,16384);
+L104:pk=read_ea1(c,ok,16384);
+qk=pk.f1;
+if(pk.f0==1){
+if(qk==0){
+rk=end_segment_b17(La,ga,da,fa,d);
+if(rk.f0==0){
+sk=write_out_752(d,fa);
+tk=sk.f0;
+if(tk==0){
+port_rattle_dealloc(ok);
+memcpy(na,ga,1792);
+drop_fa3(na);
+if(r8(fa+16)!=0)port_rattle_dealloc(rp(fa));
+if(r8(da+24)!=0)port_rattle_dealloc(rp(da+8));
+uk=r8(da+72);
+vk=r8(da+56);
+wk=0;
+xk=0;
+goto L105;}
+yk=(tk&1)?sk.f1:0;}
+else yk=rk.f1;
+port_rattle_dealloc(ok);
+memcpy(ma,ga,1792);
+drop_fa3(ma);
+if(r8(fa+16)!=0)port_rattle_dealloc(rp(fa));
+if(r8(da+24)==0){
+uk=0;
+vk=0;
+wk=1;
+xk=yk;}
+else{
+port_rattle_dealloc(rp(da+8));
+uk=0;
+vk=0;
+wk=1;
+xk=yk;}}
+else{
+zk=take_piece_8e7(La,ga,da,ea,ok,qk,fa,d);
+if(zk.f0==0)goto L104;
+Ak=zk.f1;
+port_rattle_dealloc(ok);
+memcpy(la,ga,1792);
+drop_fa3(la);
+if(r8(fa+16)!=0)port_rattle_dealloc(rp(fa));
+if(r8(da+24)==0){
+uk=0;
+vk=0;
+wk=1;
+xk=Ak;}
+else{
+port_rattle_dealloc(rp(da+8));
+uk=0;
+vk=0;
+wk=1;
+xk=Ak;}}}
+else{
+port_rattle_dealloc(ok);
+memcpy(ka,ga,1792);
+drop_fa3(ka);
+if(r8(fa+16)!=0)port_rattle_dealloc(rp(fa));
+if(r8(da+24)==0){
+uk=0;
+vk=0;
+wk=1;
+xk=0;}
+else{
+port_rattle_dealloc(rp(da+8));
+uk=0;
+vk=0;
+wk=1;
+xk=0;}}}
+else{
+memcpy(ja,ha+7,1792);
+drop_fa3(ja);
+uk=0;
+vk=0;
+wk=1;
+xk=2;}}
+else{
+uk=0;
+vk=0;
+wk=1;
+xk=2;}
+L105:ik=vk;
+jk=uk;
+kk=wk;
+lk=xk;}
+if(kk==0){
+if(kc){
+w8(aa,ik);
+w8(ba,jk);
+memset(Z+8,0,16);
+memset(Z+57,0,7);
+wp(Z,(u8*)65536);
+w8(Z+48,0);
+Z[56]=0;
+w4(Z+24,32);
+memset(Z+28,0,12);
+w8(Z+40,18446744073709551615u);
+Bk=grow_amortized_e1a(Z,10);
+if(Bk){
+Ck=r8(Z+8);
+Dk=Ck+10;
+Ek=rp(Z)+(i64)Ck;
+if((u64)Ek-(u64)(u8*)t_e65e<10){
+*Ek=100;
+Ek[1]=101;
+Ek[2]=109;
+Ek[3]=97;
+Ek[4]=110;
+Ek[5]=103;
+Ek[6]=108;
+Ek[7]=101;
+Ek[8]=58;
+Ek[9]=32;}
+else memcpy(Ek,(u8*)t_e65e,10);
+w8(Z+8,Dk);
+Fk=write_piece_7c8(Z,ba);
+if(Fk==0){
+w4(Z+24,32);
+memset(Z+28,0,12);
+w8(Z+40,18446744073709551615u);
+if(r8(Z+48)==0){
+Gk=r8(Z+16);
+Hk=r8(Z+8);
+if(Gk-Hk<4){
+Ik=grow_amortized_e1a(Z,4);
+if(!Ik)goto L106;
+Jk=r8(Z+16);
+Kk=r8(Z+8);}
+else{
+Jk=Gk;
+Kk=Hk;}
+Lk=Kk+4;
+Mk=rp(Z)+(i64)Kk;
+if((u64)Mk-(u64)(u8*)t_a428<4){
+*Mk=32;
+Mk[1]=111;
+Mk[2]=102;
+Mk[3]=32;}
+else x4(Mk,543584032);
+w8(Z+8,Lk);
+w8(Z+16,Jk);}
+else{
+Nk=write_indented_070(Z,(u8*)t_a428,4);
+if(Nk!=0)goto L106;}
+Ok=write_piece_7c8(Z,aa);
+if(Ok==0){
+w4(Z+24,32);
+memset(Z+28,0,12);
+w8(Z+40,18446744073709551615u);
+if(r8(Z+48)==0){
+Pk=r8(Z+16);
+Qk=r8(Z+8);
+if(Pk-Qk<14){
+Rk=grow_amortized_e1a(Z,14);
+if(!Rk)goto L106;
+Sk=r8(Z+16);
+Tk=r8(Z+8);}
+else{
+Sk=Pk;
+Tk=Qk;}
+Uk=Tk+14;
+Vk=rp(Z);
+Wk=Vk+(i64)Tk;
+if((u64)Wk-(u64)(u8*)t_6b1b<14){
+*Wk=32;
+Wk[1]=115;
+Wk[2]=121;
+Wk[3]=109;
+Wk[4]=98;
+Wk[5]=111;
+Wk[6]=108;
+Wk[7]=115;
+Wk[8]=32;
+Wk[9]=115;
+Wk[10]=116;
+Wk[11]=97;
+Wk[12]=121;
+Wk[13]=10;
+Xk=Vk;
+Yk=Sk;
+Zk=Uk;}
+else{
+memcpy(Wk,(u8*)t_6b1b,14);
+Xk=Vk;
+Yk=Sk;
+Zk=Uk;}}
+else{
+al=write_indented_070(Z,(u8*)t_6b1b,14);
+if(al!=0)goto L106;
+Xk=rp(Z);
+Yk=r8(Z+16);
+Zk=r8(Z+8);}
+if(Zk==0)goto L107;
+bl=0;
+L108:cl=Zk-bl;
+dl=rp(e);
+el=port_write(2,Xk+(i64)bl,cl);
+if((i64)el<0){
+fl=port_rattle_errno();
+from_raw_os_error_cb0(X,fl);
+gl=r8(X);
+memcpy(Y,X+8,80);
+x8(dl+8,1);
+x8(dl+16,gl);
+memcpy(dl+24,Y,80);}
+else{
+hl=umin64(el,cl);
+if(hl!=0){
+il=hl+bl;
+if(il>=Zk)goto L107;
+bl=il;
+goto L108;}}
+w8(e+8,r8(e+8)+1);
+if(Yk==0){
+jl=1;
+goto L109;}
+port_rattle_dealloc(Xk);
+jl=1;
+goto L109;
+L107:if(Yk==0)goto L110;
+port_rattle_dealloc(Xk);
+goto L110;}}}
+L106:if(r8(Z+16)!=0)port_rattle_dealloc(rp(Z));
+jl=2;
+L109:Hb=jl;
+Ib=1;
+goto L5;}
+L110:Hb=lc&(jk!=0);
+Ib=0;}
+else{
+Hb=lk;
+Ib=1;}
+L5:wp(Pa,Ra);
+w8(Pa+8,Sa);
+w8(Pa+16,Ta);
+drop_3d5(Pa);
+if(Ua==1){
+kl=(u8*)Qa;
+ll=kl[40];
+ml=q8(kl+48);
+memcpy(q,kl,16);
+memcpy(q+16,kl+16,24);
+port_rattle_dealloc(kl);
+memcpy(p,q,16);
+memcpy(p+16,q+16,24);
+w8(p+40,ll);
+w8(p+48,ml);
+drop_bac(p);
+nl=Ib;
+ol=Hb;}
+else{
+nl=Ib;
+ol=Hb;}}
+else{
+pl=Oa[8];
+ql=Oa[16];
+rl=rp(Oa+24);
+sl=r8(Oa+32);
+switch(pl){
+case 16:tl=2;
+ul=1;
+break;
+case 11:case 13:memset(o+8,0,16);
+memset(o+57,0,7);
+wp(o,(u8*)65536);
+w8(o+48,0);
+o[56]=0;
+w4(o+24,32);
+memset(o+28,0,12);
+w8(o+40,18446744073709551615u);
+if(ql==1){
+if(sl==0){
+vl=(u8*)65536;
+wl=0;
+xl=0;}
+else{
+yl=grow_amortized_e1a(o,sl);
+if(!yl)goto L111;
+vl=rp(o);
+wl=r8(o+16);
+xl=r8(o+8);}
+zl=xl+sl;
+Al=vl+(i64)xl;
+if((u64)Al-(u64)rl>=sl){
+memmove(Al,rl,sl);
+Ll=wl;
+Ml=vl;
+Nl=zl;
+goto L112;}
+Bl=sl&3;
+if(sl<4)Cl=0;
+else{
+Dl=sl&0xfffffffffffffffcu;
+El=0;
+Fl=0;
+L113:*(Al+El)=*(rl+El);
+Gl=El|1;
+*(Al+Gl)=*(rl+Gl);
+Hl=El|2;
+*(Al+Hl)=*(rl+Hl);
+Il=El|3;
+*(Al+Il)=*(rl+Il);
+Jl=El+4;
+Kl=Fl+4;
+if(Kl!=Dl){
+El=Jl;
+Fl=Kl;
+goto L113;}
+if(Bl==0){
+Ll=wl;
+Ml=vl;
+Nl=zl;
+goto L112;}
+Cl=Jl;}
+Ol=Cl;
+Pl=0;
+L114:*(Al+Ol)=*(rl+Ol);
+Ql=Pl+1;
+if(Ql!=Bl){
+Ol=Ol+1;
+Pl=Ql;
+goto L114;}
+Ll=wl;
+Ml=vl;
+Nl=zl;
+goto L112;}
+Rl=grow_amortized_e1a(o,21);
+if(Rl){
+Sl=r8(o+16);
+Tl=rp(o);
+Ul=r8(o+8);
+Vl=Ul+21;
+memset(o+8,0,16);
+Wl=Tl+(i64)Ul;
+if((u64)Wl-(u64)(u8*)t_59b6>=21){
+memcpy(Wl,(u8*)t_59b6,21);
+Ll=Sl;
+Ml=Tl;
+Nl=Vl;
+goto L112;}
+*Wl=101;
+Wl[1]=114;
+Wl[2]=114;
+Wl[3]=111;
+Wl[4]=114;
+Wl[5]=58;
+Wl[6]=32;
+Wl[7]=111;
+Wl[8]=117;
+Wl[9]=116;
+Wl[10]=32;
+Wl[11]=111;
+Wl[12]=102;
+Wl[13]=32;
+Wl[14]=109;
+Wl[15]=101;
+Wl[16]=109;
+Wl[17]=111;
+Wl[18]=114;
+Wl[19]=121;
+Wl[20]=10;
+Ll=Sl;
+Ml=Tl;
+Nl=Vl;
+goto L112;}
+L111:if(r8(o+16)!=0)port_rattle_dealloc(rp(o));
+tl=2;
+ul=1;
+break;
+L112:if(Nl==0){
+Xl=0;
+goto L115;}
+Yl=0;
+L116:Zl=Nl-Yl;
+am=rp(d);
+bm=port_write(1,Ml+(i64)Yl,Zl);
+if((i64)bm<0){
+cm=port_rattle_errno();
+from_raw_os_error_cb0(m,cm);
+dm=r8(m);
+memcpy(n,m+8,80);
+x8(am+8,1);
+x8(am+16,dm);
+memcpy(am+24,n,80);}
+else{
+em=umin64(bm,Zl);
+if(em!=0){
+fm=em+Yl;
+if(fm<Nl){
+Yl=fm;
+goto L116;}
+Xl=0;
+goto L115;}}
+w8(d+8,r8(d+8)+1);
+Xl=1;
+L115:if(Ll==0){
+tl=Xl;
+ul=Xl;}
+else{
+port_rattle_dealloc(Ml);
+tl=Xl;
+ul=Xl;}
+break;
+case 0:case 1:case 2:case 3:case 4:case 5:case 6:case 7:case 8:case 9:case 10:case 12:case 14:case 15:memset(l,0,32);
+memset(i,0,32);
+memset(j,0,32);
+memset(k,0,32);
+switch(pl){
+case 4:gm=port_rattle_alloc(43,1);
+if(!(u8)(gm.f0&1))goto L117;
+hm=gm.f1;
+im=(u8*)hm;
+if(hm-(u64)(u8*)t_5e9c>=43){
+memcpy(im,(u8*)t_5e9c,43);
+jm=43;
+km=im;
+goto L118;}
+*im=45;
+im[1]=45;
+im[2]=108;
+im[3]=105;
+im[4]=109;
+im[5]=105;
+im[6]=116;
+im[7]=32;
+im[8]=116;
+im[9]=97;
+im[10]=107;
+im[11]=101;
+im[12]=115;
+im[13]=32;
+im[14]=97;
+im[15]=32;
+im[16]=110;
+im[17]=117;
+im[18]=109;
+im[19]=98;
+im[20]=101;
+im[21]=114;
+im[22]=32;
+im[23]=102;
+im[24]=114;
+im[25]=111;
+im[26]=109;
+im[27]=32;
+im[28]=48;
+im[29]=32;
+im[30]=116;
+im[31]=111;
+im[32]=32;
+im[33]=52;
+im[34]=50;
+im[35]=57;
+im[36]=52;
+im[37]=57;
+im[38]=54;
+im[39]=55;
+im[40]=50;
+im[41]=57;
+im[42]=53;
+jm=43;
+km=im;
+goto L118;
+case 0:lm=port_rattle_alloc(33,1);
+if(!(u8)(lm.f0&1))goto L117;
+mm=lm.f1;
+nm=(u8*)mm;
+if(mm-(u64)(u8*)t_d0f8>=33){
+memcpy(nm,(u8*)t_d0f8,33);
+jm=33;
+km=nm;
+goto L118;}
+*nm=45;
+nm[1]=45;
+nm[2]=108;
+nm[3]=105;
+nm[4]=109;
+nm[5]=105;
+nm[6]=116;
+nm[7]=32;
+nm[8]=97;
+nm[9]=110;
+nm[10]=100;
+nm[11]=32;
+nm[12]=45;
+nm[13]=45;
+nm[14]=102;
+nm[15]=111;
+nm[16]=114;
+nm[17]=109;
+nm[18]=97;
+nm[19]=116;
+nm[20]=32;
+nm[21]=116;
+nm[22]=97;
+nm[23]=107;
+nm[24]=101;
+nm[25]=32;
+nm[26]=97;
+nm[27]=32;
+nm[28]=118;
+nm[29]=97;
+nm[30]=108;
+nm[31]=117;
+nm[32]=101;
+jm=33;
+km=nm;
+goto L118;
+case 5:first_refused_ea1(j,5,a,b);
+quoted_1ce(i,(u8*)t_f9e6,19,rp(j+16),r8(j+24));
+om=*i;
+break;
+case 1:case 2:case 3:case 6:case 7:case 8:case 9:case 10:case 11:case 12:case 13:case 14:case 15:first_refused_ea1(k,pl,a,b);
+pm=rp(k+16);
+qm=r8(k+24);
+rm=rp(k);
+sm=r8(k+8);
+memset(h,0,32);
+tm=equal_d84(rm,sm,(u8*)t_1616,7);
+if(tm){
+um=port_rattle_alloc(43,1);
+if((u8)(um.f0&1)){
+vm=um.f1;
+wm=(u8*)vm;
+if(vm-(u64)(u8*)t_5e9c<43){
+*wm=45;
+wm[1]=45;
+wm[2]=108;
+wm[3]=105;
+wm[4]=109;
+wm[5]=105;
+wm[6]=116;
+wm[7]=32;
+wm[8]=116;
+wm[9]=97;
+wm[10]=107;
+wm[11]=101;
+wm[12]=115;
+wm[13]=32;
+wm[14]=97;
+wm[15]=32;
+wm[16]=110;
+wm[17]=117;
+wm[18]=109;
+wm[19]=98;
+wm[20]=101;
+wm[21]=114;
+wm[22]=32;
+wm[23]=102;
+wm[24]=114;
+wm[25]=111;
+wm[26]=109;
+wm[27]=32;
+wm[28]=48;
+wm[29]=32;
+wm[30]=116;
+wm[31]=111;
+wm[32]=32;
+wm[33]=52;
+wm[34]=50;
+wm[35]=57;
+wm[36]=52;
+wm[37]=57;
+wm[38]=54;
+wm[39]=55;
+wm[40]=50;
+wm[41]=57;
+wm[42]=53;}
+else memcpy(wm,(u8*)t_5e9c,43);
+wp(h+8,wm);
+w8(h+16,43);
+w8(h+24,43);
+xm=0;}
+else{
+memset(h+8,0,24);
+xm=1;}}
+else{
+quoted_1ce(h,(u8*)t_1c67,14,pm,qm);
+xm=*h;}
+memcpy(i+8,h+8,24);
+om=xm;
+break;
+default:NEVER;
+}
+ym=rp(i+8);
+zm=r8(i+16);
+Am=r8(i+24);
+if(om!=0)goto L119;
+line_of_0b7(l,ym,zm);
+if(Am==0)goto L120;
+Bm=ym;
+goto L121;
+L117:L119:tl=2;
+ul=1;
+break;
+L118:line_of_0b7(l,km,jm);
+Bm=km;
+L121:port_rattle_dealloc(Bm);
+L120:Cm=rp(l+8);
+Dm=r8(l+16);
+Em=r8(l+24);
+if(*l==0){
+if(Dm==0){
+Fm=0;
+Gm=2;
+goto L122;}
+Hm=0;
+L123:Im=Dm-Hm;
+Jm=rp(e);
+Km=port_write(2,Cm+(i64)Hm,Im);
+if((i64)Km<0){
+Lm=port_rattle_errno();
+from_raw_os_error_cb0(f,Lm);
+Mm=r8(f);
+memcpy(g,f+8,80);
+x8(Jm+8,1);
+x8(Jm+16,Mm);
+memcpy(Jm+24,g,80);}
+else{
+Nm=umin64(Km,Im);
+if(Nm!=0){
+Om=Nm+Hm;
+if(Om<Dm){
+Hm=Om;
+goto L123;}
+Fm=0;
+Gm=2;
+goto L122;}}
+w8(e+8,r8(e+8)+1);
+Fm=1;
+Gm=1;
+L122:if(Em==0){
+tl=Gm;
+ul=Fm;}
+else{
+port_rattle_dealloc(Cm);
+tl=Gm;
+ul=Fm;}}
+else{
+tl=2;
+ul=1;}
+break;
+default:NEVER;
+}
+if(ql!=1||Qa==0){
+nl=ul;
+ol=tl;}
+else{
+port_rattle_dealloc(rl);
+nl=ul;
+ol=tl;}}
+Pm=(s_8_8){0};Pm.f0=nl;
+Qm=Pm;Qm.f1=ol;
+return Qm;
 }
 
 /* demangle_command::options::found_in */
@@ -12588,8 +12542,8 @@ memset(ua+506,0,102);
 wp(ua,(u8*)t_2be2);
 w8(ua+8,3);
 w8(ua+16,1);
-wp(ua+24,(u8*)t_b981);
-w8(ua+32,40);
+wp(ua+24,(u8*)t_5532);
+w8(ua+32,59);
 w8(ua+72,1);
 wp(ua+80,(u8*)t_2be2);
 w8(ua+88,3);
@@ -39605,7 +39559,7 @@ Z=0;
 aa=P;
 goto L1;}}
 else{
-if(!(((*Gd!=*d||Gd[1]!=d[1])||Gd[2]!=d[2])||Gd[3]!=d[3])){
+if(q4(Gd)==q4(d)){
 Id=groups_equal_3f1(Gd,e,d);
 if(Id){
 X=0;
@@ -39671,7 +39625,7 @@ Sd=0;
 L35:Td=Jd+(i64)(Sd<<4);
 Ud=rp(Td);
 if(r8(Td+8)==e){
-if(!(((*Ud!=*d||Ud[1]!=d[1])||Ud[2]!=d[2])||Ud[3]!=d[3])){
+if(q4(Ud)==q4(d)){
 Vd=groups_equal_3f1(Ud,e,d);
 if(Vd){
 X=0;
@@ -40927,7 +40881,7 @@ else m=1;}}
 else m=0;
 g=m>=b;}}
 else{
-if(((*a!=*c||a[1]!=c[1])||a[2]!=c[2])||a[3]!=c[3])g=0;
+if(q4(a)!=q4(c))g=0;
 else{
 n=groups_equal_3f1(a,b,c);
 g=n;}}}
@@ -40938,185 +40892,66 @@ L1:return g;
 /* core::cmp::slices::groups_equal::<i8,31'core::cmp::numbers::U8PartialEq{}> */
 static u8 groups_equal_3f1(u8* a,u64 b,u8* c)
 {
-u64 d,e,f,g,i,j,k,l,m,n,o,p,q,r,s,t,u,v,w,x,y,z,A,B,C,D,E,F,H,I,J,K,L,M,N,O,P,Q,R,S,T,U,V,X,Y,Z,aa,ba,ca,da,ea,fa,ga,ha,ia,ja,ka,ma,na,oa,qa,sa,ta,ua,va,wa,ya,za,Aa,Ba,Ca,Da,Ea,Fa,Ga,Ha,Ia,Ja,Ka,La,Ma,Na,Oa,Pa,Qa,Sa,Ta,Ua,Va,Wa,Xa,Ya,Za,ab,bb,cb,db,eb,fb,hb,ib,jb,kb,lb,mb,nb,ob,pb,qb,rb,sb,tb,ub,vb,wb,xb,yb,zb,Bb,Cb,Db,Eb,Fb,Gb,Hb,Ib,Jb,Kb,Lb,Mb,Nb,Ob,Qb,Rb,Sb,Tb;
-u8 h,G,W,la,pa,ra,xa,Ra,gb,Ab,Pb;
+u64 d,f,g,h,i,j,k,l,m,o,p,r,s,t,u,v,w,x,y,z,A,B,C,D,E;
+u8 e,n,q;
 if(b<9){
 d=b-4;
-e=b-3;
-f=b-2;
-g=b-1;
-h=(((*a!=*c||a[1]!=c[1])||a[2]!=c[2])||a[3]!=c[3])||(((*(a+(i64)d)!=*(c+(i64)d)||*(a+(i64)e)!=*(c+(i64)e))||*(a+(i64)f)!=*(c+(i64)f))||*(a+(i64)g)!=*(c+(i64)g));}
+e=q4(a+(i64)d)!=q4(c+(i64)d)||q4(a)!=q4(c);}
 else{
 if(b<33){
-i=b-8;
-j=umin64(i,8);
-k=j+1;
-l=j+2;
-m=j+3;
-n=j+4;
-o=j+5;
-p=j+6;
-q=j+7;
-r=umin64(i,16);
-s=r+1;
-t=r+2;
-u=r+3;
-v=r+4;
-w=r+5;
-x=r+6;
-y=r+7;
-z=b-7;
-A=b-6;
-B=b-5;
-C=b-4;
-D=b-3;
-E=b-2;
-F=b-1;
-G=((((((((*a!=*c||a[1]!=c[1])||a[2]!=c[2])||a[3]!=c[3])||a[4]!=c[4])||a[5]!=c[5])||a[6]!=c[6])||a[7]!=c[7])||(((((((*(a+(i64)j)!=*(c+(i64)j)||*(a+(i64)k)!=*(c+(i64)k))||*(a+(i64)l)!=*(c+(i64)l))||*(a+(i64)m)!=*(c+(i64)m))||*(a+(i64)n)!=*(c+(i64)n))||*(a+(i64)o)!=*(c+(i64)o))||*(a+(i64)p)!=*(c+(i64)p))||*(a+(i64)q)!=*(c+(i64)q)))||(((((((*(a+(i64)r)!=*(c+(i64)r)||*(a+(i64)s)!=*(c+(i64)s))||*(a+(i64)t)!=*(c+(i64)t))||*(a+(i64)u)!=*(c+(i64)u))||*(a+(i64)v)!=*(c+(i64)v))||*(a+(i64)w)!=*(c+(i64)w))||*(a+(i64)x)!=*(c+(i64)x))||*(a+(i64)y)!=*(c+(i64)y));
-h=G||(((((((*(a+(i64)i)!=*(c+(i64)i)||*(a+(i64)z)!=*(c+(i64)z))||*(a+(i64)A)!=*(c+(i64)A))||*(a+(i64)B)!=*(c+(i64)B))||*(a+(i64)C)!=*(c+(i64)C))||*(a+(i64)D)!=*(c+(i64)D))||*(a+(i64)E)!=*(c+(i64)E))||*(a+(i64)F)!=*(c+(i64)F));}
+f=b-8;
+g=umin64(f,8);
+h=umin64(f,16);
+e=((q8(a+(i64)f)!=q8(c+(i64)f)||q8(a+(i64)h)!=q8(c+(i64)h))||q8(a+(i64)g)!=q8(c+(i64)g))||q8(a)!=q8(c);}
 else{
 if(b<65){
-H=b-32;
-I=b-31;
-J=b-30;
-K=b-29;
-L=b-28;
-M=b-27;
-N=b-26;
-O=b-25;
-P=b-24;
-Q=b-23;
-R=b-22;
-S=b-21;
-T=b-20;
-U=b-19;
-V=b-18;
-W=(((((((((((((*(a+(i64)H)!=*(c+(i64)H)||*(a+(i64)I)!=*(c+(i64)I))||*(a+(i64)J)!=*(c+(i64)J))||*(a+(i64)K)!=*(c+(i64)K))||*(a+(i64)L)!=*(c+(i64)L))||*(a+(i64)M)!=*(c+(i64)M))||*(a+(i64)N)!=*(c+(i64)N))||*(a+(i64)O)!=*(c+(i64)O))||*(a+(i64)P)!=*(c+(i64)P))||*(a+(i64)Q)!=*(c+(i64)Q))||*(a+(i64)R)!=*(c+(i64)R))||*(a+(i64)S)!=*(c+(i64)S))||*(a+(i64)T)!=*(c+(i64)T))||*(a+(i64)U)!=*(c+(i64)U))||*(a+(i64)V)!=*(c+(i64)V);
-X=b-17;
-Y=b-16;
-Z=b-15;
-aa=b-14;
-ba=b-13;
-ca=b-12;
-da=b-11;
-ea=b-10;
-fa=b-9;
-ga=b-8;
-ha=b-7;
-ia=b-6;
-ja=b-5;
-ka=b-4;
-la=(((((((((((((W||*(a+(i64)X)!=*(c+(i64)X))||*(a+(i64)Y)!=*(c+(i64)Y))||*(a+(i64)Z)!=*(c+(i64)Z))||*(a+(i64)aa)!=*(c+(i64)aa))||*(a+(i64)ba)!=*(c+(i64)ba))||*(a+(i64)ca)!=*(c+(i64)ca))||*(a+(i64)da)!=*(c+(i64)da))||*(a+(i64)ea)!=*(c+(i64)ea))||*(a+(i64)fa)!=*(c+(i64)fa))||*(a+(i64)ga)!=*(c+(i64)ga))||*(a+(i64)ha)!=*(c+(i64)ha))||*(a+(i64)ia)!=*(c+(i64)ia))||*(a+(i64)ja)!=*(c+(i64)ja))||*(a+(i64)ka)!=*(c+(i64)ka);
-ma=b-3;
-na=b-2;
-oa=b-1;
-pa=(((((((((((((((((((((((((*a!=*c||a[1]!=c[1])||a[2]!=c[2])||a[3]!=c[3])||a[4]!=c[4])||a[5]!=c[5])||a[6]!=c[6])||a[7]!=c[7])||a[8]!=c[8])||a[9]!=c[9])||a[10]!=c[10])||a[11]!=c[11])||a[12]!=c[12])||a[13]!=c[13])||a[14]!=c[14])||a[15]!=c[15])||a[16]!=c[16])||a[17]!=c[17])||a[18]!=c[18])||a[19]!=c[19])||a[20]!=c[20])||a[21]!=c[21])||a[22]!=c[22])||a[23]!=c[23])||a[24]!=c[24])||a[25]!=c[25])||a[26]!=c[26];
-h=(((((pa||a[27]!=c[27])||a[28]!=c[28])||a[29]!=c[29])||a[30]!=c[30])||a[31]!=c[31])||(((la||*(a+(i64)ma)!=*(c+(i64)ma))||*(a+(i64)na)!=*(c+(i64)na))||*(a+(i64)oa)!=*(c+(i64)oa));
+i=b-32;
+j=b-24;
+k=b-16;
+l=b-8;
+e=((((((q8(a+(i64)i)!=q8(c+(i64)i)||q8(a+(i64)j)!=q8(c+(i64)j))||q8(a+(i64)k)!=q8(c+(i64)k))||q8(a+(i64)l)!=q8(c+(i64)l))||q8(a)!=q8(c))||q8(a+8)!=q8(c+8))||q8(a+16)!=q8(c+16))||q8(a+24)!=q8(c+24);
 goto L1;}
-qa=0;
-L2:ra=0;
-sa=0;
-L3:ta=sa+qa;
-ua=(sa|1)+qa;
-va=(sa|2)+qa;
-wa=(sa|3)+qa;
-xa=(((ra||*(a+(i64)ta)!=*(c+(i64)ta))||*(a+(i64)ua)!=*(c+(i64)ua))||*(a+(i64)va)!=*(c+(i64)va))||*(a+(i64)wa)!=*(c+(i64)wa);
-ya=sa+4;
-if(ya!=64){
-ra=xa;
-sa=ya;
+m=0;
+L2:n=0;
+o=0;
+L3:p=o+m;
+q=q4(a+(i64)p)!=q4(c+(i64)p)||n;
+r=o+4;
+if(r!=64){
+n=q;
+o=r;
 goto L3;}
-if(xa){
-za=b-qa;
-Aa=qa;}
+if(q){
+s=b-m;
+t=m;}
 else{
-Ba=qa+64;
-Ca=b-Ba;
-if(Ca>63){
-qa=Ba;
+u=m+64;
+v=b-u;
+if(v>63){
+m=u;
 goto L2;}
-za=Ca;
-Aa=Ba;}
-if(za<=31)goto L4;
-Da=Aa;
-L5:Ea=Da+1;
-Fa=Da+2;
-Ga=Da+3;
-Ha=Da+4;
-Ia=Da+5;
-Ja=Da+6;
-Ka=Da+7;
-La=Da+8;
-Ma=Da+9;
-Na=Da+10;
-Oa=Da+11;
-Pa=Da+12;
-Qa=Da+13;
-Ra=((((((((((((*(a+(i64)Da)!=*(c+(i64)Da)||*(a+(i64)Ea)!=*(c+(i64)Ea))||*(a+(i64)Fa)!=*(c+(i64)Fa))||*(a+(i64)Ga)!=*(c+(i64)Ga))||*(a+(i64)Ha)!=*(c+(i64)Ha))||*(a+(i64)Ia)!=*(c+(i64)Ia))||*(a+(i64)Ja)!=*(c+(i64)Ja))||*(a+(i64)Ka)!=*(c+(i64)Ka))||*(a+(i64)La)!=*(c+(i64)La))||*(a+(i64)Ma)!=*(c+(i64)Ma))||*(a+(i64)Na)!=*(c+(i64)Na))||*(a+(i64)Oa)!=*(c+(i64)Oa))||*(a+(i64)Pa)!=*(c+(i64)Pa))||*(a+(i64)Qa)!=*(c+(i64)Qa);
-Sa=Da+14;
-Ta=Da+15;
-Ua=Da+16;
-Va=Da+17;
-Wa=Da+18;
-Xa=Da+19;
-Ya=Da+20;
-Za=Da+21;
-ab=Da+22;
-bb=Da+23;
-cb=Da+24;
-db=Da+25;
-eb=Da+26;
-fb=Da+27;
-gb=(((((((((((((Ra||*(a+(i64)Sa)!=*(c+(i64)Sa))||*(a+(i64)Ta)!=*(c+(i64)Ta))||*(a+(i64)Ua)!=*(c+(i64)Ua))||*(a+(i64)Va)!=*(c+(i64)Va))||*(a+(i64)Wa)!=*(c+(i64)Wa))||*(a+(i64)Xa)!=*(c+(i64)Xa))||*(a+(i64)Ya)!=*(c+(i64)Ya))||*(a+(i64)Za)!=*(c+(i64)Za))||*(a+(i64)ab)!=*(c+(i64)ab))||*(a+(i64)bb)!=*(c+(i64)bb))||*(a+(i64)cb)!=*(c+(i64)cb))||*(a+(i64)db)!=*(c+(i64)db))||*(a+(i64)eb)!=*(c+(i64)eb))||*(a+(i64)fb)!=*(c+(i64)fb);
-hb=Da+28;
-ib=Da+29;
-jb=Da+30;
-kb=Da+31;
-if((((gb||*(a+(i64)hb)!=*(c+(i64)hb))||*(a+(i64)ib)!=*(c+(i64)ib))||*(a+(i64)jb)!=*(c+(i64)jb))||*(a+(i64)kb)!=*(c+(i64)kb)){
-if(b-Da>31){
-h=1;
+s=v;
+t=u;}
+if(s<=31)goto L4;
+w=t;
+L5:x=w+8;
+y=w+16;
+z=w+24;
+if(((q8(a+(i64)w)!=q8(c+(i64)w)||q8(a+(i64)x)!=q8(c+(i64)x))||q8(a+(i64)y)!=q8(c+(i64)y))||q8(a+(i64)z)!=q8(c+(i64)z)){
+if(b-w>31){
+e=1;
 goto L1;}}
 else{
-lb=Da+32;
-if(b-lb>31){
-Da=lb;
+A=w+32;
+if(b-A>31){
+w=A;
 goto L5;}}
-L4:mb=b-32;
-nb=b-31;
-ob=b-30;
-pb=b-29;
-qb=b-28;
-rb=b-27;
-sb=b-26;
-tb=b-25;
-ub=b-24;
-vb=b-23;
-wb=b-22;
-xb=b-21;
-yb=b-20;
-zb=b-19;
-Ab=((((((((((((*(a+(i64)mb)!=*(c+(i64)mb)||*(a+(i64)nb)!=*(c+(i64)nb))||*(a+(i64)ob)!=*(c+(i64)ob))||*(a+(i64)pb)!=*(c+(i64)pb))||*(a+(i64)qb)!=*(c+(i64)qb))||*(a+(i64)rb)!=*(c+(i64)rb))||*(a+(i64)sb)!=*(c+(i64)sb))||*(a+(i64)tb)!=*(c+(i64)tb))||*(a+(i64)ub)!=*(c+(i64)ub))||*(a+(i64)vb)!=*(c+(i64)vb))||*(a+(i64)wb)!=*(c+(i64)wb))||*(a+(i64)xb)!=*(c+(i64)xb))||*(a+(i64)yb)!=*(c+(i64)yb))||*(a+(i64)zb)!=*(c+(i64)zb);
-Bb=b-18;
-Cb=b-17;
-Db=b-16;
-Eb=b-15;
-Fb=b-14;
-Gb=b-13;
-Hb=b-12;
-Ib=b-11;
-Jb=b-10;
-Kb=b-9;
-Lb=b-8;
-Mb=b-7;
-Nb=b-6;
-Ob=b-5;
-Pb=(((((((((((((Ab||*(a+(i64)Bb)!=*(c+(i64)Bb))||*(a+(i64)Cb)!=*(c+(i64)Cb))||*(a+(i64)Db)!=*(c+(i64)Db))||*(a+(i64)Eb)!=*(c+(i64)Eb))||*(a+(i64)Fb)!=*(c+(i64)Fb))||*(a+(i64)Gb)!=*(c+(i64)Gb))||*(a+(i64)Hb)!=*(c+(i64)Hb))||*(a+(i64)Ib)!=*(c+(i64)Ib))||*(a+(i64)Jb)!=*(c+(i64)Jb))||*(a+(i64)Kb)!=*(c+(i64)Kb))||*(a+(i64)Lb)!=*(c+(i64)Lb))||*(a+(i64)Mb)!=*(c+(i64)Mb))||*(a+(i64)Nb)!=*(c+(i64)Nb))||*(a+(i64)Ob)!=*(c+(i64)Ob);
-Qb=b-4;
-Rb=b-3;
-Sb=b-2;
-Tb=b-1;
-h=(((Pb||*(a+(i64)Qb)!=*(c+(i64)Qb))||*(a+(i64)Rb)!=*(c+(i64)Rb))||*(a+(i64)Sb)!=*(c+(i64)Sb))||*(a+(i64)Tb)!=*(c+(i64)Tb);}}
-L1:return !h;
+L4:B=b-32;
+C=b-24;
+D=b-16;
+E=b-8;
+e=((q8(a+(i64)B)!=q8(c+(i64)B)||q8(a+(i64)C)!=q8(c+(i64)C))||q8(a+(i64)D)!=q8(c+(i64)D))||q8(a+(i64)E)!=q8(c+(i64)E);}}
+L1:return !e;
 }
 
 /* core::fmt::formatter::Formatter::write_piece::<#fec9bc1a24fe1fcf> */
@@ -47268,7 +47103,7 @@ M=0;
 L11:N=K+(i64)(M<<4);
 O=rp(N);
 if(r8(N+8)==e){
-if(!(((*O!=*d||O[1]!=d[1])||O[2]!=d[2])||O[3]!=d[3])){
+if(q4(O)==q4(d)){
 P=groups_equal_3f1(O,e,d);
 if(P){
 l=1;
@@ -47341,7 +47176,7 @@ la=0;
 L16:ma=ca+(i64)(la<<4);
 na=rp(ma);
 if(r8(ma+8)==e){
-if(!(((*na!=*d||na[1]!=d[1])||na[2]!=d[2])||na[3]!=d[3])){
+if(q4(na)==q4(d)){
 oa=groups_equal_3f1(na,e,d);
 if(oa){
 l=1;
@@ -47393,7 +47228,7 @@ za=0;
 L20:Aa=qa+(i64)(za<<4);
 Ba=rp(Aa);
 if(r8(Aa+8)==e){
-if(!(((*Ba!=*d||Ba[1]!=d[1])||Ba[2]!=d[2])||Ba[3]!=d[3])){
+if(q4(Ba)==q4(d)){
 Ca=groups_equal_3f1(Ba,e,d);
 if(Ca){
 l=1;
@@ -47453,7 +47288,7 @@ ab=0;
 L26:bb=Ra+(i64)(ab<<4);
 cb=rp(bb);
 if(r8(bb+8)==c){
-if(!(((*cb!=*b||cb[1]!=b[1])||cb[2]!=b[2])||cb[3]!=b[3])){
+if(q4(cb)==q4(b)){
 db=groups_equal_3f1(cb,c,b);
 if(db)goto L24;}}
 eb=ab+1;
@@ -47470,7 +47305,7 @@ ib=0;
 L28:jb=fb+(i64)(ib<<4);
 kb=rp(jb);
 if(r8(jb+8)==e){
-if(!(((*kb!=*d||kb[1]!=d[1])||kb[2]!=d[2])||kb[3]!=d[3])){
+if(q4(kb)==q4(d)){
 lb=groups_equal_3f1(kb,e,d);
 if(lb){
 l=1;
@@ -47535,7 +47370,7 @@ if(vb>=e){
 l=1;
 goto L5;}}
 else{
-if(!(((*ub!=*d||ub[1]!=d[1])||ub[2]!=d[2])||ub[3]!=d[3])){
+if(q4(ub)==q4(d)){
 wb=groups_equal_3f1(ub,e,d);
 if(wb){
 l=1;
@@ -50400,7 +50235,7 @@ G=0;
 L10:H=x+(i64)(G<<4);
 I=rp(H);
 if(r8(H+8)==e){
-if(!(((*I!=*d||I[1]!=d[1])||I[2]!=d[2])||I[3]!=d[3])){
+if(q4(I)==q4(d)){
 J=groups_equal_3f1(I,e,d);
 if(J)goto L8;}}
 K=G+1;
@@ -51611,898 +51446,213 @@ memset(a+1784,0,16);
 return;
 }
 
-/* sym_filter::filtering::take_piece::<#aeb032a626a3c4df> */
-static s_8_8 take_piece_528(u8* a,u8* b,u8* c,u8* d,u8* e,u64 f,u8* g,u8* h)
+/* sym_filter::standard::ReaderSourceSource::read::<#19b74b7156c1d586> */
+static s_8_64 read_ea1(u8* a,u8* b,u64 c)
 {
-A16 u8 i[88],j[80],k[12],l[12],m[32],n[32];
-u64 o,q,t,u,z,C,E,F,G,M,N,Q,R,S,T,U,W,X,Z,ga,ma,na,pa,qa,ra,ta,ua,xa,ya,za,Aa,Ba,Ca,Da,Fa,Ia,Ja,La,Ma,Na,Qa,Ra,Sa,Ta,Ua,Va,Wa,Xa,Ya,Za,ab,bb,cb,db,eb,fb,hb,ib,jb,kb,mb,nb,pb,qb,rb,sb,vb,wb,xb,yb,zb,Ab,Bb,Cb,Db,Eb,Fb,Gb,Hb,Ib,Nb,Qb,Rb,Tb,Ub,Vb,Yb,Zb,ac,bc,cc,dc,ec,fc,gc,hc,ic,jc,kc,oc,qc,rc,tc,uc,wc,yc,zc,Ac,Cc,Dc,Fc,Gc,Hc,Kc,Lc,Mc,Nc,Oc,Pc,Qc,Rc,Sc,Tc,Uc,Vc,Wc,Zc,bd,dd,fd,gd,id,jd,kd,nd,od,sd,ud,xd,yd,Ad,Bd,Cd,Dd,Gd,Hd,Id,Jd,Kd,Ld,Md,Nd,Od,Pd,Qd,Rd,Sd,Yd,Zd,ae,de,ee,he,je,le,me,oe,pe,qe,re,ue,ve,we,xe,ye,ze,Ae,Be,Ce,De,Ee,Fe,Ge;
-u8 *p,*D,*H,*V,*ha,*Ha,*Oa,*Pa,*lb,*tb,*ub,*Lb,*Pb,*Wb,*Xb,*sc,*vc,*Ic,*Jc,*cd,*hd,*ld,*pd,*qd,*td,*vd,*Ed,*Fd,*Xd,*be,*fe,*ge,*ie,*ke,*se,*te;
-u8 r,s,v,w,x,y,A,B,aa,ba,ca,da,ea,fa,ia,ja,ka,la,Ka,gb,ob,Mb,Sb,lc,mc,pc,Ec,Yc,ed,md,zd,Td,Ud,Vd,ce,ne,He,Ie,Je,Me;
-v16 I,J,K,L,O,va;
-u16 P,oa,wa;
-u128 Y,Ea,Ga,Jb,Kb,nc,Bc;
-s_8_8 sa,Ob,Xc,ad,Le,Ne,Oe;
-u32 xc,Wd,Ke;
-o=0;
-L1:p=e+(i64)o;
-q=f-o;
-r=*d;
-if(*c!=2){
-u=q;
-v=r;
-goto L2;}
-s=r;
-t=0;
-L3:w=*(p+t);
-switch(s){
-case 1:x=(w==116)|((w==110)|(w==114));
-break;
-case 7:x=((u8)(w-48)<10)|((u8)((w&223)-65)<6);
-break;
-case 10:x=((u8)(w-48)<10)|((u8)((w&223)-65)<6);
-break;
-case 12:x=(u8)((w&223)-65)<26;
-break;
-case 0:case 2:case 3:case 4:case 5:case 6:case 8:case 9:case 11:x=0;
-break;
-default:NEVER;
-}
-switch(w){
-case 92:y=1;
-break;
-case 27:y=11;
-break;
-default:switch(s){
-case 0:case 10:y=0;
-break;
-case 1:switch(w){
-case 101:y=11;
-break;
-case 48:y=2;
-break;
-case 120:y=6;
-break;
-case 117:y=4;
-break;
-default:y=0;
-break;}
-break;
-case 2:y=w==51?3:0;
-break;
-case 3:y=w==51?11:0;
-break;
-case 4:if(w==48)y=5;
-else y=(((u8)(w-48)<10)|((u8)((w&223)-65)<6))?8:0;
-break;
-case 5:if(w==48)y=6;
-else y=(((u8)(w-48)<10)|((u8)((w&223)-65)<6))?9:0;
-break;
-case 6:if(w==49)y=7;
-else y=(((u8)(w-48)<10)|((u8)((w&223)-65)<6))?10:0;
-break;
-case 7:y=(w&223)==66?11:0;
-break;
-case 8:y=(((u8)(w-48)<10)|((u8)((w&223)-65)<6))?9:0;
-break;
-case 9:y=(((u8)(w-48)<10)|((u8)((w&223)-65)<6))?10:0;
-break;
-case 11:y=w==91?12:0;
-break;
-case 12:y=(u8)(w-48)<12?12:0;
-break;
-default:NEVER;
-}
-break;}
-z=t+1;
-if(x){
-A=y;
-B=1;
-C=z;
-goto L4;}
-D=p+(i64)z;
-E=q-z;
-if(y==0){
-if(E<=63){
-G=0;
-goto L5;}
-F=0;
-L6:H=D+F;
-I=v16_at(H);
-J=v16_at(H+16);
-K=v16_at(H+32);
-L=v16_at(H+48);
-if(((((v16_eq(I,splat(92))|v16_eq(I,splat(27)))|(v16_eq(J,splat(92))|v16_eq(J,splat(27))))|(v16_eq(K,splat(92))|v16_eq(K,splat(27))))|(v16_eq(L,splat(92))|v16_eq(L,splat(27))))==0){
-M=F+64;
-if(E-M>63){
-F=M;
-goto L6;}
-G=M;}
-else G=F;
-L5:N=G;
-L7:if(E-N>15){
-O=v16_at(D+N);
-P=cttz(v16_eq(O,splat(92))|v16_eq(O,splat(27)),16);
-Q=N+P;
-if(P>=16){
-N=Q;
-goto L7;}
-R=Q;}
-else R=N;}
-else R=0;
-S=R+z;
-if(S<q){
-s=y;
-t=S;
-goto L3;}
-u=S;
-v=y;
-L2:if(u==0){
-*d=v;
-T=0;
-goto L8;}
-A=v;
-B=0;
-C=u;
-L4:U=0;
-L9:V=p+(i64)U;
-W=C-U;
-memset(n,0,32);
-X=r8(c+16);
-if(X==0){
-if(r16(c+32)==0){
-if(c[50]&1){
-pass_6c7(n,c,V,W);
-Y=r16(n);
-Z=r8(n+16);
-aa=n[24]&1;
-goto L10;}
-ba=*c;
-ca=c[48];
-da=c[49];
-ea=ba+49;
-fa=ba==2;
-ga=0;
-L11:ha=V+ga;
-if(*ha==95){
-if(ga==0){
-switch(ca){
-case 0:ia=ba;
-goto L12;
-case 1:if(fa){
-switch(da){
-case 46:case 36:ja=1;
-ka=49;
-goto L13;
-default:break;}}
-break;
-case 2:if(fa){
-switch(da){
-case 46:case 36:ja=1;
-ka=49;
-goto L13;
-default:break;}}
-break;
-default:NEVER;
-}}
+A16 u8 d[88],e[80];
+u64 f,g,j,k,l,n,o,q,r,s,t,u,v,w,x,y,z,A,B,C,D,E;
+u8 h;
+u8 *i,*p;
+u32 m;
+s_8_64 F,G;
+f=r8(a+16);
+if(f==0){
+w8(a+8,r8(a+8)+1);
+g=0;
+h=0;}
 else{
-la=*((u8*)t_e4d8+ha[-1]);
-if(ea>la){
-if(la>(ba==0?48:49)){
-ma=ga;
-goto L14;}
-na=ga;
-oa=0;
-goto L15;}}}
-pa=ga+1;
-if(W-pa<16)qa=0;
-else qa=cttz(v16_eq(v16_at(V+pa),splat(95)),16);
-ra=qa+pa;
-if(ra<W){
-ga=ra;
-goto L11;}
-if(*((u8*)t_e4d8+*(V+(i64)ra-1))<=(ba==0?48:49)){
-na=ra;
-oa=0;
-goto L15;}
-ma=ra;
-L14:sa=place_in_stretch_597(ba,V,ma,ca);
-na=ma;
-oa=(u16)((u32)sa.f1<<8)|sa.f0;
-L15:x2(c+48,oa);
-ta=na;
-goto L16;}}
-ia=*c;
-L12:ja=ia==2;
-ka=ia==1?50:49;
-L13:if(ka>*((u8*)t_e4d8+*V))goto L17;
-ua=0;
-L18:if(W-ua>15){
-va=v16_at(V+ua);
-wa=cttz(v16_ne(va,splat(36))&(v16_ne(va,splat(46))&(v16_ne(va,splat(95))&(v16_ult(v16_add(va,splat(198)),splat(246))&v16_ult(v16_add(v16_or(va,splat(32)),splat(133)),splat(230))))),16);
-xa=ua+wa;
-if(wa>=16){
-ua=xa;
-goto L18;}
-ya=xa;}
-else ya=ua;
-if(ya>=W){
-Aa=ya;
-goto L19;}
-za=ya;
-L20:if(ka>*((u8*)t_e4d8+*(V+za)))Aa=za;
-else{
-Ba=za+1;
-if(Ba!=W){
-za=Ba;
-goto L20;}
-Aa=W;}
-L19:if(Aa==0)goto L17;
-Ca=0;
-Da=Aa;
-L21:if(Da==0)Ea=r16(c+32)+Aa;
-else{
-Fa=Da-1;
-if(*(V+Fa)==46){
-Ca=Ca+1;
-Da=Fa;
-goto L21;}
-Ga=r16(c+32);
-if(Ga+Da>65536-X){
-Ha=rp(c+8);
-Ia=r8(g+16);
-Ja=r8(g+8);
-if(X>Ia-Ja){
-Ka=grow_amortized_e1a(g,X);
-if(!Ka)goto L22;
-La=r8(g+16);
-Ma=r8(g+8);}
-else{
-La=Ia;
-Ma=Ja;}
-Na=Ma+X;
-Oa=rp(g);
-memset(g+8,0,16);
-Pa=Oa+(i64)Ma;
-if((u64)Pa-(u64)Ha<X){
-Qa=X&3;
-if(X-1<3)Ra=0;
-else{
-Sa=X&0xfffffffffffffffcu;
-Ta=0;
-Ua=0;
-L23:*(Pa+Ta)=*(Ha+Ta);
-Va=Ta|1;
-*(Pa+Va)=*(Ha+Va);
-Wa=Ta|2;
-*(Pa+Wa)=*(Ha+Wa);
-Xa=Ta|3;
-*(Pa+Xa)=*(Ha+Xa);
-Ya=Ta+4;
-Za=Ua+4;
-if(Za!=Sa){
-Ta=Ya;
-Ua=Za;
-goto L23;}
-if(Qa==0)goto L24;
-Ra=Ya;}
-ab=Ra;
-bb=0;
-L25:*(Pa+ab)=*(Ha+ab);
-cb=bb+1;
-if(cb!=Qa){
-ab=ab+1;
-bb=cb;
-goto L25;}}
-else memmove(Pa,Ha,X);
-L24:wp(g,Oa);
-w8(g+8,Na);
-w8(g+16,La);
-if(r8(c+16)!=0)w8(c+16,0);
-w16(c+32,0);
-c[50]=1;
-Y=Ga;
-Z=Aa;
-aa=1;
-goto L10;}
-db=Ga;
-eb=X+db;
-if(eb>X){
-fb=r8(c+24);
-if(fb-X<db){
-gb=grow_amortized_e1a(c+8,db);
-if(!gb)goto L22;
-hb=r8(c+16);
-ib=hb+db;
-jb=r8(c+24);
-kb=hb;}
-else{
-ib=eb;
-jb=fb;
-kb=X;}
-lb=rp(c+8);
-if(kb<ib)memset(lb+(i64)kb,46,db);
-wp(c+8,lb);
-w8(c+16,ib);
-w8(c+24,jb);
-mb=ib;}
-else{
-if(X>eb){
-w8(c+16,eb);
-mb=eb;}
-else mb=X;}
-nb=r8(c+24);
-if(Da>nb-mb){
-ob=grow_amortized_e1a(c+8,Da);
-pb=r8(c+16);
-if(!ob){
-if(pb<=X)goto L22;
-w8(c+16,X);
-goto L22;}
-qb=r8(c+24);
-rb=pb;}
-else{
-qb=nb;
-rb=mb;}
-sb=rb+Da;
-tb=rp(c+8);
-memset(c+16,0,16);
-ub=tb+(i64)rb;
-if((u64)ub-(u64)V<Da){
-vb=Da&3;
-if(Ca-Aa>0xfffffffffffffffcu)wb=0;
-else{
-xb=Da&0xfffffffffffffffcu;
-yb=0;
-zb=0;
-L26:*(ub+yb)=*(V+yb);
-Ab=yb|1;
-*(ub+Ab)=*(V+Ab);
-Bb=yb|2;
-*(ub+Bb)=*(V+Bb);
-Cb=yb|3;
-*(ub+Cb)=*(V+Cb);
-Db=yb+4;
-Eb=zb+4;
-if(Eb!=xb){
-yb=Db;
-zb=Eb;
-goto L26;}
-if(vb==0)goto L27;
-wb=Db;}
-Fb=wb;
-Gb=0;
-L28:*(ub+Fb)=*(V+Fb);
-Hb=Gb+1;
-if(Hb!=vb){
-Fb=Fb+1;
-Gb=Hb;
-goto L28;}}
-else memmove(ub,V,Da);
-L27:wp(c+8,tb);
-w8(c+16,sb);
-w8(c+24,qb);
-Ea=Aa-Da;}
-w16(c+32,Ea);
-Ib=Aa;
-goto L29;
-L17:memset(m,0,32);
-if(!ja){
-Kb=r16(c+32);
-Lb=rp(c+8);
-if(X-65537>=0xffffffffffff0001u){
-Mb=*Lb==95;
-if(X==2){
-if(!Mb)goto L30;
-switch(Lb[1]){
-case 90:Nb=0;
-goto L31;
-case 82:break;
-default:goto L30;
-}}
-else{
-if(!Mb)goto L30;
-switch(Lb[1]){
-case 90:Nb=0;
-goto L31;
-case 82:break;
-case 95:switch(Lb[2]){
-case 90:Nb=0x100000000u;
-goto L31;
-case 82:Nb=0x100000001u;
-goto L31;
-default:goto L30;
-}
-break;
-default:goto L30;
-}}
-Nb=1;
-L31:Ob=push_text_7d3(a,b,Lb,X,Nb,Nb>>32,g);
-if(Ob.f0!=0)goto L32;
-w8(c+56,uadd64(r8(c+56),1));
-Pb=c+56+(i64)(u64)((Ob.f1&1)?8:16);
-w8(Pb,uadd64(r8(Pb),1));
-goto L33;}
-L30:Qb=r8(g+16);
-Rb=r8(g+8);
-if(X>Qb-Rb){
-Sb=grow_amortized_e1a(g,X);
-if(!Sb)goto L32;
-Tb=r8(g+16);
-Ub=r8(g+8);}
-else{
-Tb=Qb;
-Ub=Rb;}
-Vb=Ub+X;
-Wb=rp(g);
-memset(g+8,0,16);
-Xb=Wb+(i64)Ub;
-if((u64)Xb-(u64)Lb<X){
-Yb=X&3;
-if(X<4)Zb=0;
-else{
-ac=X&0xfffffffffffffffcu;
-bc=0;
-cc=0;
-L34:*(Xb+bc)=*(Lb+bc);
-dc=bc|1;
-*(Xb+dc)=*(Lb+dc);
-ec=bc|2;
-*(Xb+ec)=*(Lb+ec);
-fc=bc|3;
-*(Xb+fc)=*(Lb+fc);
-gc=bc+4;
-hc=cc+4;
-if(hc!=ac){
-bc=gc;
-cc=hc;
-goto L34;}
-if(Yb==0)goto L35;
-Zb=gc;}
-ic=Zb;
-jc=0;
-L36:*(Xb+ic)=*(Lb+ic);
-kc=jc+1;
-if(kc!=Yb){
-ic=ic+1;
-jc=kc;
-goto L36;}}
-else memmove(Xb,Lb,X);
-L35:wp(g,Wb);
-w8(g+8,Vb);
-w8(g+16,Tb);
-L33:if(r8(c+16)!=0)w8(c+16,0);
-memset(c+32,0,18);
-Jb=Kb;
-goto L37;}
-end_within_406(m,c,a,b,g);
-if(*m==0){
-Jb=r16(m+16);
-goto L37;}
-L32:goto L22;
-L37:Y=Jb;
-Z=1;
-aa=1;
-goto L10;
-L22:lc=2;
-mc=1;
-goto L38;
-L10:if(Y==0)goto L39;
-nc=0;
-L40:oc=r8(g+8);
-if(r8(g+16)==oc){
-pc=grow_amortized_e1a(g,1);
-if(!pc){
-lc=2;
-mc=1;
-goto L38;}
-qc=r8(g+8);}
-else qc=oc;
-*(rp(g)+qc)=46;
-rc=qc+1;
-w8(g+8,rc);
-if(rc>=16384){
-sc=rp(g);
-tc=0;
-L41:uc=rc-tc;
-vc=rp(h);
-wc=port_write(1,sc+(i64)tc,uc);
-if((i64)wc<0){
-xc=port_rattle_errno();
-from_raw_os_error_cb0(i,xc);
-yc=r8(i);
-memcpy(j,i+8,80);
-x8(vc+8,1);
-x8(vc+16,yc);
-memcpy(vc+24,j,80);}
-else{
-zc=umin64(wc,uc);
-if(zc!=0){
-Ac=zc+tc;
-if(Ac<rc){
-tc=Ac;
-goto L41;}
-if(r8(g+8)==0)goto L42;
-w8(g+8,0);
-goto L42;}}
-w8(h+8,r8(h+8)+1);
-lc=1;
-mc=1;
-goto L38;}
-L42:Bc=nc+1;
-if(Bc<Y){
-nc=Bc;
-goto L40;}
-L39:if(!aa){
-Ib=Z;
-goto L29;}
-ta=Z;
-L16:Cc=r8(g+16);
-Dc=r8(g+8);
-if(ta>Cc-Dc){
-Ec=grow_amortized_e1a(g,ta);
-if(!Ec){
-lc=2;
-mc=1;
-goto L38;}
-Fc=r8(g+16);
-Gc=r8(g+8);}
-else{
-Fc=Cc;
-Gc=Dc;}
-Hc=Gc+ta;
-Ic=rp(g);
-memset(g+8,0,16);
-Jc=Ic+(i64)Gc;
-if((u64)Jc-(u64)V<ta){
-Kc=ta&3;
-if(ta<4)Lc=0;
-else{
-Mc=ta&0xfffffffffffffffcu;
-Nc=0;
-Oc=0;
-L43:*(Jc+Nc)=*(V+Nc);
-Pc=Nc|1;
-*(Jc+Pc)=*(V+Pc);
-Qc=Nc|2;
-*(Jc+Qc)=*(V+Qc);
-Rc=Nc|3;
-*(Jc+Rc)=*(V+Rc);
-Sc=Nc+4;
-Tc=Oc+4;
-if(Tc!=Mc){
-Nc=Sc;
-Oc=Tc;
-goto L43;}
-if(Kc==0)goto L44;
-Lc=Sc;}
-Uc=Lc;
-Vc=0;
-L45:*(Jc+Uc)=*(V+Uc);
-Wc=Vc+1;
-if(Wc!=Kc){
-Uc=Uc+1;
-Vc=Wc;
-goto L45;}}
-else memmove(Jc,V,ta);
-L44:wp(g,Ic);
-w8(g+8,Hc);
-w8(g+16,Fc);
-if(Hc<16384)Ib=ta;
-else{
-Xc=write_out_752(h,g);
-Yc=Xc.f0;
-if(Yc!=0){
-lc=(Yc&1)?Xc.f1:0;
-mc=1;
-goto L38;}
-Ib=ta;}
-L29:Zc=Ib+U;
-if(Zc<C){
-U=Zc;
-goto L9;}
-*d=A;
-if(B){
-ad=end_segment_de1(a,b,c,g,h);
-if(ad.f0!=0){
-lc=ad.f1;
-mc=1;
-goto L38;}
-T=C;}
-else T=C;
-L8:bd=T+o;
-if(bd<f){
-o=bd;
+w8(a+16,f-1);
+i=rp(a);
+j=r8(i+8192);
+k=r8(i+8200);
+if(k==j){
+l=port_read(0,b,c);
+if((i64)l<0){
+m=port_rattle_errno();
+from_raw_os_error_cb0(d,m);
+n=r8(d);
+memcpy(e,d+8,80);
+x8(i+8216,1);
+x8(i+8224,n);
+memcpy(i+8232,e,80);
+w8(a+8,r8(a+8)+1);
+g=0;
+h=0;
 goto L1;}
-cd=rp(c+8);
-dd=r8(c+16);
-if(dd-65537>=0xffffffffffff0001u){
-ed=*cd==95;
-if(dd==2){
-if(!ed)goto L46;
-switch(cd[1]){
-case 90:fd=0;
-goto L47;
-case 82:gd=0;
-break;
-default:goto L46;
-}}
+o=umin64(l,c);}
 else{
-if(!ed)goto L46;
-switch(cd[1]){
-case 90:fd=0;
-goto L47;
-case 82:gd=0;
-break;
-case 95:switch(cd[2]){
-case 90:fd=1;
-goto L47;
-case 82:gd=1;
-break;
-default:goto L46;
+p=i+(i64)j;
+q=umin64(c,k-j);
+if((u64)b-(u64)p<q){
+r=q&3;
+if(q<4)s=0;
+else{
+t=q&0xfffffffffffffffcu;
+u=0;
+v=0;
+L2:*(b+u)=*(p+u);
+w=u|1;
+*(b+w)=*(p+w);
+x=u|2;
+*(b+x)=*(p+x);
+y=u|3;
+*(b+y)=*(p+y);
+z=u+4;
+A=v+4;
+if(A!=t){
+u=z;
+v=A;
+goto L2;}
+if(r==0)goto L3;
+s=z;}
+B=s;
+C=0;
+L4:*(b+B)=*(p+B);
+D=C+1;
+if(D!=r){
+B=B+1;
+C=D;
+goto L4;}}
+else memmove(b,p,q);
+L3:E=r8(i+8192);
+w8(i+8192,umin64(q,r8(i+8200)-E)+E);
+o=q;}
+g=o;
+h=1;}
+L1:F=(s_8_64){0};F.f0=h;
+G=F;G.f1=g;
+return G;
 }
+
+/* sym_filter::escapes::first_segment */
+static void first_segment_4a3(u8* a,u8 b,u8* c,u64 d,u8 e)
+{
+u64 f,j,n,p,q,r,x,y,B,C,D;
+u8 g,h,i,k,l,m;
+u8 *o,*s;
+v16 t,u,v,w,z;
+u16 A;
+if(b==2){
+if(d==0){
+f=0;
+g=0;
+h=e;
+goto L1;}
+i=e;
+j=0;
+L2:k=*(c+j);
+switch(i){
+case 1:l=(k==116)|((k==110)|(k==114));
 break;
-default:goto L46;
-}}
-hd=cd+(i64)gd;
-id=dd-gd;
-jd=r8(b+1264);
-kd=jd&4294967295u;
-if(id<=(kd>>1)+kd)goto L46;
-if(id>=jd){
-ld=rp(b+1256);
-md=parts_equal_58b(hd,jd,ld,jd);
-if(md){
-nd=id-jd;
-if(nd==0){
-od=jd;
-pd=ld;
-goto L48;}
-if(b[1284]==1){
-if(b[1288]!=4)goto L46;
-qd=b+1284;
-sd=jd;
-goto L49;}
-td=b+1284;
-ud=nd;
-vd=hd+(i64)jd;
-xd=jd;
-goto L50;}
-if(jd==0)goto L51;}
-w8(b+1264,0);
-L51:b[1280]=0;
-b[1281]=0;
-memset(b+1284,0,20);
-if(r8(b+1312)!=0)w8(b+1312,0);
-if(r8(b+1336)!=0)w8(b+1336,0);
-w8(b+1352,0);
-w4(b+1360,0);
-td=b+1284;
-ud=id;
-vd=hd;
-xd=0;
-L50:yd=r8(b+1272);
-if(ud>yd-xd){
-zd=grow_amortized_e1a(b+1256,ud);
-Ad=r8(b+1264);
-if(!zd){
-qd=td;
-sd=Ad;
-goto L49;}
-Bd=r8(b+1272);
-Cd=Ad;}
+case 7:l=((u8)(k-48)<10)|((u8)((k&223)-65)<6);
+break;
+case 10:l=((u8)(k-48)<10)|((u8)((k&223)-65)<6);
+break;
+case 12:l=(u8)((k&223)-65)<26;
+break;
+case 0:case 2:case 3:case 4:case 5:case 6:case 8:case 9:case 11:l=0;
+break;
+default:NEVER;
+}
+switch(k){
+case 92:m=1;
+break;
+case 27:m=11;
+break;
+default:switch(i){
+case 0:case 10:m=0;
+break;
+case 1:switch(k){
+case 101:m=11;
+break;
+case 48:m=2;
+break;
+case 120:m=6;
+break;
+case 117:m=4;
+break;
+default:m=0;
+break;}
+break;
+case 2:m=k==51?3:0;
+break;
+case 3:m=k==51?11:0;
+break;
+case 4:if(k==48)m=5;
+else m=(((u8)(k-48)<10)|((u8)((k&223)-65)<6))?8:0;
+break;
+case 5:if(k==48)m=6;
+else m=(((u8)(k-48)<10)|((u8)((k&223)-65)<6))?9:0;
+break;
+case 6:if(k==49)m=7;
+else m=(((u8)(k-48)<10)|((u8)((k&223)-65)<6))?10:0;
+break;
+case 7:m=(k&223)==66?11:0;
+break;
+case 8:m=(((u8)(k-48)<10)|((u8)((k&223)-65)<6))?9:0;
+break;
+case 9:m=(((u8)(k-48)<10)|((u8)((k&223)-65)<6))?10:0;
+break;
+case 11:m=k==91?12:0;
+break;
+case 12:m=(u8)(k-48)<12?12:0;
+break;
+default:NEVER;
+}
+break;}
+n=j+1;
+if(l){
+f=n;
+g=1;
+h=m;}
 else{
-Bd=yd;
-Cd=xd;}
-Dd=Cd+ud;
-Ed=rp(b+1256);
-memset(b+1264,0,16);
-Fd=Ed+(i64)Cd;
-if((u64)Fd-(u64)vd<ud){
-Gd=ud&3;
-if(ud<4)Hd=0;
+o=c+(i64)n;
+p=d-n;
+if(m==0){
+if(p<=63){
+r=0;
+goto L3;}
+q=0;
+L4:s=o+q;
+t=v16_at(s);
+u=v16_at(s+16);
+v=v16_at(s+32);
+w=v16_at(s+48);
+if(((((v16_eq(t,splat(92))|v16_eq(t,splat(27)))|(v16_eq(u,splat(92))|v16_eq(u,splat(27))))|(v16_eq(v,splat(92))|v16_eq(v,splat(27))))|(v16_eq(w,splat(92))|v16_eq(w,splat(27))))==0){
+x=q+64;
+if(p-x>63){
+q=x;
+goto L4;}
+r=x;}
+else r=q;
+L3:y=r;
+L5:if(p-y>15){
+z=v16_at(o+y);
+A=cttz(v16_eq(z,splat(92))|v16_eq(z,splat(27)),16);
+B=y+A;
+if(A>=16){
+y=B;
+goto L5;}
+C=B;}
+else C=y;}
+else C=0;
+D=C+n;
+if(D<d){
+i=m;
+j=D;
+goto L2;}
+f=D;
+g=0;
+h=m;}}
 else{
-Id=ud&0xfffffffffffffffcu;
-Jd=0;
-Kd=0;
-L52:*(Fd+Jd)=*(vd+Jd);
-Ld=Jd|1;
-*(Fd+Ld)=*(vd+Ld);
-Md=Jd|2;
-*(Fd+Md)=*(vd+Md);
-Nd=Jd|3;
-*(Fd+Nd)=*(vd+Nd);
-Od=Jd+4;
-Pd=Kd+4;
-if(Pd!=Id){
-Jd=Od;
-Kd=Pd;
-goto L52;}
-if(Gd==0)goto L53;
-Hd=Od;}
-Qd=Hd;
-Rd=0;
-L54:*(Fd+Qd)=*(vd+Qd);
-Sd=Rd+1;
-if(Sd!=Gd){
-Qd=Qd+1;
-Rd=Sd;
-goto L54;}}
-else memmove(Fd,vd,ud);
-L53:wp(b+1256,Ed);
-w8(b+1264,Dd);
-w8(b+1272,Bd);
-od=Dd;
-pd=Ed;
-goto L48;
-L49:if(sd!=0)w8(b+1264,0);
-b[1280]=0;
-b[1281]=0;
-memset(qd,0,20);
-if(r8(b+1312)!=0)w8(b+1312,0);
-if(r8(b+1336)!=0)w8(b+1336,0);
-w8(b+1352,0);
-w4(b+1360,0);
-goto L46;
-L48:memset(k,0,12);
-if(b[1284]!=1){
-if(!(b[1281]&1)){
-run_48d(k,b+1296,pd,od,b[1280]&1);
-b[1281]=b[1280];
-Ud=*k;
-if(Ud!=0){
-Vd=k[4];
-Wd=r4(k+8);
-x4(b+1284,1);
-x4(b+1288,Vd);
-x4(b+1292,Wd);
-if(Ud!=1)goto L46;
-Td=Vd;
-goto L55;}}
-goto L46;}
-Td=b[1288];
-L55:if(Td!=4)goto L46;
-if(r8(b+1264)!=0)w8(b+1264,0);
-b[1280]=0;
-b[1281]=0;
-memset(b+1284,0,20);
-if(r8(b+1312)!=0)w8(b+1312,0);
-if(r8(b+1336)!=0)w8(b+1336,0);
-w8(b+1352,0);
-w4(b+1360,0);
-goto L46;
-L47:Xd=cd+(i64)fd;
-Yd=dd-fd;
-Zd=r8(b+576);
-ae=Zd&4294967295u;
-if(Yd>(ae>>1)+ae){
-if(Yd>=Zd){
-be=rp(b+568);
-ce=parts_equal_58b(Xd,Zd,be,Zd);
-if(ce){
-de=Yd-Zd;
-if(de==0){
-ee=Zd;
-fe=be;
-goto L56;}
-if(b[596]==1){
-if(b[600]!=4)goto L46;
-ge=b+596;
-he=Zd;
-goto L57;}
-ie=b+596;
-je=de;
-ke=Xd+(i64)Zd;
-le=Zd;
-goto L58;}
-if(Zd==0)goto L59;}
-w8(b+576,0);
-L59:b[592]=0;
-b[593]=0;
-memset(b+596,0,20);
-if(r8(b+624)!=0)w8(b+624,0);
-if(r8(b+648)!=0)w8(b+648,0);
-w8(b+664,0);
-w4(b+672,0);
-ie=b+596;
-je=Yd;
-ke=Xd;
-le=0;
-L58:me=r8(b+584);
-if(je>me-le){
-ne=grow_amortized_e1a(b+568,je);
-oe=r8(b+576);
-if(!ne){
-ge=ie;
-he=oe;
-goto L57;}
-pe=r8(b+584);
-qe=oe;}
-else{
-pe=me;
-qe=le;}
-re=qe+je;
-se=rp(b+568);
-memset(b+576,0,16);
-te=se+(i64)qe;
-if((u64)te-(u64)ke<je){
-ue=je&3;
-if(je<4)ve=0;
-else{
-we=je&0xfffffffffffffffcu;
-xe=0;
-ye=0;
-L60:*(te+xe)=*(ke+xe);
-ze=xe|1;
-*(te+ze)=*(ke+ze);
-Ae=xe|2;
-*(te+Ae)=*(ke+Ae);
-Be=xe|3;
-*(te+Be)=*(ke+Be);
-Ce=xe+4;
-De=ye+4;
-if(De!=we){
-xe=Ce;
-ye=De;
-goto L60;}
-if(ue==0)goto L61;
-ve=Ce;}
-Ee=ve;
-Fe=0;
-L62:*(te+Ee)=*(ke+Ee);
-Ge=Fe+1;
-if(Ge!=ue){
-Ee=Ee+1;
-Fe=Ge;
-goto L62;}}
-else memmove(te,ke,je);
-L61:wp(b+568,se);
-w8(b+576,re);
-w8(b+584,pe);
-ee=re;
-fe=se;
-goto L56;
-L57:if(he!=0)w8(b+576,0);
-b[592]=0;
-b[593]=0;
-memset(ge,0,20);
-if(r8(b+624)!=0)w8(b+624,0);
-if(r8(b+648)!=0)w8(b+648,0);
-w8(b+664,0);
-w4(b+672,0);
-goto L46;
-L56:memset(l,0,12);
-if(b[596]!=1){
-if(!(b[593]&1)){
-run_888(l,b+608,fe,ee,b[592]&1);
-b[593]=b[592];
-Ie=*l;
-if(Ie!=0){
-Je=l[4];
-Ke=r4(l+8);
-x4(b+596,1);
-x4(b+600,Je);
-x4(b+604,Ke);
-if(Ie!=1)goto L46;
-He=Je;
-goto L63;}}
-goto L46;}
-He=b[600];
-L63:if(He==4){
-if(r8(b+576)!=0)w8(b+576,0);
-b[592]=0;
-b[593]=0;
-memset(b+596,0,20);
-if(r8(b+624)!=0)w8(b+624,0);
-if(r8(b+648)!=0)w8(b+648,0);
-w8(b+664,0);
-w4(b+672,0);}}}
-L46:Le=write_out_752(h,g);
-Me=Le.f0;
-lc=(Me&1)?Le.f1:0;
-mc=Me!=0;
-L38:Ne=(s_8_8){0};Ne.f0=mc;
-Oe=Ne;Oe.f1=lc;
-return Oe;
+f=d;
+g=0;
+h=e;}
+L1:x8(a,f);
+a[8]=g;
+a[9]=h;
+memset(a+10,0,6);
+return;
 }
 
 /* sym_filter::words::Words::pass */
@@ -52546,7 +51696,7 @@ n=1;
 L5:x16(a,0);
 x8(a+16,n);
 a[24]=1;
-memset(a+25,0,7);
+memset(a+25,0,23);
 return;
 }
 
@@ -52632,519 +51782,455 @@ return C;
 /* sym_filter::words::Words::end_within::<#ded3639bd0d8abe6> */
 static void end_within_406(u8* a,u8* b,u8* c,u8* d,u8* e)
 {
-u128 f,U;
-u8 *g,*j,*l,*m,*q,*r,*v,*D,*W,*X,*ia,*ma,*na,*sa,*za,*Ha,*Ia,*Ta,*lb,*mb,*Ab,*Fb,*Gb;
-u64 h,i,k,n,o,p,u,w,x,C,E,G,I,N,O,P,R,S,V,Y,Z,aa,ba,ca,da,ea,fa,ga,ha,ja,ka,la,oa,pa,qa,ra,ta,va,wa,Aa,Ba,Ca,Ea,Fa,Ga,Ja,Ka,La,Ma,Na,Oa,Pa,Qa,Ra,Sa,Ua,Va,Wa,Xa,Ya,Za,db,fb,gb,ib,jb,kb,nb,ob,pb,qb,rb,sb,tb,ub,vb,wb,xb,yb,zb,Cb,Db,Eb,Hb,Ib,Jb,Kb,Lb,Mb,Nb,Ob,Pb,Qb,Rb,Sb,Tb;
-u8 s,t,y,z,A,B,F,H,J,K,L,M,Q,T,ua,xa,Da,hb,Bb;
-s_8_8 ya,ab,bb,cb,eb;
-f=r16(b+32);
-g=rp(b+8);
-h=r8(b+16);
-if(h==0){
-i=r8(e+8);
-j=rp(e);
-k=r8(e+16);
+A16 u8 f[12];
+u128 g;
+u8 *h,*k,*m,*n,*r,*s,*w,*B,*S,*T,*ea,*ia,*ja,*oa,*Da,*La,*Ma,*ib,*jb,*Cb,*Db;
+u64 i,j,l,o,p,q,v,x,y,z,A,C,E,G,L,M,N,P,Q,R,U,V,W,X,Y,Z,aa,ba,ca,da,fa,ga,ha,ka,la,ma,na,pa,ra,ta,ua,va,Ea,Fa,Ga,Ia,Ja,Ka,Na,Oa,Pa,Qa,Ra,Sa,Ta,Ua,Va,Wa,Xa,Ya,Za,cb,db,fb,gb,hb,kb,lb,mb,nb,ob,pb,qb,rb,sb,tb,ub,vb,wb,xb,zb,Ab,Bb,Eb,Fb,Gb,Hb,Ib,Jb,Kb,Lb,Mb,Nb,Ob,Pb,Qb;
+u8 t,u,D,F,H,I,J,K,O,qa,sa,wa,xa,ya,za,Aa,Ha,eb,yb;
+s_8_8 Ba,Ca,ab,bb;
+g=r16(b+32);
+h=rp(b+8);
+i=r8(b+16);
+if(i==0){
+j=r8(e+8);
+k=rp(e);
+l=r8(e+16);
 memset(e+8,0,16);
-l=j+(i64)i;
-m=j;
-n=i;
-o=k;
-p=0;
-q=e+16;
-r=e+8;}
+m=k+(i64)j;
+n=k;
+o=j;
+p=l;
+q=0;
+r=e+16;
+s=e+8;}
 else{
-s=b[48];
-t=b[49];
-u=0;
-L1:v=g+(i64)u;
-w=h-u;
-if(w<6)x=0;
-else{
-if((*v==95&&v[1]==95)&&(v[2]==105&&(v[3]==109&&(v[4]==112&&v[5]==95))))x=6;
-else{
-if(w<15){
-if(w<11){
-x=0;
-goto L2;}}
-else{
-y=parts_equal_58b((u8*)t_6f8a,15,v,15);
-if(y){
-x=15;
-goto L2;}
-z=parts_equal_58b((u8*)t_034d,15,v,15);
-if(z){
-x=15;
-goto L2;}}
-A=parts_equal_58b((u8*)t_024d,11,v,11);
-if(A)x=11;
-else{
-B=parts_equal_58b((u8*)t_7e3f,11,v,11);
-x=B?11:0;}}}
-L2:C=x+u;
-D=g+(i64)C;
-E=h-C;
-if(E>=2){
-F=*D==95;
-if(E==2){
-if(!F)goto L3;
-switch(D[1]){
-case 90:G=2;
-H=1;
-goto L4;
+t=b[48];
+u=b[49];
+v=0;
+L1:w=h+(i64)v;
+x=i-v;
+if(x>1){
+switch(w[1]){
+case 95:case 71:y=length_of_front_de8(w,x);
+z=y;
+break;
+default:z=0;
+break;}}
+else z=0;
+A=z+v;
+B=h+(i64)A;
+C=i-A;
+if(C>=2){
+D=*B==95;
+if(C==2){
+if(!D)goto L2;
+switch(B[1]){
+case 90:E=2;
+F=1;
+goto L3;
 case 82:break;
-default:goto L3;
+default:goto L2;
 }}
 else{
-if(!F)goto L3;
-switch(D[1]){
-case 90:G=2;
-H=1;
-goto L4;
+if(!D)goto L2;
+switch(B[1]){
+case 90:E=2;
+F=1;
+goto L3;
 case 82:break;
-case 95:switch(D[2]){
-case 90:G=3;
-H=1;
-goto L4;
-case 82:G=3;
-H=0;
-goto L4;
-default:goto L3;
+case 95:switch(B[2]){
+case 90:E=3;
+F=1;
+goto L3;
+case 82:E=3;
+F=0;
+goto L3;
+default:goto L2;
 }
 break;
-default:goto L3;
+default:goto L2;
 }}
-G=2;
-H=0;
-L4:switch(s){
-case 0:I=C;
-goto L5;
-case 1:switch(t){
-case 46:case 36:I=C;
-goto L5;
+E=2;
+F=0;
+L3:switch(t){
+case 0:G=A;
+goto L4;
+case 1:switch(u){
+case 46:case 36:G=A;
+goto L4;
 default:break;}
 break;
-case 2:if(G<E)J=*(D+(i64)G);
-else J=0;
-if(t==46){
-if(H){
-if(((u8)(J-65)<26)|((u8)(J-48)<10)){
-I=C;
-goto L5;}}
+case 2:if(E<C)H=*(B+(i64)E);
+else H=0;
+if(u==46){
+if(F){
+if(((u8)(H-65)<26)|((u8)(H-48)<10)){
+G=A;
+goto L4;}}
 else{
-switch(J){
-case 89:case 88:case 78:case 77:case 73:I=C;
-goto L5;
+switch(H){
+case 89:case 88:case 78:case 77:case 73:G=A;
+goto L4;
 default:break;}}}
 break;
 default:NEVER;
 }}
-L3:K=*v;
-if(*((u8*)t_e4d8+K)>49){
-if(s==0){
-L=K==46?1:2;
-M=K;}
+L2:I=*w;
+if(*((u8*)t_e4d8+I)>49){
+if(t==0){
+J=I==46?1:2;
+K=I;}
 else{
-L=s;
-M=K;}}
+J=t;
+K=I;}}
 else{
-L=0;
-M=0;}
-N=u+1;
-if(N!=h){
-s=L;
-t=M;
-u=N;
+J=0;
+K=0;}
+L=v+1;
+if(L!=i){
+t=J;
+u=K;
+v=L;
 goto L1;}
-I=h;
-L5:O=r8(e+16);
-P=r8(e+8);
-if(I>O-P){
-Q=grow_amortized_e1a(e,I);
-if(!Q){
-T=1;
-U=0;
-goto L6;}
-R=r8(e+16);
-S=r8(e+8);}
+G=i;
+L4:M=r8(e+16);
+N=r8(e+8);
+if(G>M-N){
+O=grow_amortized_e1a(e,G);
+if(!O){
+*a=1;
+memset(a+16,0,32);
+goto L5;}
+P=r8(e+16);
+Q=r8(e+8);}
 else{
-R=O;
-S=P;}
-V=S+I;
-W=rp(e);
+P=M;
+Q=N;}
+R=Q+G;
+S=rp(e);
 memset(e+8,0,16);
-X=W+(i64)S;
-if((u64)X-(u64)g<I){
-Y=I&3;
-if(I<4)Z=0;
+T=S+(i64)Q;
+if((u64)T-(u64)h<G){
+U=G&3;
+if(G<4)V=0;
 else{
-aa=I&0xfffffffffffffffcu;
-ba=0;
-ca=0;
-L7:*(X+ba)=*(g+ba);
-da=ba|1;
-*(X+da)=*(g+da);
-ea=ba|2;
-*(X+ea)=*(g+ea);
-fa=ba|3;
-*(X+fa)=*(g+fa);
-ga=ba+4;
-ha=ca+4;
-if(ha!=aa){
-ba=ga;
-ca=ha;
+W=G&0xfffffffffffffffcu;
+X=0;
+Y=0;
+L6:*(T+X)=*(h+X);
+Z=X|1;
+*(T+Z)=*(h+Z);
+aa=X|2;
+*(T+aa)=*(h+aa);
+ba=X|3;
+*(T+ba)=*(h+ba);
+ca=X+4;
+da=Y+4;
+if(da!=W){
+X=ca;
+Y=da;
+goto L6;}
+if(U==0){
+ea=S;
+fa=R;
+ga=P;
+ha=G;
+ia=e+16;
+ja=e+8;
 goto L7;}
-if(Y==0){
-ia=W;
-ja=V;
-ka=R;
-la=I;
-ma=e+16;
-na=e+8;
+V=ca;}
+ka=V;
+la=0;
+L8:*(T+ka)=*(h+ka);
+ma=la+1;
+if(ma!=U){
+ka=ka+1;
+la=ma;
 goto L8;}
-Z=ga;}
-oa=Z;
-pa=0;
-L9:*(X+oa)=*(g+oa);
-qa=pa+1;
-if(qa!=Y){
-oa=oa+1;
-pa=qa;
-goto L9;}
-ia=W;
-ja=V;
-ka=R;
-la=I;
-ma=e+16;
-na=e+8;
-goto L8;}
-l=X;
-m=W;
-n=V;
+ea=S;
+fa=R;
+ga=P;
+ha=G;
+ia=e+16;
+ja=e+8;
+goto L7;}
+m=T;
+n=S;
 o=R;
-p=I;
-q=e+16;
-r=e+8;}
-memmove(l,g,p);
-ia=m;
-ja=n;
-ka=o;
-la=p;
-ma=q;
-na=r;
-L8:wp(e,ia);
-w8(na,ja);
-w8(ma,ka);
-ra=r8(b+16);
-sa=rp(b+8)+(i64)la;
-ta=ra-la;
-if(ta-65537>=0xffffffffffff0001u){
-ua=*sa==95;
-if(ta==2){
-if(!ua)goto L10;
-switch(sa[1]){
-case 90:case 82:break;
-default:goto L10;
+p=P;
+q=G;
+r=e+16;
+s=e+8;}
+memmove(m,h,q);
+ea=n;
+fa=o;
+ga=p;
+ha=q;
+ia=r;
+ja=s;
+L7:wp(e,ea);
+w8(ja,fa);
+w8(ia,ga);
+na=r8(b+16);
+oa=rp(b+8)+(i64)ha;
+pa=na-ha;
+if(pa-65537>=0xffffffffffff0001u){
+qa=*oa==95;
+if(pa==2){
+if(!qa)goto L9;
+switch(oa[1]){
+case 90:ra=0;
+goto L10;
+case 82:break;
+default:goto L9;
 }}
 else{
-if(!ua)goto L10;
-switch(sa[1]){
-case 90:case 82:break;
-case 95:switch(sa[2]){
-case 90:case 82:break;
-default:goto L10;
+if(!qa)goto L9;
+switch(oa[1]){
+case 90:ra=0;
+goto L10;
+case 82:break;
+case 95:switch(oa[2]){
+case 90:ra=0x100000000u;
+goto L10;
+case 82:ra=0x100000001u;
+goto L10;
+default:goto L9;
 }
 break;
-default:goto L10;
+default:goto L9;
 }}
-va=ta;
-L11:if(va!=0){
-wa=va-1;
-xa=*(sa+wa);
-if(!((xa!=46)&((i8)xa>-1))){
-va=wa;
+ra=1;
+L10:sa=ra;
+ta=ra>>32;
+ua=pa;
+L11:if(ua!=0){
+va=ua-1;
+wa=*(oa+va);
+if(!((wa!=46)&((i8)wa>-1))){
+ua=va;
 goto L11;}}
-ya=append_text_a06(c,d,sa,va,e);
-if(ya.f0!=0){
-T=1;
-U=0;
-goto L6;}
-if(ya.f1&1){
-za=sa+(i64)va;
-Aa=ta-va;
-Ba=r8(ma);
-Ca=r8(na);
-if(Aa>Ba-Ca){
-Da=grow_amortized_e1a(e,Aa);
-if(!Da){
-T=1;
-U=0;
-goto L6;}
-Ea=r8(ma);
-Fa=r8(na);}
+if(ua==pa){
+memset(f,0,12);
+append_c85(f,c,d,sa,oa+(i64)ta,pa-ta,e);
+xa=*f==0;
+ya=f[4]==4;
+if(xa|ya){
+za=ya&(!xa);
+if(za)goto L12;
+Aa=!za;}
 else{
-Ea=Ba;
-Fa=Ca;}
-Ga=Fa+Aa;
-Ha=rp(e);
-memset(na,0,16);
-Ia=Ha+(i64)Fa;
-if((u64)Ia-(u64)za<Aa){
-Ja=Aa&3;
-if(Aa<4)Ka=0;
+Ba=append_parts_673(c,d,oa,pa,e);
+if(Ba.f0!=0)goto L12;
+Aa=Ba.f1;}}
 else{
-La=Aa&0xfffffffffffffffcu;
-Ma=0;
-Na=0;
-L12:*(Ia+Ma)=*(za+Ma);
-Oa=Ma|1;
-*(Ia+Oa)=*(za+Oa);
-Pa=Ma|2;
-*(Ia+Pa)=*(za+Pa);
-Qa=Ma|3;
-*(Ia+Qa)=*(za+Qa);
-Ra=Ma+4;
-Sa=Na+4;
-if(Sa!=La){
-Ma=Ra;
-Na=Sa;
-goto L12;}
-if(Ja==0){
-Ta=Ha;
-Ua=Ga;
-Va=Ea;
-Wa=8;
+Ca=append_text_a06(c,d,oa,ua,e);
+if(Ca.f0!=0)goto L12;
+if(Ca.f1&1){
+Da=oa+(i64)ua;
+Ea=pa-ua;
+Fa=r8(ia);
+Ga=r8(ja);
+if(Ea>Fa-Ga){
+Ha=grow_amortized_e1a(e,Ea);
+if(!Ha)goto L12;
+Ia=r8(ia);
+Ja=r8(ja);}
+else{
+Ia=Fa;
+Ja=Ga;}
+Ka=Ja+Ea;
+La=rp(e);
+memset(ja,0,16);
+Ma=La+(i64)Ja;
+if((u64)Ma-(u64)Da<Ea){
+Na=Ea&3;
+if(Ea<4)Oa=0;
+else{
+Pa=Ea&0xfffffffffffffffcu;
+Qa=0;
+Ra=0;
+L13:*(Ma+Qa)=*(Da+Qa);
+Sa=Qa|1;
+*(Ma+Sa)=*(Da+Sa);
+Ta=Qa|2;
+*(Ma+Ta)=*(Da+Ta);
+Ua=Qa|3;
+*(Ma+Ua)=*(Da+Ua);
+Va=Qa+4;
+Wa=Ra+4;
+if(Wa!=Pa){
+Qa=Va;
+Ra=Wa;
 goto L13;}
-Ka=Ra;}
-Xa=Ka;
+if(Na==0)goto L14;
+Oa=Va;}
+Xa=Oa;
 Ya=0;
-L14:*(Ia+Xa)=*(za+Xa);
+L15:*(Ma+Xa)=*(Da+Xa);
 Za=Ya+1;
-if(Za!=Ja){
+if(Za!=Na){
 Xa=Xa+1;
 Ya=Za;
-goto L14;}
-Ta=Ha;
-Ua=Ga;
-Va=Ea;
-Wa=8;}
-else{
-memmove(Ia,za,Aa);
-Ta=Ha;
-Ua=Ga;
-Va=Ea;
-Wa=8;}}
-else{
-if(va==ta){
-ab=append_parts_673(c,d,sa,ta,e);
-if(ab.f0!=0){
-T=1;
-U=0;
-goto L6;}
-bb=ab;}
-else{
-cb=append_text_a06(c,d,sa,ta,e);
-if(cb.f0!=0){
-T=1;
-U=0;
-goto L6;}
-if(cb.f1&1){
-db=8;
-goto L15;}
-eb=append_parts_673(c,d,sa,ta,e);
-if(eb.f0!=0){
-T=1;
-U=0;
-goto L6;}
-bb=eb;}
-if(bb.f1&1){
-db=8;
-goto L15;}
-fb=r8(ma);
-gb=r8(na);
-if(ta>fb-gb){
-hb=grow_amortized_e1a(e,ta);
-if(!hb){
-T=1;
-U=0;
-goto L6;}
-ib=r8(ma);
-jb=r8(na);}
-else{
-ib=fb;
-jb=gb;}
-kb=jb+ta;
-lb=rp(e);
-memset(na,0,16);
-mb=lb+(i64)jb;
-if((u64)mb-(u64)sa<ta){
-nb=ta&3;
-if(la-ra>0xfffffffffffffffcu)ob=0;
-else{
-pb=ta&131068;
-qb=0;
-rb=0;
-L16:*(mb+qb)=*(sa+qb);
-sb=qb|1;
-*(mb+sb)=*(sa+sb);
-tb=qb|2;
-*(mb+tb)=*(sa+tb);
-ub=qb|3;
-*(mb+ub)=*(sa+ub);
-vb=qb+4;
-wb=rb+4;
-if(wb!=pb){
-qb=vb;
-rb=wb;
+goto L15;}}
+else memmove(Ma,Da,Ea);
+L14:wp(e,La);
+w8(ja,Ka);
+w8(ia,Ia);
 goto L16;}
-if(nb==0){
-Ta=lb;
-Ua=kb;
-Va=ib;
-Wa=16;
-goto L13;}
-ob=vb;}
-xb=ob;
-yb=0;
-L17:*(mb+xb)=*(sa+xb);
-zb=yb+1;
-if(zb!=nb){
-xb=xb+1;
-yb=zb;
+ab=append_text_a06(c,d,oa,pa,e);
+if(ab.f0!=0)goto L12;
+if(ab.f1&1)goto L16;
+bb=append_parts_673(c,d,oa,pa,e);
+if(bb.f0!=0)goto L12;
+Aa=bb.f1;}
+if(!(Aa&1)){
+cb=r8(ia);
+db=r8(ja);
+if(pa>cb-db){
+eb=grow_amortized_e1a(e,pa);
+if(!eb)goto L12;
+fb=r8(ia);
+gb=r8(ja);}
+else{
+fb=cb;
+gb=db;}
+hb=gb+pa;
+ib=rp(e);
+memset(ja,0,16);
+jb=ib+(i64)gb;
+if((u64)jb-(u64)oa<pa){
+kb=pa&3;
+if(ha-na>0xfffffffffffffffcu)lb=0;
+else{
+mb=pa&131068;
+nb=0;
+ob=0;
+L17:*(jb+nb)=*(oa+nb);
+pb=nb|1;
+*(jb+pb)=*(oa+pb);
+qb=nb|2;
+*(jb+qb)=*(oa+qb);
+rb=nb|3;
+*(jb+rb)=*(oa+rb);
+sb=nb+4;
+tb=ob+4;
+if(tb!=mb){
+nb=sb;
+ob=tb;
 goto L17;}
-Ta=lb;
-Ua=kb;
-Va=ib;
-Wa=16;}
+if(kb==0)goto L18;
+lb=sb;}
+ub=lb;
+vb=0;
+L19:*(jb+ub)=*(oa+ub);
+wb=vb+1;
+if(wb!=kb){
+ub=ub+1;
+vb=wb;
+goto L19;}}
+else memmove(jb,oa,pa);
+L18:wp(e,ib);
+w8(ja,hb);
+w8(ia,fb);
+w8(b+56,uadd64(r8(b+56),1));
+w8(b+72,uadd64(r8(b+72),1));
+xb=pa;
+goto L20;}
+L16:w8(b+56,uadd64(r8(b+56),1));
+w8(b+64,uadd64(r8(b+64),1));
+xb=0;
+goto L20;
+L12:*a=1;
+memset(a+16,0,32);
+goto L5;}
+L9:if(pa>ga-fa){
+yb=grow_amortized_e1a(e,pa);
+if(!yb){
+*a=1;
+memset(a+16,0,32);
+goto L5;}
+zb=r8(ia);
+Ab=r8(ja);}
 else{
-memmove(mb,sa,ta);
-Ta=lb;
-Ua=kb;
-Va=ib;
-Wa=16;}}
-L13:wp(e,Ta);
-w8(na,Ua);
-w8(ma,Va);
-db=Wa;
-L15:w8(b+56,uadd64(r8(b+56),1));
-Ab=b+56+(i64)db;
-w8(Ab,uadd64(r8(Ab),1));
-goto L18;}
-L10:if(ta>ka-ja){
-Bb=grow_amortized_e1a(e,ta);
-if(!Bb){
-T=1;
-U=0;
-goto L6;}
-Cb=r8(ma);
-Db=r8(na);}
+zb=ga;
+Ab=fa;}
+Bb=Ab+pa;
+Cb=rp(e);
+memset(ja,0,16);
+Db=Cb+(i64)Ab;
+if((u64)Db-(u64)oa<pa){
+Eb=pa&3;
+if(ha-na>0xfffffffffffffffcu)Fb=0;
 else{
-Cb=ka;
-Db=ja;}
-Eb=Db+ta;
-Fb=rp(e);
-memset(na,0,16);
-Gb=Fb+(i64)Db;
-if((u64)Gb-(u64)sa<ta){
-Hb=ta&3;
-if(la-ra>0xfffffffffffffffcu)Ib=0;
-else{
-Jb=ta&0xfffffffffffffffcu;
-Kb=0;
-Lb=0;
-L19:*(Gb+Kb)=*(sa+Kb);
-Mb=Kb|1;
-*(Gb+Mb)=*(sa+Mb);
-Nb=Kb|2;
-*(Gb+Nb)=*(sa+Nb);
-Ob=Kb|3;
-*(Gb+Ob)=*(sa+Ob);
-Pb=Kb+4;
-Qb=Lb+4;
-if(Qb!=Jb){
-Kb=Pb;
-Lb=Qb;
-goto L19;}
-if(Hb==0)goto L20;
-Ib=Pb;}
-Rb=Ib;
-Sb=0;
-L21:*(Gb+Rb)=*(sa+Rb);
-Tb=Sb+1;
-if(Tb!=Hb){
-Rb=Rb+1;
-Sb=Tb;
-goto L21;}}
-else memmove(Gb,sa,ta);
-L20:wp(e,Fb);
-w8(na,Eb);
-w8(ma,Cb);
-L18:if(r8(b+16)!=0)w8(b+16,0);
+Gb=pa&0xfffffffffffffffcu;
+Hb=0;
+Ib=0;
+L21:*(Db+Hb)=*(oa+Hb);
+Jb=Hb|1;
+*(Db+Jb)=*(oa+Jb);
+Kb=Hb|2;
+*(Db+Kb)=*(oa+Kb);
+Lb=Hb|3;
+*(Db+Lb)=*(oa+Lb);
+Mb=Hb+4;
+Nb=Ib+4;
+if(Nb!=Gb){
+Hb=Mb;
+Ib=Nb;
+goto L21;}
+if(Eb==0)goto L22;
+Fb=Mb;}
+Ob=Fb;
+Pb=0;
+L23:*(Db+Ob)=*(oa+Ob);
+Qb=Pb+1;
+if(Qb!=Eb){
+Ob=Ob+1;
+Pb=Qb;
+goto L23;}}
+else memmove(Db,oa,pa);
+L22:wp(e,Cb);
+w8(ja,Bb);
+w8(ia,zb);
+xb=0;
+L20:if(r8(b+16)!=0)w8(b+16,0);
 memset(b+32,0,18);
-T=0;
-U=f;
-L6:*a=T;
-x16(a+16,U);
-return;
+*a=0;
+x16(a+16,g);
+x8(a+32,xb);
+x8(a+40,0);
+L5:return;
 }
 
-/* sym_filter::tries::append_text::<#ded3639bd0d8abe6> */
-static s_8_8 append_text_a06(u8* a,u8* b,u8* c,u64 d,u8* e)
+/* sym_filter::marks::length_of_front */
+static u64 length_of_front_de8(u8* a,u64 b)
 {
-A16 u8 f[12];
-u8 g,h,i,l;
-u64 j,k;
-s_8_8 m,n;
-memset(f,0,12);
-if(d-65537<0xffffffffffff0001u){
-g=0;
-h=0;}
+u64 c;
+u8 d,e,f,g;
+if(b<6)c=0;
 else{
-i=*c==95;
-if(d==2){
-if(!i){
-g=0;
-h=0;
-goto L1;}
-switch(c[1]){
-case 90:j=0;
-goto L2;
-case 82:break;
-default:g=0;
-h=0;
-goto L1;
-}}
+if((*a==95&&a[1]==95)&&(a[2]==105&&(a[3]==109&&(a[4]==112&&a[5]==95))))c=6;
 else{
-if(!i){
-g=0;
-h=0;
+if(b<15){
+if(b<11){
+c=0;
+goto L1;}}
+else{
+d=parts_equal_58b((u8*)t_6f8a,15,a,15);
+if(d){
+c=15;
 goto L1;}
-switch(c[1]){
-case 90:j=0;
-goto L2;
-case 82:break;
-case 95:switch(c[2]){
-case 90:j=0x100000000u;
-goto L2;
-case 82:j=0x100000001u;
-goto L2;
-default:g=0;
-h=0;
-goto L1;
-}
-break;
-default:g=0;
-h=0;
-goto L1;
-}}
-j=1;
-L2:k=j>>32;
-append_c85(f,a,b,j,c+(i64)k,d-k,e);
-l=*f!=0;
-g=!l;
-h=l&&f[4]==4;}
-L1:m=(s_8_8){0};m.f0=h;
-n=m;n.f1=g;
-return n;
+e=parts_equal_58b((u8*)t_034d,15,a,15);
+if(e){
+c=15;
+goto L1;}}
+f=parts_equal_58b((u8*)t_024d,11,a,11);
+if(f)c=11;
+else{
+g=parts_equal_58b((u8*)t_7e3f,11,a,11);
+c=g?11:0;}}}
+L1:return c;
 }
 
 /* demangle_command::json::JsonDemangler::append */
@@ -59343,17 +58429,17 @@ static u16 abbreviation_6bb(u8 a)
 {
 u16 b;
 switch(a){
-case 97:b=177;
+case 97:b=129;
 break;
-case 98:b=178;
+case 98:b=130;
 break;
-case 115:b=179;
+case 115:b=131;
 break;
-case 105:b=180;
+case 105:b=132;
 break;
-case 111:b=181;
+case 111:b=133;
 break;
-case 100:b=182;
+case 100:b=134;
 break;
 default:b=50;
 break;}
@@ -60067,10 +59153,10 @@ L2:return;
 /* cpp_direct::direct::Direct::operator_name */
 static s_8_8 operator_name_c97(u8* a,u8* b,u64 c)
 {
-u64 d,h,l,n,p,q,s,t,u,x,y,z,A,B,C,D,E,F,G,H,I,J;
-u8 e,f,g,i,k,o,r;
-u16 j;
-u8 *m,*v,*w;
+u64 d,h,k,n,p,q,s,t,u,x,y,z,A,B,C,D,E,F,G,H,I,J;
+u8 e,f,g,i,o,r;
+u16 j,m;
+u8 *l,*v,*w;
 s_8_8 K,L;
 d=r8(a+176);
 if(d<c)e=*(b+d);
@@ -60085,312 +59171,245 @@ w8(a+176,h);
 if(h<c)i=*(b+h);
 else i=0;
 j=operator_120(e,i);
-switch((u8)j){
-case 129:k=0;
-l=12;
-m=(u8*)t_d1c6;
+if(j==160){
+f=0;
+g=0;}
+else{
+switch(j){
+case 161:k=1;
+l=(u8*)t_a318;
 break;
-case 130:k=0;
-l=14;
-m=(u8*)t_6e7d;
+case 162:k=1;
+l=(u8*)t_3973;
 break;
-case 131:k=0;
-l=15;
-m=(u8*)t_bd50;
+case 163:k=1;
+l=(u8*)t_951d;
 break;
-case 132:k=0;
-l=17;
-m=(u8*)t_6b56;
+case 164:k=1;
+l=(u8*)t_6848;
 break;
-case 133:k=0;
-l=17;
-m=(u8*)t_97d0;
+case 165:k=1;
+l=(u8*)t_7ace;
 break;
-case 134:case 139:k=0;
-l=9;
-m=(u8*)t_46af;
+case 166:k=1;
+l=(u8*)t_bb72;
 break;
-case 135:case 140:k=0;
-l=9;
-m=(u8*)t_8d99;
+case 167:k=9;
+l=(u8*)t_3989;
 break;
-case 136:case 144:k=0;
-l=9;
-m=(u8*)t_6f44;
+case 168:k=7;
+l=(u8*)t_8e4f;
 break;
-case 137:case 141:k=0;
-l=9;
-m=(u8*)t_5eb9;
+case 169:k=9;
+l=(u8*)t_e321;
 break;
-case 138:k=0;
-l=9;
-m=(u8*)t_cdb9;
+case 170:k=6;
+l=(u8*)t_362c;
 break;
-case 142:k=0;
-l=9;
-m=(u8*)t_9819;
+case 171:k=2;
+l=(u8*)t_7154;
 break;
-case 143:k=0;
-l=9;
-m=(u8*)t_8c3a;
+case 172:k=2;
+l=(u8*)t_cfc0;
 break;
-case 145:k=0;
-l=9;
-m=(u8*)t_dddf;
+case 173:k=2;
+l=(u8*)t_d815;
 break;
-case 146:k=0;
-l=9;
-m=(u8*)t_8b4d;
+case 174:k=2;
+l=(u8*)t_12ac;
 break;
-case 147:k=0;
-l=10;
-m=(u8*)t_5925;
+case 175:k=3;
+l=(u8*)t_4674;
 break;
-case 148:k=0;
-l=10;
-m=(u8*)t_3a9e;
+case 176:k=3;
+l=(u8*)t_34bb;
 break;
-case 149:k=0;
-l=10;
-m=(u8*)t_5dde;
+case 177:k=3;
+l=(u8*)t_005e;
 break;
-case 150:k=0;
-l=10;
-m=(u8*)t_75c3;
+case 178:k=3;
+l=(u8*)t_306c;
 break;
-case 151:k=0;
-l=10;
-m=(u8*)t_5f52;
+case 179:k=3;
+l=(u8*)t_4620;
 break;
-case 152:k=0;
-l=10;
-m=(u8*)t_5f91;
+case 180:k=3;
+l=(u8*)t_d315;
 break;
-case 153:k=0;
-l=10;
-m=(u8*)t_b7e9;
+case 181:k=4;
+l=(u8*)t_b43c;
 break;
-case 154:k=0;
-l=10;
-m=(u8*)t_c1c5;
+case 182:k=5;
+l=(u8*)t_b7ab;
 break;
-case 155:k=0;
-l=10;
-m=(u8*)t_1d06;
+case 183:k=3;
+l=(u8*)t_fe90;
 break;
-case 156:k=0;
-l=10;
-m=(u8*)t_9c07;
+case 184:k=4;
+l=(u8*)t_a55f;
 break;
-case 157:k=0;
-l=11;
-m=(u8*)t_0e39;
+case 185:k=4;
+l=(u8*)t_9b55;
 break;
-case 158:k=0;
-l=11;
-m=(u8*)t_af4d;
+case 186:k=4;
+l=(u8*)t_eab6;
 break;
-case 159:k=0;
-l=10;
-m=(u8*)t_67bd;
+case 187:k=4;
+l=(u8*)t_29e6;
 break;
-case 160:k=0;
-l=10;
-m=(u8*)t_8192;
+case 188:k=3;
+l=(u8*)t_4ee0;
 break;
-case 161:k=0;
-l=9;
-m=(u8*)t_a111;
+case 189:k=3;
+l=(u8*)t_cdfe;
 break;
-case 162:k=0;
-l=9;
-m=(u8*)t_2d08;
+case 190:k=3;
+l=(u8*)t_ffa9;
 break;
-case 163:k=0;
-l=10;
-m=(u8*)t_68c0;
+case 191:k=4;
+l=(u8*)t_b5fb;
 break;
-case 164:k=0;
-l=10;
-m=(u8*)t_2e43;
+case 192:k=4;
+l=(u8*)t_5d00;
 break;
-case 165:k=0;
-l=11;
-m=(u8*)t_e40a;
+case 193:k=3;
+l=(u8*)t_86f2;
 break;
-case 166:k=0;
-l=9;
-m=(u8*)t_b2ab;
+case 194:k=4;
+l=(u8*)t_ead1;
 break;
-case 167:k=0;
-l=10;
-m=(u8*)t_d2aa;
+case 195:k=2;
+l=(u8*)t_0a07;
 break;
-case 168:k=0;
-l=10;
-m=(u8*)t_a94d;
+case 196:k=3;
+l=(u8*)t_7bac;
 break;
-case 169:k=0;
-l=10;
-m=(u8*)t_c306;
+case 197:k=4;
+l=(u8*)t_0710;
 break;
-case 170:k=0;
-l=10;
-m=(u8*)t_4999;
+case 198:k=4;
+l=(u8*)t_f0dd;
 break;
-case 171:k=0;
-l=9;
-m=(u8*)t_8965;
+case 199:k=4;
+l=(u8*)t_5e1c;
 break;
-case 172:k=0;
-l=11;
-m=(u8*)t_14b2;
+case 200:k=4;
+l=(u8*)t_d800;
 break;
-case 173:k=0;
-l=10;
-m=(u8*)t_e0ef;
+case 201:k=4;
+l=(u8*)t_becc;
 break;
-case 174:k=0;
-l=10;
-m=(u8*)t_1f0f;
+case 202:k=4;
+l=(u8*)t_05d9;
 break;
-case 175:k=0;
-l=10;
-m=(u8*)t_284e;
+case 203:k=4;
+l=(u8*)t_7e96;
 break;
-case 176:k=0;
-l=9;
-m=(u8*)t_e86a;
+case 204:k=4;
+l=(u8*)t_a267;
 break;
-case 177:k=0;
-l=14;
-m=(u8*)t_5ec9;
+case 205:k=5;
+l=(u8*)t_b1e2;
 break;
-case 178:k=0;
-l=17;
-m=(u8*)t_9945;
+case 206:k=5;
+l=(u8*)t_4af9;
 break;
-case 179:k=0;
-l=11;
-m=(u8*)t_71fc;
+case 207:k=1;
+l=(u8*)t_2458;
 break;
-case 180:k=0;
-l=12;
-m=(u8*)t_e6f6;
+case 208:k=1;
+l=(u8*)t_cfae;
 break;
-case 181:k=0;
-l=12;
-m=(u8*)t_a66e;
+case 209:k=1;
+l=(u8*)t_cdb4;
 break;
-case 182:k=0;
-l=13;
-m=(u8*)t_0bf1;
+case 210:k=2;
+l=(u8*)t_71b3;
 break;
-case 183:k=0;
-l=9;
-m=(u8*)t_0929;
+case 211:k=3;
+l=(u8*)t_8712;
 break;
-case 184:k=0;
-l=12;
-m=(u8*)t_a59d;
+case 212:k=3;
+l=(u8*)t_7afd;
 break;
-case 185:k=0;
-l=6;
-m=(u8*)t_4732;
+case 213:k=1;
+l=(u8*)t_32eb;
 break;
-case 186:k=0;
-l=7;
-m=(u8*)t_67dd;
+case 214:k=1;
+l=(u8*)t_ba5e;
 break;
-case 187:k=0;
-l=7;
-m=(u8*)t_662c;
+case 215:k=2;
+l=(u8*)t_9255;
 break;
-case 188:case 190:case 208:f=0;
+case 216:k=1;
+l=(u8*)t_021f;
+break;
+case 217:k=1;
+l=(u8*)t_d10b;
+break;
+case 218:k=13;
+l=(u8*)t_1810;
+break;
+case 219:k=2;
+l=(u8*)t_daa9;
+break;
+case 220:k=12;
+l=(u8*)t_c7fa;
+break;
+case 221:k=11;
+l=(u8*)t_8b17;
+break;
+case 222:k=17;
+l=(u8*)t_719d;
+break;
+case 223:case 224:f=0;
 g=0;
 goto L1;
-case 189:k=0;
-l=11;
-m=(u8*)t_727e;
+case 225:k=9;
+l=(u8*)t_49e6;
 break;
-case 191:k=0;
-l=13;
-m=(u8*)t_77a1;
+case 226:k=10;
+l=(u8*)t_4f06;
 break;
-case 192:k=0;
-l=18;
-m=(u8*)t_71af;
+case 227:k=10;
+l=(u8*)t_b064;
 break;
-case 193:k=0;
-l=19;
-m=(u8*)t_c270;
+case 228:k=4;
+l=(u8*)t_1eb7;
 break;
-case 194:k=0;
-l=40;
-m=(u8*)t_2b84;
+case 229:k=3;
+l=(u8*)t_1150;
 break;
-case 195:k=0;
-l=33;
-m=(u8*)t_5acd;
+case 230:k=1;
+l=(u8*)t_36a9;
 break;
-case 196:k=1;
-l=1;
-m=(u8*)t_0bfe;
+case 231:k=5;
+l=(u8*)t_0ead;
 break;
-case 197:k=1;
-l=1;
-m=(u8*)t_acac;
+case 232:k=4;
+l=(u8*)t_1a52;
 break;
-case 198:k=1;
-l=2;
-m=(u8*)t_51db;
+case 233:k=4;
+l=(u8*)t_7153;
 break;
-case 199:k=1;
-l=2;
-m=(u8*)t_f9e0;
+case 234:k=14;
+l=(u8*)t_1bf4;
 break;
-case 200:k=1;
-l=3;
-m=(u8*)t_7dd3;
+case 235:k=20;
+l=(u8*)t_1687;
 break;
-case 201:k=0;
-l=9;
-m=(u8*)t_4d76;
-break;
-case 202:k=0;
-l=9;
-m=(u8*)t_e25b;
-break;
-case 203:k=0;
-l=18;
-m=(u8*)t_76ae;
-break;
-case 204:k=0;
-l=6;
-m=(u8*)t_5a2b;
-break;
-case 205:k=0;
-l=15;
-m=(u8*)t_0d4d;
-break;
-case 206:k=0;
-l=15;
-m=(u8*)t_988e;
-break;
-case 207:k=0;
-l=24;
-m=(u8*)t_c0ca;
-break;
-default:NEVER;
-}
+default:m=j-236;
+k=r8((u8*)t_a27e+(u64)m*8);
+l=rp((u8*)t_392a+(u64)m*8);
+break;}
 if(h==18446744073709551615u){
 f=0;
 g=0;}
 else{
 w8(a+176,d+2);
 n=r8(a+8);
-if(r8(a+32)-n<l){
-o=make_ready_8e3(a,l,128);
+if(r8(a+32)-n<k){
+o=make_ready_8e3(a,k,128);
 if(!(o&1)){
 f=0;
 g=0;
@@ -60398,8 +59417,8 @@ goto L1;}
 p=r8(a+8);}
 else p=n;
 q=r8(a+16);
-if(l>q-p){
-r=grow_amortized_e1a(a,l);
+if(k>q-p){
+r=grow_amortized_e1a(a,k);
 if(!r){
 f=0;
 g=0;
@@ -60409,24 +59428,24 @@ t=r8(a+8);}
 else{
 s=q;
 t=p;}
-u=t+l;
+u=t+k;
 v=rp(a);
 memset(a+8,0,16);
 w=v+(i64)t;
-if((u64)w-(u64)m<l){
-x=l&3;
-if(k)y=0;
+if((u64)w-(u64)l<k){
+x=k&3;
+if(k<4)y=0;
 else{
-z=l&60;
+z=k&0xfffffffffffffffcu;
 A=0;
 B=0;
-L2:*(w+A)=*(m+A);
+L2:*(w+A)=*(l+A);
 C=A|1;
-*(w+C)=*(m+C);
+*(w+C)=*(l+C);
 D=A|2;
-*(w+D)=*(m+D);
+*(w+D)=*(l+D);
 E=A|3;
-*(w+E)=*(m+E);
+*(w+E)=*(l+E);
 F=A+4;
 G=B+4;
 if(G!=z){
@@ -60437,18 +59456,18 @@ if(x==0)goto L3;
 y=F;}
 H=y;
 I=0;
-L4:*(w+H)=*(m+H);
+L4:*(w+H)=*(l+H);
 J=I+1;
 if(J!=x){
 H=H+1;
 I=J;
 goto L4;}}
-else memmove(w,m,l);
+else memmove(w,l,k);
 L3:wp(a,v);
 w8(a+8,u);
 w8(a+16,s);
 f=(e!=108)|((u8)(i-117)<254);
-g=1;}
+g=1;}}
 L1:K=(s_8_8){0};K.f0=g;
 L=K;L.f1=f;
 return L;
@@ -60459,103 +59478,103 @@ static u16 operator_120(u8 a,u8 b)
 {
 u16 c;
 switch((u16)((u32)a<<8)|b){
-case 28279:c=129;
+case 28279:c=236;
 break;
-case 28257:c=130;
+case 28257:c=237;
 break;
-case 25708:c=131;
+case 25708:c=238;
 break;
-case 25697:c=132;
+case 25697:c=239;
 break;
-case 24951:c=133;
+case 24951:c=240;
 break;
-case 28787:c=134;
+case 28787:c=241;
 break;
-case 28263:c=135;
+case 28263:c=242;
 break;
-case 24932:c=136;
+case 24932:c=243;
 break;
-case 25701:c=137;
+case 25701:c=244;
 break;
-case 25455:c=138;
+case 25455:c=245;
 break;
-case 28780:c=139;
+case 28780:c=246;
 break;
-case 28009:c=140;
+case 28009:c=247;
 break;
-case 28012:c=141;
+case 28012:c=248;
 break;
-case 25718:c=142;
+case 25718:c=249;
 break;
-case 29293:c=143;
+case 29293:c=250;
 break;
-case 24942:c=144;
+case 24942:c=251;
 break;
-case 25967:c=145;
+case 25967:c=252;
 break;
-case 24915:c=146;
+case 24915:c=253;
 break;
-case 28748:c=147;
+case 28748:c=254;
 break;
-case 27977:c=148;
+case 27977:c=255;
 break;
-case 27980:c=149;
+case 27980:c=256;
 break;
-case 25686:c=150;
+case 25686:c=257;
 break;
-case 29261:c=151;
+case 29261:c=258;
 break;
-case 24910:c=152;
+case 24910:c=259;
 break;
-case 28498:c=153;
+case 28498:c=260;
 break;
-case 25935:c=154;
+case 25935:c=261;
 break;
-case 27763:c=155;
+case 27763:c=262;
 break;
-case 29299:c=156;
+case 29299:c=263;
 break;
-case 27731:c=157;
+case 27731:c=264;
 break;
-case 29267:c=158;
+case 29267:c=265;
 break;
-case 25969:c=159;
+case 25969:c=266;
 break;
-case 28261:c=160;
+case 28261:c=267;
 break;
-case 27764:c=161;
+case 27764:c=268;
 break;
-case 26484:c=162;
+case 26484:c=269;
 break;
-case 27749:c=163;
+case 27749:c=270;
 break;
-case 26469:c=164;
+case 26469:c=271;
 break;
-case 29555:c=165;
+case 29555:c=272;
 break;
-case 28276:c=166;
+case 28276:c=273;
 break;
-case 24929:c=167;
+case 24929:c=274;
 break;
-case 28527:c=168;
+case 28527:c=275;
 break;
-case 28784:c=169;
+case 28784:c=276;
 break;
-case 28013:c=170;
+case 28013:c=277;
 break;
-case 25453:c=171;
+case 25453:c=278;
 break;
-case 28781:c=172;
+case 28781:c=279;
 break;
-case 28788:c=173;
+case 28788:c=280;
 break;
-case 25452:c=174;
+case 25452:c=281;
 break;
-case 27000:c=175;
+case 27000:c=282;
 break;
-case 28530:c=176;
+case 28530:c=283;
 break;
-default:c=208;
+default:c=160;
 break;}
 return c;
 }
@@ -87436,17 +86455,17 @@ w4(i+16,ph);
 fill_own_piece_0f9(K,b+248,oh,i);}
 break;
 case 17:switch(sg){
-case 97:qh=183;
+case 97:qh=135;
 break;
-case 98:qh=184;
+case 98:qh=136;
 break;
-case 115:qh=185;
+case 115:qh=137;
 break;
-case 105:qh=186;
+case 105:qh=138;
 break;
-case 111:qh=187;
+case 111:qh=139;
 break;
-case 100:qh=188;
+case 100:qh=140;
 break;
 default:goto L31;
 }
@@ -87895,21 +86914,21 @@ case 97:gi=36;
 hi=(u8*)t_1a97;
 break;
 default:ki=ii-98;
-if(ki<79){
-gi=r8((u8*)t_249d+(u64)ki*8);
-hi=(u8*)t_564c[(u64)ki<<2/4];}
+if(ki<63){
+gi=r8((u8*)t_08c8+(u64)ki*8);
+hi=(u8*)t_a8f4[(u64)ki<<2/4];}
 else{
-li=ii-177;
-if(li<32){
-gi=r8((u8*)t_9b8e+(u64)li*8);
-hi=(u8*)t_cc0c[(u64)li<<2/4];}
+li=ii-161;
+if(li<75){
+gi=r8((u8*)t_59f6+(u64)li*8);
+hi=(u8*)t_276d[(u64)li<<2/4];}
 else{
-mi=ii-209;
-if(mi>=75){
+mi=ii-236;
+if(mi>=48){
 ji=(u8*)t_z0;
 goto L32;}
-gi=r8((u8*)t_59f6+(u64)mi*8);
-hi=(u8*)t_276d[(u64)mi<<2/4];}}
+gi=r8((u8*)t_a27e+(u64)mi*8);
+hi=rp((u8*)t_392a+(u64)mi*8);}}
 break;}
 break;
 case 4:gi=Pb[-11];
@@ -105547,7 +104566,7 @@ C=(u8)(o<<1)&2;
 if(A==1){
 D=(B|((u8)(p<<2)&4))|C;
 if(D==0)goto L1;
-E=D|200;}
+E=D|152;}
 else{
 F=(((u8)(p<<2)&4)|50)+(C|B);
 if(F<=50)goto L1;
@@ -105749,15 +104768,15 @@ case 105:case 106:case 108:case 109:case 120:case 121:l=*f;
 m=r4(f+4);
 n=r4(f+8);
 switch(k){
-case 106:o=196;
+case 106:o=148;
 break;
-case 108:o=197;
+case 108:o=149;
 break;
-case 109:o=198;
+case 109:o=150;
 break;
-case 120:o=199;
+case 120:o=151;
 break;
-case 121:o=200;
+case 121:o=152;
 break;
 default:goto L1;
 }
@@ -106120,7 +105139,7 @@ case 29265:d=996;
 break;
 default:d=1008;
 break;}
-memcpy(a,(u8*)t_7c2d+d,12);
+memcpy(a,(u8*)t_c688+d,12);
 return;
 }
 
@@ -106522,17 +105541,17 @@ memcpy(ra+52,m,20);
 w8(b+8,oa+2);
 break;
 case 17:switch(D){
-case 97:sa=177;
+case 97:sa=129;
 break;
-case 98:sa=178;
+case 98:sa=130;
 break;
-case 115:sa=179;
+case 115:sa=131;
 break;
-case 105:sa=180;
+case 105:sa=132;
 break;
-case 111:sa=181;
+case 111:sa=133;
 break;
-case 100:sa=182;
+case 100:sa=134;
 break;
 default:goto L2;
 }
@@ -106980,13 +105999,13 @@ memset(K+61,0,11);
 L=H+2;
 w8(b+8,L);
 switch(j){
-case 86:M=189;
+case 86:M=141;
 break;
-case 84:M=190;
+case 84:M=142;
 break;
-case 73:M=191;
+case 73:M=143;
 break;
-case 83:M=192;
+case 83:M=144;
 break;
 default:goto L1;
 }
@@ -107039,11 +106058,11 @@ memset(Y+25,0,11);
 Z=X+1;
 w8(b+8,Z);
 switch(j){
-case 86:aa=193;
+case 86:aa=145;
 break;
-case 72:aa=194;
+case 72:aa=146;
 break;
-case 87:aa=195;
+case 87:aa=147;
 break;
 default:goto L1;
 }
@@ -107187,7 +106206,7 @@ u8 E,I,N,R,T,U,ea,ia,ka,qa,ta,va,xa,za,Ba,Da,Ga,Ia,Ja,Ka,Ma,Na,Oa,Pa,Ra,Ta,Ya,ab
 u8 *K,*O,*W,*na,*Aa,*ob,*yb,*Eb,*Lb,*Qb,*Vb,*hc,*Fc,*Jc,*Xc,*Yc,*cd,*od,*pd,*ud,*Hd,*Id,*Md,*Xd,*be,*me,*qe,*Ee,*Ve,*df,*nf,*yf,*zf,*Df,*Jf,*Sf,*Tf,*cg,*dg,*xg,*Dg,*Ng,*Tg,*ah,*fh,*kh,*wh,*Kh,*bi,*ji,*vi,*wi,*Li,*cj,*ej,*mj,*wj,*Ej,*Lj,*Rj,*bk,*kk,*lk,*Ak,*Gk,*Kk,*Ok,*kl,*rl,*yl,*Fl,*Ol,*Xl,*Yl,*cm,*pm,*ym,*Hm,*Qm,*Rm,*Vm,*bn,*kn,*tn,*vn,*yn,*Hn,*Ln,*Un,*Vn,*ao,*io;
 s_8_64 rb,Gg,pj,im,jo,ko;
 u16 Te,Zh;
-if(c-1<4096){
+if(c-1<65536){
 if(*b==95&&c>1){
 if(b[1]==82){
 B=r8(a+136);
@@ -114821,7 +113840,7 @@ u8 E,I,N,R,T,U,W,Y,ea,ha,ja,la,na,pa,ra,ua,wa,xa,ya,Aa,Ba,Ca,Da,Fa,Ha,Ma,Oa,Pa,Q
 u8 *K,*O,*ba,*oa,*cb,*mb,*sb,*zb,*Eb,*Jb,*Vb,*tc,*xc,*Lc,*Mc,*Qc,*cd,*dd,*hd,*ud,*vd,*Ad,*Ld,*Pd,*ae,*ee,*se,*Je,*Re,*af,*mf,*nf,*rf,*xf,*Gf,*Hf,*Qf,*Rf,*lg,*rg,*Bg,*Hg,*Og,*Tg,*Yg,*kh,*yh,*Ph,*Xh,*ji,*ki,*zi,*Qi,*Si,*aj,*kj,*sj,*zj,*Fj,*Pj,*Yj,*Zj,*ok,*uk,*yk,*Ck,*Yk,*fl,*ml,*tl,*Cl,*Ll,*Ml,*Ql,*dm,*mm,*vm,*Em,*Fm,*Jm,*Pm,*Ym,*hn,*jn,*mn,*zn,*An,*Fn,*Jn,*Sn,*Tn,*Yn,*go;
 s_8_64 fb,ug,dj,Wl,ho,io;
 u16 He,Nh;
-if(c-1<4096){
+if(c-1<65536){
 if(*b==95&&c>1){
 if(b[1]==82){
 B=r8(a+136);
@@ -124088,6 +123107,66 @@ w8(b+8,x+1);}}
 return;
 }
 
+/* sym_filter::tries::append_text::<#ded3639bd0d8abe6> */
+static s_8_8 append_text_a06(u8* a,u8* b,u8* c,u64 d,u8* e)
+{
+A16 u8 f[12];
+u8 g,h,i,l;
+u64 j,k;
+s_8_8 m,n;
+if(d-65537<0xffffffffffff0001u){
+g=0;
+h=0;}
+else{
+i=*c==95;
+if(d==2){
+if(!i){
+g=0;
+h=0;
+goto L1;}
+switch(c[1]){
+case 90:j=0;
+goto L2;
+case 82:break;
+default:g=0;
+h=0;
+goto L1;
+}}
+else{
+if(!i){
+g=0;
+h=0;
+goto L1;}
+switch(c[1]){
+case 90:j=0;
+goto L2;
+case 82:break;
+case 95:switch(c[2]){
+case 90:j=0x100000000u;
+goto L2;
+case 82:j=0x100000001u;
+goto L2;
+default:g=0;
+h=0;
+goto L1;
+}
+break;
+default:g=0;
+h=0;
+goto L1;
+}}
+j=1;
+L2:k=j>>32;
+memset(f,0,12);
+append_c85(f,a,b,j,c+(i64)k,d-k,e);
+l=*f==0;
+g=l;
+h=!l&&f[4]==4;}
+L1:m=(s_8_8){0};m.f0=h;
+n=m;n.f1=g;
+return n;
+}
+
 /* sym_filter::tries::append_parts::<#ded3639bd0d8abe6> */
 static s_8_8 append_parts_673(u8* a,u8* b,u8* c,u64 d,u8* e)
 {
@@ -124396,146 +123475,1259 @@ G=F;G.f1=i;
 return G;
 }
 
-/* sym_filter::filtering::end_segment::<#aeb032a626a3c4df> */
-static s_8_8 end_segment_de1(u8* a,u8* b,u8* c,u8* d,u8* e)
+/* demangle_names::reasons::placed */
+static COLD void placed_826(u8* a,u64 b,u8* c,u64 d)
 {
-A16 u8 f[32];
-u128 g,h,L,S;
-u8 *i,*n,*u,*v;
-u64 j,l,o,p,r,s,t,w,x,y,z,A,B,C,D,E,F,G,H,I,M,O,P;
-u8 k,q,J,K,N,R;
-s_8_8 m,Q,T,U;
-memset(f,0,32);
-if(*c!=2){
-h=r16(c+32);
-i=rp(c+8);
-j=r8(c+16);
-if(j-65537>=0xffffffffffff0001u){
-k=*i==95;
-if(j==2){
-if(!k)goto L1;
-switch(i[1]){
-case 90:l=0;
+u8 e[24];
+A16 u8 f[64],g[24];
+u8 h,r,v,B,F,I,R,ha;
+u64 i,k,l,n,o,p,q,t,u,x,y,A,D,E,G,H,J,K,L,P,Q,U,V,W,X,Y,Z,aa,ba,ca,da,ea,fa,ga,ia,ja,la,ma,na,oa,pa,qa,ra,sa,ta,ua,va,wa,xa;
+u8 *j,*m,*s,*w,*z,*C,*M,*N,*O,*S,*ka;
+s_64_64 T;
+memset(g,0,24);
+memset(f+8,0,16);
+memset(f+57,0,7);
+wp(f,(u8*)65536);
+w8(f+48,0);
+f[56]=0;
+w4(f+24,32);
+memset(f+28,0,12);
+w8(f+40,18446744073709551615u);
+h=grow_amortized_e1a(f,5);
+if(h){
+i=r8(f+16);
+j=rp(f);
+k=r8(f+8);
+l=k+5;
+m=j+(i64)k;
+if((u64)m-(u64)(u8*)t_728d<5){
+*m=108;
+m[1]=105;
+m[2]=110;
+m[3]=101;
+m[4]=32;}
+else memcpy(m,(u8*)t_728d,5);
+w8(f+8,l);
+w4(f+24,32);
+memset(f+28,0,12);
+w8(f+40,18446744073709551615u);
+memset(e,0,24);
+if(b<=99){
+p=b;
+q=24;
+goto L1;}
+n=24;
+o=b;
+L2:r=o%100;
+s=e+(i64)n;
+s[-1]=(r%10)|48;
+s[-2]=(r/10)|48;
+t=o/100;
+u=n-2;
+if(o>9999){
+n=u;
+o=t;
+goto L2;}
+p=t;
+q=u;
+L1:v=p;
+if(p>9){
+w=e+(i64)q;
+w[-1]=(v%10)|48;
+w[-2]=(v/10)|48;
+x=q-2;}
+else{
+y=q-1;
+*(e+y)=v|48;
+x=y;}
+z=e+(i64)x;
+z[-1]=45;
+A=24-x;
+if(r8(f+48)==0){
+if(A>i-l){
+B=grow_amortized_e1a(f,A);
+if(!B)goto L3;
+C=rp(f);
+D=r8(f+16);
+E=r8(f+8);}
+else{
+C=j;
+D=i;
+E=l;}
+memcpy(C+(i64)E,z,A);
+w8(f+8,E+A);
+w8(f+16,D);}
+else{
+F=write_indented_070(f,z,A);
+if(F&1)goto L3;}
+w4(f+24,32);
+memset(f+28,0,12);
+w8(f+40,18446744073709551615u);
+if(r8(f+48)==0){
+G=r8(f+16);
+H=r8(f+8);
+if(G-H<2){
+I=grow_amortized_e1a(f,2);
+if(!I)goto L3;
+J=r8(f+16);
+K=r8(f+8);}
+else{
+J=G;
+K=H;}
+L=K+2;
+M=rp(f);
+N=M+(i64)K;
+if((u64)N-(u64)(u8*)t_4582<2){
+*N=58;
+N[1]=32;
+O=M;
+P=J;
+Q=L;}
+else{
+x2(N,8250);
+O=M;
+P=J;
+Q=L;}}
+else{
+R=write_indented_070(f,(u8*)t_4582,2);
+if(R!=0)goto L3;
+O=rp(f);
+P=r8(f+16);
+Q=r8(f+8);}
+if(Q!=0){
+if((i64)Q>-1){
+T=port_rattle_alloc(Q,1);
+if((u8)(T.f0&1)){
+S=(u8*)T.f1;
+goto L4;}}
+if(P!=0)port_rattle_dealloc(O);
+*a=1;
+memset(a+8,0,24);
+goto L5;}
+S=(u8*)65536;
+L4:if((u64)S-(u64)O<Q){
+U=Q&3;
+if(Q<4)V=0;
+else{
+W=Q&0xfffffffffffffffcu;
+X=0;
+Y=0;
+L6:*(S+X)=*(O+X);
+Z=X|1;
+*(S+Z)=*(O+Z);
+aa=X|2;
+*(S+aa)=*(O+aa);
+ba=X|3;
+*(S+ba)=*(O+ba);
+ca=X+4;
+da=Y+4;
+if(da!=W){
+X=ca;
+Y=da;
+goto L6;}
+if(U==0)goto L7;
+V=ca;}
+ea=V;
+fa=0;
+L8:*(S+ea)=*(O+ea);
+ga=fa+1;
+if(ga!=U){
+ea=ea+1;
+fa=ga;
+goto L8;}}
+else memmove(S,O,Q);
+L7:wp(g,S);
+w8(g+8,Q);
+w8(g+16,Q);
+ha=grow_amortized_e1a(g,d);
+if(!ha){
+if(r8(g+16)!=0)port_rattle_dealloc(rp(g));
+if(P!=0)port_rattle_dealloc(O);
+*a=1;
+memset(a+8,0,24);
+goto L5;}
+ia=r8(g+8);
+ja=ia+d;
+ka=rp(g)+(i64)ia;
+if((u64)ka-(u64)c<d){
+la=d&3;
+if(d<4)ma=0;
+else{
+na=d&0xfffffffffffffffcu;
+oa=0;
+pa=0;
+L9:*(ka+oa)=*(c+oa);
+qa=oa|1;
+*(ka+qa)=*(c+qa);
+ra=oa|2;
+*(ka+ra)=*(c+ra);
+sa=oa|3;
+*(ka+sa)=*(c+sa);
+ta=oa+4;
+ua=pa+4;
+if(ua!=na){
+oa=ta;
+pa=ua;
+goto L9;}
+if(la==0)goto L10;
+ma=ta;}
+va=ma;
+wa=0;
+L11:*(ka+va)=*(c+va);
+xa=wa+1;
+if(xa!=la){
+va=va+1;
+wa=xa;
+goto L11;}}
+else memmove(ka,c,d);
+L10:w8(g+8,ja);
+if(P!=0)port_rattle_dealloc(O);
+*a=0;
+memcpy(a+8,g,24);
+goto L5;}
+L3:if(r8(f+16)!=0)port_rattle_dealloc(rp(f));
+*a=1;
+memset(a+8,0,24);
+L5:return;
+}
+
+/* demangle_names::reasons::say_reason::<#d1607807d08c6865> */
+static s_8_8 say_reason_a74(u8* a,u8* b,u64 c,u8* d,u64 e,u8* f)
+{
+u8 k[31],s[1799],v[1799];
+A16 u8 g[88],h[80],i[24],j[64],l[4],m[4],n[4],o[32],p[24],q[24],r[24],t[1792],u[24],w[1800],x[12],y[1792],z[1792];
+u8 A,C,H,L,Q,V,W,aa,ba,ia,ja,ta,Ja,Pa,ib;
+u64 B,D,F,J,N,O,S,T,X,Y,da,ea,ga,ha,la,oa,ra,sa,ua,wa,xa,ya,za,Aa,Ba,Ca,Da,Ea,Fa,Ga,Ha,Ia,La,Ma,Na,Qa,Ra,Sa,Va,Wa,Xa,Ya,Za,ab,bb,cb,db,eb,fb,gb,hb,jb,lb,mb,nb,ob,qb,sb,tb,ub;
+s_64_64 E,ka,na;
+u8 *G,*I,*K,*M,*P,*R,*Z,*ca,*fa,*ma,*pa,*qa,*va,*Ka,*Oa,*Ta,*Ua,*kb,*pb;
+u32 U,rb;
+s_8_8 vb,wb;
+memset(x,0,12);
+memset(y,0,1792);
+memset(z,0,1792);
+if(e-65537>=0xffffffffffff0001u){
+A=*d==95;
+if(e==2){
+if(!A)goto L1;
+switch(d[1]){
+case 90:B=0;
 goto L2;
 case 82:break;
 default:goto L1;
 }}
 else{
-if(!k)goto L1;
-switch(i[1]){
-case 90:l=0;
+if(!A)goto L1;
+switch(d[1]){
+case 90:B=0;
 goto L2;
 case 82:break;
-case 95:switch(i[2]){
-case 90:l=0x100000000u;
+case 95:switch(d[2]){
+case 90:B=0x100000000u;
 goto L2;
-case 82:l=0x100000001u;
+case 82:B=0x100000001u;
 goto L2;
 default:goto L1;
 }
 break;
 default:goto L1;
 }}
-l=1;
-L2:m=push_text_7d3(a,b,i,j,l,l>>32,d);
-if(m.f0!=0)goto L3;
-w8(c+56,uadd64(r8(c+56),1));
-n=c+56+(i64)(u64)((m.f1&1)?8:16);
-w8(n,uadd64(r8(n),1));
-goto L4;}
-L1:o=r8(d+16);
-p=r8(d+8);
-if(j>o-p){
-q=grow_amortized_e1a(d,j);
-if(!q)goto L3;
-r=r8(d+16);
-s=r8(d+8);}
-else{
-r=o;
-s=p;}
-t=s+j;
-u=rp(d);
-memset(d+8,0,16);
-v=u+(i64)s;
-if((u64)v-(u64)i<j){
-w=j&3;
-if(j<4)x=0;
-else{
-y=j&0xfffffffffffffffcu;
-z=0;
-A=0;
-L5:*(v+z)=*(i+z);
-B=z|1;
-*(v+B)=*(i+B);
-C=z|2;
-*(v+C)=*(i+C);
-D=z|3;
-*(v+D)=*(i+D);
-E=z+4;
-F=A+4;
-if(F!=y){
-z=E;
-A=F;
-goto L5;}
-if(w==0)goto L6;
-x=E;}
-G=x;
+B=1;
+L2:lists_5fc(w);
+C=*w;
+memset(s,0,7);
+if(C!=0)goto L3;
+D=B>>32;
+memcpy(s+7,w+8,1792);
+memcpy(v,s,1799);
+memcpy(t,v+7,1792);
+wp(u,(u8*)65536);
+memset(u+8,0,16);
+append_c85(x,a,t,B,d+(i64)D,e-D,u);
+if(*x==0){
+E=port_rattle_alloc(12,1);
+if((u8)(E.f0&1)){
+F=E.f1;
+G=(u8*)F;
+if(F-(u64)(u8*)t_81c5<12){
+*G=110;
+G[1]=111;
+G[2]=116;
+G[3]=32;
+G[4]=97;
+G[5]=32;
+G[6]=115;
+G[7]=121;
+G[8]=109;
+G[9]=98;
+G[10]=111;
+G[11]=108;
 H=0;
-L7:*(v+G)=*(i+G);
-I=H+1;
-if(I!=w){
-G=G+1;
-H=I;
-goto L7;}}
-else memmove(v,i,j);
-L6:wp(d,u);
-w8(d+8,t);
-w8(d+16,r);
-L4:if(r8(c+16)!=0)w8(c+16,0);
-memset(c+32,0,18);
-g=h;
+I=G;
+J=12;}
+else{
+memcpy(G,(u8*)t_81c5,12);
+H=0;
+I=G;
+J=12;}}
+else{
+H=1;
+I=0;
+J=0;}
+if(r8(u+16)==0){
+K=y;
+L=H;
+M=I;
+N=J;
+O=J;
+goto L4;}
+P=y;
+Q=H;
+R=I;
+S=J;
+T=J;}
+else{
+U=r4(x+8);
+V=x[4];
+memset(o,0,32);
+switch(V){
+case 0:w4(l,U);
+wp(p,(u8*)t_aa84);
+w8(p+8,13);
+wp(p+16,l);
+format_c1f(o,p);
+break;
+case 1:w4(m,U);
+wp(q,(u8*)t_19db);
+w8(q+8,17);
+wp(q+16,m);
+format_c1f(o,q);
+break;
+case 2:w4(n,U);
+wp(r,(u8*)t_d9ee);
+w8(r+8,13);
+wp(r+16,n);
+format_c1f(o,r);
+break;
+case 3:memset(k,0,31);
+memset(j+8,0,16);
+memset(j+57,0,7);
+wp(j,(u8*)65536);
+w8(j+48,0);
+j[56]=0;
+w4(j+24,32);
+memset(j+28,0,12);
+w8(j+40,18446744073709551615u);
+W=grow_amortized_e1a(j,8);
+if(W){
+X=r8(j+8);
+Y=X+8;
+Z=rp(j)+(i64)X;
+if((u64)Z-(u64)(u8*)t_24f3<8){
+*Z=116;
+Z[1]=111;
+Z[2]=111;
+Z[3]=32;
+Z[4]=108;
+Z[5]=111;
+Z[6]=110;
+Z[7]=103;}
+else x8(Z,0x676e6f6c206f6f74u);
+w8(j+8,Y);
+memcpy(k+7,j,24);
+aa=0;}
+else{
+if(r8(j+16)==0)aa=1;
+else{
+port_rattle_dealloc(rp(j));
+aa=1;}}
+*o=aa;
+memcpy(o+8,k+7,24);
+break;
+case 4:*o=1;
+break;
+default:NEVER;
+}
+ba=*o;
+ca=rp(o+8);
+da=r8(o+16);
+ea=r8(o+24);
+if(r8(u+16)==0){
+K=z;
+L=ba;
+M=ca;
+N=da;
+O=ea;
+goto L4;}
+P=z;
+Q=ba;
+R=ca;
+S=da;
+T=ea;}
+port_rattle_dealloc(rp(u));
+K=P;
+L=Q;
+M=R;
+N=S;
+O=T;
+L4:memcpy(K,t,1792);
+drop_fa3(K);
+if(L!=0){
+ia=2;
+ja=1;
+goto L5;}
+fa=M;
+ga=N;
+ha=O;
+goto L6;}
+L1:ka=port_rattle_alloc(12,1);
+if((u8)(ka.f0&1)){
+la=ka.f1;
+ma=(u8*)la;
+if(la-(u64)(u8*)t_81c5<12){
+*ma=110;
+ma[1]=111;
+ma[2]=116;
+ma[3]=32;
+ma[4]=97;
+ma[5]=32;
+ma[6]=115;
+ma[7]=121;
+ma[8]=109;
+ma[9]=98;
+ma[10]=111;
+ma[11]=108;}
+else memcpy(ma,(u8*)t_81c5,12);
+fa=ma;
+ga=12;
+ha=12;
+goto L6;}
+L3:ia=2;
+ja=1;
+goto L5;
+L6:na=port_rattle_alloc(10,1);
+if((u8)(na.f0&1)){
+oa=na.f1;
+pa=(u8*)oa;
+if(oa-(u64)(u8*)t_e65e<10){
+*pa=100;
+pa[1]=101;
+pa[2]=109;
+pa[3]=97;
+pa[4]=110;
+pa[5]=103;
+pa[6]=108;
+pa[7]=101;
+pa[8]=58;
+pa[9]=32;}
+else memcpy(pa,(u8*)t_e65e,10);
+wp(i,pa);
+w8(i+8,10);
+w8(i+16,10);
+if(c==0){
+qa=pa;
+ra=10;
+sa=10;}
+else{
+ta=grow_amortized_e1a(i,c);
+if(!ta){
+if(r8(i+16)==0)goto L7;
 goto L8;}
-end_within_406(f,c,a,b,d);
+qa=rp(i);
+ra=r8(i+16);
+sa=r8(i+8);}
+ua=sa+c;
+va=qa+(i64)sa;
+if((u64)va-(u64)b<c){
+wa=c&3;
+if(c<4)xa=0;
+else{
+ya=c&0xfffffffffffffffcu;
+za=0;
+Aa=0;
+L9:*(va+za)=*(b+za);
+Ba=za|1;
+*(va+Ba)=*(b+Ba);
+Ca=za|2;
+*(va+Ca)=*(b+Ca);
+Da=za|3;
+*(va+Da)=*(b+Da);
+Ea=za+4;
+Fa=Aa+4;
+if(Fa!=ya){
+za=Ea;
+Aa=Fa;
+goto L9;}
+if(wa==0)goto L10;
+xa=Ea;}
+Ga=xa;
+Ha=0;
+L11:*(va+Ga)=*(b+Ga);
+Ia=Ha+1;
+if(Ia!=wa){
+Ga=Ga+1;
+Ha=Ia;
+goto L11;}}
+else memmove(va,b,c);
+L10:w8(i+8,ua);
+w8(i+16,ra);
+if(ra-ua<2){
+Ja=grow_amortized_e1a(i,2);
+if(!Ja){
+if(r8(i+16)==0)goto L7;
+goto L8;}
+Ka=rp(i);
+La=r8(i+16);
+Ma=r8(i+8);}
+else{
+Ka=qa;
+La=ra;
+Ma=ua;}
+Na=Ma+2;
+Oa=Ka+(i64)Ma;
+if((u64)Oa-(u64)(u8*)t_4582<2){
+*Oa=58;
+Oa[1]=32;}
+else x2(Oa,8250);
+w8(i+8,Na);
+w8(i+16,La);
+if(ga>La-Na){
+Pa=grow_amortized_e1a(i,ga);
+if(!Pa){
+if(r8(i+16)==0)goto L7;
+goto L8;}
+Qa=r8(i+16);
+Ra=r8(i+8);}
+else{
+Qa=La;
+Ra=Na;}
+Sa=Ra+ga;
+Ta=rp(i);
+Ua=Ta+(i64)Ra;
+if((u64)Ua-(u64)fa<ga){
+Va=ga&3;
+if(ga<4)Wa=0;
+else{
+Xa=ga&0xfffffffffffffffcu;
+Ya=0;
+Za=0;
+L12:*(Ua+Ya)=*(fa+Ya);
+ab=Ya|1;
+*(Ua+ab)=*(fa+ab);
+bb=Ya|2;
+*(Ua+bb)=*(fa+bb);
+cb=Ya|3;
+*(Ua+cb)=*(fa+cb);
+db=Ya+4;
+eb=Za+4;
+if(eb!=Xa){
+Ya=db;
+Za=eb;
+goto L12;}
+if(Va==0)goto L13;
+Wa=db;}
+fb=Wa;
+gb=0;
+L14:*(Ua+fb)=*(fa+fb);
+hb=gb+1;
+if(hb!=Va){
+fb=fb+1;
+gb=hb;
+goto L14;}}
+else memmove(Ua,fa,ga);
+L13:w8(i+8,Sa);
+w8(i+16,Qa);
+if(Qa==Sa){
+ib=grow_amortized_e1a(i,1);
+if(!ib){
+if(r8(i+16)==0)goto L7;
+goto L8;}
+jb=r8(i+16);
+kb=rp(i);
+lb=r8(i+8);}
+else{
+jb=Qa;
+kb=Ta;
+lb=Sa;}
+*(kb+lb)=10;
+mb=lb+1;
+if(mb==0)goto L15;
+nb=0;
+L16:ob=mb-nb;
+pb=rp(f);
+qb=port_write(2,kb+(i64)nb,ob);
+if((i64)qb<0){
+rb=port_rattle_errno();
+from_raw_os_error_cb0(g,rb);
+sb=r8(g);
+memcpy(h,g+8,80);
+x8(pb+8,1);
+x8(pb+16,sb);
+memcpy(pb+24,h,80);}
+else{
+tb=umin64(qb,ob);
+if(tb!=0){
+ub=tb+nb;
+if(ub>=mb)goto L15;
+nb=ub;
+goto L16;}}
+w8(f+8,r8(f+8)+1);
+if(jb!=0)port_rattle_dealloc(kb);
+if(ha==0){
+ia=1;
+ja=1;
+goto L5;}
+port_rattle_dealloc(fa);
+ia=1;
+ja=1;
+goto L5;
+L15:if(jb!=0)port_rattle_dealloc(kb);
+if(ha==0){
+ia=0;
+ja=0;
+goto L5;}
+port_rattle_dealloc(fa);
+ia=0;
+ja=0;
+goto L5;
+L8:port_rattle_dealloc(rp(i));}
+L7:if(ha==0){
+ia=2;
+ja=1;}
+else{
+port_rattle_dealloc(fa);
+ia=2;
+ja=1;}
+L5:vb=(s_8_8){0};vb.f0=ja;
+wb=vb;wb.f1=ia;
+return wb;
+}
+
+/* std_alloc::string::String::format::<#c9577985b0383be7> */
+static void format_c1f(u8* a,u8* b)
+{
+u8 c[24],f[31];
+A16 u8 d[24],e[64];
+u8 *g,*i,*m,*q,*K,*O,*R,*U;
+u64 h,j,k,n,o,p,r,s,t,u,v,w,x,y,z,A,B,C,D,F,G,H,I,L,M,P,Q,S,V,W;
+u8 l,J,N,T,X,Y;
+u32 E;
+g=qp(b);
+h=q8(b+8);
+i=qp(b+16);
+memset(f,0,31);
+memset(e+8,0,16);
+memset(e+57,0,7);
+wp(e,(u8*)65536);
+w4(e+24,32);
+memset(e+28,0,12);
+w8(e+40,18446744073709551615u);
+w8(e+48,0);
+e[56]=0;
+memcpy(d,e+24,24);
+w4(e+24,32);
+memset(e+28,0,12);
+w8(e+40,18446744073709551615u);
+w4(e+24,32);
+memset(e+28,0,12);
+w8(e+40,18446744073709551615u);
+j=r8(e+16);
+k=r8(e+8);
+if(h>j-k){
+l=grow_amortized_e1a(e,h);
+if(!l)goto L1;
+m=rp(e);
+n=r8(e+16);
+o=r8(e+8);}
+else{
+m=(u8*)65536;
+n=j;
+o=k;}
+p=o+h;
+q=m+(i64)o;
+if((u64)q-(u64)g<h){
+r=h&3;
+if(h<4)s=0;
+else{
+t=h&0xfffffffffffffffcu;
+u=0;
+v=0;
+L2:*(q+u)=*(g+u);
+w=u|1;
+*(q+w)=*(g+w);
+x=u|2;
+*(q+x)=*(g+x);
+y=u|3;
+*(q+y)=*(g+y);
+z=u+4;
+A=v+4;
+if(A!=t){
+u=z;
+v=A;
+goto L2;}
+if(r==0)goto L3;
+s=z;}
+B=s;
+C=0;
+L4:*(q+B)=*(g+B);
+D=C+1;
+if(D!=r){
+B=B+1;
+C=D;
+goto L4;}}
+else memmove(q,g,h);
+L3:w8(e+8,p);
+w8(e+16,n);
+w4(e+24,32);
+memset(e+28,0,12);
+w8(e+40,18446744073709551615u);
+E=r4(i);
+memset(c,0,24);
+if(E<=99){
+H=E;
+I=24;
+goto L5;}
+F=24;
+G=E;
+L6:J=G%100;
+K=c+(i64)F;
+K[-1]=(J%10)|48;
+K[-2]=(J/10)|48;
+L=G/100;
+M=F-2;
+if(G>9999){
+F=M;
+G=L;
+goto L6;}
+H=L;
+I=M;
+L5:N=H;
+if(H>9){
+O=c+(i64)I;
+O[-1]=(N%10)|48;
+O[-2]=(N/10)|48;
+P=I-2;}
+else{
+Q=I-1;
+*(c+Q)=N|48;
+P=Q;}
+R=c+(i64)P;
+R[-1]=45;
+S=24-P;
+if(r8(e+48)==0){
+if(S>n-p){
+T=grow_amortized_e1a(e,S);
+if(!T)goto L1;
+U=rp(e);
+V=r8(e+16);
+W=r8(e+8);}
+else{
+U=m;
+V=n;
+W=p;}
+memcpy(U+(i64)W,R,S);
+w8(e+8,W+S);
+w8(e+16,V);
+memcpy(e+24,d,24);}
+else{
+X=write_indented_070(e,R,S);
+memcpy(e+24,d,24);
+if(X&1)goto L7;}
+memcpy(f+7,e,24);
+Y=0;
+goto L8;
+L1:L7:if(r8(e+16)==0)Y=1;
+else{
+port_rattle_dealloc(rp(e));
+Y=1;}
+L8:*a=Y;
+memcpy(a+8,f+7,24);
+return;
+}
+
+/* sym_filter::filtering::end_segment::<#e905231ed9057ef4> */
+static s_8_8 end_segment_9fc(u8* a,u8* b,u8* c,u8* d,u8* e,u8* f)
+{
+A16 u8 g[32],h[48];
+u128 i,s,z;
+u64 j,m,t,v,w;
+u8 *k,*l;
+s_8_8 n,x,A,B;
+u8 o,p,q,r,u,y;
+memset(h,0,48);
+end_segment_a9b(h,c,a,b,d);
+if(*h==0){
+i=r16(h+16);
+j=r8(h+32);
+if(j!=0){
+k=rp(d)+(i64)(r8(d+8)-j);
+memset(g,0,32);
+placed_826(g,r8(f+16),k,j);
+if(*g!=0){
+q=2;
+r=1;
+goto L1;}
+l=rp(g+8);
+m=r8(g+24);
+n=say_reason_a74(rp(f),l,r8(g+16),k,j,rp(f+8));
+o=n.f0;
+p=n.f1;
+if(m!=0)port_rattle_dealloc(l);
+if(o!=0){
+q=p;
+r=1;
+goto L1;}}
+if(i==0){
+q=0;
+r=0;}
+else{
+s=0;
+L2:t=r8(d+8);
+if(r8(d+16)==t){
+u=grow_amortized_e1a(d,1);
+if(!u){
+q=2;
+r=1;
+goto L1;}
+v=r8(d+8);}
+else v=t;
+*(rp(d)+v)=46;
+w=v+1;
+w8(d+8,w);
+if(w>=16384){
+x=write_out_752(e,d);
+y=x.f0;
+if(y!=0){
+q=(y&1)?x.f1:0;
+r=1;
+goto L1;}}
+z=s+1;
+if(z<i){
+s=z;
+goto L2;}
+q=0;
+r=0;}}
+else{
+q=2;
+r=1;}
+L1:A=(s_8_8){0};A.f0=r;
+B=A;B.f1=q;
+return B;
+}
+
+/* sym_filter::words::Words::end_segment::<#ded3639bd0d8abe6> */
+static void end_segment_a9b(u8* a,u8* b,u8* c,u8* d,u8* e)
+{
+A16 u8 f[48];
+u128 g,j;
+u64 h,i,l,n,r,s,t,u,v,x,y,z,C,D,E,F,G,H,I,J,K,L,M,N,O;
+u8 *k,*q,*A,*B;
+u8 m,p,w;
+s_8_8 o;
+memset(f,0,48);
+if(*b!=2){
+j=r16(b+32);
+k=rp(b+8);
+l=r8(b+16);
+if(l-65537>=0xffffffffffff0001u){
+m=*k==95;
+if(l==2){
+if(!m)goto L1;
+switch(k[1]){
+case 90:n=0;
+goto L2;
+case 82:break;
+default:goto L1;
+}}
+else{
+if(!m)goto L1;
+switch(k[1]){
+case 90:n=0;
+goto L2;
+case 82:break;
+case 95:switch(k[2]){
+case 90:n=0x100000000u;
+goto L2;
+case 82:n=0x100000001u;
+goto L2;
+default:goto L1;
+}
+break;
+default:goto L1;
+}}
+n=1;
+L2:o=push_text_7d3(c,d,k,l,n,n>>32,e);
+if(o.f0!=0)goto L3;
+p=o.f1&1;
+w8(b+56,uadd64(r8(b+56),1));
+q=b+56+(i64)(u64)(p?8:16);
+w8(q,uadd64(r8(q),1));
+r=r8(b+16);
+s=r;
+t=p?0:r;
+goto L4;}
+L1:u=r8(e+16);
+v=r8(e+8);
+if(l>u-v){
+w=grow_amortized_e1a(e,l);
+if(!w)goto L3;
+x=r8(e+16);
+y=r8(e+8);}
+else{
+x=u;
+y=v;}
+z=y+l;
+A=rp(e);
+memset(e+8,0,16);
+B=A+(i64)y;
+if((u64)B-(u64)k<l){
+C=l&3;
+if(l<4)D=0;
+else{
+E=l&0xfffffffffffffffcu;
+F=0;
+G=0;
+L5:*(B+F)=*(k+F);
+H=F|1;
+*(B+H)=*(k+H);
+I=F|2;
+*(B+I)=*(k+I);
+J=F|3;
+*(B+J)=*(k+J);
+K=F+4;
+L=G+4;
+if(L!=E){
+F=K;
+G=L;
+goto L5;}
+if(C==0)goto L6;
+D=K;}
+M=D;
+N=0;
+L7:*(B+M)=*(k+M);
+O=N+1;
+if(O!=C){
+M=M+1;
+N=O;
+goto L7;}}
+else memmove(B,k,l);
+L6:wp(e,A);
+w8(e+8,z);
+w8(e+16,x);
+s=r8(b+16);
+t=0;
+L4:if(s!=0)w8(b+16,0);
+memset(b+32,0,18);
+g=j;
+h=t;
+i=0;
+goto L8;}
+end_within_406(f,b,c,d,e);
 if(*f==0){
 g=r16(f+16);
+h=r8(f+32);
+i=r8(f+40);
 goto L8;}
-L3:J=2;
-K=1;
+L3:*a=1;
+memset(a+16,0,32);
 goto L9;
-L8:c[50]=0;
-if(g==0){
-J=0;
-K=0;}
+L8:b[50]=0;
+*a=0;
+x16(a+16,g);
+x8(a+32,h);
+x8(a+40,i);
+L9:return;
+}
+
+/* sym_filter::words::Words::read_ahead::<#ded3639bd0d8abe6> */
+static void read_ahead_f02(u8* a,u64 b,u8* c)
+{
+A16 u8 d[12],e[12];
+u8 f,n,y,S,T,U,ba,ma,Ga,Ha,Ia;
+u64 g,h,j,k,l,o,p,s,u,w,x,z,A,B,C,F,G,H,I,J,K,L,M,N,O,P,Q,R,X,Y,Z,ca,da,ga,ia,ka,la,na,oa,pa,qa,ta,ua,va,wa,xa,ya,za,Aa,Ba,Ca,Da,Ea,Fa;
+u8 *i,*m,*q,*r,*t,*v,*D,*E,*W,*aa,*ea,*fa,*ha,*ja,*ra,*sa;
+u32 V,Ja;
+if(b-65537>=0xffffffffffff0001u){
+f=*a==95;
+if(b==2){
+if(!f)goto L1;
+switch(a[1]){
+case 90:g=0;
+goto L2;
+case 82:h=0;
+break;
+default:goto L1;
+}}
 else{
-L=0;
-L10:M=r8(d+8);
-if(r8(d+16)==M){
-N=grow_amortized_e1a(d,1);
-if(!N){
-J=2;
-K=1;
-goto L9;}
-O=r8(d+8);}
-else O=M;
-*(rp(d)+O)=46;
-P=O+1;
-w8(d+8,P);
-if(P>=16384){
-Q=write_out_752(e,d);
-R=Q.f0;
-if(R!=0){
-J=(R&1)?Q.f1:0;
-K=1;
-goto L9;}}
-S=L+1;
-if(S<g){
-L=S;
-goto L10;}
+if(!f)goto L1;
+switch(a[1]){
+case 90:g=0;
+goto L2;
+case 82:h=0;
+break;
+case 95:switch(a[2]){
+case 90:g=1;
+goto L2;
+case 82:h=1;
+break;
+default:goto L1;
+}
+break;
+default:goto L1;
+}}
+i=a+(i64)h;
+j=b-h;
+k=r8(c+1264);
+l=k&4294967295u;
+if(j<=(l>>1)+l)goto L1;
+if(j>=k){
+m=rp(c+1256);
+n=parts_equal_58b(i,k,m,k);
+if(n){
+o=j-k;
+if(o==0){
+p=k;
+q=m;
+goto L3;}
+if(c[1284]==1){
+if(c[1288]!=4)goto L1;
+r=c+1284;
+s=k;
+goto L4;}
+t=c+1284;
+u=o;
+v=i+(i64)k;
+w=k;
+goto L5;}
+if(k==0)goto L6;}
+w8(c+1264,0);
+L6:c[1280]=0;
+c[1281]=0;
+memset(c+1284,0,20);
+if(r8(c+1312)!=0)w8(c+1312,0);
+if(r8(c+1336)!=0)w8(c+1336,0);
+w8(c+1352,0);
+w4(c+1360,0);
+t=c+1284;
+u=j;
+v=i;
+w=0;
+L5:x=r8(c+1272);
+if(u>x-w){
+y=grow_amortized_e1a(c+1256,u);
+z=r8(c+1264);
+if(!y){
+r=t;
+s=z;
+goto L4;}
+A=r8(c+1272);
+B=z;}
+else{
+A=x;
+B=w;}
+C=B+u;
+D=rp(c+1256);
+memset(c+1264,0,16);
+E=D+(i64)B;
+if((u64)E-(u64)v<u){
+F=u&3;
+if(u<4)G=0;
+else{
+H=u&0xfffffffffffffffcu;
+I=0;
 J=0;
-K=0;}
-L9:T=(s_8_8){0};T.f0=K;
-U=T;U.f1=J;
-return U;
+L7:*(E+I)=*(v+I);
+K=I|1;
+*(E+K)=*(v+K);
+L=I|2;
+*(E+L)=*(v+L);
+M=I|3;
+*(E+M)=*(v+M);
+N=I+4;
+O=J+4;
+if(O!=H){
+I=N;
+J=O;
+goto L7;}
+if(F==0)goto L8;
+G=N;}
+P=G;
+Q=0;
+L9:*(E+P)=*(v+P);
+R=Q+1;
+if(R!=F){
+P=P+1;
+Q=R;
+goto L9;}}
+else memmove(E,v,u);
+L8:wp(c+1256,D);
+w8(c+1264,C);
+w8(c+1272,A);
+p=C;
+q=D;
+goto L3;
+L4:if(s!=0)w8(c+1264,0);
+c[1280]=0;
+c[1281]=0;
+memset(r,0,20);
+if(r8(c+1312)!=0)w8(c+1312,0);
+if(r8(c+1336)!=0)w8(c+1336,0);
+w8(c+1352,0);
+w4(c+1360,0);
+goto L1;
+L3:memset(d,0,12);
+if(c[1284]!=1){
+if(!(c[1281]&1)){
+run_48d(d,c+1296,q,p,c[1280]&1);
+c[1281]=c[1280];
+T=*d;
+if(T!=0){
+U=d[4];
+V=r4(d+8);
+x4(c+1284,1);
+x4(c+1288,U);
+x4(c+1292,V);
+if(T!=1)goto L1;
+S=U;
+goto L10;}}
+goto L1;}
+S=c[1288];
+L10:if(S!=4)goto L1;
+if(r8(c+1264)!=0)w8(c+1264,0);
+c[1280]=0;
+c[1281]=0;
+memset(c+1284,0,20);
+if(r8(c+1312)!=0)w8(c+1312,0);
+if(r8(c+1336)!=0)w8(c+1336,0);
+w8(c+1352,0);
+w4(c+1360,0);
+goto L1;
+L2:W=a+(i64)g;
+X=b-g;
+Y=r8(c+576);
+Z=Y&4294967295u;
+if(X>(Z>>1)+Z){
+if(X>=Y){
+aa=rp(c+568);
+ba=parts_equal_58b(W,Y,aa,Y);
+if(ba){
+ca=X-Y;
+if(ca==0){
+da=Y;
+ea=aa;
+goto L11;}
+if(c[596]==1){
+if(c[600]!=4)goto L1;
+fa=c+596;
+ga=Y;
+goto L12;}
+ha=c+596;
+ia=ca;
+ja=W+(i64)Y;
+ka=Y;
+goto L13;}
+if(Y==0)goto L14;}
+w8(c+576,0);
+L14:c[592]=0;
+c[593]=0;
+memset(c+596,0,20);
+if(r8(c+624)!=0)w8(c+624,0);
+if(r8(c+648)!=0)w8(c+648,0);
+w8(c+664,0);
+w4(c+672,0);
+ha=c+596;
+ia=X;
+ja=W;
+ka=0;
+L13:la=r8(c+584);
+if(ia>la-ka){
+ma=grow_amortized_e1a(c+568,ia);
+na=r8(c+576);
+if(!ma){
+fa=ha;
+ga=na;
+goto L12;}
+oa=r8(c+584);
+pa=na;}
+else{
+oa=la;
+pa=ka;}
+qa=pa+ia;
+ra=rp(c+568);
+memset(c+576,0,16);
+sa=ra+(i64)pa;
+if((u64)sa-(u64)ja<ia){
+ta=ia&3;
+if(ia<4)ua=0;
+else{
+va=ia&0xfffffffffffffffcu;
+wa=0;
+xa=0;
+L15:*(sa+wa)=*(ja+wa);
+ya=wa|1;
+*(sa+ya)=*(ja+ya);
+za=wa|2;
+*(sa+za)=*(ja+za);
+Aa=wa|3;
+*(sa+Aa)=*(ja+Aa);
+Ba=wa+4;
+Ca=xa+4;
+if(Ca!=va){
+wa=Ba;
+xa=Ca;
+goto L15;}
+if(ta==0)goto L16;
+ua=Ba;}
+Da=ua;
+Ea=0;
+L17:*(sa+Da)=*(ja+Da);
+Fa=Ea+1;
+if(Fa!=ta){
+Da=Da+1;
+Ea=Fa;
+goto L17;}}
+else memmove(sa,ja,ia);
+L16:wp(c+568,ra);
+w8(c+576,qa);
+w8(c+584,oa);
+da=qa;
+ea=ra;
+goto L11;
+L12:if(ga!=0)w8(c+576,0);
+c[592]=0;
+c[593]=0;
+memset(fa,0,20);
+if(r8(c+624)!=0)w8(c+624,0);
+if(r8(c+648)!=0)w8(c+648,0);
+w8(c+664,0);
+w4(c+672,0);
+goto L1;
+L11:memset(e,0,12);
+if(c[596]!=1){
+if(!(c[593]&1)){
+run_888(e,c+608,ea,da,c[592]&1);
+c[593]=c[592];
+Ha=*e;
+if(Ha!=0){
+Ia=e[4];
+Ja=r4(e+8);
+x4(c+596,1);
+x4(c+600,Ia);
+x4(c+604,Ja);
+if(Ha!=1)goto L1;
+Ga=Ia;
+goto L18;}}
+goto L1;}
+Ga=c[600];
+L18:if(Ga==4){
+if(r8(c+576)!=0)w8(c+576,0);
+c[592]=0;
+c[593]=0;
+memset(c+596,0,20);
+if(r8(c+624)!=0)w8(c+624,0);
+if(r8(c+648)!=0)w8(c+648,0);
+w8(c+664,0);
+w4(c+672,0);}}}
+L1:return;
 }
 
 /* sym_filter::streams::write_out::<#80909716d7685274> */
@@ -124734,146 +124926,571 @@ if(Oa!=0)port_rattle_dealloc(Na);
 return;
 }
 
-/* std_alloc::string::String::format::<#c9577985b0383be7> */
-static void format_c1f(u8* a,u8* b)
+/* sym_filter::filtering::take_piece::<#4c059ac68af8f890> */
+static s_8_8 take_piece_8e7(u8* a,u8* b,u8* c,u8* d,u8* e,u64 f,u8* g,u8* h)
 {
-u8 c[24],f[31];
-A16 u8 d[24],e[64];
-u8 *g,*i,*m,*q,*K,*O,*R,*U;
-u64 h,j,k,n,o,p,r,s,t,u,v,w,x,y,z,A,B,C,D,F,G,H,I,L,M,P,Q,S,V,W;
-u8 l,J,N,T,X,Y;
-u32 E;
-g=qp(b);
-h=q8(b+8);
-i=qp(b+16);
-memset(f,0,31);
-memset(e+8,0,16);
-memset(e+57,0,7);
-wp(e,(u8*)65536);
-w4(e+24,32);
-memset(e+28,0,12);
-w8(e+40,18446744073709551615u);
-w8(e+48,0);
-e[56]=0;
-memcpy(d,e+24,24);
-w4(e+24,32);
-memset(e+28,0,12);
-w8(e+40,18446744073709551615u);
-w4(e+24,32);
-memset(e+28,0,12);
-w8(e+40,18446744073709551615u);
-j=r8(e+16);
-k=r8(e+8);
-if(h>j-k){
-l=grow_amortized_e1a(e,h);
-if(!l)goto L1;
-m=rp(e);
-n=r8(e+16);
-o=r8(e+8);}
+A16 u8 i[88],j[80],k[48],l[48],m[16];
+u64 n,p,q,s,t,v,A,D,J,K,M,N,Q,S,T,X,aa,da,ea,fa,ga,ha,ia,ja,la,oa,pa,ra,sa,ta,wa,xa,ya,za,Aa,Ba,Ca,Da,Ea,Fa,Ga,Ha,Ia,Ja,Ka,La,Na,Oa,Pa,Qa,Sa,Ta,Va,Wa,Xa,Ya,bb,cb,db,eb,fb,gb,hb,ib,jb,kb,lb,mb,nb,ob,tb,wb,xb,zb,Ab,Bb,Eb,Fb,Gb,Hb,Ib,Jb,Kb,Lb,Mb,Nb,Ob,Pb,Qb,Tb,Vb,Wb,Yb,Zb,bc,dc,ec,fc,hc,ic,kc,lc,mc,pc,qc,rc,sc,tc,uc,vc,wc,xc,yc,zc,Ac,Bc,Ec,Gc;
+u8 *o,*r,*E,*L,*R,*na,*ua,*va,*Ra,*Za,*ab,*rb,*vb,*Cb,*Db,*Xb,*ac,*nc,*oc;
+u128 u,ka,ma,pb,qb,Sb,gc;
+u8 w,x,y,z,B,C,F,H,I,V,W,Y,Z,qa,Ma,Ua,sb,yb,Rb,Ub,jc,Dc,Ic,Jc,Kc;
+s_8_8 G,U,ub,Cc,Fc,Hc,Lc,Mc;
+u16 O,P,ca;
+v16 ba;
+u32 cc;
+n=0;
+L1:o=e+(i64)n;
+memset(m,0,16);
+first_segment_4a3(m,*c,o,f-n,*d);
+p=r8(m);
+if(p==0)goto L2;
+q=0;
+L3:r=o+(i64)q;
+s=p-q;
+memset(l,0,48);
+t=r8(c+16);
+if(t==0){
+if(r16(c+32)==0){
+if(c[50]&1){
+pass_6c7(l,c,r,s);
+u=r16(l);
+v=r8(l+16);
+w=l[24]&1;
+goto L4;}
+x=*c;
+y=c[48];
+z=c[49];
+if(s==0)A=0;
 else{
-m=(u8*)65536;
-n=j;
-o=k;}
-p=o+h;
-q=m+(i64)o;
-if((u64)q-(u64)g<h){
-r=h&3;
-if(h<4)s=0;
+B=x+49;
+C=x==2;
+D=0;
+L5:E=r+D;
+if(*E==95){
+if(D==0){
+switch(y){
+case 0:goto L6;
+case 1:if(C){
+switch(z){
+case 46:case 36:goto L6;
+default:break;}}
+break;
+case 2:if(C){
+switch(z){
+case 46:case 36:goto L6;
+default:break;}}
+break;
+default:NEVER;
+}}
 else{
-t=h&0xfffffffffffffffcu;
-u=0;
-v=0;
-L2:*(q+u)=*(g+u);
-w=u|1;
-*(q+w)=*(g+w);
-x=u|2;
-*(q+x)=*(g+x);
-y=u|3;
-*(q+y)=*(g+y);
-z=u+4;
-A=v+4;
-if(A!=t){
-u=z;
-v=A;
-goto L2;}
-if(r==0)goto L3;
-s=z;}
-B=s;
-C=0;
-L4:*(q+B)=*(g+B);
-D=C+1;
-if(D!=r){
-B=B+1;
-C=D;
-goto L4;}}
-else memmove(q,g,h);
-L3:w8(e+8,p);
-w8(e+16,n);
-w4(e+24,32);
-memset(e+28,0,12);
-w8(e+40,18446744073709551615u);
-E=r4(i);
-memset(c,0,24);
-if(E<=99){
-H=E;
-I=24;
+F=*((u8*)t_e4d8+E[-1]);
+if(B>F){
+if(F<=(x==0?48:49)){
+H=0;
+I=0;
+J=D;
+goto L7;}
+G=place_in_stretch_597(x,r,D,y);
+H=G.f1;
+I=G.f0;
+J=D;
+goto L7;}}}
+K=D+1;
+L=r+(i64)K;
+M=s-K;
+if(M<16)N=0;
+else{
+O=cttz(v16_eq(v16_at(L),splat(95)),16);
+if((M<32)|(O<16))N=O;
+else{
+P=cttz(v16_eq(v16_at(L+16),splat(95)),16);
+if(P<16)N=P|16;
+else{
+if(M<=95){
+N=32;
+goto L8;}
+Q=32;
+L9:R=L+(i64)Q;
+if((((v16_eq(v16_at(R),splat(95))|v16_eq(v16_at(R+16),splat(95)))|v16_eq(v16_at(R+32),splat(95)))|v16_eq(v16_at(R+48),splat(95)))==0){
+S=Q+64;
+if(M-S>63){
+Q=S;
+goto L9;}
+N=S;}
+else N=Q;}}}
+L8:T=N+K;
+if(T<s){
+D=T;
 goto L5;}
-F=24;
-G=E;
-L6:J=G%100;
-K=c+(i64)F;
-K[-1]=(J%10)|48;
-K[-2]=(J/10)|48;
-L=G/100;
-M=F-2;
-if(G>9999){
-F=M;
-G=L;
-goto L6;}
-H=L;
-I=M;
-L5:N=H;
-if(H>9){
-O=c+(i64)I;
-O[-1]=(N%10)|48;
-O[-2]=(N/10)|48;
-P=I-2;}
+A=T;}
+if(*((u8*)t_e4d8+*(r+(i64)A-1))>(x==0?48:49)){
+U=place_in_stretch_597(x,r,A,y);
+V=U.f0;
+W=U.f1;}
 else{
-Q=I-1;
-*(c+Q)=N|48;
-P=Q;}
-R=c+(i64)P;
-R[-1]=45;
-S=24-P;
-if(r8(e+48)==0){
-if(S>n-p){
-T=grow_amortized_e1a(e,S);
-if(!T)goto L1;
-U=rp(e);
-V=r8(e+16);
-W=r8(e+8);}
+V=0;
+W=0;}
+if(A==0)goto L6;
+H=W;
+I=V;
+J=A;
+L7:x2(c+48,(u16)((u32)H<<8)|I);
+X=J;
+goto L10;}}
+L6:Y=*c;
+Z=Y==1?50:49;
+if(Z>*((u8*)t_e4d8+*r))goto L11;
+aa=0;
+L12:if(s-aa>15){
+ba=v16_at(r+aa);
+ca=cttz(v16_ne(ba,splat(36))&(v16_ne(ba,splat(46))&(v16_ne(ba,splat(95))&(v16_ult(v16_add(ba,splat(198)),splat(246))&v16_ult(v16_add(v16_or(ba,splat(32)),splat(133)),splat(230))))),16);
+da=aa+ca;
+if(ca>=16){
+aa=da;
+goto L12;}
+ea=da;}
+else ea=aa;
+if(ea>=s){
+ga=ea;
+goto L13;}
+fa=ea;
+L14:if(Z>*((u8*)t_e4d8+*(r+fa)))ga=fa;
 else{
-U=m;
-V=n;
-W=p;}
-memcpy(U+(i64)W,R,S);
-w8(e+8,W+S);
-w8(e+16,V);
-memcpy(e+24,d,24);}
+ha=fa+1;
+if(ha!=s){
+fa=ha;
+goto L14;}
+ga=s;}
+L13:if(ga==0)goto L11;
+ia=0;
+ja=ga;
+L15:if(ja==0)ka=r16(c+32)+ga;
 else{
-X=write_indented_070(e,R,S);
-memcpy(e+24,d,24);
-if(X&1)goto L7;}
-memcpy(f+7,e,24);
-Y=0;
-goto L8;
-L1:L7:if(r8(e+16)==0)Y=1;
+la=ja-1;
+if(*(r+la)==46){
+ia=ia+1;
+ja=la;
+goto L15;}
+ma=r16(c+32);
+if(ma+ja>65536-t){
+na=rp(c+8);
+oa=r8(g+16);
+pa=r8(g+8);
+if(t>oa-pa){
+qa=grow_amortized_e1a(g,t);
+if(!qa)goto L16;
+ra=r8(g+16);
+sa=r8(g+8);}
 else{
-port_rattle_dealloc(rp(e));
-Y=1;}
-L8:*a=Y;
-memcpy(a+8,f+7,24);
-return;
+ra=oa;
+sa=pa;}
+ta=sa+t;
+ua=rp(g);
+memset(g+8,0,16);
+va=ua+(i64)sa;
+if((u64)va-(u64)na<t){
+wa=t&3;
+if(t-1<3)xa=0;
+else{
+ya=t&0xfffffffffffffffcu;
+za=0;
+Aa=0;
+L17:*(va+za)=*(na+za);
+Ba=za|1;
+*(va+Ba)=*(na+Ba);
+Ca=za|2;
+*(va+Ca)=*(na+Ca);
+Da=za|3;
+*(va+Da)=*(na+Da);
+Ea=za+4;
+Fa=Aa+4;
+if(Fa!=ya){
+za=Ea;
+Aa=Fa;
+goto L17;}
+if(wa==0)goto L18;
+xa=Ea;}
+Ga=xa;
+Ha=0;
+L19:*(va+Ga)=*(na+Ga);
+Ia=Ha+1;
+if(Ia!=wa){
+Ga=Ga+1;
+Ha=Ia;
+goto L19;}}
+else memmove(va,na,t);
+L18:wp(g,ua);
+w8(g+8,ta);
+w8(g+16,ra);
+if(r8(c+16)!=0)w8(c+16,0);
+w16(c+32,0);
+c[50]=1;
+u=ma;
+v=ga;
+w=1;
+goto L4;}
+Ja=ma;
+Ka=t+Ja;
+if(Ka>t){
+La=r8(c+24);
+if(La-t<Ja){
+Ma=grow_amortized_e1a(c+8,Ja);
+if(!Ma)goto L16;
+Na=r8(c+16);
+Oa=Na+Ja;
+Pa=r8(c+24);
+Qa=Na;}
+else{
+Oa=Ka;
+Pa=La;
+Qa=t;}
+Ra=rp(c+8);
+if(Qa<Oa)memset(Ra+(i64)Qa,46,Ja);
+wp(c+8,Ra);
+w8(c+16,Oa);
+w8(c+24,Pa);
+Sa=Oa;}
+else{
+if(t>Ka){
+w8(c+16,Ka);
+Sa=Ka;}
+else Sa=t;}
+Ta=r8(c+24);
+if(ja>Ta-Sa){
+Ua=grow_amortized_e1a(c+8,ja);
+Va=r8(c+16);
+if(!Ua){
+if(Va<=t)goto L16;
+w8(c+16,t);
+goto L16;}
+Wa=r8(c+24);
+Xa=Va;}
+else{
+Wa=Ta;
+Xa=Sa;}
+Ya=Xa+ja;
+Za=rp(c+8);
+memset(c+16,0,16);
+ab=Za+(i64)Xa;
+if((u64)ab-(u64)r<ja){
+bb=ja&3;
+if(ia-ga>0xfffffffffffffffcu)cb=0;
+else{
+db=ja&0xfffffffffffffffcu;
+eb=0;
+fb=0;
+L20:*(ab+eb)=*(r+eb);
+gb=eb|1;
+*(ab+gb)=*(r+gb);
+hb=eb|2;
+*(ab+hb)=*(r+hb);
+ib=eb|3;
+*(ab+ib)=*(r+ib);
+jb=eb+4;
+kb=fb+4;
+if(kb!=db){
+eb=jb;
+fb=kb;
+goto L20;}
+if(bb==0)goto L21;
+cb=jb;}
+lb=cb;
+mb=0;
+L22:*(ab+lb)=*(r+lb);
+nb=mb+1;
+if(nb!=bb){
+lb=lb+1;
+mb=nb;
+goto L22;}}
+else memmove(ab,r,ja);
+L21:wp(c+8,Za);
+w8(c+16,Ya);
+w8(c+24,Wa);
+ka=ga-ja;}
+w16(c+32,ka);
+ob=ga;
+goto L23;
+L11:memset(k,0,48);
+if(Y!=2){
+qb=r16(c+32);
+rb=rp(c+8);
+if(t-65537>=0xffffffffffff0001u){
+sb=*rb==95;
+if(t==2){
+if(!sb)goto L24;
+switch(rb[1]){
+case 90:tb=0;
+goto L25;
+case 82:break;
+default:goto L24;
+}}
+else{
+if(!sb)goto L24;
+switch(rb[1]){
+case 90:tb=0;
+goto L25;
+case 82:break;
+case 95:switch(rb[2]){
+case 90:tb=0x100000000u;
+goto L25;
+case 82:tb=0x100000001u;
+goto L25;
+default:goto L24;
+}
+break;
+default:goto L24;
+}}
+tb=1;
+L25:ub=push_text_7d3(a,b,rb,t,tb,tb>>32,g);
+if(ub.f0!=0)goto L26;
+w8(c+56,uadd64(r8(c+56),1));
+vb=c+56+(i64)(u64)((ub.f1&1)?8:16);
+w8(vb,uadd64(r8(vb),1));
+goto L27;}
+L24:wb=r8(g+16);
+xb=r8(g+8);
+if(t>wb-xb){
+yb=grow_amortized_e1a(g,t);
+if(!yb)goto L26;
+zb=r8(g+16);
+Ab=r8(g+8);}
+else{
+zb=wb;
+Ab=xb;}
+Bb=Ab+t;
+Cb=rp(g);
+memset(g+8,0,16);
+Db=Cb+(i64)Ab;
+if((u64)Db-(u64)rb<t){
+Eb=t&3;
+if(t<4)Fb=0;
+else{
+Gb=t&0xfffffffffffffffcu;
+Hb=0;
+Ib=0;
+L28:*(Db+Hb)=*(rb+Hb);
+Jb=Hb|1;
+*(Db+Jb)=*(rb+Jb);
+Kb=Hb|2;
+*(Db+Kb)=*(rb+Kb);
+Lb=Hb|3;
+*(Db+Lb)=*(rb+Lb);
+Mb=Hb+4;
+Nb=Ib+4;
+if(Nb!=Gb){
+Hb=Mb;
+Ib=Nb;
+goto L28;}
+if(Eb==0)goto L29;
+Fb=Mb;}
+Ob=Fb;
+Pb=0;
+L30:*(Db+Ob)=*(rb+Ob);
+Qb=Pb+1;
+if(Qb!=Eb){
+Ob=Ob+1;
+Pb=Qb;
+goto L30;}}
+else memmove(Db,rb,t);
+L29:wp(g,Cb);
+w8(g+8,Bb);
+w8(g+16,zb);
+L27:if(r8(c+16)!=0)w8(c+16,0);
+memset(c+32,0,18);
+pb=qb;
+goto L31;}
+end_within_406(k,c,a,b,g);
+if(*k==0){
+pb=r16(k+16);
+goto L31;}
+L26:goto L16;
+L31:u=pb;
+v=1;
+w=1;
+goto L4;
+L16:Rb=2;
+goto L32;
+L4:if(u==0)goto L33;
+Sb=0;
+L34:Tb=r8(g+8);
+if(r8(g+16)==Tb){
+Ub=grow_amortized_e1a(g,1);
+if(!Ub){
+Rb=2;
+goto L32;}
+Vb=r8(g+8);}
+else Vb=Tb;
+*(rp(g)+Vb)=46;
+Wb=Vb+1;
+w8(g+8,Wb);
+if(Wb>=16384){
+Xb=rp(g);
+Yb=0;
+L35:Zb=Wb-Yb;
+ac=rp(h);
+bc=port_write(1,Xb+(i64)Yb,Zb);
+if((i64)bc<0){
+cc=port_rattle_errno();
+from_raw_os_error_cb0(i,cc);
+dc=r8(i);
+memcpy(j,i+8,80);
+x8(ac+8,1);
+x8(ac+16,dc);
+memcpy(ac+24,j,80);}
+else{
+ec=umin64(bc,Zb);
+if(ec!=0){
+fc=ec+Yb;
+if(fc<Wb){
+Yb=fc;
+goto L35;}
+if(r8(g+8)==0)goto L36;
+w8(g+8,0);
+goto L36;}}
+w8(h+8,r8(h+8)+1);
+Rb=1;
+goto L32;}
+L36:gc=Sb+1;
+if(gc<u){
+Sb=gc;
+goto L34;}
+L33:if(!w){
+ob=v;
+goto L23;}
+X=v;
+L10:hc=r8(g+16);
+ic=r8(g+8);
+if(X>hc-ic){
+jc=grow_amortized_e1a(g,X);
+if(!jc){
+Rb=2;
+goto L32;}
+kc=r8(g+16);
+lc=r8(g+8);}
+else{
+kc=hc;
+lc=ic;}
+mc=lc+X;
+nc=rp(g);
+memset(g+8,0,16);
+oc=nc+(i64)lc;
+if((u64)oc-(u64)r<X){
+pc=X&3;
+if(X<4)qc=0;
+else{
+rc=X&0xfffffffffffffffcu;
+sc=0;
+tc=0;
+L37:*(oc+sc)=*(r+sc);
+uc=sc|1;
+*(oc+uc)=*(r+uc);
+vc=sc|2;
+*(oc+vc)=*(r+vc);
+wc=sc|3;
+*(oc+wc)=*(r+wc);
+xc=sc+4;
+yc=tc+4;
+if(yc!=rc){
+sc=xc;
+tc=yc;
+goto L37;}
+if(pc==0)goto L38;
+qc=xc;}
+zc=qc;
+Ac=0;
+L39:*(oc+zc)=*(r+zc);
+Bc=Ac+1;
+if(Bc!=pc){
+zc=zc+1;
+Ac=Bc;
+goto L39;}}
+else memmove(oc,r,X);
+L38:wp(g,nc);
+w8(g+8,mc);
+w8(g+16,kc);
+if(mc<16384)ob=X;
+else{
+Cc=write_out_752(h,g);
+Dc=Cc.f0;
+if(Dc!=0){
+Rb=(Dc&1)?Cc.f1:0;
+goto L32;}
+ob=X;}
+L23:Ec=ob+q;
+if(Ec<p){
+q=Ec;
+goto L3;}
+L2:*d=m[9];
+if(m[8]&1){
+Fc=end_segment_b17(a,b,c,g,h);
+if(Fc.f0!=0){
+Rb=Fc.f1;
+goto L32;}}
+Gc=p+n;
+if(Gc<f){
+n=Gc;
+goto L1;}
+read_ahead_f02(rp(c+8),r8(c+16),b);
+Hc=write_out_752(h,g);
+Ic=Hc.f0;
+Jc=(Ic&1)?Hc.f1:0;
+Kc=Ic!=0;
+goto L40;
+L32:Jc=Rb;
+Kc=1;
+L40:Lc=(s_8_8){0};Lc.f0=Kc;
+Mc=Lc;Mc.f1=Jc;
+return Mc;
+}
+
+/* sym_filter::filtering::end_segment::<#4c059ac68af8f890> */
+static s_8_8 end_segment_b17(u8* a,u8* b,u8* c,u8* d,u8* e)
+{
+A16 u8 f[48];
+u128 g,j,q;
+u8 h,i,l,p;
+u64 k,m,n;
+s_8_8 o,r,s;
+memset(f,0,48);
+end_segment_a9b(f,c,a,b,d);
+if(*f==0){
+g=r16(f+16);
+if(g==0){
+h=0;
+i=0;}
+else{
+j=0;
+L1:k=r8(d+8);
+if(r8(d+16)==k){
+l=grow_amortized_e1a(d,1);
+if(!l){
+h=2;
+i=1;
+goto L2;}
+m=r8(d+8);}
+else m=k;
+*(rp(d)+m)=46;
+n=m+1;
+w8(d+8,n);
+if(n>=16384){
+o=write_out_752(e,d);
+p=o.f0;
+if(p!=0){
+h=(p&1)?o.f1:0;
+i=1;
+goto L2;}}
+q=j+1;
+if(q<g){
+j=q;
+goto L1;}
+h=0;
+i=0;}}
+else{
+h=2;
+i=1;}
+L2:r=(s_8_8){0};r.f0=i;
+s=r;s.f1=h;
+return s;
 }
 
 /* demangle_command::clap++parser++matches++SubCommand+Destruct::drop */
@@ -137292,1133 +137909,1364 @@ return g;
 /* main */
 u32 port_main(void)
 {
-u8 e[41],i[41];
-A16 u8 a[88],b[80],c[64],d[24],f[56],g[88],h[88],j[88],k[24],l[96],m[24],n[24],o[40],p[40],q[40],r[40],s[40],t[24],u[24],v[32],w[24],x[24],y[24],z[8312],A[104],B[104],C[24],D[16],E[16],F[96],G[96];
-u64 H,I,L,N,O,P,Q,R,S,V,X,Y,ba,da,fa,ga,ha,ia,ja,ka,la,ma,na,oa,qa,ra,sa,ta,wa,ya,za,Aa,Ca,Ea,Fa,Ga,Ha,Ia,Ja,La,Ma,Na,Oa,Pa,Qa,Sa,Ta,Va,Xa,Ya,Za,cb,db,eb,fb,ib,jb,kb,lb,nb,ob,pb,qb,rb,sb,tb,ub,vb,wb,xb,yb,zb,Ab,Cb,Db,Eb,Fb,Gb,Ib,Jb,Kb,Mb,Nb,Ob,Pb,Rb,Sb,Tb,Ub,Xb,Zb,ac,bc,dc,ec,fc,gc,ic,jc,kc,mc,oc,rc,sc,uc,wc,xc,yc,zc,Ac,Bc,Cc,Dc,Ec,Fc,Gc,Hc,Ic,Kc,Lc,Oc,Pc,Rc,Sc,Tc,Wc,Yc,cd,dd,fd,hd,id,jd,kd,ld,md,nd,od,pd,qd,sd,td,ud,vd,xd,zd,Bd,Cd,Dd,Kd,Ld,Nd,Pd,Td,Vd,Xd,Yd,Zd,be,de,fe,he,ie,je,le,me,oe,pe,qe,se,ue,ve,we,ye,Ae,Ce,De,Fe,Ie,Je,Ke,Le,Me,Ne,Oe,Pe,Qe,Re,Se,Te,Ue,Ve,We,Xe,Ye,Ze,af,bf,ef,ff,gf,jf,lf,nf,of,pf,rf,sf,uf,wf,xf,yf,Af,Cf,Ef,Gf,Hf,Nf,Pf,Sf,Tf,Vf,Xf,Zf,ag,bg,fg,gg;
-s_64_64 J,ca,bb,Bb,nc;
-u8 *K,*M,*U,*Z,*aa,*ea,*pa,*va,*xa,*Ba,*Da,*Ua,*Wa,*ab,*gb,*hb,*Qb,*Vb,*Wb,*Yb,*hc,*lc,*pc,*tc,*vc,*Mc,*Uc,*Vc,*Xc,*bd,*ed,*gd,*yd,*Id,*Qd,*Sd,*Wd,*ce,*ge,*ke,*ne,*te,*xe,*ze,*Ee,*He,*df,*hf,*kf,*mf,*qf,*vf,*zf,*Bf,*Df,*Ff,*Of,*Yf;
-u32 T,W,Ra,mb,cc,Ad;
-u8 ua,Ka,Hb,Lb,qc,Jc,Nc,Qc,Zc,ad,Ed,Fd,Gd,Hd,Jd,Md,Od,Rd,Ud,ae,ee,re,Be,Ge,cf,tf,Jf,Lf,Mf,Qf,Rf,Uf,Wf,cg,dg,eg;
-s_8_8 If,Kf;
+u8 h[41],l[41];
+A16 u8 a[24],b[24],c[24],d[88],e[80],f[64],g[24],i[56],j[88],k[88],m[88],n[24],o[96],p[24],q[24],r[40],s[40],t[40],u[40],v[40],w[24],x[24],y[32],z[24],A[24],B[24],C[8312],D[104],E[104],F[24],G[16],H[16],I[96],J[96];
+u64 K,L,O,Q,R,S,T,U,V,Y,aa,ba,ea,ga,ia,ja,ka,la,ma,na,oa,pa,qa,ra,ta,ua,va,wa,za,Ba,Ca,Da,Fa,Ha,Ia,Ja,Ka,La,Ma,Oa,Pa,Qa,Ra,Sa,Ta,Va,Wa,Ya,ab,bb,cb,fb,gb,hb,ib,lb,mb,nb,ob,qb,rb,sb,tb,ub,vb,wb,xb,yb,zb,Ab,Bb,Cb,Db,Fb,Gb,Hb,Ib,Jb,Lb,Mb,Nb,Pb,Qb,Rb,Sb,Ub,Vb,Wb,Xb,ac,cc,dc,ec,gc,hc,ic,jc,lc,mc,nc,pc,rc,uc,vc,xc,zc,Ac,Bc,Cc,Dc,Ec,Fc,Gc,Hc,Ic,Jc,Kc,Lc,Nc,Oc,Rc,Sc,Uc,Vc,Wc,Zc,bd,fd,gd,id,kd,ld,md,nd,od,pd,qd,sd,td,ud,vd,xd,yd,zd,Ad,Cd,Ed,Fd,Gd,Nd,Od,Qd,Sd,Wd,Yd,ae,be,ce,ee,ge,ie,ke,le,me,oe,pe,re,se,te,ve,xe,ye,ze,Be,De,Fe,Ge,Ie,Le,Me,Ne,Oe,Pe,Qe,Re,Se,Te,Ue,Ve,We,Xe,Ye,Ze,af,bf,cf,df,ef,hf,jf,kf,mf,of,qf,rf,sf,uf,vf,xf,zf,Af,Bf,Df,Ff,Hf,Jf,Kf,Pf,Rf,Tf,Xf,Yf,ag,cg,dg,fg,hg,jg,lg,mg,og,qg,tg,vg,wg,xg,zg,Bg,Cg,Gg,Hg,Ig,Jg,Lg,Mg,Og,Qg,Sg,Tg,Ug,Vg,Xg,ch,eh,ih,kh,oh,qh,rh,th,wh,xh,zh,Bh,Dh,Eh,Fh,Jh,Kh;
+s_64_64 M,fa,eb,Eb,qc,Uf;
+u8 *N,*P,*X,*ca,*da,*ha,*sa,*ya,*Aa,*Ea,*Ga,*Xa,*Za,*db,*jb,*kb,*Tb,*Yb,*Zb,*bc,*kc,*oc,*sc,*wc,*yc,*Pc,*Xc,*Yc,*ad,*ed,*hd,*jd,*Bd,*Ld,*Td,*Vd,*Zd,*fe,*je,*ne,*qe,*we,*Ae,*Ce,*He,*Ke,*gf,*lf,*nf,*pf,*tf,*yf,*Cf,*Ef,*Gf,*If,*Mf,*Nf,*Of,*Sf,*Vf,*Wf,*Zf,*bg,*eg,*ng,*pg,*sg,*ug,*yg,*Ag,*Dg,*Fg,*Kg,*Ng,*Pg,*Yg,*ah,*bh,*dh,*jh,*ph,*sh,*Ch;
+u32 W,Z,Ua,pb,fc,Dd;
+u8 xa,Na,Kb,Ob,tc,Mc,Qc,Tc,cd,dd,Hd,Id,Jd,Kd,Md,Pd,Rd,Ud,Xd,de,he,ue,Ee,Je,ff,wf,Lf,Qf,gg,ig,kg,rg,Eg,Rg,Wg,Zg,gh,hh,mh,nh,uh,vh,yh,Ah,Gh,Hh,Ih;
+s_8_8 fh,lh;
 port___sysv_signal(13,1);
-memset(F,0,96);
-memset(G,0,96);
-H=port_lseek(0,0,1);
-memset(z,0,8208);
-z[8208]=(i64)H>-1;
-I=(u64)(u8*)65536;
-memset(z+8209,0,103);
-w8(A,I);
-memset(A+8,0,96);
-w8(B,I);
-memset(B+8,0,96);
-wp(C,z);
-w8(C+8,0);
-w8(C+16,18446744073709551615u);
-wp(D,A);
-w8(D+8,0);
-wp(E,B);
-w8(E+8,0);
-memset(v,0,32);
-memset(w,0,24);
-memset(x,0,24);
-memset(y,0,24);
-J=port_rattle_alloc(4096,1);
-if((u8)(J.f0&1)){
-K=(u8*)J.f1;
-memset(K,0,4096);
-wp(t,K);
-w8(t+8,4096);
-w8(t+16,4096);
-wp(u,(u8*)65536);
-memset(u+8,0,16);
-L=0;
-M=(u8*)65536;
-N=4096;
-O=4096;
-P=0;
-L1:Q=N;
-R=O;
-S=N;
-T=0;
-L2:U=rp(t);
-V=port_rattle_arg(P,U,S);
-port_rattle_set_errno((i64)V>-1?0:(V==18446744073709551615u?22:36));
-W=port_rattle_errno();
-switch(W){
-case 0:X=umin64(V,S);
-Y=(i64)V>0?X:0;
-if(Q<Y){
-Z=(u8*)65536;
-aa=(u8*)65536;
-ba=0;}
+memset(I,0,96);
+memset(J,0,96);
+K=port_lseek(0,0,1);
+memset(C,0,8208);
+C[8208]=(i64)K>-1;
+L=(u64)(u8*)65536;
+memset(C+8209,0,103);
+w8(D,L);
+memset(D+8,0,96);
+w8(E,L);
+memset(E+8,0,96);
+wp(F,C);
+w8(F+8,0);
+w8(F+16,18446744073709551615u);
+wp(G,D);
+w8(G+8,0);
+wp(H,E);
+w8(H+8,0);
+memset(y,0,32);
+memset(z,0,24);
+memset(A,0,24);
+memset(B,0,24);
+M=port_rattle_alloc(4096,1);
+if((u8)(M.f0&1)){
+N=(u8*)M.f1;
+memset(N,0,4096);
+wp(w,N);
+w8(w+8,4096);
+w8(w+16,4096);
+wp(x,(u8*)65536);
+memset(x+8,0,16);
+O=0;
+P=(u8*)65536;
+Q=4096;
+R=4096;
+S=0;
+L1:T=Q;
+U=R;
+V=Q;
+W=0;
+L2:X=rp(w);
+Y=port_rattle_arg(S,X,V);
+port_rattle_set_errno((i64)Y>-1?0:(Y==18446744073709551615u?22:36));
+Z=port_rattle_errno();
+switch(Z){
+case 0:aa=umin64(Y,V);
+ba=(i64)Y>0?aa:0;
+if(T<ba){
+ca=(u8*)65536;
+da=(u8*)65536;
+ea=0;}
 else{
-if(Y==0){
-Z=(u8*)65536;
-aa=U;
-ba=0;}
+if(ba==0){
+ca=(u8*)65536;
+da=X;
+ea=0;}
 else{
-ca=port_rattle_alloc(Y,1);
-if(!(u8)(ca.f0&1))break;
-da=ca.f1;
-ea=(u8*)da;
-if(da-(u64)U<Y){
-fa=Y&3;
-if(Y<4)ga=0;
+fa=port_rattle_alloc(ba,1);
+if(!(u8)(fa.f0&1))break;
+ga=fa.f1;
+ha=(u8*)ga;
+if(ga-(u64)X<ba){
+ia=ba&3;
+if(ba<4)ja=0;
 else{
-ha=Y&0xfffffffffffffffcu;
-ia=0;
-ja=0;
-L3:*(ea+ia)=*(U+ia);
-ka=ia|1;
-*(ea+ka)=*(U+ka);
-la=ia|2;
-*(ea+la)=*(U+la);
-ma=ia|3;
-*(ea+ma)=*(U+ma);
-na=ia+4;
-oa=ja+4;
-if(oa!=ha){
-ia=na;
-ja=oa;
+ka=ba&0xfffffffffffffffcu;
+la=0;
+ma=0;
+L3:*(ha+la)=*(X+la);
+na=la|1;
+*(ha+na)=*(X+na);
+oa=la|2;
+*(ha+oa)=*(X+oa);
+pa=la|3;
+*(ha+pa)=*(X+pa);
+qa=la+4;
+ra=ma+4;
+if(ra!=ka){
+la=qa;
+ma=ra;
 goto L3;}
-if(fa==0){
-pa=ea;
-qa=X;
+if(ia==0){
+sa=ha;
+ta=aa;
 goto L4;}
-ga=na;}
-ra=ga;
-sa=0;
-L5:*(ea+ra)=*(U+ra);
-ta=sa+1;
-if(ta==fa){
-pa=ea;
-qa=X;
+ja=qa;}
+ua=ja;
+va=0;
+L5:*(ha+ua)=*(X+ua);
+wa=va+1;
+if(wa==ia){
+sa=ha;
+ta=aa;
 goto L4;}
-ra=ra+1;
-sa=ta;
+ua=ua+1;
+va=wa;
 goto L5;}
-Z=ea;
-aa=U;
-ba=X;}}
-memmove(Z,aa,ba);
-pa=Z;
-qa=ba;
-L4:if(r8(u+16)==L){
-ua=grow_amortized_965(u,1);
-if(!ua){
-if(qa!=0)port_rattle_dealloc(pa);
-xa=rp(u);
-ya=r8(u+8);
-za=r8(u+16);
-if(ya==0)goto L6;
-Aa=0;
-L7:Ba=xa+Aa*24;
-if(q8(Ba+16)!=0)port_rattle_dealloc(qp(Ba));
-Ca=Aa+1;
-if(Ca!=ya){
-Aa=Ca;
+ca=ha;
+da=X;
+ea=aa;}}
+memmove(ca,da,ea);
+sa=ca;
+ta=ea;
+L4:if(r8(x+16)==O){
+xa=grow_amortized_965(x,1);
+if(!xa){
+if(ta!=0)port_rattle_dealloc(sa);
+Aa=rp(x);
+Ba=r8(x+8);
+Ca=r8(x+16);
+if(Ba==0)goto L6;
+Da=0;
+L7:Ea=Aa+Da*24;
+if(q8(Ea+16)!=0)port_rattle_dealloc(qp(Ea));
+Fa=Da+1;
+if(Fa!=Ba){
+Da=Fa;
 goto L7;}
-L6:if(za!=0)port_rattle_dealloc(xa);
-if(r8(t+16)==0)goto L8;
+L6:if(Ca!=0)port_rattle_dealloc(Aa);
+if(r8(w+16)==0)goto L8;
 goto L9;}
-va=rp(u);
-wa=r8(u+8);}
+ya=rp(x);
+za=r8(x+8);}
 else{
-va=M;
-wa=L;}
-Da=va+wa*24;
-xp(Da,pa);
-x8(Da+8,qa);
-x8(Da+16,qa);
-Ea=wa+1;
-w8(u+8,Ea);
-Fa=P+1;
-if(Fa==18446744073709551615u){
-Ga=Ea;
+ya=P;
+za=O;}
+Ga=ya+za*24;
+xp(Ga,sa);
+x8(Ga+8,ta);
+x8(Ga+16,ta);
+Ha=za+1;
+w8(x+8,Ha);
+Ia=S+1;
+if(Ia==18446744073709551615u){
+Ja=Ha;
 goto L10;}
-L=Ea;
-M=va;
-N=Q;
-O=R;
-P=Fa;
+O=Ha;
+P=ya;
+Q=T;
+R=U;
+S=Ia;
 goto L1;
-case 36:Ha=S<<1;
-Ia=(i64)S>-1?Ha:18446744073709551615u;
-if(Ia>S){
-Ja=Ia-S;
-if(Ja>R-S){
-Ka=grow_amortized_e1a(t,Ja);
-if(!Ka)break;
-La=r8(t+16);
-Ma=r8(t+8);}
+case 36:Ka=V<<1;
+La=(i64)V>-1?Ka:18446744073709551615u;
+if(La>V){
+Ma=La-V;
+if(Ma>U-V){
+Na=grow_amortized_e1a(w,Ma);
+if(!Na)break;
+Oa=r8(w+16);
+Pa=r8(w+8);}
 else{
-La=R;
-Ma=S;}
-Na=Ma+Ja;
-if(Ma<Na)memset(rp(t)+(i64)Ma,0,Ja);
-w8(t+8,Na);
-w8(t+16,La);
-Oa=Na;
-Pa=La;
-Qa=Na;}
+Oa=U;
+Pa=V;}
+Qa=Pa+Ma;
+if(Pa<Qa)memset(rp(w)+(i64)Pa,0,Ma);
+w8(w+8,Qa);
+w8(w+16,Oa);
+Ra=Qa;
+Sa=Oa;
+Ta=Qa;}
 else{
-if(S>Ia){
-w8(t+8,Ia);
-Oa=Ha;
-Pa=R;
-Qa=Ha;}
+if(V>La){
+w8(w+8,La);
+Ra=Ka;
+Sa=U;
+Ta=Ka;}
 else{
-Oa=Q;
-Pa=R;
-Qa=S;}}
-Ra=T+1;
-if(Ra!=64){
-Q=Oa;
-R=Pa;
-S=Qa;
+Ra=T;
+Sa=U;
+Ta=V;}}
+Ua=W+1;
+if(Ua!=64){
 T=Ra;
+U=Sa;
+V=Ta;
+W=Ua;
 goto L2;}
 break;
-default:Ga=L;
+default:Ja=O;
 goto L10;
 }
-Sa=r8(u+16);
-if(L==0)goto L11;
-Ta=0;
-L12:Ua=M+Ta*24;
-if(q8(Ua+16)!=0)port_rattle_dealloc(qp(Ua));
-Va=Ta+1;
-if(Va!=L){
-Ta=Va;
+Va=r8(x+16);
+if(O==0)goto L11;
+Wa=0;
+L12:Xa=P+Wa*24;
+if(q8(Xa+16)!=0)port_rattle_dealloc(qp(Xa));
+Ya=Wa+1;
+if(Ya!=O){
+Wa=Ya;
 goto L12;}
-L11:if(Sa!=0)port_rattle_dealloc(M);
-if(r8(t+16)==0)goto L8;
-L9:port_rattle_dealloc(rp(t));
+L11:if(Va!=0)port_rattle_dealloc(P);
+if(r8(w+16)==0)goto L8;
+L9:port_rattle_dealloc(rp(w));
 goto L8;
-L10:if(R!=0)port_rattle_dealloc(U);
-Wa=rp(u);
-Xa=r8(u+16);
-memset(o,0,40);
-memset(p,0,40);
-memset(q,0,40);
+L10:if(U!=0)port_rattle_dealloc(X);
+Za=rp(x);
+ab=r8(x+16);
 memset(r,0,40);
 memset(s,0,40);
-if(Ga!=0){
-if(Ga<0x555555555555556u){
-bb=port_rattle_alloc(Ga*24,8);
-if((u8)(bb.f0&1)){
-wp(n,(u8*)bb.f1);
-w8(n+8,0);
-w8(n+16,Ga);
-cb=0;
-db=Ga;
-L13:eb=cb+1;
-fb=db-1;
-gb=Wa+cb*24;
-hb=qp(gb);
-ib=q8(gb+8);
-jb=q8(gb+16);
-memset(m,0,24);
-if(ib!=0){
-if(*hb==64){
-from_utf8_969(m,hb+1,ib-1);
-kb=r8(m+16);
-lb=r8(m+8);
-if(*m!=0)goto L14;
-memset(l,0,96);
-wp(k,(u8*)65536);
-memset(k+8,0,16);
-open_9ec(l,(u8*)lb,kb);
-mb=r4(l+4);
-if(*l!=0){
-vb=r8(l+8);
+memset(t,0,40);
+memset(u,0,40);
+memset(v,0,40);
+if(Ja!=0){
+if(Ja<0x555555555555556u){
+eb=port_rattle_alloc(Ja*24,8);
+if((u8)(eb.f0&1)){
+wp(q,(u8*)eb.f1);
+w8(q+8,0);
+w8(q+16,Ja);
+fb=0;
+gb=Ja;
+L13:hb=fb+1;
+ib=gb-1;
+jb=Za+fb*24;
+kb=qp(jb);
+lb=q8(jb+8);
+mb=q8(jb+16);
+memset(p,0,24);
+if(lb!=0){
+if(*kb==64){
+from_utf8_969(p,kb+1,lb-1);
+nb=r8(p+16);
+ob=r8(p+8);
+if(*p!=0)goto L14;
+memset(o,0,96);
+wp(n,(u8*)65536);
+memset(n+8,0,16);
+open_9ec(o,(u8*)ob,nb);
+pb=r4(o+4);
+if(*o!=0){
+yb=r8(o+8);
 goto L15;}
-nb=0;
-ob=0;
-pb=0;
 qb=0;
-rb=4194305;
+rb=0;
 sb=0;
-tb=8192;
-ub=18446744073709551615u;
-L16:wb=ub-1;
-xb=umax64(tb,1);
-if(sb==qb){
-if(qb==0){
-if(pb+511<512){
-if(pb>0xfffffffffffffdffu){
-yb=ob;
-zb=9729;
+tb=0;
+ub=4194305;
+vb=0;
+wb=8192;
+xb=18446744073709551615u;
+L16:zb=xb-1;
+Ab=umax64(wb,1);
+if(vb==tb){
+if(tb==0){
+if(sb+511<512){
+if(sb>0xfffffffffffffdffu){
+Bb=rb;
+Cb=9729;
 goto L17;}
-Ab=pb+512;
-Bb=port_rattle_alloc(Ab,1);
-if(!(u8)(Bb.f0&1)){
-yb=ob;
-zb=9729;
+Db=sb+512;
+Eb=port_rattle_alloc(Db,1);
+if(!(u8)(Eb.f0&1)){
+Bb=rb;
+Cb=9729;
 goto L17;}
-wp(k,(u8*)Bb.f1);
-w8(k+16,Ab);
-Cb=512;
-Db=512;
-Eb=0;
+wp(n,(u8*)Eb.f1);
+w8(n+16,Db);
 Fb=512;
-Gb=512;}
+Gb=512;
+Hb=0;
+Ib=512;
+Jb=512;}
 else{
-Cb=nb;
-Db=ob;
-Eb=pb;
-Fb=0;
-Gb=512;}}
-else{
-if(qb-pb<512){
-Hb=grow_amortized_e1a(k,512);
-Ib=r8(k+16);
-if(!Hb){
-yb=Ib;
-zb=9729;
-goto L17;}
-Cb=Ib;
-Db=Ib;
-Eb=r8(k+8);
-Fb=Ib;
-Gb=xb;}
-else{
-Cb=nb;
-Db=ob;
-Eb=pb;
 Fb=qb;
-Gb=xb;}}}
+Gb=rb;
+Hb=sb;
+Ib=0;
+Jb=512;}}
 else{
-Cb=nb;
-Db=ob;
-Eb=pb;
-Fb=qb;
-Gb=xb;}
-Jb=umin64(Gb,Fb-sb)+sb;
-if(Eb<Jb){
-Kb=Jb-Eb;
-if(Kb>Fb-Eb){
-Lb=grow_amortized_e1a(k,Kb);
-Mb=r8(k+16);
-if(!Lb){
-yb=Mb;
-zb=9729;
+if(tb-sb<512){
+Kb=grow_amortized_e1a(n,512);
+Lb=r8(n+16);
+if(!Kb){
+Bb=Lb;
+Cb=9729;
 goto L17;}
-Nb=Mb;
-Ob=r8(k+8);}
+Fb=Lb;
+Gb=Lb;
+Hb=r8(n+8);
+Ib=Lb;
+Jb=Ab;}
 else{
-Nb=Fb;
-Ob=Eb;}
-Pb=Ob+Kb;
-Qb=rp(k);
-if(Ob<Pb)memset(Qb+(i64)Ob,0,Kb);
-w8(k+8,Pb);
-w8(k+16,Nb);
-Rb=Nb;
-Sb=Nb;
-Tb=Pb;
-Ub=Nb;
-Vb=Qb;}
+Fb=qb;
+Gb=rb;
+Hb=sb;
+Ib=tb;
+Jb=Ab;}}}
 else{
-Rb=Cb;
-Sb=Db;
-Tb=Eb;
+Fb=qb;
+Gb=rb;
+Hb=sb;
+Ib=tb;
+Jb=Ab;}
+Mb=umin64(Jb,Ib-vb)+vb;
+if(Hb<Mb){
+Nb=Mb-Hb;
+if(Nb>Ib-Hb){
+Ob=grow_amortized_e1a(n,Nb);
+Pb=r8(n+16);
+if(!Ob){
+Bb=Pb;
+Cb=9729;
+goto L17;}
+Qb=Pb;
+Rb=r8(n+8);}
+else{
+Qb=Ib;
+Rb=Hb;}
+Sb=Rb+Nb;
+Tb=rp(n);
+if(Rb<Sb)memset(Tb+(i64)Rb,0,Nb);
+w8(n+8,Sb);
+w8(n+16,Qb);
+Ub=Qb;
+Vb=Qb;
+Wb=Sb;
+Xb=Qb;
+Yb=Tb;}
+else{
 Ub=Fb;
-Vb=rp(k);}
-Wb=Vb+(i64)sb;
-Xb=umin64(Tb-sb,rb);
-if(rb==0){
-Yb=Vb;
+Vb=Gb;
+Wb=Hb;
+Xb=Ib;
+Yb=rp(n);}
+Zb=Yb+(i64)vb;
+ac=umin64(Wb-vb,ub);
+if(ub==0){
+bc=Yb;
 goto L18;}
-Zb=18446744073709551615u;
-L19:if(Zb==0){
-from_bytes_465(h,2,22,(u8*)t_f043,43,43);
-yb=Sb;
-zb=r8(h);
+cc=18446744073709551615u;
+L19:if(cc==0){
+from_bytes_465(k,2,22,(u8*)t_f043,43,43);
+Bb=Vb;
+Cb=r8(k);
 goto L17;}
-ac=Zb-1;
-bc=port_read(mb,Wb,Xb);
-if((i64)bc<0){
-cc=port_rattle_errno();
-from_raw_os_error_cb0(j,cc);
-dc=r8(j);
-ec=dc>>8;
-*i=0;
-i[1]=1;
-i[2]=2;
-i[3]=3;
-i[4]=4;
-i[5]=5;
-i[6]=6;
-i[7]=7;
-i[8]=8;
-i[9]=9;
-i[10]=10;
-i[11]=11;
-i[12]=12;
-i[13]=13;
-i[14]=14;
-i[15]=15;
-i[16]=16;
-i[17]=17;
-i[18]=18;
-i[19]=19;
-i[20]=20;
-i[21]=21;
-i[22]=22;
-i[23]=23;
-i[24]=24;
-i[25]=25;
-i[26]=26;
-i[27]=27;
-i[28]=28;
-i[29]=29;
-i[30]=30;
-i[31]=31;
-i[32]=32;
-i[33]=33;
-i[34]=34;
-i[35]=35;
-i[36]=36;
-i[37]=37;
-i[38]=38;
-i[39]=39;
-i[40]=40;
-if((u8)ec>=41){
-yb=Sb;
-zb=dc;
+dc=cc-1;
+ec=port_read(pb,Zb,ac);
+if((i64)ec<0){
+fc=port_rattle_errno();
+from_raw_os_error_cb0(m,fc);
+gc=r8(m);
+hc=gc>>8;
+*l=0;
+l[1]=1;
+l[2]=2;
+l[3]=3;
+l[4]=4;
+l[5]=5;
+l[6]=6;
+l[7]=7;
+l[8]=8;
+l[9]=9;
+l[10]=10;
+l[11]=11;
+l[12]=12;
+l[13]=13;
+l[14]=14;
+l[15]=15;
+l[16]=16;
+l[17]=17;
+l[18]=18;
+l[19]=19;
+l[20]=20;
+l[21]=21;
+l[22]=22;
+l[23]=23;
+l[24]=24;
+l[25]=25;
+l[26]=26;
+l[27]=27;
+l[28]=28;
+l[29]=29;
+l[30]=30;
+l[31]=31;
+l[32]=32;
+l[33]=33;
+l[34]=34;
+l[35]=35;
+l[36]=36;
+l[37]=37;
+l[38]=38;
+l[39]=39;
+l[40]=40;
+if((u8)hc>=41){
+Bb=Vb;
+Cb=gc;
 goto L17;}
-if(*(i+(ec&63))==35){
-Zb=ac;
+if(*(l+(hc&63))==35){
+cc=dc;
 goto L19;}
-yb=Sb;
-zb=dc;
+Bb=Vb;
+Cb=gc;
 goto L17;}
-fc=umin64(bc,Xb);
-if(fc!=0){
-if(wb==0){
-from_bytes_465(g,2,22,(u8*)t_f043,43,43);
-yb=Sb;
-zb=r8(g);
+ic=umin64(ec,ac);
+if(ic!=0){
+if(zb==0){
+from_bytes_465(j,2,22,(u8*)t_f043,43,43);
+Bb=Vb;
+Cb=r8(j);
 goto L17;}
-nb=Rb;
-ob=Sb;
-pb=Tb;
 qb=Ub;
-rb=rb-fc;
-sb=fc+sb;
-tb=tb>fc?tb:umin64(tb<<1,131072);
-ub=wb;
+rb=Vb;
+sb=Wb;
+tb=Xb;
+ub=ub-ic;
+vb=ic+vb;
+wb=wb>ic?wb:umin64(wb<<1,131072);
+xb=zb;
 goto L16;}
-Yb=(u8*)r8(k);
-L18:gc=umin64(Tb,sb);
-port_close(mb);
-if(gc>4194304){
-if(Rb!=0)port_rattle_dealloc(Yb);
-wp(q,Wa);
-w8(q+8,fb);
-w8(q+16,Xa);
-w8(q+24,eb);
-w8(q+32,0);
-drop_87d(q);
-hc=rp(n);
-ic=r8(n+8);
-jc=r8(n+16);
-if(ic==0)goto L20;
-kc=0;
-L21:lc=hc+kc*24;
-if(q8(lc+16)!=0)port_rattle_dealloc(qp(lc));
-mc=kc+1;
-if(mc!=ic){
-kc=mc;
+bc=(u8*)r8(n);
+L18:jc=umin64(Wb,vb);
+port_close(pb);
+if(jc>4194304){
+if(Ub!=0)port_rattle_dealloc(bc);
+wp(t,Za);
+w8(t+8,ib);
+w8(t+16,ab);
+w8(t+24,hb);
+w8(t+32,0);
+drop_87d(t);
+kc=rp(q);
+lc=r8(q+8);
+mc=r8(q+16);
+if(lc==0)goto L20;
+nc=0;
+L21:oc=kc+nc*24;
+if(q8(oc+16)!=0)port_rattle_dealloc(qp(oc));
+pc=nc+1;
+if(pc!=lc){
+nc=pc;
 goto L21;}
-L20:if(jc!=0)port_rattle_dealloc(hc);
-nc=port_rattle_alloc(10,1);
-if((u8)(nc.f0&1)){
-oc=nc.f1;
-pc=(u8*)oc;
-if(oc-(u64)(u8*)t_e65e<10){
-*pc=100;
-pc[1]=101;
-pc[2]=109;
-pc[3]=97;
-pc[4]=110;
-pc[5]=103;
-pc[6]=108;
-pc[7]=101;
-pc[8]=58;
-pc[9]=32;}
-else memcpy(pc,(u8*)t_e65e,10);
-wp(d,pc);
-w8(d+8,10);
-w8(d+16,10);
-qc=grow_amortized_e1a(d,ib);
-if(qc){
-rc=r8(d+8);
-sc=r8(d+16);
-tc=rp(d);
-uc=rc+ib;
-vc=tc+(i64)rc;
-if((u64)vc-(u64)hb<ib){
-wc=ib&3;
-if(ib<4)xc=0;
+L20:if(mc!=0)port_rattle_dealloc(kc);
+qc=port_rattle_alloc(10,1);
+if((u8)(qc.f0&1)){
+rc=qc.f1;
+sc=(u8*)rc;
+if(rc-(u64)(u8*)t_e65e<10){
+*sc=100;
+sc[1]=101;
+sc[2]=109;
+sc[3]=97;
+sc[4]=110;
+sc[5]=103;
+sc[6]=108;
+sc[7]=101;
+sc[8]=58;
+sc[9]=32;}
+else memcpy(sc,(u8*)t_e65e,10);
+wp(g,sc);
+w8(g+8,10);
+w8(g+16,10);
+tc=grow_amortized_e1a(g,lb);
+if(tc){
+uc=r8(g+8);
+vc=r8(g+16);
+wc=rp(g);
+xc=uc+lb;
+yc=wc+(i64)uc;
+if((u64)yc-(u64)kb<lb){
+zc=lb&3;
+if(lb<4)Ac=0;
 else{
-yc=ib&0xfffffffffffffffcu;
-zc=0;
-Ac=0;
-L22:*(vc+zc)=*(hb+zc);
-Bc=zc|1;
-*(vc+Bc)=*(hb+Bc);
-Cc=zc|2;
-*(vc+Cc)=*(hb+Cc);
-Dc=zc|3;
-*(vc+Dc)=*(hb+Dc);
-Ec=zc+4;
-Fc=Ac+4;
-if(Fc!=yc){
-zc=Ec;
-Ac=Fc;
+Bc=lb&0xfffffffffffffffcu;
+Cc=0;
+Dc=0;
+L22:*(yc+Cc)=*(kb+Cc);
+Ec=Cc|1;
+*(yc+Ec)=*(kb+Ec);
+Fc=Cc|2;
+*(yc+Fc)=*(kb+Fc);
+Gc=Cc|3;
+*(yc+Gc)=*(kb+Gc);
+Hc=Cc+4;
+Ic=Dc+4;
+if(Ic!=Bc){
+Cc=Hc;
+Dc=Ic;
 goto L22;}
-if(wc==0)goto L23;
-xc=Ec;}
-Gc=xc;
-Hc=0;
-L24:*(vc+Gc)=*(hb+Gc);
-Ic=Hc+1;
-if(Ic!=wc){
-Gc=Gc+1;
-Hc=Ic;
+if(zc==0)goto L23;
+Ac=Hc;}
+Jc=Ac;
+Kc=0;
+L24:*(yc+Jc)=*(kb+Jc);
+Lc=Kc+1;
+if(Lc!=zc){
+Jc=Jc+1;
+Kc=Lc;
 goto L24;}}
-else memmove(vc,hb,ib);
-L23:w8(d+8,uc);
-memset(c+8,0,16);
-memset(c+57,0,7);
-wp(c,(u8*)65536);
-w8(c+48,0);
-c[56]=0;
-w4(c+24,32);
-memset(c+28,0,12);
-w8(c+40,18446744073709551615u);
-Jc=grow_amortized_e1a(c,12);
-if(Jc){
-Kc=r8(c+8);
-Lc=Kc+12;
-Mc=rp(c)+(i64)Kc;
-if((u64)Mc-(u64)(u8*)t_e074<12){
-*Mc=58;
-Mc[1]=32;
-Mc[2]=109;
-Mc[3]=111;
-Mc[4]=114;
-Mc[5]=101;
-Mc[6]=32;
-Mc[7]=116;
-Mc[8]=104;
-Mc[9]=97;
-Mc[10]=110;
-Mc[11]=32;}
-else memcpy(Mc,(u8*)t_e074,12);
-w8(c+8,Lc);
-Nc=write_piece_7c8(c,(u8*)t_0854);
-if(Nc==0){
-w4(c+24,32);
-memset(c+28,0,12);
-w8(c+40,18446744073709551615u);
-if(r8(c+48)==0){
-Oc=r8(c+16);
-Pc=r8(c+8);
-if(Oc-Pc<7){
-Qc=grow_amortized_e1a(c,7);
-if(!Qc)goto L25;
-Rc=r8(c+16);
-Sc=r8(c+8);}
-else{
-Rc=Oc;
-Sc=Pc;}
-Tc=Sc+7;
-Uc=rp(c);
-Vc=Uc+(i64)Sc;
-if((u64)Vc-(u64)(u8*)t_c0a9<7){
-*Vc=32;
-Vc[1]=98;
-Vc[2]=121;
-Vc[3]=116;
-Vc[4]=101;
-Vc[5]=115;
-Vc[6]=10;
-Wc=Tc;
-Xc=Uc;
-Yc=Rc;}
-else{
-memcpy(Vc,(u8*)t_c0a9,7);
-Wc=Tc;
-Xc=Uc;
-Yc=Rc;}}
-else{
-Zc=write_indented_070(c,(u8*)t_c0a9,7);
-if(Zc!=0)goto L25;
-Wc=r8(c+8);
-Xc=rp(c);
-Yc=r8(c+16);}
-if(Wc>sc-uc){
-ad=grow_amortized_e1a(d,Wc);
-if(!ad){
-if(Yc!=0)port_rattle_dealloc(Xc);
-if(r8(d+16)==0)goto L26;
-ed=rp(d);
-goto L27;}
-bd=rp(d);
-cd=r8(d+16);
-dd=r8(d+8);}
-else{
-bd=tc;
-cd=sc;
-dd=uc;}
-fd=dd+Wc;
-gd=bd+(i64)dd;
-if((u64)gd-(u64)Xc<Wc){
-hd=Wc&3;
-if(Wc<4)id=0;
-else{
-jd=Wc&0xfffffffffffffffcu;
-kd=0;
-ld=0;
-L28:*(gd+kd)=*(Xc+kd);
-md=kd|1;
-*(gd+md)=*(Xc+md);
-nd=kd|2;
-*(gd+nd)=*(Xc+nd);
-od=kd|3;
-*(gd+od)=*(Xc+od);
-pd=kd+4;
-qd=ld+4;
-if(qd!=jd){
-kd=pd;
-ld=qd;
-goto L28;}
-if(hd==0)goto L29;
-id=pd;}
-sd=id;
-td=0;
-L30:*(gd+sd)=*(Xc+sd);
-ud=td+1;
-if(ud!=hd){
-sd=sd+1;
-td=ud;
-goto L30;}}
-else memmove(gd,Xc,Wc);
-L29:if(Yc!=0)port_rattle_dealloc(Xc);
-if(fd==0)goto L31;
-vd=0;
-L32:xd=fd-vd;
-yd=rp(E);
-zd=port_write(2,bd+(i64)vd,xd);
-if((i64)zd<0){
-Ad=port_rattle_errno();
-from_raw_os_error_cb0(a,Ad);
-Bd=r8(a);
-memcpy(b,a+8,80);
-x8(yd+8,1);
-x8(yd+16,Bd);
-memcpy(yd+24,b,80);}
-else{
-Cd=umin64(zd,xd);
-if(Cd!=0){
-Dd=Cd+vd;
-if(Dd>=fd)goto L31;
-vd=Dd;
-goto L32;}}
-if(cd==0){
-Ed=1;
-Fd=0;
-goto L33;}
-port_rattle_dealloc(bd);
-Ed=1;
-Fd=0;
-goto L33;
-L31:if(cd==0){
-Ed=2;
-Fd=1;
-goto L33;}
-port_rattle_dealloc(bd);
-Ed=2;
-Fd=1;
-goto L33;}}
-L25:if(r8(c+16)!=0)port_rattle_dealloc(rp(c));
-if(sc==0)goto L26;
-ed=tc;}
-else{
-if(r8(d+16)==0)goto L26;
-ed=rp(d);}
-L27:port_rattle_dealloc(ed);}
-L26:Ed=2;
-Fd=0;
-L33:if(jb!=0)port_rattle_dealloc(hb);
-if(Fd){
-Gd=Ed;
-goto L34;}
-Hd=Ed;
-goto L35;}
-w8(f+48,0);
-wp(f,(u8*)65536);
+else memmove(yc,kb,lb);
+L23:w8(g+8,xc);
 memset(f+8,0,16);
-wp(f+24,(u8*)65536);
-memset(f+32,0,20);
-if(gc==0){
-Id=(u8*)65536;
-Jd=1;
-Kd=0;
-goto L36;}
-Ld=0;
-L37:Md=*(Yb+(i64)Ld);
-if(f[51]&1){
-Nd=r8(f+32);
-if(r8(f+40)==Nd){
-Od=grow_amortized_e1a(f+24,1);
-if(!Od)goto L38;
-Pd=r8(f+32);}
-else Pd=Nd;
-*(rp(f+24)+Pd)=Md;
-w8(f+32,Pd+1);
-f[48]=1;
-f[51]=0;
-goto L39;}
-if(Md==92){
-f[48]=1;
-f[51]=1;
-goto L39;}
-if(f[49]==1){
-if(Md==f[50]){
-Qd=f+49;
-Rd=0;
-Sd=f+50;}
+memset(f+57,0,7);
+wp(f,(u8*)65536);
+w8(f+48,0);
+f[56]=0;
+w4(f+24,32);
+memset(f+28,0,12);
+w8(f+40,18446744073709551615u);
+Mc=grow_amortized_e1a(f,12);
+if(Mc){
+Nc=r8(f+8);
+Oc=Nc+12;
+Pc=rp(f)+(i64)Nc;
+if((u64)Pc-(u64)(u8*)t_e074<12){
+*Pc=58;
+Pc[1]=32;
+Pc[2]=109;
+Pc[3]=111;
+Pc[4]=114;
+Pc[5]=101;
+Pc[6]=32;
+Pc[7]=116;
+Pc[8]=104;
+Pc[9]=97;
+Pc[10]=110;
+Pc[11]=32;}
+else memcpy(Pc,(u8*)t_e074,12);
+w8(f+8,Oc);
+Qc=write_piece_7c8(f,(u8*)t_0854);
+if(Qc==0){
+w4(f+24,32);
+memset(f+28,0,12);
+w8(f+40,18446744073709551615u);
+if(r8(f+48)==0){
+Rc=r8(f+16);
+Sc=r8(f+8);
+if(Rc-Sc<7){
+Tc=grow_amortized_e1a(f,7);
+if(!Tc)goto L25;
+Uc=r8(f+16);
+Vc=r8(f+8);}
 else{
-Td=r8(f+32);
-if(r8(f+40)==Td){
-Ud=grow_amortized_e1a(f+24,1);
-if(!Ud)goto L38;
-Vd=r8(f+32);}
-else Vd=Td;
-*(rp(f+24)+Vd)=Md;
-w8(f+32,Vd+1);
-Qd=f+48;
-Rd=1;
-Sd=f+51;}
-*Qd=Rd;
-*Sd=0;
+Uc=Rc;
+Vc=Sc;}
+Wc=Vc+7;
+Xc=rp(f);
+Yc=Xc+(i64)Vc;
+if((u64)Yc-(u64)(u8*)t_c0a9<7){
+*Yc=32;
+Yc[1]=98;
+Yc[2]=121;
+Yc[3]=116;
+Yc[4]=101;
+Yc[5]=115;
+Yc[6]=10;
+Zc=Wc;
+ad=Xc;
+bd=Uc;}
+else{
+memcpy(Yc,(u8*)t_c0a9,7);
+Zc=Wc;
+ad=Xc;
+bd=Uc;}}
+else{
+cd=write_indented_070(f,(u8*)t_c0a9,7);
+if(cd!=0)goto L25;
+Zc=r8(f+8);
+ad=rp(f);
+bd=r8(f+16);}
+if(Zc>vc-xc){
+dd=grow_amortized_e1a(g,Zc);
+if(!dd){
+if(bd!=0)port_rattle_dealloc(ad);
+if(r8(g+16)==0)goto L26;
+hd=rp(g);
+goto L27;}
+ed=rp(g);
+fd=r8(g+16);
+gd=r8(g+8);}
+else{
+ed=wc;
+fd=vc;
+gd=xc;}
+id=gd+Zc;
+jd=ed+(i64)gd;
+if((u64)jd-(u64)ad<Zc){
+kd=Zc&3;
+if(Zc<4)ld=0;
+else{
+md=Zc&0xfffffffffffffffcu;
+nd=0;
+od=0;
+L28:*(jd+nd)=*(ad+nd);
+pd=nd|1;
+*(jd+pd)=*(ad+pd);
+qd=nd|2;
+*(jd+qd)=*(ad+qd);
+sd=nd|3;
+*(jd+sd)=*(ad+sd);
+td=nd+4;
+ud=od+4;
+if(ud!=md){
+nd=td;
+od=ud;
+goto L28;}
+if(kd==0)goto L29;
+ld=td;}
+vd=ld;
+xd=0;
+L30:*(jd+vd)=*(ad+vd);
+yd=xd+1;
+if(yd!=kd){
+vd=vd+1;
+xd=yd;
+goto L30;}}
+else memmove(jd,ad,Zc);
+L29:if(bd!=0)port_rattle_dealloc(ad);
+if(id==0)goto L31;
+zd=0;
+L32:Ad=id-zd;
+Bd=rp(H);
+Cd=port_write(2,ed+(i64)zd,Ad);
+if((i64)Cd<0){
+Dd=port_rattle_errno();
+from_raw_os_error_cb0(d,Dd);
+Ed=r8(d);
+memcpy(e,d+8,80);
+x8(Bd+8,1);
+x8(Bd+16,Ed);
+memcpy(Bd+24,e,80);}
+else{
+Fd=umin64(Cd,Ad);
+if(Fd!=0){
+Gd=Fd+zd;
+if(Gd>=id)goto L31;
+zd=Gd;
+goto L32;}}
+w8(H+8,r8(H+8)+1);
+if(fd==0){
+Hd=1;
+Id=0;
+goto L33;}
+port_rattle_dealloc(ed);
+Hd=1;
+Id=0;
+goto L33;
+L31:if(fd==0){
+Hd=2;
+Id=1;
+goto L33;}
+port_rattle_dealloc(ed);
+Hd=2;
+Id=1;
+goto L33;}}
+L25:if(r8(f+16)!=0)port_rattle_dealloc(rp(f));
+if(vc==0)goto L26;
+hd=wc;}
+else{
+if(r8(g+16)==0)goto L26;
+hd=rp(g);}
+L27:port_rattle_dealloc(hd);}
+L26:Hd=2;
+Id=0;
+L33:if(mb!=0)port_rattle_dealloc(kb);
+if(Id){
+Jd=Hd;
+goto L34;}
+Kd=Hd;
+goto L35;}
+w8(i+48,0);
+wp(i,(u8*)65536);
+memset(i+8,0,16);
+wp(i+24,(u8*)65536);
+memset(i+32,0,20);
+if(jc==0){
+Ld=(u8*)65536;
+Md=1;
+Nd=0;
+goto L36;}
+Od=0;
+L37:Pd=*(bc+(i64)Od);
+if(i[51]&1){
+Qd=r8(i+32);
+if(r8(i+40)==Qd){
+Rd=grow_amortized_e1a(i+24,1);
+if(!Rd)goto L38;
+Sd=r8(i+32);}
+else Sd=Qd;
+*(rp(i+24)+Sd)=Pd;
+w8(i+32,Sd+1);
+i[48]=1;
+i[51]=0;
 goto L39;}
-switch(Md){
-case 39:case 34:f[48]=1;
-f[49]=1;
-f[50]=Md;
+if(Pd==92){
+i[48]=1;
+i[51]=1;
+goto L39;}
+if(i[49]==1){
+if(Pd==i[50]){
+Td=i+49;
+Ud=0;
+Vd=i+50;}
+else{
+Wd=r8(i+32);
+if(r8(i+40)==Wd){
+Xd=grow_amortized_e1a(i+24,1);
+if(!Xd)goto L38;
+Yd=r8(i+32);}
+else Yd=Wd;
+*(rp(i+24)+Yd)=Pd;
+w8(i+32,Yd+1);
+Td=i+48;
+Ud=1;
+Vd=i+51;}
+*Td=Ud;
+*Vd=0;
+goto L39;}
+switch(Pd){
+case 39:case 34:i[48]=1;
+i[49]=1;
+i[50]=Pd;
 goto L39;
-default:if(Md>=9){
-if((Md<14)|(Md==32)){
-if(!(f[48]&1))goto L39;
-Wd=rp(f+24);
-Xd=r8(f+32);
-Yd=r8(f+40);
-wp(f+24,(u8*)65536);
-memset(f+32,0,16);
-Zd=r8(f+8);
-if(r8(f+16)==Zd){
-ae=grow_amortized_965(f,1);
-if(!ae){
-if(Yd==0)break;
-port_rattle_dealloc(Wd);
+default:if(Pd>=9){
+if((Pd<14)|(Pd==32)){
+if(!(i[48]&1))goto L39;
+Zd=rp(i+24);
+ae=r8(i+32);
+be=r8(i+40);
+wp(i+24,(u8*)65536);
+memset(i+32,0,16);
+ce=r8(i+8);
+if(r8(i+16)==ce){
+de=grow_amortized_965(i,1);
+if(!de){
+if(be==0)break;
+port_rattle_dealloc(Zd);
 break;}
-be=r8(f+8);}
-else be=Zd;
-ce=rp(f)+be*24;
-xp(ce,Wd);
-x8(ce+8,Xd);
-x8(ce+16,Yd);
-w8(f+8,be+1);
-f[48]=0;
+ee=r8(i+8);}
+else ee=ce;
+fe=rp(i)+ee*24;
+xp(fe,Zd);
+x8(fe+8,ae);
+x8(fe+16,be);
+w8(i+8,ee+1);
+i[48]=0;
 goto L39;}}
-de=r8(f+32);
-if(r8(f+40)==de){
-ee=grow_amortized_e1a(f+24,1);
-if(!ee)break;
-fe=r8(f+32);}
-else fe=de;
-*(rp(f+24)+fe)=Md;
-w8(f+32,fe+1);
-f[48]=1;
-f[51]=0;
+ge=r8(i+32);
+if(r8(i+40)==ge){
+he=grow_amortized_e1a(i+24,1);
+if(!he)break;
+ie=r8(i+32);}
+else ie=ge;
+*(rp(i+24)+ie)=Pd;
+w8(i+32,ie+1);
+i[48]=1;
+i[51]=0;
 goto L39;
 }
-L38:ge=rp(f);
-he=r8(f+8);
-ie=r8(f+16);
-if(he==0)goto L40;
-je=0;
-L41:ke=ge+je*24;
-if(q8(ke+16)!=0)port_rattle_dealloc(qp(ke));
-le=je+1;
-if(le!=he){
-je=le;
+L38:je=rp(i);
+ke=r8(i+8);
+le=r8(i+16);
+if(ke==0)goto L40;
+me=0;
+L41:ne=je+me*24;
+if(q8(ne+16)!=0)port_rattle_dealloc(qp(ne));
+oe=me+1;
+if(oe!=ke){
+me=oe;
 goto L41;}
-L40:if(ie!=0)port_rattle_dealloc(ge);
-if(r8(f+40)==0)goto L42;
+L40:if(le!=0)port_rattle_dealloc(je);
+if(r8(i+40)==0)goto L42;
 goto L43;
-L39:me=Ld+1;
-if(me!=gc){
-Ld=me;
+L39:pe=Od+1;
+if(pe!=jc){
+Od=pe;
 goto L37;}
-if(f[48]&1){
-ne=rp(f+24);
-oe=r8(f+32);
-pe=r8(f+40);
-wp(f+24,(u8*)65536);
-memset(f+32,0,16);
-qe=r8(f+8);
-if(r8(f+16)==qe){
-re=grow_amortized_965(f,1);
-if(!re){
-if(pe!=0)port_rattle_dealloc(ne);
-te=rp(f);
-ue=r8(f+8);
-ve=r8(f+16);
-if(ue==0)goto L44;
-we=0;
-L45:xe=te+we*24;
-if(q8(xe+16)!=0)port_rattle_dealloc(qp(xe));
-ye=we+1;
-if(ye!=ue){
-we=ye;
+if(i[48]&1){
+qe=rp(i+24);
+re=r8(i+32);
+se=r8(i+40);
+wp(i+24,(u8*)65536);
+memset(i+32,0,16);
+te=r8(i+8);
+if(r8(i+16)==te){
+ue=grow_amortized_965(i,1);
+if(!ue){
+if(se!=0)port_rattle_dealloc(qe);
+we=rp(i);
+xe=r8(i+8);
+ye=r8(i+16);
+if(xe==0)goto L44;
+ze=0;
+L45:Ae=we+ze*24;
+if(q8(Ae+16)!=0)port_rattle_dealloc(qp(Ae));
+Be=ze+1;
+if(Be!=xe){
+ze=Be;
 goto L45;}
-L44:if(ve!=0)port_rattle_dealloc(te);
-if(r8(f+40)==0)goto L42;
+L44:if(ye!=0)port_rattle_dealloc(we);
+if(r8(i+40)==0)goto L42;
 goto L43;}
-se=r8(f+8);}
-else se=qe;
-ze=rp(f)+se*24;
-xp(ze,ne);
-x8(ze+8,oe);
-x8(ze+16,pe);
-w8(f+8,se+1);}
-if(r8(f+40)!=0)port_rattle_dealloc(rp(f+24));
-Id=rp(f);
-Jd=r8(f+16)==0;
-Kd=r8(f+8);
+ve=r8(i+8);}
+else ve=te;
+Ce=rp(i)+ve*24;
+xp(Ce,qe);
+x8(Ce+8,re);
+x8(Ce+16,se);
+w8(i+8,ve+1);}
+if(r8(i+40)!=0)port_rattle_dealloc(rp(i+24));
+Ld=rp(i);
+Md=r8(i+16)==0;
+Nd=r8(i+8);
 goto L36;
-L43:port_rattle_dealloc(rp(f+24));
-L42:if(Rb==0)goto L46;
-port_rattle_dealloc(Yb);
+L43:port_rattle_dealloc(rp(i+24));
+L42:if(Ub==0)goto L46;
+port_rattle_dealloc(bc);
 goto L46;
-L36:if(Rb!=0)port_rattle_dealloc(Yb);
-Ae=r8(n+8);
-if(Kd>r8(n+16)-Ae){
-Be=grow_amortized_965(n,Kd);
-if(Be){
-Ce=r8(n+8);
+L36:if(Ub!=0)port_rattle_dealloc(bc);
+De=r8(q+8);
+if(Nd>r8(q+16)-De){
+Ee=grow_amortized_965(q,Nd);
+if(Ee){
+Fe=r8(q+8);
 goto L47;}
-De=0;
-L48:Ee=Id+De*24;
-if(q8(Ee+16)!=0)port_rattle_dealloc(qp(Ee));
-Fe=De+1;
-if(Fe==Kd){
 Ge=0;
+L48:He=Ld+Ge*24;
+if(q8(He+16)!=0)port_rattle_dealloc(qp(He));
+Ie=Ge+1;
+if(Ie==Nd){
+Je=0;
 goto L49;}
-De=Fe;
+Ge=Ie;
 goto L48;}
-if(Kd==0){
-Ge=1;
+if(Nd==0){
+Je=1;
 goto L49;}
-Ce=Ae;
-L47:He=rp(n)+(i64)(Ce*24);
-Ie=Kd*24;
-if((u64)He-(u64)Id<Ie){
-Je=Kd&7;
-if(Kd-1<7)Ke=0;
+Fe=De;
+L47:Ke=rp(q)+(i64)(Fe*24);
+Le=Nd*24;
+if((u64)Ke-(u64)Ld<Le){
+Me=Nd&7;
+if(Nd-1<7)Ne=0;
 else{
-Le=Kd&0xfffffffffffffff8u;
-Me=0;
-Ne=0;
-L50:Oe=Me*24;
-memmove(He+Oe,Id+Oe,24);
-Pe=(Me*24)|24;
-memmove(He+Pe,Id+Pe,24);
-Qe=(Me*24)|48;
-memmove(He+Qe,Id+Qe,24);
-Re=Me*24+72;
-memmove(He+Re,Id+Re,24);
-Se=Me*24+96;
-memmove(He+Se,Id+Se,24);
-Te=Me*24+120;
-memmove(He+Te,Id+Te,24);
-Ue=Me*24+144;
-memmove(He+Ue,Id+Ue,24);
-Ve=Me*24+168;
-memmove(He+Ve,Id+Ve,24);
-We=Me+8;
-Xe=Ne+8;
-if(Xe!=Le){
-Me=We;
-Ne=Xe;
+Oe=Nd&0xfffffffffffffff8u;
+Pe=0;
+Qe=0;
+L50:Re=Pe*24;
+memmove(Ke+Re,Ld+Re,24);
+Se=(Pe*24)|24;
+memmove(Ke+Se,Ld+Se,24);
+Te=(Pe*24)|48;
+memmove(Ke+Te,Ld+Te,24);
+Ue=Pe*24+72;
+memmove(Ke+Ue,Ld+Ue,24);
+Ve=Pe*24+96;
+memmove(Ke+Ve,Ld+Ve,24);
+We=Pe*24+120;
+memmove(Ke+We,Ld+We,24);
+Xe=Pe*24+144;
+memmove(Ke+Xe,Ld+Xe,24);
+Ye=Pe*24+168;
+memmove(Ke+Ye,Ld+Ye,24);
+Ze=Pe+8;
+af=Qe+8;
+if(af!=Oe){
+Pe=Ze;
+Qe=af;
 goto L50;}
-if(Je==0)goto L51;
-Ke=We;}
-Ye=Ke;
-Ze=0;
-L52:af=Ye*24;
-memmove(He+af,Id+af,24);
-bf=Ze+1;
-if(bf!=Je){
-Ye=Ye+1;
-Ze=bf;
+if(Me==0)goto L51;
+Ne=Ze;}
+bf=Ne;
+cf=0;
+L52:df=bf*24;
+memmove(Ke+df,Ld+df,24);
+ef=cf+1;
+if(ef!=Me){
+bf=bf+1;
+cf=ef;
 goto L52;}}
-else memmove(He,Id,Ie);
-L51:w8(n+8,Ce+Kd);
-Ge=1;
-L49:if(!Jd)port_rattle_dealloc(Id);
-cf=jb==0;
-if(Ge){
-if(cf)goto L53;
-port_rattle_dealloc(hb);
+else memmove(Ke,Ld,Le);
+L51:w8(q+8,Fe+Nd);
+Je=1;
+L49:if(!Md)port_rattle_dealloc(Ld);
+ff=mb==0;
+if(Je){
+if(ff)goto L53;
+port_rattle_dealloc(kb);
 goto L53;}
-if(!cf)port_rattle_dealloc(hb);
-wp(r,Wa);
-w8(r+8,fb);
-w8(r+16,Xa);
-w8(r+24,eb);
+if(!ff)port_rattle_dealloc(kb);
+wp(u,Za);
+w8(u+8,ib);
+w8(u+16,ab);
+w8(u+24,hb);
+w8(u+32,0);
+drop_87d(u);
+gf=rp(q);
+hf=r8(q+8);
+jf=r8(q+16);
+if(hf==0)goto L54;
+kf=0;
+L55:lf=gf+kf*24;
+if(q8(lf+16)!=0)port_rattle_dealloc(qp(lf));
+mf=kf+1;
+if(mf!=hf){
+kf=mf;
+goto L55;}
+L54:if(jf==0)goto L56;
+nf=gf;
+goto L57;
+L17:port_close(pb);
+if(Bb==0)yb=Cb;
+else{
+port_rattle_dealloc(rp(n));
+yb=Cb;}
+L15:of=yb>>8;
+*h=0;
+h[1]=1;
+h[2]=2;
+h[3]=3;
+h[4]=4;
+h[5]=5;
+h[6]=6;
+h[7]=7;
+h[8]=8;
+h[9]=9;
+h[10]=10;
+h[11]=11;
+h[12]=12;
+h[13]=13;
+h[14]=14;
+h[15]=15;
+h[16]=16;
+h[17]=17;
+h[18]=18;
+h[19]=19;
+h[20]=20;
+h[21]=21;
+h[22]=22;
+h[23]=23;
+h[24]=24;
+h[25]=25;
+h[26]=26;
+h[27]=27;
+h[28]=28;
+h[29]=29;
+h[30]=30;
+h[31]=31;
+h[32]=32;
+h[33]=33;
+h[34]=34;
+h[35]=35;
+h[36]=36;
+h[37]=37;
+h[38]=38;
+h[39]=39;
+h[40]=40;
+if((u8)of>=41)goto L14;
+if(*(h+(of&63))!=38)goto L14;
+L46:if(mb!=0)port_rattle_dealloc(kb);
+wp(r,Za);
+w8(r+8,ib);
+w8(r+16,ab);
+w8(r+24,hb);
 w8(r+32,0);
 drop_87d(r);
-df=rp(n);
-ef=r8(n+8);
-ff=r8(n+16);
-if(ef==0)goto L54;
-gf=0;
-L55:hf=df+gf*24;
-if(q8(hf+16)!=0)port_rattle_dealloc(qp(hf));
-jf=gf+1;
-if(jf!=ef){
-gf=jf;
-goto L55;}
-L54:if(ff==0)goto L56;
-kf=df;
-goto L57;
-L17:port_close(mb);
-if(yb==0)vb=zb;
-else{
-port_rattle_dealloc(rp(k));
-vb=zb;}
-L15:lf=vb>>8;
-*e=0;
-e[1]=1;
-e[2]=2;
-e[3]=3;
-e[4]=4;
-e[5]=5;
-e[6]=6;
-e[7]=7;
-e[8]=8;
-e[9]=9;
-e[10]=10;
-e[11]=11;
-e[12]=12;
-e[13]=13;
-e[14]=14;
-e[15]=15;
-e[16]=16;
-e[17]=17;
-e[18]=18;
-e[19]=19;
-e[20]=20;
-e[21]=21;
-e[22]=22;
-e[23]=23;
-e[24]=24;
-e[25]=25;
-e[26]=26;
-e[27]=27;
-e[28]=28;
-e[29]=29;
-e[30]=30;
-e[31]=31;
-e[32]=32;
-e[33]=33;
-e[34]=34;
-e[35]=35;
-e[36]=36;
-e[37]=37;
-e[38]=38;
-e[39]=39;
-e[40]=40;
-if((u8)lf>=41)goto L14;
-if(*(e+(lf&63))!=38)goto L14;
-L46:if(jb!=0)port_rattle_dealloc(hb);
-wp(o,Wa);
-w8(o+8,fb);
-w8(o+16,Xa);
-w8(o+24,eb);
-w8(o+32,0);
-drop_87d(o);
-mf=rp(n);
-nf=r8(n+8);
-of=r8(n+16);
-if(nf==0)goto L58;
-pf=0;
-L59:qf=mf+pf*24;
-if(q8(qf+16)!=0)port_rattle_dealloc(qp(qf));
-rf=pf+1;
-if(rf!=nf){
-pf=rf;
+pf=rp(q);
+qf=r8(q+8);
+rf=r8(q+16);
+if(qf==0)goto L58;
+sf=0;
+L59:tf=pf+sf*24;
+if(q8(tf+16)!=0)port_rattle_dealloc(qp(tf));
+uf=sf+1;
+if(uf!=qf){
+sf=uf;
 goto L59;}
-L58:if(of==0)goto L56;
-kf=mf;
+L58:if(rf==0)goto L56;
+nf=pf;
 goto L57;}}
-L14:sf=r8(n+8);
-if(r8(n+16)==sf){
-tf=grow_amortized_965(n,1);
-if(!tf){
-if(jb!=0)port_rattle_dealloc(hb);
-wp(p,Wa);
-w8(p+8,fb);
-w8(p+16,Xa);
-w8(p+24,eb);
-w8(p+32,0);
-drop_87d(p);
-vf=rp(n);
-wf=r8(n+8);
-xf=r8(n+16);
-if(wf==0)goto L60;
-yf=0;
-L61:zf=vf+yf*24;
-if(q8(zf+16)!=0)port_rattle_dealloc(qp(zf));
-Af=yf+1;
-if(Af!=wf){
-yf=Af;
-goto L61;}
-L60:if(xf==0)goto L56;
-kf=vf;
-goto L57;}
-uf=r8(n+8);}
-else uf=sf;
-Bf=rp(n)+uf*24;
-xp(Bf,hb);
-x8(Bf+8,ib);
-x8(Bf+16,jb);
-w8(n+8,uf+1);
-L53:if(fb!=0){
-cb=eb;
-db=fb;
-goto L13;}
-Ya=r8(n+16);
-Za=r8(n+8);
-ab=rp(n);
-goto L62;}}
-Cf=0;
-L63:Df=Wa+Cf*24;
-if(q8(Df+16)!=0)port_rattle_dealloc(qp(Df));
-Ef=Cf+1;
-if(Ef!=Ga){
-Cf=Ef;
-goto L63;}
-if(Xa==0)goto L56;
-kf=Wa;
-L57:port_rattle_dealloc(kf);
-L56:goto L64;}
-Ya=0;
-Za=0;
-ab=(u8*)65536;
-L62:wp(s,Wa);
-w8(s+8,0);
-w8(s+16,Xa);
-w8(s+24,Ga);
+L14:vf=r8(q+8);
+if(r8(q+16)==vf){
+wf=grow_amortized_965(q,1);
+if(!wf){
+if(mb!=0)port_rattle_dealloc(kb);
+wp(s,Za);
+w8(s+8,ib);
+w8(s+16,ab);
+w8(s+24,hb);
 w8(s+32,0);
 drop_87d(s);
-lent_words_945(v,ab,Za);
-if(*v!=0){
-if(Za==0)goto L65;
-Xf=0;
-L66:Yf=ab+Xf*24;
-if(q8(Yf+16)!=0)port_rattle_dealloc(qp(Yf));
-Zf=Xf+1;
-if(Zf!=Za){
-Xf=Zf;
+yf=rp(q);
+zf=r8(q+8);
+Af=r8(q+16);
+if(zf==0)goto L60;
+Bf=0;
+L61:Cf=yf+Bf*24;
+if(q8(Cf+16)!=0)port_rattle_dealloc(qp(Cf));
+Df=Bf+1;
+if(Df!=zf){
+Bf=Df;
+goto L61;}
+L60:if(Af==0)goto L56;
+nf=yf;
+goto L57;}
+xf=r8(q+8);}
+else xf=vf;
+Ef=rp(q)+xf*24;
+xp(Ef,kb);
+x8(Ef+8,lb);
+x8(Ef+16,mb);
+w8(q+8,xf+1);
+L53:if(ib!=0){
+fb=hb;
+gb=ib;
+goto L13;}
+bb=r8(q+16);
+cb=r8(q+8);
+db=rp(q);
+goto L62;}}
+Ff=0;
+L63:Gf=Za+Ff*24;
+if(q8(Gf+16)!=0)port_rattle_dealloc(qp(Gf));
+Hf=Ff+1;
+if(Hf!=Ja){
+Ff=Hf;
+goto L63;}
+if(ab==0)goto L56;
+nf=Za;
+L57:port_rattle_dealloc(nf);
+L56:goto L64;}
+bb=0;
+cb=0;
+db=(u8*)65536;
+L62:wp(v,Za);
+w8(v+8,0);
+w8(v+16,ab);
+w8(v+24,Ja);
+w8(v+32,0);
+drop_87d(v);
+lent_words_945(y,db,cb);
+if(*y!=0){
+if(cb==0)goto L65;
+Bh=0;
+L66:Ch=db+Bh*24;
+if(q8(Ch+16)!=0)port_rattle_dealloc(qp(Ch));
+Dh=Bh+1;
+if(Dh!=cb){
+Bh=Dh;
 goto L66;}
-L65:if(Ya==0)goto L64;
-port_rattle_dealloc(ab);
+L65:if(bb==0)goto L64;
+port_rattle_dealloc(db);
 goto L64;}
-Ff=rp(v+8);
-Gf=r8(v+16);
-Hf=r8(v+24);
-If=run_over_09d(Ff,Gf,C,D,E);
-Jf=If.f1;
-if(If.f0==0){
-if(Jf!=2){
-file_among_a61(w,Ff,Gf);
-if(*w==1){
-Kf=say_hint_ab6(rp(w+8),r8(w+16),E);
-Lf=Kf.f1;
-if(Kf.f0!=0){
-if(Hf!=0)port_rattle_dealloc(Ff);
-wp(x,ab);
-w8(x+8,Za);
-w8(x+16,Ya);
-drop_d66(x);
-Mf=Lf;
-goto L67;}}}
-if(Hf!=0)port_rattle_dealloc(Ff);
-wp(y,ab);
-w8(y+8,Za);
-w8(y+16,Ya);
-drop_d66(y);
-Gd=Jf;
-goto L34;}
-if(Hf!=0)port_rattle_dealloc(Ff);
-if(Za==0)goto L68;
-Nf=0;
-L69:Of=ab+Nf*24;
-if(q8(Of+16)!=0)port_rattle_dealloc(qp(Of));
-Pf=Nf+1;
-if(Pf!=Za){
-Nf=Pf;
-goto L69;}
-L68:if(Ya==0)Mf=Jf;
-else{
-port_rattle_dealloc(ab);
-Mf=Jf;}
-L67:if(Mf!=0){
-Hd=Mf;
-goto L35;}
-Qf=z[8216];
-memcpy(F+8,z+8224,88);
-w8(F,Qf);
-Rf=end_by_c00(0,F);
-Sf=r8(z+8192);
-Tf=r8(z+8200);
-if(Tf==Sf){
-Uf=Rf;
-goto L70;}
-Vf=Sf-Tf;
-Wf=Rf;
-goto L71;
-L34:ag=r8(z+8192);
-bg=r8(z+8200);
-if(bg==ag){
-Uf=Gd;
-goto L70;}
-Vf=ag-bg;
-Wf=Gd;
+If=rp(y+8);
+Jf=r8(y+16);
+Kf=r8(y+24);
+if(Jf!=0){
+if(Jf<0x555555555555556u){
+Uf=port_rattle_alloc(Jf*24,8);
+if((u8)(Uf.f0&1)){
+Vf=(u8*)Uf.f1;
+wp(c,Vf);
+w8(c+8,0);
+w8(c+16,Jf);
+Wf=Vf;
+Xf=0;
+Yf=0;
+L67:Zf=If+(i64)(Yf<<4);
+ag=r8(Zf+8);
+bg=rp(Zf);
+wp(b,(u8*)65536);
+memset(b+8,0,16);
+if(ag==0){
+cg=0;
+dg=0;
+eg=(u8*)65536;
+goto L68;}
+fg=0;
+L69:gg=*(bg+(i64)fg);
+if((i8)gg>-1){
+hg=r8(b+8);
+if(r8(b+16)==hg){
+ig=grow_amortized_e1a(b,1);
+if(!ig)goto L70;
+jg=r8(b+8);}
+else jg=hg;
+*(rp(b)+jg)=gg;
+w8(b+8,jg+1);
 goto L71;}
-L8:L64:Hd=2;
-L35:cg=A[8]==1;
-dg=cg?1:B[8];
-memcpy(G+8,(cg?A:B)+16,88);
-w8(G,dg);
-eg=end_by_c00(Hd,G);
-fg=r8(z+8192);
-gg=r8(z+8200);
-if(gg==fg){
-Uf=eg;
-goto L70;}
-Vf=fg-gg;
-Wf=eg;
-L71:port_lseek(0,Vf,1);
-Uf=Wf;
-L70:return Uf;
+kg=add_wide_f1a(b,gg);
+if(!(kg&1))goto L71;
+L70:if(r8(b+16)!=0)port_rattle_dealloc(rp(b));
+lg=r8(c+16);
+if(Xf==0)goto L72;
+mg=0;
+L73:ng=Wf+mg*24;
+if(q8(ng+16)!=0)port_rattle_dealloc(qp(ng));
+og=mg+1;
+if(og!=Xf){
+mg=og;
+goto L73;}
+L72:if(lg==0)goto L74;
+pg=Wf;
+goto L75;
+L71:qg=fg+1;
+if(qg!=ag){
+fg=qg;
+goto L69;}
+cg=r8(b+16);
+dg=r8(b+8);
+eg=rp(b);
+L68:if(r8(c+16)==Xf){
+rg=grow_amortized_f15(c);
+if(!rg){
+if(cg!=0)port_rattle_dealloc(eg);
+ug=rp(c);
+vg=r8(c+8);
+wg=r8(c+16);
+if(vg==0)goto L76;
+xg=0;
+L77:yg=ug+xg*24;
+if(q8(yg+16)!=0)port_rattle_dealloc(qp(yg));
+zg=xg+1;
+if(zg!=vg){
+xg=zg;
+goto L77;}
+L76:if(wg==0)goto L74;
+pg=ug;
+goto L75;}
+sg=rp(c);
+tg=r8(c+8);}
+else{
+sg=Wf;
+tg=Xf;}
+Ag=sg+tg*24;
+xp(Ag,eg);
+x8(Ag+8,dg);
+x8(Ag+16,cg);
+Bg=tg+1;
+w8(c+8,Bg);
+Cg=Yf+1;
+if(Cg!=Jf){
+Wf=sg;
+Xf=Bg;
+Yf=Cg;
+goto L67;}
+Dg=rp(c);
+Eg=r8(c+16)==0;
+wp(a,(u8*)65536);
+memset(a+8,0,16);
+if(Bg==0){
+Lf=1;
+Mf=a+16;
+Nf=a+8;
+Of=Dg;
+Pf=0;
+Qf=Eg;
+Rf=0;
+Sf=(u8*)65536;
+Tf=0;
+goto L78;}
+Fg=(u8*)65536;
+Gg=0;
+Hg=0;
+Ig=0;
+Jg=Bg;
+Kg=Dg;
+L79:Lg=Ig;
+Mg=Jg;
+Ng=Kg;
+L80:Og=Mg-1;
+Pg=rp(Ng);
+Qg=r8(Ng+8);
+if(Lg!=Gg){
+dh=Fg+(Lg<<4);
+xp(dh,Pg);
+x8(dh+8,Qg);
+eh=Lg+1;
+if(Og!=0){
+Lg=eh;
+Mg=Og;
+Ng=Ng+24;
+goto L80;}
+Lf=0;
+Mf=a+16;
+Nf=a+8;
+Of=Dg;
+Pf=Bg;
+Qf=Eg;
+Rf=Hg;
+Sf=Fg;
+Tf=eh;
+goto L78;}
+wp(a,Fg);
+w8(a+8,Gg);
+w8(a+16,Hg);
+if(Mg>Hg-Gg){
+Rg=grow_amortized_bd9(a,Mg);
+Sg=r8(a+8);
+Tg=r8(a+16);
+if(Rg||Tg!=Sg){
+Ug=Tg;
+Vg=Sg;}
+else{
+Wg=grow_amortized_bd9(a,1);
+if(!Wg){
+if(r8(a+16)!=0)port_rattle_dealloc(rp(a));
+Xg=0;
+L81:Yg=Dg+Xg*24;
+if(q8(Yg+16)!=0)port_rattle_dealloc(qp(Yg));
+if(Xg!=tg){
+Xg=Xg+1;
+goto L81;}
+if(Eg){
+Zg=2;
+goto L82;}
+port_rattle_dealloc(Dg);
+Zg=2;
+goto L82;}
+Ug=r8(a+16);
+Vg=r8(a+8);}}
+else{
+Ug=Hg;
+Vg=Gg;}
+ah=rp(a);
+bh=ah+(Vg<<4);
+xp(bh,Pg);
+x8(bh+8,Qg);
+ch=Vg+1;
+memset(a+8,0,16);
+if(Og!=0){
+Fg=ah;
+Gg=ch==0?0:Ug;
+Hg=Ug;
+Ig=ch;
+Jg=Og;
+Kg=Ng+24;
+goto L79;}
+Lf=0;
+Mf=a+16;
+Nf=a+8;
+Of=Dg;
+Pf=Bg;
+Qf=Eg;
+Rf=Ug;
+Sf=ah;
+Tf=ch;
+goto L78;
+L75:port_rattle_dealloc(pg);}}
+L74:Zg=2;
+goto L82;}
+Lf=1;
+Mf=a+16;
+Nf=a+8;
+Of=(u8*)65536;
+Pf=0;
+Qf=1;
+Rf=0;
+Sf=(u8*)65536;
+Tf=0;
+L78:w8(Nf,Tf);
+w8(Mf,Rf);
+fh=run_texts_e0a(Sf,Tf,F,G,H);
+gh=fh.f1;
+hh=Rf==0;
+if(fh.f0==0){
+if(!hh)port_rattle_dealloc(Sf);
+if(Lf)goto L83;
+ih=0;
+L84:jh=Of+ih*24;
+if(q8(jh+16)!=0)port_rattle_dealloc(qp(jh));
+kh=ih+1;
+if(kh!=Pf){
+ih=kh;
+goto L84;}
+L83:if(!Qf)port_rattle_dealloc(Of);
+if(gh!=2){
+file_among_a61(z,If,Jf);
+if(*z==1){
+lh=say_hint_ab6(rp(z+8),r8(z+16),H);
+mh=lh.f1;
+if(lh.f0!=0){
+if(Kf!=0)port_rattle_dealloc(If);
+wp(A,db);
+w8(A+8,cb);
+w8(A+16,bb);
+drop_d66(A);
+nh=mh;
+goto L85;}}}
+if(Kf!=0)port_rattle_dealloc(If);
+wp(B,db);
+w8(B+8,cb);
+w8(B+16,bb);
+drop_d66(B);
+Jd=gh;
+goto L34;}
+if(!hh)port_rattle_dealloc(Sf);
+if(Lf)goto L86;
+oh=0;
+L87:ph=Of+oh*24;
+if(q8(ph+16)!=0)port_rattle_dealloc(qp(ph));
+qh=oh+1;
+if(qh!=Pf){
+oh=qh;
+goto L87;}
+L86:if(Qf)Zg=gh;
+else{
+port_rattle_dealloc(Of);
+Zg=gh;}
+L82:if(Kf!=0)port_rattle_dealloc(If);
+if(cb==0)goto L88;
+rh=0;
+L89:sh=db+rh*24;
+if(q8(sh+16)!=0)port_rattle_dealloc(qp(sh));
+th=rh+1;
+if(th!=cb){
+rh=th;
+goto L89;}
+L88:if(bb==0)nh=Zg;
+else{
+port_rattle_dealloc(db);
+nh=Zg;}
+L85:if(nh!=0){
+Kd=nh;
+goto L35;}
+uh=C[8216];
+memcpy(I+8,C+8224,88);
+w8(I,uh);
+vh=end_by_c00(0,I);
+wh=r8(C+8192);
+xh=r8(C+8200);
+if(xh==wh){
+yh=vh;
+goto L90;}
+zh=wh-xh;
+Ah=vh;
+goto L91;
+L34:Eh=r8(C+8192);
+Fh=r8(C+8200);
+if(Fh==Eh){
+yh=Jd;
+goto L90;}
+zh=Eh-Fh;
+Ah=Jd;
+goto L91;}
+L8:L64:Kd=2;
+L35:Gh=D[8]==1;
+Hh=Gh?1:E[8];
+memcpy(J+8,(Gh?D:E)+16,88);
+w8(J,Hh);
+Ih=end_by_c00(Kd,J);
+Jh=r8(C+8192);
+Kh=r8(C+8200);
+if(Kh==Jh){
+yh=Ih;
+goto L90;}
+zh=Jh-Kh;
+Ah=Ih;
+L91:port_lseek(0,zh,1);
+yh=Ah;
+L90:return yh;
 }

@@ -25,6 +25,9 @@ from operands import Line
 from tables import NAME, Tables
 from wide import widen
 
+# Which instance of a generic function a path is of: the digits after the function's name in C tell them apart.
+INSTANCE = re.compile(r"::<#[0-9a-f]+>")
+
 class Module:
     """The lines of a module by what they are."""
 
@@ -168,7 +171,8 @@ def translate(head, source, target):
         to.write(prototypes + "\n" + "\n".join(sorted(plain)) + "\n" + "\n".join(with_addresses) + "\n")
         to.write("".join(f"{it.signature()};\n" for it in definitions))
         for it in definitions:
-            to.write("".join(f"\n/* {path} */" for path in it.paths) + f"\n{it.signature()}\n{it.body}")
+            paths_above = dict.fromkeys(INSTANCE.sub("", path) for path in it.paths)
+            to.write("".join(f"\n/* {path} */" for path in paths_above) + f"\n{it.signature()}\n{it.body}")
     print(f"{target}: {os.path.getsize(target)} bytes, {len(definitions)} functions of {len(paths)}, {len(tables.names) - len(paths)} tables")
 
 
