@@ -2164,20 +2164,7 @@ static u8 write_piece_011(u8* a,u8* b);
 static u8 fmt_1ea(u8 a,u8* b);
 u32 port_main(void);
 
-/* std_alloc::vec::Vec::grow_amortized::<#4db71250492031f4> */
-/* std_alloc::vec::Vec::grow_amortized::<#1d775b5957dec42c> */
-/* std_alloc::vec::Vec::grow_amortized::<#0476d0f5ceb29388> */
-/* std_alloc::vec::Vec::grow_amortized::<#c40ae4705374474d> */
-/* std_alloc::vec::Vec::grow_amortized::<#33e2035bfd5c3c15> */
-/* std_alloc::vec::Vec::grow_amortized::<#7c055ea3b95bac7a> */
-/* std_alloc::vec::Vec::grow_amortized::<#c21ccaed65c31ca8> */
-/* std_alloc::vec::Vec::grow_amortized::<#49f8076b9827e232> */
-/* std_alloc::vec::Vec::grow_amortized::<#13df219e4eb3cd9d> */
-/* std_alloc::vec::Vec::grow_amortized::<#3a71db6cb84fa6fe> */
-/* std_alloc::vec::Vec::grow_amortized::<#13b67eda15e15e37> */
-/* std_alloc::vec::Vec::grow_amortized::<#76da4626077e5326> */
-/* std_alloc::vec::Vec::grow_amortized::<#b60a7a6ed8b5c85d> */
-/* std_alloc::vec::Vec::grow_amortized::<#a8d3122d46899a3f> */
+/* std_alloc::vec::Vec::grow_amortized */
 static COLD u8 grow_amortized_e1a(u8* a,u64 b)
 {
 u64 c,e,f,g,h;
@@ -2210,8 +2197,7 @@ else d=0;}
 L1:return d;
 }
 
-/* std_alloc::vec::Vec::grow_amortized::<#68e3b5b7b011e132> */
-/* std_alloc::vec::Vec::grow_amortized::<#b4d2662080ac9ec0> */
+/* std_alloc::vec::Vec::grow_amortized */
 static COLD u8 grow_amortized_965(u8* a,u64 b)
 {
 u64 c,e,f,g,h;
@@ -2500,7 +2486,7 @@ x8(a+16,I);
 return;
 }
 
-/* core::slice::words::skip_far::<#52f9edcae2f82f51> */
+/* core::slice::words::skip_far */
 static u64 skip_far_4c7(u8* a,u64 b,u64 c)
 {
 u8 *d,*f;
@@ -2520,7 +2506,7 @@ else h=b;
 return h;
 }
 
-/* std::fs::open::<#5b1df091efa00456> */
+/* std::fs::open */
 static void open_9ec(u8* a,u8* b,u64 c)
 {
 u8 e[41],g[4096],h[4096],i[86],j[86],k[86];
@@ -9060,7 +9046,7 @@ memset(a+8,0,80);
 return;
 }
 
-/* std_alloc::vec::Vec::push::<#4db71250492031f4> */
+/* std_alloc::vec::Vec::push */
 static u8 push_ca0(u8* a,u8 b)
 {
 u64 c,e;
@@ -9079,8 +9065,7 @@ f=0;
 L1:return f;
 }
 
-/* std_alloc::vec::deque::VecDeque::drop::<#1dfcc2f7d0513a2b> */
-/* std_alloc::vec::deque::VecDeque::drop::<#2d89a01c2ecea42b> */
+/* std_alloc::vec::deque::VecDeque::drop */
 static void drop_87d(u8* a)
 {
 u8 *b,*i,*l;
@@ -9112,9 +9097,7 @@ L3:if(d!=0)port_rattle_dealloc(b);
 return;
 }
 
-/* core::fmt::formatter::Formatter::write_piece::<#17051d76820959f1> */
-/* core::fmt::formatter::Formatter::write_piece::<#4a996916ca981962> */
-/* core::fmt::formatter::Formatter::write_piece::<#499173829830abb3> */
+/* core::fmt::formatter::Formatter::write_piece */
 static u8 write_piece_7c8(u8* a,u8* b)
 {
 u8 c[24];
@@ -9182,10 +9165,7 @@ x=z;}
 L3:return x;
 }
 
-/* core::fmt::formatter::Formatter::write_indented::<#5ad7c4a36dfb920e> */
-/* core::fmt::formatter::Formatter::write_indented::<#86a172efa8724158> */
-/* core::fmt::formatter::Formatter::write_indented::<#6100fd3f1e860b45> */
-/* core::fmt::formatter::Formatter::write_indented::<#313070bcd8b0da33> */
+/* core::fmt::formatter::Formatter::write_indented */
 static COLD u8 write_indented_070(u8* a,u8* b,u64 c)
 {
 u64 d,e,f,g,j;
@@ -9213,10 +9193,7 @@ i=k;
 L3:return i;
 }
 
-/* core::fmt::formatter::Formatter::write_indented_line::<#5ad7c4a36dfb920e> */
-/* core::fmt::formatter::Formatter::write_indented_line::<#86a172efa8724158> */
-/* core::fmt::formatter::Formatter::write_indented_line::<#6100fd3f1e860b45> */
-/* core::fmt::formatter::Formatter::write_indented_line::<#313070bcd8b0da33> */
+/* core::fmt::formatter::Formatter::write_indented_line */
 static u8 write_indented_line_71e(u8* a,u8* b,u64 c,u8 d)
 {
 u8 e,h,k,p,s;
@@ -9374,7 +9351,7 @@ c=1;
 L1:return c;
 }
 
-/* core::fmt::formatter::Formatter::write_char_n_times::<#5ad7c4a36dfb920e> */
+/* core::fmt::formatter::Formatter::write_char_n_times */
 static u8 write_char_n_times_e6e(u8* a,u32 b,u64 c)
 {
 u8 d[16];
@@ -9542,7 +9519,7 @@ else y=1;}
 L4:return y;
 }
 
-/* core::fmt::formatter::Formatter::cut_and_fill::<#5ad7c4a36dfb920e> */
+/* core::fmt::formatter::Formatter::cut_and_fill */
 static u8 cut_and_fill_b75(u8* a,u8* b,u64 c)
 {
 u64 d,e,f,g,i,j,k,l,m,n,o,p,q,r,s,u,x,y,A,B,C,F,G,H,I,J,K,L,M,N,O,P,Q,R;
@@ -9775,8 +9752,7 @@ memcpy(a+8,g+7,24);
 return;
 }
 
-/* std_alloc::vec::Vec::grow_amortized::<#605a261b95f0a089> */
-/* std_alloc::vec::Vec::grow_amortized::<#3af3ba23e56e6a09> */
+/* std_alloc::vec::Vec::grow_amortized */
 static COLD u8 grow_amortized_bd9(u8* a,u64 b)
 {
 u64 c,e,f,g,h;
@@ -9809,9 +9785,7 @@ else d=0;}
 L1:return d;
 }
 
-/* std_alloc::string::add_wide::<#8369687b0ecb5879> */
-/* std_alloc::string::add_wide::<#2cbb67ac55bf10f9> */
-/* std_alloc::string::add_wide::<#049f18ac9ae54c77> */
+/* std_alloc::string::add_wide */
 static u8 add_wide_f1a(u8* a,u32 b)
 {
 u16 c,d;
@@ -9889,10 +9863,7 @@ j=0;}}
 L1:return j;
 }
 
-/* std_alloc::vec::Vec::grow_amortized::<#24290c67e44c4d38> */
-/* std_alloc::vec::Vec::grow_amortized::<#24605ed92d570f76> */
-/* std_alloc::vec::Vec::grow_amortized::<#b9a456f7ecdcd598> */
-/* std_alloc::vec::Vec::grow_amortized::<#973b4a116d082bbd> */
+/* std_alloc::vec::Vec::grow_amortized */
 static COLD u8 grow_amortized_f15(u8* a)
 {
 u64 b,d,e,f,g;
@@ -9925,7 +9896,7 @@ else c=0;}
 L1:return c;
 }
 
-/* demangle_command::command::run_texts::<#86af4cd5c564c229> */
+/* demangle_command::command::run_texts */
 static s_8_8 run_texts_e0a(u8* a,u64 b,u8* c,u8* d,u8* e)
 {
 u8 r[1799],t[1],w[1799],K[1799],N[1799],ca[1799],ea[1],ha[1799],ua[1799],ya[1799];
@@ -13893,8 +13864,7 @@ memcpy(a+8,d,608);
 L1:return;
 }
 
-/* std_alloc::vec::Vec::grow_amortized::<#6bc0ed7232d0b699> */
-/* std_alloc::vec::Vec::grow_amortized::<#0155bca63e5b7d92> */
+/* std_alloc::vec::Vec::grow_amortized */
 static COLD u8 grow_amortized_094(u8* a)
 {
 u64 b,d,e,f,g;
@@ -13927,7 +13897,7 @@ else c=0;}
 L1:return c;
 }
 
-/* std_alloc::vec::Vec::drop::<#71afeb084117ff3f> */
+/* std_alloc::vec::Vec::drop */
 static void drop_52b(u8* a)
 {
 u8 *b,*f,*g,*i,*k,*m,*o,*q,*s,*u,*w,*y;
@@ -14024,8 +13994,7 @@ drop_c7a(d);
 return;
 }
 
-/* std_alloc::vec::Vec::drop::<#851a495da6ed557f> */
-/* std_alloc::vec::Vec::drop::<#be8de08ce7f92ec6> */
+/* std_alloc::vec::Vec::drop */
 static void drop_c7a(u8* a)
 {
 u8 *b,*f,*g,*i;
@@ -14284,7 +14253,7 @@ memset(a+8,0,672);}
 return;
 }
 
-/* std_alloc::vec::Vec::grow_amortized::<#cb15977fd34c773c> */
+/* std_alloc::vec::Vec::grow_amortized */
 static COLD u8 grow_amortized_ab1(u8* a)
 {
 u64 b,d,e,f,g;
@@ -17762,7 +17731,7 @@ x7(a+65,l);
 L1:return;
 }
 
-/* std_alloc::vec::Vec::grow_amortized::<#96976065f969f57f> */
+/* std_alloc::vec::Vec::grow_amortized */
 static COLD u8 grow_amortized_0f8(u8* a)
 {
 u64 b,d,e,f,g;
@@ -17795,7 +17764,7 @@ else c=0;}
 L1:return c;
 }
 
-/* std_alloc::vec::makes::VecClone::clone::<#451bfd629f355fb6> */
+/* std_alloc::vec::makes::VecClone::clone */
 static void clone_4f9(u8* a,u8* b,u64 c)
 {
 A16 u8 d[16],e[16],f[16];
@@ -17852,11 +17821,7 @@ x8(a+24,i);
 return;
 }
 
-/* std_alloc::vec::Vec::grow_amortized::<#81dfc35afd46bd5c> */
-/* std_alloc::vec::Vec::grow_amortized::<#aecfc3ea932f1c75> */
-/* std_alloc::vec::Vec::grow_amortized::<#504f5cbe60b67818> */
-/* std_alloc::vec::Vec::grow_amortized::<#5ab5cb9e07e783e9> */
-/* std_alloc::vec::Vec::grow_amortized::<#108fcd37bdeb8a9b> */
+/* std_alloc::vec::Vec::grow_amortized */
 static COLD u8 grow_amortized_a22(u8* a)
 {
 u64 b,d,e,f,g;
@@ -17889,8 +17854,7 @@ else c=0;}
 L1:return c;
 }
 
-/* std_alloc::vec::Vec::grow_amortized::<#3b6d026ce996fc29> */
-/* std_alloc::vec::Vec::grow_amortized::<#4b05cefe7b18ec2b> */
+/* std_alloc::vec::Vec::grow_amortized */
 static COLD u8 grow_amortized_5b0(u8* a)
 {
 u64 b,d,e,f,g;
@@ -20221,7 +20185,7 @@ memset(a+8,0,24);}
 L5:return;
 }
 
-/* core::fmt::formatter::Formatter::write_piece::<#723c11a72ac51573> */
+/* core::fmt::formatter::Formatter::write_piece */
 static u8 write_piece_d6a(u8* a,u8* b)
 {
 u8 *c,*d,*m,*n;
@@ -20291,7 +20255,7 @@ k=B;}
 L1:return k;
 }
 
-/* core::fmt::formatter::Formatter::write_piece::<#015c16fd8abc004f> */
+/* core::fmt::formatter::Formatter::write_piece */
 static u8 write_piece_11d(u8* a,u8* b)
 {
 u8 *c,*l,*m;
@@ -20360,7 +20324,7 @@ j=A;}
 L1:return j;
 }
 
-/* clap::builder::arg::StylizedDisplay::fmt::<#86a172efa8724158> */
+/* clap::builder::arg::StylizedDisplay::fmt */
 static u8 fmt_cb4(u8* a,u8* b)
 {
 A16 u8 c[24],d[24],e[24],f[24],g[32],h[4];
@@ -20862,7 +20826,7 @@ L21:s=1;
 L3:return s;
 }
 
-/* core::fmt::formatter::Formatter::write_piece::<#8b9b65c5604fc23d> */
+/* core::fmt::formatter::Formatter::write_piece */
 static u8 write_piece_f6c(u8* a,u8* b)
 {
 A16 u8 c[4];
@@ -20920,8 +20884,8 @@ k=m;}
 L1:return k;
 }
 
-/* std_alloc::string::String::push_str::<#2cbb67ac55bf10f9> */
-/* std_alloc::vec::Vec::extend_from_slice::<#e80d0105ccb005ee> */
+/* std_alloc::string::String::push_str */
+/* std_alloc::vec::Vec::extend_from_slice */
 static u8 push_str_b7e(u8* a,u8* b,u64 c)
 {
 u64 d,e,g,h,j,m,n,o,p,q,r,s,t,u,v,w,x,y;
@@ -21129,7 +21093,7 @@ m=0;}}
 L2:return m;
 }
 
-/* std_alloc::vec::Vec::drop::<#1a1580c2cfb41205> */
+/* std_alloc::vec::Vec::drop */
 static void drop_11c(u8* a)
 {
 u8 *b,*f;
@@ -21149,8 +21113,7 @@ L1:if(d!=0)port_rattle_dealloc(b);
 return;
 }
 
-/* std_alloc::vec::Vec::drop::<#2d89a01c2ecea42b> */
-/* std_alloc::vec::Vec::drop::<#1dfcc2f7d0513a2b> */
+/* std_alloc::vec::Vec::drop */
 static void drop_d66(u8* a)
 {
 u8 *b,*f;
@@ -21170,7 +21133,7 @@ L1:if(d!=0)port_rattle_dealloc(b);
 return;
 }
 
-/* std_alloc::vec::deque::VecDeque::drop::<#1a1580c2cfb41205> */
+/* std_alloc::vec::deque::VecDeque::drop */
 static void drop_326(u8* a)
 {
 u8 *b,*i,*l;
@@ -21202,7 +21165,7 @@ L3:if(d!=0)port_rattle_dealloc(b);
 return;
 }
 
-/* std_alloc::string::String::write_fmt::<#2099f3822be05dd7> */
+/* std_alloc::string::String::write_fmt */
 static u8 write_fmt_653(u8* a,u8* b)
 {
 A16 u8 c[64],d[24];
@@ -21299,7 +21262,7 @@ D=1;
 L2:return D;
 }
 
-/* core::fmt::formatter::Formatter::write_piece::<#2c8701494b08c536> */
+/* core::fmt::formatter::Formatter::write_piece */
 static u8 write_piece_2bf(u8* a,u8* b)
 {
 u8 *c,*l,*m;
@@ -21967,7 +21930,7 @@ L2:w=1;}
 L37:return w;
 }
 
-/* std_alloc::string::String::write_fmt::<#004689434896fd94> */
+/* std_alloc::string::String::write_fmt */
 static u8 write_fmt_cb9(u8* a,u8* b)
 {
 A16 u8 c[64],d[24];
@@ -22109,7 +22072,7 @@ X=1;
 L6:return X;
 }
 
-/* std_alloc::string::String::write_fmt::<#b77c81cbf5ad7277> */
+/* std_alloc::string::String::write_fmt */
 static u8 write_fmt_552(u8* a,u8* b)
 {
 A16 u8 c[64],d[24];
@@ -22197,7 +22160,7 @@ D=1;
 L5:return D;
 }
 
-/* std_alloc::string::String::format::<#605efbca80f73881> */
+/* std_alloc::string::String::format */
 static void format_931(u8* a,u8* b)
 {
 u8 f[31];
@@ -29190,7 +29153,7 @@ else U=1;
 L2:return U;
 }
 
-/* std_alloc::string::String::format::<#6839e7594aae3ba1> */
+/* std_alloc::string::String::format */
 static void format_e5a(u8* a,u8* b)
 {
 u8 e[31];
@@ -29279,7 +29242,7 @@ memcpy(a+8,e+7,24);
 return;
 }
 
-/* std_alloc::string::String::write_fmt::<#a2e9c51888eedbd3> */
+/* std_alloc::string::String::write_fmt */
 static u8 write_fmt_43b(u8* a,u8* b)
 {
 A16 u8 c[64],d[24];
@@ -29599,7 +29562,7 @@ memcpy(a+8,d,24);
 L3:return;
 }
 
-/* std_collections::btree_map::BTreeMap::insert::<#9d0ca73623b707be> */
+/* std_collections::btree_map::BTreeMap::insert */
 static void insert_bee(u8* a,u8* b,u8* c,u64 d)
 {
 u8 n[16],o[16];
@@ -30152,7 +30115,7 @@ x8(a+40,d);
 L14:return;
 }
 
-/* std_alloc::vec::Vec::remove::<#209ef5882a9a6cb3> */
+/* std_alloc::vec::Vec::remove */
 static void remove_e20(u8* a,u8* b,u64 c)
 {
 A16 u8 d[32];
@@ -30305,7 +30268,7 @@ memcpy(a,d,32);
 return;
 }
 
-/* std_alloc::vec::lodged::Vec+T+Lodged::insert_reserved::<24'(,)::<#ee13f2425f1aee9b>> */
+/* std_alloc::vec::lodged::Vec+T+Lodged::insert_reserved::<24'(,)> */
 static void insert_reserved_f9f(u8* a,u64 b,u8* c)
 {
 A16 u8 d[32];
@@ -30614,7 +30577,7 @@ w8(a+16,f);
 return;
 }
 
-/* std_collections::btree::iter::Cursor::advance::<24'(,)::<#ee13f2425f1aee9b>,i64> */
+/* std_collections::btree::iter::Cursor::advance::<24'(,),i64> */
 static void advance_aec(u8* a,u64 b,u8* c,u8* d,u64 e)
 {
 u8 *f,*h,*i,*k,*l,*m,*n,*o,*q,*r,*u,*x,*A,*D,*G,*H,*J,*K,*L,*P,*S,*U,*W,*Z;
@@ -30992,7 +30955,7 @@ memcpy(a+8,d,24);
 L2:return;
 }
 
-/* std_alloc::string::String::write_fmt::<#2f338da004e7b1a4> */
+/* std_alloc::string::String::write_fmt */
 static u8 write_fmt_ce0(u8* a,u8* b)
 {
 A16 u8 c[24],d[64],e[24];
@@ -31080,7 +31043,7 @@ D=1;
 L5:return D;
 }
 
-/* std_alloc::string::String::write_fmt::<#a7de7e6af3ee7c9d> */
+/* std_alloc::string::String::write_fmt */
 static u8 write_fmt_1e1(u8* a,u8* b)
 {
 A16 u8 c[64],d[24];
@@ -32064,7 +32027,7 @@ memcpy(a+8,h+7,24);
 return;
 }
 
-/* core::slice::words::skip_far::<#878162fd265b9cd6> */
+/* core::slice::words::skip_far */
 static u64 skip_far_3a4(u8* a,u64 b,u64 c)
 {
 u8 *d,*i;
@@ -32834,7 +32797,7 @@ x8(a+16,L?C:0);
 return;
 }
 
-/* core::slice::words::skip_far::<#d9bf6fcacf29a880> */
+/* core::slice::words::skip_far */
 static u64 skip_far_503(u8* a,u64 b,u64 c)
 {
 u8 *d,*g;
@@ -32864,7 +32827,7 @@ else r=b;
 return r;
 }
 
-/* std_collections::btree::node::Node::destroy::<#f262a4084ccbf4f6> */
+/* std_collections::btree::node::Node::destroy */
 static void destroy_ece(u8* a)
 {
 A16 u8 b[32],c[32],d[32],e[80];
@@ -33157,7 +33120,7 @@ L3:port_rattle_dealloc(L);
 return;
 }
 
-/* core::slice::edits::mirror::<24'(,)::<#ee13f2425f1aee9b>> */
+/* core::slice::edits::mirror::<24'(,)> */
 static void mirror_f97(u8* a,u8* b,u64 c)
 {
 A16 u8 d[32];
@@ -33209,8 +33172,7 @@ w8(q,r);}
 return;
 }
 
-/* std_alloc::vec::Vec::grow_amortized::<#33f378437a29c276> */
-/* std_alloc::vec::Vec::grow_amortized::<#3e74848cb5369e83> */
+/* std_alloc::vec::Vec::grow_amortized */
 static COLD u8 grow_amortized_483(u8* a)
 {
 u64 b,d,e,f,g;
@@ -33961,7 +33923,7 @@ Ua=Ta;
 L4:return Ua;
 }
 
-/* std_alloc::string::String::format::<#004689434896fd94> */
+/* std_alloc::string::String::format */
 static void format_709(u8* a,u8* b)
 {
 u8 f[31];
@@ -34568,7 +34530,7 @@ z=1;
 L3:return z;
 }
 
-/* core::fmt::formatter::Formatter::write_quoted_in_runs::<#86a172efa8724158> */
+/* core::fmt::formatter::Formatter::write_quoted_in_runs */
 static u8 write_quoted_in_runs_569(u8* a,u8* b,u64 c)
 {
 u8 i[64];
@@ -35139,7 +35101,7 @@ c=is_in_odd_run_2c2(b,32,a);
 return !c;
 }
 
-/* core::fmt::formatter::Formatter::write_code_point::<#86a172efa8724158> */
+/* core::fmt::formatter::Formatter::write_code_point */
 static u8 write_code_point_c1e(u8* a,u32 b)
 {
 A16 u8 c[4];
@@ -35176,7 +35138,7 @@ e=write_bytes_dfc(a,c,d);
 return e;
 }
 
-/* core::fmt::formatter::Formatter::write_bytes::<#86a172efa8724158> */
+/* core::fmt::formatter::Formatter::write_bytes */
 static u8 write_bytes_dfc(u8* a,u8* b,u64 c)
 {
 u8 d,g,j,A;
@@ -35273,7 +35235,7 @@ d=0;}
 L1:return d;
 }
 
-/* std_alloc::string::String::write_fmt::<#605efbca80f73881> */
+/* std_alloc::string::String::write_fmt */
 static u8 write_fmt_a9b(u8* a,u8* b)
 {
 A16 u8 c[64],d[24];
@@ -37178,7 +37140,7 @@ memset(a+16,0,32);}
 L1:return;
 }
 
-/* std_alloc::string::String::write_fmt::<#7674f49477c5ed19> */
+/* std_alloc::string::String::write_fmt */
 static u8 write_fmt_ef4(u8* a,u8* b)
 {
 A16 u8 c[64],d[24];
@@ -37740,7 +37702,7 @@ else za=0;
 L10:return za;
 }
 
-/* strsim::chars_of::<#27635608fafc1f64> */
+/* strsim::chars_of */
 static void chars_of_041(u8* a,u8* b,u64 c)
 {
 u8 e[31],f[31],g[31];
@@ -37851,7 +37813,7 @@ memcpy(a+8,g+7,24);
 return;
 }
 
-/* std_alloc::vec::Vec::grow_amortized::<#4a1b0eae23e6b5cb> */
+/* std_alloc::vec::Vec::grow_amortized */
 static COLD u8 grow_amortized_970(u8* a,u64 b)
 {
 u64 c,e,f,g,h;
@@ -37884,7 +37846,7 @@ else d=0;}
 L1:return d;
 }
 
-/* std_alloc::vec::Vec::put_at::<#973b4a116d082bbd> */
+/* std_alloc::vec::Vec::put_at */
 static void put_at_b5f(u8* a,u64 b,u8* c)
 {
 A16 u8 d[24];
@@ -38159,7 +38121,7 @@ memset(a+16,0,32);}
 return;
 }
 
-/* std_alloc::string::String::write_fmt::<#5a254c874babc368> */
+/* std_alloc::string::String::write_fmt */
 static u8 write_fmt_e8b(u8* a,u8* b)
 {
 A16 u8 c[80],d[64],e[24];
@@ -40254,7 +40216,7 @@ L2:d=0;
 L1:return d;
 }
 
-/* core::dec2flt::long::from_long::<#1d521972340cebc2> */
+/* core::dec2flt::long::from_long */
 static COLD void from_long_fc9(u8* a,u64 b,u8* c,u64 d,u64 e,u64 f)
 {
 A16 u8 g[600],h[600],i[24];
@@ -40490,7 +40452,7 @@ L14:break_tie_638(h,0,usub128(e,o),usub128(o,e),M,N);}}}}}
 L3:return;
 }
 
-/* core::dec2flt::lemire::eisel_lemire_wide::<#1d521972340cebc2> */
+/* core::dec2flt::lemire::eisel_lemire_wide */
 static COLD void eisel_lemire_wide_d19(u8* a,u64 b,u64 c,u64 d)
 {
 u64 e,f,i,j,k,m,n,o,p,q,u;
@@ -40533,7 +40495,7 @@ x8(a+16,q);
 return;
 }
 
-/* core::dec2flt::decimal::break_tie::<#1d521972340cebc2> */
+/* core::dec2flt::decimal::break_tie */
 static COLD u64 break_tie_638(u8* a,u8 b,u64 c,u64 d,u64 e,u64 f)
 {
 A16 u8 g[600],h[600];
@@ -40771,7 +40733,7 @@ w8(a+592,z+1);}}
 return;
 }
 
-/* core::dec2flt::words::read_word::<#1d521972340cebc2> */
+/* core::dec2flt::words::read_word */
 static COLD void read_word_24d(u8* a,u8* b,u64 c,u8 d)
 {
 double e,g;
@@ -40954,7 +40916,7 @@ e=((q8(a+(i64)B)!=q8(c+(i64)B)||q8(a+(i64)C)!=q8(c+(i64)C))||q8(a+(i64)D)!=q8(c+
 L1:return !e;
 }
 
-/* core::fmt::formatter::Formatter::write_piece::<#fec9bc1a24fe1fcf> */
+/* core::fmt::formatter::Formatter::write_piece */
 static u8 write_piece_0fe(u8* a,u8* b)
 {
 u8 c[24];
@@ -41026,7 +40988,7 @@ B=D;}
 L3:return B;
 }
 
-/* clap::error::Error::value_validation::<#46e14f32b5b82833> */
+/* clap::error::Error::value_validation */
 static void value_validation_c13(u8* a,u8* b,u8* c,u64 d,u8* e,u64 f,u8* g)
 {
 A16 u8 h[64],i[24],j[24],k[24];
@@ -41282,7 +41244,7 @@ memset(a+16,0,32);}
 L9:return;
 }
 
-/* clap::error::Error::value_validation::<#7038ba82785d2ff1> */
+/* clap::error::Error::value_validation */
 static void value_validation_975(u8* a,u8* b,u8* c,u64 d,u8* e,u64 f,u8* g,u64 h)
 {
 A16 u8 i[88],j[64],k[24],l[16],m[24];
@@ -42766,7 +42728,7 @@ break;}
 return g;
 }
 
-/* std_alloc::string::String::write_fmt::<#30f651fa9ab76bd9> */
+/* std_alloc::string::String::write_fmt */
 static u8 write_fmt_c78(u8* a,u8* b)
 {
 A16 u8 c[32],d[64],e[24];
@@ -44821,7 +44783,7 @@ memset(a+16,0,32);}
 L1:return;
 }
 
-/* std_alloc::string::String::write_fmt::<#d2f68f8fdebec0d1> */
+/* std_alloc::string::String::write_fmt */
 static u8 write_fmt_619(u8* a,u8* b)
 {
 A16 u8 c[112],d[64],e[24];
@@ -45132,7 +45094,7 @@ ub=1;
 L18:return ub;
 }
 
-/* std_alloc::boxed::Box::new::<#d806f75603876adb> */
+/* std_alloc::boxed::Box::new */
 static void new_47e(u8* a,u8* b)
 {
 A16 u8 c[24];
@@ -45174,7 +45136,7 @@ x8(a+56,n);
 return;
 }
 
-/* core::result::ResultFromResidualErrResidual::from_residual::<#5c597c011e3a171b> */
+/* core::result::ResultFromResidualErrResidual::from_residual */
 static void from_residual_da1(u8* a,u8* b)
 {
 A16 u8 c[40],d[40],e[24];
@@ -50321,7 +50283,7 @@ m=0;}
 L4:return m;
 }
 
-/* std_alloc::boxed::Box::drop::<#d2a52521aa2f4aea> */
+/* std_alloc::boxed::Box::drop */
 static void drop_942(u8* a)
 {
 A16 u8 b[40],c[40],d[40];
@@ -50350,8 +50312,7 @@ goto L1;}}
 return;
 }
 
-/* std_alloc::vec::Vec::drop::<#f750efd44e124a3d> */
-/* std_alloc::vec::Vec::drop::<#5ccd65fb9edb6e61> */
+/* std_alloc::vec::Vec::drop */
 static void drop_3d5(u8* a)
 {
 u8 *b,*f,*g,*i;
@@ -51446,7 +51407,7 @@ memset(a+1784,0,16);
 return;
 }
 
-/* sym_filter::standard::ReaderSourceSource::read::<#19b74b7156c1d586> */
+/* sym_filter::standard::ReaderSourceSource::read */
 static s_8_64 read_ea1(u8* a,u8* b,u64 c)
 {
 A16 u8 d[88],e[80];
@@ -51779,7 +51740,7 @@ C=B;C.f1=l;
 return C;
 }
 
-/* sym_filter::words::Words::end_within::<#ded3639bd0d8abe6> */
+/* sym_filter::words::Words::end_within */
 static void end_within_406(u8* a,u8* b,u8* c,u8* d,u8* e)
 {
 A16 u8 f[12];
@@ -52660,7 +52621,7 @@ x4(a+8,Eb);
 L2:return;
 }
 
-/* sym_languages::legacy::append_named::<#0c9a375c3df7cdea> */
+/* sym_languages::legacy::append_named */
 static void append_named_c97(u8* a,u8* b,u8* c,u8 d,u8* e,u64 f,u64 g,u64 h,u8* i)
 {
 A16 u8 j[12],k[12];
@@ -53413,7 +53374,7 @@ x4(a+8,0);
 return;
 }
 
-/* sym_languages::languages::LanguagesDemangler::append::<#0c9a375c3df7cdea> */
+/* sym_languages::languages::LanguagesDemangler::append */
 static void append_b20(u8* a,u8* b,u8* c,u8 d,u8* e,u64 f,u8* g)
 {
 A16 u8 h[12],i[12],j[8],k[12];
@@ -56233,7 +56194,7 @@ al=1;
 L83:return al;
 }
 
-/* itanium::short_way::run::<#22100afe225e4c04> */
+/* itanium::short_way::run */
 static u8 run_48b(u8* a,u8* b,u64 c,u32 d,u8* e)
 {
 u8 i[4],k[32],m[4],n[3],p[32],q[32],x[4];
@@ -57126,7 +57087,7 @@ g=1;}
 L1:return g;
 }
 
-/* cpp_direct::direct::Direct::begin_object::<#22100afe225e4c04> */
+/* cpp_direct::direct::Direct::begin_object */
 static void begin_object_8f6(u8* a,u8* b,u8* c,u64 d)
 {
 A16 u8 e[4];
@@ -57228,7 +57189,7 @@ x4(a,0);
 L2:return;
 }
 
-/* cpp_direct::direct::Direct::nest_at::<#22100afe225e4c04> */
+/* cpp_direct::direct::Direct::nest_at */
 static void nest_at_dce(u8* a,u8* b,u8* c,u64 d,u8 e,u8 f)
 {
 u8 g[34];
@@ -58306,7 +58267,7 @@ x8(a+24,Q);}}
 L4:return;
 }
 
-/* sym_direct::bounded::Bounded::make_ready::<#c0b0d639efb8a65b> */
+/* sym_direct::bounded::Bounded::make_ready */
 static u8 make_ready_17a(u8* a)
 {
 u64 b,c,e,f,h,i;
@@ -58332,7 +58293,7 @@ d=1;}
 L1:return d;
 }
 
-/* std_alloc::vec::Vec::grow_amortized::<#22b4fe43b5882be2> */
+/* std_alloc::vec::Vec::grow_amortized */
 static COLD u8 grow_amortized_53f(u8* a,u64 b)
 {
 u64 c,e,f,g,h;
@@ -58365,7 +58326,7 @@ else d=0;}
 L1:return d;
 }
 
-/* sym_direct::bounded::Bounded::make_ready::<#7e5bd29645c3074c> */
+/* sym_direct::bounded::Bounded::make_ready */
 static u8 make_ready_9a1(u8* a)
 {
 u64 b,c,e,f,h,i;
@@ -58391,7 +58352,7 @@ d=1;}
 L1:return d;
 }
 
-/* std_alloc::vec::Vec::grow_amortized::<#bab0a83ef56ddc7a> */
+/* std_alloc::vec::Vec::grow_amortized */
 static COLD u8 grow_amortized_920(u8* a,u64 b)
 {
 u64 c,e,f,g,h;
@@ -58876,7 +58837,7 @@ h=1;}}
 L1:return h;
 }
 
-/* cpp_direct::direct::Direct::begin_clone::<#22100afe225e4c04> */
+/* cpp_direct::direct::Direct::begin_clone */
 static void begin_clone_783(u8* a,u8* b,u8* c,u64 d)
 {
 u8 e[4];
@@ -58957,7 +58918,7 @@ x4(a,0);
 L5:return;
 }
 
-/* cpp_direct::direct::Direct::begin_encoding::<#22100afe225e4c04> */
+/* cpp_direct::direct::Direct::begin_encoding */
 static void begin_encoding_254(u8* a,u8* b,u8* c,u64 d)
 {
 A16 u8 e[4],f[4];
@@ -59028,7 +58989,7 @@ a[3]=o;
 return;
 }
 
-/* cpp_direct::direct::Direct::begin_in_std::<#22100afe225e4c04> */
+/* cpp_direct::direct::Direct::begin_in_std */
 static void begin_in_std_edd(u8* a,u8* b,u8* c,u64 d)
 {
 A16 u8 e[24],f[4];
@@ -59579,7 +59540,7 @@ break;}
 return c;
 }
 
-/* cpp_direct::direct::Direct::unscoped_named::<#22100afe225e4c04> */
+/* cpp_direct::direct::Direct::unscoped_named */
 static void unscoped_named_e54(u8* a,u8* b,u8* c,u64 d,u32 e,u8 f)
 {
 u8 g[4],h[32],i[4],j[32];
@@ -59761,8 +59722,7 @@ a[3]=J;
 L1:return;
 }
 
-/* cpp_direct::direct::Direct::name_ended::<#22100afe225e4c04> */
-/* cpp_direct::direct::Direct::name_ended::<#2c6f17e3e0d01cf6> */
+/* cpp_direct::direct::Direct::name_ended */
 static void name_ended_fde(u8* a,u8* b,u8* c,u64 d,u8 e,u8 f,u8* g,u32 h)
 {
 u8 i[4],k[16],n[16];
@@ -59909,8 +59869,7 @@ a[3]=l[3];
 L1:return;
 }
 
-/* cpp_direct::direct::Direct::end::<#22100afe225e4c04> */
-/* cpp_direct::direct::Direct::end::<#2c6f17e3e0d01cf6> */
+/* cpp_direct::direct::Direct::end */
 static void end_05d(u8* a,u8* b,u8* c,u64 d,u8 e)
 {
 A16 u8 f[24],g[4],h[4];
@@ -60311,10 +60270,7 @@ a[3]=pb;
 L2:return;
 }
 
-/* cpp_direct::direct::Direct::finish::<#22100afe225e4c04> */
-/* cpp_direct::direct::Direct::finish::<#efed33a7273bac1a> */
-/* cpp_direct::direct::Direct::finish::<#2c6f17e3e0d01cf6> */
-/* cpp_direct::direct::Direct::finish::<#464be67d5f5e1f6c> */
+/* cpp_direct::direct::Direct::finish */
 static void finish_8cd(u8* a,u8* b,u8* c,u64 d)
 {
 u64 e,i,k,l,n,p,q,s,t,u,y,z,B,C,D,G,H,I,J,K,L,M,N,O,P,Q,R,S;
@@ -60448,10 +60404,7 @@ a[3]=0;}}
 L9:return;
 }
 
-/* cpp_direct::direct::Direct::begin_front::<#22100afe225e4c04> */
-/* cpp_direct::direct::Direct::begin_front::<#efed33a7273bac1a> */
-/* cpp_direct::direct::Direct::begin_front::<#2c6f17e3e0d01cf6> */
-/* cpp_direct::direct::Direct::begin_front::<#464be67d5f5e1f6c> */
+/* cpp_direct::direct::Direct::begin_front */
 static void begin_front_2b4(u8* a,u8* b,u8* c,u64 d,u8 e,u8* f,u32 g)
 {
 A16 u8 h[32];
@@ -60499,8 +60452,7 @@ a[3]=0;
 L3:return;
 }
 
-/* cpp_direct::direct::Direct::close::<#22100afe225e4c04> */
-/* cpp_direct::direct::Direct::close::<#2c6f17e3e0d01cf6> */
+/* cpp_direct::direct::Direct::close */
 static void close_a33(u8* a,u8* b,u8* c,u64 d,u8 e,u32 f)
 {
 A16 u8 g[4];
@@ -60569,8 +60521,7 @@ a[3]=g[3];
 L1:return;
 }
 
-/* cpp_direct::direct::Direct::expansion::<#22100afe225e4c04> */
-/* cpp_direct::direct::Direct::expansion::<#2c6f17e3e0d01cf6> */
+/* cpp_direct::direct::Direct::expansion */
 static void expansion_d9b(u8* a,u8* b,u8* c,u64 d,u8 e,u8 f,u32 g,u8* h)
 {
 u8 k[32];
@@ -60933,7 +60884,7 @@ f=1;
 L1:return f;
 }
 
-/* cpp_direct::direct::Direct::begin_operator::<#22100afe225e4c04> */
+/* cpp_direct::direct::Direct::begin_operator */
 static void begin_operator_9c9(u8* a,u8* b,u8* c,u64 d)
 {
 u8 e[4];
@@ -60960,7 +60911,7 @@ a[3]=k;
 return;
 }
 
-/* cpp_direct::direct::Direct::begin_name::<#22100afe225e4c04> */
+/* cpp_direct::direct::Direct::begin_name */
 static void begin_name_824(u8* a,u8* b,u8* c,u64 d)
 {
 A16 u8 e[24],f[4];
@@ -61078,7 +61029,7 @@ L3:L1:x4(a,0);
 L9:return;
 }
 
-/* cpp_direct::direct::Direct::begin_thunk::<#22100afe225e4c04> */
+/* cpp_direct::direct::Direct::begin_thunk */
 static void begin_thunk_2c0(u8* a,u8* b,u8* c,u64 d)
 {
 A16 u8 e[4];
@@ -61176,7 +61127,7 @@ L1:x4(a,0);
 L6:return;
 }
 
-/* cpp_direct::direct::Direct::begin_virtual_thunk::<#22100afe225e4c04> */
+/* cpp_direct::direct::Direct::begin_virtual_thunk */
 static void begin_virtual_thunk_979(u8* a,u8* b,u8* c,u64 d)
 {
 A16 u8 e[4];
@@ -61312,10 +61263,7 @@ L1:x4(a,0);
 L11:return;
 }
 
-/* cpp_direct::direct::Direct::begin_special::<#22100afe225e4c04> */
-/* cpp_direct::direct::Direct::begin_special::<#efed33a7273bac1a> */
-/* cpp_direct::direct::Direct::begin_special::<#2c6f17e3e0d01cf6> */
-/* cpp_direct::direct::Direct::begin_special::<#464be67d5f5e1f6c> */
+/* cpp_direct::direct::Direct::begin_special */
 static void begin_special_44d(u8* a,u8* b,u8* c,u64 d)
 {
 u64 e,g,i,j,l,m,n,q,r,s,t,u,v,w,x,y,z,A,B,C,D;
@@ -61411,7 +61359,7 @@ L1:x4(a,0);
 L5:return;
 }
 
-/* cpp_direct::direct::Direct::type_at::<#22100afe225e4c04> */
+/* cpp_direct::direct::Direct::type_at */
 static void type_at_188(u8* a,u8* b,u8* c,u64 d,u8 e)
 {
 A16 u8 f[4],g[4],h[4];
@@ -61570,10 +61518,7 @@ a[3]=I;
 L4:return;
 }
 
-/* cpp_direct::direct::Direct::begin_function::<#22100afe225e4c04> */
-/* cpp_direct::direct::Direct::begin_function::<#efed33a7273bac1a> */
-/* cpp_direct::direct::Direct::begin_function::<#2c6f17e3e0d01cf6> */
-/* cpp_direct::direct::Direct::begin_function::<#464be67d5f5e1f6c> */
+/* cpp_direct::direct::Direct::begin_function */
 static void begin_function_7aa(u8* a,u8* b,u8 c)
 {
 u64 d,f,g,h,i,k,m;
@@ -61626,10 +61571,7 @@ x4(a,0);
 L2:return;
 }
 
-/* cpp_direct::direct::Direct::begin_array::<#22100afe225e4c04> */
-/* cpp_direct::direct::Direct::begin_array::<#efed33a7273bac1a> */
-/* cpp_direct::direct::Direct::begin_array::<#2c6f17e3e0d01cf6> */
-/* cpp_direct::direct::Direct::begin_array::<#464be67d5f5e1f6c> */
+/* cpp_direct::direct::Direct::begin_array */
 static void begin_array_86f(u8* a,u8* b,u8* c,u64 d,u8 e)
 {
 u64 f,h,i,j,k,l,m,p,r,t;
@@ -61698,10 +61640,7 @@ x4(a,0);
 L1:return;
 }
 
-/* cpp_direct::direct::Direct::rvalue_at::<#22100afe225e4c04> */
-/* cpp_direct::direct::Direct::rvalue_at::<#efed33a7273bac1a> */
-/* cpp_direct::direct::Direct::rvalue_at::<#2c6f17e3e0d01cf6> */
-/* cpp_direct::direct::Direct::rvalue_at::<#464be67d5f5e1f6c> */
+/* cpp_direct::direct::Direct::rvalue_at */
 static void rvalue_at_e1d(u8* a,u8* b,u8* c,u64 d)
 {
 u8 e[34],f[8];
@@ -61882,10 +61821,7 @@ a[7]=0;
 L1:return;
 }
 
-/* cpp_direct::direct::Direct::builtin_with_d::<#22100afe225e4c04> */
-/* cpp_direct::direct::Direct::builtin_with_d::<#efed33a7273bac1a> */
-/* cpp_direct::direct::Direct::builtin_with_d::<#2c6f17e3e0d01cf6> */
-/* cpp_direct::direct::Direct::builtin_with_d::<#464be67d5f5e1f6c> */
+/* cpp_direct::direct::Direct::builtin_with_d */
 static void builtin_with_d_cb0(u8* a,u8* b,u8* c,u64 d)
 {
 u64 e,f,i,k,m,n,p,q,r,u,v,w,x,y,z,A,B,C,D,E,F,H,I,N,O,R,T,V;
@@ -62016,10 +61952,7 @@ else c=50;
 return c;
 }
 
-/* cpp_direct::direct::Direct::template_parameter::<#22100afe225e4c04> */
-/* cpp_direct::direct::Direct::template_parameter::<#efed33a7273bac1a> */
-/* cpp_direct::direct::Direct::template_parameter::<#2c6f17e3e0d01cf6> */
-/* cpp_direct::direct::Direct::template_parameter::<#464be67d5f5e1f6c> */
+/* cpp_direct::direct::Direct::template_parameter */
 static void template_parameter_3b0(u8* a,u8* b,u8* c,u64 d)
 {
 u8 e[32],f[34];
@@ -62102,7 +62035,7 @@ else c=50;
 return c;
 }
 
-/* cpp_direct::direct::Direct::named_type::<#22100afe225e4c04> */
+/* cpp_direct::direct::Direct::named_type */
 static void named_type_031(u8* a,u8* b,u8* c,u64 d)
 {
 A16 u8 e[24],f[4],g[16],h[24],i[4];
@@ -62651,10 +62584,7 @@ L15:L16:x4(a,0);
 L24:return;
 }
 
-/* cpp_direct::direct::Direct::dependent_again::<#22100afe225e4c04> */
-/* cpp_direct::direct::Direct::dependent_again::<#efed33a7273bac1a> */
-/* cpp_direct::direct::Direct::dependent_again::<#2c6f17e3e0d01cf6> */
-/* cpp_direct::direct::Direct::dependent_again::<#464be67d5f5e1f6c> */
+/* cpp_direct::direct::Direct::dependent_again */
 static void dependent_again_186(u8* a,u8* b,u8* c)
 {
 u8 d[34];
@@ -62679,7 +62609,7 @@ else x4(a,0);
 return;
 }
 
-/* cpp_direct::direct::Direct::begin_enclosing::<#22100afe225e4c04> */
+/* cpp_direct::direct::Direct::begin_enclosing */
 static void begin_enclosing_06f(u8* a,u8* b,u8* c,u64 d)
 {
 A16 u8 e[4],f[24],g[4];
@@ -62850,8 +62780,7 @@ L4:L2:x4(a,0);}
 L1:return;
 }
 
-/* cpp_direct::direct::Direct::enclosing_ended::<#22100afe225e4c04> */
-/* cpp_direct::direct::Direct::enclosing_ended::<#2c6f17e3e0d01cf6> */
+/* cpp_direct::direct::Direct::enclosing_ended */
 static void enclosing_ended_205(u8* a,u8* b,u8* c,u64 d,u8 e,u32 f)
 {
 u8 g[3];
@@ -63059,10 +62988,7 @@ a[3]=ja;
 L2:return;
 }
 
-/* cpp_direct::direct::Direct::enclosed_named::<#22100afe225e4c04> */
-/* cpp_direct::direct::Direct::enclosed_named::<#efed33a7273bac1a> */
-/* cpp_direct::direct::Direct::enclosed_named::<#2c6f17e3e0d01cf6> */
-/* cpp_direct::direct::Direct::enclosed_named::<#464be67d5f5e1f6c> */
+/* cpp_direct::direct::Direct::enclosed_named */
 static void enclosed_named_b0c(u8* a,u8* b,u8* c,u64 d,u32 e)
 {
 A16 u8 f[24];
@@ -63431,8 +63357,7 @@ c=1;
 L1:return c;
 }
 
-/* cpp_direct::direct::Direct::enclosing_parameters::<#22100afe225e4c04> */
-/* cpp_direct::direct::Direct::enclosing_parameters::<#2c6f17e3e0d01cf6> */
+/* cpp_direct::direct::Direct::enclosing_parameters */
 static void enclosing_parameters_015(u8* a,u8* b,u8* c,u64 d,u8 e,u32 f)
 {
 A16 u8 g[4];
@@ -63501,8 +63426,7 @@ a[3]=0;}
 L1:return;
 }
 
-/* cpp_direct::direct::Direct::parameter_ended::<#22100afe225e4c04> */
-/* cpp_direct::direct::Direct::parameter_ended::<#2c6f17e3e0d01cf6> */
+/* cpp_direct::direct::Direct::parameter_ended */
 static void parameter_ended_06e(u8* a,u8* b,u8* c,u64 d,u8 e,u32 f,u8* g)
 {
 u8 i[4],j[32];
@@ -63572,8 +63496,7 @@ a[3]=v;
 return;
 }
 
-/* cpp_direct::direct::Direct::front_ended::<#22100afe225e4c04> */
-/* cpp_direct::direct::Direct::front_ended::<#2c6f17e3e0d01cf6> */
+/* cpp_direct::direct::Direct::front_ended */
 static void front_ended_ee9(u8* a,u8* b,u8* c,u64 d,u8 e,u32 f,u8* g)
 {
 u8 h[4],j[4];
@@ -63701,8 +63624,7 @@ x4(a,0);
 L2:return;
 }
 
-/* cpp_direct::direct::Direct::front_hidden::<#22100afe225e4c04> */
-/* cpp_direct::direct::Direct::front_hidden::<#2c6f17e3e0d01cf6> */
+/* cpp_direct::direct::Direct::front_hidden */
 static void front_hidden_955(u8* a,u8* b,u8* c,u64 d,u8 e,u32 f,u8* g)
 {
 u8 h[4];
@@ -63794,8 +63716,7 @@ else x4(a,0);
 return;
 }
 
-/* cpp_direct::direct::Direct::pass_dependent::<#22100afe225e4c04> */
-/* cpp_direct::direct::Direct::pass_dependent::<#2c6f17e3e0d01cf6> */
+/* cpp_direct::direct::Direct::pass_dependent */
 static void pass_dependent_123(u8* a,u8* b,u8* c,u64 d)
 {
 u8 f[32];
@@ -63931,8 +63852,7 @@ a[3]=P;}
 return;
 }
 
-/* cpp_direct::direct::Direct::addressed_front::<#22100afe225e4c04> */
-/* cpp_direct::direct::Direct::addressed_front::<#2c6f17e3e0d01cf6> */
+/* cpp_direct::direct::Direct::addressed_front */
 static void addressed_front_4c5(u8* a,u8* b,u8* c,u64 d,u8 e,u32 f,u8* g)
 {
 u8 h[4],i[32];
@@ -64007,8 +63927,7 @@ else x4(a,0);
 return;
 }
 
-/* cpp_direct::direct::Direct::addressed_parameters::<#22100afe225e4c04> */
-/* cpp_direct::direct::Direct::addressed_parameters::<#2c6f17e3e0d01cf6> */
+/* cpp_direct::direct::Direct::addressed_parameters */
 static void addressed_parameters_382(u8* a,u8* b,u8* c,u64 d,u8 e,u32 f,u8* g)
 {
 A16 u8 h[4],i[32];
@@ -64076,8 +63995,7 @@ a[3]=0;}
 L1:return;
 }
 
-/* cpp_direct::direct::Direct::addressed_marked::<#22100afe225e4c04> */
-/* cpp_direct::direct::Direct::addressed_marked::<#2c6f17e3e0d01cf6> */
+/* cpp_direct::direct::Direct::addressed_marked */
 static void addressed_marked_35f(u8* a,u8* b,u8* c,u64 d,u8 e)
 {
 u64 f,h,i,k,l,m,p,r,s,u,v,w,z,B,C,E,F,G,J,L,M,O,P,Q,T,V,W,Y,Z,aa,da,ea,fa,ia,ja,la,ma;
@@ -64280,8 +64198,7 @@ a[3]=0;
 L2:return;
 }
 
-/* cpp_direct::direct::Direct::addressed_parameter::<#22100afe225e4c04> */
-/* cpp_direct::direct::Direct::addressed_parameter::<#2c6f17e3e0d01cf6> */
+/* cpp_direct::direct::Direct::addressed_parameter */
 static void addressed_parameter_41c(u8* a,u8* b,u8* c,u64 d,u8 e)
 {
 A16 u8 f[4];
@@ -64333,8 +64250,7 @@ a[3]=0;
 L1:return;
 }
 
-/* cpp_direct::direct::Direct::returned::<#22100afe225e4c04> */
-/* cpp_direct::direct::Direct::returned::<#2c6f17e3e0d01cf6> */
+/* cpp_direct::direct::Direct::returned */
 static void returned_acd(u8* a,u8* b,u8* c,u64 d,u8 e)
 {
 A16 u8 f[4];
@@ -64446,8 +64362,7 @@ a[3]=H;
 L3:return;
 }
 
-/* cpp_direct::direct::Direct::function_ended::<#22100afe225e4c04> */
-/* cpp_direct::direct::Direct::function_ended::<#2c6f17e3e0d01cf6> */
+/* cpp_direct::direct::Direct::function_ended */
 static void function_ended_049(u8* a,u8* b,u8* c,u64 d,u8 e)
 {
 A16 u8 f[4];
@@ -64500,8 +64415,7 @@ L2:x4(a,0);
 L1:return;
 }
 
-/* cpp_direct::direct::Direct::pass_element::<#22100afe225e4c04> */
-/* cpp_direct::direct::Direct::pass_element::<#2c6f17e3e0d01cf6> */
+/* cpp_direct::direct::Direct::pass_element */
 static void pass_element_c99(u8* a,u8* b,u8* c,u64 d)
 {
 u8 f[32];
@@ -64542,8 +64456,7 @@ a[3]=m;}
 return;
 }
 
-/* cpp_direct::direct::Direct::parameter_at::<#22100afe225e4c04> */
-/* cpp_direct::direct::Direct::parameter_at::<#2c6f17e3e0d01cf6> */
+/* cpp_direct::direct::Direct::parameter_at */
 static void parameter_at_c04(u8* a,u8* b,u8* c,u64 d,u8 e,u8 f)
 {
 u8 g[4];
@@ -64637,8 +64550,7 @@ a[3]=0;
 L1:return;
 }
 
-/* cpp_direct::direct::Direct::array_ended::<#22100afe225e4c04> */
-/* cpp_direct::direct::Direct::array_ended::<#2c6f17e3e0d01cf6> */
+/* cpp_direct::direct::Direct::array_ended */
 static void array_ended_08d(u8* a,u8* b,u8* c,u64 d,u8 e,u32 f,u32 g)
 {
 A16 u8 h[4];
@@ -64816,8 +64728,7 @@ L1:x4(a,0);
 L9:return;
 }
 
-/* cpp_direct::direct::Direct::enclosing_parameter::<#22100afe225e4c04> */
-/* cpp_direct::direct::Direct::enclosing_parameter::<#2c6f17e3e0d01cf6> */
+/* cpp_direct::direct::Direct::enclosing_parameter */
 static void enclosing_parameter_d72(u8* a,u8* b,u8* c,u64 d,u8 e,u32 f)
 {
 A16 u8 g[4];
@@ -64869,10 +64780,7 @@ a[3]=0;
 L1:return;
 }
 
-/* cpp_direct::direct::Direct::lambda_parameter::<#22100afe225e4c04> */
-/* cpp_direct::direct::Direct::lambda_parameter::<#efed33a7273bac1a> */
-/* cpp_direct::direct::Direct::lambda_parameter::<#2c6f17e3e0d01cf6> */
-/* cpp_direct::direct::Direct::lambda_parameter::<#464be67d5f5e1f6c> */
+/* cpp_direct::direct::Direct::lambda_parameter */
 static void lambda_parameter_f9a(u8* a,u8* b,u8* c,u64 d,u32 e,u8* f)
 {
 u8 h[3];
@@ -64934,10 +64842,7 @@ a[3]=0;
 L1:return;
 }
 
-/* cpp_direct::direct::Direct::lambda_ended::<#22100afe225e4c04> */
-/* cpp_direct::direct::Direct::lambda_ended::<#efed33a7273bac1a> */
-/* cpp_direct::direct::Direct::lambda_ended::<#2c6f17e3e0d01cf6> */
-/* cpp_direct::direct::Direct::lambda_ended::<#464be67d5f5e1f6c> */
+/* cpp_direct::direct::Direct::lambda_ended */
 static void lambda_ended_f43(u8* a,u8* b,u8* c,u64 d,u32 e,u8* f)
 {
 u64 g,h,j,k,l,m,n,o,q,r;
@@ -65012,10 +64917,7 @@ a[3]=0;
 L5:return;
 }
 
-/* cpp_direct::direct::Direct::enumerator::<#22100afe225e4c04> */
-/* cpp_direct::direct::Direct::enumerator::<#efed33a7273bac1a> */
-/* cpp_direct::direct::Direct::enumerator::<#2c6f17e3e0d01cf6> */
-/* cpp_direct::direct::Direct::enumerator::<#464be67d5f5e1f6c> */
+/* cpp_direct::direct::Direct::enumerator */
 static void enumerator_21c(u8* a,u8* b,u8* c,u64 d)
 {
 u64 e,o,q,r,t,u,w,z;
@@ -65268,7 +65170,7 @@ else f=0;}
 L4:return f;
 }
 
-/* cpp_direct::direct::Direct::argument_ended::<#22100afe225e4c04> */
+/* cpp_direct::direct::Direct::argument_ended */
 static void argument_ended_2ff(u8* a,u8* b,u8* c,u64 d,u32 e,u8 f,u8* g,u8 h)
 {
 u8 i[4],j[32],k[32],l[32],n[32];
@@ -65439,7 +65341,7 @@ e=0;
 L1:return e;
 }
 
-/* cpp_direct::direct::Direct::next_pack::<#22100afe225e4c04> */
+/* cpp_direct::direct::Direct::next_pack */
 static void next_pack_bbb(u8* a,u8* b,u8* c,u64 d,u8 e,u8* f)
 {
 u8 h[16],i[32],j[16];
@@ -65577,7 +65479,7 @@ a[3]=0;}}
 L1:return;
 }
 
-/* cpp_direct::direct::Direct::begin_address::<#22100afe225e4c04> */
+/* cpp_direct::direct::Direct::begin_address */
 static void begin_address_4df(u8* a,u8* b,u8* c,u64 d)
 {
 A16 u8 e[4];
@@ -65659,7 +65561,7 @@ x4(a,0);}
 L1:return;
 }
 
-/* cpp_direct::direct::Direct::close_list::<#22100afe225e4c04> */
+/* cpp_direct::direct::Direct::close_list */
 static void close_list_0b3(u8* a,u8* b,u8* c,u64 d,u8* e)
 {
 u8 f[32];
@@ -65789,10 +65691,7 @@ a[3]=N;}
 L1:return;
 }
 
-/* cpp_direct::direct::Direct::level_ended::<#22100afe225e4c04> */
-/* cpp_direct::direct::Direct::level_ended::<#efed33a7273bac1a> */
-/* cpp_direct::direct::Direct::level_ended::<#2c6f17e3e0d01cf6> */
-/* cpp_direct::direct::Direct::level_ended::<#464be67d5f5e1f6c> */
+/* cpp_direct::direct::Direct::level_ended */
 static void level_ended_5bf(u8* a,u8* b,u8* c,u64 d,u8 e)
 {
 A16 u8 f[24];
@@ -65882,7 +65781,7 @@ x4(a,0);
 L1:return;
 }
 
-/* cpp_direct::direct::Direct::element_ended::<#22100afe225e4c04> */
+/* cpp_direct::direct::Direct::element_ended */
 static void element_ended_d46(u8* a,u8* b,u8* c,u64 d,u32 e,u8 f,u8* g,u8 h)
 {
 u8 i[32],j[32],k[16],l[32],n[16],o[32];
@@ -66049,7 +65948,7 @@ a[3]=0;
 L2:return;
 }
 
-/* cpp_direct::direct::Direct::empty_pack::<#22100afe225e4c04> */
+/* cpp_direct::direct::Direct::empty_pack */
 static void empty_pack_06f(u8* a,u8* b,u8* c,u64 d,u8 e)
 {
 u8 g[32];
@@ -66093,10 +65992,7 @@ else x4(a,0);
 L1:return;
 }
 
-/* cpp_direct::direct::Direct::first_pack::<#22100afe225e4c04> */
-/* cpp_direct::direct::Direct::first_pack::<#efed33a7273bac1a> */
-/* cpp_direct::direct::Direct::first_pack::<#2c6f17e3e0d01cf6> */
-/* cpp_direct::direct::Direct::first_pack::<#464be67d5f5e1f6c> */
+/* cpp_direct::direct::Direct::first_pack */
 static void first_pack_117(u8* a,u8* b,u8* c,u64 d)
 {
 A16 u8 e[38];
@@ -66243,8 +66139,7 @@ a[3]=0;
 L3:return;
 }
 
-/* cpp_direct::direct::Direct::begin_level::<#22100afe225e4c04> */
-/* cpp_direct::direct::Direct::begin_level::<#efed33a7273bac1a> */
+/* cpp_direct::direct::Direct::begin_level */
 static void begin_level_d05(u8* a,u8* b,u8* c,u64 d)
 {
 A16 u8 e[24];
@@ -66363,7 +66258,7 @@ x4(a,0);}
 L7:return;
 }
 
-/* cpp_direct::direct::Direct::first_literal::<#22100afe225e4c04> */
+/* cpp_direct::direct::Direct::first_literal */
 static void first_literal_618(u8* a,u8* b,u8* c,u64 d)
 {
 u8 f[32],g[32];
@@ -66812,7 +66707,7 @@ else A=0;
 return A;
 }
 
-/* cpp_direct::direct::Direct::literal::<#22100afe225e4c04> */
+/* cpp_direct::direct::Direct::literal */
 static void literal_9d0(u8* a,u8* b,u8* c,u64 d)
 {
 A16 u8 e[4];
@@ -66896,8 +66791,7 @@ L4:x4(a,0);
 L3:return;
 }
 
-/* cpp_direct::direct::Direct::nest_ended::<#22100afe225e4c04> */
-/* cpp_direct::direct::Direct::nest_ended::<#2c6f17e3e0d01cf6> */
+/* cpp_direct::direct::Direct::nest_ended */
 static void nest_ended_003(u8* a,u8* b,u8* c,u64 d)
 {
 u8 f[4],g[32];
@@ -67016,8 +66910,7 @@ a[3]=K;}
 L1:return;
 }
 
-/* cpp_direct::direct::Direct::addressed_named::<#22100afe225e4c04> */
-/* cpp_direct::direct::Direct::addressed_named::<#2c6f17e3e0d01cf6> */
+/* cpp_direct::direct::Direct::addressed_named */
 static void addressed_named_a52(u8* a,u8* b,u8* c,u64 d,u8 e)
 {
 u8 h[16];
@@ -67109,7 +67002,7 @@ else x4(a,0);}
 L2:return;
 }
 
-/* cpp_direct::direct::Direct::components_at::<#22100afe225e4c04> */
+/* cpp_direct::direct::Direct::components_at */
 static void components_at_af8(u8* a,u8* b,u8* c,u64 d)
 {
 A16 u8 e[38],f[38],g[38],h[38],i[24],j[38],k[38],l[24],m[38],n[38],o[24],p[38],q[38],r[4],s[4];
@@ -68343,10 +68236,7 @@ L11:L38:x4(a,0);
 L39:return;
 }
 
-/* cpp_direct::direct::Direct::begin_component::<#22100afe225e4c04> */
-/* cpp_direct::direct::Direct::begin_component::<#efed33a7273bac1a> */
-/* cpp_direct::direct::Direct::begin_component::<#2c6f17e3e0d01cf6> */
-/* cpp_direct::direct::Direct::begin_component::<#464be67d5f5e1f6c> */
+/* cpp_direct::direct::Direct::begin_component */
 static void begin_component_d5a(u8* a,u8* b,u8* c,u64 d)
 {
 u8 e[3];
@@ -68370,7 +68260,7 @@ else x4(a,0);}
 return;
 }
 
-/* cpp_direct::direct::Direct::operator::<#22100afe225e4c04> */
+/* cpp_direct::direct::Direct::operator */
 static void operator_761(u8* a,u8* b,u8* c,u64 d)
 {
 u8 e[4],f[32];
@@ -68595,7 +68485,7 @@ else x4(a,0);}
 L1:return;
 }
 
-/* cpp_direct::direct::Direct::begin_object::<#efed33a7273bac1a> */
+/* cpp_direct::direct::Direct::begin_object */
 static void begin_object_0af(u8* a,u8* b,u8* c,u64 d)
 {
 A16 u8 e[4];
@@ -68697,7 +68587,7 @@ x4(a,0);
 L2:return;
 }
 
-/* cpp_direct::direct::Direct::nest_at::<#efed33a7273bac1a> */
+/* cpp_direct::direct::Direct::nest_at */
 static void nest_at_97a(u8* a,u8* b,u8* c,u64 d,u8 e,u8 f)
 {
 u8 g[34];
@@ -69402,7 +69292,7 @@ L16:L14:x4(a,0);
 L13:return;
 }
 
-/* cpp_direct::direct::Direct::begin_clone::<#efed33a7273bac1a> */
+/* cpp_direct::direct::Direct::begin_clone */
 static void begin_clone_5b6(u8* a,u8* b,u8* c,u64 d)
 {
 u8 e[4];
@@ -69483,7 +69373,7 @@ x4(a,0);
 L5:return;
 }
 
-/* cpp_direct::direct::Direct::begin_encoding::<#efed33a7273bac1a> */
+/* cpp_direct::direct::Direct::begin_encoding */
 static void begin_encoding_4d0(u8* a,u8* b,u8* c,u64 d)
 {
 A16 u8 e[4],f[4];
@@ -69554,7 +69444,7 @@ a[3]=o;
 return;
 }
 
-/* cpp_direct::direct::Direct::begin_in_std::<#efed33a7273bac1a> */
+/* cpp_direct::direct::Direct::begin_in_std */
 static void begin_in_std_5d2(u8* a,u8* b,u8* c,u64 d)
 {
 A16 u8 e[24],f[4];
@@ -69676,7 +69566,7 @@ x4(a,0);}
 L2:return;
 }
 
-/* cpp_direct::direct::Direct::unscoped_named::<#efed33a7273bac1a> */
+/* cpp_direct::direct::Direct::unscoped_named */
 static void unscoped_named_6a9(u8* a,u8* b,u8* c,u64 d,u32 e,u8 f)
 {
 u8 h[32],j[32];
@@ -69862,8 +69752,7 @@ a[3]=J;
 L1:return;
 }
 
-/* cpp_direct::direct::Direct::name_ended::<#efed33a7273bac1a> */
-/* cpp_direct::direct::Direct::name_ended::<#464be67d5f5e1f6c> */
+/* cpp_direct::direct::Direct::name_ended */
 static void name_ended_a18(u8* a,u8* b,u8* c,u64 d,u8 e,u8 f,u8* g,u32 h)
 {
 u8 i[4],j[4],l[16],o[16];
@@ -70219,8 +70108,7 @@ a[3]=V;
 L1:return;
 }
 
-/* cpp_direct::direct::Direct::encoded::<#efed33a7273bac1a> */
-/* cpp_direct::direct::Direct::encoded::<#464be67d5f5e1f6c> */
+/* cpp_direct::direct::Direct::encoded */
 static void encoded_306(u8* a,u8* b,u8* c,u64 d)
 {
 A16 u8 e[4],f[4];
@@ -70275,8 +70163,7 @@ a[3]=f[3];
 L2:return;
 }
 
-/* cpp_direct::direct::Direct::entity_name::<#efed33a7273bac1a> */
-/* cpp_direct::direct::Direct::entity_name::<#464be67d5f5e1f6c> */
+/* cpp_direct::direct::Direct::entity_name */
 static void entity_name_404(u8* a,u8* b,u8* c,u64 d)
 {
 A16 u8 e[24],f[4];
@@ -70436,8 +70323,7 @@ L4:L2:x4(a,0);
 L1:return;
 }
 
-/* cpp_direct::direct::Direct::close::<#efed33a7273bac1a> */
-/* cpp_direct::direct::Direct::close::<#464be67d5f5e1f6c> */
+/* cpp_direct::direct::Direct::close */
 static void close_39a(u8* a,u8* b,u8* c,u64 d,u32 e)
 {
 u8 f[4];
@@ -70502,8 +70388,7 @@ else x4(a,0);
 L1:return;
 }
 
-/* cpp_direct::direct::Direct::expansion::<#efed33a7273bac1a> */
-/* cpp_direct::direct::Direct::expansion::<#464be67d5f5e1f6c> */
+/* cpp_direct::direct::Direct::expansion */
 static void expansion_52e(u8* a,u8* b,u8* c,u64 d,u8 e,u32 f,u8* g)
 {
 u8 j[32];
@@ -70595,7 +70480,7 @@ a[3]=0;}
 L2:return;
 }
 
-/* cpp_direct::direct::Direct::begin_operator::<#efed33a7273bac1a> */
+/* cpp_direct::direct::Direct::begin_operator */
 static void begin_operator_425(u8* a,u8* b,u8* c,u64 d)
 {
 u8 e[4];
@@ -70622,7 +70507,7 @@ a[3]=k;
 return;
 }
 
-/* cpp_direct::direct::Direct::begin_name::<#efed33a7273bac1a> */
+/* cpp_direct::direct::Direct::begin_name */
 static void begin_name_931(u8* a,u8* b,u8* c,u64 d)
 {
 A16 u8 e[24],f[4];
@@ -70740,7 +70625,7 @@ L3:L1:x4(a,0);
 L9:return;
 }
 
-/* cpp_direct::direct::Direct::begin_thunk::<#efed33a7273bac1a> */
+/* cpp_direct::direct::Direct::begin_thunk */
 static void begin_thunk_892(u8* a,u8* b,u8* c,u64 d)
 {
 A16 u8 e[4];
@@ -70838,7 +70723,7 @@ L1:x4(a,0);
 L6:return;
 }
 
-/* cpp_direct::direct::Direct::begin_virtual_thunk::<#efed33a7273bac1a> */
+/* cpp_direct::direct::Direct::begin_virtual_thunk */
 static void begin_virtual_thunk_faf(u8* a,u8* b,u8* c,u64 d)
 {
 A16 u8 e[4];
@@ -70974,7 +70859,7 @@ L1:x4(a,0);
 L11:return;
 }
 
-/* cpp_direct::direct::Direct::type_at::<#efed33a7273bac1a> */
+/* cpp_direct::direct::Direct::type_at */
 static void type_at_a00(u8* a,u8* b,u8* c,u64 d,u8 e)
 {
 A16 u8 f[4],g[4],h[4];
@@ -71133,7 +71018,7 @@ a[3]=I;
 L4:return;
 }
 
-/* cpp_direct::direct::Direct::named_type::<#efed33a7273bac1a> */
+/* cpp_direct::direct::Direct::named_type */
 static void named_type_ed0(u8* a,u8* b,u8* c,u64 d)
 {
 A16 u8 e[24],f[4],g[16],h[24],i[4];
@@ -71682,7 +71567,7 @@ L15:L16:x4(a,0);
 L24:return;
 }
 
-/* cpp_direct::direct::Direct::begin_enclosing::<#efed33a7273bac1a> */
+/* cpp_direct::direct::Direct::begin_enclosing */
 static void begin_enclosing_453(u8* a,u8* b,u8* c,u64 d)
 {
 u8 e[4],f[4];
@@ -71858,8 +71743,7 @@ L4:L2:x4(a,0);}
 L1:return;
 }
 
-/* cpp_direct::direct::Direct::enclosed::<#efed33a7273bac1a> */
-/* cpp_direct::direct::Direct::enclosed::<#464be67d5f5e1f6c> */
+/* cpp_direct::direct::Direct::enclosed */
 static void enclosed_84c(u8* a,u8* b,u8* c,u64 d,u32 e)
 {
 u8 f[3];
@@ -71900,8 +71784,7 @@ x4(a,0);
 L1:return;
 }
 
-/* cpp_direct::direct::Direct::enclosing_parameters::<#efed33a7273bac1a> */
-/* cpp_direct::direct::Direct::enclosing_parameters::<#464be67d5f5e1f6c> */
+/* cpp_direct::direct::Direct::enclosing_parameters */
 static void enclosing_parameters_1fa(u8* a,u8* b,u8* c,u64 d,u8 e,u32 f)
 {
 u8 g[4];
@@ -71960,8 +71843,7 @@ a[3]=0;}}
 L1:return;
 }
 
-/* cpp_direct::direct::Direct::parameter_ended::<#efed33a7273bac1a> */
-/* cpp_direct::direct::Direct::parameter_ended::<#464be67d5f5e1f6c> */
+/* cpp_direct::direct::Direct::parameter_ended */
 static void parameter_ended_d3f(u8* a,u8* b,u8* c,u64 d,u32 e,u8* f)
 {
 u8 g[4],h[4],i[32];
@@ -72085,8 +71967,7 @@ a[3]=u;
 return;
 }
 
-/* cpp_direct::direct::Direct::front_ended::<#efed33a7273bac1a> */
-/* cpp_direct::direct::Direct::front_ended::<#464be67d5f5e1f6c> */
+/* cpp_direct::direct::Direct::front_ended */
 static void front_ended_665(u8* a,u8* b,u8* c,u64 d,u8 e,u32 f,u8* g)
 {
 u8 h[4];
@@ -72180,8 +72061,7 @@ x4(a,0);
 L2:return;
 }
 
-/* cpp_direct::direct::Direct::pass_dependent::<#efed33a7273bac1a> */
-/* cpp_direct::direct::Direct::pass_dependent::<#464be67d5f5e1f6c> */
+/* cpp_direct::direct::Direct::pass_dependent */
 static void pass_dependent_3d7(u8* a,u8* b,u8* c,u64 d)
 {
 u8 f[32];
@@ -72317,8 +72197,7 @@ a[3]=P;}
 return;
 }
 
-/* cpp_direct::direct::Direct::addressed_front::<#efed33a7273bac1a> */
-/* cpp_direct::direct::Direct::addressed_front::<#464be67d5f5e1f6c> */
+/* cpp_direct::direct::Direct::addressed_front */
 static void addressed_front_54d(u8* a,u8* b,u8* c,u64 d,u8 e,u32 f,u8* g)
 {
 u8 i[32];
@@ -72395,8 +72274,7 @@ else x4(a,0);
 return;
 }
 
-/* cpp_direct::direct::Direct::addressed_parameters::<#efed33a7273bac1a> */
-/* cpp_direct::direct::Direct::addressed_parameters::<#464be67d5f5e1f6c> */
+/* cpp_direct::direct::Direct::addressed_parameters */
 static void addressed_parameters_09a(u8* a,u8* b,u8* c,u64 d,u8 e,u32 f,u8* g)
 {
 A16 u8 h[32];
@@ -72487,8 +72365,7 @@ a[3]=0;}
 L3:return;
 }
 
-/* cpp_direct::direct::Direct::addressed_parameter::<#efed33a7273bac1a> */
-/* cpp_direct::direct::Direct::addressed_parameter::<#464be67d5f5e1f6c> */
+/* cpp_direct::direct::Direct::addressed_parameter */
 static void addressed_parameter_2cf(u8* a,u8* b,u8* c,u64 d,u32 e)
 {
 u64 f,g,i,k,l,m,o,q,r,s,t,u,v,w,x,y,z,A,B,C,D,E,F,G,I,J,K,L,O,P,R,S,T,V;
@@ -72623,8 +72500,7 @@ a[3]=0;
 L1:return;
 }
 
-/* cpp_direct::direct::Direct::returned::<#efed33a7273bac1a> */
-/* cpp_direct::direct::Direct::returned::<#464be67d5f5e1f6c> */
+/* cpp_direct::direct::Direct::returned */
 static void returned_322(u8* a,u8* b,u8* c,u64 d,u8 e)
 {
 A16 u8 f[4];
@@ -72736,8 +72612,7 @@ a[3]=H;
 L3:return;
 }
 
-/* cpp_direct::direct::Direct::function_ended::<#efed33a7273bac1a> */
-/* cpp_direct::direct::Direct::function_ended::<#464be67d5f5e1f6c> */
+/* cpp_direct::direct::Direct::function_ended */
 static void function_ended_365(u8* a,u8* b,u8* c,u64 d,u8 e)
 {
 A16 u8 f[4];
@@ -72790,8 +72665,7 @@ L2:x4(a,0);
 L1:return;
 }
 
-/* cpp_direct::direct::Direct::pass_element::<#efed33a7273bac1a> */
-/* cpp_direct::direct::Direct::pass_element::<#464be67d5f5e1f6c> */
+/* cpp_direct::direct::Direct::pass_element */
 static void pass_element_695(u8* a,u8* b,u8* c,u64 d)
 {
 u8 f[32];
@@ -72831,8 +72705,7 @@ a[3]=l;}
 return;
 }
 
-/* cpp_direct::direct::Direct::parameter_at::<#efed33a7273bac1a> */
-/* cpp_direct::direct::Direct::parameter_at::<#464be67d5f5e1f6c> */
+/* cpp_direct::direct::Direct::parameter_at */
 static void parameter_at_3ac(u8* a,u8* b,u8* c,u64 d,u8 e,u8 f)
 {
 u8 g[4];
@@ -72926,8 +72799,7 @@ a[3]=0;
 L1:return;
 }
 
-/* cpp_direct::direct::Direct::array_ended::<#efed33a7273bac1a> */
-/* cpp_direct::direct::Direct::array_ended::<#464be67d5f5e1f6c> */
+/* cpp_direct::direct::Direct::array_ended */
 static void array_ended_1b3(u8* a,u8* b,u8* c,u64 d,u8 e,u32 f,u32 g)
 {
 A16 u8 h[4];
@@ -73105,8 +72977,7 @@ L1:x4(a,0);
 L9:return;
 }
 
-/* cpp_direct::direct::Direct::enclosing_parameter::<#efed33a7273bac1a> */
-/* cpp_direct::direct::Direct::enclosing_parameter::<#464be67d5f5e1f6c> */
+/* cpp_direct::direct::Direct::enclosing_parameter */
 static void enclosing_parameter_fc1(u8* a,u8* b,u8* c,u64 d,u32 e,u32 f)
 {
 u8 g[4];
@@ -73208,7 +73079,7 @@ a[3]=0;
 L1:return;
 }
 
-/* cpp_direct::direct::Direct::argument_ended::<#efed33a7273bac1a> */
+/* cpp_direct::direct::Direct::argument_ended */
 static void argument_ended_511(u8* a,u8* b,u8* c,u64 d,u32 e,u8 f,u8* g,u8 h)
 {
 u8 i[4],j[32],k[32],l[32],n[32];
@@ -73358,7 +73229,7 @@ a[3]=C;
 L4:return;
 }
 
-/* cpp_direct::direct::Direct::next_pack::<#efed33a7273bac1a> */
+/* cpp_direct::direct::Direct::next_pack */
 static void next_pack_66f(u8* a,u8* b,u8* c,u64 d,u8 e,u8* f)
 {
 u8 h[16],i[32],j[16];
@@ -73496,7 +73367,7 @@ a[3]=0;}}
 L1:return;
 }
 
-/* cpp_direct::direct::Direct::begin_address::<#efed33a7273bac1a> */
+/* cpp_direct::direct::Direct::begin_address */
 static void begin_address_ef5(u8* a,u8* b,u8* c,u64 d)
 {
 A16 u8 e[4];
@@ -73578,7 +73449,7 @@ x4(a,0);}
 L1:return;
 }
 
-/* cpp_direct::direct::Direct::close_list::<#efed33a7273bac1a> */
+/* cpp_direct::direct::Direct::close_list */
 static void close_list_299(u8* a,u8* b,u8* c,u64 d,u8* e)
 {
 u8 f[32];
@@ -73708,7 +73579,7 @@ a[3]=N;}
 L1:return;
 }
 
-/* cpp_direct::direct::Direct::element_ended::<#efed33a7273bac1a> */
+/* cpp_direct::direct::Direct::element_ended */
 static void element_ended_6b8(u8* a,u8* b,u8* c,u64 d,u32 e,u8 f,u8* g,u8 h)
 {
 u8 i[32],j[32],k[16],l[32],n[16],o[32];
@@ -73875,7 +73746,7 @@ a[3]=0;
 L2:return;
 }
 
-/* cpp_direct::direct::Direct::empty_pack::<#efed33a7273bac1a> */
+/* cpp_direct::direct::Direct::empty_pack */
 static void empty_pack_079(u8* a,u8* b,u8* c,u64 d,u8 e)
 {
 u8 g[32];
@@ -73919,7 +73790,7 @@ else x4(a,0);
 L1:return;
 }
 
-/* cpp_direct::direct::Direct::first_literal::<#efed33a7273bac1a> */
+/* cpp_direct::direct::Direct::first_literal */
 static void first_literal_c4d(u8* a,u8* b,u8* c,u64 d)
 {
 u8 f[32],g[32];
@@ -74016,7 +73887,7 @@ a[3]=e[3];
 L3:return;
 }
 
-/* cpp_direct::direct::Direct::literal::<#efed33a7273bac1a> */
+/* cpp_direct::direct::Direct::literal */
 static void literal_da7(u8* a,u8* b,u8* c,u64 d)
 {
 A16 u8 e[4];
@@ -74100,8 +73971,7 @@ L4:x4(a,0);
 L3:return;
 }
 
-/* cpp_direct::direct::Direct::nest_ended::<#efed33a7273bac1a> */
-/* cpp_direct::direct::Direct::nest_ended::<#464be67d5f5e1f6c> */
+/* cpp_direct::direct::Direct::nest_ended */
 static void nest_ended_32a(u8* a,u8* b,u8* c,u64 d)
 {
 u8 e[4],f[4],g[4],h[32];
@@ -74430,8 +74300,7 @@ a[3]=Na;}
 L1:return;
 }
 
-/* cpp_direct::direct::Direct::addressed_named::<#efed33a7273bac1a> */
-/* cpp_direct::direct::Direct::addressed_named::<#464be67d5f5e1f6c> */
+/* cpp_direct::direct::Direct::addressed_named */
 static void addressed_named_968(u8* a,u8* b,u8* c,u64 d,u8 e)
 {
 u8 h[16];
@@ -74523,7 +74392,7 @@ else x4(a,0);}
 L2:return;
 }
 
-/* cpp_direct::direct::Direct::components_at::<#efed33a7273bac1a> */
+/* cpp_direct::direct::Direct::components_at */
 static void components_at_8f9(u8* a,u8* b,u8* c,u64 d)
 {
 A16 u8 e[38],f[38],g[38],h[38],i[38],j[38],k[24],l[38],m[38],n[24],o[38],p[38],q[24],r[4],s[4];
@@ -75757,7 +75626,7 @@ L11:L38:x4(a,0);
 L39:return;
 }
 
-/* cpp_direct::direct::Direct::operator::<#efed33a7273bac1a> */
+/* cpp_direct::direct::Direct::operator */
 static void operator_b47(u8* a,u8* b,u8* c,u64 d)
 {
 u8 f[32];
@@ -75983,8 +75852,7 @@ else x4(a,0);}
 L1:return;
 }
 
-/* cpp_direct::direct::Direct::begin_object::<#2c6f17e3e0d01cf6> */
-/* cpp_direct::direct::Direct::begin_object::<#464be67d5f5e1f6c> */
+/* cpp_direct::direct::Direct::begin_object */
 static void begin_object_4cd(u8* a,u8* b,u8* c,u64 d)
 {
 A16 u8 e[4];
@@ -76086,8 +75954,7 @@ x4(a,0);
 L2:return;
 }
 
-/* cpp_direct::direct::Direct::nest_at::<#2c6f17e3e0d01cf6> */
-/* cpp_direct::direct::Direct::nest_at::<#464be67d5f5e1f6c> */
+/* cpp_direct::direct::Direct::nest_at */
 static void nest_at_b4c(u8* a,u8* b,u8* c,u64 d,u8 e,u8 f)
 {
 u8 g[34];
@@ -76792,7 +76659,7 @@ L16:L14:x4(a,0);
 L13:return;
 }
 
-/* cpp_direct::direct::Direct::begin_clone::<#2c6f17e3e0d01cf6> */
+/* cpp_direct::direct::Direct::begin_clone */
 static void begin_clone_906(u8* a,u8* b,u8* c,u64 d)
 {
 u8 e[4];
@@ -76873,7 +76740,7 @@ x4(a,0);
 L5:return;
 }
 
-/* cpp_direct::direct::Direct::begin_encoding::<#2c6f17e3e0d01cf6> */
+/* cpp_direct::direct::Direct::begin_encoding */
 static void begin_encoding_a64(u8* a,u8* b,u8* c,u64 d)
 {
 A16 u8 e[4],f[4];
@@ -76944,7 +76811,7 @@ a[3]=o;
 return;
 }
 
-/* cpp_direct::direct::Direct::begin_in_std::<#2c6f17e3e0d01cf6> */
+/* cpp_direct::direct::Direct::begin_in_std */
 static void begin_in_std_7ae(u8* a,u8* b,u8* c,u64 d)
 {
 A16 u8 e[24],f[4];
@@ -77066,7 +76933,7 @@ x4(a,0);}
 L2:return;
 }
 
-/* cpp_direct::direct::Direct::unscoped_named::<#2c6f17e3e0d01cf6> */
+/* cpp_direct::direct::Direct::unscoped_named */
 static void unscoped_named_e23(u8* a,u8* b,u8* c,u64 d,u32 e,u8 f)
 {
 u8 g[4],h[32],i[4],j[32];
@@ -77248,7 +77115,7 @@ a[3]=J;
 L1:return;
 }
 
-/* cpp_direct::direct::Direct::begin_operator::<#2c6f17e3e0d01cf6> */
+/* cpp_direct::direct::Direct::begin_operator */
 static void begin_operator_38a(u8* a,u8* b,u8* c,u64 d)
 {
 u8 e[4];
@@ -77275,7 +77142,7 @@ a[3]=k;
 return;
 }
 
-/* cpp_direct::direct::Direct::begin_name::<#2c6f17e3e0d01cf6> */
+/* cpp_direct::direct::Direct::begin_name */
 static void begin_name_649(u8* a,u8* b,u8* c,u64 d)
 {
 A16 u8 e[24],f[4];
@@ -77393,7 +77260,7 @@ L3:L1:x4(a,0);
 L9:return;
 }
 
-/* cpp_direct::direct::Direct::begin_thunk::<#2c6f17e3e0d01cf6> */
+/* cpp_direct::direct::Direct::begin_thunk */
 static void begin_thunk_50d(u8* a,u8* b,u8* c,u64 d)
 {
 A16 u8 e[4];
@@ -77491,7 +77358,7 @@ L1:x4(a,0);
 L6:return;
 }
 
-/* cpp_direct::direct::Direct::begin_virtual_thunk::<#2c6f17e3e0d01cf6> */
+/* cpp_direct::direct::Direct::begin_virtual_thunk */
 static void begin_virtual_thunk_1ab(u8* a,u8* b,u8* c,u64 d)
 {
 A16 u8 e[4];
@@ -77627,7 +77494,7 @@ L1:x4(a,0);
 L11:return;
 }
 
-/* cpp_direct::direct::Direct::type_at::<#2c6f17e3e0d01cf6> */
+/* cpp_direct::direct::Direct::type_at */
 static void type_at_d83(u8* a,u8* b,u8* c,u64 d,u8 e)
 {
 A16 u8 f[4],g[4],h[4];
@@ -77786,7 +77653,7 @@ a[3]=I;
 L4:return;
 }
 
-/* cpp_direct::direct::Direct::named_type::<#2c6f17e3e0d01cf6> */
+/* cpp_direct::direct::Direct::named_type */
 static void named_type_de5(u8* a,u8* b,u8* c,u64 d)
 {
 A16 u8 e[24],f[4],g[16],h[24],i[4];
@@ -78335,7 +78202,7 @@ L15:L16:x4(a,0);
 L24:return;
 }
 
-/* cpp_direct::direct::Direct::begin_enclosing::<#2c6f17e3e0d01cf6> */
+/* cpp_direct::direct::Direct::begin_enclosing */
 static void begin_enclosing_8b6(u8* a,u8* b,u8* c,u64 d)
 {
 A16 u8 e[4],f[24],g[4];
@@ -78506,7 +78373,7 @@ L4:L2:x4(a,0);}
 L1:return;
 }
 
-/* cpp_direct::direct::Direct::argument_ended::<#2c6f17e3e0d01cf6> */
+/* cpp_direct::direct::Direct::argument_ended */
 static void argument_ended_c7c(u8* a,u8* b,u8* c,u64 d,u32 e,u8 f,u8* g,u8 h)
 {
 u8 i[4],j[32],k[32],l[32],n[32];
@@ -78656,7 +78523,7 @@ a[3]=C;
 L4:return;
 }
 
-/* cpp_direct::direct::Direct::next_pack::<#2c6f17e3e0d01cf6> */
+/* cpp_direct::direct::Direct::next_pack */
 static void next_pack_095(u8* a,u8* b,u8* c,u64 d,u8 e,u8* f)
 {
 u8 h[16],i[32],j[16];
@@ -78794,8 +78661,7 @@ a[3]=0;}}
 L1:return;
 }
 
-/* cpp_direct::direct::Direct::begin_address::<#2c6f17e3e0d01cf6> */
-/* cpp_direct::direct::Direct::begin_address::<#464be67d5f5e1f6c> */
+/* cpp_direct::direct::Direct::begin_address */
 static void begin_address_731(u8* a,u8* b,u8* c,u64 d)
 {
 A16 u8 e[4];
@@ -78877,7 +78743,7 @@ x4(a,0);}
 L1:return;
 }
 
-/* cpp_direct::direct::Direct::close_list::<#2c6f17e3e0d01cf6> */
+/* cpp_direct::direct::Direct::close_list */
 static void close_list_148(u8* a,u8* b,u8* c,u64 d,u8* e)
 {
 u8 f[32];
@@ -79007,7 +78873,7 @@ a[3]=N;}
 L1:return;
 }
 
-/* cpp_direct::direct::Direct::element_ended::<#2c6f17e3e0d01cf6> */
+/* cpp_direct::direct::Direct::element_ended */
 static void element_ended_c50(u8* a,u8* b,u8* c,u64 d,u32 e,u8 f,u8* g,u8 h)
 {
 u8 i[32],j[32],k[16],l[32],n[16],o[32];
@@ -79174,7 +79040,7 @@ a[3]=0;
 L2:return;
 }
 
-/* cpp_direct::direct::Direct::empty_pack::<#2c6f17e3e0d01cf6> */
+/* cpp_direct::direct::Direct::empty_pack */
 static void empty_pack_c74(u8* a,u8* b,u8* c,u64 d,u8 e)
 {
 u8 g[32];
@@ -79218,8 +79084,7 @@ else x4(a,0);
 L1:return;
 }
 
-/* cpp_direct::direct::Direct::begin_level::<#2c6f17e3e0d01cf6> */
-/* cpp_direct::direct::Direct::begin_level::<#464be67d5f5e1f6c> */
+/* cpp_direct::direct::Direct::begin_level */
 static void begin_level_398(u8* a,u8* b,u8* c,u64 d)
 {
 A16 u8 e[24];
@@ -79338,7 +79203,7 @@ x4(a,0);}
 L7:return;
 }
 
-/* cpp_direct::direct::Direct::first_literal::<#2c6f17e3e0d01cf6> */
+/* cpp_direct::direct::Direct::first_literal */
 static void first_literal_898(u8* a,u8* b,u8* c,u64 d)
 {
 u8 f[32],g[32];
@@ -79435,7 +79300,7 @@ a[3]=e[3];
 L3:return;
 }
 
-/* cpp_direct::direct::Direct::literal::<#2c6f17e3e0d01cf6> */
+/* cpp_direct::direct::Direct::literal */
 static void literal_47f(u8* a,u8* b,u8* c,u64 d)
 {
 A16 u8 e[4];
@@ -79519,7 +79384,7 @@ L4:x4(a,0);
 L3:return;
 }
 
-/* cpp_direct::direct::Direct::components_at::<#2c6f17e3e0d01cf6> */
+/* cpp_direct::direct::Direct::components_at */
 static void components_at_b1b(u8* a,u8* b,u8* c,u64 d)
 {
 A16 u8 e[38],f[38],g[38],h[38],i[38],j[38],k[24],l[38],m[38],n[24],o[38],p[38],q[24],r[4],s[4];
@@ -80753,7 +80618,7 @@ L11:L38:x4(a,0);
 L39:return;
 }
 
-/* cpp_direct::direct::Direct::operator::<#2c6f17e3e0d01cf6> */
+/* cpp_direct::direct::Direct::operator */
 static void operator_5af(u8* a,u8* b,u8* c,u64 d)
 {
 u8 e[4],f[32];
@@ -80978,7 +80843,7 @@ else x4(a,0);}
 L1:return;
 }
 
-/* cpp_direct::direct::Direct::begin_clone::<#464be67d5f5e1f6c> */
+/* cpp_direct::direct::Direct::begin_clone */
 static void begin_clone_d83(u8* a,u8* b,u8* c,u64 d)
 {
 u8 e[4];
@@ -81059,7 +80924,7 @@ x4(a,0);
 L5:return;
 }
 
-/* cpp_direct::direct::Direct::begin_encoding::<#464be67d5f5e1f6c> */
+/* cpp_direct::direct::Direct::begin_encoding */
 static void begin_encoding_8af(u8* a,u8* b,u8* c,u64 d)
 {
 A16 u8 e[4],f[4];
@@ -81130,7 +80995,7 @@ a[3]=o;
 return;
 }
 
-/* cpp_direct::direct::Direct::begin_in_std::<#464be67d5f5e1f6c> */
+/* cpp_direct::direct::Direct::begin_in_std */
 static void begin_in_std_978(u8* a,u8* b,u8* c,u64 d)
 {
 A16 u8 e[24],f[4];
@@ -81252,7 +81117,7 @@ x4(a,0);}
 L2:return;
 }
 
-/* cpp_direct::direct::Direct::unscoped_named::<#464be67d5f5e1f6c> */
+/* cpp_direct::direct::Direct::unscoped_named */
 static void unscoped_named_e85(u8* a,u8* b,u8* c,u64 d,u32 e,u8 f)
 {
 u8 h[32],j[32];
@@ -81438,7 +81303,7 @@ a[3]=J;
 L1:return;
 }
 
-/* cpp_direct::direct::Direct::begin_operator::<#464be67d5f5e1f6c> */
+/* cpp_direct::direct::Direct::begin_operator */
 static void begin_operator_e02(u8* a,u8* b,u8* c,u64 d)
 {
 u8 e[4];
@@ -81465,7 +81330,7 @@ a[3]=k;
 return;
 }
 
-/* cpp_direct::direct::Direct::begin_name::<#464be67d5f5e1f6c> */
+/* cpp_direct::direct::Direct::begin_name */
 static void begin_name_0b0(u8* a,u8* b,u8* c,u64 d)
 {
 A16 u8 e[24],f[4];
@@ -81583,7 +81448,7 @@ L3:L1:x4(a,0);
 L9:return;
 }
 
-/* cpp_direct::direct::Direct::begin_thunk::<#464be67d5f5e1f6c> */
+/* cpp_direct::direct::Direct::begin_thunk */
 static void begin_thunk_cdf(u8* a,u8* b,u8* c,u64 d)
 {
 A16 u8 e[4];
@@ -81681,7 +81546,7 @@ L1:x4(a,0);
 L6:return;
 }
 
-/* cpp_direct::direct::Direct::begin_virtual_thunk::<#464be67d5f5e1f6c> */
+/* cpp_direct::direct::Direct::begin_virtual_thunk */
 static void begin_virtual_thunk_2ec(u8* a,u8* b,u8* c,u64 d)
 {
 A16 u8 e[4];
@@ -81817,7 +81682,7 @@ L1:x4(a,0);
 L11:return;
 }
 
-/* cpp_direct::direct::Direct::type_at::<#464be67d5f5e1f6c> */
+/* cpp_direct::direct::Direct::type_at */
 static void type_at_11d(u8* a,u8* b,u8* c,u64 d,u8 e)
 {
 A16 u8 f[4],g[4],h[4];
@@ -81976,7 +81841,7 @@ a[3]=I;
 L4:return;
 }
 
-/* cpp_direct::direct::Direct::named_type::<#464be67d5f5e1f6c> */
+/* cpp_direct::direct::Direct::named_type */
 static void named_type_bf1(u8* a,u8* b,u8* c,u64 d)
 {
 A16 u8 e[24],f[4],g[16],h[24],i[4];
@@ -82525,7 +82390,7 @@ L15:L16:x4(a,0);
 L24:return;
 }
 
-/* cpp_direct::direct::Direct::begin_enclosing::<#464be67d5f5e1f6c> */
+/* cpp_direct::direct::Direct::begin_enclosing */
 static void begin_enclosing_897(u8* a,u8* b,u8* c,u64 d)
 {
 u8 e[4],f[4];
@@ -82701,7 +82566,7 @@ L4:L2:x4(a,0);}
 L1:return;
 }
 
-/* cpp_direct::direct::Direct::argument_ended::<#464be67d5f5e1f6c> */
+/* cpp_direct::direct::Direct::argument_ended */
 static void argument_ended_e71(u8* a,u8* b,u8* c,u64 d,u32 e,u8 f,u8* g,u8 h)
 {
 u8 i[4],j[32],k[32],l[32],n[32];
@@ -82851,7 +82716,7 @@ a[3]=C;
 L4:return;
 }
 
-/* cpp_direct::direct::Direct::next_pack::<#464be67d5f5e1f6c> */
+/* cpp_direct::direct::Direct::next_pack */
 static void next_pack_49a(u8* a,u8* b,u8* c,u64 d,u8 e,u8* f)
 {
 u8 h[16],i[32],j[16];
@@ -82989,7 +82854,7 @@ a[3]=0;}}
 L1:return;
 }
 
-/* cpp_direct::direct::Direct::close_list::<#464be67d5f5e1f6c> */
+/* cpp_direct::direct::Direct::close_list */
 static void close_list_3c2(u8* a,u8* b,u8* c,u64 d,u8* e)
 {
 u8 f[32];
@@ -83119,7 +82984,7 @@ a[3]=N;}
 L1:return;
 }
 
-/* cpp_direct::direct::Direct::element_ended::<#464be67d5f5e1f6c> */
+/* cpp_direct::direct::Direct::element_ended */
 static void element_ended_20b(u8* a,u8* b,u8* c,u64 d,u32 e,u8 f,u8* g,u8 h)
 {
 u8 i[32],j[32],k[16],l[32],n[16],o[32];
@@ -83286,7 +83151,7 @@ a[3]=0;
 L2:return;
 }
 
-/* cpp_direct::direct::Direct::empty_pack::<#464be67d5f5e1f6c> */
+/* cpp_direct::direct::Direct::empty_pack */
 static void empty_pack_ea9(u8* a,u8* b,u8* c,u64 d,u8 e)
 {
 u8 g[32];
@@ -83330,7 +83195,7 @@ else x4(a,0);
 L1:return;
 }
 
-/* cpp_direct::direct::Direct::first_literal::<#464be67d5f5e1f6c> */
+/* cpp_direct::direct::Direct::first_literal */
 static void first_literal_c8e(u8* a,u8* b,u8* c,u64 d)
 {
 u8 f[32],g[32];
@@ -83427,7 +83292,7 @@ a[3]=e[3];
 L3:return;
 }
 
-/* cpp_direct::direct::Direct::literal::<#464be67d5f5e1f6c> */
+/* cpp_direct::direct::Direct::literal */
 static void literal_4a5(u8* a,u8* b,u8* c,u64 d)
 {
 A16 u8 e[4];
@@ -83511,7 +83376,7 @@ L4:x4(a,0);
 L3:return;
 }
 
-/* cpp_direct::direct::Direct::components_at::<#464be67d5f5e1f6c> */
+/* cpp_direct::direct::Direct::components_at */
 static void components_at_98c(u8* a,u8* b,u8* c,u64 d)
 {
 A16 u8 e[38],f[38],g[38],h[38],i[38],j[38],k[24],l[38],m[38],n[24],o[38],p[38],q[24],r[4],s[4];
@@ -84745,7 +84610,7 @@ L11:L38:x4(a,0);
 L39:return;
 }
 
-/* cpp_direct::direct::Direct::operator::<#464be67d5f5e1f6c> */
+/* cpp_direct::direct::Direct::operator */
 static void operator_69e(u8* a,u8* b,u8* c,u64 d)
 {
 u8 f[32];
@@ -84971,7 +84836,7 @@ else x4(a,0);}
 L1:return;
 }
 
-/* sym_demangle::workspace::Workspace::demangle_by_rows::<#4d8e4f17a04eee3a> */
+/* sym_demangle::workspace::Workspace::demangle_by_rows */
 static void demangle_by_rows_a3d(u8* a,u8* b,u8* c,u64 d,u32 e,u8 f,u8* g)
 {
 u8 h[3],m[3],s[3],v[3],y[3],z[3],A[3];
@@ -87178,7 +87043,7 @@ x4(a+8,Pj);
 return;
 }
 
-/* sym_shape::parse::Parse::run::<#0f49c5725f0959d3> */
+/* sym_shape::parse::Parse::run */
 static void run_888(u8* a,u8* b,u8* c,u64 d,u8 e)
 {
 A16 u8 f[32],g[32],h[12];
@@ -87611,7 +87476,7 @@ x4(a+8,Bb);
 return;
 }
 
-/* std_alloc::vec::Vec::grow_amortized::<#0a74335d2026d749> */
+/* std_alloc::vec::Vec::grow_amortized */
 static COLD u8 grow_amortized_fda(u8* a,u64 b)
 {
 u64 c,e,f,g,h;
@@ -87660,7 +87525,7 @@ else b=0;
 return b;
 }
 
-/* sym_shape::parse::Parse::advance::<#0f49c5725f0959d3> */
+/* sym_shape::parse::Parse::advance */
 static void advance_c66(u8* a,u8* b,u8* c,u64 d,u8 e)
 {
 A16 u8 f[32];
@@ -88045,7 +87910,7 @@ x4(a+8,q);
 return;
 }
 
-/* sym_demangle::workspace::Workspace::link::<#4d8e4f17a04eee3a> */
+/* sym_demangle::workspace::Workspace::link */
 static void link_485(u8* a,u8* b)
 {
 A16 u8 c[68],d[20],e[24],f[24],g[12],h[24],i[16],j[12],k[16],l[12],m[40],n[12],o[24],p[16],q[12],r[40],s[12],t[24],u[68],v[68],w[68];
@@ -88565,7 +88430,7 @@ memset(a+12,0,84);
 L3:return;
 }
 
-/* std_alloc::vec::Vec::grow_amortized::<#81a473883fb1210a> */
+/* std_alloc::vec::Vec::grow_amortized */
 static COLD u8 grow_amortized_fc3_2(u8* a,u64 b)
 {
 u64 c,e,f,g,h;
@@ -88598,7 +88463,7 @@ else d=0;}
 L1:return d;
 }
 
-/* sym_link::threads::token_by::<#2baa0425721dfd56> */
+/* sym_link::threads::token_by */
 static void token_by_f9d(u8* a,u8* b,u8* c,u8* d,u8* e,u8* f)
 {
 A16 u8 g[24],h[24];
@@ -91177,7 +91042,7 @@ x8(a+40,0);
 return;
 }
 
-/* std_alloc::vec::Vec::grow_amortized::<#6fc4ea738c319a9f> */
+/* std_alloc::vec::Vec::grow_amortized */
 static COLD u8 grow_amortized_757(u8* a)
 {
 u64 b,d,e,f,g;
@@ -93301,7 +93166,7 @@ x2(a+22,A);
 return;
 }
 
-/* std_alloc::vec::Vec::grow_amortized::<#340807fad2c58c23> */
+/* std_alloc::vec::Vec::grow_amortized */
 static COLD u8 grow_amortized_934(u8* a)
 {
 u64 b,d,e,f,g;
@@ -100396,7 +100261,7 @@ x4(a+8,s);
 return;
 }
 
-/* std_alloc::vec::Vec::grow_amortized::<#d202b1c4eed420e7> */
+/* std_alloc::vec::Vec::grow_amortized */
 static COLD u8 grow_amortized_6c7(u8* a)
 {
 u64 b,d,e,f,g;
@@ -103277,7 +103142,7 @@ x4(a+8,yb);
 return;
 }
 
-/* std_alloc::vec::Vec::grow_amortized::<#a371215e05a01b3a> */
+/* std_alloc::vec::Vec::grow_amortized */
 static COLD u8 grow_amortized_c30(u8* a,u64 b)
 {
 u64 c,e,f,g,h;
@@ -103310,8 +103175,7 @@ else d=0;}
 L1:return d;
 }
 
-/* std_alloc::vec::Vec::grow_amortized::<#9c6aea69be8f05e1> */
-/* std_alloc::vec::Vec::grow_amortized::<#6ae7a28301eef264> */
+/* std_alloc::vec::Vec::grow_amortized */
 static COLD u8 grow_amortized_670(u8* a,u64 b)
 {
 u64 c,e,f,g,h;
@@ -103344,8 +103208,7 @@ else d=0;}
 L1:return d;
 }
 
-/* std_alloc::vec::Vec::grow_amortized::<#558c6cb12a09ee9d> */
-/* std_alloc::vec::Vec::grow_amortized::<#545b7bc66723c1a5> */
+/* std_alloc::vec::Vec::grow_amortized */
 static COLD u8 grow_amortized_ab4(u8* a)
 {
 u64 b,d,e,f,g;
@@ -103378,7 +103241,7 @@ else c=0;}
 L1:return c;
 }
 
-/* cpp_layout::symbol::Symbol::fill_rare_piece::<#98699c36a381be52> */
+/* cpp_layout::symbol::Symbol::fill_rare_piece */
 static void fill_rare_piece_017(u8* a,u8* b,u8* c,u8* d)
 {
 A16 u8 e[20],f[20],g[20],h[20];
@@ -103484,7 +103347,7 @@ default:NEVER;
 return;
 }
 
-/* cpp_layout::symbol::Symbol::fill_lambda::<#98699c36a381be52> */
+/* cpp_layout::symbol::Symbol::fill_lambda */
 static void fill_lambda_b73(u8* a,u8* b,u32 c,u64 d,u8* e)
 {
 u8 f[3],g[3],h[3];
@@ -103545,7 +103408,7 @@ w8(b+8,u+1);
 return;
 }
 
-/* cpp_layout::symbol::Symbol::push_decimal::<#98699c36a381be52> */
+/* cpp_layout::symbol::Symbol::push_decimal */
 static void push_decimal_2c3(u8* a,u64 b)
 {
 u8 c[24],d[40],e[24];
@@ -103627,7 +103490,7 @@ w8(a+8,J+1);
 return;
 }
 
-/* cpp_layout::symbol::Symbol::fill_in_std::<#98699c36a381be52> */
+/* cpp_layout::symbol::Symbol::fill_in_std */
 static void fill_in_std_a73(u8* a,u32 b,u8* c)
 {
 A16 u8 d[20];
@@ -103650,7 +103513,7 @@ w8(a+8,e+2);
 return;
 }
 
-/* cpp_layout::symbol::Symbol::fill_within::<#98699c36a381be52> */
+/* cpp_layout::symbol::Symbol::fill_within */
 static void fill_within_6bb(u8* a,u8* b,u32 c,u32 d,u8 e,u8* f)
 {
 u8 g[3],h[3],i[3],j[3],k[3],l[3],m[3],n[3],o[3],p[3],q[3],r[3],s[3],t[3],u[3],v[3],w[3],x[3],y[3],z[3],A[3],B[3],C[3],D[3];
@@ -103867,7 +103730,7 @@ default:NEVER;
 return;
 }
 
-/* cpp_layout::symbol::Symbol::fill_instance::<#98699c36a381be52> */
+/* cpp_layout::symbol::Symbol::fill_instance */
 static void fill_instance_1f0(u8* a,u8* b,u32 c,u32 d,u8* e)
 {
 u8 f[3],g[3],h[3],i[3];
@@ -103972,7 +103835,7 @@ default:NEVER;
 return;
 }
 
-/* cpp_layout::symbol::Symbol::fill_tagged::<#98699c36a381be52> */
+/* cpp_layout::symbol::Symbol::fill_tagged */
 static void fill_tagged_146(u8* a,u32 b,u32 c,u32 d,u8* e)
 {
 A16 u8 f[20];
@@ -104010,7 +103873,7 @@ w8(a+8,k+2);
 return;
 }
 
-/* cpp_layout::symbol::Symbol::fill_parameter::<#98699c36a381be52> */
+/* cpp_layout::symbol::Symbol::fill_parameter */
 static void fill_parameter_f0e(u8* a,u8* b,u32 c,u32 d,u32 e,u8* f)
 {
 A16 u8 g[12],h[12],i[12],j[12];
@@ -104077,7 +103940,7 @@ w8(b+8,C+1);
 return;
 }
 
-/* cpp_layout::symbol::Symbol::fill_marked::<#98699c36a381be52> */
+/* cpp_layout::symbol::Symbol::fill_marked */
 static void fill_marked_395(u8* a,u8* b,u32 c,u16 d,u16 e,u8* f)
 {
 u8 h[3],i[3];
@@ -104339,7 +104202,7 @@ x4(a+12,z);
 return;
 }
 
-/* cpp_layout::symbol::Symbol::fill_reference::<#98699c36a381be52> */
+/* cpp_layout::symbol::Symbol::fill_reference */
 static void fill_reference_bf6(u8* a,u8* b,u32 c,u32 d,u16 e,u16 f,u8* g)
 {
 u8 i[3],j[3],k[3],l[3];
@@ -104404,7 +104267,7 @@ w8(b+8,w+2);}
 return;
 }
 
-/* cpp_layout::symbol::Symbol::fill_array::<#98699c36a381be52> */
+/* cpp_layout::symbol::Symbol::fill_array */
 static void fill_array_c4d(u8* a,u8* b,u32 c,u8* d)
 {
 u8 f[3],g[3];
@@ -104449,7 +104312,7 @@ w8(b+8,o+1);
 return;
 }
 
-/* cpp_layout::symbol::Symbol::fill_member::<#98699c36a381be52> */
+/* cpp_layout::symbol::Symbol::fill_member */
 static void fill_member_2fa(u8* a,u8* b,u32 c,u32 d,u8* e)
 {
 u8 g[3],h[3];
@@ -104510,7 +104373,7 @@ w8(b+8,o+4);
 return;
 }
 
-/* cpp_layout::symbol::Symbol::fill_qualified_left::<#98699c36a381be52> */
+/* cpp_layout::symbol::Symbol::fill_qualified_left */
 static void fill_qualified_left_bf3(u8* a,u8* b,u8* c,u32 d,u8* e)
 {
 u8 h[3],i[3],j[3],k[3],l[3],m[3];
@@ -104596,7 +104459,7 @@ w8(b+8,I+1);}
 return;
 }
 
-/* cpp_layout::symbol::Symbol::fill_vector::<#98699c36a381be52> */
+/* cpp_layout::symbol::Symbol::fill_vector */
 static void fill_vector_eb1(u8* a,u32 b,u32 c,u32 d,u8* e)
 {
 A16 u8 f[20];
@@ -104634,7 +104497,7 @@ w8(a+8,k+2);
 return;
 }
 
-/* cpp_layout::symbol::Symbol::fill_float::<#98699c36a381be52> */
+/* cpp_layout::symbol::Symbol::fill_float */
 static void fill_float_1e8(u8* a,u32 b,u32 c,u8 d)
 {
 u64 e,g,i,k;
@@ -104676,7 +104539,7 @@ w8(a+8,k+1);
 L1:return;
 }
 
-/* cpp_layout::symbol::Symbol::fill_expansion::<#98699c36a381be52> */
+/* cpp_layout::symbol::Symbol::fill_expansion */
 static void fill_expansion_7b7(u8* a,u8* b,u32 c,u8* d)
 {
 u8 f[3],h[3];
@@ -104747,7 +104610,7 @@ w8(b+8,v+3);
 L2:return;
 }
 
-/* cpp_layout::symbol::Symbol::fill_integer::<#98699c36a381be52> */
+/* cpp_layout::symbol::Symbol::fill_integer */
 static void fill_integer_476(u8* a,u8* b,u32 c,u8* d,u8* e)
 {
 A16 u8 f[12],g[20];
@@ -104811,7 +104674,7 @@ else fill_cast_integer_fd0(b,c,f,g);
 return;
 }
 
-/* cpp_layout::symbol::Symbol::fill_cast_integer::<#98699c36a381be52> */
+/* cpp_layout::symbol::Symbol::fill_cast_integer */
 static void fill_cast_integer_fd0(u8* a,u32 b,u8* c,u8* d)
 {
 A16 u8 e[20];
@@ -104867,7 +104730,7 @@ w8(a+8,m+4);
 return;
 }
 
-/* cpp_layout::symbol::Symbol::fill_encoding_literal::<#98699c36a381be52> */
+/* cpp_layout::symbol::Symbol::fill_encoding_literal */
 static void fill_encoding_literal_a7e(u8* a,u32 b,u8 c,u8 d)
 {
 u64 e,g;
@@ -104894,7 +104757,7 @@ w8(a+8,e+2);}
 return;
 }
 
-/* cpp_layout::symbol::Symbol::fill_decltype::<#98699c36a381be52> */
+/* cpp_layout::symbol::Symbol::fill_decltype */
 static void fill_decltype_7a2(u8* a,u32 b,u8* c)
 {
 A16 u8 d[20];
@@ -104922,7 +104785,7 @@ w8(a+8,e+3);
 return;
 }
 
-/* cpp_layout::symbol::Symbol::fill_operation::<#98699c36a381be52> */
+/* cpp_layout::symbol::Symbol::fill_operation */
 static void fill_operation_6d8(u8* a,u8* b,u8 c,u8 d,u32 e,u32 f,u8* g)
 {
 u8 i[12];
@@ -105143,7 +105006,7 @@ memcpy(a,(u8*)t_c688+d,12);
 return;
 }
 
-/* cpp_layout::symbol::Symbol::fill_operand::<#98699c36a381be52> */
+/* cpp_layout::symbol::Symbol::fill_operand */
 static void fill_operand_3fb(u8* a,u8* b,u8 c,u8 d,u32 e,u8* f)
 {
 u8 g[12],h[3],i[3],j[3],k[3],l[3],m[3],n[3],o[3],p[3],q[3],r[3],s[3];
@@ -105285,7 +105148,7 @@ default:NEVER;
 return;
 }
 
-/* cpp_layout::symbol::Symbol::fill_function_parameter::<#98699c36a381be52> */
+/* cpp_layout::symbol::Symbol::fill_function_parameter */
 static void fill_function_parameter_419(u8* a,u32 b,u32 c)
 {
 u64 d,f;
@@ -105309,7 +105172,7 @@ w8(a+8,f+1);
 return;
 }
 
-/* cpp_layout::symbol::Symbol::fill_function_right::<#98699c36a381be52> */
+/* cpp_layout::symbol::Symbol::fill_function_right */
 static void fill_function_right_5c9(u8* a,u8* b,u8* c,u8 d,u8 e,u32 f,u32 g,u8* h)
 {
 u8 i[3],j[3],k[3],l[3],m[3],n[3];
@@ -105394,7 +105257,7 @@ w8(b+8,H+1);
 return;
 }
 
-/* cpp_layout::symbol::Symbol::fill_as_left::<#98699c36a381be52> */
+/* cpp_layout::symbol::Symbol::fill_as_left */
 static void fill_as_left_842(u8* a,u8* b,u32 c,u8* d)
 {
 u8 e[3],f[3],g[3],t[3],u[3],y[3];
@@ -105773,7 +105636,7 @@ default:NEVER;
 L2:return;
 }
 
-/* cpp_layout::symbol::Symbol::fill_own_piece::<#98699c36a381be52> */
+/* cpp_layout::symbol::Symbol::fill_own_piece */
 static void fill_own_piece_0f9(u8* a,u8* b,u32 c,u8* d)
 {
 A16 u8 e[16],f[20],g[16],h[20],i[16],j[20];
@@ -105891,7 +105754,7 @@ default:NEVER;
 return;
 }
 
-/* cpp_layout::symbol::Symbol::fill_full::<#98699c36a381be52> */
+/* cpp_layout::symbol::Symbol::fill_full */
 static void fill_full_b26(u8* a,u8* b,u32 c,u8* d)
 {
 A16 u8 e[3],f[3];
@@ -106140,7 +106003,7 @@ default:NEVER;
 L1:return;
 }
 
-/* cpp_layout::symbol::Symbol::push_bare::<#98699c36a381be52> */
+/* cpp_layout::symbol::Symbol::push_bare */
 static void push_bare_366(u8* a,u8* b,u32 c,u8* d,u8 e,u32 f,u32 g,u8 h)
 {
 u8 i;
@@ -106196,7 +106059,7 @@ w8(b+8,q+2);
 return;
 }
 
-/* rust_short_way::run::<#efdbd589f5590f6c> */
+/* rust_short_way::run */
 static s_8_64 run_80f(u8* a,u8* b,u64 c,u32 d)
 {
 u8 h[1];
@@ -109343,7 +109206,7 @@ ko=jo;ko.f1=H;
 return ko;
 }
 
-/* std_alloc::vec::Vec::grow_amortized::<#2910af576a3e5a61> */
+/* std_alloc::vec::Vec::grow_amortized */
 static COLD u8 grow_amortized_3c2(u8* a,u64 b)
 {
 u64 c,e,f,g,h;
@@ -109376,7 +109239,7 @@ else d=0;}
 L1:return d;
 }
 
-/* sym_direct::bounded::Bounded::make_ready::<#df27b4d55454e95b> */
+/* sym_direct::bounded::Bounded::make_ready */
 static u8 make_ready_e3c(u8* a)
 {
 u64 b,c,e,f,h,i;
@@ -109402,7 +109265,7 @@ d=1;}
 L1:return d;
 }
 
-/* std_alloc::vec::Vec::grow_amortized::<#38283f41aa5b95c4> */
+/* std_alloc::vec::Vec::grow_amortized */
 static COLD u8 grow_amortized_12f(u8* a,u64 b)
 {
 u64 c,e,f,g,h;
@@ -109435,7 +109298,7 @@ else d=0;}
 L1:return d;
 }
 
-/* sym_direct::bounded::Bounded::make_ready::<#2d0560b64e22d5e3> */
+/* sym_direct::bounded::Bounded::make_ready */
 static u8 make_ready_b73(u8* a)
 {
 u64 b,c,e,f,h,i;
@@ -109461,8 +109324,7 @@ d=1;}
 L1:return d;
 }
 
-/* rust_direct::direct::Direct::constant_argument::<#efdbd589f5590f6c> */
-/* rust_direct::direct::Direct::constant_argument::<#7ea9f40c5a1aedbe> */
+/* rust_direct::direct::Direct::constant_argument */
 static void constant_argument_0de(u8* a,u8* b,u8* c,u64 d)
 {
 u64 e,f,g,i,k,l,m,o;
@@ -109942,8 +109804,7 @@ x8(a+4,g);
 return;
 }
 
-/* rust_direct::direct::Direct::begin_impl::<#efdbd589f5590f6c> */
-/* rust_direct::direct::Direct::begin_impl::<#7ea9f40c5a1aedbe> */
+/* rust_direct::direct::Direct::begin_impl */
 static void begin_impl_c72(u8* a,u8* b,u8* c,u64 d)
 {
 A16 u8 e[40],f[32];
@@ -110034,8 +109895,7 @@ a[24]=0;}}
 L2:return;
 }
 
-/* rust_direct::direct::Direct::begin_inner_impl::<#efdbd589f5590f6c> */
-/* rust_direct::direct::Direct::begin_inner_impl::<#7ea9f40c5a1aedbe> */
+/* rust_direct::direct::Direct::begin_inner_impl */
 static void begin_inner_impl_f25(u8* a,u8* b,u64 c)
 {
 u8 *d,*j,*m;
@@ -110087,8 +109947,7 @@ a[24]=0;
 return;
 }
 
-/* rust_direct::direct::Direct::begin_trait_impl::<#efdbd589f5590f6c> */
-/* rust_direct::direct::Direct::begin_trait_impl::<#7ea9f40c5a1aedbe> */
+/* rust_direct::direct::Direct::begin_trait_impl */
 static void begin_trait_impl_220(u8* a,u8* b,u8* c,u64 d)
 {
 A16 u8 e[40],f[32];
@@ -110179,8 +110038,7 @@ a[24]=0;}}
 L2:return;
 }
 
-/* rust_direct::direct::Direct::begin_inner_trait_impl::<#efdbd589f5590f6c> */
-/* rust_direct::direct::Direct::begin_inner_trait_impl::<#7ea9f40c5a1aedbe> */
+/* rust_direct::direct::Direct::begin_inner_trait_impl */
 static void begin_inner_trait_impl_a3f(u8* a,u8* b,u64 c)
 {
 u8 *d,*j,*m;
@@ -110232,8 +110090,7 @@ a[24]=0;
 return;
 }
 
-/* rust_direct::direct::Direct::begin_trait::<#efdbd589f5590f6c> */
-/* rust_direct::direct::Direct::begin_trait::<#7ea9f40c5a1aedbe> */
+/* rust_direct::direct::Direct::begin_trait */
 static void begin_trait_f9f(u8* a,u8* b)
 {
 u64 c,d,e,f,i,j,l,m,o,p;
@@ -110379,8 +110236,7 @@ j=E;}}}
 L1:return j;
 }
 
-/* rust_direct::direct::Direct::unnamed_ended::<#efdbd589f5590f6c> */
-/* rust_direct::direct::Direct::unnamed_ended::<#7ea9f40c5a1aedbe> */
+/* rust_direct::direct::Direct::unnamed_ended */
 static u8 unnamed_ended_c46(u8* a,u8* b,u64 c,u64 d,u64 e,u8 f)
 {
 A16 u8 g[12],h[12],i[12];
@@ -110550,8 +110406,7 @@ else k=0;
 L1:return k;
 }
 
-/* rust_direct::direct::Direct::push_suffix::<#efdbd589f5590f6c> */
-/* rust_direct::direct::Direct::push_suffix::<#7ea9f40c5a1aedbe> */
+/* rust_direct::direct::Direct::push_suffix */
 static void push_suffix_49c(u8* a,u8* b,u8* c,u64 d)
 {
 u64 e,h,i,l,m,o,q,r,t,u,v,z,A,C,D,E,H,I,J,K,L,M,N,O,P,Q,R,S,T;
@@ -110702,8 +110557,7 @@ a[24]=0;
 return;
 }
 
-/* rust_direct::direct::Direct::special_named::<#efdbd589f5590f6c> */
-/* rust_direct::direct::Direct::special_named::<#7ea9f40c5a1aedbe> */
+/* rust_direct::direct::Direct::special_named */
 static void special_named_1bc(u8* a,u8* b,u8* c,u64 d,u64 e,u8 f,u64 g,u8* h,u64 i)
 {
 A16 u8 j[12],k[12],l[12];
@@ -111108,7 +110962,7 @@ else j=0;
 L1:return j;
 }
 
-/* sym_demangle::workspace::Workspace::demangle_into::<#20295f288733a3eb> */
+/* sym_demangle::workspace::Workspace::demangle_into */
 static void demangle_into_699(u8* a,u8* b,u8* c,u64 d,u32 e,u8 f,u8* g)
 {
 A16 u8 h[24],i[8],j[24],k[8],l[20],m[20],n[20],o[28],p[28],q[12],r[12],s[12],t[96],u[112],v[24],w[96],x[88],y[84];
@@ -113830,7 +113684,7 @@ x4(a+8,N);
 return;
 }
 
-/* rust_short_way::run::<#7ea9f40c5a1aedbe> */
+/* rust_short_way::run */
 static s_8_64 run_41f(u8* a,u8* b,u64 c,u32 d)
 {
 u8 h[1];
@@ -116952,7 +116806,7 @@ io=ho;io.f1=H;
 return io;
 }
 
-/* sym_shape::parse::Parse::run::<#f1848a23d99225a7> */
+/* sym_shape::parse::Parse::run */
 static void run_48d(u8* a,u8* b,u8* c,u64 d,u8 e)
 {
 A16 u8 f[32],g[32],h[12];
@@ -117391,7 +117245,7 @@ x4(a+8,Ab);
 return;
 }
 
-/* sym_shape::parse::Parse::advance::<#f1848a23d99225a7> */
+/* sym_shape::parse::Parse::advance */
 static void advance_83f(u8* a,u8* b,u8* c,u64 d,u8 e)
 {
 A16 u8 f[32];
@@ -117785,7 +117639,7 @@ x4(a+8,q);
 return;
 }
 
-/* sym_demangle::workspace::Workspace::link::<#20295f288733a3eb> */
+/* sym_demangle::workspace::Workspace::link */
 static void link_7df(u8* a,u8* b)
 {
 A16 u8 c[68],d[20],e[48],f[12],g[32],h[48],i[40],j[28],k[56],l[12],m[32],n[16],o[12],p[32],q[16],r[12],s[32],t[48],u[40],v[28],w[56],x[12],y[32],z[16],A[12],B[32],C[12],D[12];
@@ -119092,7 +118946,7 @@ memset(a+12,0,84);
 L4:return;
 }
 
-/* std_alloc::vec::Vec::grow_amortized::<#6aa4d8547d85ea17> */
+/* std_alloc::vec::Vec::grow_amortized */
 static COLD u8 grow_amortized_21b(u8* a)
 {
 u64 b,d,e,f,g;
@@ -119493,7 +119347,7 @@ else b=5;
 return b;
 }
 
-/* std_alloc::vec::Vec::grow_amortized::<#595ef0cf3269e819> */
+/* std_alloc::vec::Vec::grow_amortized */
 static COLD u8 grow_amortized_8fc(u8* a)
 {
 u64 b,d,e,f,g;
@@ -122472,7 +122326,7 @@ x4(a+8,K);
 return;
 }
 
-/* std_alloc::vec::Vec::grow_amortized::<#a2e89e1e0eb0366d> */
+/* std_alloc::vec::Vec::grow_amortized */
 static COLD u8 grow_amortized_0c5(u8* a,u64 b)
 {
 u64 c,e,f,g,h;
@@ -122505,7 +122359,7 @@ else d=0;}
 L1:return d;
 }
 
-/* rust_tree::symbol::Symbol::push_as::<#a5e6a4396a8d14af> */
+/* rust_tree::symbol::Symbol::push_as */
 static void push_as_a95(u8* a,u32 b,u32 c,u64 d,u8 e)
 {
 u64 f;
@@ -122548,7 +122402,7 @@ w8(a+8,f+5);
 return;
 }
 
-/* rust_tree::symbol::Symbol::push_special::<#a5e6a4396a8d14af> */
+/* rust_tree::symbol::Symbol::push_special */
 static void push_special_b8a(u8* a,u8 b,u8* c,u64 d)
 {
 u8 e[24],f[40];
@@ -122708,7 +122562,7 @@ else c=0;
 return c;
 }
 
-/* rust_tree::symbol::Symbol::push_array::<#a5e6a4396a8d14af> */
+/* rust_tree::symbol::Symbol::push_array */
 static void push_array_d08(u8* a,u32 b,u32 c,u64 d,u8 e)
 {
 u64 f;
@@ -122751,7 +122605,7 @@ w8(a+8,f+5);
 return;
 }
 
-/* rust_tree::symbol::Symbol::push_slice::<#a5e6a4396a8d14af> */
+/* rust_tree::symbol::Symbol::push_slice */
 static void push_slice_237(u8* a,u32 b,u64 c,u8 d)
 {
 u64 e;
@@ -122780,7 +122634,7 @@ w8(a+8,e+3);
 return;
 }
 
-/* rust_tree::symbol::Symbol::push_closing::<#a5e6a4396a8d14af> */
+/* rust_tree::symbol::Symbol::push_closing */
 static void push_closing_33d(u8* a,u8* b,u32 c)
 {
 u8 *d,*f,*g,*i;
@@ -122816,7 +122670,7 @@ w8(b+8,k);}}
 return;
 }
 
-/* rust_tree::symbol::Symbol::push_lifetime::<#a5e6a4396a8d14af> */
+/* rust_tree::symbol::Symbol::push_lifetime */
 static void push_lifetime_2c2(u8* a,u64 b,u64 c)
 {
 u64 d;
@@ -122834,7 +122688,7 @@ else push_numbered_8a9(a,usub64(b,c));
 return;
 }
 
-/* rust_tree::symbol::Symbol::push_numbered::<#a5e6a4396a8d14af> */
+/* rust_tree::symbol::Symbol::push_numbered */
 static void push_numbered_8a9(u8* a,u64 b)
 {
 u8 c[22],d[40];
@@ -122925,7 +122779,7 @@ w8(a+8,J+1);}
 return;
 }
 
-/* rust_tree::symbol::Symbol::push_function::<#a5e6a4396a8d14af> */
+/* rust_tree::symbol::Symbol::push_function */
 static void push_function_58c(u8* a,u32 b,u16 c,u64 d,u8 e)
 {
 u64 f,h,i;
@@ -122967,7 +122821,7 @@ w8(a+8,f+4);}
 return;
 }
 
-/* rust_tree::symbol::Symbol::push_dyn::<#a5e6a4396a8d14af> */
+/* rust_tree::symbol::Symbol::push_dyn */
 static void push_dyn_6de(u8* a,u8* b,u32 c,u16 d,u32 e,u64 f,u64 g,u8 h)
 {
 u64 i,j,m,o,p,q;
@@ -123029,7 +122883,7 @@ w8(b+8,p+1);
 return;
 }
 
-/* rust_tree::symbol::Symbol::fill_bindings::<#a5e6a4396a8d14af> */
+/* rust_tree::symbol::Symbol::fill_bindings */
 static void fill_bindings_59a(u8* a,u8* b,u32 c,u8 d,u64 e,u8 f)
 {
 u8 *g,*o,*q,*s,*t,*y,*A;
@@ -123107,7 +122961,7 @@ w8(b+8,x+1);}}
 return;
 }
 
-/* sym_filter::tries::append_text::<#ded3639bd0d8abe6> */
+/* sym_filter::tries::append_text */
 static s_8_8 append_text_a06(u8* a,u8* b,u8* c,u64 d,u8* e)
 {
 A16 u8 f[12];
@@ -123167,7 +123021,7 @@ n=m;n.f1=g;
 return n;
 }
 
-/* sym_filter::tries::append_parts::<#ded3639bd0d8abe6> */
+/* sym_filter::tries::append_parts */
 static s_8_8 append_parts_673(u8* a,u8* b,u8* c,u64 d,u8* e)
 {
 u8 *f,*m,*A,*I,*J,*U,*ga,*ha,*za;
@@ -123399,7 +123253,7 @@ Fa=Ea;Fa.f1=h;
 return Fa;
 }
 
-/* sym_filter::words::push_text::<#ded3639bd0d8abe6> */
+/* sym_filter::words::push_text */
 static s_8_8 push_text_7d3(u8* a,u8* b,u8* c,u64 d,u8 e,u32 f,u8* g)
 {
 A16 u8 h[12];
@@ -123691,7 +123545,7 @@ memset(a+8,0,24);
 L5:return;
 }
 
-/* demangle_names::reasons::say_reason::<#d1607807d08c6865> */
+/* demangle_names::reasons::say_reason */
 static s_8_8 say_reason_a74(u8* a,u8* b,u64 c,u8* d,u64 e,u8* f)
 {
 u8 k[31],s[1799],v[1799];
@@ -124102,7 +123956,7 @@ wb=vb;wb.f1=ia;
 return wb;
 }
 
-/* std_alloc::string::String::format::<#c9577985b0383be7> */
+/* std_alloc::string::String::format */
 static void format_c1f(u8* a,u8* b)
 {
 u8 c[24],f[31];
@@ -124244,7 +124098,7 @@ memcpy(a+8,f+7,24);
 return;
 }
 
-/* sym_filter::filtering::end_segment::<#e905231ed9057ef4> */
+/* sym_filter::filtering::end_segment */
 static s_8_8 end_segment_9fc(u8* a,u8* b,u8* c,u8* d,u8* e,u8* f)
 {
 A16 u8 g[32],h[48];
@@ -124314,7 +124168,7 @@ B=A;B.f1=q;
 return B;
 }
 
-/* sym_filter::words::Words::end_segment::<#ded3639bd0d8abe6> */
+/* sym_filter::words::Words::end_segment */
 static void end_segment_a9b(u8* a,u8* b,u8* c,u8* d,u8* e)
 {
 A16 u8 f[48];
@@ -124438,7 +124292,7 @@ x8(a+40,i);
 L9:return;
 }
 
-/* sym_filter::words::Words::read_ahead::<#ded3639bd0d8abe6> */
+/* sym_filter::words::Words::read_ahead */
 static void read_ahead_f02(u8* a,u64 b,u8* c)
 {
 A16 u8 d[12],e[12];
@@ -124730,7 +124584,7 @@ w4(c+672,0);}}}
 L1:return;
 }
 
-/* sym_filter::streams::write_out::<#80909716d7685274> */
+/* sym_filter::streams::write_out */
 static s_8_8 write_out_752(u8* a,u8* b)
 {
 A16 u8 c[88],d[80];
@@ -124926,7 +124780,7 @@ if(Oa!=0)port_rattle_dealloc(Na);
 return;
 }
 
-/* sym_filter::filtering::take_piece::<#4c059ac68af8f890> */
+/* sym_filter::filtering::take_piece */
 static s_8_8 take_piece_8e7(u8* a,u8* b,u8* c,u8* d,u8* e,u64 f,u8* g,u8* h)
 {
 A16 u8 i[88],j[80],k[48],l[48],m[16];
@@ -125443,7 +125297,7 @@ Mc=Lc;Mc.f1=Jc;
 return Mc;
 }
 
-/* sym_filter::filtering::end_segment::<#4c059ac68af8f890> */
+/* sym_filter::filtering::end_segment */
 static s_8_8 end_segment_b17(u8* a,u8* b,u8* c,u8* d,u8* e)
 {
 A16 u8 f[48];
@@ -125603,7 +125457,7 @@ x8(a+24,l);
 return;
 }
 
-/* demangle_command::hint::file_among::<#4c25eb85a5cc2540> */
+/* demangle_command::hint::file_among */
 static void file_among_a61(u8* a,u8* b,u64 c)
 {
 u8 d[4096],e[4096];
@@ -125783,7 +125637,7 @@ d=C;}}}
 L1:return d;
 }
 
-/* demangle_command::hint::say_hint::<#c94da86a516ad72a> */
+/* demangle_command::hint::say_hint */
 static s_8_8 say_hint_ab6(u8* a,u64 b,u8* c)
 {
 A16 u8 d[88],e[80],f[24];
@@ -126023,7 +125877,7 @@ sa=ra;sa.f1=pa;
 return sa;
 }
 
-/* demangle_command::process::end_by::<#eff3bea4a8f4aba9> */
+/* demangle_command::process::end_by */
 static u8 end_by_c00(u8 a,u8* b)
 {
 u8 d[41],e[24],q[24],s[41],t[24],D[41],E[1];
@@ -129173,7 +129027,7 @@ else f=1;}
 L3:return f;
 }
 
-/* core::fmt::formatter::Formatter::write_indented::<#bf264aed5fa78656> */
+/* core::fmt::formatter::Formatter::write_indented */
 static COLD u8 write_indented_f33(u8* a,u8* b,u64 c)
 {
 u64 d,e,f,g,j;
@@ -129201,7 +129055,7 @@ i=k;
 L3:return i;
 }
 
-/* core::fmt::formatter::Formatter::write_indented_line::<#bf264aed5fa78656> */
+/* core::fmt::formatter::Formatter::write_indented_line */
 static u8 write_indented_line_c54(u8* a,u8* b,u64 c,u8 d)
 {
 u8 e,h,j,n,r,v,z,E,F;
@@ -129309,7 +129163,7 @@ else e=1;}
 L2:return e;
 }
 
-/* core::fmt::formatter::Formatter::cut_and_fill::<#bf264aed5fa78656> */
+/* core::fmt::formatter::Formatter::cut_and_fill */
 static u8 cut_and_fill_dfc(u8* a,u8* b,u64 c)
 {
 u64 d,e,f,g,i,j,k,l,m,o,p,q,r,s,t,v,y,z,B,E,F,G;
@@ -129421,7 +129275,7 @@ else h=0;
 L3:return h;
 }
 
-/* core::fmt::formatter::Formatter::write_char_n_times::<#bf264aed5fa78656> */
+/* core::fmt::formatter::Formatter::write_char_n_times */
 static u8 write_char_n_times_09f(u8* a,u32 b,u64 c)
 {
 u8 j[16];
@@ -129712,7 +129566,7 @@ else ga=1;}
 L10:return ga;
 }
 
-/* core::fmt::formatter::Formatter::write_piece::<#871bf134cc65f6cb> */
+/* core::fmt::formatter::Formatter::write_piece */
 static u8 write_piece_011(u8* a,u8* b)
 {
 A16 u8 c[24],d[24],e[24];
@@ -130267,7 +130121,7 @@ default:NEVER;
 return Z;
 }
 
-/* std_io::io::kind::ErrorKindDisplay::fmt::<#bf264aed5fa78656> */
+/* std_io::io::kind::ErrorKindDisplay::fmt */
 static u8 fmt_1ea(u8 a,u8* b)
 {
 u8 c,e,g,j,n,r,v,z,D,H,L,P,T,X,ba,fa,ja,na,qa,sa,wa,Aa,Ea,Ia,Ma,Qa,Ua,Ya,cb,gb,kb,ob,sb,wb,Ab,Eb,Hb,Jb,Nb,Rb,Vb,Zb,dc,hc,lc,pc,tc,xc,Bc,Fc,Jc,Nc,Rc,Vc,Zc,cd,ed,id,md,qd,vd,Ad,Ed,Id,Md,Qd,Ud,Yd,ce,ge,ke,oe,re,te,xe,Be,Fe,Je,Ne,Re,Ve,Ze,df,hf,mf,qf,uf,yf,Cf,Ff,Hf,Lf,Pf,Tf,Xf,bg,fg,jg,ng,rg,vg,zg,Dg,Hg,Lg,Pg,Tg,Xg,bh,eh,gh,kh,oh,sh,wh,Ah,Eh,Ih,Mh,Qh,Uh,Yh,ci,gi,ki,oi,si,wi,zi,Bi,Fi,Ji,Ni,Ri,Vi,Zi,dj,hj,lj,pj,tj,xj,Aj,Cj,Gj,Kj,Oj,Sj,Wj,ak,ek,ik,mk,qk,uk,yk,Ck,Fk,Hk,Lk,Pk,Tk,Xk,bl,fl,jl,nl,rl,vl,zl,Dl,Hl,Ll,Pl,Tl,Xl,bm,fm,jm,mm,om,sm,wm,Am,Em,Im,Mm,Qm,Um,Ym,cn,gn,jn,ln,pn,tn,xn,Bn,Fn,Jn,Nn,Rn,Vn,Zn,co,fo,jo,no,ro,vo,zo,Do,Ho,Lo,Po,To,Xo,bp,fp,jp,op,up,Ap,Ep,Ip,Mp,Pp,Rp,Vp,Zp,dq,hq,lq,pq,tq,xq,Bq,Fq,Jq,Nq,Rq,Vq,Zq,dr,hr,lr,pr,tr,wr,yr,Cr,Gr,Kr,Or,Sr,Wr,as,es,is,ms,qs,us,ys,Cs,Fs,Hs,Ls,Ps,Ts,Xs,bt,ft,jt,nt,rt,vt,zt,Dt,Ht,Kt,Mt,Qt,Ut,Yt,cu,gu,ku,ou,su,wu,Au,Eu,Iu,Mu,Qu,Uu,Yu,cv,gv,jv,ov,pv,tv,yv,zv,Dv,Iv,Jv,Nv,Sv,Tv,Xv,Zv,dw,hw,lw,pw,tw,xw,Bw,Fw,Jw,Nw,Rw,Uw,Ww,ax,ex,ix,mx,qx,ux,yx,Cx,Fx,Hx,Lx,Px,Tx,Xx,by,fy,jy,ny,ry,uy,wy,Ay,Ey,Iy,My,Qy,Uy,Yy,cz,gz,kz,oz,sz,wz,Az,Ez,Hz,Mz,Nz,Rz,Tz,Xz,bA,fA,jA,nA,rA,vA,zA,DA,HA,LA,PA,TA,WA,YA,cB,gB,kB,oB,sB,wB,AB,EB,IB,MB,QB,UB,YB,bC,dC,hC,lC,pC,tC,xC,BC,FC,JC,NC,RC,VC,ZC,cD,eD,iD,mD,qD,uD,yD,CD,GD,KD,OD,SD,WD,aE,eE,iE,mE,qE,uE,yE,CE,FE,HE,LE,PE,TE,XE,bF,fF,jF,mF,rF,sF,wF,yF,CF,GF,KF,OF,SF,WF,aG,eG,iG,mG,qG,uG,yG,BG,DG,HG,LG,PG,TG,XG,bH,fH,jH,nH,rH,vH,zH,DH,HH,LH,OH,TH,UH,YH,aI,eI,iI,mI,qI,uI,yI,CI,GI,KI,OI,SI,WI,aJ,eJ,iJ,mJ,qJ,uJ,yJ,CJ,FJ,HJ,LJ,PJ,TJ,XJ,bK,fK,jK,nK,rK,vK,yK,DK,EK,IK,KK,OK,SK,WK,aL,eL,iL,mL,qL,uL,yL,CL,GL,JL,LL,PL,TL,XL,bM,fM,jM,nM,rM,vM,zM,CM,EM,IM,MM,QM,UM,YM,cN,gN,kN,oN,sN,vN,xN,BN,GN,KN,ON,SN,WN,aO,eO,iO,mO,qO,uO,yO,CO,GO,KO,OO,SO,VO;

@@ -1914,7 +1914,7 @@ static void symdemangle_press_of(u8* a,u64 b,u32 c,u8* d,u64 e,u8* f);
 static void symdemangle_text_of(u8* a,u64 b,u32 c,u32 d,u8* e,u64 f,u8* g);
 static u32 symdemangle_texts_of(u8* a,u64 b,u8* c,u64 d,u32 e,u32 f,u8* g,u64 h,u8* i,u64 j);
 
-/* sym_languages::languages::LanguagesDemangler::demangle::<#037b6c22d415012a> */
+/* sym_languages::languages::LanguagesDemangler::demangle */
 static void demangle_3cb(u8* a,u8* b,u8* c,u8 d,u8* e,u64 f,u8* g)
 {
 A16 u8 h[12],i[96],j[88],k[12],l[84],m[16];
@@ -2141,7 +2141,7 @@ else I=0;
 return I;
 }
 
-/* sym_demangle::workspace::Workspace::read_on::<#73a12da5cb99097a> */
+/* sym_demangle::workspace::Workspace::read_on */
 static void read_on_7b5(u8* a,u8* b,u8* c,u64 d)
 {
 A16 u8 e[12],f[12],g[96],h[112],i[24];
@@ -2356,20 +2356,7 @@ memcpy(a+8,g+8,88);
 L6:return;
 }
 
-/* std_alloc::vec::Vec::grow_amortized::<#c21ccaed65c31ca8> */
-/* std_alloc::vec::Vec::grow_amortized::<#7c055ea3b95bac7a> */
-/* std_alloc::vec::Vec::grow_amortized::<#49f8076b9827e232> */
-/* std_alloc::vec::Vec::grow_amortized::<#13df219e4eb3cd9d> */
-/* std_alloc::vec::Vec::grow_amortized::<#3a71db6cb84fa6fe> */
-/* std_alloc::vec::Vec::grow_amortized::<#c40ae4705374474d> */
-/* std_alloc::vec::Vec::grow_amortized::<#33e2035bfd5c3c15> */
-/* std_alloc::vec::Vec::grow_amortized::<#0476d0f5ceb29388> */
-/* std_alloc::vec::Vec::grow_amortized::<#76da4626077e5326> */
-/* std_alloc::vec::Vec::grow_amortized::<#531f2819a43781f0> */
-/* std_alloc::vec::Vec::grow_amortized::<#e28e36fe24ece2c3> */
-/* std_alloc::vec::Vec::grow_amortized::<#6cad8081c4355b67> */
-/* std_alloc::vec::Vec::grow_amortized::<#684fd1e8f4e4393a> */
-/* std_alloc::vec::Vec::grow_amortized::<#a8d3122d46899a3f> */
+/* std_alloc::vec::Vec::grow_amortized */
 static COLD u8 grow_amortized_2b6(u8* a,u64 b)
 {
 u64 c,e,f,g,h;
@@ -2402,7 +2389,7 @@ else d=0;}
 L1:return d;
 }
 
-/* sym_shape::parse::Parse::run::<#0f49c5725f0959d3> */
+/* sym_shape::parse::Parse::run */
 static void run_888(u8* a,u8* b,u8* c,u64 d,u8 e)
 {
 A16 u8 f[32],g[32],h[12];
@@ -3006,7 +2993,7 @@ x8(a+24,Q);}}
 L4:return;
 }
 
-/* std_alloc::vec::Vec::grow_amortized::<#0a74335d2026d749> */
+/* std_alloc::vec::Vec::grow_amortized */
 static COLD u8 grow_amortized_fda(u8* a,u64 b)
 {
 u64 c,e,f,g,h;
@@ -3039,7 +3026,7 @@ else d=0;}
 L1:return d;
 }
 
-/* std_alloc::vec::Vec::grow_amortized::<#0155bca63e5b7d92> */
+/* std_alloc::vec::Vec::grow_amortized */
 static COLD u8 grow_amortized_034(u8* a)
 {
 u64 b,d,e,f,g;
@@ -3086,7 +3073,7 @@ default:NEVER;
 return b;
 }
 
-/* sym_shape::parse::Parse::advance::<#0f49c5725f0959d3> */
+/* sym_shape::parse::Parse::advance */
 static void advance_c66(u8* a,u8* b,u8* c,u64 d,u8 e)
 {
 A16 u8 f[32];
@@ -3473,7 +3460,7 @@ x4(a+8,q);
 return;
 }
 
-/* sym_demangle::workspace::Workspace::link::<#73a12da5cb99097a> */
+/* sym_demangle::workspace::Workspace::link */
 static void link_0f5(u8* a,u8* b)
 {
 A16 u8 c[68],d[20],e[24],f[24],g[12],h[24],i[16],j[12],k[16],l[12],m[40],n[12],o[24],p[16],q[12],r[40],s[12],t[24],u[12],v[68],w[68],x[68];
@@ -4013,7 +4000,7 @@ x4(a+8,0);
 return;
 }
 
-/* std_alloc::vec::Vec::grow_amortized::<#81a473883fb1210a> */
+/* std_alloc::vec::Vec::grow_amortized */
 static COLD u8 grow_amortized_fc3(u8* a,u64 b)
 {
 u64 c,e,f,g,h;
@@ -4046,7 +4033,7 @@ else d=0;}
 L1:return d;
 }
 
-/* sym_link::threads::token_by::<#2baa0425721dfd56> */
+/* sym_link::threads::token_by */
 static void token_by_f9d(u8* a,u8* b,u8* c,u8* d,u8* e,u8* f)
 {
 A16 u8 g[24],h[24];
@@ -6625,7 +6612,7 @@ x8(a+40,0);
 return;
 }
 
-/* std_alloc::vec::Vec::grow_amortized::<#6fc4ea738c319a9f> */
+/* std_alloc::vec::Vec::grow_amortized */
 static COLD u8 grow_amortized_757(u8* a)
 {
 u64 b,d,e,f,g;
@@ -8749,9 +8736,7 @@ x2(a+22,A);
 return;
 }
 
-/* std_alloc::vec::Vec::grow_amortized::<#504f5cbe60b67818> */
-/* std_alloc::vec::Vec::grow_amortized::<#5ab5cb9e07e783e9> */
-/* std_alloc::vec::Vec::grow_amortized::<#108fcd37bdeb8a9b> */
+/* std_alloc::vec::Vec::grow_amortized */
 static COLD u8 grow_amortized_7a8(u8* a)
 {
 u64 b,d,e,f,g;
@@ -8784,7 +8769,7 @@ else c=0;}
 L1:return c;
 }
 
-/* std_alloc::vec::Vec::grow_amortized::<#340807fad2c58c23> */
+/* std_alloc::vec::Vec::grow_amortized */
 static COLD u8 grow_amortized_934(u8* a)
 {
 u64 b,d,e,f,g;
@@ -15879,7 +15864,7 @@ x4(a+8,s);
 return;
 }
 
-/* std_alloc::vec::Vec::grow_amortized::<#d202b1c4eed420e7> */
+/* std_alloc::vec::Vec::grow_amortized */
 static COLD u8 grow_amortized_6c7(u8* a)
 {
 u64 b,d,e,f,g;
@@ -18760,8 +18745,7 @@ x4(a+8,yb);
 return;
 }
 
-/* sym_demangle::workspace::Workspace::print::<#73a12da5cb99097a> */
-/* sym_demangle::workspace::Workspace::print::<#dfb3c5d5f3cf3262> */
+/* sym_demangle::workspace::Workspace::print */
 static void print_b22(u8* a,u8* b,u8* c,u32 d,u8 e,u8* f)
 {
 u8 h[3],i[3],j[3],m[3],n[3],o[3];
@@ -19589,7 +19573,7 @@ x4(a+8,0);
 return;
 }
 
-/* std_alloc::vec::Vec::grow_amortized::<#a371215e05a01b3a> */
+/* std_alloc::vec::Vec::grow_amortized */
 static COLD u8 grow_amortized_c30(u8* a,u64 b)
 {
 u64 c,e,f,g,h;
@@ -19622,8 +19606,7 @@ else d=0;}
 L1:return d;
 }
 
-/* std_alloc::vec::Vec::grow_amortized::<#9c6aea69be8f05e1> */
-/* std_alloc::vec::Vec::grow_amortized::<#6ae7a28301eef264> */
+/* std_alloc::vec::Vec::grow_amortized */
 static COLD u8 grow_amortized_670(u8* a,u64 b)
 {
 u64 c,e,f,g,h;
@@ -19656,8 +19639,7 @@ else d=0;}
 L1:return d;
 }
 
-/* std_alloc::vec::Vec::grow_amortized::<#558c6cb12a09ee9d> */
-/* std_alloc::vec::Vec::grow_amortized::<#545b7bc66723c1a5> */
+/* std_alloc::vec::Vec::grow_amortized */
 static COLD u8 grow_amortized_ab4(u8* a)
 {
 u64 b,d,e,f,g;
@@ -19690,7 +19672,7 @@ else c=0;}
 L1:return c;
 }
 
-/* cpp_layout::symbol::Symbol::fill_form::<#98699c36a381be52> */
+/* cpp_layout::symbol::Symbol::fill_form */
 static void fill_form_1ff(u8* a,u8* b,u32 c,u32 d,u32 e,u8* f)
 {
 u8 g[3],l[3],r[3],u[3],v[3],x[3];
@@ -20829,7 +20811,7 @@ break;}
 L7:return;
 }
 
-/* cpp_layout::symbol::Symbol::fill_rare_piece::<#98699c36a381be52> */
+/* cpp_layout::symbol::Symbol::fill_rare_piece */
 static void fill_rare_piece_017(u8* a,u8* b,u8* c,u8* d)
 {
 A16 u8 e[20],f[20],g[20],h[20];
@@ -21041,7 +21023,7 @@ break;}
 return c;
 }
 
-/* cpp_layout::symbol::Symbol::fill_lambda::<#98699c36a381be52> */
+/* cpp_layout::symbol::Symbol::fill_lambda */
 static void fill_lambda_b73(u8* a,u8* b,u32 c,u64 d,u8* e)
 {
 u8 f[3],g[3],h[3];
@@ -21102,7 +21084,7 @@ w8(b+8,u+1);
 return;
 }
 
-/* cpp_layout::symbol::Symbol::push_decimal::<#98699c36a381be52> */
+/* cpp_layout::symbol::Symbol::push_decimal */
 static void push_decimal_2c3(u8* a,u64 b)
 {
 u8 c[24],d[40],e[24];
@@ -21184,7 +21166,7 @@ w8(a+8,J+1);
 return;
 }
 
-/* cpp_layout::symbol::Symbol::fill_in_std::<#98699c36a381be52> */
+/* cpp_layout::symbol::Symbol::fill_in_std */
 static void fill_in_std_a73(u8* a,u32 b,u8* c)
 {
 A16 u8 d[20];
@@ -21207,7 +21189,7 @@ w8(a+8,e+2);
 return;
 }
 
-/* cpp_layout::symbol::Symbol::fill_within::<#98699c36a381be52> */
+/* cpp_layout::symbol::Symbol::fill_within */
 static void fill_within_6bb(u8* a,u8* b,u32 c,u32 d,u8 e,u8* f)
 {
 u8 g[3],h[3],i[3],j[3],k[3],l[3],m[3],n[3],o[3],p[3],q[3],r[3],s[3],t[3],u[3],v[3],w[3],x[3],y[3],z[3],A[3],B[3],C[3],D[3];
@@ -21424,7 +21406,7 @@ default:NEVER;
 return;
 }
 
-/* cpp_layout::symbol::Symbol::fill_instance::<#98699c36a381be52> */
+/* cpp_layout::symbol::Symbol::fill_instance */
 static void fill_instance_1f0(u8* a,u8* b,u32 c,u32 d,u8* e)
 {
 u8 f[3],g[3],h[3],i[3];
@@ -21529,7 +21511,7 @@ default:NEVER;
 return;
 }
 
-/* cpp_layout::symbol::Symbol::fill_tagged::<#98699c36a381be52> */
+/* cpp_layout::symbol::Symbol::fill_tagged */
 static void fill_tagged_146(u8* a,u32 b,u32 c,u32 d,u8* e)
 {
 A16 u8 f[20];
@@ -21589,7 +21571,7 @@ break;}
 return b;
 }
 
-/* cpp_layout::symbol::Symbol::fill_parameter::<#98699c36a381be52> */
+/* cpp_layout::symbol::Symbol::fill_parameter */
 static void fill_parameter_f0e(u8* a,u8* b,u32 c,u32 d,u32 e,u8* f)
 {
 A16 u8 g[12],h[12],i[12],j[12];
@@ -21678,7 +21660,7 @@ else c=50;
 return c;
 }
 
-/* cpp_layout::symbol::Symbol::fill_marked::<#98699c36a381be52> */
+/* cpp_layout::symbol::Symbol::fill_marked */
 static void fill_marked_395(u8* a,u8* b,u32 c,u16 d,u16 e,u8* f)
 {
 u8 h[3],i[3];
@@ -21940,7 +21922,7 @@ x4(a+12,z);
 return;
 }
 
-/* cpp_layout::symbol::Symbol::fill_reference::<#98699c36a381be52> */
+/* cpp_layout::symbol::Symbol::fill_reference */
 static void fill_reference_bf6(u8* a,u8* b,u32 c,u32 d,u16 e,u16 f,u8* g)
 {
 u8 i[3],j[3],k[3],l[3];
@@ -22005,7 +21987,7 @@ w8(b+8,w+2);}
 return;
 }
 
-/* cpp_layout::symbol::Symbol::fill_array::<#98699c36a381be52> */
+/* cpp_layout::symbol::Symbol::fill_array */
 static void fill_array_c4d(u8* a,u8* b,u32 c,u8* d)
 {
 u8 f[3],g[3];
@@ -22050,7 +22032,7 @@ w8(b+8,o+1);
 return;
 }
 
-/* cpp_layout::symbol::Symbol::fill_member::<#98699c36a381be52> */
+/* cpp_layout::symbol::Symbol::fill_member */
 static void fill_member_2fa(u8* a,u8* b,u32 c,u32 d,u8* e)
 {
 u8 g[3],h[3];
@@ -22111,7 +22093,7 @@ w8(b+8,o+4);
 return;
 }
 
-/* cpp_layout::symbol::Symbol::fill_qualified_left::<#98699c36a381be52> */
+/* cpp_layout::symbol::Symbol::fill_qualified_left */
 static void fill_qualified_left_bf3(u8* a,u8* b,u8* c,u32 d,u8* e)
 {
 u8 h[3],i[3],j[3],k[3],l[3],m[3];
@@ -22197,7 +22179,7 @@ w8(b+8,I+1);}
 return;
 }
 
-/* cpp_layout::symbol::Symbol::fill_vector::<#98699c36a381be52> */
+/* cpp_layout::symbol::Symbol::fill_vector */
 static void fill_vector_eb1(u8* a,u32 b,u32 c,u32 d,u8* e)
 {
 A16 u8 f[20];
@@ -22235,7 +22217,7 @@ w8(a+8,k+2);
 return;
 }
 
-/* cpp_layout::symbol::Symbol::fill_float::<#98699c36a381be52> */
+/* cpp_layout::symbol::Symbol::fill_float */
 static void fill_float_1e8(u8* a,u32 b,u32 c,u8 d)
 {
 u64 e,g,i,k;
@@ -22277,7 +22259,7 @@ w8(a+8,k+1);
 L1:return;
 }
 
-/* cpp_layout::symbol::Symbol::fill_expansion::<#98699c36a381be52> */
+/* cpp_layout::symbol::Symbol::fill_expansion */
 static void fill_expansion_7b7(u8* a,u8* b,u32 c,u8* d)
 {
 u8 f[3],h[3];
@@ -22348,7 +22330,7 @@ w8(b+8,v+3);
 L2:return;
 }
 
-/* cpp_layout::symbol::Symbol::fill_integer::<#98699c36a381be52> */
+/* cpp_layout::symbol::Symbol::fill_integer */
 static void fill_integer_476(u8* a,u8* b,u32 c,u8* d,u8* e)
 {
 A16 u8 f[12],g[20];
@@ -22412,7 +22394,7 @@ else fill_cast_integer_fd0(b,c,f,g);
 return;
 }
 
-/* cpp_layout::symbol::Symbol::fill_cast_integer::<#98699c36a381be52> */
+/* cpp_layout::symbol::Symbol::fill_cast_integer */
 static void fill_cast_integer_fd0(u8* a,u32 b,u8* c,u8* d)
 {
 A16 u8 e[20];
@@ -22468,7 +22450,7 @@ w8(a+8,m+4);
 return;
 }
 
-/* cpp_layout::symbol::Symbol::fill_encoding_literal::<#98699c36a381be52> */
+/* cpp_layout::symbol::Symbol::fill_encoding_literal */
 static void fill_encoding_literal_a7e(u8* a,u32 b,u8 c,u8 d)
 {
 u64 e,g;
@@ -22495,7 +22477,7 @@ w8(a+8,e+2);}
 return;
 }
 
-/* cpp_layout::symbol::Symbol::fill_decltype::<#98699c36a381be52> */
+/* cpp_layout::symbol::Symbol::fill_decltype */
 static void fill_decltype_7a2(u8* a,u32 b,u8* c)
 {
 A16 u8 d[20];
@@ -22523,7 +22505,7 @@ w8(a+8,e+3);
 return;
 }
 
-/* cpp_layout::symbol::Symbol::fill_operation::<#98699c36a381be52> */
+/* cpp_layout::symbol::Symbol::fill_operation */
 static void fill_operation_6d8(u8* a,u8* b,u8 c,u8 d,u32 e,u32 f,u8* g)
 {
 u8 i[12];
@@ -22744,7 +22726,7 @@ memcpy(a,(u8*)t_c688+d,12);
 return;
 }
 
-/* cpp_layout::symbol::Symbol::fill_operand::<#98699c36a381be52> */
+/* cpp_layout::symbol::Symbol::fill_operand */
 static void fill_operand_3fb(u8* a,u8* b,u8 c,u8 d,u32 e,u8* f)
 {
 u8 g[12],h[3],i[3],j[3],k[3],l[3],m[3],n[3],o[3],p[3],q[3],r[3],s[3];
@@ -22886,7 +22868,7 @@ default:NEVER;
 return;
 }
 
-/* cpp_layout::symbol::Symbol::fill_function_parameter::<#98699c36a381be52> */
+/* cpp_layout::symbol::Symbol::fill_function_parameter */
 static void fill_function_parameter_419(u8* a,u32 b,u32 c)
 {
 u64 d,f;
@@ -22910,7 +22892,7 @@ w8(a+8,f+1);
 return;
 }
 
-/* cpp_layout::symbol::Symbol::fill_function_right::<#98699c36a381be52> */
+/* cpp_layout::symbol::Symbol::fill_function_right */
 static void fill_function_right_5c9(u8* a,u8* b,u8* c,u8 d,u8 e,u32 f,u32 g,u8* h)
 {
 u8 i[3],j[3],k[3],l[3],m[3],n[3];
@@ -22995,7 +22977,7 @@ w8(b+8,H+1);
 return;
 }
 
-/* cpp_layout::symbol::Symbol::fill_as_left::<#98699c36a381be52> */
+/* cpp_layout::symbol::Symbol::fill_as_left */
 static void fill_as_left_842(u8* a,u8* b,u32 c,u8* d)
 {
 u8 e[3],f[3],g[3],t[3],u[3],y[3];
@@ -23374,7 +23356,7 @@ default:NEVER;
 L2:return;
 }
 
-/* cpp_layout::symbol::Symbol::fill_own_piece::<#98699c36a381be52> */
+/* cpp_layout::symbol::Symbol::fill_own_piece */
 static void fill_own_piece_0f9(u8* a,u8* b,u32 c,u8* d)
 {
 A16 u8 e[16],f[20],g[16],h[20],i[16],j[20];
@@ -23492,7 +23474,7 @@ default:NEVER;
 return;
 }
 
-/* cpp_layout::symbol::Symbol::fill_full::<#98699c36a381be52> */
+/* cpp_layout::symbol::Symbol::fill_full */
 static void fill_full_b26(u8* a,u8* b,u32 c,u8* d)
 {
 A16 u8 e[3],f[3];
@@ -23741,7 +23723,7 @@ default:NEVER;
 L1:return;
 }
 
-/* cpp_layout::symbol::Symbol::push_bare::<#98699c36a381be52> */
+/* cpp_layout::symbol::Symbol::push_bare */
 static void push_bare_366(u8* a,u8* b,u32 c,u8* d,u8 e,u32 f,u32 g,u8 h)
 {
 u8 i;
@@ -23797,7 +23779,7 @@ w8(b+8,q+2);
 return;
 }
 
-/* sym_languages::languages::demangle_in::<#d7859ae5fbbf1fed> */
+/* sym_languages::languages::demangle_in */
 static void demangle_in_f5e(u8* a,u8* b,u8* c,u64 d,u32 e,u8 f,u8* g)
 {
 A16 u8 h[12],i[96],j[88],k[12],l[84];
@@ -23940,7 +23922,7 @@ x4(a+12,da);
 return;
 }
 
-/* sym_demangle::workspace::Workspace::read_on::<#20295f288733a3eb> */
+/* sym_demangle::workspace::Workspace::read_on */
 static void read_on_387(u8* a,u8* b,u8* c,u64 d)
 {
 A16 u8 e[12],f[12],g[96],h[112],i[24];
@@ -24155,7 +24137,7 @@ memcpy(a+8,g+8,88);
 L6:return;
 }
 
-/* sym_shape::parse::Parse::run::<#f1848a23d99225a7> */
+/* sym_shape::parse::Parse::run */
 static void run_48d(u8* a,u8* b,u8* c,u64 d,u8 e)
 {
 A16 u8 f[32],g[32],h[12];
@@ -24594,7 +24576,7 @@ x4(a+8,Ab);
 return;
 }
 
-/* sym_shape::parse::Parse::advance::<#f1848a23d99225a7> */
+/* sym_shape::parse::Parse::advance */
 static void advance_83f(u8* a,u8* b,u8* c,u64 d,u8 e)
 {
 A16 u8 f[32];
@@ -24988,7 +24970,7 @@ x4(a+8,q);
 return;
 }
 
-/* sym_demangle::workspace::Workspace::link::<#20295f288733a3eb> */
+/* sym_demangle::workspace::Workspace::link */
 static void link_7df(u8* a,u8* b)
 {
 A16 u8 c[68],d[20],e[48],f[12],g[32],h[48],i[40],j[28],k[56],l[12],m[32],n[16],o[12],p[32],q[16],r[12],s[32],t[48],u[40],v[28],w[56],x[12],y[32],z[16],A[12],B[32],C[12],D[12];
@@ -26295,7 +26277,7 @@ memset(a+12,0,84);
 L4:return;
 }
 
-/* std_alloc::vec::Vec::grow_amortized::<#6aa4d8547d85ea17> */
+/* std_alloc::vec::Vec::grow_amortized */
 static COLD u8 grow_amortized_21b(u8* a)
 {
 u64 b,d,e,f,g;
@@ -26696,7 +26678,7 @@ else b=5;
 return b;
 }
 
-/* core::slice::words::skip_far::<#52f9edcae2f82f51> */
+/* core::slice::words::skip_far */
 static u64 skip_far_4c7(u8* a,u64 b,u64 c)
 {
 u8 *d,*f;
@@ -26716,10 +26698,7 @@ else h=b;
 return h;
 }
 
-/* std_alloc::vec::Vec::grow_amortized::<#595ef0cf3269e819> */
-/* std_alloc::vec::Vec::grow_amortized::<#722c9854e8b9c161> */
-/* std_alloc::vec::Vec::grow_amortized::<#e0b0241b58add3ce> */
-/* std_alloc::vec::Vec::grow_amortized::<#fe7835d4af787c09> */
+/* std_alloc::vec::Vec::grow_amortized */
 static COLD u8 grow_amortized_8fc(u8* a)
 {
 u64 b,d,e,f,g;
@@ -26752,7 +26731,7 @@ else c=0;}
 L1:return c;
 }
 
-/* std_alloc::string::add_wide::<#049f18ac9ae54c77> */
+/* std_alloc::string::add_wide */
 static u8 add_wide_8ae(u8* a,u32 b)
 {
 u16 c,d;
@@ -29859,7 +29838,7 @@ x4(a+8,K);
 return;
 }
 
-/* sym_demangle::workspace::Workspace::print::<#20295f288733a3eb> */
+/* sym_demangle::workspace::Workspace::print */
 static void print_17e(u8* a,u8* b,u8* c,u32 d,u8 e,u8* f)
 {
 A16 u8 g[24],h[8],i[24],j[8],k[20],l[20],m[20],n[28],o[28];
@@ -32178,7 +32157,7 @@ x4(a+8,0);
 return;
 }
 
-/* std_alloc::vec::Vec::grow_amortized::<#a2e89e1e0eb0366d> */
+/* std_alloc::vec::Vec::grow_amortized */
 static COLD u8 grow_amortized_0c5(u8* a,u64 b)
 {
 u64 c,e,f,g,h;
@@ -32211,7 +32190,7 @@ else d=0;}
 L1:return d;
 }
 
-/* rust_tree::symbol::Symbol::push_as::<#a5e6a4396a8d14af> */
+/* rust_tree::symbol::Symbol::push_as */
 static void push_as_a95(u8* a,u32 b,u32 c,u64 d,u8 e)
 {
 u64 f;
@@ -32254,7 +32233,7 @@ w8(a+8,f+5);
 return;
 }
 
-/* rust_tree::symbol::Symbol::push_special::<#a5e6a4396a8d14af> */
+/* rust_tree::symbol::Symbol::push_special */
 static void push_special_b8a(u8* a,u8 b,u8* c,u64 d)
 {
 u8 e[24],f[40];
@@ -32414,7 +32393,7 @@ else c=0;
 return c;
 }
 
-/* rust_tree::symbol::Symbol::push_array::<#a5e6a4396a8d14af> */
+/* rust_tree::symbol::Symbol::push_array */
 static void push_array_d08(u8* a,u32 b,u32 c,u64 d,u8 e)
 {
 u64 f;
@@ -32457,7 +32436,7 @@ w8(a+8,f+5);
 return;
 }
 
-/* rust_tree::symbol::Symbol::push_slice::<#a5e6a4396a8d14af> */
+/* rust_tree::symbol::Symbol::push_slice */
 static void push_slice_237(u8* a,u32 b,u64 c,u8 d)
 {
 u64 e;
@@ -32486,7 +32465,7 @@ w8(a+8,e+3);
 return;
 }
 
-/* rust_tree::symbol::Symbol::push_closing::<#a5e6a4396a8d14af> */
+/* rust_tree::symbol::Symbol::push_closing */
 static void push_closing_33d(u8* a,u8* b,u32 c)
 {
 u8 *d,*f,*g,*i;
@@ -32522,7 +32501,7 @@ w8(b+8,k);}}
 return;
 }
 
-/* rust_tree::symbol::Symbol::push_lifetime::<#a5e6a4396a8d14af> */
+/* rust_tree::symbol::Symbol::push_lifetime */
 static void push_lifetime_2c2(u8* a,u64 b,u64 c)
 {
 u64 d;
@@ -32540,7 +32519,7 @@ else push_numbered_8a9(a,usub64(b,c));
 return;
 }
 
-/* rust_tree::symbol::Symbol::push_numbered::<#a5e6a4396a8d14af> */
+/* rust_tree::symbol::Symbol::push_numbered */
 static void push_numbered_8a9(u8* a,u64 b)
 {
 u8 c[22],d[40];
@@ -32631,7 +32610,7 @@ w8(a+8,J+1);}
 return;
 }
 
-/* rust_tree::symbol::Symbol::push_function::<#a5e6a4396a8d14af> */
+/* rust_tree::symbol::Symbol::push_function */
 static void push_function_58c(u8* a,u32 b,u16 c,u64 d,u8 e)
 {
 u64 f,h,i;
@@ -32673,7 +32652,7 @@ w8(a+8,f+4);}
 return;
 }
 
-/* rust_tree::symbol::Symbol::push_dyn::<#a5e6a4396a8d14af> */
+/* rust_tree::symbol::Symbol::push_dyn */
 static void push_dyn_6de(u8* a,u8* b,u32 c,u16 d,u32 e,u64 f,u64 g,u8 h)
 {
 u64 i,j,m,o,p,q;
@@ -32735,7 +32714,7 @@ w8(b+8,p+1);
 return;
 }
 
-/* rust_tree::symbol::Symbol::fill_bindings::<#a5e6a4396a8d14af> */
+/* rust_tree::symbol::Symbol::fill_bindings */
 static void fill_bindings_59a(u8* a,u8* b,u32 c,u8 d,u64 e,u8 f)
 {
 u8 *g,*o,*q,*s,*t,*y,*A;
@@ -32813,8 +32792,7 @@ w8(b+8,x+1);}}
 return;
 }
 
-/* sym_calls::sym_languages++languages++Lists+Destruct::drop::<#037b6c22d415012a> */
-/* sym_calls::sym_languages++languages++Lists+Destruct::drop::<#bf8fa25526ac6406> */
+/* sym_calls::sym_languages++languages++Lists+Destruct::drop */
 static void drop_fac(u8* a)
 {
 A16 u8 b[688];
@@ -32903,7 +32881,7 @@ if(ba!=0)port_rattle_dealloc(aa);
 return;
 }
 
-/* sym_calls::sym_demangle++workspace++Workspace+Destruct::drop::<#6c9dacfe43579438> */
+/* sym_calls::sym_demangle++workspace++Workspace+Destruct::drop */
 static void drop_812(u8* a)
 {
 u8 *b,*d,*f,*h,*j,*l,*n,*p,*r,*t,*v,*x,*z,*B,*D,*F,*H,*J,*L;
@@ -32969,7 +32947,7 @@ if(M!=0)port_rattle_dealloc(L);
 return;
 }
 
-/* sym_languages::languages::LanguagesDemangler::demangle::<#bf8fa25526ac6406> */
+/* sym_languages::languages::LanguagesDemangler::demangle */
 static void demangle_35b(u8* a,u8* b,u8* c,u8 d,u8* e,u64 f,u8* g)
 {
 A16 u8 h[12],i[96],j[88],k[12],l[84],m[16];
@@ -33121,7 +33099,7 @@ memcpy(a+4,m+4,12);
 return;
 }
 
-/* sym_demangle::workspace::Workspace::read_on::<#dfb3c5d5f3cf3262> */
+/* sym_demangle::workspace::Workspace::read_on */
 static void read_on_c94(u8* a,u8* b,u8* c,u64 d)
 {
 A16 u8 e[12],f[12],g[96],h[112],i[24];
@@ -33336,7 +33314,7 @@ memcpy(a+8,g+8,88);
 L6:return;
 }
 
-/* sym_shape::parse::Parse::run::<#b692cb71ef6d912b> */
+/* sym_shape::parse::Parse::run */
 static void run_f89(u8* a,u8* b,u8* c,u64 d,u8 e)
 {
 A16 u8 f[32],g[32],h[12];
@@ -33769,7 +33747,7 @@ x4(a+8,Cb);
 return;
 }
 
-/* sym_shape::parse::Parse::advance::<#b692cb71ef6d912b> */
+/* sym_shape::parse::Parse::advance */
 static void advance_717(u8* a,u8* b,u8* c,u64 d,u8 e)
 {
 A16 u8 f[32];
@@ -34156,8 +34134,7 @@ x4(a+8,q);
 return;
 }
 
-/* sym_demangle::workspace::Workspace::link::<#dfb3c5d5f3cf3262> */
-/* sym_demangle::workspace::Workspace::link::<#c937bb345a34077c> */
+/* sym_demangle::workspace::Workspace::link */
 static void link_058(u8* a,u8* b)
 {
 A16 u8 c[68],d[20],e[12],f[68],g[68],h[12],i[68];
@@ -34221,7 +34198,7 @@ memset(a+12,0,84);
 L1:return;
 }
 
-/* sym_link::driver::Driver::run::<#f07c8f9946aa36f1> */
+/* sym_link::driver::Driver::run */
 static void run_5b5(u8* a,u8* b,u8* c,u8* d,u64 e,u8* f,u64 g)
 {
 A16 u8 h[24],i[24],j[24],k[12],l[16],m[12],n[16],o[12],p[40],q[24],r[24],s[12],t[16],u[12],v[40],w[12];
@@ -34631,7 +34608,7 @@ x4(a+8,z);
 return;
 }
 
-/* sym_link::threads::token_by::<#04aa88bc871ad517> */
+/* sym_link::threads::token_by */
 static void token_by_0b9(u8* a,u8* b,u8* c,u8* d,u8* e,u8* f)
 {
 A16 u8 g[24],h[24];
@@ -37618,7 +37595,7 @@ C=B;C.f1=l;
 return C;
 }
 
-/* sym_filter::words::Words::end_within::<#19612f88565abeab> */
+/* sym_filter::words::Words::end_within */
 static void end_within_031(u8* a,u8* b,u8* c,u8* d,u8* e)
 {
 A16 u8 f[12];
@@ -38156,7 +38133,7 @@ c=g?11:0;}}}
 L1:return c;
 }
 
-/* sym_languages::languages::LanguagesDemangler::append::<#037b6c22d415012a> */
+/* sym_languages::languages::LanguagesDemangler::append */
 static void append_a6f(u8* a,u8* b,u8* c,u8 d,u8* e,u64 f,u8* g)
 {
 A16 u8 h[12],i[12],j[12],k[96],l[88],m[12],n[84],o[8];
@@ -43378,7 +43355,7 @@ gw=1;
 L158:return gw;
 }
 
-/* itanium::short_way::run::<#22100afe225e4c04> */
+/* itanium::short_way::run */
 static u8 run_48b(u8* a,u8* b,u64 c,u32 d,u8* e)
 {
 u8 i[4],k[32],m[4],n[3],p[32],q[32],x[4];
@@ -44271,7 +44248,7 @@ g=1;}
 L1:return g;
 }
 
-/* std_alloc::vec::Vec::extend_from_slice::<#e80d0105ccb005ee> */
+/* std_alloc::vec::Vec::extend_from_slice */
 static u8 extend_from_slice_169(u8* a,u8* b,u64 c)
 {
 u64 d,e,g,h,j,m,n,o,p,q,r,s,t,u,v,w,x,y;
@@ -44331,7 +44308,7 @@ i=0;
 L1:return i;
 }
 
-/* cpp_direct::direct::Direct::begin_object::<#22100afe225e4c04> */
+/* cpp_direct::direct::Direct::begin_object */
 static void begin_object_8f6(u8* a,u8* b,u8* c,u64 d)
 {
 A16 u8 e[4];
@@ -44433,7 +44410,7 @@ x4(a,0);
 L2:return;
 }
 
-/* cpp_direct::direct::Direct::nest_at::<#22100afe225e4c04> */
+/* cpp_direct::direct::Direct::nest_at */
 static void nest_at_dce(u8* a,u8* b,u8* c,u64 d,u8 e,u8 f)
 {
 u8 g[34];
@@ -45340,7 +45317,7 @@ L2:L4:memset(a,0,24);}
 L5:return;
 }
 
-/* sym_direct::bounded::Bounded::make_ready::<#c0b0d639efb8a65b> */
+/* sym_direct::bounded::Bounded::make_ready */
 static u8 make_ready_17a(u8* a)
 {
 u64 b,c,e,f,h,i;
@@ -45366,7 +45343,7 @@ d=1;}
 L1:return d;
 }
 
-/* std_alloc::vec::Vec::grow_amortized::<#22b4fe43b5882be2> */
+/* std_alloc::vec::Vec::grow_amortized */
 static COLD u8 grow_amortized_53f(u8* a,u64 b)
 {
 u64 c,e,f,g,h;
@@ -45399,7 +45376,7 @@ else d=0;}
 L1:return d;
 }
 
-/* sym_direct::bounded::Bounded::make_ready::<#7e5bd29645c3074c> */
+/* sym_direct::bounded::Bounded::make_ready */
 static u8 make_ready_9a1(u8* a)
 {
 u64 b,c,e,f,h,i;
@@ -45425,7 +45402,7 @@ d=1;}
 L1:return d;
 }
 
-/* std_alloc::vec::Vec::grow_amortized::<#bab0a83ef56ddc7a> */
+/* std_alloc::vec::Vec::grow_amortized */
 static COLD u8 grow_amortized_920(u8* a,u64 b)
 {
 u64 c,e,f,g,h;
@@ -45888,7 +45865,7 @@ h=1;}}
 L1:return h;
 }
 
-/* cpp_direct::direct::Direct::begin_clone::<#22100afe225e4c04> */
+/* cpp_direct::direct::Direct::begin_clone */
 static void begin_clone_783(u8* a,u8* b,u8* c,u64 d)
 {
 u8 e[4];
@@ -45969,7 +45946,7 @@ x4(a,0);
 L5:return;
 }
 
-/* cpp_direct::direct::Direct::begin_encoding::<#22100afe225e4c04> */
+/* cpp_direct::direct::Direct::begin_encoding */
 static void begin_encoding_254(u8* a,u8* b,u8* c,u64 d)
 {
 A16 u8 e[4],f[4];
@@ -46040,7 +46017,7 @@ a[3]=o;
 return;
 }
 
-/* cpp_direct::direct::Direct::begin_in_std::<#22100afe225e4c04> */
+/* cpp_direct::direct::Direct::begin_in_std */
 static void begin_in_std_edd(u8* a,u8* b,u8* c,u64 d)
 {
 A16 u8 e[24],f[4];
@@ -46485,7 +46462,7 @@ L=K;L.f1=f;
 return L;
 }
 
-/* cpp_direct::direct::Direct::unscoped_named::<#22100afe225e4c04> */
+/* cpp_direct::direct::Direct::unscoped_named */
 static void unscoped_named_e54(u8* a,u8* b,u8* c,u64 d,u32 e,u8 f)
 {
 u8 g[4],h[32],i[4],j[32];
@@ -46667,10 +46644,7 @@ a[3]=J;
 L1:return;
 }
 
-/* cpp_direct::direct::Direct::name_ended::<#22100afe225e4c04> */
-/* cpp_direct::direct::Direct::name_ended::<#2c6f17e3e0d01cf6> */
-/* cpp_direct::direct::Direct::name_ended::<#b5179b541c42cc1e> */
-/* cpp_direct::direct::Direct::name_ended::<#5b59ee8f9e439794> */
+/* cpp_direct::direct::Direct::name_ended */
 static void name_ended_fde(u8* a,u8* b,u8* c,u64 d,u8 e,u8 f,u8* g,u32 h)
 {
 u8 i[4],k[16],n[16];
@@ -46817,10 +46791,7 @@ a[3]=l[3];
 L1:return;
 }
 
-/* cpp_direct::direct::Direct::end::<#22100afe225e4c04> */
-/* cpp_direct::direct::Direct::end::<#2c6f17e3e0d01cf6> */
-/* cpp_direct::direct::Direct::end::<#b5179b541c42cc1e> */
-/* cpp_direct::direct::Direct::end::<#5b59ee8f9e439794> */
+/* cpp_direct::direct::Direct::end */
 static void end_05d(u8* a,u8* b,u8* c,u64 d,u8 e)
 {
 A16 u8 f[24],g[4],h[4];
@@ -47221,14 +47192,7 @@ a[3]=pb;
 L2:return;
 }
 
-/* cpp_direct::direct::Direct::finish::<#22100afe225e4c04> */
-/* cpp_direct::direct::Direct::finish::<#efed33a7273bac1a> */
-/* cpp_direct::direct::Direct::finish::<#2c6f17e3e0d01cf6> */
-/* cpp_direct::direct::Direct::finish::<#464be67d5f5e1f6c> */
-/* cpp_direct::direct::Direct::finish::<#b5179b541c42cc1e> */
-/* cpp_direct::direct::Direct::finish::<#f912c19321383c9c> */
-/* cpp_direct::direct::Direct::finish::<#5b59ee8f9e439794> */
-/* cpp_direct::direct::Direct::finish::<#f5afb645cf2ff11a> */
+/* cpp_direct::direct::Direct::finish */
 static void finish_8cd(u8* a,u8* b,u8* c,u64 d)
 {
 u64 e,i,k,l,n,p,q,s,t,u,y,z,B,C,D,G,H,I,J,K,L,M,N,O,P,Q,R,S;
@@ -47362,14 +47326,7 @@ a[3]=0;}}
 L9:return;
 }
 
-/* cpp_direct::direct::Direct::begin_front::<#22100afe225e4c04> */
-/* cpp_direct::direct::Direct::begin_front::<#efed33a7273bac1a> */
-/* cpp_direct::direct::Direct::begin_front::<#2c6f17e3e0d01cf6> */
-/* cpp_direct::direct::Direct::begin_front::<#464be67d5f5e1f6c> */
-/* cpp_direct::direct::Direct::begin_front::<#b5179b541c42cc1e> */
-/* cpp_direct::direct::Direct::begin_front::<#f912c19321383c9c> */
-/* cpp_direct::direct::Direct::begin_front::<#5b59ee8f9e439794> */
-/* cpp_direct::direct::Direct::begin_front::<#f5afb645cf2ff11a> */
+/* cpp_direct::direct::Direct::begin_front */
 static void begin_front_2b4(u8* a,u8* b,u8* c,u64 d,u8 e,u8* f,u32 g)
 {
 A16 u8 h[32];
@@ -47417,10 +47374,7 @@ a[3]=0;
 L3:return;
 }
 
-/* cpp_direct::direct::Direct::close::<#22100afe225e4c04> */
-/* cpp_direct::direct::Direct::close::<#2c6f17e3e0d01cf6> */
-/* cpp_direct::direct::Direct::close::<#b5179b541c42cc1e> */
-/* cpp_direct::direct::Direct::close::<#5b59ee8f9e439794> */
+/* cpp_direct::direct::Direct::close */
 static void close_a33(u8* a,u8* b,u8* c,u64 d,u8 e,u32 f)
 {
 A16 u8 g[4];
@@ -47489,10 +47443,7 @@ a[3]=g[3];
 L1:return;
 }
 
-/* cpp_direct::direct::Direct::expansion::<#22100afe225e4c04> */
-/* cpp_direct::direct::Direct::expansion::<#2c6f17e3e0d01cf6> */
-/* cpp_direct::direct::Direct::expansion::<#b5179b541c42cc1e> */
-/* cpp_direct::direct::Direct::expansion::<#5b59ee8f9e439794> */
+/* cpp_direct::direct::Direct::expansion */
 static void expansion_d9b(u8* a,u8* b,u8* c,u64 d,u8 e,u8 f,u32 g,u8* h)
 {
 u8 k[32];
@@ -47855,7 +47806,7 @@ f=1;
 L1:return f;
 }
 
-/* cpp_direct::direct::Direct::begin_operator::<#22100afe225e4c04> */
+/* cpp_direct::direct::Direct::begin_operator */
 static void begin_operator_9c9(u8* a,u8* b,u8* c,u64 d)
 {
 u8 e[4];
@@ -47882,7 +47833,7 @@ a[3]=k;
 return;
 }
 
-/* cpp_direct::direct::Direct::begin_name::<#22100afe225e4c04> */
+/* cpp_direct::direct::Direct::begin_name */
 static void begin_name_824(u8* a,u8* b,u8* c,u64 d)
 {
 A16 u8 e[24],f[4];
@@ -48000,7 +47951,7 @@ L3:L1:x4(a,0);
 L9:return;
 }
 
-/* cpp_direct::direct::Direct::begin_thunk::<#22100afe225e4c04> */
+/* cpp_direct::direct::Direct::begin_thunk */
 static void begin_thunk_2c0(u8* a,u8* b,u8* c,u64 d)
 {
 A16 u8 e[4];
@@ -48098,7 +48049,7 @@ L1:x4(a,0);
 L6:return;
 }
 
-/* cpp_direct::direct::Direct::begin_virtual_thunk::<#22100afe225e4c04> */
+/* cpp_direct::direct::Direct::begin_virtual_thunk */
 static void begin_virtual_thunk_979(u8* a,u8* b,u8* c,u64 d)
 {
 A16 u8 e[4];
@@ -48234,14 +48185,7 @@ L1:x4(a,0);
 L11:return;
 }
 
-/* cpp_direct::direct::Direct::begin_special::<#22100afe225e4c04> */
-/* cpp_direct::direct::Direct::begin_special::<#efed33a7273bac1a> */
-/* cpp_direct::direct::Direct::begin_special::<#2c6f17e3e0d01cf6> */
-/* cpp_direct::direct::Direct::begin_special::<#464be67d5f5e1f6c> */
-/* cpp_direct::direct::Direct::begin_special::<#b5179b541c42cc1e> */
-/* cpp_direct::direct::Direct::begin_special::<#f912c19321383c9c> */
-/* cpp_direct::direct::Direct::begin_special::<#5b59ee8f9e439794> */
-/* cpp_direct::direct::Direct::begin_special::<#f5afb645cf2ff11a> */
+/* cpp_direct::direct::Direct::begin_special */
 static void begin_special_44d(u8* a,u8* b,u8* c,u64 d)
 {
 u64 e,g,i,j,l,m,n,q,r,s,t,u,v,w,x,y,z,A,B,C,D;
@@ -48337,7 +48281,7 @@ L1:x4(a,0);
 L5:return;
 }
 
-/* cpp_direct::direct::Direct::type_at::<#22100afe225e4c04> */
+/* cpp_direct::direct::Direct::type_at */
 static void type_at_188(u8* a,u8* b,u8* c,u64 d,u8 e)
 {
 A16 u8 f[4],g[4],h[4];
@@ -48496,14 +48440,7 @@ a[3]=I;
 L4:return;
 }
 
-/* cpp_direct::direct::Direct::begin_function::<#22100afe225e4c04> */
-/* cpp_direct::direct::Direct::begin_function::<#efed33a7273bac1a> */
-/* cpp_direct::direct::Direct::begin_function::<#2c6f17e3e0d01cf6> */
-/* cpp_direct::direct::Direct::begin_function::<#464be67d5f5e1f6c> */
-/* cpp_direct::direct::Direct::begin_function::<#b5179b541c42cc1e> */
-/* cpp_direct::direct::Direct::begin_function::<#f912c19321383c9c> */
-/* cpp_direct::direct::Direct::begin_function::<#5b59ee8f9e439794> */
-/* cpp_direct::direct::Direct::begin_function::<#f5afb645cf2ff11a> */
+/* cpp_direct::direct::Direct::begin_function */
 static void begin_function_7aa(u8* a,u8* b,u8 c)
 {
 u64 d,f,g,h,i,k,m;
@@ -48556,14 +48493,7 @@ x4(a,0);
 L2:return;
 }
 
-/* cpp_direct::direct::Direct::begin_array::<#22100afe225e4c04> */
-/* cpp_direct::direct::Direct::begin_array::<#efed33a7273bac1a> */
-/* cpp_direct::direct::Direct::begin_array::<#2c6f17e3e0d01cf6> */
-/* cpp_direct::direct::Direct::begin_array::<#464be67d5f5e1f6c> */
-/* cpp_direct::direct::Direct::begin_array::<#b5179b541c42cc1e> */
-/* cpp_direct::direct::Direct::begin_array::<#f912c19321383c9c> */
-/* cpp_direct::direct::Direct::begin_array::<#5b59ee8f9e439794> */
-/* cpp_direct::direct::Direct::begin_array::<#f5afb645cf2ff11a> */
+/* cpp_direct::direct::Direct::begin_array */
 static void begin_array_86f(u8* a,u8* b,u8* c,u64 d,u8 e)
 {
 u64 f,h,i,j,k,l,m,p,r,t;
@@ -48632,14 +48562,7 @@ x4(a,0);
 L1:return;
 }
 
-/* cpp_direct::direct::Direct::rvalue_at::<#22100afe225e4c04> */
-/* cpp_direct::direct::Direct::rvalue_at::<#efed33a7273bac1a> */
-/* cpp_direct::direct::Direct::rvalue_at::<#2c6f17e3e0d01cf6> */
-/* cpp_direct::direct::Direct::rvalue_at::<#464be67d5f5e1f6c> */
-/* cpp_direct::direct::Direct::rvalue_at::<#b5179b541c42cc1e> */
-/* cpp_direct::direct::Direct::rvalue_at::<#f912c19321383c9c> */
-/* cpp_direct::direct::Direct::rvalue_at::<#5b59ee8f9e439794> */
-/* cpp_direct::direct::Direct::rvalue_at::<#f5afb645cf2ff11a> */
+/* cpp_direct::direct::Direct::rvalue_at */
 static void rvalue_at_e1d(u8* a,u8* b,u8* c,u64 d)
 {
 u8 e[34],f[8];
@@ -48820,14 +48743,7 @@ a[7]=0;
 L1:return;
 }
 
-/* cpp_direct::direct::Direct::builtin_with_d::<#22100afe225e4c04> */
-/* cpp_direct::direct::Direct::builtin_with_d::<#efed33a7273bac1a> */
-/* cpp_direct::direct::Direct::builtin_with_d::<#2c6f17e3e0d01cf6> */
-/* cpp_direct::direct::Direct::builtin_with_d::<#464be67d5f5e1f6c> */
-/* cpp_direct::direct::Direct::builtin_with_d::<#b5179b541c42cc1e> */
-/* cpp_direct::direct::Direct::builtin_with_d::<#f912c19321383c9c> */
-/* cpp_direct::direct::Direct::builtin_with_d::<#5b59ee8f9e439794> */
-/* cpp_direct::direct::Direct::builtin_with_d::<#f5afb645cf2ff11a> */
+/* cpp_direct::direct::Direct::builtin_with_d */
 static void builtin_with_d_cb0(u8* a,u8* b,u8* c,u64 d)
 {
 u64 e,f,i,k,m,n,p,q,r,u,v,w,x,y,z,A,B,C,D,E,F,H,I,N,O,R,T,V;
@@ -48947,14 +48863,7 @@ x4(a,0);}
 L6:return;
 }
 
-/* cpp_direct::direct::Direct::template_parameter::<#22100afe225e4c04> */
-/* cpp_direct::direct::Direct::template_parameter::<#efed33a7273bac1a> */
-/* cpp_direct::direct::Direct::template_parameter::<#2c6f17e3e0d01cf6> */
-/* cpp_direct::direct::Direct::template_parameter::<#464be67d5f5e1f6c> */
-/* cpp_direct::direct::Direct::template_parameter::<#b5179b541c42cc1e> */
-/* cpp_direct::direct::Direct::template_parameter::<#f912c19321383c9c> */
-/* cpp_direct::direct::Direct::template_parameter::<#5b59ee8f9e439794> */
-/* cpp_direct::direct::Direct::template_parameter::<#f5afb645cf2ff11a> */
+/* cpp_direct::direct::Direct::template_parameter */
 static void template_parameter_3b0(u8* a,u8* b,u8* c,u64 d)
 {
 u8 e[32],f[34];
@@ -49026,7 +48935,7 @@ L1:x4(a,0);}
 L2:return;
 }
 
-/* cpp_direct::direct::Direct::named_type::<#22100afe225e4c04> */
+/* cpp_direct::direct::Direct::named_type */
 static void named_type_031(u8* a,u8* b,u8* c,u64 d)
 {
 A16 u8 e[24],f[4],g[16],h[24],i[4];
@@ -49575,14 +49484,7 @@ L15:L16:x4(a,0);
 L24:return;
 }
 
-/* cpp_direct::direct::Direct::dependent_again::<#22100afe225e4c04> */
-/* cpp_direct::direct::Direct::dependent_again::<#efed33a7273bac1a> */
-/* cpp_direct::direct::Direct::dependent_again::<#2c6f17e3e0d01cf6> */
-/* cpp_direct::direct::Direct::dependent_again::<#464be67d5f5e1f6c> */
-/* cpp_direct::direct::Direct::dependent_again::<#b5179b541c42cc1e> */
-/* cpp_direct::direct::Direct::dependent_again::<#f912c19321383c9c> */
-/* cpp_direct::direct::Direct::dependent_again::<#5b59ee8f9e439794> */
-/* cpp_direct::direct::Direct::dependent_again::<#f5afb645cf2ff11a> */
+/* cpp_direct::direct::Direct::dependent_again */
 static void dependent_again_186(u8* a,u8* b,u8* c)
 {
 u8 d[34];
@@ -49607,7 +49509,7 @@ else x4(a,0);
 return;
 }
 
-/* cpp_direct::direct::Direct::begin_enclosing::<#22100afe225e4c04> */
+/* cpp_direct::direct::Direct::begin_enclosing */
 static void begin_enclosing_06f(u8* a,u8* b,u8* c,u64 d)
 {
 A16 u8 e[4],f[24],g[4];
@@ -49778,10 +49680,7 @@ L4:L2:x4(a,0);}
 L1:return;
 }
 
-/* cpp_direct::direct::Direct::enclosing_ended::<#22100afe225e4c04> */
-/* cpp_direct::direct::Direct::enclosing_ended::<#2c6f17e3e0d01cf6> */
-/* cpp_direct::direct::Direct::enclosing_ended::<#b5179b541c42cc1e> */
-/* cpp_direct::direct::Direct::enclosing_ended::<#5b59ee8f9e439794> */
+/* cpp_direct::direct::Direct::enclosing_ended */
 static void enclosing_ended_205(u8* a,u8* b,u8* c,u64 d,u8 e,u32 f)
 {
 u8 g[3];
@@ -49989,14 +49888,7 @@ a[3]=ja;
 L2:return;
 }
 
-/* cpp_direct::direct::Direct::enclosed_named::<#22100afe225e4c04> */
-/* cpp_direct::direct::Direct::enclosed_named::<#efed33a7273bac1a> */
-/* cpp_direct::direct::Direct::enclosed_named::<#2c6f17e3e0d01cf6> */
-/* cpp_direct::direct::Direct::enclosed_named::<#464be67d5f5e1f6c> */
-/* cpp_direct::direct::Direct::enclosed_named::<#b5179b541c42cc1e> */
-/* cpp_direct::direct::Direct::enclosed_named::<#f912c19321383c9c> */
-/* cpp_direct::direct::Direct::enclosed_named::<#5b59ee8f9e439794> */
-/* cpp_direct::direct::Direct::enclosed_named::<#f5afb645cf2ff11a> */
+/* cpp_direct::direct::Direct::enclosed_named */
 static void enclosed_named_b0c(u8* a,u8* b,u8* c,u64 d,u32 e)
 {
 A16 u8 f[24];
@@ -50365,10 +50257,7 @@ c=1;
 L1:return c;
 }
 
-/* cpp_direct::direct::Direct::enclosing_parameters::<#22100afe225e4c04> */
-/* cpp_direct::direct::Direct::enclosing_parameters::<#2c6f17e3e0d01cf6> */
-/* cpp_direct::direct::Direct::enclosing_parameters::<#b5179b541c42cc1e> */
-/* cpp_direct::direct::Direct::enclosing_parameters::<#5b59ee8f9e439794> */
+/* cpp_direct::direct::Direct::enclosing_parameters */
 static void enclosing_parameters_015(u8* a,u8* b,u8* c,u64 d,u8 e,u32 f)
 {
 A16 u8 g[4];
@@ -50437,10 +50326,7 @@ a[3]=0;}
 L1:return;
 }
 
-/* cpp_direct::direct::Direct::parameter_ended::<#22100afe225e4c04> */
-/* cpp_direct::direct::Direct::parameter_ended::<#2c6f17e3e0d01cf6> */
-/* cpp_direct::direct::Direct::parameter_ended::<#b5179b541c42cc1e> */
-/* cpp_direct::direct::Direct::parameter_ended::<#5b59ee8f9e439794> */
+/* cpp_direct::direct::Direct::parameter_ended */
 static void parameter_ended_06e(u8* a,u8* b,u8* c,u64 d,u8 e,u32 f,u8* g)
 {
 u8 i[4],j[32];
@@ -50510,10 +50396,7 @@ a[3]=v;
 return;
 }
 
-/* cpp_direct::direct::Direct::front_ended::<#22100afe225e4c04> */
-/* cpp_direct::direct::Direct::front_ended::<#2c6f17e3e0d01cf6> */
-/* cpp_direct::direct::Direct::front_ended::<#b5179b541c42cc1e> */
-/* cpp_direct::direct::Direct::front_ended::<#5b59ee8f9e439794> */
+/* cpp_direct::direct::Direct::front_ended */
 static void front_ended_ee9(u8* a,u8* b,u8* c,u64 d,u8 e,u32 f,u8* g)
 {
 u8 h[4],j[4];
@@ -50641,10 +50524,7 @@ x4(a,0);
 L2:return;
 }
 
-/* cpp_direct::direct::Direct::front_hidden::<#22100afe225e4c04> */
-/* cpp_direct::direct::Direct::front_hidden::<#2c6f17e3e0d01cf6> */
-/* cpp_direct::direct::Direct::front_hidden::<#b5179b541c42cc1e> */
-/* cpp_direct::direct::Direct::front_hidden::<#5b59ee8f9e439794> */
+/* cpp_direct::direct::Direct::front_hidden */
 static void front_hidden_955(u8* a,u8* b,u8* c,u64 d,u8 e,u32 f,u8* g)
 {
 u8 h[4];
@@ -50736,10 +50616,7 @@ else x4(a,0);
 return;
 }
 
-/* cpp_direct::direct::Direct::pass_dependent::<#22100afe225e4c04> */
-/* cpp_direct::direct::Direct::pass_dependent::<#2c6f17e3e0d01cf6> */
-/* cpp_direct::direct::Direct::pass_dependent::<#b5179b541c42cc1e> */
-/* cpp_direct::direct::Direct::pass_dependent::<#5b59ee8f9e439794> */
+/* cpp_direct::direct::Direct::pass_dependent */
 static void pass_dependent_123(u8* a,u8* b,u8* c,u64 d)
 {
 u8 f[32];
@@ -50875,10 +50752,7 @@ a[3]=P;}
 return;
 }
 
-/* cpp_direct::direct::Direct::addressed_front::<#22100afe225e4c04> */
-/* cpp_direct::direct::Direct::addressed_front::<#2c6f17e3e0d01cf6> */
-/* cpp_direct::direct::Direct::addressed_front::<#b5179b541c42cc1e> */
-/* cpp_direct::direct::Direct::addressed_front::<#5b59ee8f9e439794> */
+/* cpp_direct::direct::Direct::addressed_front */
 static void addressed_front_4c5(u8* a,u8* b,u8* c,u64 d,u8 e,u32 f,u8* g)
 {
 u8 h[4],i[32];
@@ -50953,10 +50827,7 @@ else x4(a,0);
 return;
 }
 
-/* cpp_direct::direct::Direct::addressed_parameters::<#22100afe225e4c04> */
-/* cpp_direct::direct::Direct::addressed_parameters::<#2c6f17e3e0d01cf6> */
-/* cpp_direct::direct::Direct::addressed_parameters::<#b5179b541c42cc1e> */
-/* cpp_direct::direct::Direct::addressed_parameters::<#5b59ee8f9e439794> */
+/* cpp_direct::direct::Direct::addressed_parameters */
 static void addressed_parameters_382(u8* a,u8* b,u8* c,u64 d,u8 e,u32 f,u8* g)
 {
 A16 u8 h[4],i[32];
@@ -51024,10 +50895,7 @@ a[3]=0;}
 L1:return;
 }
 
-/* cpp_direct::direct::Direct::addressed_marked::<#22100afe225e4c04> */
-/* cpp_direct::direct::Direct::addressed_marked::<#2c6f17e3e0d01cf6> */
-/* cpp_direct::direct::Direct::addressed_marked::<#b5179b541c42cc1e> */
-/* cpp_direct::direct::Direct::addressed_marked::<#5b59ee8f9e439794> */
+/* cpp_direct::direct::Direct::addressed_marked */
 static void addressed_marked_35f(u8* a,u8* b,u8* c,u64 d,u8 e)
 {
 u64 f,h,i,k,l,m,p,r,s,u,v,w,z,B,C,E,F,G,J,L,M,O,P,Q,T,V,W,Y,Z,aa,da,ea,fa,ia,ja,la,ma;
@@ -51230,10 +51098,7 @@ a[3]=0;
 L2:return;
 }
 
-/* cpp_direct::direct::Direct::addressed_parameter::<#22100afe225e4c04> */
-/* cpp_direct::direct::Direct::addressed_parameter::<#2c6f17e3e0d01cf6> */
-/* cpp_direct::direct::Direct::addressed_parameter::<#b5179b541c42cc1e> */
-/* cpp_direct::direct::Direct::addressed_parameter::<#5b59ee8f9e439794> */
+/* cpp_direct::direct::Direct::addressed_parameter */
 static void addressed_parameter_41c(u8* a,u8* b,u8* c,u64 d,u8 e)
 {
 A16 u8 f[4];
@@ -51285,10 +51150,7 @@ a[3]=0;
 L1:return;
 }
 
-/* cpp_direct::direct::Direct::returned::<#22100afe225e4c04> */
-/* cpp_direct::direct::Direct::returned::<#2c6f17e3e0d01cf6> */
-/* cpp_direct::direct::Direct::returned::<#b5179b541c42cc1e> */
-/* cpp_direct::direct::Direct::returned::<#5b59ee8f9e439794> */
+/* cpp_direct::direct::Direct::returned */
 static void returned_acd(u8* a,u8* b,u8* c,u64 d,u8 e)
 {
 A16 u8 f[4];
@@ -51400,10 +51262,7 @@ a[3]=H;
 L3:return;
 }
 
-/* cpp_direct::direct::Direct::function_ended::<#22100afe225e4c04> */
-/* cpp_direct::direct::Direct::function_ended::<#2c6f17e3e0d01cf6> */
-/* cpp_direct::direct::Direct::function_ended::<#b5179b541c42cc1e> */
-/* cpp_direct::direct::Direct::function_ended::<#5b59ee8f9e439794> */
+/* cpp_direct::direct::Direct::function_ended */
 static void function_ended_049(u8* a,u8* b,u8* c,u64 d,u8 e)
 {
 A16 u8 f[4];
@@ -51456,10 +51315,7 @@ L2:x4(a,0);
 L1:return;
 }
 
-/* cpp_direct::direct::Direct::pass_element::<#22100afe225e4c04> */
-/* cpp_direct::direct::Direct::pass_element::<#2c6f17e3e0d01cf6> */
-/* cpp_direct::direct::Direct::pass_element::<#b5179b541c42cc1e> */
-/* cpp_direct::direct::Direct::pass_element::<#5b59ee8f9e439794> */
+/* cpp_direct::direct::Direct::pass_element */
 static void pass_element_c99(u8* a,u8* b,u8* c,u64 d)
 {
 u8 f[32];
@@ -51500,10 +51356,7 @@ a[3]=m;}
 return;
 }
 
-/* cpp_direct::direct::Direct::parameter_at::<#22100afe225e4c04> */
-/* cpp_direct::direct::Direct::parameter_at::<#2c6f17e3e0d01cf6> */
-/* cpp_direct::direct::Direct::parameter_at::<#b5179b541c42cc1e> */
-/* cpp_direct::direct::Direct::parameter_at::<#5b59ee8f9e439794> */
+/* cpp_direct::direct::Direct::parameter_at */
 static void parameter_at_c04(u8* a,u8* b,u8* c,u64 d,u8 e,u8 f)
 {
 u8 g[4];
@@ -51597,10 +51450,7 @@ a[3]=0;
 L1:return;
 }
 
-/* cpp_direct::direct::Direct::array_ended::<#22100afe225e4c04> */
-/* cpp_direct::direct::Direct::array_ended::<#2c6f17e3e0d01cf6> */
-/* cpp_direct::direct::Direct::array_ended::<#b5179b541c42cc1e> */
-/* cpp_direct::direct::Direct::array_ended::<#5b59ee8f9e439794> */
+/* cpp_direct::direct::Direct::array_ended */
 static void array_ended_08d(u8* a,u8* b,u8* c,u64 d,u8 e,u32 f,u32 g)
 {
 A16 u8 h[4];
@@ -51778,10 +51628,7 @@ L1:x4(a,0);
 L9:return;
 }
 
-/* cpp_direct::direct::Direct::enclosing_parameter::<#22100afe225e4c04> */
-/* cpp_direct::direct::Direct::enclosing_parameter::<#2c6f17e3e0d01cf6> */
-/* cpp_direct::direct::Direct::enclosing_parameter::<#b5179b541c42cc1e> */
-/* cpp_direct::direct::Direct::enclosing_parameter::<#5b59ee8f9e439794> */
+/* cpp_direct::direct::Direct::enclosing_parameter */
 static void enclosing_parameter_d72(u8* a,u8* b,u8* c,u64 d,u8 e,u32 f)
 {
 A16 u8 g[4];
@@ -51833,14 +51680,7 @@ a[3]=0;
 L1:return;
 }
 
-/* cpp_direct::direct::Direct::lambda_parameter::<#22100afe225e4c04> */
-/* cpp_direct::direct::Direct::lambda_parameter::<#efed33a7273bac1a> */
-/* cpp_direct::direct::Direct::lambda_parameter::<#2c6f17e3e0d01cf6> */
-/* cpp_direct::direct::Direct::lambda_parameter::<#464be67d5f5e1f6c> */
-/* cpp_direct::direct::Direct::lambda_parameter::<#b5179b541c42cc1e> */
-/* cpp_direct::direct::Direct::lambda_parameter::<#f912c19321383c9c> */
-/* cpp_direct::direct::Direct::lambda_parameter::<#5b59ee8f9e439794> */
-/* cpp_direct::direct::Direct::lambda_parameter::<#f5afb645cf2ff11a> */
+/* cpp_direct::direct::Direct::lambda_parameter */
 static void lambda_parameter_f9a(u8* a,u8* b,u8* c,u64 d,u32 e,u8* f)
 {
 u8 h[3];
@@ -51902,14 +51742,7 @@ a[3]=0;
 L1:return;
 }
 
-/* cpp_direct::direct::Direct::lambda_ended::<#22100afe225e4c04> */
-/* cpp_direct::direct::Direct::lambda_ended::<#efed33a7273bac1a> */
-/* cpp_direct::direct::Direct::lambda_ended::<#2c6f17e3e0d01cf6> */
-/* cpp_direct::direct::Direct::lambda_ended::<#464be67d5f5e1f6c> */
-/* cpp_direct::direct::Direct::lambda_ended::<#b5179b541c42cc1e> */
-/* cpp_direct::direct::Direct::lambda_ended::<#f912c19321383c9c> */
-/* cpp_direct::direct::Direct::lambda_ended::<#5b59ee8f9e439794> */
-/* cpp_direct::direct::Direct::lambda_ended::<#f5afb645cf2ff11a> */
+/* cpp_direct::direct::Direct::lambda_ended */
 static void lambda_ended_f43(u8* a,u8* b,u8* c,u64 d,u32 e,u8* f)
 {
 u64 g,h,j,k,l,m,n,o,q,r;
@@ -51984,14 +51817,7 @@ a[3]=0;
 L5:return;
 }
 
-/* cpp_direct::direct::Direct::enumerator::<#22100afe225e4c04> */
-/* cpp_direct::direct::Direct::enumerator::<#efed33a7273bac1a> */
-/* cpp_direct::direct::Direct::enumerator::<#2c6f17e3e0d01cf6> */
-/* cpp_direct::direct::Direct::enumerator::<#464be67d5f5e1f6c> */
-/* cpp_direct::direct::Direct::enumerator::<#b5179b541c42cc1e> */
-/* cpp_direct::direct::Direct::enumerator::<#f912c19321383c9c> */
-/* cpp_direct::direct::Direct::enumerator::<#5b59ee8f9e439794> */
-/* cpp_direct::direct::Direct::enumerator::<#f5afb645cf2ff11a> */
+/* cpp_direct::direct::Direct::enumerator */
 static void enumerator_21c(u8* a,u8* b,u8* c,u64 d)
 {
 u64 e,o,q,r,t,u,w,z;
@@ -52244,7 +52070,7 @@ else f=0;}
 L4:return f;
 }
 
-/* cpp_direct::direct::Direct::argument_ended::<#22100afe225e4c04> */
+/* cpp_direct::direct::Direct::argument_ended */
 static void argument_ended_2ff(u8* a,u8* b,u8* c,u64 d,u32 e,u8 f,u8* g,u8 h)
 {
 u8 i[4],j[32],k[32],l[32],n[32];
@@ -52415,8 +52241,7 @@ e=0;
 L1:return e;
 }
 
-/* cpp_direct::direct::Direct::next_pack::<#22100afe225e4c04> */
-/* cpp_direct::direct::Direct::next_pack::<#b5179b541c42cc1e> */
+/* cpp_direct::direct::Direct::next_pack */
 static void next_pack_bbb(u8* a,u8* b,u8* c,u64 d,u8 e,u8* f)
 {
 u8 h[16],i[32],j[16];
@@ -52554,7 +52379,7 @@ a[3]=0;}}
 L1:return;
 }
 
-/* cpp_direct::direct::Direct::begin_address::<#22100afe225e4c04> */
+/* cpp_direct::direct::Direct::begin_address */
 static void begin_address_4df(u8* a,u8* b,u8* c,u64 d)
 {
 A16 u8 e[4];
@@ -52636,8 +52461,7 @@ x4(a,0);}
 L1:return;
 }
 
-/* cpp_direct::direct::Direct::close_list::<#22100afe225e4c04> */
-/* cpp_direct::direct::Direct::close_list::<#b5179b541c42cc1e> */
+/* cpp_direct::direct::Direct::close_list */
 static void close_list_0b3(u8* a,u8* b,u8* c,u64 d,u8* e)
 {
 u8 f[32];
@@ -52767,14 +52591,7 @@ a[3]=N;}
 L1:return;
 }
 
-/* cpp_direct::direct::Direct::level_ended::<#22100afe225e4c04> */
-/* cpp_direct::direct::Direct::level_ended::<#efed33a7273bac1a> */
-/* cpp_direct::direct::Direct::level_ended::<#2c6f17e3e0d01cf6> */
-/* cpp_direct::direct::Direct::level_ended::<#464be67d5f5e1f6c> */
-/* cpp_direct::direct::Direct::level_ended::<#b5179b541c42cc1e> */
-/* cpp_direct::direct::Direct::level_ended::<#f912c19321383c9c> */
-/* cpp_direct::direct::Direct::level_ended::<#5b59ee8f9e439794> */
-/* cpp_direct::direct::Direct::level_ended::<#f5afb645cf2ff11a> */
+/* cpp_direct::direct::Direct::level_ended */
 static void level_ended_5bf(u8* a,u8* b,u8* c,u64 d,u8 e)
 {
 A16 u8 f[24];
@@ -52864,8 +52681,7 @@ x4(a,0);
 L1:return;
 }
 
-/* cpp_direct::direct::Direct::element_ended::<#22100afe225e4c04> */
-/* cpp_direct::direct::Direct::element_ended::<#b5179b541c42cc1e> */
+/* cpp_direct::direct::Direct::element_ended */
 static void element_ended_d46(u8* a,u8* b,u8* c,u64 d,u32 e,u8 f,u8* g,u8 h)
 {
 u8 i[32],j[32],k[16],l[32],n[16],o[32];
@@ -53032,8 +52848,7 @@ a[3]=0;
 L2:return;
 }
 
-/* cpp_direct::direct::Direct::empty_pack::<#22100afe225e4c04> */
-/* cpp_direct::direct::Direct::empty_pack::<#b5179b541c42cc1e> */
+/* cpp_direct::direct::Direct::empty_pack */
 static void empty_pack_06f(u8* a,u8* b,u8* c,u64 d,u8 e)
 {
 u8 g[32];
@@ -53077,14 +52892,7 @@ else x4(a,0);
 L1:return;
 }
 
-/* cpp_direct::direct::Direct::first_pack::<#22100afe225e4c04> */
-/* cpp_direct::direct::Direct::first_pack::<#efed33a7273bac1a> */
-/* cpp_direct::direct::Direct::first_pack::<#2c6f17e3e0d01cf6> */
-/* cpp_direct::direct::Direct::first_pack::<#464be67d5f5e1f6c> */
-/* cpp_direct::direct::Direct::first_pack::<#b5179b541c42cc1e> */
-/* cpp_direct::direct::Direct::first_pack::<#f912c19321383c9c> */
-/* cpp_direct::direct::Direct::first_pack::<#5b59ee8f9e439794> */
-/* cpp_direct::direct::Direct::first_pack::<#f5afb645cf2ff11a> */
+/* cpp_direct::direct::Direct::first_pack */
 static void first_pack_117(u8* a,u8* b,u8* c,u64 d)
 {
 A16 u8 e[38];
@@ -53231,8 +53039,7 @@ a[3]=0;
 L3:return;
 }
 
-/* cpp_direct::direct::Direct::begin_level::<#22100afe225e4c04> */
-/* cpp_direct::direct::Direct::begin_level::<#efed33a7273bac1a> */
+/* cpp_direct::direct::Direct::begin_level */
 static void begin_level_d05(u8* a,u8* b,u8* c,u64 d)
 {
 A16 u8 e[24];
@@ -53351,7 +53158,7 @@ x4(a,0);}
 L7:return;
 }
 
-/* cpp_direct::direct::Direct::first_literal::<#22100afe225e4c04> */
+/* cpp_direct::direct::Direct::first_literal */
 static void first_literal_618(u8* a,u8* b,u8* c,u64 d)
 {
 u8 f[32],g[32];
@@ -53800,7 +53607,7 @@ else A=0;
 return A;
 }
 
-/* cpp_direct::direct::Direct::literal::<#22100afe225e4c04> */
+/* cpp_direct::direct::Direct::literal */
 static void literal_9d0(u8* a,u8* b,u8* c,u64 d)
 {
 A16 u8 e[4];
@@ -53884,10 +53691,7 @@ L4:x4(a,0);
 L3:return;
 }
 
-/* cpp_direct::direct::Direct::nest_ended::<#22100afe225e4c04> */
-/* cpp_direct::direct::Direct::nest_ended::<#2c6f17e3e0d01cf6> */
-/* cpp_direct::direct::Direct::nest_ended::<#b5179b541c42cc1e> */
-/* cpp_direct::direct::Direct::nest_ended::<#5b59ee8f9e439794> */
+/* cpp_direct::direct::Direct::nest_ended */
 static void nest_ended_003(u8* a,u8* b,u8* c,u64 d)
 {
 u8 f[4],g[32];
@@ -54006,10 +53810,7 @@ a[3]=K;}
 L1:return;
 }
 
-/* cpp_direct::direct::Direct::addressed_named::<#22100afe225e4c04> */
-/* cpp_direct::direct::Direct::addressed_named::<#2c6f17e3e0d01cf6> */
-/* cpp_direct::direct::Direct::addressed_named::<#b5179b541c42cc1e> */
-/* cpp_direct::direct::Direct::addressed_named::<#5b59ee8f9e439794> */
+/* cpp_direct::direct::Direct::addressed_named */
 static void addressed_named_a52(u8* a,u8* b,u8* c,u64 d,u8 e)
 {
 u8 h[16];
@@ -54101,7 +53902,7 @@ else x4(a,0);}
 L2:return;
 }
 
-/* cpp_direct::direct::Direct::components_at::<#22100afe225e4c04> */
+/* cpp_direct::direct::Direct::components_at */
 static void components_at_af8(u8* a,u8* b,u8* c,u64 d)
 {
 A16 u8 e[38],f[38],g[38],h[38],i[24],j[38],k[38],l[24],m[38],n[38],o[24],p[38],q[38],r[4],s[4];
@@ -55335,14 +55136,7 @@ L11:L38:x4(a,0);
 L39:return;
 }
 
-/* cpp_direct::direct::Direct::begin_component::<#22100afe225e4c04> */
-/* cpp_direct::direct::Direct::begin_component::<#efed33a7273bac1a> */
-/* cpp_direct::direct::Direct::begin_component::<#2c6f17e3e0d01cf6> */
-/* cpp_direct::direct::Direct::begin_component::<#464be67d5f5e1f6c> */
-/* cpp_direct::direct::Direct::begin_component::<#b5179b541c42cc1e> */
-/* cpp_direct::direct::Direct::begin_component::<#f912c19321383c9c> */
-/* cpp_direct::direct::Direct::begin_component::<#5b59ee8f9e439794> */
-/* cpp_direct::direct::Direct::begin_component::<#f5afb645cf2ff11a> */
+/* cpp_direct::direct::Direct::begin_component */
 static void begin_component_d5a(u8* a,u8* b,u8* c,u64 d)
 {
 u8 e[3];
@@ -55366,7 +55160,7 @@ else x4(a,0);}
 return;
 }
 
-/* cpp_direct::direct::Direct::operator::<#22100afe225e4c04> */
+/* cpp_direct::direct::Direct::operator */
 static void operator_761(u8* a,u8* b,u8* c,u64 d)
 {
 u8 e[4],f[32];
@@ -55591,7 +55385,7 @@ else x4(a,0);}
 L1:return;
 }
 
-/* cpp_direct::direct::Direct::begin_object::<#efed33a7273bac1a> */
+/* cpp_direct::direct::Direct::begin_object */
 static void begin_object_0af(u8* a,u8* b,u8* c,u64 d)
 {
 A16 u8 e[4];
@@ -55693,7 +55487,7 @@ x4(a,0);
 L2:return;
 }
 
-/* cpp_direct::direct::Direct::nest_at::<#efed33a7273bac1a> */
+/* cpp_direct::direct::Direct::nest_at */
 static void nest_at_97a(u8* a,u8* b,u8* c,u64 d,u8 e,u8 f)
 {
 u8 g[34];
@@ -56398,7 +56192,7 @@ L16:L14:x4(a,0);
 L13:return;
 }
 
-/* cpp_direct::direct::Direct::begin_clone::<#efed33a7273bac1a> */
+/* cpp_direct::direct::Direct::begin_clone */
 static void begin_clone_5b6(u8* a,u8* b,u8* c,u64 d)
 {
 u8 e[4];
@@ -56479,7 +56273,7 @@ x4(a,0);
 L5:return;
 }
 
-/* cpp_direct::direct::Direct::begin_encoding::<#efed33a7273bac1a> */
+/* cpp_direct::direct::Direct::begin_encoding */
 static void begin_encoding_4d0(u8* a,u8* b,u8* c,u64 d)
 {
 A16 u8 e[4],f[4];
@@ -56550,7 +56344,7 @@ a[3]=o;
 return;
 }
 
-/* cpp_direct::direct::Direct::begin_in_std::<#efed33a7273bac1a> */
+/* cpp_direct::direct::Direct::begin_in_std */
 static void begin_in_std_5d2(u8* a,u8* b,u8* c,u64 d)
 {
 A16 u8 e[24],f[4];
@@ -56672,7 +56466,7 @@ x4(a,0);}
 L2:return;
 }
 
-/* cpp_direct::direct::Direct::unscoped_named::<#efed33a7273bac1a> */
+/* cpp_direct::direct::Direct::unscoped_named */
 static void unscoped_named_6a9(u8* a,u8* b,u8* c,u64 d,u32 e,u8 f)
 {
 u8 h[32],j[32];
@@ -56858,10 +56652,7 @@ a[3]=J;
 L1:return;
 }
 
-/* cpp_direct::direct::Direct::name_ended::<#efed33a7273bac1a> */
-/* cpp_direct::direct::Direct::name_ended::<#464be67d5f5e1f6c> */
-/* cpp_direct::direct::Direct::name_ended::<#f912c19321383c9c> */
-/* cpp_direct::direct::Direct::name_ended::<#f5afb645cf2ff11a> */
+/* cpp_direct::direct::Direct::name_ended */
 static void name_ended_a18(u8* a,u8* b,u8* c,u64 d,u8 e,u8 f,u8* g,u32 h)
 {
 u8 i[4],j[4],l[16],o[16];
@@ -57217,10 +57008,7 @@ a[3]=V;
 L1:return;
 }
 
-/* cpp_direct::direct::Direct::encoded::<#efed33a7273bac1a> */
-/* cpp_direct::direct::Direct::encoded::<#464be67d5f5e1f6c> */
-/* cpp_direct::direct::Direct::encoded::<#f912c19321383c9c> */
-/* cpp_direct::direct::Direct::encoded::<#f5afb645cf2ff11a> */
+/* cpp_direct::direct::Direct::encoded */
 static void encoded_306(u8* a,u8* b,u8* c,u64 d)
 {
 A16 u8 e[4],f[4];
@@ -57275,10 +57063,7 @@ a[3]=f[3];
 L2:return;
 }
 
-/* cpp_direct::direct::Direct::entity_name::<#efed33a7273bac1a> */
-/* cpp_direct::direct::Direct::entity_name::<#464be67d5f5e1f6c> */
-/* cpp_direct::direct::Direct::entity_name::<#f912c19321383c9c> */
-/* cpp_direct::direct::Direct::entity_name::<#f5afb645cf2ff11a> */
+/* cpp_direct::direct::Direct::entity_name */
 static void entity_name_404(u8* a,u8* b,u8* c,u64 d)
 {
 A16 u8 e[24],f[4];
@@ -57438,10 +57223,7 @@ L4:L2:x4(a,0);
 L1:return;
 }
 
-/* cpp_direct::direct::Direct::close::<#efed33a7273bac1a> */
-/* cpp_direct::direct::Direct::close::<#464be67d5f5e1f6c> */
-/* cpp_direct::direct::Direct::close::<#f912c19321383c9c> */
-/* cpp_direct::direct::Direct::close::<#f5afb645cf2ff11a> */
+/* cpp_direct::direct::Direct::close */
 static void close_39a(u8* a,u8* b,u8* c,u64 d,u32 e)
 {
 u8 f[4];
@@ -57506,10 +57288,7 @@ else x4(a,0);
 L1:return;
 }
 
-/* cpp_direct::direct::Direct::expansion::<#efed33a7273bac1a> */
-/* cpp_direct::direct::Direct::expansion::<#464be67d5f5e1f6c> */
-/* cpp_direct::direct::Direct::expansion::<#f912c19321383c9c> */
-/* cpp_direct::direct::Direct::expansion::<#f5afb645cf2ff11a> */
+/* cpp_direct::direct::Direct::expansion */
 static void expansion_52e(u8* a,u8* b,u8* c,u64 d,u8 e,u32 f,u8* g)
 {
 u8 j[32];
@@ -57601,7 +57380,7 @@ a[3]=0;}
 L2:return;
 }
 
-/* cpp_direct::direct::Direct::begin_operator::<#efed33a7273bac1a> */
+/* cpp_direct::direct::Direct::begin_operator */
 static void begin_operator_425(u8* a,u8* b,u8* c,u64 d)
 {
 u8 e[4];
@@ -57628,7 +57407,7 @@ a[3]=k;
 return;
 }
 
-/* cpp_direct::direct::Direct::begin_name::<#efed33a7273bac1a> */
+/* cpp_direct::direct::Direct::begin_name */
 static void begin_name_931(u8* a,u8* b,u8* c,u64 d)
 {
 A16 u8 e[24],f[4];
@@ -57746,7 +57525,7 @@ L3:L1:x4(a,0);
 L9:return;
 }
 
-/* cpp_direct::direct::Direct::begin_thunk::<#efed33a7273bac1a> */
+/* cpp_direct::direct::Direct::begin_thunk */
 static void begin_thunk_892(u8* a,u8* b,u8* c,u64 d)
 {
 A16 u8 e[4];
@@ -57844,7 +57623,7 @@ L1:x4(a,0);
 L6:return;
 }
 
-/* cpp_direct::direct::Direct::begin_virtual_thunk::<#efed33a7273bac1a> */
+/* cpp_direct::direct::Direct::begin_virtual_thunk */
 static void begin_virtual_thunk_faf(u8* a,u8* b,u8* c,u64 d)
 {
 A16 u8 e[4];
@@ -57980,7 +57759,7 @@ L1:x4(a,0);
 L11:return;
 }
 
-/* cpp_direct::direct::Direct::type_at::<#efed33a7273bac1a> */
+/* cpp_direct::direct::Direct::type_at */
 static void type_at_a00(u8* a,u8* b,u8* c,u64 d,u8 e)
 {
 A16 u8 f[4],g[4],h[4];
@@ -58139,7 +57918,7 @@ a[3]=I;
 L4:return;
 }
 
-/* cpp_direct::direct::Direct::named_type::<#efed33a7273bac1a> */
+/* cpp_direct::direct::Direct::named_type */
 static void named_type_ed0(u8* a,u8* b,u8* c,u64 d)
 {
 A16 u8 e[24],f[4],g[16],h[24],i[4];
@@ -58688,7 +58467,7 @@ L15:L16:x4(a,0);
 L24:return;
 }
 
-/* cpp_direct::direct::Direct::begin_enclosing::<#efed33a7273bac1a> */
+/* cpp_direct::direct::Direct::begin_enclosing */
 static void begin_enclosing_453(u8* a,u8* b,u8* c,u64 d)
 {
 u8 e[4],f[4];
@@ -58864,10 +58643,7 @@ L4:L2:x4(a,0);}
 L1:return;
 }
 
-/* cpp_direct::direct::Direct::enclosed::<#efed33a7273bac1a> */
-/* cpp_direct::direct::Direct::enclosed::<#464be67d5f5e1f6c> */
-/* cpp_direct::direct::Direct::enclosed::<#f912c19321383c9c> */
-/* cpp_direct::direct::Direct::enclosed::<#f5afb645cf2ff11a> */
+/* cpp_direct::direct::Direct::enclosed */
 static void enclosed_84c(u8* a,u8* b,u8* c,u64 d,u32 e)
 {
 u8 f[3];
@@ -58908,10 +58684,7 @@ x4(a,0);
 L1:return;
 }
 
-/* cpp_direct::direct::Direct::enclosing_parameters::<#efed33a7273bac1a> */
-/* cpp_direct::direct::Direct::enclosing_parameters::<#464be67d5f5e1f6c> */
-/* cpp_direct::direct::Direct::enclosing_parameters::<#f912c19321383c9c> */
-/* cpp_direct::direct::Direct::enclosing_parameters::<#f5afb645cf2ff11a> */
+/* cpp_direct::direct::Direct::enclosing_parameters */
 static void enclosing_parameters_1fa(u8* a,u8* b,u8* c,u64 d,u8 e,u32 f)
 {
 u8 g[4];
@@ -58970,10 +58743,7 @@ a[3]=0;}}
 L1:return;
 }
 
-/* cpp_direct::direct::Direct::parameter_ended::<#efed33a7273bac1a> */
-/* cpp_direct::direct::Direct::parameter_ended::<#464be67d5f5e1f6c> */
-/* cpp_direct::direct::Direct::parameter_ended::<#f912c19321383c9c> */
-/* cpp_direct::direct::Direct::parameter_ended::<#f5afb645cf2ff11a> */
+/* cpp_direct::direct::Direct::parameter_ended */
 static void parameter_ended_d3f(u8* a,u8* b,u8* c,u64 d,u32 e,u8* f)
 {
 u8 g[4],h[4],i[32];
@@ -59097,10 +58867,7 @@ a[3]=u;
 return;
 }
 
-/* cpp_direct::direct::Direct::front_ended::<#efed33a7273bac1a> */
-/* cpp_direct::direct::Direct::front_ended::<#464be67d5f5e1f6c> */
-/* cpp_direct::direct::Direct::front_ended::<#f912c19321383c9c> */
-/* cpp_direct::direct::Direct::front_ended::<#f5afb645cf2ff11a> */
+/* cpp_direct::direct::Direct::front_ended */
 static void front_ended_665(u8* a,u8* b,u8* c,u64 d,u8 e,u32 f,u8* g)
 {
 u8 h[4];
@@ -59194,10 +58961,7 @@ x4(a,0);
 L2:return;
 }
 
-/* cpp_direct::direct::Direct::pass_dependent::<#efed33a7273bac1a> */
-/* cpp_direct::direct::Direct::pass_dependent::<#464be67d5f5e1f6c> */
-/* cpp_direct::direct::Direct::pass_dependent::<#f912c19321383c9c> */
-/* cpp_direct::direct::Direct::pass_dependent::<#f5afb645cf2ff11a> */
+/* cpp_direct::direct::Direct::pass_dependent */
 static void pass_dependent_3d7(u8* a,u8* b,u8* c,u64 d)
 {
 u8 f[32];
@@ -59333,10 +59097,7 @@ a[3]=P;}
 return;
 }
 
-/* cpp_direct::direct::Direct::addressed_front::<#efed33a7273bac1a> */
-/* cpp_direct::direct::Direct::addressed_front::<#464be67d5f5e1f6c> */
-/* cpp_direct::direct::Direct::addressed_front::<#f912c19321383c9c> */
-/* cpp_direct::direct::Direct::addressed_front::<#f5afb645cf2ff11a> */
+/* cpp_direct::direct::Direct::addressed_front */
 static void addressed_front_54d(u8* a,u8* b,u8* c,u64 d,u8 e,u32 f,u8* g)
 {
 u8 i[32];
@@ -59413,10 +59174,7 @@ else x4(a,0);
 return;
 }
 
-/* cpp_direct::direct::Direct::addressed_parameters::<#efed33a7273bac1a> */
-/* cpp_direct::direct::Direct::addressed_parameters::<#464be67d5f5e1f6c> */
-/* cpp_direct::direct::Direct::addressed_parameters::<#f912c19321383c9c> */
-/* cpp_direct::direct::Direct::addressed_parameters::<#f5afb645cf2ff11a> */
+/* cpp_direct::direct::Direct::addressed_parameters */
 static void addressed_parameters_09a(u8* a,u8* b,u8* c,u64 d,u8 e,u32 f,u8* g)
 {
 A16 u8 h[32];
@@ -59507,10 +59265,7 @@ a[3]=0;}
 L3:return;
 }
 
-/* cpp_direct::direct::Direct::addressed_parameter::<#efed33a7273bac1a> */
-/* cpp_direct::direct::Direct::addressed_parameter::<#464be67d5f5e1f6c> */
-/* cpp_direct::direct::Direct::addressed_parameter::<#f912c19321383c9c> */
-/* cpp_direct::direct::Direct::addressed_parameter::<#f5afb645cf2ff11a> */
+/* cpp_direct::direct::Direct::addressed_parameter */
 static void addressed_parameter_2cf(u8* a,u8* b,u8* c,u64 d,u32 e)
 {
 u64 f,g,i,k,l,m,o,q,r,s,t,u,v,w,x,y,z,A,B,C,D,E,F,G,I,J,K,L,O,P,R,S,T,V;
@@ -59645,10 +59400,7 @@ a[3]=0;
 L1:return;
 }
 
-/* cpp_direct::direct::Direct::returned::<#efed33a7273bac1a> */
-/* cpp_direct::direct::Direct::returned::<#464be67d5f5e1f6c> */
-/* cpp_direct::direct::Direct::returned::<#f912c19321383c9c> */
-/* cpp_direct::direct::Direct::returned::<#f5afb645cf2ff11a> */
+/* cpp_direct::direct::Direct::returned */
 static void returned_322(u8* a,u8* b,u8* c,u64 d,u8 e)
 {
 A16 u8 f[4];
@@ -59760,10 +59512,7 @@ a[3]=H;
 L3:return;
 }
 
-/* cpp_direct::direct::Direct::function_ended::<#efed33a7273bac1a> */
-/* cpp_direct::direct::Direct::function_ended::<#464be67d5f5e1f6c> */
-/* cpp_direct::direct::Direct::function_ended::<#f912c19321383c9c> */
-/* cpp_direct::direct::Direct::function_ended::<#f5afb645cf2ff11a> */
+/* cpp_direct::direct::Direct::function_ended */
 static void function_ended_365(u8* a,u8* b,u8* c,u64 d,u8 e)
 {
 A16 u8 f[4];
@@ -59816,10 +59565,7 @@ L2:x4(a,0);
 L1:return;
 }
 
-/* cpp_direct::direct::Direct::pass_element::<#efed33a7273bac1a> */
-/* cpp_direct::direct::Direct::pass_element::<#464be67d5f5e1f6c> */
-/* cpp_direct::direct::Direct::pass_element::<#f912c19321383c9c> */
-/* cpp_direct::direct::Direct::pass_element::<#f5afb645cf2ff11a> */
+/* cpp_direct::direct::Direct::pass_element */
 static void pass_element_695(u8* a,u8* b,u8* c,u64 d)
 {
 u8 f[32];
@@ -59859,10 +59605,7 @@ a[3]=l;}
 return;
 }
 
-/* cpp_direct::direct::Direct::parameter_at::<#efed33a7273bac1a> */
-/* cpp_direct::direct::Direct::parameter_at::<#464be67d5f5e1f6c> */
-/* cpp_direct::direct::Direct::parameter_at::<#f912c19321383c9c> */
-/* cpp_direct::direct::Direct::parameter_at::<#f5afb645cf2ff11a> */
+/* cpp_direct::direct::Direct::parameter_at */
 static void parameter_at_3ac(u8* a,u8* b,u8* c,u64 d,u8 e,u8 f)
 {
 u8 g[4];
@@ -59956,10 +59699,7 @@ a[3]=0;
 L1:return;
 }
 
-/* cpp_direct::direct::Direct::array_ended::<#efed33a7273bac1a> */
-/* cpp_direct::direct::Direct::array_ended::<#464be67d5f5e1f6c> */
-/* cpp_direct::direct::Direct::array_ended::<#f912c19321383c9c> */
-/* cpp_direct::direct::Direct::array_ended::<#f5afb645cf2ff11a> */
+/* cpp_direct::direct::Direct::array_ended */
 static void array_ended_1b3(u8* a,u8* b,u8* c,u64 d,u8 e,u32 f,u32 g)
 {
 A16 u8 h[4];
@@ -60137,10 +59877,7 @@ L1:x4(a,0);
 L9:return;
 }
 
-/* cpp_direct::direct::Direct::enclosing_parameter::<#efed33a7273bac1a> */
-/* cpp_direct::direct::Direct::enclosing_parameter::<#464be67d5f5e1f6c> */
-/* cpp_direct::direct::Direct::enclosing_parameter::<#f912c19321383c9c> */
-/* cpp_direct::direct::Direct::enclosing_parameter::<#f5afb645cf2ff11a> */
+/* cpp_direct::direct::Direct::enclosing_parameter */
 static void enclosing_parameter_fc1(u8* a,u8* b,u8* c,u64 d,u32 e,u32 f)
 {
 u8 g[4];
@@ -60242,7 +59979,7 @@ a[3]=0;
 L1:return;
 }
 
-/* cpp_direct::direct::Direct::argument_ended::<#efed33a7273bac1a> */
+/* cpp_direct::direct::Direct::argument_ended */
 static void argument_ended_511(u8* a,u8* b,u8* c,u64 d,u32 e,u8 f,u8* g,u8 h)
 {
 u8 i[4],j[32],k[32],l[32],n[32];
@@ -60392,8 +60129,7 @@ a[3]=C;
 L4:return;
 }
 
-/* cpp_direct::direct::Direct::next_pack::<#efed33a7273bac1a> */
-/* cpp_direct::direct::Direct::next_pack::<#f912c19321383c9c> */
+/* cpp_direct::direct::Direct::next_pack */
 static void next_pack_66f(u8* a,u8* b,u8* c,u64 d,u8 e,u8* f)
 {
 u8 h[16],i[32],j[16];
@@ -60531,7 +60267,7 @@ a[3]=0;}}
 L1:return;
 }
 
-/* cpp_direct::direct::Direct::begin_address::<#efed33a7273bac1a> */
+/* cpp_direct::direct::Direct::begin_address */
 static void begin_address_ef5(u8* a,u8* b,u8* c,u64 d)
 {
 A16 u8 e[4];
@@ -60613,8 +60349,7 @@ x4(a,0);}
 L1:return;
 }
 
-/* cpp_direct::direct::Direct::close_list::<#efed33a7273bac1a> */
-/* cpp_direct::direct::Direct::close_list::<#f912c19321383c9c> */
+/* cpp_direct::direct::Direct::close_list */
 static void close_list_299(u8* a,u8* b,u8* c,u64 d,u8* e)
 {
 u8 f[32];
@@ -60744,8 +60479,7 @@ a[3]=N;}
 L1:return;
 }
 
-/* cpp_direct::direct::Direct::element_ended::<#efed33a7273bac1a> */
-/* cpp_direct::direct::Direct::element_ended::<#f912c19321383c9c> */
+/* cpp_direct::direct::Direct::element_ended */
 static void element_ended_6b8(u8* a,u8* b,u8* c,u64 d,u32 e,u8 f,u8* g,u8 h)
 {
 u8 i[32],j[32],k[16],l[32],n[16],o[32];
@@ -60912,8 +60646,7 @@ a[3]=0;
 L2:return;
 }
 
-/* cpp_direct::direct::Direct::empty_pack::<#efed33a7273bac1a> */
-/* cpp_direct::direct::Direct::empty_pack::<#f912c19321383c9c> */
+/* cpp_direct::direct::Direct::empty_pack */
 static void empty_pack_079(u8* a,u8* b,u8* c,u64 d,u8 e)
 {
 u8 g[32];
@@ -60957,7 +60690,7 @@ else x4(a,0);
 L1:return;
 }
 
-/* cpp_direct::direct::Direct::first_literal::<#efed33a7273bac1a> */
+/* cpp_direct::direct::Direct::first_literal */
 static void first_literal_c4d(u8* a,u8* b,u8* c,u64 d)
 {
 u8 f[32],g[32];
@@ -61054,7 +60787,7 @@ a[3]=e[3];
 L3:return;
 }
 
-/* cpp_direct::direct::Direct::literal::<#efed33a7273bac1a> */
+/* cpp_direct::direct::Direct::literal */
 static void literal_da7(u8* a,u8* b,u8* c,u64 d)
 {
 A16 u8 e[4];
@@ -61138,10 +60871,7 @@ L4:x4(a,0);
 L3:return;
 }
 
-/* cpp_direct::direct::Direct::nest_ended::<#efed33a7273bac1a> */
-/* cpp_direct::direct::Direct::nest_ended::<#464be67d5f5e1f6c> */
-/* cpp_direct::direct::Direct::nest_ended::<#f912c19321383c9c> */
-/* cpp_direct::direct::Direct::nest_ended::<#f5afb645cf2ff11a> */
+/* cpp_direct::direct::Direct::nest_ended */
 static void nest_ended_32a(u8* a,u8* b,u8* c,u64 d)
 {
 u8 e[4],f[4],g[4],h[32];
@@ -61470,10 +61200,7 @@ a[3]=Na;}
 L1:return;
 }
 
-/* cpp_direct::direct::Direct::addressed_named::<#efed33a7273bac1a> */
-/* cpp_direct::direct::Direct::addressed_named::<#464be67d5f5e1f6c> */
-/* cpp_direct::direct::Direct::addressed_named::<#f912c19321383c9c> */
-/* cpp_direct::direct::Direct::addressed_named::<#f5afb645cf2ff11a> */
+/* cpp_direct::direct::Direct::addressed_named */
 static void addressed_named_968(u8* a,u8* b,u8* c,u64 d,u8 e)
 {
 u8 h[16];
@@ -61565,7 +61292,7 @@ else x4(a,0);}
 L2:return;
 }
 
-/* cpp_direct::direct::Direct::components_at::<#efed33a7273bac1a> */
+/* cpp_direct::direct::Direct::components_at */
 static void components_at_8f9(u8* a,u8* b,u8* c,u64 d)
 {
 A16 u8 e[38],f[38],g[38],h[38],i[38],j[38],k[24],l[38],m[38],n[24],o[38],p[38],q[24],r[4],s[4];
@@ -62799,7 +62526,7 @@ L11:L38:x4(a,0);
 L39:return;
 }
 
-/* cpp_direct::direct::Direct::operator::<#efed33a7273bac1a> */
+/* cpp_direct::direct::Direct::operator */
 static void operator_b47(u8* a,u8* b,u8* c,u64 d)
 {
 u8 f[32];
@@ -63025,8 +62752,7 @@ else x4(a,0);}
 L1:return;
 }
 
-/* cpp_direct::direct::Direct::begin_object::<#2c6f17e3e0d01cf6> */
-/* cpp_direct::direct::Direct::begin_object::<#464be67d5f5e1f6c> */
+/* cpp_direct::direct::Direct::begin_object */
 static void begin_object_4cd(u8* a,u8* b,u8* c,u64 d)
 {
 A16 u8 e[4];
@@ -63128,8 +62854,7 @@ x4(a,0);
 L2:return;
 }
 
-/* cpp_direct::direct::Direct::nest_at::<#2c6f17e3e0d01cf6> */
-/* cpp_direct::direct::Direct::nest_at::<#464be67d5f5e1f6c> */
+/* cpp_direct::direct::Direct::nest_at */
 static void nest_at_b4c(u8* a,u8* b,u8* c,u64 d,u8 e,u8 f)
 {
 u8 g[34];
@@ -63834,7 +63559,7 @@ L16:L14:x4(a,0);
 L13:return;
 }
 
-/* cpp_direct::direct::Direct::begin_clone::<#2c6f17e3e0d01cf6> */
+/* cpp_direct::direct::Direct::begin_clone */
 static void begin_clone_906(u8* a,u8* b,u8* c,u64 d)
 {
 u8 e[4];
@@ -63915,7 +63640,7 @@ x4(a,0);
 L5:return;
 }
 
-/* cpp_direct::direct::Direct::begin_encoding::<#2c6f17e3e0d01cf6> */
+/* cpp_direct::direct::Direct::begin_encoding */
 static void begin_encoding_a64(u8* a,u8* b,u8* c,u64 d)
 {
 A16 u8 e[4],f[4];
@@ -63986,7 +63711,7 @@ a[3]=o;
 return;
 }
 
-/* cpp_direct::direct::Direct::begin_in_std::<#2c6f17e3e0d01cf6> */
+/* cpp_direct::direct::Direct::begin_in_std */
 static void begin_in_std_7ae(u8* a,u8* b,u8* c,u64 d)
 {
 A16 u8 e[24],f[4];
@@ -64108,7 +63833,7 @@ x4(a,0);}
 L2:return;
 }
 
-/* cpp_direct::direct::Direct::unscoped_named::<#2c6f17e3e0d01cf6> */
+/* cpp_direct::direct::Direct::unscoped_named */
 static void unscoped_named_e23(u8* a,u8* b,u8* c,u64 d,u32 e,u8 f)
 {
 u8 g[4],h[32],i[4],j[32];
@@ -64290,7 +64015,7 @@ a[3]=J;
 L1:return;
 }
 
-/* cpp_direct::direct::Direct::begin_operator::<#2c6f17e3e0d01cf6> */
+/* cpp_direct::direct::Direct::begin_operator */
 static void begin_operator_38a(u8* a,u8* b,u8* c,u64 d)
 {
 u8 e[4];
@@ -64317,7 +64042,7 @@ a[3]=k;
 return;
 }
 
-/* cpp_direct::direct::Direct::begin_name::<#2c6f17e3e0d01cf6> */
+/* cpp_direct::direct::Direct::begin_name */
 static void begin_name_649(u8* a,u8* b,u8* c,u64 d)
 {
 A16 u8 e[24],f[4];
@@ -64435,7 +64160,7 @@ L3:L1:x4(a,0);
 L9:return;
 }
 
-/* cpp_direct::direct::Direct::begin_thunk::<#2c6f17e3e0d01cf6> */
+/* cpp_direct::direct::Direct::begin_thunk */
 static void begin_thunk_50d(u8* a,u8* b,u8* c,u64 d)
 {
 A16 u8 e[4];
@@ -64533,7 +64258,7 @@ L1:x4(a,0);
 L6:return;
 }
 
-/* cpp_direct::direct::Direct::begin_virtual_thunk::<#2c6f17e3e0d01cf6> */
+/* cpp_direct::direct::Direct::begin_virtual_thunk */
 static void begin_virtual_thunk_1ab(u8* a,u8* b,u8* c,u64 d)
 {
 A16 u8 e[4];
@@ -64669,7 +64394,7 @@ L1:x4(a,0);
 L11:return;
 }
 
-/* cpp_direct::direct::Direct::type_at::<#2c6f17e3e0d01cf6> */
+/* cpp_direct::direct::Direct::type_at */
 static void type_at_d83(u8* a,u8* b,u8* c,u64 d,u8 e)
 {
 A16 u8 f[4],g[4],h[4];
@@ -64828,7 +64553,7 @@ a[3]=I;
 L4:return;
 }
 
-/* cpp_direct::direct::Direct::named_type::<#2c6f17e3e0d01cf6> */
+/* cpp_direct::direct::Direct::named_type */
 static void named_type_de5(u8* a,u8* b,u8* c,u64 d)
 {
 A16 u8 e[24],f[4],g[16],h[24],i[4];
@@ -65377,7 +65102,7 @@ L15:L16:x4(a,0);
 L24:return;
 }
 
-/* cpp_direct::direct::Direct::begin_enclosing::<#2c6f17e3e0d01cf6> */
+/* cpp_direct::direct::Direct::begin_enclosing */
 static void begin_enclosing_8b6(u8* a,u8* b,u8* c,u64 d)
 {
 A16 u8 e[4],f[24],g[4];
@@ -65548,7 +65273,7 @@ L4:L2:x4(a,0);}
 L1:return;
 }
 
-/* cpp_direct::direct::Direct::argument_ended::<#2c6f17e3e0d01cf6> */
+/* cpp_direct::direct::Direct::argument_ended */
 static void argument_ended_c7c(u8* a,u8* b,u8* c,u64 d,u32 e,u8 f,u8* g,u8 h)
 {
 u8 i[4],j[32],k[32],l[32],n[32];
@@ -65698,8 +65423,7 @@ a[3]=C;
 L4:return;
 }
 
-/* cpp_direct::direct::Direct::next_pack::<#2c6f17e3e0d01cf6> */
-/* cpp_direct::direct::Direct::next_pack::<#5b59ee8f9e439794> */
+/* cpp_direct::direct::Direct::next_pack */
 static void next_pack_095(u8* a,u8* b,u8* c,u64 d,u8 e,u8* f)
 {
 u8 h[16],i[32],j[16];
@@ -65837,8 +65561,7 @@ a[3]=0;}}
 L1:return;
 }
 
-/* cpp_direct::direct::Direct::begin_address::<#2c6f17e3e0d01cf6> */
-/* cpp_direct::direct::Direct::begin_address::<#464be67d5f5e1f6c> */
+/* cpp_direct::direct::Direct::begin_address */
 static void begin_address_731(u8* a,u8* b,u8* c,u64 d)
 {
 A16 u8 e[4];
@@ -65920,8 +65643,7 @@ x4(a,0);}
 L1:return;
 }
 
-/* cpp_direct::direct::Direct::close_list::<#2c6f17e3e0d01cf6> */
-/* cpp_direct::direct::Direct::close_list::<#5b59ee8f9e439794> */
+/* cpp_direct::direct::Direct::close_list */
 static void close_list_148(u8* a,u8* b,u8* c,u64 d,u8* e)
 {
 u8 f[32];
@@ -66051,8 +65773,7 @@ a[3]=N;}
 L1:return;
 }
 
-/* cpp_direct::direct::Direct::element_ended::<#2c6f17e3e0d01cf6> */
-/* cpp_direct::direct::Direct::element_ended::<#5b59ee8f9e439794> */
+/* cpp_direct::direct::Direct::element_ended */
 static void element_ended_c50(u8* a,u8* b,u8* c,u64 d,u32 e,u8 f,u8* g,u8 h)
 {
 u8 i[32],j[32],k[16],l[32],n[16],o[32];
@@ -66219,8 +65940,7 @@ a[3]=0;
 L2:return;
 }
 
-/* cpp_direct::direct::Direct::empty_pack::<#2c6f17e3e0d01cf6> */
-/* cpp_direct::direct::Direct::empty_pack::<#5b59ee8f9e439794> */
+/* cpp_direct::direct::Direct::empty_pack */
 static void empty_pack_c74(u8* a,u8* b,u8* c,u64 d,u8 e)
 {
 u8 g[32];
@@ -66264,8 +65984,7 @@ else x4(a,0);
 L1:return;
 }
 
-/* cpp_direct::direct::Direct::begin_level::<#2c6f17e3e0d01cf6> */
-/* cpp_direct::direct::Direct::begin_level::<#464be67d5f5e1f6c> */
+/* cpp_direct::direct::Direct::begin_level */
 static void begin_level_398(u8* a,u8* b,u8* c,u64 d)
 {
 A16 u8 e[24];
@@ -66384,7 +66103,7 @@ x4(a,0);}
 L7:return;
 }
 
-/* cpp_direct::direct::Direct::first_literal::<#2c6f17e3e0d01cf6> */
+/* cpp_direct::direct::Direct::first_literal */
 static void first_literal_898(u8* a,u8* b,u8* c,u64 d)
 {
 u8 f[32],g[32];
@@ -66481,7 +66200,7 @@ a[3]=e[3];
 L3:return;
 }
 
-/* cpp_direct::direct::Direct::literal::<#2c6f17e3e0d01cf6> */
+/* cpp_direct::direct::Direct::literal */
 static void literal_47f(u8* a,u8* b,u8* c,u64 d)
 {
 A16 u8 e[4];
@@ -66565,7 +66284,7 @@ L4:x4(a,0);
 L3:return;
 }
 
-/* cpp_direct::direct::Direct::components_at::<#2c6f17e3e0d01cf6> */
+/* cpp_direct::direct::Direct::components_at */
 static void components_at_b1b(u8* a,u8* b,u8* c,u64 d)
 {
 A16 u8 e[38],f[38],g[38],h[38],i[38],j[38],k[24],l[38],m[38],n[24],o[38],p[38],q[24],r[4],s[4];
@@ -67799,7 +67518,7 @@ L11:L38:x4(a,0);
 L39:return;
 }
 
-/* cpp_direct::direct::Direct::operator::<#2c6f17e3e0d01cf6> */
+/* cpp_direct::direct::Direct::operator */
 static void operator_5af(u8* a,u8* b,u8* c,u64 d)
 {
 u8 e[4],f[32];
@@ -68024,7 +67743,7 @@ else x4(a,0);}
 L1:return;
 }
 
-/* cpp_direct::direct::Direct::begin_clone::<#464be67d5f5e1f6c> */
+/* cpp_direct::direct::Direct::begin_clone */
 static void begin_clone_d83(u8* a,u8* b,u8* c,u64 d)
 {
 u8 e[4];
@@ -68105,7 +67824,7 @@ x4(a,0);
 L5:return;
 }
 
-/* cpp_direct::direct::Direct::begin_encoding::<#464be67d5f5e1f6c> */
+/* cpp_direct::direct::Direct::begin_encoding */
 static void begin_encoding_8af(u8* a,u8* b,u8* c,u64 d)
 {
 A16 u8 e[4],f[4];
@@ -68176,7 +67895,7 @@ a[3]=o;
 return;
 }
 
-/* cpp_direct::direct::Direct::begin_in_std::<#464be67d5f5e1f6c> */
+/* cpp_direct::direct::Direct::begin_in_std */
 static void begin_in_std_978(u8* a,u8* b,u8* c,u64 d)
 {
 A16 u8 e[24],f[4];
@@ -68298,7 +68017,7 @@ x4(a,0);}
 L2:return;
 }
 
-/* cpp_direct::direct::Direct::unscoped_named::<#464be67d5f5e1f6c> */
+/* cpp_direct::direct::Direct::unscoped_named */
 static void unscoped_named_e85(u8* a,u8* b,u8* c,u64 d,u32 e,u8 f)
 {
 u8 h[32],j[32];
@@ -68484,7 +68203,7 @@ a[3]=J;
 L1:return;
 }
 
-/* cpp_direct::direct::Direct::begin_operator::<#464be67d5f5e1f6c> */
+/* cpp_direct::direct::Direct::begin_operator */
 static void begin_operator_e02(u8* a,u8* b,u8* c,u64 d)
 {
 u8 e[4];
@@ -68511,7 +68230,7 @@ a[3]=k;
 return;
 }
 
-/* cpp_direct::direct::Direct::begin_name::<#464be67d5f5e1f6c> */
+/* cpp_direct::direct::Direct::begin_name */
 static void begin_name_0b0(u8* a,u8* b,u8* c,u64 d)
 {
 A16 u8 e[24],f[4];
@@ -68629,7 +68348,7 @@ L3:L1:x4(a,0);
 L9:return;
 }
 
-/* cpp_direct::direct::Direct::begin_thunk::<#464be67d5f5e1f6c> */
+/* cpp_direct::direct::Direct::begin_thunk */
 static void begin_thunk_cdf(u8* a,u8* b,u8* c,u64 d)
 {
 A16 u8 e[4];
@@ -68727,7 +68446,7 @@ L1:x4(a,0);
 L6:return;
 }
 
-/* cpp_direct::direct::Direct::begin_virtual_thunk::<#464be67d5f5e1f6c> */
+/* cpp_direct::direct::Direct::begin_virtual_thunk */
 static void begin_virtual_thunk_2ec(u8* a,u8* b,u8* c,u64 d)
 {
 A16 u8 e[4];
@@ -68863,7 +68582,7 @@ L1:x4(a,0);
 L11:return;
 }
 
-/* cpp_direct::direct::Direct::type_at::<#464be67d5f5e1f6c> */
+/* cpp_direct::direct::Direct::type_at */
 static void type_at_11d(u8* a,u8* b,u8* c,u64 d,u8 e)
 {
 A16 u8 f[4],g[4],h[4];
@@ -69022,7 +68741,7 @@ a[3]=I;
 L4:return;
 }
 
-/* cpp_direct::direct::Direct::named_type::<#464be67d5f5e1f6c> */
+/* cpp_direct::direct::Direct::named_type */
 static void named_type_bf1(u8* a,u8* b,u8* c,u64 d)
 {
 A16 u8 e[24],f[4],g[16],h[24],i[4];
@@ -69571,7 +69290,7 @@ L15:L16:x4(a,0);
 L24:return;
 }
 
-/* cpp_direct::direct::Direct::begin_enclosing::<#464be67d5f5e1f6c> */
+/* cpp_direct::direct::Direct::begin_enclosing */
 static void begin_enclosing_897(u8* a,u8* b,u8* c,u64 d)
 {
 u8 e[4],f[4];
@@ -69747,7 +69466,7 @@ L4:L2:x4(a,0);}
 L1:return;
 }
 
-/* cpp_direct::direct::Direct::argument_ended::<#464be67d5f5e1f6c> */
+/* cpp_direct::direct::Direct::argument_ended */
 static void argument_ended_e71(u8* a,u8* b,u8* c,u64 d,u32 e,u8 f,u8* g,u8 h)
 {
 u8 i[4],j[32],k[32],l[32],n[32];
@@ -69897,8 +69616,7 @@ a[3]=C;
 L4:return;
 }
 
-/* cpp_direct::direct::Direct::next_pack::<#464be67d5f5e1f6c> */
-/* cpp_direct::direct::Direct::next_pack::<#f5afb645cf2ff11a> */
+/* cpp_direct::direct::Direct::next_pack */
 static void next_pack_49a(u8* a,u8* b,u8* c,u64 d,u8 e,u8* f)
 {
 u8 h[16],i[32],j[16];
@@ -70036,8 +69754,7 @@ a[3]=0;}}
 L1:return;
 }
 
-/* cpp_direct::direct::Direct::close_list::<#464be67d5f5e1f6c> */
-/* cpp_direct::direct::Direct::close_list::<#f5afb645cf2ff11a> */
+/* cpp_direct::direct::Direct::close_list */
 static void close_list_3c2(u8* a,u8* b,u8* c,u64 d,u8* e)
 {
 u8 f[32];
@@ -70167,8 +69884,7 @@ a[3]=N;}
 L1:return;
 }
 
-/* cpp_direct::direct::Direct::element_ended::<#464be67d5f5e1f6c> */
-/* cpp_direct::direct::Direct::element_ended::<#f5afb645cf2ff11a> */
+/* cpp_direct::direct::Direct::element_ended */
 static void element_ended_20b(u8* a,u8* b,u8* c,u64 d,u32 e,u8 f,u8* g,u8 h)
 {
 u8 i[32],j[32],k[16],l[32],n[16],o[32];
@@ -70335,8 +70051,7 @@ a[3]=0;
 L2:return;
 }
 
-/* cpp_direct::direct::Direct::empty_pack::<#464be67d5f5e1f6c> */
-/* cpp_direct::direct::Direct::empty_pack::<#f5afb645cf2ff11a> */
+/* cpp_direct::direct::Direct::empty_pack */
 static void empty_pack_ea9(u8* a,u8* b,u8* c,u64 d,u8 e)
 {
 u8 g[32];
@@ -70380,7 +70095,7 @@ else x4(a,0);
 L1:return;
 }
 
-/* cpp_direct::direct::Direct::first_literal::<#464be67d5f5e1f6c> */
+/* cpp_direct::direct::Direct::first_literal */
 static void first_literal_c8e(u8* a,u8* b,u8* c,u64 d)
 {
 u8 f[32],g[32];
@@ -70477,7 +70192,7 @@ a[3]=e[3];
 L3:return;
 }
 
-/* cpp_direct::direct::Direct::literal::<#464be67d5f5e1f6c> */
+/* cpp_direct::direct::Direct::literal */
 static void literal_4a5(u8* a,u8* b,u8* c,u64 d)
 {
 A16 u8 e[4];
@@ -70561,7 +70276,7 @@ L4:x4(a,0);
 L3:return;
 }
 
-/* cpp_direct::direct::Direct::components_at::<#464be67d5f5e1f6c> */
+/* cpp_direct::direct::Direct::components_at */
 static void components_at_98c(u8* a,u8* b,u8* c,u64 d)
 {
 A16 u8 e[38],f[38],g[38],h[38],i[38],j[38],k[24],l[38],m[38],n[24],o[38],p[38],q[24],r[4],s[4];
@@ -71795,7 +71510,7 @@ L11:L38:x4(a,0);
 L39:return;
 }
 
-/* cpp_direct::direct::Direct::operator::<#464be67d5f5e1f6c> */
+/* cpp_direct::direct::Direct::operator */
 static void operator_69e(u8* a,u8* b,u8* c,u64 d)
 {
 u8 f[32];
@@ -72021,7 +71736,7 @@ else x4(a,0);}
 L1:return;
 }
 
-/* itanium::short_way::run::<#b5179b541c42cc1e> */
+/* itanium::short_way::run */
 static u8 run_197(u8* a,u8* b,u64 c,u32 d,u8* e)
 {
 u8 j[32],l[4],m[3],o[32],p[32],w[4];
@@ -72797,8 +72512,7 @@ A=0;}
 L1:return A;
 }
 
-/* cpp_direct::direct::Direct::begin_object::<#b5179b541c42cc1e> */
-/* cpp_direct::direct::Direct::begin_object::<#f912c19321383c9c> */
+/* cpp_direct::direct::Direct::begin_object */
 static void begin_object_103(u8* a,u8* b,u8* c,u64 d)
 {
 A16 u8 e[4];
@@ -72900,8 +72614,7 @@ x4(a,0);
 L2:return;
 }
 
-/* cpp_direct::direct::Direct::nest_at::<#b5179b541c42cc1e> */
-/* cpp_direct::direct::Direct::nest_at::<#f912c19321383c9c> */
+/* cpp_direct::direct::Direct::nest_at */
 static void nest_at_979(u8* a,u8* b,u8* c,u64 d,u8 e,u8 f)
 {
 u8 g[34];
@@ -73418,17 +73131,14 @@ L16:L14:x4(a,0);
 L13:return;
 }
 
-/* cpp_direct::direct::Direct::begin_clone::<#b5179b541c42cc1e> */
-/* cpp_direct::direct::Direct::begin_clone::<#f912c19321383c9c> */
-/* cpp_direct::direct::Direct::begin_clone::<#5b59ee8f9e439794> */
-/* cpp_direct::direct::Direct::begin_clone::<#f5afb645cf2ff11a> */
+/* cpp_direct::direct::Direct::begin_clone */
 static void begin_clone_893(u8* a)
 {
 x4(a,0);
 return;
 }
 
-/* cpp_direct::direct::Direct::begin_encoding::<#b5179b541c42cc1e> */
+/* cpp_direct::direct::Direct::begin_encoding */
 static void begin_encoding_417(u8* a,u8* b,u8* c,u64 d)
 {
 A16 u8 e[4],f[4];
@@ -73499,7 +73209,7 @@ a[3]=o;
 return;
 }
 
-/* cpp_direct::direct::Direct::begin_in_std::<#b5179b541c42cc1e> */
+/* cpp_direct::direct::Direct::begin_in_std */
 static void begin_in_std_146(u8* a,u8* b,u8* c,u64 d)
 {
 A16 u8 e[24],f[4];
@@ -73621,7 +73331,7 @@ x4(a,0);}
 L2:return;
 }
 
-/* cpp_direct::direct::Direct::unscoped_named::<#b5179b541c42cc1e> */
+/* cpp_direct::direct::Direct::unscoped_named */
 static void unscoped_named_462(u8* a,u8* b,u8* c,u64 d,u32 e,u8 f)
 {
 u8 g[4],h[32];
@@ -73714,7 +73424,7 @@ a[3]=n;
 return;
 }
 
-/* cpp_direct::direct::Direct::begin_operator::<#b5179b541c42cc1e> */
+/* cpp_direct::direct::Direct::begin_operator */
 static void begin_operator_03d(u8* a,u8* b,u8* c,u64 d)
 {
 u8 e[4];
@@ -73741,7 +73451,7 @@ a[3]=k;
 return;
 }
 
-/* cpp_direct::direct::Direct::begin_name::<#b5179b541c42cc1e> */
+/* cpp_direct::direct::Direct::begin_name */
 static void begin_name_5a7(u8* a,u8* b,u8* c,u64 d)
 {
 A16 u8 e[24],f[4];
@@ -73859,7 +73569,7 @@ L3:L1:x4(a,0);
 L9:return;
 }
 
-/* cpp_direct::direct::Direct::begin_thunk::<#b5179b541c42cc1e> */
+/* cpp_direct::direct::Direct::begin_thunk */
 static void begin_thunk_a85(u8* a,u8* b,u8* c,u64 d)
 {
 A16 u8 e[4];
@@ -73957,7 +73667,7 @@ L1:x4(a,0);
 L6:return;
 }
 
-/* cpp_direct::direct::Direct::begin_virtual_thunk::<#b5179b541c42cc1e> */
+/* cpp_direct::direct::Direct::begin_virtual_thunk */
 static void begin_virtual_thunk_a25(u8* a,u8* b,u8* c,u64 d)
 {
 A16 u8 e[4];
@@ -74093,7 +73803,7 @@ L1:x4(a,0);
 L11:return;
 }
 
-/* cpp_direct::direct::Direct::type_at::<#b5179b541c42cc1e> */
+/* cpp_direct::direct::Direct::type_at */
 static void type_at_78f(u8* a,u8* b,u8* c,u64 d,u8 e)
 {
 A16 u8 f[4],g[4],h[4];
@@ -74252,7 +73962,7 @@ a[3]=I;
 L4:return;
 }
 
-/* cpp_direct::direct::Direct::named_type::<#b5179b541c42cc1e> */
+/* cpp_direct::direct::Direct::named_type */
 static void named_type_132(u8* a,u8* b,u8* c,u64 d)
 {
 A16 u8 e[24],f[4],g[16],h[24],i[4];
@@ -74801,7 +74511,7 @@ L15:L16:x4(a,0);
 L24:return;
 }
 
-/* cpp_direct::direct::Direct::begin_enclosing::<#b5179b541c42cc1e> */
+/* cpp_direct::direct::Direct::begin_enclosing */
 static void begin_enclosing_161(u8* a,u8* b,u8* c,u64 d)
 {
 A16 u8 e[4],f[24],g[4];
@@ -74972,7 +74682,7 @@ L4:L2:x4(a,0);}
 L1:return;
 }
 
-/* cpp_direct::direct::Direct::argument_ended::<#b5179b541c42cc1e> */
+/* cpp_direct::direct::Direct::argument_ended */
 static void argument_ended_f01(u8* a,u8* b,u8* c,u64 d,u32 e,u8 f,u8* g,u8 h)
 {
 u8 i[32],j[32],k[32],m[32];
@@ -75091,7 +74801,7 @@ a[3]=0;
 L4:return;
 }
 
-/* cpp_direct::direct::Direct::first_literal::<#b5179b541c42cc1e> */
+/* cpp_direct::direct::Direct::first_literal */
 static void first_literal_8fe(u8* a,u8* b,u8* c,u64 d)
 {
 u8 f[32],g[32];
@@ -75188,7 +74898,7 @@ a[3]=e[3];
 L3:return;
 }
 
-/* cpp_direct::direct::Direct::literal::<#b5179b541c42cc1e> */
+/* cpp_direct::direct::Direct::literal */
 static void literal_7da(u8* a,u8* b,u8* c,u64 d)
 {
 A16 u8 e[4];
@@ -75272,7 +74982,7 @@ L4:x4(a,0);
 L3:return;
 }
 
-/* cpp_direct::direct::Direct::components_at::<#b5179b541c42cc1e> */
+/* cpp_direct::direct::Direct::components_at */
 static void components_at_f93(u8* a,u8* b,u8* c,u64 d)
 {
 A16 u8 e[38],f[38],g[38],h[24],i[38],j[24],k[38],l[24],m[4],n[4];
@@ -76118,7 +75828,7 @@ L8:L32:x4(a,0);
 L33:return;
 }
 
-/* cpp_direct::direct::Direct::operator::<#b5179b541c42cc1e> */
+/* cpp_direct::direct::Direct::operator */
 static void operator_833(u8* a,u8* b,u8* c,u64 d)
 {
 u8 e[4],f[32];
@@ -76263,7 +75973,7 @@ else x4(a,0);}
 L1:return;
 }
 
-/* cpp_direct::direct::Direct::begin_encoding::<#f912c19321383c9c> */
+/* cpp_direct::direct::Direct::begin_encoding */
 static void begin_encoding_e5c(u8* a,u8* b,u8* c,u64 d)
 {
 A16 u8 e[4],f[4];
@@ -76334,7 +76044,7 @@ a[3]=o;
 return;
 }
 
-/* cpp_direct::direct::Direct::begin_in_std::<#f912c19321383c9c> */
+/* cpp_direct::direct::Direct::begin_in_std */
 static void begin_in_std_b23(u8* a,u8* b,u8* c,u64 d)
 {
 A16 u8 e[24],f[4];
@@ -76456,7 +76166,7 @@ x4(a,0);}
 L2:return;
 }
 
-/* cpp_direct::direct::Direct::unscoped_named::<#f912c19321383c9c> */
+/* cpp_direct::direct::Direct::unscoped_named */
 static void unscoped_named_d21(u8* a,u8* b,u8* c,u64 d,u32 e,u8 f)
 {
 u8 h[32];
@@ -76551,7 +76261,7 @@ a[3]=n;
 return;
 }
 
-/* cpp_direct::direct::Direct::begin_operator::<#f912c19321383c9c> */
+/* cpp_direct::direct::Direct::begin_operator */
 static void begin_operator_fde(u8* a,u8* b,u8* c,u64 d)
 {
 u8 e[4];
@@ -76578,7 +76288,7 @@ a[3]=k;
 return;
 }
 
-/* cpp_direct::direct::Direct::begin_name::<#f912c19321383c9c> */
+/* cpp_direct::direct::Direct::begin_name */
 static void begin_name_9fc(u8* a,u8* b,u8* c,u64 d)
 {
 A16 u8 e[24],f[4];
@@ -76696,7 +76406,7 @@ L3:L1:x4(a,0);
 L9:return;
 }
 
-/* cpp_direct::direct::Direct::begin_thunk::<#f912c19321383c9c> */
+/* cpp_direct::direct::Direct::begin_thunk */
 static void begin_thunk_a5d(u8* a,u8* b,u8* c,u64 d)
 {
 A16 u8 e[4];
@@ -76794,7 +76504,7 @@ L1:x4(a,0);
 L6:return;
 }
 
-/* cpp_direct::direct::Direct::begin_virtual_thunk::<#f912c19321383c9c> */
+/* cpp_direct::direct::Direct::begin_virtual_thunk */
 static void begin_virtual_thunk_603(u8* a,u8* b,u8* c,u64 d)
 {
 A16 u8 e[4];
@@ -76930,7 +76640,7 @@ L1:x4(a,0);
 L11:return;
 }
 
-/* cpp_direct::direct::Direct::type_at::<#f912c19321383c9c> */
+/* cpp_direct::direct::Direct::type_at */
 static void type_at_925(u8* a,u8* b,u8* c,u64 d,u8 e)
 {
 A16 u8 f[4],g[4],h[4];
@@ -77089,7 +76799,7 @@ a[3]=I;
 L4:return;
 }
 
-/* cpp_direct::direct::Direct::named_type::<#f912c19321383c9c> */
+/* cpp_direct::direct::Direct::named_type */
 static void named_type_748(u8* a,u8* b,u8* c,u64 d)
 {
 A16 u8 e[24],f[4],g[16],h[24],i[4];
@@ -77638,7 +77348,7 @@ L15:L16:x4(a,0);
 L24:return;
 }
 
-/* cpp_direct::direct::Direct::begin_enclosing::<#f912c19321383c9c> */
+/* cpp_direct::direct::Direct::begin_enclosing */
 static void begin_enclosing_7ac(u8* a,u8* b,u8* c,u64 d)
 {
 u8 e[4],f[4];
@@ -77814,7 +77524,7 @@ L4:L2:x4(a,0);}
 L1:return;
 }
 
-/* cpp_direct::direct::Direct::argument_ended::<#f912c19321383c9c> */
+/* cpp_direct::direct::Direct::argument_ended */
 static void argument_ended_d25(u8* a,u8* b,u8* c,u64 d,u32 e,u8 f,u8* g,u8 h)
 {
 u8 i[32],j[32],k[32],m[32];
@@ -77933,7 +77643,7 @@ a[3]=0;
 L4:return;
 }
 
-/* cpp_direct::direct::Direct::first_literal::<#f912c19321383c9c> */
+/* cpp_direct::direct::Direct::first_literal */
 static void first_literal_8ab(u8* a,u8* b,u8* c,u64 d)
 {
 u8 f[32],g[32];
@@ -78030,7 +77740,7 @@ a[3]=e[3];
 L3:return;
 }
 
-/* cpp_direct::direct::Direct::literal::<#f912c19321383c9c> */
+/* cpp_direct::direct::Direct::literal */
 static void literal_9c1(u8* a,u8* b,u8* c,u64 d)
 {
 A16 u8 e[4];
@@ -78114,7 +77824,7 @@ L4:x4(a,0);
 L3:return;
 }
 
-/* cpp_direct::direct::Direct::components_at::<#f912c19321383c9c> */
+/* cpp_direct::direct::Direct::components_at */
 static void components_at_ca9(u8* a,u8* b,u8* c,u64 d)
 {
 A16 u8 e[38],f[38],g[38],h[24],i[38],j[24],k[38],l[24],m[4],n[4];
@@ -78960,7 +78670,7 @@ L8:L32:x4(a,0);
 L33:return;
 }
 
-/* cpp_direct::direct::Direct::operator::<#f912c19321383c9c> */
+/* cpp_direct::direct::Direct::operator */
 static void operator_2f3(u8* a,u8* b,u8* c,u64 d)
 {
 u8 f[32];
@@ -79106,8 +78816,7 @@ else x4(a,0);}
 L1:return;
 }
 
-/* cpp_direct::direct::Direct::begin_object::<#5b59ee8f9e439794> */
-/* cpp_direct::direct::Direct::begin_object::<#f5afb645cf2ff11a> */
+/* cpp_direct::direct::Direct::begin_object */
 static void begin_object_056(u8* a,u8* b,u8* c,u64 d)
 {
 A16 u8 e[4];
@@ -79209,8 +78918,7 @@ x4(a,0);
 L2:return;
 }
 
-/* cpp_direct::direct::Direct::nest_at::<#5b59ee8f9e439794> */
-/* cpp_direct::direct::Direct::nest_at::<#f5afb645cf2ff11a> */
+/* cpp_direct::direct::Direct::nest_at */
 static void nest_at_de1(u8* a,u8* b,u8* c,u64 d,u8 e,u8 f)
 {
 u8 g[34];
@@ -79727,7 +79435,7 @@ L16:L14:x4(a,0);
 L13:return;
 }
 
-/* cpp_direct::direct::Direct::begin_encoding::<#5b59ee8f9e439794> */
+/* cpp_direct::direct::Direct::begin_encoding */
 static void begin_encoding_a26(u8* a,u8* b,u8* c,u64 d)
 {
 A16 u8 e[4],f[4];
@@ -79798,7 +79506,7 @@ a[3]=o;
 return;
 }
 
-/* cpp_direct::direct::Direct::begin_in_std::<#5b59ee8f9e439794> */
+/* cpp_direct::direct::Direct::begin_in_std */
 static void begin_in_std_51a(u8* a,u8* b,u8* c,u64 d)
 {
 A16 u8 e[24],f[4];
@@ -79920,7 +79628,7 @@ x4(a,0);}
 L2:return;
 }
 
-/* cpp_direct::direct::Direct::unscoped_named::<#5b59ee8f9e439794> */
+/* cpp_direct::direct::Direct::unscoped_named */
 static void unscoped_named_107(u8* a,u8* b,u8* c,u64 d,u32 e,u8 f)
 {
 u8 g[4],h[32];
@@ -80013,7 +79721,7 @@ a[3]=n;
 return;
 }
 
-/* cpp_direct::direct::Direct::begin_operator::<#5b59ee8f9e439794> */
+/* cpp_direct::direct::Direct::begin_operator */
 static void begin_operator_bf3(u8* a,u8* b,u8* c,u64 d)
 {
 u8 e[4];
@@ -80040,7 +79748,7 @@ a[3]=k;
 return;
 }
 
-/* cpp_direct::direct::Direct::begin_name::<#5b59ee8f9e439794> */
+/* cpp_direct::direct::Direct::begin_name */
 static void begin_name_38a(u8* a,u8* b,u8* c,u64 d)
 {
 A16 u8 e[24],f[4];
@@ -80158,7 +79866,7 @@ L3:L1:x4(a,0);
 L9:return;
 }
 
-/* cpp_direct::direct::Direct::begin_thunk::<#5b59ee8f9e439794> */
+/* cpp_direct::direct::Direct::begin_thunk */
 static void begin_thunk_acc(u8* a,u8* b,u8* c,u64 d)
 {
 A16 u8 e[4];
@@ -80256,7 +79964,7 @@ L1:x4(a,0);
 L6:return;
 }
 
-/* cpp_direct::direct::Direct::begin_virtual_thunk::<#5b59ee8f9e439794> */
+/* cpp_direct::direct::Direct::begin_virtual_thunk */
 static void begin_virtual_thunk_3f7(u8* a,u8* b,u8* c,u64 d)
 {
 A16 u8 e[4];
@@ -80392,7 +80100,7 @@ L1:x4(a,0);
 L11:return;
 }
 
-/* cpp_direct::direct::Direct::type_at::<#5b59ee8f9e439794> */
+/* cpp_direct::direct::Direct::type_at */
 static void type_at_225(u8* a,u8* b,u8* c,u64 d,u8 e)
 {
 A16 u8 f[4],g[4],h[4];
@@ -80551,7 +80259,7 @@ a[3]=I;
 L4:return;
 }
 
-/* cpp_direct::direct::Direct::named_type::<#5b59ee8f9e439794> */
+/* cpp_direct::direct::Direct::named_type */
 static void named_type_e9a(u8* a,u8* b,u8* c,u64 d)
 {
 A16 u8 e[24],f[4],g[16],h[24],i[4];
@@ -81100,7 +80808,7 @@ L15:L16:x4(a,0);
 L24:return;
 }
 
-/* cpp_direct::direct::Direct::begin_enclosing::<#5b59ee8f9e439794> */
+/* cpp_direct::direct::Direct::begin_enclosing */
 static void begin_enclosing_5bc(u8* a,u8* b,u8* c,u64 d)
 {
 A16 u8 e[4],f[24],g[4];
@@ -81271,7 +80979,7 @@ L4:L2:x4(a,0);}
 L1:return;
 }
 
-/* cpp_direct::direct::Direct::argument_ended::<#5b59ee8f9e439794> */
+/* cpp_direct::direct::Direct::argument_ended */
 static void argument_ended_605(u8* a,u8* b,u8* c,u64 d,u32 e,u8 f,u8* g,u8 h)
 {
 u8 i[32],j[32],k[32],m[32];
@@ -81390,7 +81098,7 @@ a[3]=0;
 L4:return;
 }
 
-/* cpp_direct::direct::Direct::first_literal::<#5b59ee8f9e439794> */
+/* cpp_direct::direct::Direct::first_literal */
 static void first_literal_d00(u8* a,u8* b,u8* c,u64 d)
 {
 u8 f[32],g[32];
@@ -81487,7 +81195,7 @@ a[3]=e[3];
 L3:return;
 }
 
-/* cpp_direct::direct::Direct::literal::<#5b59ee8f9e439794> */
+/* cpp_direct::direct::Direct::literal */
 static void literal_8fc(u8* a,u8* b,u8* c,u64 d)
 {
 A16 u8 e[4];
@@ -81571,7 +81279,7 @@ L4:x4(a,0);
 L3:return;
 }
 
-/* cpp_direct::direct::Direct::components_at::<#5b59ee8f9e439794> */
+/* cpp_direct::direct::Direct::components_at */
 static void components_at_91b(u8* a,u8* b,u8* c,u64 d)
 {
 A16 u8 e[38],f[38],g[38],h[24],i[38],j[24],k[38],l[24],m[4],n[4];
@@ -82417,7 +82125,7 @@ L8:L32:x4(a,0);
 L33:return;
 }
 
-/* cpp_direct::direct::Direct::operator::<#5b59ee8f9e439794> */
+/* cpp_direct::direct::Direct::operator */
 static void operator_a8d(u8* a,u8* b,u8* c,u64 d)
 {
 u8 e[4],f[32];
@@ -82562,7 +82270,7 @@ else x4(a,0);}
 L1:return;
 }
 
-/* cpp_direct::direct::Direct::begin_encoding::<#f5afb645cf2ff11a> */
+/* cpp_direct::direct::Direct::begin_encoding */
 static void begin_encoding_33e(u8* a,u8* b,u8* c,u64 d)
 {
 A16 u8 e[4],f[4];
@@ -82633,7 +82341,7 @@ a[3]=o;
 return;
 }
 
-/* cpp_direct::direct::Direct::begin_in_std::<#f5afb645cf2ff11a> */
+/* cpp_direct::direct::Direct::begin_in_std */
 static void begin_in_std_46e(u8* a,u8* b,u8* c,u64 d)
 {
 A16 u8 e[24],f[4];
@@ -82755,7 +82463,7 @@ x4(a,0);}
 L2:return;
 }
 
-/* cpp_direct::direct::Direct::unscoped_named::<#f5afb645cf2ff11a> */
+/* cpp_direct::direct::Direct::unscoped_named */
 static void unscoped_named_ad2(u8* a,u8* b,u8* c,u64 d,u32 e,u8 f)
 {
 u8 h[32];
@@ -82850,7 +82558,7 @@ a[3]=n;
 return;
 }
 
-/* cpp_direct::direct::Direct::begin_operator::<#f5afb645cf2ff11a> */
+/* cpp_direct::direct::Direct::begin_operator */
 static void begin_operator_2ba(u8* a,u8* b,u8* c,u64 d)
 {
 u8 e[4];
@@ -82877,7 +82585,7 @@ a[3]=k;
 return;
 }
 
-/* cpp_direct::direct::Direct::begin_name::<#f5afb645cf2ff11a> */
+/* cpp_direct::direct::Direct::begin_name */
 static void begin_name_778(u8* a,u8* b,u8* c,u64 d)
 {
 A16 u8 e[24],f[4];
@@ -82995,7 +82703,7 @@ L3:L1:x4(a,0);
 L9:return;
 }
 
-/* cpp_direct::direct::Direct::begin_thunk::<#f5afb645cf2ff11a> */
+/* cpp_direct::direct::Direct::begin_thunk */
 static void begin_thunk_481(u8* a,u8* b,u8* c,u64 d)
 {
 A16 u8 e[4];
@@ -83093,7 +82801,7 @@ L1:x4(a,0);
 L6:return;
 }
 
-/* cpp_direct::direct::Direct::begin_virtual_thunk::<#f5afb645cf2ff11a> */
+/* cpp_direct::direct::Direct::begin_virtual_thunk */
 static void begin_virtual_thunk_f37(u8* a,u8* b,u8* c,u64 d)
 {
 A16 u8 e[4];
@@ -83229,7 +82937,7 @@ L1:x4(a,0);
 L11:return;
 }
 
-/* cpp_direct::direct::Direct::type_at::<#f5afb645cf2ff11a> */
+/* cpp_direct::direct::Direct::type_at */
 static void type_at_77f(u8* a,u8* b,u8* c,u64 d,u8 e)
 {
 A16 u8 f[4],g[4],h[4];
@@ -83388,7 +83096,7 @@ a[3]=I;
 L4:return;
 }
 
-/* cpp_direct::direct::Direct::named_type::<#f5afb645cf2ff11a> */
+/* cpp_direct::direct::Direct::named_type */
 static void named_type_faa(u8* a,u8* b,u8* c,u64 d)
 {
 A16 u8 e[24],f[4],g[16],h[24],i[4];
@@ -83937,7 +83645,7 @@ L15:L16:x4(a,0);
 L24:return;
 }
 
-/* cpp_direct::direct::Direct::begin_enclosing::<#f5afb645cf2ff11a> */
+/* cpp_direct::direct::Direct::begin_enclosing */
 static void begin_enclosing_9e4(u8* a,u8* b,u8* c,u64 d)
 {
 u8 e[4],f[4];
@@ -84113,7 +83821,7 @@ L4:L2:x4(a,0);}
 L1:return;
 }
 
-/* cpp_direct::direct::Direct::argument_ended::<#f5afb645cf2ff11a> */
+/* cpp_direct::direct::Direct::argument_ended */
 static void argument_ended_1bb(u8* a,u8* b,u8* c,u64 d,u32 e,u8 f,u8* g,u8 h)
 {
 u8 i[32],j[32],k[32],m[32];
@@ -84232,7 +83940,7 @@ a[3]=0;
 L4:return;
 }
 
-/* cpp_direct::direct::Direct::first_literal::<#f5afb645cf2ff11a> */
+/* cpp_direct::direct::Direct::first_literal */
 static void first_literal_f44(u8* a,u8* b,u8* c,u64 d)
 {
 u8 f[32],g[32];
@@ -84329,7 +84037,7 @@ a[3]=e[3];
 L3:return;
 }
 
-/* cpp_direct::direct::Direct::literal::<#f5afb645cf2ff11a> */
+/* cpp_direct::direct::Direct::literal */
 static void literal_43d(u8* a,u8* b,u8* c,u64 d)
 {
 A16 u8 e[4];
@@ -84413,7 +84121,7 @@ L4:x4(a,0);
 L3:return;
 }
 
-/* cpp_direct::direct::Direct::components_at::<#f5afb645cf2ff11a> */
+/* cpp_direct::direct::Direct::components_at */
 static void components_at_7bd(u8* a,u8* b,u8* c,u64 d)
 {
 A16 u8 e[38],f[38],g[38],h[24],i[38],j[24],k[38],l[24],m[4],n[4];
@@ -85259,7 +84967,7 @@ L8:L32:x4(a,0);
 L33:return;
 }
 
-/* cpp_direct::direct::Direct::operator::<#f5afb645cf2ff11a> */
+/* cpp_direct::direct::Direct::operator */
 static void operator_c58(u8* a,u8* b,u8* c,u64 d)
 {
 u8 f[32];
@@ -85445,7 +85153,7 @@ memset(a+176,0,16);}
 return j;
 }
 
-/* rust_short_way::run::<#efdbd589f5590f6c> */
+/* rust_short_way::run */
 static s_8_64 run_80f(u8* a,u8* b,u64 c,u32 d)
 {
 u8 h[1];
@@ -88592,7 +88300,7 @@ ko=jo;ko.f1=H;
 return ko;
 }
 
-/* std_alloc::vec::Vec::grow_amortized::<#2910af576a3e5a61> */
+/* std_alloc::vec::Vec::grow_amortized */
 static COLD u8 grow_amortized_3c2(u8* a,u64 b)
 {
 u64 c,e,f,g,h;
@@ -88625,7 +88333,7 @@ else d=0;}
 L1:return d;
 }
 
-/* sym_direct::bounded::Bounded::make_ready::<#df27b4d55454e95b> */
+/* sym_direct::bounded::Bounded::make_ready */
 static u8 make_ready_e3c(u8* a)
 {
 u64 b,c,e,f,h,i;
@@ -88651,7 +88359,7 @@ d=1;}
 L1:return d;
 }
 
-/* std_alloc::vec::Vec::grow_amortized::<#38283f41aa5b95c4> */
+/* std_alloc::vec::Vec::grow_amortized */
 static COLD u8 grow_amortized_12f(u8* a,u64 b)
 {
 u64 c,e,f,g,h;
@@ -88684,7 +88392,7 @@ else d=0;}
 L1:return d;
 }
 
-/* sym_direct::bounded::Bounded::make_ready::<#2d0560b64e22d5e3> */
+/* sym_direct::bounded::Bounded::make_ready */
 static u8 make_ready_b73(u8* a)
 {
 u64 b,c,e,f,h,i;
@@ -88710,7 +88418,7 @@ d=1;}
 L1:return d;
 }
 
-/* std_alloc::vec::Vec::grow_amortized::<#b4d2662080ac9ec0> */
+/* std_alloc::vec::Vec::grow_amortized */
 static COLD u8 grow_amortized_db1(u8* a,u64 b)
 {
 u64 c,e,f,g,h;
@@ -88743,8 +88451,7 @@ else d=0;}
 L1:return d;
 }
 
-/* rust_direct::direct::Direct::constant_argument::<#efdbd589f5590f6c> */
-/* rust_direct::direct::Direct::constant_argument::<#7ea9f40c5a1aedbe> */
+/* rust_direct::direct::Direct::constant_argument */
 static void constant_argument_0de(u8* a,u8* b,u8* c,u64 d)
 {
 u64 e,f,g,i,k,l,m,o;
@@ -89224,8 +88931,7 @@ x8(a+4,g);
 return;
 }
 
-/* rust_direct::direct::Direct::begin_impl::<#efdbd589f5590f6c> */
-/* rust_direct::direct::Direct::begin_impl::<#7ea9f40c5a1aedbe> */
+/* rust_direct::direct::Direct::begin_impl */
 static void begin_impl_c72(u8* a,u8* b,u8* c,u64 d)
 {
 A16 u8 e[40],f[32];
@@ -89316,8 +89022,7 @@ a[24]=0;}}
 L2:return;
 }
 
-/* rust_direct::direct::Direct::begin_inner_impl::<#efdbd589f5590f6c> */
-/* rust_direct::direct::Direct::begin_inner_impl::<#7ea9f40c5a1aedbe> */
+/* rust_direct::direct::Direct::begin_inner_impl */
 static void begin_inner_impl_f25(u8* a,u8* b,u64 c)
 {
 u8 *d,*j,*m;
@@ -89369,8 +89074,7 @@ a[24]=0;
 return;
 }
 
-/* rust_direct::direct::Direct::begin_trait_impl::<#efdbd589f5590f6c> */
-/* rust_direct::direct::Direct::begin_trait_impl::<#7ea9f40c5a1aedbe> */
+/* rust_direct::direct::Direct::begin_trait_impl */
 static void begin_trait_impl_220(u8* a,u8* b,u8* c,u64 d)
 {
 A16 u8 e[40],f[32];
@@ -89461,8 +89165,7 @@ a[24]=0;}}
 L2:return;
 }
 
-/* rust_direct::direct::Direct::begin_inner_trait_impl::<#efdbd589f5590f6c> */
-/* rust_direct::direct::Direct::begin_inner_trait_impl::<#7ea9f40c5a1aedbe> */
+/* rust_direct::direct::Direct::begin_inner_trait_impl */
 static void begin_inner_trait_impl_a3f(u8* a,u8* b,u64 c)
 {
 u8 *d,*j,*m;
@@ -89514,8 +89217,7 @@ a[24]=0;
 return;
 }
 
-/* rust_direct::direct::Direct::begin_trait::<#efdbd589f5590f6c> */
-/* rust_direct::direct::Direct::begin_trait::<#7ea9f40c5a1aedbe> */
+/* rust_direct::direct::Direct::begin_trait */
 static void begin_trait_f9f(u8* a,u8* b)
 {
 u64 c,d,e,f,i,j,l,m,o,p;
@@ -89661,8 +89363,7 @@ j=E;}}}
 L1:return j;
 }
 
-/* rust_direct::direct::Direct::unnamed_ended::<#efdbd589f5590f6c> */
-/* rust_direct::direct::Direct::unnamed_ended::<#7ea9f40c5a1aedbe> */
+/* rust_direct::direct::Direct::unnamed_ended */
 static u8 unnamed_ended_c46(u8* a,u8* b,u64 c,u64 d,u64 e,u8 f)
 {
 A16 u8 g[12],h[12],i[12];
@@ -89832,8 +89533,7 @@ else k=0;
 L1:return k;
 }
 
-/* rust_direct::direct::Direct::push_suffix::<#efdbd589f5590f6c> */
-/* rust_direct::direct::Direct::push_suffix::<#7ea9f40c5a1aedbe> */
+/* rust_direct::direct::Direct::push_suffix */
 static void push_suffix_49c(u8* a,u8* b,u8* c,u64 d)
 {
 u64 e,h,i,l,m,o,q,r,t,u,v,z,A,C,D,E,H,I,J,K,L,M,N,O,P,Q,R,S,T;
@@ -89984,8 +89684,7 @@ a[24]=0;
 return;
 }
 
-/* rust_direct::direct::Direct::special_named::<#efdbd589f5590f6c> */
-/* rust_direct::direct::Direct::special_named::<#7ea9f40c5a1aedbe> */
+/* rust_direct::direct::Direct::special_named */
 static void special_named_1bc(u8* a,u8* b,u8* c,u64 d,u64 e,u8 f,u64 g,u8* h,u64 i)
 {
 A16 u8 j[12],k[12],l[12];
@@ -90390,7 +90089,7 @@ else j=0;
 L1:return j;
 }
 
-/* sym_languages::languages::append_in::<#20295f288733a3eb> */
+/* sym_languages::languages::append_in */
 static void append_in_be6(u8* a,u8* b,u8* c,u64 d,u32 e,u8 f,u8* g)
 {
 A16 u8 h[12],i[96],j[88],k[12],l[84];
@@ -90618,7 +90317,7 @@ memset(a+176,0,16);}
 return j;
 }
 
-/* rust_short_way::run::<#7ea9f40c5a1aedbe> */
+/* rust_short_way::run */
 static s_8_64 run_41f(u8* a,u8* b,u64 c,u32 d)
 {
 u8 h[1];
@@ -93740,7 +93439,7 @@ io=ho;io.f1=H;
 return io;
 }
 
-/* sym_languages::legacy::append_named::<#037b6c22d415012a> */
+/* sym_languages::legacy::append_named */
 static void append_named_3cc(u8* a,u8* b,u8* c,u8 d,u8* e,u64 f,u64 g,u64 h,u8* i)
 {
 A16 u8 j[12];
@@ -94503,7 +94202,7 @@ x4(a+8,0);
 return;
 }
 
-/* sym_filter::tries::append_text::<#19612f88565abeab> */
+/* sym_filter::tries::append_text */
 static s_8_8 append_text_d40(u8* a,u8* b,u8* c,u64 d,u8* e)
 {
 A16 u8 f[12];
@@ -94676,7 +94375,7 @@ ea=da;ea.f1=g;
 return ea;
 }
 
-/* sym_filter::tries::append_parts::<#19612f88565abeab> */
+/* sym_filter::tries::append_parts */
 static s_8_8 append_parts_463(u8* a,u8* b,u8* c,u64 d,u8* e)
 {
 u8 *f,*m,*A,*I,*J,*U,*ga,*ha,*za;
@@ -94908,7 +94607,7 @@ Fa=Ea;Fa.f1=h;
 return Fa;
 }
 
-/* sym_filter::words::push_text::<#19612f88565abeab> */
+/* sym_filter::words::push_text */
 static s_8_8 push_text_e85(u8* a,u8* b,u8* c,u64 d,u8 e,u32 f,u8* g)
 {
 A16 u8 h[12];
@@ -95196,7 +94895,7 @@ else i=0;
 L2:return i;
 }
 
-/* sym_calls::counted::end_segment::<#19612f88565abeab> */
+/* sym_calls::counted::end_segment */
 static u8 end_segment_b5a(u8* a,u8* b,u8* c,u8* d,u8* e)
 {
 A16 u8 f[48];
@@ -95396,7 +95095,7 @@ J=0;}}}
 L9:return J;
 }
 
-/* sym_filter::words::Words::end_within::<#1785ac4727ad12fc> */
+/* sym_filter::words::Words::end_within */
 static void end_within_52a(u8* a,u8* b,u8* c,u8* d,u8* e)
 {
 A16 u8 f[12];
@@ -95692,7 +95391,7 @@ x8(a+40,0);
 L1:return;
 }
 
-/* sym_filter::tries::append_text::<#1785ac4727ad12fc> */
+/* sym_filter::tries::append_text */
 static s_8_8 append_text_f23(u8* a,u8* b,u8* c,u64 d,u8* e)
 {
 A16 u8 f[12];
@@ -95752,7 +95451,7 @@ n=m;n.f1=g;
 return n;
 }
 
-/* sym_filter::tries::append_parts::<#1785ac4727ad12fc> */
+/* sym_filter::tries::append_parts */
 static s_8_8 append_parts_341(u8* a,u8* b,u8* c,u64 d,u8* e)
 {
 u8 *f,*m,*A,*I,*J,*U,*ga,*ha,*za;
@@ -95984,7 +95683,7 @@ Fa=Ea;Fa.f1=h;
 return Fa;
 }
 
-/* sym_filter::words::push_text::<#1785ac4727ad12fc> */
+/* sym_filter::words::push_text */
 static s_8_8 push_text_cd1(u8* a,u8* b,u8* c,u64 d,u8 e,u32 f,u8* g)
 {
 A16 u8 h[12];
@@ -96060,7 +95759,7 @@ G=F;G.f1=i;
 return G;
 }
 
-/* sym_calls::counted::end_segment::<#1785ac4727ad12fc> */
+/* sym_calls::counted::end_segment */
 static u8 end_segment_5f1(u8* a,u8* b,u8* c,u8* d,u8* e)
 {
 A16 u8 f[48];
@@ -96260,7 +95959,7 @@ J=0;}}}
 L9:return J;
 }
 
-/* sym_filter::words::Words::end_within::<#de06db3f98aff02b> */
+/* sym_filter::words::Words::end_within */
 static void end_within_cdc(u8* a,u8* b,u8* c,u8* d,u8* e)
 {
 A16 u8 f[12];
@@ -96667,7 +96366,7 @@ x8(a+40,0);
 L1:return;
 }
 
-/* sym_languages::languages::LanguagesDemangler::append::<#bf8fa25526ac6406> */
+/* sym_languages::languages::LanguagesDemangler::append */
 static void append_86a(u8* a,u8* b,u8* c,u8 d,u8* e,u64 f,u8* g)
 {
 A16 u8 h[12],i[12],j[12],k[96],l[88],m[12],n[84],o[8];
@@ -97031,7 +96730,7 @@ x4(a+8,F);
 return;
 }
 
-/* sym_languages::legacy::append_named::<#bf8fa25526ac6406> */
+/* sym_languages::legacy::append_named */
 static void append_named_2b7(u8* a,u8* b,u8* c,u8 d,u8* e,u64 f,u64 g,u64 h,u8* i)
 {
 A16 u8 j[12];
@@ -97155,7 +96854,7 @@ x4(a+8,r4(j+8));
 return;
 }
 
-/* sym_filter::tries::append_text::<#de06db3f98aff02b> */
+/* sym_filter::tries::append_text */
 static s_8_8 append_text_076(u8* a,u8* b,u8* c,u64 d,u8* e)
 {
 A16 u8 f[12];
@@ -97328,7 +97027,7 @@ ea=da;ea.f1=g;
 return ea;
 }
 
-/* sym_filter::tries::append_parts::<#de06db3f98aff02b> */
+/* sym_filter::tries::append_parts */
 static s_8_8 append_parts_d95(u8* a,u8* b,u8* c,u64 d,u8* e)
 {
 u8 *f,*m,*A,*I,*J,*U,*ga,*ha,*za;
@@ -97560,7 +97259,7 @@ Fa=Ea;Fa.f1=h;
 return Fa;
 }
 
-/* sym_filter::words::push_text::<#de06db3f98aff02b> */
+/* sym_filter::words::push_text */
 static s_8_8 push_text_be9(u8* a,u8* b,u8* c,u64 d,u8 e,u32 f,u8* g)
 {
 A16 u8 h[12];
@@ -97748,7 +97447,7 @@ xa=wa;xa.f1=Z;
 return xa;
 }
 
-/* sym_calls::counted::end_segment::<#de06db3f98aff02b> */
+/* sym_calls::counted::end_segment */
 static u8 end_segment_2d2(u8* a,u8* b,u8* c,u8* d,u8* e)
 {
 A16 u8 f[48];
@@ -97948,7 +97647,7 @@ J=0;}}}
 L9:return J;
 }
 
-/* sym_filter::words::Words::end_within::<#b599532237a02ebc> */
+/* sym_filter::words::Words::end_within */
 static void end_within_da2(u8* a,u8* b,u8* c,u8* d,u8* e)
 {
 A16 u8 f[12];
@@ -98244,7 +97943,7 @@ x8(a+40,0);
 L1:return;
 }
 
-/* sym_filter::tries::append_text::<#b599532237a02ebc> */
+/* sym_filter::tries::append_text */
 static s_8_8 append_text_f7b(u8* a,u8* b,u8* c,u64 d,u8* e)
 {
 A16 u8 f[12];
@@ -98304,7 +98003,7 @@ n=m;n.f1=g;
 return n;
 }
 
-/* sym_filter::tries::append_parts::<#b599532237a02ebc> */
+/* sym_filter::tries::append_parts */
 static s_8_8 append_parts_ac0(u8* a,u8* b,u8* c,u64 d,u8* e)
 {
 u8 *f,*m,*A,*I,*J,*U,*ga,*ha,*za;
@@ -98536,7 +98235,7 @@ Fa=Ea;Fa.f1=h;
 return Fa;
 }
 
-/* sym_filter::words::push_text::<#b599532237a02ebc> */
+/* sym_filter::words::push_text */
 static s_8_8 push_text_045(u8* a,u8* b,u8* c,u64 d,u8 e,u32 f,u8* g)
 {
 A16 u8 h[12];
@@ -98612,7 +98311,7 @@ G=F;G.f1=i;
 return G;
 }
 
-/* sym_calls::counted::end_segment::<#b599532237a02ebc> */
+/* sym_calls::counted::end_segment */
 static u8 end_segment_f60(u8* a,u8* b,u8* c,u8* d,u8* e)
 {
 A16 u8 f[48];
@@ -98812,7 +98511,7 @@ J=0;}}}
 L9:return J;
 }
 
-/* sym_languages::pressing::press_into::<#aa97a399a1c0fb07> */
+/* sym_languages::pressing::press_into */
 static void press_into_eba(u8* a,u8* b,u32 c,u8* d,u64 e,u8* f)
 {
 u8 g[5],j[16],k[16],l[20],v[3],z[20],A[20],B[3],P[16],Q[16];
@@ -102836,7 +102535,7 @@ x8(a+56,q);
 return;
 }
 
-/* std_alloc::vec::Vec::remove::<#6f527ba22f9dbd37> */
+/* std_alloc::vec::Vec::remove */
 static void remove_fe9(u8* a,u8* b,u64 c)
 {
 A16 u8 d[112];
@@ -103448,7 +103147,7 @@ x4(a+36,0);
 L1:return;
 }
 
-/* indexmap::map::IndexMap::grow::<#62c42c0efe4ad0b3> */
+/* indexmap::map::IndexMap::grow */
 static u8 grow_4a9(u8* a,u64 b)
 {
 u64 c,f,g,h,i,m,n,o;
@@ -103509,7 +103208,7 @@ else e=0;
 L1:return e;
 }
 
-/* indexmap::index_table::IndexTable::reserve_rehash::<#e912dde104f89151> */
+/* indexmap::index_table::IndexTable::reserve_rehash */
 static u8 reserve_rehash_8d0(u8* a,u64 b)
 {
 u64 c,e,f,g,j,k,l,q,K,L,M,N,O,P,Q,U,V,W,X,ba,ca,ea,ga,ha,ia,la,ma,na,oa,ta,Na;
@@ -103698,8 +103397,7 @@ d=0;}
 L4:return d;
 }
 
-/* std_alloc::vec::Vec::grow_amortized::<#63f08fb479d95b27> */
-/* std_alloc::vec::Vec::grow_amortized::<#d85cb67d306f0a32> */
+/* std_alloc::vec::Vec::grow_amortized */
 static COLD u8 grow_amortized_d07(u8* a,u64 b)
 {
 u64 c,e,f,g,h;
@@ -103732,7 +103430,7 @@ else d=0;}
 L1:return d;
 }
 
-/* indexmap::map::IndexMap::grow::<#50547e497acef5f2> */
+/* indexmap::map::IndexMap::grow */
 static u8 grow_eae(u8* a)
 {
 u64 b,e,f,g,h,l,m,n;
@@ -103793,7 +103491,7 @@ else d=0;
 L1:return d;
 }
 
-/* indexmap::index_table::IndexTable::reserve_rehash::<#bd41fffb0d7fc294> */
+/* indexmap::index_table::IndexTable::reserve_rehash */
 static u8 reserve_rehash_5c7(u8* a)
 {
 u64 b,d,e,f,i,j,k,p,J,K,L,M,N,O,P,T,U,V,W,aa,ba,da,fa,ga,ha,ka,la,ma,na,sa,Ma;
@@ -103982,7 +103680,7 @@ c=0;}
 L4:return c;
 }
 
-/* std_collections::btree::node::Node::destroy::<#7291394150d2510a> */
+/* std_collections::btree::node::Node::destroy */
 static void destroy_ca2(u8* a)
 {
 A16 u8 b[112],c[112],d[112],e[80];
@@ -104751,7 +104449,7 @@ w8(a+16,f);
 return;
 }
 
-/* std_alloc::vec::Vec::grow_amortized::<#cdbb09177b00510f> */
+/* std_alloc::vec::Vec::grow_amortized */
 static COLD u8 grow_amortized_939(u8* a)
 {
 u64 b,d,e,f,g;
@@ -106114,7 +105812,7 @@ default:NEVER;
 return;
 }
 
-/* std_collections::btree::node::Node::destroy::<#69c2ea48ae316923> */
+/* std_collections::btree::node::Node::destroy */
 static void destroy_d9b(u8* a)
 {
 A16 u8 b[16],c[16];
@@ -106931,7 +106629,7 @@ x4(a+60,0);
 return;
 }
 
-/* std_alloc::vec::Vec::remove::<#5b7e9c9a409959f9> */
+/* std_alloc::vec::Vec::remove */
 static void remove_e9e(u8* a,u8* b,u64 c)
 {
 A16 u8 d[72];
@@ -107205,7 +106903,7 @@ w8(a+16,g);
 return;
 }
 
-/* std_collections::btree::node::Node::destroy::<#412b8f82dd209bcb> */
+/* std_collections::btree::node::Node::destroy */
 static void destroy_5ed(u8* a)
 {
 A16 u8 b[72],c[72],d[72],e[80];
@@ -107507,7 +107205,7 @@ e=h;
 goto L1;
 }
 
-/* std_alloc::vec::Vec::grow_amortized::<#4e9b15ba98afb86e> */
+/* std_alloc::vec::Vec::grow_amortized */
 static COLD u8 grow_amortized_5c7(u8* a)
 {
 u64 b,d,e,f,g;
@@ -107880,7 +107578,7 @@ else c=0;}
 L3:return c;
 }
 
-/* sym_calls::text::symbol_with::<#19612f88565abeab> */
+/* sym_calls::text::symbol_with */
 static void symbol_with_a9d(u8* a,u8* b,u8* c,u8* d,u8 e,u32 f,u8* g,u64 h,u8* i,u64 j)
 {
 A16 u8 k[12];
@@ -108082,7 +107780,7 @@ x4(a+12,fa);
 return;
 }
 
-/* sym_calls::text::short_once::<#037b6c22d415012a> */
+/* sym_calls::text::short_once */
 static void short_once_5c3(u8* a,u8* b,u8 c,u8* d,u64 e,u8* f,u64 g)
 {
 A16 u8 h[192],i[8],j[192],k[24],l[24];
@@ -108394,7 +108092,7 @@ memset(a,0,24);}
 return;
 }
 
-/* sym_calls::text::write_short::<#6c9dacfe43579438> */
+/* sym_calls::text::write_short */
 static void write_short_591(u8* a,u8* b,u64 c,u32 d,u8* e,u64 f)
 {
 A16 u8 g[208];
@@ -108711,7 +108409,7 @@ L3:memset(a,0,24);
 L11:return;
 }
 
-/* sym_calls::text::or_type::<#19612f88565abeab> */
+/* sym_calls::text::or_type */
 static void or_type_4e5(u8* a,u8* b,u8* c,u8* d,u64 e,u8* f,u64 g,u8* h)
 {
 A16 u8 i[12],j[24],k[24],l[1768],m[24],n[1768],o[1768];
@@ -109217,7 +108915,7 @@ x4(a+12,w);
 return;
 }
 
-/* sym_calls::text::or_type::<#1785ac4727ad12fc> */
+/* sym_calls::text::or_type */
 static void or_type_f9c(u8* a,u8* b,u8* c,u8* d,u64 e,u8* f,u64 g,u8* h)
 {
 A16 u8 i[24],j[24],k[12],l[1768],m[24],n[1768],o[1768];
@@ -109614,7 +109312,7 @@ x4(a+12,w);
 return;
 }
 
-/* sym_calls::text::symbol_with::<#de06db3f98aff02b> */
+/* sym_calls::text::symbol_with */
 static void symbol_with_58c(u8* a,u8* b,u8* c,u8* d,u8 e,u32 f,u8* g,u64 h,u8* i,u64 j)
 {
 A16 u8 k[12];
@@ -109816,7 +109514,7 @@ x4(a+12,fa);
 return;
 }
 
-/* sym_calls::text::short_once::<#bf8fa25526ac6406> */
+/* sym_calls::text::short_once */
 static void short_once_537(u8* a,u8* b,u8 c,u8* d,u64 e,u8* f,u64 g)
 {
 A16 u8 h[192],i[8],j[192],k[24],l[24];
@@ -110049,7 +109747,7 @@ memcpy(a+8,l+8,16);
 L9:return;
 }
 
-/* sym_calls::text::or_type::<#de06db3f98aff02b> */
+/* sym_calls::text::or_type */
 static void or_type_df6(u8* a,u8* b,u8* c,u8* d,u64 e,u8* f,u64 g,u8* h)
 {
 A16 u8 i[12],j[24],k[24],l[1768],m[24],n[1768],o[1768];
@@ -110555,7 +110253,7 @@ x4(a+12,w);
 return;
 }
 
-/* sym_calls::text::or_type::<#b599532237a02ebc> */
+/* sym_calls::text::or_type */
 static void or_type_ddd(u8* a,u8* b,u8* c,u8* d,u64 e,u8* f,u64 g,u8* h)
 {
 A16 u8 i[24],j[24],k[12],l[1768],m[24],n[1768],o[1768];

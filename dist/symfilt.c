@@ -2564,21 +2564,7 @@ static s_8_8 end_segment_c13(u8* a,u8* b,u8* c,u8* d);
 static u8 flush_764(u8* a);
 u32 port_main(void);
 
-/* std_alloc::vec::Vec::grow_amortized::<#b60a7a6ed8b5c85d> */
-/* std_alloc::vec::Vec::grow_amortized::<#1d775b5957dec42c> */
-/* std_alloc::vec::Vec::grow_amortized::<#c21ccaed65c31ca8> */
-/* std_alloc::vec::Vec::grow_amortized::<#7c055ea3b95bac7a> */
-/* std_alloc::vec::Vec::grow_amortized::<#49f8076b9827e232> */
-/* std_alloc::vec::Vec::grow_amortized::<#13df219e4eb3cd9d> */
-/* std_alloc::vec::Vec::grow_amortized::<#3a71db6cb84fa6fe> */
-/* std_alloc::vec::Vec::grow_amortized::<#0476d0f5ceb29388> */
-/* std_alloc::vec::Vec::grow_amortized::<#c40ae4705374474d> */
-/* std_alloc::vec::Vec::grow_amortized::<#33e2035bfd5c3c15> */
-/* std_alloc::vec::Vec::grow_amortized::<#e28e36fe24ece2c3> */
-/* std_alloc::vec::Vec::grow_amortized::<#6cad8081c4355b67> */
-/* std_alloc::vec::Vec::grow_amortized::<#684fd1e8f4e4393a> */
-/* std_alloc::vec::Vec::grow_amortized::<#9f1aeec49a5fcf94> */
-/* std_alloc::vec::Vec::grow_amortized::<#76da4626077e5326> */
+/* std_alloc::vec::Vec::grow_amortized */
 static COLD u8 grow_amortized_68b(u8* a,u64 b)
 {
 u64 c,e,f,g,h;
@@ -2792,7 +2778,7 @@ x8(a+16,I);
 return;
 }
 
-/* core::slice::words::skip_far::<#52f9edcae2f82f51> */
+/* core::slice::words::skip_far */
 static u64 skip_far_4c7(u8* a,u64 b,u64 c)
 {
 u8 *d,*f;
@@ -2812,8 +2798,7 @@ else h=b;
 return h;
 }
 
-/* std_alloc::vec::Vec::grow_amortized::<#f77752e459cdf631> */
-/* std_alloc::vec::Vec::grow_amortized::<#b4d2662080ac9ec0> */
+/* std_alloc::vec::Vec::grow_amortized */
 static COLD u8 grow_amortized_bce(u8* a,u64 b)
 {
 u64 c,e,f,g,h;
@@ -2846,9 +2831,8 @@ else d=0;}
 L1:return d;
 }
 
-/* std_alloc::vec::Vec::extend_from_slice::<#b9c67f6678ed98d0> */
-/* std_alloc::string::String::push_str::<#2cbb67ac55bf10f9> */
-/* std_alloc::vec::Vec::extend_from_slice::<#e80d0105ccb005ee> */
+/* std_alloc::vec::Vec::extend_from_slice */
+/* std_alloc::string::String::push_str */
 static u8 extend_from_slice_674(u8* a,u8* b,u64 c)
 {
 u64 d,e,g,h,j,m,n,o,p,q,r,s,t,u,v,w,x,y;
@@ -2908,7 +2892,7 @@ i=0;
 L1:return i;
 }
 
-/* sym_filter::streams::write_all::<#26f38624c0e75471> */
+/* sym_filter::streams::write_all */
 static s_8_8 write_all_324(u8* a,u8* b,u64 c)
 {
 u8 d;
@@ -2937,8 +2921,7 @@ k=j;k.f1=d;
 return k;
 }
 
-/* std_alloc::vec::Vec::grow_amortized::<#88c8661ba30ce53f> */
-/* std_alloc::vec::Vec::grow_amortized::<#4e9b15ba98afb86e> */
+/* std_alloc::vec::Vec::grow_amortized */
 static COLD u8 grow_amortized_a3c(u8* a)
 {
 u64 b,d,e,f,g;
@@ -3166,7 +3149,7 @@ memset(a+8,0,672);}
 return;
 }
 
-/* std_alloc::vec::Vec::grow_amortized::<#cb15977fd34c773c> */
+/* std_alloc::vec::Vec::grow_amortized */
 static COLD u8 grow_amortized_ab1(u8* a)
 {
 u64 b,d,e,f,g;
@@ -3295,7 +3278,7 @@ drop_518(d);
 return;
 }
 
-/* std_alloc::vec::Vec::drop::<#be8de08ce7f92ec6> */
+/* std_alloc::vec::Vec::drop */
 static void drop_518(u8* a)
 {
 u8 *b,*f,*g,*i;
@@ -3321,7 +3304,7 @@ L1:if(d!=0)port_rattle_dealloc(b);
 return;
 }
 
-/* std_alloc::vec::Vec::grow_amortized::<#3af3ba23e56e6a09> */
+/* std_alloc::vec::Vec::grow_amortized */
 static COLD u8 grow_amortized_cde(u8* a,u64 b)
 {
 u64 c,e,f,g,h;
@@ -6703,7 +6686,7 @@ x7(a+65,l);
 L1:return;
 }
 
-/* std_alloc::vec::Vec::grow_amortized::<#96976065f969f57f> */
+/* std_alloc::vec::Vec::grow_amortized */
 static COLD u8 grow_amortized_0f8(u8* a)
 {
 u64 b,d,e,f,g;
@@ -6736,7 +6719,7 @@ else c=0;}
 L1:return c;
 }
 
-/* std_alloc::vec::makes::VecClone::clone::<#451bfd629f355fb6> */
+/* std_alloc::vec::makes::VecClone::clone */
 static void clone_4f9(u8* a,u8* b,u64 c)
 {
 A16 u8 d[16],e[16],f[16];
@@ -6793,11 +6776,7 @@ x8(a+24,i);
 return;
 }
 
-/* std_alloc::vec::Vec::grow_amortized::<#81dfc35afd46bd5c> */
-/* std_alloc::vec::Vec::grow_amortized::<#aecfc3ea932f1c75> */
-/* std_alloc::vec::Vec::grow_amortized::<#504f5cbe60b67818> */
-/* std_alloc::vec::Vec::grow_amortized::<#5ab5cb9e07e783e9> */
-/* std_alloc::vec::Vec::grow_amortized::<#108fcd37bdeb8a9b> */
+/* std_alloc::vec::Vec::grow_amortized */
 static COLD u8 grow_amortized_a22(u8* a)
 {
 u64 b,d,e,f,g;
@@ -6830,8 +6809,7 @@ else c=0;}
 L1:return c;
 }
 
-/* std_alloc::vec::Vec::grow_amortized::<#3b6d026ce996fc29> */
-/* std_alloc::vec::Vec::grow_amortized::<#4b05cefe7b18ec2b> */
+/* std_alloc::vec::Vec::grow_amortized */
 static COLD u8 grow_amortized_5b0(u8* a)
 {
 u64 b,d,e,f,g;
@@ -9162,7 +9140,7 @@ memset(a+8,0,24);}
 L5:return;
 }
 
-/* core::fmt::formatter::Formatter::write_piece::<#723c11a72ac51573> */
+/* core::fmt::formatter::Formatter::write_piece */
 static u8 write_piece_d6a(u8* a,u8* b)
 {
 u8 *c,*d,*m,*n;
@@ -9232,7 +9210,7 @@ k=B;}
 L1:return k;
 }
 
-/* core::fmt::formatter::Formatter::write_piece::<#015c16fd8abc004f> */
+/* core::fmt::formatter::Formatter::write_piece */
 static u8 write_piece_11d(u8* a,u8* b)
 {
 u8 *c,*l,*m;
@@ -9301,8 +9279,7 @@ j=A;}
 L1:return j;
 }
 
-/* core::fmt::formatter::Formatter::write_indented::<#86a172efa8724158> */
-/* core::fmt::formatter::Formatter::write_indented::<#313070bcd8b0da33> */
+/* core::fmt::formatter::Formatter::write_indented */
 static COLD u8 write_indented_04f(u8* a,u8* b,u64 c)
 {
 u64 d,e,f,g,j;
@@ -9330,8 +9307,7 @@ i=k;
 L3:return i;
 }
 
-/* core::fmt::formatter::Formatter::write_indented_line::<#86a172efa8724158> */
-/* core::fmt::formatter::Formatter::write_indented_line::<#313070bcd8b0da33> */
+/* core::fmt::formatter::Formatter::write_indented_line */
 static u8 write_indented_line_50f(u8* a,u8* b,u64 c,u8 d)
 {
 u8 e,h,k,p,s;
@@ -9489,7 +9465,7 @@ c=1;
 L1:return c;
 }
 
-/* clap::builder::arg::StylizedDisplay::fmt::<#86a172efa8724158> */
+/* clap::builder::arg::StylizedDisplay::fmt */
 static u8 fmt_cb4(u8* a,u8* b)
 {
 A16 u8 c[24],d[24],e[24],f[24],g[32],h[4];
@@ -9991,7 +9967,7 @@ L21:s=1;
 L3:return s;
 }
 
-/* core::fmt::formatter::Formatter::write_piece::<#8b9b65c5604fc23d> */
+/* core::fmt::formatter::Formatter::write_piece */
 static u8 write_piece_f6c(u8* a,u8* b)
 {
 A16 u8 c[4];
@@ -10197,7 +10173,7 @@ m=0;}}
 L2:return m;
 }
 
-/* std_alloc::vec::Vec::drop::<#1a1580c2cfb41205> */
+/* std_alloc::vec::Vec::drop */
 static void drop_11c(u8* a)
 {
 u8 *b,*f;
@@ -10217,8 +10193,7 @@ L1:if(d!=0)port_rattle_dealloc(b);
 return;
 }
 
-/* std_alloc::vec::Vec::grow_amortized::<#b9a456f7ecdcd598> */
-/* std_alloc::vec::Vec::grow_amortized::<#973b4a116d082bbd> */
+/* std_alloc::vec::Vec::grow_amortized */
 static COLD u8 grow_amortized_b23(u8* a)
 {
 u64 b,d,e,f,g;
@@ -10251,7 +10226,7 @@ else c=0;}
 L1:return c;
 }
 
-/* std_alloc::vec::Vec::drop::<#2d89a01c2ecea42b> */
+/* std_alloc::vec::Vec::drop */
 static void drop_d66(u8* a)
 {
 u8 *b,*f;
@@ -10271,7 +10246,7 @@ L1:if(d!=0)port_rattle_dealloc(b);
 return;
 }
 
-/* std_alloc::vec::deque::VecDeque::drop::<#1a1580c2cfb41205> */
+/* std_alloc::vec::deque::VecDeque::drop */
 static void drop_326(u8* a)
 {
 u8 *b,*i,*l;
@@ -10303,7 +10278,7 @@ L3:if(d!=0)port_rattle_dealloc(b);
 return;
 }
 
-/* std_alloc::string::String::write_fmt::<#2099f3822be05dd7> */
+/* std_alloc::string::String::write_fmt */
 static u8 write_fmt_653(u8* a,u8* b)
 {
 A16 u8 c[64],d[24];
@@ -10400,7 +10375,7 @@ D=1;
 L2:return D;
 }
 
-/* core::fmt::formatter::Formatter::write_piece::<#2c8701494b08c536> */
+/* core::fmt::formatter::Formatter::write_piece */
 static u8 write_piece_2bf(u8* a,u8* b)
 {
 u8 *c,*l,*m;
@@ -10469,7 +10444,7 @@ j=A;}
 L1:return j;
 }
 
-/* std_alloc::vec::deque::VecDeque::drop::<#2d89a01c2ecea42b> */
+/* std_alloc::vec::deque::VecDeque::drop */
 static void drop_10d(u8* a)
 {
 u8 *b,*i,*l;
@@ -11100,7 +11075,7 @@ L2:w=1;}
 L37:return w;
 }
 
-/* std_alloc::string::String::write_fmt::<#004689434896fd94> */
+/* std_alloc::string::String::write_fmt */
 static u8 write_fmt_cb9(u8* a,u8* b)
 {
 A16 u8 c[64],d[24];
@@ -11242,7 +11217,7 @@ X=1;
 L6:return X;
 }
 
-/* std_alloc::string::String::write_fmt::<#b77c81cbf5ad7277> */
+/* std_alloc::string::String::write_fmt */
 static u8 write_fmt_552(u8* a,u8* b)
 {
 A16 u8 c[64],d[24];
@@ -11330,7 +11305,7 @@ D=1;
 L5:return D;
 }
 
-/* std_alloc::string::String::format::<#605efbca80f73881> */
+/* std_alloc::string::String::format */
 static void format_931(u8* a,u8* b)
 {
 u8 f[31];
@@ -18323,7 +18298,7 @@ else U=1;
 L2:return U;
 }
 
-/* std_alloc::string::String::format::<#6839e7594aae3ba1> */
+/* std_alloc::string::String::format */
 static void format_e5a(u8* a,u8* b)
 {
 u8 e[31];
@@ -18412,7 +18387,7 @@ memcpy(a+8,e+7,24);
 return;
 }
 
-/* std_alloc::string::String::write_fmt::<#a2e9c51888eedbd3> */
+/* std_alloc::string::String::write_fmt */
 static u8 write_fmt_43b(u8* a,u8* b)
 {
 A16 u8 c[64],d[24];
@@ -18732,7 +18707,7 @@ memcpy(a+8,d,24);
 L3:return;
 }
 
-/* std_collections::btree_map::BTreeMap::insert::<#9d0ca73623b707be> */
+/* std_collections::btree_map::BTreeMap::insert */
 static void insert_bee(u8* a,u8* b,u8* c,u64 d)
 {
 u8 n[16],o[16];
@@ -19285,7 +19260,7 @@ x8(a+40,d);
 L14:return;
 }
 
-/* std_alloc::vec::Vec::remove::<#209ef5882a9a6cb3> */
+/* std_alloc::vec::Vec::remove */
 static void remove_e20(u8* a,u8* b,u64 c)
 {
 A16 u8 d[32];
@@ -19438,7 +19413,7 @@ memcpy(a,d,32);
 return;
 }
 
-/* std_alloc::vec::lodged::Vec+T+Lodged::insert_reserved::<24'(,)::<#ee13f2425f1aee9b>> */
+/* std_alloc::vec::lodged::Vec+T+Lodged::insert_reserved::<24'(,)> */
 static void insert_reserved_f9f(u8* a,u64 b,u8* c)
 {
 A16 u8 d[32];
@@ -19747,7 +19722,7 @@ w8(a+16,f);
 return;
 }
 
-/* std_collections::btree::iter::Cursor::advance::<24'(,)::<#ee13f2425f1aee9b>,i64> */
+/* std_collections::btree::iter::Cursor::advance::<24'(,),i64> */
 static void advance_aec(u8* a,u64 b,u8* c,u8* d,u64 e)
 {
 u8 *f,*h,*i,*k,*l,*m,*n,*o,*q,*r,*u,*x,*A,*D,*G,*H,*J,*K,*L,*P,*S,*U,*W,*Z;
@@ -20125,7 +20100,7 @@ memcpy(a+8,d,24);
 L2:return;
 }
 
-/* std_alloc::string::String::write_fmt::<#2f338da004e7b1a4> */
+/* std_alloc::string::String::write_fmt */
 static u8 write_fmt_ce0(u8* a,u8* b)
 {
 A16 u8 c[24],d[64],e[24];
@@ -20213,7 +20188,7 @@ D=1;
 L5:return D;
 }
 
-/* std_alloc::string::String::write_fmt::<#a7de7e6af3ee7c9d> */
+/* std_alloc::string::String::write_fmt */
 static u8 write_fmt_1e1(u8* a,u8* b)
 {
 A16 u8 c[64],d[24];
@@ -21197,7 +21172,7 @@ memcpy(a+8,h+7,24);
 return;
 }
 
-/* core::slice::words::skip_far::<#878162fd265b9cd6> */
+/* core::slice::words::skip_far */
 static u64 skip_far_3a4(u8* a,u64 b,u64 c)
 {
 u8 *d,*i;
@@ -21229,8 +21204,7 @@ else t=b;
 return t;
 }
 
-/* std_alloc::string::add_wide::<#2cbb67ac55bf10f9> */
-/* std_alloc::string::add_wide::<#049f18ac9ae54c77> */
+/* std_alloc::string::add_wide */
 static u8 add_wide_db9(u8* a,u32 b)
 {
 u16 c,d;
@@ -22046,7 +22020,7 @@ x8(a+16,L?C:0);
 return;
 }
 
-/* core::slice::words::skip_far::<#d9bf6fcacf29a880> */
+/* core::slice::words::skip_far */
 static u64 skip_far_503(u8* a,u64 b,u64 c)
 {
 u8 *d,*g;
@@ -22076,7 +22050,7 @@ else r=b;
 return r;
 }
 
-/* std_collections::btree::node::Node::destroy::<#f262a4084ccbf4f6> */
+/* std_collections::btree::node::Node::destroy */
 static void destroy_ece(u8* a)
 {
 A16 u8 b[32],c[32],d[32],e[80];
@@ -22369,7 +22343,7 @@ L3:port_rattle_dealloc(L);
 return;
 }
 
-/* core::slice::edits::mirror::<24'(,)::<#ee13f2425f1aee9b>> */
+/* core::slice::edits::mirror::<24'(,)> */
 static void mirror_f97(u8* a,u8* b,u64 c)
 {
 A16 u8 d[32];
@@ -22421,8 +22395,7 @@ w8(q,r);}
 return;
 }
 
-/* std_alloc::vec::Vec::grow_amortized::<#33f378437a29c276> */
-/* std_alloc::vec::Vec::grow_amortized::<#3e74848cb5369e83> */
+/* std_alloc::vec::Vec::grow_amortized */
 static COLD u8 grow_amortized_483(u8* a)
 {
 u64 b,d,e,f,g;
@@ -23173,7 +23146,7 @@ Ua=Ta;
 L4:return Ua;
 }
 
-/* std_alloc::string::String::format::<#004689434896fd94> */
+/* std_alloc::string::String::format */
 static void format_709(u8* a,u8* b)
 {
 u8 f[31];
@@ -23780,7 +23753,7 @@ z=1;
 L3:return z;
 }
 
-/* core::fmt::formatter::Formatter::write_quoted_in_runs::<#86a172efa8724158> */
+/* core::fmt::formatter::Formatter::write_quoted_in_runs */
 static u8 write_quoted_in_runs_569(u8* a,u8* b,u64 c)
 {
 u8 i[64];
@@ -24351,7 +24324,7 @@ c=is_in_odd_run_2c2(b,32,a);
 return !c;
 }
 
-/* core::fmt::formatter::Formatter::write_code_point::<#86a172efa8724158> */
+/* core::fmt::formatter::Formatter::write_code_point */
 static u8 write_code_point_c1e(u8* a,u32 b)
 {
 A16 u8 c[4];
@@ -24388,7 +24361,7 @@ e=write_bytes_dfc(a,c,d);
 return e;
 }
 
-/* core::fmt::formatter::Formatter::write_bytes::<#86a172efa8724158> */
+/* core::fmt::formatter::Formatter::write_bytes */
 static u8 write_bytes_dfc(u8* a,u8* b,u64 c)
 {
 u8 d,g,j,A;
@@ -24485,7 +24458,7 @@ d=0;}
 L1:return d;
 }
 
-/* std_alloc::string::String::write_fmt::<#605efbca80f73881> */
+/* std_alloc::string::String::write_fmt */
 static u8 write_fmt_a9b(u8* a,u8* b)
 {
 A16 u8 c[64],d[24];
@@ -26390,7 +26363,7 @@ memset(a+16,0,32);}
 L1:return;
 }
 
-/* std_alloc::string::String::write_fmt::<#7674f49477c5ed19> */
+/* std_alloc::string::String::write_fmt */
 static u8 write_fmt_ef4(u8* a,u8* b)
 {
 A16 u8 c[64],d[24];
@@ -26952,7 +26925,7 @@ else za=0;
 L10:return za;
 }
 
-/* strsim::chars_of::<#27635608fafc1f64> */
+/* strsim::chars_of */
 static void chars_of_041(u8* a,u8* b,u64 c)
 {
 u8 e[31],f[31],g[31];
@@ -27063,7 +27036,7 @@ memcpy(a+8,g+7,24);
 return;
 }
 
-/* std_alloc::vec::Vec::grow_amortized::<#4a1b0eae23e6b5cb> */
+/* std_alloc::vec::Vec::grow_amortized */
 static COLD u8 grow_amortized_970(u8* a,u64 b)
 {
 u64 c,e,f,g,h;
@@ -27096,7 +27069,7 @@ else d=0;}
 L1:return d;
 }
 
-/* std_alloc::vec::Vec::put_at::<#973b4a116d082bbd> */
+/* std_alloc::vec::Vec::put_at */
 static void put_at_b5f(u8* a,u64 b,u8* c)
 {
 A16 u8 d[24];
@@ -27371,7 +27344,7 @@ memset(a+16,0,32);}
 return;
 }
 
-/* std_alloc::string::String::write_fmt::<#5a254c874babc368> */
+/* std_alloc::string::String::write_fmt */
 static u8 write_fmt_e8b(u8* a,u8* b)
 {
 A16 u8 c[80],d[64],e[24];
@@ -27579,8 +27552,7 @@ Ba=1;
 L12:return Ba;
 }
 
-/* core::fmt::formatter::Formatter::write_piece::<#4a996916ca981962> */
-/* core::fmt::formatter::Formatter::write_piece::<#499173829830abb3> */
+/* core::fmt::formatter::Formatter::write_piece */
 static u8 write_piece_94c(u8* a,u8* b)
 {
 u8 c[24];
@@ -29535,7 +29507,7 @@ L2:d=0;
 L1:return d;
 }
 
-/* core::dec2flt::long::from_long::<#1d521972340cebc2> */
+/* core::dec2flt::long::from_long */
 static COLD void from_long_fc9(u8* a,u64 b,u8* c,u64 d,u64 e,u64 f)
 {
 A16 u8 g[600],h[600],i[24];
@@ -29771,7 +29743,7 @@ L14:break_tie_638(h,0,usub128(e,o),usub128(o,e),M,N);}}}}}
 L3:return;
 }
 
-/* core::dec2flt::lemire::eisel_lemire_wide::<#1d521972340cebc2> */
+/* core::dec2flt::lemire::eisel_lemire_wide */
 static COLD void eisel_lemire_wide_d19(u8* a,u64 b,u64 c,u64 d)
 {
 u64 e,f,i,j,k,m,n,o,p,q,u;
@@ -29814,7 +29786,7 @@ x8(a+16,q);
 return;
 }
 
-/* core::dec2flt::decimal::break_tie::<#1d521972340cebc2> */
+/* core::dec2flt::decimal::break_tie */
 static COLD u64 break_tie_638(u8* a,u8 b,u64 c,u64 d,u64 e,u64 f)
 {
 A16 u8 g[600],h[600];
@@ -30052,7 +30024,7 @@ w8(a+592,z+1);}}
 return;
 }
 
-/* core::dec2flt::words::read_word::<#1d521972340cebc2> */
+/* core::dec2flt::words::read_word */
 static COLD void read_word_24d(u8* a,u8* b,u64 c,u8 d)
 {
 double e,g;
@@ -30310,7 +30282,7 @@ e=((q8(a+(i64)B)!=q8(c+(i64)B)||q8(a+(i64)C)!=q8(c+(i64)C))||q8(a+(i64)D)!=q8(c+
 L1:return !e;
 }
 
-/* core::fmt::formatter::Formatter::write_piece::<#fec9bc1a24fe1fcf> */
+/* core::fmt::formatter::Formatter::write_piece */
 static u8 write_piece_0fe(u8* a,u8* b)
 {
 u8 c[24];
@@ -30382,7 +30354,7 @@ B=D;}
 L3:return B;
 }
 
-/* clap::error::Error::value_validation::<#46e14f32b5b82833> */
+/* clap::error::Error::value_validation */
 static void value_validation_c13(u8* a,u8* b,u8* c,u64 d,u8* e,u64 f,u8* g)
 {
 A16 u8 h[64],i[24],j[24],k[24];
@@ -30638,7 +30610,7 @@ memset(a+16,0,32);}
 L9:return;
 }
 
-/* clap::error::Error::value_validation::<#7038ba82785d2ff1> */
+/* clap::error::Error::value_validation */
 static void value_validation_975(u8* a,u8* b,u8* c,u64 d,u8* e,u64 f,u8* g,u64 h)
 {
 A16 u8 i[88],j[64],k[24],l[16],m[24];
@@ -32122,7 +32094,7 @@ break;}
 return g;
 }
 
-/* std_alloc::string::String::write_fmt::<#30f651fa9ab76bd9> */
+/* std_alloc::string::String::write_fmt */
 static u8 write_fmt_c78(u8* a,u8* b)
 {
 A16 u8 c[32],d[64],e[24];
@@ -34177,7 +34149,7 @@ memset(a+16,0,32);}
 L1:return;
 }
 
-/* std_alloc::string::String::write_fmt::<#d2f68f8fdebec0d1> */
+/* std_alloc::string::String::write_fmt */
 static u8 write_fmt_619(u8* a,u8* b)
 {
 A16 u8 c[112],d[64],e[24];
@@ -34488,7 +34460,7 @@ ub=1;
 L18:return ub;
 }
 
-/* std_alloc::boxed::Box::new::<#d806f75603876adb> */
+/* std_alloc::boxed::Box::new */
 static void new_47e(u8* a,u8* b)
 {
 A16 u8 c[24];
@@ -34530,7 +34502,7 @@ x8(a+56,n);
 return;
 }
 
-/* core::result::ResultFromResidualErrResidual::from_residual::<#5c597c011e3a171b> */
+/* core::result::ResultFromResidualErrResidual::from_residual */
 static void from_residual_da1(u8* a,u8* b)
 {
 A16 u8 c[40],d[40],e[24];
@@ -39677,7 +39649,7 @@ m=0;}
 L4:return m;
 }
 
-/* std_alloc::boxed::Box::drop::<#d2a52521aa2f4aea> */
+/* std_alloc::boxed::Box::drop */
 static void drop_942(u8* a)
 {
 A16 u8 b[40],c[40],d[40];
@@ -39706,8 +39678,7 @@ goto L1;}}
 return;
 }
 
-/* std_alloc::vec::Vec::drop::<#f750efd44e124a3d> */
-/* std_alloc::vec::Vec::drop::<#7fcb2a19b6565a39> */
+/* std_alloc::vec::Vec::drop */
 static void drop_3d5(u8* a)
 {
 u8 *b,*f,*g,*i;
@@ -40234,7 +40205,7 @@ memset(a+93,0,3);
 L4:return;
 }
 
-/* symfilt_command::command::answer_all::<#5495e0e309716171> */
+/* symfilt_command::command::answer_all */
 static void answer_all_a69(u8* a,u8* b,u64 c,u8* d,u8* e)
 {
 u8 E[3],ea[3];
@@ -43038,7 +43009,7 @@ L3:memset(a,0,24);
 L11:return;
 }
 
-/* sym_languages::languages::LanguagesDemangler::demangle::<#b5cd08ac6d7bd0a2> */
+/* sym_languages::languages::LanguagesDemangler::demangle */
 static void demangle_92e(u8* a,u8* b,u8* c,u8 d,u8* e,u64 f,u8* g)
 {
 A16 u8 h[12],i[96],j[88],k[12],l[84],m[16];
@@ -43190,7 +43161,7 @@ memcpy(a+4,m+4,12);
 return;
 }
 
-/* sym_demangle::workspace::Workspace::read_on::<#22be8d90cb446a26> */
+/* sym_demangle::workspace::Workspace::read_on */
 static void read_on_1f7(u8* a,u8* b,u8* c,u64 d)
 {
 A16 u8 e[12],f[12],g[96],h[112],i[24];
@@ -43405,7 +43376,7 @@ memcpy(a+8,g+8,88);
 L6:return;
 }
 
-/* sym_shape::parse::Parse::run::<#b692cb71ef6d912b> */
+/* sym_shape::parse::Parse::run */
 static void run_f89(u8* a,u8* b,u8* c,u64 d,u8 e)
 {
 A16 u8 f[32],g[32],h[12];
@@ -44009,7 +43980,7 @@ x8(a+24,Q);}}
 L4:return;
 }
 
-/* std_alloc::vec::Vec::grow_amortized::<#0a74335d2026d749> */
+/* std_alloc::vec::Vec::grow_amortized */
 static COLD u8 grow_amortized_fda(u8* a,u64 b)
 {
 u64 c,e,f,g,h;
@@ -44042,7 +44013,7 @@ else d=0;}
 L1:return d;
 }
 
-/* std_alloc::vec::Vec::grow_amortized::<#0155bca63e5b7d92> */
+/* std_alloc::vec::Vec::grow_amortized */
 static COLD u8 grow_amortized_034(u8* a)
 {
 u64 b,d,e,f,g;
@@ -44089,7 +44060,7 @@ default:NEVER;
 return b;
 }
 
-/* sym_shape::parse::Parse::advance::<#b692cb71ef6d912b> */
+/* sym_shape::parse::Parse::advance */
 static void advance_717(u8* a,u8* b,u8* c,u64 d,u8 e)
 {
 A16 u8 f[32];
@@ -44476,8 +44447,7 @@ x4(a+8,q);
 return;
 }
 
-/* sym_demangle::workspace::Workspace::link::<#22be8d90cb446a26> */
-/* sym_demangle::workspace::Workspace::link::<#c937bb345a34077c> */
+/* sym_demangle::workspace::Workspace::link */
 static void link_63f(u8* a,u8* b)
 {
 A16 u8 c[68],d[20],e[12],f[68],g[68],h[12],i[68];
@@ -44595,7 +44565,7 @@ x4(a+8,0);
 return;
 }
 
-/* std_alloc::vec::Vec::grow_amortized::<#81a473883fb1210a> */
+/* std_alloc::vec::Vec::grow_amortized */
 static COLD u8 grow_amortized_fc3_2(u8* a,u64 b)
 {
 u64 c,e,f,g,h;
@@ -44628,7 +44598,7 @@ else d=0;}
 L1:return d;
 }
 
-/* sym_link::driver::Driver::run::<#f07c8f9946aa36f1> */
+/* sym_link::driver::Driver::run */
 static void run_5b5(u8* a,u8* b,u8* c,u8* d,u64 e,u8* f,u64 g)
 {
 A16 u8 h[24],i[24],j[24],k[12],l[16],m[12],n[16],o[12],p[40],q[24],r[24],s[12],t[16],u[12],v[40],w[12];
@@ -45038,7 +45008,7 @@ x4(a+8,z);
 return;
 }
 
-/* sym_link::threads::token_by::<#04aa88bc871ad517> */
+/* sym_link::threads::token_by */
 static void token_by_0b9(u8* a,u8* b,u8* c,u8* d,u8* e,u8* f)
 {
 A16 u8 g[24],h[24];
@@ -47629,7 +47599,7 @@ x8(a+40,0);
 return;
 }
 
-/* std_alloc::vec::Vec::grow_amortized::<#6fc4ea738c319a9f> */
+/* std_alloc::vec::Vec::grow_amortized */
 static COLD u8 grow_amortized_757(u8* a)
 {
 u64 b,d,e,f,g;
@@ -49389,7 +49359,7 @@ x2(a+22,G);
 return;
 }
 
-/* std_alloc::vec::Vec::grow_amortized::<#340807fad2c58c23> */
+/* std_alloc::vec::Vec::grow_amortized */
 static COLD u8 grow_amortized_934(u8* a)
 {
 u64 b,d,e,f,g;
@@ -51439,7 +51409,7 @@ x4(a+8,s);
 return;
 }
 
-/* std_alloc::vec::Vec::grow_amortized::<#d202b1c4eed420e7> */
+/* std_alloc::vec::Vec::grow_amortized */
 static COLD u8 grow_amortized_6c7(u8* a)
 {
 u64 b,d,e,f,g;
@@ -58335,8 +58305,7 @@ memcpy(a+33,t,39);
 return;
 }
 
-/* sym_demangle::workspace::Workspace::print::<#22be8d90cb446a26> */
-/* sym_demangle::workspace::Workspace::print::<#7f1d8e4947097346> */
+/* sym_demangle::workspace::Workspace::print */
 static void print_63a(u8* a,u8* b,u8* c,u32 d,u8 e,u8* f)
 {
 u8 h[3],i[3],j[3],m[3],n[3],o[3];
@@ -59164,7 +59133,7 @@ x4(a+8,0);
 return;
 }
 
-/* std_alloc::vec::Vec::grow_amortized::<#a371215e05a01b3a> */
+/* std_alloc::vec::Vec::grow_amortized */
 static COLD u8 grow_amortized_c30(u8* a,u64 b)
 {
 u64 c,e,f,g,h;
@@ -59197,8 +59166,7 @@ else d=0;}
 L1:return d;
 }
 
-/* std_alloc::vec::Vec::grow_amortized::<#9c6aea69be8f05e1> */
-/* std_alloc::vec::Vec::grow_amortized::<#6ae7a28301eef264> */
+/* std_alloc::vec::Vec::grow_amortized */
 static COLD u8 grow_amortized_670(u8* a,u64 b)
 {
 u64 c,e,f,g,h;
@@ -59231,8 +59199,7 @@ else d=0;}
 L1:return d;
 }
 
-/* std_alloc::vec::Vec::grow_amortized::<#558c6cb12a09ee9d> */
-/* std_alloc::vec::Vec::grow_amortized::<#545b7bc66723c1a5> */
+/* std_alloc::vec::Vec::grow_amortized */
 static COLD u8 grow_amortized_ab4(u8* a)
 {
 u64 b,d,e,f,g;
@@ -59265,7 +59232,7 @@ else c=0;}
 L1:return c;
 }
 
-/* cpp_layout::symbol::Symbol::fill_form::<#98699c36a381be52> */
+/* cpp_layout::symbol::Symbol::fill_form */
 static void fill_form_1ff(u8* a,u8* b,u32 c,u32 d,u32 e,u8* f)
 {
 u8 g[3],l[3],r[3],u[3],v[3],x[3];
@@ -60404,7 +60371,7 @@ break;}
 L7:return;
 }
 
-/* cpp_layout::symbol::Symbol::fill_rare_piece::<#98699c36a381be52> */
+/* cpp_layout::symbol::Symbol::fill_rare_piece */
 static void fill_rare_piece_017(u8* a,u8* b,u8* c,u8* d)
 {
 A16 u8 e[20],f[20],g[20],h[20];
@@ -60616,7 +60583,7 @@ break;}
 return c;
 }
 
-/* cpp_layout::symbol::Symbol::fill_lambda::<#98699c36a381be52> */
+/* cpp_layout::symbol::Symbol::fill_lambda */
 static void fill_lambda_b73(u8* a,u8* b,u32 c,u64 d,u8* e)
 {
 u8 f[3],g[3],h[3];
@@ -60677,7 +60644,7 @@ w8(b+8,u+1);
 return;
 }
 
-/* cpp_layout::symbol::Symbol::push_decimal::<#98699c36a381be52> */
+/* cpp_layout::symbol::Symbol::push_decimal */
 static void push_decimal_2c3(u8* a,u64 b)
 {
 u8 c[24],d[40],e[24];
@@ -60759,7 +60726,7 @@ w8(a+8,J+1);
 return;
 }
 
-/* cpp_layout::symbol::Symbol::fill_in_std::<#98699c36a381be52> */
+/* cpp_layout::symbol::Symbol::fill_in_std */
 static void fill_in_std_a73(u8* a,u32 b,u8* c)
 {
 A16 u8 d[20];
@@ -60782,7 +60749,7 @@ w8(a+8,e+2);
 return;
 }
 
-/* cpp_layout::symbol::Symbol::fill_within::<#98699c36a381be52> */
+/* cpp_layout::symbol::Symbol::fill_within */
 static void fill_within_6bb(u8* a,u8* b,u32 c,u32 d,u8 e,u8* f)
 {
 u8 g[3],h[3],i[3],j[3],k[3],l[3],m[3],n[3],o[3],p[3],q[3],r[3],s[3],t[3],u[3],v[3],w[3],x[3],y[3],z[3],A[3],B[3],C[3],D[3];
@@ -60999,7 +60966,7 @@ default:NEVER;
 return;
 }
 
-/* cpp_layout::symbol::Symbol::fill_instance::<#98699c36a381be52> */
+/* cpp_layout::symbol::Symbol::fill_instance */
 static void fill_instance_1f0(u8* a,u8* b,u32 c,u32 d,u8* e)
 {
 u8 f[3],g[3],h[3],i[3];
@@ -61104,7 +61071,7 @@ default:NEVER;
 return;
 }
 
-/* cpp_layout::symbol::Symbol::fill_tagged::<#98699c36a381be52> */
+/* cpp_layout::symbol::Symbol::fill_tagged */
 static void fill_tagged_146(u8* a,u32 b,u32 c,u32 d,u8* e)
 {
 A16 u8 f[20];
@@ -61164,7 +61131,7 @@ break;}
 return b;
 }
 
-/* cpp_layout::symbol::Symbol::fill_parameter::<#98699c36a381be52> */
+/* cpp_layout::symbol::Symbol::fill_parameter */
 static void fill_parameter_f0e(u8* a,u8* b,u32 c,u32 d,u32 e,u8* f)
 {
 A16 u8 g[12],h[12],i[12],j[12];
@@ -61253,7 +61220,7 @@ else c=50;
 return c;
 }
 
-/* cpp_layout::symbol::Symbol::fill_marked::<#98699c36a381be52> */
+/* cpp_layout::symbol::Symbol::fill_marked */
 static void fill_marked_395(u8* a,u8* b,u32 c,u16 d,u16 e,u8* f)
 {
 u8 h[3],i[3];
@@ -61515,7 +61482,7 @@ x4(a+12,z);
 return;
 }
 
-/* cpp_layout::symbol::Symbol::fill_reference::<#98699c36a381be52> */
+/* cpp_layout::symbol::Symbol::fill_reference */
 static void fill_reference_bf6(u8* a,u8* b,u32 c,u32 d,u16 e,u16 f,u8* g)
 {
 u8 i[3],j[3],k[3],l[3];
@@ -61580,7 +61547,7 @@ w8(b+8,w+2);}
 return;
 }
 
-/* cpp_layout::symbol::Symbol::fill_array::<#98699c36a381be52> */
+/* cpp_layout::symbol::Symbol::fill_array */
 static void fill_array_c4d(u8* a,u8* b,u32 c,u8* d)
 {
 u8 f[3],g[3];
@@ -61625,7 +61592,7 @@ w8(b+8,o+1);
 return;
 }
 
-/* cpp_layout::symbol::Symbol::fill_member::<#98699c36a381be52> */
+/* cpp_layout::symbol::Symbol::fill_member */
 static void fill_member_2fa(u8* a,u8* b,u32 c,u32 d,u8* e)
 {
 u8 g[3],h[3];
@@ -61686,7 +61653,7 @@ w8(b+8,o+4);
 return;
 }
 
-/* cpp_layout::symbol::Symbol::fill_qualified_left::<#98699c36a381be52> */
+/* cpp_layout::symbol::Symbol::fill_qualified_left */
 static void fill_qualified_left_bf3(u8* a,u8* b,u8* c,u32 d,u8* e)
 {
 u8 h[3],i[3],j[3],k[3],l[3],m[3];
@@ -61772,7 +61739,7 @@ w8(b+8,I+1);}
 return;
 }
 
-/* cpp_layout::symbol::Symbol::fill_vector::<#98699c36a381be52> */
+/* cpp_layout::symbol::Symbol::fill_vector */
 static void fill_vector_eb1(u8* a,u32 b,u32 c,u32 d,u8* e)
 {
 A16 u8 f[20];
@@ -61810,7 +61777,7 @@ w8(a+8,k+2);
 return;
 }
 
-/* cpp_layout::symbol::Symbol::fill_float::<#98699c36a381be52> */
+/* cpp_layout::symbol::Symbol::fill_float */
 static void fill_float_1e8(u8* a,u32 b,u32 c,u8 d)
 {
 u64 e,g,i,k;
@@ -61852,7 +61819,7 @@ w8(a+8,k+1);
 L1:return;
 }
 
-/* cpp_layout::symbol::Symbol::fill_expansion::<#98699c36a381be52> */
+/* cpp_layout::symbol::Symbol::fill_expansion */
 static void fill_expansion_7b7(u8* a,u8* b,u32 c,u8* d)
 {
 u8 f[3],h[3];
@@ -61923,7 +61890,7 @@ w8(b+8,v+3);
 L2:return;
 }
 
-/* cpp_layout::symbol::Symbol::fill_integer::<#98699c36a381be52> */
+/* cpp_layout::symbol::Symbol::fill_integer */
 static void fill_integer_476(u8* a,u8* b,u32 c,u8* d,u8* e)
 {
 A16 u8 f[12],g[20];
@@ -61987,7 +61954,7 @@ else fill_cast_integer_fd0(b,c,f,g);
 return;
 }
 
-/* cpp_layout::symbol::Symbol::fill_cast_integer::<#98699c36a381be52> */
+/* cpp_layout::symbol::Symbol::fill_cast_integer */
 static void fill_cast_integer_fd0(u8* a,u32 b,u8* c,u8* d)
 {
 A16 u8 e[20];
@@ -62043,7 +62010,7 @@ w8(a+8,m+4);
 return;
 }
 
-/* cpp_layout::symbol::Symbol::fill_encoding_literal::<#98699c36a381be52> */
+/* cpp_layout::symbol::Symbol::fill_encoding_literal */
 static void fill_encoding_literal_a7e(u8* a,u32 b,u8 c,u8 d)
 {
 u64 e,g;
@@ -62070,7 +62037,7 @@ w8(a+8,e+2);}
 return;
 }
 
-/* cpp_layout::symbol::Symbol::fill_decltype::<#98699c36a381be52> */
+/* cpp_layout::symbol::Symbol::fill_decltype */
 static void fill_decltype_7a2(u8* a,u32 b,u8* c)
 {
 A16 u8 d[20];
@@ -62098,7 +62065,7 @@ w8(a+8,e+3);
 return;
 }
 
-/* cpp_layout::symbol::Symbol::fill_operation::<#98699c36a381be52> */
+/* cpp_layout::symbol::Symbol::fill_operation */
 static void fill_operation_6d8(u8* a,u8* b,u8 c,u8 d,u32 e,u32 f,u8* g)
 {
 u8 i[12];
@@ -62319,7 +62286,7 @@ memcpy(a,(u8*)t_c688+d,12);
 return;
 }
 
-/* cpp_layout::symbol::Symbol::fill_operand::<#98699c36a381be52> */
+/* cpp_layout::symbol::Symbol::fill_operand */
 static void fill_operand_3fb(u8* a,u8* b,u8 c,u8 d,u32 e,u8* f)
 {
 u8 g[12],h[3],i[3],j[3],k[3],l[3],m[3],n[3],o[3],p[3],q[3],r[3],s[3];
@@ -62461,7 +62428,7 @@ default:NEVER;
 return;
 }
 
-/* cpp_layout::symbol::Symbol::fill_function_parameter::<#98699c36a381be52> */
+/* cpp_layout::symbol::Symbol::fill_function_parameter */
 static void fill_function_parameter_419(u8* a,u32 b,u32 c)
 {
 u64 d,f;
@@ -62485,7 +62452,7 @@ w8(a+8,f+1);
 return;
 }
 
-/* cpp_layout::symbol::Symbol::fill_function_right::<#98699c36a381be52> */
+/* cpp_layout::symbol::Symbol::fill_function_right */
 static void fill_function_right_5c9(u8* a,u8* b,u8* c,u8 d,u8 e,u32 f,u32 g,u8* h)
 {
 u8 i[3],j[3],k[3],l[3],m[3],n[3];
@@ -62570,7 +62537,7 @@ w8(b+8,H+1);
 return;
 }
 
-/* cpp_layout::symbol::Symbol::fill_as_left::<#98699c36a381be52> */
+/* cpp_layout::symbol::Symbol::fill_as_left */
 static void fill_as_left_842(u8* a,u8* b,u32 c,u8* d)
 {
 u8 e[3],f[3],g[3],t[3],u[3],y[3];
@@ -62949,7 +62916,7 @@ default:NEVER;
 L2:return;
 }
 
-/* cpp_layout::symbol::Symbol::fill_own_piece::<#98699c36a381be52> */
+/* cpp_layout::symbol::Symbol::fill_own_piece */
 static void fill_own_piece_0f9(u8* a,u8* b,u32 c,u8* d)
 {
 A16 u8 e[16],f[20],g[16],h[20],i[16],j[20];
@@ -63067,7 +63034,7 @@ default:NEVER;
 return;
 }
 
-/* cpp_layout::symbol::Symbol::fill_full::<#98699c36a381be52> */
+/* cpp_layout::symbol::Symbol::fill_full */
 static void fill_full_b26(u8* a,u8* b,u32 c,u8* d)
 {
 A16 u8 e[3],f[3];
@@ -63316,7 +63283,7 @@ default:NEVER;
 L1:return;
 }
 
-/* cpp_layout::symbol::Symbol::push_bare::<#98699c36a381be52> */
+/* cpp_layout::symbol::Symbol::push_bare */
 static void push_bare_366(u8* a,u8* b,u32 c,u8* d,u8 e,u32 f,u32 g,u8 h)
 {
 u8 i;
@@ -63372,7 +63339,7 @@ w8(b+8,q+2);
 return;
 }
 
-/* sym_languages::languages::demangle_in::<#d7859ae5fbbf1fed> */
+/* sym_languages::languages::demangle_in */
 static void demangle_in_f5e(u8* a,u8* b,u8* c,u64 d,u32 e,u8 f,u8* g)
 {
 A16 u8 h[12],i[96],j[88],k[12],l[84];
@@ -63515,7 +63482,7 @@ x4(a+12,da);
 return;
 }
 
-/* sym_demangle::workspace::Workspace::read_on::<#20295f288733a3eb> */
+/* sym_demangle::workspace::Workspace::read_on */
 static void read_on_387(u8* a,u8* b,u8* c,u64 d)
 {
 A16 u8 e[12],f[12],g[96],h[112],i[24];
@@ -63730,7 +63697,7 @@ memcpy(a+8,g+8,88);
 L6:return;
 }
 
-/* sym_shape::parse::Parse::run::<#f1848a23d99225a7> */
+/* sym_shape::parse::Parse::run */
 static void run_48d(u8* a,u8* b,u8* c,u64 d,u8 e)
 {
 A16 u8 f[32],g[32],h[12];
@@ -64169,7 +64136,7 @@ x4(a+8,Ab);
 return;
 }
 
-/* sym_shape::parse::Parse::advance::<#f1848a23d99225a7> */
+/* sym_shape::parse::Parse::advance */
 static void advance_83f(u8* a,u8* b,u8* c,u64 d,u8 e)
 {
 A16 u8 f[32];
@@ -64563,7 +64530,7 @@ x4(a+8,q);
 return;
 }
 
-/* sym_demangle::workspace::Workspace::link::<#20295f288733a3eb> */
+/* sym_demangle::workspace::Workspace::link */
 static void link_7df(u8* a,u8* b)
 {
 A16 u8 c[68],d[20],e[48],f[12],g[32],h[48],i[40],j[28],k[56],l[12],m[32],n[16],o[12],p[32],q[16],r[12],s[32],t[48],u[40],v[28],w[56],x[12],y[32],z[16],A[12],B[32],C[12],D[12];
@@ -65870,7 +65837,7 @@ memset(a+12,0,84);
 L4:return;
 }
 
-/* std_alloc::vec::Vec::grow_amortized::<#6aa4d8547d85ea17> */
+/* std_alloc::vec::Vec::grow_amortized */
 static COLD u8 grow_amortized_21b(u8* a)
 {
 u64 b,d,e,f,g;
@@ -66271,10 +66238,7 @@ else b=5;
 return b;
 }
 
-/* std_alloc::vec::Vec::grow_amortized::<#595ef0cf3269e819> */
-/* std_alloc::vec::Vec::grow_amortized::<#722c9854e8b9c161> */
-/* std_alloc::vec::Vec::grow_amortized::<#e0b0241b58add3ce> */
-/* std_alloc::vec::Vec::grow_amortized::<#fe7835d4af787c09> */
+/* std_alloc::vec::Vec::grow_amortized */
 static COLD u8 grow_amortized_8fc(u8* a)
 {
 u64 b,d,e,f,g;
@@ -69253,7 +69217,7 @@ x4(a+8,K);
 return;
 }
 
-/* sym_demangle::workspace::Workspace::print::<#20295f288733a3eb> */
+/* sym_demangle::workspace::Workspace::print */
 static void print_17e(u8* a,u8* b,u8* c,u32 d,u8 e,u8* f)
 {
 A16 u8 g[24],h[8],i[24],j[8],k[20],l[20],m[20],n[28],o[28];
@@ -71572,7 +71536,7 @@ x4(a+8,0);
 return;
 }
 
-/* std_alloc::vec::Vec::grow_amortized::<#a2e89e1e0eb0366d> */
+/* std_alloc::vec::Vec::grow_amortized */
 static COLD u8 grow_amortized_0c5(u8* a,u64 b)
 {
 u64 c,e,f,g,h;
@@ -71605,7 +71569,7 @@ else d=0;}
 L1:return d;
 }
 
-/* rust_tree::symbol::Symbol::push_as::<#a5e6a4396a8d14af> */
+/* rust_tree::symbol::Symbol::push_as */
 static void push_as_a95(u8* a,u32 b,u32 c,u64 d,u8 e)
 {
 u64 f;
@@ -71648,7 +71612,7 @@ w8(a+8,f+5);
 return;
 }
 
-/* rust_tree::symbol::Symbol::push_special::<#a5e6a4396a8d14af> */
+/* rust_tree::symbol::Symbol::push_special */
 static void push_special_b8a(u8* a,u8 b,u8* c,u64 d)
 {
 u8 e[24],f[40];
@@ -71808,7 +71772,7 @@ else c=0;
 return c;
 }
 
-/* rust_tree::symbol::Symbol::push_array::<#a5e6a4396a8d14af> */
+/* rust_tree::symbol::Symbol::push_array */
 static void push_array_d08(u8* a,u32 b,u32 c,u64 d,u8 e)
 {
 u64 f;
@@ -71851,7 +71815,7 @@ w8(a+8,f+5);
 return;
 }
 
-/* rust_tree::symbol::Symbol::push_slice::<#a5e6a4396a8d14af> */
+/* rust_tree::symbol::Symbol::push_slice */
 static void push_slice_237(u8* a,u32 b,u64 c,u8 d)
 {
 u64 e;
@@ -71880,7 +71844,7 @@ w8(a+8,e+3);
 return;
 }
 
-/* rust_tree::symbol::Symbol::push_closing::<#a5e6a4396a8d14af> */
+/* rust_tree::symbol::Symbol::push_closing */
 static void push_closing_33d(u8* a,u8* b,u32 c)
 {
 u8 *d,*f,*g,*i;
@@ -71916,7 +71880,7 @@ w8(b+8,k);}}
 return;
 }
 
-/* rust_tree::symbol::Symbol::push_lifetime::<#a5e6a4396a8d14af> */
+/* rust_tree::symbol::Symbol::push_lifetime */
 static void push_lifetime_2c2(u8* a,u64 b,u64 c)
 {
 u64 d;
@@ -71934,7 +71898,7 @@ else push_numbered_8a9(a,usub64(b,c));
 return;
 }
 
-/* rust_tree::symbol::Symbol::push_numbered::<#a5e6a4396a8d14af> */
+/* rust_tree::symbol::Symbol::push_numbered */
 static void push_numbered_8a9(u8* a,u64 b)
 {
 u8 c[22],d[40];
@@ -72025,7 +71989,7 @@ w8(a+8,J+1);}
 return;
 }
 
-/* rust_tree::symbol::Symbol::push_function::<#a5e6a4396a8d14af> */
+/* rust_tree::symbol::Symbol::push_function */
 static void push_function_58c(u8* a,u32 b,u16 c,u64 d,u8 e)
 {
 u64 f,h,i;
@@ -72067,7 +72031,7 @@ w8(a+8,f+4);}
 return;
 }
 
-/* rust_tree::symbol::Symbol::push_dyn::<#a5e6a4396a8d14af> */
+/* rust_tree::symbol::Symbol::push_dyn */
 static void push_dyn_6de(u8* a,u8* b,u32 c,u16 d,u32 e,u64 f,u64 g,u8 h)
 {
 u64 i,j,m,o,p,q;
@@ -72129,7 +72093,7 @@ w8(b+8,p+1);
 return;
 }
 
-/* rust_tree::symbol::Symbol::fill_bindings::<#a5e6a4396a8d14af> */
+/* rust_tree::symbol::Symbol::fill_bindings */
 static void fill_bindings_59a(u8* a,u8* b,u32 c,u8 d,u64 e,u8 f)
 {
 u8 *g,*o,*q,*s,*t,*y,*A;
@@ -72960,7 +72924,7 @@ I=1;
 L2:return I;
 }
 
-/* core::fmt::formatter::Formatter::write_piece::<#ad9358887468beac> */
+/* core::fmt::formatter::Formatter::write_piece */
 static u8 write_piece_146(u8* a,u8* b)
 {
 u8 c[24];
@@ -73378,7 +73342,7 @@ else K=1;
 L2:return K;
 }
 
-/* sym_languages::languages::LanguagesDemangler::append::<#b5cd08ac6d7bd0a2> */
+/* sym_languages::languages::LanguagesDemangler::append */
 static void append_b8f(u8* a,u8* b,u8* c,u8 d,u8* e,u64 f,u8* g)
 {
 A16 u8 h[12],i[12],j[12],k[96],l[88],m[12],n[84],o[8];
@@ -78600,7 +78564,7 @@ gw=1;
 L158:return gw;
 }
 
-/* itanium::short_way::run::<#22100afe225e4c04> */
+/* itanium::short_way::run */
 static u8 run_48b(u8* a,u8* b,u64 c,u32 d,u8* e)
 {
 u8 i[4],k[32],m[4],n[3],p[32],q[32],x[4];
@@ -79493,7 +79457,7 @@ g=1;}
 L1:return g;
 }
 
-/* cpp_direct::direct::Direct::begin_object::<#22100afe225e4c04> */
+/* cpp_direct::direct::Direct::begin_object */
 static void begin_object_8f6(u8* a,u8* b,u8* c,u64 d)
 {
 A16 u8 e[4];
@@ -79595,7 +79559,7 @@ x4(a,0);
 L2:return;
 }
 
-/* cpp_direct::direct::Direct::nest_at::<#22100afe225e4c04> */
+/* cpp_direct::direct::Direct::nest_at */
 static void nest_at_dce(u8* a,u8* b,u8* c,u64 d,u8 e,u8 f)
 {
 u8 g[34];
@@ -80502,7 +80466,7 @@ L2:L4:memset(a,0,24);}
 L5:return;
 }
 
-/* sym_direct::bounded::Bounded::make_ready::<#c0b0d639efb8a65b> */
+/* sym_direct::bounded::Bounded::make_ready */
 static u8 make_ready_17a(u8* a)
 {
 u64 b,c,e,f,h,i;
@@ -80528,7 +80492,7 @@ d=1;}
 L1:return d;
 }
 
-/* std_alloc::vec::Vec::grow_amortized::<#22b4fe43b5882be2> */
+/* std_alloc::vec::Vec::grow_amortized */
 static COLD u8 grow_amortized_53f(u8* a,u64 b)
 {
 u64 c,e,f,g,h;
@@ -80561,7 +80525,7 @@ else d=0;}
 L1:return d;
 }
 
-/* sym_direct::bounded::Bounded::make_ready::<#7e5bd29645c3074c> */
+/* sym_direct::bounded::Bounded::make_ready */
 static u8 make_ready_9a1(u8* a)
 {
 u64 b,c,e,f,h,i;
@@ -80587,7 +80551,7 @@ d=1;}
 L1:return d;
 }
 
-/* std_alloc::vec::Vec::grow_amortized::<#bab0a83ef56ddc7a> */
+/* std_alloc::vec::Vec::grow_amortized */
 static COLD u8 grow_amortized_920(u8* a,u64 b)
 {
 u64 c,e,f,g,h;
@@ -81050,7 +81014,7 @@ h=1;}}
 L1:return h;
 }
 
-/* cpp_direct::direct::Direct::begin_clone::<#22100afe225e4c04> */
+/* cpp_direct::direct::Direct::begin_clone */
 static void begin_clone_783(u8* a,u8* b,u8* c,u64 d)
 {
 u8 e[4];
@@ -81131,7 +81095,7 @@ x4(a,0);
 L5:return;
 }
 
-/* cpp_direct::direct::Direct::begin_encoding::<#22100afe225e4c04> */
+/* cpp_direct::direct::Direct::begin_encoding */
 static void begin_encoding_254(u8* a,u8* b,u8* c,u64 d)
 {
 A16 u8 e[4],f[4];
@@ -81202,7 +81166,7 @@ a[3]=o;
 return;
 }
 
-/* cpp_direct::direct::Direct::begin_in_std::<#22100afe225e4c04> */
+/* cpp_direct::direct::Direct::begin_in_std */
 static void begin_in_std_edd(u8* a,u8* b,u8* c,u64 d)
 {
 A16 u8 e[24],f[4];
@@ -81647,7 +81611,7 @@ L=K;L.f1=f;
 return L;
 }
 
-/* cpp_direct::direct::Direct::unscoped_named::<#22100afe225e4c04> */
+/* cpp_direct::direct::Direct::unscoped_named */
 static void unscoped_named_e54(u8* a,u8* b,u8* c,u64 d,u32 e,u8 f)
 {
 u8 g[4],h[32],i[4],j[32];
@@ -81829,10 +81793,7 @@ a[3]=J;
 L1:return;
 }
 
-/* cpp_direct::direct::Direct::name_ended::<#22100afe225e4c04> */
-/* cpp_direct::direct::Direct::name_ended::<#2c6f17e3e0d01cf6> */
-/* cpp_direct::direct::Direct::name_ended::<#b5179b541c42cc1e> */
-/* cpp_direct::direct::Direct::name_ended::<#5b59ee8f9e439794> */
+/* cpp_direct::direct::Direct::name_ended */
 static void name_ended_fde(u8* a,u8* b,u8* c,u64 d,u8 e,u8 f,u8* g,u32 h)
 {
 u8 i[4],k[16],n[16];
@@ -81979,10 +81940,7 @@ a[3]=l[3];
 L1:return;
 }
 
-/* cpp_direct::direct::Direct::end::<#22100afe225e4c04> */
-/* cpp_direct::direct::Direct::end::<#2c6f17e3e0d01cf6> */
-/* cpp_direct::direct::Direct::end::<#b5179b541c42cc1e> */
-/* cpp_direct::direct::Direct::end::<#5b59ee8f9e439794> */
+/* cpp_direct::direct::Direct::end */
 static void end_05d(u8* a,u8* b,u8* c,u64 d,u8 e)
 {
 A16 u8 f[24],g[4],h[4];
@@ -82383,14 +82341,7 @@ a[3]=pb;
 L2:return;
 }
 
-/* cpp_direct::direct::Direct::finish::<#22100afe225e4c04> */
-/* cpp_direct::direct::Direct::finish::<#efed33a7273bac1a> */
-/* cpp_direct::direct::Direct::finish::<#2c6f17e3e0d01cf6> */
-/* cpp_direct::direct::Direct::finish::<#464be67d5f5e1f6c> */
-/* cpp_direct::direct::Direct::finish::<#b5179b541c42cc1e> */
-/* cpp_direct::direct::Direct::finish::<#f912c19321383c9c> */
-/* cpp_direct::direct::Direct::finish::<#5b59ee8f9e439794> */
-/* cpp_direct::direct::Direct::finish::<#f5afb645cf2ff11a> */
+/* cpp_direct::direct::Direct::finish */
 static void finish_8cd(u8* a,u8* b,u8* c,u64 d)
 {
 u64 e,i,k,l,n,p,q,s,t,u,y,z,B,C,D,G,H,I,J,K,L,M,N,O,P,Q,R,S;
@@ -82524,14 +82475,7 @@ a[3]=0;}}
 L9:return;
 }
 
-/* cpp_direct::direct::Direct::begin_front::<#22100afe225e4c04> */
-/* cpp_direct::direct::Direct::begin_front::<#efed33a7273bac1a> */
-/* cpp_direct::direct::Direct::begin_front::<#2c6f17e3e0d01cf6> */
-/* cpp_direct::direct::Direct::begin_front::<#464be67d5f5e1f6c> */
-/* cpp_direct::direct::Direct::begin_front::<#b5179b541c42cc1e> */
-/* cpp_direct::direct::Direct::begin_front::<#f912c19321383c9c> */
-/* cpp_direct::direct::Direct::begin_front::<#5b59ee8f9e439794> */
-/* cpp_direct::direct::Direct::begin_front::<#f5afb645cf2ff11a> */
+/* cpp_direct::direct::Direct::begin_front */
 static void begin_front_2b4(u8* a,u8* b,u8* c,u64 d,u8 e,u8* f,u32 g)
 {
 A16 u8 h[32];
@@ -82579,10 +82523,7 @@ a[3]=0;
 L3:return;
 }
 
-/* cpp_direct::direct::Direct::close::<#22100afe225e4c04> */
-/* cpp_direct::direct::Direct::close::<#2c6f17e3e0d01cf6> */
-/* cpp_direct::direct::Direct::close::<#b5179b541c42cc1e> */
-/* cpp_direct::direct::Direct::close::<#5b59ee8f9e439794> */
+/* cpp_direct::direct::Direct::close */
 static void close_a33(u8* a,u8* b,u8* c,u64 d,u8 e,u32 f)
 {
 A16 u8 g[4];
@@ -82651,10 +82592,7 @@ a[3]=g[3];
 L1:return;
 }
 
-/* cpp_direct::direct::Direct::expansion::<#22100afe225e4c04> */
-/* cpp_direct::direct::Direct::expansion::<#2c6f17e3e0d01cf6> */
-/* cpp_direct::direct::Direct::expansion::<#b5179b541c42cc1e> */
-/* cpp_direct::direct::Direct::expansion::<#5b59ee8f9e439794> */
+/* cpp_direct::direct::Direct::expansion */
 static void expansion_d9b(u8* a,u8* b,u8* c,u64 d,u8 e,u8 f,u32 g,u8* h)
 {
 u8 k[32];
@@ -83017,7 +82955,7 @@ f=1;
 L1:return f;
 }
 
-/* cpp_direct::direct::Direct::begin_operator::<#22100afe225e4c04> */
+/* cpp_direct::direct::Direct::begin_operator */
 static void begin_operator_9c9(u8* a,u8* b,u8* c,u64 d)
 {
 u8 e[4];
@@ -83044,7 +82982,7 @@ a[3]=k;
 return;
 }
 
-/* cpp_direct::direct::Direct::begin_name::<#22100afe225e4c04> */
+/* cpp_direct::direct::Direct::begin_name */
 static void begin_name_824(u8* a,u8* b,u8* c,u64 d)
 {
 A16 u8 e[24],f[4];
@@ -83162,7 +83100,7 @@ L3:L1:x4(a,0);
 L9:return;
 }
 
-/* cpp_direct::direct::Direct::begin_thunk::<#22100afe225e4c04> */
+/* cpp_direct::direct::Direct::begin_thunk */
 static void begin_thunk_2c0(u8* a,u8* b,u8* c,u64 d)
 {
 A16 u8 e[4];
@@ -83260,7 +83198,7 @@ L1:x4(a,0);
 L6:return;
 }
 
-/* cpp_direct::direct::Direct::begin_virtual_thunk::<#22100afe225e4c04> */
+/* cpp_direct::direct::Direct::begin_virtual_thunk */
 static void begin_virtual_thunk_979(u8* a,u8* b,u8* c,u64 d)
 {
 A16 u8 e[4];
@@ -83396,14 +83334,7 @@ L1:x4(a,0);
 L11:return;
 }
 
-/* cpp_direct::direct::Direct::begin_special::<#22100afe225e4c04> */
-/* cpp_direct::direct::Direct::begin_special::<#efed33a7273bac1a> */
-/* cpp_direct::direct::Direct::begin_special::<#2c6f17e3e0d01cf6> */
-/* cpp_direct::direct::Direct::begin_special::<#464be67d5f5e1f6c> */
-/* cpp_direct::direct::Direct::begin_special::<#b5179b541c42cc1e> */
-/* cpp_direct::direct::Direct::begin_special::<#f912c19321383c9c> */
-/* cpp_direct::direct::Direct::begin_special::<#5b59ee8f9e439794> */
-/* cpp_direct::direct::Direct::begin_special::<#f5afb645cf2ff11a> */
+/* cpp_direct::direct::Direct::begin_special */
 static void begin_special_44d(u8* a,u8* b,u8* c,u64 d)
 {
 u64 e,g,i,j,l,m,n,q,r,s,t,u,v,w,x,y,z,A,B,C,D;
@@ -83499,7 +83430,7 @@ L1:x4(a,0);
 L5:return;
 }
 
-/* cpp_direct::direct::Direct::type_at::<#22100afe225e4c04> */
+/* cpp_direct::direct::Direct::type_at */
 static void type_at_188(u8* a,u8* b,u8* c,u64 d,u8 e)
 {
 A16 u8 f[4],g[4],h[4];
@@ -83658,14 +83589,7 @@ a[3]=I;
 L4:return;
 }
 
-/* cpp_direct::direct::Direct::begin_function::<#22100afe225e4c04> */
-/* cpp_direct::direct::Direct::begin_function::<#efed33a7273bac1a> */
-/* cpp_direct::direct::Direct::begin_function::<#2c6f17e3e0d01cf6> */
-/* cpp_direct::direct::Direct::begin_function::<#464be67d5f5e1f6c> */
-/* cpp_direct::direct::Direct::begin_function::<#b5179b541c42cc1e> */
-/* cpp_direct::direct::Direct::begin_function::<#f912c19321383c9c> */
-/* cpp_direct::direct::Direct::begin_function::<#5b59ee8f9e439794> */
-/* cpp_direct::direct::Direct::begin_function::<#f5afb645cf2ff11a> */
+/* cpp_direct::direct::Direct::begin_function */
 static void begin_function_7aa(u8* a,u8* b,u8 c)
 {
 u64 d,f,g,h,i,k,m;
@@ -83718,14 +83642,7 @@ x4(a,0);
 L2:return;
 }
 
-/* cpp_direct::direct::Direct::begin_array::<#22100afe225e4c04> */
-/* cpp_direct::direct::Direct::begin_array::<#efed33a7273bac1a> */
-/* cpp_direct::direct::Direct::begin_array::<#2c6f17e3e0d01cf6> */
-/* cpp_direct::direct::Direct::begin_array::<#464be67d5f5e1f6c> */
-/* cpp_direct::direct::Direct::begin_array::<#b5179b541c42cc1e> */
-/* cpp_direct::direct::Direct::begin_array::<#f912c19321383c9c> */
-/* cpp_direct::direct::Direct::begin_array::<#5b59ee8f9e439794> */
-/* cpp_direct::direct::Direct::begin_array::<#f5afb645cf2ff11a> */
+/* cpp_direct::direct::Direct::begin_array */
 static void begin_array_86f(u8* a,u8* b,u8* c,u64 d,u8 e)
 {
 u64 f,h,i,j,k,l,m,p,r,t;
@@ -83794,14 +83711,7 @@ x4(a,0);
 L1:return;
 }
 
-/* cpp_direct::direct::Direct::rvalue_at::<#22100afe225e4c04> */
-/* cpp_direct::direct::Direct::rvalue_at::<#efed33a7273bac1a> */
-/* cpp_direct::direct::Direct::rvalue_at::<#2c6f17e3e0d01cf6> */
-/* cpp_direct::direct::Direct::rvalue_at::<#464be67d5f5e1f6c> */
-/* cpp_direct::direct::Direct::rvalue_at::<#b5179b541c42cc1e> */
-/* cpp_direct::direct::Direct::rvalue_at::<#f912c19321383c9c> */
-/* cpp_direct::direct::Direct::rvalue_at::<#5b59ee8f9e439794> */
-/* cpp_direct::direct::Direct::rvalue_at::<#f5afb645cf2ff11a> */
+/* cpp_direct::direct::Direct::rvalue_at */
 static void rvalue_at_e1d(u8* a,u8* b,u8* c,u64 d)
 {
 u8 e[34],f[8];
@@ -83982,14 +83892,7 @@ a[7]=0;
 L1:return;
 }
 
-/* cpp_direct::direct::Direct::builtin_with_d::<#22100afe225e4c04> */
-/* cpp_direct::direct::Direct::builtin_with_d::<#efed33a7273bac1a> */
-/* cpp_direct::direct::Direct::builtin_with_d::<#2c6f17e3e0d01cf6> */
-/* cpp_direct::direct::Direct::builtin_with_d::<#464be67d5f5e1f6c> */
-/* cpp_direct::direct::Direct::builtin_with_d::<#b5179b541c42cc1e> */
-/* cpp_direct::direct::Direct::builtin_with_d::<#f912c19321383c9c> */
-/* cpp_direct::direct::Direct::builtin_with_d::<#5b59ee8f9e439794> */
-/* cpp_direct::direct::Direct::builtin_with_d::<#f5afb645cf2ff11a> */
+/* cpp_direct::direct::Direct::builtin_with_d */
 static void builtin_with_d_cb0(u8* a,u8* b,u8* c,u64 d)
 {
 u64 e,f,i,k,m,n,p,q,r,u,v,w,x,y,z,A,B,C,D,E,F,H,I,N,O,R,T,V;
@@ -84109,14 +84012,7 @@ x4(a,0);}
 L6:return;
 }
 
-/* cpp_direct::direct::Direct::template_parameter::<#22100afe225e4c04> */
-/* cpp_direct::direct::Direct::template_parameter::<#efed33a7273bac1a> */
-/* cpp_direct::direct::Direct::template_parameter::<#2c6f17e3e0d01cf6> */
-/* cpp_direct::direct::Direct::template_parameter::<#464be67d5f5e1f6c> */
-/* cpp_direct::direct::Direct::template_parameter::<#b5179b541c42cc1e> */
-/* cpp_direct::direct::Direct::template_parameter::<#f912c19321383c9c> */
-/* cpp_direct::direct::Direct::template_parameter::<#5b59ee8f9e439794> */
-/* cpp_direct::direct::Direct::template_parameter::<#f5afb645cf2ff11a> */
+/* cpp_direct::direct::Direct::template_parameter */
 static void template_parameter_3b0(u8* a,u8* b,u8* c,u64 d)
 {
 u8 e[32],f[34];
@@ -84188,7 +84084,7 @@ L1:x4(a,0);}
 L2:return;
 }
 
-/* cpp_direct::direct::Direct::named_type::<#22100afe225e4c04> */
+/* cpp_direct::direct::Direct::named_type */
 static void named_type_031(u8* a,u8* b,u8* c,u64 d)
 {
 A16 u8 e[24],f[4],g[16],h[24],i[4];
@@ -84737,14 +84633,7 @@ L15:L16:x4(a,0);
 L24:return;
 }
 
-/* cpp_direct::direct::Direct::dependent_again::<#22100afe225e4c04> */
-/* cpp_direct::direct::Direct::dependent_again::<#efed33a7273bac1a> */
-/* cpp_direct::direct::Direct::dependent_again::<#2c6f17e3e0d01cf6> */
-/* cpp_direct::direct::Direct::dependent_again::<#464be67d5f5e1f6c> */
-/* cpp_direct::direct::Direct::dependent_again::<#b5179b541c42cc1e> */
-/* cpp_direct::direct::Direct::dependent_again::<#f912c19321383c9c> */
-/* cpp_direct::direct::Direct::dependent_again::<#5b59ee8f9e439794> */
-/* cpp_direct::direct::Direct::dependent_again::<#f5afb645cf2ff11a> */
+/* cpp_direct::direct::Direct::dependent_again */
 static void dependent_again_186(u8* a,u8* b,u8* c)
 {
 u8 d[34];
@@ -84769,7 +84658,7 @@ else x4(a,0);
 return;
 }
 
-/* cpp_direct::direct::Direct::begin_enclosing::<#22100afe225e4c04> */
+/* cpp_direct::direct::Direct::begin_enclosing */
 static void begin_enclosing_06f(u8* a,u8* b,u8* c,u64 d)
 {
 A16 u8 e[4],f[24],g[4];
@@ -84940,10 +84829,7 @@ L4:L2:x4(a,0);}
 L1:return;
 }
 
-/* cpp_direct::direct::Direct::enclosing_ended::<#22100afe225e4c04> */
-/* cpp_direct::direct::Direct::enclosing_ended::<#2c6f17e3e0d01cf6> */
-/* cpp_direct::direct::Direct::enclosing_ended::<#b5179b541c42cc1e> */
-/* cpp_direct::direct::Direct::enclosing_ended::<#5b59ee8f9e439794> */
+/* cpp_direct::direct::Direct::enclosing_ended */
 static void enclosing_ended_205(u8* a,u8* b,u8* c,u64 d,u8 e,u32 f)
 {
 u8 g[3];
@@ -85151,14 +85037,7 @@ a[3]=ja;
 L2:return;
 }
 
-/* cpp_direct::direct::Direct::enclosed_named::<#22100afe225e4c04> */
-/* cpp_direct::direct::Direct::enclosed_named::<#efed33a7273bac1a> */
-/* cpp_direct::direct::Direct::enclosed_named::<#2c6f17e3e0d01cf6> */
-/* cpp_direct::direct::Direct::enclosed_named::<#464be67d5f5e1f6c> */
-/* cpp_direct::direct::Direct::enclosed_named::<#b5179b541c42cc1e> */
-/* cpp_direct::direct::Direct::enclosed_named::<#f912c19321383c9c> */
-/* cpp_direct::direct::Direct::enclosed_named::<#5b59ee8f9e439794> */
-/* cpp_direct::direct::Direct::enclosed_named::<#f5afb645cf2ff11a> */
+/* cpp_direct::direct::Direct::enclosed_named */
 static void enclosed_named_b0c(u8* a,u8* b,u8* c,u64 d,u32 e)
 {
 A16 u8 f[24];
@@ -85527,10 +85406,7 @@ c=1;
 L1:return c;
 }
 
-/* cpp_direct::direct::Direct::enclosing_parameters::<#22100afe225e4c04> */
-/* cpp_direct::direct::Direct::enclosing_parameters::<#2c6f17e3e0d01cf6> */
-/* cpp_direct::direct::Direct::enclosing_parameters::<#b5179b541c42cc1e> */
-/* cpp_direct::direct::Direct::enclosing_parameters::<#5b59ee8f9e439794> */
+/* cpp_direct::direct::Direct::enclosing_parameters */
 static void enclosing_parameters_015(u8* a,u8* b,u8* c,u64 d,u8 e,u32 f)
 {
 A16 u8 g[4];
@@ -85599,10 +85475,7 @@ a[3]=0;}
 L1:return;
 }
 
-/* cpp_direct::direct::Direct::parameter_ended::<#22100afe225e4c04> */
-/* cpp_direct::direct::Direct::parameter_ended::<#2c6f17e3e0d01cf6> */
-/* cpp_direct::direct::Direct::parameter_ended::<#b5179b541c42cc1e> */
-/* cpp_direct::direct::Direct::parameter_ended::<#5b59ee8f9e439794> */
+/* cpp_direct::direct::Direct::parameter_ended */
 static void parameter_ended_06e(u8* a,u8* b,u8* c,u64 d,u8 e,u32 f,u8* g)
 {
 u8 i[4],j[32];
@@ -85672,10 +85545,7 @@ a[3]=v;
 return;
 }
 
-/* cpp_direct::direct::Direct::front_ended::<#22100afe225e4c04> */
-/* cpp_direct::direct::Direct::front_ended::<#2c6f17e3e0d01cf6> */
-/* cpp_direct::direct::Direct::front_ended::<#b5179b541c42cc1e> */
-/* cpp_direct::direct::Direct::front_ended::<#5b59ee8f9e439794> */
+/* cpp_direct::direct::Direct::front_ended */
 static void front_ended_ee9(u8* a,u8* b,u8* c,u64 d,u8 e,u32 f,u8* g)
 {
 u8 h[4],j[4];
@@ -85803,10 +85673,7 @@ x4(a,0);
 L2:return;
 }
 
-/* cpp_direct::direct::Direct::front_hidden::<#22100afe225e4c04> */
-/* cpp_direct::direct::Direct::front_hidden::<#2c6f17e3e0d01cf6> */
-/* cpp_direct::direct::Direct::front_hidden::<#b5179b541c42cc1e> */
-/* cpp_direct::direct::Direct::front_hidden::<#5b59ee8f9e439794> */
+/* cpp_direct::direct::Direct::front_hidden */
 static void front_hidden_955(u8* a,u8* b,u8* c,u64 d,u8 e,u32 f,u8* g)
 {
 u8 h[4];
@@ -85898,10 +85765,7 @@ else x4(a,0);
 return;
 }
 
-/* cpp_direct::direct::Direct::pass_dependent::<#22100afe225e4c04> */
-/* cpp_direct::direct::Direct::pass_dependent::<#2c6f17e3e0d01cf6> */
-/* cpp_direct::direct::Direct::pass_dependent::<#b5179b541c42cc1e> */
-/* cpp_direct::direct::Direct::pass_dependent::<#5b59ee8f9e439794> */
+/* cpp_direct::direct::Direct::pass_dependent */
 static void pass_dependent_123(u8* a,u8* b,u8* c,u64 d)
 {
 u8 f[32];
@@ -86037,10 +85901,7 @@ a[3]=P;}
 return;
 }
 
-/* cpp_direct::direct::Direct::addressed_front::<#22100afe225e4c04> */
-/* cpp_direct::direct::Direct::addressed_front::<#2c6f17e3e0d01cf6> */
-/* cpp_direct::direct::Direct::addressed_front::<#b5179b541c42cc1e> */
-/* cpp_direct::direct::Direct::addressed_front::<#5b59ee8f9e439794> */
+/* cpp_direct::direct::Direct::addressed_front */
 static void addressed_front_4c5(u8* a,u8* b,u8* c,u64 d,u8 e,u32 f,u8* g)
 {
 u8 h[4],i[32];
@@ -86115,10 +85976,7 @@ else x4(a,0);
 return;
 }
 
-/* cpp_direct::direct::Direct::addressed_parameters::<#22100afe225e4c04> */
-/* cpp_direct::direct::Direct::addressed_parameters::<#2c6f17e3e0d01cf6> */
-/* cpp_direct::direct::Direct::addressed_parameters::<#b5179b541c42cc1e> */
-/* cpp_direct::direct::Direct::addressed_parameters::<#5b59ee8f9e439794> */
+/* cpp_direct::direct::Direct::addressed_parameters */
 static void addressed_parameters_382(u8* a,u8* b,u8* c,u64 d,u8 e,u32 f,u8* g)
 {
 A16 u8 h[4],i[32];
@@ -86186,10 +86044,7 @@ a[3]=0;}
 L1:return;
 }
 
-/* cpp_direct::direct::Direct::addressed_marked::<#22100afe225e4c04> */
-/* cpp_direct::direct::Direct::addressed_marked::<#2c6f17e3e0d01cf6> */
-/* cpp_direct::direct::Direct::addressed_marked::<#b5179b541c42cc1e> */
-/* cpp_direct::direct::Direct::addressed_marked::<#5b59ee8f9e439794> */
+/* cpp_direct::direct::Direct::addressed_marked */
 static void addressed_marked_35f(u8* a,u8* b,u8* c,u64 d,u8 e)
 {
 u64 f,h,i,k,l,m,p,r,s,u,v,w,z,B,C,E,F,G,J,L,M,O,P,Q,T,V,W,Y,Z,aa,da,ea,fa,ia,ja,la,ma;
@@ -86392,10 +86247,7 @@ a[3]=0;
 L2:return;
 }
 
-/* cpp_direct::direct::Direct::addressed_parameter::<#22100afe225e4c04> */
-/* cpp_direct::direct::Direct::addressed_parameter::<#2c6f17e3e0d01cf6> */
-/* cpp_direct::direct::Direct::addressed_parameter::<#b5179b541c42cc1e> */
-/* cpp_direct::direct::Direct::addressed_parameter::<#5b59ee8f9e439794> */
+/* cpp_direct::direct::Direct::addressed_parameter */
 static void addressed_parameter_41c(u8* a,u8* b,u8* c,u64 d,u8 e)
 {
 A16 u8 f[4];
@@ -86447,10 +86299,7 @@ a[3]=0;
 L1:return;
 }
 
-/* cpp_direct::direct::Direct::returned::<#22100afe225e4c04> */
-/* cpp_direct::direct::Direct::returned::<#2c6f17e3e0d01cf6> */
-/* cpp_direct::direct::Direct::returned::<#b5179b541c42cc1e> */
-/* cpp_direct::direct::Direct::returned::<#5b59ee8f9e439794> */
+/* cpp_direct::direct::Direct::returned */
 static void returned_acd(u8* a,u8* b,u8* c,u64 d,u8 e)
 {
 A16 u8 f[4];
@@ -86562,10 +86411,7 @@ a[3]=H;
 L3:return;
 }
 
-/* cpp_direct::direct::Direct::function_ended::<#22100afe225e4c04> */
-/* cpp_direct::direct::Direct::function_ended::<#2c6f17e3e0d01cf6> */
-/* cpp_direct::direct::Direct::function_ended::<#b5179b541c42cc1e> */
-/* cpp_direct::direct::Direct::function_ended::<#5b59ee8f9e439794> */
+/* cpp_direct::direct::Direct::function_ended */
 static void function_ended_049(u8* a,u8* b,u8* c,u64 d,u8 e)
 {
 A16 u8 f[4];
@@ -86618,10 +86464,7 @@ L2:x4(a,0);
 L1:return;
 }
 
-/* cpp_direct::direct::Direct::pass_element::<#22100afe225e4c04> */
-/* cpp_direct::direct::Direct::pass_element::<#2c6f17e3e0d01cf6> */
-/* cpp_direct::direct::Direct::pass_element::<#b5179b541c42cc1e> */
-/* cpp_direct::direct::Direct::pass_element::<#5b59ee8f9e439794> */
+/* cpp_direct::direct::Direct::pass_element */
 static void pass_element_c99(u8* a,u8* b,u8* c,u64 d)
 {
 u8 f[32];
@@ -86662,10 +86505,7 @@ a[3]=m;}
 return;
 }
 
-/* cpp_direct::direct::Direct::parameter_at::<#22100afe225e4c04> */
-/* cpp_direct::direct::Direct::parameter_at::<#2c6f17e3e0d01cf6> */
-/* cpp_direct::direct::Direct::parameter_at::<#b5179b541c42cc1e> */
-/* cpp_direct::direct::Direct::parameter_at::<#5b59ee8f9e439794> */
+/* cpp_direct::direct::Direct::parameter_at */
 static void parameter_at_c04(u8* a,u8* b,u8* c,u64 d,u8 e,u8 f)
 {
 u8 g[4];
@@ -86759,10 +86599,7 @@ a[3]=0;
 L1:return;
 }
 
-/* cpp_direct::direct::Direct::array_ended::<#22100afe225e4c04> */
-/* cpp_direct::direct::Direct::array_ended::<#2c6f17e3e0d01cf6> */
-/* cpp_direct::direct::Direct::array_ended::<#b5179b541c42cc1e> */
-/* cpp_direct::direct::Direct::array_ended::<#5b59ee8f9e439794> */
+/* cpp_direct::direct::Direct::array_ended */
 static void array_ended_08d(u8* a,u8* b,u8* c,u64 d,u8 e,u32 f,u32 g)
 {
 A16 u8 h[4];
@@ -86940,10 +86777,7 @@ L1:x4(a,0);
 L9:return;
 }
 
-/* cpp_direct::direct::Direct::enclosing_parameter::<#22100afe225e4c04> */
-/* cpp_direct::direct::Direct::enclosing_parameter::<#2c6f17e3e0d01cf6> */
-/* cpp_direct::direct::Direct::enclosing_parameter::<#b5179b541c42cc1e> */
-/* cpp_direct::direct::Direct::enclosing_parameter::<#5b59ee8f9e439794> */
+/* cpp_direct::direct::Direct::enclosing_parameter */
 static void enclosing_parameter_d72(u8* a,u8* b,u8* c,u64 d,u8 e,u32 f)
 {
 A16 u8 g[4];
@@ -86995,14 +86829,7 @@ a[3]=0;
 L1:return;
 }
 
-/* cpp_direct::direct::Direct::lambda_parameter::<#22100afe225e4c04> */
-/* cpp_direct::direct::Direct::lambda_parameter::<#efed33a7273bac1a> */
-/* cpp_direct::direct::Direct::lambda_parameter::<#2c6f17e3e0d01cf6> */
-/* cpp_direct::direct::Direct::lambda_parameter::<#464be67d5f5e1f6c> */
-/* cpp_direct::direct::Direct::lambda_parameter::<#b5179b541c42cc1e> */
-/* cpp_direct::direct::Direct::lambda_parameter::<#f912c19321383c9c> */
-/* cpp_direct::direct::Direct::lambda_parameter::<#5b59ee8f9e439794> */
-/* cpp_direct::direct::Direct::lambda_parameter::<#f5afb645cf2ff11a> */
+/* cpp_direct::direct::Direct::lambda_parameter */
 static void lambda_parameter_f9a(u8* a,u8* b,u8* c,u64 d,u32 e,u8* f)
 {
 u8 h[3];
@@ -87064,14 +86891,7 @@ a[3]=0;
 L1:return;
 }
 
-/* cpp_direct::direct::Direct::lambda_ended::<#22100afe225e4c04> */
-/* cpp_direct::direct::Direct::lambda_ended::<#efed33a7273bac1a> */
-/* cpp_direct::direct::Direct::lambda_ended::<#2c6f17e3e0d01cf6> */
-/* cpp_direct::direct::Direct::lambda_ended::<#464be67d5f5e1f6c> */
-/* cpp_direct::direct::Direct::lambda_ended::<#b5179b541c42cc1e> */
-/* cpp_direct::direct::Direct::lambda_ended::<#f912c19321383c9c> */
-/* cpp_direct::direct::Direct::lambda_ended::<#5b59ee8f9e439794> */
-/* cpp_direct::direct::Direct::lambda_ended::<#f5afb645cf2ff11a> */
+/* cpp_direct::direct::Direct::lambda_ended */
 static void lambda_ended_f43(u8* a,u8* b,u8* c,u64 d,u32 e,u8* f)
 {
 u64 g,h,j,k,l,m,n,o,q,r;
@@ -87146,14 +86966,7 @@ a[3]=0;
 L5:return;
 }
 
-/* cpp_direct::direct::Direct::enumerator::<#22100afe225e4c04> */
-/* cpp_direct::direct::Direct::enumerator::<#efed33a7273bac1a> */
-/* cpp_direct::direct::Direct::enumerator::<#2c6f17e3e0d01cf6> */
-/* cpp_direct::direct::Direct::enumerator::<#464be67d5f5e1f6c> */
-/* cpp_direct::direct::Direct::enumerator::<#b5179b541c42cc1e> */
-/* cpp_direct::direct::Direct::enumerator::<#f912c19321383c9c> */
-/* cpp_direct::direct::Direct::enumerator::<#5b59ee8f9e439794> */
-/* cpp_direct::direct::Direct::enumerator::<#f5afb645cf2ff11a> */
+/* cpp_direct::direct::Direct::enumerator */
 static void enumerator_21c(u8* a,u8* b,u8* c,u64 d)
 {
 u64 e,o,q,r,t,u,w,z;
@@ -87406,7 +87219,7 @@ else f=0;}
 L4:return f;
 }
 
-/* cpp_direct::direct::Direct::argument_ended::<#22100afe225e4c04> */
+/* cpp_direct::direct::Direct::argument_ended */
 static void argument_ended_2ff(u8* a,u8* b,u8* c,u64 d,u32 e,u8 f,u8* g,u8 h)
 {
 u8 i[4],j[32],k[32],l[32],n[32];
@@ -87577,8 +87390,7 @@ e=0;
 L1:return e;
 }
 
-/* cpp_direct::direct::Direct::next_pack::<#22100afe225e4c04> */
-/* cpp_direct::direct::Direct::next_pack::<#b5179b541c42cc1e> */
+/* cpp_direct::direct::Direct::next_pack */
 static void next_pack_bbb(u8* a,u8* b,u8* c,u64 d,u8 e,u8* f)
 {
 u8 h[16],i[32],j[16];
@@ -87716,7 +87528,7 @@ a[3]=0;}}
 L1:return;
 }
 
-/* cpp_direct::direct::Direct::begin_address::<#22100afe225e4c04> */
+/* cpp_direct::direct::Direct::begin_address */
 static void begin_address_4df(u8* a,u8* b,u8* c,u64 d)
 {
 A16 u8 e[4];
@@ -87798,8 +87610,7 @@ x4(a,0);}
 L1:return;
 }
 
-/* cpp_direct::direct::Direct::close_list::<#22100afe225e4c04> */
-/* cpp_direct::direct::Direct::close_list::<#b5179b541c42cc1e> */
+/* cpp_direct::direct::Direct::close_list */
 static void close_list_0b3(u8* a,u8* b,u8* c,u64 d,u8* e)
 {
 u8 f[32];
@@ -87929,14 +87740,7 @@ a[3]=N;}
 L1:return;
 }
 
-/* cpp_direct::direct::Direct::level_ended::<#22100afe225e4c04> */
-/* cpp_direct::direct::Direct::level_ended::<#efed33a7273bac1a> */
-/* cpp_direct::direct::Direct::level_ended::<#2c6f17e3e0d01cf6> */
-/* cpp_direct::direct::Direct::level_ended::<#464be67d5f5e1f6c> */
-/* cpp_direct::direct::Direct::level_ended::<#b5179b541c42cc1e> */
-/* cpp_direct::direct::Direct::level_ended::<#f912c19321383c9c> */
-/* cpp_direct::direct::Direct::level_ended::<#5b59ee8f9e439794> */
-/* cpp_direct::direct::Direct::level_ended::<#f5afb645cf2ff11a> */
+/* cpp_direct::direct::Direct::level_ended */
 static void level_ended_5bf(u8* a,u8* b,u8* c,u64 d,u8 e)
 {
 A16 u8 f[24];
@@ -88026,8 +87830,7 @@ x4(a,0);
 L1:return;
 }
 
-/* cpp_direct::direct::Direct::element_ended::<#22100afe225e4c04> */
-/* cpp_direct::direct::Direct::element_ended::<#b5179b541c42cc1e> */
+/* cpp_direct::direct::Direct::element_ended */
 static void element_ended_d46(u8* a,u8* b,u8* c,u64 d,u32 e,u8 f,u8* g,u8 h)
 {
 u8 i[32],j[32],k[16],l[32],n[16],o[32];
@@ -88194,8 +87997,7 @@ a[3]=0;
 L2:return;
 }
 
-/* cpp_direct::direct::Direct::empty_pack::<#22100afe225e4c04> */
-/* cpp_direct::direct::Direct::empty_pack::<#b5179b541c42cc1e> */
+/* cpp_direct::direct::Direct::empty_pack */
 static void empty_pack_06f(u8* a,u8* b,u8* c,u64 d,u8 e)
 {
 u8 g[32];
@@ -88239,14 +88041,7 @@ else x4(a,0);
 L1:return;
 }
 
-/* cpp_direct::direct::Direct::first_pack::<#22100afe225e4c04> */
-/* cpp_direct::direct::Direct::first_pack::<#efed33a7273bac1a> */
-/* cpp_direct::direct::Direct::first_pack::<#2c6f17e3e0d01cf6> */
-/* cpp_direct::direct::Direct::first_pack::<#464be67d5f5e1f6c> */
-/* cpp_direct::direct::Direct::first_pack::<#b5179b541c42cc1e> */
-/* cpp_direct::direct::Direct::first_pack::<#f912c19321383c9c> */
-/* cpp_direct::direct::Direct::first_pack::<#5b59ee8f9e439794> */
-/* cpp_direct::direct::Direct::first_pack::<#f5afb645cf2ff11a> */
+/* cpp_direct::direct::Direct::first_pack */
 static void first_pack_117(u8* a,u8* b,u8* c,u64 d)
 {
 A16 u8 e[38];
@@ -88393,8 +88188,7 @@ a[3]=0;
 L3:return;
 }
 
-/* cpp_direct::direct::Direct::begin_level::<#22100afe225e4c04> */
-/* cpp_direct::direct::Direct::begin_level::<#efed33a7273bac1a> */
+/* cpp_direct::direct::Direct::begin_level */
 static void begin_level_d05(u8* a,u8* b,u8* c,u64 d)
 {
 A16 u8 e[24];
@@ -88513,7 +88307,7 @@ x4(a,0);}
 L7:return;
 }
 
-/* cpp_direct::direct::Direct::first_literal::<#22100afe225e4c04> */
+/* cpp_direct::direct::Direct::first_literal */
 static void first_literal_618(u8* a,u8* b,u8* c,u64 d)
 {
 u8 f[32],g[32];
@@ -88962,7 +88756,7 @@ else A=0;
 return A;
 }
 
-/* cpp_direct::direct::Direct::literal::<#22100afe225e4c04> */
+/* cpp_direct::direct::Direct::literal */
 static void literal_9d0(u8* a,u8* b,u8* c,u64 d)
 {
 A16 u8 e[4];
@@ -89046,10 +88840,7 @@ L4:x4(a,0);
 L3:return;
 }
 
-/* cpp_direct::direct::Direct::nest_ended::<#22100afe225e4c04> */
-/* cpp_direct::direct::Direct::nest_ended::<#2c6f17e3e0d01cf6> */
-/* cpp_direct::direct::Direct::nest_ended::<#b5179b541c42cc1e> */
-/* cpp_direct::direct::Direct::nest_ended::<#5b59ee8f9e439794> */
+/* cpp_direct::direct::Direct::nest_ended */
 static void nest_ended_003(u8* a,u8* b,u8* c,u64 d)
 {
 u8 f[4],g[32];
@@ -89168,10 +88959,7 @@ a[3]=K;}
 L1:return;
 }
 
-/* cpp_direct::direct::Direct::addressed_named::<#22100afe225e4c04> */
-/* cpp_direct::direct::Direct::addressed_named::<#2c6f17e3e0d01cf6> */
-/* cpp_direct::direct::Direct::addressed_named::<#b5179b541c42cc1e> */
-/* cpp_direct::direct::Direct::addressed_named::<#5b59ee8f9e439794> */
+/* cpp_direct::direct::Direct::addressed_named */
 static void addressed_named_a52(u8* a,u8* b,u8* c,u64 d,u8 e)
 {
 u8 h[16];
@@ -89263,7 +89051,7 @@ else x4(a,0);}
 L2:return;
 }
 
-/* cpp_direct::direct::Direct::components_at::<#22100afe225e4c04> */
+/* cpp_direct::direct::Direct::components_at */
 static void components_at_af8(u8* a,u8* b,u8* c,u64 d)
 {
 A16 u8 e[38],f[38],g[38],h[38],i[24],j[38],k[38],l[24],m[38],n[38],o[24],p[38],q[38],r[4],s[4];
@@ -90497,14 +90285,7 @@ L11:L38:x4(a,0);
 L39:return;
 }
 
-/* cpp_direct::direct::Direct::begin_component::<#22100afe225e4c04> */
-/* cpp_direct::direct::Direct::begin_component::<#efed33a7273bac1a> */
-/* cpp_direct::direct::Direct::begin_component::<#2c6f17e3e0d01cf6> */
-/* cpp_direct::direct::Direct::begin_component::<#464be67d5f5e1f6c> */
-/* cpp_direct::direct::Direct::begin_component::<#b5179b541c42cc1e> */
-/* cpp_direct::direct::Direct::begin_component::<#f912c19321383c9c> */
-/* cpp_direct::direct::Direct::begin_component::<#5b59ee8f9e439794> */
-/* cpp_direct::direct::Direct::begin_component::<#f5afb645cf2ff11a> */
+/* cpp_direct::direct::Direct::begin_component */
 static void begin_component_d5a(u8* a,u8* b,u8* c,u64 d)
 {
 u8 e[3];
@@ -90528,7 +90309,7 @@ else x4(a,0);}
 return;
 }
 
-/* cpp_direct::direct::Direct::operator::<#22100afe225e4c04> */
+/* cpp_direct::direct::Direct::operator */
 static void operator_761(u8* a,u8* b,u8* c,u64 d)
 {
 u8 e[4],f[32];
@@ -90753,7 +90534,7 @@ else x4(a,0);}
 L1:return;
 }
 
-/* cpp_direct::direct::Direct::begin_object::<#efed33a7273bac1a> */
+/* cpp_direct::direct::Direct::begin_object */
 static void begin_object_0af(u8* a,u8* b,u8* c,u64 d)
 {
 A16 u8 e[4];
@@ -90855,7 +90636,7 @@ x4(a,0);
 L2:return;
 }
 
-/* cpp_direct::direct::Direct::nest_at::<#efed33a7273bac1a> */
+/* cpp_direct::direct::Direct::nest_at */
 static void nest_at_97a(u8* a,u8* b,u8* c,u64 d,u8 e,u8 f)
 {
 u8 g[34];
@@ -91560,7 +91341,7 @@ L16:L14:x4(a,0);
 L13:return;
 }
 
-/* cpp_direct::direct::Direct::begin_clone::<#efed33a7273bac1a> */
+/* cpp_direct::direct::Direct::begin_clone */
 static void begin_clone_5b6(u8* a,u8* b,u8* c,u64 d)
 {
 u8 e[4];
@@ -91641,7 +91422,7 @@ x4(a,0);
 L5:return;
 }
 
-/* cpp_direct::direct::Direct::begin_encoding::<#efed33a7273bac1a> */
+/* cpp_direct::direct::Direct::begin_encoding */
 static void begin_encoding_4d0(u8* a,u8* b,u8* c,u64 d)
 {
 A16 u8 e[4],f[4];
@@ -91712,7 +91493,7 @@ a[3]=o;
 return;
 }
 
-/* cpp_direct::direct::Direct::begin_in_std::<#efed33a7273bac1a> */
+/* cpp_direct::direct::Direct::begin_in_std */
 static void begin_in_std_5d2(u8* a,u8* b,u8* c,u64 d)
 {
 A16 u8 e[24],f[4];
@@ -91834,7 +91615,7 @@ x4(a,0);}
 L2:return;
 }
 
-/* cpp_direct::direct::Direct::unscoped_named::<#efed33a7273bac1a> */
+/* cpp_direct::direct::Direct::unscoped_named */
 static void unscoped_named_6a9(u8* a,u8* b,u8* c,u64 d,u32 e,u8 f)
 {
 u8 h[32],j[32];
@@ -92020,10 +91801,7 @@ a[3]=J;
 L1:return;
 }
 
-/* cpp_direct::direct::Direct::name_ended::<#efed33a7273bac1a> */
-/* cpp_direct::direct::Direct::name_ended::<#464be67d5f5e1f6c> */
-/* cpp_direct::direct::Direct::name_ended::<#f912c19321383c9c> */
-/* cpp_direct::direct::Direct::name_ended::<#f5afb645cf2ff11a> */
+/* cpp_direct::direct::Direct::name_ended */
 static void name_ended_a18(u8* a,u8* b,u8* c,u64 d,u8 e,u8 f,u8* g,u32 h)
 {
 u8 i[4],j[4],l[16],o[16];
@@ -92379,10 +92157,7 @@ a[3]=V;
 L1:return;
 }
 
-/* cpp_direct::direct::Direct::encoded::<#efed33a7273bac1a> */
-/* cpp_direct::direct::Direct::encoded::<#464be67d5f5e1f6c> */
-/* cpp_direct::direct::Direct::encoded::<#f912c19321383c9c> */
-/* cpp_direct::direct::Direct::encoded::<#f5afb645cf2ff11a> */
+/* cpp_direct::direct::Direct::encoded */
 static void encoded_306(u8* a,u8* b,u8* c,u64 d)
 {
 A16 u8 e[4],f[4];
@@ -92437,10 +92212,7 @@ a[3]=f[3];
 L2:return;
 }
 
-/* cpp_direct::direct::Direct::entity_name::<#efed33a7273bac1a> */
-/* cpp_direct::direct::Direct::entity_name::<#464be67d5f5e1f6c> */
-/* cpp_direct::direct::Direct::entity_name::<#f912c19321383c9c> */
-/* cpp_direct::direct::Direct::entity_name::<#f5afb645cf2ff11a> */
+/* cpp_direct::direct::Direct::entity_name */
 static void entity_name_404(u8* a,u8* b,u8* c,u64 d)
 {
 A16 u8 e[24],f[4];
@@ -92600,10 +92372,7 @@ L4:L2:x4(a,0);
 L1:return;
 }
 
-/* cpp_direct::direct::Direct::close::<#efed33a7273bac1a> */
-/* cpp_direct::direct::Direct::close::<#464be67d5f5e1f6c> */
-/* cpp_direct::direct::Direct::close::<#f912c19321383c9c> */
-/* cpp_direct::direct::Direct::close::<#f5afb645cf2ff11a> */
+/* cpp_direct::direct::Direct::close */
 static void close_39a(u8* a,u8* b,u8* c,u64 d,u32 e)
 {
 u8 f[4];
@@ -92668,10 +92437,7 @@ else x4(a,0);
 L1:return;
 }
 
-/* cpp_direct::direct::Direct::expansion::<#efed33a7273bac1a> */
-/* cpp_direct::direct::Direct::expansion::<#464be67d5f5e1f6c> */
-/* cpp_direct::direct::Direct::expansion::<#f912c19321383c9c> */
-/* cpp_direct::direct::Direct::expansion::<#f5afb645cf2ff11a> */
+/* cpp_direct::direct::Direct::expansion */
 static void expansion_52e(u8* a,u8* b,u8* c,u64 d,u8 e,u32 f,u8* g)
 {
 u8 j[32];
@@ -92763,7 +92529,7 @@ a[3]=0;}
 L2:return;
 }
 
-/* cpp_direct::direct::Direct::begin_operator::<#efed33a7273bac1a> */
+/* cpp_direct::direct::Direct::begin_operator */
 static void begin_operator_425(u8* a,u8* b,u8* c,u64 d)
 {
 u8 e[4];
@@ -92790,7 +92556,7 @@ a[3]=k;
 return;
 }
 
-/* cpp_direct::direct::Direct::begin_name::<#efed33a7273bac1a> */
+/* cpp_direct::direct::Direct::begin_name */
 static void begin_name_931(u8* a,u8* b,u8* c,u64 d)
 {
 A16 u8 e[24],f[4];
@@ -92908,7 +92674,7 @@ L3:L1:x4(a,0);
 L9:return;
 }
 
-/* cpp_direct::direct::Direct::begin_thunk::<#efed33a7273bac1a> */
+/* cpp_direct::direct::Direct::begin_thunk */
 static void begin_thunk_892(u8* a,u8* b,u8* c,u64 d)
 {
 A16 u8 e[4];
@@ -93006,7 +92772,7 @@ L1:x4(a,0);
 L6:return;
 }
 
-/* cpp_direct::direct::Direct::begin_virtual_thunk::<#efed33a7273bac1a> */
+/* cpp_direct::direct::Direct::begin_virtual_thunk */
 static void begin_virtual_thunk_faf(u8* a,u8* b,u8* c,u64 d)
 {
 A16 u8 e[4];
@@ -93142,7 +92908,7 @@ L1:x4(a,0);
 L11:return;
 }
 
-/* cpp_direct::direct::Direct::type_at::<#efed33a7273bac1a> */
+/* cpp_direct::direct::Direct::type_at */
 static void type_at_a00(u8* a,u8* b,u8* c,u64 d,u8 e)
 {
 A16 u8 f[4],g[4],h[4];
@@ -93301,7 +93067,7 @@ a[3]=I;
 L4:return;
 }
 
-/* cpp_direct::direct::Direct::named_type::<#efed33a7273bac1a> */
+/* cpp_direct::direct::Direct::named_type */
 static void named_type_ed0(u8* a,u8* b,u8* c,u64 d)
 {
 A16 u8 e[24],f[4],g[16],h[24],i[4];
@@ -93850,7 +93616,7 @@ L15:L16:x4(a,0);
 L24:return;
 }
 
-/* cpp_direct::direct::Direct::begin_enclosing::<#efed33a7273bac1a> */
+/* cpp_direct::direct::Direct::begin_enclosing */
 static void begin_enclosing_453(u8* a,u8* b,u8* c,u64 d)
 {
 u8 e[4],f[4];
@@ -94026,10 +93792,7 @@ L4:L2:x4(a,0);}
 L1:return;
 }
 
-/* cpp_direct::direct::Direct::enclosed::<#efed33a7273bac1a> */
-/* cpp_direct::direct::Direct::enclosed::<#464be67d5f5e1f6c> */
-/* cpp_direct::direct::Direct::enclosed::<#f912c19321383c9c> */
-/* cpp_direct::direct::Direct::enclosed::<#f5afb645cf2ff11a> */
+/* cpp_direct::direct::Direct::enclosed */
 static void enclosed_84c(u8* a,u8* b,u8* c,u64 d,u32 e)
 {
 u8 f[3];
@@ -94070,10 +93833,7 @@ x4(a,0);
 L1:return;
 }
 
-/* cpp_direct::direct::Direct::enclosing_parameters::<#efed33a7273bac1a> */
-/* cpp_direct::direct::Direct::enclosing_parameters::<#464be67d5f5e1f6c> */
-/* cpp_direct::direct::Direct::enclosing_parameters::<#f912c19321383c9c> */
-/* cpp_direct::direct::Direct::enclosing_parameters::<#f5afb645cf2ff11a> */
+/* cpp_direct::direct::Direct::enclosing_parameters */
 static void enclosing_parameters_1fa(u8* a,u8* b,u8* c,u64 d,u8 e,u32 f)
 {
 u8 g[4];
@@ -94132,10 +93892,7 @@ a[3]=0;}}
 L1:return;
 }
 
-/* cpp_direct::direct::Direct::parameter_ended::<#efed33a7273bac1a> */
-/* cpp_direct::direct::Direct::parameter_ended::<#464be67d5f5e1f6c> */
-/* cpp_direct::direct::Direct::parameter_ended::<#f912c19321383c9c> */
-/* cpp_direct::direct::Direct::parameter_ended::<#f5afb645cf2ff11a> */
+/* cpp_direct::direct::Direct::parameter_ended */
 static void parameter_ended_d3f(u8* a,u8* b,u8* c,u64 d,u32 e,u8* f)
 {
 u8 g[4],h[4],i[32];
@@ -94259,10 +94016,7 @@ a[3]=u;
 return;
 }
 
-/* cpp_direct::direct::Direct::front_ended::<#efed33a7273bac1a> */
-/* cpp_direct::direct::Direct::front_ended::<#464be67d5f5e1f6c> */
-/* cpp_direct::direct::Direct::front_ended::<#f912c19321383c9c> */
-/* cpp_direct::direct::Direct::front_ended::<#f5afb645cf2ff11a> */
+/* cpp_direct::direct::Direct::front_ended */
 static void front_ended_665(u8* a,u8* b,u8* c,u64 d,u8 e,u32 f,u8* g)
 {
 u8 h[4];
@@ -94356,10 +94110,7 @@ x4(a,0);
 L2:return;
 }
 
-/* cpp_direct::direct::Direct::pass_dependent::<#efed33a7273bac1a> */
-/* cpp_direct::direct::Direct::pass_dependent::<#464be67d5f5e1f6c> */
-/* cpp_direct::direct::Direct::pass_dependent::<#f912c19321383c9c> */
-/* cpp_direct::direct::Direct::pass_dependent::<#f5afb645cf2ff11a> */
+/* cpp_direct::direct::Direct::pass_dependent */
 static void pass_dependent_3d7(u8* a,u8* b,u8* c,u64 d)
 {
 u8 f[32];
@@ -94495,10 +94246,7 @@ a[3]=P;}
 return;
 }
 
-/* cpp_direct::direct::Direct::addressed_front::<#efed33a7273bac1a> */
-/* cpp_direct::direct::Direct::addressed_front::<#464be67d5f5e1f6c> */
-/* cpp_direct::direct::Direct::addressed_front::<#f912c19321383c9c> */
-/* cpp_direct::direct::Direct::addressed_front::<#f5afb645cf2ff11a> */
+/* cpp_direct::direct::Direct::addressed_front */
 static void addressed_front_54d(u8* a,u8* b,u8* c,u64 d,u8 e,u32 f,u8* g)
 {
 u8 i[32];
@@ -94575,10 +94323,7 @@ else x4(a,0);
 return;
 }
 
-/* cpp_direct::direct::Direct::addressed_parameters::<#efed33a7273bac1a> */
-/* cpp_direct::direct::Direct::addressed_parameters::<#464be67d5f5e1f6c> */
-/* cpp_direct::direct::Direct::addressed_parameters::<#f912c19321383c9c> */
-/* cpp_direct::direct::Direct::addressed_parameters::<#f5afb645cf2ff11a> */
+/* cpp_direct::direct::Direct::addressed_parameters */
 static void addressed_parameters_09a(u8* a,u8* b,u8* c,u64 d,u8 e,u32 f,u8* g)
 {
 A16 u8 h[32];
@@ -94669,10 +94414,7 @@ a[3]=0;}
 L3:return;
 }
 
-/* cpp_direct::direct::Direct::addressed_parameter::<#efed33a7273bac1a> */
-/* cpp_direct::direct::Direct::addressed_parameter::<#464be67d5f5e1f6c> */
-/* cpp_direct::direct::Direct::addressed_parameter::<#f912c19321383c9c> */
-/* cpp_direct::direct::Direct::addressed_parameter::<#f5afb645cf2ff11a> */
+/* cpp_direct::direct::Direct::addressed_parameter */
 static void addressed_parameter_2cf(u8* a,u8* b,u8* c,u64 d,u32 e)
 {
 u64 f,g,i,k,l,m,o,q,r,s,t,u,v,w,x,y,z,A,B,C,D,E,F,G,I,J,K,L,O,P,R,S,T,V;
@@ -94807,10 +94549,7 @@ a[3]=0;
 L1:return;
 }
 
-/* cpp_direct::direct::Direct::returned::<#efed33a7273bac1a> */
-/* cpp_direct::direct::Direct::returned::<#464be67d5f5e1f6c> */
-/* cpp_direct::direct::Direct::returned::<#f912c19321383c9c> */
-/* cpp_direct::direct::Direct::returned::<#f5afb645cf2ff11a> */
+/* cpp_direct::direct::Direct::returned */
 static void returned_322(u8* a,u8* b,u8* c,u64 d,u8 e)
 {
 A16 u8 f[4];
@@ -94922,10 +94661,7 @@ a[3]=H;
 L3:return;
 }
 
-/* cpp_direct::direct::Direct::function_ended::<#efed33a7273bac1a> */
-/* cpp_direct::direct::Direct::function_ended::<#464be67d5f5e1f6c> */
-/* cpp_direct::direct::Direct::function_ended::<#f912c19321383c9c> */
-/* cpp_direct::direct::Direct::function_ended::<#f5afb645cf2ff11a> */
+/* cpp_direct::direct::Direct::function_ended */
 static void function_ended_365(u8* a,u8* b,u8* c,u64 d,u8 e)
 {
 A16 u8 f[4];
@@ -94978,10 +94714,7 @@ L2:x4(a,0);
 L1:return;
 }
 
-/* cpp_direct::direct::Direct::pass_element::<#efed33a7273bac1a> */
-/* cpp_direct::direct::Direct::pass_element::<#464be67d5f5e1f6c> */
-/* cpp_direct::direct::Direct::pass_element::<#f912c19321383c9c> */
-/* cpp_direct::direct::Direct::pass_element::<#f5afb645cf2ff11a> */
+/* cpp_direct::direct::Direct::pass_element */
 static void pass_element_695(u8* a,u8* b,u8* c,u64 d)
 {
 u8 f[32];
@@ -95021,10 +94754,7 @@ a[3]=l;}
 return;
 }
 
-/* cpp_direct::direct::Direct::parameter_at::<#efed33a7273bac1a> */
-/* cpp_direct::direct::Direct::parameter_at::<#464be67d5f5e1f6c> */
-/* cpp_direct::direct::Direct::parameter_at::<#f912c19321383c9c> */
-/* cpp_direct::direct::Direct::parameter_at::<#f5afb645cf2ff11a> */
+/* cpp_direct::direct::Direct::parameter_at */
 static void parameter_at_3ac(u8* a,u8* b,u8* c,u64 d,u8 e,u8 f)
 {
 u8 g[4];
@@ -95118,10 +94848,7 @@ a[3]=0;
 L1:return;
 }
 
-/* cpp_direct::direct::Direct::array_ended::<#efed33a7273bac1a> */
-/* cpp_direct::direct::Direct::array_ended::<#464be67d5f5e1f6c> */
-/* cpp_direct::direct::Direct::array_ended::<#f912c19321383c9c> */
-/* cpp_direct::direct::Direct::array_ended::<#f5afb645cf2ff11a> */
+/* cpp_direct::direct::Direct::array_ended */
 static void array_ended_1b3(u8* a,u8* b,u8* c,u64 d,u8 e,u32 f,u32 g)
 {
 A16 u8 h[4];
@@ -95299,10 +95026,7 @@ L1:x4(a,0);
 L9:return;
 }
 
-/* cpp_direct::direct::Direct::enclosing_parameter::<#efed33a7273bac1a> */
-/* cpp_direct::direct::Direct::enclosing_parameter::<#464be67d5f5e1f6c> */
-/* cpp_direct::direct::Direct::enclosing_parameter::<#f912c19321383c9c> */
-/* cpp_direct::direct::Direct::enclosing_parameter::<#f5afb645cf2ff11a> */
+/* cpp_direct::direct::Direct::enclosing_parameter */
 static void enclosing_parameter_fc1(u8* a,u8* b,u8* c,u64 d,u32 e,u32 f)
 {
 u8 g[4];
@@ -95404,7 +95128,7 @@ a[3]=0;
 L1:return;
 }
 
-/* cpp_direct::direct::Direct::argument_ended::<#efed33a7273bac1a> */
+/* cpp_direct::direct::Direct::argument_ended */
 static void argument_ended_511(u8* a,u8* b,u8* c,u64 d,u32 e,u8 f,u8* g,u8 h)
 {
 u8 i[4],j[32],k[32],l[32],n[32];
@@ -95554,8 +95278,7 @@ a[3]=C;
 L4:return;
 }
 
-/* cpp_direct::direct::Direct::next_pack::<#efed33a7273bac1a> */
-/* cpp_direct::direct::Direct::next_pack::<#f912c19321383c9c> */
+/* cpp_direct::direct::Direct::next_pack */
 static void next_pack_66f(u8* a,u8* b,u8* c,u64 d,u8 e,u8* f)
 {
 u8 h[16],i[32],j[16];
@@ -95693,7 +95416,7 @@ a[3]=0;}}
 L1:return;
 }
 
-/* cpp_direct::direct::Direct::begin_address::<#efed33a7273bac1a> */
+/* cpp_direct::direct::Direct::begin_address */
 static void begin_address_ef5(u8* a,u8* b,u8* c,u64 d)
 {
 A16 u8 e[4];
@@ -95775,8 +95498,7 @@ x4(a,0);}
 L1:return;
 }
 
-/* cpp_direct::direct::Direct::close_list::<#efed33a7273bac1a> */
-/* cpp_direct::direct::Direct::close_list::<#f912c19321383c9c> */
+/* cpp_direct::direct::Direct::close_list */
 static void close_list_299(u8* a,u8* b,u8* c,u64 d,u8* e)
 {
 u8 f[32];
@@ -95906,8 +95628,7 @@ a[3]=N;}
 L1:return;
 }
 
-/* cpp_direct::direct::Direct::element_ended::<#efed33a7273bac1a> */
-/* cpp_direct::direct::Direct::element_ended::<#f912c19321383c9c> */
+/* cpp_direct::direct::Direct::element_ended */
 static void element_ended_6b8(u8* a,u8* b,u8* c,u64 d,u32 e,u8 f,u8* g,u8 h)
 {
 u8 i[32],j[32],k[16],l[32],n[16],o[32];
@@ -96074,8 +95795,7 @@ a[3]=0;
 L2:return;
 }
 
-/* cpp_direct::direct::Direct::empty_pack::<#efed33a7273bac1a> */
-/* cpp_direct::direct::Direct::empty_pack::<#f912c19321383c9c> */
+/* cpp_direct::direct::Direct::empty_pack */
 static void empty_pack_079(u8* a,u8* b,u8* c,u64 d,u8 e)
 {
 u8 g[32];
@@ -96119,7 +95839,7 @@ else x4(a,0);
 L1:return;
 }
 
-/* cpp_direct::direct::Direct::first_literal::<#efed33a7273bac1a> */
+/* cpp_direct::direct::Direct::first_literal */
 static void first_literal_c4d(u8* a,u8* b,u8* c,u64 d)
 {
 u8 f[32],g[32];
@@ -96216,7 +95936,7 @@ a[3]=e[3];
 L3:return;
 }
 
-/* cpp_direct::direct::Direct::literal::<#efed33a7273bac1a> */
+/* cpp_direct::direct::Direct::literal */
 static void literal_da7(u8* a,u8* b,u8* c,u64 d)
 {
 A16 u8 e[4];
@@ -96300,10 +96020,7 @@ L4:x4(a,0);
 L3:return;
 }
 
-/* cpp_direct::direct::Direct::nest_ended::<#efed33a7273bac1a> */
-/* cpp_direct::direct::Direct::nest_ended::<#464be67d5f5e1f6c> */
-/* cpp_direct::direct::Direct::nest_ended::<#f912c19321383c9c> */
-/* cpp_direct::direct::Direct::nest_ended::<#f5afb645cf2ff11a> */
+/* cpp_direct::direct::Direct::nest_ended */
 static void nest_ended_32a(u8* a,u8* b,u8* c,u64 d)
 {
 u8 e[4],f[4],g[4],h[32];
@@ -96632,10 +96349,7 @@ a[3]=Na;}
 L1:return;
 }
 
-/* cpp_direct::direct::Direct::addressed_named::<#efed33a7273bac1a> */
-/* cpp_direct::direct::Direct::addressed_named::<#464be67d5f5e1f6c> */
-/* cpp_direct::direct::Direct::addressed_named::<#f912c19321383c9c> */
-/* cpp_direct::direct::Direct::addressed_named::<#f5afb645cf2ff11a> */
+/* cpp_direct::direct::Direct::addressed_named */
 static void addressed_named_968(u8* a,u8* b,u8* c,u64 d,u8 e)
 {
 u8 h[16];
@@ -96727,7 +96441,7 @@ else x4(a,0);}
 L2:return;
 }
 
-/* cpp_direct::direct::Direct::components_at::<#efed33a7273bac1a> */
+/* cpp_direct::direct::Direct::components_at */
 static void components_at_8f9(u8* a,u8* b,u8* c,u64 d)
 {
 A16 u8 e[38],f[38],g[38],h[38],i[38],j[38],k[24],l[38],m[38],n[24],o[38],p[38],q[24],r[4],s[4];
@@ -97961,7 +97675,7 @@ L11:L38:x4(a,0);
 L39:return;
 }
 
-/* cpp_direct::direct::Direct::operator::<#efed33a7273bac1a> */
+/* cpp_direct::direct::Direct::operator */
 static void operator_b47(u8* a,u8* b,u8* c,u64 d)
 {
 u8 f[32];
@@ -98187,8 +97901,7 @@ else x4(a,0);}
 L1:return;
 }
 
-/* cpp_direct::direct::Direct::begin_object::<#2c6f17e3e0d01cf6> */
-/* cpp_direct::direct::Direct::begin_object::<#464be67d5f5e1f6c> */
+/* cpp_direct::direct::Direct::begin_object */
 static void begin_object_4cd(u8* a,u8* b,u8* c,u64 d)
 {
 A16 u8 e[4];
@@ -98290,8 +98003,7 @@ x4(a,0);
 L2:return;
 }
 
-/* cpp_direct::direct::Direct::nest_at::<#2c6f17e3e0d01cf6> */
-/* cpp_direct::direct::Direct::nest_at::<#464be67d5f5e1f6c> */
+/* cpp_direct::direct::Direct::nest_at */
 static void nest_at_b4c(u8* a,u8* b,u8* c,u64 d,u8 e,u8 f)
 {
 u8 g[34];
@@ -98996,7 +98708,7 @@ L16:L14:x4(a,0);
 L13:return;
 }
 
-/* cpp_direct::direct::Direct::begin_clone::<#2c6f17e3e0d01cf6> */
+/* cpp_direct::direct::Direct::begin_clone */
 static void begin_clone_906(u8* a,u8* b,u8* c,u64 d)
 {
 u8 e[4];
@@ -99077,7 +98789,7 @@ x4(a,0);
 L5:return;
 }
 
-/* cpp_direct::direct::Direct::begin_encoding::<#2c6f17e3e0d01cf6> */
+/* cpp_direct::direct::Direct::begin_encoding */
 static void begin_encoding_a64(u8* a,u8* b,u8* c,u64 d)
 {
 A16 u8 e[4],f[4];
@@ -99148,7 +98860,7 @@ a[3]=o;
 return;
 }
 
-/* cpp_direct::direct::Direct::begin_in_std::<#2c6f17e3e0d01cf6> */
+/* cpp_direct::direct::Direct::begin_in_std */
 static void begin_in_std_7ae(u8* a,u8* b,u8* c,u64 d)
 {
 A16 u8 e[24],f[4];
@@ -99270,7 +98982,7 @@ x4(a,0);}
 L2:return;
 }
 
-/* cpp_direct::direct::Direct::unscoped_named::<#2c6f17e3e0d01cf6> */
+/* cpp_direct::direct::Direct::unscoped_named */
 static void unscoped_named_e23(u8* a,u8* b,u8* c,u64 d,u32 e,u8 f)
 {
 u8 g[4],h[32],i[4],j[32];
@@ -99452,7 +99164,7 @@ a[3]=J;
 L1:return;
 }
 
-/* cpp_direct::direct::Direct::begin_operator::<#2c6f17e3e0d01cf6> */
+/* cpp_direct::direct::Direct::begin_operator */
 static void begin_operator_38a(u8* a,u8* b,u8* c,u64 d)
 {
 u8 e[4];
@@ -99479,7 +99191,7 @@ a[3]=k;
 return;
 }
 
-/* cpp_direct::direct::Direct::begin_name::<#2c6f17e3e0d01cf6> */
+/* cpp_direct::direct::Direct::begin_name */
 static void begin_name_649(u8* a,u8* b,u8* c,u64 d)
 {
 A16 u8 e[24],f[4];
@@ -99597,7 +99309,7 @@ L3:L1:x4(a,0);
 L9:return;
 }
 
-/* cpp_direct::direct::Direct::begin_thunk::<#2c6f17e3e0d01cf6> */
+/* cpp_direct::direct::Direct::begin_thunk */
 static void begin_thunk_50d(u8* a,u8* b,u8* c,u64 d)
 {
 A16 u8 e[4];
@@ -99695,7 +99407,7 @@ L1:x4(a,0);
 L6:return;
 }
 
-/* cpp_direct::direct::Direct::begin_virtual_thunk::<#2c6f17e3e0d01cf6> */
+/* cpp_direct::direct::Direct::begin_virtual_thunk */
 static void begin_virtual_thunk_1ab(u8* a,u8* b,u8* c,u64 d)
 {
 A16 u8 e[4];
@@ -99831,7 +99543,7 @@ L1:x4(a,0);
 L11:return;
 }
 
-/* cpp_direct::direct::Direct::type_at::<#2c6f17e3e0d01cf6> */
+/* cpp_direct::direct::Direct::type_at */
 static void type_at_d83(u8* a,u8* b,u8* c,u64 d,u8 e)
 {
 A16 u8 f[4],g[4],h[4];
@@ -99990,7 +99702,7 @@ a[3]=I;
 L4:return;
 }
 
-/* cpp_direct::direct::Direct::named_type::<#2c6f17e3e0d01cf6> */
+/* cpp_direct::direct::Direct::named_type */
 static void named_type_de5(u8* a,u8* b,u8* c,u64 d)
 {
 A16 u8 e[24],f[4],g[16],h[24],i[4];
@@ -100539,7 +100251,7 @@ L15:L16:x4(a,0);
 L24:return;
 }
 
-/* cpp_direct::direct::Direct::begin_enclosing::<#2c6f17e3e0d01cf6> */
+/* cpp_direct::direct::Direct::begin_enclosing */
 static void begin_enclosing_8b6(u8* a,u8* b,u8* c,u64 d)
 {
 A16 u8 e[4],f[24],g[4];
@@ -100710,7 +100422,7 @@ L4:L2:x4(a,0);}
 L1:return;
 }
 
-/* cpp_direct::direct::Direct::argument_ended::<#2c6f17e3e0d01cf6> */
+/* cpp_direct::direct::Direct::argument_ended */
 static void argument_ended_c7c(u8* a,u8* b,u8* c,u64 d,u32 e,u8 f,u8* g,u8 h)
 {
 u8 i[4],j[32],k[32],l[32],n[32];
@@ -100860,8 +100572,7 @@ a[3]=C;
 L4:return;
 }
 
-/* cpp_direct::direct::Direct::next_pack::<#2c6f17e3e0d01cf6> */
-/* cpp_direct::direct::Direct::next_pack::<#5b59ee8f9e439794> */
+/* cpp_direct::direct::Direct::next_pack */
 static void next_pack_095(u8* a,u8* b,u8* c,u64 d,u8 e,u8* f)
 {
 u8 h[16],i[32],j[16];
@@ -100999,8 +100710,7 @@ a[3]=0;}}
 L1:return;
 }
 
-/* cpp_direct::direct::Direct::begin_address::<#2c6f17e3e0d01cf6> */
-/* cpp_direct::direct::Direct::begin_address::<#464be67d5f5e1f6c> */
+/* cpp_direct::direct::Direct::begin_address */
 static void begin_address_731(u8* a,u8* b,u8* c,u64 d)
 {
 A16 u8 e[4];
@@ -101082,8 +100792,7 @@ x4(a,0);}
 L1:return;
 }
 
-/* cpp_direct::direct::Direct::close_list::<#2c6f17e3e0d01cf6> */
-/* cpp_direct::direct::Direct::close_list::<#5b59ee8f9e439794> */
+/* cpp_direct::direct::Direct::close_list */
 static void close_list_148(u8* a,u8* b,u8* c,u64 d,u8* e)
 {
 u8 f[32];
@@ -101213,8 +100922,7 @@ a[3]=N;}
 L1:return;
 }
 
-/* cpp_direct::direct::Direct::element_ended::<#2c6f17e3e0d01cf6> */
-/* cpp_direct::direct::Direct::element_ended::<#5b59ee8f9e439794> */
+/* cpp_direct::direct::Direct::element_ended */
 static void element_ended_c50(u8* a,u8* b,u8* c,u64 d,u32 e,u8 f,u8* g,u8 h)
 {
 u8 i[32],j[32],k[16],l[32],n[16],o[32];
@@ -101381,8 +101089,7 @@ a[3]=0;
 L2:return;
 }
 
-/* cpp_direct::direct::Direct::empty_pack::<#2c6f17e3e0d01cf6> */
-/* cpp_direct::direct::Direct::empty_pack::<#5b59ee8f9e439794> */
+/* cpp_direct::direct::Direct::empty_pack */
 static void empty_pack_c74(u8* a,u8* b,u8* c,u64 d,u8 e)
 {
 u8 g[32];
@@ -101426,8 +101133,7 @@ else x4(a,0);
 L1:return;
 }
 
-/* cpp_direct::direct::Direct::begin_level::<#2c6f17e3e0d01cf6> */
-/* cpp_direct::direct::Direct::begin_level::<#464be67d5f5e1f6c> */
+/* cpp_direct::direct::Direct::begin_level */
 static void begin_level_398(u8* a,u8* b,u8* c,u64 d)
 {
 A16 u8 e[24];
@@ -101546,7 +101252,7 @@ x4(a,0);}
 L7:return;
 }
 
-/* cpp_direct::direct::Direct::first_literal::<#2c6f17e3e0d01cf6> */
+/* cpp_direct::direct::Direct::first_literal */
 static void first_literal_898(u8* a,u8* b,u8* c,u64 d)
 {
 u8 f[32],g[32];
@@ -101643,7 +101349,7 @@ a[3]=e[3];
 L3:return;
 }
 
-/* cpp_direct::direct::Direct::literal::<#2c6f17e3e0d01cf6> */
+/* cpp_direct::direct::Direct::literal */
 static void literal_47f(u8* a,u8* b,u8* c,u64 d)
 {
 A16 u8 e[4];
@@ -101727,7 +101433,7 @@ L4:x4(a,0);
 L3:return;
 }
 
-/* cpp_direct::direct::Direct::components_at::<#2c6f17e3e0d01cf6> */
+/* cpp_direct::direct::Direct::components_at */
 static void components_at_b1b(u8* a,u8* b,u8* c,u64 d)
 {
 A16 u8 e[38],f[38],g[38],h[38],i[38],j[38],k[24],l[38],m[38],n[24],o[38],p[38],q[24],r[4],s[4];
@@ -102961,7 +102667,7 @@ L11:L38:x4(a,0);
 L39:return;
 }
 
-/* cpp_direct::direct::Direct::operator::<#2c6f17e3e0d01cf6> */
+/* cpp_direct::direct::Direct::operator */
 static void operator_5af(u8* a,u8* b,u8* c,u64 d)
 {
 u8 e[4],f[32];
@@ -103186,7 +102892,7 @@ else x4(a,0);}
 L1:return;
 }
 
-/* cpp_direct::direct::Direct::begin_clone::<#464be67d5f5e1f6c> */
+/* cpp_direct::direct::Direct::begin_clone */
 static void begin_clone_d83(u8* a,u8* b,u8* c,u64 d)
 {
 u8 e[4];
@@ -103267,7 +102973,7 @@ x4(a,0);
 L5:return;
 }
 
-/* cpp_direct::direct::Direct::begin_encoding::<#464be67d5f5e1f6c> */
+/* cpp_direct::direct::Direct::begin_encoding */
 static void begin_encoding_8af(u8* a,u8* b,u8* c,u64 d)
 {
 A16 u8 e[4],f[4];
@@ -103338,7 +103044,7 @@ a[3]=o;
 return;
 }
 
-/* cpp_direct::direct::Direct::begin_in_std::<#464be67d5f5e1f6c> */
+/* cpp_direct::direct::Direct::begin_in_std */
 static void begin_in_std_978(u8* a,u8* b,u8* c,u64 d)
 {
 A16 u8 e[24],f[4];
@@ -103460,7 +103166,7 @@ x4(a,0);}
 L2:return;
 }
 
-/* cpp_direct::direct::Direct::unscoped_named::<#464be67d5f5e1f6c> */
+/* cpp_direct::direct::Direct::unscoped_named */
 static void unscoped_named_e85(u8* a,u8* b,u8* c,u64 d,u32 e,u8 f)
 {
 u8 h[32],j[32];
@@ -103646,7 +103352,7 @@ a[3]=J;
 L1:return;
 }
 
-/* cpp_direct::direct::Direct::begin_operator::<#464be67d5f5e1f6c> */
+/* cpp_direct::direct::Direct::begin_operator */
 static void begin_operator_e02(u8* a,u8* b,u8* c,u64 d)
 {
 u8 e[4];
@@ -103673,7 +103379,7 @@ a[3]=k;
 return;
 }
 
-/* cpp_direct::direct::Direct::begin_name::<#464be67d5f5e1f6c> */
+/* cpp_direct::direct::Direct::begin_name */
 static void begin_name_0b0(u8* a,u8* b,u8* c,u64 d)
 {
 A16 u8 e[24],f[4];
@@ -103791,7 +103497,7 @@ L3:L1:x4(a,0);
 L9:return;
 }
 
-/* cpp_direct::direct::Direct::begin_thunk::<#464be67d5f5e1f6c> */
+/* cpp_direct::direct::Direct::begin_thunk */
 static void begin_thunk_cdf(u8* a,u8* b,u8* c,u64 d)
 {
 A16 u8 e[4];
@@ -103889,7 +103595,7 @@ L1:x4(a,0);
 L6:return;
 }
 
-/* cpp_direct::direct::Direct::begin_virtual_thunk::<#464be67d5f5e1f6c> */
+/* cpp_direct::direct::Direct::begin_virtual_thunk */
 static void begin_virtual_thunk_2ec(u8* a,u8* b,u8* c,u64 d)
 {
 A16 u8 e[4];
@@ -104025,7 +103731,7 @@ L1:x4(a,0);
 L11:return;
 }
 
-/* cpp_direct::direct::Direct::type_at::<#464be67d5f5e1f6c> */
+/* cpp_direct::direct::Direct::type_at */
 static void type_at_11d(u8* a,u8* b,u8* c,u64 d,u8 e)
 {
 A16 u8 f[4],g[4],h[4];
@@ -104184,7 +103890,7 @@ a[3]=I;
 L4:return;
 }
 
-/* cpp_direct::direct::Direct::named_type::<#464be67d5f5e1f6c> */
+/* cpp_direct::direct::Direct::named_type */
 static void named_type_bf1(u8* a,u8* b,u8* c,u64 d)
 {
 A16 u8 e[24],f[4],g[16],h[24],i[4];
@@ -104733,7 +104439,7 @@ L15:L16:x4(a,0);
 L24:return;
 }
 
-/* cpp_direct::direct::Direct::begin_enclosing::<#464be67d5f5e1f6c> */
+/* cpp_direct::direct::Direct::begin_enclosing */
 static void begin_enclosing_897(u8* a,u8* b,u8* c,u64 d)
 {
 u8 e[4],f[4];
@@ -104909,7 +104615,7 @@ L4:L2:x4(a,0);}
 L1:return;
 }
 
-/* cpp_direct::direct::Direct::argument_ended::<#464be67d5f5e1f6c> */
+/* cpp_direct::direct::Direct::argument_ended */
 static void argument_ended_e71(u8* a,u8* b,u8* c,u64 d,u32 e,u8 f,u8* g,u8 h)
 {
 u8 i[4],j[32],k[32],l[32],n[32];
@@ -105059,8 +104765,7 @@ a[3]=C;
 L4:return;
 }
 
-/* cpp_direct::direct::Direct::next_pack::<#464be67d5f5e1f6c> */
-/* cpp_direct::direct::Direct::next_pack::<#f5afb645cf2ff11a> */
+/* cpp_direct::direct::Direct::next_pack */
 static void next_pack_49a(u8* a,u8* b,u8* c,u64 d,u8 e,u8* f)
 {
 u8 h[16],i[32],j[16];
@@ -105198,8 +104903,7 @@ a[3]=0;}}
 L1:return;
 }
 
-/* cpp_direct::direct::Direct::close_list::<#464be67d5f5e1f6c> */
-/* cpp_direct::direct::Direct::close_list::<#f5afb645cf2ff11a> */
+/* cpp_direct::direct::Direct::close_list */
 static void close_list_3c2(u8* a,u8* b,u8* c,u64 d,u8* e)
 {
 u8 f[32];
@@ -105329,8 +105033,7 @@ a[3]=N;}
 L1:return;
 }
 
-/* cpp_direct::direct::Direct::element_ended::<#464be67d5f5e1f6c> */
-/* cpp_direct::direct::Direct::element_ended::<#f5afb645cf2ff11a> */
+/* cpp_direct::direct::Direct::element_ended */
 static void element_ended_20b(u8* a,u8* b,u8* c,u64 d,u32 e,u8 f,u8* g,u8 h)
 {
 u8 i[32],j[32],k[16],l[32],n[16],o[32];
@@ -105497,8 +105200,7 @@ a[3]=0;
 L2:return;
 }
 
-/* cpp_direct::direct::Direct::empty_pack::<#464be67d5f5e1f6c> */
-/* cpp_direct::direct::Direct::empty_pack::<#f5afb645cf2ff11a> */
+/* cpp_direct::direct::Direct::empty_pack */
 static void empty_pack_ea9(u8* a,u8* b,u8* c,u64 d,u8 e)
 {
 u8 g[32];
@@ -105542,7 +105244,7 @@ else x4(a,0);
 L1:return;
 }
 
-/* cpp_direct::direct::Direct::first_literal::<#464be67d5f5e1f6c> */
+/* cpp_direct::direct::Direct::first_literal */
 static void first_literal_c8e(u8* a,u8* b,u8* c,u64 d)
 {
 u8 f[32],g[32];
@@ -105639,7 +105341,7 @@ a[3]=e[3];
 L3:return;
 }
 
-/* cpp_direct::direct::Direct::literal::<#464be67d5f5e1f6c> */
+/* cpp_direct::direct::Direct::literal */
 static void literal_4a5(u8* a,u8* b,u8* c,u64 d)
 {
 A16 u8 e[4];
@@ -105723,7 +105425,7 @@ L4:x4(a,0);
 L3:return;
 }
 
-/* cpp_direct::direct::Direct::components_at::<#464be67d5f5e1f6c> */
+/* cpp_direct::direct::Direct::components_at */
 static void components_at_98c(u8* a,u8* b,u8* c,u64 d)
 {
 A16 u8 e[38],f[38],g[38],h[38],i[38],j[38],k[24],l[38],m[38],n[24],o[38],p[38],q[24],r[4],s[4];
@@ -106957,7 +106659,7 @@ L11:L38:x4(a,0);
 L39:return;
 }
 
-/* cpp_direct::direct::Direct::operator::<#464be67d5f5e1f6c> */
+/* cpp_direct::direct::Direct::operator */
 static void operator_69e(u8* a,u8* b,u8* c,u64 d)
 {
 u8 f[32];
@@ -107183,7 +106885,7 @@ else x4(a,0);}
 L1:return;
 }
 
-/* itanium::short_way::run::<#b5179b541c42cc1e> */
+/* itanium::short_way::run */
 static u8 run_197(u8* a,u8* b,u64 c,u32 d,u8* e)
 {
 u8 j[32],l[4],m[3],o[32],p[32],w[4];
@@ -107959,8 +107661,7 @@ A=0;}
 L1:return A;
 }
 
-/* cpp_direct::direct::Direct::begin_object::<#b5179b541c42cc1e> */
-/* cpp_direct::direct::Direct::begin_object::<#f912c19321383c9c> */
+/* cpp_direct::direct::Direct::begin_object */
 static void begin_object_103(u8* a,u8* b,u8* c,u64 d)
 {
 A16 u8 e[4];
@@ -108062,8 +107763,7 @@ x4(a,0);
 L2:return;
 }
 
-/* cpp_direct::direct::Direct::nest_at::<#b5179b541c42cc1e> */
-/* cpp_direct::direct::Direct::nest_at::<#f912c19321383c9c> */
+/* cpp_direct::direct::Direct::nest_at */
 static void nest_at_979(u8* a,u8* b,u8* c,u64 d,u8 e,u8 f)
 {
 u8 g[34];
@@ -108580,17 +108280,14 @@ L16:L14:x4(a,0);
 L13:return;
 }
 
-/* cpp_direct::direct::Direct::begin_clone::<#b5179b541c42cc1e> */
-/* cpp_direct::direct::Direct::begin_clone::<#f912c19321383c9c> */
-/* cpp_direct::direct::Direct::begin_clone::<#5b59ee8f9e439794> */
-/* cpp_direct::direct::Direct::begin_clone::<#f5afb645cf2ff11a> */
+/* cpp_direct::direct::Direct::begin_clone */
 static void begin_clone_893(u8* a)
 {
 x4(a,0);
 return;
 }
 
-/* cpp_direct::direct::Direct::begin_encoding::<#b5179b541c42cc1e> */
+/* cpp_direct::direct::Direct::begin_encoding */
 static void begin_encoding_417(u8* a,u8* b,u8* c,u64 d)
 {
 A16 u8 e[4],f[4];
@@ -108661,7 +108358,7 @@ a[3]=o;
 return;
 }
 
-/* cpp_direct::direct::Direct::begin_in_std::<#b5179b541c42cc1e> */
+/* cpp_direct::direct::Direct::begin_in_std */
 static void begin_in_std_146(u8* a,u8* b,u8* c,u64 d)
 {
 A16 u8 e[24],f[4];
@@ -108783,7 +108480,7 @@ x4(a,0);}
 L2:return;
 }
 
-/* cpp_direct::direct::Direct::unscoped_named::<#b5179b541c42cc1e> */
+/* cpp_direct::direct::Direct::unscoped_named */
 static void unscoped_named_462(u8* a,u8* b,u8* c,u64 d,u32 e,u8 f)
 {
 u8 g[4],h[32];
@@ -108876,7 +108573,7 @@ a[3]=n;
 return;
 }
 
-/* cpp_direct::direct::Direct::begin_operator::<#b5179b541c42cc1e> */
+/* cpp_direct::direct::Direct::begin_operator */
 static void begin_operator_03d(u8* a,u8* b,u8* c,u64 d)
 {
 u8 e[4];
@@ -108903,7 +108600,7 @@ a[3]=k;
 return;
 }
 
-/* cpp_direct::direct::Direct::begin_name::<#b5179b541c42cc1e> */
+/* cpp_direct::direct::Direct::begin_name */
 static void begin_name_5a7(u8* a,u8* b,u8* c,u64 d)
 {
 A16 u8 e[24],f[4];
@@ -109021,7 +108718,7 @@ L3:L1:x4(a,0);
 L9:return;
 }
 
-/* cpp_direct::direct::Direct::begin_thunk::<#b5179b541c42cc1e> */
+/* cpp_direct::direct::Direct::begin_thunk */
 static void begin_thunk_a85(u8* a,u8* b,u8* c,u64 d)
 {
 A16 u8 e[4];
@@ -109119,7 +108816,7 @@ L1:x4(a,0);
 L6:return;
 }
 
-/* cpp_direct::direct::Direct::begin_virtual_thunk::<#b5179b541c42cc1e> */
+/* cpp_direct::direct::Direct::begin_virtual_thunk */
 static void begin_virtual_thunk_a25(u8* a,u8* b,u8* c,u64 d)
 {
 A16 u8 e[4];
@@ -109255,7 +108952,7 @@ L1:x4(a,0);
 L11:return;
 }
 
-/* cpp_direct::direct::Direct::type_at::<#b5179b541c42cc1e> */
+/* cpp_direct::direct::Direct::type_at */
 static void type_at_78f(u8* a,u8* b,u8* c,u64 d,u8 e)
 {
 A16 u8 f[4],g[4],h[4];
@@ -109414,7 +109111,7 @@ a[3]=I;
 L4:return;
 }
 
-/* cpp_direct::direct::Direct::named_type::<#b5179b541c42cc1e> */
+/* cpp_direct::direct::Direct::named_type */
 static void named_type_132(u8* a,u8* b,u8* c,u64 d)
 {
 A16 u8 e[24],f[4],g[16],h[24],i[4];
@@ -109963,7 +109660,7 @@ L15:L16:x4(a,0);
 L24:return;
 }
 
-/* cpp_direct::direct::Direct::begin_enclosing::<#b5179b541c42cc1e> */
+/* cpp_direct::direct::Direct::begin_enclosing */
 static void begin_enclosing_161(u8* a,u8* b,u8* c,u64 d)
 {
 A16 u8 e[4],f[24],g[4];
@@ -110134,7 +109831,7 @@ L4:L2:x4(a,0);}
 L1:return;
 }
 
-/* cpp_direct::direct::Direct::argument_ended::<#b5179b541c42cc1e> */
+/* cpp_direct::direct::Direct::argument_ended */
 static void argument_ended_f01(u8* a,u8* b,u8* c,u64 d,u32 e,u8 f,u8* g,u8 h)
 {
 u8 i[32],j[32],k[32],m[32];
@@ -110253,7 +109950,7 @@ a[3]=0;
 L4:return;
 }
 
-/* cpp_direct::direct::Direct::first_literal::<#b5179b541c42cc1e> */
+/* cpp_direct::direct::Direct::first_literal */
 static void first_literal_8fe(u8* a,u8* b,u8* c,u64 d)
 {
 u8 f[32],g[32];
@@ -110350,7 +110047,7 @@ a[3]=e[3];
 L3:return;
 }
 
-/* cpp_direct::direct::Direct::literal::<#b5179b541c42cc1e> */
+/* cpp_direct::direct::Direct::literal */
 static void literal_7da(u8* a,u8* b,u8* c,u64 d)
 {
 A16 u8 e[4];
@@ -110434,7 +110131,7 @@ L4:x4(a,0);
 L3:return;
 }
 
-/* cpp_direct::direct::Direct::components_at::<#b5179b541c42cc1e> */
+/* cpp_direct::direct::Direct::components_at */
 static void components_at_f93(u8* a,u8* b,u8* c,u64 d)
 {
 A16 u8 e[38],f[38],g[38],h[24],i[38],j[24],k[38],l[24],m[4],n[4];
@@ -111280,7 +110977,7 @@ L8:L32:x4(a,0);
 L33:return;
 }
 
-/* cpp_direct::direct::Direct::operator::<#b5179b541c42cc1e> */
+/* cpp_direct::direct::Direct::operator */
 static void operator_833(u8* a,u8* b,u8* c,u64 d)
 {
 u8 e[4],f[32];
@@ -111425,7 +111122,7 @@ else x4(a,0);}
 L1:return;
 }
 
-/* cpp_direct::direct::Direct::begin_encoding::<#f912c19321383c9c> */
+/* cpp_direct::direct::Direct::begin_encoding */
 static void begin_encoding_e5c(u8* a,u8* b,u8* c,u64 d)
 {
 A16 u8 e[4],f[4];
@@ -111496,7 +111193,7 @@ a[3]=o;
 return;
 }
 
-/* cpp_direct::direct::Direct::begin_in_std::<#f912c19321383c9c> */
+/* cpp_direct::direct::Direct::begin_in_std */
 static void begin_in_std_b23(u8* a,u8* b,u8* c,u64 d)
 {
 A16 u8 e[24],f[4];
@@ -111618,7 +111315,7 @@ x4(a,0);}
 L2:return;
 }
 
-/* cpp_direct::direct::Direct::unscoped_named::<#f912c19321383c9c> */
+/* cpp_direct::direct::Direct::unscoped_named */
 static void unscoped_named_d21(u8* a,u8* b,u8* c,u64 d,u32 e,u8 f)
 {
 u8 h[32];
@@ -111713,7 +111410,7 @@ a[3]=n;
 return;
 }
 
-/* cpp_direct::direct::Direct::begin_operator::<#f912c19321383c9c> */
+/* cpp_direct::direct::Direct::begin_operator */
 static void begin_operator_fde(u8* a,u8* b,u8* c,u64 d)
 {
 u8 e[4];
@@ -111740,7 +111437,7 @@ a[3]=k;
 return;
 }
 
-/* cpp_direct::direct::Direct::begin_name::<#f912c19321383c9c> */
+/* cpp_direct::direct::Direct::begin_name */
 static void begin_name_9fc(u8* a,u8* b,u8* c,u64 d)
 {
 A16 u8 e[24],f[4];
@@ -111858,7 +111555,7 @@ L3:L1:x4(a,0);
 L9:return;
 }
 
-/* cpp_direct::direct::Direct::begin_thunk::<#f912c19321383c9c> */
+/* cpp_direct::direct::Direct::begin_thunk */
 static void begin_thunk_a5d(u8* a,u8* b,u8* c,u64 d)
 {
 A16 u8 e[4];
@@ -111956,7 +111653,7 @@ L1:x4(a,0);
 L6:return;
 }
 
-/* cpp_direct::direct::Direct::begin_virtual_thunk::<#f912c19321383c9c> */
+/* cpp_direct::direct::Direct::begin_virtual_thunk */
 static void begin_virtual_thunk_603(u8* a,u8* b,u8* c,u64 d)
 {
 A16 u8 e[4];
@@ -112092,7 +111789,7 @@ L1:x4(a,0);
 L11:return;
 }
 
-/* cpp_direct::direct::Direct::type_at::<#f912c19321383c9c> */
+/* cpp_direct::direct::Direct::type_at */
 static void type_at_925(u8* a,u8* b,u8* c,u64 d,u8 e)
 {
 A16 u8 f[4],g[4],h[4];
@@ -112251,7 +111948,7 @@ a[3]=I;
 L4:return;
 }
 
-/* cpp_direct::direct::Direct::named_type::<#f912c19321383c9c> */
+/* cpp_direct::direct::Direct::named_type */
 static void named_type_748(u8* a,u8* b,u8* c,u64 d)
 {
 A16 u8 e[24],f[4],g[16],h[24],i[4];
@@ -112800,7 +112497,7 @@ L15:L16:x4(a,0);
 L24:return;
 }
 
-/* cpp_direct::direct::Direct::begin_enclosing::<#f912c19321383c9c> */
+/* cpp_direct::direct::Direct::begin_enclosing */
 static void begin_enclosing_7ac(u8* a,u8* b,u8* c,u64 d)
 {
 u8 e[4],f[4];
@@ -112976,7 +112673,7 @@ L4:L2:x4(a,0);}
 L1:return;
 }
 
-/* cpp_direct::direct::Direct::argument_ended::<#f912c19321383c9c> */
+/* cpp_direct::direct::Direct::argument_ended */
 static void argument_ended_d25(u8* a,u8* b,u8* c,u64 d,u32 e,u8 f,u8* g,u8 h)
 {
 u8 i[32],j[32],k[32],m[32];
@@ -113095,7 +112792,7 @@ a[3]=0;
 L4:return;
 }
 
-/* cpp_direct::direct::Direct::first_literal::<#f912c19321383c9c> */
+/* cpp_direct::direct::Direct::first_literal */
 static void first_literal_8ab(u8* a,u8* b,u8* c,u64 d)
 {
 u8 f[32],g[32];
@@ -113192,7 +112889,7 @@ a[3]=e[3];
 L3:return;
 }
 
-/* cpp_direct::direct::Direct::literal::<#f912c19321383c9c> */
+/* cpp_direct::direct::Direct::literal */
 static void literal_9c1(u8* a,u8* b,u8* c,u64 d)
 {
 A16 u8 e[4];
@@ -113276,7 +112973,7 @@ L4:x4(a,0);
 L3:return;
 }
 
-/* cpp_direct::direct::Direct::components_at::<#f912c19321383c9c> */
+/* cpp_direct::direct::Direct::components_at */
 static void components_at_ca9(u8* a,u8* b,u8* c,u64 d)
 {
 A16 u8 e[38],f[38],g[38],h[24],i[38],j[24],k[38],l[24],m[4],n[4];
@@ -114122,7 +113819,7 @@ L8:L32:x4(a,0);
 L33:return;
 }
 
-/* cpp_direct::direct::Direct::operator::<#f912c19321383c9c> */
+/* cpp_direct::direct::Direct::operator */
 static void operator_2f3(u8* a,u8* b,u8* c,u64 d)
 {
 u8 f[32];
@@ -114268,8 +113965,7 @@ else x4(a,0);}
 L1:return;
 }
 
-/* cpp_direct::direct::Direct::begin_object::<#5b59ee8f9e439794> */
-/* cpp_direct::direct::Direct::begin_object::<#f5afb645cf2ff11a> */
+/* cpp_direct::direct::Direct::begin_object */
 static void begin_object_056(u8* a,u8* b,u8* c,u64 d)
 {
 A16 u8 e[4];
@@ -114371,8 +114067,7 @@ x4(a,0);
 L2:return;
 }
 
-/* cpp_direct::direct::Direct::nest_at::<#5b59ee8f9e439794> */
-/* cpp_direct::direct::Direct::nest_at::<#f5afb645cf2ff11a> */
+/* cpp_direct::direct::Direct::nest_at */
 static void nest_at_de1(u8* a,u8* b,u8* c,u64 d,u8 e,u8 f)
 {
 u8 g[34];
@@ -114889,7 +114584,7 @@ L16:L14:x4(a,0);
 L13:return;
 }
 
-/* cpp_direct::direct::Direct::begin_encoding::<#5b59ee8f9e439794> */
+/* cpp_direct::direct::Direct::begin_encoding */
 static void begin_encoding_a26(u8* a,u8* b,u8* c,u64 d)
 {
 A16 u8 e[4],f[4];
@@ -114960,7 +114655,7 @@ a[3]=o;
 return;
 }
 
-/* cpp_direct::direct::Direct::begin_in_std::<#5b59ee8f9e439794> */
+/* cpp_direct::direct::Direct::begin_in_std */
 static void begin_in_std_51a(u8* a,u8* b,u8* c,u64 d)
 {
 A16 u8 e[24],f[4];
@@ -115082,7 +114777,7 @@ x4(a,0);}
 L2:return;
 }
 
-/* cpp_direct::direct::Direct::unscoped_named::<#5b59ee8f9e439794> */
+/* cpp_direct::direct::Direct::unscoped_named */
 static void unscoped_named_107(u8* a,u8* b,u8* c,u64 d,u32 e,u8 f)
 {
 u8 g[4],h[32];
@@ -115175,7 +114870,7 @@ a[3]=n;
 return;
 }
 
-/* cpp_direct::direct::Direct::begin_operator::<#5b59ee8f9e439794> */
+/* cpp_direct::direct::Direct::begin_operator */
 static void begin_operator_bf3(u8* a,u8* b,u8* c,u64 d)
 {
 u8 e[4];
@@ -115202,7 +114897,7 @@ a[3]=k;
 return;
 }
 
-/* cpp_direct::direct::Direct::begin_name::<#5b59ee8f9e439794> */
+/* cpp_direct::direct::Direct::begin_name */
 static void begin_name_38a(u8* a,u8* b,u8* c,u64 d)
 {
 A16 u8 e[24],f[4];
@@ -115320,7 +115015,7 @@ L3:L1:x4(a,0);
 L9:return;
 }
 
-/* cpp_direct::direct::Direct::begin_thunk::<#5b59ee8f9e439794> */
+/* cpp_direct::direct::Direct::begin_thunk */
 static void begin_thunk_acc(u8* a,u8* b,u8* c,u64 d)
 {
 A16 u8 e[4];
@@ -115418,7 +115113,7 @@ L1:x4(a,0);
 L6:return;
 }
 
-/* cpp_direct::direct::Direct::begin_virtual_thunk::<#5b59ee8f9e439794> */
+/* cpp_direct::direct::Direct::begin_virtual_thunk */
 static void begin_virtual_thunk_3f7(u8* a,u8* b,u8* c,u64 d)
 {
 A16 u8 e[4];
@@ -115554,7 +115249,7 @@ L1:x4(a,0);
 L11:return;
 }
 
-/* cpp_direct::direct::Direct::type_at::<#5b59ee8f9e439794> */
+/* cpp_direct::direct::Direct::type_at */
 static void type_at_225(u8* a,u8* b,u8* c,u64 d,u8 e)
 {
 A16 u8 f[4],g[4],h[4];
@@ -115713,7 +115408,7 @@ a[3]=I;
 L4:return;
 }
 
-/* cpp_direct::direct::Direct::named_type::<#5b59ee8f9e439794> */
+/* cpp_direct::direct::Direct::named_type */
 static void named_type_e9a(u8* a,u8* b,u8* c,u64 d)
 {
 A16 u8 e[24],f[4],g[16],h[24],i[4];
@@ -116262,7 +115957,7 @@ L15:L16:x4(a,0);
 L24:return;
 }
 
-/* cpp_direct::direct::Direct::begin_enclosing::<#5b59ee8f9e439794> */
+/* cpp_direct::direct::Direct::begin_enclosing */
 static void begin_enclosing_5bc(u8* a,u8* b,u8* c,u64 d)
 {
 A16 u8 e[4],f[24],g[4];
@@ -116433,7 +116128,7 @@ L4:L2:x4(a,0);}
 L1:return;
 }
 
-/* cpp_direct::direct::Direct::argument_ended::<#5b59ee8f9e439794> */
+/* cpp_direct::direct::Direct::argument_ended */
 static void argument_ended_605(u8* a,u8* b,u8* c,u64 d,u32 e,u8 f,u8* g,u8 h)
 {
 u8 i[32],j[32],k[32],m[32];
@@ -116552,7 +116247,7 @@ a[3]=0;
 L4:return;
 }
 
-/* cpp_direct::direct::Direct::first_literal::<#5b59ee8f9e439794> */
+/* cpp_direct::direct::Direct::first_literal */
 static void first_literal_d00(u8* a,u8* b,u8* c,u64 d)
 {
 u8 f[32],g[32];
@@ -116649,7 +116344,7 @@ a[3]=e[3];
 L3:return;
 }
 
-/* cpp_direct::direct::Direct::literal::<#5b59ee8f9e439794> */
+/* cpp_direct::direct::Direct::literal */
 static void literal_8fc(u8* a,u8* b,u8* c,u64 d)
 {
 A16 u8 e[4];
@@ -116733,7 +116428,7 @@ L4:x4(a,0);
 L3:return;
 }
 
-/* cpp_direct::direct::Direct::components_at::<#5b59ee8f9e439794> */
+/* cpp_direct::direct::Direct::components_at */
 static void components_at_91b(u8* a,u8* b,u8* c,u64 d)
 {
 A16 u8 e[38],f[38],g[38],h[24],i[38],j[24],k[38],l[24],m[4],n[4];
@@ -117579,7 +117274,7 @@ L8:L32:x4(a,0);
 L33:return;
 }
 
-/* cpp_direct::direct::Direct::operator::<#5b59ee8f9e439794> */
+/* cpp_direct::direct::Direct::operator */
 static void operator_a8d(u8* a,u8* b,u8* c,u64 d)
 {
 u8 e[4],f[32];
@@ -117724,7 +117419,7 @@ else x4(a,0);}
 L1:return;
 }
 
-/* cpp_direct::direct::Direct::begin_encoding::<#f5afb645cf2ff11a> */
+/* cpp_direct::direct::Direct::begin_encoding */
 static void begin_encoding_33e(u8* a,u8* b,u8* c,u64 d)
 {
 A16 u8 e[4],f[4];
@@ -117795,7 +117490,7 @@ a[3]=o;
 return;
 }
 
-/* cpp_direct::direct::Direct::begin_in_std::<#f5afb645cf2ff11a> */
+/* cpp_direct::direct::Direct::begin_in_std */
 static void begin_in_std_46e(u8* a,u8* b,u8* c,u64 d)
 {
 A16 u8 e[24],f[4];
@@ -117917,7 +117612,7 @@ x4(a,0);}
 L2:return;
 }
 
-/* cpp_direct::direct::Direct::unscoped_named::<#f5afb645cf2ff11a> */
+/* cpp_direct::direct::Direct::unscoped_named */
 static void unscoped_named_ad2(u8* a,u8* b,u8* c,u64 d,u32 e,u8 f)
 {
 u8 h[32];
@@ -118012,7 +117707,7 @@ a[3]=n;
 return;
 }
 
-/* cpp_direct::direct::Direct::begin_operator::<#f5afb645cf2ff11a> */
+/* cpp_direct::direct::Direct::begin_operator */
 static void begin_operator_2ba(u8* a,u8* b,u8* c,u64 d)
 {
 u8 e[4];
@@ -118039,7 +117734,7 @@ a[3]=k;
 return;
 }
 
-/* cpp_direct::direct::Direct::begin_name::<#f5afb645cf2ff11a> */
+/* cpp_direct::direct::Direct::begin_name */
 static void begin_name_778(u8* a,u8* b,u8* c,u64 d)
 {
 A16 u8 e[24],f[4];
@@ -118157,7 +117852,7 @@ L3:L1:x4(a,0);
 L9:return;
 }
 
-/* cpp_direct::direct::Direct::begin_thunk::<#f5afb645cf2ff11a> */
+/* cpp_direct::direct::Direct::begin_thunk */
 static void begin_thunk_481(u8* a,u8* b,u8* c,u64 d)
 {
 A16 u8 e[4];
@@ -118255,7 +117950,7 @@ L1:x4(a,0);
 L6:return;
 }
 
-/* cpp_direct::direct::Direct::begin_virtual_thunk::<#f5afb645cf2ff11a> */
+/* cpp_direct::direct::Direct::begin_virtual_thunk */
 static void begin_virtual_thunk_f37(u8* a,u8* b,u8* c,u64 d)
 {
 A16 u8 e[4];
@@ -118391,7 +118086,7 @@ L1:x4(a,0);
 L11:return;
 }
 
-/* cpp_direct::direct::Direct::type_at::<#f5afb645cf2ff11a> */
+/* cpp_direct::direct::Direct::type_at */
 static void type_at_77f(u8* a,u8* b,u8* c,u64 d,u8 e)
 {
 A16 u8 f[4],g[4],h[4];
@@ -118550,7 +118245,7 @@ a[3]=I;
 L4:return;
 }
 
-/* cpp_direct::direct::Direct::named_type::<#f5afb645cf2ff11a> */
+/* cpp_direct::direct::Direct::named_type */
 static void named_type_faa(u8* a,u8* b,u8* c,u64 d)
 {
 A16 u8 e[24],f[4],g[16],h[24],i[4];
@@ -119099,7 +118794,7 @@ L15:L16:x4(a,0);
 L24:return;
 }
 
-/* cpp_direct::direct::Direct::begin_enclosing::<#f5afb645cf2ff11a> */
+/* cpp_direct::direct::Direct::begin_enclosing */
 static void begin_enclosing_9e4(u8* a,u8* b,u8* c,u64 d)
 {
 u8 e[4],f[4];
@@ -119275,7 +118970,7 @@ L4:L2:x4(a,0);}
 L1:return;
 }
 
-/* cpp_direct::direct::Direct::argument_ended::<#f5afb645cf2ff11a> */
+/* cpp_direct::direct::Direct::argument_ended */
 static void argument_ended_1bb(u8* a,u8* b,u8* c,u64 d,u32 e,u8 f,u8* g,u8 h)
 {
 u8 i[32],j[32],k[32],m[32];
@@ -119394,7 +119089,7 @@ a[3]=0;
 L4:return;
 }
 
-/* cpp_direct::direct::Direct::first_literal::<#f5afb645cf2ff11a> */
+/* cpp_direct::direct::Direct::first_literal */
 static void first_literal_f44(u8* a,u8* b,u8* c,u64 d)
 {
 u8 f[32],g[32];
@@ -119491,7 +119186,7 @@ a[3]=e[3];
 L3:return;
 }
 
-/* cpp_direct::direct::Direct::literal::<#f5afb645cf2ff11a> */
+/* cpp_direct::direct::Direct::literal */
 static void literal_43d(u8* a,u8* b,u8* c,u64 d)
 {
 A16 u8 e[4];
@@ -119575,7 +119270,7 @@ L4:x4(a,0);
 L3:return;
 }
 
-/* cpp_direct::direct::Direct::components_at::<#f5afb645cf2ff11a> */
+/* cpp_direct::direct::Direct::components_at */
 static void components_at_7bd(u8* a,u8* b,u8* c,u64 d)
 {
 A16 u8 e[38],f[38],g[38],h[24],i[38],j[24],k[38],l[24],m[4],n[4];
@@ -120421,7 +120116,7 @@ L8:L32:x4(a,0);
 L33:return;
 }
 
-/* cpp_direct::direct::Direct::operator::<#f5afb645cf2ff11a> */
+/* cpp_direct::direct::Direct::operator */
 static void operator_c58(u8* a,u8* b,u8* c,u64 d)
 {
 u8 f[32];
@@ -120607,7 +120302,7 @@ memset(a+176,0,16);}
 return j;
 }
 
-/* rust_short_way::run::<#efdbd589f5590f6c> */
+/* rust_short_way::run */
 static s_8_64 run_80f(u8* a,u8* b,u64 c,u32 d)
 {
 u8 h[1];
@@ -123754,7 +123449,7 @@ ko=jo;ko.f1=H;
 return ko;
 }
 
-/* std_alloc::vec::Vec::grow_amortized::<#2910af576a3e5a61> */
+/* std_alloc::vec::Vec::grow_amortized */
 static COLD u8 grow_amortized_3c2(u8* a,u64 b)
 {
 u64 c,e,f,g,h;
@@ -123787,7 +123482,7 @@ else d=0;}
 L1:return d;
 }
 
-/* sym_direct::bounded::Bounded::make_ready::<#df27b4d55454e95b> */
+/* sym_direct::bounded::Bounded::make_ready */
 static u8 make_ready_e3c(u8* a)
 {
 u64 b,c,e,f,h,i;
@@ -123813,7 +123508,7 @@ d=1;}
 L1:return d;
 }
 
-/* std_alloc::vec::Vec::grow_amortized::<#38283f41aa5b95c4> */
+/* std_alloc::vec::Vec::grow_amortized */
 static COLD u8 grow_amortized_12f(u8* a,u64 b)
 {
 u64 c,e,f,g,h;
@@ -123846,7 +123541,7 @@ else d=0;}
 L1:return d;
 }
 
-/* sym_direct::bounded::Bounded::make_ready::<#2d0560b64e22d5e3> */
+/* sym_direct::bounded::Bounded::make_ready */
 static u8 make_ready_b73(u8* a)
 {
 u64 b,c,e,f,h,i;
@@ -123872,8 +123567,7 @@ d=1;}
 L1:return d;
 }
 
-/* rust_direct::direct::Direct::constant_argument::<#efdbd589f5590f6c> */
-/* rust_direct::direct::Direct::constant_argument::<#7ea9f40c5a1aedbe> */
+/* rust_direct::direct::Direct::constant_argument */
 static void constant_argument_0de(u8* a,u8* b,u8* c,u64 d)
 {
 u64 e,f,g,i,k,l,m,o;
@@ -124353,8 +124047,7 @@ x8(a+4,g);
 return;
 }
 
-/* rust_direct::direct::Direct::begin_impl::<#efdbd589f5590f6c> */
-/* rust_direct::direct::Direct::begin_impl::<#7ea9f40c5a1aedbe> */
+/* rust_direct::direct::Direct::begin_impl */
 static void begin_impl_c72(u8* a,u8* b,u8* c,u64 d)
 {
 A16 u8 e[40],f[32];
@@ -124445,8 +124138,7 @@ a[24]=0;}}
 L2:return;
 }
 
-/* rust_direct::direct::Direct::begin_inner_impl::<#efdbd589f5590f6c> */
-/* rust_direct::direct::Direct::begin_inner_impl::<#7ea9f40c5a1aedbe> */
+/* rust_direct::direct::Direct::begin_inner_impl */
 static void begin_inner_impl_f25(u8* a,u8* b,u64 c)
 {
 u8 *d,*j,*m;
@@ -124498,8 +124190,7 @@ a[24]=0;
 return;
 }
 
-/* rust_direct::direct::Direct::begin_trait_impl::<#efdbd589f5590f6c> */
-/* rust_direct::direct::Direct::begin_trait_impl::<#7ea9f40c5a1aedbe> */
+/* rust_direct::direct::Direct::begin_trait_impl */
 static void begin_trait_impl_220(u8* a,u8* b,u8* c,u64 d)
 {
 A16 u8 e[40],f[32];
@@ -124590,8 +124281,7 @@ a[24]=0;}}
 L2:return;
 }
 
-/* rust_direct::direct::Direct::begin_inner_trait_impl::<#efdbd589f5590f6c> */
-/* rust_direct::direct::Direct::begin_inner_trait_impl::<#7ea9f40c5a1aedbe> */
+/* rust_direct::direct::Direct::begin_inner_trait_impl */
 static void begin_inner_trait_impl_a3f(u8* a,u8* b,u64 c)
 {
 u8 *d,*j,*m;
@@ -124643,8 +124333,7 @@ a[24]=0;
 return;
 }
 
-/* rust_direct::direct::Direct::begin_trait::<#efdbd589f5590f6c> */
-/* rust_direct::direct::Direct::begin_trait::<#7ea9f40c5a1aedbe> */
+/* rust_direct::direct::Direct::begin_trait */
 static void begin_trait_f9f(u8* a,u8* b)
 {
 u64 c,d,e,f,i,j,l,m,o,p;
@@ -124790,8 +124479,7 @@ j=E;}}}
 L1:return j;
 }
 
-/* rust_direct::direct::Direct::unnamed_ended::<#efdbd589f5590f6c> */
-/* rust_direct::direct::Direct::unnamed_ended::<#7ea9f40c5a1aedbe> */
+/* rust_direct::direct::Direct::unnamed_ended */
 static u8 unnamed_ended_c46(u8* a,u8* b,u64 c,u64 d,u64 e,u8 f)
 {
 A16 u8 g[12],h[12],i[12];
@@ -124961,8 +124649,7 @@ else k=0;
 L1:return k;
 }
 
-/* rust_direct::direct::Direct::push_suffix::<#efdbd589f5590f6c> */
-/* rust_direct::direct::Direct::push_suffix::<#7ea9f40c5a1aedbe> */
+/* rust_direct::direct::Direct::push_suffix */
 static void push_suffix_49c(u8* a,u8* b,u8* c,u64 d)
 {
 u64 e,h,i,l,m,o,q,r,t,u,v,z,A,C,D,E,H,I,J,K,L,M,N,O,P,Q,R,S,T;
@@ -125113,8 +124800,7 @@ a[24]=0;
 return;
 }
 
-/* rust_direct::direct::Direct::special_named::<#efdbd589f5590f6c> */
-/* rust_direct::direct::Direct::special_named::<#7ea9f40c5a1aedbe> */
+/* rust_direct::direct::Direct::special_named */
 static void special_named_1bc(u8* a,u8* b,u8* c,u64 d,u64 e,u8 f,u64 g,u8* h,u64 i)
 {
 A16 u8 j[12],k[12],l[12];
@@ -125519,7 +125205,7 @@ else j=0;
 L1:return j;
 }
 
-/* sym_languages::languages::append_in::<#20295f288733a3eb> */
+/* sym_languages::languages::append_in */
 static void append_in_be6(u8* a,u8* b,u8* c,u64 d,u32 e,u8 f,u8* g)
 {
 A16 u8 h[12],i[96],j[88],k[12],l[84];
@@ -125736,7 +125422,7 @@ x4(a+8,A);
 return;
 }
 
-/* rust_short_way::run::<#7ea9f40c5a1aedbe> */
+/* rust_short_way::run */
 static s_8_64 run_41f(u8* a,u8* b,u64 c,u32 d)
 {
 u8 h[1];
@@ -128858,7 +128544,7 @@ io=ho;io.f1=H;
 return io;
 }
 
-/* sym_languages::legacy::append_named::<#b5cd08ac6d7bd0a2> */
+/* sym_languages::legacy::append_named */
 static void append_named_625(u8* a,u8* b,u8* c,u8 d,u8* e,u64 f,u64 g,u64 h,u8* i)
 {
 A16 u8 j[12];
@@ -128982,7 +128668,7 @@ x4(a+8,r4(j+8));
 return;
 }
 
-/* sym_command::page::Page::write::<#5495e0e309716171> */
+/* sym_command::page::Page::write */
 static s_8_8 write_120(u8* a,u8* b,u8* c)
 {
 u8 *d,*l;
@@ -129038,8 +128724,7 @@ t=s;t.f1=k;
 return t;
 }
 
-/* symfilt_command::sym_languages++languages++Lists+Destruct::drop::<#b5cd08ac6d7bd0a2> */
-/* symfilt_command::sym_languages++languages++Lists+Destruct::drop::<#d33996fecddbdd36> */
+/* symfilt_command::sym_languages++languages++Lists+Destruct::drop */
 static void drop_1f3(u8* a)
 {
 A16 u8 b[688];
@@ -129128,7 +128813,7 @@ if(ba!=0)port_rattle_dealloc(aa);
 return;
 }
 
-/* symfilt_command::sym_demangle++workspace++Workspace+Destruct::drop::<#2ce484c05f26a428> */
+/* symfilt_command::sym_demangle++workspace++Workspace+Destruct::drop */
 static void drop_733(u8* a)
 {
 u8 *b,*d,*f,*h,*j,*l,*n,*p,*r,*t,*v,*x,*z,*B,*D,*F,*H,*J,*L;
@@ -129194,7 +128879,7 @@ if(M!=0)port_rattle_dealloc(L);
 return;
 }
 
-/* sym_languages::languages::LanguagesDemangler::demangle::<#d33996fecddbdd36> */
+/* sym_languages::languages::LanguagesDemangler::demangle */
 static void demangle_5f5(u8* a,u8* b,u8* c,u8 d,u8* e,u64 f,u8* g)
 {
 A16 u8 h[12],i[96],j[88],k[12],l[84],m[16];
@@ -129346,7 +129031,7 @@ memcpy(a+4,m+4,12);
 return;
 }
 
-/* sym_demangle::workspace::Workspace::read_on::<#7f1d8e4947097346> */
+/* sym_demangle::workspace::Workspace::read_on */
 static void read_on_2e8(u8* a,u8* b,u8* c,u64 d)
 {
 A16 u8 e[12],f[12],g[96],h[112],i[24];
@@ -129561,7 +129246,7 @@ memcpy(a+8,g+8,88);
 L6:return;
 }
 
-/* sym_shape::parse::Parse::run::<#0f49c5725f0959d3> */
+/* sym_shape::parse::Parse::run */
 static void run_888(u8* a,u8* b,u8* c,u64 d,u8 e)
 {
 A16 u8 f[32],g[32],h[12];
@@ -129994,7 +129679,7 @@ x4(a+8,Cb);
 return;
 }
 
-/* sym_shape::parse::Parse::advance::<#0f49c5725f0959d3> */
+/* sym_shape::parse::Parse::advance */
 static void advance_c66(u8* a,u8* b,u8* c,u64 d,u8 e)
 {
 A16 u8 f[32];
@@ -130381,7 +130066,7 @@ x4(a+8,q);
 return;
 }
 
-/* sym_demangle::workspace::Workspace::link::<#7f1d8e4947097346> */
+/* sym_demangle::workspace::Workspace::link */
 static void link_eef(u8* a,u8* b)
 {
 A16 u8 c[68],d[20],e[24],f[24],g[12],h[24],i[16],j[12],k[16],l[12],m[40],n[12],o[24],p[16],q[12],r[40],s[12],t[24],u[12],v[68],w[68],x[68];
@@ -130867,7 +130552,7 @@ memset(a+12,0,84);
 L2:return;
 }
 
-/* sym_link::threads::token_by::<#2baa0425721dfd56> */
+/* sym_link::threads::token_by */
 static void token_by_f9d(u8* a,u8* b,u8* c,u8* d,u8* e,u8* f)
 {
 A16 u8 g[24],h[24];
@@ -132382,7 +132067,7 @@ x4(a+8,Oa);
 return;
 }
 
-/* sym_languages::languages::LanguagesDemangler::append::<#d33996fecddbdd36> */
+/* sym_languages::languages::LanguagesDemangler::append */
 static void append_987(u8* a,u8* b,u8* c,u8 d,u8* e,u64 f,u8* g)
 {
 A16 u8 h[12],i[12],j[12],k[96],l[88],m[12],n[84],o[8];
@@ -132746,7 +132431,7 @@ x4(a+8,F);
 return;
 }
 
-/* sym_languages::legacy::append_named::<#d33996fecddbdd36> */
+/* sym_languages::legacy::append_named */
 static void append_named_b70(u8* a,u8* b,u8* c,u8 d,u8* e,u64 f,u64 g,u64 h,u8* i)
 {
 A16 u8 j[12];
@@ -134553,7 +134238,7 @@ memcpy(a+4,ea+4,12);
 return;
 }
 
-/* sym_languages::pressing::press_into::<#aa97a399a1c0fb07> */
+/* sym_languages::pressing::press_into */
 static void press_into_eba(u8* a,u8* b,u32 c,u8* d,u64 e,u8* f)
 {
 u8 g[5],j[16],k[16],l[20],v[3],z[20],A[20],B[3],P[16],Q[16];
@@ -138577,7 +138262,7 @@ x8(a+56,q);
 return;
 }
 
-/* std_alloc::vec::Vec::remove::<#6f527ba22f9dbd37> */
+/* std_alloc::vec::Vec::remove */
 static void remove_fe9(u8* a,u8* b,u64 c)
 {
 A16 u8 d[112];
@@ -139189,7 +138874,7 @@ x4(a+36,0);
 L1:return;
 }
 
-/* indexmap::map::IndexMap::grow::<#62c42c0efe4ad0b3> */
+/* indexmap::map::IndexMap::grow */
 static u8 grow_4a9(u8* a,u64 b)
 {
 u64 c,f,g,h,i,m,n,o;
@@ -139250,7 +138935,7 @@ else e=0;
 L1:return e;
 }
 
-/* indexmap::index_table::IndexTable::reserve_rehash::<#e912dde104f89151> */
+/* indexmap::index_table::IndexTable::reserve_rehash */
 static u8 reserve_rehash_8d0(u8* a,u64 b)
 {
 u64 c,e,f,g,j,k,l,q,K,L,M,N,O,P,Q,U,V,W,X,ba,ca,ea,ga,ha,ia,la,ma,na,oa,ta,Na;
@@ -139439,8 +139124,7 @@ d=0;}
 L4:return d;
 }
 
-/* std_alloc::vec::Vec::grow_amortized::<#63f08fb479d95b27> */
-/* std_alloc::vec::Vec::grow_amortized::<#d85cb67d306f0a32> */
+/* std_alloc::vec::Vec::grow_amortized */
 static COLD u8 grow_amortized_d07(u8* a,u64 b)
 {
 u64 c,e,f,g,h;
@@ -139473,7 +139157,7 @@ else d=0;}
 L1:return d;
 }
 
-/* indexmap::map::IndexMap::grow::<#50547e497acef5f2> */
+/* indexmap::map::IndexMap::grow */
 static u8 grow_eae(u8* a)
 {
 u64 b,e,f,g,h,l,m,n;
@@ -139534,7 +139218,7 @@ else d=0;
 L1:return d;
 }
 
-/* indexmap::index_table::IndexTable::reserve_rehash::<#bd41fffb0d7fc294> */
+/* indexmap::index_table::IndexTable::reserve_rehash */
 static u8 reserve_rehash_5c7(u8* a)
 {
 u64 b,d,e,f,i,j,k,p,J,K,L,M,N,O,P,T,U,V,W,aa,ba,da,fa,ga,ha,ka,la,ma,na,sa,Ma;
@@ -139723,7 +139407,7 @@ c=0;}
 L4:return c;
 }
 
-/* std_collections::btree::node::Node::destroy::<#7291394150d2510a> */
+/* std_collections::btree::node::Node::destroy */
 static void destroy_ca2(u8* a)
 {
 A16 u8 b[112],c[112],d[112],e[80];
@@ -140393,7 +140077,7 @@ w8(a+16,g);
 return;
 }
 
-/* std_alloc::vec::Vec::grow_amortized::<#cdbb09177b00510f> */
+/* std_alloc::vec::Vec::grow_amortized */
 static COLD u8 grow_amortized_939(u8* a)
 {
 u64 b,d,e,f,g;
@@ -141756,7 +141440,7 @@ default:NEVER;
 return;
 }
 
-/* std_collections::btree::node::Node::destroy::<#69c2ea48ae316923> */
+/* std_collections::btree::node::Node::destroy */
 static void destroy_d9b(u8* a)
 {
 A16 u8 b[16],c[16];
@@ -142539,7 +142223,7 @@ x4(a+60,0);
 return;
 }
 
-/* std_alloc::vec::Vec::remove::<#5b7e9c9a409959f9> */
+/* std_alloc::vec::Vec::remove */
 static void remove_e9e(u8* a,u8* b,u64 c)
 {
 A16 u8 d[72];
@@ -142813,7 +142497,7 @@ w8(a+16,g);
 return;
 }
 
-/* std_collections::btree::node::Node::destroy::<#412b8f82dd209bcb> */
+/* std_collections::btree::node::Node::destroy */
 static void destroy_5ed(u8* a)
 {
 A16 u8 b[72],c[72],d[72],e[80];
@@ -143355,7 +143039,7 @@ drop_398(c);}
 return;
 }
 
-/* symfilt_command::command::filter_asked::<#845300d4b060bbd0> */
+/* symfilt_command::command::filter_asked */
 static void filter_asked_a01(u8* a,u64 b,u8* c,u8* d)
 {
 u8 i[30],r[30],v[30],E[30],I[30],R[30],S[30],Y[30],ha[30],la[30],ua[30],va[30],ya[30];
@@ -147181,7 +146865,7 @@ memcpy(a+8,ya+6,24);
 return;
 }
 
-/* sym_filter::standard::ReaderSourceSource::read::<#d8efa293d38569c0> */
+/* sym_filter::standard::ReaderSourceSource::read */
 static s_8_64 read_0d2(u8* a,u8* b,u64 c)
 {
 u64 d,e,g,h,i,k,l,m,n,o,p,q,r,s,t,u,v,w,x,y;
@@ -147505,7 +147189,7 @@ C=B;C.f1=l;
 return C;
 }
 
-/* sym_filter::words::Words::end_within::<#0ee00997ac899d30> */
+/* sym_filter::words::Words::end_within */
 static void end_within_c0b(u8* a,u8* b,u8* c,u8* d,u8* e)
 {
 A16 u8 f[12];
@@ -148043,7 +147727,7 @@ c=g?11:0;}}}
 L1:return c;
 }
 
-/* sym_filter::tries::append_text::<#0ee00997ac899d30> */
+/* sym_filter::tries::append_text */
 static s_8_8 append_text_a0d(u8* a,u8* b,u8* c,u64 d,u8* e)
 {
 A16 u8 f[12];
@@ -148216,7 +147900,7 @@ ea=da;ea.f1=g;
 return ea;
 }
 
-/* sym_filter::tries::append_parts::<#0ee00997ac899d30> */
+/* sym_filter::tries::append_parts */
 static s_8_8 append_parts_771(u8* a,u8* b,u8* c,u64 d,u8* e)
 {
 u8 *f,*m,*A,*I,*J,*U,*ga,*ha,*za;
@@ -148448,7 +148132,7 @@ Fa=Ea;Fa.f1=h;
 return Fa;
 }
 
-/* sym_filter::words::push_text::<#0ee00997ac899d30> */
+/* sym_filter::words::push_text */
 static s_8_8 push_text_05c(u8* a,u8* b,u8* c,u64 d,u8 e,u32 f,u8* g)
 {
 A16 u8 h[12];
@@ -148636,7 +148320,7 @@ xa=wa;xa.f1=Z;
 return xa;
 }
 
-/* sym_filter::filtering::end_segment::<#4c8dfe43ca2eaea7> */
+/* sym_filter::filtering::end_segment */
 static s_8_8 end_segment_d79(u8* a,u8* b,u8* c,u8* d,u8* e)
 {
 A16 u8 f[48];
@@ -148796,7 +148480,7 @@ Z=Y;Z.f1=J;
 return Z;
 }
 
-/* sym_languages::languages::LanguagesDemangler::read_ahead::<#b5cd08ac6d7bd0a2> */
+/* sym_languages::languages::LanguagesDemangler::read_ahead */
 static void read_ahead_017(u8* a,u8 b,u8* c,u64 d)
 {
 A16 u8 e[12];
@@ -148933,7 +148617,7 @@ else read_ahead_ad5(a+680,c,d);
 L2:return;
 }
 
-/* sym_demangle::workspace::Workspace::read_ahead::<#20295f288733a3eb> */
+/* sym_demangle::workspace::Workspace::read_ahead */
 static void read_ahead_ad5(u8* a,u8* b,u64 c)
 {
 A16 u8 d[12];
@@ -149068,7 +148752,7 @@ w4(a+680,0);}}
 L2:return;
 }
 
-/* sym_filter::words::Words::end_within::<#7cc2061482a67fc7> */
+/* sym_filter::words::Words::end_within */
 static void end_within_28d(u8* a,u8* b,u8* c,u8* d,u8* e)
 {
 A16 u8 f[12];
@@ -149364,7 +149048,7 @@ x8(a+40,0);
 L1:return;
 }
 
-/* sym_filter::tries::append_text::<#7cc2061482a67fc7> */
+/* sym_filter::tries::append_text */
 static s_8_8 append_text_985(u8* a,u8* b,u8* c,u64 d,u8* e)
 {
 A16 u8 f[12];
@@ -149424,7 +149108,7 @@ n=m;n.f1=g;
 return n;
 }
 
-/* sym_filter::tries::append_parts::<#7cc2061482a67fc7> */
+/* sym_filter::tries::append_parts */
 static s_8_8 append_parts_e12(u8* a,u8* b,u8* c,u64 d,u8* e)
 {
 u8 *f,*m,*A,*I,*J,*U,*ga,*ha,*za;
@@ -149656,7 +149340,7 @@ Fa=Ea;Fa.f1=h;
 return Fa;
 }
 
-/* sym_filter::words::push_text::<#7cc2061482a67fc7> */
+/* sym_filter::words::push_text */
 static s_8_8 push_text_a98(u8* a,u8* b,u8* c,u64 d,u8 e,u32 f,u8* g)
 {
 A16 u8 h[12];
@@ -149732,7 +149416,7 @@ G=F;G.f1=i;
 return G;
 }
 
-/* sym_filter::filtering::end_segment::<#633e640d9e9ad0c4> */
+/* sym_filter::filtering::end_segment */
 static s_8_8 end_segment_e9f(u8* a,u8* b,u8* c,u8* d,u8* e)
 {
 A16 u8 f[48];
@@ -149892,7 +149576,7 @@ Z=Y;Z.f1=J;
 return Z;
 }
 
-/* sym_filter::words::Words::end_within::<#1e5daf222bd8a728> */
+/* sym_filter::words::Words::end_within */
 static void end_within_3dc(u8* a,u8* b,u8* c,u8* d,u8* e)
 {
 A16 u8 f[12];
@@ -150299,7 +149983,7 @@ x8(a+40,0);
 L1:return;
 }
 
-/* sym_filter::tries::append_text::<#1e5daf222bd8a728> */
+/* sym_filter::tries::append_text */
 static s_8_8 append_text_ed8(u8* a,u8* b,u8* c,u64 d,u8* e)
 {
 A16 u8 f[12];
@@ -150472,7 +150156,7 @@ ea=da;ea.f1=g;
 return ea;
 }
 
-/* sym_filter::tries::append_parts::<#1e5daf222bd8a728> */
+/* sym_filter::tries::append_parts */
 static s_8_8 append_parts_0ee(u8* a,u8* b,u8* c,u64 d,u8* e)
 {
 u8 *f,*m,*A,*I,*J,*U,*ga,*ha,*za;
@@ -150704,7 +150388,7 @@ Fa=Ea;Fa.f1=h;
 return Fa;
 }
 
-/* sym_filter::words::push_text::<#1e5daf222bd8a728> */
+/* sym_filter::words::push_text */
 static s_8_8 push_text_540(u8* a,u8* b,u8* c,u64 d,u8 e,u32 f,u8* g)
 {
 A16 u8 h[12];
@@ -150892,7 +150576,7 @@ xa=wa;xa.f1=Z;
 return xa;
 }
 
-/* sym_filter::filtering::end_segment::<#4058e0820aabc277> */
+/* sym_filter::filtering::end_segment */
 static s_8_8 end_segment_9a4(u8* a,u8* b,u8* c,u8* d,u8* e)
 {
 A16 u8 f[48];
@@ -151052,7 +150736,7 @@ Z=Y;Z.f1=J;
 return Z;
 }
 
-/* sym_languages::languages::LanguagesDemangler::read_ahead::<#d33996fecddbdd36> */
+/* sym_languages::languages::LanguagesDemangler::read_ahead */
 static void read_ahead_3c4(u8* a,u8 b,u8* c,u64 d)
 {
 A16 u8 e[12];
@@ -151189,7 +150873,7 @@ else read_ahead_ad5(a+680,c,d);
 L2:return;
 }
 
-/* sym_filter::words::Words::end_within::<#285761b88fad3cdf> */
+/* sym_filter::words::Words::end_within */
 static void end_within_215(u8* a,u8* b,u8* c,u8* d,u8* e)
 {
 A16 u8 f[12];
@@ -151485,7 +151169,7 @@ x8(a+40,0);
 L1:return;
 }
 
-/* sym_filter::tries::append_text::<#285761b88fad3cdf> */
+/* sym_filter::tries::append_text */
 static s_8_8 append_text_e46(u8* a,u8* b,u8* c,u64 d,u8* e)
 {
 A16 u8 f[12];
@@ -151545,7 +151229,7 @@ n=m;n.f1=g;
 return n;
 }
 
-/* sym_filter::tries::append_parts::<#285761b88fad3cdf> */
+/* sym_filter::tries::append_parts */
 static s_8_8 append_parts_ae1(u8* a,u8* b,u8* c,u64 d,u8* e)
 {
 u8 *f,*m,*A,*I,*J,*U,*ga,*ha,*za;
@@ -151777,7 +151461,7 @@ Fa=Ea;Fa.f1=h;
 return Fa;
 }
 
-/* sym_filter::words::push_text::<#285761b88fad3cdf> */
+/* sym_filter::words::push_text */
 static s_8_8 push_text_c72(u8* a,u8* b,u8* c,u64 d,u8 e,u32 f,u8* g)
 {
 A16 u8 h[12];
@@ -151853,7 +151537,7 @@ G=F;G.f1=i;
 return G;
 }
 
-/* sym_filter::filtering::end_segment::<#fd06f1c2ba8c0b54> */
+/* sym_filter::filtering::end_segment */
 static s_8_8 end_segment_9a4_2(u8* a,u8* b,u8* c,u8* d,u8* e)
 {
 A16 u8 f[48];
@@ -152013,7 +151697,7 @@ Z=Y;Z.f1=J;
 return Z;
 }
 
-/* sym_filter::words::Words::end_within::<#78634dd76d8a17f3> */
+/* sym_filter::words::Words::end_within */
 static void end_within_d9c(u8* a,u8* b,u8* c,u8* d)
 {
 A16 u8 e[16];
@@ -152311,7 +151995,7 @@ x8(a+40,0);
 L1:return;
 }
 
-/* sym_filter::tries::append_text::<#78634dd76d8a17f3> */
+/* sym_filter::tries::append_text */
 static s_8_8 append_text_73f(u8* a,u8* b,u64 c,u8* d)
 {
 A16 u8 e[16];
@@ -152382,7 +152066,7 @@ n=m;n.f1=f;
 return n;
 }
 
-/* sym_filter::tries::append_parts::<#78634dd76d8a17f3> */
+/* sym_filter::tries::append_parts */
 static s_8_8 append_parts_753(u8* a,u8* b,u64 c,u8* d)
 {
 u8 *e,*l,*z,*H,*I,*T,*fa,*ga,*ya;
@@ -152614,7 +152298,7 @@ Ea=Da;Ea.f1=g;
 return Ea;
 }
 
-/* sym_filter::words::push_text::<#78634dd76d8a17f3> */
+/* sym_filter::words::push_text */
 static s_8_8 push_text_b9f(u8* a,u8* b,u64 c,u8 d,u32 e,u8* f)
 {
 A16 u8 g[16];
@@ -152694,7 +152378,7 @@ F=E;F.f1=h;
 return F;
 }
 
-/* sym_filter::filtering::end_segment::<#2cdc42d1185293d2> */
+/* sym_filter::filtering::end_segment */
 static s_8_8 end_segment_c13(u8* a,u8* b,u8* c,u8* d)
 {
 A16 u8 e[48];

@@ -28,6 +28,7 @@ from wide import widen
 # Which instance of a generic function a path is of: the digits after the function's name in C tell them apart.
 INSTANCE = re.compile(r"::<#[0-9a-f]+>")
 
+
 class Module:
     """The lines of a module by what they are."""
 
