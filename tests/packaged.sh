@@ -104,7 +104,10 @@ try_python() {
     # wheels for other machines, whose library a caller in C calls
     COMPILERS='aarch64-linux-gnu-gcc x86_64-w64-mingw32-gcc' CFLAGS=-O1 made python
     grep "isn't installed" "$work/out" || true
-    for wheel in "$packages"/*.whl; do (cd "$packages" && mkdir "$wheel.d" && python3 -m zipfile -e "$wheel" "$wheel.d"); done
+    # (none, where no compiler for another machine is installed)
+    local wheels=("$packages"/*.whl)
+    [ -e "${wheels[0]}" ] || wheels=()
+    for wheel in ${wheels[@]+"${wheels[@]}"}; do (cd "$packages" && mkdir "$wheel.d" && python3 -m zipfile -e "$wheel" "$wheel.d"); done
     for wheel in "$packages"/*_aarch64.whl; do
         [ ! -d "$wheel.d" ] || [ "$(uname -m)" = aarch64 ] || ! has qemu-aarch64 'the wheel for 64-bit ARM' ||
             has_answers aarch64-linux-gnu-gcc "$wheel.d/symdemangle/libsymdemangle.so" qemu-aarch64 -L /usr/aarch64-linux-gnu
@@ -113,7 +116,7 @@ try_python() {
         [ ! -d "$wheel.d" ] || ! has wine 'the wheel for Windows' ||
             WINEPREFIX=${WINEPREFIX:-$work/wine} WINEDEBUG=-all WINEDLLOVERRIDES='mscoree=;mshtml=' has_answers x86_64-w64-mingw32-gcc "$wheel.d/symdemangle/symdemangle.dll" wine
     done
-    echo "python: $(basename -a "$packages"/*.tar.gz "$work"/wheels/*.whl "$packages"/*.whl | paste -sd ' '): ok"
+    echo "python: $(basename -a "$packages"/*.tar.gz "$work"/wheels/*.whl ${wheels[@]+"${wheels[@]}"} | paste -sd ' '): ok"
 }
 
 try_npm() {
