@@ -124,6 +124,7 @@ fn reason(alloc: Global, refusal: Refusal) -> Result<String, AllocError> {
         Refusal::BadReference { at } => format!(in alloc; "bad reference at {at}"),
         Refusal::BadValue { at } => format!(in alloc; "bad value at {at}"),
         Refusal::TooLong => format!(in alloc; "too long"),
+        Refusal::NotPressed => format!(in alloc; "not pressed"),
         Refusal::Memory => Err(AllocError),
     }
 }

@@ -6,7 +6,7 @@ use crate::row::LIMIT;
 use crate::streams::{ask_sinks, ask_streams};
 use std::alloc::{AllocError, Global};
 use std::str;
-use sym_command::{FAULT, Filtering, Run};
+use sym_command::{Asked, FAULT, Filtering, Run};
 use sym_filter::{FilterFault, Letters, ListSink, ReaderSource};
 use sym_print::Detail;
 use symfilt_command::{run, run_over};
@@ -113,7 +113,7 @@ fn shown_by(options: &[u8]) -> Option<Filtering> {
         limit: LIMIT,
         detail,
         letters: Letters::Within,
-        wide: true,
+        asked: Asked::WideText,
         legacy: true,
     })
 }

@@ -12,7 +12,7 @@ use sym_calls::outcome::{
 use sym_calls::{
     Outcome, SymbolCounts, TextTally, counts_of, filter_of, press_of, text_of, texts_of,
 };
-use sym_command::Filtering;
+use sym_command::{Asked as Shown, Filtering};
 use sym_core::{Counts, Refusal};
 use sym_filter::{Demangled, Letters};
 use sym_print::Detail;
@@ -450,14 +450,20 @@ pub fn ask_library_to_press(verdict: &mut Verdict, s: &[u8], wanted: &[u8]) {
     }
 }
 
-/// Asks the static library's call that filters a text, as a command line says.
+/// Asks the static library's call that filters a text, as a command line says, which doesn't press.
 pub fn ask_library_to_filter(
     verdict: &mut Verdict,
     text: &[u8],
     filtering: Filtering,
     wanted: &[u8],
 ) {
-    let shown = flags_of(filtering.detail, filtering.wide, filtering.legacy);
+    let is_wide = match filtering.asked {
+        Shown::Text => false,
+        Shown::WideText => true,
+        Shown::Pressed => return,
+        Shown::WidePressed => return,
+    };
+    let shown = flags_of(filtering.detail, is_wide, filtering.legacy);
     let flags = match filtering.letters {
         Letters::Any => shown,
         Letters::Ascii => shown | ASCII_WORDS,

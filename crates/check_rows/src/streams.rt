@@ -5,7 +5,7 @@ use crate::answer::Verdict;
 use crate::row::Row;
 use crate::scripted::{Call, ScriptedSink, ScriptedSource};
 use std::alloc::Global;
-use sym_command::Filtering;
+use sym_command::{Asked, Filtering};
 use sym_filter::kinds::LONGEST_WORD;
 use sym_filter::{FilterFault, Letters, Sink, Source};
 use symfilt_command::{filter_asked, run, run_to};
@@ -118,7 +118,7 @@ pub fn ask_long_word(verdict: &mut Verdict, row: Row<'_>, text: &[u8]) {
         limit: row.limit,
         detail: row.detail,
         letters: Letters::Any,
-        wide: false,
+        asked: Asked::Text,
         legacy: false,
     };
     let wanted = if row.s.len() > LONGEST_WORD {

@@ -1,24 +1,27 @@
 -- Keys of nodes, and what a map of them is after one more.
-use Rattle.std.proofs.Common.{◌≡◌, ℕ, zero, suc, ◌+◌, ◌<◌, ◌≤◌, length, take, slice_get, List, [], ◌∷◌, ◌++◌, get_or, Option, Some, None, Bool, true, refl, ap, arith, sym, subst, ◌∙◌, length-append, Ordering}
-use Rattle.std.specs.Prelude.{map}
+use Rattle.std.proofs.Common.{◌≡◌, ℕ, zero, suc, ◌+◌, ◌-◌, ◌<◌, ◌≤◌, length, take, slice_get, List, [], ◌∷◌, ◌++◌, get_or, Option, Some, None, Bool, true, false, refl, ap, arith, sym, subst, ◌∙◌, length-append}
+use Rattle.std.specs.Prelude.{map, cond}
 use Rattle.std.specs.List.{All}
-use Rattle.std.proofs.lemmas.List.{length-take, length-map}
+use Rattle.std.proofs.Math.Dec.{eqb}
+use Rattle.std.proofs.lemmas.Bool.{lt-ltb, le-ltb, eqb-true, eq-eqb}
+use Rattle.std.proofs.lemmas.List.{length-take, length-map, get_or_append_left, get_or-append-add, append_assoc}
 use Rattle.cpp_tree.specs.Fields.{fields_of}
 use Rattle.cpp_tree.specs.Views.{IsSlotBelow}
 use Rattle.cpp_press.proofs.Telling.{one_tree, three_parts}
 use Rattle.std.specs.BTreeMap.{BTreeMap, get}
-use Rattle.std.specs.Cmp.Lexicographic.{slice_cmp}
-use Rattle.std.specs.Ordering.{nat_cmp, ordering_then, is_eq}
+use Rattle.std.specs.Ordering.{is_eq}
 use Rattle.sym_core.specs.declared.Span.{Span}
 use Rattle.cpp_grammar.specs.Term.{Term}
-use Rattle.cpp_layout.specs.Layout.{ReadSymbol}
+use Rattle.cpp_layout.specs.Layout.{ReadSymbol, whole_of}
 use Rattle.cpp_press.specs.declared.numbering.Key.{Key}
 use Rattle.cpp_spelling.specs.Tasks.{plain_at}
 use Rattle.cpp_press.specs.Details.{Told, tree_told}
-use Rattle.cpp_press.specs.Numbers.{IsKeyOf, IsPartNumber, part_number}
-use Rattle.sym_spell.specs.Numbers.{TellApart}
+use Rattle.cpp_press_laws.specs.Same.{same_tree}
+use Rattle.cpp_press_laws.proofs.Components.Sameness.{equal-tree, tree-itself}
+use Rattle.cpp_press.specs.Numbers.{ComeNext, IsKey, IsKeyOf, IsPartNumber, both_at, key_cmp, part_number}
+use Rattle.sym_spell.specs.Numbers.{AreBelow, TellApart, number_at}
 use Rattle.sym_spell.proofs.Entering.{old-number}
-use Rattle.sym_spell.proofs.FirstOnes.{AreKeys, IsLookUp}
+use Rattle.sym_spell.proofs.FirstOnes.{AreFirsts, AreKeys, IsLookUp, first-below, firsts-more, none-first}
 use Rattle.sym_spell.proofs.Orders.{equal-is, first-tied, then-tied, number-tied, number-itself, list-tied, list-itself, same-look}
 
 -- ## Four texts and three parts
@@ -50,22 +53,22 @@ pub part_low : (n m : ℕ) (parts : List ℕ) (k : ℕ) (o : Option ℕ) → n �
 part_low n m parts k o same all is =
     subst (λ v. IsSlotBelow v o) (sym same) (subst (IsSlotBelow m) (sym is) (slot_below m parts k all))
 
-part_is : (y : ReadSymbol) (ns parts : List ℕ) (k m : ℕ) → All (λ part. part < length ns) parts → m ≡ part_number ns (slice_get parts k)
-    → IsPartNumber y ns (slice_get (map (plain_at y) parts) k) m
-part_is y ns [] k m low is = is
-part_is y ns (p ∷ parts) zero m low is = (p, low 0 0 (omega arith), refl, is)
-part_is y ns (p ∷ parts) (suc k) m low is = part_is y ns parts k m (λ j d h. low (suc j) d (omega (arith, h))) is
+part_is : (at : ℕ → Term) (ns parts : List ℕ) (k m : ℕ) → All (λ part. part < length ns) parts → m ≡ part_number ns (slice_get parts k)
+    → IsPartNumber at ns (slice_get (map at parts) k) m
+part_is at ns [] k m low is = is
+part_is at ns (p ∷ parts) zero m low is = (p, low 0 0 (omega arith), refl, is)
+part_is at ns (p ∷ parts) (suc k) m low is = part_is at ns parts k m (λ j d h. low (suc j) d (omega (arith, h))) is
 
 -- the number of a part of a tree, of which these nodes are the parts
-pub part_numbered : (y : ReadSymbol) (ns parts : List ℕ) (n k m : ℕ) (o : Option ℕ) (given : List Term) → length ns ≡ n → All (λ part. part < n) parts
-    → map (plain_at y) parts ≡ given → o ≡ slice_get parts k → m ≡ part_number ns o → IsPartNumber y ns (slice_get given k) m
-part_numbered y ns parts n k m o given same low are is number =
-    subst (λ l. IsPartNumber y ns (slice_get l k) m) are
-    (part_is y ns parts k m (subst (λ v. All (λ part. part < v) parts) (sym same) low) (number ∙ ap (part_number ns) is))
+pub part_numbered : (at : ℕ → Term) (ns parts : List ℕ) (n k m : ℕ) (o : Option ℕ) (given : List Term) → length ns ≡ n → All (λ part. part < n) parts
+    → map at parts ≡ given → o ≡ slice_get parts k → m ≡ part_number ns o → IsPartNumber at ns (slice_get given k) m
+part_numbered at ns parts n k m o given same low are is number =
+    subst (λ l. IsPartNumber at ns (slice_get l k) m) are
+    (part_is at ns parts k m (subst (λ v. All (λ part. part < v) parts) (sym same) low) (number ∙ ap (part_number ns) is))
 
-pub few_parts : (y : ReadSymbol) (count : ℕ) (parts : List ℕ) (given : List Term) → map (plain_at y) (take count parts) ≡ given → count ≤ 3 → length given ≤ 3
-few_parts y count parts given are few =
-    subst (λ l. length l ≤ 3) are (omega (arith, length-map (take count parts) (plain_at y), length-take count parts, few))
+pub few_parts : (at : ℕ → Term) (count : ℕ) (parts : List ℕ) (given : List Term) → map at (take count parts) ≡ given → count ≤ 3 → length given ≤ 3
+few_parts at count parts given are few =
+    subst (λ l. length l ≤ 3) are (omega (arith, length-map (take count parts) at, length-take count parts, few))
 
 -- ## Keys
 
@@ -83,51 +86,51 @@ pub record AreOne (a b : Key) : Type 0 where
 
 -- ## Keys and fields
 
-part-grown : (y : ReadSymbol) (ns : List ℕ) (n : ℕ) (part : Option Term) (m : ℕ) → IsPartNumber y ns part m → IsPartNumber y (ns ++ n ∷ []) part m
-part-grown y ns n None m is = is
-part-grown y ns n (Some t) m (p, low, is, at) = (p, omega (arith, low, length-append ns (n ∷ [])), is, at ∙ ap suc-of (sym (old-number ns n p low)))
+part-grown : (at : ℕ → Term) (ns : List ℕ) (n : ℕ) (part : Option Term) (m : ℕ) → IsPartNumber at ns part m → IsPartNumber at (ns ++ n ∷ []) part m
+part-grown at ns n None m is = is
+part-grown at ns n (Some t) m (p, low, is, told) = (p, omega (arith, low, length-append ns (n ∷ [])), is, told ∙ ap suc-of (sym (old-number ns n p low)))
   where
     suc-of : ℕ → ℕ
     suc-of k = k + 1
 
-key-grown : (y : ReadSymbol) (ns : List ℕ) (n : ℕ) (t : Term) (key : Key) → IsKeyOf y ns t key → IsKeyOf y (ns ++ n ∷ []) t key
-key-grown y ns n t key h = record {
+key-grown : (at : ℕ → Term) (ns : List ℕ) (n : ℕ) (t : Term) (key : Key) → IsKeyOf at ns t key → IsKeyOf at (ns ++ n ∷ []) t key
+key-grown at ns n t key h = record {
   production = h.production;
   own_numbers = h.own_numbers;
   texts = h.texts;
   few = h.few;
-  first = part-grown y ns n (slice_get (fields_of t).parts 0) key.first_part h.first;
-  second = part-grown y ns n (slice_get (fields_of t).parts 1) key.second_part h.second;
-  third = part-grown y ns n (slice_get (fields_of t).parts 2) key.third_part h.third;
+  first = part-grown at ns n (slice_get (fields_of t).parts 0) key.first_part h.first;
+  second = part-grown at ns n (slice_get (fields_of t).parts 1) key.second_part h.second;
+  third = part-grown at ns n (slice_get (fields_of t).parts 2) key.third_part h.third;
 }
 
 -- what is one with a node's key is a key of the node
-taken-over : (y : ReadSymbol) (ns : List ℕ) (a b : Key) (t : Term) → IsKeyOf y ns t a → AreOne a b → IsKeyOf y ns t b
-taken-over y ns a b t h same = record {
+taken-over : (at : ℕ → Term) (ns : List ℕ) (a b : Key) (t : Term) → IsKeyOf at ns t a → AreOne a b → IsKeyOf at ns t b
+taken-over at ns a b t h same = record {
   production = sym same.production ∙ h.production;
   own_numbers = sym same.own_numbers ∙ h.own_numbers;
   texts = rw (sym same.first_text, sym same.second_text, sym same.third_text, sym same.fourth_text) refl ∙ h.texts;
   few = h.few;
-  first = subst (IsPartNumber y ns (slice_get (fields_of t).parts 0)) same.first_part h.first;
-  second = subst (IsPartNumber y ns (slice_get (fields_of t).parts 1)) same.second_part h.second;
-  third = subst (IsPartNumber y ns (slice_get (fields_of t).parts 2)) same.third_part h.third;
+  first = subst (IsPartNumber at ns (slice_get (fields_of t).parts 0)) same.first_part h.first;
+  second = subst (IsPartNumber at ns (slice_get (fields_of t).parts 1)) same.second_part h.second;
+  third = subst (IsPartNumber at ns (slice_get (fields_of t).parts 2)) same.third_part h.third;
 }
 
 -- equal part numbers are of equal parts
-one-part : (y : ReadSymbol) (ns : List ℕ) (a b : Option Term) (m n : ℕ) → TellApart (plain_at y) ns → IsPartNumber y ns a m → IsPartNumber y ns b n → m ≡ n → a ≡ b
-one-part y ns None None m n good h k is = refl
-one-part y ns None (Some u) m n good h (q, low, at, number) is = absurd (omega (arith, h, number, is))
-one-part y ns (Some t) None m n good (p, low, at, number) k is = absurd (omega (arith, k, number, is))
-one-part y ns (Some t) (Some u) m n good (p, low, at, number) (q, other, there, also) is =
-    ap Some (sym at ∙ good.same p q low other (omega (arith, number, also, is)) ∙ there)
+one-part : (at : ℕ → Term) (ns : List ℕ) (a b : Option Term) (m n : ℕ) → TellApart at ns → IsPartNumber at ns a m → IsPartNumber at ns b n → m ≡ n → a ≡ b
+one-part at ns None None m n good h k is = refl
+one-part at ns None (Some u) m n good h (q, low, here, number) is = absurd (omega (arith, h, number, is))
+one-part at ns (Some t) None m n good (p, low, there, number) k is = absurd (omega (arith, k, number, is))
+one-part at ns (Some t) (Some u) m n good (p, low, there, number) (q, other, here, also) is =
+    ap Some (sym there ∙ good.same p q low other (omega (arith, number, also, is)) ∙ here)
 
 -- equal parts have equal numbers
-part-one : (y : ReadSymbol) (ns : List ℕ) (a b : Option Term) (m n : ℕ) → TellApart (plain_at y) ns → IsPartNumber y ns a m → IsPartNumber y ns b n → a ≡ b → m ≡ n
-part-one y ns None None m n good h k is = h ∙ sym k
-part-one y ns None (Some u) m n good h k is = cc
-part-one y ns (Some t) None m n good h k is = cc
-part-one y ns (Some t) (Some u) m n good (p, low, at, number) (q, other, there, also) is =
-    omega (arith, number, also, good.equal p q low other (at ∙ some-one is ∙ sym there))
+part-one : (at : ℕ → Term) (ns : List ℕ) (a b : Option Term) (m n : ℕ) → TellApart at ns → IsPartNumber at ns a m → IsPartNumber at ns b n → a ≡ b → m ≡ n
+part-one at ns None None m n good h k is = h ∙ sym k
+part-one at ns None (Some u) m n good h k is = cc
+part-one at ns (Some t) None m n good h k is = cc
+part-one at ns (Some t) (Some u) m n good (p, low, there, number) (q, other, here, also) is =
+    omega (arith, number, also, good.equal p q low other (there ∙ some-one is ∙ sym here))
   where
     some-one : {v w : Term} → Some v ≡ Some w → v ≡ w
     some-one h = cc
@@ -139,37 +142,34 @@ told_alike a b one two = go a.numbers b.numbers a.texts b.texts one two
     go ns ms ts us one two = rw (one, two) refl
 
 -- equal keys are of equal trees
-key_tree : (y : ReadSymbol) (ns : List ℕ) (a b : Key) (one other : Term) → TellApart (plain_at y) ns → IsKeyOf y ns one a → IsKeyOf y ns other b → AreOne a b → one ≡ other
-key_tree y ns a b one other good h k same =
+key_tree : (at : ℕ → Term) (ns : List ℕ) (a b : Key) (one other : Term) → TellApart at ns → IsKeyOf at ns one a → IsKeyOf at ns other b → AreOne a b → one ≡ other
+key_tree at ns a b one other good h k same =
     one_tree one other (sym h.production ∙ same.production ∙ k.production)
     (three_parts (fields_of one).parts (fields_of other).parts h.few k.few
-    (one-part y ns _ _ a.first_part b.first_part good h.first k.first same.first_part)
-    (one-part y ns _ _ a.second_part b.second_part good h.second k.second same.second_part)
-    (one-part y ns _ _ a.third_part b.third_part good h.third k.third same.third_part))
+    (one-part at ns _ _ a.first_part b.first_part good h.first k.first same.first_part)
+    (one-part at ns _ _ a.second_part b.second_part good h.second k.second same.second_part)
+    (one-part at ns _ _ a.third_part b.third_part good h.third k.third same.third_part))
     (told_alike (tree_told one) (tree_told other) (sym h.own_numbers ∙ same.own_numbers ∙ k.own_numbers)
     (sym h.texts ∙ rw (same.first_text, same.second_text, same.third_text, same.fourth_text) refl ∙ k.texts))
 
 -- equal trees have equal keys
-tree_key : (y : ReadSymbol) (ns : List ℕ) (a b : Key) (t : Term) → TellApart (plain_at y) ns → IsKeyOf y ns t a → IsKeyOf y ns t b → AreOne a b
-tree_key y ns a b t good h k = record {
+tree_key : (at : ℕ → Term) (ns : List ℕ) (a b : Key) (t : Term) → TellApart at ns → IsKeyOf at ns t a → IsKeyOf at ns t b → AreOne a b
+tree_key at ns a b t good h k = record {
   production = h.production ∙ sym k.production;
   own_numbers = h.own_numbers ∙ sym k.own_numbers;
   first_text = (fours (h.texts ∙ sym k.texts)).0;
   second_text = (fours (h.texts ∙ sym k.texts)).1;
   third_text = (fours (h.texts ∙ sym k.texts)).2;
   fourth_text = (fours (h.texts ∙ sym k.texts)).3;
-  first_part = part-one y ns _ _ a.first_part b.first_part good h.first k.first refl;
-  second_part = part-one y ns _ _ a.second_part b.second_part good h.second k.second refl;
-  third_part = part-one y ns _ _ a.third_part b.third_part good h.third k.third refl;
+  first_part = part-one at ns _ _ a.first_part b.first_part good h.first k.first refl;
+  second_part = part-one at ns _ _ a.second_part b.second_part good h.second k.second refl;
+  third_part = part-one at ns _ _ a.third_part b.third_part good h.third k.third refl;
 }
   where
     fours : {A : Type 0} {x z v w p q r s : A} → x ∷ z ∷ v ∷ w ∷ [] ≡ p ∷ q ∷ r ∷ s ∷ [] → (x ≡ p) × (z ≡ q) × (v ≡ r) × (w ≡ s)
     fours e = (cc, cc, cc, cc)
 
 -- ## Keys of nodes
-
-abbrev pub IsKey : ReadSymbol → List ℕ → ℕ → Key → Type 0
-IsKey y ns i key = IsKeyOf y ns (plain_at y i) key
 
 one-itself : (a : Key) → AreOne a a
 one-itself a = record {
@@ -184,24 +184,16 @@ one-itself a = record {
   third_part = refl;
 }
 
-pub are-keys : (y : ReadSymbol) → AreKeys AreOne (plain_at y) (length y.table.nodes) (IsKey y)
-are-keys y = record {
-  grown = λ ns n i a h. key-grown y ns n (plain_at y i) a h;
-  one = λ ns i j a b low other so h k same. key_tree y ns a b (plain_at y i) (plain_at y j) so h k same;
-  alike = λ ns i j a b so is h k. tree_key y ns a b (plain_at y j) so (subst (λ t. IsKeyOf y ns t a) is h) k;
-  taken = λ ns i a b h same. taken-over y ns a b (plain_at y i) h same;
+pub are-keys : (at : ℕ → Term) (count : ℕ) → AreKeys AreOne at count (IsKey at)
+are-keys at count = record {
+  grown = λ ns n i a h. key-grown at ns n (at i) a h;
+  one = λ ns i j a b low other so h k same. key_tree at ns a b (at i) (at j) so h k same;
+  alike = λ ns i j a b so is h k. tree_key at ns a b (at j) so (subst (λ t. IsKeyOf at ns t a) is h) k;
+  taken = λ ns i a b h same. taken-over at ns a b (at i) h same;
   itself = one-itself;
 }
 
--- ## The order of keys that is derived
-
-abbrev pub key_cmp : Key → Key → Ordering
-key_cmp a b =
-    ordering_then (nat_cmp a.first_part b.first_part) (ordering_then (nat_cmp a.second_part b.second_part)
-    (ordering_then (nat_cmp a.third_part b.third_part) (ordering_then (nat_cmp a.production b.production)
-    (ordering_then (slice_cmp nat_cmp a.numbers b.numbers) (ordering_then (slice_cmp nat_cmp a.first_text.now b.first_text.now)
-    (ordering_then (slice_cmp nat_cmp a.second_text.now b.second_text.now) (ordering_then (slice_cmp nat_cmp a.third_text.now b.third_text.now)
-    (slice_cmp nat_cmp a.fourth_text.now b.fourth_text.now))))))))
+-- ## Look-ups by the order of keys that is derived
 
 abbrev pub test : Key → Key → Bool
 test a b = is_eq (key_cmp a b)
@@ -246,5 +238,141 @@ cmp-same a b h q = rw (h.production, h.own_numbers, h.first_text, h.second_text,
 pub looked-up : (m : BTreeMap Key ℕ) → IsLookUp AreOne test (get key_cmp m)
 looked-up m = record { told = test-one; passed = test-passed; respects = λ a b h. same-look key_cmp a b (cmp-same a b h) m }
 
-pub at-node : (y : ReadSymbol) (ns ms : List ℕ) (k : ℕ) (key : Key) → ms ≡ ns → IsKeyOf y ms (plain_at y k) key → IsKey y ns k key
-at-node y ns ms k key same h = subst (λ l. IsKeyOf y l (plain_at y k) key) same h
+-- ## Nodes of a symbol after others
+
+-- the key of a node by the first nodes of its own symbol is that by those of all before
+part-after : (one at : ℕ → Term) (firsts own : List ℕ) (part : Option Term) (m : ℕ) → ((i : ℕ) → i < length own → at (length firsts + i) ≡ one i)
+    → IsPartNumber one own part m → IsPartNumber at (firsts ++ own) part m
+part-after one at firsts own None m next is = is
+part-after one at firsts own (Some t) m next (p, low, there, number) = (
+  length firsts + p,
+  omega (arith, low, length-append firsts own),
+  next p low ∙ there,
+  number ∙ ap suc-of (sym (get_or-append-add firsts own p 0)),
+)
+  where
+    suc-of : ℕ → ℕ
+    suc-of k = k + 1
+
+pub key-after : (one at : ℕ → Term) (firsts own : List ℕ) (t : Term) (key : Key) → ((i : ℕ) → i < length own → at (length firsts + i) ≡ one i)
+    → IsKeyOf one own t key → IsKeyOf at (firsts ++ own) t key
+key-after one at firsts own t key next h = record {
+  production = h.production;
+  own_numbers = h.own_numbers;
+  texts = h.texts;
+  few = h.few;
+  first = part-after one at firsts own (slice_get (fields_of t).parts 0) key.first_part next h.first;
+  second = part-after one at firsts own (slice_get (fields_of t).parts 1) key.second_part next h.second;
+  third = part-after one at firsts own (slice_get (fields_of t).parts 2) key.third_part next h.third;
+}
+
+-- the first nodes of a symbol are below how many nodes there are with those before
+pub after-below : (at : ℕ → Term) (firsts own : List ℕ) (first : Key → Option ℕ) (bound : ℕ) → length firsts + length own ≤ bound
+    → AreFirsts at (IsKey at) (firsts ++ own) first → AreBelow own bound
+after-below at firsts own first bound few are i low =
+    omega (
+      arith,
+      few,
+      length-append firsts own,
+      get_or-append-add firsts own i 0,
+      first-below at (IsKey at) (firsts ++ own) first are (length firsts + i) (omega (arith, low, length-append firsts own)),
+    )
+
+-- the first nodes after one more node of a symbol
+pub after-more : (y : ReadSymbol) (at : ℕ → Term) (firsts own : List ℕ) (before node n : ℕ) (start : Key → Option ℕ) (old : BTreeMap Key ℕ) (new : Key → Option ℕ) (key : Key)
+    → ComeNext y at firsts before start → length own ≡ node → node < length y.table.nodes
+    → IsKeyOf (plain_at y) own (plain_at y node) key
+    → ((m : ℕ) → get key_cmp old key ≡ Some m → (n ≡ m) × ((q : Key) → new q ≡ get key_cmp old q))
+    → (get key_cmp old key ≡ None → (n ≡ before + node) × ((q : Key) → new q ≡ cond (test key q) (Some (before + node)) (get key_cmp old q)))
+    → AreFirsts at (IsKey at) (firsts ++ own) (get key_cmp old)
+    → AreFirsts at (IsKey at) (firsts ++ (own ++ n ∷ [])) new
+after-more y at firsts own before node n start old new key comes long room mine known fresh are =
+    subst (λ l. AreFirsts at (IsKey at) l new) (append_assoc firsts own (n ∷ []))
+    (firsts-more AreOne test at (before + length y.table.nodes) (IsKey at) (firsts ++ own) (get key_cmp old) new key (before + node) n
+    (are-keys at (before + length y.table.nodes)) (looked-up old) are
+    (omega (arith, comes.many, long, length-append firsts own)) (omega (arith, room)) here known fresh)
+  where
+    at-own : (i : ℕ) → i < length own → at (length firsts + i) ≡ plain_at y i
+    at-own i low = ap (λ m. at (m + i)) comes.many ∙ comes.next i (omega (arith, low, long, room))
+
+    here : IsKeyOf at (firsts ++ own) (at (before + node)) key
+    here =
+        subst (λ t. IsKeyOf at (firsts ++ own) t key) (sym (comes.next node room))
+        (key-after (plain_at y) at firsts own (plain_at y node) key at-own mine)
+
+-- ## Two symbols
+
+at-one : (one other : ReadSymbol) (i : ℕ) → i < length one.table.nodes → both_at one other i ≡ plain_at one i
+at-one one other i low = ap (λ b. cond b (plain_at one i) (plain_at other (i - length one.table.nodes))) (lt-ltb i (length one.table.nodes) low)
+
+at-other : (one other : ReadSymbol) (i : ℕ) → both_at one other (length one.table.nodes + i) ≡ plain_at other i
+at-other one other i =
+    let n = length one.table.nodes in
+    ap (λ b. cond b (plain_at one (n + i)) (plain_at other (n + i - n))) (le-ltb (n + i) n (omega arith))
+    ∙ ap (plain_at other) (omega arith)
+
+-- an empty map knows the first ones of nothing
+pub begins-alone : (y : ReadSymbol) (first : Key → Option ℕ) → ((q : Key) → first q ≡ None) → ComeNext y (plain_at y) [] 0 first
+begins-alone y first empty = record {
+  known = none-first (plain_at y) (IsKey (plain_at y)) [] first refl empty;
+  many = refl;
+  next = λ i low. ap (plain_at y) (omega arith);
+}
+
+pub begins-one : (one other : ReadSymbol) (first : Key → Option ℕ) → ((q : Key) → first q ≡ None) → ComeNext one (both_at one other) [] 0 first
+begins-one one other first empty = record {
+  known = none-first (both_at one other) (IsKey (both_at one other)) [] first refl empty;
+  many = refl;
+  next = λ i low. ap (both_at one other) (omega arith) ∙ at-one one other i low;
+}
+
+pub goes-on : (one other : ReadSymbol) (firsts : List ℕ) (first : Key → Option ℕ) → length firsts ≡ length one.table.nodes
+    → AreFirsts (both_at one other) (IsKey (both_at one other)) ([] ++ firsts) first
+    → ComeNext other (both_at one other) firsts (length one.table.nodes) first
+goes-on one other firsts first long are = record { known = are; many = long; next = λ i low. at-other one other i }
+
+truth : (b : Bool) (t u : Term) → (b ≡ true → t ≡ u) → (t ≡ u → b ≡ true) → b ≡ same_tree t u
+truth b t u one other = go b (same_tree t u) refl refl
+  where
+    go : (c d : Bool) → b ≡ c → same_tree t u ≡ d → b ≡ same_tree t u
+    go true true is same = is ∙ sym same
+    go false false is same = is ∙ sym same
+    go true false is same = is ∙ sym (tree-itself u) ∙ ap (λ v. same_tree v u) (sym (one is))
+    go false true is same = other (equal-tree t u same) ∙ sym same
+
+get_or-any : (l : List ℕ) (i d e : ℕ) → i < length l → get_or l i d ≡ get_or l i e
+get_or-any [] i d e low = absurd (omega (arith, low))
+get_or-any (x ∷ l) zero d e low = refl
+get_or-any (x ∷ l) (suc i) d e low = get_or-any l i d e (omega (arith, low))
+
+-- an item of a list is that at a place
+pub item-is : (l : List ℕ) (i at a : ℕ) → a ≡ get_or l i a → i ≡ at → at < length l → a ≡ number_at l at
+item-is l i at a is same low = is ∙ ap (λ k. get_or l k a) same ∙ get_or-any l at a 0 low
+
+-- the roots' first nodes tell whether the whole trees are one
+pub told-one : (one other : ReadSymbol) (firsts others : List ℕ) (first : Key → Option ℕ) (a b : ℕ) → length firsts ≡ length one.table.nodes
+    → length others ≡ length other.table.nodes → one.root < length one.table.nodes → other.root < length other.table.nodes
+    → AreFirsts (both_at one other) (IsKey (both_at one other)) (firsts ++ others) first
+    → a ≡ number_at firsts one.root → b ≡ number_at others other.root
+    → eqb a b ≡ same_tree (whole_of one) (whole_of other)
+told-one one other firsts others first a b long more root other_root are a_is b_is =
+    truth (eqb a b) (plain_at one one.root) (plain_at other other.root)
+    (λ is. sym (at-one one other one.root root)
+    ∙ are.apart.same one.root (n + other.root) low behind (here ∙ eqb-true a b is ∙ sym there)
+    ∙ at-other one other other.root)
+    (λ is. eq-eqb a b (sym here ∙ are.apart.equal one.root (n + other.root) low behind (at-one one other one.root root ∙ is ∙ sym (at-other one other other.root)) ∙ there))
+  where
+    n : ℕ
+    n = length one.table.nodes
+
+    low : one.root < length (firsts ++ others)
+    low = omega (arith, root, long, length-append firsts others)
+
+    behind : n + other.root < length (firsts ++ others)
+    behind = omega (arith, other_root, long, more, length-append firsts others)
+
+    here : number_at (firsts ++ others) one.root ≡ a
+    here = get_or_append_left firsts others 0 one.root (omega (arith, root, long)) ∙ sym a_is
+
+    there : number_at (firsts ++ others) (n + other.root) ≡ b
+    there = ap (λ m. number_at (firsts ++ others) (m + other.root)) (sym long) ∙ get_or-append-add firsts others other.root 0 ∙ sym b_is

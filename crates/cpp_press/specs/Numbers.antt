@@ -1,5 +1,9 @@
--- Keys of trees, by numbers that tell trees apart.
-use Rattle.std.specs.Prelude.{◌≡◌, ℕ, ◌+◌, ◌<◌, ◌≤◌, List, [], ◌∷◌, length, get_or, slice_get, Option, Some, None}
+-- Keys of trees, by numbers that tell trees apart, and a map of them.
+use Rattle.std.specs.Prelude.{◌≡◌, ℕ, ◌+◌, ◌-◌, ◌<◌, ◌≤◌, List, [], ◌∷◌, length, get_or, slice_get, cond, nat_lt, Option, Some, None}
+use Rattle.std.specs.Cmp.Lexicographic.{slice_cmp}
+use Rattle.std.specs.Ordering.{nat_cmp, ordering_then}
+use Rattle.std.specs.declared.cmp.Ordering.{Ordering}
+use Rattle.sym_spell.proofs.FirstOnes.{AreFirsts}
 use Rattle.cpp_grammar.specs.Term.{Term}
 use Rattle.cpp_tree.specs.Fields.{fields_of}
 use Rattle.cpp_layout.specs.Layout.{ReadSymbol}
@@ -12,17 +16,40 @@ abbrev pub part_number : List ℕ → Option ℕ → ℕ
 part_number numbers None = 0
 part_number numbers (Some part) = get_or numbers part 0 + 1
 
--- that of a tree
-abbrev pub IsPartNumber : ReadSymbol → (numbers : List ℕ) → Option Term → ℕ → Type 0
-IsPartNumber y numbers None n = n ≡ 0
-IsPartNumber y numbers (Some t) n = (p : ℕ) × (p < length numbers) × (plain_at y p ≡ t) × (n ≡ get_or numbers p 0 + 1)
+-- that of a tree, which is one of those that are numbered
+abbrev pub IsPartNumber : (at : ℕ → Term) → (numbers : List ℕ) → Option Term → ℕ → Type 0
+IsPartNumber at numbers None n = n ≡ 0
+IsPartNumber at numbers (Some t) n = (p : ℕ) × (p < length numbers) × (at p ≡ t) × (n ≡ get_or numbers p 0 + 1)
 
 -- The key is that of a tree: its production, what it says, and its parts by their numbers.
-pub record IsKeyOf (y : ReadSymbol) (numbers : List ℕ) (t : Term) (key : Key) : Type 0 where
+pub record IsKeyOf (at : ℕ → Term) (numbers : List ℕ) (t : Term) (key : Key) : Type 0 where
   pub production : key.production ≡ (fields_of t).production
   pub own_numbers : key.numbers ≡ (tree_told t).numbers
   pub texts : key.first_text.now ∷ key.second_text.now ∷ key.third_text.now ∷ key.fourth_text.now ∷ [] ≡ (tree_told t).texts
   pub few : length (fields_of t).parts ≤ 3
-  pub first : IsPartNumber y numbers (slice_get (fields_of t).parts 0) key.first_part
-  pub second : IsPartNumber y numbers (slice_get (fields_of t).parts 1) key.second_part
-  pub third : IsPartNumber y numbers (slice_get (fields_of t).parts 2) key.third_part
+  pub first : IsPartNumber at numbers (slice_get (fields_of t).parts 0) key.first_part
+  pub second : IsPartNumber at numbers (slice_get (fields_of t).parts 1) key.second_part
+  pub third : IsPartNumber at numbers (slice_get (fields_of t).parts 2) key.third_part
+
+-- that of the tree with this number
+abbrev pub IsKey : (at : ℕ → Term) → (numbers : List ℕ) → ℕ → Key → Type 0
+IsKey at numbers i key = IsKeyOf at numbers (at i) key
+
+-- the order of keys that a map of them goes by
+abbrev pub key_cmp : Key → Key → Ordering
+key_cmp a b =
+    ordering_then (nat_cmp a.first_part b.first_part) (ordering_then (nat_cmp a.second_part b.second_part)
+    (ordering_then (nat_cmp a.third_part b.third_part) (ordering_then (nat_cmp a.production b.production)
+    (ordering_then (slice_cmp nat_cmp a.numbers b.numbers) (ordering_then (slice_cmp nat_cmp a.first_text.now b.first_text.now)
+    (ordering_then (slice_cmp nat_cmp a.second_text.now b.second_text.now) (ordering_then (slice_cmp nat_cmp a.third_text.now b.third_text.now)
+    (slice_cmp nat_cmp a.fourth_text.now b.fourth_text.now))))))))
+
+-- The map has the first of each tree before the nodes of a symbol, and these come next.
+pub record ComeNext (y : ReadSymbol) (at : ℕ → Term) (firsts : List ℕ) (before : ℕ) (first : Key → Option ℕ) : Type 0 where
+  pub known : AreFirsts at (IsKey at) firsts first
+  pub many : length firsts ≡ before
+  pub next : (i : ℕ) → i < length y.table.nodes → at (before + i) ≡ plain_at y i
+
+-- the trees of the nodes of a symbol, and after them those of another
+abbrev pub both_at : (one other : ReadSymbol) → ℕ → Term
+both_at one other i = cond (nat_lt i (length one.table.nodes)) (plain_at one i) (plain_at other (i - length one.table.nodes))

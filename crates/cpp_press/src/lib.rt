@@ -6,5 +6,5 @@ mod details;
 mod numbering;
 mod pressing;
 
-pub use numbering::numbers;
+pub use numbering::{have_one_tree, numbers};
 pub use pressing::press_cpp;

@@ -1,12 +1,17 @@
 // Nodes with equal trees have one number.
 #![tactic(auto)]
 
-ghost use Rattle.std.specs.Prelude.{◌≡◌, ◌<◌, ◌≤◌, length, Some, None, IfOk, IfErr};
+ghost use Rattle.std.specs.Prelude.{◌≡◌, ◌+◌, ◌<◌, ◌≤◌, ◌++◌, ℕ, List, length, Some, None, IfOk, IfErr};
+ghost use Rattle.std.specs.BTreeMap.{get};
 ghost use Rattle.sym_core.specs.declared.Refusal.TheVariants.{Memory};
+ghost use Rattle.cpp_grammar.specs.Term.{Term};
 ghost use Rattle.cpp_tree.specs.Views.{IsSlotBelow};
+ghost use Rattle.cpp_layout.specs.Layout.{whole_of};
+ghost use Rattle.cpp_press_laws.specs.Same.{same_tree};
 ghost use Rattle.cpp_spelling.specs.Tasks.{plain_at};
 ghost use Rattle.cpp_press.specs.Places.{AreNumbers};
-ghost use Rattle.cpp_press.specs.Numbers.{IsKeyOf, part_number};
+ghost use Rattle.cpp_press.specs.Numbers.{ComeNext, IsKey, IsKeyOf, key_cmp, part_number};
+ghost use Rattle.sym_spell.proofs.FirstOnes.{AreFirsts};
 ghost use Rattle.sym_spell.specs.Numbers.{AreBelow};
 
 use crate::details::details_of;
@@ -42,8 +47,7 @@ fn part_at(count: u32, place: u32, part: u32) -> Option<u32>
 /// One more than the first node that is equal to a part, or 0 for no part.
 fn part_number(firsts: &[u32], part: Option<u32>) -> u32
     requires part { IsSlotBelow (length firsts.now) part }
-    requires below { AreBelow firsts.now (length firsts.now) }
-    requires few { length firsts.now ≤ 4294967295 }
+    requires below { AreBelow firsts.now 4294967295 }
     ensures { result ≡ part_number firsts.now part }
 {
     match part {
@@ -56,8 +60,8 @@ fn part_number(firsts: &[u32], part: Option<u32>) -> u32
 fn key_of<'a>(symbol: &'a Symbol, firsts: &[u32], node: u32) -> Key<'a>
     requires node { node < length symbol.now.table.nodes }
     requires before { length firsts.now ≡ node }
-    requires below { AreBelow firsts.now (length firsts.now) }
-    ensures { IsKeyOf symbol.now firsts.now (plain_at symbol.now node) result }
+    requires below { AreBelow firsts.now 4294967295 }
+    ensures { IsKeyOf (plain_at symbol.now) firsts.now (plain_at symbol.now node) result }
 {
     let seen = symbol.view_at(node);
     let details = details_of(symbol, node, seen.node);
@@ -77,6 +81,35 @@ fn key_of<'a>(symbol: &'a Symbol, firsts: &[u32], node: u32) -> Key<'a>
     }
 }
 
+/// The first nodes that are equal to each node of a symbol, whose nodes come after so many others that the map has: an earlier one, or
+/// the node itself. The map has them from now on.
+///
+/// # Errors
+///
+/// `Memory` alone.
+fn firsts_after<'a>(
+    alloc: Global,
+    keys: &mut BTreeMap<Key<'a>, u32>,
+    symbol: &'a Symbol,
+    before: u32,
+) -> Result<Vec<u32>, Refusal>
+    requires few { before ≤ 2147483647 }
+    requires next { (at : ℕ → Term) × (firsts : List ℕ) × ComeNext symbol.now at firsts before (get key_cmp keys.old) }
+    ensures long { IfOk result (λ own. length own.items ≡ length symbol.now.table.nodes) }
+    ensures few { IfOk result (λ own. length own.items ≤ 4294967295) }
+    ensures firsts { IfOk result (λ own. (at : ℕ → Term) (firsts : List ℕ) → ComeNext symbol.now at firsts before (get key_cmp keys.old)
+        → AreFirsts at (IsKey at) (firsts ++ own.items) (get key_cmp keys.new)) }
+    ensures memory { IfErr result (λ e. e ≡ Memory) }
+{
+    let count = symbol.counts().nodes;
+    let mut own = Vec::with_capacity(alloc, count as usize)?;
+    for node in 0..count {
+        let first = first_with(keys, key_of(symbol, &own, node), before + node)?;
+        own.push(first)?;
+    }
+    Ok(own)
+}
+
 /// Numbers the nodes of a C++ symbol. A tree that no node before has gets the next number, counted from 0. Two look-ups are made for
 /// each node: one in an ordered map, by what the node has alike with those that equal it, and one of the first of these in a table.
 ///
@@ -87,13 +120,25 @@ pub fn numbers(alloc: Global, symbol: &Symbol) -> Result<Numbers, Refusal>
     ensures numbers { IfOk result (AreNumbers symbol.now) }
     ensures memory { IfErr result (λ e. e ≡ Memory) }
 {
-    let count = symbol.counts().nodes;
     let mut keys = BTreeMap::new(alloc);
-    let mut firsts = Vec::with_capacity(alloc, count as usize)?;
-    for node in 0..count {
-        let first = first_with(&mut keys, key_of(symbol, &firsts, node), node)?;
-        firsts.push(first)?;
-    }
+    let firsts = firsts_after(alloc, &mut keys, symbol, 0)?;
     let numbers = Numbers::of_firsts(alloc, &firsts)?;
     Ok(numbers)
+}
+
+/// Whether two C++ symbols have one tree, by one map of keys for the nodes of both.
+///
+/// # Errors
+///
+/// `Memory` alone.
+pub fn have_one_tree(alloc: Global, one: &Symbol, other: &Symbol) -> Result<bool, Refusal>
+    ensures same { IfOk result (λ same. same ≡ same_tree (whole_of one.now) (whole_of other.now)) }
+    ensures memory { IfErr result (λ e. e ≡ Memory) }
+{
+    let mut keys = BTreeMap::new(alloc);
+    let firsts = firsts_after(alloc, &mut keys, one, 0)?;
+    let others = firsts_after(alloc, &mut keys, other, one.counts().nodes)?;
+    let first = firsts[one.root_node() as usize];
+    let other_first = others[other.root_node() as usize];
+    Ok(first == other_first)
 }

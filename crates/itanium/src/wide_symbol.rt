@@ -23,8 +23,9 @@ use sym_print::{Item, Layout, Part};
 
 /// A symbol that was read by the wide grammar.
 ///
-/// It has the texts, counts and views of any C++ symbol. But it is no `Symbol`, so it can't be pressed: what pressing promises is said
-/// of the grammar of the ABI, which doesn't read each tree that this one may have.
+/// It has the texts, counts and views of any C++ symbol. But it is no `Symbol`, so `press_cpp` doesn't take it: that its answer is read
+/// as the same is said of the grammar of the ABI, which doesn't read each tree that this one may have. `wide_press` presses it, and
+/// checks each answer.
 #[derive(Drop)]
 pub struct WideSymbol {
     symbol: Symbol,
@@ -44,6 +45,13 @@ impl WideSymbol {
         ensures { result ≡ symbol }
     {
         WideSymbol { symbol }
+    }
+
+    /// The symbol as one of no grammar. What is pressed of it needn't be read as its tree: whoever presses it has to check that.
+    pub fn plain(&self) -> &Symbol
+        ensures { result.now ≡ self.now }
+    {
+        &self.symbol
     }
 
     /// The lists of a symbol that is given up: its bytes, and its nodes. It takes no memory.

@@ -3,7 +3,7 @@ use Rattle.sym_core.specs.declared.TheConstants.{MOST_BYTES}
 use Rattle.std.specs.Prelude.{◌≡◌, ◌≢◌, ◌⊎◌, ◌≤◌, ℕ, List, [], drop, length, ◌++◌, Bool, true, false, Option, Some, None, Result, Ok, Err, ◌+◌, ◌&&◌, ◌==◌, not, min, nat_le, nat_lt, bit_and, if◌then◌else◌}
 use Rattle.sym_core.specs.declared.counts.Counts.{Counts}
 use Rattle.sym_core.specs.declared.refusal.Refusal.{Refusal}
-use Rattle.sym_core.specs.declared.refusal.Refusal.TheVariants.{Malformed, BadReference, BadValue, TooLong, Memory}
+use Rattle.sym_core.specs.declared.refusal.Refusal.TheVariants.{Malformed, BadReference, BadValue, TooLong, NotPressed, Memory}
 use Rattle.sym_print.specs.declared.detail.Detail.{Detail}
 use Rattle.sym_filter.specs.declared.kinds.Kind.{Kind}
 use Rattle.sym_filter.specs.declared.kinds.Letters.{Letters}
@@ -77,6 +77,7 @@ refused (Malformed at) skip buffer = status_at 1 at skip buffer
 refused (BadReference at) skip buffer = status_at 2 at skip buffer
 refused (BadValue at) skip buffer = status_at 3 at skip buffer
 refused TooLong skip buffer = status_alone 4 buffer
+refused NotPressed skip buffer = status_alone 12 buffer
 refused Memory skip buffer = status_alone 5 buffer
 
 -- bytes written to the front of a buffer, or how large it has to be

@@ -34,6 +34,8 @@ pub const SIZE: u32 = 7;
 pub const FLAGS: u32 = 8;
 /// The ends of names go down, pass their text, or aren't as many as the outcomes. (9 is the header's: a pointer is null.)
 pub const ENDS: u32 = 10;
+/// The pressed spelling isn't read as the same.
+pub const NOT_PRESSED: u32 = 12;
 /// The name begins as no symbol does.
 pub const NO_SYMBOL: u32 = 11;
 
@@ -76,6 +78,7 @@ pub(crate) fn of_refusal(refusal: Refusal, skip: u32, buffer: &[u8]) -> Outcome
         Refusal::BadReference { at: offset } => at(BAD_REFERENCE, offset.saturating_add(skip)),
         Refusal::BadValue { at: offset } => at(BAD_VALUE, offset.saturating_add(skip)),
         Refusal::TooLong => alone(TOO_LONG),
+        Refusal::NotPressed => alone(NOT_PRESSED),
         Refusal::Memory => alone(MEMORY),
     }
 }

@@ -3,7 +3,7 @@ use Rattle.std.specs.Prelude.{◌≡◌, ℕ, List, [], ◌∷◌, ◌++◌, Boo
 use Rattle.std.specs.List.{list_all}
 use Rattle.std.specs.Fmt.{decimal}
 use Rattle.sym_core.specs.declared.refusal.Refusal.{Refusal}
-use Rattle.sym_core.specs.declared.refusal.Refusal.TheVariants.{Malformed, BadReference, BadValue, TooLong, Memory}
+use Rattle.sym_core.specs.declared.refusal.Refusal.TheVariants.{Malformed, BadReference, BadValue, TooLong, NotPressed, Memory}
 use Rattle.sym_core.specs.declared.counts.Counts.{Counts}
 use Rattle.sym_filter.specs.declared.kinds.Kind.{Kind}
 use Rattle.sym_filter.specs.declared.kinds.Lang.{Lang}
@@ -61,6 +61,7 @@ reason_of (Malformed at) = codes "malformed at " ++ decimal at
 reason_of (BadReference at) = codes "bad reference at " ++ decimal at
 reason_of (BadValue at) = codes "bad value at " ++ decimal at
 reason_of TooLong = codes "too long"
+reason_of NotPressed = codes "not pressed"
 reason_of Memory = []
 
 -- what is said of a word that has no text

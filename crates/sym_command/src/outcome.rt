@@ -1,4 +1,5 @@
 // What a command line asks of the program.
+use crate::options::Asked;
 use sym_filter::Letters;
 use sym_print::Detail;
 
@@ -9,12 +10,12 @@ pub enum Run {
     Filter(Filtering),
 }
 
-/// How standard input is filtered, where C++ may be read by the wide grammar, and legacy Rust names may have the texts of their paths.
+/// How standard input is filtered: what each symbol in it gives way to, and whether legacy Rust names have the texts of their paths.
 #[derive(Clone, Copy, Debug, PartialEq, Eq)]
 pub struct Filtering {
     pub limit: u32,
     pub detail: Detail,
     pub letters: Letters,
-    pub wide: bool,
+    pub asked: Asked,
     pub legacy: bool,
 }

@@ -17,6 +17,8 @@ pub enum Refusal {
     BadValue { at: u32 },
     /// 4: the symbol was read, and its text costs more than the limit.
     TooLong,
+    /// 6: the symbol was read, and no pressed spelling of it is read as the same.
+    NotPressed,
     /// 5: a list couldn't grow. It may come before 1 to 4 are known.
     Memory,
 }

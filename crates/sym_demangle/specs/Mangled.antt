@@ -2,7 +2,7 @@
 use Rattle.std.specs.Prelude.{◌≡◌, ◌⊎◌, ℕ, List, Result, Ok, Err, ⊤}
 use Rattle.std.specs.Result.{IfErr}
 use Rattle.sym_core.specs.declared.refusal.Refusal.{Refusal}
-use Rattle.sym_core.specs.declared.refusal.Refusal.TheVariants.{Malformed, BadReference, BadValue, TooLong, Memory}
+use Rattle.sym_core.specs.declared.refusal.Refusal.TheVariants.{Malformed, BadReference, BadValue, TooLong, NotPressed, Memory}
 use Rattle.sym_shape.specs.declared.rule.Sym.TheVariants.{Kind}
 use Rattle.sym_shape.specs.Law.{IsLawful}
 use Rattle.sym_shape.specs.Table.{Table}
@@ -68,4 +68,5 @@ HasReason g s (Malformed at) = IsMalformed g s at
 HasReason g s (BadReference at) = IsWellShaped g s
 HasReason g s (BadValue at) = IsWellShaped g s
 HasReason g s TooLong = IsWellShaped g s
+HasReason g s NotPressed = ⊥
 HasReason g s Memory = ⊥

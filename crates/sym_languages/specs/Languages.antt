@@ -1,6 +1,9 @@
 -- What is answered for a symbol of each mangling.
-use Rattle.std.specs.Prelude.{◌≡◌, ℕ, ◌+◌, ◌*◌, ◌≤◌, List, ◌++◌, length, Bool, if◌then◌else◌, Result, Ok, Err}
+use Rattle.std.specs.Prelude.{◌≡◌, ℕ, ◌+◌, ◌*◌, ◌≤◌, List, ◌++◌, length, Bool, if◌then◌else◌, Option, Some, None, Result, Ok, Err}
 use Rattle.sym_core.specs.declared.refusal.Refusal.{Refusal}
+use Rattle.sym_core.specs.declared.refusal.Refusal.TheVariants as refusals
+use Rattle.sym_shape.proofs.Deciding.{outcome}
+use Rattle.wide_press.specs.Kept.{kept}
 use Rattle.sym_print.specs.declared.detail.Detail.{Detail}
 use Rattle.sym_shape.specs.declared.rule.Row.{Row}
 use Rattle.sym_shape.specs.Tree.{Tree, AreRowsOf}
@@ -67,6 +70,23 @@ pressed_language Rust symbol = pressed_answer v0_mangled rust_spelling.pressed s
 -- the pressed spelling comes after the underscore that was dropped
 abbrev pub pressed_of : Kind → List ℕ → Result (List ℕ) Refusal
 pressed_of kind symbol = with_front (underscore_of kind.skip) (pressed_language kind.lang symbol)
+
+-- The answer to a symbol of C++'s wide grammar that is pressed: the pressed spelling of its tree, where that is no longer than the symbol
+-- and is read as the tree; or why it isn't read.
+abbrev pub kept_if_read : List ℕ → Result Term Refusal → Result (List ℕ) Refusal
+kept_if_read s (Ok tree) = elim (kept (length s) tree) [ Some spelling ↦ Ok spelling | None ↦ Err refusals.NotPressed ]
+kept_if_read s (Err refusal) = Err refusal
+
+unfoldable pub wide_pressed_answer : List ℕ → Result (List ℕ) Refusal
+wide_pressed_answer s =
+    outcome wide_mangled.table wide_mangled.lawful (λ shape. kept_if_read s (wide_mangled.unfolded shape)) (λ at. Err (refusals.Malformed at)) (Err (refusals.Malformed 0)) s
+
+abbrev pub wide_pressed_in : Lang → List ℕ → Result (List ℕ) Refusal
+wide_pressed_in Cpp symbol = wide_pressed_answer symbol
+wide_pressed_in Rust symbol = pressed_answer v0_mangled rust_spelling.pressed symbol
+
+abbrev pub wide_pressed_of : Kind → List ℕ → Result (List ℕ) Refusal
+wide_pressed_of kind symbol = with_front (underscore_of kind.skip) (wide_pressed_in kind.lang symbol)
 
 -- The symbols of a mangling that are read: W are the trees that they stand for, R what is kept of them.
 pub record Readings (W R : Type 0) : Type 1 where

@@ -6,18 +6,19 @@ ghost use Rattle.sym_core.specs.Number.{FitsSymbol};
 ghost use Rattle.sym_shape.specs.Decided.{AreBytes};
 ghost use Rattle.sym_demangle.specs.Mangled.{IsReading};
 ghost use Rattle.sym_filter.specs.Demangled.{IsDemangled};
-ghost use Rattle.sym_languages.specs.Languages.{AreCounts, AreCountsOf, with_front, pressed_of};
+ghost use Rattle.sym_languages.specs.Languages.{AreCounts, AreCountsOf, AreWideCountsOf, wide_pressed_answer, wide_pressed_of, wide_readings, with_front, pressed_of};
 ghost use Rattle.sym_filter.specs.Kinds.{underscore_of};
 
 use crate::counted::Counted;
 use crate::languages::Lists;
-use itanium::Abi;
+use itanium::{Abi, Wide};
 use rust_v0::V0;
 use std::alloc::{AllocError, Global};
 use sym_core::Refusal;
 use sym_demangle::Workspace;
 use sym_filter::{Demangled, Demangler, Kind, Lang};
 use sym_press::{press_cpp, press_rust};
+use wide_press::press_wide;
 
 /// A mangling whose symbols are spelled again, with each repeated part as a reference.
 pub trait Pressable: Counted {
@@ -153,6 +154,81 @@ fn press_into<M: Pressable>(
     match push_after_underscore(skip, &pressed, out) {
         Ok(()) => Demangled::Text(counts),
         Err(_) => Demangled::Refused(Refusal::Memory),
+    }
+}
+
+/// Both manglings, where the text of a symbol is its pressed spelling, and C++ is read by the wide grammar: a C++ symbol has a pressed
+/// spelling where that isn't longer and the wide grammar reads it as the symbol's tree.
+#[derive(Clone, Copy, Drop)]
+pub struct WidePressing;
+
+impl Demangler for WidePressing {
+    type Lists = Lists<Wide>;
+
+    ghost answer = { λ pressing kind symbol. wide_pressed_of kind symbol };
+
+    ghost are_counts = { λ pressing lang symbol counts. AreWideCountsOf lang symbol counts };
+
+    fn lists(&self, alloc: Global) -> Result<Lists<Wide>, AllocError> {
+        Ok(Lists::new(alloc))
+    }
+
+    fn read_ahead(&self, lists: &mut Lists<Wide>, lang: Lang, front: &[u8]) {
+        lists.read_ahead(lang, front);
+    }
+
+    fn demangle(
+        &self,
+        lists: &mut Lists<Wide>,
+        kind: Kind,
+        symbol: &[u8],
+        out: &mut Vec<u8>,
+    ) -> Demangled {
+        match kind.lang {
+            Lang::Cpp => press_wide_into(&mut lists.cpp, kind.skip, symbol, out),
+            Lang::Rust => press_into(&mut lists.rust, kind.skip, symbol, out),
+        }
+    }
+
+    fn append(
+        &self,
+        lists: &mut Lists<Wide>,
+        kind: Kind,
+        symbol: &[u8],
+        out: &mut Vec<u8>,
+    ) -> Result<(), Refusal> {
+        match self.demangle(lists, kind, symbol, out) {
+            Demangled::Text(_) => Ok(()),
+            Demangled::TooLong(_) => Err(Refusal::TooLong),
+            Demangled::Refused(refusal) => Err(refusal),
+        }
+    }
+}
+
+/// Appends the pressed spelling of a symbol of the wide grammar, after the underscore that was dropped, where it is kept.
+fn press_wide_into(
+    workspace: &mut Workspace<Wide>,
+    skip: u32,
+    symbol: &[u8],
+    out: &mut Vec<u8>,
+) -> Demangled
+    requires { FitsSymbol symbol.now }
+    ensures { IsDemangled (with_front (underscore_of skip) (wide_pressed_answer symbol.now)) (AreCounts wide_readings symbol.now) out.old.items out.new.items result }
+{
+    let read = match workspace.read(symbol) {
+        Ok(read) => read,
+        Err(refusal) => return Demangled::Refused(refusal),
+    };
+    let counts = Wide::counts(&read);
+    let pressed = press_wide(*out.allocator(), workspace, &read, symbol.len());
+    workspace.recycle(read);
+    match pressed {
+        Err(_) => Demangled::Refused(Refusal::Memory),
+        Ok(None) => Demangled::Refused(Refusal::NotPressed),
+        Ok(Some(pressed)) => match push_after_underscore(skip, &pressed, out) {
+            Ok(()) => Demangled::Text(counts),
+            Err(_) => Demangled::Refused(Refusal::Memory),
+        },
     }
 }
 

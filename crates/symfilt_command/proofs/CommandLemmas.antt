@@ -1,5 +1,5 @@
 -- What a command line's parts did, as what the program did.
-use Rattle.std.proofs.Common.{◌≡◌, ◌≢◌, ◌⊎◌, ℕ, Bool, false, cond, Bor, List, [], ◌∷◌, length, map, eqb, Option, Result, Ok, Err, refl, sym, subst, inl, inr, ◌++◌}
+use Rattle.std.proofs.Common.{◌≡◌, ◌≢◌, ◌⊎◌, ℕ, Bool, false, Bor, List, [], ◌∷◌, length, map, eqb, Option, Result, Ok, Err, refl, sym, subst, inl, inr, ◌++◌}
 use Rattle.std.specs.Prelude.{IfOk, OnOk, OnErr}
 use Rattle.std.specs.Io.KnownBytes.{Appends}
 use Rattle.std.proofs.lemmas.Bool.{eqb-false}
@@ -15,7 +15,6 @@ use Rattle.clap.specs.declared.error.kind.ErrorKind.{ErrorKind}
 use Rattle.clap.specs.declared.error.kind.ErrorKind.TheVariants.{OutOfMemory}
 use Rattle.sym_command.specs.CommandLine.{AreGiven, AreRefused, faults_in, symbols_of}
 use Rattle.sym_command.specs.Command.{AnswersFront, AnswersWords, Took, Says}
-use Rattle.sym_command.specs.declared.options.Asked.TheVariants.{Text, WideText}
 use Rattle.sym_command.specs.declared.options.Options.{Options}
 use Rattle.sym_command.specs.declared.outcome.Filtering.{Filtering}
 use Rattle.sym_command.specs.declared.outcome.Run.{Run}
@@ -23,17 +22,13 @@ use Rattle.sym_command.specs.declared.outcome.Run.TheVariants.{Done, Filter}
 use Rattle.sym_command.proofs.CommandLemmas.{faulty}
 use Rattle.sym_command.proofs.PageLemmas.{Took-said, OnErr-anyway}
 use Rattle.sym_languages.specs.Languages.{answers_by}
-use Rattle.symfilt_command.specs.Command.{answers_at, answers_of, counting_of, filter_answers, AreBegun, IsRunOf, IsRun, IsStopped, Filtered, FilteredFront}
+use Rattle.symfilt_command.specs.Command.{answers_of, counting_of, filter_answers, AreBegun, IsRunOf, IsRun, IsStopped, Filtered, FilteredFront}
 
 -- ## What is answered
 
 -- where it is known whether legacy Rust names are paths
 pub by-legacy : {W : Type 0} → (P : Answering → Type 0) (cpp : Mangled W) (legacy known : Bool) (limit : ℕ) (detail : Detail) → legacy ≡ known → P (answers_by cpp known limit detail) → P (answers_by cpp legacy limit detail)
 by-legacy P cpp legacy known limit detail is given = subst (λ paths. P (answers_by cpp paths limit detail)) (sym is) given
-
--- where it is known which grammar the filter reads C++ by
-pub by-width : (P : Answering → Type 0) (filtering : Filtering) (wide : Bool) → filtering.wide ≡ wide → P (answers_at (cond wide WideText Text) filtering.legacy filtering.limit filtering.detail) → P (filter_answers filtering)
-by-width P filtering wide is given = subst (λ known. P (answers_at (cond known WideText Text) filtering.legacy filtering.limit filtering.detail)) (sym is) given
 
 -- ## Words that the parser refuses
 

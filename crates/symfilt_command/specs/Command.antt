@@ -1,18 +1,18 @@
 -- What the program did, by the words of its command line.
-use Rattle.std.specs.Prelude.{◌≡◌, ◌≢◌, ◌⊎◌, ℕ, List, [], Bool, if◌then◌else◌, Option}
+use Rattle.std.specs.Prelude.{◌≡◌, ◌≢◌, ◌⊎◌, ℕ, List, [], Bool, Option}
 use Rattle.std.specs.Io.KnownBytes.{Appends}
 use Rattle.sym_print.specs.declared.detail.Detail.{Detail}
 use Rattle.sym_filter.specs.Runs.{Answering}
 use Rattle.sym_filter.specs.Streams.{FiltersAllAt, FiltersFrontAt}
 use Rattle.sym_filter.specs.declared.words.Tally.{Tally}
 use Rattle.cpp_grammar.specs.Mangled.{cpp_mangled, wide_mangled}
-use Rattle.sym_languages.specs.Languages.{answers_by, pressed_of, AreCountsOf, AreWideCountsOf}
+use Rattle.sym_languages.specs.Languages.{answers_by, pressed_of, wide_pressed_of, AreCountsOf, AreWideCountsOf}
 use Rattle.clap.specs.Words.{Row, Text as Bytes}
 use Rattle.sym_command.specs.CommandLine.{AreGiven, AreRefused, AsksFilter, symbols_of, found_in, faults_in}
 use Rattle.sym_command.specs.Lines.{Counting}
 use Rattle.sym_command.specs.Command.{Took, AnswersWords, AnswersFront}
 use Rattle.sym_command.specs.declared.options.Asked.{Asked}
-use Rattle.sym_command.specs.declared.options.Asked.TheVariants.{Text, WideText, Pressed}
+use Rattle.sym_command.specs.declared.options.Asked.TheVariants.{Text, WideText, Pressed, WidePressed}
 use Rattle.sym_command.specs.declared.options.Options.{Options}
 use Rattle.sym_command.specs.declared.outcome.Filtering.{Filtering}
 use Rattle.sym_command.specs.declared.outcome.Run.{Run}
@@ -23,6 +23,7 @@ abbrev pub answers_at : Asked → (legacy : Bool) → ℕ → Detail → Answeri
 answers_at Text legacy limit detail = answers_by cpp_mangled legacy limit detail
 answers_at WideText legacy limit detail = answers_by wide_mangled legacy limit detail
 answers_at Pressed legacy limit detail = pressed_of
+answers_at WidePressed legacy limit detail = wide_pressed_of
 
 abbrev pub answers_of : Options → Answering
 answers_of options = answers_at options.asked options.legacy options.limit options.detail
@@ -32,13 +33,14 @@ abbrev pub counting_at : Asked → Counting
 counting_at Text = AreCountsOf
 counting_at WideText = AreWideCountsOf
 counting_at Pressed = AreCountsOf
+counting_at WidePressed = AreWideCountsOf
 
 abbrev pub counting_of : Options → Counting
 counting_of options = counting_at options.asked
 
 -- what the filter does with the words of standard input
 abbrev pub filter_answers : Filtering → Answering
-filter_answers filtering = answers_at (if filtering.wide then WideText else Text) filtering.legacy filtering.limit filtering.detail
+filter_answers filtering = answers_at filtering.asked filtering.legacy filtering.limit filtering.detail
 
 -- ## What a command line did, by what its parser found
 

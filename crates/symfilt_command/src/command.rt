@@ -18,7 +18,7 @@ use sym_command::{
 };
 use sym_filter::{FilterFault, ListSink, Sink, Source, Tally, filter_words};
 use sym_languages::languages::Cpp;
-use sym_languages::{Abi, Languages, Legacy, Pressing, Wide};
+use sym_languages::{Abi, Languages, Legacy, Pressing, Wide, WidePressing};
 
 /// Runs the program over an input and two outputs: answers the symbols of a command line, or filters the input where it has none.
 /// The words are those of the command line, the program's name first, and the result is the status.
@@ -72,10 +72,12 @@ pub fn filter_asked<S: Source, W: Sink>(
     ensures read_failed { S.failure_count input.new ≡ S.failure_count input.old + reader_faults result }
     ensures write_failed { W.failure_count out.new ≡ W.failure_count out.old + writer_faults result }
 {
-    if filtering.wide {
-        return filter_in(alloc, Wide, filtering, input, out);
+    match filtering.asked {
+        Asked::Text => filter_in(alloc, Abi, filtering, input, out),
+        Asked::WideText => filter_in(alloc, Wide, filtering, input, out),
+        Asked::Pressed => filter_words(alloc, input, out, &Pressing, filtering.letters),
+        Asked::WidePressed => filter_words(alloc, input, out, &WidePressing, filtering.letters),
     }
-    filter_in(alloc, Abi, filtering, input, out)
 }
 
 /// Filters an input with a grammar of C++.
@@ -193,9 +195,7 @@ fn answer_all<W: Sink, E: Sink>(
     ensures failures { W.failure_count out.new + E.failure_count err.new
         ≡ W.failure_count out.old + E.failure_count err.old + writer_faults result }
 {
-    let Some(options) = options_of(matches) else {
-        return refuse_run(err, b"symfilt: --press doesn't go with --wide\n");
-    };
+    let options = options_of(matches);
     let symbols = symbols_of(matches);
     if !symbols.is_empty() {
         let status = answer_symbols(alloc, options, symbols, out, err)?;
@@ -203,7 +203,7 @@ fn answer_all<W: Sink, E: Sink>(
     }
     match filtering_of(options) {
         Some(filtering) => Ok(Run::Filter(filtering)),
-        None => refuse_run(err, b"symfilt: --press and --stats need a symbol\n"),
+        None => refuse_run(err, b"symfilt: --stats needs a symbol\n"),
     }
 }
 
@@ -229,6 +229,7 @@ fn answer_symbols<W: Sink, E: Sink>(
         Asked::Text => answer_in(alloc, Abi, options, words, out, err),
         Asked::WideText => answer_in(alloc, Wide, options, words, out, err),
         Asked::Pressed => answer_words(alloc, &Pressing, options.stats, words, out, err),
+        Asked::WidePressed => answer_words(alloc, &WidePressing, options.stats, words, out, err),
     }
 }
 

@@ -4,7 +4,7 @@ use Rattle.std.specs.Cmp.Lexicographic.{pointwise}
 use Rattle.std.specs.List.{list_all}
 use Rattle.std.specs.Result.{result_ok}
 use Rattle.sym_core.specs.declared.refusal.Refusal.{Refusal}
-use Rattle.sym_core.specs.declared.refusal.Refusal.TheVariants.{Malformed, BadReference, BadValue, TooLong, Memory}
+use Rattle.sym_core.specs.declared.refusal.Refusal.TheVariants.{Malformed, BadReference, BadValue, TooLong, NotPressed, Memory}
 use Rattle.sym_filter.specs.declared.kinds.Lang.TheVariants.{Cpp}
 use Rattle.sym_filter.specs.declared.kinds.Letters.TheVariants.{Any}
 use Rattle.sym_filter.specs.declared.kinds.TheConstants.{LONGEST_WORD}
@@ -34,6 +34,7 @@ before_front (Malformed at) = Malformed (at - 4)
 before_front (BadReference at) = BadReference (at - 4)
 before_front (BadValue at) = BadValue (at - 4)
 before_front TooLong = TooLong
+before_front NotPressed = NotPressed
 before_front Memory = Memory
 
 -- what a type has by the answer for the symbol of its information

@@ -109,6 +109,7 @@ fn before_front(refusal: Refusal) -> Refusal
             at: at.saturating_sub(4),
         },
         Refusal::TooLong => Refusal::TooLong,
+        Refusal::NotPressed => Refusal::NotPressed,
         Refusal::Memory => Refusal::Memory,
     }
 }

@@ -44,15 +44,15 @@ returns c =
       texts = four-texts (bytes_at y.bytes) (record { from = 0; to = 0 }) details.texts (tree_told t).texts c.bytes_of.result.now c.bytes_of-2.result.now
           c.bytes_of-3.result.now c.bytes_of-4.result.now four (ap (λ (f : Told). f.texts) told) c.bytes_of.ensures c.bytes_of-2.ensures c.bytes_of-3.ensures
           c.bytes_of-4.ensures;
-      few = few_parts y seen.node.parts seen.parts (fields_of t).parts parts c.view_at-seen.ensures.few;
-      first = part_numbered y ns (take seen.node.parts seen.parts) c.args.node 0 c.part_number.result c.part_at.result (fields_of t).parts c.requires.before
+      few = few_parts (plain_at y) seen.node.parts seen.parts (fields_of t).parts parts c.view_at-seen.ensures.few;
+      first = part_numbered (plain_at y) ns (take seen.node.parts seen.parts) c.args.node 0 c.part_number.result c.part_at.result (fields_of t).parts c.requires.before
           c.view_at-seen.ensures.parts parts
           (slot_is seen.node.parts seen.parts 0 0 c.part_at.result (omega (arith, long)) c.part_at.ensures.some c.part_at.ensures.none) c.part_number.ensures;
-      second = part_numbered y ns (take seen.node.parts seen.parts) c.args.node 1 c.part_number-2.result c.part_at-2.result (fields_of t).parts
+      second = part_numbered (plain_at y) ns (take seen.node.parts seen.parts) c.args.node 1 c.part_number-2.result c.part_at-2.result (fields_of t).parts
           c.requires.before c.view_at-seen.ensures.parts parts
           (slot_is seen.node.parts seen.parts 1 0 c.part_at-2.result (omega (arith, long)) c.part_at-2.ensures.some c.part_at-2.ensures.none)
           c.part_number-2.ensures;
-      third = part_numbered y ns (take seen.node.parts seen.parts) c.args.node 2 c.part_number-3.result c.part_at-3.result (fields_of t).parts
+      third = part_numbered (plain_at y) ns (take seen.node.parts seen.parts) c.args.node 2 c.part_number-3.result c.part_at-3.result (fields_of t).parts
           c.requires.before c.view_at-seen.ensures.parts parts
           (slot_is seen.node.parts seen.parts 2 0 c.part_at-3.result (omega (arith, long)) c.part_at-3.ensures.some c.part_at-3.ensures.none)
           c.part_number-3.ensures;

@@ -1,0 +1,6 @@
+//! Symbols that the wide grammar alone reads, which the checker computes by its definitions: laws alone.
+#![tactic(auto)]
+
+mod laws;
+
+pub use laws::symbols_are_read;
