@@ -157,7 +157,7 @@ DEMANGLE = {
     "stacks": (["-p", "--brief"], f"main;{VECTOR};_ZN1A1fIiEEvT_ 42\n", "main;std::vector::push_back;A::f 42\n"),
     "legacy Rust names": ([], f"{LEGACY}\n", "demo::main\n"),
     "newer C++": ([], "_Z1fN2ns3BoxIiEENS0_IcEE\n", "f(ns::Box<int>, ns::Box<char>)\n"),
-    "quotes in JSON": (["--json"], '{"at":"_Zli2_sPKc"}\n', '{"at":"operator\\"\\" _s(char const*)"}\n'),
+    "quotes in JSON": (["--escape"], '{"at":"_Zli2_sPKc"}\n', '{"at":"operator\\"\\" _s(char const*)"}\n'),
     "an option of c++filt": (["-n", "-s", "gnu-v3"], "_Z1fv _RNvC3foo3bar\n", "f() _RNvC3foo3bar\n"),
 }
 

@@ -120,7 +120,7 @@ char const*' "$(./t | xargs "$tool" -t 2>&1)"
     call 'folded stacks' 'main;std::vector::push_back;A::f 42' \
         "$(echo 'main;_ZNSt6vectorIiSaIiEE9push_backERKi;_ZN1A1fIiEEvT_ 42' | "$tool" --no-params --brief 2>&1)"
     call 'a name that is none ends with 0' 'foo 0' "$("$tool" foo 2>&1 | tr '\n' ' '; echo "${PIPESTATUS[0]}")"
-    got=$(printf '%s\n' '{"at":"_Zli2_sPKc","n":1}' | "$tool" --json 2>&1)
+    got=$(printf '%s\n' '{"at":"_Zli2_sPKc","n":1}' | "$tool" --escape 2>&1)
     call 'a line of JSON' '"operator\"\" _s(char const*)"' "$got"
     ! has jq || call 'jq reads it' 'operator"" _s(char const*)' "$(printf '%s\n' "$got" | jq -r .at 2>&1)"
 }

@@ -3,7 +3,7 @@ complete -c demangle -f
 complete -c demangle -s p -l no-params -d 'Print functions by their names'
 complete -c demangle -l brief -d 'Leave out template and generic arguments'
 complete -c demangle -s t -l types -d 'Also read names as C++ types'
-complete -c demangle -l json -d 'Escape quotes and backslashes in replaced text'
+complete -c demangle -l escape -d 'Escape quotes and backslashes in replaced text'
 complete -c demangle -l limit -x -d 'Greatest cost of a text'
 complete -c demangle -s s -l format -x -a 'auto gnu-v3 rust none' -d 'Which names are read'
 complete -c demangle -l why -d 'Say why a name is left'

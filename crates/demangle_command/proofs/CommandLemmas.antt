@@ -78,11 +78,11 @@ refused-stops rows coming out err err' result says = OnErr-anyway result _ (inl 
 
 -- ## What the options ask
 
-pub answers-are : (json : Bool) (style : Style) (limit : ℕ) (detail : Detail) (options : Options) → json ≡ options.json → style ≡ options.style → limit ≡ options.limit → detail ≡ options.detail
-    → answers_by json style limit detail ≡ answers_of options
-answers-are json style limit detail options j s l d =
-    ap (λ (x : Bool). answers_by x style limit detail) j ∙ ap (λ (x : Style). answers_by options.json x limit detail) s
-    ∙ ap (λ (x : ℕ). answers_by options.json options.style x detail) l ∙ ap (λ (x : Detail). answers_by options.json options.style options.limit x) d
+pub answers-are : (escapes : Bool) (style : Style) (limit : ℕ) (detail : Detail) (options : Options) → escapes ≡ options.escape → style ≡ options.style → limit ≡ options.limit → detail ≡ options.detail
+    → answers_by escapes style limit detail ≡ answers_of options
+answers-are escapes style limit detail options j s l d =
+    ap (λ (x : Bool). answers_by x style limit detail) j ∙ ap (λ (x : Style). answers_by options.escape x limit detail) s
+    ∙ ap (λ (x : ℕ). answers_by options.escape options.style x detail) l ∙ ap (λ (x : Detail). answers_by options.escape options.style options.limit x) d
 
 -- nothing was read or written
 pub stops-unbegun : (rows : List Row) (coming out err : Option (List ℕ)) → StopsOf rows coming coming out out err err

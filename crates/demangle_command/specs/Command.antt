@@ -13,7 +13,7 @@ use Rattle.sym_filter.specs.Streams.{PutsFront}
 use Rattle.sym_filter.specs.declared.words.Tally.{Tally}
 use Rattle.sym_command.specs.Command.{Took}
 use Rattle.demangle_command.specs.CommandLine.{AreGiven, AreOptions, names_of, found_in, faults_in}
-use Rattle.demangle_command.specs.Json.{answer_by}
+use Rattle.demangle_command.specs.Escaping.{answer_by}
 use Rattle.demangle_names.specs.Names.{AnswersNames, NamesFront, status_of}
 use Rattle.demangle_names.specs.Reasons.{said_of_words}
 use Rattle.demangle_command.specs.Styled.{styled_answer}
@@ -21,12 +21,12 @@ use Rattle.demangle_names.specs.declared.options.Options.{Options}
 use Rattle.demangle_names.specs.declared.style.Style.{Style}
 
 -- what is answered for symbols, escaped where texts go into JSON
-abbrev pub answers_by : (json : Bool) → Style → ℕ → Detail → Answering
-answers_by json style limit detail kind symbol = answer_by json (styled_answer style limit detail kind symbol)
+abbrev pub answers_by : (escapes : Bool) → Style → ℕ → Detail → Answering
+answers_by escapes style limit detail kind symbol = answer_by escapes (styled_answer style limit detail kind symbol)
 
 -- as options ask
 abbrev pub answers_of : Options → Answering
-answers_of options = answers_by options.json options.style options.limit options.detail
+answers_of options = answers_by options.escape options.style options.limit options.detail
 
 -- ## An input
 

@@ -55,7 +55,7 @@ with_texts app = with_rule (with_rule (with_rule (with_rule (with_rule app no_pa
 
 -- with those on how texts are written, and on what is said of names that are left
 abbrev pub with_reports : App → App
-with_reports app = with_rule (with_rule (with_rule app (flag (codes "json"))) (flag (codes "why"))) (flag (codes "strict"))
+with_reports app = with_rule (with_rule (with_rule app (flag (codes "escape"))) (flag (codes "why"))) (flag (codes "strict"))
 
 -- The program's command line. Its parser adds help. An option may be given again.
 unfoldable pub command_line : App
@@ -64,7 +64,7 @@ command_line = record {
     has_version = true;
     disable_version_flag = true;
     args_override_self = true;
-    rules = no_params ∷ flag (codes "brief") ∷ types ∷ limit ∷ style_option ∷ flag (codes "json") ∷ flag (codes "why") ∷ flag (codes "strict") ∷ version_option ∷ taken_options ∷ name_arguments ∷ [];
+    rules = no_params ∷ flag (codes "brief") ∷ types ∷ limit ∷ style_option ∷ flag (codes "escape") ∷ flag (codes "why") ∷ flag (codes "strict") ∷ version_option ∷ taken_options ∷ name_arguments ∷ [];
   };
   subs = [];
 }
@@ -88,7 +88,7 @@ pub record AreGiven (rows : List Row) (options : Options) : Type 0 where
   pub detail : options.detail ≡ detail_by brief no_params
   pub limit : IsLimit rows options.limit
   pub style : IsAskedStyle rows (Some options.style)
-  pub json : IsFlag rows (codes "json") options.json
+  pub escape : IsFlag rows (codes "escape") options.escape
   pub types : IsFlag rows (codes "types") options.types
   pub why : IsFlag rows (codes "why") options.why
   pub strict : IsFlag rows (codes "strict") options.strict

@@ -2,6 +2,6 @@ pub mod ArgumentFiles
 pub mod Command
 pub mod CommandLine
 pub mod Complaints
-pub mod Json
+pub mod Escaping
 pub mod Styled
 pub mod Texts

@@ -10,7 +10,7 @@ ghost use Rattle.demangle_command.specs.Texts.{texts_of};
 ghost use Rattle.demangle_names.specs.Names.{status_of};
 
 use crate::complaints::{complaint, style_complaint};
-use crate::json::Json;
+use crate::escaping::Escaping;
 use crate::options::{found_in, names_of, options_of};
 use crate::styled::Styled;
 use crate::texts::{lent_texts, lent_words, texts_of, words_of};
@@ -175,8 +175,8 @@ fn run_found<S: Source, W: Sink, E: Sink>(
 }
 
 /// The demangler that options ask for.
-fn demangler_of(options: Options) -> Json
-    ensures json { result.escapes ≡ options.json }
+fn demangler_of(options: Options) -> Escaping
+    ensures escapes { result.escapes ≡ options.escape }
     ensures style { result.styled.style ≡ options.style }
     ensures limit { result.styled.languages.limit ≡ options.limit }
     ensures detail { result.styled.languages.detail ≡ options.detail }
@@ -185,7 +185,7 @@ fn demangler_of(options: Options) -> Json
         limit,
         detail,
         style,
-        json,
+        escape,
         ..
     } = options;
     let languages = Languages {
@@ -193,9 +193,9 @@ fn demangler_of(options: Options) -> Json
         detail,
         cpp: Wide,
     };
-    Json {
+    Escaping {
         styled: Styled { style, languages },
-        escapes: json,
+        escapes: escape,
     }
 }
 

@@ -5,8 +5,8 @@ mod argument_files;
 mod arguments;
 mod command;
 mod complaints;
+mod escaping;
 mod hint;
-mod json;
 mod noted;
 mod options;
 mod process;
@@ -15,6 +15,6 @@ mod texts;
 
 pub use argument_files::words_in;
 pub use command::run_over;
-pub use json::Json;
+pub use escaping::Escaping;
 pub use process::program;
 pub use styled::Styled;

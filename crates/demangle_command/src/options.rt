@@ -22,7 +22,7 @@ const BRIEF: &str = "Leave out template and generic arguments";
 
 const LIMIT: &str = "Longest text, about its bytes [default: 1000000]";
 
-const JSON: &str = "Escape \" and \\ in replaced text";
+const ESCAPE: &str = "Escape \" and \\ in replaced text";
 
 const WHY: &str = "Say on standard error why a name is left, and in which line";
 
@@ -85,8 +85,8 @@ fn with_texts<'a>(alloc: Global, command: Command<'a>) -> Result<Command<'a>, Al
 fn with_reports<'a>(alloc: Global, command: Command<'a>) -> Result<Command<'a>, AllocError>
     ensures { IfOk result (λ with_them. app_of with_them ≡ with_reports (app_of command.entry)) }
 {
-    let json = with_flag(alloc, command, "json", JSON)?;
-    let why = with_flag(alloc, json, "why", WHY)?;
+    let escape = with_flag(alloc, command, "escape", ESCAPE)?;
+    let why = with_flag(alloc, escape, "why", WHY)?;
     with_flag(alloc, why, "strict", STRICT)
 }
 
@@ -214,7 +214,7 @@ pub(crate) fn options_of(matches: &ArgMatches<'_>) -> Option<Options>
         limit: limit_of(matches),
         detail: detail_of(has_flag(matches, "brief"), has_flag(matches, "no-params")),
         style,
-        json: has_flag(matches, "json"),
+        escape: has_flag(matches, "escape"),
         types: has_flag(matches, "types"),
         why: has_flag(matches, "why"),
         strict: has_flag(matches, "strict"),

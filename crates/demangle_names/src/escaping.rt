@@ -1,6 +1,7 @@
 // Texts within strings of JSON.
 ghost use Rattle.std.specs.Prelude.{◌≡◌, ◌++◌, ℕ, List, OnOk, OnErr};
 ghost use Rattle.demangle_names.specs.Escaped.{escaped, escaped_byte};
+ghost use Rattle.demangle_names.specs.Strings.{KeepsStrings, ReadsBack, StaysWithin};
 
 use std::alloc::AllocError;
 
@@ -30,3 +31,18 @@ fn push_byte(byte: u8, out: &mut Vec<u8>) -> Result<(), AllocError>
     out.push(byte)?;
     Ok(())
 }
+
+/// An escaped text within a string means the text: a reader of JSON gets it back.
+pub fn escaped_reads_back()
+    ensures { ReadsBack }
+{}
+
+/// An escaped text ends no string, and its last backslash escapes nothing that comes behind it.
+pub fn escaped_stays_within()
+    ensures { StaysWithin }
+{}
+
+/// A line of JSON with a word of a string replaced by an escaped text has its other strings where they were.
+pub fn replaced_keeps_strings()
+    ensures { KeepsStrings }
+{}

@@ -9,7 +9,9 @@ mod reasons;
 mod status;
 mod style;
 
-pub use escaping::push_escaped;
+pub use escaping::{
+    escaped_reads_back, escaped_stays_within, push_escaped, replaced_keeps_strings,
+};
 pub use names::answer_names;
 pub use options::Options;
 pub use reasons::Reasons;

@@ -10,7 +10,7 @@ pub struct Options {
     pub detail: Detail,
     pub style: Style,
     /// Whether texts are escaped as within strings of JSON.
-    pub json: bool,
+    pub escape: bool,
     /// Whether names are read as types, too.
     pub types: bool,
     /// Whether it is said why a name stays.

@@ -1,5 +1,5 @@
 // The demangler whose texts may stand within strings of JSON.
-ghost use Rattle.demangle_command.specs.Json.{answer_by};
+ghost use Rattle.demangle_command.specs.Escaping.{answer_by};
 ghost use Rattle.demangle_command.specs.Styled.{styled_answer};
 ghost use Rattle.sym_languages.specs.Languages.{AreWideCountsOf};
 
@@ -13,40 +13,40 @@ use sym_languages::languages::Lists;
 
 /// The lists of the demangler below, and the text of one symbol.
 #[derive(Drop)]
-pub struct JsonLists {
+pub struct EscapingLists {
     lists: Lists<Wide>,
     text: Vec<u8>,
 }
 
 /// A demangler whose texts may stand within strings of JSON.
 #[derive(Clone, Copy, Drop)]
-pub struct Json {
+pub struct Escaping {
     pub styled: Styled,
     /// Whether texts are escaped.
     pub escapes: bool,
 }
 
-impl Demangler for Json {
-    type Lists = JsonLists;
+impl Demangler for Escaping {
+    type Lists = EscapingLists;
 
-    ghost answer = { λ json kind symbol. answer_by json.escapes (styled_answer json.styled.style json.styled.languages.limit json.styled.languages.detail kind symbol) };
+    ghost answer = { λ escaping kind symbol. answer_by escaping.escapes (styled_answer escaping.styled.style escaping.styled.languages.limit escaping.styled.languages.detail kind symbol) };
 
-    ghost are_counts = { λ json lang symbol counts. AreWideCountsOf lang symbol counts };
+    ghost are_counts = { λ escaping lang symbol counts. AreWideCountsOf lang symbol counts };
 
-    fn lists(&self, alloc: Global) -> Result<JsonLists, AllocError> {
-        Ok(JsonLists {
+    fn lists(&self, alloc: Global) -> Result<EscapingLists, AllocError> {
+        Ok(EscapingLists {
             lists: self.styled.lists(alloc)?,
             text: Vec::new(alloc),
         })
     }
 
-    fn read_ahead(&self, lists: &mut JsonLists, lang: Lang, front: &[u8]) {
+    fn read_ahead(&self, lists: &mut EscapingLists, lang: Lang, front: &[u8]) {
         self.styled.read_ahead(&mut lists.lists, lang, front);
     }
 
     fn demangle(
         &self,
-        lists: &mut JsonLists,
+        lists: &mut EscapingLists,
         kind: Kind,
         symbol: &[u8],
         out: &mut Vec<u8>,
@@ -70,7 +70,7 @@ impl Demangler for Json {
 
     fn append(
         &self,
-        lists: &mut JsonLists,
+        lists: &mut EscapingLists,
         kind: Kind,
         symbol: &[u8],
         out: &mut Vec<u8>,
