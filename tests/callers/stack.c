@@ -8,7 +8,7 @@
 #include <stdlib.h>
 #include <string.h>
 
-enum { STACK = 256 << 10, CAPACITY = 1 << 20, FILL = 0xA5, SAID = 16 << 10 };
+enum { STACK = 256 << 10, CAPACITY = 1 << 20, FILL = 0xA5, SAID = 16 << 10, CALLS = 8 };
 
 static unsigned char stack[STACK] __attribute__((aligned(4096)));
 static char buffer[CAPACITY];
@@ -31,6 +31,7 @@ static void *run(void *unused)
     case 4: symdemangle_filter(job.symbol, job.length, 1000000, job.flags, buffer, CAPACITY, &tally, &result); break;
     case 5: symdemangle_count(job.symbol, job.length, job.flags, &counts, &result); break;
     case 6: symdemangle_press(job.symbol, job.length, 0, buffer, CAPACITY, &result); break;
+    case 7: symdemangle_free(symdemangle_string(job.symbol, job.flags)); break;
     }
     return unused;
 }
@@ -50,15 +51,16 @@ static size_t used(int call)
     return STACK - at;
 }
 
-static size_t most[7], none;
+static size_t most[CALLS], none;
 
+/* A symbol that is also a C string. */
 static void measure(const char *symbol, size_t length)
 {
     int call;
     job.symbol = symbol;
     job.length = length;
     for (job.flags = 0; job.flags <= SYMDEMANGLE_WIDE; job.flags += SYMDEMANGLE_WIDE)
-        for (call = 1; call < 7; call++) {
+        for (call = 1; call < CALLS; call++) {
             size_t bytes = used(call);
             if (bytes > most[call])
                 most[call] = bytes;
@@ -82,7 +84,7 @@ static void measure_repeated(const char *front, const char *part, size_t times, 
 
 int main(int words, char **files)
 {
-    static const char *const names[7] = {"", "text", "brief text", "texts", "filter", "count", "press"};
+    static const char *const names[CALLS] = {"", "text", "brief text", "texts", "filter", "count", "press", "string"};
     char line[1 << 16];
     int call, failed = 0;
     none = used(0);
@@ -90,8 +92,10 @@ int main(int words, char **files)
         FILE *file = fopen(files[words - 1], "r");
         if (!file)
             return 2;
-        while (fgets(line, sizeof line, file))
-            measure(line, strcspn(line, "\n"));
+        while (fgets(line, sizeof line, file)) {
+            line[strcspn(line, "\n")] = 0;
+            measure(line, strlen(line));
+        }
         fclose(file);
     }
     measure_repeated("_Z1f", "P", 60000, "i");
@@ -101,8 +105,8 @@ int main(int words, char **files)
     measure_repeated("_RINvC1a1b", "R", 60000, "uE");
     measure_repeated("_R", "Nv", 30000, "C1a");
     measure_repeated("_RINvC1a1b", "T", 30000, "u");
-    for (call = 1; call < 7; call++) {
-        printf("%s %zu%s", names[call], most[call] - none, call < 6 ? ", " : " bytes of stack at most\n");
+    for (call = 1; call < CALLS; call++) {
+        printf("%s %zu%s", names[call], most[call] - none, call < CALLS - 1 ? ", " : " bytes of stack at most\n");
         failed |= most[call] - none > SAID;
     }
     return failed;
