@@ -1,34 +1,56 @@
 #!/bin/bash
-# Types README's commands of "Get it" in their order, each as it is there, in a clean clone of what is committed, and looks at what they
-# print: tests/commands.sh [-n]. All but the gate itself (.ci/run) are run, which takes some ten minutes of processor; with -n none is, and
-# only that each begins at the top, in a folder that is there, is looked at.
+# README's commands of "Get it", and the gate's own: tests/commands.sh [-n].
+#
+# Each of README's is typed as it is there, in their order, in a clean clone of what is committed, and has to print what it has to; with -n
+# none is run, and only that each begins at the top, in a folder that is there, and leaves its reader there, is looked at. They take
+# some ten minutes of processor. The gate (.ci/run) is run over stand-ins for what it calls: it has to fail where one of these fails,
+# and where `rt ci` passes with an edit that shows nothing.
 set -u
 cd "$(dirname "$0")/.." || exit 2
 work=$(mktemp -d)
 trap 'rm -rf "$work"' EXIT
 mapfile -t commands < <(sed -n '/^## Get it/,/^## [^G]/ s/^    //p' README.md)
-# what each prints; `*` is anything
+# what each prints, the gate's apart; `*` is anything
 wanted=('*' 'at foo::bar(int)' '*' 'f()' 'at foo::bar(int)' 'each row holds')
 
 git clone -q . "$work/clone" && cd "$work/clone" || exit 2
 echo 'at _ZN3foo3barEi' >crash.log
 tried=0 failed=0
+fails() { # fails WORDS
+    failed=$((failed + 1))
+    echo "$*"
+}
 for command in ${commands[@]+"${commands[@]}"}; do
-    tried=$((tried + 1))
     said=
-    if [[ $command == *.ci/run* ]]; then
-        [ -x .ci/run ] && bash -n .ci/run || failed=$((failed + 1))
-        continue
-    fi
+    [[ $command != *.ci/run* ]] || continue
+    tried=$((tried + 1))
     folder=$(sed -nE 's/^(\(cd|make -C) ([^ ]*) .*/\2/p' <<<"$command")
-    [ -d "${folder:-.}" ] && bash -n -c "$command" || { echo "not from the top: $command"; failed=$((failed + 1)); continue; }
+    [ -d "${folder:-.}" ] && bash -n -c "$command" || { fails "not from the top: $command"; continue; }
+    [[ $command != cd\ * ]] || { fails "the next command begins elsewhere: $command"; continue; }
     [ "${1-}" != -n ] || continue
     if ! said=$(bash -c "$command" 2>"$work/err") || [[ $said != ${wanted[tried - 1]-} ]]; then
-        failed=$((failed + 1))
-        printf '$ %s\n%s\nwanted: %s\n' "$command" "$said" "${wanted[tried - 1]-}"
+        fails "$ $command"$'\n'"$said"$'\n'"wanted: ${wanted[tried - 1]-}"
         tail -n 5 "$work/err"
     fi
 done
-[ $tried -gt 3 ] || { echo "README has $tried commands, and needs more" >&2; exit 2; }
-echo "$tried commands, $failed fail"
+[ $tried -eq ${#wanted[@]} ] || fails "README has $tried commands, and ${#wanted[@]} are known here"
+[[ ${commands[*]-} == *.ci/run* ]] || fails "README doesn't name the gate, .ci/run"
+
+# The gate: each stand-in ends with a status of its own, and the one for rt says what it has to.
+mkdir "$work/bin"
+printf '#!/bin/sh\necho "$SAID"\nexit "$RT"\n' >"$work/bin/rt"
+printf '#!/bin/sh\nexit "$LIBRARY"\n' >tests/library.py
+printf '#!/bin/sh\nexit "$ALL"\n' >tests/all.sh
+chmod +x "$work/bin/rt" tests/library.py tests/all.sh
+gate() { # gate PASSES|FAILS RT SAID LIBRARY ALL : how the gate ends over these
+    local ended=PASSES
+    RT=$2 SAID=$3 LIBRARY=$4 ALL=$5 PATH=$work/bin:$PATH bash .ci/run >"$work/out" 2>&1 || ended=FAILS
+    [ $ended = "$1" ] || fails ".ci/run $ended with rt ci $2 ($3), tests/library.py $4 and tests/all.sh $5"
+}
+gate PASSES 0 '3 passed, 0 failed' 0 0
+gate FAILS 1 '3 passed, 1 failed' 0 0
+gate FAILS 0 '3 passed, 0 failed' 1 0
+gate FAILS 0 '3 passed, 0 failed' 0 1
+gate FAILS 0 $'rt: crates/some/must-fail/one.edit: BAD EDIT: it did not reach the prover\n3 passed, 0 failed' 0 0
+echo "$tried commands and the gate, $failed fail"
 [ $failed -eq 0 ]
