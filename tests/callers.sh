@@ -62,7 +62,20 @@ fi
 run static cc -static -std=c11 "${warnings[@]}" callers/c/calls.c "${static[@]}"
 run 'refused' cc -std=c11 "${warnings[@]}" callers/c/out_of_memory.c "${static[@]}"
 cat "$work/out"
-run "the filter's memory" cc -std=c11 "${warnings[@]}" tests/callers/filter_memory.c "${static[@]}"
+
+# What docs/callers/C.md says of the memory that a name takes is what is measured, and the other pages say it, too.
+said() { # said CALL : the figure in a row of the table of calls
+    sed -n "s/^| \`symdemangle_$1\`[^|]*| \([0-9]*\) |.*/\1/p" docs/callers/C.md
+}
+for_a_byte=$(said text) pressed=$(said press)
+[ -n "$for_a_byte" ] && [ -n "$pressed" ] || { echo "docs/callers/C.md doesn't say what memory a name takes"; exit 1; }
+for page in docs/callers/{CPP,RUST,PYTHON,GO,OTHERS}.md callers/c/symdemangle.h callers/rust/src/lib.rs callers/python/symdemangle/__init__.py \
+    callers/go/symdemangle.go; do
+    grep -q " $for_a_byte .*byte" "$page" || { echo "$page doesn't say what memory a name takes"; exit 1; }
+done
+run memory cc -std=c11 "-DFOR_A_BYTE=$for_a_byte" "-DPRESSED=$pressed" "${warnings[@]}" tests/callers/memory.c "${static[@]}"
+read -r for_a_byte pressed < <(sed -n 's/.*In a lent block a name takes up to \([0-9]*\) bytes for each of its bytes, and \([0-9,]*\) where.*/\1 \2/p' docs/callers/C.md | tr -d ,)
+run 'memory of a lent block' cc -std=c11 -DARENA "-DFOR_A_BYTE=$for_a_byte" "-DPRESSED=$pressed" "${warnings[@]}" tests/callers/memory.c "$lib/libsymdemangle_arena.a"
 
 # Names: an archive has none but the header's, the shared library has each with its version, and neither needs more than the C
 # library; the arena's needs nothing that allocates.

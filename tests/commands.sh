@@ -13,7 +13,7 @@ mapfile -t commands < <(sed -n '/^## Get it/,/^## [^G]/ s/^    //p' README.md)
 # what each prints, the gate's apart; `*` is anything
 wanted=('*' 'at foo::bar(int)' '*' 'f()' 'at foo::bar(int)' 'each row holds')
 
-git clone -q . "$work/clone" && cd "$work/clone" || exit 2
+git -c advice.detachedHead=false clone -q . "$work/clone" && cd "$work/clone" || exit 2
 echo 'at _ZN3foo3barEi' >crash.log
 tried=0 failed=0
 fails() { # fails WORDS

@@ -1,7 +1,7 @@
 // Package symdemangle demangles C++ (Itanium ABI) and Rust (v0 and older) names within a limit on what a text costs, by a proved library
 // that cgo compiles with the package.
 //
-// A call takes up to 226 bytes of memory for a byte of the name (measured), whatever the limit. So names that someone else chose should be
+// A call takes up to 600 bytes of memory for a byte of the name (measured), whatever the limit. So names that someone else chose should be
 // cut: 4,096 bytes hold nearly all real ones.
 package symdemangle
 

@@ -18,7 +18,7 @@ name, `wide=False` reads the ABI's first grammar alone, `legacy=False` Rust's ol
 begins as no symbol does as a C++ type (`PKc`), and `limit`, from 0 to 4294967295, is what a text may cost. Names are strings or bytes;
 where they aren't UTF-8, strings have them as surrogates, as file names in Python.
 
-A call takes up to 226 bytes of memory for a byte of the name, and `press` 523 (measured), whatever the limit. So cut names that someone
+A call takes up to 600 bytes of memory for a byte of the name, and `press` 750 (measured), whatever the limit. So cut names that someone
 else chose: 4,096 bytes hold nearly all real ones.
 """
 

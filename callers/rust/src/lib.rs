@@ -5,7 +5,7 @@
 //! before either an underscore may be, as on macOS.
 //! Names in a symbol are bytes, so texts are bytes too; what shows itself has U+FFFD for what isn't UTF-8.
 //!
-//! A call takes up to 226 bytes of memory for a byte of the name, and [`press_into`] 523 (measured), whatever the limit. So names that someone
+//! A call takes up to 600 bytes of memory for a byte of the name, and [`press_into`] 750 (measured), whatever the limit. So names that someone
 //! else chose should be cut: 4,096 bytes hold nearly all real ones.
 //!
 //! ```
