@@ -24,6 +24,9 @@ grep -q "^\.TH SYMFILT 1 [0-9-]* \"symdemangle $version\"" docs/symfilt.1 || fai
 grep -q "^SYMDEMANGLE_${version%.*} {$" callers/archive/names.map || fail "callers/archive/names.map isn't of version $version"
 [ "$(sed -n 's/^## \([0-9.]*\).*/\1/p' CHANGELOG.md | head -n 1)" = "$version" ] || fail "CHANGELOG.md begins with another version than $version"
 grep -q "^\.TH DEMANGLE 1 [0-9-]* \"symdemangle $version\"" docs/demangle.1 || fail "docs/demangle.1 isn't of version $version"
+# what mandoc says most often of a page, also where it isn't installed
+long=$(LC_ALL=C awk 'length > 80 { print FILENAME ":" FNR }' docs/symfilt.1 docs/demangle.1)
+[ -z "$long" ] || fail "lines of more than 80 bytes: $long"
 ! has mandoc 'the layout of the manual pages' || [ -z "$(mandoc -T lint docs/symfilt.1 docs/demangle.1 | tee /dev/stderr)" ] || fail 'the manual pages'
 if has mandb 'that apropos finds the pages'; then
     mkdir -p "$work/man/man1" && cp docs/symfilt.1 docs/demangle.1 "$work/man/man1" && mandb -q -c "$work/man"
