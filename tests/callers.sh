@@ -74,7 +74,8 @@ for page in docs/callers/{CPP,RUST,PYTHON,GO,OTHERS}.md callers/c/symdemangle.h 
     grep -q " $for_a_byte .*byte" "$page" || { echo "$page doesn't say what memory a name takes"; exit 1; }
 done
 run memory cc -std=c11 "-DFOR_A_BYTE=$for_a_byte" "-DPRESSED=$pressed" "${warnings[@]}" tests/callers/memory.c "${static[@]}"
-read -r for_a_byte pressed < <(sed -n 's/.*In a lent block a name takes up to \([0-9]*\) bytes for each of its bytes, and \([0-9,]*\) where.*/\1 \2/p' docs/callers/C.md | tr -d ,)
+read -r for_a_byte pressed < <(sed -n 's/.*In a lent block a name takes up to \([0-9]*\) bytes for each of its bytes, and \([0-9,]*\) where.*/\1 \2/p' docs/callers/C.md | tr -d ,) ||
+    { echo "docs/callers/C.md doesn't say what a name takes of a lent block"; exit 1; }
 run 'memory of a lent block' cc -std=c11 -DARENA "-DFOR_A_BYTE=$for_a_byte" "-DPRESSED=$pressed" "${warnings[@]}" tests/callers/memory.c "$lib/libsymdemangle_arena.a"
 
 # Names: an archive has none but the header's, the shared library has each with its version, and neither needs more than the C
