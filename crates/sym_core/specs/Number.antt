@@ -25,7 +25,7 @@ is_digit_of Base62 b = is_decimal_digit b || is_lower_letter b || is_upper_lette
 is_digit_of Hex b = is_decimal_digit b || (nat_le 97 b && nat_le b 102)
 is_digit_of Digits b = is_decimal_digit b
 
--- a Length has one to nine digits, the first of them no zero unless it is the only one
+-- a Length has one to nine digits without a leading zero, or is a 0 alone
 abbrev pub IsLengthForm : List ℕ → Type 0
 IsLengthForm [] = ⊥
 IsLengthForm (d ∷ []) = ⊤

@@ -24,7 +24,7 @@ hyphenated (byte ∷ rest) =
 abbrev pub identifier_text : List ℕ → Option (List ℕ)
 identifier_text chars = if list_all is_xid_continue chars then Some (encode_utf8_all chars) else None
 
--- the text that a Punycode name denotes, if it is short enough and that of an identifier
+-- the text that a Punycode name denotes, if the name isn't too long to be decoded, and the text is an identifier
 abbrev pub decoded_name : List ℕ → Option (List ℕ)
 decoded_name bytes = if nat_le (length bytes) 2000 then option_and_then identifier_text (decode (hyphenated bytes)) else None
 

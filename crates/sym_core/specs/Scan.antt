@@ -16,7 +16,7 @@ IsLimit Seq36 q most = length q < most
 IsLimit Hex q most = length q < most
 IsLimit Digits q most = length q < most
 
--- the test fails at the first of these
+-- the first of these bytes, if there is one, fails the test
 abbrev pub StopsAt : (ℕ → Bool) → List ℕ → Type 0
 StopsAt p [] = ⊤
 StopsAt p (b ∷ w) = p b ≡ false

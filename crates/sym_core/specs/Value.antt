@@ -4,14 +4,14 @@ use Rattle.sym_core.specs.Number.{is_decimal_digit, is_lower_letter}
 use Rattle.sym_core.specs.declared.NumberKind.{NumberKind}
 use Rattle.sym_core.specs.declared.NumberKind.TheVariants.{Seq36, Base62, Hex}
 
--- how many digits the kind has
+-- the base of a kind of number
 abbrev pub radix_of : NumberKind → ℕ
 radix_of Seq36 = 36
 radix_of Base62 = 62
 radix_of Hex = 16
 radix_of _ = 10
 
--- what a digit counts: 0 to 9, then the letters; in Base62 the lower-case ones first
+-- the value of a digit: 0 to 9, then the letters; in Base62 the lower-case ones first
 abbrev pub digit_value : NumberKind → ℕ → ℕ
 digit_value Seq36 byte = if is_decimal_digit byte then byte - 48 else byte - 55
 digit_value Base62 byte = if is_decimal_digit byte then byte - 48 else (if is_lower_letter byte then byte - 87 else byte - 29)

@@ -31,7 +31,7 @@ pub struct Span {
 /// How a number is spelled.
 #[derive(Clone, Copy, Debug, PartialEq, Eq)]
 pub enum NumberKind {
-    /// One to nine decimal digits, the first no zero unless it is the only one: how long a name is.
+    /// One to nine decimal digits without a leading zero, or a 0 alone: the length of a name.
     Length,
     /// Decimal digits, maybe none, and an `_`.
     Decimal,

@@ -91,7 +91,7 @@ fn is_identifier(text: &str) -> bool
     text.chars().all(unicode_ident::is_xid_continue)
 }
 
-/// The text that a Punycode name denotes, if it is short enough and that of an identifier.
+/// The text that a Punycode name denotes, if the name isn't too long to be decoded, and the text is an identifier.
 fn decoded(alloc: Global, bytes: &[u8]) -> Result<Option<String>, Refusal>
     requires { AreNameBytes NameClass.Rust bytes.now }
     ensures text { IfOk result (λ found. MatchOption found (decoded_name bytes.now ≡ None) (λ text. decoded_name bytes.now ≡ Some (string_bytes text))) }
@@ -138,7 +138,7 @@ pub fn push_name(
     ensures same { OnErr result (out.new.items ≡ out.old.items) }
     ensures few { IfOk result (λ span. span.to ≤ span.from + 4 * length bytes.now + 8) }
     ensures memory { IfErr result (λ r. r ≡ Refusal.Memory) }
-    // What the list had no room for is the text, unless the name is decoded: that takes memory of its own.
+    // The list had no room for the text, unless the name is decoded, which takes memory of its own.
     ensures full { OnErr result (IsDecoded puny bytes.now ⊎ (vec_capacity out.old < vec_len out.old + length (printed_name puny bytes.now))) }
     ensures capacity { vec_capacity out.old ≤ vec_capacity out.new }
     ensures stays { OnErr result (vec_capacity out.new ≡ vec_capacity out.old) }

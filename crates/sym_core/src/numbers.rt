@@ -10,8 +10,8 @@ ghost use Rattle.sym_core.specs.Scan.{is_marked, IsRun, IsLimit};
 
 use crate::{NumberKind, Span};
 
-// For each byte what it counts as a digit in base 62: 0 to 9, then the lower-case letters, then the upper-case ones;
-// 62 where it is none.
+// The value of each byte as a digit in base 62: 0 to 9, then the lower-case letters, then the upper-case ones; 62 where the
+// byte is no digit.
 static BASE62_DIGITS: [u8; 256] = [
     62, 62, 62, 62, 62, 62, 62, 62, 62, 62, 62, 62, 62, 62, 62, 62, 62, 62, 62, 62, 62, 62, 62, 62,
     62, 62, 62, 62, 62, 62, 62, 62, 62, 62, 62, 62, 62, 62, 62, 62, 62, 62, 62, 62, 62, 62, 62, 62,
@@ -26,7 +26,7 @@ static BASE62_DIGITS: [u8; 256] = [
     62, 62, 62, 62, 62, 62, 62, 62, 62, 62, 62, 62, 62, 62,
 ];
 
-/// What the byte counts as a digit in base 62, or 62 where it is none.
+/// The value of a byte as a digit in base 62, or 62 where it is none.
 pub fn base62_digit(byte: u8) -> u8
     ensures digit { nat_lt result 62 ≡ is_digit_of Base62 byte }
     ensures value { is_digit_of Base62 byte ≡ true → result ≡ digit_value Base62 byte }

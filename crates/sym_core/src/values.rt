@@ -9,7 +9,7 @@ ghost use Rattle.sym_core.specs.declared.values.TheConstants.{SHORT};
 use crate::NumberKind;
 use crate::numbers::{base62_digit, is_digit};
 
-/// How many digits the kind has.
+/// The base of a kind of number.
 fn radix(kind: NumberKind) -> u64
     ensures { result ≡ radix_of kind }
 {
@@ -21,7 +21,7 @@ fn radix(kind: NumberKind) -> u64
     }
 }
 
-/// What the digit counts.
+/// The value of a digit.
 fn digit(kind: NumberKind, byte: u8) -> u8
     requires { is_digit_of kind byte ≡ true }
     ensures value { result ≡ digit_value kind byte }
@@ -94,7 +94,7 @@ fn counted(kind: NumberKind, digits: &[u8]) -> Option<u64>
     value(kind, digits)?.checked_add(1)
 }
 
-/// What a byte counts as a digit of a Seq36 number; one that is no digit counts something too.
+/// The value of a byte as a digit of a Seq36 number. A byte that is no digit has some value, too.
 fn digit36(byte: u8) -> u8
     ensures { result ≡ digit_value NumberKind.Seq36 byte }
 {
@@ -130,7 +130,7 @@ fn base36_value(digits: &[u8]) -> Option<u64>
 }
 
 /// The value of a Decimal number by its digits: 0 where there are none, else one more than they denote. None past 64 bits. A
-/// byte that is no digit counts something too.
+/// byte that is no digit has some value, too.
 pub fn value10(digits: &[u8]) -> Option<u64>
     ensures { MatchOption result (2 ^ 64 ≤ counted_value NumberKind.Decimal digits.now) (λ v. v ≡ counted_value NumberKind.Decimal digits.now) }
 {
@@ -141,7 +141,7 @@ pub fn value10(digits: &[u8]) -> Option<u64>
 }
 
 /// The value of a Seq36 number by its digits: 0 where there are none, else one more than they denote. None past 64 bits. A byte
-/// that is no digit counts something too.
+/// that is no digit has some value, too.
 pub fn value36(digits: &[u8]) -> Option<u64>
     ensures { MatchOption result (2 ^ 64 ≤ counted_value NumberKind.Seq36 digits.now) (λ v. v ≡ counted_value NumberKind.Seq36 digits.now) }
 {
