@@ -13,19 +13,20 @@ entries_of numbers = fold (λ most n. max most (n + 1)) 0 numbers
 abbrev pub AreBelow : List ℕ → (bound : ℕ) → Type 0
 AreBelow numbers bound = (i : ℕ) → i < length numbers → number_at numbers i < bound
 
--- Equal things have one number, and different ones two.
+-- Two things have the same number just where they are equal.
 pub record TellApart {A : Type 0} (thing : ℕ → A) (numbers : List ℕ) : Type 0 where
   pub same : (i j : ℕ) → i < length numbers → j < length numbers → number_at numbers i ≡ number_at numbers j → thing i ≡ thing j
   pub equal : (i j : ℕ) → i < length numbers → j < length numbers → thing i ≡ thing j → number_at numbers i ≡ number_at numbers j
 
--- As many things have these numbers: equal ones have one, and different ones two. A thing that is new gets the next one.
+-- There are n numbers. Two things have the same number just where they are equal, and a thing that no earlier one equals has the
+-- next number.
 pub record AreNumbered {A : Type 0} (thing : ℕ → A) (count : ℕ) (numbers : List ℕ) : Type 0 where
   pub long : length numbers ≡ count
   pub same : (i j : ℕ) → i < length numbers → j < length numbers → number_at numbers i ≡ number_at numbers j → thing i ≡ thing j
   pub equal : (i j : ℕ) → i < length numbers → j < length numbers → thing i ≡ thing j → number_at numbers i ≡ number_at numbers j
   pub next : (i : ℕ) → i < length numbers → number_at numbers i ≤ entries_of (take i numbers)
 
--- The first things have these numbers, each the place of its entry, and there are as many entries as the numbers say.
+-- The numbers of first things: each is the place of its entry, and the last entry has the greatest number.
 pub record AreCounted (firsts numbers entries : List ℕ) : Type 0 where
   pub numbered : AreNumbered (number_at firsts) (length numbers) numbers
   pub each : (i : ℕ) → i < length numbers → slice_get entries (number_at numbers i) ≡ Some (number_at firsts i)

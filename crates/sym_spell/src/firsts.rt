@@ -1,4 +1,4 @@
-// The first of things that are equal.
+// The first among equal nodes.
 #![tactic(auto)]
 
 ghost use Rattle.std.specs.Prelude.{◌≡◌, ℕ, Some, None, cond, IfOk, IfErr};

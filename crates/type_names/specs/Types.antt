@@ -1,4 +1,4 @@
--- Names that are C++ types, as `typeid(x).name()` has them.
+-- Names that are C++ types, as `typeid(x).name()` gives them.
 use Rattle.std.specs.Prelude.{ℕ, List, ◌++◌, ◌-◌, length, take, drop, Bool, not, ◌==◌, ◌&&◌, nat_eq, nat_le, Option, None, Result, Ok, Err, codes, if◌then◌else◌}
 use Rattle.std.specs.Cmp.Lexicographic.{pointwise}
 use Rattle.std.specs.List.{list_all}
@@ -19,16 +19,16 @@ is_type_byte byte = is_byte_of Any byte && not (byte == 46)
 abbrev pub is_type_word : List ℕ → Bool
 is_type_word name = nat_le (length name) LONGEST_WORD && list_all is_type_byte name
 
--- what the text of a type's information begins with
+-- what the text of a typeinfo symbol begins with
 abbrev pub information_words : List ℕ
 information_words = codes "typeinfo for "
 
--- what follows on these words
+-- what follows these words
 abbrev pub after_words : List ℕ → Result (List ℕ) Refusal
 after_words text =
     if pointwise nat_eq (take (length information_words) text) information_words then Ok (drop (length information_words) text) else Err (Malformed 0)
 
--- a refusal of a symbol, with its place in what follows on the symbol's first four bytes
+-- a refusal of a typeinfo symbol, with its place in the name, which follows the four bytes of _ZTI
 abbrev pub before_front : Refusal → Refusal
 before_front (Malformed at) = Malformed (at - 4)
 before_front (BadReference at) = BadReference (at - 4)
@@ -36,14 +36,13 @@ before_front (BadValue at) = BadValue (at - 4)
 before_front TooLong = TooLong
 before_front Memory = Memory
 
--- what a type has, by the answer for the symbol of its information
+-- the answer for a type, by that for its typeinfo symbol
 abbrev pub type_by : Result (List ℕ) Refusal → Result (List ℕ) Refusal
 type_by (Ok text) = after_words text
 type_by (Err refusal) = Err (before_front refusal)
 
--- The text of a type: that of the symbol of its information without the words that this begins with; or why it has none, which
--- is why that symbol has none. A type's limit and references are those of that symbol, and its places are counted from its own
--- first byte.
+-- The text of a type: that of its typeinfo symbol without the words at its front. Where that symbol is refused, the type is refused
+-- for the same reason, at a place that is counted from the type's own first byte. Limit and references are those of the symbol.
 abbrev pub type_answer : Answering → List ℕ → Result (List ℕ) Refusal
 type_answer answers name = type_by (answers (record { lang = Cpp; skip = 0 }) (codes "_ZTI" ++ name))
 
@@ -51,6 +50,6 @@ type_answer answers name = type_by (answers (record { lang = Cpp; skip = 0 }) (c
 abbrev pub type_text : Answering → List ℕ → Option (List ℕ)
 type_text answers name = result_ok (type_answer answers name)
 
--- the text of the type that a name is, where types are read and it is one
+-- the text of a name as a type, where types are read and it is one
 unfoldable pub type_for : (types : Bool) → Answering → List ℕ → Option (List ℕ)
 type_for types answers name = if types && is_type_word name then type_text answers name else None

@@ -1,5 +1,5 @@
-//! Names that are C++ types, as `typeid(x).name()` has them: the texts of the symbols of their information, without the words
-//! that these begin with.
+//! Names that are C++ types, as `typeid(x).name()` gives them. The text of a type is that of its typeinfo symbol (`_ZTI` and the
+//! name) without the words `typeinfo for`.
 #![tactic(auto)]
 
 ghost use Rattle.std.specs.Prelude.{◌≡◌, ◌≤◌, ◌&&◌, length, option_map, IfOk};
@@ -14,13 +14,13 @@ use sym_filter::kinds::LONGEST_WORD;
 use sym_filter::words::is_byte_of;
 use sym_filter::{Demangler, Kind, Lang, Letters};
 
-/// What the symbol of a type's information begins with.
+/// What a typeinfo symbol begins with.
 const INFORMATION: &[u8] = b"_ZTI";
 
-/// What the text of that symbol begins with.
+/// What the text of a typeinfo symbol begins with.
 const INFORMATION_WORDS: &[u8] = b"typeinfo for ";
 
-/// The text of the type that a name is, where types are read and it is one.
+/// The text of a name as a type, where types are read and it is one.
 ///
 /// # Errors
 ///
@@ -66,11 +66,11 @@ fn type_text<D: Demangler>(
     }
 }
 
-/// Appends the text of a type, where the symbol of its information has one, else nothing.
+/// Appends the text of a type, where its typeinfo symbol has one, else nothing.
 ///
 /// # Errors
 ///
-/// Why the type has no text, with places in the name. Want of memory may refuse any type.
+/// The reason why the type has no text, with a place in the name. Any type may be refused for want of memory.
 pub fn append_type<D: Demangler>(
     alloc: Global,
     demangler: &D,
@@ -94,7 +94,7 @@ pub fn append_type<D: Demangler>(
     }
 }
 
-/// A refusal of a symbol, with its place in what follows on the bytes of `_ZTI`.
+/// A refusal of a typeinfo symbol, with its place in the name, which follows `_ZTI`.
 fn before_front(refusal: Refusal) -> Refusal
     ensures { result ≡ before_front refusal }
 {
@@ -113,7 +113,7 @@ fn before_front(refusal: Refusal) -> Refusal
     }
 }
 
-/// Whether a name can be a type: it is no longer than a word, and has only the letters of words, without a dot.
+/// Whether a name can be a type: it is no longer than a word, and each of its bytes may be in a word and is no dot.
 pub fn is_type_word(name: &[u8]) -> bool
     ensures { result ≡ is_type_word name.now }
 {
@@ -134,7 +134,7 @@ fn is_type_byte(byte: u8) -> bool
     is_byte_of(Letters::Any, byte) && byte != b'.'
 }
 
-/// Appends the text of a type, taken from that of its information.
+/// Appends the text of a type, taken from that of its typeinfo symbol.
 fn append_after_words(text: &[u8], out: &mut Vec<u8>) -> Result<(), Refusal>
     ensures { IsAppended (after_words text.now) out.old.items out.new.items result }
 {
