@@ -7,7 +7,7 @@ use Rattle.sym_print.specs.Answer.{text_within}
 use Rattle.rust_legacy.specs.Path.{Path, legacy_of}
 use Rattle.rust_legacy.specs.Tokens.{texts_of, bare_name}
 
--- a name: the text of its first token, and the item of those after it, where there are any
+-- the parts of a name: the text of its first token, and an item of the tokens after it, where there are any
 abbrev pub name_parts : (texts : List (List ℕ)) → Unshared
 name_parts [] = done
 name_parts (text ∷ []) = bytes text done
@@ -16,7 +16,7 @@ name_parts (text ∷ next ∷ rest) = bytes text (item (name_parts (next ∷ res
 abbrev pub shown_name : List ℕ → Unshared
 shown_name name = name_parts (texts_of (bare_name name))
 
--- names, the first after a text: that, its item, and the item of the names after it, each of them after ::
+-- the parts of names: what precedes the first name, its item, and an item of the names after it, where there are any, each after ::
 abbrev pub names_parts : (front : List ℕ) → List (List ℕ) → Unshared
 names_parts front [] = done
 names_parts front (name ∷ []) = front then item (shown_name name) done
@@ -26,12 +26,12 @@ names_parts front (name ∷ next ∷ rest) = front then item (shown_name name) (
 abbrev pub front_at : (at : ℕ) → List ℕ
 front_at at = if nat_le at 3 then [] else codes "::"
 
--- a suffix is in brackets
+-- the parts of a suffix: its bytes, in brackets
 abbrev pub suffix_parts : List ℕ → Unshared
 suffix_parts [] = done
 suffix_parts (byte ∷ rest) = bytes (codes " (") (bytes (byte ∷ rest) (bytes (codes ")") done))
 
--- a path: the item of its names, and its suffix
+-- the parts of a path: an item of its names, and its suffix
 abbrev pub shown_path : Path → Unshared
 shown_path path = item (names_parts [] path.names) (suffix_parts path.suffix)
 

@@ -48,8 +48,8 @@ abbrev pub or_all : List ℕ → Option Token → Token
 or_all bytes None = record { text = bytes; size = length bytes }
 or_all bytes (Some token) = token
 
--- the first token of bytes: two dots denote ::, one dot itself, an escape its character, and other bytes up to a dot or dollar
--- themselves
+-- the first token of bytes: two dots denote ::, one dot denotes itself, and an escape denotes its character; any other token is the
+-- bytes up to the next dot or dollar, which denote themselves
 abbrev pub token_of : List ℕ → Token
 token_of bytes =
     if begins_with (codes "..") bytes then record { text = codes "::"; size = 2 }

@@ -1,4 +1,4 @@
-//! Legacy Rust names: which symbols are, and the path that each denotes.
+//! Rust's legacy names: which symbols are legacy names, and which path each of them denotes.
 #![tactic(auto)]
 
 mod escapes;

@@ -224,10 +224,10 @@ fn ended(s: &[u8], hash: usize, at: usize) -> Option<PathPlace>
 }
 
 /// Where the names of a symbol are, by their lengths only, if they can be those of a legacy name, and how many turns that took:
-/// one for each name, and one for each digit of its length. Other symbols pay for this and no more.
+/// one for each name, and one for each digit of its length. A symbol that is no legacy name costs no more than this.
 // 53 instructions a C++ symbol, on average over 20,000. Fixed places from the end can't be tested instead: a suffix is of any
-// length and ends in any byte. The turns are counted so that a clause can bound them: where the call is inlined, a count that
-// nobody reads is no instruction.
+// length and ends in any byte. The turns are counted so that a clause can bound them; where the call is inlined, a count that
+// nobody reads takes no instruction.
 #[inline(always)]
 pub fn names_of(symbol: &[u8]) -> (Option<PathPlace>, usize)
     ensures place { MatchOption result.0 (legacy_of symbol.now ≡ None) (AreRead symbol.now) }
