@@ -61,10 +61,13 @@ impl Layout for Symbol {
     }
 
     #[inline(always)]
-    fn is_same(&self, _one: &Item<Context>, _other: &Item<Context>) -> bool
-        ensures { result ≡ true → _one.now ≡ _other.now }
+    fn is_same(&self, one: &Item<Context>, other: &Item<Context>) -> bool
+        ensures { result ≡ true → one.now ≡ other.now }
     {
-        false
+        one.node == other.node
+            && one.form == other.form
+            && one.at == other.at
+            && one.ctx == other.ctx
     }
 
     #[inline(always)]

@@ -171,6 +171,15 @@ module _ {C : Type 0} (unshared : Item C → Unshared) (bytes_of : Part C → Li
     nested = h.nested;
   }
 
+  -- the notes hold where no other note was made
+  pub noted-same : (old new : Notes C) (stack : List (Part C)) (text : List ℕ) (spent taken : ℕ) → new.known ≡ old.known → new.begun ≡ old.begun
+      → AreNoted unshared bytes_of old stack text spent taken → AreNoted unshared bytes_of new stack text spent taken
+  noted-same old new stack text spent taken known begun h = record {
+    known = All-same (IsNote unshared text) new.known.items old.known.items (ap (λ k. k.items) known) h.known;
+    begun = All-same (IsBegun unshared bytes_of stack text spent taken) new.begun.items old.begun.items (ap (λ b. b.items) begun) h.begun;
+    nested = subst (λ b. AreNested 0 b.items) (sym begun) h.nested;
+  }
+
   -- the innermost item that is being written isn't whole, nor is any
   pub noted-unmet : (notes : Notes C) (stack : List (Part C)) (text : List ℕ) (spent taken height : ℕ) → AreNoted unshared bytes_of notes stack text spent taken
       → height ≡ length stack → (EndsAt height notes.begun.items → ⊥) → AreBelow (length stack) notes.begun.items

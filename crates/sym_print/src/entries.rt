@@ -16,6 +16,12 @@ use crate::notes::{Begun, Note, Notes};
 use std::alloc::AllocError;
 use sym_core::Refusal;
 
+/// What a text may cost, whatever its symbol, before it is dear.
+const CHEAP_TEXT: u32 = 1024;
+
+/// What more it may cost for each node of its symbol.
+const CHEAP_NODE: u32 = 64;
+
 /// Adds bytes to a text. Up to three are added one at a time, which is faster than a copy.
 #[inline(always)]
 fn append(text: &mut Vec<u8>, bytes: &[u8]) -> Result<(), AllocError>
@@ -242,49 +248,51 @@ fn write_again<Y: Layout>(
 
 /// Notes the innermost item that is being written, which is whole.
 fn note_whole<Y: Layout>(
-    _y: &Y,
+    y: &Y,
     _stack: &Vec<Part<Y::Ctx>>,
     text: &Vec<u8>,
     notes: &mut Notes<Y::Ctx>,
     meter: &Meter,
+    is_dear: bool,
 )
-    requires noted { AreNoted (Y.unshared _y.now) (Y.bytes_of _y.now) notes.old _stack.now.items text.now.items meter.now.spent meter.now.steps }
+    requires noted { AreNoted (Y.unshared y.now) (Y.bytes_of y.now) notes.old _stack.now.items text.now.items meter.now.spent meter.now.steps }
     requires whole { EndsAt (length _stack.now.items) notes.old.begun.items }
     requires paid { vec_len text.now ≤ meter.now.spent }
-    ensures noted { AreNoted (Y.unshared _y.now) (Y.bytes_of _y.now) notes.new _stack.now.items text.now.items meter.now.spent meter.now.steps }
+    ensures noted { AreNoted (Y.unshared y.now) (Y.bytes_of y.now) notes.new _stack.now.items text.now.items meter.now.spent meter.now.steps }
     ensures fewer { vec_len notes.new.begun + 1 ≡ vec_len notes.old.begun }
 {
     if let Some(begun) = notes.begun.pop() {
-        notes.add(Note {
+        let note = Note {
             item: begun.item,
             from: begun.from,
             to: text.len() as u32,
             cost: meter.spent - begun.spent,
             steps: meter.steps - begun.steps,
-        });
+        };
+        notes.add(y, note, is_dear);
     }
 }
 
 /// Notes that the next entry, an item, is being written, if it is one to be noted.
 #[inline(always)]
 fn begin_item<Y: Layout>(
-    y: &Y,
+    _y: &Y,
     item: Item<Y::Ctx>,
     stack: &Vec<Part<Y::Ctx>>,
     text: &Vec<u8>,
     notes: &mut Notes<Y::Ctx>,
     meter: &Meter,
+    is_noted: bool,
 )
     requires next { IsNext stack.now.items (Part.Sub item) }
-    requires may_come { All (Y.may_come y.now) stack.now.items }
-    requires noted { AreNoted (Y.unshared y.now) (Y.bytes_of y.now) notes.old stack.now.items text.now.items meter.now.spent meter.now.steps }
+    requires noted { AreNoted (Y.unshared _y.now) (Y.bytes_of _y.now) notes.old stack.now.items text.now.items meter.now.spent meter.now.steps }
     requires below { AreBelow (length stack.now.items) notes.old.begun.items }
     requires paid { vec_len text.now ≤ meter.now.spent }
-    ensures noted { AreNoted (Y.unshared y.now) (Y.bytes_of y.now) notes.new stack.now.items text.now.items meter.now.spent meter.now.steps }
+    ensures noted { AreNoted (Y.unshared _y.now) (Y.bytes_of _y.now) notes.new stack.now.items text.now.items meter.now.spent meter.now.steps }
     ensures below { AreBelow (length stack.now.items) notes.new.begun.items }
     ensures few { vec_len notes.new.begun ≤ vec_len notes.old.begun + 1 }
 {
-    if y.is_noted(item) {
+    if is_noted {
         notes.begin(Begun {
             item,
             below: stack.len() - 1,
@@ -304,6 +312,7 @@ fn print_item<Y: Layout>(
     text: &mut Vec<u8>,
     notes: &mut Notes<Y::Ctx>,
     meter: &mut Meter,
+    is_dear: bool,
 ) -> Result<(), Refusal>
     requires next { IsNext stack.old.items (Part.Sub item) }
     requires may_come { All (Y.may_come y.now) stack.old.items }
@@ -327,17 +336,81 @@ fn print_item<Y: Layout>(
     ensures too_long { result ≡ Err Refusal.TooLong → meter.old.limit < meter.old.spent + cost_of_stack (Y.unshared y.now) (Y.bytes_of y.now) stack.old.items }
     ensures memory { result ≡ Err Refusal.Memory → (vec_capacity stack.old < 8 * (meter.old.limit + 1)) ⊎ (vec_capacity text.old < meter.old.limit) }
 {
-    if let Some(note) = notes.get(y, item) {
-        write_again(y, note, stack, text, meter)?;
-        return Ok(());
+    let is_noted = notes.are_for(y, item, is_dear);
+    if is_noted {
+        if let Some(note) = notes.get(y, item, is_dear) {
+            write_again(y, note, stack, text, meter)?;
+            return Ok(());
+        }
     }
-    begin_item(y, item, stack, text, notes, meter);
+    begin_item(y, item, stack, text, notes, meter, is_noted);
+    let below = stack.len() - 1;
     open_item(y, item, stack, meter)?;
+    notes.look(&item, meter.spent, stack, below, is_dear);
     Ok(())
 }
 
-/// Takes entries until none is left.
+/// Takes entries until none is left. In a dear text each item that comes again is noted.
 pub(crate) fn print_entries<Y: Layout>(
+    y: &Y,
+    stack: &mut Vec<Part<Y::Ctx>>,
+    text: &mut Vec<u8>,
+    notes: &mut Notes<Y::Ctx>,
+    meter: &mut Meter,
+    is_dear: bool,
+) -> Result<(), Refusal>
+    requires may_come { All (Y.may_come y.now) stack.old.items }
+    requires paid { vec_len text.old ≤ meter.old.spent }
+    requires stack_paid { vec_len stack.old ≤ 7 * meter.old.spent + 1 }
+    ensures paid { vec_len text.new ≤ meter.new.spent }
+    ensures stack_paid { vec_len stack.new ≤ 7 * meter.new.spent + 1 }
+    ensures may_come { All (Y.may_come y.now) stack.new.items }
+    ensures text { text.new.items ++ text_of_stack (Y.unshared y.now) (Y.bytes_of y.now) stack.new.items ≡ text.old.items ++ text_of_stack (Y.unshared y.now) (Y.bytes_of y.now) stack.old.items }
+    ensures cost { meter.new.spent + cost_of_stack (Y.unshared y.now) (Y.bytes_of y.now) stack.new.items ≡ meter.old.spent + cost_of_stack (Y.unshared y.now) (Y.bytes_of y.now) stack.old.items }
+    ensures steps { meter.new.steps + steps_of_stack (Y.unshared y.now) (Y.bytes_of y.now) stack.new.items ≡ meter.old.steps + steps_of_stack (Y.unshared y.now) (Y.bytes_of y.now) stack.old.items }
+    ensures limit { meter.new.limit ≡ meter.old.limit }
+    ensures entry_room { vec_capacity stack.old ≤ vec_capacity stack.new }
+    ensures own { IfErr result (λ r. (r ≡ Refusal.TooLong) ⊎ (r ≡ Refusal.Memory)) }
+    ensures text_room { vec_capacity text.old ≤ vec_capacity text.new }
+    ensures done { OnOk result (stack.new.items ≡ []) }
+    ensures too_long { result ≡ Err Refusal.TooLong → meter.old.limit < meter.old.spent + cost_of_stack (Y.unshared y.now) (Y.bytes_of y.now) stack.old.items }
+    ensures memory { result ≡ Err Refusal.Memory → (vec_capacity stack.old < 8 * (meter.old.limit + 1)) ⊎ (vec_capacity text.old < meter.old.limit) }
+{
+    notes.clear();
+    while let Some(next) = stack.last() {
+        if notes.is_whole(stack.len()) {
+            note_whole(y, stack, text, notes, meter, is_dear);
+            continue;
+        }
+        match next {
+            Part::Sub(item) => {
+                let item = *item;
+                print_item(y, item, stack, text, notes, meter, is_dear)?;
+            }
+            _ => {
+                write_text(y, next, text, meter)?;
+                stack.take_last();
+            }
+        }
+    }
+    Ok(())
+}
+
+/// What the text of a stack may cost before it is dear: some for each node, whose number is at most that of the last entry, the
+/// whole symbol's, where nothing was taken yet.
+fn cheap_cost<C: Copy>(stack: &[Part<C>]) -> u32 {
+    match stack {
+        [.., Part::Sub(item)] => item
+            .node
+            .saturating_mul(CHEAP_NODE)
+            .saturating_add(CHEAP_TEXT),
+        _ => CHEAP_TEXT,
+    }
+}
+
+/// Takes entries until none is left: first as those of a cheap text, and where that was too little, but more may be spent, as
+/// those of a dear one.
+pub(crate) fn print_stack<Y: Layout>(
     y: &Y,
     stack: &mut Vec<Part<Y::Ctx>>,
     text: &mut Vec<u8>,
@@ -361,22 +434,14 @@ pub(crate) fn print_entries<Y: Layout>(
     ensures too_long { result ≡ Err Refusal.TooLong → meter.old.limit < meter.old.spent + cost_of_stack (Y.unshared y.now) (Y.bytes_of y.now) stack.old.items }
     ensures memory { result ≡ Err Refusal.Memory → (vec_capacity stack.old < 8 * (meter.old.limit + 1)) ⊎ (vec_capacity text.old < meter.old.limit) }
 {
-    notes.clear();
-    while let Some(next) = stack.last() {
-        if notes.is_whole(stack.len()) {
-            note_whole(y, stack, text, notes, meter);
-            continue;
-        }
-        match next {
-            Part::Sub(item) => {
-                let item = *item;
-                print_item(y, item, stack, text, notes, meter)?;
-            }
-            _ => {
-                write_text(y, next, text, meter)?;
-                stack.take_last();
-            }
-        }
+    let mut cheap = meter.for_at_most(cheap_cost(stack));
+    let outcome = print_entries(y, stack, text, notes, &mut cheap, false);
+    meter.follow(&cheap);
+    if cheap.limit == meter.limit {
+        return outcome;
     }
-    Ok(())
+    match outcome {
+        Err(Refusal::TooLong) => print_entries(y, stack, text, notes, meter, true),
+        _ => outcome,
+    }
 }

@@ -8,6 +8,7 @@ mod meter;
 mod notes;
 mod part_list;
 mod printer;
+mod sharing;
 
 pub use detail::Detail;
 pub use layout::{Item, Layout, Part};

@@ -28,6 +28,34 @@ impl Meter {
         }
     }
 
+    /// The same, with a limit by which at most `more` is spent, and not more than by the limit of its own.
+    pub(crate) fn for_at_most(&self, more: u32) -> Meter
+        ensures spent { result.spent ≡ self.now.spent }
+        ensures limit { result.limit ≤ self.now.limit }
+        ensures steps { result.steps ≡ self.now.steps }
+    {
+        let limit = self.spent.saturating_add(more);
+        Meter {
+            spent: self.spent,
+            limit: if limit < self.limit { limit } else { self.limit },
+            steps: self.steps,
+        }
+    }
+
+    /// Has spent what another meter has, in as many steps.
+    pub(crate) fn follow(&mut self, other: &Meter)
+        requires within { other.now.spent ≤ self.old.limit }
+        ensures spent { self.new.spent ≡ other.now.spent }
+        ensures limit { self.new.limit ≡ self.old.limit }
+        ensures steps { self.new.steps ≡ other.now.steps }
+    {
+        *self = Meter {
+            spent: other.spent,
+            limit: self.limit,
+            steps: other.steps,
+        };
+    }
+
     /// Whether `cost` can still be spent.
     pub(crate) fn affords(&self, cost: usize) -> bool
         ensures { result ≡ nat_le (self.now.spent + cost) self.now.limit }

@@ -9,7 +9,7 @@ ghost use Rattle.sym_print.specs.Progress.{counted};
 ghost use Rattle.sym_print.specs.declared.layout.Part.{Part};
 ghost use Rattle.sym_core.specs.declared.Refusal.{Refusal};
 
-use crate::entries::{open_item, print_entries, print_text};
+use crate::entries::{open_item, print_stack, print_text};
 use crate::layout::{Item, Layout, Part};
 use crate::meter::Meter;
 use crate::notes::Notes;
@@ -186,7 +186,7 @@ impl<C: Copy> Printer<C> {
         if let Some(refusal) = self.refusal {
             return Err(refusal);
         }
-        let outcome = print_entries(
+        let outcome = print_stack(
             y,
             &mut self.stack,
             &mut self.text,

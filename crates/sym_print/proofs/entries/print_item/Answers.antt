@@ -6,7 +6,7 @@ use Rattle.sym_core.specs.declared.Refusal.TheVariants.{TooLong}
 use Rattle.sym_print.specs.declared.layout.Part.TheVariants.{Sub}
 use Rattle.sym_print.specs.Noted.{IsNote}
 use Rattle.sym_print.proofs.Stack.{cost_of_next}
-use Rattle.sym_print.proofs.Noting.{moves-again, moves-parts, text-moved, cost-moved, steps-moved, noted-moved, again-paid, again-too-dear}
+use Rattle.sym_print.proofs.Noting.{moves-again, moves-parts, text-moved, cost-moved, steps-moved, noted-moved, noted-same, again-paid, again-too-dear}
 use Rattle.sym_print.proofs.entries.print_item.Goals as goal
 
 pub returns-in-Some-clause-text : goal.returns-in-Some-clause-text
@@ -70,8 +70,10 @@ pub returns-clause-noted : goal.returns-clause-noted
 returns-clause-noted g c =
     let moves = moves-parts (g.Y.Layout.unshared c.args.y.now) (g.Y.Layout.bytes_of c.args.y.now) (g.Y.Layout.may_come c.args.y.now) c.args.stack.now.items c.open_item.new.stack.items c.args.item c.args.text.now.items
     c.args.meter.now.spent c.open_item.new.meter.spent c.args.meter.now.steps c.open_item.new.meter.steps c.requires.next c.in_ok-open_item.ensures.parts c.in_ok-open_item.ensures.spent c.in_ok-open_item.ensures.steps in
-    noted-moved (g.Y.Layout.unshared c.args.y.now) (g.Y.Layout.bytes_of c.args.y.now) c.begin_item.new.notes c.args.stack.now.items c.open_item.new.stack.items c.args.text.now.items c.args.text.now.items
-    c.args.meter.now.spent c.open_item.new.meter.spent c.args.meter.now.steps c.open_item.new.meter.steps moves c.begin_item.ensures.below c.begin_item.ensures.noted
+    noted-same (g.Y.Layout.unshared c.args.y.now) (g.Y.Layout.bytes_of c.args.y.now) c.begin_item.new.notes c.look.new.self c.open_item.new.stack.items c.args.text.now.items
+    c.open_item.new.meter.spent c.open_item.new.meter.steps c.look.ensures.known c.look.ensures.begun
+    (noted-moved (g.Y.Layout.unshared c.args.y.now) (g.Y.Layout.bytes_of c.args.y.now) c.begin_item.new.notes c.args.stack.now.items c.open_item.new.stack.items c.args.text.now.items c.args.text.now.items
+    c.args.meter.now.spent c.open_item.new.meter.spent c.args.meter.now.steps c.open_item.new.meter.steps moves c.begin_item.ensures.below c.begin_item.ensures.noted)
 
 pub returns-in_err-open_item-clause-too_long : goal.returns-in_err-open_item-clause-too_long
 returns-in_err-open_item-clause-too_long g c same =

@@ -32,19 +32,19 @@ pub returns-in-Some-clause-counted : goal.returns-in-Some-clause-counted
 returns-in-Some-clause-counted g c = tt
 
 pub returns-clause-may_come : goal.returns-clause-may_come
-returns-clause-may_come g c = c.print_entries-outcome.ensures.may_come
+returns-clause-may_come g c = c.print_stack-outcome.ensures.may_come
 
 pub returns-clause-text : goal.returns-clause-text
-returns-clause-text g c = c.print_entries-outcome.ensures.text
+returns-clause-text g c = c.print_stack-outcome.ensures.text
 
 pub returns-clause-cost : goal.returns-clause-cost
-returns-clause-cost g c = c.print_entries-outcome.ensures.cost
+returns-clause-cost g c = c.print_stack-outcome.ensures.cost
 
 pub returns-clause-limit : goal.returns-clause-limit
-returns-clause-limit g c = c.print_entries-outcome.ensures.limit
+returns-clause-limit g c = c.print_stack-outcome.ensures.limit
 
 pub returns-clause-entry_room : goal.returns-clause-entry_room
-returns-clause-entry_room g c = c.print_entries-outcome.ensures.entry_room
+returns-clause-entry_room g c = c.print_stack-outcome.ensures.entry_room
 
 pub returns-clause-text_room : goal.returns-clause-text_room
-returns-clause-text_room g c = c.print_entries-outcome.ensures.text_room
+returns-clause-text_room g c = c.print_stack-outcome.ensures.text_room
