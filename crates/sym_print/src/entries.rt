@@ -198,17 +198,12 @@ pub(crate) fn print_text<Y: Layout>(
 fn append_again(text: &mut Vec<u8>, from: usize, to: usize) -> Result<(), AllocError>
     requires from { from ≤ to }
     requires to { to ≤ length text.old.items }
-    requires fits { length text.old.items + (to - from) ≤ 4294967295 }
     ensures items { OnOk result (text.new.items ≡ text.old.items ++ take (to - from) (drop from text.old.items)) }
     ensures same { OnErr result (text.new.items ≡ text.old.items) }
     ensures capacity { vec_capacity text.old ≤ vec_capacity text.new }
     ensures full { OnErr result (vec_capacity text.old < vec_len text.old + (to - from)) }
 {
-    let end = text.len();
-    text.resize(end + (to - from), 0)?;
-    let (written, copied) = text.split_at_mut(end);
-    copied.copy_from_slice(&written[from..to]);
-    Ok(())
+    text.extend_from_within(from..to)
 }
 
 /// Writes the text of the next entry, an item that is noted, again, and takes it from the stack.
@@ -434,14 +429,21 @@ pub(crate) fn print_stack<Y: Layout>(
     ensures too_long { result ≡ Err Refusal.TooLong → meter.old.limit < meter.old.spent + cost_of_stack (Y.unshared y.now) (Y.bytes_of y.now) stack.old.items }
     ensures memory { result ≡ Err Refusal.Memory → (vec_capacity stack.old < 8 * (meter.old.limit + 1)) ⊎ (vec_capacity text.old < meter.old.limit) }
 {
-    let mut cheap = meter.for_at_most(cheap_cost(stack));
-    let outcome = print_entries(y, stack, text, notes, &mut cheap, false);
-    meter.follow(&cheap);
-    if cheap.limit == meter.limit {
-        return outcome;
-    }
-    match outcome {
-        Err(Refusal::TooLong) => print_entries(y, stack, text, notes, meter, true),
-        _ => outcome,
+    let mut is_dear = false;
+    'parts: loop {
+        let mut part = if is_dear {
+            *meter
+        } else {
+            meter.for_at_most(cheap_cost(stack))
+        };
+        let outcome = print_entries(y, stack, text, notes, &mut part, is_dear);
+        meter.follow(&part);
+        if is_dear || part.limit == meter.limit {
+            return outcome;
+        }
+        match outcome {
+            Err(Refusal::TooLong) => is_dear = true,
+            _ => return outcome,
+        }
     }
 }

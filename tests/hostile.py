@@ -1,0 +1,124 @@
+#!/usr/bin/env python3
+"""Filters words whose texts double with each part, and compares the times with and without a low limit.
+
+    tests/hostile.py DEMANGLE
+
+Each word has 100 to 400 bytes and denotes a text of more than a million, or of some ten thousands. A program that prints up to
+the limit before it refuses takes a hundred times as long at the default limit as at one of 5,000; it may take eight times. The
+words of packs, whose texts repeat nothing, may take as long as their texts are.
+"""
+import resource
+import subprocess
+import sys
+
+MOST = 8.0
+RUNS = 5
+WORDS = 40
+LOW = "5000"
+DIGITS = "0123456789abcdefghijklmnopqrstuvwxyzABCDEFGHIJKLMNOPQRSTUVWXYZ"
+
+
+def reference(place):
+    """A back reference of Rust."""
+    if place == 0:
+        return "B_"
+    place -= 1
+    text = ""
+    while True:
+        text = DIGITS[place % 62] + text
+        place //= 62
+        if place == 0:
+            return f"B{text}_"
+
+
+def substitution(number):
+    """A substitution of C++."""
+    upper = DIGITS[:10] + DIGITS[36:]
+    if number == 0:
+        return "S_"
+    number -= 1
+    text = ""
+    while True:
+        text = upper[number % 36] + text
+        number //= 36
+        if number == 0:
+            return f"S{text}_"
+
+
+def cpp_word(begins, first, wraps, levels):
+    """A C++ function of types, each made of the one before: `wraps` says how, and how many candidates it is."""
+    text, number = "_Z1f" + begins, first
+    for _ in range(levels):
+        more, candidates = wraps(substitution(number))
+        text += more
+        number += candidates
+    return text
+
+
+def rust_word(first, wraps, levels):
+    """An instance of a Rust function over types, each made of the one before."""
+    text = "_RINvC3foo3bar"
+    place = len(text) - 2
+    text += first
+    for _ in range(levels):
+        here = len(text) - 2
+        text += wraps(reference(place))
+        place = here
+    return text + "E"
+
+
+def families():
+    """The words by what doubles in them."""
+    return {
+        "templates": cpp_word("1AIiiE", 1, lambda that: (f"S_I{that}{that}E", 1), 38),
+        "functions": cpp_word("PFvvE", 1, lambda that: (f"PF{that}{that}E", 2), 16),
+        "functions of three": cpp_word("PFvvE", 1, lambda that: (f"PF{that}{that}{that}E", 2), 10),
+        "functions of five": cpp_word("PFvvE", 1, lambda that: (f"PF{that * 5}E", 2), 7),
+        "functions, const": cpp_word("PKPFvvE", 3, lambda that: (f"PKPF{that}{that}E", 4), 14),
+        "arrays": cpp_word("PA9_PFvvE", 3, lambda that: (f"PA9_PF{that}{that}E", 4), 17),
+        "members": cpp_word("M1AFvvE", 2, lambda that: (f"MS_F{that}{that}E", 2), 16),
+        "functions, shown": cpp_word("PFvvE", 1, lambda that: (f"PF{that}{that}E", 2), 11),
+        "tuples": rust_word("ThhE", lambda that: f"T{that}{that}E", 20),
+        "tuples of three": rust_word("ThhE", lambda that: f"T{that}{that}{that}E", 12),
+        "function pointers": rust_word("FhEh", lambda that: f"F{that}{that}Eu", 19),
+        "binders": rust_word("FG_hEh", lambda that: f"FG_{that}{that}{that}Eu", 12),
+        "lifetimes": rust_word("FG_RL0_hEu", lambda that: f"FG_RL0_h{that}{that}{that}Eu", 12),
+        "trait objects": rust_word("DINtC1a1bhhEEL_", lambda that: f"DINtC1a1b{that}{that}EEL_", 17),
+        "generic paths": rust_word("INvC1a1bhhE", lambda that: f"INvC1a1b{that}{that}E", 18),
+        "tuples, shown": rust_word("ThhE", lambda that: f"T{that}{that}E", 12),
+    }
+
+
+def seconds(program, options, text):
+    """The least processor time of some runs over the text."""
+    least = None
+    for _ in range(RUNS):
+        before = resource.getrusage(resource.RUSAGE_CHILDREN)
+        subprocess.run([program, *options], input=text, stdout=subprocess.DEVNULL, check=True)
+        after = resource.getrusage(resource.RUSAGE_CHILDREN)
+        took = after.ru_utime + after.ru_stime - before.ru_utime - before.ru_stime
+        least = took if least is None else min(least, took)
+    return least
+
+
+def main():
+    if len(sys.argv) != 2:
+        sys.exit(__doc__)
+    program = sys.argv[1]
+    slow = []
+    for name, word in families().items():
+        text = (word + "\n").encode() * WORDS
+        for options in ([], ["--brief"], ["-p"]):
+            whole = seconds(program, options, text)
+            low = seconds(program, [*options, "--limit", LOW], text)
+            times = whole / max(low, 4e-3)
+            if times > MOST:
+                slow.append(f"{name} {' '.join(options)}: {times:.0f} times".replace(" :", ":"))
+    for line in slow:
+        print(line)
+    print(f"{len(families())} words in three ways, {len(slow)} slow")
+    sys.exit(1 if slow else 0)
+
+
+if __name__ == "__main__":
+    main()
