@@ -52,7 +52,7 @@ impl Layout for Symbol {
         self.add_parts(stack, item);
     }
 
-    /// No item is noted: a part of a Rust symbol that comes again is mostly short.
+    /// No item is noted before the text is dear: a part of a Rust symbol that comes again is mostly short.
     #[inline(always)]
     fn is_noted(&self, _item: Item<Context>) -> bool
         requires may_come { MayCome self.now (Part.Sub _item) }

@@ -102,14 +102,15 @@ pub trait Layout {
         ensures not_empty { 0 < length result.now };
 
     /// Whether what an item prints is noted once it is written, and written again from there where the same item comes again.
-    /// Any answer is right: for most items the parts are as fast.
+    /// Any answer is right: for most items the parts are as fast. In a dear text the printer decides by itself.
     fn is_noted(&self, _item: Item<Self::Ctx>) -> bool
         requires may_come { may_come self.now (Part.Sub _item) }
     {
         false
     }
 
-    /// Whether two items are known to be the same one.
+    /// Whether two items are known to be the same one. Where this is false of all, a dear text is printed in as many steps as
+    /// it costs.
     fn is_same(&self, _one: &Item<Self::Ctx>, _other: &Item<Self::Ctx>) -> bool
         ensures { result ≡ true → _one.now ≡ _other.now }
     {

@@ -9,7 +9,7 @@ ghost use Rattle.sym_print.specs.declared.notes.Note.{Note};
 
 use crate::layout::{Item, Layout, Part};
 use crate::sharing::Sharing;
-use std::alloc::{AllocError, Global};
+use std::alloc::Global;
 
 /// How many texts are known at a time, of a text that isn't dear.
 const PLACES: usize = 64;
@@ -229,7 +229,10 @@ impl<C: Copy> Notes<C> {
         let Ok(number) = u32::try_from(self.known.len()) else {
             return;
         };
-        if spot.number < self.known.len() || self.make_room().is_err() {
+        if spot.number < self.known.len()
+            || self.known.reserve(1).is_err()
+            || self.forks.reserve(1).is_err()
+        {
             return;
         }
         self.lead(spot, number);
@@ -238,15 +241,6 @@ impl<C: Copy> Notes<C> {
             odd: NONE,
         });
         let _ = self.known.push(note);
-    }
-
-    /// Makes room for one more note.
-    fn make_room(&mut self) -> Result<(), AllocError>
-        ensures known { self.new.known.items ≡ self.old.known.items }
-        ensures begun { self.new.begun ≡ self.old.begun }
-    {
-        self.known.reserve(1)?;
-        self.forks.reserve(1)
     }
 
     /// Makes a spot the place of a note.

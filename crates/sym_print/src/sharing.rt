@@ -81,18 +81,14 @@ impl Sharing {
         }
         for part in parts {
             if let Part::Sub(below) = part {
-                if below.node != item.node {
-                    self.find(below.node, item.node, when);
+                self.reach(below.node);
+                match self.sights.get_mut(below.node as usize) {
+                    Some(sight) if below.node != item.node => {
+                        *sight = found_again(*sight, item.node, when);
+                    }
+                    _ => {}
                 }
             }
-        }
-    }
-
-    /// A node is found as a part of another.
-    fn find(&mut self, node: u32, parent: u32, when: u32) {
-        self.reach(node);
-        if let Some(sight) = self.sights.get_mut(node as usize) {
-            *sight = found_again(*sight, parent, when);
         }
     }
 
