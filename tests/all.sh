@@ -139,6 +139,7 @@ else
     leave allocations "of the library's calls: \`rt run\` in crates/check_rows builds the program that makes them"
 fi
 try colliding tests/colliding.py "$symfilt"
+try hostile tests/hostile.py "$demangle"
 try pressed tests/pressed.py "$symfilt"
 cargo=$(command -v cargo)
 if [ -n "$cargo" ] && nm "$cargo" 2>/dev/null | grep -q '_ZN.*17h[0-9a-f]\{16\}E'; then

@@ -4,8 +4,7 @@
     tests/hostile.py DEMANGLE
 
 Each word has 100 to 400 bytes and denotes a text of more than a million, or of some ten thousands. A program that prints up to
-the limit before it refuses takes a hundred times as long at the default limit as at one of 5,000; it may take eight times. The
-words of packs, whose texts repeat nothing, may take as long as their texts are.
+the limit before it refuses takes 26 to 74 times as long at the default limit as at one of 5,000; it may take eight times.
 """
 import resource
 import subprocess

@@ -18,7 +18,7 @@ const PLACES: usize = 64;
 const LEAST_NOTED: u32 = 12;
 
 /// How many notes are compared with an item at most: one for each bit of a key, and then those of other contexts.
-const MOST_COMPARED: u32 = 128;
+const MOST_COMPARED: u32 = 48;
 
 /// The number of no note.
 const NONE: u32 = 4294967295;
@@ -217,7 +217,7 @@ impl<C: Copy> Notes<C> {
         }
     }
 
-    /// Notes an item beside the others, if it is noted nowhere and costs enough.
+    /// Notes an item beside the others, if it costs enough. Where there are too many of its node none is noted any more.
     fn add_beside<Y: Layout<Ctx = C>>(&mut self, y: &Y, note: Note<C>)
         ensures known { All (λ n. (n ≡ note) ⊎ Contains self.old.known.items n) self.new.known.items }
         ensures begun { self.new.begun ≡ self.old.begun }
@@ -229,10 +229,11 @@ impl<C: Copy> Notes<C> {
         let Ok(number) = u32::try_from(self.known.len()) else {
             return;
         };
-        if spot.number < self.known.len()
-            || self.known.reserve(1).is_err()
-            || self.forks.reserve(1).is_err()
-        {
+        if spot.number < self.known.len() {
+            self.sharing.give_up(note.item.node);
+            return;
+        }
+        if self.known.reserve(1).is_err() || self.forks.reserve(1).is_err() {
             return;
         }
         self.lead(spot, number);

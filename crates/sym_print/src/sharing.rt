@@ -13,6 +13,8 @@ struct Sight {
     found: u32,
     /// Whether it is a part of another node too, or twice of the same.
     is_shared: bool,
+    /// Whether it comes in more contexts than are noted.
+    is_crowded: bool,
     /// A bit for each form.
     forms: u32,
 }
@@ -37,6 +39,7 @@ fn found_again(sight: Sight, parent: u32, when: u32) -> Sight {
         parent,
         found: when,
         is_shared: sight.is_shared || (!is_first && is_other),
+        is_crowded: sight.is_crowded,
         forms: sight.forms,
     }
 }
@@ -54,12 +57,19 @@ impl Sharing {
         self.sights.clear();
     }
 
-    /// Whether a node is known to be a part of more than one.
+    /// Whether a node is known to be a part of more than one, in not too many contexts.
     #[inline(always)]
     pub(crate) fn is_shared(&self, node: u32) -> bool {
         match self.sights.get(node as usize) {
-            Some(sight) => sight.is_shared,
+            Some(sight) => sight.is_shared && !sight.is_crowded,
             None => false,
+        }
+    }
+
+    /// Takes a node for one that comes in too many contexts.
+    pub(crate) fn give_up(&mut self, node: u32) {
+        if let Some(sight) = self.sights.get_mut(node as usize) {
+            sight.is_crowded = true;
         }
     }
 
@@ -98,6 +108,7 @@ impl Sharing {
             parent: 0,
             found: 0,
             is_shared: false,
+            is_crowded: false,
             forms: 0,
         };
         if self.sights.len() <= node as usize {
