@@ -198,12 +198,17 @@ pub(crate) fn print_text<Y: Layout>(
 fn append_again(text: &mut Vec<u8>, from: usize, to: usize) -> Result<(), AllocError>
     requires from { from ≤ to }
     requires to { to ≤ length text.old.items }
+    requires fits { length text.old.items + (to - from) ≤ 4294967295 }
     ensures items { OnOk result (text.new.items ≡ text.old.items ++ take (to - from) (drop from text.old.items)) }
     ensures same { OnErr result (text.new.items ≡ text.old.items) }
     ensures capacity { vec_capacity text.old ≤ vec_capacity text.new }
     ensures full { OnErr result (vec_capacity text.old < vec_len text.old + (to - from)) }
 {
-    text.extend_from_within(from..to)
+    let end = text.len();
+    text.resize(end + (to - from), 0)?;
+    let (written, copied) = text.split_at_mut(end);
+    copied.copy_from_slice(&written[from..to]);
+    Ok(())
 }
 
 /// Writes the text of the next entry, an item that is noted, again, and takes it from the stack.
@@ -346,6 +351,7 @@ fn print_item<Y: Layout>(
 }
 
 /// Takes entries until none is left. In a dear text each item that comes again is noted.
+#[inline(always)]
 pub(crate) fn print_entries<Y: Layout>(
     y: &Y,
     stack: &mut Vec<Part<Y::Ctx>>,
@@ -405,6 +411,7 @@ fn cheap_cost<C: Copy>(stack: &[Part<C>]) -> u32 {
 
 /// Takes entries until none is left: first as those of a cheap text, and where that was too little, but more may be spent, as
 /// those of a dear one.
+#[inline(always)]
 pub(crate) fn print_stack<Y: Layout>(
     y: &Y,
     stack: &mut Vec<Part<Y::Ctx>>,
