@@ -1,12 +1,42 @@
 // Where in a word the name of a symbol begins.
-ghost use Rattle.std.specs.Prelude.{◌≡◌, ◌≤◌, false, length, take, drop};
+ghost use Rattle.std.specs.Prelude.{◌≡◌, ◌≤◌, true, false, length, take, drop};
 ghost use Rattle.sym_filter.specs.Marks.{before_mark, begins_name, from_mark, front_length, is_mark, is_taken};
 
 use crate::kinds::{Kind, Lang, Letters, kind_by_beginning};
 use crate::places::{Place, Stretch, is_divider};
 
 /// Where in a word that is held from a place on the name of its first symbol begins, or where the word ends.
+#[inline(always)]
 pub(crate) fn mark_in(word: &[u8], place: Place) -> usize
+    ensures within { result ≤ length word.now }
+    ensures before { before_mark place word.now ≡ take result word.now }
+    ensures from { from_mark place word.now ≡ drop result word.now }
+{
+    if begins_with_name(place, word) {
+        return 0;
+    }
+    mark_behind(word, place)
+}
+
+/// Whether a word begins with the name of a symbol, by the two bytes with which most of these begin.
+#[inline(always)]
+fn begins_with_name(place: Place, word: &[u8]) -> bool
+    ensures { result ≡ true → from_mark place word.now ≡ word.now }
+{
+    match place.stretch {
+        Stretch::Empty => match word {
+            [b'_', b'Z', ..] => true,
+            [b'_', b'R', ..] => true,
+            _ => false,
+        },
+        Stretch::Section => false,
+        Stretch::Other => false,
+    }
+}
+
+/// The same as `mark_in`, of any word: each place of it is looked at.
+#[inline(never)]
+fn mark_behind(word: &[u8], place: Place) -> usize
     ensures within { result ≤ length word.now }
     ensures before { before_mark place word.now ≡ take result word.now }
     ensures from { from_mark place word.now ≡ drop result word.now }

@@ -426,7 +426,7 @@ impl Words {
     {
         let dots = self.dots;
         let at = mark_in(&self.held, self.place);
-        out.extend_from_slice(&self.held[..at])?;
+        push_front(out, &self.held[..at])?;
         let name = &self.held[at..];
         let left = if let Some(kind) = kind_of(name) {
             let has_text = push_tries(demangler, lists, name, kind, out)?;
@@ -441,6 +441,17 @@ impl Words {
         self.place = START;
         Ok(Ended { dots, left })
     }
+}
+
+/// Appends the bytes before the name of a symbol, which most often are none.
+#[inline(always)]
+fn push_front(out: &mut Vec<u8>, front: &[u8]) -> Result<(), AllocError>
+    ensures { OnOk result (out.new.items ≡ out.old.items ++ front.now) }
+{
+    if front.is_empty() {
+        return Ok(());
+    }
+    out.extend_from_slice(front)
 }
 
 /// How many bytes of a word are left: all where it has no text.

@@ -3,7 +3,7 @@ use Rattle.std.proofs.lemmas.List.{length-drop}
 use Rattle.sym_filter.specs.Marks.{from_mark}
 use Rattle.sym_filter.proofs.NameLemmas.{before_name, byte_before, name_there, no_name}
 use Rattle.sym_filter.proofs.WordLemmas.{slice_from}
-use Rattle.sym_filter.proofs.marks.mark_in.Goals as goal
+use Rattle.sym_filter.proofs.marks.mark_behind.Goals as goal
 
 pub bytes-preserved : goal.bytes-preserved
 bytes-preserved c =

@@ -1,6 +1,6 @@
 use Rattle.std.proofs.Common.{◌≡◌, ◌-◌, ◌≤◌, length, drop}
 use Rattle.sym_filter.specs.Marks.{from_mark}
-use Rattle.sym_filter.proofs.marks.mark_in.Given as goal
+use Rattle.sym_filter.proofs.marks.mark_behind.Given as goal
 
 abbrev pub invariant-bytes : goal.invariant-bytes
 invariant-bytes l = record {
