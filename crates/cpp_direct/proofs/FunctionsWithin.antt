@@ -86,13 +86,13 @@ name-opens s os around at st becomes expects then_ =
     }
 
 -- its types may name these arguments
-items-scoped : {s : Symbol} {encoding : ℕ} {becomes : Term → (at : ℕ) → State → Type 0} (argument : Arguments) (v : Value) (at : ℕ) (st : State)
+pub items-scoped : {s : Symbol} {encoding : ℕ} {becomes : Term → (at : ℕ) → State → Type 0} (argument : Arguments) (v : Value) (at : ℕ) (st : State)
     (p : ItemsOf s encoding becomes v at st) → HasScope argument p.around → ItemsGoOn s argument becomes (λ l. encoding_of v l) [] at st
 items-scoped argument v at st p scoped =
     record { around = p.around; inner = p.inner; outside = p.outside; scoped = scoped; awaits = p.awaits; onward = p.onward }
 
 -- its return type was read
-returned-first : {s : Symbol} {argument : Arguments} {becomes : Term → (at : ℕ) → State → Type 0} (make : Term → Term) (r : Term) (at : ℕ) (st : State)
+pub returned-first : {s : Symbol} {argument : Arguments} {becomes : Term → (at : ℕ) → State → Type 0} (make : Term → Term) (r : Term) (at : ℕ) (st : State)
     (p : ItemsGoOn s argument becomes make (r ∷ []) at st) → ItemsGoOn s argument becomes (λ l. make (list r l)) [] at st
 returned-first make r at st p =
     record { around = p.around; inner = p.inner; outside = p.outside; scoped = p.scoped; awaits = p.awaits; onward = p.onward }
@@ -100,7 +100,7 @@ returned-first make r at st p =
 -- ## Parameters
 
 -- no parameter is there yet
-abbrev led-by : (s : Symbol) (extra : ℕ) (mark : Mark) (own returned : Term) (make : Term → Term) (front name : List ℕ) → PrintsName (detail_of s) own name
+abbrev pub led-by : (s : Symbol) (extra : ℕ) (mark : Mark) (own returned : Term) (make : Term → Term) (front name : List ℕ) → PrintsName (detail_of s) own name
     → ((t rest : Term) → make (list t rest) ≡ function own (qualifiers (has_const mark)) (called_on mark) returned (parameters (list t rest)))
     → IsLedFunction (detail_of s) extra mark [] []
 led-by s extra mark own returned make front name prints makes = record {
@@ -181,7 +181,7 @@ next-led {s = s} {argument = argument} {Within = Within} w last p one stands sco
     (subst (λ n. ItemsGoOn s argument (Within p.scope p.rest p.front) p.make p.ts n p.state) (sym one.at) p.goes) stands scoped
 
 -- one is read
-led-read : {s : Symbol} {extra : ℕ} {mark : Mark} {argument : Arguments} {entry : Open} {Leads : LeadsSo} {Within : WithinOpen} {rest : List Open} (w : Direct) (os : List Opened)
+pub led-read : {s : Symbol} {extra : ℕ} {mark : Mark} {argument : Arguments} {entry : Open} {Leads : LeadsSo} {Within : WithinOpen} {rest : List Open} (w : Direct) (os : List Opened)
     (kept : Kept s w) (t : Term) (front bytes : List ℕ) → reverse w.waiting.list.items ≡ entry ∷ rest → w.text.list.items ≡ front ++ bytes → Comes s os (tree t true) w.at kept.state
     → (waits : AwaitsLed s extra mark argument (Leads kept.scope) (Within kept.scope rest) os front) → IsElementIn (detail_of s) (types_of waits.2.own) extra t bytes
     → IsLedParameterRead s w extra mark argument entry Leads Within
@@ -356,15 +356,15 @@ enclosing-opens s w a letter =
 -- a nested one is expected, after an N and the qualifiers of a member function
 pub nest-within : (s : Symbol) (old : Direct) (first second : ℕ) (place : MarkPlace) → AwaitsNamedType s old → StandsAt s.bytes old.at (90 ∷ [])
     → first ≡ old.at + 1 → StandsAt s.bytes first (78 ∷ []) → second ≡ first + 1 → IsMarkPlace s.bytes second place
-    → AwaitsNest s (record old { at = place.end }) (purposes.Enclosing place.mark)
+    → AwaitsNest s (record old { at = place.end }) (purposes.Enclosing place.mark first)
 nest-within s old first second place a letter next nested then_ is =
     let e = enclosing-opens s old a letter in
-    nest-awaited s (record old { at = place.end }) (kept-same s old (record old { at = place.end }) refl refl refl a.kept) (purposes.Enclosing place.mark) (old.at + 1)
+    nest-awaited s (record old { at = place.end }) (kept-same s old (record old { at = place.end }) refl refl refl a.kept) (purposes.Enclosing place.mark first) (old.at + 1)
     e.inner (old.at + 1) second place refl e.awaits (subst (λ k. StandsAt s.bytes k (78 ∷ [])) next nested) (then_ ∙ ap (λ k. k + 1) next) is refl
     (λ outer named_ t listed here now comes.
     let v = named t (qualifiers (has_const place.mark)) (called_on place.mark) in
-    let items = e.onward v here now (named_ t listed here now comes) in
-    items-scoped nowhere v here now items (nowhere-scoped items.around))
+    subst (λ k. ItemsOf s k (TypeWithin s (below s a.scope (reverse old.waiting.list.items)) old.text.list.items) v here now) (sym next)
+    (e.onward v here now (named_ t listed here now comes)))
 
 -- a source name is read
 pub source-within : (s : Symbol) (old start new : Direct) (name : List ℕ) (from : ℕ) → AwaitsNamedType s old → StandsAt s.bytes old.at (90 ∷ [])
@@ -393,17 +393,18 @@ source-within s old start new name from a letter same_text same_candidates same_
     }
 
 -- a nested one is read
-pub name-within : (s : Symbol) (old : Direct) (kept : Kept s old) (t : Term) (mark : Mark) (is_instance : Bool)
+pub name-within : (s : Symbol) (old : Direct) (kept : Kept s old) (t : Term) (mark : Mark) (encoding : ℕ) (is_instance : Bool)
     → IsNesting s kept.scope Kind.NestTail old t kept.state → has_return_type t ≡ is_instance → StandsAt s.bytes old.at (69 ∷ [])
-    → old.nest.purpose ≡ purposes.Enclosing mark → IsEnclosingNamed s (record old { at = old.at + 1 }) mark is_instance old.nest.from
-name-within s old kept t mark is_instance n returns here is_name =
+    → old.nest.purpose ≡ purposes.Enclosing mark encoding → IsEnclosingNamed s (record old { at = old.at + 1 }) mark is_instance old.nest.from
+name-within s old kept t mark encoding is_instance n returns here is_name =
     let serves = subst (λ p. Serves s p (below s kept.scope (reverse old.waiting.list.items)) n.outer n.front) is_name n.serves in
+    let items = serves t old.nest.is_listed (old.at + 1) kept.state (nest-comes s old kept.state t n here) in
     record {
       kept = kept-same s old (record old { at = old.at + 1 }) refl refl refl kept;
       has = has-member s old.text.list.items mark old.nest.from t n.front n.bytes n.written n.is_nest.from_is
           (as-name t n.bytes false (closed-prints kept.scope.names (n.is_nest.closed (subst IsOwn (sym is_name) tt)) n.is_nest.prints));
       returns = returns;
-      goes = serves t old.nest.is_listed (old.at + 1) kept.state (nest-comes s old kept.state t n here);
+      goes = items-scoped nowhere (named t (qualifiers (has_const mark)) (called_on mark)) (old.at + 1) kept.state items (nowhere-scoped items.around);
     }
 
 -- after its return type, which is a builtin one, a function expects its parameters

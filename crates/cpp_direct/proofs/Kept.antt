@@ -317,7 +317,7 @@ reverse-last xs x = reverse-append xs (x ∷ [])
 pub type-named : (purpose : Purpose) (d : Bool) → (IsOwn purpose → d ≡ false) → d ≡ true → is_type purpose ≡ true
 type-named purposes.Type d closed e = refl
 type-named (purposes.Name mark) d closed e = cc (sym (closed tt) ∙ e)
-type-named (purposes.Enclosing mark) d closed e = cc (sym (closed tt) ∙ e)
+type-named (purposes.Enclosing mark encoding) d closed e = cc (sym (closed tt) ∙ e)
 type-named (purposes.Address mark) d closed e = cc (sym (closed tt) ∙ e)
 
 -- a nested name stays one where more is written

@@ -4,6 +4,7 @@ pub mod DependentsRead
 pub mod Elements
 pub mod Ending
 mod FunctionsWithin
+mod InstancesWithin
 pub mod Handed
 pub mod Kept
 mod LambdasRead

@@ -533,7 +533,7 @@ own-closed : (purpose : Purpose) (d : Bool) → (d ≡ true → is_type purpose 
 own-closed purpose false typed own = refl
 own-closed purposes.Type true typed own = absurd own
 own-closed (purposes.Name mark) true typed own = absurd (false≢true (typed refl))
-own-closed (purposes.Enclosing mark) true typed own = absurd (false≢true (typed refl))
+own-closed (purposes.Enclosing mark encoding) true typed own = absurd (false≢true (typed refl))
 own-closed (purposes.Address mark) true typed own = absurd (false≢true (typed refl))
 
 -- what a reference denotes may be named here

@@ -294,17 +294,19 @@ function-handed s old new is_pointer p text candidates scope_same waits at =
 
 -- an entry that accepts a function type, and isn't parameters or a special object, accepts elements
 pub takes-as-element : (o : Open) (rest : List Open) → TakesFunction (o ∷ rest) → ((x : Mark) (y : ℕ) (z : Arguments) → o ≡ opens.Parameters x y z → ⊥)
-    → (o ≡ opens.Special → ⊥) → ((x : Mark) (y t : ℕ) → o ≡ opens.Enclosing x y t → ⊥) → TakesElements o
-takes-as-element (opens.TypeArguments from is_dependent) rest takes apart z m = tt
-takes-as-element (opens.NestArguments nest) rest takes apart z m = tt
-takes-as-element (opens.FirstArguments nest) rest takes apart z m = tt
-takes-as-element (opens.NameArguments from) rest takes apart z m = tt
-takes-as-element (opens.LevelArguments is_dependent) rest takes apart z m = tt
-takes-as-element opens.Pack rest takes apart z m = tt
-takes-as-element (opens.Parameters x y w) rest takes apart z m = absurd (apart x y w refl)
-takes-as-element opens.Special rest takes apart z m = absurd (z refl)
-takes-as-element (opens.Enclosing x y t) rest takes apart z m = absurd (m x y t refl)
-takes-as-element _ rest takes apart z m = absurd takes
+    → (o ≡ opens.Special → ⊥) → ((x : Mark) (y t : ℕ) → o ≡ opens.Enclosing x y t → ⊥)
+    → ((x : Mark) (y t : ℕ) (w : Arguments) → o ≡ opens.EnclosingInstance x y t w → ⊥) → TakesElements o
+takes-as-element (opens.TypeArguments from is_dependent) rest takes apart z m i = tt
+takes-as-element (opens.NestArguments nest) rest takes apart z m i = tt
+takes-as-element (opens.FirstArguments nest) rest takes apart z m i = tt
+takes-as-element (opens.NameArguments from) rest takes apart z m i = tt
+takes-as-element (opens.LevelArguments is_dependent) rest takes apart z m i = tt
+takes-as-element opens.Pack rest takes apart z m i = tt
+takes-as-element (opens.Parameters x y w) rest takes apart z m i = absurd (apart x y w refl)
+takes-as-element opens.Special rest takes apart z m i = absurd (z refl)
+takes-as-element (opens.Enclosing x y t) rest takes apart z m i = absurd (m x y t refl)
+takes-as-element (opens.EnclosingInstance x y t w) rest takes apart z m i = absurd (i x y t w refl)
+takes-as-element _ rest takes apart z m i = absurd takes
 
 -- ## The beginning of an array
 

@@ -2,6 +2,7 @@
 use Rattle.std.specs.Prelude.{◌≡◌, ◌≢◌, ℕ, ◌+◌, List, [], ◌∷◌, ◌++◌, length, reverse, Bool, true, false, cond, Option, codes}
 use Rattle.cpp_grammar.specs.Term.{Term, within}
 use Rattle.cpp_grammar.specs.Scope.{has_return_type}
+use Rattle.cpp_grammar.specs.Texts.{builtin_texts, look_up}
 use Rattle.cpp_grammar.specs.Values.{State}
 use Rattle.cpp_grammar.specs.Meaning.{encoding_of}
 use Rattle.cpp_direct.specs.Symbol.{detail_of, Symbol}
@@ -16,7 +17,7 @@ use Rattle.cpp_direct.specs.Bytes.{is_local, short_numbers}
 use Rattle.cpp_direct.specs.Holes.{StandsAt}
 use Rattle.cpp_direct.specs.Marks.{mark_text}
 use Rattle.cpp_direct.specs.Prints.{Encloses, IsLed, PrintsPiece, PrintAll}
-use Rattle.cpp_direct.specs.WriterInvariant.{ItemsGoOn, LambdaComes, LambdaWithin, TypeWithin, below, nowhere, Kept, HasLed, HasNameSo, IsEnclosing, Scope}
+use Rattle.cpp_direct.specs.WriterInvariant.{HasArguments, ItemsGoOn, ItemsOf, LambdaComes, LambdaWithin, TypeWithin, below, no_scope, nowhere, Kept, HasLed, HasNameSo, IsEnclosing, IsScopedWithin, Scope}
 use Rattle.cpp_direct.specs.MidStep.{IsEncodingEnded}
 
 -- ## Local entities
@@ -41,6 +42,22 @@ pub record IsEnclosingNamed (s : Symbol) (w : Direct) (mark : Mark) (is_instance
   pub open has use *
   pub returns : has_return_type own ≡ is_instance
   pub goes : ItemsGoOn s nowhere (TypeWithin s (below s scope (reverse w.waiting.list.items)) lead) (λ l. encoding_of v l) [] w.at state
+
+-- A builtin type is at the place.
+abbrev pub IsBuiltinAt : List ℕ → (at : ℕ) → Type 0
+IsBuiltinAt bytes at =
+    (letter : ℕ) × (look_up (letter ∷ []) builtin_texts ≢ []) × (letter ≢ 0 → StandsAt bytes at (letter ∷ []))
+
+-- The name of an instance of a function template that contains a type was read and written from a place on, except for its
+-- qualifier. Expects its return type. Its encoding begins at this place, and its known arguments are at theirs.
+pub record IsInstanceNamed (s : Symbol) (w : Direct) (mark : Mark) (encoding from : ℕ) : Type 0 where
+  pub kept : Kept s w
+  pub open kept use *
+  pub has : HasNameSo s w.text.list.items mark from
+  pub open has use *
+  pub returns : has_return_type own ≡ true
+  pub names : HasArguments (detail_of s) w.text.list.items w.argument own
+  pub items : ItemsOf s encoding (TypeWithin s (below s scope (reverse w.waiting.list.items)) lead) v w.at state
 
 -- The name of a function was read after a text, and its return type if it has one. Expects its parameters. This holds of its
 -- name, of where it was read and of the open entries.
@@ -79,6 +96,12 @@ AwaitsEnclosingParameters s w mark from =
 abbrev pub IsEnclosingParameterRead : (s : Symbol) → (w : Direct) → Mark → (from to : ℕ) → Type 0
 IsEnclosingParameterRead s w mark from to =
     IsLedParameterRead s w 6 mark nowhere (opens.Enclosing mark from to) (λ scope. IsEnclosing from to) (λ scope waits. TypeWithin s (below s scope waits))
+
+-- One of an instance of a function template was read, whose types may name its arguments.
+abbrev pub IsInstanceParameterRead : (s : Symbol) → (w : Direct) → Mark → (from to : ℕ) → Type 0
+IsInstanceParameterRead s w mark from to =
+    (argument : Arguments) × IsLedParameterRead s w 6 mark argument (opens.EnclosingInstance mark from to argument) (λ scope. IsScopedWithin s scope from to argument)
+    (λ scope waits. TypeWithin s (below s no_scope waits))
 
 -- A function was read and written after a text that satisfies this, except for its qualifier. The place where it was read and
 -- the open entries satisfy it, too.

@@ -244,6 +244,10 @@ pub record IsAddressed (s : Symbol) (scope : Scope) (to : ℕ) (argument : Argum
   pub there : AreNamed (front ++ name) scope
   pub typed : is_object s.bytes ≡ false
 
+-- Likewise that of an instance of a function template which contains a type, from a place on.
+abbrev pub IsScopedWithin : (s : Symbol) → Scope → (from to : ℕ) → Arguments → (own : Term) → (front name : List ℕ) → Type 0
+IsScopedWithin s scope from to argument own front name = (from ≡ length front) × IsAddressed s scope to argument own front name
+
 -- Likewise, and the function has a return type.
 pub record HasAddressedFront (s : Symbol) (scope : Scope) (text : List ℕ) (mark : Mark) (to : ℕ) (argument : Arguments) : Type 0 where
   pub from : ℕ
@@ -310,9 +314,9 @@ Serves s purposes.Type below os front =
     × below.scoped around × below.waits outer front
 Serves s (purposes.Name mark) below os front =
     (t : Term) (listed : Bool) (at : ℕ) (st : State) → Comes s os (tree t listed) at st → AwaitsItems s front (named t (qualifiers (has_const mark)) (called_on mark)) at st
-Serves s (purposes.Enclosing mark) below os front =
+Serves s (purposes.Enclosing mark encoding) below os front =
     (t : Term) (listed : Bool) (at : ℕ) (st : State) → Comes s os (tree t listed) at st
-    → ItemsGoOn s nowhere (TypeWithin s below front) (λ l. encoding_of (named t (qualifiers (has_const mark)) (called_on mark)) l) [] at st
+    → ItemsOf s encoding (TypeWithin s below front) (named t (qualifiers (has_const mark)) (called_on mark)) at st
 Serves s (purposes.Address mark) below os front =
     (outer : List Opened)
     × ((t : Term) (listed : Bool) (at : ℕ) (st : State) → Comes s os (tree t listed) at st
@@ -509,6 +513,7 @@ TakesFunction (opens.Pack ∷ rest) = Unit {0}
 TakesFunction (opens.Parameters mark start argument ∷ rest) = Unit {0}
 TakesFunction (opens.Special ∷ rest) = Unit {0}
 TakesFunction (opens.Enclosing mark from to ∷ rest) = Unit {0}
+TakesFunction (opens.EnclosingInstance mark from to argument ∷ rest) = Unit {0}
 TakesFunction _ = ⊥
 
 -- the entry below, if it waits this way
@@ -553,6 +558,8 @@ Stands s scope (opens.Parameters mark start argument ∷ rest) os text =
     × ((t : Term) (at : ℕ) (st : State) → Comes s os (tree t true) at st → ParametersGoOn s argument p.lead p.make (ts ++ t ∷ []) at st)
 Stands s scope (opens.Enclosing mark from to ∷ rest) os text =
     AwaitsLed s 6 mark nowhere (IsEnclosing from to) (TypeWithin s (outside scope rest (Stands s scope rest))) os text
+Stands s scope (opens.EnclosingInstance mark from to argument ∷ rest) os text =
+    AwaitsLed s 6 mark argument (IsScopedWithin s scope from to argument) (TypeWithin s (outside no_scope rest (Stands s no_scope rest))) os text
 Stands s scope (opens.Address encoding ∷ rest) os text =
     (v : Value) (at : ℕ) (st : State) → Comes s os v at st → ItemsOf s encoding (AddressWithin s (outside scope rest (Stands s scope rest)) text) v at st
 Stands s scope (opens.AddressedFront mark to argument ∷ rest) os text =

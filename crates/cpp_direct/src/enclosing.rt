@@ -1,6 +1,6 @@
 // Types that are in the body of a function.
 
-ghost use Rattle.std.specs.Prelude.{◌+◌, ◌∷◌, [], ℕ, List, true, false};
+ghost use Rattle.std.specs.Prelude.{◌≡◌, ◌+◌, ◌∷◌, [], ℕ, List, true, false};
 ghost use Rattle.std.specs.Option.{OnSome, IfSome};
 ghost use Rattle.cpp_grammar.specs.Term.{Term};
 ghost use Rattle.cpp_direct.specs.Names.{IsReadable};
@@ -10,14 +10,14 @@ ghost use Rattle.cpp_direct.specs.HolesOfLocals.{IsPieceAt};
 ghost use Rattle.cpp_direct.specs.Prints.{PrintsPiece};
 ghost use Rattle.cpp_direct.specs.WriterInvariant.{IsWriting};
 ghost use Rattle.cpp_direct.specs.MidStep.{AwaitsNamedType};
-ghost use Rattle.cpp_direct.specs.MidStepOfLocals.{AwaitsEnclosingParameters, AwaitsTypeName, IsEnclosingNamed, IsEnclosingParameterRead, IsEnclosingRead};
+ghost use Rattle.cpp_direct.specs.MidStepOfLocals.{AwaitsEnclosingParameters, AwaitsTypeName, IsBuiltinAt, IsEnclosingNamed, IsEnclosingParameterRead, IsEnclosingRead, IsInstanceNamed, IsInstanceParameterRead};
 ghost use Rattle.cpp_direct.specs.Written.{Reads};
 ghost use Rattle.cpp_direct.specs.Symbol.{detail_by, symbol_by};
 
 use crate::direct::Direct;
 use crate::grammar::Grammar;
 use crate::marks::mark_at;
-use crate::open::{Mark, Open, Purpose, Step};
+use crate::open::{Arguments, Mark, Open, Purpose, Step};
 use crate::tokens::byte_at;
 
 /// The longest symbol, in bytes, that is scanned once more, or whose candidates are, at a lambda with parameters, at parameters
@@ -40,10 +40,18 @@ impl Direct {
             self.name(s)?;
             return self.enclosing_named::<G>(s, Mark::Plain, from);
         }
-        self.at = self.at.checked_add(1)?;
-        let place = mark_at(s, self.at)?;
+        let encoding = self.at;
+        // no place in a symbol that goes the short way is greater
+        if encoding > u16::MAX as usize {
+            return None;
+        }
+        let place = mark_at(s, encoding.checked_add(1)?)?;
         self.at = place.end;
-        self.nest_at::<G>(s, Purpose::Enclosing { mark: place.mark })
+        let purpose = Purpose::Enclosing {
+            mark: place.mark,
+            encoding: encoding as u16,
+        };
+        self.nest_at::<G>(s, purpose)
     }
 
     /// The name of a function that contains a type is read: its parameters follow, or the type.
@@ -71,17 +79,77 @@ impl Direct {
         &mut self,
         s: &[u8],
         mark: Mark,
+        encoding: u16,
         from: u32,
     ) -> Option<Step>
         requires fits { IsReadable s.now }
-        requires named { IsEnclosingNamed (symbol_by G.IS_WIDE G.IS_BARE G.IS_BRIEF s.now) self.old mark true from }
+        requires named { IsInstanceNamed (symbol_by G.IS_WIDE G.IS_BARE G.IS_BRIEF s.now) self.old mark encoding from }
         ensures { IfSome result (IsWriting (symbol_by G.IS_WIDE G.IS_BARE G.IS_BRIEF s.now) self.new) }
     {
         if cpp_layout::builtin_text(byte_at(s, self.at)).is_empty() {
             return None;
         }
+        let behind = self.at.checked_add(1)?;
+        if self.has_scope || s.len() > LONGEST_GONE_OVER || byte_at(s, behind) == b'v' {
+            self.at = behind;
+            return self.enclosing_parameters::<G>(s, mark, from);
+        }
+        self.instance_parameters::<G>(s, mark, encoding, from)
+    }
+
+    /// Reads the return type of such a function, a builtin one, in a symbol that isn't a long one: candidates are visited where
+    /// the function ends. The types of its parameters may name its own arguments.
+    // <bare-function-type> ::= <return type> <parameter type>+
+    fn instance_parameters<G: Grammar>(
+        &mut self,
+        s: &[u8],
+        mark: Mark,
+        encoding: u16,
+        from: u32,
+    ) -> Option<Step>
+        requires named { IsInstanceNamed (symbol_by G.IS_WIDE G.IS_BARE G.IS_BRIEF s.now) self.old mark encoding from }
+        requires outside { self.old.has_scope ≡ false }
+        requires letter { IsBuiltinAt s.now self.old.at }
+        ensures { IfSome result (IsWriting (symbol_by G.IS_WIDE G.IS_BARE G.IS_BRIEF s.now) self.new) }
+    {
         self.at = self.at.checked_add(1)?;
-        self.enclosing_parameters::<G>(s, mark, from)
+        self.has_scope = true;
+        let to = self.text.end();
+        let argument = Arguments {
+            encoding,
+            ..self.argument
+        };
+        self.push_byte(b'(')?;
+        self.waiting.push(Open::EnclosingInstance {
+            mark,
+            from,
+            to,
+            argument,
+        })?;
+        Some(Step::Type)
+    }
+
+    /// A parameter of such a function is read: another one follows, or the type. Its own arguments can't be named any more then.
+    // <bare-function-type> ::= <parameter type>+
+    pub(crate) fn instance_parameter<G: Grammar>(
+        &mut self,
+        s: &[u8],
+        mark: Mark,
+        from: u32,
+        to: u32,
+    ) -> Option<Step>
+        requires fits { IsReadable s.now }
+        requires read { IsInstanceParameterRead (symbol_by G.IS_WIDE G.IS_BARE G.IS_BRIEF s.now) self.old mark from to }
+        ensures { IfSome result (IsWriting (symbol_by G.IS_WIDE G.IS_BARE G.IS_BRIEF s.now) self.new) }
+    {
+        if byte_at(s, self.at) != b'E' {
+            self.push_pair(b',', b' ')?;
+            return Some(Step::Type);
+        }
+        let _open = self.waiting.pop();
+        self.waiting.push(Open::Enclosing { mark, from, to })?;
+        self.end_scope();
+        self.enclosing_parameter::<G>(s, mark, from, to)
     }
 
     /// Reads the parameters of a function that contains a type, up to the first type in them. Where only the names of functions

@@ -29,6 +29,7 @@ impl Direct {
             Some(Open::Pack) => true,
             Some(Open::Parameters { .. }) => true,
             Some(Open::Enclosing { .. }) => true,
+            Some(Open::EnclosingInstance { .. }) => true,
             Some(Open::Special) => true,
             _ => false,
         }
@@ -151,6 +152,9 @@ impl Direct {
                 argument,
             } => self.parameter_ended::<G>(s, mark, start, argument),
             Open::Enclosing { mark, from, to } => self.enclosing_parameter::<G>(s, mark, from, to),
+            Open::EnclosingInstance { mark, from, to, .. } => self.instance_parameter::<G>(
+                s, mark, from, to,
+            ),
             Open::Special => self.finish::<G>(s),
             _ => Some(Step::List { is_first: false }),
         }

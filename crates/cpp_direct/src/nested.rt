@@ -298,9 +298,9 @@ impl Direct {
                 let is_function = self.is_function_instance();
                 self.name_ended::<G>(s, mark, is_function, argument, self.nest.from)
             }
-            Purpose::Enclosing { mark } => {
+            Purpose::Enclosing { mark, encoding } => {
                 if self.is_function_instance() {
-                    return self.enclosing_instance::<G>(s, mark, self.nest.from);
+                    return self.enclosing_instance::<G>(s, mark, encoding, self.nest.from);
                 }
                 self.enclosing_named::<G>(s, mark, self.nest.from)
             }

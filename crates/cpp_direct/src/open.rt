@@ -81,8 +81,8 @@ pub enum Purpose {
     Type,
     /// the name of the encoding, of a member function with these qualifiers
     Name { mark: Mark },
-    /// the name of a function that contains a type, with these qualifiers
-    Enclosing { mark: Mark },
+    /// the name of a function that contains a type, with these qualifiers, of an encoding that begins at this place
+    Enclosing { mark: Mark, encoding: u16 },
     /// the name of a function whose address is an argument, with these qualifiers
     Address { mark: Mark },
 }
@@ -167,6 +167,13 @@ pub enum Open {
         mark: Mark,
         from: u32,
         to: u32,
+    },
+    /// likewise of an instance of a function template, whose types may name its arguments
+    EnclosingInstance {
+        mark: Mark,
+        from: u32,
+        to: u32,
+        argument: Arguments,
     },
     /// the name of a function whose address is an argument, of an encoding that begins at this place
     Address {

@@ -291,6 +291,9 @@ impl Direct {
             Open::Signature { is_pointer } => self.parameter_at::<G>(s, is_pointer, false),
             Open::Array { access, from, to } => self.array_ended::<G>(s, access, from, to),
             Open::Enclosing { mark, from, to } => self.enclosing_parameter::<G>(s, mark, from, to),
+            Open::EnclosingInstance { mark, from, to, .. } => self.instance_parameter::<G>(
+                s, mark, from, to,
+            ),
             Open::Lambda { from, nested } => self.lambda_parameter::<G>(s, from, nested),
             Open::AddressedFront { mark, to, argument } => self.addressed_front::<G>(
                 s, mark, to, argument,
@@ -323,6 +326,9 @@ impl Direct {
     {
         let entry = *self.waiting.as_slice().last()?;
         match entry {
+            Open::EnclosingInstance { mark, from, to, .. } => self.instance_parameter::<G>(
+                s, mark, from, to,
+            ),
             Open::AddressedFront { mark, to, argument } => self.addressed_front::<G>(
                 s, mark, to, argument,
             ),

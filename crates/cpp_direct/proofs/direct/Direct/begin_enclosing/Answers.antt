@@ -11,6 +11,6 @@ enclosing_named-requires-clause-named g c =
 
 pub nest_at-requires-clause-awaits : goal.nest_at-requires-clause-awaits
 nest_at-requires-clause-awaits g c =
-    nest-within _ c.args.self.now c.in_ok-self.field-0 c.in_ok-self-2.field-0 c.in_ok-place.place c.requires.awaits c.requires.letter
+    nest-within _ c.args.self.now c.in_ok-self.field-0 c.in_ok-checked_add.field-0 c.in_ok-place.place c.requires.awaits c.requires.letter
     c.in_ok-self.ensures.1 (there c.args.s.now c.in_ok-self.field-0 c.byte_at.result 78 c.if-byte_at-ne78.false (omega arith) c.byte_at.ensures)
-    c.in_ok-self-2.ensures.1 c.in_ok-place.ensures
+    c.in_ok-checked_add.ensures.1 c.in_ok-place.ensures

@@ -4,9 +4,10 @@ use Rattle.cpp_direct.specs.WriterInvariant.{IsOwn, IsWriting}
 use Rattle.cpp_direct.specs.declared.open.Step.TheVariants as steps
 use Rattle.cpp_direct.specs.MidStep.{IsNameEnded}
 use Rattle.cpp_direct.specs.Written.{Lists, added_unless}
-use Rattle.cpp_direct.specs.MidStepOfLocals.{IsEnclosingNamed}
+use Rattle.cpp_direct.specs.MidStepOfLocals.{IsEnclosingNamed, IsInstanceNamed}
 use Rattle.cpp_direct.specs.MidStepOfAddresses.{IsAddressNamed}
 use Rattle.cpp_direct.proofs.FunctionsWithin.{name-addressed, name-within}
+use Rattle.cpp_direct.proofs.InstancesWithin.{has-arguments, instance-within}
 use Rattle.cpp_direct.proofs.Nesting.{arguments-noted, type-ended, name-comes}
 use Rattle.cpp_direct.proofs.direct.Direct.nest_ended.Goals as goal
 
@@ -23,18 +24,21 @@ name_ended-requires-clause-ended g c =
 
 pub enclosing_instance-requires-clause-named : goal.enclosing_instance-requires-clause-named
 enclosing_instance-requires-clause-named g c =
+    let s = symbol_by g.G.Grammar.IS_WIDE g.G.Grammar.IS_BARE g.G.Grammar.IS_BRIEF c.args.s.now in
     let old = c.args.self.now in
     let before = c.requires.writing.is_before in
-    subst (λ n. IsEnclosingNamed (symbol_by g.G.Grammar.IS_WIDE g.G.Grammar.IS_BARE g.G.Grammar.IS_BRIEF c.args.s.now) (record old { at = n }) c.in-Enclosing.mark true old.nest.from) (sym c.in_ok-self.ensures.1)
-    (name-within _ old c.requires.writing.kept before.0 c.in-Enclosing.mark true before.1 (before.3 (sym c.is_function_instance.ensures ∙ c.if-is_function_instance.true)) c.requires.end c.in-Enclosing.is)
+    let is_instance = sym c.is_function_instance.ensures ∙ c.if-is_function_instance.true in
+    subst (λ n. IsInstanceNamed s (record old { at = n }) c.in-Enclosing.mark c.in-Enclosing.encoding old.nest.from) (sym c.in_ok-self.ensures.1)
+    (instance-within s old c.requires.writing.kept before.0 c.in-Enclosing.mark c.in-Enclosing.encoding before.1 (before.3 is_instance)
+    (before.4 (has-arguments old.nest.is_instance old.nest.has_class is_instance)) c.requires.end c.in-Enclosing.is)
 
 pub enclosing_named-requires-clause-named : goal.enclosing_named-requires-clause-named
 enclosing_named-requires-clause-named g c =
     let old = c.args.self.now in
     let before = c.requires.writing.is_before in
     subst (λ n. IsEnclosingNamed (symbol_by g.G.Grammar.IS_WIDE g.G.Grammar.IS_BARE g.G.Grammar.IS_BRIEF c.args.s.now) (record old { at = n }) c.in-Enclosing.mark false old.nest.from) (sym c.in_ok-self.ensures.1)
-    (name-within _ old c.requires.writing.kept before.0 c.in-Enclosing.mark false before.1 (before.2 (subst IsOwn (sym c.in-Enclosing.is) tt) (sym c.is_function_instance.ensures ∙ c.if-is_function_instance.false)) c.requires.end
-    c.in-Enclosing.is)
+    (name-within _ old c.requires.writing.kept before.0 c.in-Enclosing.mark c.in-Enclosing.encoding false before.1
+    (before.2 (subst IsOwn (sym c.in-Enclosing.is) tt) (sym c.is_function_instance.ensures ∙ c.if-is_function_instance.false)) c.requires.end c.in-Enclosing.is)
 
 pub addressed_named-requires-clause-named : goal.addressed_named-requires-clause-named
 addressed_named-requires-clause-named g c =

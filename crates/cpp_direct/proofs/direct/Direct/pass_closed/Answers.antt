@@ -2,6 +2,7 @@ use Rattle.std.proofs.Common.{Some, true, false, ap, ◌∙◌}
 use Rattle.cpp_direct.specs.declared.open.Open.TheVariants as opens
 use Rattle.cpp_direct.proofs.Handed.{value-element, value-returned, value-signature, value-enumerator, argument-read, special-read, takes-elements}
 use Rattle.cpp_direct.proofs.FunctionsWithin.{parameter-read-within, value-addressed, value-addressed-front}
+use Rattle.cpp_direct.proofs.InstancesWithin.{value-instance}
 use Rattle.cpp_direct.proofs.LambdasRead.{lambda-parameter-read}
 use Rattle.cpp_direct.proofs.Arguments.{value-argument}
 use Rattle.cpp_direct.proofs.Signatures.{value-array}
@@ -25,6 +26,11 @@ enclosing_parameter-requires-clause-read g c =
     parameter-read-within _ c.args.self.now c.in-Enclosing.mark c.in-Enclosing.from c.in-Enclosing.to
     (value-element _ c.args.self.now c.args.is_reference (opens.Enclosing c.in-Enclosing.mark c.in-Enclosing.from c.in-Enclosing.to)
     c.requires.writing (c.requires.waits ∙ ap (λ o. Some o) c.in-Enclosing.is))
+
+pub instance_parameter-requires-clause-read : goal.instance_parameter-requires-clause-read
+instance_parameter-requires-clause-read g c =
+    value-instance _ c.args.self.now c.args.is_reference false c.in-EnclosingInstance.mark c.in-EnclosingInstance.from c.in-EnclosingInstance.to
+    c.in-EnclosingInstance.argument c.requires.writing (c.requires.waits ∙ ap (λ o. Some o) c.in-EnclosingInstance.is)
 
 pub addressed_front-requires-clause-read : goal.addressed_front-requires-clause-read
 addressed_front-requires-clause-read g c =
@@ -66,5 +72,5 @@ returns-in_default g c =
     argument-read _ c.args.self.now c.args.entry
     (value-element _ c.args.self.now c.args.is_reference c.args.entry c.requires.writing c.requires.waits)
     (takes-elements c.args.entry c.requires.others c.in_default.not-Returned c.in_default.not-Signature c.in_default.not-Special c.in_default.not-Enumerator
-    c.in_default.not-Enclosing c.in_default.not-Argument c.in_default.not-Lambda c.in_default.not-Element c.in_default.not-Array
+    c.in_default.not-Enclosing c.in_default.not-EnclosingInstance c.in_default.not-Argument c.in_default.not-Lambda c.in_default.not-Element c.in_default.not-Array
     c.in_default.not-Address c.in_default.not-AddressedFront c.in_default.not-Addressed)

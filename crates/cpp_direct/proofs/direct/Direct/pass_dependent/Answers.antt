@@ -1,7 +1,13 @@
 use Rattle.std.proofs.Common.{true}
 use Rattle.cpp_direct.proofs.FunctionsWithin.{value-addressed, value-addressed-front}
+use Rattle.cpp_direct.proofs.InstancesWithin.{value-instance}
 use Rattle.cpp_direct.proofs.Listed.{waits-last}
 use Rattle.cpp_direct.proofs.direct.Direct.pass_dependent.Goals as goal
+
+pub instance_parameter-requires-clause-read : goal.instance_parameter-requires-clause-read
+instance_parameter-requires-clause-read g c =
+    value-instance _ c.args.self.now c.requires.writing.0 true c.in-EnclosingInstance.mark c.in-EnclosingInstance.from c.in-EnclosingInstance.to
+    c.in-EnclosingInstance.argument c.requires.writing.1 (waits-last _ _ _ _ c.as_slice.ensures c.in_ok-entry.ensures.value c.in-EnclosingInstance.is)
 
 pub addressed_front-requires-clause-read : goal.addressed_front-requires-clause-read
 addressed_front-requires-clause-read g c =

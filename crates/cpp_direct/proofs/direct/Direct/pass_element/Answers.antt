@@ -3,6 +3,7 @@ use Rattle.cpp_direct.specs.declared.open.Open.TheVariants as opens
 use Rattle.cpp_direct.specs.WriterInvariant.{TakesFunction}
 use Rattle.cpp_direct.proofs.Signatures.{passed-on, takes-as-element}
 use Rattle.cpp_direct.proofs.FunctionsWithin.{parameter-read-within}
+use Rattle.cpp_direct.proofs.InstancesWithin.{element-instance}
 use Rattle.cpp_direct.proofs.Handed.{argument-read, parameter-read, special-read}
 use Rattle.cpp_direct.proofs.Listed.{waits-last}
 use Rattle.cpp_direct.proofs.direct.Direct.pass_element.Goals as goal
@@ -19,6 +20,12 @@ enclosing_parameter-requires-clause-read g c =
     (passed-on _ c.args.self.now (opens.Enclosing c.in-Enclosing.mark c.in-Enclosing.from c.in-Enclosing.to) c.requires.passed
     (waits-last _ _ _ _ c.as_slice.ensures c.in_ok-mark.ensures.value c.in-Enclosing.is))
 
+pub instance_parameter-requires-clause-read : goal.instance_parameter-requires-clause-read
+instance_parameter-requires-clause-read g c =
+    let o = opens.EnclosingInstance c.in-EnclosingInstance.mark c.in-EnclosingInstance.from c.in-EnclosingInstance.to c.in-EnclosingInstance.argument in
+    element-instance _ c.args.self.now c.in-EnclosingInstance.mark c.in-EnclosingInstance.from c.in-EnclosingInstance.to c.in-EnclosingInstance.argument
+    (passed-on _ c.args.self.now o c.requires.passed (waits-last _ _ _ _ c.as_slice.ensures c.in_ok-mark.ensures.value c.in-EnclosingInstance.is))
+
 pub finish-requires : goal.finish-requires
 finish-requires g c =
     special-read _ c.args.self.now (passed-on _ c.args.self.now opens.Special c.requires.passed
@@ -30,4 +37,5 @@ returns-in_default g c =
     let p = c.requires.passed in
     let read = passed-on _ c.args.self.now o p (waits-last _ _ _ _ c.as_slice.ensures c.in_ok-mark.ensures.value refl) in
     argument-read _ c.args.self.now o read
-    (takes-as-element o read.rest (subst TakesFunction read.open_is p.takes) c.in_default.not-Parameters c.in_default.not-Special c.in_default.not-Enclosing)
+    (takes-as-element o read.rest (subst TakesFunction read.open_is p.takes) c.in_default.not-Parameters c.in_default.not-Special c.in_default.not-Enclosing
+    c.in_default.not-EnclosingInstance)

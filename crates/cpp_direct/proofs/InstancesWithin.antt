@@ -1,0 +1,173 @@
+-- Instances of function templates that contain a type, whose parameters may name their arguments: from their names to their ends.
+use Rattle.cpp_direct.proofs.Ending.{parameter-goes_on, types-scoped}
+use Rattle.cpp_direct.proofs.FunctionsWithin.{first-led, items-scoped, led-by, led-read, next-led, returned-first}
+use Rattle.cpp_direct.proofs.Kept.{kept-same, kept-closed, reverse-last}
+use Rattle.cpp_direct.proofs.Listed.{last-found}
+use Rattle.cpp_direct.proofs.MovesOfLists.{element-awaits}
+use Rattle.cpp_direct.proofs.MovesOfLocals.{nowhere-scoped}
+use Rattle.cpp_direct.proofs.MovesOfTypes.{builtin-comes}
+use Rattle.cpp_direct.proofs.NamedArguments.{arguments-given, named-there, scope_at, scope-kept}
+use Rattle.cpp_direct.proofs.Nesting.{nest-comes, closed-prints}
+use Rattle.cpp_direct.proofs.PrintedLists.{element-in}
+use Rattle.cpp_direct.proofs.PrintedNames.{as-name}
+use Rattle.cpp_direct.proofs.PrintedSymbols.{encoding-returned}
+use Rattle.cpp_direct.proofs.PrintedTypes.{as-in}
+use Rattle.cpp_direct.proofs.Scopes.{arguments-named, entry-scoped, has-member}
+use Rattle.cpp_direct.proofs.TypesRead.{popped, builtin-listed, no-builtin}
+use Rattle.cpp_direct.specs.AllHoles.{Comes, Opened, StandsAt}
+use Rattle.cpp_direct.specs.Marks.{has_const, called_on}
+use Rattle.cpp_direct.specs.MidStep.{IsElementRead}
+use Rattle.cpp_direct.specs.MidStepOfLocals.{AwaitsLedParameters, IsBuiltinAt, IsEnclosingNamed, IsEnclosingParameterRead, IsInstanceNamed, IsInstanceParameterRead}
+use Rattle.cpp_direct.specs.Prints.{IsElementIn, PrintsIn}
+use Rattle.cpp_direct.specs.WriterInvariant.{AreNamed, HasArguments, IsNesting, IsOwn, IsScopedWithin, IsTypeRead, IsWriting, ItemsGoOn, ItemsOf, Kept, Scope, Serves, TypeWithin, below, no_scope, nowhere, qualifiers}
+use Rattle.cpp_direct.specs.WriterTypes.{Arguments, Direct, Mark, Open, Symbol, detail_of}
+use Rattle.cpp_direct.specs.Written.{AreLeft, Writes}
+use Rattle.cpp_grammar.specs.Items.{Context}
+use Rattle.cpp_grammar.specs.Meaning.{encoding_of}
+use Rattle.cpp_grammar.specs.Parts.{types_of}
+use Rattle.cpp_grammar.specs.Scope.{has_return_type, arguments_of}
+use Rattle.cpp_grammar.specs.Term.{Term, builtin, list}
+use Rattle.cpp_grammar.specs.Values.{State, named}
+use Rattle.cpp_grammar.specs.declared.kind.Kind.{Kind}
+use Rattle.sym_print.specs.declared.detail.Detail.{Detail}
+use Rattle.std.proofs.Common.{◌≡◌, refl, ap, sym, ◌∙◌, subst, ℕ, ◌+◌, ◌-◌, List, [], ◌∷◌, ◌++◌, length, reverse, take, slice_get, Some, Bool, true, false, ◌&&◌, arith, codes, append-nil}
+use Rattle.cpp_direct.specs.declared.open.Open.TheVariants as opens
+use Rattle.cpp_direct.specs.declared.open.Purpose.TheVariants as purposes
+use Rattle.cpp_direct.specs.declared.open.Step.TheVariants as steps
+use Rattle.cpp_direct.specs.declared.open.Hiding.TheVariants as hidings
+
+-- its name ends in arguments
+pub has-arguments : (is_instance has_class : Bool) → is_instance && has_class ≡ true → is_instance ≡ true
+has-arguments true has_class both = refl
+has-arguments false has_class both = both
+
+-- its nested name is read
+pub instance-within : (s : Symbol) (old : Direct) (kept : Kept s old) (t : Term) (mark : Mark) (encoding : ℕ)
+    → IsNesting s kept.scope Kind.NestTail old t kept.state → has_return_type t ≡ true → HasArguments (detail_of s) old.text.list.items old.argument t
+    → StandsAt s.bytes old.at (69 ∷ []) → old.nest.purpose ≡ purposes.Enclosing mark encoding
+    → IsInstanceNamed s (record old { at = old.at + 1 }) mark encoding old.nest.from
+instance-within s old kept t mark encoding n returns names here is_name =
+    let serves = subst (λ p. Serves s p (below s kept.scope (reverse old.waiting.list.items)) n.outer n.front) is_name n.serves in
+    record {
+      kept = kept-same s old (record old { at = old.at + 1 }) refl refl refl kept;
+      has = has-member s old.text.list.items mark old.nest.from t n.front n.bytes n.written n.is_nest.from_is
+          (as-name t n.bytes false (closed-prints kept.scope.names (n.is_nest.closed (subst IsOwn (sym is_name) tt)) n.is_nest.prints));
+      returns = returns;
+      names = names;
+      items = serves t old.nest.is_listed (old.at + 1) kept.state (nest-comes s old kept.state t n here);
+    }
+
+-- its types needn't name its arguments
+pub instance-named : (s : Symbol) (w : Direct) (mark : Mark) (encoding from : ℕ) → IsInstanceNamed s w mark encoding from → IsEnclosingNamed s w mark true from
+instance-named s w mark encoding from p = record {
+  kept = p.kept;
+  has = p.has;
+  returns = p.returns;
+  goes = items-scoped nowhere p.v w.at p.state p.items (nowhere-scoped p.items.around);
+}
+
+-- after its return type, which is a builtin one, it expects its parameters, whose types may name its arguments
+pub instance-awaits : (s : Symbol) (old new : Direct) (mark : Mark) (from to : ℕ) (argument : Arguments) → IsInstanceNamed s old mark argument.encoding from
+    → old.has_scope ≡ false → new.has_scope ≡ true → new.text ≡ old.text → new.candidates ≡ old.candidates → new.waiting ≡ old.waiting
+    → new.at ≡ old.at + 1 → argument ≡ record (old.argument) { encoding = argument.encoding } → to ≡ length old.text.list.items → IsBuiltinAt s.bytes old.at
+    → AwaitsLedParameters s new 6 mark argument (λ scope. IsScopedWithin s scope from to argument) (λ scope waits. TypeWithin s (below s no_scope waits))
+instance-awaits s old new mark from to argument p first now text candidates waiting at same to_is letter =
+    let here = old.text.list.items in
+    let rest = reverse old.waiting.list.items in
+    let r = builtin (letter.0 ∷ []) in
+    let make : Term → Term = λ l. encoding_of p.v l in
+    let becomes : Term → ℕ → State → Type 0 = TypeWithin s (below s no_scope rest) p.lead in
+    let names : HasArguments (detail_of s) here argument p.own =
+    subst (λ (k : Arguments). HasArguments (detail_of s) here k p.own) (sym same) (arguments-named here argument.encoding old.argument p.own p.names) in
+    let items : ItemsOf s argument.encoding becomes p.v old.at p.state =
+    subst (λ (k : Scope). ItemsOf s argument.encoding (TypeWithin s (below s k rest) p.lead) p.v old.at p.state) (p.keeps.unknown first).0 p.items in
+    let begun = items-scoped argument p.v old.at p.state items
+    (types-scoped here argument items.around p.own (λ real. (items.encoding_is, items.no_lambda)) (items.scope_is ∙ ap arguments_of p.named_so.tree_is) names) in
+    let element = element-awaits s Kind.Items begun.inner begun.around old.at p.state tt begun.awaits in
+    let listed = builtin-listed letter.0 letter.1 in
+    let goes = returned-first make r (old.at + 1) p.state (parameter-goes_on s argument becomes make [] old.at p.state begun r (old.at + 1) p.state
+    (element.onward r (old.at + 1) p.state
+    (builtin-comes s Kind.Item begun.around element.inner old.at p.state letter.0 tt listed element.awaits (letter.2 (no-builtin letter.0 listed))))) in
+    let scope = scope_at here argument in
+    record {
+      kept = record { state = p.state; scope = scope; keeps = scope-kept s old new p.kept argument p.own names first now text candidates };
+      has = record {
+        is_led = led-by s 6 mark p.own r (λ l. make (list r l)) p.lead p.name p.prints
+            (λ t rest. encoding-returned p.v mark p.own p.named_so p.returns r (list t rest));
+        leads = (
+          p.from_is,
+          record {
+            to_is = to_is ∙ ap length p.written;
+            given = arguments-given here argument p.own names;
+            named = refl;
+            there = subst (λ l. AreNamed l scope) p.written (named-there here argument p.own names);
+            typed = (p.keeps.unknown first).1;
+          },
+        );
+      };
+      written = ap (λ k. k.list.items) text ∙ p.written;
+      goes = subst (λ v. ItemsGoOn s argument (TypeWithin s (below s no_scope (reverse v.list.items)) p.lead) (λ l. make (list r l)) [] new.at p.state) (sym waiting)
+          (subst (λ k. ItemsGoOn s argument becomes (λ l. make (list r l)) [] k p.state) (sym at) goes);
+    }
+
+-- a type is read as an element
+read-more : {detail : Detail} (c : Context) (t : Term) (b : List ℕ) (r : Bool) → PrintsIn detail c 3 t b r → IsElementIn detail c 6 t b
+read-more c t b r p = record {
+  both_texts = rw (p.left_text, p.right_text) (append-nil b);
+  cost = omega (arith, p.cost);
+  filled = p.filled;
+  void = p.void;
+}
+
+-- a parameter is read
+pub value-instance : (s : Symbol) (w : Direct) (is_reference is_dependent : Bool) (mark : Mark) (from to : ℕ) (argument : Arguments)
+    → IsWriting s w (steps.Value is_reference is_dependent)
+    → slice_get w.waiting.list.items (length w.waiting.list.items - 1) ≡ Some (opens.EnclosingInstance mark from to argument) → IsInstanceParameterRead s w mark from to
+value-instance s w is_reference is_dependent mark from to argument p found =
+    let last = last-found w.waiting.list.items (opens.EnclosingInstance mark from to argument) found in
+    let v = subst (λ ws. IsTypeRead s p.scope w p.state ws is_reference is_dependent) last.1 p.is_before in
+    let h = v.stands.2 in
+    let types = types_of h.own in (
+      argument,
+      led-read w v.os p.kept v.own v.front v.bytes last.1 v.written v.comes v.stands
+          (read-more types v.own v.bytes is_reference (as-in (detail_of s) p.scope.names is_dependent types v.own v.bytes is_reference h.leads.1.given v.prints)),
+    )
+
+-- one that prints on both sides of a name is
+pub element-instance : (s : Symbol) (w : Direct) (mark : Mark) (from to : ℕ) (argument : Arguments) → IsElementRead s w (opens.EnclosingInstance mark from to argument)
+    → IsInstanceParameterRead s w mark from to
+element-instance s w mark from to argument p =
+    let read = p.read in (
+      argument,
+      led-read w read.os read.kept read.own read.front read.bytes p.open_is read.written read.comes read.stands
+          (element-in (types_of read.stands.2.own) 6 read.own read.bytes (read.element 6)),
+    )
+
+-- its parameters are read, and its arguments can't be named any more
+pub instance-closed : (s : Symbol) (w shut new : Direct) (mark : Mark) (from to : ℕ) (p : IsInstanceParameterRead s w mark from to)
+    → shut.waiting.list.items ≡ take (length w.waiting.list.items - 1) w.waiting.list.items
+    → new.waiting.list.items ≡ shut.waiting.list.items ++ opens.Enclosing mark from to ∷ [] → new.text ≡ w.text
+    → AreLeft hidings.Dependent w.candidates.list.items new.candidates.list.items → new.at ≡ w.at → IsEnclosingParameterRead s new mark from to
+instance-closed s w shut new mark from to read waits waiting text are at =
+    let p = read.1 in
+    let entry = opens.Enclosing mark from to in
+    record {
+      kept = kept-closed s w new p.kept are text p.leads.1.typed;
+      rest = p.rest;
+      open_is = ap reverse waiting ∙ reverse-last shut.waiting.list.items entry
+          ∙ ap (λ ws. entry ∷ ws) (popped w.waiting.list.items shut.waiting.list.items p.rest (opens.EnclosingInstance mark from to read.0) (length w.waiting.list.items) refl p.open_is waits);
+      ts = p.ts;
+      some = p.some;
+      texts = p.texts;
+      has = record { is_led = p.is_led; leads = (p.leads.0, p.leads.1.to_is) };
+      written = ap (λ v. v.list.items) text ∙ p.written;
+      goes = subst (λ k. ItemsGoOn s nowhere (TypeWithin s (below s no_scope p.rest) p.front) p.make p.ts k p.state) (sym at)
+          (record {
+            around = p.goes.around;
+            inner = p.goes.inner;
+            outside = p.goes.outside;
+            scoped = nowhere-scoped p.goes.around;
+            awaits = p.goes.awaits;
+            onward = p.goes.onward;
+          });
+    }
