@@ -17,7 +17,7 @@ use Rattle.cpp_grammar.specs.Between.{listed_so_far, parameter_so_far, index_of,
 use Rattle.cpp_grammar.specs.Row.{Before, quiet, goes, becomes, tests, holds, unread, before_part}
 use Rattle.cpp_grammar.specs.Meant.{tested as tested_, done}
 use Rattle.cpp_grammar.specs.Rows.{row_of}
-use Rattle.cpp_grammar.specs.Rescoping.{generic_so_far, parameter_here, is_foreign, in_scope, under_scope, with_free, restated, substituted_wide, numbered, is_counted_alike, is_instance, holder_so_far, between_wide, close_wide, cpp_wide, unfold_wide, argument_here}
+use Rattle.cpp_grammar.specs.Rescoping.{generic_so_far, parameter_here, is_foreign, in_scope, under_scope, with_free, restated, substituted_wide, numbered, named_alike, is_instance, holder_so_far, between_wide, close_wide, cpp_wide, unfold_wide, argument_here}
 use Rattle.cpp_grammar.proofs.Chosen.{either, if_there}
 use Rattle.cpp_grammar.proofs.Ways.{Way, reading_by, abi_way, wide_way}
 use Rattle.cpp_grammar.specs.Unfolding.{last_token, number_tested, opening, close, production_at, byte_of, cpp, first_around, first_state, first_tree, unfold_cpp}
@@ -131,7 +131,7 @@ wide_substituted_bad around place (Some c) state = either IsBad (is_foreign arou
 
 numbered_bad : (around : Around) (place number : ℕ) (state : State) → IsBad (numbered around place number state)
 unfolding numbered
-numbered_bad around place number state = either IsBad (is_counted_alike state.candidates number) _ _ (λ h. wide_substituted_bad around place (slice_get state.candidates number) state) (λ h. tt)
+numbered_bad around place number state = wide_substituted_bad around place (named_alike state.candidates number) state
 
 holder_bad : (around : Around) (place : ℕ) (state : State) → IsBad (holder_so_far around place state)
 unfolding holder_so_far listed_so_far

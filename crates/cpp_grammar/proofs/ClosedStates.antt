@@ -1,5 +1,5 @@
 -- The candidates that a part appends are closed where no parameters are named around it.
-use Rattle.std.proofs.Common.{◌≡◌, refl, ap, sym, ◌∙◌, subst, ℕ, zero, suc, ◌-◌, ◌<◌, ◌≤◌, List, [], ◌∷◌, ◌++◌, Bool, true, false, not, ◌||◌, ◌&&◌, nat_eq, nat_lt, slice_get, Option, Some, None, Result, Ok, Err, ◌⊎◌, inl, inr, arith}
+use Rattle.std.proofs.Common.{◌≡◌, refl, ap, sym, ◌∙◌, subst, ℕ, zero, suc, ◌-◌, ◌+◌, ◌<◌, ◌≤◌, List, [], ◌∷◌, ◌++◌, Bool, true, false, not, ◌||◌, ◌&&◌, nat_eq, nat_lt, slice_get, Option, Some, None, Result, Ok, Err, ◌⊎◌, inl, inr, arith}
 use Rattle.std.proofs.lemmas.Bool.{eqb-true, true≢false, false≢true}
 use Rattle.std.proofs.lemmas.List.{append_assoc, append-nil}
 use Rattle.sym_core.specs.declared.refusal.Refusal.{Refusal}
@@ -14,7 +14,7 @@ use Rattle.sym_core.specs.declared.NumberKind.TheVariants.{Seq36}
 use Rattle.sym_core.specs.Value.{counted_value}
 use Rattle.cpp_grammar.specs.Values.{Candidate, State, Around, prefix_tree, prefix_listed, Value, nothing_there, letter, tree, piece, pair, is_listed, text_of, local_number, part, tree_of}
 use Rattle.cpp_grammar.specs.References.{appended, is_function_type, with_type, with_unqualified, with_prefix, with_packs, packs_in, substituted, parameter_named}
-use Rattle.cpp_grammar.specs.Rescoping.{lambda_with, as_generic_lambda, with_holder, with_held, held_unless, counted_base, is_counted_alike, is_foreign, in_scope, under_scope, with_free, restated, substituted_wide, numbered, close_wide}
+use Rattle.cpp_grammar.specs.Rescoping.{lambda_with, as_generic_lambda, with_holder, with_held, held_unless, held_twice_unless, counted_base, is_counted_alike, is_last_counted, named_alike, is_foreign, in_scope, under_scope, with_free, restated, substituted_wide, numbered, close_wide}
 use Rattle.cpp_grammar.specs.Meaning.{parameters, meaning}
 use Rattle.cpp_grammar.specs.Unfolding as unfolding_
 use Rattle.cpp_grammar.specs.Unfolding.{close}
@@ -352,19 +352,22 @@ wide_named_good around place at c state r old e =
         go_ false true h = absurd (true≢false h)
         go_ false false h = refl
 
-wide_substituted_good : (around : Around) (place at n : ℕ) (state : State) (r : Found Value State) → AllOld true around at state.candidates →
-    substituted_wide around place (slice_get state.candidates n) state ≡ Ok r → IsNamed around state r
+wide_substituted_good : (around : Around) (place at : ℕ) (o : Option Candidate) (state : State) (r : Found Value State) → ((c : Candidate) → o ≡ Some c → IsOld true around at c) →
+    substituted_wide around place o state ≡ Ok r → IsNamed around state r
 unfolding substituted_wide
-wide_substituted_good around place at n state r all e = go (slice_get state.candidates n) refl e
-  where
-    go : (o : Option Candidate) → slice_get state.candidates n ≡ o → substituted_wide around place o state ≡ Ok r → IsNamed around state r
-    go None is h = let clash : ◌≡◌ {A = Result (Found Value State) Refusal} (Err (BadReference place)) (Ok r) = h in absurd cc
-    go (Some c) is h = wide_named_good around place at c state r (old_get true around at state.candidates n c all is) h
+wide_substituted_good around place at None state r old e = let clash : ◌≡◌ {A = Result (Found Value State) Refusal} (Err (BadReference place)) (Ok r) = e in absurd cc
+wide_substituted_good around place at (Some c) state r old e = wide_named_good around place at c state r (old c refl) e
+
+-- what a number names is among the candidates
+alike_old : (own : Bool) (around : Around) (at : ℕ) (cs : List Candidate) (n : ℕ) (c : Candidate) → AllOld own around at cs → named_alike cs n ≡ Some c → IsOld own around at c
+unfolding named_alike
+alike_old own around at cs n c all e =
+    either (λ o. o ≡ Some c → IsOld own around at c) (is_counted_alike cs n) _ _ (λ is h. old_get own around at cs n c all h)
+    (λ is h. either (λ o. o ≡ Some c → IsOld own around at c) (is_last_counted cs n) _ _ (λ last more. old_get own around at cs (n + 1) c all more) (λ last more. absurd cc) h) e
 
 numbered_good : (around : Around) (place at n : ℕ) (state : State) (r : Found Value State) → AllOld true around at state.candidates → numbered around place n state ≡ Ok r → IsNamed around state r
 unfolding numbered
-numbered_good around place at n state r all e =
-    either (λ x. x ≡ Ok r → IsNamed around state r) (is_counted_alike state.candidates n) _ _ (λ is h. wide_substituted_good around place at n state r all h) (λ is h. absurd cc) e
+numbered_good around place at n state r all e = wide_substituted_good around place at (named_alike state.candidates n) state r (λ c is. alike_old true around at state.candidates n c all is) e
 
 -- a lambda has no free parameters: the case depends on whether its signature has some
 lambda_good : (s : Type 0) (t : Term) (number : ℕ) → ScopesAreClosed t → Good s (lambda_with t number)
@@ -394,10 +397,17 @@ held_grows around end t state good =
     let once = appended around t state in
     grows_then true around end end state once (with_holder around t once) (omega arith) (grows_one true around end t state good) (grows_held true around end t once good)
 
-pub unless_grows : (around : Around) (end : ℕ) (listed : Bool) (t : Term) (state : State) → Good (Bare true around) t → Grows true around end state (held_unless listed around t state)
+unless_grows : (around : Around) (end : ℕ) (listed : Bool) (t : Term) (state : State) → Good (Bare true around) t → Grows true around end state (held_unless listed around t state)
 unfolding held_unless
 unless_grows around end true t state good = grows_same true around end state state refl
 unless_grows around end false t state good = held_grows around end t state good
+
+pub twice_grows : (around : Around) (end : ℕ) (listed : Bool) (t : Term) (state : State) → Good (Bare true around) t → Grows true around end state (held_twice_unless listed around t state)
+unfolding held_twice_unless
+twice_grows around end true t state good = grows_same true around end state state refl
+twice_grows around end false t state good =
+    let once = with_held around t state in
+    grows_then true around end end state once (with_holder around t once) (omega arith) (held_grows around end t state good) (grows_held true around end t once good)
 
 counted_grows : (around : Around) (end : ℕ) (base : Value) (state : State) → Good (Bare true around) (held base) → Grows true around end state (counted_base around base state)
 unfolding counted_base

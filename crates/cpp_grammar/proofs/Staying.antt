@@ -32,7 +32,7 @@ use Rattle.cpp_grammar.specs.Rows.{row_of}
 use Rattle.cpp_grammar.specs.Meaning.{parameters, meaning}
 use Rattle.cpp_grammar.specs.Unfolding as unfolding_
 use Rattle.cpp_grammar.specs.Unfolding.{opening, close, production_at, byte_of, cpp, first_around, first_state, first_tree, unfold_cpp}
-use Rattle.cpp_grammar.specs.Rescoping.{generic_so_far, parameter_here, lambda_with, as_generic_lambda, has_held, is_counted_alike, is_foreign, restated, substituted_wide, numbered, between_wide, close_wide, cpp_wide, unfold_wide, argument_here, generic_number}
+use Rattle.cpp_grammar.specs.Rescoping.{generic_so_far, parameter_here, lambda_with, as_generic_lambda, has_held, is_counted_alike, named_alike, is_foreign, restated, substituted_wide, numbered, between_wide, close_wide, cpp_wide, unfold_wide, argument_here, generic_number}
 use Rattle.cpp_grammar.specs.TableLaws.{wide_sound}
 use Rattle.cpp_grammar.proofs.Choosing.{each_passes, chosen_rule, taken_passes, implied}
 use Rattle.cpp_grammar.proofs.Chosen.{either, if_there}
@@ -339,12 +339,17 @@ record Closes (around : Around) (wide : Result (Found Value State) Refusal) (r :
   value : around.in_lambda ≡ true → HasNone (held r.value)
   candidates : AllHaveNone r.state.candidates
 
+-- a number names the candidate of that number
+alike_stays : (cs : List Candidate) (n : ℕ) → AllHaveNone cs → named_alike cs n ≡ slice_get cs n
+unfolding named_alike is_counted_alike
+alike_stays cs n all =
+    either (λ o. o ≡ slice_get cs n) (not (has_held cs (n + 2))) _ _ (λ is. refl) (λ is. absurd (true≢false (sym (ap not (none_held cs (n + 2) all)) ∙ is)))
+
 substituted_stays : (around : Around) (place n : ℕ) (state : State) (r : Found Value State) → AllHaveNone state.candidates → substituted around place (slice_get state.candidates n) state ≡ Ok r →
     Closes around (numbered around place n state) r
-unfolding substituted substituted_wide numbered is_counted_alike
+unfolding substituted substituted_wide numbered
 substituted_stays around place n state r cs e =
-    either (λ x. Closes around x r) (not (has_held state.candidates (n + 2))) _ _ (λ is. go (slice_get state.candidates n) refl e)
-    (λ is. absurd (true≢false (sym (ap not (none_held state.candidates (n + 2) cs)) ∙ is)))
+    subst (λ o. Closes around (substituted_wide around place o state) r) (sym (alike_stays state.candidates n cs)) (go (slice_get state.candidates n) refl e)
   where
     go : (o : Option Candidate) → slice_get state.candidates n ≡ o → substituted around place o state ≡ Ok r → Closes around (substituted_wide around place o state) r
     go None is h = let clash : ◌≡◌ {A = Result (Found Value State) Refusal} (Err (BadReference place)) (Ok r) = h in absurd cc

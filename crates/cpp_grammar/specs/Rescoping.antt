@@ -1,8 +1,8 @@
 -- The reading of the wide grammar (ABI 5.1.8, 5.1.10). It differs from that of the ABI's grammar in three points: the
 -- parameters of a lambda's signature are the lambda's own; a substitution may name a tree that was made where its parameters
 -- meant others than those meant where it is named; and there are names with an M, inherited constructors and concepts with
--- arguments, from which on compilers differ in how they count.
-use Rattle.std.specs.Prelude.{ℕ, zero, suc, ◌+◌, ◌-◌, ◌^◌, List, [], ◌∷◌, ◌++◌, Bool, true, false, not, ◌||◌, ◌&&◌, nat_eq, nat_lt, cond, slice_get, Option, Some, None, Result, Ok, Err}
+-- arguments, which compilers count differently.
+use Rattle.std.specs.Prelude.{ℕ, zero, suc, ◌+◌, ◌-◌, ◌^◌, List, [], ◌∷◌, ◌++◌, length, Bool, true, false, not, ◌||◌, ◌&&◌, nat_eq, nat_lt, cond, slice_get, Option, Some, None, Result, Ok, Err}
 use Rattle.sym_core.specs.declared.refusal.Refusal.{Refusal}
 use Rattle.sym_core.specs.declared.refusal.Refusal.TheVariants.{BadReference}
 use Rattle.sym_core.specs.declared.NumberKind.TheVariants.{Seq36}
@@ -54,23 +54,40 @@ as_generic_lambda v = v
 -- ## Names with an M
 
 -- The initializer of a variable or of a data member has a prefix: that one's name, with an M after it. Some compilers count the
--- name among the candidates and some don't, and a symbol doesn't say which one made it. So from that candidate on, the last one
--- before the M, no number names the same tree by all of them. Here the name is a candidate, and becomes one once more with its
--- M, as a mark of that.
+-- name among the candidates and some don't, and a symbol doesn't say which one made it. Here the name is a candidate, and
+-- becomes one once more with its M, as a mark of that. So there are two lists: the longer one has all but the marks, and the
+-- shorter one lacks the names before them, too.
 
 unfoldable pub with_holder : Around → Term → State → State
 with_holder around t state = record state { candidates = state.candidates ++ (record { tree = t; encoding = around.encoding; in_lambda = around.in_lambda; is_held = true } ∷ []) }
 
--- whether there is a name with its M among the first n candidates
+-- whether there is a mark among the first n candidates
 unfoldable pub has_held : List Candidate → ℕ → Bool
 has_held [] count = false
 has_held (c ∷ cs) zero = false
 has_held (c ∷ cs) (suc count) = c.is_held || has_held cs count
 
--- Whether all compilers count alike up to the candidate of this number: neither it nor one before it has its M, and the next
--- one isn't the same name with its M.
+-- Whether all compilers count alike up to the candidate of this number: neither it nor one before it is a mark, and the next
+-- one isn't a mark of it.
 unfoldable pub is_counted_alike : List Candidate → (number : ℕ) → Bool
 is_counted_alike candidates number = not (has_held candidates (number + 2))
+
+-- whether there are two marks, where one before the list counts as well
+unfoldable pub is_held_twice : (once : Bool) → List Candidate → Bool
+is_held_twice once [] = false
+is_held_twice once (c ∷ cs) = (once && c.is_held) || is_held_twice (once || c.is_held) cs
+
+-- Whether this number is that of the last candidate in the longer list, where there is one mark.
+unfoldable pub is_last_counted : List Candidate → (number : ℕ) → Bool
+is_last_counted candidates number = nat_eq (number + 2) (length candidates) && not (is_held_twice false candidates)
+
+-- The candidate that a number names by each of the two lists that has this number. Before the mark both have the same. After it
+-- only the last number of the longer list is past the end of the shorter one, and so tells which of them the compiler has.
+unfoldable pub named_alike : List Candidate → (number : ℕ) → Option Candidate
+named_alike candidates number = elim (is_counted_alike candidates number) [
+  | true ↦ slice_get candidates number
+  | false ↦ elim (is_last_counted candidates number) [ true ↦ slice_get candidates (number + 1) | false ↦ None ]
+]
 
 unfoldable pub is_instance : Term → Bool
 is_instance (instance template arguments) = true
@@ -86,15 +103,19 @@ holder_so_far around place state = elim (is_instance (prefix_tree around.prefix)
 
 -- ## Inherited constructors, and concepts
 
--- Compilers also differ in whether they count the base class after CI, or the constructor with it, or the name of a concept
--- before its arguments: from there on no number names the same tree by all of them. That class or name is a candidate, unless a
--- number names it, and becomes one once more as a mark of that.
+-- Compilers also differ in whether they count the base class after CI, or the name of a concept before its arguments: that class
+-- or name is a candidate, unless a number names it, and becomes one once more as a mark of that.
 
 unfoldable pub with_held : Around → Term → State → State
 with_held around t state = with_holder around t (appended around t state)
 
 unfoldable pub held_unless : (listed : Bool) → Around → Term → State → State
 held_unless listed around t state = elim listed [ true ↦ state | false ↦ with_held around t state ]
+
+-- Some also count a constructor before its own arguments, with its base class. Before arguments that may be its own there are
+-- two marks: from there on neither list is one that a compiler has.
+unfoldable pub held_twice_unless : (listed : Bool) → Around → Term → State → State
+held_twice_unless listed around t state = elim listed [ true ↦ state | false ↦ with_holder around t (with_held around t state) ]
 
 -- The base class is counted before the constructor's own arguments, and otherwise once it's complete.
 unfoldable pub counted_base : Around → (base : Value) → State → State
@@ -150,12 +171,9 @@ substituted_wide around place (Some c) state = elim (is_foreign around c) [
   | false ↦ substituted around place (Some c) state
 ]
 
--- nor is a number named that compilers count differently
+-- a substitution names the candidate that its number names by each way of counting
 unfoldable pub numbered : Around → (place : ℕ) → (number : ℕ) → State → Result (Found Value State) Refusal
-numbered around place number state = elim (is_counted_alike state.candidates number) [
-  | true ↦ substituted_wide around place (slice_get state.candidates number) state
-  | false ↦ Err (BadReference place)
-]
+numbered around place number state = substituted_wide around place (named_alike state.candidates number) state
 
 -- ## The unfolding
 
@@ -164,7 +182,7 @@ between_wide Production.Parameter around place (v ∷ []) state = parameter_here
 between_wide Production.NestParameter around place (v ∷ []) state = parameter_here around place (index_of v) [] state
 between_wide Production.ParameterArgument around place (v ∷ []) state = parameter_here around (place - 1) (index_of v) [] state
 between_wide Production.ParameterExpression around place (v ∷ []) state = argument_here around place (index_of v) state
-between_wide Production.HeldArguments around place [] state = next [] (inside around) (held_unless (prefix_listed around.prefix) around (prefix_tree around.prefix) state)
+between_wide Production.HeldArguments around place [] state = next [] (inside around) (held_twice_unless (prefix_listed around.prefix) around (prefix_tree around.prefix) state)
 between_wide Production.Holder around place (v ∷ []) state = holder_so_far around place state
 between_wide production around place vs state = between production around place vs state
 

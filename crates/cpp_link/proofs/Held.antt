@@ -1,16 +1,14 @@
 -- What is done with a name with its M, and with numbers of candidates, is what the wide reading says.
-use Rattle.std.proofs.Common.{◌≡◌, refl, sym, ◌∙◌, ap, arith, ℕ, List, [], ◌∷◌, ◌+◌, length, Bool, true, false, not, ◌||◌, Option, Some, None, Result, Ok, Err, slice_get}
-use Rattle.std.proofs.lemmas.Bool.{true≢false, false≢true, eqb-true}
-use Rattle.sym_core.specs.declared.refusal.Refusal.{Refusal}
+use Rattle.std.proofs.Common.{◌≡◌, refl, sym, ◌∙◌, ap, arith, ℕ, List, [], ◌∷◌, ◌+◌, length, Bool, true, false, not, ◌||◌, ◌&&◌, nat_eq, Option, Some, None, Ok, Err, slice_get}
+use Rattle.std.proofs.lemmas.Bool.{true≢false, false≢true, eqb-true, eqb-false, ne_eqb}
 use Rattle.sym_core.specs.declared.refusal.Refusal.TheVariants.{BadReference}
-use Rattle.sym_link.specs.Reading.{Found}
 use Rattle.cpp_grammar.specs.declared.production.Production.{Production}
 use Rattle.cpp_term.specs.Term.{Term, holder}
 use Rattle.cpp_term.specs.Values as values
 use Rattle.cpp_term.specs.Values.{State, Around, Value, tree, tree_of, part, prefix_tree, prefix_listed}
 use Rattle.cpp_term.specs.Between.{Going, inside, after, listed_so_far}
 use Rattle.cpp_term.specs.References.{appended, with_prefix}
-use Rattle.cpp_term.specs.Rescoping.{with_holder, with_held, held_unless, has_held, is_instance, is_counted_alike, holder_so_far, substituted_wide, numbered, between_wide}
+use Rattle.cpp_term.specs.Rescoping.{with_holder, with_held, held_twice_unless, has_held, is_held_twice, is_instance, is_counted_alike, is_last_counted, named_alike, holder_so_far, between_wide}
 use Rattle.cpp_term.proofs.Notes.{both}
 use Rattle.cpp_tree.specs.Nodes as nodes
 use Rattle.cpp_tree.specs.Nodes.{Stored, tree_at}
@@ -19,12 +17,12 @@ use Rattle.cpp_references.specs.declared.candidates.Candidate.{Candidate}
 use Rattle.cpp_references.specs.declared.around.Surroundings.{Surroundings}
 use Rattle.cpp_link.specs.declared.part.Step.{Step}
 use Rattle.cpp_link.specs.LinkRescoping.{steps_apart, marked_unless, with_mark, going_marked}
-use Rattle.cpp_link.specs.Parts.{trees_in, prefix_of, name_of, around_of, candidates_of, is_apart_behind, AreCounted}
-use Rattle.cpp_link.specs.Reads.{goes_on, with_candidate, behind_first, named_if, appended_if}
+use Rattle.cpp_link.specs.Parts.{trees_in, prefix_of, name_of, around_of, candidates_of, is_apart_behind, is_far_behind, AreCounted}
+use Rattle.cpp_link.specs.Reads.{goes_on, last_if, with_candidate, behind_first, named_if, appended_if}
 use Rattle.cpp_link.specs.NodeCount.{makes_before}
 use Rattle.cpp_link.specs.Owed.{made_before}
 use Rattle.cpp_link.specs.Stepping.{IsStepOf}
-use Rattle.cpp_link.proofs.Appending.{past_all, number_apart, all_apart}
+use Rattle.cpp_link.proofs.Appending.{some_past, past_all, number_apart, all_apart, all_far, many_candidates}
 
 -- ## What is done before a part
 
@@ -73,12 +71,12 @@ held_refused around place (v ∷ []) state one named = by (is_instance (prefix_t
     by false h = absurd (false≢true h)
 
 -- a name is counted, and again as a mark, unless it is a candidate by now
-held_again : (listed : Bool) (around : Around) (t : Term) (state : State) → held_unless listed around t state ≡ marked_unless listed around t (elim listed [ true ↦ state | false ↦ appended around t state ])
-unfolding held_unless marked_unless with_held
+held_again : (listed : Bool) (around : Around) (t : Term) (state : State) → held_twice_unless listed around t state ≡ marked_unless listed around t (elim listed [ true ↦ state | false ↦ appended around t state ])
+unfolding held_twice_unless marked_unless with_held
 held_again true around t state = refl
 held_again false around t state = refl
 
-prefix_held : (around : Around) (state : State) → held_unless (prefix_listed around.prefix) around (prefix_tree around.prefix) state ≡ marked_unless (prefix_listed around.prefix) around (prefix_tree around.prefix) (with_prefix around state)
+prefix_held : (around : Around) (state : State) → held_twice_unless (prefix_listed around.prefix) around (prefix_tree around.prefix) state ≡ marked_unless (prefix_listed around.prefix) around (prefix_tree around.prefix) (with_prefix around state)
 unfolding with_prefix
 prefix_held around state = held_again (prefix_listed around.prefix) around (prefix_tree around.prefix) state
 
@@ -116,18 +114,53 @@ held_step before node packs one = rw one (omega arith, refl)
 
 -- ## Numbers
 
-abbrev Named : Type 0
-Named = Result (Found Value State) Refusal
+pub named_before : (cs : List values.Candidate) (number : ℕ) → is_counted_alike cs number ≡ true → named_alike cs number ≡ slice_get cs number
+unfolding named_alike
+named_before cs number is =
+    ap (λ b. elim b as (λ _. Option values.Candidate) [ true ↦ slice_get cs number | false ↦ elim (is_last_counted cs number) [ true ↦ slice_get cs (number + 1) | false ↦ None ] ]) is
 
-pub numbered_alike : (around : Around) (place number : ℕ) (state : State) → is_counted_alike state.candidates number ≡ true → numbered around place number state ≡ substituted_wide around place (slice_get state.candidates number) state
-unfolding numbered
-numbered_alike around place number state is =
-    ap (λ b. elim b as (λ _. Named) [ true ↦ substituted_wide around place (slice_get state.candidates number) state | false ↦ Err (BadReference place) ]) is
+pub named_behind : (cs : List values.Candidate) (number : ℕ) → is_counted_alike cs number ≡ false → named_alike cs number ≡ last_if (is_last_counted cs number) cs number
+unfolding named_alike last_if
+named_behind cs number is =
+    ap (λ b. elim b as (λ _. Option values.Candidate) [ true ↦ slice_get cs number | false ↦ elim (is_last_counted cs number) [ true ↦ slice_get cs (number + 1) | false ↦ None ] ]) is
 
-pub numbered_apart : (around : Around) (place number : ℕ) (state : State) → is_counted_alike state.candidates number ≡ false → numbered around place number state ≡ Err (BadReference place)
-unfolding numbered
-numbered_apart around place number state is =
-    ap (λ b. elim b as (λ _. Named) [ true ↦ substituted_wide around place (slice_get state.candidates number) state | false ↦ Err (BadReference place) ]) is
+module _ (ts : List Term) (cs : List Candidate) (number : ℕ) where
+  -- a number isn't the last one of the longer list where there are two marks, or where a candidate comes after that
+  pub two_marks : is_far_behind false false cs ≡ true → is_last_counted (candidates_of ts cs) number ≡ false
+  unfolding is_last_counted
+  two_marks two = ap (λ b. nat_eq (number + 2) (length (candidates_of ts cs)) && not b) (all_far ts false false cs ∙ two) ∙ and_false (nat_eq (number + 2) (length (candidates_of ts cs)))
+    where
+      and_false : (b : Bool) → b && false ≡ false
+      and_false true = refl
+      and_false false = refl
+
+  pub before_last : (d : Candidate) → slice_get cs (number + 1 + 1) ≡ Some d → is_last_counted (candidates_of ts cs) number ≡ false
+  unfolding is_last_counted
+  before_last d at =
+      ap (λ b. b && not (is_held_twice false (candidates_of ts cs)))
+      (ne_eqb (number + 2) (length (candidates_of ts cs)) (λ same. omega (arith, same, some_past cs (number + 1 + 1) d at, many_candidates ts cs)))
+
+  -- otherwise the candidate after it is the last one, or there is none
+  pub last_named : is_far_behind false false cs ≡ false → slice_get cs (number + 1 + 1) ≡ None
+      → slice_get (candidates_of ts cs) (number + 1) ≡ last_if (is_last_counted (candidates_of ts cs) number) (candidates_of ts cs) number
+  unfolding is_last_counted last_if
+  last_named one past = go (nat_eq (number + 2) (length (candidates_of ts cs)) && not (is_held_twice false (candidates_of ts cs))) refl
+    where
+      and_true : (b : Bool) → b && true ≡ b
+      and_true true = refl
+      and_true false = refl
+
+      by : nat_eq (number + 2) (length (candidates_of ts cs)) ≡ false → (o : Option values.Candidate) → slice_get (candidates_of ts cs) (number + 1) ≡ o → o ≡ None
+      by other None at = refl
+      by other (Some c) at =
+          absurd (eqb-false (number + 2) (length (candidates_of ts cs)) other
+          (omega (arith, some_past (candidates_of ts cs) (number + 1) c at, past_all cs (number + 1 + 1) past, many_candidates ts cs)))
+
+      go : (b : Bool) → nat_eq (number + 2) (length (candidates_of ts cs)) && not (is_held_twice false (candidates_of ts cs)) ≡ b
+          → slice_get (candidates_of ts cs) (number + 1) ≡ elim b [ true ↦ slice_get (candidates_of ts cs) (number + 1) | false ↦ None ]
+      go true is = refl
+      go false is =
+          by (sym (and_true _) ∙ ap (λ b. nat_eq (number + 2) (length (candidates_of ts cs)) && not b) (sym (all_far ts false false cs ∙ one)) ∙ is) (slice_get (candidates_of ts cs) (number + 1)) refl
 
 -- whether compilers count alike up to a number, by the candidate after it, or by the last one
 pub alike_by_next : (ts : List Term) (cs : List Candidate) (number : ℕ) (next : Candidate) → AreCounted false cs → slice_get cs (number + 1) ≡ Some next

@@ -1,5 +1,5 @@
 -- C++'s reading of the wide grammar as the linker follows it, and how many nodes it makes of a symbol.
-use Rattle.std.specs.Prelude.{◌≡◌, ℕ, ◌+◌, List, [], ◌∷◌, slice_get, Option, Some, None, Bool, true, false, ◌&&◌, nat_eq, Result, Ok, Err}
+use Rattle.std.specs.Prelude.{◌≡◌, ℕ, ◌+◌, List, [], ◌∷◌, Option, Some, None, Bool, true, false, ◌&&◌, nat_eq, Result, Ok, Err}
 use Rattle.sym_core.specs.declared.refusal.Refusal.{Refusal}
 use Rattle.sym_core.specs.declared.NumberKind.TheVariants.{Seq36}
 use Rattle.sym_core.specs.Value.{counted_value}
@@ -15,7 +15,7 @@ use Rattle.cpp_term.specs.Term.{Term, parameter}
 use Rattle.cpp_term.specs.Items.{auto}
 use Rattle.cpp_term.specs.Values.{Candidate, State, Around, Value, tree, tree_of, prefix_tree, prefix_listed, text_of, part}
 use Rattle.cpp_term.specs.Unfolding.{first_around, first_state}
-use Rattle.cpp_term.specs.Rescoping.{generic_so_far, with_holder, is_foreign, as_generic_lambda, counted_base, close_wide, cpp_wide}
+use Rattle.cpp_term.specs.Rescoping.{generic_so_far, with_holder, is_foreign, as_generic_lambda, counted_base, named_alike, close_wide, cpp_wide}
 use Rattle.cpp_term.specs.Between.{Going, next}
 use Rattle.cpp_link.specs.declared.linked.Linked.{Linked}
 use Rattle.cpp_link.specs.declared.rescoping.Rescoping.{Rescoping}
@@ -73,9 +73,14 @@ steps_apart Production.HeldArguments in_lambda before = nat_eq before 0
 steps_apart _ in_lambda before = false
 
 unfoldable pub marked_unless : (listed : Bool) → Around → Term → State → State
-marked_unless listed around t state = elim listed [ true ↦ state | false ↦ with_holder around t state ]
+marked_unless listed around t state = elim listed [ true ↦ state | false ↦ with_holder around t (with_holder around t state) ]
 
--- What is a mark among the candidates then, once the parts denote these values: a name with its M, a base class, or a concept's
+-- whether two marks are put among the candidates
+unfoldable pub marks_twice : Production → Bool
+marks_twice Production.HeldArguments = true
+marks_twice _ = false
+
+-- What is marked among the candidates then, once the parts denote these values: a name with its M, a base class, or a concept's
 -- name.
 unfoldable pub with_mark : Production → Around → List Value → State → State
 with_mark Production.Holder around vs state = with_holder around (tree_of (part vs 0)) state
@@ -98,7 +103,7 @@ number_in known = counted_value Seq36 (text_of (part known 0))
 
 -- the candidate that a substitution with these parts names
 abbrev pub named_by : State → List Value → Option Candidate
-named_by state known = slice_get state.candidates (number_in known)
+named_by state known = named_alike state.candidates (number_in known)
 
 -- ## What a symbol makes
 

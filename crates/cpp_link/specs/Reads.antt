@@ -1,5 +1,5 @@
 -- What is read from nodes and from references.
-use Rattle.std.specs.Prelude.{ℕ, ◌<◌, List, [], ◌∷◌, Bool, true, false, ◌||◌, ◌&&◌, nat_eq, Option, Some, None, Ok}
+use Rattle.std.specs.Prelude.{ℕ, ◌<◌, ◌+◌, List, [], ◌∷◌, slice_get, Bool, true, false, ◌||◌, ◌&&◌, nat_eq, Option, Some, None, Ok}
 use Rattle.cpp_grammar.specs.Standing.{is_code}
 use Rattle.cpp_term.specs.Term as term
 use Rattle.cpp_term.specs.Term.{Term, absent, nil}
@@ -74,6 +74,17 @@ with_candidate false around ts None state = state
 with_candidate false around ts (Some n) state = appended around (tree_at ts n) state
 with_candidate true around ts None state = state
 with_candidate true around ts (Some n) state = with_holder around (tree_at ts n) state
+
+-- the candidate after that of a number, or none
+unfoldable pub last_if : (is_last : Bool) → List values.Candidate → (number : ℕ) → Option values.Candidate
+last_if is_last cs number = elim is_last [ true ↦ slice_get cs (number + 1) | false ↦ None ]
+
+-- a tree more or less as a mark, or as two marks
+unfoldable pub with_marks : (twice : Bool) → Around → List Term → Option ℕ → State → State
+with_marks twice around ts candidate state = elim twice [
+  | true ↦ with_candidate true around ts candidate (with_candidate true around ts candidate state)
+  | false ↦ with_candidate true around ts candidate state
+]
 
 -- ## Steps
 

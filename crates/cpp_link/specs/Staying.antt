@@ -82,7 +82,7 @@ nodes_more m n [] le there = tt
 nodes_more m n (c ∷ cs) le there = (omega (arith, le, there.0), nodes_more m n cs le there.1)
 
 pub candidates_more : (m n : ℕ) (cs : List Candidate) → m ≤ n → AreCandidatesThere m cs → AreCandidatesThere n cs
-candidates_more m n cs le there = (nodes_more m n cs le there.0, there.1)
+candidates_more m n cs le there = (nodes_more m n cs le there.0, there.1, there.2)
 
 pub kept_more : (m n : ℕ) (kept : Surroundings) → m ≤ n → IsKeptThere m kept → IsKeptThere n kept
 kept_more m n kept le there = (arguments (scope_of kept) there.0, prefix (name_of kept) there.1)

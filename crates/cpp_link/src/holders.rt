@@ -1,6 +1,7 @@
-// Names with an `M`, in the wide grammar. Compilers differ in whether they count the name before it among the candidates.
+// Names with an `M`, in the wide grammar, and inherited constructors. Compilers differ in what they count of these among the
+// candidates.
 
-ghost use Rattle.std.specs.Prelude.{◌≡◌, ℕ, ◌+◌, ◌-◌, ◌<◌, ◌≤◌, ◌^◌, MatchOption, length, slice_index, true, false, Ok, IfOk, IfErr, OnOk};
+ghost use Rattle.std.specs.Prelude.{◌≡◌, ℕ, ◌+◌, ◌-◌, ◌<◌, ◌≤◌, ◌^◌, MatchOption, length, slice_get, slice_index, true, false, IfSome, IfOk, IfErr, OnOk};
 ghost use Rattle.sym_core.specs.Number.{FitsSymbol};
 ghost use Rattle.sym_core.specs.Value.{counted_value};
 ghost use Rattle.sym_core.specs.declared.NumberKind.TheVariants as kinds;
@@ -11,22 +12,22 @@ ghost use Rattle.sym_link.specs.Threads.{IsOpenAt};
 ghost use Rattle.sym_link.specs.Unfold.{found};
 ghost use Rattle.cpp_grammar.specs.declared.production.Production.TheVariants as productions;
 ghost use Rattle.cpp_grammar.specs.Unfolding.{production_at};
-ghost use Rattle.cpp_term.specs.Rescoping.{counted_base, is_counted_alike, is_instance, numbered};
+ghost use Rattle.cpp_term.specs.Rescoping.{counted_base, is_counted_alike, is_instance, is_last_counted, named_alike};
 ghost use Rattle.cpp_term.specs.Values.{State, Around, part};
 ghost use Rattle.cpp_tree.specs.Nodes.{over, tree_at, bytes_at, IsThereBelow, IsWithin, IsTable};
 ghost use Rattle.cpp_link.specs.Closes.{ends_of};
 ghost use Rattle.cpp_link.specs.Grows.{HasPlace};
 ghost use Rattle.cpp_link.specs.LinkReading.{link_meaning};
-ghost use Rattle.cpp_link.specs.LinkRescoping.{number_in, named_by, substituted_nodes, wide_ends, wide_view};
+ghost use Rattle.cpp_link.specs.LinkRescoping.{wide_ends, wide_view};
 ghost use Rattle.cpp_link.specs.Making.{state_of};
 ghost use Rattle.cpp_link.specs.NodeCount.{makes_at_end};
 ghost use Rattle.cpp_link.specs.Parts.{trees_in, value_in, values_in, around_of, candidates_of, IsClosed, IsThere, AreThere, IsKeptThere, AreCandidatesThere};
 ghost use Rattle.cpp_link.specs.Progress.{Finishes, MakesPart};
-ghost use Rattle.cpp_link.specs.Reads.{instance_node, with_candidate};
+ghost use Rattle.cpp_link.specs.Reads.{instance_node, last_if, maybe_candidate, with_candidate};
 ghost use Rattle.cpp_link.specs.View.{IsPaid, IsWhole, cpp_view};
 
-use crate::linked::{Linked, has_holder, is_apart};
-use crate::part::{Part, Surroundings};
+use crate::linked::{Linked, has_holder, has_two_holders, is_apart};
+use crate::part::{Candidate, Part, Surroundings};
 use crate::values::is_listed;
 use cpp_grammar::production::Production;
 use cpp_references::again::opened;
@@ -80,35 +81,37 @@ impl Linked {
         }
     }
 
-    /// A substitution closes: its part is the candidate that it names, with the arguments that are meant here (ABI 5.1.10).
-    ///
-    /// # Errors
-    ///
-    /// Those of `substitute_rescoped`, and `BadReference` at the `S` where not all compilers count alike up to that candidate.
-    pub(crate) fn substitute_counted(
-        &mut self,
-        symbol: &[u8],
-        place: u32,
-        kept: Surroundings,
-        parts: &[Part],
-    ) -> Result<Part, Refusal>
-        requires whole { IsWhole symbol.now self.old }
-        requires paid { IsPaid self.old }
-        requires there { AreThere symbol.now (length self.old.nodes.nodes) parts.now }
-        requires kept { IsKeptThere (length self.old.nodes.nodes) kept }
-        requires closed { IsClosed (around_of (trees_in symbol.now self.old.nodes) kept) }
-        requires room { HasPlace symbol.now self.old.nodes 2 }
-        ensures is { IfOk result (λ made. numbered (around_of (trees_in symbol.now self.old.nodes) kept) (place - 1) (number_in (values_in symbol.now self.old.nodes parts.now)) (state_of symbol.now self.old) ≡ Ok (found (value_in symbol.now self.new.nodes made) (state_of symbol.now self.new))) }
-        ensures refused { IfErr result (λ e. Fails e (numbered (around_of (trees_in symbol.now self.old.nodes) kept) (place - 1) (number_in (values_in symbol.now self.old.nodes parts.now)) (state_of symbol.now self.old))) }
-        ensures made { MakesPart symbol.now self.old self.new 2 (substituted_nodes (around_of (trees_in symbol.now self.old.nodes) kept) (named_by (state_of symbol.now self.old) (values_in symbol.now self.old.nodes parts.now))) result }
+    /// The last candidate, if these digits are its number in the longer list, and there is one mark.
+    fn last_counted(&self, symbol: &[u8], digits: Span) -> Option<Candidate>
+        requires digits { IsWithin digits symbol.now }
+        requires candidates { AreCandidatesThere (length self.now.nodes.nodes) self.now.candidates.items }
+        ensures is { maybe_candidate (trees_in symbol.now self.now.nodes) result ≡ last_if (is_last_counted (candidates_of (trees_in symbol.now self.now.nodes) self.now.candidates.items) (counted_value kinds.Seq36 (bytes_at symbol.now digits))) (candidates_of (trees_in symbol.now self.now.nodes) self.now.candidates.items) (counted_value kinds.Seq36 (bytes_at symbol.now digits)) }
+        ensures there { IfSome result (λ c. c.node < length self.now.nodes.nodes) }
     {
-        let digits = self.text(symbol, parts, 0);
-        if self.is_counted_alike(symbol, digits) {
-            return self.substitute_rescoped(symbol, place, kept, parts);
+        let counted = value36(&symbol[digits.from as usize..digits.to as usize]);
+        let next = next_number(counted);
+        let last = numbered(&self.candidates, next);
+        let past = numbered(&self.candidates, next_number(next));
+        if has_two_holders(&self.candidates) {
+            return None;
         }
-        Err(Refusal::BadReference {
-            at: place.saturating_sub(1),
-        })
+        match past {
+            Some(_) => None,
+            None => last,
+        }
+    }
+
+    /// The candidate that these digits name, whichever way of counting a compiler has.
+    pub(crate) fn named_alike(&self, symbol: &[u8], digits: Span) -> Option<Candidate>
+        requires digits { IsWithin digits symbol.now }
+        requires candidates { AreCandidatesThere (length self.now.nodes.nodes) self.now.candidates.items }
+        ensures is { maybe_candidate (trees_in symbol.now self.now.nodes) result ≡ named_alike (candidates_of (trees_in symbol.now self.now.nodes) self.now.candidates.items) (counted_value kinds.Seq36 (bytes_at symbol.now digits)) }
+        ensures there { IfSome result (λ c. c.node < length self.now.nodes.nodes) }
+    {
+        if self.is_counted_alike(symbol, digits) {
+            return self.candidate(symbol, digits);
+        }
+        self.last_counted(symbol, digits)
     }
 
     /// The base class of an inherited constructor, unless it was counted before the constructor's own arguments, or a number

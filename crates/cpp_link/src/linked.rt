@@ -1,13 +1,13 @@
 // What is linked of a symbol so far.
 
-ghost use Rattle.std.specs.Prelude.{◌≡◌, ℕ, ◌<◌, ◌≤◌, ◌||◌, ◌∷◌, ◌++◌, [], false, List, length, Option, Ok, IfErr, OnOk, OnErr};
+ghost use Rattle.std.specs.Prelude.{◌≡◌, ℕ, ◌<◌, ◌≤◌, ◌||◌, ◌&&◌, ◌∷◌, ◌++◌, [], false, List, length, Option, Ok, IfErr, OnOk, OnErr};
 ghost use Rattle.sym_core.specs.declared.refusal.Refusal.TheVariants as refusals;
 ghost use Rattle.sym_link.specs.Threads.{IsTaken};
 ghost use Rattle.cpp_term.specs.Unfolding.{first_state};
 ghost use Rattle.cpp_term.specs.Term.{Term};
 ghost use Rattle.cpp_tree.specs.Nodes.{IsThereBelow, tree_at};
-ghost use Rattle.cpp_link.specs.Parts.{trees_in, is_lambda, around_of, candidates_of, is_apart_behind, AreCounted, AreCandidatesThere};
-ghost use Rattle.cpp_link.specs.Reads.{with_candidate};
+ghost use Rattle.cpp_link.specs.Parts.{trees_in, is_lambda, around_of, candidates_of, is_apart_behind, is_far_behind, AreCounted, AreCountedTwice, AreCandidatesThere};
+ghost use Rattle.cpp_link.specs.Reads.{with_candidate, with_marks};
 ghost use Rattle.cpp_link.specs.View.{Holds, IsPaid, cpp_view};
 ghost use Rattle.cpp_link.specs.Room.{KeepsRoom, LacksRoom};
 
@@ -26,14 +26,35 @@ pub struct Linked {
     pub packs: Option<u32>,
 }
 
-/// Whether a candidate, or one before it, is a name with its `M`.
+/// Whether a candidate, or one before it, is a mark.
 pub(crate) fn is_apart(candidate: Candidate) -> bool
     ensures { result ≡ candidate.is_apart || candidate.is_held }
 {
     candidate.is_apart || candidate.is_held
 }
 
-/// Whether one of the candidates is a name with its `M`.
+/// Whether two are: a candidate and one before it, or two before it.
+#[inline(always)]
+fn is_far(candidate: Candidate) -> bool
+    ensures { result ≡ candidate.is_far || (candidate.is_apart && candidate.is_held) }
+{
+    candidate.is_far || (candidate.is_apart && candidate.is_held)
+}
+
+/// Whether two of the candidates are marks.
+#[inline(always)]
+pub(crate) fn has_two_holders(candidates: &[Candidate]) -> bool
+    requires counted { AreCounted false candidates.now }
+    requires twice { AreCountedTwice false false candidates.now }
+    ensures { result ≡ is_far_behind false false candidates.now }
+{
+    match candidates.last() {
+        Some(last) => is_far(*last),
+        None => false,
+    }
+}
+
+/// Whether one of the candidates is a mark.
 #[inline(always)]
 pub(crate) fn has_holder(candidates: &[Candidate]) -> bool
     requires counted { AreCounted false candidates.now }
@@ -73,7 +94,7 @@ impl Linked {
         Ok(())
     }
 
-    /// A tree becomes a candidate, which may be a name with its `M`.
+    /// A tree becomes a candidate, possibly as a mark.
     ///
     /// # Errors
     ///
@@ -102,6 +123,7 @@ impl Linked {
             in_lambda: kept.in_lambda(),
             is_held,
             is_apart: has_holder(&self.candidates),
+            is_far: has_two_holders(&self.candidates),
         };
         push_part(&mut self.candidates, candidate)?;
         Ok(())
@@ -139,6 +161,39 @@ impl Linked {
                 Ok(())
             }
         }
+    }
+
+    /// A tree becomes a candidate as a mark, or as two marks, or none does.
+    ///
+    /// # Errors
+    ///
+    /// `Memory` where the candidates couldn't grow.
+    #[tactic(auto, unfolding(crate::specs::Reads::with_marks))]
+    pub(crate) fn append_marks(
+        &mut self,
+        symbol: &[u8],
+        kept: Surroundings,
+        candidate: Option<u32>,
+        twice: bool,
+    ) -> Result<(), Refusal>
+        requires candidate { IsThereBelow (length self.old.nodes.nodes) candidate }
+        requires there { AreCandidatesThere (length self.old.nodes.nodes) self.old.candidates.items }
+        ensures nodes { self.new.nodes ≡ self.old.nodes }
+        ensures packs { self.new.packs ≡ self.old.packs }
+        ensures there { OnOk result (AreCandidatesThere (length self.old.nodes.nodes) self.new.candidates.items) }
+        ensures is { OnOk result ((packs : Option ℕ) → with_marks twice (around_of (trees_in symbol.now self.old.nodes) kept) (trees_in symbol.now self.old.nodes) candidate
+            (record { candidates = candidates_of (trees_in symbol.now self.old.nodes) self.old.candidates.items; packs = packs })
+            ≡ record { candidates = candidates_of (trees_in symbol.now self.old.nodes) self.new.candidates.items; packs = packs }) }
+        ensures memory { IfErr result (λ e. e ≡ refusals.Memory) }
+        ensures keeps { KeepsRoom self.old self.new }
+        ensures full { OnErr result (LacksRoom self.old self.new) }
+    {
+        self.append(symbol, kept, candidate, true)?;
+        if !twice {
+            return Ok(());
+        }
+        self.append(symbol, kept, candidate, true)?;
+        Ok(())
     }
 
     /// What a token denotes.

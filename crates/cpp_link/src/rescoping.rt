@@ -17,12 +17,12 @@ ghost use Rattle.cpp_term.specs.Values as values;
 ghost use Rattle.cpp_term.specs.Rescoping.{is_foreign, restated, substituted_wide, as_generic_lambda, between_wide};
 ghost use Rattle.cpp_tree.specs.Nodes.{over, tree_at, bytes_at, piece_of, IsThereBelow, IsPieceBelow, IsWithin, IsTable};
 ghost use Rattle.cpp_link.specs.Grows.{HasPlace};
-ghost use Rattle.cpp_link.specs.LinkRescoping.{is_parameter, is_parameter_argument, steps_apart, with_mark, going_marked, generic_read, named_by, substituted_nodes, wide_ends, wide_view};
+ghost use Rattle.cpp_link.specs.LinkRescoping.{is_parameter, is_parameter_argument, steps_apart, marks_twice, with_mark, going_marked, generic_read, named_by, substituted_nodes, wide_ends, wide_view};
 ghost use Rattle.cpp_link.specs.Making.{state_of};
 ghost use Rattle.cpp_link.specs.NodeCount.{makes_before};
 ghost use Rattle.cpp_link.specs.Parts.{trees_in, value_in, values_in, is_lambda, around_of, candidate_of, IsClosed, IsThere, AreThere, IsKeptThere, IsStepThere};
 ghost use Rattle.cpp_link.specs.Progress.{Advances, Finishes, MakesPart};
-ghost use Rattle.cpp_link.specs.Reads.{with_candidate, goes_on};
+ghost use Rattle.cpp_link.specs.Reads.{with_marks, goes_on};
 ghost use Rattle.cpp_link.specs.Stepping.{IsStepOf, nodes_of_step};
 ghost use Rattle.cpp_link.specs.View.{IsPaid, IsWhole, cpp_view};
 
@@ -51,6 +51,17 @@ impl Rescoping {
         Rescoping {
             linked: Linked::new(alloc),
         }
+    }
+}
+
+/// Whether two marks are put among the candidates: before arguments that may be those of a constructor which is inherited.
+#[tactic(auto, unfolding(crate::specs::LinkRescoping::marks_twice))]
+fn marks_twice(production: Production) -> bool
+    ensures { result ≡ marks_twice production }
+{
+    match production {
+        Production::HeldArguments => true,
+        _ => false,
     }
 }
 
@@ -179,7 +190,7 @@ impl Linked {
         requires table { IsTable (over symbol.now self.now.nodes) }
         requires kept { IsKeptThere (length self.now.nodes.nodes) kept }
         requires there { AreThere symbol.now (length self.now.nodes.nodes) parts.now }
-        ensures is { (state : values.State) → with_candidate true (around_of (trees_in symbol.now self.now.nodes) kept) (trees_in symbol.now self.now.nodes) result state
+        ensures is { (state : values.State) → with_marks (marks_twice production) (around_of (trees_in symbol.now self.now.nodes) kept) (trees_in symbol.now self.now.nodes) result state
             ≡ with_mark production (around_of (trees_in symbol.now self.now.nodes) kept) (values_in symbol.now self.now.nodes parts.now) state }
         ensures there { IsThereBelow (length self.now.nodes.nodes) result }
     {
@@ -216,7 +227,7 @@ impl Linked {
         let step = self.step_apart(symbol, production, frame.place, frame.kept, own)?;
         let then = self.take_step(symbol, frame.kept, frame.base, step, parts)?;
         let mark = self.marked(symbol, production, frame.kept, &parts[frame.base..]);
-        self.append(symbol, frame.kept, mark, true)?;
+        self.append_marks(symbol, frame.kept, mark, marks_twice(production))?;
         Ok(then)
     }
 
@@ -272,8 +283,8 @@ impl Linked {
     ///
     /// # Errors
     ///
-    /// `BadReference` one byte before the place, at the `S`, where it may name no such candidate, `Memory` where the nodes couldn't
-    /// grow.
+    /// `BadReference` one byte before the place, at the `S`, where not all compilers name one candidate by its number, or it may not
+    /// name that one; `Memory` where the nodes couldn't grow.
     pub(crate) fn substitute_rescoped(
         &mut self,
         symbol: &[u8],
@@ -292,7 +303,7 @@ impl Linked {
         ensures made { MakesPart symbol.now self.old self.new 2 (substituted_nodes (around_of (trees_in symbol.now self.old.nodes) kept) (named_by (state_of symbol.now self.old) (values_in symbol.now self.old.nodes parts.now))) result }
     {
         let at = place.saturating_sub(1);
-        let Some(candidate) = self.candidate(symbol, self.text(symbol, parts, 0)) else {
+        let Some(candidate) = self.named_alike(symbol, self.text(symbol, parts, 0)) else {
             return Err(Refusal::BadReference { at });
         };
         if self.is_foreign(symbol, kept, candidate) {
@@ -311,7 +322,7 @@ impl Linked {
     ///
     /// # Errors
     ///
-    /// Those of `substitute_counted`, and `Memory` where the list of parts couldn't grow.
+    /// Those of `substitute_rescoped`, and `Memory` where the list of parts couldn't grow.
     #[tactic(auto, using(crate::proofs::Viewing::own_there))]
     pub(crate) fn finish_substitution(
         &mut self,
@@ -325,7 +336,7 @@ impl Linked {
         requires base { frame.now.base ≤ length parts.old.items }
         ensures { Finishes (wide_view symbol.now) (wide_ends symbol.now self.old frame.now.kept) symbol.now self.old self.new frame.now parts.old parts.new result }
     {
-        let made = self.substitute_counted(symbol, frame.place, frame.kept, &parts[frame.base..])?;
+        let made = self.substitute_rescoped(symbol, frame.place, frame.kept, &parts[frame.base..])?;
         put(parts, frame.base, made)
     }
 

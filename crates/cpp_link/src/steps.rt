@@ -17,7 +17,7 @@ ghost use Rattle.cpp_link.specs.declared.part.Part.TheVariants as variants;
 ghost use Rattle.cpp_link.specs.declared.part.Step.{Step};
 ghost use Rattle.cpp_link.specs.Parts.{trees_in, tree_of_node, value_in, values_in, prefix_of, name_of, around_of, IsClosed, IsThere, AreThere, IsPrefixThere, IsKeptThere, IsStepThere};
 ghost use Rattle.cpp_link.specs.LinkRescoping.{marked_unless};
-ghost use Rattle.cpp_link.specs.Reads.{with_candidate, goes_on};
+ghost use Rattle.cpp_link.specs.Reads.{with_candidate, with_marks, goes_on};
 ghost use Rattle.cpp_link.specs.Stepping.{IsStepOf, nodes_of_step};
 ghost use Rattle.cpp_link.specs.Closes.{pack_makes};
 ghost use Rattle.cpp_link.specs.NodeCount.{makes_before, one_if_arguments};
@@ -32,10 +32,10 @@ use cpp_tree::nodes::{ABSENT, NO_ELEMENTS};
 use sym_core::{Refusal, Span};
 
 /// The candidate that the name so far becomes.
-#[tactic(auto, unfolding(crate::specs::Parts::around_of, crate::specs::Parts::prefix_in, crate::specs::Parts::prefix_of, crate::specs::Reads::with_candidate, crate::specs::LinkRescoping::marked_unless, cpp_term::specs::References::with_prefix, cpp_term::specs::Values::prefix_tree, cpp_term::specs::Values::prefix_listed))]
+#[tactic(auto, unfolding(crate::specs::Parts::around_of, crate::specs::Parts::prefix_in, crate::specs::Parts::prefix_of, crate::specs::Reads::with_candidate, crate::specs::Reads::with_marks, crate::specs::LinkRescoping::marked_unless, cpp_term::specs::References::with_prefix, cpp_term::specs::Values::prefix_tree, cpp_term::specs::Values::prefix_listed))]
 fn prefix_candidate(kept: Surroundings) -> Option<u32>
     ensures is { (ts : List term.Term) (state : State) → with_prefix (around_of ts kept) state ≡ with_candidate false (around_of ts kept) ts result state }
-    ensures held { (ts : List term.Term) (state : State) → marked_unless (prefix_listed (around_of ts kept).prefix) (around_of ts kept) (prefix_tree (around_of ts kept).prefix) state ≡ with_candidate true (around_of ts kept) ts result state }
+    ensures held { (ts : List term.Term) (state : State) → marked_unless (prefix_listed (around_of ts kept).prefix) (around_of ts kept) (prefix_tree (around_of ts kept).prefix) state ≡ with_marks true (around_of ts kept) ts result state }
     ensures there { (n : ℕ) → IsPrefixThere n (name_of kept) → IsThereBelow n result }
 {
     match kept.naming {
@@ -103,7 +103,7 @@ impl Linked {
         requires kept { IsKeptThere (length self.now.nodes.nodes) kept }
         ensures is { (state : State) → with_prefix (around_of (trees_in symbol.now self.now.nodes) kept) state ≡ with_candidate false (around_of (trees_in symbol.now self.now.nodes) kept) (trees_in symbol.now self.now.nodes) result state }
         ensures held { (state : State) → marked_unless (prefix_listed (around_of (trees_in symbol.now self.now.nodes) kept).prefix) (around_of (trees_in symbol.now self.now.nodes) kept) (prefix_tree (around_of (trees_in symbol.now self.now.nodes) kept).prefix) state
-            ≡ with_candidate true (around_of (trees_in symbol.now self.now.nodes) kept) (trees_in symbol.now self.now.nodes) result state }
+            ≡ with_marks true (around_of (trees_in symbol.now self.now.nodes) kept) (trees_in symbol.now self.now.nodes) result state }
         ensures there { IsThereBelow (length self.now.nodes.nodes) result }
     {
         prefix_candidate(kept)

@@ -25,10 +25,12 @@ pub struct Candidate {
     pub node: u32,
     pub encoding: u32,
     pub in_lambda: bool,
-    /// Whether it's a name with its `M`.
+    /// Whether it's a mark: compilers differ in whether they count the candidate before it.
     pub is_held: bool,
-    /// Whether an earlier candidate is one.
+    /// Whether an earlier candidate is a mark.
     pub is_apart: bool,
+    /// Whether two earlier candidates are.
+    pub is_far: bool,
 }
 
 /// The candidate of a number.

@@ -8,7 +8,7 @@ use Rattle.sym_link.specs.Unfold.{found}
 use Rattle.sym_core.specs.declared.NumberKind.TheVariants.{Decimal, Seq36}
 use Rattle.sym_core.specs.Value.{counted_value}
 use Rattle.cpp_grammar.specs.declared.production.Production.{Production}
-use Rattle.cpp_grammar.specs.Rescoping.{generic_number, generic_so_far, parameter_here, argument_here, lambda_with, as_generic_lambda, with_holder, is_instance, holder_so_far, numbered, with_held, held_unless, counted_base, between_wide, close_wide}
+use Rattle.cpp_grammar.specs.Rescoping.{generic_number, generic_so_far, parameter_here, argument_here, lambda_with, as_generic_lambda, with_holder, is_instance, holder_so_far, numbered, with_held, held_unless, held_twice_unless, counted_base, between_wide, close_wide}
 use Rattle.cpp_grammar.specs.Scope.{count, element, is_open, length_if_pack}
 use Rattle.cpp_grammar.specs.Term.{Term, list, holder, parameter}
 use Rattle.cpp_grammar.specs.Values as leaf_
@@ -339,9 +339,17 @@ unfolding held_unless wide_.held_unless
 unless_moves around listed other t u x y packs alike e =
     choose (Moves true around x y) listed other _ _ _ _ alike (λ h. moves_none true around x x y y refl refl packs) (λ h. held_once around t u x y packs e)
 
+twice_moves : (around : Around) (listed other : Bool) (t : Term) (u : term_.Term) (x : State) (y : value_.State) → y.packs ≡ x.packs → other ≡ listed → u ≡ annotate (around_place true around) t →
+    Moves true around x y (held_twice_unless listed around t x) (wide_.held_twice_unless other (noted_around true around) u y)
+unfolding held_twice_unless wide_.held_twice_unless
+twice_moves around listed other t u x y packs alike e =
+    let once = held_once around t u x y packs e in
+    choose (Moves true around x y) listed other _ _ _ _ alike (λ h. moves_none true around x x y y refl refl packs)
+    (λ h. moves_then true around x _ _ y _ _ once (held_moves true around t u _ _ once.packs e))
+
 base_goes : (around : Around) (x : State) (y : value_.State) → y.packs ≡ x.packs →
-    Alike {A = Next Value State Around} (Goes true (around_place true around) around x y) (next [] (inside around) (held_unless (prefix_listed around.prefix) around (prefix_tree around.prefix) x))
-    (between_.next [] (between_.inside (noted_around true around)) (wide_.held_unless (value_.prefix_listed (noted_prefix (around_place true around) around.prefix)) (noted_around true around)
+    Alike {A = Next Value State Around} (Goes true (around_place true around) around x y) (next [] (inside around) (held_twice_unless (prefix_listed around.prefix) around (prefix_tree around.prefix) x))
+    (between_.next [] (between_.inside (noted_around true around)) (wide_.held_twice_unless (value_.prefix_listed (noted_prefix (around_place true around) around.prefix)) (noted_around true around)
     (value_.prefix_tree (noted_prefix (around_place true around) around.prefix)) y))
 unfolding inside between_.inside noted_around noted_prefix noted_values
 base_goes around x y packs =
@@ -349,7 +357,7 @@ base_goes around x y packs =
     record {
       values = refl;
       context = refl;
-      moves = unless_moves around (prefix_listed around.prefix) (value_.prefix_listed (noted_prefix s around.prefix)) (prefix_tree around.prefix) (value_.prefix_tree (noted_prefix s around.prefix)) x y packs
+      moves = twice_moves around (prefix_listed around.prefix) (value_.prefix_listed (noted_prefix s around.prefix)) (prefix_tree around.prefix) (value_.prefix_tree (noted_prefix s around.prefix)) x y packs
           (prefix_listed_noted s around.prefix) (prefix_tree_noted s around.prefix);
       scope = inl (refl, refl);
       place = inl refl;

@@ -1,6 +1,6 @@
 -- The state that is threaded through the bytes, annotated: the candidates of an encoding by its scope, and closed ones in any
 -- way.
-use Rattle.std.proofs.Common.{◌≡◌, refl, ap, sym, ◌∙◌, subst, ℕ, zero, suc, ◌+◌, List, [], ◌∷◌, ◌++◌, Bool, true, false, not, ◌||◌, ◌&&◌, nat_eq, nat_lt, slice_get, Option, Some, None, Result, Ok, Err}
+use Rattle.std.proofs.Common.{◌≡◌, refl, ap, sym, ◌∙◌, subst, ℕ, zero, suc, ◌+◌, List, [], ◌∷◌, ◌++◌, length, Bool, true, false, not, ◌||◌, ◌&&◌, nat_eq, nat_lt, slice_get, Option, Some, None, Result, Ok, Err}
 use Rattle.std.proofs.lemmas.Bool.{eqb-true, true≢false, false≢true, and_parts}
 use Rattle.std.proofs.lemmas.List.{append_assoc, append-nil}
 use Rattle.sym_core.specs.declared.refusal.Refusal.{Refusal}
@@ -12,7 +12,7 @@ use Rattle.cpp_grammar.specs.Scope.{count, element, is_list, has_pack, is_open, 
 use Rattle.cpp_grammar.specs.Values as leaf_
 use Rattle.cpp_grammar.specs.Values.{Around, prefix_tree, prefix_listed, Value, State, Candidate, tree_of, is_listed}
 use Rattle.cpp_grammar.specs.References.{appended, is_function_type, with_type, with_unqualified, with_prefix, with_packs, packs_in, substituted, parameter_named}
-use Rattle.cpp_grammar.specs.Rescoping.{with_holder, has_held, is_counted_alike, is_foreign, in_scope, under_scope, with_free, restated, substituted_wide, numbered}
+use Rattle.cpp_grammar.specs.Rescoping.{with_holder, has_held, is_counted_alike, is_held_twice, is_last_counted, named_alike, is_foreign, in_scope, under_scope, with_free, restated, substituted_wide, numbered}
 use Rattle.cpp_term.specs.Term as term_
 use Rattle.cpp_term.specs.Scope as scope_
 use Rattle.cpp_term.specs.Values as value_
@@ -388,12 +388,37 @@ held_noted own around (c ∷ cs) (d ∷ ds) (suc count) all = both (λ a b. a ||
 held_noted own around [] (d ∷ ds) count all = absurd all
 held_noted own around (c ∷ cs) [] count all = absurd all
 
+twice_noted : (own : Bool) (around : Around) (once other : Bool) (cs : List Candidate) (ds : List value_.Candidate) → other ≡ once → AllNoted own around cs ds → wide_.is_held_twice other ds ≡ is_held_twice once cs
+unfolding is_held_twice wide_.is_held_twice
+twice_noted own around once other [] [] same all = refl
+twice_noted own around once other (c ∷ cs) (d ∷ ds) same all =
+    both (λ a b. a || b) (both (λ a b. a && b) same all.0.is_held) (twice_noted own around (once || c.is_held) (other || d.is_held) cs ds (both (λ a b. a || b) same all.0.is_held) all.1)
+twice_noted own around once other [] (d ∷ ds) same all = absurd all
+twice_noted own around once other (c ∷ cs) [] same all = absurd all
+
+many_noted : (own : Bool) (around : Around) (cs : List Candidate) (ds : List value_.Candidate) → AllNoted own around cs ds → length ds ≡ length cs
+many_noted own around [] [] all = refl
+many_noted own around (c ∷ cs) (d ∷ ds) all = ap suc (many_noted own around cs ds all.1)
+many_noted own around [] (d ∷ ds) all = absurd all
+many_noted own around (c ∷ cs) [] all = absurd all
+
+last_noted : (own : Bool) (around : Around) (cs : List Candidate) (ds : List value_.Candidate) (number : ℕ) → AllNoted own around cs ds → wide_.is_last_counted ds number ≡ is_last_counted cs number
+unfolding is_last_counted wide_.is_last_counted
+last_noted own around cs ds number all =
+    both (λ n b. nat_eq (number + 2) n && not b) (many_noted own around cs ds all) (twice_noted own around false false cs ds refl all)
+
+-- a number names in one list what it names in the other
+alike_noted : (own : Bool) (around : Around) (cs : List Candidate) (ds : List value_.Candidate) (number : ℕ) → AllNoted own around cs ds → AreNoted own around (named_alike cs number) (wide_.named_alike ds number)
+unfolding named_alike wide_.named_alike is_counted_alike wide_.is_counted_alike
+alike_noted own around cs ds number all =
+    choose (AreNoted own around) (not (has_held cs (number + 2))) (not (wide_.has_held ds (number + 2))) _ _ _ _ (ap not (held_noted own around cs ds (number + 2) all))
+    (λ h. get_noted own around cs ds number all)
+    (λ h. choose (AreNoted own around) (is_last_counted cs number) (wide_.is_last_counted ds number) _ _ _ _ (last_noted own around cs ds number all)
+    (λ last. get_noted own around cs ds (number + 1) all) (λ last. tt))
+
 -- compilers count one list as they count the other
 pub wide_numbered_noted : (around : Around) (place number : ℕ) (x : State) (y : value_.State) → Settled around → Same true around x y →
     Alike (Comes true around x y) (numbered around place number x) (wide_.numbered (noted_around true around) place number y)
-unfolding numbered wide_.numbered is_counted_alike wide_.is_counted_alike
+unfolding numbered wide_.numbered
 wide_numbered_noted around place number x y settled same =
-    choose (Alike (Comes true around x y)) (not (has_held x.candidates (number + 2))) (not (wide_.has_held y.candidates (number + 2))) _ _ _ _
-    (ap not (held_noted true around x.candidates y.candidates (number + 2) same.all))
-    (λ h. wide_substituted_noted around place (slice_get x.candidates number) (slice_get y.candidates number) x y settled same.packs (get_noted true around x.candidates y.candidates number same.all))
-    (λ h. refl)
+    wide_substituted_noted around place (named_alike x.candidates number) (wide_.named_alike y.candidates number) x y settled same.packs (alike_noted true around x.candidates y.candidates number same.all)

@@ -7,7 +7,7 @@ pub returns-clause-holds : goal.returns-clause-holds
 unfolding first_state
 returns-clause-holds c s = record {
   table = c.in_ok-begin.ensures.table s;
-  there = subst (λ cs. AreCandidatesThere (length c.begin.new.self.nodes) cs) (sym c.clear.ensures.items) (tt, tt);
+  there = subst (λ cs. AreCandidatesThere (length c.begin.new.self.nodes) cs) (sym c.clear.ensures.items) (tt, tt, tt);
   candidates = ap (λ cs. candidates_of (trees_in s c.begin.new.self) cs) c.clear.ensures.items;
   packs = refl;
 }

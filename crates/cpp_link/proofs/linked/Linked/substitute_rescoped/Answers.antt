@@ -1,12 +1,12 @@
 use Rattle.std.proofs.Common.{◌≡◌, sym, ◌∙◌, ap, subst, arith, rules, ◌-◌, Some, Ok, Err}
-use Rattle.std.specs.Prelude.{slice_get, IfOk, IfErr}
+use Rattle.std.specs.Prelude.{IfOk, IfErr}
 use Rattle.sym_core.specs.Value.{counted_value}
 use Rattle.sym_core.specs.declared.NumberKind.TheVariants.{Seq36}
 use Rattle.sym_core.specs.declared.refusal.Refusal.TheVariants.{BadReference}
 use Rattle.sym_link.specs.Driving.{Fails}
 use Rattle.sym_link.specs.Unfold.{found}
 use Rattle.cpp_term.specs.Values.{Around}
-use Rattle.cpp_term.specs.Rescoping.{restated, substituted_wide}
+use Rattle.cpp_term.specs.Rescoping.{named_alike, restated, substituted_wide}
 use Rattle.cpp_tree.specs.Nodes.{tree_at}
 use Rattle.cpp_link.specs.LinkRescoping.{named_by, substituted_nodes}
 use Rattle.cpp_link.specs.Making.{state_of}
@@ -25,7 +25,7 @@ returns-in_default-clause-refused c =
     let around : Around = around_of ts c.args.kept in
     let st = state_of s c.args.self.now in
     let cs = candidates_of ts c.args.self.now.candidates.items in
-    let named = sym (c.candidate.ensures.is ∙ ap (λ bytes. slice_get cs (counted_value Seq36 bytes)) c.text.ensures.is) ∙ ap (λ o. maybe_candidate ts o) c.in_default.is in
+    let named = sym (c.named_alike.ensures.is ∙ ap (λ bytes. named_alike cs (counted_value Seq36 bytes)) c.text.ensures.is) ∙ ap (λ o. maybe_candidate ts o) c.in_default.is in
     fails_is _ (substituted_wide around (c.args.place - 1) (named_by st (values_in s c.args.self.now.nodes c.args.parts.now)) st)
     (ap (λ o. substituted_wide around (c.args.place - 1) o st) named ∙ named_nothing around (c.args.place - 1) st ∙ ap (λ n. Err (BadReference n)) (sym c.saturating_sub-at.ensures))
 
@@ -37,7 +37,7 @@ returns-then-is_foreign c =
     let around : Around = around_of ts c.args.kept in
     let st = state_of s c.args.self.now in
     let cs = candidates_of ts c.args.self.now.candidates.items in
-    let named = sym (c.candidate.ensures.is ∙ ap (λ bytes. slice_get cs (counted_value Seq36 bytes)) c.text.ensures.is) ∙ ap (λ o. maybe_candidate ts o) c.in-Some.is in
+    let named = sym (c.named_alike.ensures.is ∙ ap (λ bytes. named_alike cs (counted_value Seq36 bytes)) c.text.ensures.is) ∙ ap (λ o. maybe_candidate ts o) c.in-Some.is in
     let foreign = sym c.is_foreign.ensures ∙ c.if-is_foreign.true in
     let same = ap (λ o. substituted_wide around (c.args.place - 1) o st) named ∙ named_foreign around (c.args.place - 1) (candidate_of ts c.in-Some.candidate) st foreign
     ∙ ap (λ n. restated around n (tree_at ts c.in-Some.candidate.node) st) (sym c.saturating_sub-at.ensures) in
@@ -57,7 +57,7 @@ returns-in-Ok-clause-is c =
     let around : Around = around_of ts c.args.kept in
     let st = state_of s c.args.self.now in
     let cs = candidates_of ts c.args.self.now.candidates.items in
-    let named = sym (c.candidate.ensures.is ∙ ap (λ bytes. slice_get cs (counted_value Seq36 bytes)) c.text.ensures.is) ∙ ap (λ o. maybe_candidate ts o) c.in-Some.is in
+    let named = sym (c.named_alike.ensures.is ∙ ap (λ bytes. named_alike cs (counted_value Seq36 bytes)) c.text.ensures.is) ∙ ap (λ o. maybe_candidate ts o) c.in-Some.is in
     ap (λ o. substituted_wide around (c.args.place - 1) o st) named
     ∙ ap (λ n. substituted_wide around n (Some (candidate_of ts c.in-Some.candidate)) st) (sym c.saturating_sub-at.ensures)
     ∙ named_here around _ (candidate_of ts c.in-Some.candidate) st (sym c.is_foreign.ensures ∙ c.if-is_foreign.false)
@@ -70,7 +70,7 @@ returns-in-Ok-clause-made c =
     let ts = trees_in s c.args.self.now.nodes in
     let around : Around = around_of ts c.args.kept in
     let cs = candidates_of ts c.args.self.now.candidates.items in
-    let named = sym (c.candidate.ensures.is ∙ ap (λ bytes. slice_get cs (counted_value Seq36 bytes)) c.text.ensures.is) ∙ ap (λ o. maybe_candidate ts o) c.in-Some.is in
+    let named = sym (c.named_alike.ensures.is ∙ ap (λ bytes. named_alike cs (counted_value Seq36 bytes)) c.text.ensures.is) ∙ ap (λ o. maybe_candidate ts o) c.in-Some.is in
     let none = ap (λ o. substituted_nodes around o) named
     ∙ no_nodes around (c.args.place - 1) (candidate_of ts c.in-Some.candidate) (state_of s c.args.self.now) (sym c.is_foreign.ensures ∙ c.if-is_foreign.false) in
     record {
@@ -92,7 +92,7 @@ returns-in-Err-clause-refused c =
     let around : Around = around_of ts c.args.kept in
     let st = state_of s c.args.self.now in
     let cs = candidates_of ts c.args.self.now.candidates.items in
-    let named = sym (c.candidate.ensures.is ∙ ap (λ bytes. slice_get cs (counted_value Seq36 bytes)) c.text.ensures.is) ∙ ap (λ o. maybe_candidate ts o) c.in-Some.is in
+    let named = sym (c.named_alike.ensures.is ∙ ap (λ bytes. named_alike cs (counted_value Seq36 bytes)) c.text.ensures.is) ∙ ap (λ o. maybe_candidate ts o) c.in-Some.is in
     fails_is c.in-Err.e (substituted_wide around (c.args.place - 1) (named_by st (values_in s c.args.self.now.nodes c.args.parts.now)) st)
     (ap (λ o. substituted_wide around (c.args.place - 1) o st) named
     ∙ ap (λ n. substituted_wide around n (Some (candidate_of ts c.in-Some.candidate)) st) (sym c.saturating_sub-at.ensures)
