@@ -49,8 +49,8 @@ def antt_symbol(symbol):
 
 def letter(number):
     """The letter of a production, as a byte string has it."""
-    char = chr(FIRST_LETTER + number)
-    return "\\" + char if char in '"\\' else char if ord(char) < 127 else f"\\x{ord(char):02x}"
+    char = chr((FIRST_LETTER + number) % 256)
+    return "\\" + char if char in '"\\' else char if 32 < ord(char) < 127 else f"\\x{ord(char):02x}"
 
 
 def rust_letters(name):

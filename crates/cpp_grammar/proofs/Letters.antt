@@ -1,6 +1,6 @@
 -- The tables are held against the grammar at each kind and byte, by computing.
-use Rattle.std.proofs.Common.{◌≡◌, ℕ, ◌+◌, ◌-◌, ◌*◌, ◌<◌, ◌≤◌, get_or, slice_get, List, length, map, leb, ltb, ◌&&◌, Bool, true, Option, Some, None, refl, ap, sym, ◌∙◌, arith, inl, inr}
-use Rattle.std.proofs.lemmas.Bool.{and_parts, leb-true, ltb-true}
+use Rattle.std.proofs.Common.{◌≡◌, ℕ, ◌+◌, ◌*◌, ◌%◌, ◌<◌, get_or, slice_get, List, length, map, ltb, Bool, true, Option, Some, None, refl, ap, sym, ◌∙◌, arith, inl, inr}
+use Rattle.std.proofs.lemmas.Bool.{ltb-true}
 use Rattle.std.proofs.lemmas.Option.{slice_get_cases}
 use Rattle.std.specs.List.{range_with_len}
 use Rattle.sym_shape.specs.Listing.{letter_below, unless_blank, counts_after}
@@ -19,10 +19,14 @@ use Rattle.cpp_grammar.proofs.Choosing.{rule_at_kind, is_kind}
 unfoldable pub letter : List ℕ → ℕ → ℕ → Option ℕ
 letter row k byte = letter_below (get_or LETTERS k row) byte
 
+-- the number of the production of a letter: letters begin at the byte 33, and those after the byte 255 are from the byte 0 on
+unfoldable pub number_under : (letter : ℕ) → ℕ
+number_under letter = (letter + 223) % 256
+
 -- the production of a letter
 unfoldable pub lettered : Option ℕ → Option Production
 lettered None = None
-lettered (Some letter) = slice_get productions (letter - 33)
+lettered (Some letter) = slice_get productions (number_under letter)
 
 -- the production that the grammar has
 unfoldable pub chosen : Option Kind → ℕ → Option Production
@@ -32,15 +36,15 @@ chosen (Some kind) byte = choose kind byte
 -- one of the letters of productions, or none
 unfoldable is_letter : Option ℕ → Bool
 is_letter None = true
-is_letter (Some letter) = leb 33 letter && ltb letter (33 + PRODUCTION_COUNT)
+is_letter (Some letter) = ltb (number_under letter) PRODUCTION_COUNT
 
 -- the rows have the productions of the grammar, by letters
 taken : (row : List ℕ) → map (λ k. map (λ byte. lettered (letter row k byte)) (range_with_len 0 256)) (range_with_len 0 KIND_COUNT) ≡ map (λ k. map (chosen (slice_get kinds k)) (range_with_len 0 256)) (range_with_len 0 KIND_COUNT)
-unfolding letter letter_below unless_blank lettered chosen choose alternatives pick is_in among in_ranges kinds productions
+unfolding letter letter_below unless_blank lettered number_under chosen choose alternatives pick is_in among in_ranges kinds productions
 taken row = refl
 
 letters : (row : List ℕ) → map (λ k. map (λ byte. is_letter (letter row k byte)) (range_with_len 0 256)) (range_with_len 0 KIND_COUNT) ≡ map (λ k. map (λ byte. true) (range_with_len 0 256)) (range_with_len 0 KIND_COUNT)
-unfolding letter letter_below unless_blank is_letter
+unfolding letter letter_below unless_blank is_letter number_under
 letters row = refl
 
 -- the rules are those of the productions
@@ -55,12 +59,11 @@ kind_count = refl
 pub below : (k : ℕ) → k < abi.kinds → k < KIND_COUNT
 below k lt = omega (arith, lt, kind_count)
 
-pub letter_range : (row : List ℕ) (k byte l : ℕ) → k < KIND_COUNT → byte < 256 → letter row k byte ≡ Some l → (33 ≤ l) × (l < 33 + PRODUCTION_COUNT)
+pub letter_range : (row : List ℕ) (k byte l : ℕ) → k < KIND_COUNT → byte < 256 → letter row k byte ≡ Some l → number_under l < PRODUCTION_COUNT
 unfolding is_letter
 letter_range row k byte l k_lt byte_lt at =
     let is : is_letter (letter row k byte) ≡ true = alike_in (λ k byte. is_letter (letter row k byte)) (λ k byte. true) KIND_COUNT 256 k byte (letters row) k_lt byte_lt in
-    let both = and_parts (leb 33 l) (ltb l (33 + PRODUCTION_COUNT)) (sym (ap is_letter at) ∙ is) in
-    (leb-true _ _ both.0, ltb-true _ _ both.1)
+    ltb-true _ _ (sym (ap is_letter at) ∙ is)
 
 -- the rule of a kind is that of its production
 rule_chosen : (k byte : ℕ) → k < abi.kinds → abi.rule k byte ≡ rule_taken (chosen (slice_get kinds k) byte)

@@ -1,6 +1,6 @@
 -- The table of the wide grammar is held against it at each kind and byte, by computing.
-use Rattle.std.proofs.Common.{◌≡◌, ℕ, ◌+◌, ◌<◌, ◌≤◌, get_or, slice_get, List, map, leb, ltb, ◌&&◌, Bool, true, Option, Some, None, refl, ap, sym, ◌∙◌, arith, inl, inr}
-use Rattle.std.proofs.lemmas.Bool.{and_parts, leb-true, ltb-true}
+use Rattle.std.proofs.Common.{◌≡◌, ℕ, ◌<◌, get_or, slice_get, List, map, ltb, Bool, true, Option, Some, None, refl, ap, sym, ◌∙◌, arith, inl, inr}
+use Rattle.std.proofs.lemmas.Bool.{ltb-true}
 use Rattle.std.proofs.lemmas.Option.{slice_get_cases}
 use Rattle.std.specs.List.{range_with_len}
 use Rattle.sym_shape.specs.Listing.{letter_below, unless_blank}
@@ -13,7 +13,7 @@ use Rattle.cpp_grammar.specs.Grammar.{in_ranges, among, is_in, pick, kinds, prod
 use Rattle.cpp_grammar.specs.Wide.{wide_alternatives, wide_choose}
 use Rattle.cpp_grammar.specs.Table.{wide, wide_sheet, rule_taken}
 use Rattle.cpp_grammar.proofs.Choosing.{wide_rule_at, is_wide_kind}
-use Rattle.cpp_grammar.proofs.Letters.{lettered}
+use Rattle.cpp_grammar.proofs.Letters.{number_under, lettered}
 
 -- the letter of a kind's row below a byte; `row` is the default
 unfoldable pub wide_letter : List ℕ → ℕ → ℕ → Option ℕ
@@ -27,15 +27,15 @@ chosen (Some kind) byte = wide_choose kind byte
 -- one of the letters of productions, or none
 unfoldable is_letter : Option ℕ → Bool
 is_letter None = true
-is_letter (Some letter) = leb 33 letter && ltb letter (33 + PRODUCTION_COUNT)
+is_letter (Some letter) = ltb (number_under letter) PRODUCTION_COUNT
 
 -- the rows have the productions of the grammar, by letters
 taken : (row : List ℕ) → map (λ k. map (λ byte. lettered (wide_letter row k byte)) (range_with_len 0 256)) (range_with_len 0 KIND_COUNT) ≡ map (λ k. map (chosen (slice_get kinds k)) (range_with_len 0 256)) (range_with_len 0 KIND_COUNT)
-unfolding wide_letter letter_below unless_blank lettered chosen wide_choose wide_alternatives pick is_in among in_ranges kinds productions
+unfolding wide_letter letter_below unless_blank lettered number_under chosen wide_choose wide_alternatives pick is_in among in_ranges kinds productions
 taken row = refl
 
 letters : (row : List ℕ) → map (λ k. map (λ byte. is_letter (wide_letter row k byte)) (range_with_len 0 256)) (range_with_len 0 KIND_COUNT) ≡ map (λ k. map (λ byte. true) (range_with_len 0 256)) (range_with_len 0 KIND_COUNT)
-unfolding wide_letter letter_below unless_blank is_letter
+unfolding wide_letter letter_below unless_blank is_letter number_under
 letters row = refl
 
 kind_count : wide.kinds ≡ KIND_COUNT
@@ -45,12 +45,11 @@ kind_count = refl
 pub below : (k : ℕ) → k < wide.kinds → k < KIND_COUNT
 below k lt = omega (arith, lt, kind_count)
 
-pub letter_range : (row : List ℕ) (k byte l : ℕ) → k < KIND_COUNT → byte < 256 → wide_letter row k byte ≡ Some l → (33 ≤ l) × (l < 33 + PRODUCTION_COUNT)
+pub letter_range : (row : List ℕ) (k byte l : ℕ) → k < KIND_COUNT → byte < 256 → wide_letter row k byte ≡ Some l → number_under l < PRODUCTION_COUNT
 unfolding is_letter
 letter_range row k byte l k_lt byte_lt at =
     let is : is_letter (wide_letter row k byte) ≡ true = alike_in (λ k byte. is_letter (wide_letter row k byte)) (λ k byte. true) KIND_COUNT 256 k byte (letters row) k_lt byte_lt in
-    let both = and_parts (leb 33 l) (ltb l (33 + PRODUCTION_COUNT)) (sym (ap is_letter at) ∙ is) in
-    (leb-true _ _ both.0, ltb-true _ _ both.1)
+    ltb-true _ _ (sym (ap is_letter at) ∙ is)
 
 -- the rule of a kind is that of its production
 rule_chosen : (k byte : ℕ) → k < wide.kinds → wide.rule k byte ≡ rule_taken (chosen (slice_get kinds k) byte)

@@ -996,7 +996,7 @@ fn number(kind: u16, byte: u8) -> Option<usize>
     ensures rule { (head : Head) → MatchOption result (abi.rule kind byte ≡ None) (λ number. abi.rule kind byte ≡ Some (listed_rule head number)) }
 {
     match letter_in(&LETTERS[kind as usize], byte) {
-        Some(letter) => Some(letter as usize - FIRST_LETTER as usize),
+        Some(letter) => Some(letter.wrapping_sub(FIRST_LETTER) as usize),
         None => None,
     }
 }

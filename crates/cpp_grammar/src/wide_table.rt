@@ -166,7 +166,7 @@ fn number(kind: u16, byte: u8) -> Option<usize>
     ensures rule { (head : Head) → MatchOption result (wide.rule kind byte ≡ None) (λ number. wide.rule kind byte ≡ Some (listed_rule head number)) }
 {
     match letter_in(&WIDE_LETTERS[kind as usize], byte) {
-        Some(letter) => Some(letter as usize - FIRST_LETTER as usize),
+        Some(letter) => Some(letter.wrapping_sub(FIRST_LETTER) as usize),
         None => None,
     }
 }

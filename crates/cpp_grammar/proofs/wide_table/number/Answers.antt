@@ -1,29 +1,22 @@
 use Rattle.std.proofs.Common.{ap, sym, ◌∙◌, arith}
 use Rattle.cpp_grammar.specs.Table.{rule_taken}
-use Rattle.cpp_grammar.proofs.Letters.{lettered, rule_listed}
+use Rattle.cpp_grammar.proofs.Letters.{lettered, number_under, rule_listed}
 use Rattle.cpp_grammar.proofs.WideLetters.{wide_letter, rule_at, letter_range, below}
 use Rattle.cpp_grammar.proofs.wide_table.number.Goals as goal
 
 pub bounds-kind : goal.bounds-kind
 bounds-kind c = below c.args.kind c.requires
 
-pub overflow_sub-result : goal.overflow_sub-result
-unfolding wide_letter
-overflow_sub-result c = (letter_range _ c.args.kind c.args.byte c.in-Some.letter (below c.args.kind c.requires) (omega (arith, c.ranges.byte.fits)) (sym c.in-Some.ensures)).0
-
 pub returns-in-Some-clause-few : goal.returns-in-Some-clause-few
-unfolding wide_letter
-returns-in-Some-clause-few c =
-    let within = letter_range _ c.args.kind c.args.byte c.in-Some.letter (below c.args.kind c.requires) (omega (arith, c.ranges.byte.fits)) (sym c.in-Some.ensures) in
-    omega (arith, within.0, within.1)
+unfolding wide_letter number_under
+returns-in-Some-clause-few c = letter_range _ c.args.kind c.args.byte c.in-Some.letter (below c.args.kind c.requires) (omega (arith, c.ranges.byte.fits)) (sym c.in-Some.ensures)
 
 pub returns-in-Some-clause-rule : goal.returns-in-Some-clause-rule
-unfolding wide_letter lettered
+unfolding wide_letter lettered number_under
 returns-in-Some-clause-rule c = λ head.
-    let within = letter_range _ c.args.kind c.args.byte c.in-Some.letter (below c.args.kind c.requires) (omega (arith, c.ranges.byte.fits)) (sym c.in-Some.ensures) in
     rule_at _ c.args.kind c.args.byte c.requires (omega (arith, c.ranges.byte.fits))
     ∙ ap (λ found. rule_taken (lettered found)) (sym c.in-Some.ensures)
-    ∙ sym (rule_listed head _ (omega (arith, within.0, within.1)))
+    ∙ sym (rule_listed head _ (letter_range _ c.args.kind c.args.byte c.in-Some.letter (below c.args.kind c.requires) (omega (arith, c.ranges.byte.fits)) (sym c.in-Some.ensures)))
 
 pub returns-in-None-clause-rule : goal.returns-in-None-clause-rule
 unfolding wide_letter lettered rule_taken
