@@ -153,7 +153,7 @@ def flow(p, row, parts):
     if before == "goes (type_of 0) as_before": return f"of_type {name} _ {first} {symbol(parts[1])} refl (λ a v. refl) (λ a v. refl) (λ v. refl) (λ byte vs. omega arith)"
     if row.gain in ("type_of 0", "unqualified_of 0") and row.form == "finished 0":
         return f"{'typed' if row.gain == 'type_of 0' else 'unqualified'} {name} {first} refl (λ a v. refl) (λ v. refl) (λ v. refl)"
-    if row.gain == "itself": return f"own_type {name} _ (parts_of Production.{p}) refl refl refl (λ v. refl) (λ vs. refl)"
+    if row.gain == "itself": return f"own_type {name} _ (parts_of Production.{p}) refl refl refl (λ byte vs. refl) (λ vs. refl)"
     return None
 
 def flows():

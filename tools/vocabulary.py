@@ -11,6 +11,7 @@ TABLE = entries("vocabulary.txt")
 INTEGER, CHARACTER, NULL = "integer", "character", "null"
 BUILTINS, WIDE_BUILTINS, OPERATORS = TABLE["builtin"], TABLE["wide_builtin"], TABLE["operator"]
 ABBREVIATIONS, SPECIALS, NAMED_SPECIALS, ENDINGS = TABLE["abbreviation"], TABLE["special"], TABLE["named_special"], TABLE["ending"]
+ALL_SPECIALS = SPECIALS + TABLE["wide_special"]
 COMMON = [production for line in TABLE["common"] for production in line]
 COMMON_BEFORE = list(TABLE["common_before"][0])
 

@@ -64,7 +64,7 @@ OPERATION_TEXTS = list(dict.fromkeys(text for row in words.OPERATIONS for text i
 def grammar_texts():
     """The texts that codes have, as definitions."""
     tables = [namings("builtin_texts", BUILTINS), namings("operator_texts", words.OPERATORS, "after the word operator"),
-              namings("abbreviation_texts", words.ABBREVIATIONS), namings("special_texts", words.SPECIALS),
+              namings("abbreviation_texts", words.ABBREVIATIONS), namings("special_texts", words.ALL_SPECIALS),
               namings("named_special_texts", [(c[-1], t) for c, t in words.NAMED_SPECIALS], "special names of names, by the last letters of their codes"),
               special_front(), namings("literal_endings", words.ENDINGS, "the endings of integer literals, by their types")]
     return template("cpp_grammar/Texts.antt", tables="\n".join(tables).rstrip("\n"))
@@ -91,7 +91,7 @@ ABBREVIATIONS = [text for _, text in words.ABBREVIATIONS]
 # the texts in groups, in the order of their numbers: a new operator, at the end of the last group, renumbers no text
 GROUPS = {
     "PLAIN": [text for _, text in words.PLAIN_TEXTS], "SUFFIX": SUFFIXES, "BUILTIN": [text for _, text in BUILTINS],
-    "ABBREVIATION": ABBREVIATIONS, "LAST_OF_ABBREVIATION": [text.removeprefix("std::") for text in ABBREVIATIONS], "SPECIAL": [text for _, text in words.SPECIALS],
+    "ABBREVIATION": ABBREVIATIONS, "LAST_OF_ABBREVIATION": [text.removeprefix("std::") for text in ABBREVIATIONS], "SPECIAL": [text for _, text in words.ALL_SPECIALS],
     "NAMED_SPECIAL": [text for _, text in words.NAMED_SPECIALS], "ENDING": [text for _, text in words.ENDINGS], "BLANKED": BLANKED, "OPERATOR_ALONE": ["operator"],
     "OPERATION": OPERATION_TEXTS, "OPERATOR": ["operator" + text for _, text in words.OPERATORS], "COUNT": [],
 }
@@ -144,7 +144,7 @@ CODED = [
     Coded("abbreviation", "The text of an abbreviation, after S.", looked_up("abbreviation_texts"), enumerate(words.ABBREVIATIONS), "abbreviation_letters"),
     Coded("last_of_abbreviation", "The last name of an abbreviation.", f"drop 5 ({looked_up('abbreviation_texts')})",
           [(i, (code, text.removeprefix("std::"))) for i, (code, text) in enumerate(words.ABBREVIATIONS)], "abbreviation_letters"),
-    Coded("special", "The text before the type of a special name, after T.", looked_up("special_texts"), enumerate(words.SPECIALS), "special_letters"),
+    Coded("special", "The text before the type of a special name, after T.", looked_up("special_texts"), enumerate(words.ALL_SPECIALS), "special_letters"),
     Coded("named_special", "The text before the name of a special name, by the last letter of its code.", looked_up("named_special_texts"), enumerate(words.NAMED_SPECIALS), "named_special_letters"),
     Coded("ending", "The ending of an integer literal of a type.", looked_up("literal_endings"), enumerate(words.ENDINGS), "ending_letters"),
 ]

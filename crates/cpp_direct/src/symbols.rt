@@ -148,7 +148,12 @@ impl Direct {
         requires letter { StandsAt s.now 2 (84 ∷ []) }
         ensures { IfSome result (IsWriting (symbol_by G.IS_WIDE G.IS_BARE G.IS_BRIEF s.now) self.new) }
     {
-        let text = cpp_layout::special_text(byte_at(s, 3));
+        let letter = byte_at(s, 3);
+        // <special-name> ::= TA <template-arg>, which goes the general way
+        if letter == b'A' {
+            return None;
+        }
+        let text = cpp_layout::special_text(letter);
         if text.is_empty() {
             return None;
         }

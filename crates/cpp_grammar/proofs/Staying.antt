@@ -400,6 +400,7 @@ are_special (x ∷ xs) = is_special x && are_special xs
 -- their productions
 unfoldable makes_special : Production → Bool
 makes_special Production.SpecialType = true
+makes_special Production.ParameterObject = true
 makes_special Production.SpecialName = true
 makes_special Production.ConstructionVtable = true
 makes_special Production.NonVirtualThunk = true
@@ -439,6 +440,7 @@ special_closes : (p : Production) (byte : ℕ) (around : Around) (place : ℕ) (
     close p byte around place began vs state ≡ Ok one → HasNone (held one.value)
 unfolding makes_special close unfolding_.behind meaning held is_open
 special_closes Production.SpecialType byte around place began vs state one h e = subst (λ x. HasNone (held x.value)) (ok_same _ one e) refl
+special_closes Production.ParameterObject byte around place began vs state one h e = subst (λ x. HasNone (held x.value)) (ok_same _ one e) refl
 special_closes Production.SpecialName byte around place began vs state one h e = subst (λ x. HasNone (held x.value)) (ok_same _ one e) refl
 special_closes Production.ConstructionVtable byte around place began vs state one h e = subst (λ x. HasNone (held x.value)) (ok_same _ one e) refl
 special_closes Production.NonVirtualThunk byte around place began vs state one h e = subst (λ x. HasNone (held x.value)) (ok_same _ one e) refl

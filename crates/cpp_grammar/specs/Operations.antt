@@ -161,7 +161,16 @@ operations =
     printed_as "fl" PRIMARY "(..." Operand.AsItIs ")" Operand.NotPrinted "" ∷
     printed_as "fr" PRIMARY "(" Operand.AsItIs "...)" Operand.NotPrinted "" ∷
     printed_as "rq" PRIMARY "requires {...}" Operand.NotPrinted "" Operand.NotPrinted "" ∷
-    printed_as "rQ" PRIMARY "requires (...) {...}" Operand.NotPrinted "" Operand.NotPrinted "" ∷ []
+    printed_as "rQ" PRIMARY "requires (...) {...}" Operand.NotPrinted "" Operand.NotPrinted "" ∷
+    printed_as "tr" PRIMARY "throw" Operand.NotPrinted "" Operand.NotPrinted "" ∷
+    printed_as "sy" POSTFIX "(" Operand.AsItIs ")[" Operand.AsItIs "]" ∷
+    printed_as "Dy" POSTFIX "(" Operand.AsItIs ")[" Operand.AsItIs "]" ∷
+    printed_as "DB" PRIMARY "_BitInt(" Operand.AsItIs ")" Operand.NotPrinted "" ∷
+    printed_as "DU" PRIMARY "unsigned _BitInt(" Operand.AsItIs ")" Operand.NotPrinted "" ∷
+    printed_as "Lf" PRIMARY "(" Operand.AsType ")[" Operand.AsItIs "]" ∷
+    printed_as "di" PRIMARY "." Operand.AsItIs "" Operand.AsItIs "" ∷
+    printed_as "dx" PRIMARY "[" Operand.AsItIs "]" Operand.AsItIs "" ∷
+    printed_as "= " PRIMARY " = " Operand.AsItIs "" Operand.NotPrinted "" ∷ []
 
 -- the operation of a code, and none of another
 unfoldable pub operation_of_code : List ℕ → List Operation → Option Operation

@@ -86,221 +86,249 @@ const SOLID: Sym = Sym::Kind(36);
 
 const MAYBE_C_LINKAGE: Sym = Sym::Kind(37);
 
-const TYPE_AFTER_S: Sym = Sym::Kind(38);
+const BIT_WIDTH: Sym = Sym::Kind(38);
 
-const SOURCE_OR_LOCAL: Sym = Sym::Kind(39);
+const TYPE_AFTER_S: Sym = Sym::Kind(39);
 
-const FUNCTION_REST: Sym = Sym::Kind(40);
+const SOURCE_OR_LOCAL: Sym = Sym::Kind(40);
 
-const AFTER_R: Sym = Sym::Kind(41);
+const FUNCTION_REST: Sym = Sym::Kind(41);
 
-const AFTER_O: Sym = Sym::Kind(42);
+const AFTER_R: Sym = Sym::Kind(42);
 
-const ITEMS: Sym = Sym::Kind(43);
+const AFTER_O: Sym = Sym::Kind(43);
 
-const MAYBE_ARGUMENTS: Sym = Sym::Kind(44);
+const ITEMS: Sym = Sym::Kind(44);
 
-const ARGUMENTS: Sym = Sym::Kind(45);
+const MAYBE_ARGUMENTS: Sym = Sym::Kind(45);
 
-const ARGUMENT_LIST: Sym = Sym::Kind(46);
+const ARGUMENTS: Sym = Sym::Kind(46);
 
-const PACK_LIST: Sym = Sym::Kind(47);
+const ARGUMENT_LIST: Sym = Sym::Kind(47);
 
-const LITERAL: Sym = Sym::Kind(48);
+const PACK_LIST: Sym = Sym::Kind(48);
 
-const BIT: Sym = Sym::Kind(49);
+const LITERAL: Sym = Sym::Kind(49);
 
-const LITERAL_AFTER_D: Sym = Sym::Kind(50);
+const BIT: Sym = Sym::Kind(50);
 
-const MAYBE_ZERO: Sym = Sym::Kind(51);
+const LITERAL_AFTER_D: Sym = Sym::Kind(51);
 
-const LITERAL_TYPE: Sym = Sym::Kind(52);
+const FLOAT_TYPE: Sym = Sym::Kind(52);
 
-const OPERATOR: Sym = Sym::Kind(53);
+const SIZED_FLOAT_TYPE: Sym = Sym::Kind(53);
 
-const OPERATOR_AFTER_N: Sym = Sym::Kind(54);
+const HEX_TEXT: Sym = Sym::Kind(54);
 
-const OPERATOR_AFTER_D: Sym = Sym::Kind(55);
+const HEX_DIGITS: Sym = Sym::Kind(55);
 
-const OPERATOR_AFTER_A: Sym = Sym::Kind(56);
+const HEX_MORE: Sym = Sym::Kind(56);
 
-const OPERATOR_AFTER_P: Sym = Sym::Kind(57);
+const MAYBE_ZERO: Sym = Sym::Kind(57);
 
-const OPERATOR_AFTER_C: Sym = Sym::Kind(58);
+const LITERAL_TYPE: Sym = Sym::Kind(58);
 
-const OPERATOR_AFTER_M: Sym = Sym::Kind(59);
+const LITERAL_PLAIN: Sym = Sym::Kind(59);
 
-const OPERATOR_AFTER_R: Sym = Sym::Kind(60);
+const LITERAL_SOLID: Sym = Sym::Kind(60);
 
-const OPERATOR_AFTER_O: Sym = Sym::Kind(61);
+const OPERATOR: Sym = Sym::Kind(61);
 
-const OPERATOR_AFTER_E: Sym = Sym::Kind(62);
+const OPERATOR_AFTER_N: Sym = Sym::Kind(62);
 
-const OPERATOR_AFTER_L: Sym = Sym::Kind(63);
+const OPERATOR_AFTER_D: Sym = Sym::Kind(63);
 
-const OPERATOR_AFTER_S: Sym = Sym::Kind(64);
+const OPERATOR_AFTER_A: Sym = Sym::Kind(64);
 
-const OPERATOR_AFTER_I: Sym = Sym::Kind(65);
+const OPERATOR_AFTER_P: Sym = Sym::Kind(65);
 
-const OPERATOR_AFTER_G: Sym = Sym::Kind(66);
+const OPERATOR_AFTER_C: Sym = Sym::Kind(66);
 
-const NEST_REST_OR_END: Sym = Sym::Kind(67);
+const OPERATOR_AFTER_M: Sym = Sym::Kind(67);
 
-const ARGUMENTS_ALONE: Sym = Sym::Kind(68);
+const OPERATOR_AFTER_R: Sym = Sym::Kind(68);
 
-const NEST_REST_ALONE: Sym = Sym::Kind(69);
+const OPERATOR_AFTER_O: Sym = Sym::Kind(69);
 
-const HOLDER_MARK: Sym = Sym::Kind(70);
+const OPERATOR_AFTER_E: Sym = Sym::Kind(70);
 
-const HELD_COMPONENT: Sym = Sym::Kind(71);
+const OPERATOR_AFTER_L: Sym = Sym::Kind(71);
 
-const FLOAT_END: Sym = Sym::Kind(72);
+const OPERATOR_AFTER_S: Sym = Sym::Kind(72);
 
-const COMPONENT_AFTER_C: Sym = Sym::Kind(73);
+const OPERATOR_AFTER_I: Sym = Sym::Kind(73);
 
-const OTHER_OPERATOR: Sym = Sym::Kind(74);
+const OPERATOR_AFTER_G: Sym = Sym::Kind(74);
 
-const HELD_ARGUMENTS: Sym = Sym::Kind(75);
+const NEST_REST_OR_END: Sym = Sym::Kind(75);
 
-const BASE_CLASS: Sym = Sym::Kind(76);
+const ARGUMENTS_ALONE: Sym = Sym::Kind(76);
 
-const UNNESTED_NAME: Sym = Sym::Kind(77);
+const NEST_REST_ALONE: Sym = Sym::Kind(77);
 
-const BASE_ARGUMENTS: Sym = Sym::Kind(78);
+const HOLDER_MARK: Sym = Sym::Kind(78);
 
-const ARGUMENTS_FIRST: Sym = Sym::Kind(79);
+const HELD_COMPONENT: Sym = Sym::Kind(79);
 
-const PLAIN_ENTITY: Sym = Sym::Kind(80);
+const FLOAT_END: Sym = Sym::Kind(80);
 
-const PLAIN_TYPE_ENTITY: Sym = Sym::Kind(81);
+const COMPONENT_AFTER_C: Sym = Sym::Kind(81);
 
-const SPECIAL_MARK: Sym = Sym::Kind(82);
+const OTHER_OPERATOR: Sym = Sym::Kind(82);
 
-const SPECIAL_AFTER_G: Sym = Sym::Kind(83);
+const HELD_ARGUMENTS: Sym = Sym::Kind(83);
 
-const CLONE_LETTER: Sym = Sym::Kind(84);
+const BASE_CLASS: Sym = Sym::Kind(84);
 
-const TYPE_IN_STD: Sym = Sym::Kind(85);
+const UNNESTED_NAME: Sym = Sym::Kind(85);
 
-const MAYBE_TAGS: Sym = Sym::Kind(86);
+const BASE_ARGUMENTS: Sym = Sym::Kind(86);
 
-const ARGUMENT: Sym = Sym::Kind(87);
+const ARGUMENTS_FIRST: Sym = Sym::Kind(87);
 
-const ARGUMENT_AFTER_T: Sym = Sym::Kind(88);
+const PLAIN_ENTITY: Sym = Sym::Kind(88);
 
-const LEVELED_PARAMETER: Sym = Sym::Kind(89);
+const PLAIN_TYPE_ENTITY: Sym = Sym::Kind(89);
 
-const ONE_ARGUMENT: Sym = Sym::Kind(90);
+const SPECIAL_MARK: Sym = Sym::Kind(90);
 
-const DECLARATION_AFTER_T: Sym = Sym::Kind(91);
+const SPECIAL_AFTER_G: Sym = Sym::Kind(91);
 
-const DECLARATIONS: Sym = Sym::Kind(92);
+const CLONE_LETTER: Sym = Sym::Kind(92);
 
-const CONCEPT: Sym = Sym::Kind(93);
+const TYPE_IN_STD: Sym = Sym::Kind(93);
 
-const SOLID_BUT_T: Sym = Sym::Kind(94);
+const MAYBE_TAGS: Sym = Sym::Kind(94);
 
-const EXPRESSION: Sym = Sym::Kind(95);
+const ARGUMENT: Sym = Sym::Kind(95);
 
-const ADDRESSED_EXPRESSION: Sym = Sym::Kind(96);
+const ARGUMENT_AFTER_T: Sym = Sym::Kind(96);
 
-const ADDRESSED_LITERAL: Sym = Sym::Kind(97);
+const LEVELED_PARAMETER: Sym = Sym::Kind(97);
 
-const EXPRESSION_AFTER_A: Sym = Sym::Kind(98);
+const ONE_ARGUMENT: Sym = Sym::Kind(98);
 
-const EXPRESSION_AFTER_C: Sym = Sym::Kind(99);
+const DECLARATION_AFTER_T: Sym = Sym::Kind(99);
 
-const EXPRESSION_AFTER_D: Sym = Sym::Kind(100);
+const DECLARATIONS: Sym = Sym::Kind(100);
 
-const EXPRESSION_AFTER_E: Sym = Sym::Kind(101);
+const CONCEPT: Sym = Sym::Kind(101);
 
-const EXPRESSION_AFTER_F: Sym = Sym::Kind(102);
+const SOLID_BUT_T: Sym = Sym::Kind(102);
 
-const EXPRESSION_AFTER_G: Sym = Sym::Kind(103);
+const EXPRESSION: Sym = Sym::Kind(103);
 
-const EXPRESSION_AFTER_I: Sym = Sym::Kind(104);
+const ADDRESSED_EXPRESSION: Sym = Sym::Kind(104);
 
-const EXPRESSION_AFTER_L: Sym = Sym::Kind(105);
+const ADDRESSED_LITERAL: Sym = Sym::Kind(105);
 
-const EXPRESSION_AFTER_M: Sym = Sym::Kind(106);
+const EXPRESSION_AFTER_A: Sym = Sym::Kind(106);
 
-const EXPRESSION_AFTER_N: Sym = Sym::Kind(107);
+const EXPRESSION_AFTER_C: Sym = Sym::Kind(107);
 
-const EXPRESSION_AFTER_O: Sym = Sym::Kind(108);
+const EXPRESSION_AFTER_D: Sym = Sym::Kind(108);
 
-const EXPRESSION_AFTER_P: Sym = Sym::Kind(109);
+const EXPRESSION_AFTER_E: Sym = Sym::Kind(109);
 
-const EXPRESSION_AFTER_Q: Sym = Sym::Kind(110);
+const EXPRESSION_AFTER_F: Sym = Sym::Kind(110);
 
-const EXPRESSION_AFTER_R: Sym = Sym::Kind(111);
+const EXPRESSION_AFTER_G: Sym = Sym::Kind(111);
 
-const EXPRESSION_AFTER_S: Sym = Sym::Kind(112);
+const EXPRESSION_AFTER_I: Sym = Sym::Kind(112);
 
-const EXPRESSION_AFTER_T: Sym = Sym::Kind(113);
+const EXPRESSION_AFTER_L: Sym = Sym::Kind(113);
 
-const EXPRESSIONS: Sym = Sym::Kind(114);
+const EXPRESSION_AFTER_M: Sym = Sym::Kind(114);
 
-const MAYBE_BEFORE: Sym = Sym::Kind(115);
+const EXPRESSION_AFTER_N: Sym = Sym::Kind(115);
 
-const FOLD_OPERATOR: Sym = Sym::Kind(116);
+const EXPRESSION_AFTER_O: Sym = Sym::Kind(116);
 
-const FOLD_OPERATOR_AFTER_L: Sym = Sym::Kind(117);
+const EXPRESSION_AFTER_P: Sym = Sym::Kind(117);
 
-const FOLD_OPERAND: Sym = Sym::Kind(118);
+const EXPRESSION_AFTER_Q: Sym = Sym::Kind(118);
 
-const FOLD_PACK: Sym = Sym::Kind(119);
+const EXPRESSION_AFTER_R: Sym = Sym::Kind(119);
 
-const PLACEMENT: Sym = Sym::Kind(120);
+const EXPRESSION_AFTER_S: Sym = Sym::Kind(120);
 
-const SOME_EXPRESSIONS: Sym = Sym::Kind(121);
+const EXPRESSION_AFTER_T: Sym = Sym::Kind(121);
 
-const INITIALIZER: Sym = Sym::Kind(122);
+const EXPRESSIONS: Sym = Sym::Kind(122);
 
-const INITIALIZER_AFTER_P: Sym = Sym::Kind(123);
+const MAYBE_BEFORE: Sym = Sym::Kind(123);
 
-const INITIALIZER_AFTER_I: Sym = Sym::Kind(124);
+const FOLD_OPERATOR: Sym = Sym::Kind(124);
 
-const OUTER_REST: Sym = Sym::Kind(125);
+const FOLD_OPERATOR_AFTER_L: Sym = Sym::Kind(125);
 
-const PARAMETER_NUMBER: Sym = Sym::Kind(126);
+const FOLD_OPERAND: Sym = Sym::Kind(126);
 
-const CONVERTED_TYPE: Sym = Sym::Kind(127);
+const FOLD_PACK: Sym = Sym::Kind(127);
 
-const CONVERTED_SOLID: Sym = Sym::Kind(128);
+const VALUE_PACK: Sym = Sym::Kind(128);
 
-const DECLTYPE_AFTER_D: Sym = Sym::Kind(129);
+const TYPE_PACK: Sym = Sym::Kind(129);
 
-const CONVERT_REST: Sym = Sym::Kind(130);
+const DESIGNATED_VALUE: Sym = Sym::Kind(130);
 
-const UNRESOLVED: Sym = Sym::Kind(131);
+const DESIGNATOR_AFTER_D: Sym = Sym::Kind(131);
 
-const UNRESOLVED_TYPE: Sym = Sym::Kind(132);
+const PLAIN_VALUE: Sym = Sym::Kind(132);
 
-const DESTRUCTOR_NAME: Sym = Sym::Kind(133);
+const FIELD_NAME: Sym = Sym::Kind(133);
 
-const REQUIREMENTS: Sym = Sym::Kind(134);
+const PLACEMENT: Sym = Sym::Kind(134);
 
-const AFTER_EXPRESSION: Sym = Sym::Kind(135);
+const SOME_EXPRESSIONS: Sym = Sym::Kind(135);
 
-const AFTER_NOEXCEPT: Sym = Sym::Kind(136);
+const INITIALIZER: Sym = Sym::Kind(136);
 
-const REQUIRED_TYPES: Sym = Sym::Kind(137);
+const INITIALIZER_AFTER_P: Sym = Sym::Kind(137);
 
-const LEVEL: Sym = Sym::Kind(138);
+const INITIALIZER_AFTER_I: Sym = Sym::Kind(138);
 
-const MORE_LEVELS: Sym = Sym::Kind(139);
+const OUTER_REST: Sym = Sym::Kind(139);
 
-const UNRESOLVED_NAME: Sym = Sym::Kind(140);
+const PARAMETER_NUMBER: Sym = Sym::Kind(140);
 
-const OPERATOR_NAME: Sym = Sym::Kind(141);
+const CONVERTED_TYPE: Sym = Sym::Kind(141);
 
-const ANY_ARRAY: Sym = Sym::Kind(142);
+const CONVERTED_SOLID: Sym = Sym::Kind(142);
 
-const ARRAY_REST: Sym = Sym::Kind(143);
+const DECLTYPE_AFTER_D: Sym = Sym::Kind(143);
 
-const BOUND: Sym = Sym::Kind(144);
+const CONVERT_REST: Sym = Sym::Kind(144);
 
-const NEST_MORE_OR_END: Sym = Sym::Kind(145);
+const UNRESOLVED: Sym = Sym::Kind(145);
+
+const UNRESOLVED_TYPE: Sym = Sym::Kind(146);
+
+const DESTRUCTOR_NAME: Sym = Sym::Kind(147);
+
+const REQUIREMENTS: Sym = Sym::Kind(148);
+
+const AFTER_EXPRESSION: Sym = Sym::Kind(149);
+
+const AFTER_NOEXCEPT: Sym = Sym::Kind(150);
+
+const REQUIRED_TYPES: Sym = Sym::Kind(151);
+
+const LEVEL: Sym = Sym::Kind(152);
+
+const MORE_LEVELS: Sym = Sym::Kind(153);
+
+const UNRESOLVED_NAME: Sym = Sym::Kind(154);
+
+const OPERATOR_NAME: Sym = Sym::Kind(155);
+
+const ANY_ARRAY: Sym = Sym::Kind(156);
+
+const ARRAY_REST: Sym = Sym::Kind(157);
+
+const BOUND: Sym = Sym::Kind(158);
+
+const NEST_MORE_OR_END: Sym = Sym::Kind(159);
 
 const NAME: Sym = Sym::Name;
 
@@ -314,7 +342,7 @@ const DIGITS: Sym = Sym::Number(NumberKind::Digits);
 pub const FIRST_LETTER: u8 = b'!';
 
 // For each kind a row: for each byte from `$` to `z` the letter of the production that the kind takes there.
-static LETTERS: [[u8; 87]; 146] = [
+static LETTERS: [[u8; 87]; 160] = [
     // $%&'()*+,-./0123456789:;<=>?@ABCDEFGHIJKLMNOPQRSTUVWXYZ[\]^_`abcdefghijklmnopqrstuvwxyz
     *b"                                                           *                           ", // Symbol
     *b"          +                                                                            ", // MaybeSuffix
@@ -322,54 +350,62 @@ static LETTERS: [[u8; 87]; 146] = [
     *b",         , ,,,,,,,,,,       ,,,,,,,,,,,,,,,,,,,,,,,,,,    , ,,,,,,,,,,,,,,,,,,,,,,,,,,", // SuffixMore
     *b"            //////////             .    / /    /-/    /      / /// / /  ///// //       ", // Encoding
     *b"                                     0         00 0            3    1             2    ", // Special
-    *b"                                                                    6             7    ", // CallOffset
-    *b"            9999999999                                                    8            ", // Integer
-    *b"            $$$$$$$$$$                  \" )    : #    ;      % %%% % %  %%%%% %%       ", // CompleteName
+    *b"                                                                    7             8    ", // CallOffset
+    *b"            ::::::::::                                                    9            ", // Integer
+    *b"            $$$$$$$$$$                  \" )    ; #    <      % %%% % %  %%%%% %%       ", // CompleteName
     *b"                                                                              !        ", // MaybeRestrict
     *b"                                                  !                                    ", // MaybeVolatile
     *b"                                       !                                               ", // MaybeConst
     *b"                                           !  !                                        ", // MaybeRef
-    *b"            ==========       ==========================    = == =    =     =   =<      ", // NameAfterS
-    *b"            ((((((((((                  &        '           > >>> > >  >>>>> >>       ", // Unqualified
-    *b"            CCCCCCCCCC                  A      ?@B                                     ", // Nest
-    *b"            EEEEEEEEEE       EEEEEEEEEEEEEEEEEEEEEEEEEE    E EE E    E     E   ED      ", // NestAfterS
-    *b"            GGGGGGGGGG         GG    F  G        G           G GGG G G  GGGGG GG       ", // NestRest
-    *b"            GGGGGGGGGG         GGI      G        G           G GGG G G  GGGGG GG       ", // NestTail
-    *b"            $$$$$$$$$$         JK       \"        #           M LMM M M  MMMMM MM       ", // Component
-    *b"             QQQ                                                                       ", // ConstructorAfterC
+    *b"            >>>>>>>>>>       >>>>>>>>>>>>>>>>>>>>>>>>>>    > >> >    >     >   >=      ", // NameAfterS
+    *b"            ((((((((((                  &        '           ? ??? ? ?  ????? ??       ", // Unqualified
+    *b"            DDDDDDDDDD                  B      @AC                                     ", // Nest
+    *b"            GGGGGGGGGG       GGGGGGGGGGGGGGGGGGGGGGGGGG    G GG G    G     G   GF      ", // NestAfterS
+    *b"            IIIIIIIIII         II    H  I        I           I III I I  IIIII II       ", // NestRest
+    *b"            IIIIIIIIII         IIK      I        I           I III I I  IIIII II       ", // NestTail
+    *b"            $$$$$$$$$$         LM       \"        #           O NOO O O  OOOOO OO       ", // Component
+    *b"             SSS                                                                       ", // ConstructorAfterC
     *b"             !!!                                                                       ", // ConstructorDigit
     *b"             !! !!                                                                     ", // InheritedDigit
     *b"            !!!                                                                        ", // DestructorDigit
-    *b"            SSSSSSSSSS       SSSSSSSSSSSSSSSSSSSSSSSSSS    S RR R    R     R   R       ", // Abbreviation
-    *b"            $$$$$$$$$$                  \" )      #                             U       ", // Entity
-    *b"            $$$$$$$$$$                  \" T      #                                     ", // TypeEntity
-    *b"                                                           X                           ", // MaybeDiscriminator
-    *b"            YYYYYYYYYY                                     Z                           ", // DiscriminatorRest
-    *b"                                                                        [       \\      ", // Anonymous
-    *b"            aaaaaaaaaa       a ab a    _ aa`a `aaa^   a      aaaaaaaaaa aaaa  ]aaaaaaaa", // Type
-    *b"            dddddddddd       d dc d      dd`d `ddd    d      dddddddddd dddd   dddddddd", // Plain
-    *b"            aaaaaaaaaa       a ae a    _ aa`a `aaa^   a      aaaaaaaaaa aaaa  ]aaaaaaaa", // Item
-    *b"            aaaaaaaaaa       a ae a    _ aa a  aaa^   a      aaaaaaaaaa aaaa  ]aaaaaaaa", // ItemButRef
-    *b"                                                             g g     g    ggf  g gg    ", // ItemAfterD
-    *b"                                                             h h     h    hj   h hi    ", // AfterD
-    *b"            $$$$$$$$$$       u w  v      oT n  qp#    r      ssssssssss ssss   sstsssss", // Solid
+    *b"            UUUUUUUUUU       UUUUUUUUUUUUUUUUUUUUUUUUUU    U TT T    T     T   T       ", // Abbreviation
+    *b"            $$$$$$$$$$                  \" )      #                             W       ", // Entity
+    *b"            $$$$$$$$$$                  \" V      #                                     ", // TypeEntity
+    *b"                                                           Z                           ", // MaybeDiscriminator
+    *b"            [[[[[[[[[[                                     \\                           ", // DiscriminatorRest
+    *b"                                                                        ]       ^      ", // Anonymous
+    *b"            cccccccccc       c cd c    a ccbc bccc`   c      cccccccccc cccc  _cccccccc", // Type
+    *b"            ffffffffff       f fe f      ffbf bfff    f      ffffffffff ffff   ffffffff", // Plain
+    *b"            cccccccccc       c cg c    a ccbc bccc`   c      cccccccccc cccc  _cccccccc", // Item
+    *b"            cccccccccc       c cg c    a cc c  ccc`   c      cccccccccc cccc  _cccccccc", // ItemButRef
+    *b"                                                             i i     i    iih  i ii    ", // ItemAfterD
+    *b"                                                             j j     j    jl   j jk    ", // AfterD
+    *b"            $$$$$$$$$$       y {  z      sV r  ut#    v      wwwwwwwwww wwww   wwxwwwww", // Solid
     *b"                                                     !                                 ", // MaybeCLinkage
-    *b"            yyyyyyyyyy       yyyyyyyyyyyyyyyyyyyyyyyyyy    y yy y    y     y   yx      ", // TypeAfterS
+    *b"            ||||||||||                                                                 ", // BitWidth
+    *b"            ~~~~~~~~~~       ~~~~~~~~~~~~~~~~~~~~~~~~~~    ~ ~~ ~    ~     ~   ~}      ", // TypeAfterS
     *b"            ((((((((((                  &        '                                     ", // SourceOrLocal
-    *b"            }}}}}}}}}}       } }}z}    } }}|} {}}}}   }      }}}}}}}}}} }}}}  }}}}}}}}}", // FunctionRest
-    *b"            \x7f\x7f\x7f\x7f\x7f\x7f\x7f\x7f\x7f\x7f       \x7f \x7f\x7f~\x7f    \x7f \x7f\x7f\x7f\x7f \x7f\x7f\x7f\x7f\x7f   \x7f      \x7f\x7f\x7f\x7f\x7f\x7f\x7f\x7f\x7f\x7f \x7f\x7f\x7f\x7f  \x7f\x7f\x7f\x7f\x7f\x7f\x7f\x7f\x7f", // AfterR
-    *b"            \x80\x80\x80\x80\x80\x80\x80\x80\x80\x80       \x80 \x80\x80~\x80    \x80 \x80\x80\x80\x80 \x80\x80\x80\x80\x80   \x80      \x80\x80\x80\x80\x80\x80\x80\x80\x80\x80 \x80\x80\x80\x80  \x80\x80\x80\x80\x80\x80\x80\x80\x80", // AfterO
-    *b"            \x82\x82\x82\x82\x82\x82\x82\x82\x82\x82       \x82 \x82\x82 \x82    \x82 \x82\x82\x82\x82 \x82\x82\x82\x82\x82   \x82      \x82\x82\x82\x82\x82\x82\x82\x82\x82\x82 \x82\x82\x82\x82  \x82\x82\x82\x82\x82\x82\x82\x82\x82", // Items
-    *b"                                     \x83                                                 ", // MaybeArguments
-    *b"                                     \x83                                                 ", // Arguments
-    *b"            \x87\x87\x87\x87\x87\x87\x87\x87\x87\x87       \x87 \x87\x87 \x87   \x85\x87\x86\x87\x87\x87\x87 \x87\x87\x87\x87\x87 \x87 \x87      \x87\x87\x87\x87\x87\x87\x87\x87\x87\x87 \x87\x87\x87\x87  \x87\x87\x87\x87\x87\x87\x87\x87\x87", // ArgumentList
-    *b"            \x89\x89\x89\x89\x89\x89\x89\x89\x89\x89       \x89 \x89\x89 \x89    \x89\x88\x89\x89\x89\x89 \x89\x89\x89\x89\x89 \x89 \x89      \x89\x89\x89\x89\x89\x89\x89\x89\x89\x89 \x89\x89\x89\x89  \x89\x89\x89\x89\x89\x89\x89\x89\x89", // PackList
-    *b"            \x8d\x8d\x8d\x8d\x8d\x8d\x8d\x8d\x8d\x8d          \x8c        \x8d\x8d \x8d  \x8d\x8d\x8d    \x8d    \x8a \x8d\x8b\x8d    \x8d\x8d\x8d \x8d\x8d\x8d\x8d   \x8d\x8d  \x8d\x8d\x8d ", // Literal
+    *b"            \x82\x82\x82\x82\x82\x82\x82\x82\x82\x82       \x82 \x82\x82\x7f\x82    \x82 \x82\x82\x81\x82 \x80\x82\x82\x82\x82   \x82      \x82\x82\x82\x82\x82\x82\x82\x82\x82\x82 \x82\x82\x82\x82  \x82\x82\x82\x82\x82\x82\x82\x82\x82", // FunctionRest
+    *b"            \x84\x84\x84\x84\x84\x84\x84\x84\x84\x84       \x84 \x84\x84\x83\x84    \x84 \x84\x84\x84\x84 \x84\x84\x84\x84\x84   \x84      \x84\x84\x84\x84\x84\x84\x84\x84\x84\x84 \x84\x84\x84\x84  \x84\x84\x84\x84\x84\x84\x84\x84\x84", // AfterR
+    *b"            \x85\x85\x85\x85\x85\x85\x85\x85\x85\x85       \x85 \x85\x85\x83\x85    \x85 \x85\x85\x85\x85 \x85\x85\x85\x85\x85   \x85      \x85\x85\x85\x85\x85\x85\x85\x85\x85\x85 \x85\x85\x85\x85  \x85\x85\x85\x85\x85\x85\x85\x85\x85", // AfterO
+    *b"            \x87\x87\x87\x87\x87\x87\x87\x87\x87\x87       \x87 \x87\x87 \x87    \x87 \x87\x87\x87\x87 \x87\x87\x87\x87\x87   \x87      \x87\x87\x87\x87\x87\x87\x87\x87\x87\x87 \x87\x87\x87\x87  \x87\x87\x87\x87\x87\x87\x87\x87\x87", // Items
+    *b"                                     \x88                                                 ", // MaybeArguments
+    *b"                                     \x88                                                 ", // Arguments
+    *b"            \x8c\x8c\x8c\x8c\x8c\x8c\x8c\x8c\x8c\x8c       \x8c \x8c\x8c \x8c   \x8a\x8c\x8b\x8c\x8c\x8c\x8c \x8c\x8c\x8c\x8c\x8c \x8c \x8c      \x8c\x8c\x8c\x8c\x8c\x8c\x8c\x8c\x8c\x8c \x8c\x8c\x8c\x8c  \x8c\x8c\x8c\x8c\x8c\x8c\x8c\x8c\x8c", // ArgumentList
+    *b"            \x8e\x8e\x8e\x8e\x8e\x8e\x8e\x8e\x8e\x8e       \x8e \x8e\x8e \x8e    \x8e\x8d\x8e\x8e\x8e\x8e \x8e\x8e\x8e\x8e\x8e \x8e \x8e      \x8e\x8e\x8e\x8e\x8e\x8e\x8e\x8e\x8e\x8e \x8e\x8e\x8e\x8e  \x8e\x8e\x8e\x8e\x8e\x8e\x8e\x8e\x8e", // PackList
+    *b"            \x92\x92\x92\x92\x92\x92\x92\x92\x92\x92          \x91        \x92\x92 \x92  \x92\x92\x92    \x92    \x8f \x92\x90\x92    \x92\x92\x92 \x92\x92\x92\x92   \x92\x92  \x92\x92\x92 ", // Literal
     *b"            !!                                                                         ", // Bit
-    *b"                                                                     \x8f    \x8e    \x8f \x8f     ", // LiteralAfterD
+    *b"                                                                     \x95    \x94    \x95 \x95     ", // LiteralAfterD
+    *b"                                                                wwww                   ", // FloatType
+    *b"                                  m                                                    ", // SizedFloatType
+    *b"            \x97\x97\x97\x97\x97\x97\x97\x97\x97\x97                                       \x97\x97\x97\x97\x97\x97                    ", // HexText
+    *b"            \x98\x98\x98\x98\x98\x98\x98\x98\x98\x98                                       \x98\x98\x98\x98\x98\x98                    ", // HexDigits
+    *b"            \x98\x98\x98\x98\x98\x98\x98\x98\x98\x98                                       \x98\x98\x98\x98\x98\x98                    ", // HexMore
     *b"            !                                                                          ", // MaybeZero
-    *b"            $$$$$$$$$$                   oT n  qp#    r      s s    sss ssss   ss  sss ", // LiteralType
-    *b"                                                             \x92 \x94\x91\x98 \x9c \x9b  \x99\x95\x90\x97\x93 \x96\x9a       ", // Operator
+    *b"            $$$$$$$$$$                   sV r  ut#    v      w w    www wwww   ww  www ", // LiteralType
+    *b"            \x9b\x9b\x9b\x9b\x9b\x9b\x9b\x9b\x9b\x9b                   \x9b\x9b \x9b  \x9b\x9b\x9b    \x9b      \x9b \x9b    \x9b\x9b\x9b \x9b\x9b\x9b\x9b   \x9b\x9b  \x9b\x9b\x9b ", // LiteralPlain
+    *b"            $$$$$$$$$$                   sV r  ut#    v      w w    www wwww   ww  www ", // LiteralSolid
+    *b"                                                             \x9e \xa0\x9d\xa4 \xa8 \xa7  \xa5\xa1\x9c\xa3\x9f \xa2\xa6       ", // Operator
     *b"                                                             !   ! !            !  !   ", // OperatorAfterN
     *b"                                                  !          !   !      !         !    ", // OperatorAfterD
     *b"                                          !    !             !  !         !        !   ", // OperatorAfterA
@@ -379,89 +415,95 @@ static LETTERS: [[u8; 87]; 146] = [
     *b"                                         !     !                         !     !       ", // OperatorAfterR
     *b"                                              !                            !  !        ", // OperatorAfterO
     *b"                                           !                               ! !         ", // OperatorAfterE
-    *b"                                               !                 !   \x9d         !!      ", // OperatorAfterL
+    *b"                                               !                 !   \xa9         !!      ", // OperatorAfterL
     *b"                                                                               !       ", // OperatorAfterS
     *b"                                                                                    !  ", // OperatorAfterI
     *b"                                                                 !              !      ", // OperatorAfterG
-    *b"            GGGGGGGGGG         GG    \x9e  G        G           G GGG G G  GGGGG GG       ", // NestRestOrEnd
-    *b"                                     \x83                                                 ", // ArgumentsAlone
-    *b"            GGGGGGGGGG         GG    F  G        G           G GGG G G  GGGGG GG       ", // NestRestAlone
+    *b"            IIIIIIIIII         II    \xaa  I        I           I III I I  IIIII II       ", // NestRestOrEnd
+    *b"                                     \x88                                                 ", // ArgumentsAlone
+    *b"            IIIIIIIIII         II    H  I        I           I III I I  IIIII II       ", // NestRestAlone
     *b"                                         !                                             ", // HolderMark
-    *b"            $$$$$$$$$$         JK       \"        #           M LMM M M  MMMMM MM       ", // HeldComponent
+    *b"            $$$$$$$$$$         LM       \"        #           O NOO O O  OOOOO OO       ", // HeldComponent
     *b"                                                           !  !                     !  ", // FloatEnd
-    *b"                                                                        \xa0\xa0 \xa0           ", // ComponentAfterC
-    *b"                                                             \x92  \x91\x98 \x9c \x9b  \x99\x95\x90\x97\x93 \x96\x9a       ", // OtherOperator
-    *b"                                     \xa1                                                 ", // HeldArguments
-    *b"            \xa3\xa3\xa3\xa3\xa3\xa3\xa3\xa3\xa3\xa3                    \xa2    \xa3      r                                ", // BaseClass
-    *b"            \xa5\xa5\xa5\xa5\xa5\xa5\xa5\xa5\xa5\xa5                         \xa4                                       ", // UnnestedName
-    *b"                                     \xa6                                                 ", // BaseArguments
-    *b"            \x87\x87\x87\x87\x87\x87\x87\x87\x87\x87       \x87 \x87\x87 \x87   \x85\x87\x86\x87\x87\x87\x87 \x87\x87\x87\x87\x87 \x87 \x87      \x87\x87\x87\x87\x87\x87\x87\x87\x87\x87 \x87\x87\x87\x87  \x87\x87\x87\x87\x87\x87\x87\x87\x87", // ArgumentsFirst
+    *b"                                                                        \xac\xac \xac           ", // ComponentAfterC
+    *b"                                                             \x9e  \x9d\xa4 \xa8 \xa7  \xa5\xa1\x9c\xa3\x9f \xa2\xa6       ", // OtherOperator
+    *b"                                     \xad                                                 ", // HeldArguments
+    *b"            \xaf\xaf\xaf\xaf\xaf\xaf\xaf\xaf\xaf\xaf                    \xae    \xaf      v                                ", // BaseClass
+    *b"            \xb1\xb1\xb1\xb1\xb1\xb1\xb1\xb1\xb1\xb1                         \xb0                                       ", // UnnestedName
+    *b"                                     \xb2                                                 ", // BaseArguments
+    *b"            \x8c\x8c\x8c\x8c\x8c\x8c\x8c\x8c\x8c\x8c       \x8c \x8c\x8c \x8c   \x8a\x8c\x8b\x8c\x8c\x8c\x8c \x8c\x8c\x8c\x8c\x8c \x8c \x8c      \x8c\x8c\x8c\x8c\x8c\x8c\x8c\x8c\x8c\x8c \x8c\x8c\x8c\x8c  \x8c\x8c\x8c\x8c\x8c\x8c\x8c\x8c\x8c", // ArgumentsFirst
     *b"            $$$$$$$$$$                  \" )      #                                     ", // PlainEntity
-    *b"            $$$$$$$$$$                  \" T      #                                     ", // PlainTypeEntity
+    *b"            $$$$$$$$$$                  \" V      #                                     ", // PlainTypeEntity
     *b"                                   !                                                   ", // SpecialMark
     *b"                                                  4                                    ", // SpecialAfterG
     *b"                                                                          !     !      ", // CloneLetter
-    *b"                                                                                \xa8      ", // TypeInStd
+    *b"                                                                                \xb4      ", // TypeInStd
     *b"                                                                                       ", // MaybeTags
-    *b"            \xac\xac\xac\xac\xac\xac\xac\xac\xac\xac       \xac \xace \xac    _ \xac\xac`\xac `\xac\xab\xac^ \xaa \xac      \xac\xac\xac\xac\xac\xac\xac\xac\xac\xac \xac\xac\xac\xac  ]\xac\xac\xac\xac\xac\xac\xac\xac", // Argument
-    *b"            \xad\xad\xad\xad\xad\xad\xad\xad\xad\xad                                     \xad                           ", // ArgumentAfterT
-    *b"            \xad\xad\xad\xad\xad\xad\xad\xad\xad\xad                                     \xad                           ", // LeveledParameter
-    *b"            \xac\xac\xac\xac\xac\xac\xac\xac\xac\xac       \xac \xace \xac   \xb1_\xb0\xac\xac`\xac `\xac\xab\xac^ \xaa \xac      \xac\xac\xac\xac\xac\xac\xac\xac\xac\xac \xac\xac\xac\xac  ]\xac\xac\xac\xac\xac\xac\xac\xac", // OneArgument
-    *b"                                                                       \xb4  \xb3 \xb6   \xb5    \xb2 ", // DeclarationAfterT
-    *b"                                                \xb7                                      ", // Declarations
-    *b"            \xb8\xb8\xb8\xb8\xb8\xb8\xb8\xb8\xb8\xb8                    T    \xb8                                       ", // Concept
-    *b"            $$$$$$$$$$       u w  v      oT n  q #    r      ssssssssss ssss   sstsssss", // SolidButT
-    *b"                                                             \xd1                         ", // Expression
-    *b"                                        \xe2                                              ", // AddressedExpression
-    *b"                                                           \x8a                           ", // AddressedLiteral
-    *b"                                                                \xbd                      ", // ExpressionAfterA
-    *b"                                                               \xb9        \xc1\xbe \xbf\xc1     \xc2    ", // ExpressionAfterC
-    *b"                                                  \xbe          \xbf \xb9 \xbf      \xbf \xc3    \xbe\xbe \xbe    ", // ExpressionAfterD
-    *b"                                           \xbe                               \xbe \xbe         ", // ExpressionAfterE
-    *b"                                        \xc4                               \xc5   \xbc \xc6        ", // ExpressionAfterF
-    *b"                                                                 \xbe             \xbf\xbe      ", // ExpressionAfterG
-    *b"                                                                        \xc7           \xbe  ", // ExpressionAfterI
-    *b"                                               \xbe                 \xbe             \xbe\xbe      ", // ExpressionAfterL
-    *b"                                     \xbe  \xbe                            \xbe  \xbe\xc8             ", // ExpressionAfterM
-    *b"                                                             \xc9   \xbe \xbf            \xbf  \xc9\xbf  ", // ExpressionAfterN
-    *b"                                              \xbe                           \xba\xbe  \xbe        ", // ExpressionAfterO
-    *b"                                        \xbe                               \xbe\xbe  \xc8  \xbf\xbe      ", // ExpressionAfterP
-    *b"                                                                                 \xca     ", // ExpressionAfterQ
-    *b"                                         \xbe   \xcc \xbe               \xb9         \xbe   \xcb \xbe       ", // ExpressionAfterR
-    *b"                                                      \xce        \xb9            \xcd \xcf\xbe\xc0     \xbf", // ExpressionAfterS
-    *b"                                                                 \xbf   \xc0  \xd0          \xbf   ", // ExpressionAfterT
-    *b"                                                             \xe3                         ", // Expressions
+    *b"            \xb8\xb8\xb8\xb8\xb8\xb8\xb8\xb8\xb8\xb8       \xb8 \xb8g \xb8    a \xb8\xb8b\xb8 b\xb8\xb7\xb8` \xb6 \xb8      \xb8\xb8\xb8\xb8\xb8\xb8\xb8\xb8\xb8\xb8 \xb8\xb8\xb8\xb8  _\xb8\xb8\xb8\xb8\xb8\xb8\xb8\xb8", // Argument
+    *b"            \xb9\xb9\xb9\xb9\xb9\xb9\xb9\xb9\xb9\xb9                                     \xb9                           ", // ArgumentAfterT
+    *b"            \xb9\xb9\xb9\xb9\xb9\xb9\xb9\xb9\xb9\xb9                                     \xb9                           ", // LeveledParameter
+    *b"            \xb8\xb8\xb8\xb8\xb8\xb8\xb8\xb8\xb8\xb8       \xb8 \xb8g \xb8   \xbda\xbc\xb8\xb8b\xb8 b\xb8\xb7\xb8` \xb6 \xb8      \xb8\xb8\xb8\xb8\xb8\xb8\xb8\xb8\xb8\xb8 \xb8\xb8\xb8\xb8  _\xb8\xb8\xb8\xb8\xb8\xb8\xb8\xb8", // OneArgument
+    *b"                                                                       \xc0  \xbf \xc2   \xc1    \xbe ", // DeclarationAfterT
+    *b"                                                \xc3                                      ", // Declarations
+    *b"            \xc4\xc4\xc4\xc4\xc4\xc4\xc4\xc4\xc4\xc4                    V    \xc4                                       ", // Concept
+    *b"            $$$$$$$$$$       y {  z      sV r  u #    v      wwwwwwwwww wwww   wwxwwwww", // SolidButT
+    *b"                                                             \xe1                         ", // Expression
+    *b"                                        \xf2                                              ", // AddressedExpression
+    *b"                                                           \x8f                           ", // AddressedLiteral
+    *b"                                                                \xc9                      ", // ExpressionAfterA
+    *b"                                                               \xc5        \xcd\xca \xcb\xcd     \xce    ", // ExpressionAfterC
+    *b"                                                  \xca          \xcb \xc5 \xcb   \xcf  \xcb \xd1    \xca\xca \xca \xd0  ", // ExpressionAfterD
+    *b"                                           \xca                               \xca \xca         ", // ExpressionAfterE
+    *b"                                        \xd2                               \xd3   \xc8 \xd4        ", // ExpressionAfterF
+    *b"                                                                 \xca             \xcb\xca      ", // ExpressionAfterG
+    *b"                                                                        \xd5           \xca  ", // ExpressionAfterI
+    *b"                                               \xca                 \xca             \xca\xca      ", // ExpressionAfterL
+    *b"                                     \xca  \xca                            \xca  \xca\xd6             ", // ExpressionAfterM
+    *b"                                                             \xd7   \xca \xcb            \xcb  \xd7\xcb  ", // ExpressionAfterN
+    *b"                                              \xca                           \xc6\xca  \xca        ", // ExpressionAfterO
+    *b"                                        \xca                               \xca\xca  \xd6  \xcb\xca      ", // ExpressionAfterP
+    *b"                                                                                 \xd8     ", // ExpressionAfterQ
+    *b"                                         \xca   \xda \xca               \xc5         \xca   \xd9 \xca       ", // ExpressionAfterR
+    *b"                                                      \xdc        \xc5            \xdb \xdd\xca\xcc    \xde\xcb", // ExpressionAfterS
+    *b"                                                                 \xcb   \xcc  \xdf     \xe0    \xcb   ", // ExpressionAfterT
+    *b"                                                             \xf3                         ", // Expressions
     *b"                                                           !                           ", // MaybeBefore
-    *b"                                                             \x92 \x94\x91\x98 \x9c \x9b  \xe4\x95\x90\x97\x93 \x96\x9a       ", // FoldOperator
+    *b"                                                             \x9e \xa0\x9d\xa4 \xa8 \xa7  \xf4\xa1\x9c\xa3\x9f \xa2\xa6       ", // FoldOperator
     *b"                                               !                 !             !!      ", // FoldOperatorAfterL
-    *b"                                                             \xe5                         ", // FoldOperand
-    *b"                                                             \xe6                         ", // FoldPack
-    *b"                                                           ! \xe7                         ", // Placement
-    *b"                                                             \xe3                         ", // SomeExpressions
-    *b"                                 ~                                   \xe9      \xe8          ", // Initializer
-    *b"                                                                     \xc7                 ", // InitializerAfterP
-    *b"                                                                        \xc7              ", // InitializerAfterI
-    *b"                                                                            \xbc          ", // OuterRest
-    *b"            \xeb\xeb\xeb\xeb\xeb\xeb\xeb\xeb\xeb\xeb                          \xea          \xeb                           ", // ParameterNumber
-    *b"            \xf0\xf0\xf0\xf0\xf0\xf0\xf0\xf0\xf0\xf0          \xec \xf0    \xed  \xf0\xef\xee \xef\xf0\xf0\xf0           \xf0\xf0\xf0\xf0\xf0\xf0\xf0\xf0\xf0\xf0 \xf0\xf0\xf0\xf0   \xf0\xf0 \xf0\xf0\xf0\xf0\xf0", // ConvertedType
-    *b"            $$$$$$$$$$            v       T    qp#           ssssssssss ssss   ss sssss", // ConvertedSolid
-    *b"                                                m                               m      ", // DecltypeAfterD
-    *b"            \xbb\xbb\xbb\xbb\xbb\xbb\xbb\xbb\xbb\xbb                  \xb0       \xe1          \xc7 \xd1 \xd2\xd3\xd4\xd5\xd6 \xd7  \xd8\xd9\xda\xdb\xdc\xdd\xde\xdf\xe0      ", // ConvertRest
-    *b"            \xf2\xf2\xf2\xf2\xf2\xf2\xf2\xf2\xf2\xf2          \xf1         \xf1    \xf1\xf1                                      ", // Unresolved
-    *b"                                \xec         T    qp                                      ", // UnresolvedType
-    *b"            \xbb\xbb\xbb\xbb\xbb\xbb\xbb\xbb\xbb\xbb          \xf3         \xf3    \xf3\xf3                                      ", // DestructorName
-    *b"                                             \xf6  \xf5   \xf4                                  ", // Requirements
-    *b"                                          \xf8  \xf6\xf7 \xf5   \xf4                                  ", // AfterExpression
-    *b"                                             \xf6\xf7 \xf5   \xf4                                  ", // AfterNoexcept
-    *b"            \xf9\xf9\xf9\xf9\xf9\xf9\xf9\xf9\xf9\xf9          \xf9 \xf9    \xf9  \xf9\xf9\xf9 \xf9\xf9\xf9\xf9         \xcb \xf9\xf9\xf9\xf9\xf9\xf9\xf9\xf9\xf9\xf9 \xf9\xf9\xf9\xf9   \xf9\xf9 \xf9\xf9\xf9\xf9\xf9", // RequiredTypes
-    *b"            \xbb\xbb\xbb\xbb\xbb\xbb\xbb\xbb\xbb\xbb                                                                 ", // Level
-    *b"            \xf2\xf2\xf2\xf2\xf2\xf2\xf2\xf2\xf2\xf2           \xfa                                                     ", // MoreLevels
-    *b"            \xbb\xbb\xbb\xbb\xbb\xbb\xbb\xbb\xbb\xbb                                                     \xfb           ", // UnresolvedName
-    *b"                                                                          \xba            ", // OperatorName
-    *b"                             \xfc                                                         ", // AnyArray
-    *b"            \xfe\xfe\xfe\xfe\xfe\xfe\xfe\xfe\xfe\xfe                                     \xfe                           ", // ArrayRest
-    *b"                                        \xb0       \xe1            \xd1 \xd2\xd3\xd4\xd5\xd6 \xd7  \xd8\xd9\xda\xdb\xdc\xdd\xde\xdf\xe0      ", // Bound
-    *b"            GGGGGGGGGG         GG       G        G           G GGG G G  GGGGG GG       ", // NestMoreOrEnd
+    *b"                                                             \xf5                         ", // FoldOperand
+    *b"                                                             \xf6                         ", // FoldPack
+    *b"                                      \xbd                      \xf6                         ", // ValuePack
+    *b"            \xf7\xf7\xf7\xf7\xf7\xf7\xf7\xf7\xf7\xf7       \xf7 \xf7\xf7 \xf7   \xbd\xf7 \xf7\xf7\xf7\xf7 \xf7\xf7\xf7\xf7\xf7   \xf7      \xf7\xf7\xf7\xf7\xf7\xf7\xf7\xf7\xf7\xf7 \xf7\xf7\xf7\xf7  \xf7\xf7\xf7\xf7\xf7\xf7\xf7\xf7\xf7", // TypePack
+    *b"            \xf9\xf9\xf9\xf9\xf9\xf9\xf9\xf9\xf9\xf9                  \xf9       \xf9            \xf9 \xf9\xf8\xf9\xf9\xf9 \xf9  \xf9\xf9\xf9\xf9\xf9\xf9\xf9\xf9\xf9      ", // DesignatedValue
+    *b"                                                                     \xcf              \xd0  ", // DesignatorAfterD
+    *b"            \xc7\xc7\xc7\xc7\xc7\xc7\xc7\xc7\xc7\xc7                  \xbc       \xf1            \xe1 \xe2 \xe4\xe5\xe6 \xe7  \xe8\xe9\xea\xeb\xec\xed\xee\xef\xf0      ", // PlainValue
+    *b"            \xfa\xfa\xfa\xfa\xfa\xfa\xfa\xfa\xfa\xfa                                                                 ", // FieldName
+    *b"                                                           ! \xfb                         ", // Placement
+    *b"                                                             \xf3                         ", // SomeExpressions
+    *b"                                 \x83                                   \xfd      \xfc          ", // Initializer
+    *b"                                                                     \xd5                 ", // InitializerAfterP
+    *b"                                                                        \xd5              ", // InitializerAfterI
+    *b"                                                                            \xc8          ", // OuterRest
+    *b"            \xff\xff\xff\xff\xff\xff\xff\xff\xff\xff                          \xfe          \xff                           ", // ParameterNumber
+    *b"            \x04\x04\x04\x04\x04\x04\x04\x04\x04\x04          \x00 \x04    \x01  \x04\x03\x02 \x03\x04\x04\x04           \x04\x04\x04\x04\x04\x04\x04\x04\x04\x04 \x04\x04\x04\x04   \x04\x04 \x04\x04\x04\x04\x04", // ConvertedType
+    *b"            $$$$$$$$$$            z       V    ut#           wwwwwwwwww wwww   ww wwwww", // ConvertedSolid
+    *b"                                                p                               p      ", // DecltypeAfterD
+    *b"            \xc7\xc7\xc7\xc7\xc7\xc7\xc7\xc7\xc7\xc7                  \xbc       \xf1          \xd5 \xe1 \xe2\xe3\xe4\xe5\xe6 \xe7  \xe8\xe9\xea\xeb\xec\xed\xee\xef\xf0      ", // ConvertRest
+    *b"            \x06\x06\x06\x06\x06\x06\x06\x06\x06\x06          \x05         \x05    \x05\x05                                      ", // Unresolved
+    *b"                                \x00         V    ut                                      ", // UnresolvedType
+    *b"            \xc7\xc7\xc7\xc7\xc7\xc7\xc7\xc7\xc7\xc7          \x07         \x07    \x07\x07                                      ", // DestructorName
+    *b"                                             \x0a  \x09   \x08                                  ", // Requirements
+    *b"                                          \x0c  \x0a\x0b \x09   \x08                                  ", // AfterExpression
+    *b"                                             \x0a\x0b \x09   \x08                                  ", // AfterNoexcept
+    *b"            \x0d\x0d\x0d\x0d\x0d\x0d\x0d\x0d\x0d\x0d          \x0d \x0d    \x0d  \x0d\x0d\x0d \x0d\x0d\x0d\x0d         \xd9 \x0d\x0d\x0d\x0d\x0d\x0d\x0d\x0d\x0d\x0d \x0d\x0d\x0d\x0d   \x0d\x0d \x0d\x0d\x0d\x0d\x0d", // RequiredTypes
+    *b"            \xc7\xc7\xc7\xc7\xc7\xc7\xc7\xc7\xc7\xc7                                                                 ", // Level
+    *b"            \x06\x06\x06\x06\x06\x06\x06\x06\x06\x06           \x0e                                                     ", // MoreLevels
+    *b"            \xc7\xc7\xc7\xc7\xc7\xc7\xc7\xc7\xc7\xc7                                                     \x0f           ", // UnresolvedName
+    *b"                                                                          \xc6            ", // OperatorName
+    *b"                             \x10                                                         ", // AnyArray
+    *b"            \x12\x12\x12\x12\x12\x12\x12\x12\x12\x12                                     \x12                           ", // ArrayRest
+    *b"                                        \xbc       \xf1            \xe1 \xe2\xe3\xe4\xe5\xe6 \xe7  \xe8\xe9\xea\xeb\xec\xed\xee\xef\xf0      ", // Bound
+    *b"            IIIIIIIIII         II       I        I           I III I I  IIIII II       ", // NestMoreOrEnd
 ];
 
 /// A rule without its number and its symbols.
@@ -491,7 +533,7 @@ macro_rules! chains {
 }
 
 // The rules of the productions, in the order of their numbers.
-pub static HEADS: [Head; 222] = [
+pub static HEADS: [Head; 242] = [
     takes!(0), // ! Mark
     takes!(2), // \" InternalName
     takes!(2), // # LocalTypeName
@@ -512,212 +554,232 @@ pub static HEADS: [Head; 222] = [
     takes!(5), // 2 VirtualThunk
     takes!(3), // 3 CovariantThunk
     takes!(1), // 4 SpecialName
-    takes!(4), // 5 ConstructionVtable
-    takes!(2), // 6 NonVirtualOffset
-    takes!(4), // 7 VirtualOffset
-    takes!(1), // 8 Negative
-    chains!(1), // 9 Positive
-    takes!(1), // : NameWithS
-    takes!(4), // ; LocalName
-    takes!(2), // < StdName
-    chains!(2), // = AbbreviatedName
-    chains!(1), // > OperatorPiece
-    takes!(1), // ? NestWithS
-    takes!(2), // @ NestParameter
-    takes!(2), // A NestInternal
-    takes!(2), // B NestLocalType
-    chains!(2), // C NestSource
-    takes!(3), // D NestStd
-    chains!(2), // E NestTemplate
-    takes!(4), // F NestArguments
-    chains!(2), // G NestNext
-    takes!(2), // H NestTag
-    takes!(0), // I NestEnd
-    takes!(1), // J AnyConstructor
-    takes!(2), // K Destructor
-    takes!(1), // L ComponentWithC
-    chains!(2), // M OtherOperatorName
-    chains!(2), // N Holder
-    takes!(2), // O Friend
-    takes!(2), // P Inheriting
-    chains!(2), // Q Constructor
-    takes!(0), // R Abbreviation
-    chains!(1), // S Substitution
-    takes!(1), // T NestedType
-    takes!(0), // U StringLiteral
-    takes!(2), // V DefaultEntity
-    takes!(2), // W DefaultTypeEntity
-    takes!(1), // X Discriminator
-    takes!(0), // Y OneDigit
-    takes!(2), // Z ManyDigits
-    takes!(4), // [ Lambda
-    takes!(1), // \\ Unnamed
-    takes!(3), // ] RestrictType
-    takes!(2), // ^ VolatileType
-    takes!(1), // _ ConstType
-    takes!(1), // ` ReferenceType
-    chains!(1), // a PlainType
-    takes!(1), // b TypeWithD
-    takes!(1), // c PlainWithD
-    chains!(1), // d QualifiedPlain
-    takes!(1), // e ItemWithD
-    takes!(1), // f Expansion
-    chains!(1), // g ItemIsType
-    takes!(0), // h BuiltinWithD
-    takes!(3), // i Vector
-    takes!(4), // j NoexceptFunction
-    takes!(2), // k SizedFloat
-    takes!(1), // l ConstrainedAuto
-    takes!(2), // m Decltype
-    takes!(1), // n Pointer
-    takes!(2), // o MemberPointer
-    takes!(2), // p Parameter
-    takes!(2), // q TypeWithS
-    takes!(4), // r LocalType
-    takes!(0), // s Builtin
-    takes!(1), // t Vendor
-    chains!(1), // u ArrayType
-    takes!(3), // v Function
-    takes!(1), // w Complex
-    chains!(1), // x TypeInStd
-    chains!(1), // y AbbreviatedType
-    takes!(0), // z RestEnd
-    takes!(1), // { RestLvalue
-    takes!(1), // | RestRvalue
-    chains!(2), // } RestItem
-    takes!(0), // ~ RefEnd
-    chains!(2), // \x7f LvalueItem
-    chains!(2), // \x80 RvalueItem
-    takes!(1), // \x81 Constraint
-    chains!(2), // \x82 Items
-    takes!(2), // \x83 Arguments
-    takes!(2), // \x84 Tag
-    takes!(3), // \x85 PackArgument
-    takes!(3), // \x86 LiteralArgument
-    chains!(2), // \x87 AnyArgument
-    takes!(3), // \x88 LiteralElement
-    chains!(2), // \x89 AnyElement
-    takes!(2), // \x8a EncodingLiteral
-    takes!(1), // \x8b BoolLiteral
-    takes!(1), // \x8c LiteralWithD
-    chains!(2), // \x8d IntegerLiteral
-    takes!(1), // \x8e NullLiteral
-    takes!(1), // \x8f CharLiteral
-    takes!(1), // \x90 OperatorN
-    takes!(1), // \x91 OperatorD
-    takes!(1), // \x92 OperatorA
-    takes!(1), // \x93 OperatorP
-    takes!(1), // \x94 OperatorC
-    takes!(1), // \x95 OperatorM
-    takes!(1), // \x96 OperatorR
-    takes!(1), // \x97 OperatorO
-    takes!(1), // \x98 OperatorE
-    takes!(1), // \x99 OperatorL
-    takes!(1), // \x9a OperatorS
-    takes!(1), // \x9b OperatorI
-    takes!(1), // \x9c OperatorG
-    takes!(1), // \x9d LiteralOperator
-    takes!(3), // \x9e NestInstance
-    takes!(1), // \x9f Conversion
-    chains!(2), // \xa0 OperatorNameWithC
-    takes!(2), // \xa1 HeldArguments
-    takes!(2), // \xa2 NestedBase
-    chains!(2), // \xa3 UnnestedBase
-    takes!(1), // \xa4 UnnestedWithS
-    chains!(2), // \xa5 TaggedSource
-    takes!(3), // \xa6 BaseArguments
-    takes!(2), // \xa7 Clone
-    takes!(2), // \xa8 TaggedStdType
-    takes!(2), // \xa9 TypeTag
-    takes!(2), // \xaa Expression
-    takes!(1), // \xab ArgumentWithT
-    chains!(1), // \xac PlainArgument
-    chains!(2), // \xad ParameterArgument
-    chains!(2), // \xae DeclaredArgument
-    takes!(2), // \xaf LeveledParameter
-    takes!(2), // \xb0 OneLiteral
-    takes!(2), // \xb1 OnePack
-    takes!(0), // \xb2 AnyType
-    takes!(1), // \xb3 ValueOf
-    takes!(1), // \xb4 OfConcept
-    takes!(2), // \xb5 TemplateOf
-    takes!(2), // \xb6 PackOf
-    takes!(2), // \xb7 Declarations
-    chains!(2), // \xb8 NamedConcept
-    takes!(2), // \xb9 Cast
-    takes!(2), // \xba OperatorReference
-    chains!(2), // \xbb SimpleId
-    takes!(4), // \xbc FunctionParameter
-    takes!(1), // \xbd AddressExpression
-    takes!(2), // \xbe Binary
-    takes!(1), // \xbf Unary
-    takes!(1), // \xc0 OfType
-    takes!(3), // \xc1 Call
-    takes!(2), // \xc2 Convert
-    takes!(1), // \xc3 DestructorName
-    takes!(2), // \xc4 OuterParameter
-    takes!(2), // \xc5 LeftFold
-    takes!(2), // \xc6 RightFold
-    takes!(2), // \xc7 Braces
-    takes!(2), // \xc8 Step
-    takes!(3), // \xc9 New
-    takes!(3), // \xca Conditional
-    takes!(2), // \xcb Requires
-    takes!(1), // \xcc RequiresOf
-    takes!(1), // \xcd ExpandExpression
-    takes!(1), // \xce PackSize
-    takes!(1), // \xcf Unresolved
-    takes!(3), // \xd0 TypedBraces
-    takes!(1), // \xd1 ExpressionA
-    takes!(1), // \xd2 ExpressionC
-    takes!(1), // \xd3 ExpressionD
-    takes!(1), // \xd4 ExpressionE
-    takes!(1), // \xd5 ExpressionF
-    takes!(1), // \xd6 ExpressionG
-    takes!(1), // \xd7 ExpressionI
-    takes!(1), // \xd8 ExpressionL
-    takes!(1), // \xd9 ExpressionM
-    takes!(1), // \xda ExpressionN
-    takes!(1), // \xdb ExpressionO
-    takes!(1), // \xdc ExpressionP
-    takes!(1), // \xdd ExpressionQ
-    takes!(1), // \xde ExpressionR
-    takes!(1), // \xdf ExpressionS
-    takes!(1), // \xe0 ExpressionT
-    takes!(2), // \xe1 ParameterExpression
-    takes!(2), // \xe2 AddressedLiteral
-    chains!(2), // \xe3 Expressions
-    takes!(1), // \xe4 FoldOperatorL
-    chains!(1), // \xe5 FoldOperand
-    chains!(1), // \xe6 FoldPack
-    chains!(2), // \xe7 Placed
-    takes!(1), // \xe8 Initializer
-    takes!(1), // \xe9 BracedInitializer
-    takes!(0), // \xea This
-    chains!(1), // \xeb ParameterNumber
-    takes!(1), // \xec ConvertedDecltype
-    takes!(1), // \xed ConvertedConst
-    takes!(1), // \xee ConvertedPointer
-    takes!(1), // \xef ConvertedReference
-    chains!(1), // \xf0 ConvertedType
-    chains!(2), // \xf1 UnresolvedInType
-    chains!(2), // \xf2 Levels
-    chains!(1), // \xf3 DestroyedType
-    takes!(2), // \xf4 ExpressionRequirement
-    takes!(2), // \xf5 TypeRequirement
-    takes!(2), // \xf6 NestedRequirement
-    takes!(2), // \xf7 ResultRequirement
-    takes!(1), // \xf8 NoexceptRequirement
-    chains!(2), // \xf9 RequiredType
-    takes!(1), // \xfa LevelsEnd
-    takes!(1), // \xfb UnresolvedOperator
-    takes!(1), // \xfc AnyArray
-    chains!(3), // \xfd BoundedArray
-    chains!(2), // \xfe LengthArray
+    takes!(1), // 5 ParameterObject
+    takes!(4), // 6 ConstructionVtable
+    takes!(2), // 7 NonVirtualOffset
+    takes!(4), // 8 VirtualOffset
+    takes!(1), // 9 Negative
+    chains!(1), // : Positive
+    takes!(1), // ; NameWithS
+    takes!(4), // < LocalName
+    takes!(2), // = StdName
+    chains!(2), // > AbbreviatedName
+    chains!(1), // ? OperatorPiece
+    takes!(1), // @ NestWithS
+    takes!(2), // A NestParameter
+    takes!(2), // B NestInternal
+    takes!(2), // C NestLocalType
+    chains!(2), // D NestSource
+    takes!(2), // E NestDecltype
+    takes!(3), // F NestStd
+    chains!(2), // G NestTemplate
+    takes!(4), // H NestArguments
+    chains!(2), // I NestNext
+    takes!(2), // J NestTag
+    takes!(0), // K NestEnd
+    takes!(1), // L AnyConstructor
+    takes!(2), // M Destructor
+    takes!(1), // N ComponentWithC
+    chains!(2), // O OtherOperatorName
+    chains!(2), // P Holder
+    takes!(2), // Q Friend
+    takes!(2), // R Inheriting
+    chains!(2), // S Constructor
+    takes!(0), // T Abbreviation
+    chains!(1), // U Substitution
+    takes!(1), // V NestedType
+    takes!(0), // W StringLiteral
+    takes!(2), // X DefaultEntity
+    takes!(2), // Y DefaultTypeEntity
+    takes!(1), // Z Discriminator
+    takes!(0), // [ OneDigit
+    takes!(2), // \\ ManyDigits
+    takes!(4), // ] Lambda
+    takes!(1), // ^ Unnamed
+    takes!(3), // _ RestrictType
+    takes!(2), // ` VolatileType
+    takes!(1), // a ConstType
+    takes!(1), // b ReferenceType
+    chains!(1), // c PlainType
+    takes!(1), // d TypeWithD
+    takes!(1), // e PlainWithD
+    chains!(1), // f QualifiedPlain
+    takes!(1), // g ItemWithD
+    takes!(1), // h Expansion
+    chains!(1), // i ItemIsType
+    takes!(0), // j BuiltinWithD
+    takes!(3), // k Vector
+    takes!(4), // l NoexceptFunction
+    takes!(2), // m SizedFloat
+    takes!(1), // n ConstrainedAuto
+    takes!(2), // o BitInt
+    takes!(2), // p Decltype
+    takes!(2), // q IndexedType
+    takes!(1), // r Pointer
+    takes!(2), // s MemberPointer
+    takes!(2), // t Parameter
+    takes!(2), // u TypeWithS
+    takes!(4), // v LocalType
+    takes!(0), // w Builtin
+    takes!(1), // x Vendor
+    chains!(1), // y ArrayType
+    takes!(3), // z Function
+    takes!(1), // { Complex
+    chains!(1), // | BitWidth
+    chains!(1), // } TypeInStd
+    chains!(1), // ~ AbbreviatedType
+    takes!(0), // \x7f RestEnd
+    takes!(1), // \x80 RestLvalue
+    takes!(1), // \x81 RestRvalue
+    chains!(2), // \x82 RestItem
+    takes!(0), // \x83 RefEnd
+    chains!(2), // \x84 LvalueItem
+    chains!(2), // \x85 RvalueItem
+    takes!(1), // \x86 Constraint
+    chains!(2), // \x87 Items
+    takes!(2), // \x88 Arguments
+    takes!(2), // \x89 Tag
+    takes!(3), // \x8a PackArgument
+    takes!(3), // \x8b LiteralArgument
+    chains!(2), // \x8c AnyArgument
+    takes!(3), // \x8d LiteralElement
+    chains!(2), // \x8e AnyElement
+    takes!(2), // \x8f EncodingLiteral
+    takes!(1), // \x90 BoolLiteral
+    takes!(1), // \x91 LiteralWithD
+    chains!(2), // \x92 IntegerLiteral
+    chains!(2), // \x93 FloatLiteral
+    takes!(1), // \x94 NullLiteral
+    takes!(1), // \x95 CharLiteral
+    chains!(2), // \x96 SizedFloatLiteral
+    chains!(1), // \x97 HexText
+    takes!(1), // \x98 HexDigit
+    takes!(2), // \x99 VolatileLiteral
+    takes!(1), // \x9a ConstLiteral
+    chains!(1), // \x9b QualifiedLiteral
+    takes!(1), // \x9c OperatorN
+    takes!(1), // \x9d OperatorD
+    takes!(1), // \x9e OperatorA
+    takes!(1), // \x9f OperatorP
+    takes!(1), // \xa0 OperatorC
+    takes!(1), // \xa1 OperatorM
+    takes!(1), // \xa2 OperatorR
+    takes!(1), // \xa3 OperatorO
+    takes!(1), // \xa4 OperatorE
+    takes!(1), // \xa5 OperatorL
+    takes!(1), // \xa6 OperatorS
+    takes!(1), // \xa7 OperatorI
+    takes!(1), // \xa8 OperatorG
+    takes!(1), // \xa9 LiteralOperator
+    takes!(3), // \xaa NestInstance
+    takes!(1), // \xab Conversion
+    chains!(2), // \xac OperatorNameWithC
+    takes!(2), // \xad HeldArguments
+    takes!(2), // \xae NestedBase
+    chains!(2), // \xaf UnnestedBase
+    takes!(1), // \xb0 UnnestedWithS
+    chains!(2), // \xb1 TaggedSource
+    takes!(3), // \xb2 BaseArguments
+    takes!(2), // \xb3 Clone
+    takes!(2), // \xb4 TaggedStdType
+    takes!(2), // \xb5 TypeTag
+    takes!(2), // \xb6 Expression
+    takes!(1), // \xb7 ArgumentWithT
+    chains!(1), // \xb8 PlainArgument
+    chains!(2), // \xb9 ParameterArgument
+    chains!(2), // \xba DeclaredArgument
+    takes!(2), // \xbb LeveledParameter
+    takes!(2), // \xbc OneLiteral
+    takes!(2), // \xbd OnePack
+    takes!(0), // \xbe AnyType
+    takes!(1), // \xbf ValueOf
+    takes!(1), // \xc0 OfConcept
+    takes!(2), // \xc1 TemplateOf
+    takes!(2), // \xc2 PackOf
+    takes!(2), // \xc3 Declarations
+    chains!(2), // \xc4 NamedConcept
+    takes!(2), // \xc5 Cast
+    takes!(2), // \xc6 OperatorReference
+    chains!(2), // \xc7 SimpleId
+    takes!(4), // \xc8 FunctionParameter
+    takes!(1), // \xc9 AddressExpression
+    takes!(2), // \xca Binary
+    takes!(1), // \xcb Unary
+    takes!(1), // \xcc OfType
+    takes!(3), // \xcd Call
+    takes!(2), // \xce Convert
+    takes!(2), // \xcf Designated
+    takes!(2), // \xd0 DesignatedElement
+    takes!(1), // \xd1 DestructorName
+    takes!(2), // \xd2 OuterParameter
+    takes!(2), // \xd3 LeftFold
+    takes!(2), // \xd4 RightFold
+    takes!(2), // \xd5 Braces
+    takes!(2), // \xd6 Step
+    takes!(3), // \xd7 New
+    takes!(3), // \xd8 Conditional
+    takes!(2), // \xd9 Requires
+    takes!(1), // \xda RequiresOf
+    takes!(1), // \xdb ExpandExpression
+    takes!(1), // \xdc PackSize
+    takes!(1), // \xdd Unresolved
+    takes!(2), // \xde PackIndex
+    takes!(3), // \xdf TypedBraces
+    takes!(0), // \xe0 Rethrow
+    takes!(1), // \xe1 ExpressionA
+    takes!(1), // \xe2 ExpressionC
+    takes!(1), // \xe3 ExpressionD
+    takes!(1), // \xe4 ExpressionE
+    takes!(1), // \xe5 ExpressionF
+    takes!(1), // \xe6 ExpressionG
+    takes!(1), // \xe7 ExpressionI
+    takes!(1), // \xe8 ExpressionL
+    takes!(1), // \xe9 ExpressionM
+    takes!(1), // \xea ExpressionN
+    takes!(1), // \xeb ExpressionO
+    takes!(1), // \xec ExpressionP
+    takes!(1), // \xed ExpressionQ
+    takes!(1), // \xee ExpressionR
+    takes!(1), // \xef ExpressionS
+    takes!(1), // \xf0 ExpressionT
+    takes!(2), // \xf1 ParameterExpression
+    takes!(2), // \xf2 AddressedLiteral
+    chains!(2), // \xf3 Expressions
+    takes!(1), // \xf4 FoldOperatorL
+    chains!(1), // \xf5 FoldOperand
+    chains!(1), // \xf6 FoldPack
+    chains!(1), // \xf7 TypePack
+    takes!(1), // \xf8 Designators
+    chains!(1), // \xf9 DesignatedValue
+    chains!(1), // \xfa FieldName
+    chains!(2), // \xfb Placed
+    takes!(1), // \xfc Initializer
+    takes!(1), // \xfd BracedInitializer
+    takes!(0), // \xfe This
+    chains!(1), // \xff ParameterNumber
+    takes!(1), // \x00 ConvertedDecltype
+    takes!(1), // \x01 ConvertedConst
+    takes!(1), // \x02 ConvertedPointer
+    takes!(1), // \x03 ConvertedReference
+    chains!(1), // \x04 ConvertedType
+    chains!(2), // \x05 UnresolvedInType
+    chains!(2), // \x06 Levels
+    chains!(1), // \x07 DestroyedType
+    takes!(2), // \x08 ExpressionRequirement
+    takes!(2), // \x09 TypeRequirement
+    takes!(2), // \x0a NestedRequirement
+    takes!(2), // \x0b ResultRequirement
+    takes!(1), // \x0c NoexceptRequirement
+    chains!(2), // \x0d RequiredType
+    takes!(1), // \x0e LevelsEnd
+    takes!(1), // \x0f UnresolvedOperator
+    takes!(1), // \x10 AnyArray
+    chains!(3), // \x11 BoundedArray
+    chains!(2), // \x12 LengthArray
 ];
 
 // The symbols of the rules, in the same order.
-pub static SYMBOLS: [Sym; 1338] = symbols_listed! {
+pub static SYMBOLS: [Sym; 1458] = symbols_listed! {
     [NONE, NONE, NONE, NONE, NONE], // ! Mark
     [NAME, MAYBE_ARGUMENTS, NONE, NONE, NONE], // \" InternalName
     [ANONYMOUS, MAYBE_ARGUMENTS, NONE, NONE, NONE], // # LocalTypeName
@@ -738,261 +800,285 @@ pub static SYMBOLS: [Sym; 1338] = symbols_listed! {
     [INTEGER, Sym::Byte(b'_'), INTEGER, Sym::Byte(b'_'), ENCODING], // 2 VirtualThunk
     [CALL_OFFSET, CALL_OFFSET, ENCODING, NONE, NONE], // 3 CovariantThunk
     [COMPLETE_NAME, NONE, NONE, NONE, NONE], // 4 SpecialName
-    [TYPE, DIGITS, Sym::Byte(b'_'), TYPE, NONE], // 5 ConstructionVtable
-    [INTEGER, Sym::Byte(b'_'), NONE, NONE, NONE], // 6 NonVirtualOffset
-    [INTEGER, Sym::Byte(b'_'), INTEGER, Sym::Byte(b'_'), NONE], // 7 VirtualOffset
-    [DIGITS, NONE, NONE, NONE, NONE], // 8 Negative
-    [DIGITS, NONE, NONE, NONE, NONE], // 9 Positive
-    [NAME_AFTER_S, NONE, NONE, NONE, NONE], // : NameWithS
-    [ENCODING, Sym::Byte(b'E'), ENTITY, MAYBE_DISCRIMINATOR, NONE], // ; LocalName
-    [UNQUALIFIED, MAYBE_ARGUMENTS, NONE, NONE, NONE], // < StdName
-    [ABBREVIATION, ARGUMENTS, NONE, NONE, NONE], // = AbbreviatedName
-    [OPERATOR, NONE, NONE, NONE, NONE], // > OperatorPiece
-    [NEST_AFTER_S, NONE, NONE, NONE, NONE], // ? NestWithS
-    [DECIMAL, NEST_REST_ALONE, NONE, NONE, NONE], // @ NestParameter
-    [NAME, NEST_REST, NONE, NONE, NONE], // A NestInternal
-    [ANONYMOUS, NEST_REST, NONE, NONE, NONE], // B NestLocalType
-    [NAME, NEST_REST, NONE, NONE, NONE], // C NestSource
-    [UNQUALIFIED, MAYBE_ARGUMENTS, NEST_TAIL, NONE, NONE], // D NestStd
-    [ABBREVIATION, NEST_REST_OR_END, NONE, NONE, NONE], // E NestTemplate
-    [ARGUMENTS_FIRST, Sym::Byte(b'E'), COMPONENT, NEST_TAIL, NONE], // F NestArguments
-    [COMPONENT, NEST_TAIL, NONE, NONE, NONE], // G NestNext
-    [NAME, NEST_REST, NONE, NONE, NONE], // H NestTag
-    [NONE, NONE, NONE, NONE, NONE], // I NestEnd
-    [CONSTRUCTOR_AFTER_C, NONE, NONE, NONE, NONE], // J AnyConstructor
-    [DESTRUCTOR_DIGIT, MAYBE_ARGUMENTS, NONE, NONE, NONE], // K Destructor
-    [COMPONENT_AFTER_C, NONE, NONE, NONE, NONE], // L ComponentWithC
-    [OTHER_OPERATOR, MAYBE_ARGUMENTS, NONE, NONE, NONE], // M OtherOperatorName
-    [HOLDER_MARK, HELD_COMPONENT, NONE, NONE, NONE], // N Holder
-    [UNQUALIFIED, MAYBE_ARGUMENTS, NONE, NONE, NONE], // O Friend
-    [INHERITED_DIGIT, BASE_CLASS, NONE, NONE, NONE], // P Inheriting
-    [CONSTRUCTOR_DIGIT, MAYBE_ARGUMENTS, NONE, NONE, NONE], // Q Constructor
-    [NONE, NONE, NONE, NONE, NONE], // R Abbreviation
-    [SEQ36, NONE, NONE, NONE, NONE], // S Substitution
-    [NEST, NONE, NONE, NONE, NONE], // T NestedType
-    [NONE, NONE, NONE, NONE, NONE], // U StringLiteral
-    [DECIMAL, PLAIN_ENTITY, NONE, NONE, NONE], // V DefaultEntity
-    [DECIMAL, PLAIN_TYPE_ENTITY, NONE, NONE, NONE], // W DefaultTypeEntity
-    [DISCRIMINATOR_REST, NONE, NONE, NONE, NONE], // X Discriminator
-    [NONE, NONE, NONE, NONE, NONE], // Y OneDigit
-    [DIGITS, Sym::Byte(b'_'), NONE, NONE, NONE], // Z ManyDigits
-    [ITEM, ITEMS, Sym::Byte(b'E'), DECIMAL, NONE], // [ Lambda
-    [DECIMAL, NONE, NONE, NONE, NONE], // \\ Unnamed
-    [MAYBE_VOLATILE, MAYBE_CONST, PLAIN, NONE, NONE], // ] RestrictType
-    [MAYBE_CONST, PLAIN, NONE, NONE, NONE], // ^ VolatileType
-    [PLAIN, NONE, NONE, NONE, NONE], // _ ConstType
-    [TYPE, NONE, NONE, NONE, NONE], // ` ReferenceType
-    [SOLID, NONE, NONE, NONE, NONE], // a PlainType
-    [AFTER_D, NONE, NONE, NONE, NONE], // b TypeWithD
-    [AFTER_D, NONE, NONE, NONE, NONE], // c PlainWithD
-    [SOLID, NONE, NONE, NONE, NONE], // d QualifiedPlain
-    [ITEM_AFTER_D, NONE, NONE, NONE, NONE], // e ItemWithD
-    [TYPE, NONE, NONE, NONE, NONE], // f Expansion
-    [AFTER_D, NONE, NONE, NONE, NONE], // g ItemIsType
-    [NONE, NONE, NONE, NONE, NONE], // h BuiltinWithD
-    [DIGITS, Sym::Byte(b'_'), TYPE, NONE, NONE], // i Vector
-    [Sym::Byte(b'F'), MAYBE_C_LINKAGE, TYPE, FUNCTION_REST, NONE], // j NoexceptFunction
-    [DIGITS, FLOAT_END, NONE, NONE, NONE], // k SizedFloat
-    [CONCEPT, NONE, NONE, NONE, NONE], // l ConstrainedAuto
-    [EXPRESSION, Sym::Byte(b'E'), NONE, NONE, NONE], // m Decltype
-    [TYPE, NONE, NONE, NONE, NONE], // n Pointer
-    [TYPE, TYPE, NONE, NONE, NONE], // o MemberPointer
-    [DECIMAL, ARGUMENTS_ALONE, NONE, NONE, NONE], // p Parameter
-    [TYPE_AFTER_S, ARGUMENTS_ALONE, NONE, NONE, NONE], // q TypeWithS
-    [ENCODING, Sym::Byte(b'E'), TYPE_ENTITY, MAYBE_DISCRIMINATOR, NONE], // r LocalType
-    [NONE, NONE, NONE, NONE, NONE], // s Builtin
-    [NAME, NONE, NONE, NONE, NONE], // t Vendor
-    [ANY_ARRAY, NONE, NONE, NONE, NONE], // u ArrayType
-    [MAYBE_C_LINKAGE, TYPE, FUNCTION_REST, NONE, NONE], // v Function
-    [TYPE, NONE, NONE, NONE, NONE], // w Complex
-    [TYPE_IN_STD, NONE, NONE, NONE, NONE], // x TypeInStd
-    [ABBREVIATION, NONE, NONE, NONE, NONE], // y AbbreviatedType
-    [NONE, NONE, NONE, NONE, NONE], // z RestEnd
-    [AFTER_R, NONE, NONE, NONE, NONE], // { RestLvalue
-    [AFTER_O, NONE, NONE, NONE, NONE], // | RestRvalue
-    [ITEM_BUT_REF, FUNCTION_REST, NONE, NONE, NONE], // } RestItem
-    [NONE, NONE, NONE, NONE, NONE], // ~ RefEnd
-    [TYPE, FUNCTION_REST, NONE, NONE, NONE], // \x7f LvalueItem
-    [TYPE, FUNCTION_REST, NONE, NONE, NONE], // \x80 RvalueItem
-    [EXPRESSION, NONE, NONE, NONE, NONE], // \x81 Constraint
-    [ITEM, ITEMS, NONE, NONE, NONE], // \x82 Items
-    [ARGUMENTS_FIRST, Sym::Byte(b'E'), NONE, NONE, NONE], // \x83 Arguments
-    [NAME, MAYBE_ARGUMENTS, NONE, NONE, NONE], // \x84 Tag
-    [PACK_LIST, Sym::Byte(b'E'), ARGUMENT_LIST, NONE, NONE], // \x85 PackArgument
-    [LITERAL, Sym::Byte(b'E'), ARGUMENT_LIST, NONE, NONE], // \x86 LiteralArgument
-    [ARGUMENT, ARGUMENT_LIST, NONE, NONE, NONE], // \x87 AnyArgument
-    [LITERAL, Sym::Byte(b'E'), PACK_LIST, NONE, NONE], // \x88 LiteralElement
-    [ARGUMENT, PACK_LIST, NONE, NONE, NONE], // \x89 AnyElement
-    [Sym::Byte(b'Z'), ENCODING, NONE, NONE, NONE], // \x8a EncodingLiteral
-    [BIT, NONE, NONE, NONE, NONE], // \x8b BoolLiteral
-    [LITERAL_AFTER_D, NONE, NONE, NONE, NONE], // \x8c LiteralWithD
-    [LITERAL_TYPE, INTEGER, NONE, NONE, NONE], // \x8d IntegerLiteral
-    [MAYBE_ZERO, NONE, NONE, NONE, NONE], // \x8e NullLiteral
-    [INTEGER, NONE, NONE, NONE, NONE], // \x8f CharLiteral
-    [OPERATOR_AFTER_N, NONE, NONE, NONE, NONE], // \x90 OperatorN
-    [OPERATOR_AFTER_D, NONE, NONE, NONE, NONE], // \x91 OperatorD
-    [OPERATOR_AFTER_A, NONE, NONE, NONE, NONE], // \x92 OperatorA
-    [OPERATOR_AFTER_P, NONE, NONE, NONE, NONE], // \x93 OperatorP
-    [OPERATOR_AFTER_C, NONE, NONE, NONE, NONE], // \x94 OperatorC
-    [OPERATOR_AFTER_M, NONE, NONE, NONE, NONE], // \x95 OperatorM
-    [OPERATOR_AFTER_R, NONE, NONE, NONE, NONE], // \x96 OperatorR
-    [OPERATOR_AFTER_O, NONE, NONE, NONE, NONE], // \x97 OperatorO
-    [OPERATOR_AFTER_E, NONE, NONE, NONE, NONE], // \x98 OperatorE
-    [OPERATOR_AFTER_L, NONE, NONE, NONE, NONE], // \x99 OperatorL
-    [OPERATOR_AFTER_S, NONE, NONE, NONE, NONE], // \x9a OperatorS
-    [OPERATOR_AFTER_I, NONE, NONE, NONE, NONE], // \x9b OperatorI
-    [OPERATOR_AFTER_G, NONE, NONE, NONE, NONE], // \x9c OperatorG
-    [NAME, NONE, NONE, NONE, NONE], // \x9d LiteralOperator
-    [ARGUMENTS_FIRST, Sym::Byte(b'E'), NEST_MORE_OR_END, NONE, NONE], // \x9e NestInstance
-    [TYPE, NONE, NONE, NONE, NONE], // \x9f Conversion
-    [OPERATOR_AFTER_C, MAYBE_ARGUMENTS, NONE, NONE, NONE], // \xa0 OperatorNameWithC
-    [ARGUMENTS_FIRST, Sym::Byte(b'E'), NONE, NONE, NONE], // \xa1 HeldArguments
-    [NEST, HELD_ARGUMENTS, NONE, NONE, NONE], // \xa2 NestedBase
-    [UNNESTED_NAME, BASE_ARGUMENTS, NONE, NONE, NONE], // \xa3 UnnestedBase
-    [TYPE_AFTER_S, NONE, NONE, NONE, NONE], // \xa4 UnnestedWithS
-    [NAME, MAYBE_TAGS, NONE, NONE, NONE], // \xa5 TaggedSource
-    [ARGUMENTS_FIRST, Sym::Byte(b'E'), HELD_ARGUMENTS, NONE, NONE], // \xa6 BaseArguments
-    [CLONE_LETTER, ENCODING, NONE, NONE, NONE], // \xa7 Clone
-    [SOURCE_OR_LOCAL, MAYBE_TAGS, NONE, NONE, NONE], // \xa8 TaggedStdType
-    [NAME, MAYBE_TAGS, NONE, NONE, NONE], // \xa9 TypeTag
-    [EXPRESSION, Sym::Byte(b'E'), NONE, NONE, NONE], // \xaa Expression
-    [ARGUMENT_AFTER_T, NONE, NONE, NONE, NONE], // \xab ArgumentWithT
-    [SOLID_BUT_T, NONE, NONE, NONE, NONE], // \xac PlainArgument
-    [DECIMAL, ARGUMENTS_ALONE, NONE, NONE, NONE], // \xad ParameterArgument
-    [DECLARATION_AFTER_T, ONE_ARGUMENT, NONE, NONE, NONE], // \xae DeclaredArgument
-    [DECIMAL, LEVELED_PARAMETER, NONE, NONE, NONE], // \xaf LeveledParameter
-    [LITERAL, Sym::Byte(b'E'), NONE, NONE, NONE], // \xb0 OneLiteral
-    [PACK_LIST, Sym::Byte(b'E'), NONE, NONE, NONE], // \xb1 OnePack
-    [NONE, NONE, NONE, NONE, NONE], // \xb2 AnyType
-    [TYPE, NONE, NONE, NONE, NONE], // \xb3 ValueOf
-    [CONCEPT, NONE, NONE, NONE, NONE], // \xb4 OfConcept
-    [DECLARATIONS, Sym::Byte(b'E'), NONE, NONE, NONE], // \xb5 TemplateOf
-    [Sym::Byte(b'T'), DECLARATION_AFTER_T, NONE, NONE, NONE], // \xb6 PackOf
-    [DECLARATION_AFTER_T, DECLARATIONS, NONE, NONE, NONE], // \xb7 Declarations
-    [UNNESTED_NAME, HELD_ARGUMENTS, NONE, NONE, NONE], // \xb8 NamedConcept
-    [TYPE, EXPRESSION, NONE, NONE, NONE], // \xb9 Cast
-    [OPERATOR, ARGUMENTS_ALONE, NONE, NONE, NONE], // \xba OperatorReference
-    [NAME, ARGUMENTS_ALONE, NONE, NONE, NONE], // \xbb SimpleId
-    [MAYBE_RESTRICT, MAYBE_VOLATILE, MAYBE_CONST, PARAMETER_NUMBER, NONE], // \xbc FunctionParameter
-    [ADDRESSED_EXPRESSION, NONE, NONE, NONE, NONE], // \xbd AddressExpression
-    [EXPRESSION, EXPRESSION, NONE, NONE, NONE], // \xbe Binary
-    [EXPRESSION, NONE, NONE, NONE, NONE], // \xbf Unary
-    [CONVERTED_TYPE, NONE, NONE, NONE, NONE], // \xc0 OfType
-    [EXPRESSION, EXPRESSIONS, Sym::Byte(b'E'), NONE, NONE], // \xc1 Call
-    [CONVERTED_TYPE, CONVERT_REST, NONE, NONE, NONE], // \xc2 Convert
-    [DESTRUCTOR_NAME, NONE, NONE, NONE, NONE], // \xc3 DestructorName
-    [DIGITS, OUTER_REST, NONE, NONE, NONE], // \xc4 OuterParameter
-    [FOLD_OPERATOR, FOLD_OPERAND, NONE, NONE, NONE], // \xc5 LeftFold
-    [FOLD_OPERATOR, FOLD_OPERAND, NONE, NONE, NONE], // \xc6 RightFold
-    [EXPRESSIONS, Sym::Byte(b'E'), NONE, NONE, NONE], // \xc7 Braces
-    [MAYBE_BEFORE, EXPRESSION, NONE, NONE, NONE], // \xc8 Step
-    [PLACEMENT, TYPE, INITIALIZER, NONE, NONE], // \xc9 New
-    [EXPRESSION, EXPRESSION, EXPRESSION, NONE, NONE], // \xca Conditional
-    [REQUIREMENTS, Sym::Byte(b'E'), NONE, NONE, NONE], // \xcb Requires
-    [REQUIRED_TYPES, NONE, NONE, NONE, NONE], // \xcc RequiresOf
-    [EXPRESSION, NONE, NONE, NONE, NONE], // \xcd ExpandExpression
-    [EXPRESSION, NONE, NONE, NONE, NONE], // \xce PackSize
-    [UNRESOLVED, NONE, NONE, NONE, NONE], // \xcf Unresolved
-    [TYPE, EXPRESSIONS, Sym::Byte(b'E'), NONE, NONE], // \xd0 TypedBraces
-    [EXPRESSION_AFTER_A, NONE, NONE, NONE, NONE], // \xd1 ExpressionA
-    [EXPRESSION_AFTER_C, NONE, NONE, NONE, NONE], // \xd2 ExpressionC
-    [EXPRESSION_AFTER_D, NONE, NONE, NONE, NONE], // \xd3 ExpressionD
-    [EXPRESSION_AFTER_E, NONE, NONE, NONE, NONE], // \xd4 ExpressionE
-    [EXPRESSION_AFTER_F, NONE, NONE, NONE, NONE], // \xd5 ExpressionF
-    [EXPRESSION_AFTER_G, NONE, NONE, NONE, NONE], // \xd6 ExpressionG
-    [EXPRESSION_AFTER_I, NONE, NONE, NONE, NONE], // \xd7 ExpressionI
-    [EXPRESSION_AFTER_L, NONE, NONE, NONE, NONE], // \xd8 ExpressionL
-    [EXPRESSION_AFTER_M, NONE, NONE, NONE, NONE], // \xd9 ExpressionM
-    [EXPRESSION_AFTER_N, NONE, NONE, NONE, NONE], // \xda ExpressionN
-    [EXPRESSION_AFTER_O, NONE, NONE, NONE, NONE], // \xdb ExpressionO
-    [EXPRESSION_AFTER_P, NONE, NONE, NONE, NONE], // \xdc ExpressionP
-    [EXPRESSION_AFTER_Q, NONE, NONE, NONE, NONE], // \xdd ExpressionQ
-    [EXPRESSION_AFTER_R, NONE, NONE, NONE, NONE], // \xde ExpressionR
-    [EXPRESSION_AFTER_S, NONE, NONE, NONE, NONE], // \xdf ExpressionS
-    [EXPRESSION_AFTER_T, NONE, NONE, NONE, NONE], // \xe0 ExpressionT
-    [DECIMAL, ARGUMENTS_ALONE, NONE, NONE, NONE], // \xe1 ParameterExpression
-    [ADDRESSED_LITERAL, Sym::Byte(b'E'), NONE, NONE, NONE], // \xe2 AddressedLiteral
-    [EXPRESSION, EXPRESSIONS, NONE, NONE, NONE], // \xe3 Expressions
-    [FOLD_OPERATOR_AFTER_L, NONE, NONE, NONE, NONE], // \xe4 FoldOperatorL
-    [FOLD_PACK, NONE, NONE, NONE, NONE], // \xe5 FoldOperand
-    [EXPRESSION, NONE, NONE, NONE, NONE], // \xe6 FoldPack
-    [SOME_EXPRESSIONS, Sym::Byte(b'_'), NONE, NONE, NONE], // \xe7 Placed
-    [INITIALIZER_AFTER_P, NONE, NONE, NONE, NONE], // \xe8 Initializer
-    [INITIALIZER_AFTER_I, NONE, NONE, NONE, NONE], // \xe9 BracedInitializer
-    [NONE, NONE, NONE, NONE, NONE], // \xea This
-    [DECIMAL, NONE, NONE, NONE, NONE], // \xeb ParameterNumber
-    [DECLTYPE_AFTER_D, NONE, NONE, NONE, NONE], // \xec ConvertedDecltype
-    [CONVERTED_TYPE, NONE, NONE, NONE, NONE], // \xed ConvertedConst
-    [CONVERTED_TYPE, NONE, NONE, NONE, NONE], // \xee ConvertedPointer
-    [CONVERTED_TYPE, NONE, NONE, NONE, NONE], // \xef ConvertedReference
-    [CONVERTED_SOLID, NONE, NONE, NONE, NONE], // \xf0 ConvertedType
-    [UNRESOLVED_TYPE, UNRESOLVED_NAME, NONE, NONE, NONE], // \xf1 UnresolvedInType
-    [LEVEL, MORE_LEVELS, NONE, NONE, NONE], // \xf2 Levels
-    [UNRESOLVED_TYPE, NONE, NONE, NONE, NONE], // \xf3 DestroyedType
-    [EXPRESSION, AFTER_EXPRESSION, NONE, NONE, NONE], // \xf4 ExpressionRequirement
-    [TYPE, REQUIREMENTS, NONE, NONE, NONE], // \xf5 TypeRequirement
-    [EXPRESSION, REQUIREMENTS, NONE, NONE, NONE], // \xf6 NestedRequirement
-    [CONCEPT, REQUIREMENTS, NONE, NONE, NONE], // \xf7 ResultRequirement
-    [AFTER_NOEXCEPT, NONE, NONE, NONE, NONE], // \xf8 NoexceptRequirement
-    [CONVERTED_TYPE, REQUIRED_TYPES, NONE, NONE, NONE], // \xf9 RequiredType
-    [UNRESOLVED_NAME, NONE, NONE, NONE, NONE], // \xfa LevelsEnd
-    [OPERATOR_NAME, NONE, NONE, NONE, NONE], // \xfb UnresolvedOperator
-    [ARRAY_REST, NONE, NONE, NONE, NONE], // \xfc AnyArray
-    [BOUND, Sym::Byte(b'_'), TYPE, NONE, NONE], // \xfd BoundedArray
-    [DECIMAL, TYPE, NONE, NONE, NONE], // \xfe LengthArray
+    [ONE_ARGUMENT, NONE, NONE, NONE, NONE], // 5 ParameterObject
+    [TYPE, DIGITS, Sym::Byte(b'_'), TYPE, NONE], // 6 ConstructionVtable
+    [INTEGER, Sym::Byte(b'_'), NONE, NONE, NONE], // 7 NonVirtualOffset
+    [INTEGER, Sym::Byte(b'_'), INTEGER, Sym::Byte(b'_'), NONE], // 8 VirtualOffset
+    [DIGITS, NONE, NONE, NONE, NONE], // 9 Negative
+    [DIGITS, NONE, NONE, NONE, NONE], // : Positive
+    [NAME_AFTER_S, NONE, NONE, NONE, NONE], // ; NameWithS
+    [ENCODING, Sym::Byte(b'E'), ENTITY, MAYBE_DISCRIMINATOR, NONE], // < LocalName
+    [UNQUALIFIED, MAYBE_ARGUMENTS, NONE, NONE, NONE], // = StdName
+    [ABBREVIATION, ARGUMENTS, NONE, NONE, NONE], // > AbbreviatedName
+    [OPERATOR, NONE, NONE, NONE, NONE], // ? OperatorPiece
+    [NEST_AFTER_S, NONE, NONE, NONE, NONE], // @ NestWithS
+    [DECIMAL, NEST_REST_ALONE, NONE, NONE, NONE], // A NestParameter
+    [NAME, NEST_REST, NONE, NONE, NONE], // B NestInternal
+    [ANONYMOUS, NEST_REST, NONE, NONE, NONE], // C NestLocalType
+    [NAME, NEST_REST, NONE, NONE, NONE], // D NestSource
+    [DECLTYPE_AFTER_D, NEST_REST_ALONE, NONE, NONE, NONE], // E NestDecltype
+    [UNQUALIFIED, MAYBE_ARGUMENTS, NEST_TAIL, NONE, NONE], // F NestStd
+    [ABBREVIATION, NEST_REST_OR_END, NONE, NONE, NONE], // G NestTemplate
+    [ARGUMENTS_FIRST, Sym::Byte(b'E'), COMPONENT, NEST_TAIL, NONE], // H NestArguments
+    [COMPONENT, NEST_TAIL, NONE, NONE, NONE], // I NestNext
+    [NAME, NEST_REST, NONE, NONE, NONE], // J NestTag
+    [NONE, NONE, NONE, NONE, NONE], // K NestEnd
+    [CONSTRUCTOR_AFTER_C, NONE, NONE, NONE, NONE], // L AnyConstructor
+    [DESTRUCTOR_DIGIT, MAYBE_ARGUMENTS, NONE, NONE, NONE], // M Destructor
+    [COMPONENT_AFTER_C, NONE, NONE, NONE, NONE], // N ComponentWithC
+    [OTHER_OPERATOR, MAYBE_ARGUMENTS, NONE, NONE, NONE], // O OtherOperatorName
+    [HOLDER_MARK, HELD_COMPONENT, NONE, NONE, NONE], // P Holder
+    [UNQUALIFIED, MAYBE_ARGUMENTS, NONE, NONE, NONE], // Q Friend
+    [INHERITED_DIGIT, BASE_CLASS, NONE, NONE, NONE], // R Inheriting
+    [CONSTRUCTOR_DIGIT, MAYBE_ARGUMENTS, NONE, NONE, NONE], // S Constructor
+    [NONE, NONE, NONE, NONE, NONE], // T Abbreviation
+    [SEQ36, NONE, NONE, NONE, NONE], // U Substitution
+    [NEST, NONE, NONE, NONE, NONE], // V NestedType
+    [NONE, NONE, NONE, NONE, NONE], // W StringLiteral
+    [DECIMAL, PLAIN_ENTITY, NONE, NONE, NONE], // X DefaultEntity
+    [DECIMAL, PLAIN_TYPE_ENTITY, NONE, NONE, NONE], // Y DefaultTypeEntity
+    [DISCRIMINATOR_REST, NONE, NONE, NONE, NONE], // Z Discriminator
+    [NONE, NONE, NONE, NONE, NONE], // [ OneDigit
+    [DIGITS, Sym::Byte(b'_'), NONE, NONE, NONE], // \\ ManyDigits
+    [ITEM, ITEMS, Sym::Byte(b'E'), DECIMAL, NONE], // ] Lambda
+    [DECIMAL, NONE, NONE, NONE, NONE], // ^ Unnamed
+    [MAYBE_VOLATILE, MAYBE_CONST, PLAIN, NONE, NONE], // _ RestrictType
+    [MAYBE_CONST, PLAIN, NONE, NONE, NONE], // ` VolatileType
+    [PLAIN, NONE, NONE, NONE, NONE], // a ConstType
+    [TYPE, NONE, NONE, NONE, NONE], // b ReferenceType
+    [SOLID, NONE, NONE, NONE, NONE], // c PlainType
+    [AFTER_D, NONE, NONE, NONE, NONE], // d TypeWithD
+    [AFTER_D, NONE, NONE, NONE, NONE], // e PlainWithD
+    [SOLID, NONE, NONE, NONE, NONE], // f QualifiedPlain
+    [ITEM_AFTER_D, NONE, NONE, NONE, NONE], // g ItemWithD
+    [TYPE, NONE, NONE, NONE, NONE], // h Expansion
+    [AFTER_D, NONE, NONE, NONE, NONE], // i ItemIsType
+    [NONE, NONE, NONE, NONE, NONE], // j BuiltinWithD
+    [DIGITS, Sym::Byte(b'_'), TYPE, NONE, NONE], // k Vector
+    [Sym::Byte(b'F'), MAYBE_C_LINKAGE, TYPE, FUNCTION_REST, NONE], // l NoexceptFunction
+    [DIGITS, FLOAT_END, NONE, NONE, NONE], // m SizedFloat
+    [CONCEPT, NONE, NONE, NONE, NONE], // n ConstrainedAuto
+    [BIT_WIDTH, Sym::Byte(b'_'), NONE, NONE, NONE], // o BitInt
+    [EXPRESSION, Sym::Byte(b'E'), NONE, NONE, NONE], // p Decltype
+    [TYPE_PACK, EXPRESSION, NONE, NONE, NONE], // q IndexedType
+    [TYPE, NONE, NONE, NONE, NONE], // r Pointer
+    [TYPE, TYPE, NONE, NONE, NONE], // s MemberPointer
+    [DECIMAL, ARGUMENTS_ALONE, NONE, NONE, NONE], // t Parameter
+    [TYPE_AFTER_S, ARGUMENTS_ALONE, NONE, NONE, NONE], // u TypeWithS
+    [ENCODING, Sym::Byte(b'E'), TYPE_ENTITY, MAYBE_DISCRIMINATOR, NONE], // v LocalType
+    [NONE, NONE, NONE, NONE, NONE], // w Builtin
+    [NAME, NONE, NONE, NONE, NONE], // x Vendor
+    [ANY_ARRAY, NONE, NONE, NONE, NONE], // y ArrayType
+    [MAYBE_C_LINKAGE, TYPE, FUNCTION_REST, NONE, NONE], // z Function
+    [TYPE, NONE, NONE, NONE, NONE], // { Complex
+    [DIGITS, NONE, NONE, NONE, NONE], // | BitWidth
+    [TYPE_IN_STD, NONE, NONE, NONE, NONE], // } TypeInStd
+    [ABBREVIATION, NONE, NONE, NONE, NONE], // ~ AbbreviatedType
+    [NONE, NONE, NONE, NONE, NONE], // \x7f RestEnd
+    [AFTER_R, NONE, NONE, NONE, NONE], // \x80 RestLvalue
+    [AFTER_O, NONE, NONE, NONE, NONE], // \x81 RestRvalue
+    [ITEM_BUT_REF, FUNCTION_REST, NONE, NONE, NONE], // \x82 RestItem
+    [NONE, NONE, NONE, NONE, NONE], // \x83 RefEnd
+    [TYPE, FUNCTION_REST, NONE, NONE, NONE], // \x84 LvalueItem
+    [TYPE, FUNCTION_REST, NONE, NONE, NONE], // \x85 RvalueItem
+    [EXPRESSION, NONE, NONE, NONE, NONE], // \x86 Constraint
+    [ITEM, ITEMS, NONE, NONE, NONE], // \x87 Items
+    [ARGUMENTS_FIRST, Sym::Byte(b'E'), NONE, NONE, NONE], // \x88 Arguments
+    [NAME, MAYBE_ARGUMENTS, NONE, NONE, NONE], // \x89 Tag
+    [PACK_LIST, Sym::Byte(b'E'), ARGUMENT_LIST, NONE, NONE], // \x8a PackArgument
+    [LITERAL, Sym::Byte(b'E'), ARGUMENT_LIST, NONE, NONE], // \x8b LiteralArgument
+    [ARGUMENT, ARGUMENT_LIST, NONE, NONE, NONE], // \x8c AnyArgument
+    [LITERAL, Sym::Byte(b'E'), PACK_LIST, NONE, NONE], // \x8d LiteralElement
+    [ARGUMENT, PACK_LIST, NONE, NONE, NONE], // \x8e AnyElement
+    [Sym::Byte(b'Z'), ENCODING, NONE, NONE, NONE], // \x8f EncodingLiteral
+    [BIT, NONE, NONE, NONE, NONE], // \x90 BoolLiteral
+    [LITERAL_AFTER_D, NONE, NONE, NONE, NONE], // \x91 LiteralWithD
+    [LITERAL_TYPE, INTEGER, NONE, NONE, NONE], // \x92 IntegerLiteral
+    [FLOAT_TYPE, HEX_TEXT, NONE, NONE, NONE], // \x93 FloatLiteral
+    [MAYBE_ZERO, NONE, NONE, NONE, NONE], // \x94 NullLiteral
+    [INTEGER, NONE, NONE, NONE, NONE], // \x95 CharLiteral
+    [SIZED_FLOAT_TYPE, HEX_TEXT, NONE, NONE, NONE], // \x96 SizedFloatLiteral
+    [HEX_DIGITS, NONE, NONE, NONE, NONE], // \x97 HexText
+    [HEX_MORE, NONE, NONE, NONE, NONE], // \x98 HexDigit
+    [MAYBE_CONST, LITERAL_PLAIN, NONE, NONE, NONE], // \x99 VolatileLiteral
+    [LITERAL_PLAIN, NONE, NONE, NONE, NONE], // \x9a ConstLiteral
+    [LITERAL_SOLID, NONE, NONE, NONE, NONE], // \x9b QualifiedLiteral
+    [OPERATOR_AFTER_N, NONE, NONE, NONE, NONE], // \x9c OperatorN
+    [OPERATOR_AFTER_D, NONE, NONE, NONE, NONE], // \x9d OperatorD
+    [OPERATOR_AFTER_A, NONE, NONE, NONE, NONE], // \x9e OperatorA
+    [OPERATOR_AFTER_P, NONE, NONE, NONE, NONE], // \x9f OperatorP
+    [OPERATOR_AFTER_C, NONE, NONE, NONE, NONE], // \xa0 OperatorC
+    [OPERATOR_AFTER_M, NONE, NONE, NONE, NONE], // \xa1 OperatorM
+    [OPERATOR_AFTER_R, NONE, NONE, NONE, NONE], // \xa2 OperatorR
+    [OPERATOR_AFTER_O, NONE, NONE, NONE, NONE], // \xa3 OperatorO
+    [OPERATOR_AFTER_E, NONE, NONE, NONE, NONE], // \xa4 OperatorE
+    [OPERATOR_AFTER_L, NONE, NONE, NONE, NONE], // \xa5 OperatorL
+    [OPERATOR_AFTER_S, NONE, NONE, NONE, NONE], // \xa6 OperatorS
+    [OPERATOR_AFTER_I, NONE, NONE, NONE, NONE], // \xa7 OperatorI
+    [OPERATOR_AFTER_G, NONE, NONE, NONE, NONE], // \xa8 OperatorG
+    [NAME, NONE, NONE, NONE, NONE], // \xa9 LiteralOperator
+    [ARGUMENTS_FIRST, Sym::Byte(b'E'), NEST_MORE_OR_END, NONE, NONE], // \xaa NestInstance
+    [TYPE, NONE, NONE, NONE, NONE], // \xab Conversion
+    [OPERATOR_AFTER_C, MAYBE_ARGUMENTS, NONE, NONE, NONE], // \xac OperatorNameWithC
+    [ARGUMENTS_FIRST, Sym::Byte(b'E'), NONE, NONE, NONE], // \xad HeldArguments
+    [NEST, HELD_ARGUMENTS, NONE, NONE, NONE], // \xae NestedBase
+    [UNNESTED_NAME, BASE_ARGUMENTS, NONE, NONE, NONE], // \xaf UnnestedBase
+    [TYPE_AFTER_S, NONE, NONE, NONE, NONE], // \xb0 UnnestedWithS
+    [NAME, MAYBE_TAGS, NONE, NONE, NONE], // \xb1 TaggedSource
+    [ARGUMENTS_FIRST, Sym::Byte(b'E'), HELD_ARGUMENTS, NONE, NONE], // \xb2 BaseArguments
+    [CLONE_LETTER, ENCODING, NONE, NONE, NONE], // \xb3 Clone
+    [SOURCE_OR_LOCAL, MAYBE_TAGS, NONE, NONE, NONE], // \xb4 TaggedStdType
+    [NAME, MAYBE_TAGS, NONE, NONE, NONE], // \xb5 TypeTag
+    [EXPRESSION, Sym::Byte(b'E'), NONE, NONE, NONE], // \xb6 Expression
+    [ARGUMENT_AFTER_T, NONE, NONE, NONE, NONE], // \xb7 ArgumentWithT
+    [SOLID_BUT_T, NONE, NONE, NONE, NONE], // \xb8 PlainArgument
+    [DECIMAL, ARGUMENTS_ALONE, NONE, NONE, NONE], // \xb9 ParameterArgument
+    [DECLARATION_AFTER_T, ONE_ARGUMENT, NONE, NONE, NONE], // \xba DeclaredArgument
+    [DECIMAL, LEVELED_PARAMETER, NONE, NONE, NONE], // \xbb LeveledParameter
+    [LITERAL, Sym::Byte(b'E'), NONE, NONE, NONE], // \xbc OneLiteral
+    [PACK_LIST, Sym::Byte(b'E'), NONE, NONE, NONE], // \xbd OnePack
+    [NONE, NONE, NONE, NONE, NONE], // \xbe AnyType
+    [TYPE, NONE, NONE, NONE, NONE], // \xbf ValueOf
+    [CONCEPT, NONE, NONE, NONE, NONE], // \xc0 OfConcept
+    [DECLARATIONS, Sym::Byte(b'E'), NONE, NONE, NONE], // \xc1 TemplateOf
+    [Sym::Byte(b'T'), DECLARATION_AFTER_T, NONE, NONE, NONE], // \xc2 PackOf
+    [DECLARATION_AFTER_T, DECLARATIONS, NONE, NONE, NONE], // \xc3 Declarations
+    [UNNESTED_NAME, HELD_ARGUMENTS, NONE, NONE, NONE], // \xc4 NamedConcept
+    [TYPE, EXPRESSION, NONE, NONE, NONE], // \xc5 Cast
+    [OPERATOR, ARGUMENTS_ALONE, NONE, NONE, NONE], // \xc6 OperatorReference
+    [NAME, ARGUMENTS_ALONE, NONE, NONE, NONE], // \xc7 SimpleId
+    [MAYBE_RESTRICT, MAYBE_VOLATILE, MAYBE_CONST, PARAMETER_NUMBER, NONE], // \xc8 FunctionParameter
+    [ADDRESSED_EXPRESSION, NONE, NONE, NONE, NONE], // \xc9 AddressExpression
+    [EXPRESSION, EXPRESSION, NONE, NONE, NONE], // \xca Binary
+    [EXPRESSION, NONE, NONE, NONE, NONE], // \xcb Unary
+    [CONVERTED_TYPE, NONE, NONE, NONE, NONE], // \xcc OfType
+    [EXPRESSION, EXPRESSIONS, Sym::Byte(b'E'), NONE, NONE], // \xcd Call
+    [CONVERTED_TYPE, CONVERT_REST, NONE, NONE, NONE], // \xce Convert
+    [FIELD_NAME, DESIGNATED_VALUE, NONE, NONE, NONE], // \xcf Designated
+    [EXPRESSION, DESIGNATED_VALUE, NONE, NONE, NONE], // \xd0 DesignatedElement
+    [DESTRUCTOR_NAME, NONE, NONE, NONE, NONE], // \xd1 DestructorName
+    [DIGITS, OUTER_REST, NONE, NONE, NONE], // \xd2 OuterParameter
+    [FOLD_OPERATOR, FOLD_OPERAND, NONE, NONE, NONE], // \xd3 LeftFold
+    [FOLD_OPERATOR, FOLD_OPERAND, NONE, NONE, NONE], // \xd4 RightFold
+    [EXPRESSIONS, Sym::Byte(b'E'), NONE, NONE, NONE], // \xd5 Braces
+    [MAYBE_BEFORE, EXPRESSION, NONE, NONE, NONE], // \xd6 Step
+    [PLACEMENT, TYPE, INITIALIZER, NONE, NONE], // \xd7 New
+    [EXPRESSION, EXPRESSION, EXPRESSION, NONE, NONE], // \xd8 Conditional
+    [REQUIREMENTS, Sym::Byte(b'E'), NONE, NONE, NONE], // \xd9 Requires
+    [REQUIRED_TYPES, NONE, NONE, NONE, NONE], // \xda RequiresOf
+    [EXPRESSION, NONE, NONE, NONE, NONE], // \xdb ExpandExpression
+    [EXPRESSION, NONE, NONE, NONE, NONE], // \xdc PackSize
+    [UNRESOLVED, NONE, NONE, NONE, NONE], // \xdd Unresolved
+    [VALUE_PACK, EXPRESSION, NONE, NONE, NONE], // \xde PackIndex
+    [TYPE, EXPRESSIONS, Sym::Byte(b'E'), NONE, NONE], // \xdf TypedBraces
+    [NONE, NONE, NONE, NONE, NONE], // \xe0 Rethrow
+    [EXPRESSION_AFTER_A, NONE, NONE, NONE, NONE], // \xe1 ExpressionA
+    [EXPRESSION_AFTER_C, NONE, NONE, NONE, NONE], // \xe2 ExpressionC
+    [EXPRESSION_AFTER_D, NONE, NONE, NONE, NONE], // \xe3 ExpressionD
+    [EXPRESSION_AFTER_E, NONE, NONE, NONE, NONE], // \xe4 ExpressionE
+    [EXPRESSION_AFTER_F, NONE, NONE, NONE, NONE], // \xe5 ExpressionF
+    [EXPRESSION_AFTER_G, NONE, NONE, NONE, NONE], // \xe6 ExpressionG
+    [EXPRESSION_AFTER_I, NONE, NONE, NONE, NONE], // \xe7 ExpressionI
+    [EXPRESSION_AFTER_L, NONE, NONE, NONE, NONE], // \xe8 ExpressionL
+    [EXPRESSION_AFTER_M, NONE, NONE, NONE, NONE], // \xe9 ExpressionM
+    [EXPRESSION_AFTER_N, NONE, NONE, NONE, NONE], // \xea ExpressionN
+    [EXPRESSION_AFTER_O, NONE, NONE, NONE, NONE], // \xeb ExpressionO
+    [EXPRESSION_AFTER_P, NONE, NONE, NONE, NONE], // \xec ExpressionP
+    [EXPRESSION_AFTER_Q, NONE, NONE, NONE, NONE], // \xed ExpressionQ
+    [EXPRESSION_AFTER_R, NONE, NONE, NONE, NONE], // \xee ExpressionR
+    [EXPRESSION_AFTER_S, NONE, NONE, NONE, NONE], // \xef ExpressionS
+    [EXPRESSION_AFTER_T, NONE, NONE, NONE, NONE], // \xf0 ExpressionT
+    [DECIMAL, ARGUMENTS_ALONE, NONE, NONE, NONE], // \xf1 ParameterExpression
+    [ADDRESSED_LITERAL, Sym::Byte(b'E'), NONE, NONE, NONE], // \xf2 AddressedLiteral
+    [EXPRESSION, EXPRESSIONS, NONE, NONE, NONE], // \xf3 Expressions
+    [FOLD_OPERATOR_AFTER_L, NONE, NONE, NONE, NONE], // \xf4 FoldOperatorL
+    [FOLD_PACK, NONE, NONE, NONE, NONE], // \xf5 FoldOperand
+    [EXPRESSION, NONE, NONE, NONE, NONE], // \xf6 FoldPack
+    [TYPE, NONE, NONE, NONE, NONE], // \xf7 TypePack
+    [DESIGNATOR_AFTER_D, NONE, NONE, NONE, NONE], // \xf8 Designators
+    [PLAIN_VALUE, NONE, NONE, NONE, NONE], // \xf9 DesignatedValue
+    [NAME, NONE, NONE, NONE, NONE], // \xfa FieldName
+    [SOME_EXPRESSIONS, Sym::Byte(b'_'), NONE, NONE, NONE], // \xfb Placed
+    [INITIALIZER_AFTER_P, NONE, NONE, NONE, NONE], // \xfc Initializer
+    [INITIALIZER_AFTER_I, NONE, NONE, NONE, NONE], // \xfd BracedInitializer
+    [NONE, NONE, NONE, NONE, NONE], // \xfe This
+    [DECIMAL, NONE, NONE, NONE, NONE], // \xff ParameterNumber
+    [DECLTYPE_AFTER_D, NONE, NONE, NONE, NONE], // \x00 ConvertedDecltype
+    [CONVERTED_TYPE, NONE, NONE, NONE, NONE], // \x01 ConvertedConst
+    [CONVERTED_TYPE, NONE, NONE, NONE, NONE], // \x02 ConvertedPointer
+    [CONVERTED_TYPE, NONE, NONE, NONE, NONE], // \x03 ConvertedReference
+    [CONVERTED_SOLID, NONE, NONE, NONE, NONE], // \x04 ConvertedType
+    [UNRESOLVED_TYPE, UNRESOLVED_NAME, NONE, NONE, NONE], // \x05 UnresolvedInType
+    [LEVEL, MORE_LEVELS, NONE, NONE, NONE], // \x06 Levels
+    [UNRESOLVED_TYPE, NONE, NONE, NONE, NONE], // \x07 DestroyedType
+    [EXPRESSION, AFTER_EXPRESSION, NONE, NONE, NONE], // \x08 ExpressionRequirement
+    [TYPE, REQUIREMENTS, NONE, NONE, NONE], // \x09 TypeRequirement
+    [EXPRESSION, REQUIREMENTS, NONE, NONE, NONE], // \x0a NestedRequirement
+    [CONCEPT, REQUIREMENTS, NONE, NONE, NONE], // \x0b ResultRequirement
+    [AFTER_NOEXCEPT, NONE, NONE, NONE, NONE], // \x0c NoexceptRequirement
+    [CONVERTED_TYPE, REQUIRED_TYPES, NONE, NONE, NONE], // \x0d RequiredType
+    [UNRESOLVED_NAME, NONE, NONE, NONE, NONE], // \x0e LevelsEnd
+    [OPERATOR_NAME, NONE, NONE, NONE, NONE], // \x0f UnresolvedOperator
+    [ARRAY_REST, NONE, NONE, NONE, NONE], // \x10 AnyArray
+    [BOUND, Sym::Byte(b'_'), TYPE, NONE, NONE], // \x11 BoundedArray
+    [DECIMAL, TYPE, NONE, NONE, NONE], // \x12 LengthArray
 };
 
 // How many symbols follow each of them, up to an end.
-static AFTER: [u8; 1338] = [
+static AFTER: [u8; 1458] = [
     0, 0, 0, 0, 0, 0, 0, 0, 0, 0, 0, 2, 1, 0, 0, 0, 0, 2, 1, 0, 0, 0, 0, 2, 1, 0, 0, 0, 0, 2, 1, 0,
     0, 0, 0, 1, 0, 0, 0, 0, 0, 1, 0, 0, 0, 0, 0, 1, 0, 0, 0, 0, 0, 5, 4, 3, 2, 1, 0, 3, 2, 1, 0, 0,
     0, 1, 0, 0, 0, 0, 0, 1, 0, 0, 0, 0, 0, 1, 0, 0, 0, 0, 0, 2, 1, 0, 0, 0, 0, 2, 1, 0, 0, 0, 0, 1,
-    0, 0, 0, 0, 0, 3, 2, 1, 0, 0, 0, 5, 4, 3, 2, 1, 0, 3, 2, 1, 0, 0, 0, 1, 0, 0, 0, 0, 0, 4, 3, 2,
-    1, 0, 0, 2, 1, 0, 0, 0, 0, 4, 3, 2, 1, 0, 0, 1, 0, 0, 0, 0, 0, 1, 0, 0, 0, 0, 0, 1, 0, 0, 0, 0,
-    0, 4, 3, 2, 1, 0, 0, 2, 1, 0, 0, 0, 0, 2, 1, 0, 0, 0, 0, 1, 0, 0, 0, 0, 0, 1, 0, 0, 0, 0, 0, 2,
-    1, 0, 0, 0, 0, 2, 1, 0, 0, 0, 0, 2, 1, 0, 0, 0, 0, 2, 1, 0, 0, 0, 0, 3, 2, 1, 0, 0, 0, 2, 1, 0,
-    0, 0, 0, 4, 3, 2, 1, 0, 0, 2, 1, 0, 0, 0, 0, 2, 1, 0, 0, 0, 0, 0, 0, 0, 0, 0, 0, 1, 0, 0, 0, 0,
-    0, 2, 1, 0, 0, 0, 0, 1, 0, 0, 0, 0, 0, 2, 1, 0, 0, 0, 0, 2, 1, 0, 0, 0, 0, 2, 1, 0, 0, 0, 0, 2,
-    1, 0, 0, 0, 0, 2, 1, 0, 0, 0, 0, 0, 0, 0, 0, 0, 0, 1, 0, 0, 0, 0, 0, 1, 0, 0, 0, 0, 0, 0, 0, 0,
-    0, 0, 0, 2, 1, 0, 0, 0, 0, 2, 1, 0, 0, 0, 0, 1, 0, 0, 0, 0, 0, 0, 0, 0, 0, 0, 0, 2, 1, 0, 0, 0,
-    0, 4, 3, 2, 1, 0, 0, 1, 0, 0, 0, 0, 0, 3, 2, 1, 0, 0, 0, 2, 1, 0, 0, 0, 0, 1, 0, 0, 0, 0, 0, 1,
+    0, 0, 0, 0, 0, 3, 2, 1, 0, 0, 0, 5, 4, 3, 2, 1, 0, 3, 2, 1, 0, 0, 0, 1, 0, 0, 0, 0, 0, 1, 0, 0,
+    0, 0, 0, 4, 3, 2, 1, 0, 0, 2, 1, 0, 0, 0, 0, 4, 3, 2, 1, 0, 0, 1, 0, 0, 0, 0, 0, 1, 0, 0, 0, 0,
+    0, 1, 0, 0, 0, 0, 0, 4, 3, 2, 1, 0, 0, 2, 1, 0, 0, 0, 0, 2, 1, 0, 0, 0, 0, 1, 0, 0, 0, 0, 0, 1,
+    0, 0, 0, 0, 0, 2, 1, 0, 0, 0, 0, 2, 1, 0, 0, 0, 0, 2, 1, 0, 0, 0, 0, 2, 1, 0, 0, 0, 0, 2, 1, 0,
+    0, 0, 0, 3, 2, 1, 0, 0, 0, 2, 1, 0, 0, 0, 0, 4, 3, 2, 1, 0, 0, 2, 1, 0, 0, 0, 0, 2, 1, 0, 0, 0,
+    0, 0, 0, 0, 0, 0, 0, 1, 0, 0, 0, 0, 0, 2, 1, 0, 0, 0, 0, 1, 0, 0, 0, 0, 0, 2, 1, 0, 0, 0, 0, 2,
+    1, 0, 0, 0, 0, 2, 1, 0, 0, 0, 0, 2, 1, 0, 0, 0, 0, 2, 1, 0, 0, 0, 0, 0, 0, 0, 0, 0, 0, 1, 0, 0,
+    0, 0, 0, 1, 0, 0, 0, 0, 0, 0, 0, 0, 0, 0, 0, 2, 1, 0, 0, 0, 0, 2, 1, 0, 0, 0, 0, 1, 0, 0, 0, 0,
+    0, 0, 0, 0, 0, 0, 0, 2, 1, 0, 0, 0, 0, 4, 3, 2, 1, 0, 0, 1, 0, 0, 0, 0, 0, 3, 2, 1, 0, 0, 0, 2,
+    1, 0, 0, 0, 0, 1, 0, 0, 0, 0, 0, 1, 0, 0, 0, 0, 0, 1, 0, 0, 0, 0, 0, 1, 0, 0, 0, 0, 0, 1, 0, 0,
+    0, 0, 0, 1, 0, 0, 0, 0, 0, 1, 0, 0, 0, 0, 0, 1, 0, 0, 0, 0, 0, 1, 0, 0, 0, 0, 0, 0, 0, 0, 0, 0,
+    0, 3, 2, 1, 0, 0, 0, 4, 3, 2, 1, 0, 0, 2, 1, 0, 0, 0, 0, 1, 0, 0, 0, 0, 0, 2, 1, 0, 0, 0, 0, 2,
+    1, 0, 0, 0, 0, 2, 1, 0, 0, 0, 0, 1, 0, 0, 0, 0, 0, 2, 1, 0, 0, 0, 0, 2, 1, 0, 0, 0, 0, 2, 1, 0,
+    0, 0, 0, 4, 3, 2, 1, 0, 0, 0, 0, 0, 0, 0, 0, 1, 0, 0, 0, 0, 0, 1, 0, 0, 0, 0, 0, 3, 2, 1, 0, 0,
+    0, 1, 0, 0, 0, 0, 0, 1, 0, 0, 0, 0, 0, 1, 0, 0, 0, 0, 0, 1, 0, 0, 0, 0, 0, 0, 0, 0, 0, 0, 0, 1,
+    0, 0, 0, 0, 0, 1, 0, 0, 0, 0, 0, 2, 1, 0, 0, 0, 0, 0, 0, 0, 0, 0, 0, 2, 1, 0, 0, 0, 0, 2, 1, 0,
+    0, 0, 0, 1, 0, 0, 0, 0, 0, 2, 1, 0, 0, 0, 0, 2, 1, 0, 0, 0, 0, 2, 1, 0, 0, 0, 0, 3, 2, 1, 0, 0,
+    0, 3, 2, 1, 0, 0, 0, 2, 1, 0, 0, 0, 0, 3, 2, 1, 0, 0, 0, 2, 1, 0, 0, 0, 0, 2, 1, 0, 0, 0, 0, 1,
+    0, 0, 0, 0, 0, 1, 0, 0, 0, 0, 0, 2, 1, 0, 0, 0, 0, 2, 1, 0, 0, 0, 0, 1, 0, 0, 0, 0, 0, 1, 0, 0,
+    0, 0, 0, 2, 1, 0, 0, 0, 0, 1, 0, 0, 0, 0, 0, 1, 0, 0, 0, 0, 0, 2, 1, 0, 0, 0, 0, 1, 0, 0, 0, 0,
+    0, 1, 0, 0, 0, 0, 0, 1, 0, 0, 0, 0, 0, 1, 0, 0, 0, 0, 0, 1, 0, 0, 0, 0, 0, 1, 0, 0, 0, 0, 0, 1,
     0, 0, 0, 0, 0, 1, 0, 0, 0, 0, 0, 1, 0, 0, 0, 0, 0, 1, 0, 0, 0, 0, 0, 1, 0, 0, 0, 0, 0, 1, 0, 0,
-    0, 0, 0, 1, 0, 0, 0, 0, 0, 1, 0, 0, 0, 0, 0, 0, 0, 0, 0, 0, 0, 3, 2, 1, 0, 0, 0, 4, 3, 2, 1, 0,
-    0, 2, 1, 0, 0, 0, 0, 1, 0, 0, 0, 0, 0, 2, 1, 0, 0, 0, 0, 1, 0, 0, 0, 0, 0, 2, 1, 0, 0, 0, 0, 2,
-    1, 0, 0, 0, 0, 2, 1, 0, 0, 0, 0, 4, 3, 2, 1, 0, 0, 0, 0, 0, 0, 0, 0, 1, 0, 0, 0, 0, 0, 1, 0, 0,
-    0, 0, 0, 3, 2, 1, 0, 0, 0, 1, 0, 0, 0, 0, 0, 1, 0, 0, 0, 0, 0, 1, 0, 0, 0, 0, 0, 0, 0, 0, 0, 0,
-    0, 1, 0, 0, 0, 0, 0, 1, 0, 0, 0, 0, 0, 2, 1, 0, 0, 0, 0, 0, 0, 0, 0, 0, 0, 2, 1, 0, 0, 0, 0, 2,
-    1, 0, 0, 0, 0, 1, 0, 0, 0, 0, 0, 2, 1, 0, 0, 0, 0, 2, 1, 0, 0, 0, 0, 2, 1, 0, 0, 0, 0, 3, 2, 1,
-    0, 0, 0, 3, 2, 1, 0, 0, 0, 2, 1, 0, 0, 0, 0, 3, 2, 1, 0, 0, 0, 2, 1, 0, 0, 0, 0, 2, 1, 0, 0, 0,
-    0, 1, 0, 0, 0, 0, 0, 1, 0, 0, 0, 0, 0, 2, 1, 0, 0, 0, 0, 1, 0, 0, 0, 0, 0, 1, 0, 0, 0, 0, 0, 1,
+    0, 0, 0, 1, 0, 0, 0, 0, 0, 1, 0, 0, 0, 0, 0, 1, 0, 0, 0, 0, 0, 1, 0, 0, 0, 0, 0, 3, 2, 1, 0, 0,
+    0, 1, 0, 0, 0, 0, 0, 2, 1, 0, 0, 0, 0, 2, 1, 0, 0, 0, 0, 2, 1, 0, 0, 0, 0, 2, 1, 0, 0, 0, 0, 1,
+    0, 0, 0, 0, 0, 2, 1, 0, 0, 0, 0, 3, 2, 1, 0, 0, 0, 2, 1, 0, 0, 0, 0, 2, 1, 0, 0, 0, 0, 2, 1, 0,
+    0, 0, 0, 2, 1, 0, 0, 0, 0, 1, 0, 0, 0, 0, 0, 1, 0, 0, 0, 0, 0, 2, 1, 0, 0, 0, 0, 2, 1, 0, 0, 0,
+    0, 2, 1, 0, 0, 0, 0, 2, 1, 0, 0, 0, 0, 2, 1, 0, 0, 0, 0, 0, 0, 0, 0, 0, 0, 1, 0, 0, 0, 0, 0, 1,
+    0, 0, 0, 0, 0, 2, 1, 0, 0, 0, 0, 2, 1, 0, 0, 0, 0, 2, 1, 0, 0, 0, 0, 2, 1, 0, 0, 0, 0, 2, 1, 0,
+    0, 0, 0, 2, 1, 0, 0, 0, 0, 2, 1, 0, 0, 0, 0, 4, 3, 2, 1, 0, 0, 1, 0, 0, 0, 0, 0, 2, 1, 0, 0, 0,
+    0, 1, 0, 0, 0, 0, 0, 1, 0, 0, 0, 0, 0, 3, 2, 1, 0, 0, 0, 2, 1, 0, 0, 0, 0, 2, 1, 0, 0, 0, 0, 2,
+    1, 0, 0, 0, 0, 1, 0, 0, 0, 0, 0, 2, 1, 0, 0, 0, 0, 2, 1, 0, 0, 0, 0, 2, 1, 0, 0, 0, 0, 2, 1, 0,
+    0, 0, 0, 2, 1, 0, 0, 0, 0, 3, 2, 1, 0, 0, 0, 3, 2, 1, 0, 0, 0, 2, 1, 0, 0, 0, 0, 1, 0, 0, 0, 0,
+    0, 1, 0, 0, 0, 0, 0, 1, 0, 0, 0, 0, 0, 1, 0, 0, 0, 0, 0, 2, 1, 0, 0, 0, 0, 3, 2, 1, 0, 0, 0, 0,
     0, 0, 0, 0, 0, 1, 0, 0, 0, 0, 0, 1, 0, 0, 0, 0, 0, 1, 0, 0, 0, 0, 0, 1, 0, 0, 0, 0, 0, 1, 0, 0,
-    0, 0, 0, 1, 0, 0, 0, 0, 0, 1, 0, 0, 0, 0, 0, 1, 0, 0, 0, 0, 0, 1, 0, 0, 0, 0, 0, 1, 0, 0, 0, 0,
-    0, 1, 0, 0, 0, 0, 0, 1, 0, 0, 0, 0, 0, 1, 0, 0, 0, 0, 0, 3, 2, 1, 0, 0, 0, 1, 0, 0, 0, 0, 0, 2,
-    1, 0, 0, 0, 0, 2, 1, 0, 0, 0, 0, 2, 1, 0, 0, 0, 0, 2, 1, 0, 0, 0, 0, 1, 0, 0, 0, 0, 0, 2, 1, 0,
-    0, 0, 0, 3, 2, 1, 0, 0, 0, 2, 1, 0, 0, 0, 0, 2, 1, 0, 0, 0, 0, 2, 1, 0, 0, 0, 0, 2, 1, 0, 0, 0,
-    0, 1, 0, 0, 0, 0, 0, 1, 0, 0, 0, 0, 0, 2, 1, 0, 0, 0, 0, 2, 1, 0, 0, 0, 0, 2, 1, 0, 0, 0, 0, 2,
-    1, 0, 0, 0, 0, 2, 1, 0, 0, 0, 0, 0, 0, 0, 0, 0, 0, 1, 0, 0, 0, 0, 0, 1, 0, 0, 0, 0, 0, 2, 1, 0,
-    0, 0, 0, 2, 1, 0, 0, 0, 0, 2, 1, 0, 0, 0, 0, 2, 1, 0, 0, 0, 0, 2, 1, 0, 0, 0, 0, 2, 1, 0, 0, 0,
-    0, 2, 1, 0, 0, 0, 0, 4, 3, 2, 1, 0, 0, 1, 0, 0, 0, 0, 0, 2, 1, 0, 0, 0, 0, 1, 0, 0, 0, 0, 0, 1,
-    0, 0, 0, 0, 0, 3, 2, 1, 0, 0, 0, 2, 1, 0, 0, 0, 0, 1, 0, 0, 0, 0, 0, 2, 1, 0, 0, 0, 0, 2, 1, 0,
-    0, 0, 0, 2, 1, 0, 0, 0, 0, 2, 1, 0, 0, 0, 0, 2, 1, 0, 0, 0, 0, 3, 2, 1, 0, 0, 0, 3, 2, 1, 0, 0,
-    0, 2, 1, 0, 0, 0, 0, 1, 0, 0, 0, 0, 0, 1, 0, 0, 0, 0, 0, 1, 0, 0, 0, 0, 0, 1, 0, 0, 0, 0, 0, 3,
-    2, 1, 0, 0, 0, 1, 0, 0, 0, 0, 0, 1, 0, 0, 0, 0, 0, 1, 0, 0, 0, 0, 0, 1, 0, 0, 0, 0, 0, 1, 0, 0,
     0, 0, 0, 1, 0, 0, 0, 0, 0, 1, 0, 0, 0, 0, 0, 1, 0, 0, 0, 0, 0, 1, 0, 0, 0, 0, 0, 1, 0, 0, 0, 0,
     0, 1, 0, 0, 0, 0, 0, 1, 0, 0, 0, 0, 0, 1, 0, 0, 0, 0, 0, 1, 0, 0, 0, 0, 0, 1, 0, 0, 0, 0, 0, 1,
     0, 0, 0, 0, 0, 2, 1, 0, 0, 0, 0, 2, 1, 0, 0, 0, 0, 2, 1, 0, 0, 0, 0, 1, 0, 0, 0, 0, 0, 1, 0, 0,
-    0, 0, 0, 1, 0, 0, 0, 0, 0, 2, 1, 0, 0, 0, 0, 1, 0, 0, 0, 0, 0, 1, 0, 0, 0, 0, 0, 0, 0, 0, 0, 0,
-    0, 1, 0, 0, 0, 0, 0, 1, 0, 0, 0, 0, 0, 1, 0, 0, 0, 0, 0, 1, 0, 0, 0, 0, 0, 1, 0, 0, 0, 0, 0, 1,
-    0, 0, 0, 0, 0, 2, 1, 0, 0, 0, 0, 2, 1, 0, 0, 0, 0, 1, 0, 0, 0, 0, 0, 2, 1, 0, 0, 0, 0, 2, 1, 0,
-    0, 0, 0, 2, 1, 0, 0, 0, 0, 2, 1, 0, 0, 0, 0, 1, 0, 0, 0, 0, 0, 2, 1, 0, 0, 0, 0, 1, 0, 0, 0, 0,
-    0, 1, 0, 0, 0, 0, 0, 1, 0, 0, 0, 0, 0, 3, 2, 1, 0, 0, 0, 2, 1, 0, 0, 0, 0, 0,
+    0, 0, 0, 1, 0, 0, 0, 0, 0, 1, 0, 0, 0, 0, 0, 1, 0, 0, 0, 0, 0, 1, 0, 0, 0, 0, 0, 1, 0, 0, 0, 0,
+    0, 2, 1, 0, 0, 0, 0, 1, 0, 0, 0, 0, 0, 1, 0, 0, 0, 0, 0, 0, 0, 0, 0, 0, 0, 1, 0, 0, 0, 0, 0, 1,
+    0, 0, 0, 0, 0, 1, 0, 0, 0, 0, 0, 1, 0, 0, 0, 0, 0, 1, 0, 0, 0, 0, 0, 1, 0, 0, 0, 0, 0, 2, 1, 0,
+    0, 0, 0, 2, 1, 0, 0, 0, 0, 1, 0, 0, 0, 0, 0, 2, 1, 0, 0, 0, 0, 2, 1, 0, 0, 0, 0, 2, 1, 0, 0, 0,
+    0, 2, 1, 0, 0, 0, 0, 1, 0, 0, 0, 0, 0, 2, 1, 0, 0, 0, 0, 1, 0, 0, 0, 0, 0, 1, 0, 0, 0, 0, 0, 1,
+    0, 0, 0, 0, 0, 3, 2, 1, 0, 0, 0, 2, 1, 0, 0, 0, 0, 0,
 ];
 
 /// The number of the rule that a kind takes at a byte, if it takes one.
 #[inline]
 fn number(kind: u16, byte: u8) -> Option<usize>
     requires { kind < abi.kinds }
-    ensures few { IfSome result (λ number. number < 222) }
+    ensures few { IfSome result (λ number. number < 242) }
     ensures rule { (head : Head) → MatchOption result (abi.rule kind byte ≡ None) (λ number. abi.rule kind byte ≡ Some (listed_rule head number)) }
 {
     match letter_in(&LETTERS[kind as usize], byte) {

@@ -8,62 +8,70 @@ use crate::table::{FIRST_LETTER, HEADS, SYMBOLS};
 use sym_shape::{Rule, letter_in, place_of, symbols_from};
 
 // For each kind a row: for each byte from `$` to `z` the letter of the production that the kind takes there.
-static WIDE_LETTERS: [[u8; 87]; 146] = [
+static WIDE_LETTERS: [[u8; 87]; 160] = [
     // $%&'()*+,-./0123456789:;<=>?@ABCDEFGHIJKLMNOPQRSTUVWXYZ[\]^_`abcdefghijklmnopqrstuvwxyz
     *b"                                                           *                           ", // Symbol
     *b"          +                                                                            ", // MaybeSuffix
     *b",         , ,,,,,,,,,,       ,,,,,,,,,,,,,,,,,,,,,,,,,,    , ,,,,,,,,,,,,,,,,,,,,,,,,,,", // SuffixFirst
     *b",         , ,,,,,,,,,,       ,,,,,,,,,,,,,,,,,,,,,,,,,,    , ,,,,,,,,,,,,,,,,,,,,,,,,,,", // SuffixMore
     *b"            //////////             .    / /    /-/    /      / /// / /  ///// //       ", // Encoding
-    *b"                               5    40         00 04           3    1             2    ", // Special
-    *b"                                                                    6             7    ", // CallOffset
-    *b"            9999999999                                                    8            ", // Integer
-    *b"            $$$$$$$$$$                  \" )    : #    ;      % %%% % %  %%%%% %%       ", // CompleteName
+    *b"                             5 6    40         00 04           3    1             2    ", // Special
+    *b"                                                                    7             8    ", // CallOffset
+    *b"            ::::::::::                                                    9            ", // Integer
+    *b"            $$$$$$$$$$                  \" )    ; #    <      % %%% % %  %%%%% %%       ", // CompleteName
     *b"                                                                              !        ", // MaybeRestrict
     *b"                                                  !                                    ", // MaybeVolatile
     *b"                                       !                                               ", // MaybeConst
     *b"                                           !  !                                        ", // MaybeRef
-    *b"            ==========       ==========================    = == =    =     =   =<      ", // NameAfterS
-    *b"            ((((((((((                  &        '           > >>> > >  >>>>> >>       ", // Unqualified
-    *b"            CCCCCCCCCC                  A      ?@B                                     ", // Nest
-    *b"            EEEEEEEEEE       EEEEEEEEEEEEEEEEEEEEEEEEEE    E EE E    E     E   ED      ", // NestAfterS
-    *b"            GGGGGGGGGG        HGG G  F  GG       G           G GGG G G  GGGGG GG       ", // NestRest
-    *b"            GGGGGGGGGG         GGIG     GG       G           G GGG G G  GGGGG GG       ", // NestTail
-    *b"            $$$$$$$$$$         JK O     \"N       #           M LMM M M  MMMMM MM       ", // Component
-    *b"             QQQQQ                   P                                                 ", // ConstructorAfterC
+    *b"            >>>>>>>>>>       >>>>>>>>>>>>>>>>>>>>>>>>>>    > >> >    >     >   >=      ", // NameAfterS
+    *b"            ((((((((((                  &        '           ? ??? ? ?  ????? ??       ", // Unqualified
+    *b"            DDDDDDDDDD          E       B      @AC                                     ", // Nest
+    *b"            GGGGGGGGGG       GGGGGGGGGGGGGGGGGGGGGGGGGG    G GG G    G     G   GF      ", // NestAfterS
+    *b"            IIIIIIIIII        JII I  H  II       I           I III I I  IIIII II       ", // NestRest
+    *b"            IIIIIIIIII         IIKI     II       I           I III I I  IIIII II       ", // NestTail
+    *b"            $$$$$$$$$$         LM Q     \"P       #           O NOO O O  OOOOO OO       ", // Component
+    *b"             SSSSS                   R                                                 ", // ConstructorAfterC
     *b"             !!!!!                                                                     ", // ConstructorDigit
     *b"             !! !!                                                                     ", // InheritedDigit
     *b"            !!! !!                                                                     ", // DestructorDigit
-    *b"            SSSSSSSSSS       SSSSSSSSSSSSSSSSSSSSSSSSSS    S RR R    R     R   R       ", // Abbreviation
-    *b"            $$$$$$$$$$                  \" )      #              V              U       ", // Entity
-    *b"            $$$$$$$$$$                  \" T      #              W                      ", // TypeEntity
-    *b"                                                           X                           ", // MaybeDiscriminator
-    *b"            YYYYYYYYYY                                     Z                           ", // DiscriminatorRest
-    *b"                                                                        [       \\      ", // Anonymous
-    *b"            aaaaaaaaaa       a ab a    _ aa`a `aaa^   a      aaaaaaaaaa aaaa  ]aaaaaaaa", // Type
-    *b"            dddddddddd       d dc d      dd`d `ddd    d      dddddddddd dddd   dddddddd", // Plain
-    *b"            aaaaaaaaaa       a ae a    _ aa`a `aaa^   a      aaaaaaaaaa aaaa  ]aaaaaaaa", // Item
-    *b"            aaaaaaaaaa       a ae a    _ aa a  aaa^   a      aaaaaaaaaa aaaa  ]aaaaaaaa", // ItemButRef
-    *b"                                  g    g        g            g gggg gg g  ggf  gggg    ", // ItemAfterD
-    *b"                                  k    l        m            h hhhh hh l  hj   hmhi    ", // AfterD
-    *b"            $$$$$$$$$$       u w  v      oT n  qp#    r      ssssssssss ssss   sstsssss", // Solid
+    *b"            UUUUUUUUUU       UUUUUUUUUUUUUUUUUUUUUUUUUU    U TT T    T     T   T       ", // Abbreviation
+    *b"            $$$$$$$$$$                  \" )      #              X              W       ", // Entity
+    *b"            $$$$$$$$$$                  \" V      #              Y                      ", // TypeEntity
+    *b"                                                           Z                           ", // MaybeDiscriminator
+    *b"            [[[[[[[[[[                                     \\                           ", // DiscriminatorRest
+    *b"                                                                        ]       ^      ", // Anonymous
+    *b"            cccccccccc       c cd c    a ccbc bccc`   c      cccccccccc cccc  _cccccccc", // Type
+    *b"            ffffffffff       f fe f      ffbf bfff    f      ffffffffff ffff   ffffffff", // Plain
+    *b"            cccccccccc       c cg c    a ccbc bccc`   c      cccccccccc cccc  _cccccccc", // Item
+    *b"            cccccccccc       c cg c    a cc c  ccc`   c      cccccccccc cccc  _cccccccc", // ItemButRef
+    *b"                              i   i    i        ii           i iiii ii i  iih  iiii  i ", // ItemAfterD
+    *b"                              o   m    n        po           j jjjj jj n  jl   jpjk  q ", // AfterD
+    *b"            $$$$$$$$$$       y {  z      sV r  ut#    v      wwwwwwwwww wwww   wwxwwwww", // Solid
     *b"                                                     !                                 ", // MaybeCLinkage
-    *b"            yyyyyyyyyy       yyyyyyyyyyyyyyyyyyyyyyyyyy    y yy y    y     y   yx      ", // TypeAfterS
+    *b"            ||||||||||                                                                 ", // BitWidth
+    *b"            ~~~~~~~~~~       ~~~~~~~~~~~~~~~~~~~~~~~~~~    ~ ~~ ~    ~     ~   ~}      ", // TypeAfterS
     *b"            ((((((((((                  &        '                                     ", // SourceOrLocal
-    *b"            }}}}}}}}}}       } }}z}    } }}|} {}}}}   }      }}}}}}}}}} }}}}  }}}}}}}}}", // FunctionRest
-    *b"            \x7f\x7f\x7f\x7f\x7f\x7f\x7f\x7f\x7f\x7f       \x7f \x7f\x7f~\x7f    \x7f \x7f\x7f\x7f\x7f \x7f\x7f\x7f\x7f\x7f   \x7f      \x7f\x7f\x7f\x7f\x7f\x7f\x7f\x7f\x7f\x7f \x7f\x7f\x7f\x7f  \x7f\x7f\x7f\x7f\x7f\x7f\x7f\x7f\x7f", // AfterR
-    *b"            \x80\x80\x80\x80\x80\x80\x80\x80\x80\x80       \x80 \x80\x80~\x80    \x80 \x80\x80\x80\x80 \x80\x80\x80\x80\x80   \x80      \x80\x80\x80\x80\x80\x80\x80\x80\x80\x80 \x80\x80\x80\x80  \x80\x80\x80\x80\x80\x80\x80\x80\x80", // AfterO
-    *b"            \x82\x82\x82\x82\x82\x82\x82\x82\x82\x82       \x82 \x82\x82 \x82    \x82 \x82\x82\x82\x82\x81\x82\x82\x82\x82\x82   \x82      \x82\x82\x82\x82\x82\x82\x82\x82\x82\x82 \x82\x82\x82\x82  \x82\x82\x82\x82\x82\x82\x82\x82\x82", // Items
-    *b"                              \x84      \x83                                                 ", // MaybeArguments
-    *b"                                     \x83                                                 ", // Arguments
-    *b"            \x87\x87\x87\x87\x87\x87\x87\x87\x87\x87       \x87 \x87\x87 \x87   \x85\x87\x86\x87\x87\x87\x87\x81\x87\x87\x87\x87\x87 \x87 \x87      \x87\x87\x87\x87\x87\x87\x87\x87\x87\x87 \x87\x87\x87\x87  \x87\x87\x87\x87\x87\x87\x87\x87\x87", // ArgumentList
-    *b"            \x89\x89\x89\x89\x89\x89\x89\x89\x89\x89       \x89 \x89\x89 \x89    \x89\x88\x89\x89\x89\x89 \x89\x89\x89\x89\x89 \x89 \x89      \x89\x89\x89\x89\x89\x89\x89\x89\x89\x89 \x89\x89\x89\x89  \x89\x89\x89\x89\x89\x89\x89\x89\x89", // PackList
-    *b"            \x8d\x8d\x8d\x8d\x8d\x8d\x8d\x8d\x8d\x8d          \x8c        \x8d\x8d \x8d  \x8d\x8d\x8d    \x8d    \x8a \x8d\x8b\x8d    \x8d\x8d\x8d \x8d\x8d\x8d\x8d   \x8d\x8d  \x8d\x8d\x8d ", // Literal
+    *b"            \x82\x82\x82\x82\x82\x82\x82\x82\x82\x82       \x82 \x82\x82\x7f\x82    \x82 \x82\x82\x81\x82 \x80\x82\x82\x82\x82   \x82      \x82\x82\x82\x82\x82\x82\x82\x82\x82\x82 \x82\x82\x82\x82  \x82\x82\x82\x82\x82\x82\x82\x82\x82", // FunctionRest
+    *b"            \x84\x84\x84\x84\x84\x84\x84\x84\x84\x84       \x84 \x84\x84\x83\x84    \x84 \x84\x84\x84\x84 \x84\x84\x84\x84\x84   \x84      \x84\x84\x84\x84\x84\x84\x84\x84\x84\x84 \x84\x84\x84\x84  \x84\x84\x84\x84\x84\x84\x84\x84\x84", // AfterR
+    *b"            \x85\x85\x85\x85\x85\x85\x85\x85\x85\x85       \x85 \x85\x85\x83\x85    \x85 \x85\x85\x85\x85 \x85\x85\x85\x85\x85   \x85      \x85\x85\x85\x85\x85\x85\x85\x85\x85\x85 \x85\x85\x85\x85  \x85\x85\x85\x85\x85\x85\x85\x85\x85", // AfterO
+    *b"            \x87\x87\x87\x87\x87\x87\x87\x87\x87\x87       \x87 \x87\x87 \x87    \x87 \x87\x87\x87\x87\x86\x87\x87\x87\x87\x87   \x87      \x87\x87\x87\x87\x87\x87\x87\x87\x87\x87 \x87\x87\x87\x87  \x87\x87\x87\x87\x87\x87\x87\x87\x87", // Items
+    *b"                              \x89      \x88                                                 ", // MaybeArguments
+    *b"                                     \x88                                                 ", // Arguments
+    *b"            \x8c\x8c\x8c\x8c\x8c\x8c\x8c\x8c\x8c\x8c       \x8c \x8c\x8c \x8c   \x8a\x8c\x8b\x8c\x8c\x8c\x8c\x86\x8c\x8c\x8c\x8c\x8c \x8c \x8c      \x8c\x8c\x8c\x8c\x8c\x8c\x8c\x8c\x8c\x8c \x8c\x8c\x8c\x8c  \x8c\x8c\x8c\x8c\x8c\x8c\x8c\x8c\x8c", // ArgumentList
+    *b"            \x8e\x8e\x8e\x8e\x8e\x8e\x8e\x8e\x8e\x8e       \x8e \x8e\x8e \x8e    \x8e\x8d\x8e\x8e\x8e\x8e \x8e\x8e\x8e\x8e\x8e \x8e \x8e      \x8e\x8e\x8e\x8e\x8e\x8e\x8e\x8e\x8e\x8e \x8e\x8e\x8e\x8e  \x8e\x8e\x8e\x8e\x8e\x8e\x8e\x8e\x8e", // PackList
+    *b"            \x92\x92\x92\x92\x92\x92\x92\x92\x92\x92          \x91      \x92 \x92\x92 \x92  \x92\x92\x92\x92   \x92    \x8f \x92\x90\x92\x93\x93\x93\x93\x92\x92\x92 \x92\x92\x92\x92   \x92\x92  \x92\x92\x92 ", // Literal
     *b"            !!                                                                         ", // Bit
-    *b"                                                                     \x8f    \x8e    \x8f \x8f     ", // LiteralAfterD
+    *b"                                  \x96                                  \x95    \x94    \x95 \x95     ", // LiteralAfterD
+    *b"                                                                wwww                   ", // FloatType
+    *b"                                  m                                                    ", // SizedFloatType
+    *b"            \x97\x97\x97\x97\x97\x97\x97\x97\x97\x97                                       \x97\x97\x97\x97\x97\x97                    ", // HexText
+    *b"            \x98\x98\x98\x98\x98\x98\x98\x98\x98\x98                                       \x98\x98\x98\x98\x98\x98                    ", // HexDigits
+    *b"            \x98\x98\x98\x98\x98\x98\x98\x98\x98\x98                                       \x98\x98\x98\x98\x98\x98                    ", // HexMore
     *b"            !                                                                          ", // MaybeZero
-    *b"            $$$$$$$$$$                   oT n  qp#    r      s s    sss ssss   ss  sss ", // LiteralType
-    *b"                                                             \x92 \x94\x91\x98 \x9c \x9b  \x99\x95\x90\x97\x93 \x96\x9a       ", // Operator
+    *b"            $$$$$$$$$$                 \x9a sV r  ut#\x99   v      w w    www wwww   ww  www ", // LiteralType
+    *b"            \x9b\x9b\x9b\x9b\x9b\x9b\x9b\x9b\x9b\x9b                   \x9b\x9b \x9b  \x9b\x9b\x9b    \x9b      \x9b \x9b    \x9b\x9b\x9b \x9b\x9b\x9b\x9b   \x9b\x9b  \x9b\x9b\x9b ", // LiteralPlain
+    *b"            $$$$$$$$$$                   sV r  ut#    v      w w    www wwww   ww  www ", // LiteralSolid
+    *b"                                                             \x9e \xa0\x9d\xa4 \xa8 \xa7  \xa5\xa1\x9c\xa3\x9f \xa2\xa6       ", // Operator
     *b"                                                             !   ! !            !  !   ", // OperatorAfterN
     *b"                                                  !          !   !      !         !    ", // OperatorAfterD
     *b"                                          !    !             !  !         !        !   ", // OperatorAfterA
@@ -73,96 +81,102 @@ static WIDE_LETTERS: [[u8; 87]; 146] = [
     *b"                                         !     !                         !     !       ", // OperatorAfterR
     *b"                                              !                            !  !        ", // OperatorAfterO
     *b"                                           !                               ! !         ", // OperatorAfterE
-    *b"                                               !                 !   \x9d         !!      ", // OperatorAfterL
+    *b"                                               !                 !   \xa9         !!      ", // OperatorAfterL
     *b"                                                                               !       ", // OperatorAfterS
     *b"                                                                                    !  ", // OperatorAfterI
     *b"                                                                 !              !      ", // OperatorAfterG
-    *b"            GGGGGGGGGG         GG G  \x9e  GG       G           G GGG G G  GGGGG GG       ", // NestRestOrEnd
-    *b"                                     \x83                                                 ", // ArgumentsAlone
-    *b"            GGGGGGGGGG         GG G  F  GG       G           G GGG G G  GGGGG GG       ", // NestRestAlone
+    *b"            IIIIIIIIII         II I  \xaa  II       I           I III I I  IIIII II       ", // NestRestOrEnd
+    *b"                                     \x88                                                 ", // ArgumentsAlone
+    *b"            IIIIIIIIII         II I  H  II       I           I III I I  IIIII II       ", // NestRestAlone
     *b"                                         !                                             ", // HolderMark
-    *b"            $$$$$$$$$$         JK       \"        #           M LMM M M  MMMMM MM       ", // HeldComponent
+    *b"            $$$$$$$$$$         LM       \"        #           O NOO O O  OOOOO OO       ", // HeldComponent
     *b"                                                           !  !                     !  ", // FloatEnd
-    *b"                                                                        \xa0\xa0 \xa0      \x9f    ", // ComponentAfterC
-    *b"                                                             \x92  \x91\x98 \x9c \x9b  \x99\x95\x90\x97\x93 \x96\x9a       ", // OtherOperator
-    *b"                                     \xa1                                                 ", // HeldArguments
-    *b"            \xa3\xa3\xa3\xa3\xa3\xa3\xa3\xa3\xa3\xa3                    \xa2    \xa3      r                                ", // BaseClass
-    *b"            \xa5\xa5\xa5\xa5\xa5\xa5\xa5\xa5\xa5\xa5                         \xa4                                       ", // UnnestedName
-    *b"                                     \xa6                                                 ", // BaseArguments
-    *b"            \x87\x87\x87\x87\x87\x87\x87\x87\x87\x87       \x87 \x87\x87 \x87  \x85\x85\x87\x86\x87\x87\x87\x87\x81\x87\x87\x87\x87\x87 \x87 \x87      \x87\x87\x87\x87\x87\x87\x87\x87\x87\x87 \x87\x87\x87\x87  \x87\x87\x87\x87\x87\x87\x87\x87\x87", // ArgumentsFirst
+    *b"                                                                        \xac\xac \xac      \xab    ", // ComponentAfterC
+    *b"                                                             \x9e  \x9d\xa4 \xa8 \xa7  \xa5\xa1\x9c\xa3\x9f \xa2\xa6       ", // OtherOperator
+    *b"                                     \xad                                                 ", // HeldArguments
+    *b"            \xaf\xaf\xaf\xaf\xaf\xaf\xaf\xaf\xaf\xaf                    \xae    \xaf      v                                ", // BaseClass
+    *b"            \xb1\xb1\xb1\xb1\xb1\xb1\xb1\xb1\xb1\xb1                         \xb0                                       ", // UnnestedName
+    *b"                                     \xb2                                                 ", // BaseArguments
+    *b"            \x8c\x8c\x8c\x8c\x8c\x8c\x8c\x8c\x8c\x8c       \x8c \x8c\x8c \x8c  \x8a\x8a\x8c\x8b\x8c\x8c\x8c\x8c\x86\x8c\x8c\x8c\x8c\x8c \x8c \x8c      \x8c\x8c\x8c\x8c\x8c\x8c\x8c\x8c\x8c\x8c \x8c\x8c\x8c\x8c  \x8c\x8c\x8c\x8c\x8c\x8c\x8c\x8c\x8c", // ArgumentsFirst
     *b"            $$$$$$$$$$                  \" )      #                                     ", // PlainEntity
-    *b"            $$$$$$$$$$                  \" T      #                                     ", // PlainTypeEntity
+    *b"            $$$$$$$$$$                  \" V      #                                     ", // PlainTypeEntity
     *b"                                   !                                                   ", // SpecialMark
-    *b"                                                \xa7 4                                    ", // SpecialAfterG
+    *b"                                                \xb3 4                                    ", // SpecialAfterG
     *b"                                                                          !     !      ", // CloneLetter
-    *b"                                                                                \xa8      ", // TypeInStd
-    *b"                              \xa9                                                        ", // MaybeTags
-    *b"            \xac\xac\xac\xac\xac\xac\xac\xac\xac\xac       \xac \xace \xac    _ \xac\xac`\xac `\xac\xab\xac^ \xaa \xac      \xac\xac\xac\xac\xac\xac\xac\xac\xac\xac \xac\xac\xac\xac  ]\xac\xac\xac\xac\xac\xac\xac\xac", // Argument
-    *b"            \xad\xad\xad\xad\xad\xad\xad\xad\xad\xad                  \xaf                  \xad           \xae  \xae \xae   \xae    \xae ", // ArgumentAfterT
-    *b"            \xad\xad\xad\xad\xad\xad\xad\xad\xad\xad                                     \xad                           ", // LeveledParameter
-    *b"            \xac\xac\xac\xac\xac\xac\xac\xac\xac\xac       \xac \xace \xac   \xb1_\xb0\xac\xac`\xac `\xac\xab\xac^ \xaa \xac      \xac\xac\xac\xac\xac\xac\xac\xac\xac\xac \xac\xac\xac\xac  ]\xac\xac\xac\xac\xac\xac\xac\xac", // OneArgument
-    *b"                                                                       \xb4  \xb3 \xb6   \xb5    \xb2 ", // DeclarationAfterT
-    *b"                                                \xb7                                      ", // Declarations
-    *b"            \xb8\xb8\xb8\xb8\xb8\xb8\xb8\xb8\xb8\xb8                    T    \xb8                                       ", // Concept
-    *b"            $$$$$$$$$$       u w  v      oT n  q #    r      ssssssssss ssss   sstsssss", // SolidButT
-    *b"            \xbb\xbb\xbb\xbb\xbb\xbb\xbb\xbb\xbb\xbb                  \xb0       \xe1            \xd1 \xd2\xd3\xd4\xd5\xd6 \xd7  \xd8\xd9\xda\xdb\xdc\xdd\xde\xdf\xe0      ", // Expression
-    *b"            \xbb\xbb\xbb\xbb\xbb\xbb\xbb\xbb\xbb\xbb                  \xe2       \xe1            \xd1 \xd2\xd3\xd4\xd5\xd6 \xd7  \xd8\xd9\xda\xdb\xdc\xdd\xde\xdf\xe0      ", // AddressedExpression
-    *b"            \x8d\x8d\x8d\x8d\x8d\x8d\x8d\x8d\x8d\x8d          \x8c        \x8d\x8d \x8d  \x8d\x8d\x8d    \x8d    \x8a \x8d\x8b\x8d    \x8d\x8d\x8d \x8d\x8d\x8d\x8d   \x8d\x8d  \x8d\x8d\x8d ", // AddressedLiteral
-    *b"                                          \xbe    \xbe             \xbe  \xbd         \xbe     \xc0  \xbf  \xbf", // ExpressionAfterA
-    *b"                                                               \xb9        \xc1\xbe \xbf\xc1     \xc2    ", // ExpressionAfterC
-    *b"                                                  \xbe          \xbf \xb9 \xbf      \xbf \xc3    \xbe\xbe \xbe    ", // ExpressionAfterD
-    *b"                                           \xbe                               \xbe \xbe         ", // ExpressionAfterE
-    *b"                                        \xc4                               \xc5   \xbc \xc6        ", // ExpressionAfterF
-    *b"                                                                 \xbe             \xbf\xbe      ", // ExpressionAfterG
-    *b"                                                                        \xc7           \xbe  ", // ExpressionAfterI
-    *b"                                               \xbe                 \xbe             \xbe\xbe      ", // ExpressionAfterL
-    *b"                                     \xbe  \xbe                            \xbe  \xbe\xc8             ", // ExpressionAfterM
-    *b"                                                             \xc9   \xbe \xbf            \xbf  \xc9\xbf  ", // ExpressionAfterN
-    *b"                                              \xbe                           \xba\xbe  \xbe        ", // ExpressionAfterO
-    *b"                                        \xbe                               \xbe\xbe  \xc8  \xbf\xbe      ", // ExpressionAfterP
-    *b"                                                                                 \xca     ", // ExpressionAfterQ
-    *b"                                         \xbe   \xcc \xbe               \xb9         \xbe   \xcb \xbe       ", // ExpressionAfterR
-    *b"                                                      \xce        \xb9            \xcd \xcf\xbe\xc0     \xbf", // ExpressionAfterS
-    *b"                                                                 \xbf   \xc0  \xd0          \xbf   ", // ExpressionAfterT
-    *b"            \xe3\xe3\xe3\xe3\xe3\xe3\xe3\xe3\xe3\xe3                  \xe3       \xe3            \xe3 \xe3\xe3\xe3\xe3\xe3 \xe3  \xe3\xe3\xe3\xe3\xe3\xe3\xe3\xe3\xe3      ", // Expressions
+    *b"                                                                                \xb4      ", // TypeInStd
+    *b"                              \xb5                                                        ", // MaybeTags
+    *b"            \xb8\xb8\xb8\xb8\xb8\xb8\xb8\xb8\xb8\xb8       \xb8 \xb8g \xb8    a \xb8\xb8b\xb8 b\xb8\xb7\xb8` \xb6 \xb8      \xb8\xb8\xb8\xb8\xb8\xb8\xb8\xb8\xb8\xb8 \xb8\xb8\xb8\xb8  _\xb8\xb8\xb8\xb8\xb8\xb8\xb8\xb8", // Argument
+    *b"            \xb9\xb9\xb9\xb9\xb9\xb9\xb9\xb9\xb9\xb9                  \xbb                  \xb9           \xba  \xba \xba   \xba    \xba ", // ArgumentAfterT
+    *b"            \xb9\xb9\xb9\xb9\xb9\xb9\xb9\xb9\xb9\xb9                                     \xb9                           ", // LeveledParameter
+    *b"            \xb8\xb8\xb8\xb8\xb8\xb8\xb8\xb8\xb8\xb8       \xb8 \xb8g \xb8   \xbda\xbc\xb8\xb8b\xb8 b\xb8\xb7\xb8` \xb6 \xb8      \xb8\xb8\xb8\xb8\xb8\xb8\xb8\xb8\xb8\xb8 \xb8\xb8\xb8\xb8  _\xb8\xb8\xb8\xb8\xb8\xb8\xb8\xb8", // OneArgument
+    *b"                                                                       \xc0  \xbf \xc2   \xc1    \xbe ", // DeclarationAfterT
+    *b"                                                \xc3                                      ", // Declarations
+    *b"            \xc4\xc4\xc4\xc4\xc4\xc4\xc4\xc4\xc4\xc4                    V    \xc4                                       ", // Concept
+    *b"            $$$$$$$$$$       y {  z      sV r  u #    v      wwwwwwwwww wwww   wwxwwwww", // SolidButT
+    *b"            \xc7\xc7\xc7\xc7\xc7\xc7\xc7\xc7\xc7\xc7                  \xbc       \xf1            \xe1 \xe2\xe3\xe4\xe5\xe6 \xe7  \xe8\xe9\xea\xeb\xec\xed\xee\xef\xf0      ", // Expression
+    *b"            \xc7\xc7\xc7\xc7\xc7\xc7\xc7\xc7\xc7\xc7                  \xf2       \xf1            \xe1 \xe2\xe3\xe4\xe5\xe6 \xe7  \xe8\xe9\xea\xeb\xec\xed\xee\xef\xf0      ", // AddressedExpression
+    *b"            \x92\x92\x92\x92\x92\x92\x92\x92\x92\x92          \x91      \x92 \x92\x92 \x92  \x92\x92\x92\x92   \x92    \x8f \x92\x90\x92\x93\x93\x93\x93\x92\x92\x92 \x92\x92\x92\x92   \x92\x92  \x92\x92\x92 ", // AddressedLiteral
+    *b"                                          \xca    \xca             \xca  \xc9         \xca     \xcc  \xcb  \xcb", // ExpressionAfterA
+    *b"                                                               \xc5        \xcd\xca \xcb\xcd     \xce    ", // ExpressionAfterC
+    *b"                                                  \xca          \xcb \xc5 \xcb   \xcf  \xcb \xd1    \xca\xca \xca \xd0  ", // ExpressionAfterD
+    *b"                                           \xca                               \xca \xca         ", // ExpressionAfterE
+    *b"                                        \xd2                               \xd3   \xc8 \xd4        ", // ExpressionAfterF
+    *b"                                                                 \xca             \xcb\xca      ", // ExpressionAfterG
+    *b"                                                                        \xd5           \xca  ", // ExpressionAfterI
+    *b"                                               \xca                 \xca             \xca\xca      ", // ExpressionAfterL
+    *b"                                     \xca  \xca                            \xca  \xca\xd6             ", // ExpressionAfterM
+    *b"                                                             \xd7   \xca \xcb            \xcb  \xd7\xcb  ", // ExpressionAfterN
+    *b"                                              \xca                           \xc6\xca  \xca        ", // ExpressionAfterO
+    *b"                                        \xca                               \xca\xca  \xd6  \xcb\xca      ", // ExpressionAfterP
+    *b"                                                                                 \xd8     ", // ExpressionAfterQ
+    *b"                                         \xca   \xda \xca               \xc5         \xca   \xd9 \xca       ", // ExpressionAfterR
+    *b"                                                      \xdc        \xc5            \xdb \xdd\xca\xcc    \xde\xcb", // ExpressionAfterS
+    *b"                                                                 \xcb   \xcc  \xdf     \xe0    \xcb   ", // ExpressionAfterT
+    *b"            \xf3\xf3\xf3\xf3\xf3\xf3\xf3\xf3\xf3\xf3                  \xf3       \xf3            \xf3 \xf3\xf3\xf3\xf3\xf3 \xf3  \xf3\xf3\xf3\xf3\xf3\xf3\xf3\xf3\xf3      ", // Expressions
     *b"                                                           !                           ", // MaybeBefore
-    *b"                                                             \x92 \x94\x91\x98 \x9c \x9b  \xe4\x95\x90\x97\x93 \x96\x9a       ", // FoldOperator
+    *b"                                                             \x9e \xa0\x9d\xa4 \xa8 \xa7  \xf4\xa1\x9c\xa3\x9f \xa2\xa6       ", // FoldOperator
     *b"                                               !                 !             !!      ", // FoldOperatorAfterL
-    *b"            \xe5\xe5\xe5\xe5\xe5\xe5\xe5\xe5\xe5\xe5                  \xe5       \xe5            \xe5 \xe5\xe5\xe5\xe5\xe5 \xe5  \xe5\xe5\xe5\xe5\xe5\xe5\xe5\xe5\xe5      ", // FoldOperand
-    *b"            \xe6\xe6\xe6\xe6\xe6\xe6\xe6\xe6\xe6\xe6                  \xe6       \xe6            \xe6 \xe6\xe6\xe6\xe6\xe6 \xe6  \xe6\xe6\xe6\xe6\xe6\xe6\xe6\xe6\xe6      ", // FoldPack
-    *b"            \xe7\xe7\xe7\xe7\xe7\xe7\xe7\xe7\xe7\xe7                  \xe7       \xe7          ! \xe7 \xe7\xe7\xe7\xe7\xe7 \xe7  \xe7\xe7\xe7\xe7\xe7\xe7\xe7\xe7\xe7      ", // Placement
-    *b"            \xe3\xe3\xe3\xe3\xe3\xe3\xe3\xe3\xe3\xe3                  \xe3       \xe3            \xe3 \xe3\xe3\xe3\xe3\xe3 \xe3  \xe3\xe3\xe3\xe3\xe3\xe3\xe3\xe3\xe3      ", // SomeExpressions
-    *b"                                 ~                                   \xe9      \xe8          ", // Initializer
-    *b"                                                                     \xc7                 ", // InitializerAfterP
-    *b"                                                                        \xc7              ", // InitializerAfterI
-    *b"                                                                            \xbc          ", // OuterRest
-    *b"            \xeb\xeb\xeb\xeb\xeb\xeb\xeb\xeb\xeb\xeb                          \xea          \xeb                           ", // ParameterNumber
-    *b"            \xf0\xf0\xf0\xf0\xf0\xf0\xf0\xf0\xf0\xf0          \xec \xf0    \xed  \xf0\xef\xee \xef\xf0\xf0\xf0           \xf0\xf0\xf0\xf0\xf0\xf0\xf0\xf0\xf0\xf0 \xf0\xf0\xf0\xf0   \xf0\xf0 \xf0\xf0\xf0\xf0\xf0", // ConvertedType
-    *b"            $$$$$$$$$$            v       T    qp#           ssssssssss ssss   ss sssss", // ConvertedSolid
-    *b"                                                m                               m      ", // DecltypeAfterD
-    *b"            \xbb\xbb\xbb\xbb\xbb\xbb\xbb\xbb\xbb\xbb                  \xb0       \xe1          \xc7 \xd1 \xd2\xd3\xd4\xd5\xd6 \xd7  \xd8\xd9\xda\xdb\xdc\xdd\xde\xdf\xe0      ", // ConvertRest
-    *b"            \xf2\xf2\xf2\xf2\xf2\xf2\xf2\xf2\xf2\xf2          \xf1         \xf1    \xf1\xf1                                      ", // Unresolved
-    *b"                                \xec         T    qp                                      ", // UnresolvedType
-    *b"            \xbb\xbb\xbb\xbb\xbb\xbb\xbb\xbb\xbb\xbb          \xf3         \xf3    \xf3\xf3                                      ", // DestructorName
-    *b"                                             \xf6  \xf5   \xf4                                  ", // Requirements
-    *b"                                          \xf8  \xf6\xf7 \xf5   \xf4                                  ", // AfterExpression
-    *b"                                             \xf6\xf7 \xf5   \xf4                                  ", // AfterNoexcept
-    *b"            \xf9\xf9\xf9\xf9\xf9\xf9\xf9\xf9\xf9\xf9          \xf9 \xf9    \xf9  \xf9\xf9\xf9 \xf9\xf9\xf9\xf9         \xcb \xf9\xf9\xf9\xf9\xf9\xf9\xf9\xf9\xf9\xf9 \xf9\xf9\xf9\xf9   \xf9\xf9 \xf9\xf9\xf9\xf9\xf9", // RequiredTypes
-    *b"            \xbb\xbb\xbb\xbb\xbb\xbb\xbb\xbb\xbb\xbb                                                                 ", // Level
-    *b"            \xf2\xf2\xf2\xf2\xf2\xf2\xf2\xf2\xf2\xf2           \xfa                                                     ", // MoreLevels
-    *b"            \xbb\xbb\xbb\xbb\xbb\xbb\xbb\xbb\xbb\xbb                                                     \xfb           ", // UnresolvedName
-    *b"                                                                          \xba            ", // OperatorName
-    *b"                             \xfc                                                         ", // AnyArray
-    *b"            \xfe\xfe\xfe\xfe\xfe\xfe\xfe\xfe\xfe\xfe                  \xfd       \xfd          \xfe \xfd \xfd\xfd\xfd\xfd\xfd \xfd  \xfd\xfd\xfd\xfd\xfd\xfd\xfd\xfd\xfd      ", // ArrayRest
-    *b"                                        \xb0       \xe1            \xd1 \xd2\xd3\xd4\xd5\xd6 \xd7  \xd8\xd9\xda\xdb\xdc\xdd\xde\xdf\xe0      ", // Bound
-    *b"            GGGGGGGGGG         GGIG     GG       G           G GGG G G  GGGGG GG       ", // NestMoreOrEnd
+    *b"            \xf5\xf5\xf5\xf5\xf5\xf5\xf5\xf5\xf5\xf5                  \xf5       \xf5            \xf5 \xf5\xf5\xf5\xf5\xf5 \xf5  \xf5\xf5\xf5\xf5\xf5\xf5\xf5\xf5\xf5      ", // FoldOperand
+    *b"            \xf6\xf6\xf6\xf6\xf6\xf6\xf6\xf6\xf6\xf6                  \xf6       \xf6            \xf6 \xf6\xf6\xf6\xf6\xf6 \xf6  \xf6\xf6\xf6\xf6\xf6\xf6\xf6\xf6\xf6      ", // FoldPack
+    *b"            \xf6\xf6\xf6\xf6\xf6\xf6\xf6\xf6\xf6\xf6                \xbd \xf6       \xf6            \xf6 \xf6\xf6\xf6\xf6\xf6 \xf6  \xf6\xf6\xf6\xf6\xf6\xf6\xf6\xf6\xf6      ", // ValuePack
+    *b"            \xf7\xf7\xf7\xf7\xf7\xf7\xf7\xf7\xf7\xf7       \xf7 \xf7\xf7 \xf7   \xbd\xf7 \xf7\xf7\xf7\xf7 \xf7\xf7\xf7\xf7\xf7   \xf7      \xf7\xf7\xf7\xf7\xf7\xf7\xf7\xf7\xf7\xf7 \xf7\xf7\xf7\xf7  \xf7\xf7\xf7\xf7\xf7\xf7\xf7\xf7\xf7", // TypePack
+    *b"            \xf9\xf9\xf9\xf9\xf9\xf9\xf9\xf9\xf9\xf9                  \xf9       \xf9            \xf9 \xf9\xf8\xf9\xf9\xf9 \xf9  \xf9\xf9\xf9\xf9\xf9\xf9\xf9\xf9\xf9      ", // DesignatedValue
+    *b"                                                                     \xcf              \xd0  ", // DesignatorAfterD
+    *b"            \xc7\xc7\xc7\xc7\xc7\xc7\xc7\xc7\xc7\xc7                  \xbc       \xf1            \xe1 \xe2 \xe4\xe5\xe6 \xe7  \xe8\xe9\xea\xeb\xec\xed\xee\xef\xf0      ", // PlainValue
+    *b"            \xfa\xfa\xfa\xfa\xfa\xfa\xfa\xfa\xfa\xfa                                                                 ", // FieldName
+    *b"            \xfb\xfb\xfb\xfb\xfb\xfb\xfb\xfb\xfb\xfb                  \xfb       \xfb          ! \xfb \xfb\xfb\xfb\xfb\xfb \xfb  \xfb\xfb\xfb\xfb\xfb\xfb\xfb\xfb\xfb      ", // Placement
+    *b"            \xf3\xf3\xf3\xf3\xf3\xf3\xf3\xf3\xf3\xf3                  \xf3       \xf3            \xf3 \xf3\xf3\xf3\xf3\xf3 \xf3  \xf3\xf3\xf3\xf3\xf3\xf3\xf3\xf3\xf3      ", // SomeExpressions
+    *b"                                 \x83                                   \xfd      \xfc          ", // Initializer
+    *b"                                                                     \xd5                 ", // InitializerAfterP
+    *b"                                                                        \xd5              ", // InitializerAfterI
+    *b"                                                                            \xc8          ", // OuterRest
+    *b"            \xff\xff\xff\xff\xff\xff\xff\xff\xff\xff                          \xfe          \xff                           ", // ParameterNumber
+    *b"            \x04\x04\x04\x04\x04\x04\x04\x04\x04\x04          \x00 \x04    \x01  \x04\x03\x02 \x03\x04\x04\x04           \x04\x04\x04\x04\x04\x04\x04\x04\x04\x04 \x04\x04\x04\x04   \x04\x04 \x04\x04\x04\x04\x04", // ConvertedType
+    *b"            $$$$$$$$$$            z       V    ut#           wwwwwwwwww wwww   ww wwwww", // ConvertedSolid
+    *b"                                                p                               p      ", // DecltypeAfterD
+    *b"            \xc7\xc7\xc7\xc7\xc7\xc7\xc7\xc7\xc7\xc7                  \xbc       \xf1          \xd5 \xe1 \xe2\xe3\xe4\xe5\xe6 \xe7  \xe8\xe9\xea\xeb\xec\xed\xee\xef\xf0      ", // ConvertRest
+    *b"            \x06\x06\x06\x06\x06\x06\x06\x06\x06\x06          \x05         \x05    \x05\x05                                      ", // Unresolved
+    *b"                                \x00         V    ut                                      ", // UnresolvedType
+    *b"            \xc7\xc7\xc7\xc7\xc7\xc7\xc7\xc7\xc7\xc7          \x07         \x07    \x07\x07                                      ", // DestructorName
+    *b"                                             \x0a  \x09   \x08                                  ", // Requirements
+    *b"                                          \x0c  \x0a\x0b \x09   \x08                                  ", // AfterExpression
+    *b"                                             \x0a\x0b \x09   \x08                                  ", // AfterNoexcept
+    *b"            \x0d\x0d\x0d\x0d\x0d\x0d\x0d\x0d\x0d\x0d          \x0d \x0d    \x0d  \x0d\x0d\x0d \x0d\x0d\x0d\x0d         \xd9 \x0d\x0d\x0d\x0d\x0d\x0d\x0d\x0d\x0d\x0d \x0d\x0d\x0d\x0d   \x0d\x0d \x0d\x0d\x0d\x0d\x0d", // RequiredTypes
+    *b"            \xc7\xc7\xc7\xc7\xc7\xc7\xc7\xc7\xc7\xc7                                                                 ", // Level
+    *b"            \x06\x06\x06\x06\x06\x06\x06\x06\x06\x06           \x0e                                                     ", // MoreLevels
+    *b"            \xc7\xc7\xc7\xc7\xc7\xc7\xc7\xc7\xc7\xc7                                                     \x0f           ", // UnresolvedName
+    *b"                                                                          \xc6            ", // OperatorName
+    *b"                             \x10                                                         ", // AnyArray
+    *b"            \x12\x12\x12\x12\x12\x12\x12\x12\x12\x12                  \x11       \x11          \x12 \x11 \x11\x11\x11\x11\x11 \x11  \x11\x11\x11\x11\x11\x11\x11\x11\x11      ", // ArrayRest
+    *b"                                        \xbc       \xf1            \xe1 \xe2\xe3\xe4\xe5\xe6 \xe7  \xe8\xe9\xea\xeb\xec\xed\xee\xef\xf0      ", // Bound
+    *b"            IIIIIIIIII         IIKI     II       I           I III I I  IIIII II       ", // NestMoreOrEnd
 ];
 
 /// The number of the rule that a kind takes at a byte, if it takes one.
 #[inline]
 fn number(kind: u16, byte: u8) -> Option<usize>
     requires { kind < wide.kinds }
-    ensures few { IfSome result (λ number. number < 222) }
+    ensures few { IfSome result (λ number. number < 242) }
     ensures rule { (head : Head) → MatchOption result (wide.rule kind byte ≡ None) (λ number. wide.rule kind byte ≡ Some (listed_rule head number)) }
 {
     match letter_in(&WIDE_LETTERS[kind as usize], byte) {

@@ -195,4 +195,8 @@ operation_texts =
     codes "(..." ∷
     codes "...)" ∷
     codes "requires {...}" ∷
-    codes "requires (...) {...}" ∷ []
+    codes "requires (...) {...}" ∷
+    codes "throw" ∷
+    codes ")[" ∷
+    codes "_BitInt(" ∷
+    codes "unsigned _BitInt(" ∷ []

@@ -106,6 +106,7 @@ pub(crate) fn special(letter: u8) -> u16
         b'T' => texts::SPECIAL + 1, // VTT for
         b'I' => texts::SPECIAL + 2, // typeinfo for
         b'S' => texts::SPECIAL + 3, // typeinfo name for
+        b'A' => texts::SPECIAL + 4, // template parameter object for
         _ => texts::NONE,
     }
 }

@@ -42,7 +42,7 @@ macro_rules! row {
 }
 
 /// The operations in the order of the table, and what is printed where there is none.
-static OPERATIONS: [Operation; 85] = [
+static OPERATIONS: [Operation; 94] = [
     row!(2 => OPERATION + 0, Operand::From(2), NONE, Operand::NotPrinted, NONE), // ps
     row!(2 => OPERATION + 1, Operand::From(2), NONE, Operand::NotPrinted, NONE), // ng
     row!(2 => OPERATION + 2, Operand::From(2), NONE, Operand::NotPrinted, NONE), // ad
@@ -127,6 +127,15 @@ static OPERATIONS: [Operation; 85] = [
     row!(0 => OPERATION + 52, Operand::AsItIs, OPERATION + 72, Operand::NotPrinted, NONE), // fr
     row!(0 => OPERATION + 73, Operand::NotPrinted, NONE, Operand::NotPrinted, NONE), // rq
     row!(0 => OPERATION + 74, Operand::NotPrinted, NONE, Operand::NotPrinted, NONE), // rQ
+    row!(0 => OPERATION + 75, Operand::NotPrinted, NONE, Operand::NotPrinted, NONE), // tr
+    row!(1 => OPERATION + 52, Operand::AsItIs, OPERATION + 76, Operand::AsItIs, OPERATION + 47), // sy
+    row!(1 => OPERATION + 52, Operand::AsItIs, OPERATION + 76, Operand::AsItIs, OPERATION + 47), // Dy
+    row!(0 => OPERATION + 77, Operand::AsItIs, OPERATION + 53, Operand::NotPrinted, NONE), // DB
+    row!(0 => OPERATION + 78, Operand::AsItIs, OPERATION + 53, Operand::NotPrinted, NONE), // DU
+    row!(0 => OPERATION + 52, Operand::AsType, OPERATION + 76, Operand::AsItIs, OPERATION + 47), // Lf
+    row!(0 => OPERATION + 48, Operand::AsItIs, NONE, Operand::AsItIs, NONE), // di
+    row!(0 => OPERATION + 46, Operand::AsItIs, OPERATION + 47, Operand::AsItIs, NONE), // dx
+    row!(0 => OPERATION + 35, Operand::AsItIs, NONE, Operand::NotPrinted, NONE), // = 
     row!(0 => NONE, Operand::NotPrinted, NONE, Operand::NotPrinted, NONE), // no operation
 ];
 
@@ -219,7 +228,16 @@ fn place_of(code: u16) -> usize
         26226 => 81, // fr
         29297 => 82, // rq
         29265 => 83, // rQ
-        _ => 84,
+        29810 => 84, // tr
+        29561 => 85, // sy
+        17529 => 86, // Dy
+        17474 => 87, // DB
+        17493 => 88, // DU
+        19558 => 89, // Lf
+        25705 => 90, // di
+        25720 => 91, // dx
+        15648 => 92, // = 
+        _ => 93,
     }
 }
 

@@ -142,6 +142,7 @@ any_byte s Production.Substitution b c around place began vs state chain = refl
 any_byte s Production.Inheriting b c around place began vs state chain = refl
 any_byte s Production.Suffix b c around place began vs state chain = absurd (false≢true chain)
 any_byte s Production.SuffixByte b c around place began vs state chain = absurd (false≢true chain)
+any_byte s Production.HexDigit b c around place began vs state chain = absurd (false≢true chain)
 any_byte s Production.Lambda b c around place began vs state chain = absurd (false≢true chain)
 any_byte s Production.Unnamed b c around place began vs state chain = absurd (false≢true chain)
 any_byte s p b c around place began vs state chain = same_found _ _ _ _ (any_meaning p b c around vs chain) (any_behind p b c around began vs state chain)

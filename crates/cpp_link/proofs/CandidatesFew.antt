@@ -9,7 +9,7 @@ use Rattle.sym_shape.specs.declared.rule.Sym.TheVariants.{Kind as OfKind}
 use Rattle.sym_link.specs.Reading.{Found, Next, ◌>>=◌}
 use Rattle.sym_link.specs.Unfold.{found}
 use Rattle.cpp_grammar.specs.declared.production.Production.{Production}
-use Rattle.cpp_grammar.specs.KindNumbers.{NEST, NEST_AFTER_S, NEST_REST, NEST_TAIL, NEST_REST_OR_END, NEST_REST_ALONE, NEST_MORE_OR_END, COMPONENT, CONSTRUCTOR_AFTER_C, HELD_COMPONENT, COMPONENT_AFTER_C, ABBREVIATION, ITEM_AFTER_D, AFTER_D, SOLID, SOLID_BUT_T, TYPE_AFTER_S, TYPE_IN_STD, UNNESTED_NAME, LITERAL_TYPE, MAYBE_ARGUMENTS, ARGUMENTS, ARGUMENTS_ALONE, MAYBE_TAGS, ARGUMENT_AFTER_T, LEVELED_PARAMETER, ANY_ARRAY, ARRAY_REST, BASE_ARGUMENTS, CONVERTED_SOLID, DECLTYPE_AFTER_D, UNRESOLVED_TYPE}
+use Rattle.cpp_grammar.specs.KindNumbers.{NEST, NEST_AFTER_S, NEST_REST, NEST_TAIL, NEST_REST_OR_END, NEST_REST_ALONE, NEST_MORE_OR_END, COMPONENT, CONSTRUCTOR_AFTER_C, HELD_COMPONENT, COMPONENT_AFTER_C, ABBREVIATION, ITEM_AFTER_D, AFTER_D, SOLID, SOLID_BUT_T, TYPE_AFTER_S, TYPE_IN_STD, UNNESTED_NAME, LITERAL_TYPE, LITERAL_SOLID, MAYBE_ARGUMENTS, ARGUMENTS, ARGUMENTS_ALONE, MAYBE_TAGS, ARGUMENT_AFTER_T, LEVELED_PARAMETER, ANY_ARRAY, ARRAY_REST, BASE_ARGUMENTS, CONVERTED_SOLID, DECLTYPE_AFTER_D, UNRESOLVED_TYPE}
 use Rattle.cpp_grammar.specs.Row.{of, only, extending, tagging, applying, packing, Where, under_it, nothing, the_prefix, type_of, unqualified_of, itself, Before, quiet, goes, becomes, tests, holds, unread, Row, before_part}
 use Rattle.cpp_grammar.specs.Rows.{row_of}
 use Rattle.cpp_grammar.proofs.ClosedStates.{ok_same, behind_bind}
@@ -44,7 +44,7 @@ becomes_candidate k =
     nat_eq k NEST || nat_eq k NEST_AFTER_S || nat_eq k NEST_REST || nat_eq k NEST_TAIL || nat_eq k NEST_REST_OR_END || nat_eq k NEST_REST_ALONE || nat_eq k NEST_MORE_OR_END
     || nat_eq k ABBREVIATION || nat_eq k ITEM_AFTER_D || nat_eq k AFTER_D || nat_eq k SOLID || nat_eq k SOLID_BUT_T || nat_eq k TYPE_AFTER_S || nat_eq k LITERAL_TYPE
     || nat_eq k ARGUMENT_AFTER_T || nat_eq k LEVELED_PARAMETER || nat_eq k UNNESTED_NAME || nat_eq k ANY_ARRAY || nat_eq k ARRAY_REST
-    || nat_eq k CONVERTED_SOLID || nat_eq k DECLTYPE_AFTER_D || nat_eq k UNRESOLVED_TYPE
+    || nat_eq k LITERAL_SOLID || nat_eq k CONVERTED_SOLID || nat_eq k DECLTYPE_AFTER_D || nat_eq k UNRESOLVED_TYPE
 
 -- what continues with the name so far, and arguments after it
 unfoldable pub goes_on : ℕ → Bool
@@ -98,6 +98,7 @@ may_leave Production.NestParameter = true
 may_leave Production.NestInternal = true
 may_leave Production.NestLocalType = true
 may_leave Production.NestSource = true
+may_leave Production.NestDecltype = true
 may_leave Production.NestStd = true
 may_leave Production.NestTemplate = true
 may_leave Production.NestArguments = true
@@ -114,7 +115,9 @@ may_leave Production.Vector = true
 may_leave Production.NoexceptFunction = true
 may_leave Production.SizedFloat = true
 may_leave Production.ConstrainedAuto = true
+may_leave Production.BitInt = true
 may_leave Production.Decltype = true
+may_leave Production.IndexedType = true
 may_leave Production.Pointer = true
 may_leave Production.MemberPointer = true
 may_leave Production.Parameter = true
@@ -127,6 +130,8 @@ may_leave Production.Function = true
 may_leave Production.Complex = true
 may_leave Production.TypeInStd = true
 may_leave Production.AbbreviatedType = true
+may_leave Production.VolatileLiteral = true
+may_leave Production.ConstLiteral = true
 may_leave Production.NestInstance = true
 may_leave Production.UnnestedWithS = true
 may_leave Production.ParameterArgument = true

@@ -9,7 +9,7 @@ use Rattle.sym_shape.specs.declared.rule.Sym.{Sym}
 use Rattle.sym_shape.specs.declared.rule.Sym.TheVariants.{Kind as OfKind, Name, Number, Byte}
 use Rattle.sym_link.specs.Reading.{Found}
 use Rattle.cpp_grammar.specs.declared.production.Production.{Production}
-use Rattle.cpp_grammar.specs.KindNumbers.{INTEGER, ANONYMOUS, OPERATOR, OTHER_OPERATOR, OPERATOR_AFTER_C, CONSTRUCTOR_DIGIT, DESTRUCTOR_DIGIT, SOURCE_OR_LOCAL, NEST, NEST_AFTER_S, AFTER_D, ITEM_AFTER_D, SOLID, SOLID_BUT_T, ARGUMENT_AFTER_T, LEVELED_PARAMETER, ANY_ARRAY, ARRAY_REST, LITERAL_TYPE, CONVERTED_SOLID, DECLTYPE_AFTER_D, UNRESOLVED_TYPE, UNRESOLVED_NAME, UNQUALIFIED, NEST_REST, NEST_REST_OR_END, NEST_REST_ALONE, NEST_TAIL, NEST_MORE_OR_END, COMPONENT, COMPONENT_AFTER_C, CONSTRUCTOR_AFTER_C, HOLDER_MARK, HELD_COMPONENT, ABBREVIATION, TYPE_AFTER_S, TYPE_IN_STD, UNNESTED_NAME, MAYBE_ARGUMENTS, MAYBE_TAGS, ARGUMENTS, ARGUMENTS_ALONE, ARGUMENTS_FIRST, BASE_ARGUMENTS, HELD_ARGUMENTS}
+use Rattle.cpp_grammar.specs.KindNumbers.{INTEGER, ANONYMOUS, OPERATOR, OTHER_OPERATOR, OPERATOR_AFTER_C, CONSTRUCTOR_DIGIT, DESTRUCTOR_DIGIT, SOURCE_OR_LOCAL, NEST, NEST_AFTER_S, AFTER_D, ITEM_AFTER_D, SOLID, SOLID_BUT_T, ARGUMENT_AFTER_T, LEVELED_PARAMETER, ANY_ARRAY, ARRAY_REST, LITERAL_TYPE, CONVERTED_SOLID, DECLTYPE_AFTER_D, UNRESOLVED_TYPE, UNRESOLVED_NAME, UNQUALIFIED, NEST_REST, NEST_REST_OR_END, NEST_REST_ALONE, NEST_TAIL, NEST_MORE_OR_END, COMPONENT, COMPONENT_AFTER_C, CONSTRUCTOR_AFTER_C, HOLDER_MARK, HELD_COMPONENT, ABBREVIATION, TYPE_AFTER_S, TYPE_IN_STD, UNNESTED_NAME, MAYBE_ARGUMENTS, MAYBE_TAGS, ARGUMENTS, ARGUMENTS_ALONE, ARGUMENTS_FIRST, BASE_ARGUMENTS, HELD_ARGUMENTS, LITERAL_SOLID}
 use Rattle.cpp_grammar.specs.Grammar.{parts_of, number_of_kind}
 use Rattle.cpp_grammar.specs.Row.{Made, unlisted, unless_there, Form, handed, finished, either, a_name, as_before, as_part, after_part, Gain, nothing, type_of, unqualified_of, itself, Before, quiet, goes, becomes, tests, Row, before_part}
 use Rattle.cpp_grammar.specs.Rows.{row_of}
@@ -211,9 +211,9 @@ unqualified-flow leave around place x none is left = λ state next e. came (goin
 })
 
 -- where the type that is made becomes one
-own-type : (form : Form) (leave : Left) (around : Around) (place : ℕ) (vs : List Value) → ((v : Value) → leave v ≡ 0) → ((us : List Value) → nodes_at_end form us ≡ 1) → RowFlow (plain form itself) leave around place [] vs 0
+own-type : (form : Form) (leave : Left) (around : Around) (place : ℕ) (vs : List Value) → ((byte : ℕ) → leave (meant form byte around vs) ≡ 0) → ((us : List Value) → nodes_at_end form us ≡ 1) → RowFlow (plain form itself) leave around place [] vs 0
 unfolding state_after gained
-own-type form leave around place vs left one = λ byte began state. omega (arith, left (meant form byte around vs), one vs, appended-one around (tree_of (meant form byte around vs)) state)
+own-type form leave around place vs left one = λ byte began state. omega (arith, left byte, one vs, appended-one around (tree_of (meant form byte around vs)) state)
 
 -- where a type becomes one before what refers to it
 of-type-flow : (form : Form) (leave : Left) (around : Around) (place : ℕ) (x y : Sym) → Untaken x → Untaken y → ((v : Value) → pending x v ≡ few_.unlisted v)
@@ -405,6 +405,24 @@ base-flow leave around place x none one left = λ state next e. came (going [] a
   };
 })
 
+-- a type is the name so far, as it is, and what follows continues with it
+type-name-flow : (leave : Left) (around : Around) (place : ℕ) (x : Sym) → Untaken x → ((v : Value) → pending x v ≡ few_.unlisted v) → ((v : Value) → leave v ≡ few_.unlisted v)
+    → RowFlow (after_steps (quiet ∷ goes nothing (after_part 0 (as_part 0)) ∷ []) (handed 1)) leave around place (x ∷ OfKind NEST_REST_ALONE ∷ []) [] 0
+unfolding pending pending_around few_.unlisted few_.unlisted_around goes_on is_arguments is_component becomes_candidate before_part done around_part packs_within is_listing is_listed after prefix_listed state_after gained meant nodes_before nodes_at_end part
+type-name-flow leave around place x none one left = λ state next e. came (going [] around state) next e (record {
+  over = 0;
+  few = omega arith;
+  later = λ v. record {
+    now = few_.unlisted v;
+    few = omega (arith, none around v, one v);
+    goes = λ later after_ f. came (going (v ∷ []) (after (tree_of v) (is_listed v) around) later) after_ f (record {
+      over = few_.unlisted v;
+      few = omega arith;
+      later = λ w. record { now = few_.unlisted w; few = omega arith; goes = λ byte began last. omega (arith, left w) };
+    });
+  };
+})
+
 -- ## All productions
 
 substitution-closes : (around : Around) (place : ℕ) (vs : List Value) → Flow Production.Substitution around place [] vs 0
@@ -487,11 +505,11 @@ module _ (p : Production) (is : closes_by_row p ≡ true) (around : Around) (pla
       of-row p is around place (x ∷ OfKind BASE_ARGUMENTS ∷ []) [] 0
       (subst (λ r. RowFlow r (leaves p) around place (x ∷ OfKind BASE_ARGUMENTS ∷ []) [] 0) (sym row) (base-flow (leaves p) around place x none one left))
 
-  own_type : (form : Form) (xs : List Sym) → row_of p ≡ plain form itself → all_keep ((row_of p).onward ∷ (row_of p).before) ≡ true → take_nothing xs ≡ true → ((v : Value) → leaves p v ≡ 0) → ((vs : List Value) → nodes_at_end form vs ≡ 1)
+  own_type : (form : Form) (xs : List Sym) → row_of p ≡ plain form itself → all_keep ((row_of p).onward ∷ (row_of p).before) ≡ true → take_nothing xs ≡ true → ((byte : ℕ) (vs : List Value) → leaves p (meant form byte around vs) ≡ 0) → ((vs : List Value) → nodes_at_end form vs ≡ 1)
       → Flow p around place xs [] 0
   own_type form xs row keep none left one =
       plain-flow p around place keep
-      (λ vs. of-row p is around place [] vs 0 (subst (λ r. RowFlow r (leaves p) around place [] vs 0) (sym row) (own-type form (leaves p) around place vs left one))) xs none []
+      (λ vs. of-row p is around place [] vs 0 (subst (λ r. RowFlow r (leaves p) around place [] vs 0) (sym row) (own-type form (leaves p) around place vs (λ byte. left byte vs) one))) xs none []
 
   simple : (xs : List Sym) → all_keep ((row_of p).onward ∷ (row_of p).before) ≡ true → take_nothing xs ≡ true → ((vs : List Value) → By p around place [] vs 0) → Flow p around place xs [] 0
   simple xs keep none closes = plain-flow p around place keep (λ vs. of-row p is around place [] vs 0 (closes vs)) xs none []
@@ -524,6 +542,8 @@ flows Production.NestInstance around place = of-row Production.NestInstance refl
 flows Production.NestEnd around place = of-row Production.NestEnd refl around place [] [] (few_.unlisted_around around) (nest-end around place)
 flows Production.Arguments around place = of-row Production.Arguments refl around place (parts_of Production.Arguments) [] (few_.unlisted_around around) (arguments around place)
 flows Production.BaseArguments around place = of-row Production.BaseArguments refl around place (parts_of Production.BaseArguments) [] (few_.unlisted_around around) (base-arguments around place)
+flows Production.NestDecltype around place =
+    of-row Production.NestDecltype refl around place (parts_of Production.NestDecltype) [] 0 (type-name-flow (leaves Production.NestDecltype) around place (OfKind DECLTYPE_AFTER_D) (λ a v. refl) (λ v. refl) (λ v. refl))
 flows Production.UnnestedBase around place = base_name Production.UnnestedBase refl around place (OfKind UNNESTED_NAME) refl (λ a v. refl) (λ v. refl) (λ v. refl)
 flows Production.Substitution around place = plain-flow Production.Substitution around place refl (substitution-closes around place) (parts_of Production.Substitution) refl []
 flows Production.Inheriting around place = plain-flow Production.Inheriting around place refl (inheriting-closes around place) (parts_of Production.Inheriting) refl []
@@ -542,10 +562,10 @@ flows Production.Destructor around place = made_name Production.Destructor refl 
 flows Production.OtherOperatorName around place = made_name Production.OtherOperatorName refl around place _ _ (OfKind OTHER_OPERATOR) MAYBE_ARGUMENTS refl (λ vs. refl) (λ vs. refl) (λ a v. refl) maybe-arguments
 flows Production.Friend around place = made_name Production.Friend refl around place _ _ (OfKind UNQUALIFIED) MAYBE_ARGUMENTS refl (λ vs. refl) (λ vs. refl) (λ a v. refl) maybe-arguments
 flows Production.Constructor around place = made_name Production.Constructor refl around place _ _ (OfKind CONSTRUCTOR_DIGIT) MAYBE_ARGUMENTS refl (λ vs. refl) (λ vs. refl) (λ a v. refl) maybe-arguments
-flows Production.RestrictType around place = own_type Production.RestrictType refl around place _ (parts_of Production.RestrictType) refl refl refl (λ v. refl) (λ vs. refl)
-flows Production.VolatileType around place = own_type Production.VolatileType refl around place _ (parts_of Production.VolatileType) refl refl refl (λ v. refl) (λ vs. refl)
-flows Production.ConstType around place = own_type Production.ConstType refl around place _ (parts_of Production.ConstType) refl refl refl (λ v. refl) (λ vs. refl)
-flows Production.ReferenceType around place = own_type Production.ReferenceType refl around place _ (parts_of Production.ReferenceType) refl refl refl (λ v. refl) (λ vs. refl)
+flows Production.RestrictType around place = own_type Production.RestrictType refl around place _ (parts_of Production.RestrictType) refl refl refl (λ byte vs. refl) (λ vs. refl)
+flows Production.VolatileType around place = own_type Production.VolatileType refl around place _ (parts_of Production.VolatileType) refl refl refl (λ byte vs. refl) (λ vs. refl)
+flows Production.ConstType around place = own_type Production.ConstType refl around place _ (parts_of Production.ConstType) refl refl refl (λ byte vs. refl) (λ vs. refl)
+flows Production.ReferenceType around place = own_type Production.ReferenceType refl around place _ (parts_of Production.ReferenceType) refl refl refl (λ byte vs. refl) (λ vs. refl)
 flows Production.PlainType around place = typed Production.PlainType refl around place (OfKind SOLID) refl (λ a v. refl) (λ v. refl) (λ v. refl)
 flows Production.TypeWithD around place = typed Production.TypeWithD refl around place (OfKind AFTER_D) refl (λ a v. refl) (λ v. refl) (λ v. refl)
 flows Production.PlainWithD around place = unqualified Production.PlainWithD refl around place (OfKind AFTER_D) refl (λ a v. refl) (λ v. refl) (λ v. refl)
@@ -553,6 +573,9 @@ flows Production.QualifiedPlain around place = unqualified Production.QualifiedP
 flows Production.ItemWithD around place = typed Production.ItemWithD refl around place (OfKind ITEM_AFTER_D) refl (λ a v. refl) (λ v. refl) (λ v. refl)
 flows Production.Tag around place = made_name Production.Tag refl around place _ _ Name MAYBE_ARGUMENTS refl (λ vs. refl) (λ vs. refl) (λ a v. refl) maybe-arguments
 flows Production.IntegerLiteral around place = of_type Production.IntegerLiteral refl around place _ (OfKind LITERAL_TYPE) (OfKind INTEGER) refl (λ a v. refl) (λ a v. refl) (λ v. refl) (λ byte vs. omega arith)
+flows Production.VolatileLiteral around place = own_type Production.VolatileLiteral refl around place _ (parts_of Production.VolatileLiteral) refl refl refl (λ byte vs. refl) (λ vs. refl)
+flows Production.ConstLiteral around place = own_type Production.ConstLiteral refl around place _ (parts_of Production.ConstLiteral) refl refl refl (λ byte vs. refl) (λ vs. refl)
+flows Production.QualifiedLiteral around place = unqualified Production.QualifiedLiteral refl around place (OfKind LITERAL_SOLID) refl (λ a v. refl) (λ v. refl) (λ v. refl)
 flows Production.OperatorNameWithC around place = made_name Production.OperatorNameWithC refl around place _ _ (OfKind OPERATOR_AFTER_C) MAYBE_ARGUMENTS refl (λ vs. refl) (λ vs. refl) (λ a v. refl) maybe-arguments
 flows Production.TaggedSource around place = made_name Production.TaggedSource refl around place _ _ Name MAYBE_TAGS refl (λ vs. refl) (λ vs. refl) (λ a v. refl) maybe-tags
 flows Production.TaggedStdType around place = made_name Production.TaggedStdType refl around place _ _ (OfKind SOURCE_OR_LOCAL) MAYBE_TAGS refl (λ vs. refl) (λ vs. refl) (λ a v. refl) maybe-tags
@@ -562,9 +585,9 @@ flows Production.PlainArgument around place = typed Production.PlainArgument ref
 flows Production.OperatorReference around place = listed_name Production.OperatorReference refl around place _ (OfKind OPERATOR) ARGUMENTS_ALONE refl (λ v. refl) (λ a v. refl) arguments-alone
 flows Production.SimpleId around place = listed_name Production.SimpleId refl around place _ Name ARGUMENTS_ALONE refl (λ v. refl) (λ a v. refl) arguments-alone
 flows Production.ConvertedDecltype around place = typed Production.ConvertedDecltype refl around place (OfKind DECLTYPE_AFTER_D) refl (λ a v. refl) (λ v. refl) (λ v. refl)
-flows Production.ConvertedConst around place = own_type Production.ConvertedConst refl around place _ (parts_of Production.ConvertedConst) refl refl refl (λ v. refl) (λ vs. refl)
-flows Production.ConvertedPointer around place = own_type Production.ConvertedPointer refl around place _ (parts_of Production.ConvertedPointer) refl refl refl (λ v. refl) (λ vs. refl)
-flows Production.ConvertedReference around place = own_type Production.ConvertedReference refl around place _ (parts_of Production.ConvertedReference) refl refl refl (λ v. refl) (λ vs. refl)
+flows Production.ConvertedConst around place = own_type Production.ConvertedConst refl around place _ (parts_of Production.ConvertedConst) refl refl refl (λ byte vs. refl) (λ vs. refl)
+flows Production.ConvertedPointer around place = own_type Production.ConvertedPointer refl around place _ (parts_of Production.ConvertedPointer) refl refl refl (λ byte vs. refl) (λ vs. refl)
+flows Production.ConvertedReference around place = own_type Production.ConvertedReference refl around place _ (parts_of Production.ConvertedReference) refl refl refl (λ byte vs. refl) (λ vs. refl)
 flows Production.ConvertedType around place = typed Production.ConvertedType refl around place (OfKind CONVERTED_SOLID) refl (λ a v. refl) (λ v. refl) (λ v. refl)
 flows Production.UnresolvedInType around place = of_type Production.UnresolvedInType refl around place _ (OfKind UNRESOLVED_TYPE) (OfKind UNRESOLVED_NAME) refl (λ a v. refl) (λ a v. refl) (λ v. refl) (λ byte vs. omega arith)
 flows Production.DestroyedType around place = typed Production.DestroyedType refl around place (OfKind UNRESOLVED_TYPE) refl (λ a v. refl) (λ v. refl) (λ v. refl)

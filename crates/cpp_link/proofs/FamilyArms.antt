@@ -14,6 +14,7 @@ pub given_name : (p : Production) → family_of p ≡ Family.GivenName
     → (p ≡ Production.LocalTypePiece → ⊥)
     → (p ≡ Production.OperatorPiece → ⊥)
     → (p ≡ Production.NestParameter → ⊥)
+    → (p ≡ Production.NestDecltype → ⊥)
     → (p ≡ Production.NestInternal → ⊥)
     → (p ≡ Production.NestLocalType → ⊥)
     → (p ≡ Production.NestTag → ⊥)
@@ -25,20 +26,21 @@ pub given_name : (p : Production) → family_of p ≡ Family.GivenName
     → (p ≡ Production.AnyConstructor → ⊥)
     → ⊥
 unfolding family_of
-given_name Production.NameWithS is n0 n1 n2 n3 n4 n5 n6 n7 n8 n9 n10 n11 n12 = n0 refl
-given_name Production.LocalTypePiece is n0 n1 n2 n3 n4 n5 n6 n7 n8 n9 n10 n11 n12 = n1 refl
-given_name Production.OperatorPiece is n0 n1 n2 n3 n4 n5 n6 n7 n8 n9 n10 n11 n12 = n2 refl
-given_name Production.NestParameter is n0 n1 n2 n3 n4 n5 n6 n7 n8 n9 n10 n11 n12 = n3 refl
-given_name Production.NestInternal is n0 n1 n2 n3 n4 n5 n6 n7 n8 n9 n10 n11 n12 = n4 refl
-given_name Production.NestLocalType is n0 n1 n2 n3 n4 n5 n6 n7 n8 n9 n10 n11 n12 = n5 refl
-given_name Production.NestTag is n0 n1 n2 n3 n4 n5 n6 n7 n8 n9 n10 n11 n12 = n6 refl
-given_name Production.NestStd is n0 n1 n2 n3 n4 n5 n6 n7 n8 n9 n10 n11 n12 = n7 refl
-given_name Production.NestArguments is n0 n1 n2 n3 n4 n5 n6 n7 n8 n9 n10 n11 n12 = n8 refl
-given_name Production.NestInstance is n0 n1 n2 n3 n4 n5 n6 n7 n8 n9 n10 n11 n12 = n9 refl
-given_name Production.Holder is n0 n1 n2 n3 n4 n5 n6 n7 n8 n9 n10 n11 n12 = n10 refl
-given_name Production.ComponentWithC is n0 n1 n2 n3 n4 n5 n6 n7 n8 n9 n10 n11 n12 = n11 refl
-given_name Production.AnyConstructor is n0 n1 n2 n3 n4 n5 n6 n7 n8 n9 n10 n11 n12 = n12 refl
-given_name _ is n0 n1 n2 n3 n4 n5 n6 n7 n8 n9 n10 n11 n12 = subst IsGivenName (sym is) tt
+given_name Production.NameWithS is n0 n1 n2 n3 n4 n5 n6 n7 n8 n9 n10 n11 n12 n13 = n0 refl
+given_name Production.LocalTypePiece is n0 n1 n2 n3 n4 n5 n6 n7 n8 n9 n10 n11 n12 n13 = n1 refl
+given_name Production.OperatorPiece is n0 n1 n2 n3 n4 n5 n6 n7 n8 n9 n10 n11 n12 n13 = n2 refl
+given_name Production.NestParameter is n0 n1 n2 n3 n4 n5 n6 n7 n8 n9 n10 n11 n12 n13 = n3 refl
+given_name Production.NestDecltype is n0 n1 n2 n3 n4 n5 n6 n7 n8 n9 n10 n11 n12 n13 = n4 refl
+given_name Production.NestInternal is n0 n1 n2 n3 n4 n5 n6 n7 n8 n9 n10 n11 n12 n13 = n5 refl
+given_name Production.NestLocalType is n0 n1 n2 n3 n4 n5 n6 n7 n8 n9 n10 n11 n12 n13 = n6 refl
+given_name Production.NestTag is n0 n1 n2 n3 n4 n5 n6 n7 n8 n9 n10 n11 n12 n13 = n7 refl
+given_name Production.NestStd is n0 n1 n2 n3 n4 n5 n6 n7 n8 n9 n10 n11 n12 n13 = n8 refl
+given_name Production.NestArguments is n0 n1 n2 n3 n4 n5 n6 n7 n8 n9 n10 n11 n12 n13 = n9 refl
+given_name Production.NestInstance is n0 n1 n2 n3 n4 n5 n6 n7 n8 n9 n10 n11 n12 n13 = n10 refl
+given_name Production.Holder is n0 n1 n2 n3 n4 n5 n6 n7 n8 n9 n10 n11 n12 n13 = n11 refl
+given_name Production.ComponentWithC is n0 n1 n2 n3 n4 n5 n6 n7 n8 n9 n10 n11 n12 n13 = n12 refl
+given_name Production.AnyConstructor is n0 n1 n2 n3 n4 n5 n6 n7 n8 n9 n10 n11 n12 n13 = n13 refl
+given_name _ is n0 n1 n2 n3 n4 n5 n6 n7 n8 n9 n10 n11 n12 n13 = subst IsGivenName (sym is) tt
 
 abbrev IsAppliedName : Family → Type 0
 IsAppliedName Family.AppliedName = Unit {0}
@@ -170,18 +172,20 @@ IsSpecial _ = ⊥
 
 pub special : (p : Production) → family_of p ≡ Family.Special
     → (p ≡ Production.SpecialType → ⊥)
+    → (p ≡ Production.ParameterObject → ⊥)
     → (p ≡ Production.SpecialName → ⊥)
     → (p ≡ Production.OtherSpecial → ⊥)
     → (p ≡ Production.Clone → ⊥)
     → (p ≡ Production.ConstructionVtable → ⊥)
     → ⊥
 unfolding family_of
-special Production.SpecialType is n0 n1 n2 n3 n4 = n0 refl
-special Production.SpecialName is n0 n1 n2 n3 n4 = n1 refl
-special Production.OtherSpecial is n0 n1 n2 n3 n4 = n2 refl
-special Production.Clone is n0 n1 n2 n3 n4 = n3 refl
-special Production.ConstructionVtable is n0 n1 n2 n3 n4 = n4 refl
-special _ is n0 n1 n2 n3 n4 = subst IsSpecial (sym is) tt
+special Production.SpecialType is n0 n1 n2 n3 n4 n5 = n0 refl
+special Production.ParameterObject is n0 n1 n2 n3 n4 n5 = n1 refl
+special Production.SpecialName is n0 n1 n2 n3 n4 n5 = n2 refl
+special Production.OtherSpecial is n0 n1 n2 n3 n4 n5 = n3 refl
+special Production.Clone is n0 n1 n2 n3 n4 n5 = n4 refl
+special Production.ConstructionVtable is n0 n1 n2 n3 n4 n5 = n5 refl
+special _ is n0 n1 n2 n3 n4 n5 = subst IsSpecial (sym is) tt
 
 abbrev IsThunk : Family → Type 0
 IsThunk Family.Thunk = Unit {0}
@@ -214,16 +218,18 @@ pub number : (p : Production) → family_of p ≡ Family.Number
     → (p ≡ Production.ManyDigits → ⊥)
     → (p ≡ Production.Suffix → ⊥)
     → (p ≡ Production.SuffixByte → ⊥)
+    → (p ≡ Production.HexDigit → ⊥)
     → ⊥
 unfolding family_of
-number Production.Negative is n0 n1 n2 n3 n4 n5 n6 = n0 refl
-number Production.Positive is n0 n1 n2 n3 n4 n5 n6 = n1 refl
-number Production.Discriminator is n0 n1 n2 n3 n4 n5 n6 = n2 refl
-number Production.OneDigit is n0 n1 n2 n3 n4 n5 n6 = n3 refl
-number Production.ManyDigits is n0 n1 n2 n3 n4 n5 n6 = n4 refl
-number Production.Suffix is n0 n1 n2 n3 n4 n5 n6 = n5 refl
-number Production.SuffixByte is n0 n1 n2 n3 n4 n5 n6 = n6 refl
-number _ is n0 n1 n2 n3 n4 n5 n6 = subst IsNumber (sym is) tt
+number Production.Negative is n0 n1 n2 n3 n4 n5 n6 n7 = n0 refl
+number Production.Positive is n0 n1 n2 n3 n4 n5 n6 n7 = n1 refl
+number Production.Discriminator is n0 n1 n2 n3 n4 n5 n6 n7 = n2 refl
+number Production.OneDigit is n0 n1 n2 n3 n4 n5 n6 n7 = n3 refl
+number Production.ManyDigits is n0 n1 n2 n3 n4 n5 n6 n7 = n4 refl
+number Production.Suffix is n0 n1 n2 n3 n4 n5 n6 n7 = n5 refl
+number Production.SuffixByte is n0 n1 n2 n3 n4 n5 n6 n7 = n6 refl
+number Production.HexDigit is n0 n1 n2 n3 n4 n5 n6 n7 = n7 refl
+number _ is n0 n1 n2 n3 n4 n5 n6 n7 = subst IsNumber (sym is) tt
 
 abbrev IsPlainType : Family → Type 0
 IsPlainType Family.PlainType = Unit {0}
@@ -237,30 +243,38 @@ pub plain_type : (p : Production) → family_of p ≡ Family.PlainType
     → (p ≡ Production.Abbreviation → ⊥)
     → (p ≡ Production.BuiltinWithD → ⊥)
     → (p ≡ Production.SizedFloat → ⊥)
+    → (p ≡ Production.BitInt → ⊥)
+    → (p ≡ Production.BitWidth → ⊥)
     → (p ≡ Production.ConstrainedAuto → ⊥)
     → (p ≡ Production.Vendor → ⊥)
     → (p ≡ Production.Decltype → ⊥)
+    → (p ≡ Production.IndexedType → ⊥)
+    → (p ≡ Production.TypePack → ⊥)
     → (p ≡ Production.Expansion → ⊥)
     → (p ≡ Production.ConvertedDecltype → ⊥)
     → (p ≡ Production.DestroyedType → ⊥)
     → (p ≡ Production.ConvertedType → ⊥)
     → ⊥
 unfolding family_of
-plain_type Production.TypeWithD is n0 n1 n2 n3 n4 n5 n6 n7 n8 n9 n10 n11 n12 n13 = n0 refl
-plain_type Production.PlainWithD is n0 n1 n2 n3 n4 n5 n6 n7 n8 n9 n10 n11 n12 n13 = n1 refl
-plain_type Production.ItemWithD is n0 n1 n2 n3 n4 n5 n6 n7 n8 n9 n10 n11 n12 n13 = n2 refl
-plain_type Production.ItemIsType is n0 n1 n2 n3 n4 n5 n6 n7 n8 n9 n10 n11 n12 n13 = n3 refl
-plain_type Production.Abbreviation is n0 n1 n2 n3 n4 n5 n6 n7 n8 n9 n10 n11 n12 n13 = n4 refl
-plain_type Production.BuiltinWithD is n0 n1 n2 n3 n4 n5 n6 n7 n8 n9 n10 n11 n12 n13 = n5 refl
-plain_type Production.SizedFloat is n0 n1 n2 n3 n4 n5 n6 n7 n8 n9 n10 n11 n12 n13 = n6 refl
-plain_type Production.ConstrainedAuto is n0 n1 n2 n3 n4 n5 n6 n7 n8 n9 n10 n11 n12 n13 = n7 refl
-plain_type Production.Vendor is n0 n1 n2 n3 n4 n5 n6 n7 n8 n9 n10 n11 n12 n13 = n8 refl
-plain_type Production.Decltype is n0 n1 n2 n3 n4 n5 n6 n7 n8 n9 n10 n11 n12 n13 = n9 refl
-plain_type Production.Expansion is n0 n1 n2 n3 n4 n5 n6 n7 n8 n9 n10 n11 n12 n13 = n10 refl
-plain_type Production.ConvertedDecltype is n0 n1 n2 n3 n4 n5 n6 n7 n8 n9 n10 n11 n12 n13 = n11 refl
-plain_type Production.DestroyedType is n0 n1 n2 n3 n4 n5 n6 n7 n8 n9 n10 n11 n12 n13 = n12 refl
-plain_type Production.ConvertedType is n0 n1 n2 n3 n4 n5 n6 n7 n8 n9 n10 n11 n12 n13 = n13 refl
-plain_type _ is n0 n1 n2 n3 n4 n5 n6 n7 n8 n9 n10 n11 n12 n13 = subst IsPlainType (sym is) tt
+plain_type Production.TypeWithD is n0 n1 n2 n3 n4 n5 n6 n7 n8 n9 n10 n11 n12 n13 n14 n15 n16 n17 = n0 refl
+plain_type Production.PlainWithD is n0 n1 n2 n3 n4 n5 n6 n7 n8 n9 n10 n11 n12 n13 n14 n15 n16 n17 = n1 refl
+plain_type Production.ItemWithD is n0 n1 n2 n3 n4 n5 n6 n7 n8 n9 n10 n11 n12 n13 n14 n15 n16 n17 = n2 refl
+plain_type Production.ItemIsType is n0 n1 n2 n3 n4 n5 n6 n7 n8 n9 n10 n11 n12 n13 n14 n15 n16 n17 = n3 refl
+plain_type Production.Abbreviation is n0 n1 n2 n3 n4 n5 n6 n7 n8 n9 n10 n11 n12 n13 n14 n15 n16 n17 = n4 refl
+plain_type Production.BuiltinWithD is n0 n1 n2 n3 n4 n5 n6 n7 n8 n9 n10 n11 n12 n13 n14 n15 n16 n17 = n5 refl
+plain_type Production.SizedFloat is n0 n1 n2 n3 n4 n5 n6 n7 n8 n9 n10 n11 n12 n13 n14 n15 n16 n17 = n6 refl
+plain_type Production.BitInt is n0 n1 n2 n3 n4 n5 n6 n7 n8 n9 n10 n11 n12 n13 n14 n15 n16 n17 = n7 refl
+plain_type Production.BitWidth is n0 n1 n2 n3 n4 n5 n6 n7 n8 n9 n10 n11 n12 n13 n14 n15 n16 n17 = n8 refl
+plain_type Production.ConstrainedAuto is n0 n1 n2 n3 n4 n5 n6 n7 n8 n9 n10 n11 n12 n13 n14 n15 n16 n17 = n9 refl
+plain_type Production.Vendor is n0 n1 n2 n3 n4 n5 n6 n7 n8 n9 n10 n11 n12 n13 n14 n15 n16 n17 = n10 refl
+plain_type Production.Decltype is n0 n1 n2 n3 n4 n5 n6 n7 n8 n9 n10 n11 n12 n13 n14 n15 n16 n17 = n11 refl
+plain_type Production.IndexedType is n0 n1 n2 n3 n4 n5 n6 n7 n8 n9 n10 n11 n12 n13 n14 n15 n16 n17 = n12 refl
+plain_type Production.TypePack is n0 n1 n2 n3 n4 n5 n6 n7 n8 n9 n10 n11 n12 n13 n14 n15 n16 n17 = n13 refl
+plain_type Production.Expansion is n0 n1 n2 n3 n4 n5 n6 n7 n8 n9 n10 n11 n12 n13 n14 n15 n16 n17 = n14 refl
+plain_type Production.ConvertedDecltype is n0 n1 n2 n3 n4 n5 n6 n7 n8 n9 n10 n11 n12 n13 n14 n15 n16 n17 = n15 refl
+plain_type Production.DestroyedType is n0 n1 n2 n3 n4 n5 n6 n7 n8 n9 n10 n11 n12 n13 n14 n15 n16 n17 = n16 refl
+plain_type Production.ConvertedType is n0 n1 n2 n3 n4 n5 n6 n7 n8 n9 n10 n11 n12 n13 n14 n15 n16 n17 = n17 refl
+plain_type _ is n0 n1 n2 n3 n4 n5 n6 n7 n8 n9 n10 n11 n12 n13 n14 n15 n16 n17 = subst IsPlainType (sym is) tt
 
 abbrev IsCompoundType : Family → Type 0
 IsCompoundType Family.CompoundType = Unit {0}
@@ -270,6 +284,9 @@ pub compound_type : (p : Production) → family_of p ≡ Family.CompoundType
     → (p ≡ Production.Complex → ⊥)
     → (p ≡ Production.RestrictType → ⊥)
     → (p ≡ Production.VolatileType → ⊥)
+    → (p ≡ Production.VolatileLiteral → ⊥)
+    → (p ≡ Production.ConstLiteral → ⊥)
+    → (p ≡ Production.QualifiedLiteral → ⊥)
     → (p ≡ Production.MemberPointer → ⊥)
     → (p ≡ Production.ArrayType → ⊥)
     → (p ≡ Production.AnyArray → ⊥)
@@ -281,19 +298,22 @@ pub compound_type : (p : Production) → family_of p ≡ Family.CompoundType
     → (p ≡ Production.ConvertedReference → ⊥)
     → ⊥
 unfolding family_of
-compound_type Production.Complex is n0 n1 n2 n3 n4 n5 n6 n7 n8 n9 n10 n11 = n0 refl
-compound_type Production.RestrictType is n0 n1 n2 n3 n4 n5 n6 n7 n8 n9 n10 n11 = n1 refl
-compound_type Production.VolatileType is n0 n1 n2 n3 n4 n5 n6 n7 n8 n9 n10 n11 = n2 refl
-compound_type Production.MemberPointer is n0 n1 n2 n3 n4 n5 n6 n7 n8 n9 n10 n11 = n3 refl
-compound_type Production.ArrayType is n0 n1 n2 n3 n4 n5 n6 n7 n8 n9 n10 n11 = n4 refl
-compound_type Production.AnyArray is n0 n1 n2 n3 n4 n5 n6 n7 n8 n9 n10 n11 = n5 refl
-compound_type Production.LengthArray is n0 n1 n2 n3 n4 n5 n6 n7 n8 n9 n10 n11 = n6 refl
-compound_type Production.BoundedArray is n0 n1 n2 n3 n4 n5 n6 n7 n8 n9 n10 n11 = n7 refl
-compound_type Production.Vector is n0 n1 n2 n3 n4 n5 n6 n7 n8 n9 n10 n11 = n8 refl
-compound_type Production.ConvertedConst is n0 n1 n2 n3 n4 n5 n6 n7 n8 n9 n10 n11 = n9 refl
-compound_type Production.ConvertedPointer is n0 n1 n2 n3 n4 n5 n6 n7 n8 n9 n10 n11 = n10 refl
-compound_type Production.ConvertedReference is n0 n1 n2 n3 n4 n5 n6 n7 n8 n9 n10 n11 = n11 refl
-compound_type _ is n0 n1 n2 n3 n4 n5 n6 n7 n8 n9 n10 n11 = subst IsCompoundType (sym is) tt
+compound_type Production.Complex is n0 n1 n2 n3 n4 n5 n6 n7 n8 n9 n10 n11 n12 n13 n14 = n0 refl
+compound_type Production.RestrictType is n0 n1 n2 n3 n4 n5 n6 n7 n8 n9 n10 n11 n12 n13 n14 = n1 refl
+compound_type Production.VolatileType is n0 n1 n2 n3 n4 n5 n6 n7 n8 n9 n10 n11 n12 n13 n14 = n2 refl
+compound_type Production.VolatileLiteral is n0 n1 n2 n3 n4 n5 n6 n7 n8 n9 n10 n11 n12 n13 n14 = n3 refl
+compound_type Production.ConstLiteral is n0 n1 n2 n3 n4 n5 n6 n7 n8 n9 n10 n11 n12 n13 n14 = n4 refl
+compound_type Production.QualifiedLiteral is n0 n1 n2 n3 n4 n5 n6 n7 n8 n9 n10 n11 n12 n13 n14 = n5 refl
+compound_type Production.MemberPointer is n0 n1 n2 n3 n4 n5 n6 n7 n8 n9 n10 n11 n12 n13 n14 = n6 refl
+compound_type Production.ArrayType is n0 n1 n2 n3 n4 n5 n6 n7 n8 n9 n10 n11 n12 n13 n14 = n7 refl
+compound_type Production.AnyArray is n0 n1 n2 n3 n4 n5 n6 n7 n8 n9 n10 n11 n12 n13 n14 = n8 refl
+compound_type Production.LengthArray is n0 n1 n2 n3 n4 n5 n6 n7 n8 n9 n10 n11 n12 n13 n14 = n9 refl
+compound_type Production.BoundedArray is n0 n1 n2 n3 n4 n5 n6 n7 n8 n9 n10 n11 n12 n13 n14 = n10 refl
+compound_type Production.Vector is n0 n1 n2 n3 n4 n5 n6 n7 n8 n9 n10 n11 n12 n13 n14 = n11 refl
+compound_type Production.ConvertedConst is n0 n1 n2 n3 n4 n5 n6 n7 n8 n9 n10 n11 n12 n13 n14 = n12 refl
+compound_type Production.ConvertedPointer is n0 n1 n2 n3 n4 n5 n6 n7 n8 n9 n10 n11 n12 n13 n14 = n13 refl
+compound_type Production.ConvertedReference is n0 n1 n2 n3 n4 n5 n6 n7 n8 n9 n10 n11 n12 n13 n14 = n14 refl
+compound_type _ is n0 n1 n2 n3 n4 n5 n6 n7 n8 n9 n10 n11 n12 n13 n14 = subst IsCompoundType (sym is) tt
 
 abbrev IsFunctionType : Family → Type 0
 IsFunctionType Family.FunctionType = Unit {0}
@@ -440,27 +460,39 @@ pub operands : (p : Production) → family_of p ≡ Family.Operands
     → (p ≡ Production.Call → ⊥)
     → (p ≡ Production.TypedBraces → ⊥)
     → (p ≡ Production.Conditional → ⊥)
+    → (p ≡ Production.Rethrow → ⊥)
+    → (p ≡ Production.Designated → ⊥)
+    → (p ≡ Production.DesignatedElement → ⊥)
+    → (p ≡ Production.Designators → ⊥)
+    → (p ≡ Production.DesignatedValue → ⊥)
+    → (p ≡ Production.FieldName → ⊥)
     → (p ≡ Production.New → ⊥)
     → (p ≡ Production.Placed → ⊥)
     → ⊥
 unfolding family_of
-operands Production.Expression is n0 n1 n2 n3 n4 n5 n6 n7 n8 n9 n10 n11 n12 n13 n14 n15 = n0 refl
-operands Production.Expressions is n0 n1 n2 n3 n4 n5 n6 n7 n8 n9 n10 n11 n12 n13 n14 n15 = n1 refl
-operands Production.Unary is n0 n1 n2 n3 n4 n5 n6 n7 n8 n9 n10 n11 n12 n13 n14 n15 = n2 refl
-operands Production.AddressExpression is n0 n1 n2 n3 n4 n5 n6 n7 n8 n9 n10 n11 n12 n13 n14 n15 = n3 refl
-operands Production.OfType is n0 n1 n2 n3 n4 n5 n6 n7 n8 n9 n10 n11 n12 n13 n14 n15 = n4 refl
-operands Production.DestructorName is n0 n1 n2 n3 n4 n5 n6 n7 n8 n9 n10 n11 n12 n13 n14 n15 = n5 refl
-operands Production.Braces is n0 n1 n2 n3 n4 n5 n6 n7 n8 n9 n10 n11 n12 n13 n14 n15 = n6 refl
-operands Production.Step is n0 n1 n2 n3 n4 n5 n6 n7 n8 n9 n10 n11 n12 n13 n14 n15 = n7 refl
-operands Production.Binary is n0 n1 n2 n3 n4 n5 n6 n7 n8 n9 n10 n11 n12 n13 n14 n15 = n8 refl
-operands Production.Cast is n0 n1 n2 n3 n4 n5 n6 n7 n8 n9 n10 n11 n12 n13 n14 n15 = n9 refl
-operands Production.Convert is n0 n1 n2 n3 n4 n5 n6 n7 n8 n9 n10 n11 n12 n13 n14 n15 = n10 refl
-operands Production.Call is n0 n1 n2 n3 n4 n5 n6 n7 n8 n9 n10 n11 n12 n13 n14 n15 = n11 refl
-operands Production.TypedBraces is n0 n1 n2 n3 n4 n5 n6 n7 n8 n9 n10 n11 n12 n13 n14 n15 = n12 refl
-operands Production.Conditional is n0 n1 n2 n3 n4 n5 n6 n7 n8 n9 n10 n11 n12 n13 n14 n15 = n13 refl
-operands Production.New is n0 n1 n2 n3 n4 n5 n6 n7 n8 n9 n10 n11 n12 n13 n14 n15 = n14 refl
-operands Production.Placed is n0 n1 n2 n3 n4 n5 n6 n7 n8 n9 n10 n11 n12 n13 n14 n15 = n15 refl
-operands _ is n0 n1 n2 n3 n4 n5 n6 n7 n8 n9 n10 n11 n12 n13 n14 n15 = subst IsOperands (sym is) tt
+operands Production.Expression is n0 n1 n2 n3 n4 n5 n6 n7 n8 n9 n10 n11 n12 n13 n14 n15 n16 n17 n18 n19 n20 n21 = n0 refl
+operands Production.Expressions is n0 n1 n2 n3 n4 n5 n6 n7 n8 n9 n10 n11 n12 n13 n14 n15 n16 n17 n18 n19 n20 n21 = n1 refl
+operands Production.Unary is n0 n1 n2 n3 n4 n5 n6 n7 n8 n9 n10 n11 n12 n13 n14 n15 n16 n17 n18 n19 n20 n21 = n2 refl
+operands Production.AddressExpression is n0 n1 n2 n3 n4 n5 n6 n7 n8 n9 n10 n11 n12 n13 n14 n15 n16 n17 n18 n19 n20 n21 = n3 refl
+operands Production.OfType is n0 n1 n2 n3 n4 n5 n6 n7 n8 n9 n10 n11 n12 n13 n14 n15 n16 n17 n18 n19 n20 n21 = n4 refl
+operands Production.DestructorName is n0 n1 n2 n3 n4 n5 n6 n7 n8 n9 n10 n11 n12 n13 n14 n15 n16 n17 n18 n19 n20 n21 = n5 refl
+operands Production.Braces is n0 n1 n2 n3 n4 n5 n6 n7 n8 n9 n10 n11 n12 n13 n14 n15 n16 n17 n18 n19 n20 n21 = n6 refl
+operands Production.Step is n0 n1 n2 n3 n4 n5 n6 n7 n8 n9 n10 n11 n12 n13 n14 n15 n16 n17 n18 n19 n20 n21 = n7 refl
+operands Production.Binary is n0 n1 n2 n3 n4 n5 n6 n7 n8 n9 n10 n11 n12 n13 n14 n15 n16 n17 n18 n19 n20 n21 = n8 refl
+operands Production.Cast is n0 n1 n2 n3 n4 n5 n6 n7 n8 n9 n10 n11 n12 n13 n14 n15 n16 n17 n18 n19 n20 n21 = n9 refl
+operands Production.Convert is n0 n1 n2 n3 n4 n5 n6 n7 n8 n9 n10 n11 n12 n13 n14 n15 n16 n17 n18 n19 n20 n21 = n10 refl
+operands Production.Call is n0 n1 n2 n3 n4 n5 n6 n7 n8 n9 n10 n11 n12 n13 n14 n15 n16 n17 n18 n19 n20 n21 = n11 refl
+operands Production.TypedBraces is n0 n1 n2 n3 n4 n5 n6 n7 n8 n9 n10 n11 n12 n13 n14 n15 n16 n17 n18 n19 n20 n21 = n12 refl
+operands Production.Conditional is n0 n1 n2 n3 n4 n5 n6 n7 n8 n9 n10 n11 n12 n13 n14 n15 n16 n17 n18 n19 n20 n21 = n13 refl
+operands Production.Rethrow is n0 n1 n2 n3 n4 n5 n6 n7 n8 n9 n10 n11 n12 n13 n14 n15 n16 n17 n18 n19 n20 n21 = n14 refl
+operands Production.Designated is n0 n1 n2 n3 n4 n5 n6 n7 n8 n9 n10 n11 n12 n13 n14 n15 n16 n17 n18 n19 n20 n21 = n15 refl
+operands Production.DesignatedElement is n0 n1 n2 n3 n4 n5 n6 n7 n8 n9 n10 n11 n12 n13 n14 n15 n16 n17 n18 n19 n20 n21 = n16 refl
+operands Production.Designators is n0 n1 n2 n3 n4 n5 n6 n7 n8 n9 n10 n11 n12 n13 n14 n15 n16 n17 n18 n19 n20 n21 = n17 refl
+operands Production.DesignatedValue is n0 n1 n2 n3 n4 n5 n6 n7 n8 n9 n10 n11 n12 n13 n14 n15 n16 n17 n18 n19 n20 n21 = n18 refl
+operands Production.FieldName is n0 n1 n2 n3 n4 n5 n6 n7 n8 n9 n10 n11 n12 n13 n14 n15 n16 n17 n18 n19 n20 n21 = n19 refl
+operands Production.New is n0 n1 n2 n3 n4 n5 n6 n7 n8 n9 n10 n11 n12 n13 n14 n15 n16 n17 n18 n19 n20 n21 = n20 refl
+operands Production.Placed is n0 n1 n2 n3 n4 n5 n6 n7 n8 n9 n10 n11 n12 n13 n14 n15 n16 n17 n18 n19 n20 n21 = n21 refl
+operands _ is n0 n1 n2 n3 n4 n5 n6 n7 n8 n9 n10 n11 n12 n13 n14 n15 n16 n17 n18 n19 n20 n21 = subst IsOperands (sym is) tt
 
 abbrev IsPack : Family → Type 0
 IsPack Family.Pack = Unit {0}
@@ -473,15 +505,17 @@ pub pack : (p : Production) → family_of p ≡ Family.Pack
     → (p ≡ Production.FoldPack → ⊥)
     → (p ≡ Production.PackSize → ⊥)
     → (p ≡ Production.ExpandExpression → ⊥)
+    → (p ≡ Production.PackIndex → ⊥)
     → ⊥
 unfolding family_of
-pack Production.LeftFold is n0 n1 n2 n3 n4 n5 = n0 refl
-pack Production.RightFold is n0 n1 n2 n3 n4 n5 = n1 refl
-pack Production.FoldOperand is n0 n1 n2 n3 n4 n5 = n2 refl
-pack Production.FoldPack is n0 n1 n2 n3 n4 n5 = n3 refl
-pack Production.PackSize is n0 n1 n2 n3 n4 n5 = n4 refl
-pack Production.ExpandExpression is n0 n1 n2 n3 n4 n5 = n5 refl
-pack _ is n0 n1 n2 n3 n4 n5 = subst IsPack (sym is) tt
+pack Production.LeftFold is n0 n1 n2 n3 n4 n5 n6 = n0 refl
+pack Production.RightFold is n0 n1 n2 n3 n4 n5 n6 = n1 refl
+pack Production.FoldOperand is n0 n1 n2 n3 n4 n5 n6 = n2 refl
+pack Production.FoldPack is n0 n1 n2 n3 n4 n5 n6 = n3 refl
+pack Production.PackSize is n0 n1 n2 n3 n4 n5 n6 = n4 refl
+pack Production.ExpandExpression is n0 n1 n2 n3 n4 n5 n6 = n5 refl
+pack Production.PackIndex is n0 n1 n2 n3 n4 n5 n6 = n6 refl
+pack _ is n0 n1 n2 n3 n4 n5 n6 = subst IsPack (sym is) tt
 
 abbrev IsRequirement : Family → Type 0
 IsRequirement Family.Requirement = Unit {0}
@@ -553,16 +587,22 @@ pub literal : (p : Production) → family_of p ≡ Family.Literal
     → (p ≡ Production.IntegerLiteral → ⊥)
     → (p ≡ Production.NullLiteral → ⊥)
     → (p ≡ Production.CharLiteral → ⊥)
+    → (p ≡ Production.FloatLiteral → ⊥)
+    → (p ≡ Production.SizedFloatLiteral → ⊥)
+    → (p ≡ Production.HexText → ⊥)
     → ⊥
 unfolding family_of
-literal Production.LiteralWithD is n0 n1 n2 n3 n4 n5 n6 = n0 refl
-literal Production.AddressedLiteral is n0 n1 n2 n3 n4 n5 n6 = n1 refl
-literal Production.EncodingLiteral is n0 n1 n2 n3 n4 n5 n6 = n2 refl
-literal Production.BoolLiteral is n0 n1 n2 n3 n4 n5 n6 = n3 refl
-literal Production.IntegerLiteral is n0 n1 n2 n3 n4 n5 n6 = n4 refl
-literal Production.NullLiteral is n0 n1 n2 n3 n4 n5 n6 = n5 refl
-literal Production.CharLiteral is n0 n1 n2 n3 n4 n5 n6 = n6 refl
-literal _ is n0 n1 n2 n3 n4 n5 n6 = subst IsLiteral (sym is) tt
+literal Production.LiteralWithD is n0 n1 n2 n3 n4 n5 n6 n7 n8 n9 = n0 refl
+literal Production.AddressedLiteral is n0 n1 n2 n3 n4 n5 n6 n7 n8 n9 = n1 refl
+literal Production.EncodingLiteral is n0 n1 n2 n3 n4 n5 n6 n7 n8 n9 = n2 refl
+literal Production.BoolLiteral is n0 n1 n2 n3 n4 n5 n6 n7 n8 n9 = n3 refl
+literal Production.IntegerLiteral is n0 n1 n2 n3 n4 n5 n6 n7 n8 n9 = n4 refl
+literal Production.NullLiteral is n0 n1 n2 n3 n4 n5 n6 n7 n8 n9 = n5 refl
+literal Production.CharLiteral is n0 n1 n2 n3 n4 n5 n6 n7 n8 n9 = n6 refl
+literal Production.FloatLiteral is n0 n1 n2 n3 n4 n5 n6 n7 n8 n9 = n7 refl
+literal Production.SizedFloatLiteral is n0 n1 n2 n3 n4 n5 n6 n7 n8 n9 = n8 refl
+literal Production.HexText is n0 n1 n2 n3 n4 n5 n6 n7 n8 n9 = n9 refl
+literal _ is n0 n1 n2 n3 n4 n5 n6 n7 n8 n9 = subst IsLiteral (sym is) tt
 
 abbrev IsCommon : Family → Type 0
 IsCommon Family.Common = Unit {0}

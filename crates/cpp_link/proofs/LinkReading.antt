@@ -15,7 +15,7 @@ use Rattle.sym_link.specs.Tally.{Tally, tally, Makes, tallied}
 use Rattle.sym_link.proofs.Tally.{plain, forest_untallied}
 use Rattle.cpp_grammar.specs.declared.production.Production.{Production}
 use Rattle.cpp_grammar.specs.declared.kind.Kind.{Kind}
-use Rattle.cpp_grammar.specs.KindNumbers.{SYMBOL, SUFFIX_FIRST, SUFFIX_MORE}
+use Rattle.cpp_grammar.specs.KindNumbers.{SYMBOL, SUFFIX_FIRST, SUFFIX_MORE, HEX_DIGITS, HEX_MORE}
 use Rattle.cpp_grammar.specs.Grammar.{parts_of, number_of_kind, kinds, productions, number_of, is_chain, pick, is_in, in_ranges, among, may_be_empty}
 use Rattle.cpp_grammar.specs.Wide.{wide_alternatives, wide_choose}
 use Rattle.cpp_grammar.specs.Table.{wide, rule_of, rule_taken, wide_sheet, sheet_with, blank}
@@ -56,6 +56,7 @@ ok_is x y is = cc
 unfoldable is_plain : Production → Bool
 is_plain Production.Suffix = false
 is_plain Production.SuffixByte = false
+is_plain Production.HexDigit = false
 is_plain Production.Lambda = false
 is_plain Production.Unnamed = false
 is_plain _ = true
@@ -65,6 +66,7 @@ plain_closes : (s : List ℕ) (p : Production) (byte : ℕ) (around : Around) (p
 unfolding is_plain link_close link_meaning close
 plain_closes s Production.Suffix byte around place began vs state plain = absurd (false≢true plain)
 plain_closes s Production.SuffixByte byte around place began vs state plain = absurd (false≢true plain)
+plain_closes s Production.HexDigit byte around place began vs state plain = absurd (false≢true plain)
 plain_closes s Production.Lambda byte around place began vs state plain = absurd (false≢true plain)
 plain_closes s Production.Unnamed byte around place began vs state plain = absurd (false≢true plain)
 plain_closes s _ byte around place began vs state plain = refl
@@ -111,6 +113,31 @@ suffix_chain = refl
 suffix_parts : (rule : Rule) (parts : Forest) → rule ≡ rule_of Production.SuffixByte → AreTrees wide (symbols_of rule) parts → AreTrees wide (OfKind SUFFIX_MORE ∷ []) parts
 unfolding parts_of number_of_kind
 suffix_parts rule parts is trees = subst (λ ss. AreTrees wide ss parts) (ap symbols_of is ∙ its_symbols Production.SuffixByte) trees
+
+-- ## Digits of base 16
+
+chosen_digit : (b : Bool) (rule : Rule) → rule_taken (if b then Some Production.HexDigit else None) ≡ Some rule → rule ≡ rule_of Production.HexDigit
+unfolding rule_taken
+chosen_digit true rule is = sym (same_rule Production.HexDigit rule is)
+chosen_digit false rule is = absurd cc
+
+-- the kinds of what such digits consist of
+data OfDigits : ℕ → Type 0 where
+  first_digit : OfDigits HEX_DIGITS
+  more_digits : OfDigits HEX_MORE
+
+digit_rule : (kind : ℕ) → OfDigits kind → (rule : Rule) (taken : List ℕ) → TakesRule wide kind rule taken → rule ≡ rule_of Production.HexDigit
+unfolding wide_choose wide_alternatives pick kinds
+digit_rule kind first_digit rule taken takes = chosen_digit _ rule (sym (wide_rule_at HEX_DIGITS Kind.HexDigits takes.byte refl) ∙ takes.found)
+digit_rule kind more_digits rule taken takes = chosen_digit _ rule (sym (wide_rule_at HEX_MORE Kind.HexMore takes.byte refl) ∙ takes.found)
+
+digit_chain : is_chain Production.HexDigit ≡ false
+unfolding is_chain
+digit_chain = refl
+
+digit_parts : (rule : Rule) (parts : Forest) → rule ≡ rule_of Production.HexDigit → AreTrees wide (symbols_of rule) parts → AreTrees wide (OfKind HEX_MORE ∷ []) parts
+unfolding parts_of number_of_kind
+digit_parts rule parts is trees = subst (λ ss. AreTrees wide ss parts) (ap symbols_of is ∙ its_symbols Production.HexDigit) trees
 
 -- the bytes of a suffix from its place on
 suffix_there : (xs t rest : List ℕ) (byte : ℕ) → xs ≡ (byte ∷ []) ++ ((t ++ []) ++ rest) → take (length t + 1) xs ≡ byte ∷ t
@@ -247,6 +274,55 @@ module _ (way : NotedWay) (plain_way : IsPlainNoted way) (plain_lambda : IsPlain
   byte_closes s kind taken nothing place context before begun inner rest takes trees at is_begun is_inner = absurd trees
   byte_closes s kind taken (grown tree (grown second others)) place context before begun inner rest takes trees at is_begun is_inner = absurd trees.1
 
+  digit_read : (byte place : ℕ) (around : Around) (inner : Tree) (state : State) (v : Value) → unfold_tree (reading_noted_by way) around (place + 1) inner state ≡ Ok (found (v ∷ []) state)
+      → unfold_tree (reading_noted_by way) around place (branch (rule_of Production.HexDigit) (byte ∷ []) (grown inner nothing)) state ≡ Ok (found (text (byte ∷ text_of v) ∷ []) state)
+  unfolding differs cpp reading_noted_by opening between close behind meaning production_at productions rule_of number_of byte_of part text_of
+  digit_read byte place around inner state v is =
+      let closes : Found (List Value) State → Result (Found (List Value) State) Refusal = λ all. way.close Production.HexDigit byte around place state all.value all.state >>= alone in
+      ap (λ m. m >>= closes) (plain_step (standing (rule_of Production.HexDigit) (byte ∷ []) place around state) Production.HexDigit refl (plain_way.between Production.HexDigit refl) [] (place + 1) inner nothing state)
+      ∙ ap (λ m. (m >>= λ one. Ok (found one.value one.state)) >>= closes) is
+      ∙ ap (λ m. m >>= alone) (plain_way.close Production.HexDigit refl byte around place state (v ∷ []) state)
+
+  digits_read : (kind : ℕ) → OfDigits kind → (tree : Tree) (around : Around) (place : ℕ) (state : State) → IsTree wide (OfKind kind) tree → SuffixRead around place tree state
+  unfolding cpp reading_noted_by text_of
+  digits_read kind one empty around place state is = record { value = nothing_there; is = refl; text_is = refl }
+  digits_read kind one (token t) around place state is = absurd is
+  digits_read kind one (fixed byte) around place state is = absurd is
+  digits_read kind one (branch rule taken nothing) around place state is = absurd (digit_parts rule nothing (digit_rule kind one rule taken is.0) is.1)
+  digits_read kind one (branch rule taken (grown inner (grown second rest))) around place state is =
+      absurd (digit_parts rule (grown inner (grown second rest)) (digit_rule kind one rule taken is.0) is.1).1
+  digits_read kind one (branch rule taken (grown inner nothing)) around place state is =
+      let same = digit_rule kind one rule taken is.0 in
+      let eaten : taken ≡ is.0.byte ∷ [] = takes_byte is.0.byte rule taken Production.HexDigit same digit_chain is.0.takes in
+      let read = digits_read HEX_MORE more_digits inner around (place + 1) state (digit_parts rule (grown inner nothing) same is.1).0 in
+      record {
+        value = text (is.0.byte ∷ text_of read.value);
+        is = ap (λ r. unfold_tree (reading_noted_by way) around place (branch r taken (grown inner nothing)) state) same
+            ∙ ap (λ b. unfold_tree (reading_noted_by way) around place (branch (rule_of Production.HexDigit) b (grown inner nothing)) state) eaten
+            ∙ digit_read is.0.byte place around inner state read.value read.is;
+        text_is = ap (λ x. is.0.byte ∷ x) (read.text_is ∙ sym (append-nil (spell inner))) ∙ ap (λ x. x ++ (spell inner ++ [])) (sym eaten);
+      }
+
+  digit_forest : (taken : List ℕ) (place at : ℕ) (context : Around) (before begun : State) (inner : Found (List Value) State) (v : Value) (tree : Tree)
+      → unfold_tree (reading_noted_by way) context at tree begun ≡ Ok (found (v ∷ []) begun)
+      → unfold_forest (reading_noted_by way) (standing (rule_of Production.HexDigit) taken place context before) [] at (grown tree nothing) begun ≡ Ok inner → inner.value ≡ v ∷ []
+  unfolding differs cpp reading_noted_by between production_at productions rule_of number_of
+  digit_forest taken place at context before begun inner v tree read is =
+      values_same (found (v ∷ []) begun) inner (sym (plain_step (standing (rule_of Production.HexDigit) taken place context before) Production.HexDigit refl (plain_way.between Production.HexDigit refl) [] at tree nothing begun ∙ ap (λ m. m >>= λ one. Ok (found one.value one.state)) read) ∙ is)
+
+  digit_closes : (s : List ℕ) → ClosesRule way s Production.HexDigit
+  unfolding cpp reading_noted_by link_close link_meaning close behind meaning production_at productions rule_of number_of byte_of parts_of number_of_kind is_chain
+  digit_closes s kind taken (grown tree nothing) place context before begun inner rest takes trees at is_begun is_inner =
+      let eaten : taken ≡ takes.byte ∷ [] = takes_byte takes.byte (rule_of Production.HexDigit) taken Production.HexDigit refl refl takes.takes in
+      let read = digits_read HEX_MORE more_digits tree context (place + length taken) begun trees.0 in
+      let values = digit_forest taken place (place + length taken) context before begun inner read.value tree read.is is_inner in
+      let there : drop place s ≡ (takes.byte ∷ []) ++ ((spell tree ++ []) ++ rest) = at ∙ ap (λ b. b ++ ((spell tree ++ []) ++ rest)) eaten in
+      let first : byte_of taken ≡ takes.byte = ap byte_of eaten in
+      ap (λ v. Ok (found v inner.state)) (text_closes s takes.byte place context before begun inner read.value (spell tree) rest values read.text_is there
+      ∙ ap (λ b. text (b ∷ text_of (part inner.value 0))) (sym first))
+  digit_closes s kind taken nothing place context before begun inner rest takes trees at is_begun is_inner = absurd trees
+  digit_closes s kind taken (grown tree (grown second others)) place context before begun inner rest takes trees at is_begun is_inner = absurd trees.1
+
   -- an unnamed type
   unnamed_closes : (s : List ℕ) → ClosesRule way s Production.Unnamed
   unfolding differs cpp reading_noted_by opening between link_close link_meaning close behind meaning production_at productions rule_of number_of last_token part text_of parts_of
@@ -320,6 +396,7 @@ module _ (way : NotedWay) (plain_way : IsPlainNoted way) (plain_lambda : IsPlain
   unfolding is_plain
   numbered_plain Production.Suffix other s = suffix_closes s
   numbered_plain Production.SuffixByte other s = byte_closes s
+  numbered_plain Production.HexDigit other s = digit_closes s
   numbered_plain Production.Lambda other s = lambda_closes s
   numbered_plain Production.Unnamed other s = unnamed_closes s
   numbered_plain _ other s = absurd (true≢false other)

@@ -122,6 +122,7 @@ pub common_meaning : (s : List ℕ) (p : Production) (byte place : ℕ) (around 
 unfolding link_meaning
 common_meaning s Production.Suffix byte place around vs common = absurd (common tt)
 common_meaning s Production.SuffixByte byte place around vs common = absurd (common tt)
+common_meaning s Production.HexDigit byte place around vs common = absurd (common tt)
 common_meaning s Production.Lambda byte place around vs common = absurd (common tt)
 common_meaning s Production.Unnamed byte place around vs common = absurd (common tt)
 common_meaning s _ byte place around vs common = refl

@@ -18,11 +18,12 @@ use Rattle.cpp_term.specs.Unfolding.{behind, close, cpp}
 unfoldable pub in_64_bits : ℕ → ℕ
 in_64_bits n = if nat_lt n (2 ^ 64) then n else (2 ^ 64 - 1)
 
--- What a production that begins at a place denotes: a suffix is n bytes from there on, one more than those after its first, and
+-- What a production that begins at a place denotes: a suffix, as digits of base 16, is n bytes from there on, one more than those after its first, and
 -- the number of a lambda or an unnamed type has 64 bits.
 unfoldable pub link_meaning : List ℕ → Production → (byte place : ℕ) → Around → List Value → Value
 link_meaning s Production.Suffix byte place around vs = text (take (length (text_of (part vs 0)) + 1) (drop place s))
 link_meaning s Production.SuffixByte byte place around vs = text (take (length (text_of (part vs 0)) + 1) (drop place s))
+link_meaning s Production.HexDigit byte place around vs = text (take (length (text_of (part vs 0)) + 1) (drop place s))
 link_meaning s Production.Lambda byte place around vs =
     piece (lambda (parameters (list (tree_of (part vs 0)) (no_items (part vs 1)))) (in_64_bits (local_number (text_of (part vs 3)))))
 link_meaning s Production.Unnamed byte place around vs = piece (unnamed (in_64_bits (local_number (text_of (part vs 0)))))

@@ -116,6 +116,7 @@ makes_at_end Production.ExpressionS known = operation_at_end (part known 0)
 makes_at_end Production.ExpressionT known = operation_at_end (part known 0)
 makes_at_end Production.ParameterExpression known = name_at_end known
 makes_at_end Production.Expressions known = elements_at_end known
+makes_at_end Production.Designators known = operation_at_end (part known 0)
 makes_at_end Production.Initializer known = operation_at_end (part known 0)
 makes_at_end Production.BracedInitializer known = operation_at_end (part known 0)
 makes_at_end p known = made_at_end p

@@ -56,6 +56,8 @@ impl Linked {
             Production::RestrictType
             | Production::VolatileType
             | Production::ConstType
+            | Production::VolatileLiteral
+            | Production::ConstLiteral
             | Production::ReferenceType
             | Production::ConvertedConst
             | Production::ConvertedPointer
@@ -74,14 +76,17 @@ impl Linked {
                 candidate: self.type_candidate(symbol, kept, self.given(symbol, parts, 0)),
                 packs: self.packs,
             },
-            Production::QualifiedPlain | Production::PlainWithD => AfterRule {
+            Production::QualifiedPlain
+            | Production::PlainWithD
+            | Production::QualifiedLiteral => AfterRule {
                 candidate: self.unqualified_candidate(symbol, kept, self.given(symbol, parts, 0)),
                 packs: self.packs,
             },
             Production::Expansion
             | Production::ExpandExpression
             | Production::PackSize
-            | Production::FoldPack => AfterRule {
+            | Production::FoldPack
+            | Production::TypePack => AfterRule {
                 candidate: None,
                 packs: kept.packs(),
             },

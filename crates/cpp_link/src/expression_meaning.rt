@@ -173,6 +173,35 @@ impl Linked {
                     right: self.tree(symbol, parts, 2),
                 },
             },
+            // <expression> ::= tr
+            Production::Rethrow => Outcome::Given(Part::Pair {
+                letter: byte,
+                left: ABSENT,
+                right: ABSENT,
+            }),
+            // <braced-expression> ::= di <field source-name> <braced-expression>
+            Production::Designated => Outcome::Given(Part::Pair {
+                letter: byte,
+                left: self.tree(symbol, parts, 0),
+                right: self.tree(symbol, parts, 1),
+            }),
+            // <braced-expression> ::= dx <index expression> <braced-expression>
+            Production::DesignatedElement => Outcome::Given(Part::Pair {
+                letter: byte,
+                left: self.tree(symbol, parts, 0),
+                right: self.tree(symbol, parts, 1),
+            }),
+            Production::Designators => self.operation_by(symbol, byte, parts),
+            Production::DesignatedValue => made(
+                Node::Operation {
+                    first: b'=',
+                    second: b' ',
+                    left: self.tree(symbol, parts, 0),
+                    right: ABSENT,
+                },
+                true,
+            ),
+            Production::FieldName => made(Node::Vendor(self.text(symbol, parts, 0)), true),
             // <expression> ::= nw <expression>* _ <type> <initializer> | na <expression>* _ <type> <initializer>
             Production::New => Outcome::MadeOperand {
                 letter: byte,
@@ -263,6 +292,12 @@ impl Linked {
             Production::ExpandExpression => {
                 made(Node::Expansion(self.tree(symbol, parts, 0)), true)
             }
+            // <expression> ::= sy <pack> <index expression>
+            Production::PackIndex => Outcome::Given(Part::Pair {
+                letter: byte,
+                left: self.tree(symbol, parts, 0),
+                right: self.tree(symbol, parts, 1),
+            }),
             _ => unreachable!(),
         }
     }
@@ -437,6 +472,27 @@ impl Linked {
                 letter: byte,
                 value: self.signed(symbol, parts, 0),
             },
+            // <expr-primary> ::= L <type> <value float> E
+            Production::FloatLiteral => made(
+                Node::Operation {
+                    first: b'L',
+                    second: b'f',
+                    left: self.tree(symbol, parts, 0),
+                    right: self.tree(symbol, parts, 1),
+                },
+                true,
+            ),
+            // <expr-primary> ::= L <type> <value float> E, of a type of a size that is said
+            Production::SizedFloatLiteral => made(
+                Node::Operation {
+                    first: b'L',
+                    second: b'f',
+                    left: self.tree(symbol, parts, 0),
+                    right: self.tree(symbol, parts, 1),
+                },
+                true,
+            ),
+            Production::HexText => made(Node::Vendor(self.text(symbol, parts, 0)), true),
             _ => unreachable!(),
         }
     }

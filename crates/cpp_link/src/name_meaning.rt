@@ -50,6 +50,8 @@ impl Linked {
             Production::OperatorPiece => Outcome::Given(self.given(symbol, parts, 0)),
             // <prefix> ::= <template-param>
             Production::NestParameter => Outcome::Given(self.given(symbol, parts, 1)),
+            // <prefix> ::= <decltype>
+            Production::NestDecltype => Outcome::Given(self.given(symbol, parts, 1)),
             // <prefix> ::= <prefix> L <source-name>
             Production::NestInternal => Outcome::Given(self.given(symbol, parts, 1)),
             // <prefix> ::= <prefix> <unnamed-type-name>
@@ -333,6 +335,14 @@ impl Linked {
                 },
                 true,
             ),
+            // <special-name> ::= TA <template-arg>
+            Production::ParameterObject => made(
+                Node::Special {
+                    letter: byte,
+                    ty: self.tree(symbol, parts, 0),
+                },
+                true,
+            ),
             // <special-name> ::= TH <object name> | TW <object name>
             Production::SpecialName => made(
                 Node::OfName {
@@ -470,6 +480,11 @@ impl Linked {
                 self.text(symbol, parts, 0),
             ))),
             Production::SuffixByte => Outcome::Given(Part::Text(from_byte(
+                symbol,
+                place,
+                self.text(symbol, parts, 0),
+            ))),
+            Production::HexDigit => Outcome::Given(Part::Text(from_byte(
                 symbol,
                 place,
                 self.text(symbol, parts, 0),

@@ -94,6 +94,11 @@ impl Linked {
                 then: self.under_expansion(kept),
                 packs: None,
             },
+            Production::TypePack => Step::Go {
+                candidate: None,
+                then: self.under_expansion(kept),
+                packs: None,
+            },
             _ => self.go(kept),
         }
     }
@@ -123,6 +128,7 @@ impl Linked {
         requires other_special { production ≡ productions.OtherSpecial → ⊥ }
         requires encoding { production ≡ productions.Encoding → ⊥ }
         requires local_name { production ≡ productions.LocalName → ⊥ }
+        requires nest_decltype { production ≡ productions.NestDecltype → ⊥ }
         requires nest_next { production ≡ productions.NestNext → ⊥ }
         requires inheriting { production ≡ productions.Inheriting → ⊥ }
         requires lambda { production ≡ productions.Lambda → ⊥ }
@@ -265,6 +271,7 @@ impl Linked {
         requires other_special { production ≡ productions.OtherSpecial → ⊥ }
         requires encoding { production ≡ productions.Encoding → ⊥ }
         requires local_name { production ≡ productions.LocalName → ⊥ }
+        requires nest_decltype { production ≡ productions.NestDecltype → ⊥ }
         requires nest_next { production ≡ productions.NestNext → ⊥ }
         requires inheriting { production ≡ productions.Inheriting → ⊥ }
         requires lambda { production ≡ productions.Lambda → ⊥ }
@@ -361,6 +368,11 @@ impl Linked {
             Production::LocalName => {
                 self.go(self.behind_name(kept, self.node(symbol, first), true))
             }
+            Production::NestDecltype => self.go(self.behind_name(
+                kept,
+                self.node(symbol, first),
+                is_listed(first),
+            )),
             Production::NestNext => {
                 self.go(self.behind_name(kept, self.node(symbol, first), false))
             }

@@ -3,7 +3,7 @@
 use cpp_grammar::production::Production;
 
 /// The productions.
-pub(crate) const PRODUCTIONS: [Production; 222] = [
+pub(crate) const PRODUCTIONS: [Production; 242] = [
     Production::Mark,
     Production::InternalName,
     Production::LocalTypeName,
@@ -24,6 +24,7 @@ pub(crate) const PRODUCTIONS: [Production; 222] = [
     Production::VirtualThunk,
     Production::CovariantThunk,
     Production::SpecialName,
+    Production::ParameterObject,
     Production::ConstructionVtable,
     Production::NonVirtualOffset,
     Production::VirtualOffset,
@@ -39,6 +40,7 @@ pub(crate) const PRODUCTIONS: [Production; 222] = [
     Production::NestInternal,
     Production::NestLocalType,
     Production::NestSource,
+    Production::NestDecltype,
     Production::NestStd,
     Production::NestTemplate,
     Production::NestArguments,
@@ -80,7 +82,9 @@ pub(crate) const PRODUCTIONS: [Production; 222] = [
     Production::NoexceptFunction,
     Production::SizedFloat,
     Production::ConstrainedAuto,
+    Production::BitInt,
     Production::Decltype,
+    Production::IndexedType,
     Production::Pointer,
     Production::MemberPointer,
     Production::Parameter,
@@ -91,6 +95,7 @@ pub(crate) const PRODUCTIONS: [Production; 222] = [
     Production::ArrayType,
     Production::Function,
     Production::Complex,
+    Production::BitWidth,
     Production::TypeInStd,
     Production::AbbreviatedType,
     Production::RestEnd,
@@ -113,8 +118,15 @@ pub(crate) const PRODUCTIONS: [Production; 222] = [
     Production::BoolLiteral,
     Production::LiteralWithD,
     Production::IntegerLiteral,
+    Production::FloatLiteral,
     Production::NullLiteral,
     Production::CharLiteral,
+    Production::SizedFloatLiteral,
+    Production::HexText,
+    Production::HexDigit,
+    Production::VolatileLiteral,
+    Production::ConstLiteral,
+    Production::QualifiedLiteral,
     Production::OperatorN,
     Production::OperatorD,
     Production::OperatorA,
@@ -166,6 +178,8 @@ pub(crate) const PRODUCTIONS: [Production; 222] = [
     Production::OfType,
     Production::Call,
     Production::Convert,
+    Production::Designated,
+    Production::DesignatedElement,
     Production::DestructorName,
     Production::OuterParameter,
     Production::LeftFold,
@@ -179,7 +193,9 @@ pub(crate) const PRODUCTIONS: [Production; 222] = [
     Production::ExpandExpression,
     Production::PackSize,
     Production::Unresolved,
+    Production::PackIndex,
     Production::TypedBraces,
+    Production::Rethrow,
     Production::ExpressionA,
     Production::ExpressionC,
     Production::ExpressionD,
@@ -202,6 +218,10 @@ pub(crate) const PRODUCTIONS: [Production; 222] = [
     Production::FoldOperatorL,
     Production::FoldOperand,
     Production::FoldPack,
+    Production::TypePack,
+    Production::Designators,
+    Production::DesignatedValue,
+    Production::FieldName,
     Production::Placed,
     Production::Initializer,
     Production::BracedInitializer,
@@ -229,7 +249,7 @@ pub(crate) const PRODUCTIONS: [Production; 222] = [
 ];
 
 /// How many parts each has.
-pub(crate) const PART_COUNTS: [u8; 222] = [
+pub(crate) const PART_COUNTS: [u8; 242] = [
     0, // Mark
     2, // InternalName
     2, // LocalTypeName
@@ -250,6 +270,7 @@ pub(crate) const PART_COUNTS: [u8; 222] = [
     5, // VirtualThunk
     3, // CovariantThunk
     1, // SpecialName
+    1, // ParameterObject
     4, // ConstructionVtable
     2, // NonVirtualOffset
     4, // VirtualOffset
@@ -265,6 +286,7 @@ pub(crate) const PART_COUNTS: [u8; 222] = [
     2, // NestInternal
     2, // NestLocalType
     2, // NestSource
+    2, // NestDecltype
     3, // NestStd
     2, // NestTemplate
     4, // NestArguments
@@ -306,7 +328,9 @@ pub(crate) const PART_COUNTS: [u8; 222] = [
     4, // NoexceptFunction
     2, // SizedFloat
     1, // ConstrainedAuto
+    2, // BitInt
     2, // Decltype
+    2, // IndexedType
     1, // Pointer
     2, // MemberPointer
     2, // Parameter
@@ -317,6 +341,7 @@ pub(crate) const PART_COUNTS: [u8; 222] = [
     1, // ArrayType
     3, // Function
     1, // Complex
+    1, // BitWidth
     1, // TypeInStd
     1, // AbbreviatedType
     0, // RestEnd
@@ -339,8 +364,15 @@ pub(crate) const PART_COUNTS: [u8; 222] = [
     1, // BoolLiteral
     1, // LiteralWithD
     2, // IntegerLiteral
+    2, // FloatLiteral
     1, // NullLiteral
     1, // CharLiteral
+    2, // SizedFloatLiteral
+    1, // HexText
+    1, // HexDigit
+    2, // VolatileLiteral
+    1, // ConstLiteral
+    1, // QualifiedLiteral
     1, // OperatorN
     1, // OperatorD
     1, // OperatorA
@@ -392,6 +424,8 @@ pub(crate) const PART_COUNTS: [u8; 222] = [
     1, // OfType
     3, // Call
     2, // Convert
+    2, // Designated
+    2, // DesignatedElement
     1, // DestructorName
     2, // OuterParameter
     2, // LeftFold
@@ -405,7 +439,9 @@ pub(crate) const PART_COUNTS: [u8; 222] = [
     1, // ExpandExpression
     1, // PackSize
     1, // Unresolved
+    2, // PackIndex
     3, // TypedBraces
+    0, // Rethrow
     1, // ExpressionA
     1, // ExpressionC
     1, // ExpressionD
@@ -428,6 +464,10 @@ pub(crate) const PART_COUNTS: [u8; 222] = [
     1, // FoldOperatorL
     1, // FoldOperand
     1, // FoldPack
+    1, // TypePack
+    1, // Designators
+    1, // DesignatedValue
+    1, // FieldName
     2, // Placed
     1, // Initializer
     1, // BracedInitializer
@@ -455,7 +495,7 @@ pub(crate) const PART_COUNTS: [u8; 222] = [
 ];
 
 /// Whether some part of each but the last may have no row: a fixed byte, or a kind that may be empty.
-pub(crate) const SKIPS_PARTS: [bool; 222] = [
+pub(crate) const SKIPS_PARTS: [bool; 242] = [
     false, // Mark
     false, // InternalName
     false, // LocalTypeName
@@ -476,6 +516,7 @@ pub(crate) const SKIPS_PARTS: [bool; 222] = [
     true, // VirtualThunk
     false, // CovariantThunk
     false, // SpecialName
+    false, // ParameterObject
     true, // ConstructionVtable
     false, // NonVirtualOffset
     true, // VirtualOffset
@@ -491,6 +532,7 @@ pub(crate) const SKIPS_PARTS: [bool; 222] = [
     false, // NestInternal
     false, // NestLocalType
     false, // NestSource
+    false, // NestDecltype
     true, // NestStd
     false, // NestTemplate
     true, // NestArguments
@@ -532,7 +574,9 @@ pub(crate) const SKIPS_PARTS: [bool; 222] = [
     true, // NoexceptFunction
     false, // SizedFloat
     false, // ConstrainedAuto
+    false, // BitInt
     false, // Decltype
+    false, // IndexedType
     false, // Pointer
     false, // MemberPointer
     false, // Parameter
@@ -543,6 +587,7 @@ pub(crate) const SKIPS_PARTS: [bool; 222] = [
     false, // ArrayType
     true, // Function
     false, // Complex
+    false, // BitWidth
     false, // TypeInStd
     false, // AbbreviatedType
     false, // RestEnd
@@ -565,8 +610,15 @@ pub(crate) const SKIPS_PARTS: [bool; 222] = [
     false, // BoolLiteral
     false, // LiteralWithD
     false, // IntegerLiteral
+    false, // FloatLiteral
     false, // NullLiteral
     false, // CharLiteral
+    false, // SizedFloatLiteral
+    false, // HexText
+    false, // HexDigit
+    true, // VolatileLiteral
+    false, // ConstLiteral
+    false, // QualifiedLiteral
     false, // OperatorN
     false, // OperatorD
     false, // OperatorA
@@ -618,6 +670,8 @@ pub(crate) const SKIPS_PARTS: [bool; 222] = [
     false, // OfType
     true, // Call
     false, // Convert
+    false, // Designated
+    false, // DesignatedElement
     false, // DestructorName
     false, // OuterParameter
     false, // LeftFold
@@ -631,7 +685,9 @@ pub(crate) const SKIPS_PARTS: [bool; 222] = [
     false, // ExpandExpression
     false, // PackSize
     false, // Unresolved
+    false, // PackIndex
     true, // TypedBraces
+    false, // Rethrow
     false, // ExpressionA
     false, // ExpressionC
     false, // ExpressionD
@@ -654,6 +710,10 @@ pub(crate) const SKIPS_PARTS: [bool; 222] = [
     false, // FoldOperatorL
     false, // FoldOperand
     false, // FoldPack
+    false, // TypePack
+    false, // Designators
+    false, // DesignatedValue
+    false, // FieldName
     false, // Placed
     false, // Initializer
     false, // BracedInitializer
@@ -681,7 +741,7 @@ pub(crate) const SKIPS_PARTS: [bool; 222] = [
 ];
 
 /// Before how many of its parts nothing is done in each: before none, the first, or all, which are five at most.
-pub(crate) const QUIET_PARTS: [u8; 222] = [
+pub(crate) const QUIET_PARTS: [u8; 242] = [
     5, // Mark
     1, // InternalName
     1, // LocalTypeName
@@ -702,6 +762,7 @@ pub(crate) const QUIET_PARTS: [u8; 222] = [
     5, // VirtualThunk
     5, // CovariantThunk
     5, // SpecialName
+    5, // ParameterObject
     5, // ConstructionVtable
     5, // NonVirtualOffset
     5, // VirtualOffset
@@ -717,6 +778,7 @@ pub(crate) const QUIET_PARTS: [u8; 222] = [
     1, // NestInternal
     1, // NestLocalType
     1, // NestSource
+    1, // NestDecltype
     1, // NestStd
     1, // NestTemplate
     0, // NestArguments
@@ -758,7 +820,9 @@ pub(crate) const QUIET_PARTS: [u8; 222] = [
     5, // NoexceptFunction
     5, // SizedFloat
     5, // ConstrainedAuto
+    5, // BitInt
     5, // Decltype
+    5, // IndexedType
     5, // Pointer
     5, // MemberPointer
     1, // Parameter
@@ -769,6 +833,7 @@ pub(crate) const QUIET_PARTS: [u8; 222] = [
     5, // ArrayType
     5, // Function
     5, // Complex
+    5, // BitWidth
     5, // TypeInStd
     5, // AbbreviatedType
     5, // RestEnd
@@ -791,8 +856,15 @@ pub(crate) const QUIET_PARTS: [u8; 222] = [
     5, // BoolLiteral
     5, // LiteralWithD
     1, // IntegerLiteral
+    5, // FloatLiteral
     5, // NullLiteral
     5, // CharLiteral
+    5, // SizedFloatLiteral
+    5, // HexText
+    5, // HexDigit
+    5, // VolatileLiteral
+    5, // ConstLiteral
+    5, // QualifiedLiteral
     5, // OperatorN
     5, // OperatorD
     5, // OperatorA
@@ -844,6 +916,8 @@ pub(crate) const QUIET_PARTS: [u8; 222] = [
     5, // OfType
     5, // Call
     5, // Convert
+    5, // Designated
+    5, // DesignatedElement
     5, // DestructorName
     5, // OuterParameter
     5, // LeftFold
@@ -857,7 +931,9 @@ pub(crate) const QUIET_PARTS: [u8; 222] = [
     0, // ExpandExpression
     0, // PackSize
     5, // Unresolved
+    5, // PackIndex
     5, // TypedBraces
+    5, // Rethrow
     5, // ExpressionA
     5, // ExpressionC
     5, // ExpressionD
@@ -880,6 +956,10 @@ pub(crate) const QUIET_PARTS: [u8; 222] = [
     5, // FoldOperatorL
     5, // FoldOperand
     0, // FoldPack
+    0, // TypePack
+    5, // Designators
+    5, // DesignatedValue
+    5, // FieldName
     5, // Placed
     5, // Initializer
     5, // BracedInitializer

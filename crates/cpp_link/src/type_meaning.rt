@@ -17,7 +17,7 @@ use crate::numbers::normal;
 use crate::part::{Outcome, Part, Surroundings};
 use cpp_grammar::production::Production;
 use cpp_tree::node::{Mark, Node};
-use cpp_tree::nodes::NIL;
+use cpp_tree::nodes::{ABSENT, NIL};
 
 impl Linked {
     /// A rare type that is no compound one.
@@ -63,6 +63,20 @@ impl Linked {
                 },
                 true,
             ),
+            // <builtin-type> ::= DB <number> _ | DU <number> _
+            Production::BitInt => made(
+                Node::Operation {
+                    first: b'D',
+                    second: byte,
+                    left: self.tree(symbol, parts, 0),
+                    right: ABSENT,
+                },
+                true,
+            ),
+            Production::BitWidth => made(
+                Node::Vendor(normal(symbol, self.text(symbol, parts, 0))),
+                true,
+            ),
             // <builtin-type> ::= Dk <type-constraint> | DK <type-constraint>
             Production::ConstrainedAuto => made(
                 Node::Constrained {
@@ -75,6 +89,17 @@ impl Linked {
             Production::Vendor => made(Node::Vendor(self.text(symbol, parts, 0)), false),
             // <decltype> ::= Dt <expression> E | DT <expression> E
             Production::Decltype => made(Node::Decltype(self.tree(symbol, parts, 0)), false),
+            // <type> ::= Dy <type> <expression>
+            Production::IndexedType => made(
+                Node::Operation {
+                    first: b'D',
+                    second: b'y',
+                    left: self.tree(symbol, parts, 0),
+                    right: self.tree(symbol, parts, 1),
+                },
+                false,
+            ),
+            Production::TypePack => made(Node::Expansion(self.tree(symbol, parts, 0)), true),
             // <type> ::= Dp <type>; an expansion has packs of its own, all of one length
             Production::Expansion => made(Node::Expansion(self.tree(symbol, parts, 0)), false),
             Production::ConvertedDecltype => tree(self.tree(symbol, parts, 0), true),
@@ -124,6 +149,15 @@ impl Linked {
                 self.there(symbol, parts, 0),
                 self.tree(symbol, parts, 1),
             ),
+            // <type> ::= <CV-qualifiers> <type>
+            Production::VolatileLiteral => qualified(
+                false,
+                true,
+                self.there(symbol, parts, 0),
+                self.tree(symbol, parts, 1),
+            ),
+            Production::ConstLiteral => qualified(false, false, true, self.tree(symbol, parts, 0)),
+            Production::QualifiedLiteral => tree(self.tree(symbol, parts, 0), true),
             // <pointer-to-member-type> ::= M <class type> <member type>
             Production::MemberPointer => made(
                 Node::MemberPointer {

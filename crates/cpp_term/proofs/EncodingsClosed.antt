@@ -119,6 +119,7 @@ inside_values Production.LocalType vs plain all special = encoding_at (parts_of 
 inside_values Production.EncodingLiteral vs plain all special = encoding_at (parts_of Production.EncodingLiteral) vs 1 refl (all refl)
 inside_values Production.Clone vs plain all special = encoding_at (parts_of Production.Clone) vs 1 refl (all refl)
 inside_values Production.SpecialType vs plain all special = special refl 0
+inside_values Production.ParameterObject vs plain all special = special refl 0
 inside_values Production.SpecialName vs plain all special = special refl 0
 inside_values Production.ConstructionVtable vs plain all special = (special refl 0, special refl 3)
 inside_values _ vs plain all special = first_of (cc, search tt)

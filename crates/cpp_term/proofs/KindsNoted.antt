@@ -16,6 +16,7 @@ is_special_kind k = nat_eq k SPECIAL || nat_eq k SPECIAL_AFTER_G
 -- a production of these kinds whose parts are types and names
 unfoldable pub in_special : Production → Bool
 in_special Production.SpecialType = true
+in_special Production.ParameterObject = true
 in_special Production.SpecialName = true
 in_special Production.ConstructionVtable = true
 in_special _ = false

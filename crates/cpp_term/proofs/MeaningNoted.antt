@@ -319,6 +319,7 @@ encoding_noted s name _ = three term_.object (tree_noted nowhere name) (qualifie
 abbrev pub Inside : Production → List Value → Type 0
 Inside Production.Symbol vs = is_open (tree_of (part vs 1)) ≡ false
 Inside Production.SpecialType vs = is_open (tree_of (part vs 0)) ≡ false
+Inside Production.ParameterObject vs = is_open (tree_of (part vs 0)) ≡ false
 Inside Production.SpecialName vs = is_open (tree_of (part vs 0)) ≡ false
 Inside Production.ConstructionVtable vs = (is_open (tree_of (part vs 0)) ≡ false) × (is_open (tree_of (part vs 3)) ≡ false)
 Inside Production.Clone vs = is_open (tree_of (part vs 1)) ≡ false

@@ -119,4 +119,18 @@ rows_2 =
     prints "_Z1fITtTyEiEvv" "void f<int>()" 22 ∷
     prints "_Z1fIXLi3EEEvv" "void f<3>()" 20 ∷
     prints "_ZN1A1BCI1S_Ei" "A::B::B(int)" 22 ∷
+    prints "_ZTAXtl1PLi1EEE" "template parameter object for P{1}" 43 ∷
+    prints "_Z1fILf3f800000EEvv" "void f<(float)[3f800000]>()" 39 ∷
+    prints "_Z1fILDF16_3c00EEvv" "void f<(_Float16)[3c00]>()" 38 ∷
+    prints "_Z1fILKi1EEvv" "void f<(int const)1>()" 35 ∷
+    prints "_Z1fILVKi1EEvv" "void f<(int const volatile)1>()" 44 ∷
+    prints "_Z1fDB7_" "f(_BitInt(7))" 20 ∷
+    prints "_Z1fDU64_" "f(unsigned _BitInt(64))" 30 ∷
+    prints "_Z1fDyJicELi0E" "f((int, char)[0])" 31 ∷
+    prints "_Z1fIJiEEDyT_Li0Ev" "(int)[0] f<int>()" 36 ∷
+    prints "_Z1fIJLi1EEEDTsyT_Li0EEv" "decltype((1)[0]) f<1>()" 43 ∷
+    prints "_Z1fIXtrEEvv" "void f<throw>()" 24 ∷
+    prints "_Z1fINDtLi1EE1xEEvv" "void f<decltype(1)::x>()" 36 ∷
+    prints "_Z1fIXtl1Udi1aLi0EEEEvv" "void f<U{.a = 0}>()" 36 ∷
+    prints "_Z1fIXtl1UdxLi2Edi1aLi0EEEEvv" "void f<U{[2].a = 0}>()" 41 ∷
     []

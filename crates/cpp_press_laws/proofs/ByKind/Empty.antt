@@ -39,6 +39,7 @@ nothing-read Kind.Declarations may around state = λ outer. tt
 nothing-read Kind.BaseArguments may around state = λ outer. tt
 nothing-read Kind.HeldArguments may around state = λ outer. tt
 nothing-read Kind.Expressions may around state = λ outer. tt
+nothing-read Kind.HexMore may around state = λ outer. tt
 nothing-read Kind.MaybeBefore may around state = λ outer. tt
 nothing-read Kind.Requirements may around state = λ outer. tt
 nothing-read Kind.AfterExpression may around state = λ outer. tt

@@ -177,6 +177,7 @@ gains-empty Kind.Declarations around old is all = tt
 gains-empty Kind.BaseArguments around old is all = tt
 gains-empty Kind.HeldArguments around old is all = tt
 gains-empty Kind.Expressions around old is all = tt
+gains-empty Kind.HexMore around old is all = tt
 gains-empty Kind.MaybeBefore around old is all = tt
 gains-empty Kind.Requirements around old is all = tt
 gains-empty Kind.AfterExpression around old is all = tt

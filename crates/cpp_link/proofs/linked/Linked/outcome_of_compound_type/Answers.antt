@@ -7,6 +7,9 @@ unreachable-requires c = compound_type c.args.production c.requires.family
     c.in_default.not-Complex
     c.in_default.not-RestrictType
     c.in_default.not-VolatileType
+    c.in_default.not-VolatileLiteral
+    c.in_default.not-ConstLiteral
+    c.in_default.not-QualifiedLiteral
     c.in_default.not-MemberPointer
     c.in_default.not-ArrayType
     c.in_default.not-AnyArray

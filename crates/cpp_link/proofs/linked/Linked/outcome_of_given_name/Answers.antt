@@ -8,6 +8,7 @@ unreachable-requires c = given_name c.args.production c.requires.family
     c.in_default.not-LocalTypePiece
     c.in_default.not-OperatorPiece
     c.in_default.not-NestParameter
+    c.in_default.not-NestDecltype
     c.in_default.not-NestInternal
     c.in_default.not-NestLocalType
     c.in_default.not-NestTag

@@ -11,3 +11,6 @@ unreachable-requires c = literal c.args.production c.requires.family
     c.in_default.not-IntegerLiteral
     c.in_default.not-NullLiteral
     c.in_default.not-CharLiteral
+    c.in_default.not-FloatLiteral
+    c.in_default.not-SizedFloatLiteral
+    c.in_default.not-HexText

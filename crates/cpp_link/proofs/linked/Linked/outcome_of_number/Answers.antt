@@ -11,3 +11,4 @@ unreachable-requires c = number c.args.production c.requires.family
     c.in_default.not-ManyDigits
     c.in_default.not-Suffix
     c.in_default.not-SuffixByte
+    c.in_default.not-HexDigit

@@ -10,3 +10,4 @@ unreachable-requires c = pack c.args.production c.requires.family
     c.in_default.not-FoldPack
     c.in_default.not-PackSize
     c.in_default.not-ExpandExpression
+    c.in_default.not-PackIndex

@@ -5,6 +5,7 @@ use Rattle.cpp_link.proofs.linked.Linked.outcome_of_special.Goals as goal
 pub unreachable-requires : goal.unreachable-requires
 unreachable-requires c = special c.args.production c.requires.family
     c.in_default.not-SpecialType
+    c.in_default.not-ParameterObject
     c.in_default.not-SpecialName
     c.in_default.not-OtherSpecial
     c.in_default.not-Clone

@@ -16,6 +16,7 @@ step_second_of_piece-requires c = record {
   other_special = c.requires.other_special;
   encoding = c.requires.encoding;
   local_name = c.requires.local_name;
+  nest_decltype = c.requires.nest_decltype;
   nest_next = c.requires.nest_next;
   inheriting = c.requires.inheriting;
   lambda = c.requires.lambda;
