@@ -139,18 +139,26 @@ link=-static
 has aarch64 aarch64-linux-gnu-gcc qemu-aarch64 && run=qemu-aarch64 try aarch64 aarch64-linux-gnu-gcc -O1 few
 has riscv64 riscv64-linux-gnu-gcc qemu-riscv64 && run=qemu-riscv64 try riscv64 riscv64-linux-gnu-gcc -O1 few
 export WINEDEBUG=-all WINEPREFIX=$work/wine
-has windows x86_64-w64-mingw32-gcc wine && exe=.exe libs=-lshell32 run=wine try windows x86_64-w64-mingw32-gcc -O1 few
+has windows x86_64-w64-mingw32-gcc wine && exe=.exe libs=-lshell32 run=wine try windows x86_64-w64-mingw32-gcc -O2 few
 exe=.wasm link= run="node --no-warnings $PWD/tests/portable/wasi.mjs"
-if has wasi clang wasm-ld wasm-opt node; then
+try_wasi() { # as try, but compiled by clang for wasm64: the checkers over the C library of tests/portable/wasi
+    local begun=$SECONDS before=$status checker flags='-O1 -Wall -Wextra -Werror'
     mkdir "$work/wasi"
-    cp "$dist"/*.c "$dist/Makefile" "$work/wasi/"
-    if make -s -j 2 -C "$work/wasi" demangle.wasm symfilt.wasm CFLAGS='-O1 -Wall -Wextra -Werror' >"$work/log" 2>&1; then
-        before=$status
-        filters wasi names
-        [ $status != "$before" ] || echo "ok: wasi: the programs alone, $(grep -ac . "$work/names") symbols"
-    else
+    cp "$dist"/*.[ch] "$dist/Makefile" "$dist/rows" "$work/wasi/"
+    [ $is_quick = no ] || awk 'NR % 10 == 1' "$dist/rows" >"$work/wasi/rows"
+    # (the objects are named, so that make keeps them)
+    if ! make -s -j 2 -C "$work/wasi" demangle.wasm symfilt.wasm demangle.wasm.o symfilt.wasm.o CFLAGS="$flags" >"$work/log" 2>&1 ||
+        ! tests/portable/wasi/checked.sh "$work/wasi" $flags >>"$work/log" 2>&1; then
         tail -n 20 "$work/log"
-        fails "wasi: make demangle.wasm symfilt.wasm"
+        fails "wasi: make"
+        return
     fi
-fi
+    for checker in check_library check_demangle check_symfilt; do
+        (cd "$work/wasi" && $run ./$checker.wasm rows) >>"$work/log" 2>&1 || { tail -n 20 "$work/log"; fails "wasi: $checker"; }
+    done
+    compare wasi few
+    filters wasi names
+    [ $status != "$before" ] || echo "ok: wasi: $(grep -ac . "$work/few") symbols as by $by, $(grep -ac . "$work/names") filtered, $((SECONDS - begun)) s; $(grep -a 'rows checked' "$work/log" | tr '\n' ';')"
+}
+has wasi clang wasm-ld wasm-opt node && try_wasi
 exit $status

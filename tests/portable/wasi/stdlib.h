@@ -1,0 +1,14 @@
+/* What the library, the checkers and names.c call of stdlib.h. host.c has it. */
+#ifndef STDLIB_H
+#define STDLIB_H
+
+#include <stddef.h>
+
+void *malloc(size_t size);
+void *realloc(void *block, size_t size);
+void free(void *block);
+_Noreturn void exit(int status);
+unsigned long strtoul(const char *text, char **end, int base);
+int atoi(const char *text);
+
+#endif
