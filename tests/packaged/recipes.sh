@@ -1,8 +1,9 @@
 #!/bin/bash
 # The recipes of dist/packaging, over a folder that tools/portable/make.sh made: tests/packaged/recipes.sh DIST WORK
 #
-# Debian's source package and what it builds are made and looked at by lintian, vcpkg's is built by CMake alone; those of conda, Homebrew and nix are read. FULL=yes in
-# the environment has Debian's optimised and its tests run, as a release does. What isn't installed is named and left out.
+# Debian's source package and what it builds are made and looked at by lintian, vcpkg's is built by CMake alone, nix's by nix with a stand-in
+# for nixpkgs (stdenv.nix); those of conda and Homebrew are read. FULL=yes in the environment has Debian's optimised and its tests run, as a
+# release does. What isn't installed is named and left out.
 set -euo pipefail
 cd "$(dirname "$0")/../.."
 dist=$(realpath "$1")
@@ -25,7 +26,6 @@ for line in "debian/changelog:symdemangle ($version-1)" "conda/meta.yaml:version
 done
 
 ! has ruby "Homebrew's recipe" || quiet ruby -c $recipes/homebrew/symdemangle.rb
-! has nix-instantiate "nix's recipe" || quiet nix-instantiate --parse $recipes/nix/default.nix
 if python3 -c 'import yaml' 2>/dev/null; then
     quiet python3 -c 'import sys, yaml; it = yaml.safe_load(open(sys.argv[1])); assert it["build"]["script"] and it["test"]["commands"]' $recipes/conda/meta.yaml
 else
@@ -39,6 +39,17 @@ rm -rf "$source/packaging"
 cp -r $recipes "$source/packaging"
 ! has cmake "vcpkg's recipe" || quiet cmake "-DDIST=$source" "-DOUT=$work/vcpkg" -P tests/packaged/vcpkg.cmake
 
+if has nix-build "nix's recipe"; then
+    # a store of its own, which is removed
+    (
+        export NIX_STORE_DIR=$work/nix/store NIX_STATE_DIR=$work/nix/state NIX_LOG_DIR=$work/nix/log NIX_CONF_DIR=$work/nix NIX_REMOTE='' HOME=$work/nix
+        mkdir -p "$HOME"
+        quiet nix-build --option sandbox false --option build-users-group '' --no-out-link tests/packaged/stdenv.nix \
+            --arg recipe "$source/packaging/nix/default.nix" --argstr path "$PATH"
+    )
+    [ "$("$(tail -n 1 "$work/out")/bin/demangle" _Z1fv)" = 'f()' ] || { echo "nix's program"; exit 1; }
+    chmod -R u+w "$work/nix" && rm -rf "$work/nix"
+fi
 if has dpkg-buildpackage "Debian's recipe" && has dh "Debian's recipe"; then
     # what is released as symdemangle-c-VERSION.tar.gz
     tar -C "$work" --sort=name -czf "$work/symdemangle_$version.orig.tar.gz" "symdemangle-$version"
