@@ -166,9 +166,9 @@ def layout_operations():
     def text(t): return f"OPERATION + {OPERATION_TEXTS.index(t)}" if t else "NONE"
     def how(o): return f"Operand::From({o})" if isinstance(o, int) else f"Operand::{HOW[o]}"
     ends = [f"/// The precedence of what {what}.\npub(crate) const {name}: u8 = {words.PRECEDENCES.index(name)};" for name, what in ENDS]
-    rows = [f"    row!({own} => {text(front)}, {how(left)}, {text(between)}, {how(right)}, {text(back)}), // {code}"
+    rows = [f"    row!({own} => {text(front)}, {how(left)}, {text(between)}, {how(right)}, {text(back)}), // {code.rstrip()}"
             for code, own, front, left, between, right, back in [*words.OPERATIONS, ("no operation", 0, "", words.NONE, "", words.NONE, "")]]
-    places = [f"        {number} => {place}, // {words.OPERATIONS[place][0]}" for place, number in enumerate(operation_numbers())]
+    places = [f"        {number} => {place}, // {words.OPERATIONS[place][0].rstrip()}" for place, number in enumerate(operation_numbers())]
     return template("cpp_layout/operation_rows.rt", ends="\n\n".join(ends), rows=rows, count=str(len(rows)), places=[*places, f"        _ => {len(words.OPERATIONS)},"])
 
 def operation_numbers():

@@ -135,7 +135,7 @@ static OPERATIONS: [Operation; 94] = [
     row!(0 => OPERATION + 52, Operand::AsType, OPERATION + 76, Operand::AsItIs, OPERATION + 47), // Lf
     row!(0 => OPERATION + 48, Operand::AsItIs, NONE, Operand::AsItIs, NONE), // di
     row!(0 => OPERATION + 46, Operand::AsItIs, OPERATION + 47, Operand::AsItIs, NONE), // dx
-    row!(0 => OPERATION + 35, Operand::AsItIs, NONE, Operand::NotPrinted, NONE), // = 
+    row!(0 => OPERATION + 35, Operand::AsItIs, NONE, Operand::NotPrinted, NONE), // =
     row!(0 => NONE, Operand::NotPrinted, NONE, Operand::NotPrinted, NONE), // no operation
 ];
 
@@ -236,7 +236,7 @@ fn place_of(code: u16) -> usize
         19558 => 89, // Lf
         25705 => 90, // di
         25720 => 91, // dx
-        15648 => 92, // = 
+        15648 => 92, // =
         _ => 93,
     }
 }

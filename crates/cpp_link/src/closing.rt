@@ -76,12 +76,15 @@ impl Linked {
                 candidate: self.type_candidate(symbol, kept, self.given(symbol, parts, 0)),
                 packs: self.packs,
             },
-            Production::QualifiedPlain
-            | Production::PlainWithD
-            | Production::QualifiedLiteral => AfterRule {
-                candidate: self.unqualified_candidate(symbol, kept, self.given(symbol, parts, 0)),
-                packs: self.packs,
-            },
+            Production::QualifiedPlain | Production::PlainWithD | Production::QualifiedLiteral =>
+                AfterRule {
+                    candidate: self.unqualified_candidate(
+                        symbol,
+                        kept,
+                        self.given(symbol, parts, 0),
+                    ),
+                    packs: self.packs,
+                },
             Production::Expansion
             | Production::ExpandExpression
             | Production::PackSize

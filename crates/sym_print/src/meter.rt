@@ -37,7 +37,11 @@ impl Meter {
         let limit = self.spent.saturating_add(more);
         Meter {
             spent: self.spent,
-            limit: if limit < self.limit { limit } else { self.limit },
+            limit: if limit < self.limit {
+                limit
+            } else {
+                self.limit
+            },
             steps: self.steps,
         }
     }

@@ -136,7 +136,12 @@ impl<C: Copy> Notes<C> {
 
     /// What is noted of an item.
     #[inline(always)]
-    pub(crate) fn get<Y: Layout<Ctx = C>>(&self, y: &Y, item: Item<C>, is_dear: bool) -> Option<&Note<C>>
+    pub(crate) fn get<Y: Layout<Ctx = C>>(
+        &self,
+        y: &Y,
+        item: Item<C>,
+        is_dear: bool,
+    ) -> Option<&Note<C>>
         ensures item { IfSome result (λ note. note.now.item ≡ item) }
         ensures known { IfSome result (λ note. Contains self.now.known.items note.now) }
     {
@@ -176,13 +181,7 @@ impl<C: Copy> Notes<C> {
     /// The spot on one side of a note.
     fn spot_after(&self, before: usize, is_odd: bool) -> Spot {
         let number = match self.forks.get(before) {
-            Some(fork) => {
-                if is_odd {
-                    fork.odd
-                } else {
-                    fork.even
-                }
-            }
+            Some(fork) => { if is_odd { fork.odd } else { fork.even } }
             None => NONE,
         };
         Spot {
