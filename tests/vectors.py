@@ -16,7 +16,7 @@ HERE = os.path.dirname(os.path.abspath(__file__))
 RUN_BYTES = frozenset(b"ABCDEFGHIJKLMNOPQRSTUVWXYZabcdefghijklmnopqrstuvwxyz0123456789_.$") | frozenset(range(0x80, 0x100))
 LONGEST_WORD = 65536
 BEGINNINGS = (b"_Z", b"__Z", b"_R", b"__R")
-REASONS = (b"malformed at ", b"bad reference at ", b"bad value at ", b"too long")
+REASONS = (b"malformed at ", b"bad reference at ", b"bad value at ", b"too long", b"no spelling yet")
 ESCAPES = {b"\\": b"\\", b"n": b"\n", b"t": b"\t", b"f": b"\xff"}
 DETAILS = {b"full": [], b"brief": ["--brief"], b"no-params": ["--no-params"], b"brief-no-params": ["--brief", "--no-params"]}
 LEGACY = (["--legacy"], ["--legacy", "--wide"])
@@ -187,6 +187,11 @@ def check_press(program, word, pressed):
     return differences(words, program.answers(["--press", "--limit=0"], words), wanted)
 
 
+def check_wide_press(program, word, answer):
+    words, wanted = ([word], [answer]) if answer.startswith(REASONS) else ([word, answer], [answer, answer])
+    return differences(words, program.answers(["--press", "--wide", "--limit=0"], words), wanted)
+
+
 def check_tree(program, word, tree):
     """No program shows nodes: what has a tree has a text, and other symbols are refused."""
     found = program.answers([], [word])[0]
@@ -254,6 +259,7 @@ CHECKS = {
     b"type": check_type,
     b"type refused": check_refused_type,
     b"press": check_press,
+    b"wide press": check_wide_press,
     b"tree": check_tree,
     b"filter": check_filter,
     b"command": check_command,

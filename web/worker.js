@@ -92,11 +92,11 @@ async function view({ id, text, options }) {
     postMessage({ id, kind: "view", parts, names, options, took: performance.now() - began });
 }
 
-/** The counts of a name and its pressed spelling, which knows no wide grammar. */
+/** The counts of a name and its pressed spelling, by the grammar of its text. */
 function details({ id, word, options }) {
     const bytes = encoder.encode(word);
     const counts = library.count(bytes, flagsOf(options));
-    const pressed = library.press(bytes, FLAG.UNDERSCORE);
+    const pressed = library.press(bytes, flagsOf(options));
     const isRead = pressed.status === STATUS.OK;
     postMessage({
         id, kind: "details", counts, length: bytes.length - /^__/.test(word),

@@ -22,6 +22,7 @@ const char *symdemangle_message(uint32_t status)
         "a pointer is null",
         "the ends of names are out of order",
         "not a symbol",
+        "no spelling yet",
     };
     return status < sizeof messages / sizeof *messages ? messages[status] : "an unknown status";
 }

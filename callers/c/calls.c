@@ -285,7 +285,9 @@ static void pressed_spellings(void)
     is_unpressed("_ZN1AC4Ev", 0, SYMDEMANGLE_MALFORMED, 6);
     is_unpressed("_Z1fS_", 0, SYMDEMANGLE_BAD_REFERENCE, 4);
     is_unpressed("main", 0, SYMDEMANGLE_NO_SYMBOL, 0);
-    is_unpressed("_Z1fv", SYMDEMANGLE_WIDE, SYMDEMANGLE_FLAGS, 0);
+    presses_to("_Z1f1AIiENS_IcEE", SYMDEMANGLE_WIDE, "_Z1f1AIiES_IcE");
+    is_unpressed("_ZN1AC6Ev", SYMDEMANGLE_WIDE, SYMDEMANGLE_MALFORMED, 6);
+    is_unpressed("_ZN1a1bB5cxx11Ev", SYMDEMANGLE_WIDE, SYMDEMANGLE_NO_SPELLING, 0);
     is_unpressed("PKc", SYMDEMANGLE_TYPES, SYMDEMANGLE_NO_SYMBOL, 0);
     is_unpressed("_Z1fv", 256, SYMDEMANGLE_FLAGS, 0);
 }
@@ -320,6 +322,7 @@ static void messages(void)
     has_message(SYMDEMANGLE_MEMORY, "out of memory");
     has_message(SYMDEMANGLE_ENDS, "the ends of names are out of order");
     has_message(SYMDEMANGLE_NO_SYMBOL, "not a symbol");
+    has_message(SYMDEMANGLE_NO_SPELLING, "no spelling yet");
     has_message(12, "an unknown status");
     has_message(0xffffffffu, "an unknown status");
     for (status = 0; status < 12; status++)

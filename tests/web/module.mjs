@@ -19,7 +19,7 @@ const library = new Library(code);
 const DETAILS = { full: 0, brief: FLAG.BRIEF, "no-params": FLAG.NO_PARAMETERS, "brief-no-params": FLAG.BRIEF | FLAG.NO_PARAMETERS };
 // legacy Rust names have their texts with each grammar of C++
 const GRAMMARS = { "": [0], wide: [FLAG.WIDE], legacy: [FLAG.LEGACY, FLAG.LEGACY | FLAG.WIDE] };
-const REASONS = { "malformed at": STATUS.MALFORMED, "bad reference at": STATUS.BAD_REFERENCE, "bad value at": STATUS.BAD_VALUE, "too long": STATUS.TOO_LONG };
+const REASONS = { "malformed at": STATUS.MALFORMED, "bad reference at": STATUS.BAD_REFERENCE, "bad value at": STATUS.BAD_VALUE, "too long": STATUS.TOO_LONG, "no spelling yet": STATUS.NO_SPELLING };
 const ESCAPES = { "\\\\": "\\", "\\t": "\t", "\\n": "\n", "\\f": "\xff" };
 const plain = (field) => field.replace(/\\[\\tnf]/g, (it) => ESCAPES[it]);
 const bytesOf = (text) => Buffer.from(text, "latin1");
@@ -67,8 +67,10 @@ const known = {
         if (isName(symbol)) isRefused(kind, bytesOf(symbol), reason, flags);
     },
     press(flags, [word, spelling], kind) {
-        const { status, bytes } = library.press(bytesOf(word), flags);
-        holds(kind, status === STATUS.OK && bytesOf(spelling).equals(Buffer.from(bytes)), word);
+        const { status, bytes = [], offset = 0 } = library.press(bytesOf(word), flags);
+        const [, words, wanted] = /^(.*?) ?(\d*)$/.exec(spelling);
+        if (isName(word.replace(/^__/, "_")) && words in REASONS) holds(kind, status === REASONS[words] && offset === Number(wanted), word, status, offset);
+        else holds(kind, status === STATUS.OK && bytesOf(spelling).equals(Buffer.from(bytes)), word);
     },
     nameless(flags, [word], kind) {
         holds(kind, library.text(bytesOf(word), 100, flags).status === STATUS.NO_SYMBOL, word);

@@ -358,11 +358,12 @@ def filter_stream(source: BinaryIO, sink: BinaryIO, **options: Unpack[Keywords])
         pieces.push(piece)
 
 
-def press(name: Name) -> str:
+def press(name: Name, *, wide: bool = False) -> str:
     """The spelling of a name in which each part that repeats is a reference, so that different spellings of the same symbol become
-    equal; Refused says why there is none."""
+    equal; Refused says why there is none. With `wide` newer and rarer C++ forms are spelled, too, as far as they have a spelling."""
     given = _name(name)
-    return _string(_written(lambda flags, *buffer: _library.symdemangle_press(given, len(given), flags, *buffer), _UNDERSCORE))
+    flags = _UNDERSCORE | (_WIDE if wide else 0)
+    return _string(_written(lambda flags, *buffer: _library.symdemangle_press(given, len(given), flags, *buffer), flags))
 
 
 def counts(name: Name, *, wide: bool = True) -> Counts:

@@ -268,6 +268,9 @@ class Calls(unittest.TestCase):
         self.assertEqual(symdemangle.press("_ZN3foo3barEN3foo3bazE"), "_ZN3foo3barENS_3bazE")
         with self.assertRaises(Refused):
             symdemangle.press("_ZN1AC4Ev")
+        self.assertEqual(symdemangle.press("_Z1f1AIiENS_IcEE", wide=True), "_Z1f1AIiES_IcE")
+        with self.assertRaisesRegex(Refused, "^no spelling yet$"):
+            symdemangle.press("_ZN1a1bB5cxx11Ev", wide=True)
         self.assertEqual(symdemangle.counts("_RNvMC3fooINtB2_1AhE3baz"), Counts(18, 11, 56))
         with self.assertRaises(Refused):
             symdemangle.counts("_ZN1AC4Ev", wide=False)

@@ -11,7 +11,7 @@ use std::alloc::Global;
 use sym_core::{Refusal, fits};
 use sym_filter::{Demangled, Demangler, Lang};
 use sym_languages::languages::{Cpp, Lists};
-use sym_languages::{Abi, Languages, Legacy, Pressing, Wide};
+use sym_languages::{Abi, Languages, Legacy, Pressing, Wide, WidePressing};
 
 /// The lists of each grammar of C++, with those of Rust.
 #[derive(Drop)]
@@ -125,6 +125,13 @@ pub fn ask_pressed(verdict: &mut Verdict, lists: &mut Lists<Abi>, row: Row<'_>)
     requires { FitsSymbol row.s.now }
 {
     ask(verdict, &Pressing, lists, row);
+}
+
+/// Likewise with C++ by the wide grammar. A symbol that has no spelling is too long.
+pub fn ask_wide_pressed(verdict: &mut Verdict, lists: &mut Lists<Wide>, row: Row<'_>)
+    requires { FitsSymbol row.s.now }
+{
+    ask(verdict, &WidePressing, lists, row);
 }
 
 /// Asks for the pressed spelling of a symbol that isn't read, which is refused for the same reason. One that is too long is read.

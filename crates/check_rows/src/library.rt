@@ -7,7 +7,8 @@ use sym_calls::flags::{
     ASCII_WORDS, BRIEF, LEGACY, NO_PARAMETERS, TYPES, UNDERSCORE, WIDE, WITHIN,
 };
 use sym_calls::outcome::{
-    BAD_REFERENCE, BAD_VALUE, BUFFER, ENDS, FLAGS, MALFORMED, MEMORY, NO_SYMBOL, OK, SIZE, TOO_LONG,
+    BAD_REFERENCE, BAD_VALUE, BUFFER, ENDS, FLAGS, MALFORMED, MEMORY, NO_SPELLING, NO_SYMBOL, OK,
+    SIZE, TOO_LONG,
 };
 use sym_calls::{
     Outcome, SymbolCounts, TextTally, counts_of, filter_of, press_of, text_of, texts_of,
@@ -417,13 +418,12 @@ fn ask_status_of_counting(verdict: &mut Verdict, s: &[u8], flags: u32, status: u
     verdict.require(outcome.status == status && outcome.offset == 0 && is_uncounted(counts));
 }
 
-/// Checks that the calls refuse a number that is no flag, and pressing of what only the wide grammar has.
+/// Checks that the calls refuse a number that is no flag.
 fn ask_with_wrong_flags(verdict: &mut Verdict, s: &[u8]) {
     let limit = u32::MAX;
     ask_status(verdict, Asked::new(Call::Text, s, limit, NO_FLAG), FLAGS);
     ask_status(verdict, Asked::new(Call::Filter, s, limit, NO_FLAG), FLAGS);
     ask_status(verdict, Asked::new(Call::Press, s, limit, NO_FLAG), FLAGS);
-    ask_status(verdict, Asked::new(Call::Press, s, limit, WIDE), FLAGS);
     ask_status_of_counting(verdict, s, NO_FLAG, FLAGS);
 }
 
@@ -443,12 +443,27 @@ pub fn ask_library(verdict: &mut Verdict, row: Row<'_>) {
 
 /// Asks the static library's call that presses a symbol for its spelling.
 pub fn ask_library_to_press(verdict: &mut Verdict, s: &[u8], wanted: &[u8]) {
-    let asked = Asked::new(Call::Press, s, 0, 0);
+    ask_library_to_press_by(verdict, s, 0, wanted);
+}
+
+/// Likewise with C++ by the wide grammar.
+pub fn ask_library_to_press_wide(verdict: &mut Verdict, s: &[u8], wanted: &[u8]) {
+    ask_library_to_press_by(verdict, s, WIDE, wanted);
+}
+
+/// Likewise with flags.
+fn ask_library_to_press_by(verdict: &mut Verdict, s: &[u8], flags: u32, wanted: &[u8]) {
+    let asked = Asked::new(Call::Press, s, 0, flags);
     if is_named(s) {
         ask_for_name(verdict, asked, wanted);
     } else {
         ask_status(verdict, asked, NO_SYMBOL);
     }
+}
+
+/// Checks that the static library's call that presses says of a symbol of the wide grammar that it has no spelling.
+pub fn ask_library_unspelled(verdict: &mut Verdict, s: &[u8]) {
+    ask_status(verdict, Asked::new(Call::Press, s, 0, WIDE), NO_SPELLING);
 }
 
 /// Asks the static library's call that filters a text, as a command line says, which doesn't press.
@@ -462,6 +477,7 @@ pub fn ask_library_to_filter(
         Shown::Text => false,
         Shown::WideText => true,
         Shown::Pressed => return,
+        Shown::WidePressed => return,
     };
     let shown = flags_of(filtering.detail, is_wide, filtering.legacy);
     let flags = match filtering.letters {

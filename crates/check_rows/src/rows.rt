@@ -7,8 +7,13 @@ use crate::calls::ask_pressing;
 use crate::changes::{Change, ask_each_place};
 use crate::commands::{Ending, ask_to_demangle, ask_to_end, ask_to_filter};
 use crate::example::ask_example;
-use crate::languages::{AllLists, ask_cut, ask_demangler, ask_each, ask_pressed, ask_unpressed};
-use crate::library::{ask_library_for_type, ask_library_to_press, ask_nameless, ask_oversize};
+use crate::languages::{
+    AllLists, ask_cut, ask_demangler, ask_each, ask_pressed, ask_unpressed, ask_wide_pressed,
+};
+use crate::library::{
+    ask_library_for_type, ask_library_to_press, ask_library_to_press_wide, ask_library_unspelled,
+    ask_nameless, ask_oversize,
+};
 use crate::row::{LIMIT, Row, TOO_LONG};
 use crate::streams::ask_long_word;
 use crate::trees::ask_tree;
@@ -17,8 +22,11 @@ use std::alloc::{AllocError, Global};
 use std::str;
 use sym_core::{Refusal, fits};
 use sym_filter::{Lang, kind_of};
-use sym_languages::Abi;
 use sym_languages::languages::Lists;
+use sym_languages::{Abi, Wide};
+
+/// What a row has where a symbol has no pressed spelling.
+const NO_SPELLING: &[u8] = b"no spelling yet";
 
 /// The number of these digits.
 fn number(digits: &[u8]) -> Option<u32> {
@@ -183,6 +191,33 @@ fn ask_to_press(verdict: &mut Verdict, lists: &mut Lists<Abi>, word: &[u8], pres
     }
 }
 
+/// Asks each call that presses by the wide grammar for a word's spelling, or whether it has none.
+fn ask_to_press_wide(verdict: &mut Verdict, lists: &mut Lists<Wide>, word: &[u8], wanted: &[u8]) {
+    let Some(row) = row_of(word) else {
+        verdict.require(false);
+        return;
+    };
+    if !fits(row.s) {
+        verdict.require(false);
+        return;
+    }
+    if wanted == NO_SPELLING {
+        let unspelled = Row {
+            wanted: TOO_LONG,
+            ..row
+        };
+        ask_wide_pressed(verdict, lists, unspelled);
+        ask_library_unspelled(verdict, row.s);
+        return;
+    }
+    ask_wide_pressed(verdict, lists, Row { wanted, ..row });
+    let spelling = match row_of(wanted) {
+        Some(pressed) => pressed.s,
+        None => wanted,
+    };
+    ask_library_to_press_wide(verdict, row.s, spelling);
+}
+
 /// Asks what a row `text` says.
 fn of_text(
     verdict: &mut Verdict,
@@ -338,6 +373,19 @@ fn of_press(verdict: &mut Verdict, lists: &mut Lists<Abi>, fields: &[&[u8]]) {
     }
 }
 
+/// Asks what a row `wide press` says: a word's pressed spelling with C++ by the wide grammar, which is pressed again unchanged, or why it
+/// has none.
+fn of_wide_press(verdict: &mut Verdict, lists: &mut Lists<Wide>, fields: &[&[u8]]) {
+    let [word, wanted] = fields else {
+        verdict.require(false);
+        return;
+    };
+    ask_to_press_wide(verdict, lists, word, wanted);
+    if row_of(wanted).is_some() {
+        ask_to_press_wide(verdict, lists, wanted, wanted);
+    }
+}
+
 /// Asks what a row `tree` says.
 fn of_tree(verdict: &mut Verdict, fields: &[&[u8]]) {
     let [word, tree] = fields else {
@@ -449,6 +497,7 @@ fn of_other(
         b"type" => of_type(verdict, fields),
         b"type refused" => of_refused_type(verdict, fields),
         b"press" => of_press(verdict, &mut lists.abi, fields),
+        b"wide press" => of_wide_press(verdict, &mut lists.wide, fields),
         b"tree" => of_tree(verdict, fields),
         _ => of_program(verdict, what, fields)?,
     }

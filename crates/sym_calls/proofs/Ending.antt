@@ -1,6 +1,6 @@
 -- How a call ends, by what was answered.
 use Rattle.std.proofs.Common.{◌≡◌, ◌≢◌, ◌≤◌, inl, inr, ℕ, ◌-◌, Bool, true, false, cond, List, [], ◌++◌, length, take, drop, Option, Some, Result, Ok, Err, refl, sym, ap, subst, ◌∙◌, arith}
-use Rattle.std.specs.Prelude.{nat_le, IfSome}
+use Rattle.std.specs.Prelude.{nat_le, IfSome, ◌==◌}
 use Rattle.std.proofs.lemmas.List.{length-drop, take_all}
 use Rattle.sym_core.specs.declared.refusal.Refusal.{Refusal}
 use Rattle.sym_core.specs.declared.refusal.Refusal.TheVariants.{Malformed, BadReference, BadValue, TooLong, Memory}
@@ -13,12 +13,13 @@ use Rattle.sym_filter.specs.Demangled.{IsAppended}
 use Rattle.sym_filter.specs.declared.kinds.Kind.{Kind}
 use Rattle.sym_filter.specs.Kinds.{symbol_of}
 use Rattle.sym_languages.specs.Languages.{answer_of, answers_by, cpp_by, wide_answer_of, pressed_of, AreCountsOf, AreWideCountsOf}
+use Rattle.sym_languages.specs.WidePressed.{wide_pressed_of}
 use Rattle.sym_filter.specs.Runs.{Answering, filtered_at, tally_at}
 use Rattle.sym_calls.specs.declared.counting.SymbolCounts.{SymbolCounts}
 use Rattle.sym_calls.specs.declared.flags.Asked.{Asked}
 use Rattle.sym_calls.specs.declared.filtering.TextTally.{TextTally}
 use Rattle.sym_calls.specs.declared.outcome.Outcome.{Outcome}
-use Rattle.sym_calls.specs.Calls.{CountingEndsAs, CountingEndsBy, Ending, EndsAs, IsCounted, IsTallied, IsTextWritten, NameCounted, Tallied, answered, answers_at, filter_told, ending_of, named, name_or_type_told, name_told, numbers_of, press_told, refused, status_alone, text_told, told_of, written}
+use Rattle.sym_calls.specs.Calls.{CountingEndsAs, CountingEndsBy, Ending, EndsAs, IsCounted, IsTallied, IsTextWritten, NameCounted, PressEndsAs, Tallied, answered, answers_at, filter_told, ending_of, named, name_or_type_told, name_told, numbers_of, press_told, refused, status_alone, text_told, told_of, unspelled, written}
 
 -- what follows the first n bytes, as a slice
 pub rest-of : (at : ℕ) (bytes : List ℕ) → take (length bytes - at) (drop at bytes) ≡ drop at bytes
@@ -123,11 +124,33 @@ unfolding text_told
 text-ends option asked limit name buffer found is ends = subst (λ o. EndsAs (text_told o limit name buffer) buffer found) (sym is) ends
 
 pub press-ends : (option : Option Asked) (asked : Asked) (name buffer : List ℕ) (found : Ending) → option ≡ Some asked → asked.wide ≡ false
-    → EndsAs (name_told pressed_of asked name buffer) buffer found → EndsAs (press_told option name buffer) buffer found
+    → EndsAs (name_told pressed_of asked name buffer) buffer found → PressEndsAs (press_told option name buffer) buffer found
 unfolding press_told
 press-ends option asked name buffer found is narrow ends =
-    subst (λ o. EndsAs (press_told o name buffer) buffer found) (sym is)
-    (subst (λ b. EndsAs (cond b (status_alone 8 buffer) (name_told pressed_of asked name buffer)) buffer found) (sym narrow) ends)
+    let wide = unspelled (name_told wide_pressed_of asked name buffer) in
+    inl (subst (λ o. EndsAs (press_told o name buffer) buffer found) (sym is)
+    (subst (λ b. EndsAs (cond b wide (name_told pressed_of asked name buffer)) buffer found) (sym narrow) ends))
+
+-- a lack of memory stays one, and takes the place of what may run out
+lacks-memory : (told : Ending) (buffer : List ℕ) (test : Bool) → test ≡ (told.status == 4) → told.status ≤ 6
+    → PressEndsAs (cond test (status_alone 12 told.buffer) told) buffer (status_alone 5 buffer)
+lacks-memory told buffer true is low = inr (refl, refl)
+lacks-memory told buffer false is low = inl (inr (low, refl))
+
+unspelled-ends : (told : Ending) (buffer : List ℕ) (found : Ending) → EndsAs told buffer found → PressEndsAs (unspelled told) buffer (unspelled found)
+unfolding unspelled
+unspelled-ends told buffer found (inl same) = inl (inl (ap (λ (ending : Ending). unspelled ending) same))
+unspelled-ends told buffer found (inr (low, none)) =
+    subst (λ (ending : Ending). PressEndsAs (unspelled told) buffer (unspelled ending)) (sym none) (lacks-memory told buffer (told.status == 4) refl low)
+
+pub wide-press-ends : (option : Option Asked) (asked : Asked) (name buffer : List ℕ) (found last : Ending) → option ≡ Some asked → asked.wide ≡ true
+    → EndsAs (name_told wide_pressed_of asked name buffer) buffer found → last ≡ unspelled found → PressEndsAs (press_told option name buffer) buffer last
+unfolding press_told
+wide-press-ends option asked name buffer found last is wide ends turns =
+    let told = unspelled (name_told wide_pressed_of asked name buffer) in
+    subst (λ o. PressEndsAs (press_told o name buffer) buffer last) (sym is)
+    (subst (λ b. PressEndsAs (cond b told (name_told pressed_of asked name buffer)) buffer last) (sym wide)
+    (subst (λ (ending : Ending). PressEndsAs told buffer ending) (sym turns) (unspelled-ends (name_told wide_pressed_of asked name buffer) buffer found ends)))
 
 pub filter-asked : (option : Option Asked) (asked : Asked) (limit : ℕ) (text buffer : List ℕ) (found : Ending) → option ≡ Some asked
     → EndsAs (written (filtered_at asked.letters (answers_at asked limit) text) buffer) buffer found → EndsAs (filter_told option limit text buffer) buffer found

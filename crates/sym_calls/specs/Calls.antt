@@ -10,6 +10,7 @@ use Rattle.sym_filter.specs.declared.kinds.Letters.{Letters}
 use Rattle.sym_filter.specs.declared.words.Tally.{Tally}
 use Rattle.sym_filter.specs.Kinds.{kind_by_beginning, symbol_of}
 use Rattle.sym_languages.specs.Languages.{answer_of, answers_by, cpp_by, wide_answer_of, AreCountsOf, AreWideCountsOf, pressed_of}
+use Rattle.sym_languages.specs.WidePressed.{wide_pressed_of}
 use Rattle.sym_filter.specs.Runs.{Answering, filtered_at, tally_at}
 use Rattle.type_names.specs.Types.{is_type_word, type_answer}
 use Rattle.sym_calls.specs.declared.flags.Asked.{Asked}
@@ -118,10 +119,15 @@ unfoldable pub text_told : Option Asked → (limit : ℕ) → (name buffer : Lis
 text_told None limit name buffer = status_alone 8 buffer
 text_told (Some asked) limit name buffer = name_or_type_told (answers_at asked limit) asked name buffer
 
--- the pressed spelling of a name's symbol, which isn't defined with the wide grammar
+-- A symbol that is read and has no pressed spelling (4, since pressing has no limit) has a status of its own.
+unfoldable pub unspelled : Ending → Ending
+unspelled ending = if ending.status == 4 then status_alone 12 ending.buffer else ending
+
+-- the pressed spelling of a name's symbol
 unfoldable pub press_told : Option Asked → (name buffer : List ℕ) → Ending
 press_told None name buffer = status_alone 8 buffer
-press_told (Some asked) name buffer = if asked.wide then status_alone 8 buffer else name_told pressed_of asked name buffer
+press_told (Some asked) name buffer =
+    if asked.wide then unspelled (name_told wide_pressed_of asked name buffer) else name_told pressed_of asked name buffer
 
 -- a text with each word that has a text replaced by it
 unfoldable pub filter_told : Option Asked → (limit : ℕ) → (text buffer : List ℕ) → Ending
@@ -132,6 +138,10 @@ filter_told (Some asked) limit text buffer = written (filtered_at asked.letters 
 -- run out.
 abbrev pub EndsAs : (wanted : Ending) → (old_buffer : List ℕ) → (found : Ending) → Type 0
 EndsAs wanted old_buffer found = (found ≡ wanted) ⊎ ((wanted.status ≤ 6) × (found ≡ status_alone 5 old_buffer))
+
+-- A call that presses ends as others do; it may also run out of memory where a symbol has no spelling (12).
+abbrev pub PressEndsAs : (wanted : Ending) → (old_buffer : List ℕ) → (found : Ending) → Type 0
+PressEndsAs wanted old_buffer found = EndsAs wanted old_buffer found ⊎ ((wanted.status ≡ 12) × (found ≡ status_alone 5 old_buffer))
 
 -- the numbers of a tally
 abbrev pub tally_of : TextTally → Tally

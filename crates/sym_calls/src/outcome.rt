@@ -1,6 +1,6 @@
 // What a call reports to its caller: a status with what goes with it, and the bytes in the caller's buffer.
 ghost use Rattle.std.specs.Prelude.{◌≡◌};
-ghost use Rattle.sym_calls.specs.Calls.{ending_of, refused, written};
+ghost use Rattle.sym_calls.specs.Calls.{ending_of, refused, unspelled, written};
 
 use sym_core::Refusal;
 
@@ -36,6 +36,8 @@ pub const FLAGS: u32 = 8;
 pub const ENDS: u32 = 10;
 /// The name begins as no symbol does.
 pub const NO_SYMBOL: u32 = 11;
+/// The symbol is read by the wide grammar, and its pressed spelling isn't read as the same.
+pub const NO_SPELLING: u32 = 12;
 
 /// A status with nothing else.
 pub(crate) fn alone(status: u32) -> Outcome
@@ -78,6 +80,17 @@ pub(crate) fn of_refusal(refusal: Refusal, skip: u32, buffer: &[u8]) -> Outcome
         Refusal::TooLong => alone(TOO_LONG),
         Refusal::Memory => alone(MEMORY),
     }
+}
+
+/// The outcome of a call that presses, where a symbol that is too long has no spelling.
+#[tactic(auto, unfolding(crate::specs::Calls::unspelled))]
+pub(crate) fn unspelled(outcome: Outcome, buffer: &[u8]) -> Outcome
+    ensures { ending_of result buffer.now ≡ unspelled (ending_of outcome buffer.now) }
+{
+    if outcome.status == TOO_LONG {
+        return alone(NO_SPELLING);
+    }
+    outcome
 }
 
 /// Writes bytes to the front of the buffer, or says how large it has to be.

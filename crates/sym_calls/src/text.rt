@@ -8,10 +8,10 @@ ghost use Rattle.rust_grammar.specs.Mangled.{v0_mangled};
 ghost use Rattle.sym_filter.specs.declared.kinds.TheConstants.{LONGEST_WORD};
 ghost use Rattle.sym_languages.specs.Languages.{answers_by, language_answer_by};
 ghost use Rattle.type_names.specs.Types.{type_answer};
-ghost use Rattle.sym_calls.specs.Calls.{EndsAs, IsTextWritten, answered, asked_of, ending_of, name_or_type_told, name_told, press_told, text_told};
+ghost use Rattle.sym_calls.specs.Calls.{EndsAs, IsTextWritten, PressEndsAs, answered, asked_of, ending_of, name_or_type_told, name_told, press_told, text_told};
 
 use crate::flags::{Asked, asked_of};
-use crate::outcome::{FLAGS, Outcome, alone, no_memory, of_refusal, write};
+use crate::outcome::{FLAGS, Outcome, alone, no_memory, of_refusal, unspelled, write};
 use rust_short_way::write_brief;
 use rust_v0::V0;
 use std::alloc::Global;
@@ -19,7 +19,7 @@ use sym_core::Refusal;
 use sym_demangle::Mangling;
 use sym_filter::{Demangled, Demangler, Kind, Lang};
 use sym_languages::languages::Cpp;
-use sym_languages::{Abi, Languages, Legacy, Pressing, Wide, may_be_legacy};
+use sym_languages::{Abi, Languages, Legacy, Pressing, Wide, WidePressing, may_be_legacy};
 use sym_print::Detail;
 use type_names::append_type;
 
@@ -305,13 +305,14 @@ pub fn text_of(alloc: Global, name: &[u8], limit: u32, flags: u32, buffer: &mut 
 /// Otherwise the outcome says why not, and the buffer stays as it is.
 #[tactic(auto, unfolding(crate::specs::Calls::press_told))]
 pub fn press_of(alloc: Global, name: &[u8], flags: u32, buffer: &mut [u8]) -> Outcome
-    ensures { EndsAs (press_told (asked_of flags) name.now buffer.old) buffer.old (ending_of result buffer.new) }
+    ensures { PressEndsAs (press_told (asked_of flags) name.now buffer.old) buffer.old (ending_of result buffer.new) }
 {
     let Some(asked) = asked_of(flags) else {
         return alone(FLAGS);
     };
     if asked.wide {
-        return alone(FLAGS);
+        let outcome = name_by(alloc, &WidePressing, asked, name, buffer);
+        return unspelled(outcome, buffer);
     }
     name_by(alloc, &Pressing, asked, name, buffer)
 }

@@ -13,6 +13,7 @@ use Rattle.sym_filter.specs.Runs.{Answering, is_read, text_for}
 use Rattle.sym_filter.specs.Streams.{BeginsWith}
 use Rattle.sym_core.specs.declared.refusal.Refusal.TheVariants.{Malformed, BadReference, BadValue, TooLong, Memory}
 use Rattle.sym_core.specs.declared.counts.Counts.{Counts}
+use Rattle.sym_command.specs.declared.options.Asked.{Asked}
 use Rattle.sym_command.specs.Lines.{answer_for, is_read_word, line_of, counts_text, complaint_about, complaint_of, status_of, Counting, AreCountsFor, IsCountsLine, IsBehindLine, AreLines}
 
 pub answer_for-named : (answers : Answering) (word : List ℕ) (kind : Kind) (answer : Result (List ℕ) Refusal) → kind_of word ≡ Some kind → answers kind (symbol_of kind word) ≡ answer → answer_for answers word ≡ Some answer
@@ -38,8 +39,8 @@ word-line answers word bytes out mid new none same given pushed =
     pushed ∙ ap (λ (t : List ℕ). t ++ bytes ++ 10 ∷ []) given ∙ ap (λ (t : List ℕ). out ++ t ++ 10 ∷ []) same ∙ append_assoc out word (10 ∷ []) ∙ ap (λ o. out ++ (unwrap_or o word ++ 10 ∷ [])) (sym none)
 
 -- what is said of a word, by what is answered for it
-pub complaint-line : (answers : Answering) (word err new : List ℕ) (answer : Option (Result (List ℕ) Refusal)) → answer_for answers word ≡ answer → new ≡ err ++ complaint_about word answer → new ≡ err ++ complaint_of answers word
-complaint-line answers word err new answer is said = said ∙ ap (λ a. err ++ complaint_about word a) (sym is)
+pub complaint-line : (asked : Asked) (answers : Answering) (word err new : List ℕ) (answer : Option (Result (List ℕ) Refusal)) → answer_for answers word ≡ answer → new ≡ err ++ complaint_about asked word answer → new ≡ err ++ complaint_of asked answers word
+complaint-line asked answers word err new answer is said = said ∙ ap (λ a. err ++ complaint_about asked word a) (sym is)
 
 -- the words so far, with the next
 pub words-more : (words : List (Bor (List ℕ))) (i : ℕ) (d : Bor (List ℕ)) → i < length words → map (λ word. word.now) (take (i + 1) words) ≡ map (λ word. word.now) (take i words) ++ (get_or words i d).now ∷ []

@@ -8,18 +8,19 @@ use Rattle.sym_filter.specs.declared.streams.FilterFault.{FilterFault}
 use Rattle.sym_filter.specs.Runs.{Answering}
 use Rattle.sym_filter.specs.Streams.{BeginsWith, Puts, PutsFront}
 use Rattle.sym_filter.proofs.StreamLemmas.{Appends-none, Puts-push, Puts-join, Puts-same, Puts-all, PutsFront-of, PutsFront-join}
+use Rattle.sym_command.specs.declared.options.Asked.{Asked}
 use Rattle.sym_command.specs.Lines.{Counting, AreLines, AreCountsFor, IsBehindLine, answer_for, is_read_word, line_of, complaint_of, status_of}
 use Rattle.sym_command.specs.Command.{Took, Says, AnswersWords, AnswersFront}
 use Rattle.sym_command.proofs.LineLemmas.{AreLines-more}
 
-pub record SoFar (answers : Answering) (counting : Counting) (stats : Bool) (words : List (List ℕ)) (out out' err err' : Option (List ℕ)) (lines_wait said_wait : List ℕ) : Type 0 where
+pub record SoFar (asked : Asked) (answers : Answering) (counting : Counting) (stats : Bool) (words : List (List ℕ)) (out out' err err' : Option (List ℕ)) (lines_wait said_wait : List ℕ) : Type 0 where
   pub lines : List ℕ
   pub are_lines : AreLines answers counting stats words lines
   pub puts : Puts out out' [] lines_wait lines
-  pub says : Puts err err' [] said_wait (flat_map (complaint_of answers) words)
+  pub says : Puts err err' [] said_wait (flat_map (complaint_of asked answers) words)
 
-module _ (answers : Answering) (counting : Counting) (stats : Bool) where
-  pub SoFar-begin : (out err : Option (List ℕ)) (lines_wait said_wait : List ℕ) → lines_wait ≡ [] → said_wait ≡ [] → SoFar answers counting stats [] out out err err lines_wait said_wait
+module _ (asked : Asked) (answers : Answering) (counting : Counting) (stats : Bool) where
+  pub SoFar-begin : (out err : Option (List ℕ)) (lines_wait said_wait : List ℕ) → lines_wait ≡ [] → said_wait ≡ [] → SoFar asked answers counting stats [] out out err err lines_wait said_wait
   SoFar-begin out err lines_wait said_wait none nothing = record {
     lines = [];
     are_lines = refl;
@@ -28,11 +29,11 @@ module _ (answers : Answering) (counting : Counting) (stats : Bool) where
   }
 
   -- a word more
-  pub SoFar-word : (words all : List (List ℕ)) (word : List ℕ) (out out' err err' : Option (List ℕ)) (lines_wait lines_wait' said_wait said_wait' behind : List ℕ) → SoFar answers counting stats words out out' err err' lines_wait said_wait
+  pub SoFar-word : (words all : List (List ℕ)) (word : List ℕ) (out out' err err' : Option (List ℕ)) (lines_wait lines_wait' said_wait said_wait' behind : List ℕ) → SoFar asked answers counting stats words out out' err err' lines_wait said_wait
       → all ≡ words ++ word ∷ [] → lines_wait' ≡ lines_wait ++ line_of answers word ++ behind → IsBehindLine (AreCountsFor counting word) (stats && is_read_word (answer_for answers word)) behind
-      → said_wait' ≡ said_wait ++ complaint_of answers word → SoFar answers counting stats all out out' err err' lines_wait' said_wait'
+      → said_wait' ≡ said_wait ++ complaint_of asked answers word → SoFar asked answers counting stats all out out' err err' lines_wait' said_wait'
   SoFar-word words all word out out' err err' lines_wait lines_wait' said_wait said_wait' behind so_far e pushed here said =
-      let complaints = complaint_of answers in
+      let complaints = complaint_of asked answers in
       let more = line_of answers word ++ behind in
       let all_said : flat_map complaints words ++ complaints word ≡ flat_map complaints all =
       ap (λ (t : List ℕ). flat_map complaints words ++ t) (sym (append-nil (complaints word))) ∙ sym (ap (flat_map complaints) e ∙ flat_map-append complaints words (word ∷ [])) in record {
@@ -44,10 +45,10 @@ module _ (answers : Answering) (counting : Counting) (stats : Bool) where
       }
 
   -- some of what waits is written
-  pub SoFar-written : (words : List (List ℕ)) (out mid out' err mid' err' : Option (List ℕ)) (lines_wait lines_wait' said_wait said_wait' : List ℕ) → SoFar answers counting stats words out mid err mid' lines_wait said_wait
-      → Puts mid out' lines_wait lines_wait' [] → Puts mid' err' said_wait said_wait' [] → SoFar answers counting stats words out out' err err' lines_wait' said_wait'
+  pub SoFar-written : (words : List (List ℕ)) (out mid out' err mid' err' : Option (List ℕ)) (lines_wait lines_wait' said_wait said_wait' : List ℕ) → SoFar asked answers counting stats words out mid err mid' lines_wait said_wait
+      → Puts mid out' lines_wait lines_wait' [] → Puts mid' err' said_wait said_wait' [] → SoFar asked answers counting stats words out out' err err' lines_wait' said_wait'
   SoFar-written words out mid out' err mid' err' lines_wait lines_wait' said_wait said_wait' so_far p q =
-      let said = flat_map (complaint_of answers) words in record {
+      let said = flat_map (complaint_of asked answers) words in record {
         lines = so_far.lines;
         are_lines = so_far.are_lines;
         puts = Puts-same out out' [] lines_wait' (so_far.lines ++ []) so_far.lines (append-nil so_far.lines) (Puts-join out mid out' [] lines_wait lines_wait' so_far.lines [] so_far.puts p);
@@ -55,10 +56,10 @@ module _ (answers : Answering) (counting : Counting) (stats : Bool) where
       }
 
   -- or a beginning of it
-  pub SoFar-stopped : (words all rest : List (List ℕ)) (out mid out' err mid' err' : Option (List ℕ)) (lines_wait said_wait : List ℕ) → SoFar answers counting stats words out mid err mid' lines_wait said_wait
-      → all ≡ words ++ rest → PutsFront mid out' lines_wait [] → PutsFront mid' err' said_wait [] → Took out out' err err' (AnswersFront answers counting stats all)
+  pub SoFar-stopped : (words all rest : List (List ℕ)) (out mid out' err mid' err' : Option (List ℕ)) (lines_wait said_wait : List ℕ) → SoFar asked answers counting stats words out mid err mid' lines_wait said_wait
+      → all ≡ words ++ rest → PutsFront mid out' lines_wait [] → PutsFront mid' err' said_wait [] → Took out out' err err' (AnswersFront asked answers counting stats all)
   SoFar-stopped words all rest out mid out' err mid' err' lines_wait said_wait so_far e p q =
-      let said = flat_map (complaint_of answers) words in
+      let said = flat_map (complaint_of asked answers) words in
       let o = PutsFront-join out mid out' [] lines_wait so_far.lines [] so_far.puts p in
       let s = PutsFront-join err mid' err' [] said_wait said [] so_far.says q in record {
         lines = o.gone;
@@ -77,15 +78,15 @@ module _ (answers : Answering) (counting : Counting) (stats : Bool) where
       }
 
   -- all of it
-  pub SoFar-all : (words all : List (List ℕ)) (status : ℕ) (out mid out' err mid' err' : Option (List ℕ)) (lines_wait said_wait : List ℕ) → SoFar answers counting stats words out mid err mid' lines_wait said_wait
-      → all ≡ words → status ≡ status_of answers words → Puts mid out' lines_wait [] [] → Puts mid' err' said_wait [] [] → Took out out' err err' (AnswersWords answers counting stats all status)
+  pub SoFar-all : (words all : List (List ℕ)) (status : ℕ) (out mid out' err mid' err' : Option (List ℕ)) (lines_wait said_wait : List ℕ) → SoFar asked answers counting stats words out mid err mid' lines_wait said_wait
+      → all ≡ words → status ≡ status_of answers words → Puts mid out' lines_wait [] [] → Puts mid' err' said_wait [] [] → Took out out' err err' (AnswersWords asked answers counting stats all status)
   SoFar-all words all status out mid out' err mid' err' lines_wait said_wait so_far e is p q =
       let written = SoFar-written words out mid out' err mid' err' lines_wait [] said_wait [] so_far p q in
-      subst (λ (ws : List (List ℕ)). Took out out' err err' (AnswersWords answers counting stats ws status)) (sym e) (record {
+      subst (λ (ws : List (List ℕ)). Took out out' err err' (AnswersWords asked answers counting stats ws status)) (sym e) (record {
         lines = written.lines;
-        said = flat_map (complaint_of answers) words;
+        said = flat_map (complaint_of asked answers) words;
         to_out = Puts-all out out' written.lines written.puts;
-        to_err = Puts-all err err' (flat_map (complaint_of answers) words) written.says;
+        to_err = Puts-all err err' (flat_map (complaint_of asked answers) words) written.says;
         held = record { are_lines = written.are_lines; complaints = refl; ends = is };
       })
 

@@ -4,6 +4,7 @@ use Rattle.std.specs.List.{flat_map}
 use Rattle.std.specs.Io.KnownBytes.{Appends}
 use Rattle.sym_filter.specs.Runs.{Answering}
 use Rattle.sym_filter.specs.Streams.{BeginsWith}
+use Rattle.sym_command.specs.declared.options.Asked.{Asked}
 use Rattle.sym_command.specs.Lines.{Counting, AreLines, complaint_of, status_of}
 
 -- a stream took some bytes
@@ -19,17 +20,17 @@ pub record Took (out out' err err' : Option (List ℕ)) (holds : List ℕ → Li
   pub held : holds lines said
 
 -- the words are answered: by their lines, what is said of those that have no text, and the status
-pub record AnswersWords (answers : Answering) (counting : Counting) (stats : Bool) (words : List (List ℕ)) (status : ℕ) (lines said : List ℕ) : Type 0 where
+pub record AnswersWords (asked : Asked) (answers : Answering) (counting : Counting) (stats : Bool) (words : List (List ℕ)) (status : ℕ) (lines said : List ℕ) : Type 0 where
   pub are_lines : AreLines answers counting stats words lines
-  pub complaints : said ≡ flat_map (complaint_of answers) words
+  pub complaints : said ≡ flat_map (complaint_of asked answers) words
   pub ends : status ≡ status_of answers words
 
 -- what was written are beginnings of the lines of the first words, and of what is said of them
-pub record AnswersFront (answers : Answering) (counting : Counting) (stats : Bool) (words : List (List ℕ)) (lines said : List ℕ) : Type 0 where
+pub record AnswersFront (asked : Asked) (answers : Answering) (counting : Counting) (stats : Bool) (words : List (List ℕ)) (lines said : List ℕ) : Type 0 where
   pub first : List (List ℕ)
   pub rest : List (List ℕ)
   pub are_first : words ≡ first ++ rest
   pub whole : List ℕ
   pub are_lines : AreLines answers counting stats first whole
   pub lines_begin : BeginsWith whole lines
-  pub said_begin : BeginsWith (flat_map (complaint_of answers) first) said
+  pub said_begin : BeginsWith (flat_map (complaint_of asked answers) first) said

@@ -1,5 +1,5 @@
 -- The command line: which options there are, what they request, and what its parser finds in its words.
-use Rattle.std.specs.Prelude.{◌≡◌, ◌⊎◌, ◌<◌, ◌^◌, ℕ, pos, List, [], ◌∷◌, Bool, true, false, Option, Some, None, codes, unwrap_or, if◌then◌else◌}
+use Rattle.std.specs.Prelude.{◌≡◌, ◌<◌, ◌^◌, ℕ, pos, List, [], ◌∷◌, Bool, true, false, Option, Some, None, codes, unwrap_or, if◌then◌else◌}
 use Rattle.std.specs.Str.Parse.{IsNumeral, digits_value, without_leading_plus}
 use Rattle.clap.specs.Lexer.{usize_max}
 use Rattle.clap.specs.Words.{Text, Rule, Row, App, Kinds, new_rule, new_app, matches_of, fault_of, one_of, all_of}
@@ -10,7 +10,7 @@ use Rattle.sym_print.specs.declared.detail.Detail.TheVariants.{Full, Brief, NoPa
 use Rattle.sym_filter.specs.declared.kinds.Letters.{Letters}
 use Rattle.sym_filter.specs.declared.kinds.Letters.TheVariants.{Any, Ascii}
 use Rattle.sym_command.specs.declared.options.Asked.{Asked}
-use Rattle.sym_command.specs.declared.options.Asked.TheVariants.{Text as PlainText, WideText, Pressed}
+use Rattle.sym_command.specs.declared.options.Asked.TheVariants.{Text as PlainText, WideText, Pressed, WidePressed}
 use Rattle.sym_command.specs.declared.options.Options.{Options}
 use Rattle.sym_command.specs.declared.outcome.Filtering.{Filtering}
 
@@ -60,12 +60,12 @@ abbrev pub letters_by : Bool → Letters
 letters_by true = Ascii
 letters_by false = Any
 
--- what `--press` and `--wide` request for each symbol; they don't go together
-abbrev pub asked_by : Bool → Bool → Option Asked
-asked_by false false = Some PlainText
-asked_by false true = Some WideText
-asked_by true false = Some Pressed
-asked_by true true = None
+-- what `--press` and `--wide` request for each symbol
+abbrev pub asked_by : Bool → Bool → Asked
+asked_by false false = PlainText
+asked_by false true = WideText
+asked_by true false = Pressed
+asked_by true true = WidePressed
 
 -- a flag's value, as its parser found it
 abbrev pub IsFlagOf : Option Text → Bool → Type 0
@@ -101,12 +101,7 @@ pub record AreGiven (rows : List Row) (options : Options) : Type 0 where
   pub legacy : IsFlag rows (codes "legacy") options.legacy
   pub detail : options.detail ≡ detail_by brief no_params
   pub letters : options.letters ≡ letters_by ascii_words
-  pub asked : Some options.asked ≡ asked_by press wide
-
--- the options, or none where they don't go together
-abbrev pub AreOptions : List Row → Option Options → Type 0
-AreOptions rows (Some options) = AreGiven rows options
-AreOptions rows None = IsFlag rows (codes "press") true × IsFlag rows (codes "wide") true
+  pub asked : options.asked ≡ asked_by press wide
 
 -- the symbols, as the parser found them
 abbrev pub symbols_of : List Row → List Text
@@ -125,9 +120,9 @@ pub record AsksFilter (rows : List Row) (filtering : Filtering) : Type 0 where
   pub no_symbol : symbols_of rows ≡ []
   pub is : filtering_by options ≡ Some filtering
 
--- options that don't go together, or that need a symbol where there is none
+-- options that need a symbol where there is none
 abbrev pub AreRefused : List Row → Type 0
-AreRefused rows = AreOptions rows None ⊎ ((options : Options) × AreGiven rows options × (symbols_of rows ≡ []) × (filtering_by options ≡ None))
+AreRefused rows = (options : Options) × AreGiven rows options × (symbols_of rows ≡ []) × (filtering_by options ≡ None)
 
 -- ## The words of a command line, the program's name first
 

@@ -9,6 +9,8 @@ use Rattle.sym_filter.specs.declared.kinds.Kind.{Kind}
 use Rattle.sym_filter.specs.declared.kinds.Lang.{Lang}
 use Rattle.sym_filter.specs.Kinds.{kind_of, symbol_of}
 use Rattle.sym_filter.specs.Runs.{Answering, is_read, text_for, word_or_text}
+use Rattle.sym_command.specs.declared.options.Asked.{Asked}
+use Rattle.sym_command.specs.declared.options.Asked.TheVariants.{WidePressed}
 
 -- what is answered for a word's symbol, where it names one
 unfoldable pub answer_for : Answering → List ℕ → Option (Result (List ℕ) Refusal)
@@ -63,18 +65,24 @@ reason_of (BadValue at) = codes "bad value at " ++ decimal at
 reason_of TooLong = codes "too long"
 reason_of Memory = []
 
+-- Why it has no answer, by what was requested. Pressing has no limit: a symbol of the wide grammar that is read and refused has no
+-- spelling that is read as the symbol.
+abbrev pub reason_for : Asked → Refusal → List ℕ
+reason_for WidePressed TooLong = codes "no spelling yet"
+reason_for asked refusal = reason_of refusal
+
 -- what is said of a word that has no text
 abbrev pub complaint_with : List ℕ → List ℕ → List ℕ
 complaint_with word reason = codes "symfilt: " ++ (word ++ (codes ": " ++ reason))
 
 -- the line on standard error that says why a word has no text, if it has none
-abbrev pub complaint_about : List ℕ → Option (Result (List ℕ) Refusal) → List ℕ
-complaint_about word None = complaint_with word (codes "not a symbol") ++ 10 ∷ []
-complaint_about word (Some (Ok text)) = []
-complaint_about word (Some (Err refusal)) = complaint_with word (reason_of refusal) ++ 10 ∷ []
+abbrev pub complaint_about : Asked → List ℕ → Option (Result (List ℕ) Refusal) → List ℕ
+complaint_about asked word None = complaint_with word (codes "not a symbol") ++ 10 ∷ []
+complaint_about asked word (Some (Ok text)) = []
+complaint_about asked word (Some (Err refusal)) = complaint_with word (reason_for asked refusal) ++ 10 ∷ []
 
-abbrev pub complaint_of : Answering → List ℕ → List ℕ
-complaint_of answers word = complaint_about word (answer_for answers word)
+abbrev pub complaint_of : Asked → Answering → List ℕ → List ℕ
+complaint_of asked answers word = complaint_about asked word (answer_for answers word)
 
 -- the status: 0 where each word has a text, else 1
 abbrev pub status_of : Answering → List (List ℕ) → ℕ

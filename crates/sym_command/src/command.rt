@@ -4,6 +4,7 @@ ghost use Rattle.sym_filter.specs.Streams.{writer_faults};
 ghost use Rattle.sym_command.specs.Command.{Took, AnswersWords, AnswersFront, Says};
 
 use crate::lines::answer_word;
+use crate::options::Options;
 use crate::page::Page;
 use std::alloc::Global;
 use sym_filter::{Demangler, FilterFault, Sink, write_all};
@@ -38,11 +39,11 @@ pub fn refuse_with<E: Sink>(err: &mut E, why: &[u8]) -> Result<u8, FilterFault>
     }
 }
 
-/// Writes the lines of words, and answers the status: whether each has a text.
+/// Writes the lines of words as the options request, and answers the status: whether each has a text.
 pub fn answer_words<D: Demangler, W: Sink, E: Sink>(
     alloc: Global,
     demangler: &D,
-    stats: bool,
+    options: Options,
     words: &[&str],
     out: &mut W,
     err: &mut E,
@@ -50,9 +51,9 @@ pub fn answer_words<D: Demangler, W: Sink, E: Sink>(
     requires out_failures { W.failure_count out.old < 2 ^ 64 - 1 }
     requires err_failures { E.failure_count err.old < 2 ^ 64 - 1 }
     ensures ok { IfOk result (λ status. Took (W.taken out.old) (W.taken out.new) (E.taken err.old) (E.taken err.new)
-        (AnswersWords (D.answer demangler.now) (D.are_counts demangler.now) stats (map (λ word. word.now) words.now) status)) }
+        (AnswersWords options.asked (D.answer demangler.now) (D.are_counts demangler.now) options.stats (map (λ word. word.now) words.now) status)) }
     ensures err { OnErr result (Took (W.taken out.old) (W.taken out.new) (E.taken err.old) (E.taken err.new)
-        (AnswersFront (D.answer demangler.now) (D.are_counts demangler.now) stats (map (λ word. word.now) words.now))) }
+        (AnswersFront options.asked (D.answer demangler.now) (D.are_counts demangler.now) options.stats (map (λ word. word.now) words.now))) }
     ensures fault { IfErr result (λ fault. fault ≢ FilterFault.Read) }
     ensures failures { W.failure_count out.new + E.failure_count err.new
         ≡ W.failure_count out.old + E.failure_count err.old + writer_faults result }
@@ -65,7 +66,7 @@ pub fn answer_words<D: Demangler, W: Sink, E: Sink>(
             alloc,
             demangler,
             &mut lists,
-            stats,
+            options,
             word,
             &mut page.out,
             &mut page.err,

@@ -3,8 +3,9 @@ ghost use Rattle.std.specs.Prelude.{◌≡◌, ◌≢◌, List, ℕ, [], ◌∷�
 ghost use Rattle.sym_filter.specs.Kinds.{kind_of};
 ghost use Rattle.sym_filter.specs.Runs.{text_for};
 ghost use Rattle.sym_filter.specs.Streams.{BeginsWith};
-ghost use Rattle.sym_command.specs.Lines.{answer_for, is_read_word, line_of, counts_text, AreCountsFor, IsBehindLine, reason_of, complaint_with, complaint_of};
+ghost use Rattle.sym_command.specs.Lines.{answer_for, is_read_word, line_of, counts_text, AreCountsFor, IsBehindLine, reason_of, reason_for, complaint_with, complaint_of};
 
+use crate::options::{Asked, Options};
 use std::alloc::{AllocError, Global};
 use sym_core::{Counts, Refusal};
 use sym_filter::{Demangled, Demangler, Kind, kind_of};
@@ -14,15 +15,15 @@ pub fn answer_word<D: Demangler>(
     alloc: Global,
     demangler: &D,
     lists: &mut D::Lists,
-    stats: bool,
+    options: Options,
     word: &str,
     out: &mut Vec<u8>,
     err: &mut Vec<u8>,
 ) -> Result<bool, AllocError>
     ensures line { OnOk result ((behind : List ℕ)
         × (out.new.items ≡ out.old.items ++ line_of (D.answer demangler.now) word.now ++ behind)
-        × IsBehindLine (AreCountsFor (D.are_counts demangler.now) word.now) (stats && is_read_word (answer_for (D.answer demangler.now) word.now)) behind) }
-    ensures complaint { OnOk result (err.new.items ≡ err.old.items ++ complaint_of (D.answer demangler.now) word.now) }
+        × IsBehindLine (AreCountsFor (D.are_counts demangler.now) word.now) (options.stats && is_read_word (answer_for (D.answer demangler.now) word.now)) behind) }
+    ensures complaint { OnOk result (err.new.items ≡ err.old.items ++ complaint_of options.asked (D.answer demangler.now) word.now) }
     ensures has_text { IfOk result (λ has_text. has_text
         ≡ is_some (text_for (D.answer demangler.now) word.now)) }
     ensures same_out { OnErr result (out.new.items ≡ out.old.items) }
@@ -30,7 +31,7 @@ pub fn answer_word<D: Demangler>(
 {
     let out_len = out.len();
     let err_len = err.len();
-    match push_lines(alloc, demangler, lists, stats, word, out, err) {
+    match push_lines(alloc, demangler, lists, options, word, out, err) {
         Ok(has_text) => Ok(has_text),
         Err(error) => {
             out.truncate(out_len);
@@ -45,15 +46,15 @@ fn push_lines<D: Demangler>(
     alloc: Global,
     demangler: &D,
     lists: &mut D::Lists,
-    stats: bool,
+    options: Options,
     word: &str,
     out: &mut Vec<u8>,
     err: &mut Vec<u8>,
 ) -> Result<bool, AllocError>
     ensures line { OnOk result ((behind : List ℕ)
         × (out.new.items ≡ out.old.items ++ line_of (D.answer demangler.now) word.now ++ behind)
-        × IsBehindLine (AreCountsFor (D.are_counts demangler.now) word.now) (stats && is_read_word (answer_for (D.answer demangler.now) word.now)) behind) }
-    ensures complaint { OnOk result (err.new.items ≡ err.old.items ++ complaint_of (D.answer demangler.now) word.now) }
+        × IsBehindLine (AreCountsFor (D.are_counts demangler.now) word.now) (options.stats && is_read_word (answer_for (D.answer demangler.now) word.now)) behind) }
+    ensures complaint { OnOk result (err.new.items ≡ err.old.items ++ complaint_of options.asked (D.answer demangler.now) word.now) }
     ensures has_text { IfOk result (λ has_text. has_text
         ≡ is_some (text_for (D.answer demangler.now) word.now)) }
     ensures out { BeginsWith out.new.items out.old.items }
@@ -63,11 +64,11 @@ fn push_lines<D: Demangler>(
         push_unnamed(alloc, word, out, err)?;
         return Ok(false);
     };
-    if stats {
-        let has_text = push_counted(alloc, demangler, lists, kind, word, out, err)?;
+    if options.stats {
+        let has_text = push_counted(demangler, lists, options.asked, kind, word, out, err)?;
         return Ok(has_text);
     }
-    let has_text = push_answer(alloc, demangler, lists, kind, word, out, err)?;
+    let has_text = push_answer(demangler, lists, options.asked, kind, word, out, err)?;
     Ok(has_text)
 }
 
@@ -91,9 +92,9 @@ fn push_unnamed(
 
 /// Appends the lines of a symbol with its counts, or a beginning of them, and says whether it has a text.
 fn push_counted<D: Demangler>(
-    alloc: Global,
     demangler: &D,
     lists: &mut D::Lists,
+    asked: Asked,
     kind: Kind,
     word: &str,
     out: &mut Vec<u8>,
@@ -103,7 +104,7 @@ fn push_counted<D: Demangler>(
     ensures line { OnOk result ((behind : List ℕ)
         × (out.new.items ≡ out.old.items ++ line_of (D.answer demangler.now) word.now ++ behind)
         × IsBehindLine (AreCountsFor (D.are_counts demangler.now) word.now) (is_read_word (answer_for (D.answer demangler.now) word.now)) behind) }
-    ensures complaint { OnOk result (err.new.items ≡ err.old.items ++ complaint_of (D.answer demangler.now) word.now) }
+    ensures complaint { OnOk result (err.new.items ≡ err.old.items ++ complaint_of asked (D.answer demangler.now) word.now) }
     ensures has_text { IfOk result (λ has_text. has_text
         ≡ is_some (text_for (D.answer demangler.now) word.now)) }
     ensures out { BeginsWith out.new.items out.old.items }
@@ -112,16 +113,16 @@ fn push_counted<D: Demangler>(
     match demangler.demangle(lists, kind, kind.symbol_of(word.as_bytes()), out) {
         Demangled::Text(counts) => {
             out.push(b'\n')?;
-            push_counts(alloc, counts, out)?;
+            push_counts(*out.allocator(), counts, out)?;
             Ok(true)
         }
         Demangled::TooLong(counts) => {
-            push_refused(alloc, word, Refusal::TooLong, out, err)?;
-            push_counts(alloc, counts, out)?;
+            push_refused(asked, word, Refusal::TooLong, out, err)?;
+            push_counts(*out.allocator(), counts, out)?;
             Ok(false)
         }
         Demangled::Refused(refusal) => {
-            push_refused(alloc, word, refusal, out, err)?;
+            push_refused(asked, word, refusal, out, err)?;
             Ok(false)
         }
     }
@@ -129,9 +130,9 @@ fn push_counted<D: Demangler>(
 
 /// Appends the line of a symbol without counts, or a beginning of it, and says whether it has a text.
 fn push_answer<D: Demangler>(
-    alloc: Global,
     demangler: &D,
     lists: &mut D::Lists,
+    asked: Asked,
     kind: Kind,
     word: &str,
     out: &mut Vec<u8>,
@@ -139,7 +140,7 @@ fn push_answer<D: Demangler>(
 ) -> Result<bool, AllocError>
     requires kind { kind_of word.now ≡ Some kind }
     ensures line { OnOk result (out.new.items ≡ out.old.items ++ line_of (D.answer demangler.now) word.now) }
-    ensures complaint { OnOk result (err.new.items ≡ err.old.items ++ complaint_of (D.answer demangler.now) word.now) }
+    ensures complaint { OnOk result (err.new.items ≡ err.old.items ++ complaint_of asked (D.answer demangler.now) word.now) }
     ensures has_text { IfOk result (λ has_text. has_text
         ≡ is_some (text_for (D.answer demangler.now) word.now)) }
     ensures out { BeginsWith out.new.items out.old.items }
@@ -151,7 +152,7 @@ fn push_answer<D: Demangler>(
             Ok(true)
         }
         Err(refusal) => {
-            push_refused(alloc, word, refusal, out, err)?;
+            push_refused(asked, word, refusal, out, err)?;
             Ok(false)
         }
     }
@@ -169,31 +170,48 @@ fn push_counts(alloc: Global, counts: Counts, out: &mut Vec<u8>) -> Result<(), A
 
 /// Appends a word that is refused, and says why.
 fn push_refused(
-    alloc: Global,
+    asked: Asked,
     word: &str,
     refusal: Refusal,
     out: &mut Vec<u8>,
     err: &mut Vec<u8>,
 ) -> Result<(), AllocError>
     ensures line { OnOk result (out.new.items ≡ out.old.items ++ word.now ++ 10 ∷ []) }
-    ensures complaint { OnOk result (err.new.items ≡ err.old.items ++ (complaint_with word.now (reason_of refusal) ++ 10 ∷ [])) }
+    ensures complaint { OnOk result (err.new.items ≡ err.old.items ++ (complaint_with word.now (reason_for asked refusal) ++ 10 ∷ [])) }
     ensures memory { OnOk result (refusal ≢ Refusal.Memory) }
     ensures out { BeginsWith out.new.items out.old.items }
     ensures err { BeginsWith err.new.items err.old.items }
 {
-    let complaint = complaint(alloc, word, refusal)?;
+    let complaint = complaint(*err.allocator(), asked, word, refusal)?;
     push_line(out, word.as_bytes())?;
     push_line(err, complaint.as_bytes())?;
     Ok(())
 }
 
 /// Says why a word is refused.
-fn complaint(alloc: Global, word: &str, refusal: Refusal) -> Result<String, AllocError>
-    ensures said { IfOk result (λ text. string_bytes text ≡ complaint_with word.now (reason_of refusal)) }
+fn complaint(
+    alloc: Global,
+    asked: Asked,
+    word: &str,
+    refusal: Refusal,
+) -> Result<String, AllocError>
+    ensures said { IfOk result (λ text. string_bytes text ≡ complaint_with word.now (reason_for asked refusal)) }
     ensures memory { OnOk result (refusal ≢ Refusal.Memory) }
 {
-    let reason = reason(alloc, refusal)?;
+    let reason = reason_for(alloc, asked, refusal)?;
     format!(in alloc; "symfilt: {word}: {reason}")
+}
+
+/// Why a symbol has no answer. Pressing has no limit: a symbol of the wide grammar that is read and refused has no spelling that is read as
+/// the symbol.
+fn reason_for(alloc: Global, asked: Asked, refusal: Refusal) -> Result<String, AllocError>
+    ensures said { IfOk result (λ text. string_bytes text ≡ reason_for asked refusal) }
+    ensures memory { OnOk result (refusal ≢ Refusal.Memory) }
+{
+    match (asked, refusal) {
+        (Asked::WidePressed, Refusal::TooLong) => format!(in alloc; "no spelling yet"),
+        _ => reason(alloc, refusal),
+    }
 }
 
 /// Why a symbol has no text. Want of memory isn't a property of the symbol.

@@ -1,7 +1,7 @@
 // The options of a command line, and its symbols.
 ghost use Rattle.std.specs.Prelude.{◌≡◌, IfOk, false, map, codes};
 ghost use Rattle.clap.specs.Words.{FailsBy, found_of, rows_of, matches_of, fault_of, app_of, rule_of, with_rule};
-ghost use Rattle.sym_command.specs.CommandLine.{command_line, flag, limit, symbols, AreOptions, IsFlag, IsLimit, detail_by, letters_by, asked_by, symbols_of, filtering_by};
+ghost use Rattle.sym_command.specs.CommandLine.{command_line, flag, limit, symbols, AreGiven, IsFlag, IsLimit, detail_by, letters_by, asked_by, symbols_of, filtering_by};
 
 use crate::outcome::Filtering;
 use clap::{Arg, ArgAction, ArgMatches, Command, Error};
@@ -49,6 +49,8 @@ pub enum Asked {
     WideText,
     /// Its pressed spelling.
     Pressed,
+    /// Its pressed spelling, where C++ is read by the wide grammar.
+    WidePressed,
 }
 
 /// How symbols are answered.
@@ -190,15 +192,15 @@ fn letters_of(ascii_words: bool) -> Letters
     Letters::Any
 }
 
-/// What two flags request for each symbol; they don't go together.
-fn asked_of(press: bool, wide: bool) -> Option<Asked>
+/// What two flags request for each symbol.
+fn asked_of(press: bool, wide: bool) -> Asked
     ensures { result ≡ asked_by press wide }
 {
     match (press, wide) {
-        (false, false) => Some(Asked::Text),
-        (false, true) => Some(Asked::WideText),
-        (true, false) => Some(Asked::Pressed),
-        (true, true) => None,
+        (false, false) => Asked::Text,
+        (false, true) => Asked::WideText,
+        (true, false) => Asked::Pressed,
+        (true, true) => Asked::WidePressed,
     }
 }
 
@@ -216,19 +218,19 @@ pub fn has_flag(matches: &ArgMatches<'_>, name: &str) -> bool
     matches.get_flag(name)
 }
 
-/// The options of a command line, if they go together.
-pub fn options_of(matches: &ArgMatches<'_>) -> Option<Options>
-    ensures { AreOptions (rows_of (found_of matches.now)) result }
+/// The options of a command line.
+pub fn options_of(matches: &ArgMatches<'_>) -> Options
+    ensures { AreGiven (rows_of (found_of matches.now)) result }
 {
-    let asked = asked_of(has_flag(matches, "press"), has_flag(matches, "wide"))?;
-    Some(Options {
+    let asked = asked_of(has_flag(matches, "press"), has_flag(matches, "wide"));
+    Options {
         limit: limit_of(matches),
         detail: detail_of(has_flag(matches, "brief"), has_flag(matches, "no-params")),
         letters: letters_of(has_flag(matches, "ascii-words")),
         stats: has_flag(matches, "stats"),
         asked,
         legacy: has_flag(matches, "legacy"),
-    })
+    }
 }
 
 /// The symbols of a command line.

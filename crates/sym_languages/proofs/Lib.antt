@@ -1,3 +1,4 @@
 pub mod LanguageLemmas
 pub mod RustDetails
 mod ShortAnswers
+mod WideAnswers

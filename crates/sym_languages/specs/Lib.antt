@@ -1,2 +1,3 @@
 pub mod Languages
 pub mod Pressed
+pub mod WidePressed

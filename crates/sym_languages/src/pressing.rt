@@ -1,23 +1,26 @@
 // Symbols of both manglings spelled again instead of printed.
-ghost use Rattle.std.specs.Prelude.{◌≡◌, ◌++◌, ℕ, List, Result, Ok, Err, OnOk, OnErr, IfOk, IfErr};
+ghost use Rattle.std.specs.Prelude.{◌≡◌, ◌≤◌, ◌++◌, ℕ, List, Result, Ok, Err, OnOk, OnErr, IfOk, IfErr};
 ghost use Rattle.sym_core.specs.declared.refusal.Refusal.{Refusal};
 ghost use Rattle.sym_core.specs.declared.refusal.Refusal.TheVariants.{Memory};
 ghost use Rattle.sym_core.specs.Number.{FitsSymbol};
+ghost use Rattle.sym_core.specs.declared.TheConstants.{MOST_BYTES};
 ghost use Rattle.sym_shape.specs.Decided.{AreBytes};
 ghost use Rattle.sym_demangle.specs.Mangled.{IsReading};
 ghost use Rattle.sym_filter.specs.Demangled.{IsDemangled};
-ghost use Rattle.sym_languages.specs.Languages.{AreCounts, AreCountsOf, with_front, pressed_of};
+ghost use Rattle.sym_languages.specs.Languages.{AreCounts, AreCountsOf, AreWideCountsOf, wide_readings, with_front, pressed_of};
+ghost use Rattle.sym_languages.specs.WidePressed.{most_pressed, wide_pressed_answer, wide_pressed_of};
 ghost use Rattle.sym_filter.specs.Kinds.{underscore_of};
 
 use crate::counted::Counted;
 use crate::languages::Lists;
-use itanium::Abi;
+use itanium::{Abi, Wide};
 use rust_v0::V0;
 use std::alloc::{AllocError, Global};
-use sym_core::Refusal;
+use sym_core::{MOST_BYTES, Refusal};
 use sym_demangle::Workspace;
 use sym_filter::{Demangled, Demangler, Kind, Lang};
 use sym_press::{press_cpp, press_rust};
+use wide_press::press_wide;
 
 /// A mangling whose symbols are spelled again, with each repeated part as a reference.
 pub trait Pressable: Counted {
@@ -154,6 +157,94 @@ fn press_into<M: Pressable>(
         Ok(()) => Demangled::Text(counts),
         Err(_) => Demangled::Refused(Refusal::Memory),
     }
+}
+
+/// Both manglings, where the text of a symbol is its pressed spelling, and C++ is read by the wide grammar. A C++ symbol has one where the
+/// wide grammar reads it as the symbol's tree; else the symbol, which was read, is answered as if it were too long.
+#[derive(Clone, Copy, Drop)]
+pub struct WidePressing;
+
+impl Demangler for WidePressing {
+    type Lists = Lists<Wide>;
+
+    ghost answer = { λ pressing kind symbol. wide_pressed_of kind symbol };
+
+    ghost are_counts = { λ pressing lang symbol counts. AreWideCountsOf lang symbol counts };
+
+    fn lists(&self, alloc: Global) -> Result<Lists<Wide>, AllocError> {
+        Ok(Lists::new(alloc))
+    }
+
+    fn read_ahead(&self, lists: &mut Lists<Wide>, lang: Lang, front: &[u8]) {
+        lists.read_ahead(lang, front);
+    }
+
+    fn demangle(
+        &self,
+        lists: &mut Lists<Wide>,
+        kind: Kind,
+        symbol: &[u8],
+        out: &mut Vec<u8>,
+    ) -> Demangled {
+        match kind.lang {
+            Lang::Cpp => press_wide_into(&mut lists.cpp, kind.skip, symbol, out),
+            Lang::Rust => press_into(&mut lists.rust, kind.skip, symbol, out),
+        }
+    }
+
+    fn append(
+        &self,
+        lists: &mut Lists<Wide>,
+        kind: Kind,
+        symbol: &[u8],
+        out: &mut Vec<u8>,
+    ) -> Result<(), Refusal> {
+        match self.demangle(lists, kind, symbol, out) {
+            Demangled::Text(_) => Ok(()),
+            Demangled::TooLong(_) => Err(Refusal::TooLong),
+            Demangled::Refused(refusal) => Err(refusal),
+        }
+    }
+}
+
+/// Appends the pressed spelling of a symbol of the wide grammar, if that is kept, after the underscore that was dropped.
+fn press_wide_into(
+    workspace: &mut Workspace<Wide>,
+    skip: u32,
+    symbol: &[u8],
+    out: &mut Vec<u8>,
+) -> Demangled
+    requires { FitsSymbol symbol.now }
+    ensures { IsDemangled (with_front (underscore_of skip) (wide_pressed_answer symbol.now)) (AreCounts wide_readings symbol.now) out.old.items out.new.items result }
+{
+    let read = match workspace.read(symbol) {
+        Ok(read) => read,
+        Err(refusal) => return Demangled::Refused(refusal),
+    };
+    let counts = Wide::counts(&read);
+    let pressed = press_wide(
+        *out.allocator(),
+        workspace,
+        &read,
+        most_pressed(symbol.len()),
+    );
+    workspace.recycle(read);
+    match pressed {
+        Err(_) => Demangled::Refused(Refusal::Memory),
+        Ok(None) => Demangled::TooLong(counts),
+        Ok(Some(pressed)) => match push_after_underscore(skip, &pressed, out) {
+            Ok(()) => Demangled::Text(counts),
+            Err(_) => Demangled::Refused(Refusal::Memory),
+        },
+    }
+}
+
+/// The most bytes of a spelling that is answered for a symbol of so many: 64 for each, and no more than a symbol has.
+fn most_pressed(len: usize) -> usize
+    requires { len ≤ MOST_BYTES }
+    ensures { result ≡ most_pressed len }
+{
+    (64 * len).min(MOST_BYTES)
 }
 
 /// Appends bytes after the underscore that was dropped, or nothing.

@@ -15,6 +15,7 @@ use Rattle.clap.specs.declared.error.kind.ErrorKind.{ErrorKind}
 use Rattle.clap.specs.declared.error.kind.ErrorKind.TheVariants.{OutOfMemory}
 use Rattle.sym_command.specs.CommandLine.{AreGiven, AreRefused, faults_in, symbols_of}
 use Rattle.sym_command.specs.Command.{AnswersFront, AnswersWords, Took, Says}
+use Rattle.sym_command.specs.declared.options.Asked.{Asked}
 use Rattle.sym_command.specs.declared.options.Options.{Options}
 use Rattle.sym_command.specs.declared.outcome.Filtering.{Filtering}
 use Rattle.sym_command.specs.declared.outcome.Run.{Run}
@@ -29,6 +30,10 @@ use Rattle.symfilt_command.specs.Command.{answers_of, counting_of, filter_answer
 -- where it is known whether legacy Rust names are paths
 pub by-legacy : {W : Type 0} → (P : Answering → Type 0) (cpp : Mangled W) (legacy known : Bool) (limit : ℕ) (detail : Detail) → legacy ≡ known → P (answers_by cpp known limit detail) → P (answers_by cpp legacy limit detail)
 by-legacy P cpp legacy known limit detail is given = subst (λ paths. P (answers_by cpp paths limit detail)) (sym is) given
+
+-- where it is known what is requested
+pub by-asked : (P : Asked → Type 0) (asked known : Asked) → asked ≡ known → P known → P asked
+by-asked P asked known is given = subst (λ a. P a) (sym is) given
 
 -- ## Words that the parser refuses
 
@@ -59,7 +64,7 @@ refused-stopped rows out err err' result says = OnErr-anyway result _ (Took-said
 
 -- symbols with answers, and the case that there are some
 pub answered-run : (rows : List Row) (options : Options) (words : List Bytes) (status : ℕ) (out out' err err' : Option (List ℕ)) → AreGiven rows options → words ≡ symbols_of rows → words ≢ []
-    → Took out out' err err' (AnswersWords (answers_of options) (counting_of options) options.stats words status) → Took out out' err err' (IsRunOf rows (Done status))
+    → Took out out' err err' (AnswersWords options.asked (answers_of options) (counting_of options) options.stats words status) → Took out out' err err' (IsRunOf rows (Done status))
 answered-run rows options words status out out' err err' given are some took = record {
   lines = took.lines;
   said = took.said;
@@ -69,12 +74,12 @@ answered-run rows options words status out out' err err' given are some took = r
     options = options;
     given = given;
     some = subst (λ (symbols : List Bytes). symbols ≢ []) are some;
-    answered = subst (λ symbols. AnswersWords (answers_of options) (counting_of options) options.stats symbols status took.lines took.said) are took.held;
+    answered = subst (λ symbols. AnswersWords options.asked (answers_of options) (counting_of options) options.stats symbols status took.lines took.said) are took.held;
   });
 }
 
 pub begun-run : (rows : List Row) (options : Options) (words : List Bytes) (out out' err err' : Option (List ℕ)) → AreGiven rows options → words ≡ symbols_of rows
-    → Took out out' err err' (AnswersFront (answers_of options) (counting_of options) options.stats words) → Took out out' err err' (IsStoppedOf rows)
+    → Took out out' err err' (AnswersFront options.asked (answers_of options) (counting_of options) options.stats words) → Took out out' err err' (IsStoppedOf rows)
 begun-run rows options words out out' err err' given are took = record {
   lines = took.lines;
   said = took.said;
@@ -83,7 +88,7 @@ begun-run rows options words out out' err err' given are took = record {
   held = inl (record {
     options = options;
     given = given;
-    front = subst (λ symbols. AnswersFront (answers_of options) (counting_of options) options.stats symbols took.lines took.said) are took.held;
+    front = subst (λ symbols. AnswersFront options.asked (answers_of options) (counting_of options) options.stats symbols took.lines took.said) are took.held;
   });
 }
 

@@ -7,12 +7,13 @@ use Rattle.sym_filter.specs.Streams.{FiltersAllAt, FiltersFrontAt}
 use Rattle.sym_filter.specs.declared.words.Tally.{Tally}
 use Rattle.cpp_grammar.specs.Mangled.{cpp_mangled, wide_mangled}
 use Rattle.sym_languages.specs.Languages.{answers_by, pressed_of, AreCountsOf, AreWideCountsOf}
+use Rattle.sym_languages.specs.WidePressed.{wide_pressed_of}
 use Rattle.clap.specs.Words.{Row, Text as Bytes}
 use Rattle.sym_command.specs.CommandLine.{AreGiven, AreRefused, AsksFilter, symbols_of, found_in, faults_in}
 use Rattle.sym_command.specs.Lines.{Counting}
 use Rattle.sym_command.specs.Command.{Took, AnswersWords, AnswersFront}
 use Rattle.sym_command.specs.declared.options.Asked.{Asked}
-use Rattle.sym_command.specs.declared.options.Asked.TheVariants.{Text, WideText, Pressed}
+use Rattle.sym_command.specs.declared.options.Asked.TheVariants.{Text, WideText, Pressed, WidePressed}
 use Rattle.sym_command.specs.declared.options.Options.{Options}
 use Rattle.sym_command.specs.declared.outcome.Filtering.{Filtering}
 use Rattle.sym_command.specs.declared.outcome.Run.{Run}
@@ -23,6 +24,7 @@ abbrev pub answers_at : Asked → (legacy : Bool) → ℕ → Detail → Answeri
 answers_at Text legacy limit detail = answers_by cpp_mangled legacy limit detail
 answers_at WideText legacy limit detail = answers_by wide_mangled legacy limit detail
 answers_at Pressed legacy limit detail = pressed_of
+answers_at WidePressed legacy limit detail = wide_pressed_of
 
 abbrev pub answers_of : Options → Answering
 answers_of options = answers_at options.asked options.legacy options.limit options.detail
@@ -32,6 +34,7 @@ abbrev pub counting_at : Asked → Counting
 counting_at Text = AreCountsOf
 counting_at WideText = AreWideCountsOf
 counting_at Pressed = AreCountsOf
+counting_at WidePressed = AreWideCountsOf
 
 abbrev pub counting_of : Options → Counting
 counting_of options = counting_at options.asked
@@ -47,7 +50,7 @@ pub record AreAnswered (rows : List Row) (status : ℕ) (lines said : List ℕ) 
   pub options : Options
   pub given : AreGiven rows options
   pub some : symbols_of rows ≢ []
-  pub answered : AnswersWords (answers_of options) (counting_of options) options.stats (symbols_of rows) status lines said
+  pub answered : AnswersWords options.asked (answers_of options) (counting_of options) options.stats (symbols_of rows) status lines said
 
 -- A command line with symbols has answered them; one whose options are refused has written no line; and one that requests the
 -- filter has written nothing.
@@ -59,7 +62,7 @@ IsRunOf rows (Filter filtering) lines said = (lines ≡ []) × (said ≡ []) × 
 pub record AreBegun (rows : List Row) (lines said : List ℕ) : Type 0 where
   pub options : Options
   pub given : AreGiven rows options
-  pub front : AnswersFront (answers_of options) (counting_of options) options.stats (symbols_of rows) lines said
+  pub front : AnswersFront options.asked (answers_of options) (counting_of options) options.stats (symbols_of rows) lines said
 
 -- ## What the words of a command line did
 

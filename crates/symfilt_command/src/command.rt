@@ -18,7 +18,7 @@ use sym_command::{
 };
 use sym_filter::{FilterFault, ListSink, Sink, Source, Tally, filter_words};
 use sym_languages::languages::Cpp;
-use sym_languages::{Abi, Languages, Legacy, Pressing, Wide};
+use sym_languages::{Abi, Languages, Legacy, Pressing, Wide, WidePressing};
 
 /// Runs the program over an input and two outputs: answers the symbols of a command line, or filters the input where it has none.
 /// The words are those of the command line, the program's name first, and the result is the status.
@@ -76,6 +76,7 @@ pub fn filter_asked<S: Source, W: Sink>(
         Asked::Text => filter_in(alloc, Abi, filtering, input, out),
         Asked::WideText => filter_in(alloc, Wide, filtering, input, out),
         Asked::Pressed => filter_words(alloc, input, out, &Pressing, filtering.letters),
+        Asked::WidePressed => filter_words(alloc, input, out, &WidePressing, filtering.letters),
     }
 }
 
@@ -194,9 +195,7 @@ fn answer_all<W: Sink, E: Sink>(
     ensures failures { W.failure_count out.new + E.failure_count err.new
         ≡ W.failure_count out.old + E.failure_count err.old + writer_faults result }
 {
-    let Some(options) = options_of(matches) else {
-        return refuse_run(err, b"symfilt: --press doesn't go with --wide\n");
-    };
+    let options = options_of(matches);
     let symbols = symbols_of(matches);
     if !symbols.is_empty() {
         let status = answer_symbols(alloc, options, symbols, out, err)?;
@@ -219,9 +218,9 @@ fn answer_symbols<W: Sink, E: Sink>(
     requires out_failures { W.failure_count out.old < 2 ^ 64 - 1 }
     requires err_failures { E.failure_count err.old < 2 ^ 64 - 1 }
     ensures ok { IfOk result (λ status. Took (W.taken out.old) (W.taken out.new) (E.taken err.old) (E.taken err.new)
-        (AnswersWords (answers_of options) (counting_of options) options.stats (map (λ word. word.now) words.now) status)) }
+        (AnswersWords options.asked (answers_of options) (counting_of options) options.stats (map (λ word. word.now) words.now) status)) }
     ensures err { OnErr result (Took (W.taken out.old) (W.taken out.new) (E.taken err.old) (E.taken err.new)
-        (AnswersFront (answers_of options) (counting_of options) options.stats (map (λ word. word.now) words.now))) }
+        (AnswersFront options.asked (answers_of options) (counting_of options) options.stats (map (λ word. word.now) words.now))) }
     ensures fault { IfErr result (λ fault. fault ≢ FilterFault.Read) }
     ensures failures { W.failure_count out.new + E.failure_count err.new
         ≡ W.failure_count out.old + E.failure_count err.old + writer_faults result }
@@ -229,7 +228,8 @@ fn answer_symbols<W: Sink, E: Sink>(
     match options.asked {
         Asked::Text => answer_in(alloc, Abi, options, words, out, err),
         Asked::WideText => answer_in(alloc, Wide, options, words, out, err),
-        Asked::Pressed => answer_words(alloc, &Pressing, options.stats, words, out, err),
+        Asked::Pressed => answer_words(alloc, &Pressing, options, words, out, err),
+        Asked::WidePressed => answer_words(alloc, &WidePressing, options, words, out, err),
     }
 }
 
@@ -245,11 +245,11 @@ fn answer_in<C: Cpp, W: Sink, E: Sink>(
     requires out_failures { W.failure_count out.old < 2 ^ 64 - 1 }
     requires err_failures { E.failure_count err.old < 2 ^ 64 - 1 }
     ensures ok { IfOk result (λ status. Took (W.taken out.old) (W.taken out.new) (E.taken err.old) (E.taken err.new)
-        (AnswersWords (answers_by C.mangled options.legacy options.limit options.detail)
+        (AnswersWords options.asked (answers_by C.mangled options.legacy options.limit options.detail)
         (AreCountsBy (record { mangled = C.mangled; IsRead = C.is_read; bytes_of = C.bytes_of; whole_of = C.whole_of; are_nodes = C.are_nodes; nodes_a_byte = C.nodes_a_byte }))
         options.stats (map (λ word. word.now) words.now) status)) }
     ensures err { OnErr result (Took (W.taken out.old) (W.taken out.new) (E.taken err.old) (E.taken err.new)
-        (AnswersFront (answers_by C.mangled options.legacy options.limit options.detail)
+        (AnswersFront options.asked (answers_by C.mangled options.legacy options.limit options.detail)
         (AreCountsBy (record { mangled = C.mangled; IsRead = C.is_read; bytes_of = C.bytes_of; whole_of = C.whole_of; are_nodes = C.are_nodes; nodes_a_byte = C.nodes_a_byte }))
         options.stats (map (λ word. word.now) words.now))) }
     ensures fault { IfErr result (λ fault. fault ≢ FilterFault.Read) }
@@ -259,13 +259,12 @@ fn answer_in<C: Cpp, W: Sink, E: Sink>(
     let Options {
         limit,
         detail,
-        stats,
         legacy,
         ..
     } = options;
     let languages = Languages { limit, detail, cpp };
     if legacy {
-        return answer_words(alloc, &Legacy { languages }, stats, words, out, err);
+        return answer_words(alloc, &Legacy { languages }, options, words, out, err);
     }
-    answer_words(alloc, &languages, stats, words, out, err)
+    answer_words(alloc, &languages, options, words, out, err)
 }

@@ -24,7 +24,7 @@ returns-in_ok-push-in-Ok-clause-complaint g c =
     let symbol = c.symbol_of.result.now in
     let same : symbol ≡ symbol_of kind word = c.symbol_of.ensures.symbol ∙ ap (symbol_of kind) c.as_bytes.ensures.value in
     let given = c.in-Ok.ensures in
-    complaint-line answers word c.args.err.now.items c.args.err.now.items (Some (Ok given.0)) (answer_of-symbol answers word symbol kind (Ok given.0) c.requires.kind same given.1) (sym (append-nil c.args.err.now.items))
+    complaint-line c.args.asked answers word c.args.err.now.items c.args.err.now.items (Some (Ok given.0)) (answer_of-symbol answers word symbol kind (Ok given.0) c.requires.kind same given.1) (sym (append-nil c.args.err.now.items))
 
 pub returns-in_ok-push-in-Ok-clause-has_text : goal.returns-in_ok-push-in-Ok-clause-has_text
 returns-in_ok-push-in-Ok-clause-has_text g c =
@@ -56,7 +56,7 @@ returns-in_ok-push_refused-in-Err-clause-complaint g c =
     let same : symbol ≡ symbol_of kind word = c.symbol_of.ensures.symbol ∙ ap (symbol_of kind) c.as_bytes.ensures.value in
     let refusal = c.in-Err.refusal in
     let refused = c.in-Err.ensures.0 c.in_ok-push_refused-in-Err.ensures.memory in
-    complaint-line answers word c.args.err.now.items c.push_refused.new.err.items (Some (Err refusal)) (answer_of-symbol answers word symbol kind (Err refusal) c.requires.kind same refused) c.in_ok-push_refused-in-Err.ensures.complaint
+    complaint-line c.args.asked answers word c.args.err.now.items c.push_refused.new.err.items (Some (Err refusal)) (answer_of-symbol answers word symbol kind (Err refusal) c.requires.kind same refused) c.in_ok-push_refused-in-Err.ensures.complaint
 
 pub returns-in_ok-push_refused-in-Err-clause-has_text : goal.returns-in_ok-push_refused-in-Err-clause-has_text
 returns-in_ok-push_refused-in-Err-clause-has_text g c =

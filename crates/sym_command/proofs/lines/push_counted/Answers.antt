@@ -34,7 +34,7 @@ returns-in_ok-push_counts-in-Text-clause-complaint g c =
     let kind = c.args.kind in
     let same : symbol ≡ symbol_of kind word = c.symbol_of.ensures.symbol ∙ ap (symbol_of kind) c.as_bytes.ensures.value in
     let given = c.in-Text.ensures.1 in
-    complaint-line answers word c.args.err.now.items c.args.err.now.items (Some (Ok given.0)) (answer_of-symbol answers word symbol kind (Ok given.0) c.requires.kind same given.1) (sym (append-nil c.args.err.now.items))
+    complaint-line c.args.asked answers word c.args.err.now.items c.args.err.now.items (Some (Ok given.0)) (answer_of-symbol answers word symbol kind (Ok given.0) c.requires.kind same given.1) (sym (append-nil c.args.err.now.items))
 
 pub returns-in_ok-push_counts-in-Text-clause-has_text : goal.returns-in_ok-push_counts-in-Text-clause-has_text
 returns-in_ok-push_counts-in-Text-clause-has_text g c =
@@ -71,7 +71,7 @@ returns-in_ok-push_counts-in-TooLong-clause-complaint g c =
     let kind = c.args.kind in
     let same : symbol ≡ symbol_of kind word = c.symbol_of.ensures.symbol ∙ ap (symbol_of kind) c.as_bytes.ensures.value in
     let answered = answer_of-symbol answers word symbol kind (Err refusals.TooLong) c.requires.kind same c.in-TooLong.ensures.1 in
-    complaint-line answers word c.args.err.now.items c.push_refused.new.err.items (Some (Err refusals.TooLong)) answered c.in_ok-push_refused-in-TooLong.ensures.complaint
+    complaint-line c.args.asked answers word c.args.err.now.items c.push_refused.new.err.items (Some (Err refusals.TooLong)) answered c.in_ok-push_refused-in-TooLong.ensures.complaint
 
 pub returns-in_ok-push_counts-in-TooLong-clause-has_text : goal.returns-in_ok-push_counts-in-TooLong-clause-has_text
 returns-in_ok-push_counts-in-TooLong-clause-has_text g c =
@@ -105,7 +105,7 @@ returns-in_ok-push_refused-in-Refused-clause-complaint g c =
     let refusal = c.in-Refused.refusal in
     let refused = c.in-Refused.ensures.0 c.in_ok-push_refused-in-Refused.ensures.memory in
     let answered = answer_of-symbol answers word symbol kind (Err refusal) c.requires.kind same refused.0 in
-    complaint-line answers word c.args.err.now.items c.push_refused-in-Refused.new.err.items (Some (Err refusal)) answered c.in_ok-push_refused-in-Refused.ensures.complaint
+    complaint-line c.args.asked answers word c.args.err.now.items c.push_refused-in-Refused.new.err.items (Some (Err refusal)) answered c.in_ok-push_refused-in-Refused.ensures.complaint
 
 pub returns-in_ok-push_refused-in-Refused-clause-has_text : goal.returns-in_ok-push_refused-in-Refused-clause-has_text
 returns-in_ok-push_refused-in-Refused-clause-has_text g c =

@@ -13,7 +13,7 @@ returns-in_default-clause-line g c =
     let word = c.args.word.now in
     let out = c.args.out.now.items in
     let none : kind_of word ≡ None = sym (ap kind_of c.as_bytes.ensures.value) ∙ sym c.kind_of.ensures ∙ c.in_default.is in
-    ([], word-line answers word word out out c.push_unnamed.new.out.items (text_for-unnamed answers word none) refl refl c.in_ok-push_unnamed.ensures.line ∙ sym (append-nil (out ++ line_of answers word)), nothing-behind answers (g.D.Demangler.are_counts c.args.demangler.now) c.args.stats word none)
+    ([], word-line answers word word out out c.push_unnamed.new.out.items (text_for-unnamed answers word none) refl refl c.in_ok-push_unnamed.ensures.line ∙ sym (append-nil (out ++ line_of answers word)), nothing-behind answers (g.D.Demangler.are_counts c.args.demangler.now) c.args.options.stats word none)
 
 pub returns-in_default-clause-complaint : goal.returns-in_default-clause-complaint
 returns-in_default-clause-complaint g c =
@@ -21,7 +21,7 @@ returns-in_default-clause-complaint g c =
     let word = c.args.word.now in
     let err = c.args.err.now.items in
     let none : kind_of word ≡ None = sym (ap kind_of c.as_bytes.ensures.value) ∙ sym c.kind_of.ensures ∙ c.in_default.is in
-    complaint-line answers word err c.push_unnamed.new.err.items None (answer_for-unnamed answers word none) c.in_ok-push_unnamed.ensures.complaint
+    complaint-line c.args.options.asked answers word err c.push_unnamed.new.err.items None (answer_for-unnamed answers word none) c.in_ok-push_unnamed.ensures.complaint
 
 pub returns-in_default-clause-has_text : goal.returns-in_default-clause-has_text
 returns-in_default-clause-has_text g c =

@@ -1,0 +1,57 @@
+-- What is answered where the pressed spelling of a symbol is requested, and C++ is read by the wide grammar.
+use Rattle.std.specs.Prelude.{◌≡◌, ℕ, ◌*◌, List, length, min, Option, Some, None, Result, Ok, Err}
+use Rattle.sym_core.specs.declared.TheConstants.{MOST_BYTES}
+use Rattle.sym_core.specs.declared.refusal.Refusal.{Refusal}
+use Rattle.sym_core.specs.declared.refusal.Refusal.TheVariants.{Malformed, TooLong}
+use Rattle.sym_shape.specs.Decided.{AreBytes}
+use Rattle.sym_shape.proofs.Deciding.{outcome}
+use Rattle.sym_demangle.specs.Mangled.{IsReading}
+use Rattle.sym_filter.specs.Kinds.{underscore_of}
+use Rattle.sym_filter.specs.declared.kinds.Kind.{Kind}
+use Rattle.sym_filter.specs.declared.kinds.Lang.{Lang}
+use Rattle.sym_filter.specs.declared.kinds.Lang.TheVariants.{Cpp, Rust}
+use Rattle.cpp_grammar.specs.Mangled.{wide_mangled}
+use Rattle.cpp_grammar.specs.Term.{Term}
+use Rattle.cpp_press_laws.specs.Short.{pressed_a_byte}
+use Rattle.rust_grammar.specs.Mangled.{v0_mangled}
+use Rattle.rust_press.specs.Pressing as rust_spelling
+use Rattle.wide_press.specs.Kept.{kept}
+use Rattle.sym_languages.specs.Languages.{with_front}
+use Rattle.sym_languages.specs.Pressed.{pressed_answer}
+
+-- the most bytes of a spelling that is answered for a symbol of so many
+abbrev pub most_pressed : ℕ → ℕ
+most_pressed n = min (pressed_a_byte * n) MOST_BYTES
+
+-- A spelling that is kept; `TooLong` where none is, since pressing has no other limit.
+abbrev pub kept_or_refused : Option (List ℕ) → Result (List ℕ) Refusal
+kept_or_refused (Some spelling) = Ok spelling
+kept_or_refused None = Err TooLong
+
+-- of what a symbol reads as: the pressed spelling of its tree, where that has few bytes and the wide grammar reads it as the tree (`kept`);
+-- or why the symbol isn't read
+abbrev pub kept_if_read : (most : ℕ) → Result Term Refusal → Result (List ℕ) Refusal
+kept_if_read most (Ok tree) = kept_or_refused (kept most tree)
+kept_if_read most (Err refusal) = Err refusal
+
+-- The answer to a C++ symbol: that of what its shape denotes, or its first bad byte. A list with an item that is no byte is refused at once.
+unfoldable pub wide_pressed_answer : List ℕ → Result (List ℕ) Refusal
+wide_pressed_answer s =
+    outcome wide_mangled.table wide_mangled.lawful (λ shape. kept_if_read (most_pressed (length s)) (wide_mangled.unfolded shape))
+    (λ at. Err (Malformed at)) (Err (Malformed 0)) s
+
+-- in each language
+abbrev pub wide_pressed_language : Lang → List ℕ → Result (List ℕ) Refusal
+wide_pressed_language Cpp symbol = wide_pressed_answer symbol
+wide_pressed_language Rust symbol = pressed_answer v0_mangled rust_spelling.pressed symbol
+
+-- the pressed spelling follows the underscore that was dropped
+abbrev pub wide_pressed_of : Kind → List ℕ → Result (List ℕ) Refusal
+wide_pressed_of kind symbol = with_front (underscore_of kind.skip) (wide_pressed_language kind.lang symbol)
+
+-- ## What holds of these answers
+
+-- what a symbol reads as decides its answer
+abbrev pub ReadingIsKept : Type 0
+ReadingIsKept =
+    (s : List ℕ) (result : Result Term Refusal) → AreBytes s → IsReading wide_mangled s result → wide_pressed_answer s ≡ kept_if_read (most_pressed (length s)) result
