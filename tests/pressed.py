@@ -1,11 +1,13 @@
 #!/usr/bin/env python3
 """Presses pairs of C++ names: those that are spellings of one symbol come together, and those of different symbols stay apart.
 
-    tests/pressed.py SYMFILT
+    tests/pressed.py SYMFILT [FILE..]
 
 tests/spelled_pairs.txt has 43 symbols, each with its pressed spelling. tests/kin_names.txt has 2,000 names of installed libraries:
 thunks, local entities and instances of function templates. Each has a kin, which differs in what canonicalizers of names leave out of
-their keys: a thunk's offset, a discriminator, or whether a parameter's type is the template's.
+their keys: a thunk's offset, a discriminator, or whether a parameter's type is the template's. Both hold by each grammar. Of the names of
+each FILE, or else of bench/fresh_cpp.txt and bench/fresh_instances.txt, those that have a spelling by the wide grammar keep their
+texts, and only names with one text have one spelling.
 """
 import os
 import re
@@ -14,6 +16,11 @@ import sys
 
 HERE = os.path.dirname(os.path.abspath(__file__))
 MOST_WORDS = 1000
+FRESH_NAMES = ("../bench/fresh_cpp.txt", "../bench/fresh_instances.txt")
+WIDE_TEXT = ["--wide", "--limit=4294967295"]
+NO_SPELLING = "no spelling yet"
+# the least share of the names that are read which have a spelling: of instances of templates it is 0.878
+LEAST_SPELLED = 0.87
 
 
 def lines_of(name):
@@ -33,33 +40,72 @@ def kin_of(name):
     return instance[1] + instance[2]
 
 
-def pressed(program, words):
-    """The pressed spelling of each word, all of which have one."""
-    spellings = []
+def answers(program, options, words):
+    """What the program answers for each word: a text or a spelling, or None and why it has none."""
+    found = []
     for first in range(0, len(words), MOST_WORDS):
         some = words[first:first + MOST_WORDS]
-        done = subprocess.run([program, "--press", "--", *some], capture_output=True, encoding="ascii", check=False)
-        if done.returncode != 0:
-            sys.exit("not pressed: " + done.stderr.split("\n", maxsplit=1)[0])
-        spellings += done.stdout.splitlines()
-    return spellings
+        done = subprocess.run([program, *options, "--", *some], capture_output=True, encoding="utf-8", check=False)
+        complaints = dict(line.split(": ", 2)[1:] for line in done.stderr.splitlines())
+        found += [(None, complaints[word]) if word in complaints else (line, "") for word, line in zip(some, done.stdout.splitlines())]
+    return found
 
 
-def main():
-    if len(sys.argv) != 2:
-        sys.exit(__doc__)
-    program = sys.argv[1]
+def pressed(program, options, words):
+    """The pressed spelling of each word, all of which have one."""
+    spellings = answers(program, ["--press", *options], words)
+    missing = [why for spelling, why in spellings if spelling is None]
+    if missing:
+        sys.exit(f"not pressed: {missing[0]}")
+    return [spelling for spelling, _ in spellings]
+
+
+def check_pairs(program, options):
+    """The pairs of spellings come together, and stay; it answers the pairs of names that do, too."""
     pairs = [line.split(" ") for line in lines_of("spelled_pairs.txt")]
     wanted = [pair[1] for pair in pairs]
-    if pressed(program, [pair[0] for pair in pairs]) != wanted or pressed(program, wanted) != wanted:
+    if pressed(program, options, [pair[0] for pair in pairs]) != wanted or pressed(program, options, wanted) != wanted:
         sys.exit("a spelling isn't pressed to the one that is wanted")
     names = lines_of("kin_names.txt")
     kin = [kin_of(name) for name in names]
-    merged = [pair for pair in zip(names, kin, pressed(program, names), pressed(program, kin)) if pair[2] == pair[3]]
+    merged = [pair for pair in zip(names, kin, pressed(program, options, names), pressed(program, options, kin)) if pair[2] == pair[3]]
     for name, other, *_ in merged:
         print("merged:", name, other)
     print(f"{len(pairs)} pairs of spellings are together, {len(names) - len(merged)} of {len(names)} pairs of names are apart")
-    sys.exit(1 if merged else 0)
+    return bool(merged)
+
+
+def check_wide(program, words):
+    """By the wide grammar a spelling has its symbol's text, is pressed again unchanged, is that of the ABI's grammar where that has one, and
+    belongs to one text; it answers whether one doesn't, or too few have a spelling."""
+    texts = [text for text, _ in answers(program, WIDE_TEXT, words)]
+    read = [(word, text) for word, text in zip(words, texts) if text is not None]
+    spelled = answers(program, ["--press", "--wide"], [word for word, _ in read])
+    wrong = {why for spelling, why in spelled if spelling is None and why != NO_SPELLING}
+    kept = [(word, text, spelling) for (word, text), (spelling, _) in zip(read, spelled) if spelling is not None]
+    spellings = [spelling for *_, spelling in kept]
+    again = [text for text, _ in answers(program, WIDE_TEXT, spellings)]
+    wrong |= {word for (word, text, _), other in zip(kept, again) if other != text}
+    wrong |= {word for (word, _, spelling), (twice, _) in zip(kept, answers(program, ["--press", "--wide"], spellings)) if twice != spelling}
+    first = answers(program, ["--press"], [word for word, *_ in kept])
+    wrong |= {word for (word, _, spelling), (other, _) in zip(kept, first) if other not in (None, spelling)}
+    of_spelling = {}
+    wrong |= {word for word, text, spelling in kept if of_spelling.setdefault(spelling, text) != text}
+    for word in sorted(wrong):
+        print("by the wide grammar:", word)
+    print(f"{len(kept)} of {len(read)} names have a spelling by the wide grammar, {len(wrong)} of them a wrong one")
+    return bool(wrong) or len(kept) < LEAST_SPELLED * len(read)
+
+
+def main():
+    if len(sys.argv) < 2:
+        sys.exit(__doc__)
+    program, *files = sys.argv[1:]
+    failed = check_pairs(program, [])
+    failed |= check_pairs(program, ["--wide"])
+    for name in files or FRESH_NAMES:
+        failed |= check_wide(program, list(dict.fromkeys(word for word in lines_of(name) if word.startswith("_Z"))))
+    sys.exit(1 if failed else 0)
 
 
 if __name__ == "__main__":
