@@ -240,10 +240,10 @@ static void check_changes(bytes *fields, size_t count)
 }
 
 /* A word, perhaps with an underscore before its symbol, and its pressed spelling, which stays when it is pressed again. */
-static void check_press(bytes word, bytes pressed)
+static void check_press(bytes word, bytes pressed, uint32_t flags)
 {
-    check_answer(1, word, 0, SYMDEMANGLE_UNDERSCORE, text_wanted(pressed));
-    check_answer(1, pressed, 0, SYMDEMANGLE_UNDERSCORE, text_wanted(pressed));
+    check_answer(1, word, 0, flags | SYMDEMANGLE_UNDERSCORE, text_wanted(pressed));
+    check_answer(1, pressed, 0, flags | SYMDEMANGLE_UNDERSCORE, text_wanted(pressed));
 }
 
 /* A name that is a C++ type where types are asked for, and else no symbol. */
@@ -305,7 +305,14 @@ static enum answer check_row(bytes *fields, size_t count)
     } else if (is(sort, "type refused") && count == 3) {
         check_type(fields[1], LIMIT, reason(fields[2]));
     } else if (is(sort, "press") && count == 3) {
-        check_press(fields[1], fields[2]);
+        check_press(fields[1], fields[2], 0);
+    } else if (is(sort, "wide press") && count == 3) {
+        if (is(fields[2], "no spelling yet"))
+            check_answer(1, fields[1], 0, SYMDEMANGLE_WIDE, status_of(SYMDEMANGLE_NO_SPELLING));
+        else if (reads_reason(fields[2], &it))
+            check_answer(1, fields[1], 0, SYMDEMANGLE_WIDE, it);
+        else
+            check_press(fields[1], fields[2], SYMDEMANGLE_WIDE);
     } else if (is(sort, "tree") && count == 3) { /* no call shows nodes: only whether it is read */
         if (reads_reason(fields[2], &it))
             check_count(fields[1], 0, it);

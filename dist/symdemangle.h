@@ -49,9 +49,9 @@
    What a call takes:
    - A symbol of n bytes is read in at most 32n + 48 steps, into at most 4n + 4 rows and 4n + 8 nodes, and its text is written
      in at most `limit` + 1 steps. This is proved. symdemangle_press takes no limit.
-   - How many bytes of memory that takes isn't proved. Measured were up to 226 for each byte of a name, and 523 by
-     symdemangle_press, whatever the limit; the text is beside that. The longest name, of 16,777,216 bytes, would take 3.6 GB, and
-     8.4 GB pressed. So leave out names of such a length that someone else chose.
+   - How many bytes of memory that takes isn't proved. Measured were up to 600 at once for each byte of a name, and 750 by
+     symdemangle_press, whatever the limit; the text is beside that. The longest name, of 16,777,216 bytes, would take 4.9 GB, and
+     9.3 GB pressed. So leave out names of such a length that someone else chose.
    - symdemangle_filter keeps at most as many bytes of the filtered text as the buffer has; besides, it takes what one word of at
      most 65,536 bytes and its text take.
 
@@ -91,10 +91,11 @@ enum symdemangle_status {
     SYMDEMANGLE_MEMORY = 5,        /* an allocation was refused */
     SYMDEMANGLE_BUFFER = 6,        /* `length`: how many bytes the buffer needs */
     SYMDEMANGLE_SIZE = 7,          /* the symbol has more than 16,777,216 bytes, and wasn't read */
-    SYMDEMANGLE_FLAGS = 8,         /* a flag that isn't one of symdemangle_flags, or, of symdemangle_press, SYMDEMANGLE_WIDE */
+    SYMDEMANGLE_FLAGS = 8,         /* a flag that isn't one of symdemangle_flags */
     SYMDEMANGLE_NULL = 9,          /* a null pointer with a length, or a null result or counts */
     SYMDEMANGLE_ENDS = 10,         /* of symdemangle_texts: the ends go down, or pass the bytes */
-    SYMDEMANGLE_NO_SYMBOL = 11     /* the name begins with neither _Z nor _R, and isn't read as a type */
+    SYMDEMANGLE_NO_SYMBOL = 11,    /* the name begins with neither _Z nor _R, and isn't read as a type */
+    SYMDEMANGLE_NO_SPELLING = 12   /* of symdemangle_press with SYMDEMANGLE_WIDE: the symbol is read, and has no pressed spelling yet */
 };
 
 /* What is asked for, added together. One that says nothing to a call changes nothing in it. */
@@ -182,8 +183,9 @@ uint32_t symdemangle_count(const char *name, size_t name_length, uint32_t flags,
                            symdemangle_result *result);
 
 /* Writes the pressed spelling of a name: the one in which each part that repeats is a reference, so that different spellings of the
-   same symbol become equal. An underscore that was dropped is before it again. SYMDEMANGLE_OK, _MALFORMED, _BAD_REFERENCE,
-   _BAD_VALUE, _MEMORY, _BUFFER, _SIZE, _FLAGS, _NULL, _NO_SYMBOL. */
+   same symbol become equal. An underscore that was dropped is before it again. With SYMDEMANGLE_WIDE a C++ symbol has one where that
+   is read as the same symbol; libraries before this call took the flag answer SYMDEMANGLE_FLAGS. SYMDEMANGLE_OK, _MALFORMED,
+   _BAD_REFERENCE, _BAD_VALUE, _MEMORY, _BUFFER, _SIZE, _FLAGS, _NULL, _NO_SYMBOL, _NO_SPELLING. */
 uint32_t symdemangle_press(const char *name, size_t name_length, uint32_t flags, char *buffer, size_t capacity,
                            symdemangle_result *result);
 
