@@ -323,7 +323,7 @@ static void messages(void)
     has_message(SYMDEMANGLE_ENDS, "the ends of names are out of order");
     has_message(SYMDEMANGLE_NO_SYMBOL, "not a symbol");
     has_message(SYMDEMANGLE_NO_SPELLING, "no spelling yet");
-    has_message(12, "an unknown status");
+    has_message(13, "an unknown status");
     has_message(0xffffffffu, "an unknown status");
     for (status = 0; status < 12; status++)
         check(*symdemangle_message(status) != 0, "a message", "");
