@@ -2,21 +2,22 @@
 use Rattle.std.specs.Prelude.{ℕ, zero, suc, List, [], ◌∷◌, Bool, true, false, cond, nat_eq, Option}
 use Rattle.cpp_term.specs.Term.{Term, absent}
 use Rattle.cpp_grammar.specs.Term.{Qualifiers, RefQualifier, any_value, lvalue_only, rvalue_only, Signed, Adjustment, non_virtual}
-use Rattle.cpp_grammar.specs.Values.{unqualified}
+use Rattle.cpp_grammar.specs.Values.{Counted, Counting, unqualified}
 
 -- a tree that a substitution may name, the place where the encoding begins in which it was made, whether it was made in a
--- lambda's signature of that encoding, or in what is declared of an argument, and whether it's a name with its M
+-- lambda's signature of that encoding, or in what is declared of an argument, and by which compilers it's counted
 pub record Candidate : Type 0 where
   pub tree : Term
   pub encoding : ℕ
   pub in_lambda : Bool
-  pub is_held : Bool
+  pub counted : Counted
 
--- The state that is threaded through the bytes: the candidates so far, and the length of the packs that the innermost expansion
--- has named so far.
+-- The state that is threaded through the bytes: the candidates so far, the length of the packs that the innermost expansion
+-- has named so far, and how the candidates are counted where compilers differ.
 pub record State : Type 0 where
   pub candidates : List Candidate
   pub packs : Option ℕ
+  pub counting : Counting
 
 -- the name so far, and whether it is a candidate already or never is one
 pub data Prefix : Type 0 where
