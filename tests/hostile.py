@@ -17,31 +17,26 @@ LOW = "5000"
 DIGITS = "0123456789abcdefghijklmnopqrstuvwxyzABCDEFGHIJKLMNOPQRSTUVWXYZ"
 
 
+def spelled(letter, number, digits):
+    """A reference with this letter: no digits for 0, else those of the number below."""
+    if number == 0:
+        return f"{letter}_"
+    number -= 1
+    text = digits[number % len(digits)]
+    while number >= len(digits):
+        number //= len(digits)
+        text = digits[number % len(digits)] + text
+    return f"{letter}{text}_"
+
+
 def reference(place):
     """A back reference of Rust."""
-    if place == 0:
-        return "B_"
-    place -= 1
-    text = ""
-    while True:
-        text = DIGITS[place % 62] + text
-        place //= 62
-        if place == 0:
-            return f"B{text}_"
+    return spelled("B", place, DIGITS)
 
 
 def substitution(number):
     """A substitution of C++."""
-    upper = DIGITS[:10] + DIGITS[36:]
-    if number == 0:
-        return "S_"
-    number -= 1
-    text = ""
-    while True:
-        text = upper[number % 36] + text
-        number //= 36
-        if number == 0:
-            return f"S{text}_"
+    return spelled("S", number, DIGITS[:10] + DIGITS[36:])
 
 
 def cpp_word(begins, first, wraps, levels):
