@@ -226,7 +226,7 @@ unfolding between_wide
 wide_goes Production.Parameter around place (v ∷ []) state n at stays pre all e = here_within Production.Parameter around place at state (index_of v) n pre e
 wide_goes Production.ParameterArgument around place (v ∷ []) state n at stays pre all e = here_within Production.ParameterArgument around (place - 1) at state (index_of v) n pre e
 wide_goes Production.ParameterExpression around place (v ∷ []) state n at stays pre all e =
-    within true Production.ParameterExpression around at state n (argument_here_goes around place at state (index_of v) n pre e)
+    within true Production.ParameterExpression around at state n (argument_here_goes around (place - 1) at state (index_of v) n pre e)
 wide_goes Production.HeldArguments around place [] state n at stays pre all e = within true Production.HeldArguments around at state n (base_goes around at state n pre e)
 wide_goes Production.Holder around place (v ∷ []) state n at stays pre all e = within true Production.Holder around at state n (holder_goes around place at state n pre e)
 wide_goes Production.NestParameter around place (v ∷ []) state n at stays pre all e = here_within Production.NestParameter around place at state (index_of v) n pre e

@@ -218,117 +218,123 @@ const SOLID_BUT_T: Sym = Sym::Kind(102);
 
 const EXPRESSION: Sym = Sym::Kind(103);
 
-const ADDRESSED_EXPRESSION: Sym = Sym::Kind(104);
+const EXPRESSION_PARAMETER: Sym = Sym::Kind(104);
 
-const ADDRESSED_LITERAL: Sym = Sym::Kind(105);
+const UNLEVELED_EXPRESSION: Sym = Sym::Kind(105);
 
-const EXPRESSION_AFTER_A: Sym = Sym::Kind(106);
+const ADDRESSED_EXPRESSION: Sym = Sym::Kind(106);
 
-const EXPRESSION_AFTER_C: Sym = Sym::Kind(107);
+const ADDRESSED_LITERAL: Sym = Sym::Kind(107);
 
-const EXPRESSION_AFTER_D: Sym = Sym::Kind(108);
+const EXPRESSION_AFTER_A: Sym = Sym::Kind(108);
 
-const EXPRESSION_AFTER_E: Sym = Sym::Kind(109);
+const EXPRESSION_AFTER_C: Sym = Sym::Kind(109);
 
-const EXPRESSION_AFTER_F: Sym = Sym::Kind(110);
+const EXPRESSION_AFTER_D: Sym = Sym::Kind(110);
 
-const EXPRESSION_AFTER_G: Sym = Sym::Kind(111);
+const EXPRESSION_AFTER_E: Sym = Sym::Kind(111);
 
-const EXPRESSION_AFTER_I: Sym = Sym::Kind(112);
+const EXPRESSION_AFTER_F: Sym = Sym::Kind(112);
 
-const EXPRESSION_AFTER_L: Sym = Sym::Kind(113);
+const EXPRESSION_AFTER_G: Sym = Sym::Kind(113);
 
-const EXPRESSION_AFTER_M: Sym = Sym::Kind(114);
+const EXPRESSION_AFTER_I: Sym = Sym::Kind(114);
 
-const EXPRESSION_AFTER_N: Sym = Sym::Kind(115);
+const EXPRESSION_AFTER_L: Sym = Sym::Kind(115);
 
-const EXPRESSION_AFTER_O: Sym = Sym::Kind(116);
+const EXPRESSION_AFTER_M: Sym = Sym::Kind(116);
 
-const EXPRESSION_AFTER_P: Sym = Sym::Kind(117);
+const EXPRESSION_AFTER_N: Sym = Sym::Kind(117);
 
-const EXPRESSION_AFTER_Q: Sym = Sym::Kind(118);
+const EXPRESSION_AFTER_O: Sym = Sym::Kind(118);
 
-const EXPRESSION_AFTER_R: Sym = Sym::Kind(119);
+const EXPRESSION_AFTER_P: Sym = Sym::Kind(119);
 
-const EXPRESSION_AFTER_S: Sym = Sym::Kind(120);
+const EXPRESSION_AFTER_Q: Sym = Sym::Kind(120);
 
-const EXPRESSION_AFTER_T: Sym = Sym::Kind(121);
+const EXPRESSION_AFTER_R: Sym = Sym::Kind(121);
 
-const EXPRESSIONS: Sym = Sym::Kind(122);
+const EXPRESSION_AFTER_S: Sym = Sym::Kind(122);
 
-const MAYBE_BEFORE: Sym = Sym::Kind(123);
+const EXPRESSION_AFTER_T: Sym = Sym::Kind(123);
 
-const FOLD_OPERATOR: Sym = Sym::Kind(124);
+const EXPRESSIONS: Sym = Sym::Kind(124);
 
-const FOLD_OPERATOR_AFTER_L: Sym = Sym::Kind(125);
+const MAYBE_BEFORE: Sym = Sym::Kind(125);
 
-const FOLD_OPERAND: Sym = Sym::Kind(126);
+const FOLD_OPERATOR: Sym = Sym::Kind(126);
 
-const FOLD_PACK: Sym = Sym::Kind(127);
+const FOLD_OPERATOR_AFTER_L: Sym = Sym::Kind(127);
 
-const VALUE_PACK: Sym = Sym::Kind(128);
+const FOLD_OPERAND: Sym = Sym::Kind(128);
 
-const TYPE_PACK: Sym = Sym::Kind(129);
+const FOLD_PACK: Sym = Sym::Kind(129);
 
-const DESIGNATED_VALUE: Sym = Sym::Kind(130);
+const VALUE_PACK: Sym = Sym::Kind(130);
 
-const DESIGNATOR_AFTER_D: Sym = Sym::Kind(131);
+const TYPE_PACK: Sym = Sym::Kind(131);
 
-const PLAIN_VALUE: Sym = Sym::Kind(132);
+const DESIGNATED_VALUE: Sym = Sym::Kind(132);
 
-const FIELD_NAME: Sym = Sym::Kind(133);
+const DESIGNATOR_AFTER_D: Sym = Sym::Kind(133);
 
-const PLACEMENT: Sym = Sym::Kind(134);
+const PLAIN_VALUE: Sym = Sym::Kind(134);
 
-const SOME_EXPRESSIONS: Sym = Sym::Kind(135);
+const FIELD_NAME: Sym = Sym::Kind(135);
 
-const INITIALIZER: Sym = Sym::Kind(136);
+const PLACEMENT: Sym = Sym::Kind(136);
 
-const INITIALIZER_AFTER_P: Sym = Sym::Kind(137);
+const SOME_EXPRESSIONS: Sym = Sym::Kind(137);
 
-const INITIALIZER_AFTER_I: Sym = Sym::Kind(138);
+const INITIALIZER: Sym = Sym::Kind(138);
 
-const OUTER_REST: Sym = Sym::Kind(139);
+const INITIALIZER_AFTER_P: Sym = Sym::Kind(139);
 
-const PARAMETER_NUMBER: Sym = Sym::Kind(140);
+const INITIALIZER_AFTER_I: Sym = Sym::Kind(140);
 
-const CONVERTED_TYPE: Sym = Sym::Kind(141);
+const OUTER_REST: Sym = Sym::Kind(141);
 
-const CONVERTED_SOLID: Sym = Sym::Kind(142);
+const PARAMETER_NUMBER: Sym = Sym::Kind(142);
 
-const DECLTYPE_AFTER_D: Sym = Sym::Kind(143);
+const CONVERTED_TYPE: Sym = Sym::Kind(143);
 
-const CONVERT_REST: Sym = Sym::Kind(144);
+const CONVERTED_SOLID: Sym = Sym::Kind(144);
 
-const UNRESOLVED: Sym = Sym::Kind(145);
+const PARAMETER_AFTER_T: Sym = Sym::Kind(145);
 
-const UNRESOLVED_TYPE: Sym = Sym::Kind(146);
+const DECLTYPE_AFTER_D: Sym = Sym::Kind(146);
 
-const DESTRUCTOR_NAME: Sym = Sym::Kind(147);
+const CONVERT_REST: Sym = Sym::Kind(147);
 
-const REQUIREMENTS: Sym = Sym::Kind(148);
+const UNRESOLVED: Sym = Sym::Kind(148);
 
-const AFTER_EXPRESSION: Sym = Sym::Kind(149);
+const UNRESOLVED_TYPE: Sym = Sym::Kind(149);
 
-const AFTER_NOEXCEPT: Sym = Sym::Kind(150);
+const DESTRUCTOR_NAME: Sym = Sym::Kind(150);
 
-const REQUIRED_TYPES: Sym = Sym::Kind(151);
+const REQUIREMENTS: Sym = Sym::Kind(151);
 
-const LEVEL: Sym = Sym::Kind(152);
+const AFTER_EXPRESSION: Sym = Sym::Kind(152);
 
-const MORE_LEVELS: Sym = Sym::Kind(153);
+const AFTER_NOEXCEPT: Sym = Sym::Kind(153);
 
-const UNRESOLVED_NAME: Sym = Sym::Kind(154);
+const REQUIRED_TYPES: Sym = Sym::Kind(154);
 
-const OPERATOR_NAME: Sym = Sym::Kind(155);
+const LEVEL: Sym = Sym::Kind(155);
 
-const ANY_ARRAY: Sym = Sym::Kind(156);
+const MORE_LEVELS: Sym = Sym::Kind(156);
 
-const ARRAY_REST: Sym = Sym::Kind(157);
+const UNRESOLVED_NAME: Sym = Sym::Kind(157);
 
-const BOUND: Sym = Sym::Kind(158);
+const OPERATOR_NAME: Sym = Sym::Kind(158);
 
-const NEST_MORE_OR_END: Sym = Sym::Kind(159);
+const ANY_ARRAY: Sym = Sym::Kind(159);
+
+const ARRAY_REST: Sym = Sym::Kind(160);
+
+const BOUND: Sym = Sym::Kind(161);
+
+const NEST_MORE_OR_END: Sym = Sym::Kind(162);
 
 const NAME: Sym = Sym::Name;
 
@@ -342,7 +348,7 @@ const DIGITS: Sym = Sym::Number(NumberKind::Digits);
 pub const FIRST_LETTER: u8 = b'!';
 
 // For each kind a row: for each byte from `$` to `z` the letter of the production that the kind takes there.
-static LETTERS: [[u8; 87]; 160] = [
+static LETTERS: [[u8; 87]; 163] = [
     // $%&'()*+,-./0123456789:;<=>?@ABCDEFGHIJKLMNOPQRSTUVWXYZ[\]^_`abcdefghijklmnopqrstuvwxyz
     *b"                                                           *                           ", // Symbol
     *b"          +                                                                            ", // MaybeSuffix
@@ -448,7 +454,9 @@ static LETTERS: [[u8; 87]; 160] = [
     *b"            \xc4\xc4\xc4\xc4\xc4\xc4\xc4\xc4\xc4\xc4                    V    \xc4                                       ", // Concept
     *b"            $$$$$$$$$$       y {  z      sV r  u #    v      wwwwwwwwww wwww   wwxwwwww", // SolidButT
     *b"                                                             \xe1                         ", // Expression
-    *b"                                        \xf2                                              ", // AddressedExpression
+    *b"            \xf2\xf2\xf2\xf2\xf2\xf2\xf2\xf2\xf2\xf2                  \xf3                  \xf2                           ", // ExpressionParameter
+    *b"            \xf2\xf2\xf2\xf2\xf2\xf2\xf2\xf2\xf2\xf2                                     \xf2                           ", // UnleveledExpression
+    *b"                                        \xf4                                              ", // AddressedExpression
     *b"                                                           \x8f                           ", // AddressedLiteral
     *b"                                                                \xc9                      ", // ExpressionAfterA
     *b"                                                               \xc5        \xcd\xca \xcb\xcd     \xce    ", // ExpressionAfterC
@@ -466,42 +474,43 @@ static LETTERS: [[u8; 87]; 160] = [
     *b"                                         \xca   \xda \xca               \xc5         \xca   \xd9 \xca       ", // ExpressionAfterR
     *b"                                                      \xdc        \xc5            \xdb \xdd\xca\xcc    \xde\xcb", // ExpressionAfterS
     *b"                                                                 \xcb   \xcc  \xdf     \xe0    \xcb   ", // ExpressionAfterT
-    *b"                                                             \xf3                         ", // Expressions
+    *b"                                                             \xf5                         ", // Expressions
     *b"                                                           !                           ", // MaybeBefore
-    *b"                                                             \x9e \xa0\x9d\xa4 \xa8 \xa7  \xf4\xa1\x9c\xa3\x9f \xa2\xa6       ", // FoldOperator
+    *b"                                                             \x9e \xa0\x9d\xa4 \xa8 \xa7  \xf6\xa1\x9c\xa3\x9f \xa2\xa6       ", // FoldOperator
     *b"                                               !                 !             !!      ", // FoldOperatorAfterL
-    *b"                                                             \xf5                         ", // FoldOperand
-    *b"                                                             \xf6                         ", // FoldPack
-    *b"                                      \xbd                      \xf6                         ", // ValuePack
-    *b"            \xf7\xf7\xf7\xf7\xf7\xf7\xf7\xf7\xf7\xf7       \xf7 \xf7\xf7 \xf7   \xbd\xf7 \xf7\xf7\xf7\xf7 \xf7\xf7\xf7\xf7\xf7   \xf7      \xf7\xf7\xf7\xf7\xf7\xf7\xf7\xf7\xf7\xf7 \xf7\xf7\xf7\xf7  \xf7\xf7\xf7\xf7\xf7\xf7\xf7\xf7\xf7", // TypePack
-    *b"            \xf9\xf9\xf9\xf9\xf9\xf9\xf9\xf9\xf9\xf9                  \xf9       \xf9            \xf9 \xf9\xf8\xf9\xf9\xf9 \xf9  \xf9\xf9\xf9\xf9\xf9\xf9\xf9\xf9\xf9      ", // DesignatedValue
+    *b"                                                             \xf7                         ", // FoldOperand
+    *b"                                                             \xf8                         ", // FoldPack
+    *b"                                      \xbd                      \xf8                         ", // ValuePack
+    *b"            \xf9\xf9\xf9\xf9\xf9\xf9\xf9\xf9\xf9\xf9       \xf9 \xf9\xf9 \xf9   \xbd\xf9 \xf9\xf9\xf9\xf9 \xf9\xf9\xf9\xf9\xf9   \xf9      \xf9\xf9\xf9\xf9\xf9\xf9\xf9\xf9\xf9\xf9 \xf9\xf9\xf9\xf9  \xf9\xf9\xf9\xf9\xf9\xf9\xf9\xf9\xf9", // TypePack
+    *b"            \xfb\xfb\xfb\xfb\xfb\xfb\xfb\xfb\xfb\xfb                  \xfb       \xfb            \xfb \xfb\xfa\xfb\xfb\xfb \xfb  \xfb\xfb\xfb\xfb\xfb\xfb\xfb\xfb\xfb      ", // DesignatedValue
     *b"                                                                     \xcf              \xd0  ", // DesignatorAfterD
     *b"            \xc7\xc7\xc7\xc7\xc7\xc7\xc7\xc7\xc7\xc7                  \xbc       \xf1            \xe1 \xe2 \xe4\xe5\xe6 \xe7  \xe8\xe9\xea\xeb\xec\xed\xee\xef\xf0      ", // PlainValue
-    *b"            \xfa\xfa\xfa\xfa\xfa\xfa\xfa\xfa\xfa\xfa                                                                 ", // FieldName
-    *b"                                                           ! \xfb                         ", // Placement
-    *b"                                                             \xf3                         ", // SomeExpressions
-    *b"                                 \x83                                   \xfd      \xfc          ", // Initializer
+    *b"            \xfc\xfc\xfc\xfc\xfc\xfc\xfc\xfc\xfc\xfc                                                                 ", // FieldName
+    *b"                                                           ! \xfd                         ", // Placement
+    *b"                                                             \xf5                         ", // SomeExpressions
+    *b"                                 \x83                                   \xff      \xfe          ", // Initializer
     *b"                                                                     \xd5                 ", // InitializerAfterP
     *b"                                                                        \xd5              ", // InitializerAfterI
     *b"                                                                            \xc8          ", // OuterRest
-    *b"            \xff\xff\xff\xff\xff\xff\xff\xff\xff\xff                          \xfe          \xff                           ", // ParameterNumber
-    *b"            \x04\x04\x04\x04\x04\x04\x04\x04\x04\x04          \x00 \x04    \x01  \x04\x03\x02 \x03\x04\x04\x04           \x04\x04\x04\x04\x04\x04\x04\x04\x04\x04 \x04\x04\x04\x04   \x04\x04 \x04\x04\x04\x04\x04", // ConvertedType
-    *b"            $$$$$$$$$$            z       V    ut#           wwwwwwwwww wwww   ww wwwww", // ConvertedSolid
+    *b"            \x01\x01\x01\x01\x01\x01\x01\x01\x01\x01                          \x00          \x01                           ", // ParameterNumber
+    *b"            \x06\x06\x06\x06\x06\x06\x06\x06\x06\x06          \x02 \x06    \x03  \x06\x05\x04 \x05\x06\x06\x06           \x06\x06\x06\x06\x06\x06\x06\x06\x06\x06 \x06\x06\x06\x06   \x06\x06 \x06\x06\x06\x06\x06", // ConvertedType
+    *b"            $$$$$$$$$$            z       V    u\x07#           wwwwwwwwww wwww   ww wwwww", // ConvertedSolid
+    *b"            \xb9\xb9\xb9\xb9\xb9\xb9\xb9\xb9\xb9\xb9                  \xbb                  \xb9                           ", // ParameterAfterT
     *b"                                                p                               p      ", // DecltypeAfterD
     *b"            \xc7\xc7\xc7\xc7\xc7\xc7\xc7\xc7\xc7\xc7                  \xbc       \xf1          \xd5 \xe1 \xe2\xe3\xe4\xe5\xe6 \xe7  \xe8\xe9\xea\xeb\xec\xed\xee\xef\xf0      ", // ConvertRest
-    *b"            \x06\x06\x06\x06\x06\x06\x06\x06\x06\x06          \x05         \x05    \x05\x05                                      ", // Unresolved
-    *b"                                \x00         V    ut                                      ", // UnresolvedType
-    *b"            \xc7\xc7\xc7\xc7\xc7\xc7\xc7\xc7\xc7\xc7          \x07         \x07    \x07\x07                                      ", // DestructorName
-    *b"                                             \x0a  \x09   \x08                                  ", // Requirements
-    *b"                                          \x0c  \x0a\x0b \x09   \x08                                  ", // AfterExpression
-    *b"                                             \x0a\x0b \x09   \x08                                  ", // AfterNoexcept
-    *b"            \x0d\x0d\x0d\x0d\x0d\x0d\x0d\x0d\x0d\x0d          \x0d \x0d    \x0d  \x0d\x0d\x0d \x0d\x0d\x0d\x0d         \xd9 \x0d\x0d\x0d\x0d\x0d\x0d\x0d\x0d\x0d\x0d \x0d\x0d\x0d\x0d   \x0d\x0d \x0d\x0d\x0d\x0d\x0d", // RequiredTypes
+    *b"            \x09\x09\x09\x09\x09\x09\x09\x09\x09\x09          \x08         \x08    \x08\x08                                      ", // Unresolved
+    *b"                                \x02         V    u\x07                                      ", // UnresolvedType
+    *b"            \xc7\xc7\xc7\xc7\xc7\xc7\xc7\xc7\xc7\xc7          \x0a         \x0a    \x0a\x0a                                      ", // DestructorName
+    *b"                                             \x0d  \x0c   \x0b                                  ", // Requirements
+    *b"                                          \x0f  \x0d\x0e \x0c   \x0b                                  ", // AfterExpression
+    *b"                                             \x0d\x0e \x0c   \x0b                                  ", // AfterNoexcept
+    *b"            \x10\x10\x10\x10\x10\x10\x10\x10\x10\x10          \x10 \x10    \x10  \x10\x10\x10 \x10\x10\x10\x10         \xd9 \x10\x10\x10\x10\x10\x10\x10\x10\x10\x10 \x10\x10\x10\x10   \x10\x10 \x10\x10\x10\x10\x10", // RequiredTypes
     *b"            \xc7\xc7\xc7\xc7\xc7\xc7\xc7\xc7\xc7\xc7                                                                 ", // Level
-    *b"            \x06\x06\x06\x06\x06\x06\x06\x06\x06\x06           \x0e                                                     ", // MoreLevels
-    *b"            \xc7\xc7\xc7\xc7\xc7\xc7\xc7\xc7\xc7\xc7                                                     \x0f           ", // UnresolvedName
+    *b"            \x09\x09\x09\x09\x09\x09\x09\x09\x09\x09           \x11                                                     ", // MoreLevels
+    *b"            \xc7\xc7\xc7\xc7\xc7\xc7\xc7\xc7\xc7\xc7                                                     \x12           ", // UnresolvedName
     *b"                                                                          \xc6            ", // OperatorName
-    *b"                             \x10                                                         ", // AnyArray
-    *b"            \x12\x12\x12\x12\x12\x12\x12\x12\x12\x12                                     \x12                           ", // ArrayRest
+    *b"                             \x13                                                         ", // AnyArray
+    *b"            \x15\x15\x15\x15\x15\x15\x15\x15\x15\x15                                     \x15                           ", // ArrayRest
     *b"                                        \xbc       \xf1            \xe1 \xe2\xe3\xe4\xe5\xe6 \xe7  \xe8\xe9\xea\xeb\xec\xed\xee\xef\xf0      ", // Bound
     *b"            IIIIIIIIII         II       I        I           I III I I  IIIII II       ", // NestMoreOrEnd
 ];
@@ -533,7 +542,7 @@ macro_rules! chains {
 }
 
 // The rules of the productions, in the order of their numbers.
-pub static HEADS: [Head; 242] = [
+pub static HEADS: [Head; 245] = [
     takes!(0), // ! Mark
     takes!(2), // \" InternalName
     takes!(2), // # LocalTypeName
@@ -742,44 +751,47 @@ pub static HEADS: [Head; 242] = [
     takes!(1), // \xee ExpressionR
     takes!(1), // \xef ExpressionS
     takes!(1), // \xf0 ExpressionT
-    takes!(2), // \xf1 ParameterExpression
-    takes!(2), // \xf2 AddressedLiteral
-    chains!(2), // \xf3 Expressions
-    takes!(1), // \xf4 FoldOperatorL
-    chains!(1), // \xf5 FoldOperand
-    chains!(1), // \xf6 FoldPack
-    chains!(1), // \xf7 TypePack
-    takes!(1), // \xf8 Designators
-    chains!(1), // \xf9 DesignatedValue
-    chains!(1), // \xfa FieldName
-    chains!(2), // \xfb Placed
-    takes!(1), // \xfc Initializer
-    takes!(1), // \xfd BracedInitializer
-    takes!(0), // \xfe This
-    chains!(1), // \xff ParameterNumber
-    takes!(1), // \x00 ConvertedDecltype
-    takes!(1), // \x01 ConvertedConst
-    takes!(1), // \x02 ConvertedPointer
-    takes!(1), // \x03 ConvertedReference
-    chains!(1), // \x04 ConvertedType
-    chains!(2), // \x05 UnresolvedInType
-    chains!(2), // \x06 Levels
-    chains!(1), // \x07 DestroyedType
-    takes!(2), // \x08 ExpressionRequirement
-    takes!(2), // \x09 TypeRequirement
-    takes!(2), // \x0a NestedRequirement
-    takes!(2), // \x0b ResultRequirement
-    takes!(1), // \x0c NoexceptRequirement
-    chains!(2), // \x0d RequiredType
-    takes!(1), // \x0e LevelsEnd
-    takes!(1), // \x0f UnresolvedOperator
-    takes!(1), // \x10 AnyArray
-    chains!(3), // \x11 BoundedArray
-    chains!(2), // \x12 LengthArray
+    takes!(1), // \xf1 ExpressionWithT
+    chains!(2), // \xf2 ParameterExpression
+    takes!(2), // \xf3 LeveledExpression
+    takes!(2), // \xf4 AddressedLiteral
+    chains!(2), // \xf5 Expressions
+    takes!(1), // \xf6 FoldOperatorL
+    chains!(1), // \xf7 FoldOperand
+    chains!(1), // \xf8 FoldPack
+    chains!(1), // \xf9 TypePack
+    takes!(1), // \xfa Designators
+    chains!(1), // \xfb DesignatedValue
+    chains!(1), // \xfc FieldName
+    chains!(2), // \xfd Placed
+    takes!(1), // \xfe Initializer
+    takes!(1), // \xff BracedInitializer
+    takes!(0), // \x00 This
+    chains!(1), // \x01 ParameterNumber
+    takes!(1), // \x02 ConvertedDecltype
+    takes!(1), // \x03 ConvertedConst
+    takes!(1), // \x04 ConvertedPointer
+    takes!(1), // \x05 ConvertedReference
+    chains!(1), // \x06 ConvertedType
+    takes!(1), // \x07 ConvertedWithT
+    chains!(2), // \x08 UnresolvedInType
+    chains!(2), // \x09 Levels
+    chains!(1), // \x0a DestroyedType
+    takes!(2), // \x0b ExpressionRequirement
+    takes!(2), // \x0c TypeRequirement
+    takes!(2), // \x0d NestedRequirement
+    takes!(2), // \x0e ResultRequirement
+    takes!(1), // \x0f NoexceptRequirement
+    chains!(2), // \x10 RequiredType
+    takes!(1), // \x11 LevelsEnd
+    takes!(1), // \x12 UnresolvedOperator
+    takes!(1), // \x13 AnyArray
+    chains!(3), // \x14 BoundedArray
+    chains!(2), // \x15 LengthArray
 ];
 
 // The symbols of the rules, in the same order.
-pub static SYMBOLS: [Sym; 1458] = symbols_listed! {
+pub static SYMBOLS: [Sym; 1476] = symbols_listed! {
     [NONE, NONE, NONE, NONE, NONE], // ! Mark
     [NAME, MAYBE_ARGUMENTS, NONE, NONE, NONE], // \" InternalName
     [ANONYMOUS, MAYBE_ARGUMENTS, NONE, NONE, NONE], // # LocalTypeName
@@ -988,44 +1000,47 @@ pub static SYMBOLS: [Sym; 1458] = symbols_listed! {
     [EXPRESSION_AFTER_R, NONE, NONE, NONE, NONE], // \xee ExpressionR
     [EXPRESSION_AFTER_S, NONE, NONE, NONE, NONE], // \xef ExpressionS
     [EXPRESSION_AFTER_T, NONE, NONE, NONE, NONE], // \xf0 ExpressionT
-    [DECIMAL, ARGUMENTS_ALONE, NONE, NONE, NONE], // \xf1 ParameterExpression
-    [ADDRESSED_LITERAL, Sym::Byte(b'E'), NONE, NONE, NONE], // \xf2 AddressedLiteral
-    [EXPRESSION, EXPRESSIONS, NONE, NONE, NONE], // \xf3 Expressions
-    [FOLD_OPERATOR_AFTER_L, NONE, NONE, NONE, NONE], // \xf4 FoldOperatorL
-    [FOLD_PACK, NONE, NONE, NONE, NONE], // \xf5 FoldOperand
-    [EXPRESSION, NONE, NONE, NONE, NONE], // \xf6 FoldPack
-    [TYPE, NONE, NONE, NONE, NONE], // \xf7 TypePack
-    [DESIGNATOR_AFTER_D, NONE, NONE, NONE, NONE], // \xf8 Designators
-    [PLAIN_VALUE, NONE, NONE, NONE, NONE], // \xf9 DesignatedValue
-    [NAME, NONE, NONE, NONE, NONE], // \xfa FieldName
-    [SOME_EXPRESSIONS, Sym::Byte(b'_'), NONE, NONE, NONE], // \xfb Placed
-    [INITIALIZER_AFTER_P, NONE, NONE, NONE, NONE], // \xfc Initializer
-    [INITIALIZER_AFTER_I, NONE, NONE, NONE, NONE], // \xfd BracedInitializer
-    [NONE, NONE, NONE, NONE, NONE], // \xfe This
-    [DECIMAL, NONE, NONE, NONE, NONE], // \xff ParameterNumber
-    [DECLTYPE_AFTER_D, NONE, NONE, NONE, NONE], // \x00 ConvertedDecltype
-    [CONVERTED_TYPE, NONE, NONE, NONE, NONE], // \x01 ConvertedConst
-    [CONVERTED_TYPE, NONE, NONE, NONE, NONE], // \x02 ConvertedPointer
-    [CONVERTED_TYPE, NONE, NONE, NONE, NONE], // \x03 ConvertedReference
-    [CONVERTED_SOLID, NONE, NONE, NONE, NONE], // \x04 ConvertedType
-    [UNRESOLVED_TYPE, UNRESOLVED_NAME, NONE, NONE, NONE], // \x05 UnresolvedInType
-    [LEVEL, MORE_LEVELS, NONE, NONE, NONE], // \x06 Levels
-    [UNRESOLVED_TYPE, NONE, NONE, NONE, NONE], // \x07 DestroyedType
-    [EXPRESSION, AFTER_EXPRESSION, NONE, NONE, NONE], // \x08 ExpressionRequirement
-    [TYPE, REQUIREMENTS, NONE, NONE, NONE], // \x09 TypeRequirement
-    [EXPRESSION, REQUIREMENTS, NONE, NONE, NONE], // \x0a NestedRequirement
-    [CONCEPT, REQUIREMENTS, NONE, NONE, NONE], // \x0b ResultRequirement
-    [AFTER_NOEXCEPT, NONE, NONE, NONE, NONE], // \x0c NoexceptRequirement
-    [CONVERTED_TYPE, REQUIRED_TYPES, NONE, NONE, NONE], // \x0d RequiredType
-    [UNRESOLVED_NAME, NONE, NONE, NONE, NONE], // \x0e LevelsEnd
-    [OPERATOR_NAME, NONE, NONE, NONE, NONE], // \x0f UnresolvedOperator
-    [ARRAY_REST, NONE, NONE, NONE, NONE], // \x10 AnyArray
-    [BOUND, Sym::Byte(b'_'), TYPE, NONE, NONE], // \x11 BoundedArray
-    [DECIMAL, TYPE, NONE, NONE, NONE], // \x12 LengthArray
+    [EXPRESSION_PARAMETER, NONE, NONE, NONE, NONE], // \xf1 ExpressionWithT
+    [DECIMAL, ARGUMENTS_ALONE, NONE, NONE, NONE], // \xf2 ParameterExpression
+    [DECIMAL, UNLEVELED_EXPRESSION, NONE, NONE, NONE], // \xf3 LeveledExpression
+    [ADDRESSED_LITERAL, Sym::Byte(b'E'), NONE, NONE, NONE], // \xf4 AddressedLiteral
+    [EXPRESSION, EXPRESSIONS, NONE, NONE, NONE], // \xf5 Expressions
+    [FOLD_OPERATOR_AFTER_L, NONE, NONE, NONE, NONE], // \xf6 FoldOperatorL
+    [FOLD_PACK, NONE, NONE, NONE, NONE], // \xf7 FoldOperand
+    [EXPRESSION, NONE, NONE, NONE, NONE], // \xf8 FoldPack
+    [TYPE, NONE, NONE, NONE, NONE], // \xf9 TypePack
+    [DESIGNATOR_AFTER_D, NONE, NONE, NONE, NONE], // \xfa Designators
+    [PLAIN_VALUE, NONE, NONE, NONE, NONE], // \xfb DesignatedValue
+    [NAME, NONE, NONE, NONE, NONE], // \xfc FieldName
+    [SOME_EXPRESSIONS, Sym::Byte(b'_'), NONE, NONE, NONE], // \xfd Placed
+    [INITIALIZER_AFTER_P, NONE, NONE, NONE, NONE], // \xfe Initializer
+    [INITIALIZER_AFTER_I, NONE, NONE, NONE, NONE], // \xff BracedInitializer
+    [NONE, NONE, NONE, NONE, NONE], // \x00 This
+    [DECIMAL, NONE, NONE, NONE, NONE], // \x01 ParameterNumber
+    [DECLTYPE_AFTER_D, NONE, NONE, NONE, NONE], // \x02 ConvertedDecltype
+    [CONVERTED_TYPE, NONE, NONE, NONE, NONE], // \x03 ConvertedConst
+    [CONVERTED_TYPE, NONE, NONE, NONE, NONE], // \x04 ConvertedPointer
+    [CONVERTED_TYPE, NONE, NONE, NONE, NONE], // \x05 ConvertedReference
+    [CONVERTED_SOLID, NONE, NONE, NONE, NONE], // \x06 ConvertedType
+    [PARAMETER_AFTER_T, NONE, NONE, NONE, NONE], // \x07 ConvertedWithT
+    [UNRESOLVED_TYPE, UNRESOLVED_NAME, NONE, NONE, NONE], // \x08 UnresolvedInType
+    [LEVEL, MORE_LEVELS, NONE, NONE, NONE], // \x09 Levels
+    [UNRESOLVED_TYPE, NONE, NONE, NONE, NONE], // \x0a DestroyedType
+    [EXPRESSION, AFTER_EXPRESSION, NONE, NONE, NONE], // \x0b ExpressionRequirement
+    [TYPE, REQUIREMENTS, NONE, NONE, NONE], // \x0c TypeRequirement
+    [EXPRESSION, REQUIREMENTS, NONE, NONE, NONE], // \x0d NestedRequirement
+    [CONCEPT, REQUIREMENTS, NONE, NONE, NONE], // \x0e ResultRequirement
+    [AFTER_NOEXCEPT, NONE, NONE, NONE, NONE], // \x0f NoexceptRequirement
+    [CONVERTED_TYPE, REQUIRED_TYPES, NONE, NONE, NONE], // \x10 RequiredType
+    [UNRESOLVED_NAME, NONE, NONE, NONE, NONE], // \x11 LevelsEnd
+    [OPERATOR_NAME, NONE, NONE, NONE, NONE], // \x12 UnresolvedOperator
+    [ARRAY_REST, NONE, NONE, NONE, NONE], // \x13 AnyArray
+    [BOUND, Sym::Byte(b'_'), TYPE, NONE, NONE], // \x14 BoundedArray
+    [DECIMAL, TYPE, NONE, NONE, NONE], // \x15 LengthArray
 };
 
 // How many symbols follow each of them, up to an end.
-static AFTER: [u8; 1458] = [
+static AFTER: [u8; 1476] = [
     0, 0, 0, 0, 0, 0, 0, 0, 0, 0, 0, 2, 1, 0, 0, 0, 0, 2, 1, 0, 0, 0, 0, 2, 1, 0, 0, 0, 0, 2, 1, 0,
     0, 0, 0, 1, 0, 0, 0, 0, 0, 1, 0, 0, 0, 0, 0, 1, 0, 0, 0, 0, 0, 5, 4, 3, 2, 1, 0, 3, 2, 1, 0, 0,
     0, 1, 0, 0, 0, 0, 0, 1, 0, 0, 0, 0, 0, 1, 0, 0, 0, 0, 0, 2, 1, 0, 0, 0, 0, 2, 1, 0, 0, 0, 0, 1,
@@ -1065,20 +1080,21 @@ static AFTER: [u8; 1458] = [
     0, 0, 0, 0, 0, 1, 0, 0, 0, 0, 0, 1, 0, 0, 0, 0, 0, 1, 0, 0, 0, 0, 0, 1, 0, 0, 0, 0, 0, 1, 0, 0,
     0, 0, 0, 1, 0, 0, 0, 0, 0, 1, 0, 0, 0, 0, 0, 1, 0, 0, 0, 0, 0, 1, 0, 0, 0, 0, 0, 1, 0, 0, 0, 0,
     0, 1, 0, 0, 0, 0, 0, 1, 0, 0, 0, 0, 0, 1, 0, 0, 0, 0, 0, 1, 0, 0, 0, 0, 0, 1, 0, 0, 0, 0, 0, 1,
-    0, 0, 0, 0, 0, 2, 1, 0, 0, 0, 0, 2, 1, 0, 0, 0, 0, 2, 1, 0, 0, 0, 0, 1, 0, 0, 0, 0, 0, 1, 0, 0,
+    0, 0, 0, 0, 0, 1, 0, 0, 0, 0, 0, 2, 1, 0, 0, 0, 0, 2, 1, 0, 0, 0, 0, 2, 1, 0, 0, 0, 0, 2, 1, 0,
     0, 0, 0, 1, 0, 0, 0, 0, 0, 1, 0, 0, 0, 0, 0, 1, 0, 0, 0, 0, 0, 1, 0, 0, 0, 0, 0, 1, 0, 0, 0, 0,
-    0, 2, 1, 0, 0, 0, 0, 1, 0, 0, 0, 0, 0, 1, 0, 0, 0, 0, 0, 0, 0, 0, 0, 0, 0, 1, 0, 0, 0, 0, 0, 1,
-    0, 0, 0, 0, 0, 1, 0, 0, 0, 0, 0, 1, 0, 0, 0, 0, 0, 1, 0, 0, 0, 0, 0, 1, 0, 0, 0, 0, 0, 2, 1, 0,
-    0, 0, 0, 2, 1, 0, 0, 0, 0, 1, 0, 0, 0, 0, 0, 2, 1, 0, 0, 0, 0, 2, 1, 0, 0, 0, 0, 2, 1, 0, 0, 0,
-    0, 2, 1, 0, 0, 0, 0, 1, 0, 0, 0, 0, 0, 2, 1, 0, 0, 0, 0, 1, 0, 0, 0, 0, 0, 1, 0, 0, 0, 0, 0, 1,
-    0, 0, 0, 0, 0, 3, 2, 1, 0, 0, 0, 2, 1, 0, 0, 0, 0, 0,
+    0, 1, 0, 0, 0, 0, 0, 1, 0, 0, 0, 0, 0, 2, 1, 0, 0, 0, 0, 1, 0, 0, 0, 0, 0, 1, 0, 0, 0, 0, 0, 0,
+    0, 0, 0, 0, 0, 1, 0, 0, 0, 0, 0, 1, 0, 0, 0, 0, 0, 1, 0, 0, 0, 0, 0, 1, 0, 0, 0, 0, 0, 1, 0, 0,
+    0, 0, 0, 1, 0, 0, 0, 0, 0, 1, 0, 0, 0, 0, 0, 2, 1, 0, 0, 0, 0, 2, 1, 0, 0, 0, 0, 1, 0, 0, 0, 0,
+    0, 2, 1, 0, 0, 0, 0, 2, 1, 0, 0, 0, 0, 2, 1, 0, 0, 0, 0, 2, 1, 0, 0, 0, 0, 1, 0, 0, 0, 0, 0, 2,
+    1, 0, 0, 0, 0, 1, 0, 0, 0, 0, 0, 1, 0, 0, 0, 0, 0, 1, 0, 0, 0, 0, 0, 3, 2, 1, 0, 0, 0, 2, 1, 0,
+    0, 0, 0, 0,
 ];
 
 /// The number of the rule that a kind takes at a byte, if it takes one.
 #[inline]
 fn number(kind: u16, byte: u8) -> Option<usize>
     requires { kind < abi.kinds }
-    ensures few { IfSome result (λ number. number < 242) }
+    ensures few { IfSome result (λ number. number < 245) }
     ensures rule { (head : Head) → MatchOption result (abi.rule kind byte ≡ None) (λ number. abi.rule kind byte ≡ Some (listed_rule head number)) }
 {
     match letter_in(&LETTERS[kind as usize], byte) {

@@ -8,7 +8,7 @@ use crate::table::{FIRST_LETTER, HEADS, SYMBOLS};
 use sym_shape::{Rule, letter_in, place_of, symbols_from};
 
 // For each kind a row: for each byte from `$` to `z` the letter of the production that the kind takes there.
-static WIDE_LETTERS: [[u8; 87]; 160] = [
+static WIDE_LETTERS: [[u8; 87]; 163] = [
     // $%&'()*+,-./0123456789:;<=>?@ABCDEFGHIJKLMNOPQRSTUVWXYZ[\]^_`abcdefghijklmnopqrstuvwxyz
     *b"                                                           *                           ", // Symbol
     *b"          +                                                                            ", // MaybeSuffix
@@ -114,7 +114,9 @@ static WIDE_LETTERS: [[u8; 87]; 160] = [
     *b"            \xc4\xc4\xc4\xc4\xc4\xc4\xc4\xc4\xc4\xc4                    V    \xc4                                       ", // Concept
     *b"            $$$$$$$$$$       y {  z      sV r  u #    v      wwwwwwwwww wwww   wwxwwwww", // SolidButT
     *b"            \xc7\xc7\xc7\xc7\xc7\xc7\xc7\xc7\xc7\xc7                  \xbc       \xf1            \xe1 \xe2\xe3\xe4\xe5\xe6 \xe7  \xe8\xe9\xea\xeb\xec\xed\xee\xef\xf0      ", // Expression
-    *b"            \xc7\xc7\xc7\xc7\xc7\xc7\xc7\xc7\xc7\xc7                  \xf2       \xf1            \xe1 \xe2\xe3\xe4\xe5\xe6 \xe7  \xe8\xe9\xea\xeb\xec\xed\xee\xef\xf0      ", // AddressedExpression
+    *b"            \xf2\xf2\xf2\xf2\xf2\xf2\xf2\xf2\xf2\xf2                  \xf3                  \xf2                           ", // ExpressionParameter
+    *b"            \xf2\xf2\xf2\xf2\xf2\xf2\xf2\xf2\xf2\xf2                                     \xf2                           ", // UnleveledExpression
+    *b"            \xc7\xc7\xc7\xc7\xc7\xc7\xc7\xc7\xc7\xc7                  \xf4       \xf1            \xe1 \xe2\xe3\xe4\xe5\xe6 \xe7  \xe8\xe9\xea\xeb\xec\xed\xee\xef\xf0      ", // AddressedExpression
     *b"            \x92\x92\x92\x92\x92\x92\x92\x92\x92\x92          \x91      \x92 \x92\x92 \x92  \x92\x92\x92\x92   \x92    \x8f \x92\x90\x92\x93\x93\x93\x93\x92\x92\x92 \x92\x92\x92\x92   \x92\x92  \x92\x92\x92 ", // AddressedLiteral
     *b"                                          \xca    \xca             \xca  \xc9         \xca     \xcc  \xcb  \xcb", // ExpressionAfterA
     *b"                                                               \xc5        \xcd\xca \xcb\xcd     \xce    ", // ExpressionAfterC
@@ -132,42 +134,43 @@ static WIDE_LETTERS: [[u8; 87]; 160] = [
     *b"                                         \xca   \xda \xca               \xc5         \xca   \xd9 \xca       ", // ExpressionAfterR
     *b"                                                      \xdc        \xc5            \xdb \xdd\xca\xcc    \xde\xcb", // ExpressionAfterS
     *b"                                                                 \xcb   \xcc  \xdf     \xe0    \xcb   ", // ExpressionAfterT
-    *b"            \xf3\xf3\xf3\xf3\xf3\xf3\xf3\xf3\xf3\xf3                  \xf3       \xf3            \xf3 \xf3\xf3\xf3\xf3\xf3 \xf3  \xf3\xf3\xf3\xf3\xf3\xf3\xf3\xf3\xf3      ", // Expressions
+    *b"            \xf5\xf5\xf5\xf5\xf5\xf5\xf5\xf5\xf5\xf5                  \xf5       \xf5            \xf5 \xf5\xf5\xf5\xf5\xf5 \xf5  \xf5\xf5\xf5\xf5\xf5\xf5\xf5\xf5\xf5      ", // Expressions
     *b"                                                           !                           ", // MaybeBefore
-    *b"                                                             \x9e \xa0\x9d\xa4 \xa8 \xa7  \xf4\xa1\x9c\xa3\x9f \xa2\xa6       ", // FoldOperator
+    *b"                                                             \x9e \xa0\x9d\xa4 \xa8 \xa7  \xf6\xa1\x9c\xa3\x9f \xa2\xa6       ", // FoldOperator
     *b"                                               !                 !             !!      ", // FoldOperatorAfterL
-    *b"            \xf5\xf5\xf5\xf5\xf5\xf5\xf5\xf5\xf5\xf5                  \xf5       \xf5            \xf5 \xf5\xf5\xf5\xf5\xf5 \xf5  \xf5\xf5\xf5\xf5\xf5\xf5\xf5\xf5\xf5      ", // FoldOperand
-    *b"            \xf6\xf6\xf6\xf6\xf6\xf6\xf6\xf6\xf6\xf6                  \xf6       \xf6            \xf6 \xf6\xf6\xf6\xf6\xf6 \xf6  \xf6\xf6\xf6\xf6\xf6\xf6\xf6\xf6\xf6      ", // FoldPack
-    *b"            \xf6\xf6\xf6\xf6\xf6\xf6\xf6\xf6\xf6\xf6                \xbd \xf6       \xf6            \xf6 \xf6\xf6\xf6\xf6\xf6 \xf6  \xf6\xf6\xf6\xf6\xf6\xf6\xf6\xf6\xf6      ", // ValuePack
-    *b"            \xf7\xf7\xf7\xf7\xf7\xf7\xf7\xf7\xf7\xf7       \xf7 \xf7\xf7 \xf7   \xbd\xf7 \xf7\xf7\xf7\xf7 \xf7\xf7\xf7\xf7\xf7   \xf7      \xf7\xf7\xf7\xf7\xf7\xf7\xf7\xf7\xf7\xf7 \xf7\xf7\xf7\xf7  \xf7\xf7\xf7\xf7\xf7\xf7\xf7\xf7\xf7", // TypePack
-    *b"            \xf9\xf9\xf9\xf9\xf9\xf9\xf9\xf9\xf9\xf9                  \xf9       \xf9            \xf9 \xf9\xf8\xf9\xf9\xf9 \xf9  \xf9\xf9\xf9\xf9\xf9\xf9\xf9\xf9\xf9      ", // DesignatedValue
+    *b"            \xf7\xf7\xf7\xf7\xf7\xf7\xf7\xf7\xf7\xf7                  \xf7       \xf7            \xf7 \xf7\xf7\xf7\xf7\xf7 \xf7  \xf7\xf7\xf7\xf7\xf7\xf7\xf7\xf7\xf7      ", // FoldOperand
+    *b"            \xf8\xf8\xf8\xf8\xf8\xf8\xf8\xf8\xf8\xf8                  \xf8       \xf8            \xf8 \xf8\xf8\xf8\xf8\xf8 \xf8  \xf8\xf8\xf8\xf8\xf8\xf8\xf8\xf8\xf8      ", // FoldPack
+    *b"            \xf8\xf8\xf8\xf8\xf8\xf8\xf8\xf8\xf8\xf8                \xbd \xf8       \xf8            \xf8 \xf8\xf8\xf8\xf8\xf8 \xf8  \xf8\xf8\xf8\xf8\xf8\xf8\xf8\xf8\xf8      ", // ValuePack
+    *b"            \xf9\xf9\xf9\xf9\xf9\xf9\xf9\xf9\xf9\xf9       \xf9 \xf9\xf9 \xf9   \xbd\xf9 \xf9\xf9\xf9\xf9 \xf9\xf9\xf9\xf9\xf9   \xf9      \xf9\xf9\xf9\xf9\xf9\xf9\xf9\xf9\xf9\xf9 \xf9\xf9\xf9\xf9  \xf9\xf9\xf9\xf9\xf9\xf9\xf9\xf9\xf9", // TypePack
+    *b"            \xfb\xfb\xfb\xfb\xfb\xfb\xfb\xfb\xfb\xfb                  \xfb       \xfb            \xfb \xfb\xfa\xfb\xfb\xfb \xfb  \xfb\xfb\xfb\xfb\xfb\xfb\xfb\xfb\xfb      ", // DesignatedValue
     *b"                                                                     \xcf              \xd0  ", // DesignatorAfterD
     *b"            \xc7\xc7\xc7\xc7\xc7\xc7\xc7\xc7\xc7\xc7                  \xbc       \xf1            \xe1 \xe2 \xe4\xe5\xe6 \xe7  \xe8\xe9\xea\xeb\xec\xed\xee\xef\xf0      ", // PlainValue
-    *b"            \xfa\xfa\xfa\xfa\xfa\xfa\xfa\xfa\xfa\xfa                                                                 ", // FieldName
-    *b"            \xfb\xfb\xfb\xfb\xfb\xfb\xfb\xfb\xfb\xfb                  \xfb       \xfb          ! \xfb \xfb\xfb\xfb\xfb\xfb \xfb  \xfb\xfb\xfb\xfb\xfb\xfb\xfb\xfb\xfb      ", // Placement
-    *b"            \xf3\xf3\xf3\xf3\xf3\xf3\xf3\xf3\xf3\xf3                  \xf3       \xf3            \xf3 \xf3\xf3\xf3\xf3\xf3 \xf3  \xf3\xf3\xf3\xf3\xf3\xf3\xf3\xf3\xf3      ", // SomeExpressions
-    *b"                                 \x83                                   \xfd      \xfc          ", // Initializer
+    *b"            \xfc\xfc\xfc\xfc\xfc\xfc\xfc\xfc\xfc\xfc                                                                 ", // FieldName
+    *b"            \xfd\xfd\xfd\xfd\xfd\xfd\xfd\xfd\xfd\xfd                  \xfd       \xfd          ! \xfd \xfd\xfd\xfd\xfd\xfd \xfd  \xfd\xfd\xfd\xfd\xfd\xfd\xfd\xfd\xfd      ", // Placement
+    *b"            \xf5\xf5\xf5\xf5\xf5\xf5\xf5\xf5\xf5\xf5                  \xf5       \xf5            \xf5 \xf5\xf5\xf5\xf5\xf5 \xf5  \xf5\xf5\xf5\xf5\xf5\xf5\xf5\xf5\xf5      ", // SomeExpressions
+    *b"                                 \x83                                   \xff      \xfe          ", // Initializer
     *b"                                                                     \xd5                 ", // InitializerAfterP
     *b"                                                                        \xd5              ", // InitializerAfterI
     *b"                                                                            \xc8          ", // OuterRest
-    *b"            \xff\xff\xff\xff\xff\xff\xff\xff\xff\xff                          \xfe          \xff                           ", // ParameterNumber
-    *b"            \x04\x04\x04\x04\x04\x04\x04\x04\x04\x04          \x00 \x04    \x01  \x04\x03\x02 \x03\x04\x04\x04           \x04\x04\x04\x04\x04\x04\x04\x04\x04\x04 \x04\x04\x04\x04   \x04\x04 \x04\x04\x04\x04\x04", // ConvertedType
-    *b"            $$$$$$$$$$            z       V    ut#           wwwwwwwwww wwww   ww wwwww", // ConvertedSolid
+    *b"            \x01\x01\x01\x01\x01\x01\x01\x01\x01\x01                          \x00          \x01                           ", // ParameterNumber
+    *b"            \x06\x06\x06\x06\x06\x06\x06\x06\x06\x06          \x02 \x06    \x03  \x06\x05\x04 \x05\x06\x06\x06           \x06\x06\x06\x06\x06\x06\x06\x06\x06\x06 \x06\x06\x06\x06   \x06\x06 \x06\x06\x06\x06\x06", // ConvertedType
+    *b"            $$$$$$$$$$            z       V    u\x07#           wwwwwwwwww wwww   ww wwwww", // ConvertedSolid
+    *b"            \xb9\xb9\xb9\xb9\xb9\xb9\xb9\xb9\xb9\xb9                  \xbb                  \xb9                           ", // ParameterAfterT
     *b"                                                p                               p      ", // DecltypeAfterD
     *b"            \xc7\xc7\xc7\xc7\xc7\xc7\xc7\xc7\xc7\xc7                  \xbc       \xf1          \xd5 \xe1 \xe2\xe3\xe4\xe5\xe6 \xe7  \xe8\xe9\xea\xeb\xec\xed\xee\xef\xf0      ", // ConvertRest
-    *b"            \x06\x06\x06\x06\x06\x06\x06\x06\x06\x06          \x05         \x05    \x05\x05                                      ", // Unresolved
-    *b"                                \x00         V    ut                                      ", // UnresolvedType
-    *b"            \xc7\xc7\xc7\xc7\xc7\xc7\xc7\xc7\xc7\xc7          \x07         \x07    \x07\x07                                      ", // DestructorName
-    *b"                                             \x0a  \x09   \x08                                  ", // Requirements
-    *b"                                          \x0c  \x0a\x0b \x09   \x08                                  ", // AfterExpression
-    *b"                                             \x0a\x0b \x09   \x08                                  ", // AfterNoexcept
-    *b"            \x0d\x0d\x0d\x0d\x0d\x0d\x0d\x0d\x0d\x0d          \x0d \x0d    \x0d  \x0d\x0d\x0d \x0d\x0d\x0d\x0d         \xd9 \x0d\x0d\x0d\x0d\x0d\x0d\x0d\x0d\x0d\x0d \x0d\x0d\x0d\x0d   \x0d\x0d \x0d\x0d\x0d\x0d\x0d", // RequiredTypes
+    *b"            \x09\x09\x09\x09\x09\x09\x09\x09\x09\x09          \x08         \x08    \x08\x08                                      ", // Unresolved
+    *b"                                \x02         V    u\x07                                      ", // UnresolvedType
+    *b"            \xc7\xc7\xc7\xc7\xc7\xc7\xc7\xc7\xc7\xc7          \x0a         \x0a    \x0a\x0a                                      ", // DestructorName
+    *b"                                             \x0d  \x0c   \x0b                                  ", // Requirements
+    *b"                                          \x0f  \x0d\x0e \x0c   \x0b                                  ", // AfterExpression
+    *b"                                             \x0d\x0e \x0c   \x0b                                  ", // AfterNoexcept
+    *b"            \x10\x10\x10\x10\x10\x10\x10\x10\x10\x10          \x10 \x10    \x10  \x10\x10\x10 \x10\x10\x10\x10         \xd9 \x10\x10\x10\x10\x10\x10\x10\x10\x10\x10 \x10\x10\x10\x10   \x10\x10 \x10\x10\x10\x10\x10", // RequiredTypes
     *b"            \xc7\xc7\xc7\xc7\xc7\xc7\xc7\xc7\xc7\xc7                                                                 ", // Level
-    *b"            \x06\x06\x06\x06\x06\x06\x06\x06\x06\x06           \x0e                                                     ", // MoreLevels
-    *b"            \xc7\xc7\xc7\xc7\xc7\xc7\xc7\xc7\xc7\xc7                                                     \x0f           ", // UnresolvedName
+    *b"            \x09\x09\x09\x09\x09\x09\x09\x09\x09\x09           \x11                                                     ", // MoreLevels
+    *b"            \xc7\xc7\xc7\xc7\xc7\xc7\xc7\xc7\xc7\xc7                                                     \x12           ", // UnresolvedName
     *b"                                                                          \xc6            ", // OperatorName
-    *b"                             \x10                                                         ", // AnyArray
-    *b"            \x12\x12\x12\x12\x12\x12\x12\x12\x12\x12                  \x11       \x11          \x12 \x11 \x11\x11\x11\x11\x11 \x11  \x11\x11\x11\x11\x11\x11\x11\x11\x11      ", // ArrayRest
+    *b"                             \x13                                                         ", // AnyArray
+    *b"            \x15\x15\x15\x15\x15\x15\x15\x15\x15\x15                  \x14       \x14          \x15 \x14 \x14\x14\x14\x14\x14 \x14  \x14\x14\x14\x14\x14\x14\x14\x14\x14      ", // ArrayRest
     *b"                                        \xbc       \xf1            \xe1 \xe2\xe3\xe4\xe5\xe6 \xe7  \xe8\xe9\xea\xeb\xec\xed\xee\xef\xf0      ", // Bound
     *b"            IIIIIIIIII         IIKI     II       I           I III I I  IIIII II       ", // NestMoreOrEnd
 ];
@@ -176,7 +179,7 @@ static WIDE_LETTERS: [[u8; 87]; 160] = [
 #[inline]
 fn number(kind: u16, byte: u8) -> Option<usize>
     requires { kind < wide.kinds }
-    ensures few { IfSome result (λ number. number < 242) }
+    ensures few { IfSome result (λ number. number < 245) }
     ensures rule { (head : Head) → MatchOption result (wide.rule kind byte ≡ None) (λ number. wide.rule kind byte ≡ Some (listed_rule head number)) }
 {
     match letter_in(&WIDE_LETTERS[kind as usize], byte) {

@@ -138,6 +138,7 @@ may_leave Production.ParameterArgument = true
 may_leave Production.DeclaredArgument = true
 may_leave Production.LeveledParameter = true
 may_leave Production.ConvertedDecltype = true
+may_leave Production.ConvertedWithT = true
 may_leave Production.AnyArray = true
 may_leave Production.BoundedArray = true
 may_leave Production.LengthArray = true

@@ -70,7 +70,7 @@ apart_between Production.ParameterExpression around place (v ∷ []) state apart
     own : Going
     own = next (tree (term.parameter (generic_number (index_of v)) auto) true ∷ []) around state
 
-    go : (b : Bool) → (b && true) ≡ false → elim b [ true ↦ own | false ↦ argument_so_far around place (index_of v) state ] ≡ argument_so_far around place (index_of v) state
+    go : (b : Bool) → (b && true) ≡ false → elim b [ true ↦ own | false ↦ argument_so_far around (place - 1) (index_of v) state ] ≡ argument_so_far around (place - 1) (index_of v) state
     go true e = absurd (true≢false e)
     go false e = refl
 apart_between Production.Holder around place (v ∷ []) state apart = absurd (true≢false apart)
@@ -208,7 +208,7 @@ generic_between Production.NestParameter around place v state is lambda =
 generic_between Production.ParameterArgument around place v state is lambda =
     ap (λ b. elim b as (λ _. Going) [ true ↦ generic_so_far around (index_of v) [] state | false ↦ parameter_so_far around (place - 1) (index_of v) [] state ]) lambda
 generic_between Production.ParameterExpression around place v state is lambda =
-    ap (λ b. elim b as (λ _. Going) [ true ↦ next (tree (term.parameter (generic_number (index_of v)) auto) true ∷ []) around state | false ↦ argument_so_far around place (index_of v) state ]) lambda
+    ap (λ b. elim b as (λ _. Going) [ true ↦ next (tree (term.parameter (generic_number (index_of v)) auto) true ∷ []) around state | false ↦ argument_so_far around (place - 1) (index_of v) state ]) lambda
 generic_between _ around place v state is lambda = absurd (false≢true is)
 
 pub generic_is : (s : List ℕ) (y : Stored) (kept : Surroundings) (p : Production) (place : ℕ) (own : List Part) (digits : List ℕ) (cs : List values.Candidate) (packs : Option ℕ) (step : Step)

@@ -396,6 +396,10 @@ impl Linked {
             Production::LevelsEnd => Outcome::Given(self.given(symbol, parts, 0)),
             Production::UnresolvedOperator => Outcome::Given(self.given(symbol, parts, 0)),
             // <expression> ::= <template-param> [<template-args>]
+            Production::ExpressionWithT => Outcome::Given(self.given(symbol, parts, 0)),
+            // <template-param> ::= TL <level> _ _ | TL <level> _ <parameter number> _, after the T
+            Production::LeveledExpression => Outcome::Given(self.given(symbol, parts, 1)),
+            // <template-param> ::= T_ | T <parameter number> _, after the T
             Production::ParameterExpression => self.applied(symbol, parts, false),
             // <unresolved-name> ::= <source-name> [<template-args>]
             Production::SimpleId => self.applied(symbol, parts, false),

@@ -327,7 +327,7 @@ impl Linked {
             }
             Production::ParameterExpression => {
                 let digits = self.text_in(symbol, first);
-                self.parameter_argument(symbol, kept, place, digits)
+                self.parameter_argument(symbol, kept, place.saturating_sub(1), digits)
             }
             Production::PackArgument => Ok(self.pack(symbol, first)),
             Production::Holder => Err(Refusal::BadReference { at: place }),

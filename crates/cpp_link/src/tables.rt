@@ -3,7 +3,7 @@
 use cpp_grammar::production::Production;
 
 /// The productions.
-pub(crate) const PRODUCTIONS: [Production; 242] = [
+pub(crate) const PRODUCTIONS: [Production; 245] = [
     Production::Mark,
     Production::InternalName,
     Production::LocalTypeName,
@@ -212,7 +212,9 @@ pub(crate) const PRODUCTIONS: [Production; 242] = [
     Production::ExpressionR,
     Production::ExpressionS,
     Production::ExpressionT,
+    Production::ExpressionWithT,
     Production::ParameterExpression,
+    Production::LeveledExpression,
     Production::AddressedLiteral,
     Production::Expressions,
     Production::FoldOperatorL,
@@ -232,6 +234,7 @@ pub(crate) const PRODUCTIONS: [Production; 242] = [
     Production::ConvertedPointer,
     Production::ConvertedReference,
     Production::ConvertedType,
+    Production::ConvertedWithT,
     Production::UnresolvedInType,
     Production::Levels,
     Production::DestroyedType,
@@ -249,7 +252,7 @@ pub(crate) const PRODUCTIONS: [Production; 242] = [
 ];
 
 /// How many parts each has.
-pub(crate) const PART_COUNTS: [u8; 242] = [
+pub(crate) const PART_COUNTS: [u8; 245] = [
     0, // Mark
     2, // InternalName
     2, // LocalTypeName
@@ -458,7 +461,9 @@ pub(crate) const PART_COUNTS: [u8; 242] = [
     1, // ExpressionR
     1, // ExpressionS
     1, // ExpressionT
+    1, // ExpressionWithT
     2, // ParameterExpression
+    2, // LeveledExpression
     2, // AddressedLiteral
     2, // Expressions
     1, // FoldOperatorL
@@ -478,6 +483,7 @@ pub(crate) const PART_COUNTS: [u8; 242] = [
     1, // ConvertedPointer
     1, // ConvertedReference
     1, // ConvertedType
+    1, // ConvertedWithT
     2, // UnresolvedInType
     2, // Levels
     1, // DestroyedType
@@ -495,7 +501,7 @@ pub(crate) const PART_COUNTS: [u8; 242] = [
 ];
 
 /// Whether some part of each but the last may have no row: a fixed byte, or a kind that may be empty.
-pub(crate) const SKIPS_PARTS: [bool; 242] = [
+pub(crate) const SKIPS_PARTS: [bool; 245] = [
     false, // Mark
     false, // InternalName
     false, // LocalTypeName
@@ -704,7 +710,9 @@ pub(crate) const SKIPS_PARTS: [bool; 242] = [
     false, // ExpressionR
     false, // ExpressionS
     false, // ExpressionT
+    false, // ExpressionWithT
     false, // ParameterExpression
+    false, // LeveledExpression
     false, // AddressedLiteral
     false, // Expressions
     false, // FoldOperatorL
@@ -724,6 +732,7 @@ pub(crate) const SKIPS_PARTS: [bool; 242] = [
     false, // ConvertedPointer
     false, // ConvertedReference
     false, // ConvertedType
+    false, // ConvertedWithT
     false, // UnresolvedInType
     false, // Levels
     false, // DestroyedType
@@ -741,7 +750,7 @@ pub(crate) const SKIPS_PARTS: [bool; 242] = [
 ];
 
 /// Before how many of its parts nothing is done in each: before none, the first, or all, which are five at most.
-pub(crate) const QUIET_PARTS: [u8; 242] = [
+pub(crate) const QUIET_PARTS: [u8; 245] = [
     5, // Mark
     1, // InternalName
     1, // LocalTypeName
@@ -950,7 +959,9 @@ pub(crate) const QUIET_PARTS: [u8; 242] = [
     5, // ExpressionR
     5, // ExpressionS
     5, // ExpressionT
+    5, // ExpressionWithT
     1, // ParameterExpression
+    5, // LeveledExpression
     5, // AddressedLiteral
     5, // Expressions
     5, // FoldOperatorL
@@ -970,6 +981,7 @@ pub(crate) const QUIET_PARTS: [u8; 242] = [
     5, // ConvertedPointer
     5, // ConvertedReference
     5, // ConvertedType
+    5, // ConvertedWithT
     1, // UnresolvedInType
     5, // Levels
     5, // DestroyedType

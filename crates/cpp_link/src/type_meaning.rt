@@ -312,6 +312,7 @@ impl Linked {
         match production {
             // <template-param> ::= T_ | T <parameter number> _
             Production::Parameter => self.applied(symbol, parts, true),
+            Production::ConvertedWithT => Outcome::Given(self.given(symbol, parts, 0)),
             Production::ParameterArgument => self.applied(symbol, parts, true),
             // <template-arg> ::= J <template-arg>* E
             Production::PackArgument => made(

@@ -370,7 +370,7 @@ unfolding between_wide wide_.between_wide noted_values parts_place has_signature
 wide_between_noted Production.Parameter around place (v ∷ []) x y stays settled packs = here_goes around x y place v settled packs
 wide_between_noted Production.NestParameter around place (v ∷ []) x y stays settled packs = here_goes around x y place v settled packs
 wide_between_noted Production.ParameterArgument around place (v ∷ []) x y stays settled packs = here_goes around x y (place - 1) v settled packs
-wide_between_noted Production.ParameterExpression around place (v ∷ []) x y stays settled packs = argument_here_goes around x y place v settled packs
+wide_between_noted Production.ParameterExpression around place (v ∷ []) x y stays settled packs = argument_here_goes around x y (place - 1) v settled packs
 wide_between_noted Production.HeldArguments around place [] x y stays settled packs = base_goes around x y packs
 wide_between_noted Production.Holder around place (v ∷ []) x y stays settled packs = holder_goes around x y place packs
 wide_between_noted p around place vs x y stays settled packs = between_noted true p around place vs x y stays packs

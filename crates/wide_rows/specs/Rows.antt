@@ -133,4 +133,5 @@ rows_2 =
     prints "_Z1fINDtLi1EE1xEEvv" "void f<decltype(1)::x>()" 36 ∷
     prints "_Z1fIXtl1Udi1aLi0EEEEvv" "void f<U{.a = 0}>()" 36 ∷
     prints "_Z1fIXtl1UdxLi2Edi1aLi0EEEEvv" "void f<U{[2].a = 0}>()" 41 ∷
+    prints "_Z1fIiEDTTL0__ET_" "decltype(int) f<int>(int)" 41 ∷
     []
