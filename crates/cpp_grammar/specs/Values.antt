@@ -2,7 +2,7 @@
 use Rattle.std.specs.Prelude.{ℕ, zero, suc, ◌+◌, List, [], ◌∷◌, Bool, true, false, cond, not, ◌&&◌, nat_eq, Option}
 use Rattle.sym_core.specs.declared.NumberKind.TheVariants.{Decimal}
 use Rattle.sym_core.specs.Value.{counted_value}
-use Rattle.cpp_grammar.specs.Term.{Qualifiers, RefQualifier, any_value, lvalue_only, rvalue_only, Signed, Adjustment, non_virtual, Term, absent}
+use Rattle.cpp_grammar.specs.Term.{Qualifiers, RefQualifier, any_value, lvalue_only, rvalue_only, explicit_object, Signed, Adjustment, non_virtual, Term, absent}
 
 -- a tree that a substitution may name, the place where the encoding begins in which it was made, whether it was made in a
 -- lambda's signature of that encoding, or in what is declared of an argument, and whether it's a name with its M
@@ -98,9 +98,9 @@ unfoldable pub is_there : Value → Bool
 is_there nothing_there = false
 is_there _ = true
 
--- the mark R or O, or none
+-- the mark R, O or H, or none
 unfoldable pub mark_of : Value → RefQualifier
-mark_of (letter byte) = cond (nat_eq byte 82) lvalue_only rvalue_only
+mark_of (letter byte) = cond (nat_eq byte 82) lvalue_only (cond (nat_eq byte 72) explicit_object rvalue_only)
 mark_of _ = any_value
 
 unfoldable pub text_of : Value → List ℕ

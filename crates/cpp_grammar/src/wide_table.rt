@@ -22,7 +22,7 @@ static WIDE_LETTERS: [[u8; 87]; 163] = [
     *b"                                                                              !        ", // MaybeRestrict
     *b"                                                  !                                    ", // MaybeVolatile
     *b"                                       !                                               ", // MaybeConst
-    *b"                                           !  !                                        ", // MaybeRef
+    *b"                                    !      !  !                                        ", // MaybeRef
     *b"            >>>>>>>>>>       >>>>>>>>>>>>>>>>>>>>>>>>>>    > >> >    >     >   >=      ", // NameAfterS
     *b"            ((((((((((                  &        '           ? ??? ? ?  ????? ??       ", // Unqualified
     *b"            DDDDDDDDDD          E       B      @AC                                     ", // Nest

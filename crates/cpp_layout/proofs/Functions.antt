@@ -5,7 +5,7 @@ use Rattle.sym_print.specs.Unfold.{PartOf, text}
 use Rattle.cpp_grammar.specs.Items as heads
 use Rattle.cpp_term.specs.Items as items
 use Rattle.cpp_grammar.specs.Parts.{encoding_text, qualifier_text, is_below, clone_text}
-use Rattle.cpp_term.specs.Parts.{as_item, list_part, text_part, function_bare, function_full, root_parts, expand_parts, expand_rest, comma_before, at_index, types_of, function_right, qualified_right, expansion_parts}
+use Rattle.cpp_term.specs.Parts.{as_item, list_part, text_part, begins_parameters, function_bare, function_full, root_parts, expand_parts, expand_rest, comma_before, at_index, types_of, function_right, qualified_right, expansion_parts}
 use Rattle.cpp_term.specs.Term as term
 use Rattle.cpp_grammar.specs.Term as values
 use Rattle.cpp_term.specs.Term.{Term}
@@ -28,9 +28,9 @@ unfolding suffix_of
 suffix-plain q m = append-nil (encoding_text q m)
 
 module _ (name : Term) (q : values.Qualifiers) (m : values.RefQualifier) (parameters : Term) where
-  pub bare-whole : (others : List (PartOf items.Item)) → as_item heads.left items.closed name ∷ text (fixed_text LEFT) ∷ (list_part heads.first items.closed parameters ++ (text (fixed_text RIGHT) ∷ (text_part (suffix_of q m false) ++ others))) ≡ function_bare true name q m parameters ++ others
+  pub bare-whole : (others : List (PartOf items.Item)) → as_item heads.left items.closed name ∷ text (begins_parameters m parameters) ∷ (list_part heads.first items.closed parameters ++ (text (fixed_text RIGHT) ∷ (text_part (suffix_of q m false) ++ others))) ≡ function_bare true name q m parameters ++ others
   unfolding function_bare types_of
-  bare-whole others = ap (λ l. as_item heads.left items.closed name ∷ text (fixed_text LEFT) ∷ l)
+  bare-whole others = ap (λ l. as_item heads.left items.closed name ∷ text (begins_parameters m parameters) ∷ l)
       (ap (λ s. list_part heads.first items.closed parameters ++ (text (fixed_text RIGHT) ∷ (text_part s ++ others))) (suffix-plain q m)
       ∙ sym (append_assoc (list_part heads.first items.closed parameters) (text (fixed_text RIGHT) ∷ text_part (encoding_text q m)) others))
 

@@ -3,7 +3,7 @@ use Rattle.std.proofs.Common.{◌≡◌, ℕ, ◌-◌, List, [], ◌∷◌, ◌+
 use Rattle.std.specs.Prelude.{codes, cond}
 use Rattle.sym_spell.specs.Pressing.{◌and◌, text, nothing}
 use Rattle.sym_spell.proofs.Spellings.{and-assoc, nothing-and}
-use Rattle.cpp_grammar.specs.Term.{Qualifiers, RefQualifier, any_value, lvalue_only, rvalue_only, Term, symbol, function, object, special, thunk, of_name, construction, clone, alone, in_std, within, instance, local, holder, tagged, parameter, source, operator, literal_operator, constructor, destructor, lambda, unnamed, string_literal, conversion, builtin, sized_float, vendor, pointer, lvalue, rvalue, array, member_pointer, function_type, qualified, vector, complex, expansion, integer, encoding_literal, address_of, pack, nil, list}
+use Rattle.cpp_grammar.specs.Term.{Qualifiers, RefQualifier, any_value, lvalue_only, rvalue_only, explicit_object, Term, symbol, function, object, special, thunk, of_name, construction, clone, alone, in_std, within, instance, local, holder, tagged, parameter, source, operator, literal_operator, constructor, destructor, lambda, unnamed, string_literal, conversion, builtin, sized_float, vendor, pointer, lvalue, rvalue, array, member_pointer, function_type, qualified, vector, complex, expansion, integer, encoding_literal, address_of, pack, nil, list}
 use Rattle.cpp_tree.specs.Nodes.{qualifiers_of, mark_of}
 use Rattle.cpp_press_laws.specs.Texts.{counted, ordinal, signed_text, qualifier_letters, mark_letter, name_letters, special_code, thunk_text, discriminator_text}
 use Rattle.cpp_press_laws.specs.Components.{Component, Spelling, first_equal, component, spelled_out, reference, ended}
@@ -105,15 +105,19 @@ lettered-or q ref own between = go q.restrict q.volatile q.const ref
     go false false false any_value = refl
     go false false false lvalue_only = refl
     go false false false rvalue_only = refl
+    go false false false explicit_object = refl
     go false false true any_value = refl
     go false false true lvalue_only = refl
     go false false true rvalue_only = refl
+    go false false true explicit_object = refl
     go false true k any_value = refl
     go false true k lvalue_only = refl
     go false true k rvalue_only = refl
+    go false true k explicit_object = refl
     go true v k any_value = refl
     go true v k lvalue_only = refl
     go true v k rvalue_only = refl
+    go true v k explicit_object = refl
 
 own-name-is : (n : ℕ) (q : Qualifiers) (ref : RefQualifier) (t : Term) (own : Spelling) (r plain : Spelling) → ◌≡◌ {A = Spelling} (own and r) plain
     → ◌≡◌ {A = Spelling} (with_letters (name_letters q ref) own (ways_of n t).between_N_and_E and r)

@@ -244,6 +244,7 @@ fn has_letters(qualifiers: Qualifiers, mark: Mark) -> bool
         Mark::Any => false,
         Mark::Lvalue => true,
         Mark::Rvalue => true,
+        Mark::ExplicitObject => true,
     }
 }
 

@@ -134,4 +134,5 @@ rows_2 =
     prints "_Z1fIXtl1Udi1aLi0EEEEvv" "void f<U{.a = 0}>()" 36 ∷
     prints "_Z1fIXtl1UdxLi2Edi1aLi0EEEEvv" "void f<U{[2].a = 0}>()" 41 ∷
     prints "_Z1fIiEDTTL0__ET_" "decltype(int) f<int>(int)" 41 ∷
+    prints "_ZNH1H1fERS_i" "H::f(this H&, int)" 31 ∷
     []

@@ -8,7 +8,7 @@ use Rattle.cpp_grammar.specs.declared.kind.Kind.{Kind}
 use Rattle.cpp_grammar.specs.declared.production.Production.{Production}
 use Rattle.cpp_grammar.specs.KindNumbers.{COMPLETE_NAME, ARGUMENT_LIST}
 use Rattle.cpp_grammar.specs.Table.{abi, rule_of}
-use Rattle.cpp_grammar.specs.Term.{Qualifiers, RefQualifier, any_value, lvalue_only, rvalue_only, Term, alone, instance}
+use Rattle.cpp_grammar.specs.Term.{Qualifiers, RefQualifier, any_value, lvalue_only, rvalue_only, explicit_object, Term, alone, instance}
 use Rattle.cpp_grammar.specs.Values.{outermost, Around, Value, tree, named, tree_of, qualifiers_of, ref_of, unqualified}
 use Rattle.cpp_grammar.specs.References.{is_function_type}
 use Rattle.cpp_grammar.specs.Between.{extended, inside}
@@ -71,6 +71,7 @@ without-letters q ref none = go q.restrict q.volatile q.const ref none
     go false false false any_value h = (refl, refl)
     go false false false lvalue_only h = cc
     go false false false rvalue_only h = cc
+    go false false false explicit_object h = cc
     go true v c m h = cc
     go false true c m h = cc
     go false false true m h = cc

@@ -5,7 +5,7 @@ use Rattle.std.proofs.lemmas.Bool.{false≢true}
 use Rattle.cpp_grammar.specs.declared.kind.Kind.{Kind}
 use Rattle.cpp_grammar.specs.declared.production.Production.{Production}
 use Rattle.cpp_grammar.specs.Grammar.{kinds, number_of, number_of_kind, parts_of, is_chain}
-use Rattle.cpp_grammar.specs.Term.{Qualifiers, RefQualifier, any_value, lvalue_only, rvalue_only, Term, in_std, instance, local, parameter, string_literal}
+use Rattle.cpp_grammar.specs.Term.{Qualifiers, RefQualifier, any_value, lvalue_only, rvalue_only, explicit_object, Term, in_std, instance, local, parameter, string_literal}
 use Rattle.cpp_grammar.specs.Values as values
 use Rattle.cpp_grammar.specs.Values.{State, Prefix, outermost, Around, prefix_tree, prefix_listed, Value, nothing_there, tree, named, tree_of, piece_of, qualifiers_of, ref_of, letter_of, is_there, mark_of}
 use Rattle.cpp_grammar.specs.References.{is_function_type, parameter_named}
@@ -428,6 +428,7 @@ unfolding mark_letter
 ref-most any_value = omega arith
 ref-most lvalue_only = omega arith
 ref-most rvalue_only = omega arith
+ref-most explicit_object = omega arith
 
 lettered-most : (letters : List ℕ) → lettered letters ≤ length letters + 2
 unfolding lettered
