@@ -344,7 +344,8 @@ const SEQ36: Sym = Sym::Number(NumberKind::Seq36);
 
 const DIGITS: Sym = Sym::Number(NumberKind::Digits);
 
-/// The letter of the production with number 0; the others have the letters after it, in the order of their numbers.
+/// The letter of the production with number 0; the others have the bytes after it, in the order of their numbers. After the
+/// byte 255 they go on at 0.
 pub const FIRST_LETTER: u8 = b'!';
 
 // For each kind a row: for each byte from `$` to `z` the letter of the production that the kind takes there.
