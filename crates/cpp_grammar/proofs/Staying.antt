@@ -402,6 +402,7 @@ unfoldable makes_special : Production → Bool
 makes_special Production.SpecialType = true
 makes_special Production.ParameterObject = true
 makes_special Production.SpecialName = true
+makes_special Production.Temporary = true
 makes_special Production.ConstructionVtable = true
 makes_special Production.NonVirtualThunk = true
 makes_special Production.VirtualThunk = true
@@ -442,6 +443,7 @@ unfolding makes_special close unfolding_.behind meaning held is_open
 special_closes Production.SpecialType byte around place began vs state one h e = subst (λ x. HasNone (held x.value)) (ok_same _ one e) refl
 special_closes Production.ParameterObject byte around place began vs state one h e = subst (λ x. HasNone (held x.value)) (ok_same _ one e) refl
 special_closes Production.SpecialName byte around place began vs state one h e = subst (λ x. HasNone (held x.value)) (ok_same _ one e) refl
+special_closes Production.Temporary byte around place began vs state one h e = subst (λ x. HasNone (held x.value)) (ok_same _ one e) refl
 special_closes Production.ConstructionVtable byte around place began vs state one h e = subst (λ x. HasNone (held x.value)) (ok_same _ one e) refl
 special_closes Production.NonVirtualThunk byte around place began vs state one h e = subst (λ x. HasNone (held x.value)) (ok_same _ one e) refl
 special_closes Production.VirtualThunk byte around place began vs state one h e = subst (λ x. HasNone (held x.value)) (ok_same _ one e) refl

@@ -129,17 +129,19 @@ IsLocalName _ = ⊥
 pub local_name : (p : Production) → family_of p ≡ Family.LocalName
     → (p ≡ Production.LocalType → ⊥)
     → (p ≡ Production.LocalName → ⊥)
+    → (p ≡ Production.LocalTemporary → ⊥)
     → (p ≡ Production.DefaultEntity → ⊥)
     → (p ≡ Production.DefaultTypeEntity → ⊥)
     → (p ≡ Production.StringLiteral → ⊥)
     → ⊥
 unfolding family_of
-local_name Production.LocalType is n0 n1 n2 n3 n4 = n0 refl
-local_name Production.LocalName is n0 n1 n2 n3 n4 = n1 refl
-local_name Production.DefaultEntity is n0 n1 n2 n3 n4 = n2 refl
-local_name Production.DefaultTypeEntity is n0 n1 n2 n3 n4 = n3 refl
-local_name Production.StringLiteral is n0 n1 n2 n3 n4 = n4 refl
-local_name _ is n0 n1 n2 n3 n4 = subst IsLocalName (sym is) tt
+local_name Production.LocalType is n0 n1 n2 n3 n4 n5 = n0 refl
+local_name Production.LocalName is n0 n1 n2 n3 n4 n5 = n1 refl
+local_name Production.LocalTemporary is n0 n1 n2 n3 n4 n5 = n2 refl
+local_name Production.DefaultEntity is n0 n1 n2 n3 n4 n5 = n3 refl
+local_name Production.DefaultTypeEntity is n0 n1 n2 n3 n4 n5 = n4 refl
+local_name Production.StringLiteral is n0 n1 n2 n3 n4 n5 = n5 refl
+local_name _ is n0 n1 n2 n3 n4 n5 = subst IsLocalName (sym is) tt
 
 abbrev IsInherited : Family → Type 0
 IsInherited Family.Inherited = Unit {0}
@@ -174,18 +176,20 @@ pub special : (p : Production) → family_of p ≡ Family.Special
     → (p ≡ Production.SpecialType → ⊥)
     → (p ≡ Production.ParameterObject → ⊥)
     → (p ≡ Production.SpecialName → ⊥)
+    → (p ≡ Production.Temporary → ⊥)
     → (p ≡ Production.OtherSpecial → ⊥)
     → (p ≡ Production.Clone → ⊥)
     → (p ≡ Production.ConstructionVtable → ⊥)
     → ⊥
 unfolding family_of
-special Production.SpecialType is n0 n1 n2 n3 n4 n5 = n0 refl
-special Production.ParameterObject is n0 n1 n2 n3 n4 n5 = n1 refl
-special Production.SpecialName is n0 n1 n2 n3 n4 n5 = n2 refl
-special Production.OtherSpecial is n0 n1 n2 n3 n4 n5 = n3 refl
-special Production.Clone is n0 n1 n2 n3 n4 n5 = n4 refl
-special Production.ConstructionVtable is n0 n1 n2 n3 n4 n5 = n5 refl
-special _ is n0 n1 n2 n3 n4 n5 = subst IsSpecial (sym is) tt
+special Production.SpecialType is n0 n1 n2 n3 n4 n5 n6 = n0 refl
+special Production.ParameterObject is n0 n1 n2 n3 n4 n5 n6 = n1 refl
+special Production.SpecialName is n0 n1 n2 n3 n4 n5 n6 = n2 refl
+special Production.Temporary is n0 n1 n2 n3 n4 n5 n6 = n3 refl
+special Production.OtherSpecial is n0 n1 n2 n3 n4 n5 n6 = n4 refl
+special Production.Clone is n0 n1 n2 n3 n4 n5 n6 = n5 refl
+special Production.ConstructionVtable is n0 n1 n2 n3 n4 n5 n6 = n6 refl
+special _ is n0 n1 n2 n3 n4 n5 n6 = subst IsSpecial (sym is) tt
 
 abbrev IsThunk : Family → Type 0
 IsThunk Family.Thunk = Unit {0}

@@ -241,6 +241,15 @@ impl Linked {
                 qualifiers: self.qualifiers(symbol, parts, 2),
                 mark: self.reference(symbol, parts, 2),
             },
+            Production::LocalTemporary => Outcome::Entity {
+                node: Node::Local {
+                    encoding: self.tree(symbol, parts, 0),
+                    entity: self.tree(symbol, parts, 2),
+                    discriminator: self.discriminator(symbol, parts, 3),
+                },
+                qualifiers: self.qualifiers(symbol, parts, 2),
+                mark: self.reference(symbol, parts, 2),
+            },
             // <local-name> ::= Z <function encoding> E d [<parameter number>] _ <entity name>
             Production::DefaultEntity => self.default_entity(symbol, parts),
             Production::DefaultTypeEntity => self.default_entity(symbol, parts),
@@ -345,6 +354,16 @@ impl Linked {
             ),
             // <special-name> ::= TH <object name> | TW <object name>
             Production::SpecialName => made(
+                Node::OfName {
+                    letter: byte,
+                    name: self.tree(symbol, parts, 0),
+                    qualifiers: self.qualifiers(symbol, parts, 0),
+                    mark: self.reference(symbol, parts, 0),
+                },
+                true,
+            ),
+            // <special-name> ::= GR <object name> _, the first temporary whose life the object prolongs
+            Production::Temporary => made(
                 Node::OfName {
                     letter: byte,
                     name: self.tree(symbol, parts, 0),

@@ -141,6 +141,7 @@ impl Linked {
         requires integer_literal { production ≡ productions.IntegerLiteral → ⊥ }
         requires nested_base { production ≡ productions.NestedBase → ⊥ }
         requires unnested_base { production ≡ productions.UnnestedBase → ⊥ }
+        requires local_temporary { production ≡ productions.LocalTemporary → ⊥ }
         requires value_of { production ≡ productions.ValueOf → ⊥ }
         requires of_concept { production ≡ productions.OfConcept → ⊥ }
         requires named_concept { production ≡ productions.NamedConcept → ⊥ }
@@ -284,6 +285,7 @@ impl Linked {
         requires integer_literal { production ≡ productions.IntegerLiteral → ⊥ }
         requires nested_base { production ≡ productions.NestedBase → ⊥ }
         requires unnested_base { production ≡ productions.UnnestedBase → ⊥ }
+        requires local_temporary { production ≡ productions.LocalTemporary → ⊥ }
         requires value_of { production ≡ productions.ValueOf → ⊥ }
         requires of_concept { production ≡ productions.OfConcept → ⊥ }
         requires named_concept { production ≡ productions.NamedConcept → ⊥ }
@@ -419,6 +421,9 @@ impl Linked {
                 self.node(symbol, first),
                 is_listed(first),
             )),
+            Production::LocalTemporary => {
+                self.go(self.behind_name(kept, self.node(symbol, first), true))
+            }
             Production::ValueOf => self.go(self.in_signature(kept)),
             Production::OfConcept => self.go(self.in_signature(kept)),
             Production::NamedConcept => self.go(self.behind_name(
@@ -495,6 +500,9 @@ impl Linked {
                 template: self.prefix_node(symbol, kept),
                 arguments: self.list_in(symbol, first),
             }),
+            Production::LocalTemporary => {
+                self.go(self.behind_name(kept, self.node(symbol, first), true))
+            }
             Production::ValueOf => self.go(self.in_signature(kept)),
             Production::OfConcept => self.go(self.in_signature(kept)),
             _ => self.go(kept),
@@ -547,6 +555,9 @@ impl Linked {
                 self.go(self.behind_name(kept, self.node(symbol, first), true))
             }
             Production::Constraint => self.go(self.in_signature(kept)),
+            Production::LocalTemporary => {
+                self.go(self.behind_name(kept, self.node(symbol, first), true))
+            }
             Production::ValueOf => self.go(self.in_signature(kept)),
             Production::OfConcept => self.go(self.in_signature(kept)),
             _ => self.go(kept),
@@ -592,6 +603,9 @@ impl Linked {
                 self.go(self.behind_name(kept, self.node(symbol, first), true))
             }
             Production::Constraint => self.go(self.in_signature(kept)),
+            Production::LocalTemporary => {
+                self.go(self.behind_name(kept, self.node(symbol, first), true))
+            }
             Production::ValueOf => self.go(self.in_signature(kept)),
             Production::OfConcept => self.go(self.in_signature(kept)),
             _ => self.go(kept),

@@ -3,7 +3,7 @@
 use cpp_grammar::production::Production;
 
 /// The productions.
-pub(crate) const PRODUCTIONS: [Production; 245] = [
+pub(crate) const PRODUCTIONS: [Production; 247] = [
     Production::Mark,
     Production::InternalName,
     Production::LocalTypeName,
@@ -150,7 +150,9 @@ pub(crate) const PRODUCTIONS: [Production; 245] = [
     Production::UnnestedWithS,
     Production::TaggedSource,
     Production::BaseArguments,
+    Production::Temporary,
     Production::Clone,
+    Production::LocalTemporary,
     Production::TaggedStdType,
     Production::TypeTag,
     Production::Expression,
@@ -252,7 +254,7 @@ pub(crate) const PRODUCTIONS: [Production; 245] = [
 ];
 
 /// How many parts each has.
-pub(crate) const PART_COUNTS: [u8; 245] = [
+pub(crate) const PART_COUNTS: [u8; 247] = [
     0, // Mark
     2, // InternalName
     2, // LocalTypeName
@@ -399,7 +401,9 @@ pub(crate) const PART_COUNTS: [u8; 245] = [
     1, // UnnestedWithS
     2, // TaggedSource
     3, // BaseArguments
+    2, // Temporary
     2, // Clone
+    3, // LocalTemporary
     2, // TaggedStdType
     2, // TypeTag
     2, // Expression
@@ -501,7 +505,7 @@ pub(crate) const PART_COUNTS: [u8; 245] = [
 ];
 
 /// Whether some part of each but the last may have no row: a fixed byte, or a kind that may be empty.
-pub(crate) const SKIPS_PARTS: [bool; 245] = [
+pub(crate) const SKIPS_PARTS: [bool; 247] = [
     false, // Mark
     false, // InternalName
     false, // LocalTypeName
@@ -648,7 +652,9 @@ pub(crate) const SKIPS_PARTS: [bool; 245] = [
     false, // UnnestedWithS
     false, // TaggedSource
     true, // BaseArguments
+    false, // Temporary
     false, // Clone
+    true, // LocalTemporary
     false, // TaggedStdType
     false, // TypeTag
     false, // Expression
@@ -750,7 +756,7 @@ pub(crate) const SKIPS_PARTS: [bool; 245] = [
 ];
 
 /// Before how many of its parts nothing is done in each: before none, the first, or all, which are five at most.
-pub(crate) const QUIET_PARTS: [u8; 245] = [
+pub(crate) const QUIET_PARTS: [u8; 247] = [
     5, // Mark
     1, // InternalName
     1, // LocalTypeName
@@ -897,7 +903,9 @@ pub(crate) const QUIET_PARTS: [u8; 245] = [
     5, // UnnestedWithS
     1, // TaggedSource
     0, // BaseArguments
+    5, // Temporary
     5, // Clone
+    1, // LocalTemporary
     1, // TaggedStdType
     1, // TypeTag
     5, // Expression
