@@ -51,11 +51,11 @@ def step(text):
     """What is done before a part."""
     if known := said("steps", text): return known
     if known := said("places", text): return f"goes nothing {braced(known)}"
+    if text == "list the name": return "goes the_prefix as_before"
     if m := re.fullmatch(r"list the name, (.*)", text): return f"goes the_prefix {braced(said('places', m[1]))}"
     if m := re.fullmatch(r"list type (\d)", text): return f"goes (type_of {m[1]}) as_before"
     tree, *marks = split(re.fullmatch(r"(?:name = )?(.*)", text)[1])
-    # what becomes a candidate is one by now, and so are the trees that aren't the name so far
-    return f"becomes ({made(tree)}) {str(bool(marks)).lower()} {str(text.startswith('name = ')).lower()} {str('candidate' in marks).lower()}"
+    return f"becomes ({made(tree)}) {str(bool(marks) and 'unlisted' not in marks).lower()} {str(text.startswith('name = ')).lower()} {str('candidate' in marks).lower()}"
 
 def steps(text):
     """What is done before each part as far as it is said by its number, and before the others."""

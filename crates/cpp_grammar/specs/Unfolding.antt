@@ -12,7 +12,7 @@ use Rattle.sym_link.specs.Unfold.{found, unfold_tree}
 use Rattle.cpp_grammar.specs.declared.production.Production.{Production}
 use Rattle.cpp_grammar.specs.Grammar.{productions}
 use Rattle.cpp_grammar.specs.Term.{Term, absent}
-use Rattle.cpp_grammar.specs.Values.{State, outermost, Around, Value, nothing_there, text, tree_of, text_of, local_number, part}
+use Rattle.cpp_grammar.specs.Values.{nothing_counted, State, outermost, Around, Value, nothing_there, text, tree_of, text_of, local_number, part}
 use Rattle.cpp_grammar.specs.References.{substituted}
 use Rattle.cpp_grammar.specs.Between.{between}
 use Rattle.cpp_grammar.specs.Meant.{gained, state_after}
@@ -78,7 +78,7 @@ unfoldable pub first_around : Around
 first_around = record { scope = None; encoding = 0; in_lambda = false; in_expansion = false; prefix = outermost }
 
 unfoldable pub first_state : State
-first_state = record { candidates = []; packs = None }
+first_state = record { candidates = []; packs = None; counting = nothing_counted }
 
 unfoldable pub first_tree : List Value → Term
 first_tree [] = absent

@@ -20,6 +20,7 @@ ghost use Rattle.cpp_link.specs.Tables.{quiet_parts};
 ghost use Rattle.cpp_link.specs.View.{Surrounds, cpp_view};
 ghost use Rattle.cpp_link.specs.Room.{KeepsRoom, LacksRoom, IsRoomy};
 
+use crate::counting::Counted;
 use crate::dispatch::production_of;
 use crate::linked::Linked;
 use crate::part::{Part, Step, Surroundings};
@@ -84,7 +85,7 @@ impl Linked {
         ensures keeps { KeepsRoom self.old self.new }
         ensures full { OnErr result (LacksRoom self.old self.new) }
     {
-        self.append(symbol, kept, candidate, false)?;
+        self.append(symbol, kept, candidate, Counted::ByAll)?;
         self.packs = packs;
         Ok(())
     }

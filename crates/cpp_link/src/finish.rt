@@ -26,6 +26,7 @@ ghost use Rattle.cpp_link.specs.Parts.{trees_in, value_in, values_in, packs_of, 
 ghost use Rattle.cpp_link.specs.Reads.{maybe_candidate};
 ghost use Rattle.cpp_link.specs.View.{IsPaid, IsWhole, cpp_view};
 
+use crate::counting::Counted;
 use crate::dispatch::production_of;
 use crate::linked::Linked;
 use crate::part::{Candidate, Outcome, Part, Surroundings};
@@ -116,7 +117,7 @@ impl Linked {
         let byte = symbol[place as usize];
         let made = self.add_node(symbol, outcome)?;
         let after = self.after_rule(symbol, production, byte, kept, parts, made);
-        self.append(symbol, kept, after.candidate, false)?;
+        self.append(symbol, kept, after.candidate, Counted::ByAll)?;
         self.packs = after.packs;
         Ok(made)
     }

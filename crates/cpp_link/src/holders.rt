@@ -26,7 +26,8 @@ ghost use Rattle.cpp_link.specs.Progress.{Finishes, MakesPart};
 ghost use Rattle.cpp_link.specs.Reads.{instance_node, last_if, maybe_candidate, with_candidate};
 ghost use Rattle.cpp_link.specs.View.{IsPaid, IsWhole, cpp_view};
 
-use crate::linked::{Linked, has_holder, has_two_holders, is_apart};
+use crate::counting::{Counted, Lists, left};
+use crate::linked::Linked;
 use crate::part::{Candidate, Part, Surroundings};
 use crate::values::is_listed;
 use cpp_grammar::production::Production;
@@ -48,13 +49,11 @@ fn is_instance_node(node: Node) -> bool
     }
 }
 
-/// The number after this one, if it has 64 bits at most.
-fn next_number(counted: Option<u64>) -> Option<u64>
-    ensures { (k : ℕ) → MatchOption counted (2 ^ 64 ≤ k) (λ v. v ≡ k) → MatchOption result (2 ^ 64 ≤ k + 1) (λ v. v ≡ k + 1) }
-{
-    match counted {
-        Some(number) => number.checked_add(1),
-        None => None,
+/// Whether both lists have the same candidate.
+fn is_one_place(longer: Option<u32>, shorter: Option<u32>) -> bool {
+    match (longer, shorter) {
+        (Some(at), Some(other)) => at == other,
+        _ => false,
     }
 }
 
@@ -68,50 +67,87 @@ impl Linked {
         is_instance_node(opened(&self.nodes, symbol, node).node)
     }
 
-    /// Whether all compilers count alike up to the candidate that these digits name.
-    fn is_counted_alike(&self, symbol: &[u8], digits: Span) -> bool
-        requires digits { IsWithin digits symbol.now }
-        requires candidates { AreCandidatesThere (length self.now.nodes.nodes) self.now.candidates.items }
-        ensures { result ≡ is_counted_alike (candidates_of (trees_in symbol.now self.now.nodes) self.now.candidates.items) (counted_value kinds.Seq36 (bytes_at symbol.now digits)) }
-    {
-        let counted = value36(&symbol[digits.from as usize..digits.to as usize]);
-        match numbered(&self.candidates, next_number(counted)) {
-            Some(next) => !is_apart(next),
-            None => !has_holder(&self.candidates),
+    /// The place among all candidates of the one that has this number in the longer list.
+    fn longer_place(&self, number: u64) -> Option<u32> {
+        let count = self.candidates.len() - self.counting.not_longer as usize;
+        if number < count as u64 {
+            return Some(self.candidates[number as usize].longer);
+        }
+        None
+    }
+
+    /// The place among all candidates of the one that has this number in the shorter list.
+    fn shorter_place(&self, number: u64) -> Option<u32> {
+        let count = self.candidates.len() - self.counting.not_shorter as usize;
+        if number < count as u64 {
+            return Some(self.candidates[number as usize].shorter);
+        }
+        None
+    }
+
+    /// The candidate at a place, if there is one.
+    fn candidate_at(&self, place: Option<u32>) -> Option<Candidate> {
+        match place {
+            Some(at) => numbered(&self.candidates, Some(u64::from(at))),
+            None => None,
         }
     }
 
-    /// The last candidate, if these digits are its number in the longer list, and there is one mark.
-    fn last_counted(&self, symbol: &[u8], digits: Span) -> Option<Candidate>
-        requires digits { IsWithin digits symbol.now }
-        requires candidates { AreCandidatesThere (length self.now.nodes.nodes) self.now.candidates.items }
-        ensures is { maybe_candidate (trees_in symbol.now self.now.nodes) result ≡ last_if (is_last_counted (candidates_of (trees_in symbol.now self.now.nodes) self.now.candidates.items) (counted_value kinds.Seq36 (bytes_at symbol.now digits))) (candidates_of (trees_in symbol.now self.now.nodes) self.now.candidates.items) (counted_value kinds.Seq36 (bytes_at symbol.now digits)) }
-        ensures there { IfSome result (λ c. c.node < length self.now.nodes.nodes) }
-    {
-        let counted = value36(&symbol[digits.from as usize..digits.to as usize]);
-        let next = next_number(counted);
-        let last = numbered(&self.candidates, next);
-        let past = numbered(&self.candidates, next_number(next));
-        if has_two_holders(&self.candidates) {
-            return None;
-        }
-        match past {
-            Some(_) => None,
-            None => last,
+    /// Whether a list has a candidate for the `S` at this place, and its form fits there.
+    fn can_be_named(&self, symbol: &[u8], place: u32, candidate: Option<Candidate>) -> bool {
+        let Some(c) = candidate else {
+            return false;
+        };
+        match opened(&self.nodes, symbol, c.node).node {
+            Node::Holder(_) => self.counting.expected.is_prefix_at(place),
+            Node::Lvalue(_) => !self.counting.expected.is_qualified_at(place),
+            Node::Rvalue(_) => !self.counting.expected.is_qualified_at(place),
+            _ => true,
         }
     }
 
-    /// The candidate that these digits name, whichever way of counting a compiler has.
-    pub(crate) fn named_alike(&self, symbol: &[u8], digits: Span) -> Option<Candidate>
+    /// The candidate that these digits name, and the lists that are left then.
+    fn named_apart(&self, symbol: &[u8], place: u32, number: u64) -> (Option<Candidate>, Lists) {
+        let longer_at = self.longer_place(number);
+        let shorter_at = self.shorter_place(number);
+        let longer = self.candidate_at(longer_at);
+        if is_one_place(longer_at, shorter_at) {
+            return (longer, self.counting.lists);
+        }
+        if self.counting.by.is_by_some() {
+            return (None, Lists::Neither);
+        }
+        let shorter = self.candidate_at(shorter_at);
+        let lists = left(
+            self.counting.lists,
+            self.can_be_named(symbol, place, longer),
+            self.can_be_named(symbol, place, shorter),
+        );
+        match lists {
+            Lists::Longer => (longer, lists),
+            Lists::Shorter => (shorter, lists),
+            _ => (None, lists),
+        }
+    }
+
+    /// The candidate that these digits name, and the lists that are left then.
+    pub(crate) fn named_by_lists(
+        &self,
+        symbol: &[u8],
+        place: u32,
+        digits: Span,
+    ) -> (Option<Candidate>, Lists)
         requires digits { IsWithin digits symbol.now }
         requires candidates { AreCandidatesThere (length self.now.nodes.nodes) self.now.candidates.items }
-        ensures is { maybe_candidate (trees_in symbol.now self.now.nodes) result ≡ named_alike (candidates_of (trees_in symbol.now self.now.nodes) self.now.candidates.items) (counted_value kinds.Seq36 (bytes_at symbol.now digits)) }
-        ensures there { IfSome result (λ c. c.node < length self.now.nodes.nodes) }
     {
-        if self.is_counted_alike(symbol, digits) {
-            return self.candidate(symbol, digits);
+        let counted = value36(&symbol[digits.from as usize..digits.to as usize]);
+        if self.counting.is_one_list() {
+            return (numbered(&self.candidates, counted), self.counting.lists);
         }
-        self.last_counted(symbol, digits)
+        match counted {
+            Some(number) => self.named_apart(symbol, place, number),
+            None => (None, Lists::Neither),
+        }
     }
 
     /// The base class of an inherited constructor, unless it was counted before the constructor's own arguments, or a number
@@ -160,8 +196,7 @@ impl Linked {
     {
         let base = self.base_to_count(symbol, self.given(symbol, parts, 1));
         let made = self.make_rare(symbol, Production::Inheriting, place, kept, parts)?;
-        self.append(symbol, kept, base, false)?;
-        self.append(symbol, kept, base, true)?;
+        self.append(symbol, kept, base, Counted::ByGcc)?;
         Ok(made)
     }
 

@@ -4,6 +4,7 @@
 pub mod begin;
 pub mod between;
 pub mod closing;
+pub mod counting;
 pub mod dispatch;
 pub mod expression_meaning;
 pub mod expressions;

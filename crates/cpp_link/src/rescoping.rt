@@ -26,9 +26,10 @@ ghost use Rattle.cpp_link.specs.Reads.{with_marks, goes_on};
 ghost use Rattle.cpp_link.specs.Stepping.{IsStepOf, nodes_of_step};
 ghost use Rattle.cpp_link.specs.View.{IsPaid, IsWhole, cpp_view};
 
+use crate::counting::{Counted, Expected};
 use crate::dispatch::production_of;
 use crate::linked::Linked;
-use crate::part::{Candidate, Part, Step, Surroundings};
+use crate::part::{Candidate, Naming, Part, Step, Surroundings};
 use cpp_grammar::production::Production;
 use cpp_references::candidates::substituted;
 use cpp_references::elsewhere::argument_here;
@@ -38,6 +39,7 @@ use std::alloc::Global;
 use sym_core::{Refusal, Span, value10};
 use sym_link::language::Frame;
 use sym_link::parts::put;
+use sym_shape::rule::Row;
 
 /// What is linked of a symbol that the wide grammar reads.
 #[derive(Drop)]
@@ -54,13 +56,22 @@ impl Rescoping {
     }
 }
 
-/// Whether two marks are put among the candidates: before arguments that may be those of a constructor which is inherited.
-#[tactic(auto, unfolding(crate::specs::LinkRescoping::marks_twice))]
-fn marks_twice(production: Production) -> bool
-    ensures { result ≡ marks_twice production }
-{
+/// By which compilers the tree is counted that becomes a candidate: a name with its `M`, or the name before arguments that may be
+/// those of an inherited constructor, or of a concept.
+fn counted_before(production: Production) -> Counted {
     match production {
-        Production::HeldArguments => true,
+        Production::Holder => Counted::ByNewer,
+        _ => Counted::BySome,
+    }
+}
+
+/// Whether the name before an `M` is counted once more, since it hasn't become a candidate as a prefix.
+fn is_counted_again(production: Production, kept: Surroundings) -> bool {
+    match production {
+        Production::Holder => match kept.naming {
+            Naming::Unlisted => false,
+            _ => true,
+        },
         _ => false,
     }
 }
@@ -93,6 +104,28 @@ fn generic_number(counted: Option<u64>) -> u32
 }
 
 impl Linked {
+    /// The rule of a row begins where not all compilers count alike: of the `S` of a nested name, and of a type under qualifiers,
+    /// the form says what it may name.
+    fn expect_apart(&mut self, row: Row) {
+        match production_of(row.rule) {
+            Production::NestTemplate => {
+                self.counting.expected = Expected::PrefixAt(row.from.saturating_sub(1));
+            }
+            Production::QualifiedPlain => {
+                self.counting.expected = Expected::QualifiedAt(row.from);
+            }
+            _ => {}
+        }
+    }
+
+    /// The rule of a row begins.
+    #[inline(always)]
+    pub(crate) fn expect(&mut self, row: Row) {
+        if !self.counting.is_one_list() {
+            self.expect_apart(row);
+        }
+    }
+
     /// A lambda's own parameter, in its signature, with these digits (ABI 5.1.8). It may be passed as an argument.
     #[tactic(auto, unfolding(crate::specs::LinkRescoping::generic_read, cpp_term::specs::Rescoping::generic_so_far, cpp_term::specs::Between::listed_so_far, crate::specs::Reads::goes_on, crate::specs::Reads::behind_first, crate::specs::Reads::named_if, crate::specs::Reads::appended_if, cpp_tree::specs::Nodes::tree_of))]
     fn generic(&self, symbol: &[u8], kept: Surroundings, digits: Span, is_argument: bool) -> Step
@@ -164,11 +197,7 @@ impl Linked {
                 Ok(self.listed_name(Node::Holder(name)))
             }
             // <template-args> ::= I <template-arg>* E, of a constructor that is inherited, or of a concept
-            Production::HeldArguments => Ok(Step::Go {
-                candidate: self.prefix_candidate(symbol, kept),
-                then: self.inside(kept),
-                packs: self.packs,
-            }),
+            Production::HeldArguments => Ok(self.go(self.inside(kept))),
             // <template-param> ::= T_ | T <parameter number> _
             _ => {
                 let digits = self.text(symbol, parts, 0);
@@ -227,7 +256,10 @@ impl Linked {
         let step = self.step_apart(symbol, production, frame.place, frame.kept, own)?;
         let then = self.take_step(symbol, frame.kept, frame.base, step, parts)?;
         let mark = self.marked(symbol, production, frame.kept, &parts[frame.base..]);
-        self.append_marks(symbol, frame.kept, mark, marks_twice(production))?;
+        if is_counted_again(production, frame.kept) {
+            self.append(symbol, frame.kept, mark, Counted::ByAll)?;
+        }
+        self.append(symbol, frame.kept, mark, counted_before(production))?;
         Ok(then)
     }
 
@@ -303,7 +335,9 @@ impl Linked {
         ensures made { MakesPart symbol.now self.old self.new 2 (substituted_nodes (around_of (trees_in symbol.now self.old.nodes) kept) (named_by (state_of symbol.now self.old) (values_in symbol.now self.old.nodes parts.now))) result }
     {
         let at = place.saturating_sub(1);
-        let Some(candidate) = self.named_alike(symbol, self.text(symbol, parts, 0)) else {
+        let (named, lists) = self.named_by_lists(symbol, at, self.text(symbol, parts, 0));
+        self.counting.lists = lists;
+        let Some(candidate) = named else {
             return Err(Refusal::BadReference { at });
         };
         if self.is_foreign(symbol, kept, candidate) {

@@ -51,7 +51,7 @@ impl Linked {
             },
             Production::NestNext => Step::Go {
                 candidate: self.prefix_candidate(symbol, kept),
-                then: self.behind_name(kept, self.prefix_node(symbol, kept), true),
+                then: kept,
                 packs: self.packs,
             },
             Production::Lambda => self.go(self.in_signature(kept)),
@@ -477,7 +477,7 @@ impl Linked {
                     template: self.prefix_node(symbol, kept),
                     arguments: self.list_in(symbol, first),
                 },
-                listed: true,
+                listed: false,
                 is_name: true,
                 is_candidate: true,
                 packs: self.packs,

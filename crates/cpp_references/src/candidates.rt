@@ -8,7 +8,8 @@ ghost use Rattle.cpp_term.specs.References.{substituted, is_function_type};
 ghost use Rattle.cpp_term.specs.Scope.{pack_length};
 ghost use Rattle.cpp_term.specs.Values as values;
 ghost use Rattle.cpp_tree.specs.Nodes.{over, tree_at, bytes_at, IsWithin, IsTable};
-ghost use Rattle.cpp_references.specs.Around.{trees_in, is_lambda, around_of, candidates_of, AreNodesThere};
+ghost use Rattle.cpp_grammar.specs.Rescoping.{is_by_all, is_by_newer, is_by_some, joined};
+ghost use Rattle.cpp_references.specs.Around.{counted_of, trees_in, is_lambda, around_of, candidates_of, AreNodesThere};
 ghost use Rattle.cpp_references.specs.References.{maybe_candidate, node_read, function_node};
 
 use crate::again::opened;
@@ -18,19 +19,77 @@ use cpp_tree::Nodes;
 use cpp_tree::node::Node;
 use sym_core::{Refusal, Span, value36};
 
+/// By which compilers a candidate is counted.
+#[derive(Clone, Copy)]
+pub enum Counted {
+    /// By all.
+    ByAll,
+    /// By those since GCC 13 and Clang 13.
+    ByNewer,
+    /// By GCC alone.
+    ByGcc,
+    /// By some of which the reading doesn't know.
+    BySome,
+}
+
 /// A tree that a substitution may name, the place where the encoding begins in which it was made, and whether it was made in the
 /// signature of a lambda.
 #[derive(Clone, Copy)]
 pub struct Candidate {
     pub node: u32,
     pub encoding: u32,
+    /// The place among all candidates of the one whose number in the longer list is the place of this one, if there is one.
+    pub longer: u32,
+    /// Likewise in the shorter list.
+    pub shorter: u32,
     pub in_lambda: bool,
-    /// Whether it's a mark: compilers differ in whether they count the candidate before it.
-    pub is_held: bool,
-    /// Whether an earlier candidate is a mark.
-    pub is_apart: bool,
-    /// Whether two earlier candidates are.
-    pub is_far: bool,
+    pub counted: Counted,
+}
+
+impl Counted {
+    /// Whether all compilers count it.
+    #[inline(always)]
+    pub fn is_by_all(self) -> bool
+        ensures { result ≡ is_by_all (counted_of self) }
+    {
+        match self {
+            Counted::ByAll => true,
+            _ => false,
+        }
+    }
+
+    /// Whether those since GCC 13 and Clang 13 count it.
+    pub fn is_by_newer(self) -> bool
+        ensures { result ≡ is_by_newer (counted_of self) }
+    {
+        match self {
+            Counted::ByNewer => true,
+            _ => false,
+        }
+    }
+
+    /// Whether it is counted by some of which the reading doesn't know.
+    pub fn is_by_some(self) -> bool
+        ensures { result ≡ is_by_some (counted_of self) }
+    {
+        match self {
+            Counted::BySome => true,
+            _ => false,
+        }
+    }
+
+    /// By whom the longer list is counted, once it has a candidate more that is counted by others.
+    pub fn joined(self, other: Counted) -> Counted
+        ensures { counted_of result ≡ joined (counted_of self) (counted_of other) }
+    {
+        match (self, other) {
+            (Counted::ByAll, _) => other,
+            (_, Counted::ByAll) => self,
+            (Counted::ByNewer, Counted::ByNewer) => self,
+            (Counted::ByGcc, Counted::ByGcc) => self,
+            _ => Counted::BySome,
+        }
+    }
 }
 
 /// The candidate of a number.
