@@ -112,7 +112,7 @@ pub fn then_piece(symbol: &Symbol, piece: Piece, encoding: u64, tasks: &mut Vec<
         ),
         // <closure-type-name> ::= Ul <lambda-sig> E [ <nonnegative number> ] _, with parameters of its own: read by the ABI's
         // grammar no symbol has one.
-        Piece::GenericLambda { .. } => {}
+        Piece::GenericLambda { parameters, number } => then_lambda(symbol, parameters, number, encoding, tasks),
         Piece::Unnamed(number) => {
             then_text(
                 symbol,
@@ -199,6 +199,10 @@ pub fn then_between(symbol: &Symbol, node: Node, encoding: u64, tasks: &mut Vec<
             then_ended(symbol, template, encoding, tasks);
             then_tree(symbol, template, Way::Between, encoding, tasks);
         }
+        Node::Tagged { name, tag, .. } => {
+            then_text(symbol, Text::Counted(b"B", tag), tasks);
+            then_tree(symbol, name, Way::Between, encoding, tasks);
+        }
         _ => {}
     }
 }
@@ -270,6 +274,20 @@ fn then_plain_name(symbol: &Symbol, node: Node, encoding: u64, tasks: &mut Vec<T
         } => {
             then_template(symbol, template, arguments, false, encoding, tasks);
         }
+        Node::Tagged { name, tag, .. } => {
+            let nested = match stored(symbol, name) {
+                Node::Within { .. } => true,
+                _ => false,
+            };
+            if nested {
+                then_fixed(symbol, b"E", tasks);
+            }
+            then_text(symbol, Text::Counted(b"B", tag), tasks);
+            then_tree(symbol, name, Way::Between, encoding, tasks);
+            if nested {
+                then_fixed(symbol, b"N", tasks);
+            }
+        }
         _ => {}
     }
 }
@@ -335,6 +353,7 @@ pub fn is_name(node: Node) -> bool
         Node::InStd(_) => true,
         Node::Within { .. } => true,
         Node::Instance { .. } => true,
+        Node::Tagged { .. } => true,
         _ => false,
     }
 }
