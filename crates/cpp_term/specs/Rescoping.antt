@@ -226,7 +226,7 @@ unfoldable pub between_wide : Production → Around → (place : ℕ) → List V
 between_wide Production.Parameter around place (v ∷ []) state = parameter_here around place (index_of v) [] state
 between_wide Production.NestParameter around place (v ∷ []) state = parameter_here around place (index_of v) [] state
 between_wide Production.ParameterArgument around place (v ∷ []) state = parameter_here around (place - 1) (index_of v) [] state
-between_wide Production.ParameterExpression around place (v ∷ []) state = argument_here around place (index_of v) state
+between_wide Production.ParameterExpression around place (v ∷ []) state = argument_here around (place - 1) (index_of v) state
 between_wide Production.HeldArguments around place [] state = next [] (inside around) (counted_unless (prefix_listed around.prefix) by_some around (prefix_tree around.prefix) state)
 between_wide Production.Holder around place (v ∷ []) state = holder_so_far around place state
 between_wide production around place vs state = between production around place vs state
