@@ -22,14 +22,13 @@ use Rattle.cpp_grammar.specs.Unfolding.{last_token, production_at, byte_of}
 
 -- ## Before the parts of a production
 
--- The number of a lambda or an unnamed type has 64 bits. It is tested at its U, before what is between.
+-- The number of a lambda or an unnamed type has 64 bits. It is tested at its U, before what is between: its row says so.
 unfoldable pub number_tested : ℕ → List ℕ → State → Result State Refusal
 number_tested place digits state = elim (nat_lt (local_number digits) (2 ^ 64)) [ true ↦ Ok state | false ↦ Err (BadValue place) ]
 
 unfoldable pub opening : Production → Forest → (place : ℕ) → State → Result State Refusal
-opening Production.Lambda parts place state = number_tested (place - 1) (last_token parts []) state
-opening Production.Unnamed parts place state = number_tested (place - 1) (last_token parts []) state
-opening _ parts place state = Ok state
+unfolding row_of
+opening p parts place state = elim (row_of p).tests_number [ true ↦ number_tested (place - 1) (last_token parts []) state | false ↦ Ok state ]
 
 -- ## After the parts of a production
 
