@@ -34,7 +34,7 @@ use Rattle.cpp_press_laws.proofs.Fits.Symbols.{StaysBehind, WholeFits, guard-fit
 use Rattle.cpp_press_laws.proofs.Fits.Sorts.{Meant, Later}
 use Rattle.cpp_press_laws.proofs.Fits.Places.{Ended, ended-as}
 use Rattle.cpp_press_laws.proofs.ByKind.LeafKinds.{own-byte, only-at}
-use Rattle.cpp_press_laws.proofs.ByKind.Known.{EncodingRead, SpecialRead, KindRead, BranchRead, InFront, ShapeRead, opened-read, by-parts}
+use Rattle.cpp_press_laws.proofs.ByKind.Known.{EncodingRead, SpecialRead, KindRead, BranchRead, InFront, ShapeRead, opened-read, by-parts, OwnNameRead}
 
 -- ## Candidates around an encoding and in it
 
@@ -131,13 +131,13 @@ ended-read P p byte around old vs mid v new e one = subst (λ w. P w new) (sym e
 -- ## Functions and data
 
 items-read : (around : Around) (at : ℕ) (name : Value) (t : Term) (old mid new : State) → IsList t → StaysBehind around at old new
-    → AllShut at mid.candidates → OwnNameFits (in_name at) (tree_of name) (qualifiers_of name) (ref_of name) old mid
+    → AllShut at mid.candidates → OwnNameRead (in_name at) name old mid
     → ListFits (in_types at (tree_of name)) item_type t mid new → EncodingRead around (tree (encoding_of name t) true) old new
 unfolding encoding_of is_encoding tree_of
 items-read around at name nil old mid new is stays shut one other = record {
   is = refl;
   value = refl;
-  fits = object-fits around at (tree_of name) (qualifiers_of name) (ref_of name) old mid new stays shut one other;
+  fits = object-fits around at (tree_of name) (qualifiers_of name) (ref_of name) old mid new one.1 stays shut one.0 other;
 }
 items-read around at name (list first rest) old mid new is stays shut one other = go (has_return_type (tree_of name)) refl
   where
@@ -148,13 +148,13 @@ items-read around at name (list first rest) old mid new is stays shut one other 
     go true returns = record {
       is = refl;
       value = refl;
-      fits = returning-fits around at (tree_of name) first rest (qualifiers_of name) (ref_of name) old mid new returns stays shut one other;
+      fits = returning-fits around at (tree_of name) first rest (qualifiers_of name) (ref_of name) old mid new one.1 returns stays shut one.0 other;
     }
     go false none = record {
       is = refl;
       value = refl;
       fits =
-          plain-function-fits around at (tree_of name) (list first rest) (qualifiers_of name) (ref_of name) old mid new none stays shut one
+          plain-function-fits around at (tree_of name) (list first rest) (qualifiers_of name) (ref_of name) old mid new one.1 none stays shut one.0
           other;
     }
 items-read around at name (symbol e suffix) old mid new is stays shut one other = absurd is
@@ -212,10 +212,10 @@ guard-read around at old v new front o =
     let guard = h.holds Kind.SpecialAfterG (in_name at) later g.after h.value h.after f h.is h.unfolds refl in
     let name : Value = guard.0 in
     let c = part-came (OfKind SPECIAL_AFTER_G) (in_name at) later g.after h.shape h.value h.after (known SPECIAL_AFTER_G (lit≤ tt)) f h.is h.unfolds in
-    let whole = guard-fits around at (tree_of name) (qualifiers_of name) (ref_of name) old h.after
+    let whole = guard-fits around at (tree_of name) (qualifiers_of name) (ref_of name) old h.after guard.2.1
     (stays-behind around (in_name at) at (later + length (spell h.shape)) old h.after less refl front.placed.old
     (subst (λ s. Grows false (in_name at) (later + length (spell h.shape)) s h.after) b c.grows))
-    (subst (λ s. OwnNameFits (in_name at) (tree_of name) (qualifiers_of name) (ref_of name) s h.after) b guard.2) in
+    (subst (λ s. OwnNameFits (in_name at) (tree_of name) (qualifiers_of name) (ref_of name) s h.after) b guard.2.0) in
     ended-read (λ w t. EncodingRead around w old t) Production.OtherSpecial byte around old (g.value ∷ h.value ∷ []) h.after v new
     (ended-as Production.OtherSpecial byte around old o.inner o.one (g.value ∷ h.value ∷ []) h.after v new (ok_same _ o.one o.closes) h.onward
     o.comes)

@@ -12,7 +12,7 @@ use Rattle.cpp_grammar.specs.Meaning.{discriminator_of, meaning}
 use Rattle.cpp_grammar.specs.Unfolding as unfolding_
 use Rattle.cpp_press_laws.specs.Texts.{qualifier_letters, mark_letter, name_letters}
 use Rattle.cpp_press_laws.specs.Pressing.{no_ways, type_ways, is_encoding, ways_of}
-use Rattle.cpp_press_laws.specs.Fits.{Slot, bare_type, Role, in_type, in_name_with, letters_of, begins_name, names_type, names_entity, names_in, IsSpellableDiscriminator}
+use Rattle.cpp_press_laws.specs.Fits.{Slot, bare_type, Role, in_type, in_name_with, letters_of, IsAbiMark, begins_name, names_type, names_entity, names_in, IsSpellableDiscriminator}
 use Rattle.cpp_press_laws.proofs.Fits.Types.{SolidFits}
 use Rattle.cpp_press_laws.proofs.Fits.Names.{PieceFits}
 use Rattle.cpp_press_laws.proofs.Fits.Nests.{OwnNameFits, EntityFits}
@@ -28,15 +28,17 @@ use Rattle.cpp_press_laws.proofs.ByKind.Pieced.{PieceRead, renamed, source-comes
 
 -- an entity after its encoding, with a discriminator or none, which leave the state as it is
 local-name : (around : Around) (e entity d : Value) (old mid from late new : State) → EncodingRead around e old mid → from ≡ mid
-    → EntityFits (after (tree_of e) true around) (tree_of entity) (in_name_with (qualifiers_of entity) (ref_of entity)) from late
+    → EntityFits (after (tree_of e) true around) (tree_of entity) (in_name_with (qualifiers_of entity) (ref_of entity)) from late × IsAbiMark (ref_of entity)
     → new ≡ late → IsSpellableDiscriminator (discriminator_of d)
-    → OwnNameFits around (local (tree_of e) (tree_of entity) (discriminator_of d)) (qualifiers_of entity) (ref_of entity) old new
+    → OwnNameFits around (local (tree_of e) (tree_of entity) (discriminator_of d)) (qualifiers_of entity) (ref_of entity) old new × IsAbiMark (ref_of entity)
 local-name around e entity d old mid from late new one same other still good =
     let E : Term = tree_of entity in
     let role : Role = in_name_with (qualifiers_of entity) (ref_of entity) in
-    let inner : Around = after (tree_of e) true around in
-    local-own around (tree_of e) E (discriminator_of d) (qualifiers_of entity) (ref_of entity) old mid new good one.fits
-    (subst (λ s. EntityFits inner E role mid s) (sym still) (subst (λ s. EntityFits inner E role s late) same other))
+    let inner : Around = after (tree_of e) true around in (
+      local-own around (tree_of e) E (discriminator_of d) (qualifiers_of entity) (ref_of entity) old mid new good one.fits
+          (subst (λ s. EntityFits inner E role mid s) (sym still) (subst (λ s. EntityFits inner E role s late) same other.0)),
+      other.1,
+    )
 
 local-solid : (takes : Slot → Bool) (around : Around) (e entity d : Value) (old mid from late new : State) → EncodingRead around e old mid
     → from ≡ mid → EntityFits (after (tree_of e) true around) (tree_of entity) in_type from late → new ≡ late
@@ -80,20 +82,24 @@ pub nested-name-read : (around : Around) (at : ℕ) (old : State) (v : Value) (n
     → OpenedRead Kind.CompleteName around at old v new Production.NestedName → KindRead Kind.CompleteName around v old new
 unfolding parts_of between number_of_kind meaning part unfolding_.behind tree_of qualifiers_of ref_of
 nested-name-read around at old v new o outer =
-    by-parts (λ v s. KindRead Kind.CompleteName around v old s) Production.NestedName tt tt o (λ r a restrict w b volatile c d const m e ref n s one out.
-    subst (λ q. OwnNameFits around (tree_of n) (record { restrict = is_there r; volatile = is_there w; const = is_there c }) (mark_of m) q s)
-    (ref Kind.MaybeRef refl ∙ const Kind.MaybeConst refl ∙ volatile Kind.MaybeVolatile refl ∙ restrict Kind.MaybeRestrict refl)
-    ((one Kind.Nest refl (inl out)).1.own (record { restrict = is_there r; volatile = is_there w; const = is_there c }) (mark_of m))) outer
+    by-parts (λ v s. KindRead Kind.CompleteName around v old s) Production.NestedName tt tt o (λ r a restrict w b volatile c d const m e ref n s one out. (
+      subst (λ q. OwnNameFits around (tree_of n) (record { restrict = is_there r; volatile = is_there w; const = is_there c }) (mark_of m) q s)
+          ((ref Kind.MaybeRef refl).0 ∙ const Kind.MaybeConst refl ∙ volatile Kind.MaybeVolatile refl ∙ restrict Kind.MaybeRestrict refl)
+          ((one Kind.Nest refl (inl out)).1.own (record { restrict = is_there r; volatile = is_there w; const = is_there c }) (mark_of m)),
+      (ref Kind.MaybeRef refl).1,
+    )) outer
 
 nested-entity-read : (around : Around) (at : ℕ) (old : State) (v : Value) (new : State)
     → OpenedRead Kind.Entity around at old v new Production.NestedName → KindRead Kind.Entity around v old new
 unfolding parts_of between number_of_kind meaning part unfolding_.behind tree_of qualifiers_of ref_of
 nested-entity-read around at old v new o e is scoped =
     by-parts (λ v s. KindRead Kind.Entity around v old s) Production.NestedName tt tt o (λ r a restrict w b volatile c d const m x ref n s one f own here.
-    let role : Role = in_name_with (record { restrict = is_there r; volatile = is_there w; const = is_there c }) (mark_of m) in
-    subst (λ q. EntityFits around (tree_of n) role q s)
-    (ref Kind.MaybeRef refl ∙ const Kind.MaybeConst refl ∙ volatile Kind.MaybeVolatile refl ∙ restrict Kind.MaybeRestrict refl)
-    ((one Kind.Nest refl (inr (f, own, here))).1.entity role)) e is scoped
+    let role : Role = in_name_with (record { restrict = is_there r; volatile = is_there w; const = is_there c }) (mark_of m) in (
+      subst (λ q. EntityFits around (tree_of n) role q s)
+          ((ref Kind.MaybeRef refl).0 ∙ const Kind.MaybeConst refl ∙ volatile Kind.MaybeVolatile refl ∙ restrict Kind.MaybeRestrict refl)
+          ((one Kind.Nest refl (inr (f, own, here))).1.entity role),
+      (ref Kind.MaybeRef refl).1,
+    )) e is scoped
 
 nested-type-read : (around : Around) (at : ℕ) (old : State) (v : Value) (new : State)
     → OpenedRead Kind.TypeEntity around at old v new Production.NestedType → KindRead Kind.TypeEntity around v old new
@@ -113,8 +119,11 @@ string-read : (around : Around) (at : ℕ) (old : State) (v : Value) (new : Stat
 unfolding parts_of meaning unfolding_.behind tree_of qualifiers_of ref_of extended letters_of name_letters qualifier_letters mark_letter names_in names_entity
 string-read around at old v new o e is scoped =
     by-parts (λ v s. KindRead Kind.Entity around v old s) Production.StringLiteral tt tt o
-    (λ f own here. subst (λ prefix. EntityFits around (extended prefix string_literal) plain_name old old) (sym here)
-    (local-entity around f string_literal plain_name old old own here refl refl (string-literal-fits around old))) e is scoped
+    (λ f own here. (
+      subst (λ prefix. EntityFits around (extended prefix string_literal) plain_name old old) (sym here)
+          (local-entity around f string_literal plain_name old old own here refl refl (string-literal-fits around old)),
+      tt,
+    )) e is scoped
 
 -- ## Entities of one piece
 
@@ -162,7 +171,7 @@ type-pieces = record { none = refl; takes = λ p begins. begins }
 
 name-reads : Reads Kind.Entity plain_name
 unfolding tree_of qualifiers_of ref_of
-name-reads around t old new one = one
+name-reads around t old new one e is scoped = (one e is scoped, tt)
 
 type-reads : Reads Kind.TypeEntity in_type
 unfolding tree_of

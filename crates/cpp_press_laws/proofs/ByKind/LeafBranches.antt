@@ -1,17 +1,21 @@
 -- Marks, letters, numbers, offsets, discriminators and suffixes that were read, as it is known of their kinds: nothing else changes.
-use Rattle.std.proofs.Common.{◌≡◌, ℕ, inl, inr, List, [], ◌∷◌, true, false, refl, ap, arith, sym, subst, ◌∙◌}
+use Rattle.std.proofs.Common.{◌≡◌, ℕ, inl, inr, List, [], ◌∷◌, true, false, refl, ap, arith, sym, subst, ◌∙◌, Option, None, Some}
 use Rattle.cpp_grammar.specs.declared.kind.Kind.{Kind}
 use Rattle.cpp_grammar.specs.declared.production.Production.{Production}
-use Rattle.cpp_grammar.specs.Grammar.{Alternative, alternatives, choose, is_chain, parts_of}
-use Rattle.cpp_grammar.specs.Values.{State, Around, Value, letter_of, text_of, signed_of, adjustment_of, normal, part}
+use Rattle.cpp_grammar.specs.Grammar.{Alternative, alternatives, choose, is_chain, parts_of, pick, is_in, in_ranges, among}
+use Rattle.cpp_grammar.specs.Values.{State, Around, Value, letter_of, text_of, signed_of, adjustment_of, normal, part, mark_of, letter}
 use Rattle.cpp_grammar.specs.Between.{between}
 use Rattle.cpp_grammar.specs.Meaning.{meaning, discriminator_of}
 use Rattle.cpp_grammar.specs.Unfolding as unfolding_
 use Rattle.cpp_grammar.specs.Unfolding.{byte_of}
-use Rattle.cpp_press_laws.specs.Fits.{IsSpellableSuffix}
+use Rattle.cpp_press_laws.specs.Fits.{IsSpellableSuffix, IsAbiMark}
 use Rattle.cpp_press_laws.proofs.ByKind.Rules.{OneOf}
 use Rattle.cpp_press_laws.proofs.ByKind.LeafKinds.{own-byte, only-at, signed-spellable, normal-digits, spellable-discriminator}
 use Rattle.cpp_press_laws.proofs.ByKind.Known.{KindRead, MarkRead, OpenedRead, opened-read, by-parts, BranchTo, BranchRead}
+use Rattle.std.specs.Prelude.{nat_eq, cond}
+use Rattle.std.proofs.lemmas.Bool.{eqb-true}
+use Rattle.cpp_grammar.specs.Term.{lvalue_only, rvalue_only, explicit_object}
+use Rattle.cpp_grammar.proofs.Chosen.{either_cond}
 
 -- ## Marks
 
@@ -43,6 +47,24 @@ letter-branch kind only rule taken parts all around at old v new front is e =
 pub mark-branch : (kind : Kind) → OnlyMarks (alternatives kind) → BranchTo kind (λ around v old new. new ≡ old)
 mark-branch kind only rule taken parts all around at old v new front is e =
     (letter-branch kind only rule taken parts all around at old v new front is e).0
+
+-- a letter of the kind isn't that of an explicit object
+abi-mark : (byte : ℕ) → choose Kind.MaybeRef byte ≡ Some Production.Mark → IsAbiMark (mark_of (letter byte))
+unfolding mark_of alternatives choose pick is_in in_ranges among
+abi-mark byte chosen =
+    either_cond IsAbiMark (nat_eq byte 82) lvalue_only (cond (nat_eq byte 72) explicit_object rvalue_only) (λ is. tt)
+    (λ other. either_cond IsAbiMark (nat_eq byte 72) explicit_object rvalue_only (λ is. never (subst (λ b. choose Kind.MaybeRef b ≡ Some Production.Mark)
+    (eqb-true byte 72 is) chosen)) (λ no. tt))
+  where
+    never : ◌≡◌ {A = Option Production} None (Some Production.Mark) → ⊥
+    never h = cc
+
+-- a reference mark
+pub ref-branch : BranchRead Kind.MaybeRef
+unfolding alternatives
+ref-branch rule taken parts all around at old v new front is e =
+    let one = letter-branch Kind.MaybeRef (refl, tt) rule taken parts all around at old v new front is e in
+    (one.0, subst (λ w. IsAbiMark (mark_of w)) (sym one.1) (abi-mark (letter_of v) one.3))
 
 -- after an l: a letter, or the name of a literal operator
 pub operator-after-l-branch : BranchRead Kind.OperatorAfterL

@@ -170,9 +170,11 @@ read-own : (around : Around) (v : Value) (old new : State) → around.prefix ≡
 unfolding extended tree_of qualifiers_of ref_of
 read-own around v old new outer o =
     subst (λ w. OwnNameRead around w old new) (sym o.value)
-    (subst (λ q. OwnNameRead around (tree (applied (extended q o.piece) o.arguments) false) old new) (sym outer)
-    (piece-own around o.piece o.arguments old o.mid new outer o.named o.fits
-    (subst (λ q. KindFits Kind.MaybeArguments (after (extended q o.piece) false around) o.arguments o.mid new) outer o.later)))
+    (subst (λ q. OwnNameRead around (tree (applied (extended q o.piece) o.arguments) false) old new) (sym outer) (
+      piece-own around o.piece o.arguments old o.mid new outer o.named o.fits
+          (subst (λ q. KindFits Kind.MaybeArguments (after (extended q o.piece) false around) o.arguments o.mid new) outer o.later),
+      tt,
+    ))
 
 type-function : (p : Term) → names_type p ≡ true → names_function p ≡ true
 type-function p names = begins-function p (type-begins p names)
@@ -211,9 +213,9 @@ name-after-s-branch rule taken parts all around at old v new front is e outer =
     elim (opened-read Kind.NameAfterS rule taken parts all around at old v new front is e) [
       | inl o ↦ by-parts (λ w s. OwnNameRead around w old s) Production.StdName tt tt o (λ w s read b q more.
           let one = read Kind.Unqualified refl in
-          std-own around (piece_of w) b old s q one.0 one.1 (more Kind.MaybeArguments refl))
+          (std-own around (piece_of w) b old s q one.0 one.1 (more Kind.MaybeArguments refl), tt))
       | inr o ↦ by-parts (λ w s. OwnNameRead around w old s) Production.AbbreviatedName tt tt o (λ w s one b q more.
           let behind_ = more Kind.Arguments refl in
           subst (λ t. OwnNameRead around (tree t false) old q) (sym (ap (λ u. applied (tree_of w) u) behind_.0))
-          (named-own around w b old s q (one Kind.Abbreviation refl) behind_.1))
+          (named-own around w b old s q (one Kind.Abbreviation refl) behind_.1, tt))
     ]

@@ -40,7 +40,7 @@ nest-next : (kind : Kind) (outer : Around) (t : Term) (listed : Bool) (start : S
 unfolding parts_of number_of_kind between after prefix_tree meaning part unfolding_.behind
 nest-next kind outer t listed start at old v new apart prefix o =
     by-parts (λ w s. NestRead outer w start s) Production.NestNext tt tt o (λ w s one x q two.
-    two Kind.NestTail refl outer (tree_of w) start refl (one Kind.Component refl outer t start refl apart prefix).1)
+    two Kind.NestTail refl outer (tree_of w) start refl (one Kind.Component refl outer t listed start refl apart prefix).1)
 
 -- arguments, which end a prefix, and a further piece
 nest-arguments : (kind : Kind) (outer : Around) (t : Term) (listed : Bool) (start : State) (at : ℕ) (old : State) (v : Value) (new : State)
@@ -53,7 +53,7 @@ nest-arguments kind outer t listed start at old v new so_far o =
     let prefix : PrefixFits outer own start (appended (after t listed outer) own r) =
     subst (λ s. PrefixFits outer own start (appended (after t listed outer) own s)) (sym end.0)
     (arguments-so-far outer t listed a start old s so_far (given Kind.ArgumentsFirst refl refl)) in
-    two Kind.NestTail refl outer (tree_of c) start refl (one Kind.Component refl outer own start refl (λ n place cs front. refl) prefix).1)
+    two Kind.NestTail refl outer (tree_of c) start refl (one Kind.Component refl outer own false start refl (λ n place cs front. refl) prefix).1)
 
 -- arguments of a name that an S stands for, and a further piece
 nest-instance : (outer : Around) (t : Term) (listed : Bool) (start : State) (at : ℕ) (old : State) (v : Value) (new : State)
@@ -112,55 +112,55 @@ nest-rest-alone-branch rule taken parts all around at old v new front is e outer
 
 -- ## A piece after a prefix
 
-component-piece : (outer : Around) (t : Term) (start old : State) (v : Value) (new : State) → Wherever outer start (is_encoding t ≡ false)
-    → PrefixFits outer t start old → PieceRead names_member (after t true outer) v old new → NestRead outer v start new
+component-piece : (outer : Around) (t : Term) (listed : Bool) (start old : State) (v : Value) (new : State) → Wherever outer start (is_encoding t ≡ false)
+    → PrefixFits outer t start old → PieceRead names_member (after t listed outer) v old new → NestRead outer v start new
 unfolding extended after
-component-piece outer t start old v new apart prefix o =
+component-piece outer t listed start old v new apart prefix o =
     subst (λ w. NestRead outer w start new) (sym o.value)
-    (component-read outer t o.piece o.arguments start old o.mid new apart o.named prefix o.fits o.later)
+    (component-read outer t o.piece listed o.arguments start old o.mid new apart o.named prefix o.fits o.later)
 
 pub component-after-c-branch : BranchRead Kind.ComponentAfterC
 unfolding alternatives
-component-after-c-branch rule taken parts all around at old v new front is e outer t start same apart prefix =
+component-after-c-branch rule taken parts all around at old v new front is e outer t listed start same apart prefix =
     let o = subst (λ r. OneOf (alternatives Kind.ComponentAfterC) (OpenedRead Kind.ComponentAfterC r at old v new)) same
     (opened-read Kind.ComponentAfterC rule taken parts all around at old v new front is e) in
-    component-piece outer t start old v new apart prefix
+    component-piece outer t listed start old v new apart prefix
     (renamed names_function names_member inner v old new function-member (operator-with-c-comes Kind.ComponentAfterC inner at old v new o))
   where
     inner : Around
-    inner = after t true outer
+    inner = after t listed outer
 
 pub constructor-after-c-branch : BranchRead Kind.ConstructorAfterC
 unfolding alternatives
-constructor-after-c-branch rule taken parts all around at old v new front is e outer t start same apart prefix =
+constructor-after-c-branch rule taken parts all around at old v new front is e outer t listed start same apart prefix =
     let o = subst (λ r. OneOf (alternatives Kind.ConstructorAfterC) (OpenedRead Kind.ConstructorAfterC r at old v new)) same
     (opened-read Kind.ConstructorAfterC rule taken parts all around at old v new front is e) in
-    component-piece outer t start old v new apart prefix (constructor-comes Kind.ConstructorAfterC inner at old v new o)
+    component-piece outer t listed start old v new apart prefix (constructor-comes Kind.ConstructorAfterC inner at old v new o)
   where
     inner : Around
-    inner = after t true outer
+    inner = after t listed outer
 
 pub component-branch : BranchRead Kind.Component
 unfolding alternatives parts_of number_of_kind between meaning part unfolding_.behind
-component-branch rule taken parts all around at old v new front is e outer t start same apart prefix =
+component-branch rule taken parts all around at old v new front is e outer t listed start same apart prefix =
     elim (subst (λ r. OneOf (alternatives Kind.Component) (OpenedRead Kind.Component r at old v new)) same
     (opened-read Kind.Component rule taken parts all around at old v new front is e)) [
       | inl o ↦ by-parts (λ w s. NestRead outer w start s) Production.AnyConstructor tt tt o
-          (λ w s one. one Kind.ConstructorAfterC refl outer t start refl apart prefix)
+          (λ w s one. one Kind.ConstructorAfterC refl outer t listed start refl apart prefix)
       | inr (inl o) ↦ piece (destructor-comes Kind.Component inner at old v new o)
       | inr (inr (inl o)) ↦ piece (renamed begins_name names_member inner v old new begun (internal-comes Kind.Component inner at old v new o))
       | inr (inr (inr (inl o))) ↦ typed (local-type-comes Kind.Component inner at old v new o)
       | inr (inr (inr (inr (inl o)))) ↦ typed (source-comes Kind.Component inner at old v new o)
       | inr (inr (inr (inr (inr (inl o))))) ↦ by-parts (λ w s. NestRead outer w start s) Production.ComponentWithC tt tt o
-          (λ w s one. one Kind.ComponentAfterC refl outer t start refl apart prefix)
+          (λ w s one. one Kind.ComponentAfterC refl outer t listed start refl apart prefix)
       | inr (inr (inr (inr (inr (inr o))))) ↦ piece (renamed names_function names_member inner v old new function-member (other-operator-comes Kind.Component inner at old v new o))
     ]
   where
     inner : Around
-    inner = after t true outer
+    inner = after t listed outer
 
     piece : PieceRead names_member inner v old new → NestRead outer v start new
-    piece o = component-piece outer t start old v new apart prefix o
+    piece o = component-piece outer t listed start old v new apart prefix o
 
     begun : (p : Term) → begins_name p ≡ true → names_member p ≡ true
     begun p begins = function-member p (begins-function p begins)

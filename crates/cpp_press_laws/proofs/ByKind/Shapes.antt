@@ -23,7 +23,7 @@ use Rattle.cpp_press_laws.proofs.Fits.Types.{complex-fits}
 use Rattle.cpp_press_laws.proofs.Fits.Lists.{parameters-fit, function-fits}
 use Rattle.cpp_press_laws.proofs.Fits.Solids.{vendor-fits}
 use Rattle.cpp_press_laws.proofs.ByKind.Rules.{AllOf, OneOf, every-shape}
-use Rattle.cpp_press_laws.proofs.ByKind.LeafBranches.{letter-branch, mark-branch, operator-after-l-branch, integer-branch, call-offset-branch, discriminator-branch, discriminator-rest-branch, suffix-more-branch, suffix-first-branch, suffix-branch}
+use Rattle.cpp_press_laws.proofs.ByKind.LeafBranches.{letter-branch, mark-branch, ref-branch, operator-after-l-branch, integer-branch, call-offset-branch, discriminator-branch, discriminator-rest-branch, suffix-more-branch, suffix-first-branch, suffix-branch}
 use Rattle.cpp_press_laws.proofs.ByKind.Known.{InFront, ShapeRead, OpenedRead, opened-read, taken-among, BranchRead, fits-by-parts}
 use Rattle.cpp_press_laws.proofs.ByKind.Types.{type-branch, plain-branch, item-branch, argument-branch, parameter-branch, item-d-branch, after-d-branch}
 use Rattle.cpp_press_laws.proofs.ByKind.Solids.{builtin-arm, literal-arm, array-rest-branch, any-array-branch, pointer-arm, member-arm, function-rest-branch, after-r-branch, after-o-branch, items-branch}
@@ -51,9 +51,10 @@ solid-read around at old v new front outer (inr (inr (inl o))) =
     fits-by-parts Kind.Solid Production.ArrayType tt tt o (λ w s one. one Kind.AnyArray refl outer)
 solid-read around at old v new front outer (inr (inr (inr (inl o)))) =
     fits-by-parts Kind.Solid Production.Function tt tt o (λ c s linkage w t one x u two.
-    function-fits around (is_there c) false (ref_of x) (tree_of w) (parameters (tree_of x)) old t u
+    let rest = two Kind.FunctionRest refl outer in
+    function-fits around (is_there c) false (ref_of x) rest.2 (tree_of w) (parameters (tree_of x)) old t u
     (subst (λ q. KindFits Kind.Type around w q t) (linkage Kind.MaybeCLinkage refl) (one Kind.Type refl outer))
-    (let rest = two Kind.FunctionRest refl outer in parameters-fit around parameter_type (tree_of x) t u rest.0 rest.1))
+    (parameters-fit around parameter_type (tree_of x) t u rest.0 rest.1))
 solid-read around at old v new front outer (inr (inr (inr (inr (inl o))))) =
     fits-by-parts Kind.Solid Production.Complex tt tt o (λ w s one. complex-fits around (tree_of w) old s (one Kind.Type refl outer))
 solid-read around at old v new front outer (inr (inr (inr (inr (inr (inl o)))))) = pointer-arm takes_all Kind.Solid around at old v new outer o
@@ -132,7 +133,7 @@ kind-branch Kind.CompleteName = complete-name-branch
 kind-branch Kind.MaybeRestrict = mark-branch Kind.MaybeRestrict (refl, tt)
 kind-branch Kind.MaybeVolatile = mark-branch Kind.MaybeVolatile (refl, tt)
 kind-branch Kind.MaybeConst = mark-branch Kind.MaybeConst (refl, tt)
-kind-branch Kind.MaybeRef = mark-branch Kind.MaybeRef (refl, tt)
+kind-branch Kind.MaybeRef = ref-branch
 kind-branch Kind.NameAfterS = name-after-s-branch
 kind-branch Kind.Unqualified = unqualified-branch
 kind-branch Kind.Nest = nest-branch

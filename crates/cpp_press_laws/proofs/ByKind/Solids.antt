@@ -4,7 +4,7 @@ use Rattle.cpp_grammar.specs.declared.kind.Kind.{Kind}
 use Rattle.cpp_grammar.specs.declared.production.Production.{Production}
 use Rattle.cpp_grammar.specs.Grammar.{alternatives, parts_of, is_chain}
 use Rattle.cpp_grammar.specs.Term.{builtin}
-use Rattle.cpp_grammar.specs.Values.{State, outermost, Around, Value, tree, tree_of, text_of, normal, part}
+use Rattle.cpp_grammar.specs.Values.{State, outermost, Around, Value, tree, tree_of, text_of, normal, part, ref_of}
 use Rattle.cpp_grammar.specs.Between.{between, no_items}
 use Rattle.cpp_grammar.specs.Meaning.{signature_or, meaning, with_item}
 use Rattle.cpp_grammar.specs.Unfolding as unfolding_
@@ -74,30 +74,31 @@ member-arm takes kind around at old v new outer o =
 -- ## Parameters
 
 pub function-rest-branch : BranchRead Kind.FunctionRest
-unfolding alternatives meaning with_item tree_of part unfolding_.behind parts_of between
+unfolding alternatives meaning with_item tree_of ref_of part unfolding_.behind parts_of between
 function-rest-branch rule taken parts all around at old v new front is e outer =
     elim (opened-read Kind.FunctionRest rule taken parts all around at old v new front is e) [
-      | inl o ↦ fits-by-parts Kind.FunctionRest Production.RestEnd tt tt o (tt, nil-fits around parameter_type old)
+      | inl o ↦ fits-by-parts Kind.FunctionRest Production.RestEnd tt tt o (tt, nil-fits around parameter_type old, tt)
       | inr (inl o) ↦ fits-by-parts Kind.FunctionRest Production.RestLvalue tt tt o (λ w s one. one Kind.AfterR refl outer)
       | inr (inr (inl o)) ↦ fits-by-parts Kind.FunctionRest Production.RestRvalue tt tt o (λ w s one. one Kind.AfterO refl outer)
       | inr (inr (inr o)) ↦ fits-by-parts Kind.FunctionRest Production.RestItem tt tt o
-          (λ w s one x t two. (tt, list-fits around parameter_type (tree_of w) (tree_of x) old s t (one Kind.ItemButRef refl outer) (two Kind.FunctionRest refl outer).1))
+          (λ w s one x t two. let rest = two Kind.FunctionRest refl outer in
+          (tt, list-fits around parameter_type (tree_of w) (tree_of x) old s t (one Kind.ItemButRef refl outer) rest.1, rest.2))
     ]
 
 pub after-r-branch : BranchRead Kind.AfterR
-unfolding alternatives meaning signature_or tree_of unfolding_.behind parts_of between
+unfolding alternatives meaning signature_or tree_of ref_of unfolding_.behind parts_of between
 after-r-branch rule taken parts all around at old v new front is e outer =
     elim (opened-read Kind.AfterR rule taken parts all around at old v new front is e) [
-      | inl o ↦ fits-by-parts Kind.AfterR Production.RefEnd tt tt o (tt, nil-fits around parameter_type old)
+      | inl o ↦ fits-by-parts Kind.AfterR Production.RefEnd tt tt o (tt, nil-fits around parameter_type old, tt)
       | inr o ↦ fits-by-parts Kind.AfterR Production.LvalueItem tt tt o (λ w s one x t two.
           lvalue-item around (byte_of o.taken) old (tree_of w) x old s t (one Kind.Type refl outer) (two Kind.FunctionRest refl outer))
     ]
 
 pub after-o-branch : BranchRead Kind.AfterO
-unfolding alternatives meaning signature_or tree_of unfolding_.behind parts_of between
+unfolding alternatives meaning signature_or tree_of ref_of unfolding_.behind parts_of between
 after-o-branch rule taken parts all around at old v new front is e outer =
     elim (opened-read Kind.AfterO rule taken parts all around at old v new front is e) [
-      | inl o ↦ fits-by-parts Kind.AfterO Production.RefEnd tt tt o (tt, nil-fits around parameter_type old)
+      | inl o ↦ fits-by-parts Kind.AfterO Production.RefEnd tt tt o (tt, nil-fits around parameter_type old, tt)
       | inr o ↦ fits-by-parts Kind.AfterO Production.RvalueItem tt tt o (λ w s one x t two.
           rvalue-item around (byte_of o.taken) old (tree_of w) x old s t (one Kind.Type refl outer) (two Kind.FunctionRest refl outer))
     ]

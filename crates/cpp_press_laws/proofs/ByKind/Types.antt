@@ -181,7 +181,8 @@ after-d-branch rule taken parts all around at old v new front is e outer =
           vector-fits around (normal (text_of d)) (tree_of w) old t (normal-digits (text_of d) number.2)
           (subst (λ q. KindFits Kind.Type around w q t) (mark.0 ∙ number.0) (one Kind.Type refl outer)))
       | inr (inr o) ↦ fits-by-parts Kind.AfterD Production.NoexceptFunction tt tt o (λ f s letter c r linkage w t one x u two.
-          function-fits around (is_there c) true (ref_of x) (tree_of w) (parameters (tree_of x)) old t u
+          let rest = two Kind.FunctionRest refl outer in
+          function-fits around (is_there c) true (ref_of x) rest.2 (tree_of w) (parameters (tree_of x)) old t u
           (subst (λ q. KindFits Kind.Type around w q t) (linkage Kind.MaybeCLinkage refl ∙ letter.0) (one Kind.Type refl outer))
-          (let rest = two Kind.FunctionRest refl outer in parameters-fit around parameter_type (tree_of x) t u rest.0 rest.1))
+          (parameters-fit around parameter_type (tree_of x) t u rest.0 rest.1))
     ]
