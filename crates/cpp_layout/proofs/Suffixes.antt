@@ -67,7 +67,7 @@ suffix_is r v c Mark.ExplicitObject n other = absurd (other refl)
 
 pub suffix_some : (r v c : Bool) (m : Mark) (n : Bool) → (mark_of m ≡ explicit_object → ⊥) → SUFFIX < number_of r v c m n → 0 < length (fixed_text (number_of r v c m n))
 unfolding bit mark_number
-suffix_some false false false Mark.Any false more = absurd (omega (arith, more))
+suffix_some false false false Mark.Any false other more = absurd (omega (arith, more))
 suffix_some true false false Mark.Any false other more = omega arith
 suffix_some false true false Mark.Any false other more = omega arith
 suffix_some true true false Mark.Any false other more = omega arith
@@ -120,10 +120,10 @@ suffix_some r v c Mark.ExplicitObject n other more = absurd (other refl)
 -- an explicit object is no mark after the parameters
 never-shown : (x : RefQualifier) → explicit_object ≡ shown_mark x → ⊥
 unfolding shown_mark
-never-shown any_value e = cc
-never-shown lvalue_only e = cc
-never-shown rvalue_only e = cc
-never-shown explicit_object e = cc
+never-shown any_value e = cc e
+never-shown lvalue_only e = cc e
+never-shown rvalue_only e = cc e
+never-shown explicit_object e = cc e
 
 shown-suffix : (q : values.Qualifiers) (x : RefQualifier) (n : Bool) → suffix_of q (shown_mark x) n ≡ suffix_of q x n
 unfolding shown_mark suffix_of encoding_text ref_text

@@ -84,35 +84,27 @@ impl Symbol {
         }
     }
 
-    /// Adds what begins a function's parameters: the first of them may be its object.
+    /// The number of the text that begins a function's parameters: the first of them may be its object.
     // <nested-name> ::= N H <prefix> <unqualified-name> E
-    fn push_opening<S: PartList<Context>>(
-        &self,
-        parts: &mut S,
-        mark: Mark,
-        parameters: u32,
-        under: u32,
-        detail: Detail,
-    )
+    #[tactic(auto, unfolding(cpp_term::specs::Parts::begins_parameters))]
+    fn opening_number(&self, mark: Mark, parameters: u32, under: u32, detail: Detail) -> u16
         requires table { IsTable (table_of self.now) }
         requires parameters { parameters < length self.now.table.nodes }
         requires under { IsThereBelow (length self.now.table.nodes) (under_kept under) }
-        requires room { 0 < S.room parts.old }
-        ensures shows { (d : Detail) (below : Held Context) (others : List (PartOf items.Item)) → Shows self.now d below (S.held parts.old) others
-            → Shows self.now d below (S.held parts.new) (text (begins_parameters (mark_of mark) (type_shown self.now under parameters)) ∷ others) }
-        ensures room { S.room parts.old ≤ S.room parts.new + 1 }
+        ensures text { fixed_text result ≡ begins_parameters (mark_of mark) (type_shown self.now under parameters) }
+        ensures some { 0 < length (fixed_text result) }
     {
         match mark {
             Mark::ExplicitObject => {
                 let place = self.place(parameters, Context::of_types(detail, under));
                 match self.stored(place.node, place.ctx) {
-                    Node::Nil => self.push_text(parts, texts::LEFT),
-                    _ => self.push_text(parts, texts::LEFT_THIS),
+                    Node::Nil => texts::LEFT,
+                    _ => texts::LEFT_THIS,
                 }
             }
-            Mark::Any => self.push_text(parts, texts::LEFT),
-            Mark::Lvalue => self.push_text(parts, texts::LEFT),
-            Mark::Rvalue => self.push_text(parts, texts::LEFT),
+            Mark::Any => texts::LEFT,
+            Mark::Lvalue => texts::LEFT,
+            Mark::Rvalue => texts::LEFT,
         }
     }
 
@@ -139,7 +131,7 @@ impl Symbol {
         self.push_suffix(parts, qualifiers, mark, false);
         self.push_text(parts, texts::RIGHT);
         self.push_typed_list(parts, parameters, form::FIRST, under, detail);
-        self.push_opening(parts, mark, parameters, under, detail);
+        self.push_text(parts, self.opening_number(mark, parameters, under, detail));
         self.push_closed(parts, name, form::LEFT, detail);
     }
 
