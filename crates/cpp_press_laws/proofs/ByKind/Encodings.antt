@@ -10,7 +10,7 @@ use Rattle.sym_link.specs.Unfold.{found, unfold_tree}
 use Rattle.cpp_grammar.specs.declared.kind.Kind.{Kind}
 use Rattle.cpp_grammar.specs.declared.production.Production.{Production}
 use Rattle.cpp_grammar.specs.KindNumbers.{ENCODING, SPECIAL, SPECIAL_MARK, SPECIAL_AFTER_G, COMPLETE_NAME, ITEMS}
-use Rattle.cpp_grammar.specs.Grammar.{alternatives, choose, is_chain, number_of_kind, parts_of}
+use Rattle.cpp_grammar.specs.Grammar.{alternatives, choose, is_chain, number_of_kind, parts_of, number_of}
 use Rattle.cpp_grammar.specs.Table.{abi}
 use Rattle.cpp_grammar.specs.Term.{Thunk, Term, adjusting, covariant, non_virtual, by_table, symbol, function, of_name, thunk, nil, list, absent}
 use Rattle.cpp_grammar.specs.Scope.{has_return_type}
@@ -26,7 +26,7 @@ use Rattle.cpp_press_laws.proofs.ByKind.AbiTrees.{known, tree_good}
 use Rattle.cpp_press_laws.specs.Pressing.{is_encoding}
 use Rattle.cpp_press_laws.proofs.Components.Complete.{AllBefore}
 use Rattle.cpp_press_laws.specs.Fits.{item_type, IsSpellableThunk}
-use Rattle.cpp_press_laws.proofs.ByKind.Rules.{Opened, opened}
+use Rattle.cpp_press_laws.proofs.ByKind.Rules.{Opened, opened, by-name, IsAmong}
 use Rattle.cpp_press_laws.proofs.Fits.Lists.{IsList, ListFits}
 use Rattle.cpp_press_laws.proofs.Fits.Nests.{OwnNameFits}
 use Rattle.cpp_press_laws.proofs.Fits.Encodings.{AllAfter, AllShut}
@@ -34,7 +34,7 @@ use Rattle.cpp_press_laws.proofs.Fits.Symbols.{StaysBehind, WholeFits, guard-fit
 use Rattle.cpp_press_laws.proofs.Fits.Sorts.{Meant, Later}
 use Rattle.cpp_press_laws.proofs.Fits.Places.{Ended, ended-as}
 use Rattle.cpp_press_laws.proofs.ByKind.LeafKinds.{own-byte, only-at}
-use Rattle.cpp_press_laws.proofs.ByKind.Known.{EncodingRead, SpecialRead, KindRead, BranchRead, InFront, ShapeRead, opened-read, by-parts, OwnNameRead}
+use Rattle.cpp_press_laws.proofs.ByKind.Known.{EncodingRead, SpecialRead, KindRead, BranchRead, InFront, ShapeRead, opened-read, by-parts, OwnNameRead, one-read, OpenedRead}
 
 -- ## Candidates around an encoding and in it
 
@@ -250,13 +250,18 @@ special-read around at old v new front o =
 
 -- an encoding, where its parts were read so
 pub encoding-branch : BranchRead Kind.Encoding
-unfolding alternatives number_of_kind
+unfolding alternatives number_of_kind number_of
 encoding-branch rule taken parts all around at old v new front is e =
-    elim (opened ShapeRead Kind.Encoding rule taken parts all around at old (found (v ∷ []) new) is e) [
-      | inl o ↦ special-read around at old v new front o
-      | inr (inl o) ↦ guard-read around at old v new front o
-      | inr (inr o) ↦ function-read around at old v new front o
-    ]
+    let one = by-name (alternatives Kind.Encoding) (Opened ShapeRead Kind.Encoding around at old (found (v ∷ []) new))
+    (opened ShapeRead Kind.Encoding rule taken parts all around at old (found (v ∷ []) new) is e) in
+    arm one.0 one.1 one.2
+  where
+    arm : (p : Production) → IsAmong (alternatives Kind.Encoding) p → Opened ShapeRead Kind.Encoding around at old (found (v ∷ []) new) p
+        → KindRead Kind.Encoding around v old new
+    arm Production.Special here o = special-read around at old v new front o
+    arm Production.OtherSpecial here o = guard-read around at old v new front o
+    arm Production.Encoding here o = function-read around at old v new front o
+    arm p here o = absurd here
 
 -- ## What comes after a G
 
@@ -279,25 +284,29 @@ thunk-read around kind v old mid new good same one =
 
 -- a type's table and the like, and thunks, where their parts were read so
 pub special-branch : BranchRead Kind.Special
-unfolding alternatives parts_of between number_of_kind meaning part unfolding_.behind is_chain
+unfolding alternatives parts_of between number_of_kind meaning part unfolding_.behind is_chain number_of
 special-branch rule taken parts all around at old v new front is e =
-    elim (opened-read Kind.Special rule taken parts all around at old v new front is e) [
-      | inl o ↦
-          let same : byte_of o.taken ≡ o.byte = own-byte Production.SpecialType o.taken o.byte o.takes refl in
-          by-parts (λ w s. KindRead Kind.Special around w old s) Production.SpecialType tt tt o (λ w s type outer.
-          inl (byte_of o.taken, tree_of w, refl, omega (arith, same, o.small), ap (choose Kind.Special) same ∙ o.chosen, type Kind.Type refl outer))
-      | inr (inl o) ↦ by-parts (λ w s. KindRead Kind.Special around w old s) Production.NonVirtualThunk tt tt o (λ n s read b t mark w u one outer.
-          let offset = read Kind.Integer refl in
-          thunk-read around (adjusting (non_virtual (signed_of n))) w old t u offset.1 (mark.0 ∙ offset.0) (one Kind.Encoding refl))
-      | inr (inr (inl o)) ↦ by-parts (λ w s. KindRead Kind.Special around w old s) Production.VirtualThunk tt tt o
-          (λ n s read b t mark m u more c r end w q one outer.
-          let offset = read Kind.Integer refl in
-          let table = more Kind.Integer refl in
-          thunk-read around (adjusting (by_table (signed_of n) (signed_of m))) w old r q (offset.1, table.1)
-          (end.0 ∙ table.0 ∙ mark.0 ∙ offset.0) (one Kind.Encoding refl))
-      | inr (inr (inr o)) ↦ by-parts (λ w s. KindRead Kind.Special around w old s) Production.CovariantThunk tt tt o
-          (λ a s read b t more w u one outer.
-          let this = read Kind.CallOffset refl in
-          let result = more Kind.CallOffset refl in
-          thunk-read around (covariant (adjustment_of a) (adjustment_of b)) w old t u (this.1, result.1) (result.0 ∙ this.0) (one Kind.Encoding refl))
-    ]
+    let one = one-read Kind.Special rule taken parts all around at old v new front is e in
+    arm one.0 one.1 one.2
+  where
+    arm : (p : Production) → IsAmong (alternatives Kind.Special) p → OpenedRead Kind.Special around at old v new p
+        → KindRead Kind.Special around v old new
+    arm Production.SpecialType here o =
+        let same : byte_of o.taken ≡ o.byte = own-byte Production.SpecialType o.taken o.byte o.takes refl in
+        by-parts (λ w s. KindRead Kind.Special around w old s) Production.SpecialType tt tt o (λ w s type outer.
+        inl (byte_of o.taken, tree_of w, refl, omega (arith, same, o.small), ap (choose Kind.Special) same ∙ o.chosen, type Kind.Type refl outer))
+    arm Production.NonVirtualThunk here o = by-parts (λ w s. KindRead Kind.Special around w old s) Production.NonVirtualThunk tt tt o (λ n s read b t mark w u one outer.
+        let offset = read Kind.Integer refl in
+        thunk-read around (adjusting (non_virtual (signed_of n))) w old t u offset.1 (mark.0 ∙ offset.0) (one Kind.Encoding refl))
+    arm Production.VirtualThunk here o = by-parts (λ w s. KindRead Kind.Special around w old s) Production.VirtualThunk tt tt o
+        (λ n s read b t mark m u more c r end w q one outer.
+        let offset = read Kind.Integer refl in
+        let table = more Kind.Integer refl in
+        thunk-read around (adjusting (by_table (signed_of n) (signed_of m))) w old r q (offset.1, table.1)
+        (end.0 ∙ table.0 ∙ mark.0 ∙ offset.0) (one Kind.Encoding refl))
+    arm Production.CovariantThunk here o = by-parts (λ w s. KindRead Kind.Special around w old s) Production.CovariantThunk tt tt o
+        (λ a s read b t more w u one outer.
+        let this = read Kind.CallOffset refl in
+        let result = more Kind.CallOffset refl in
+        thunk-read around (covariant (adjustment_of a) (adjustment_of b)) w old t u (this.1, result.1) (result.0 ∙ this.0) (one Kind.Encoding refl))
+    arm p here o = absurd here

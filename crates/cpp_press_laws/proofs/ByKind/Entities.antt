@@ -3,7 +3,7 @@ use Rattle.std.proofs.Common.{◌≡◌, inl, inr, ℕ, [], Bool, true, false, r
 use Rattle.sym_shape.specs.declared.rule.Sym.TheVariants.{Kind as OfKind}
 use Rattle.cpp_grammar.specs.declared.kind.Kind.{Kind}
 use Rattle.cpp_grammar.specs.declared.production.Production.{Production}
-use Rattle.cpp_grammar.specs.Grammar.{alternatives, number_of_kind, parts_of}
+use Rattle.cpp_grammar.specs.Grammar.{alternatives, number_of_kind, parts_of, number_of}
 use Rattle.cpp_grammar.specs.Term.{any_value, Term, local, within, string_literal}
 use Rattle.cpp_grammar.specs.Values.{State, outermost, behind, Around, Value, unqualified, tree, tree_of, qualifiers_of, ref_of, mark_of, is_there, is_listed, part}
 use Rattle.cpp_grammar.specs.References.{is_function_type, with_type, with_unqualified}
@@ -21,8 +21,9 @@ use Rattle.cpp_press_laws.proofs.Fits.Locals.{local-typed, local-own}
 use Rattle.cpp_press_laws.proofs.Fits.Sorts.{KindFits}
 use Rattle.cpp_press_laws.proofs.Fits.Own.{piece-entity}
 use Rattle.cpp_press_laws.proofs.ByKind.Pieces.{string-literal-fits, type-begins, begins-entity}
-use Rattle.cpp_press_laws.proofs.ByKind.Known.{EncodingRead, KindRead, BranchRead, InFront, OpenedRead, opened-read, by-parts}
+use Rattle.cpp_press_laws.proofs.ByKind.Known.{EncodingRead, KindRead, BranchRead, InFront, OpenedRead, by-parts, one-read}
 use Rattle.cpp_press_laws.proofs.ByKind.Pieced.{PieceRead, renamed, source-comes, internal-comes, local-type-comes}
+use Rattle.cpp_press_laws.proofs.ByKind.Rules.{IsAmong}
 
 -- ## Entities and their discriminators
 
@@ -179,15 +180,10 @@ type-reads around t old new one = one
 
 -- an entity that a name ends in, where its parts were read so
 pub entity-branch : BranchRead Kind.Entity
-unfolding alternatives
+unfolding alternatives number_of
 entity-branch rule taken parts all around at old v new front is e =
-    elim (opened-read Kind.Entity rule taken parts all around at old v new front is e) [
-      | inl o ↦ string-read around at old v new o
-      | inr (inl o) ↦ nested-entity-read around at old v new o
-      | inr (inr (inl o)) ↦ piece (internal-comes Kind.Entity around at old v new o)
-      | inr (inr (inr (inl o))) ↦ typed (local-type-comes Kind.Entity around at old v new o)
-      | inr (inr (inr (inr o))) ↦ typed (source-comes Kind.Entity around at old v new o)
-    ]
+    let one = one-read Kind.Entity rule taken parts all around at old v new front is e in
+    arm one.0 one.1 one.2
   where
     piece : PieceRead begins_name around v old new → KindRead Kind.Entity around v old new
     piece o = entity-piece Kind.Entity plain_name name-pieces name-reads around v old new o
@@ -195,19 +191,32 @@ entity-branch rule taken parts all around at old v new front is e =
     typed : PieceRead names_type around v old new → KindRead Kind.Entity around v old new
     typed o = piece (renamed names_type begins_name around v old new type-begins o)
 
+    arm : (p : Production) → IsAmong (alternatives Kind.Entity) p → OpenedRead Kind.Entity around at old v new p
+        → KindRead Kind.Entity around v old new
+    arm Production.StringLiteral here o = string-read around at old v new o
+    arm Production.NestedName here o = nested-entity-read around at old v new o
+    arm Production.InternalName here o = piece (internal-comes Kind.Entity around at old v new o)
+    arm Production.LocalTypeName here o = typed (local-type-comes Kind.Entity around at old v new o)
+    arm Production.SourceName here o = typed (source-comes Kind.Entity around at old v new o)
+    arm p here o = absurd here
+
 -- a type in the scope of an encoding, where its parts were read so
 pub type-entity-branch : BranchRead Kind.TypeEntity
-unfolding alternatives
+unfolding alternatives number_of
 type-entity-branch rule taken parts all around at old v new front is e =
-    elim (opened-read Kind.TypeEntity rule taken parts all around at old v new front is e) [
-      | inl o ↦ nested-type-read around at old v new o
-      | inr (inl o) ↦ piece (internal-comes Kind.TypeEntity around at old v new o)
-      | inr (inr (inl o)) ↦ typed (local-type-comes Kind.TypeEntity around at old v new o)
-      | inr (inr (inr o)) ↦ typed (source-comes Kind.TypeEntity around at old v new o)
-    ]
+    let one = one-read Kind.TypeEntity rule taken parts all around at old v new front is e in
+    arm one.0 one.1 one.2
   where
     piece : PieceRead begins_name around v old new → KindRead Kind.TypeEntity around v old new
     piece o = entity-piece Kind.TypeEntity in_type type-pieces type-reads around v old new o
 
     typed : PieceRead names_type around v old new → KindRead Kind.TypeEntity around v old new
     typed o = piece (renamed names_type begins_name around v old new type-begins o)
+
+    arm : (p : Production) → IsAmong (alternatives Kind.TypeEntity) p → OpenedRead Kind.TypeEntity around at old v new p
+        → KindRead Kind.TypeEntity around v old new
+    arm Production.NestedType here o = nested-type-read around at old v new o
+    arm Production.InternalName here o = piece (internal-comes Kind.TypeEntity around at old v new o)
+    arm Production.LocalTypeName here o = typed (local-type-comes Kind.TypeEntity around at old v new o)
+    arm Production.SourceName here o = typed (source-comes Kind.TypeEntity around at old v new o)
+    arm p here o = absurd here

@@ -34,7 +34,7 @@ use Rattle.cpp_press_laws.specs.Spellable.{IsSpellableName, IsSpellableNumber, A
 use Rattle.cpp_press_laws.proofs.ByKind.Leaves.{name-read}
 use Rattle.cpp_press_laws.proofs.ByKind.LeafKinds.{byte-read, number-read}
 use Rattle.cpp_press_laws.proofs.ByKind.Steps.{lambdas-go}
-use Rattle.cpp_press_laws.proofs.ByKind.Rules.{AllOf, OneOf, picked-one, Opened, opened, OnGoing, PartGoes, PartsGo}
+use Rattle.cpp_press_laws.proofs.ByKind.Rules.{AllOf, OneOf, OneAmong, by-name, picked-one, Opened, opened, OnGoing, PartGoes, PartsGo}
 use Rattle.cpp_press_laws.proofs.Fits.Read.{Wherever}
 use Rattle.cpp_press_laws.proofs.Fits.Types.{TypeFits}
 use Rattle.cpp_press_laws.proofs.Fits.Names.{PrefixFits, PieceFits}
@@ -413,6 +413,18 @@ opened-read kind rule taken parts all around at old v new front is e =
     each (a ∷ []) o = opened-as kind around at old v new (OfKind (number_of_kind kind)) front a.production o
     each (a ∷ b ∷ rest) (inl o) = inl (opened-as kind around at old v new (OfKind (number_of_kind kind)) front a.production o)
     each (a ∷ b ∷ rest) (inr o) = inr (each (b ∷ rest) o)
+
+-- what one of a kind's productions was read as, by the production's name
+abbrev pub OneRead : Kind → Around → (at : ℕ) → (old : State) → Value → (new : State) → Type 0
+OneRead kind around at old v new = OneAmong (alternatives kind) (OpenedRead kind around at old v new)
+
+pub one-read : (kind : Kind) (rule : Rule) (taken : List ℕ) (parts : Forest) → AllOf ShapeRead parts
+    → (around : Around) (at : ℕ) (old : State)
+    (v : Value) (new : State) → InFront (OfKind (number_of_kind kind)) around at old
+    → IsTree abi (OfKind (number_of_kind kind)) (branch rule taken parts)
+    → unfold_tree cpp around at (branch rule taken parts) old ≡ Ok (found (v ∷ []) new) → OneRead kind around at old v new
+one-read kind rule taken parts all around at old v new front is e =
+    by-name (alternatives kind) (OpenedRead kind around at old v new) (opened-read kind rule taken parts all around at old v new front is e)
 
 -- what one kind takes at each byte another one does
 pub taken-as : (j k : Kind) → each_below 256 (λ b. same_choice (choose j b) (choose k b)) ≡ true
