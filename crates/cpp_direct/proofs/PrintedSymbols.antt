@@ -47,6 +47,15 @@ nothing-opens lvalue_only = refl
 nothing-opens rvalue_only = refl
 nothing-opens explicit_object = refl
 
+-- no mark is that of a function with an explicit object, so a parenthesis begins the parameters
+pub never-explicit : (mark : Mark) → called_on mark ≢ explicit_object
+never-explicit marks.Plain e = cc e
+never-explicit marks.Const e = cc e
+never-explicit marks.Lvalue e = cc e
+never-explicit marks.ConstLvalue e = cc e
+never-explicit marks.Rvalue e = cc e
+never-explicit marks.ConstRvalue e = cc e
+
 pub mark-opens : (mark : Mark) (items : Term) → begins_parameters (called_on mark) items ≡ codes "("
 unfolding begins_parameters
 mark-opens marks.Plain items = refl

@@ -197,7 +197,7 @@ names_read s first second depth later front are first_is second_is later_is suff
     let opened_ = symbol-starts s there.0 in
     let encoding = encoding-opens s opened_.inner first_around 2 first_state opened_.awaits in
     let around = in_name 2 in
-    let nest = name-nested s encoding.inner around false any_value 2 first_state encoding.awaits there.1 in
+    let nest = name-nested s encoding.inner around false any_value 2 first_state (λ e. cc e) encoding.awaits there.1 in
     let one = nest-source s nest.inner around 3 first_state first.bytes at refl nest.awaits (name_here s.bytes 3 first are first_is) in
     let t = alone (source false first.bytes) in
     let next = one_name s Kind.NestRestAlone nest.inner around t at first_state second.bytes to tt one (name_here s.bytes at second are (ap name_in (sym moved) ∙ second_is)) in
