@@ -34,7 +34,7 @@ one_name s kind outer around t at st name end rest goes is =
     let now = with_candidate around t st in
     let u = within t (source false name) in
     let next = component-awaits s kind goes.inner around t false at st rest goes.awaits in
-    let named = component-source s next.inner around t at now name end next.awaits is in
+    let named = component-source s next.inner around t next.listed at now name end next.awaits is in
     let tail = next.onward u end now (named.bare end now (expects-empty s Kind.MaybeArguments (after u false around) named.inner end now named.awaits refl)) in
     record { inner = tail.inner; awaits = tail.awaits; passes = λ v here then_ comes. goes.passes v here then_ (tail.passes v here then_ comes) }
 
