@@ -24,76 +24,65 @@ pub enum Expected {
     QualifiedAt(u32),
 }
 
-/// How the candidates so far are counted.
+/// Which lists are left, and what is expected.
 #[derive(Clone, Copy)]
 pub struct Counting {
-    /// The number of candidates that aren't in the longer list.
-    pub not_longer: u32,
-    /// The number of those that aren't in the shorter list.
-    pub not_shorter: u32,
-    /// By whom the longer list is counted.
-    pub by: Counted,
     pub lists: Lists,
     pub expected: Expected,
 }
 
-/// Nothing is counted so far.
+/// Both lists are left, and nothing is expected.
 pub const NOTHING_COUNTED: Counting = Counting {
-    not_longer: 0,
-    not_shorter: 0,
-    by: Counted::ByAll,
     lists: Lists::Both,
     expected: Expected::Anything,
 };
 
-impl Counting {
-    /// Whether both lists are the same so far.
-    #[inline(always)]
-    pub fn is_one_list(self) -> bool {
-        self.not_shorter == 0
-    }
-}
-
 impl Expected {
     /// Whether the `S` at this place is what a nested name begins with.
-    #[tactic(auto, unfolding(crate::specs::Counting::expected_of))]
+    #[tactic(auto, unfolding(crate::specs::Counting::expected_of, cpp_grammar::specs::Rescoping::is_prefix_at))]
     pub fn is_prefix_at(self, place: u32) -> bool
         ensures { result ≡ rescoping.is_prefix_at place (expected_of self) }
     {
         match self {
+            Expected::Anything => false,
             Expected::PrefixAt(at) => at == place,
-            _ => false,
+            Expected::QualifiedAt(_) => false,
         }
     }
 
     /// Whether the `S` at this place is a type under qualifiers.
-    #[tactic(auto, unfolding(crate::specs::Counting::expected_of))]
+    #[tactic(auto, unfolding(crate::specs::Counting::expected_of, cpp_grammar::specs::Rescoping::is_qualified_at))]
     pub fn is_qualified_at(self, place: u32) -> bool
         ensures { result ≡ rescoping.is_qualified_at place (expected_of self) }
     {
         match self {
+            Expected::Anything => false,
+            Expected::PrefixAt(_) => false,
             Expected::QualifiedAt(at) => at == place,
-            _ => false,
         }
     }
 }
 
 /// The lists that are left where the two name two candidates, by whether each of these fits.
-#[tactic(auto, unfolding(crate::specs::Counting::lists_of))]
+#[tactic(auto, unfolding(crate::specs::Counting::lists_of, cpp_grammar::specs::Rescoping::left))]
 pub fn left(lists: Lists, longer_fits: bool, shorter_fits: bool) -> Lists
     ensures { lists_of result ≡ rescoping.left (lists_of lists) longer_fits shorter_fits }
 {
     match lists {
         Lists::Both => {
-            if longer_fits == shorter_fits {
-                return Lists::Neither;
-            }
             if longer_fits {
-                Lists::Longer
-            } else {
-                Lists::Shorter
+                if shorter_fits {
+                    return Lists::Neither;
+                }
+                return Lists::Longer;
             }
+            if shorter_fits {
+                return Lists::Shorter;
+            }
+            Lists::Neither
         }
-        _ => lists,
+        Lists::Longer => Lists::Longer,
+        Lists::Shorter => Lists::Shorter,
+        Lists::Neither => Lists::Neither,
     }
 }

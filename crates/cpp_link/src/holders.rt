@@ -12,7 +12,8 @@ ghost use Rattle.sym_link.specs.Threads.{IsOpenAt};
 ghost use Rattle.sym_link.specs.Unfold.{found};
 ghost use Rattle.cpp_grammar.specs.declared.production.Production.TheVariants as productions;
 ghost use Rattle.cpp_grammar.specs.Unfolding.{production_at};
-ghost use Rattle.cpp_term.specs.Rescoping.{counted_base, is_counted_alike, is_instance, is_last_counted, named_alike};
+ghost use Rattle.cpp_grammar.specs.Values.{by_gcc};
+ghost use Rattle.cpp_term.specs.Rescoping.{counted_base, is_instance, can_be_named};
 ghost use Rattle.cpp_term.specs.Values.{State, Around, part};
 ghost use Rattle.cpp_tree.specs.Nodes.{over, tree_at, bytes_at, IsThereBelow, IsWithin, IsTable};
 ghost use Rattle.cpp_link.specs.Closes.{ends_of};
@@ -23,7 +24,9 @@ ghost use Rattle.cpp_link.specs.Making.{state_of};
 ghost use Rattle.cpp_link.specs.NodeCount.{makes_at_end};
 ghost use Rattle.cpp_link.specs.Parts.{trees_in, value_in, values_in, around_of, candidates_of, IsClosed, IsThere, AreThere, IsKeptThere, AreCandidatesThere};
 ghost use Rattle.cpp_link.specs.Progress.{Finishes, MakesPart};
-ghost use Rattle.cpp_link.specs.Reads.{instance_node, last_if, maybe_candidate, with_candidate};
+ghost use Rattle.cpp_link.specs.Counting.{expected_of, is_one_place};
+ghost use Rattle.cpp_link.specs.Naming.{IsNamed};
+ghost use Rattle.cpp_link.specs.Reads.{instance_node, node_fits, maybe_candidate, with_candidate};
 ghost use Rattle.cpp_link.specs.View.{IsPaid, IsWhole, cpp_view};
 
 use crate::counting::{Counted, Lists, left};
@@ -49,11 +52,30 @@ fn is_instance_node(node: Node) -> bool
     }
 }
 
+/// Whether a node fits as what an `S` names, before a nested name or under qualifiers.
+#[tactic(auto, unfolding(crate::specs::Reads::node_fits))]
+fn node_fits(node: Node, is_prefix: bool, is_qualified: bool) -> bool
+    ensures { result ≡ node_fits node is_prefix is_qualified }
+{
+    match node {
+        Node::Holder(_) => is_prefix,
+        Node::Lvalue(_) => !is_qualified,
+        Node::Rvalue(_) => !is_qualified,
+        _ => true,
+    }
+}
+
 /// Whether both lists have the same candidate.
-fn is_one_place(longer: Option<u32>, shorter: Option<u32>) -> bool {
-    match (longer, shorter) {
-        (Some(at), Some(other)) => at == other,
-        _ => false,
+#[tactic(auto, unfolding(crate::specs::Counting::is_one_place))]
+fn is_one_place(longer: Option<usize>, shorter: Option<usize>) -> bool
+    ensures { result ≡ is_one_place longer shorter }
+{
+    match longer {
+        Some(at) => match shorter {
+            Some(other) => at == other,
+            None => false,
+        },
+        None => false,
     }
 }
 
@@ -67,86 +89,83 @@ impl Linked {
         is_instance_node(opened(&self.nodes, symbol, node).node)
     }
 
-    /// The place among all candidates of the one that has this number in the longer list.
-    fn longer_place(&self, number: u64) -> Option<u32> {
-        let count = self.candidates.len() - self.counting.not_longer as usize;
-        if number < count as u64 {
-            return Some(self.candidates[number as usize].longer);
-        }
-        None
-    }
-
-    /// The place among all candidates of the one that has this number in the shorter list.
-    fn shorter_place(&self, number: u64) -> Option<u32> {
-        let count = self.candidates.len() - self.counting.not_shorter as usize;
-        if number < count as u64 {
-            return Some(self.candidates[number as usize].shorter);
-        }
-        None
-    }
-
     /// The candidate at a place, if there is one.
-    fn candidate_at(&self, place: Option<u32>) -> Option<Candidate> {
+    fn candidate_at(&self, place: Option<usize>) -> Option<Candidate>
+        ensures { (k : ℕ) → MatchOption place (length self.now.candidates.list.items ≤ k) (λ at. (at ≡ k) × (at < length self.now.candidates.list.items)) → result ≡ slice_get self.now.candidates.list.items k }
+    {
         match place {
-            Some(at) => numbered(&self.candidates, Some(u64::from(at))),
+            Some(at) => match self.candidates.list.get(at) {
+                Some(candidate) => Some(*candidate),
+                None => None,
+            },
             None => None,
         }
     }
 
     /// Whether a list has a candidate for the `S` at this place, and its form fits there.
-    fn can_be_named(&self, symbol: &[u8], place: u32, candidate: Option<Candidate>) -> bool {
+    fn can_be_named(&self, symbol: &[u8], place: u32, candidate: Option<Candidate>) -> bool
+        requires table { IsTable (over symbol.now self.now.nodes) }
+        requires there { IfSome candidate (λ c. c.node < length self.now.nodes.nodes) }
+        ensures { result ≡ can_be_named (expected_of self.now.counting.expected) place (maybe_candidate (trees_in symbol.now self.now.nodes) candidate) }
+    {
         let Some(c) = candidate else {
             return false;
         };
-        match opened(&self.nodes, symbol, c.node).node {
-            Node::Holder(_) => self.counting.expected.is_prefix_at(place),
-            Node::Lvalue(_) => !self.counting.expected.is_qualified_at(place),
-            Node::Rvalue(_) => !self.counting.expected.is_qualified_at(place),
-            _ => true,
-        }
+        let is_prefix = self.counting.expected.is_prefix_at(place);
+        let is_qualified = self.counting.expected.is_qualified_at(place);
+        node_fits(
+            opened(&self.nodes, symbol, c.node).node,
+            is_prefix,
+            is_qualified,
+        )
     }
 
-    /// The candidate that these digits name, and the lists that are left then.
-    fn named_apart(&self, symbol: &[u8], place: u32, number: u64) -> (Option<Candidate>, Lists) {
-        let longer_at = self.longer_place(number);
-        let shorter_at = self.shorter_place(number);
+    /// The candidate that this number names at this place, and the lists that are left then.
+    fn named_apart(&self, symbol: &[u8], place: u32, number: u64) -> (Option<Candidate>, Lists)
+        requires table { IsTable (over symbol.now self.now.nodes) }
+        requires candidates { AreCandidatesThere (length self.now.nodes.nodes) self.now.candidates }
+        ensures named { IsNamed symbol.now self.now place number result.0 result.1 }
+    {
+        let longer_at = self.candidates.longer_place(number);
+        let shorter_at = self.candidates.shorter_place(number);
         let longer = self.candidate_at(longer_at);
         if is_one_place(longer_at, shorter_at) {
             return (longer, self.counting.lists);
         }
-        if self.counting.by.is_by_some() {
+        if self.candidates.by.is_by_some() {
             return (None, Lists::Neither);
         }
         let shorter = self.candidate_at(shorter_at);
-        let lists = left(
-            self.counting.lists,
-            self.can_be_named(symbol, place, longer),
-            self.can_be_named(symbol, place, shorter),
-        );
-        match lists {
-            Lists::Longer => (longer, lists),
-            Lists::Shorter => (shorter, lists),
-            _ => (None, lists),
+        let longer_fits = self.can_be_named(symbol, place, longer);
+        let shorter_fits = self.can_be_named(symbol, place, shorter);
+        match left(self.counting.lists, longer_fits, shorter_fits) {
+            Lists::Longer => (longer, Lists::Longer),
+            Lists::Shorter => (shorter, Lists::Shorter),
+            Lists::Both => (None, Lists::Both),
+            Lists::Neither => (None, Lists::Neither),
         }
     }
 
-    /// The candidate that these digits name, and the lists that are left then.
+    /// The candidate that these digits name at this place, and the lists that are left then.
     pub(crate) fn named_by_lists(
         &self,
         symbol: &[u8],
         place: u32,
         digits: Span,
     ) -> (Option<Candidate>, Lists)
+        requires table { IsTable (over symbol.now self.now.nodes) }
         requires digits { IsWithin digits symbol.now }
-        requires candidates { AreCandidatesThere (length self.now.nodes.nodes) self.now.candidates.items }
+        requires candidates { AreCandidatesThere (length self.now.nodes.nodes) self.now.candidates }
+        ensures named { IsNamed symbol.now self.now place (counted_value kinds.Seq36 (bytes_at symbol.now digits)) result.0 result.1 }
     {
         let counted = value36(&symbol[digits.from as usize..digits.to as usize]);
-        if self.counting.is_one_list() {
-            return (numbered(&self.candidates, counted), self.counting.lists);
+        let named = numbered(&self.candidates.list, counted);
+        if self.candidates.is_one_list() {
+            return (named, self.counting.lists);
         }
         match counted {
             Some(number) => self.named_apart(symbol, place, number),
-            None => (None, Lists::Neither),
+            None => (named, self.counting.lists),
         }
     }
 
@@ -156,7 +175,7 @@ impl Linked {
     fn base_to_count(&self, symbol: &[u8], base: Part) -> Option<u32>
         requires table { IsTable (over symbol.now self.now.nodes) }
         requires there { IsThere symbol.now (length self.now.nodes.nodes) base }
-        ensures is { (around : Around) (state : State) → counted_base around (value_in symbol.now self.now.nodes base) state ≡ with_candidate true around (trees_in symbol.now self.now.nodes) result (with_candidate false around (trees_in symbol.now self.now.nodes) result state) }
+        ensures is { (around : Around) (state : State) → counted_base around (value_in symbol.now self.now.nodes base) state ≡ with_candidate by_gcc around (trees_in symbol.now self.now.nodes) result state }
         ensures there { IsThereBelow (length self.now.nodes.nodes) result }
     {
         match base {
@@ -217,7 +236,7 @@ impl Linked {
         requires open { IsOpenAt (cpp_view symbol.now) symbol.now self.old frame.now parts.old.items }
         requires base { frame.now.base ≤ length parts.old.items }
         requires place { frame.now.place < length symbol.now }
-        ensures { Finishes (wide_view symbol.now) (wide_ends symbol.now self.old frame.now.kept) symbol.now self.old self.new frame.now parts.old parts.new result }
+        ensures { Finishes (wide_view symbol.now) (wide_ends symbol.now self.old frame.now.place frame.now.kept) symbol.now self.old self.new frame.now parts.old parts.new result }
     {
         let made = self.close_inheriting(symbol, frame.place, frame.kept, &parts[frame.base..])?;
         put(parts, frame.base, made)

@@ -6,23 +6,27 @@ ghost use Rattle.sym_link.specs.Threads.{IsTaken};
 ghost use Rattle.cpp_term.specs.Unfolding.{first_state};
 ghost use Rattle.cpp_term.specs.Term.{Term};
 ghost use Rattle.cpp_tree.specs.Nodes.{IsThereBelow, tree_at};
-ghost use Rattle.cpp_link.specs.Parts.{AreCandidatesThere};
+ghost use Rattle.cpp_term.specs.Values.{State};
+ghost use Rattle.cpp_references.specs.Around.{counted_of};
+ghost use Rattle.cpp_link.specs.Counting.{candidate_by};
+ghost use Rattle.cpp_link.specs.Parts.{trees_in, around_of, candidates_of, AreCandidatesThere};
+ghost use Rattle.cpp_link.specs.Reads.{with_candidate, with_candidates};
 ghost use Rattle.cpp_link.specs.View.{Holds, IsPaid, cpp_view};
 ghost use Rattle.cpp_link.specs.Room.{KeepsRoom, LacksRoom};
 
+use crate::candidates::Candidates;
 use crate::counting::{Counted, Counting, NOTHING_COUNTED};
-use crate::part::{Candidate, Part, Surroundings};
+use crate::part::{Part, Surroundings};
 use cpp_tree::Nodes;
 use std::alloc::Global;
 use sym_core::{Refusal, Span};
-use sym_link::parts::push_part;
 use sym_shape::rule::Row;
 
 /// The nodes of a symbol, the trees that a substitution may name, and the length of the packs under the innermost expansion.
 #[derive(Drop)]
 pub struct Linked {
     pub nodes: Nodes,
-    pub candidates: Vec<Candidate>,
+    pub candidates: Candidates,
     pub packs: Option<u32>,
     pub counting: Counting,
 }
@@ -32,7 +36,7 @@ impl Linked {
     pub fn new(alloc: Global) -> Linked {
         Linked {
             nodes: Nodes::new(alloc),
-            candidates: Vec::new(alloc),
+            candidates: Candidates::new(alloc),
             packs: None,
             counting: NOTHING_COUNTED,
         }
@@ -57,38 +61,6 @@ impl Linked {
         Ok(())
     }
 
-    /// The last candidate, which all compilers count, is in both lists.
-    fn count_by_all(&mut self, own: usize) {
-        let longer = own - self.counting.not_longer as usize;
-        let shorter = own - self.counting.not_shorter as usize;
-        self.candidates[longer].longer = own as u32;
-        self.candidates[shorter].shorter = own as u32;
-    }
-
-    /// The last candidate, which these compilers count, is in the longer list. A name with its `M` takes the place of the one before it,
-    /// which is in neither list.
-    fn count_by_some(&mut self, own: usize, counted: Counted) {
-        if counted.is_by_newer() {
-            self.counting.not_longer += 1;
-            self.counting.not_shorter += 1;
-        }
-        self.counting.not_shorter += 1;
-        self.counting.by = self.counting.by.joined(counted);
-        let longer = own - self.counting.not_longer as usize;
-        self.candidates[longer].longer = own as u32;
-    }
-
-    /// The last candidate is counted by these compilers.
-    #[inline(always)]
-    fn count(&mut self, own: usize, counted: Counted) {
-        if !counted.is_by_all() {
-            return self.count_by_some(own, counted);
-        }
-        if !self.counting.is_one_list() {
-            self.count_by_all(own);
-        }
-    }
-
     /// A tree becomes a candidate, which is counted by these compilers.
     ///
     /// # Errors
@@ -102,25 +74,17 @@ impl Linked {
         counted: Counted,
     ) -> Result<(), Refusal>
         requires below { node < length self.old.nodes.nodes }
-        requires there { AreCandidatesThere (length self.old.nodes.nodes) self.old.candidates.items }
+        requires there { AreCandidatesThere (length self.old.nodes.nodes) self.old.candidates }
         ensures nodes { self.new.nodes ≡ self.old.nodes }
         ensures packs { self.new.packs ≡ self.old.packs }
-        ensures there { OnOk result (AreCandidatesThere (length self.old.nodes.nodes) self.new.candidates.items) }
+        ensures counting { self.new.counting ≡ self.old.counting }
+        ensures there { OnOk result (AreCandidatesThere (length self.old.nodes.nodes) self.new.candidates) }
+        ensures is { OnOk result ((ts : List Term) → candidates_of ts self.new.candidates.list.items ≡ candidates_of ts self.old.candidates.list.items ++ candidate_by ts kept node counted ∷ []) }
         ensures memory { IfErr result (λ e. e ≡ refusals.Memory) }
         ensures keeps { KeepsRoom self.old self.new }
         ensures full { OnErr result (LacksRoom self.old self.new) }
     {
-        let own = self.candidates.len();
-        let candidate = Candidate {
-            node,
-            encoding: kept.encoding,
-            longer: own as u32,
-            shorter: own as u32,
-            in_lambda: kept.in_lambda(),
-            counted,
-        };
-        push_part(&mut self.candidates, candidate)?;
-        self.count(own, counted);
+        self.candidates.push(kept, node, counted)?;
         Ok(())
     }
 
@@ -138,10 +102,14 @@ impl Linked {
         counted: Counted,
     ) -> Result<(), Refusal>
         requires candidate { IsThereBelow (length self.old.nodes.nodes) candidate }
-        requires there { AreCandidatesThere (length self.old.nodes.nodes) self.old.candidates.items }
+        requires there { AreCandidatesThere (length self.old.nodes.nodes) self.old.candidates }
         ensures nodes { self.new.nodes ≡ self.old.nodes }
         ensures packs { self.new.packs ≡ self.old.packs }
-        ensures there { OnOk result (AreCandidatesThere (length self.old.nodes.nodes) self.new.candidates.items) }
+        ensures counting { self.new.counting ≡ self.old.counting }
+        ensures there { OnOk result (AreCandidatesThere (length self.old.nodes.nodes) self.new.candidates) }
+        ensures is { OnOk result ((state : State) → with_candidate (counted_of counted) (around_of (trees_in symbol.now self.old.nodes) kept) (trees_in symbol.now self.old.nodes) candidate
+            (record state { candidates = candidates_of (trees_in symbol.now self.old.nodes) self.old.candidates.list.items })
+            ≡ record state { candidates = candidates_of (trees_in symbol.now self.old.nodes) self.new.candidates.list.items }) }
         ensures memory { IfErr result (λ e. e ≡ refusals.Memory) }
         ensures keeps { KeepsRoom self.old self.new }
         ensures full { OnErr result (LacksRoom self.old self.new) }
@@ -153,6 +121,42 @@ impl Linked {
                 Ok(())
             }
         }
+    }
+
+    /// A tree becomes a candidate, which is counted by these compilers, or none does. It may become one before that which all count.
+    ///
+    /// # Errors
+    ///
+    /// `Memory` where the candidates couldn't grow.
+    #[tactic(auto, unfolding(crate::specs::Reads::with_candidates))]
+    pub(crate) fn append_again(
+        &mut self,
+        symbol: &[u8],
+        kept: Surroundings,
+        candidate: Option<u32>,
+        again: bool,
+        counted: Counted,
+    ) -> Result<(), Refusal>
+        requires candidate { IsThereBelow (length self.old.nodes.nodes) candidate }
+        requires there { AreCandidatesThere (length self.old.nodes.nodes) self.old.candidates }
+        ensures nodes { self.new.nodes ≡ self.old.nodes }
+        ensures packs { self.new.packs ≡ self.old.packs }
+        ensures counting { self.new.counting ≡ self.old.counting }
+        ensures there { OnOk result (AreCandidatesThere (length self.old.nodes.nodes) self.new.candidates) }
+        ensures is { OnOk result ((state : State) → with_candidates again (counted_of counted) (around_of (trees_in symbol.now self.old.nodes) kept) (trees_in symbol.now self.old.nodes) candidate
+            (record state { candidates = candidates_of (trees_in symbol.now self.old.nodes) self.old.candidates.list.items })
+            ≡ record state { candidates = candidates_of (trees_in symbol.now self.old.nodes) self.new.candidates.list.items }) }
+        ensures memory { IfErr result (λ e. e ≡ refusals.Memory) }
+        ensures keeps { KeepsRoom self.old self.new }
+        ensures full { OnErr result (LacksRoom self.old self.new) }
+    {
+        if !again {
+            self.append(symbol, kept, candidate, counted)?;
+            return Ok(());
+        }
+        self.append(symbol, kept, candidate, Counted::ByAll)?;
+        self.append(symbol, kept, candidate, counted)?;
+        Ok(())
     }
 
     /// What a token denotes.

@@ -34,7 +34,7 @@ impl Linked {
         requires table { IsTable (over symbol.now self.now.nodes) }
         requires kept { IsKeptThere (length self.now.nodes.nodes) kept }
         requires own { production ≡ productions.HeldArguments → ⊥ }
-        ensures is { (cs : List values.Candidate) → between production (around_of (trees_in symbol.now self.now.nodes) kept) place [] (record { candidates = cs; packs = self.now.packs }) ≡ goes_on symbol.now self.now.nodes kept [] cs self.now.packs result }
+        ensures is { (state : values.State) → between production (around_of (trees_in symbol.now self.now.nodes) kept) place [] (record state { packs = self.now.packs }) ≡ goes_on symbol.now self.now.nodes kept [] state self.now.packs result }
         ensures there { IsStepThere symbol.now (length self.now.nodes.thunks) (length self.now.nodes.nodes) result }
         ensures of { (held : ℕ) → IsStepOf production held result }
         ensures makes { nodes_of_step result ≡ makes_before production [] }
@@ -156,7 +156,7 @@ impl Linked {
         requires type_tag { production ≡ productions.TypeTag → ⊥ }
         requires operator_reference { production ≡ productions.OperatorReference → ⊥ }
         requires simple_id { production ≡ productions.SimpleId → ⊥ }
-        ensures is { (cs : List values.Candidate) → between production (around_of (trees_in symbol.now self.now.nodes) kept) place (value_in symbol.now self.now.nodes first ∷ []) (record { candidates = cs; packs = self.now.packs }) ≡ goes_on symbol.now self.now.nodes kept (value_in symbol.now self.now.nodes first ∷ []) cs self.now.packs result }
+        ensures is { (state : values.State) → between production (around_of (trees_in symbol.now self.now.nodes) kept) place (value_in symbol.now self.now.nodes first ∷ []) (record state { packs = self.now.packs }) ≡ goes_on symbol.now self.now.nodes kept (value_in symbol.now self.now.nodes first ∷ []) state self.now.packs result }
         ensures there { IsStepThere symbol.now (length self.now.nodes.thunks) (length self.now.nodes.nodes) result }
         ensures of { IsStepOf production 1 result }
         ensures makes { nodes_of_step result ≡ makes_before production (value_in symbol.now self.now.nodes first ∷ []) }
@@ -290,7 +290,7 @@ impl Linked {
         requires of_concept { production ≡ productions.OfConcept → ⊥ }
         requires named_concept { production ≡ productions.NamedConcept → ⊥ }
         requires unresolved_in_type { production ≡ productions.UnresolvedInType → ⊥ }
-        ensures is { (cs : List values.Candidate) → between production (around_of (trees_in symbol.now self.now.nodes) kept) place (value_in symbol.now self.now.nodes first ∷ []) (record { candidates = cs; packs = self.now.packs }) ≡ goes_on symbol.now self.now.nodes kept (value_in symbol.now self.now.nodes first ∷ []) cs self.now.packs result }
+        ensures is { (state : values.State) → between production (around_of (trees_in symbol.now self.now.nodes) kept) place (value_in symbol.now self.now.nodes first ∷ []) (record state { packs = self.now.packs }) ≡ goes_on symbol.now self.now.nodes kept (value_in symbol.now self.now.nodes first ∷ []) state self.now.packs result }
         ensures there { IsStepThere symbol.now (length self.now.nodes.thunks) (length self.now.nodes.nodes) result }
         ensures of { IsStepOf production 1 result }
         ensures makes { nodes_of_step result ≡ makes_before production (value_in symbol.now self.now.nodes first ∷ []) }
@@ -354,7 +354,7 @@ impl Linked {
         requires pack_argument { production ≡ productions.PackArgument → ⊥ }
         requires parameter_argument { production ≡ productions.ParameterArgument → ⊥ }
         requires parameter_expression { production ≡ productions.ParameterExpression → ⊥ }
-        ensures is { (cs : List values.Candidate) → between production (around_of (trees_in symbol.now self.now.nodes) kept) place (value_in symbol.now self.now.nodes first ∷ []) (record { candidates = cs; packs = self.now.packs }) ≡ goes_on symbol.now self.now.nodes kept (value_in symbol.now self.now.nodes first ∷ []) cs self.now.packs result }
+        ensures is { (state : values.State) → between production (around_of (trees_in symbol.now self.now.nodes) kept) place (value_in symbol.now self.now.nodes first ∷ []) (record state { packs = self.now.packs }) ≡ goes_on symbol.now self.now.nodes kept (value_in symbol.now self.now.nodes first ∷ []) state self.now.packs result }
         ensures there { IsStepThere symbol.now (length self.now.nodes.thunks) (length self.now.nodes.nodes) result }
         ensures of { IsStepOf production 1 result }
         ensures makes { nodes_of_step result ≡ makes_before production (value_in symbol.now self.now.nodes first ∷ []) }
@@ -455,7 +455,7 @@ impl Linked {
         requires kept { IsKeptThere (length self.now.nodes.nodes) kept }
         requires first { IsThere symbol.now (length self.now.nodes.nodes) first }
         requires second { IsThere symbol.now (length self.now.nodes.nodes) second }
-        ensures is { (cs : List values.Candidate) → between production (around_of (trees_in symbol.now self.now.nodes) kept) place (value_in symbol.now self.now.nodes first ∷ value_in symbol.now self.now.nodes second ∷ []) (record { candidates = cs; packs = self.now.packs }) ≡ goes_on symbol.now self.now.nodes kept (value_in symbol.now self.now.nodes first ∷ value_in symbol.now self.now.nodes second ∷ []) cs self.now.packs result }
+        ensures is { (state : values.State) → between production (around_of (trees_in symbol.now self.now.nodes) kept) place (value_in symbol.now self.now.nodes first ∷ value_in symbol.now self.now.nodes second ∷ []) (record state { packs = self.now.packs }) ≡ goes_on symbol.now self.now.nodes kept (value_in symbol.now self.now.nodes first ∷ value_in symbol.now self.now.nodes second ∷ []) state self.now.packs result }
         ensures there { IsStepThere symbol.now (length self.now.nodes.thunks) (length self.now.nodes.nodes) result }
         ensures of { IsStepOf production 2 result }
         ensures makes { nodes_of_step result ≡ makes_before production (value_in symbol.now self.now.nodes first ∷ value_in symbol.now self.now.nodes second ∷ []) }
@@ -526,7 +526,7 @@ impl Linked {
         requires first { IsThere symbol.now (length self.now.nodes.nodes) first }
         requires second { IsThere symbol.now (length self.now.nodes.nodes) second }
         requires third { IsThere symbol.now (length self.now.nodes.nodes) third }
-        ensures is { (cs : List values.Candidate) → between production (around_of (trees_in symbol.now self.now.nodes) kept) place (value_in symbol.now self.now.nodes first ∷ value_in symbol.now self.now.nodes second ∷ value_in symbol.now self.now.nodes third ∷ []) (record { candidates = cs; packs = self.now.packs }) ≡ goes_on symbol.now self.now.nodes kept (value_in symbol.now self.now.nodes first ∷ value_in symbol.now self.now.nodes second ∷ value_in symbol.now self.now.nodes third ∷ []) cs self.now.packs result }
+        ensures is { (state : values.State) → between production (around_of (trees_in symbol.now self.now.nodes) kept) place (value_in symbol.now self.now.nodes first ∷ value_in symbol.now self.now.nodes second ∷ value_in symbol.now self.now.nodes third ∷ []) (record state { packs = self.now.packs }) ≡ goes_on symbol.now self.now.nodes kept (value_in symbol.now self.now.nodes first ∷ value_in symbol.now self.now.nodes second ∷ value_in symbol.now self.now.nodes third ∷ []) state self.now.packs result }
         ensures there { IsStepThere symbol.now (length self.now.nodes.thunks) (length self.now.nodes.nodes) result }
         ensures of { (held : ℕ) → IsStepOf production held result }
         ensures makes { nodes_of_step result ≡ makes_before production (value_in symbol.now self.now.nodes first ∷ value_in symbol.now self.now.nodes second ∷ value_in symbol.now self.now.nodes third ∷ []) }
@@ -577,7 +577,7 @@ impl Linked {
         requires table { IsTable (over symbol.now self.now.nodes) }
         requires kept { IsKeptThere (length self.now.nodes.nodes) kept }
         requires first { IsThere symbol.now (length self.now.nodes.nodes) first }
-        ensures is { (v w x : values.Value) (vs : List values.Value) (cs : List values.Candidate) → between production (around_of (trees_in symbol.now self.now.nodes) kept) place (value_in symbol.now self.now.nodes first ∷ v ∷ w ∷ x ∷ vs) (record { candidates = cs; packs = self.now.packs }) ≡ goes_on symbol.now self.now.nodes kept (value_in symbol.now self.now.nodes first ∷ v ∷ w ∷ x ∷ vs) cs self.now.packs result }
+        ensures is { (v w x : values.Value) (vs : List values.Value) (state : values.State) → between production (around_of (trees_in symbol.now self.now.nodes) kept) place (value_in symbol.now self.now.nodes first ∷ v ∷ w ∷ x ∷ vs) (record state { packs = self.now.packs }) ≡ goes_on symbol.now self.now.nodes kept (value_in symbol.now self.now.nodes first ∷ v ∷ w ∷ x ∷ vs) state self.now.packs result }
         ensures there { IsStepThere symbol.now (length self.now.nodes.thunks) (length self.now.nodes.nodes) result }
         ensures of { (held : ℕ) → IsStepOf production held result }
         ensures makes { (v w x : values.Value) (vs : List values.Value) → nodes_of_step result ≡ makes_before production (value_in symbol.now self.now.nodes first ∷ v ∷ w ∷ x ∷ vs) }
