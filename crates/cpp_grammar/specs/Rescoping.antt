@@ -172,8 +172,8 @@ unfoldable pub left_at : (place number : ℕ) → State → Lists
 left_at place number state = elim (is_by_some (counted_so_far by_all state.candidates)) [
   | true ↦ no_list
   | false ↦
-    let fits_by : Bool → Bool = λ is_shorter. can_be_named state.counting.expected place (named_in is_shorter state.candidates number) in
-    left state.counting.lists (fits_by false) (fits_by true)
+      let fits_by : Bool → Bool = λ is_shorter. can_be_named state.counting.expected place (named_in is_shorter state.candidates number) in
+      left state.counting.lists (fits_by false) (fits_by true)
 ]
 
 unfoldable pub with_lists : Lists → State → State

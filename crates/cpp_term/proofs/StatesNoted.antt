@@ -441,7 +441,7 @@ unfolding left_at wide_.left_at
 left_noted own around place number x y same =
     let can : (is_shorter : Bool) → wide_.can_be_named y.counting.expected place (wide_.named_in is_shorter y.candidates number) ≡ can_be_named x.counting.expected place (named_in is_shorter x.candidates number) =
     λ is_shorter. ap (λ g. wide_.can_be_named g.expected place (wide_.named_in is_shorter y.candidates number)) same.packs.1
-        ∙ can_noted own around x.counting.expected place (named_in is_shorter x.candidates number) (wide_.named_in is_shorter y.candidates number) (named_in_noted is_shorter own around x.candidates y.candidates number same.all) in
+    ∙ can_noted own around x.counting.expected place (named_in is_shorter x.candidates number) (wide_.named_in is_shorter y.candidates number) (named_in_noted is_shorter own around x.candidates y.candidates number same.all) in
     both (λ k l. elim (is_by_some k) [ true ↦ no_list | false ↦ l ]) (counted_noted own around by_all x.candidates y.candidates same.all)
     (three (λ g a b. left g.lists a b) same.packs.1 (can false) (can true))
 
