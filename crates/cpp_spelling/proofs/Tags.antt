@@ -1,5 +1,5 @@
 -- A name without its tags, whose node is noted.
-use Rattle.std.proofs.Common.{◌≡◌, ◌<◌, ℕ, length, Option, Some, None, refl, ap, sym, subst, ◌∙◌}
+use Rattle.std.proofs.Common.{◌≡◌, ◌<◌, ℕ, length, Some, None, refl, ap, subst, ◌∙◌}
 use Rattle.cpp_grammar.specs.Scope.{without_tags}
 use Rattle.cpp_term.specs.Term.{Term, tagged}
 use Rattle.cpp_term.specs.Scope as noted
