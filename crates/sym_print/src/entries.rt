@@ -20,7 +20,7 @@ use sym_core::Refusal;
 const CHEAP_TEXT: u32 = 1024;
 
 /// What more it may cost for each node of its symbol.
-const CHEAP_NODE: u32 = 48;
+const CHEAP_NODE: u32 = 64;
 
 /// Adds bytes to a text. Up to three are added one at a time, which is faster than a copy.
 #[inline(always)]
