@@ -49,6 +49,11 @@ def cpp_word(begins, first, wraps, levels):
     return text
 
 
+def pack_word(elements, wraps, levels):
+    """A C++ function of expansions over a pack of this many elements, each made of the one before."""
+    return cpp_word(f"IJ{'i' * elements}EEvDpPFvT_E", 3, lambda that: (f"Dp{wraps(that)}", 3), levels)
+
+
 def rust_word(first, wraps, levels):
     """An instance of a Rust function over types, each made of the one before."""
     text = "_RINvC3foo3bar"
@@ -72,6 +77,10 @@ def families():
         "arrays": cpp_word("PA9_PFvvE", 3, lambda that: (f"PA9_PF{that}{that}E", 4), 17),
         "members": cpp_word("M1AFvvE", 2, lambda that: (f"MS_F{that}{that}E", 2), 16),
         "functions, shown": cpp_word("PFvvE", 1, lambda that: (f"PF{that}{that}E", 2), 11),
+        "packs": pack_word(48, lambda that: f"PF{that}{that}E", 9),
+        "packs of three": pack_word(48, lambda that: f"PF{that}{that}{that}E", 6),
+        "packs, short": pack_word(16, lambda that: f"PF{that}{that}E", 11),
+        "packs, shown": pack_word(60, lambda that: f"PF{that}{that}E", 5),
         "tuples": rust_word("ThhE", lambda that: f"T{that}{that}E", 20),
         "tuples of three": rust_word("ThhE", lambda that: f"T{that}{that}{that}E", 12),
         "function pointers": rust_word("FhEh", lambda that: f"F{that}{that}Eu", 19),

@@ -52,7 +52,7 @@ fi
 symbols=$work/symbols
 grep -haE $'^((wide |legacy )?(text|refused)|press)\t' crates/check_rows/stdin | tr '\t' '\n' | grep -aE '^_(Z|R)[A-Za-z0-9_.$]+$' | sort -u >"$symbols"
 mkdir "$work/hostile"
-for each in cpp=doubled_cpp rust=hostile_rust; do
+for each in cpp=hostile_cpp rust=hostile_rust; do
     python3 -c "import sys; sys.path.insert(0, 'bench'); import plot; print(plot.${each#*=}(60000))" >"$work/hostile/${each%%=*}"
 done
 

@@ -10,6 +10,7 @@ from functools import lru_cache
 
 import grammar_code
 import meanings
+import sorts
 import words
 from grammar_laws import begins_symbol, empty, klass, laws, sym_class
 from rules import DECIMAL, DIGITS, K, MARKED, NAME, P, ROWS, SEQ36, build
@@ -54,6 +55,7 @@ def files():
     skips = [production for production, (_, symbols) in P.items() if any(sym_class(symbol) == "byte" or empty(symbol) for symbol in symbols[:-1])]
     yield from words.files({production: symbols for production, (_, symbols) in P.items()}, rows(), skips)
     yield from meanings.files(rows())
+    yield from sorts.files(*wide())
 
 
 def markdown():

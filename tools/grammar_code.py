@@ -70,7 +70,8 @@ def table():
     """What the table of the ABI's grammar is filled with: the rule that a kind takes at a byte, and the rules' symbols."""
     used = {symbol for _, symbols in P.values() for symbol in symbols}
     constants = [f"const {snake(symbol).upper()}: Sym = {rust_symbol(symbol)};\n" for symbol in [*[kind for kind in K if kind in used], *TOKENS]]
-    first = ["/// The letter of the production with number 0; the others have the letters after it, in the order of their numbers.",
+    first = ["/// The letter of the production with number 0; the others have the bytes after it, in the order of their numbers. After the",
+             "/// byte 255 they go on at 0.",
              f"pub const FIRST_LETTER: u8 = b'{chr(FIRST_LETTER)}';"]
     heads = [f"    {'takes' if ate else 'chains'}!({len(symbols)}), // {letter(i)} {production}" for i, (production, (ate, symbols)) in enumerate(P.items())]
 

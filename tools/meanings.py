@@ -5,6 +5,7 @@ import cpp_trees
 from files import template
 from notation import applied, braced, listed
 from row_words import said
+from rules import ABOVE
 from rust_layout import split
 from cpp_trees import BYTES, NUMBER, TRUTH, QUALIFIERS, MARK, SIGNED, DISCRIMINATOR
 
@@ -51,11 +52,11 @@ def step(text):
     """What is done before a part."""
     if known := said("steps", text): return known
     if known := said("places", text): return f"goes nothing {braced(known)}"
+    if text == "list the name": return "goes the_prefix as_before"
     if m := re.fullmatch(r"list the name, (.*)", text): return f"goes the_prefix {braced(said('places', m[1]))}"
     if m := re.fullmatch(r"list type (\d)", text): return f"goes (type_of {m[1]}) as_before"
     tree, *marks = split(re.fullmatch(r"(?:name = )?(.*)", text)[1])
-    # what becomes a candidate is one by now, and so are the trees that aren't the name so far
-    return f"becomes ({made(tree)}) {str(bool(marks)).lower()} {str(text.startswith('name = ')).lower()} {str('candidate' in marks).lower()}"
+    return f"becomes ({made(tree)}) {str(bool(marks) and 'unlisted' not in marks).lower()} {str(text.startswith('name = ')).lower()} {str('candidate' in marks).lower()}"
 
 def steps(text):
     """What is done before each part as far as it is said by its number, and before the others."""
@@ -74,12 +75,16 @@ class Row:
         self.form, self.gain, self.restores_packs, self.tests_number = form(means, nodes), gain(candidate), packs == "own", tests == "number"
 
     def definition(self):
-        before = f"({listed(self.before)}) {braced(self.onward)}" if self.before else f"[] {braced(self.onward)}"
-        start = braced(self.form) if not self.before and self.onward == "quiet" else f"{before} {braced(self.form)}"
-        if self.restores_packs: return f"with_own_packs {start}"
-        if self.tests_number: return f"numbered {start}" if start != braced(self.form) else f"numbered [] quiet {start}"
-        if self.gain != "nothing": return f"gains {start} {braced(self.gain)}"
-        return f"plain {start}" if start == braced(self.form) else f"after_steps {start}"
+        """The row as the definition has it: what it does beside most, around what its parts become."""
+        form, before, onward = named(self.form), listed(map(named, self.before)), named(self.onward)
+        row = f"plain {braced(form)}"
+        if self.before and self.onward != "quiet": row = f"after_first ({before}) {braced(onward)} {braced(form)}"
+        elif self.before: row = f"after_steps ({before}) {braced(form)}"
+        elif self.onward != "quiet": row = f"throughout {braced(onward)} {braced(form)}"
+        if self.gain != "nothing": row = f"gains {braced(self.gain)} ({row})"
+        if self.restores_packs: row = f"with_own_packs ({row})"
+        if self.tests_number: row = f"with_number_tested ({row})"
+        return row
 
     def quiet(self):
         """Before how many of its parts nothing is done: none, the first ones, or all, which are five at most."""
@@ -101,6 +106,22 @@ class Row:
         if word == "own": return int(others[1])
         if word == "a_pair": return sum(most_made(braced(tree)) for tree in pair(self.means)[1:])
         return 1 if word in ("cell", "item", "a_name", "in_place") else 0
+
+# How a row names the arguments of what is in it: each text of definitions, with numbers of parts, as the row has it. Rows.antt says what the names mean.
+NAMES = [(re.compile(old), new) for old, new in (
+    (r"becomes (\(.*\)) false true false", r"becomes_name \1"), (r"becomes (\(.*\)) true true false", r"becomes_listed_name \1"),
+    (r"becomes (\(.*\)) false true true", r"becomes_name_and_candidate \1"), (r"becomes (\(.*\)) true false true", r"becomes_candidate \1"),
+    (r"becomes (\(.*\)) true false false", r"becomes_listed \1"),
+    (r"tests false true", "tests_parameter"), (r"tests true true", "tests_parameter_after_t"), (r"tests true false", "tests_operand_after_t"),
+    (r"\bgoes nothing", "enters"), (r"\bcell (\d) (\d)", r"cell (first \1) (rest \2)"), (r"\bitem (\d) (\d)", r"item (first \1) (rest \2)"),
+    (r"\beither (\d) (\d)", r"either (preferred \1) (otherwise \2)"), (r"\bown (\w+) (\d)", r"own \1 (nodes \2)"), (r"\bapplying (\(.*\)) (\d)", r"applying \1 (arguments \2)"),
+    (r"\bas_part_alone (\d) (\d)", r"as_part_alone \1 (arguments \2)"), (r"\bletter_is (\d) (\d+)", r"letter_is \1 (letter \2)"),
+    (r"\bqualified_by (\w+|\(\w+ \d\)) (\w+|\(\w+ \d\)) (\w+|\(\w+ \d\))", r"qualified_by (restrict \1) (volatile \2) (const \3)"))]
+
+def named(text):
+    """A text of definitions with the names of its arguments."""
+    for old, new in NAMES: text = old.sub(new, text)
+    return text
 
 ALL_PARTS = 5
 def most_made(tree): return 0 if tree.startswith("(only ") else 1
@@ -135,8 +156,8 @@ def antt_builders(table):
 
 def antt_rows(table):
     """The rows, as definitions."""
-    lines = [f"row_of Production.{p} = {row.definition()}" for p, row in table.items()]
-    own = sorted({word for word in re.findall(r"own (\w+)", "\n".join(lines))})
+    lines = [line for p, row in table.items() for line in (*(f"-- {above}" for above in ABOVE[p]), f"row_of Production.{p} = {row.definition()}")]
+    own = sorted({word for word in re.findall(r"own (\w+) \(nodes", "\n".join(lines))})
     return template("cpp_grammar/Rows.antt", makers=", ".join("new_" + tree[0] for tree in makers(table)), own=", ".join(own), rows=lines)
 
 def files(table):

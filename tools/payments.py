@@ -7,7 +7,7 @@ from notation import dashed
 
 FOLDER = "cpp_press_laws/proofs/Short"
 # the lists, each with its file: the lemma whose clauses are read is called `pays`, and that which is used `gains`
-LISTS = {"type": "Types", "free": "Lists", "idle": "Lists", "qualified": "Qualified", "name": "Names"}
+LISTS = {"type": "Types", "free": "Lists", "idle": "Lists", "qualified": "Qualified", "name": "Names", "further": "Names"}
 # productions whose lemma isn't called as they are, in any kind or in one
 CALLED = {"Destructor": "destructor-name", "Constructor": "constructor-name", "AddressedLiteral": "addressed-gains", "IntegerLiteral": "integer-gains", "ReferenceType": "reference-gains",
           ("Plain", "ReferenceType"): "bare-reference-gains", ("Arguments", "Arguments"): "given-gains",
@@ -35,7 +35,7 @@ def declarations(crates):
     def lemma(kind, production):
         of = classes[kind]
         for used, class_, productions in rows:
-            own = {"type-gains": "type", "name-gains": "name"}.get(used, class_)
+            own = {"type-gains": "type", "name-gains": "name", "further-gains": "further"}.get(used, class_)
             if production in productions and (own == of or used == "name-gains" and of == "type"):
                 return f"{used}{' ' + class_ if class_ else ''} Production.{production} refl", own, 0
         name = CALLED.get((kind, production)) or CALLED.get(production) or dashed(production)
@@ -43,6 +43,7 @@ def declarations(crates):
         return name, *signatures.get(name, (of, None))
     def term(kind, production):
         text, own, granted = lemma(kind, production)
+        if own == "further" and classes[kind] in ("name", "type"): text, own = f"as-name {text}", "name"
         given = f"({text})" if " " in text else text
         if own == "name" and classes[kind] == "type": return f"named {given}"
         if kind in grants and granted == 0: return f"granting{'-type' if classes[kind] == 'type' else ''} {grants[kind]} {given}"

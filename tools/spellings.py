@@ -19,6 +19,8 @@ class Part:
         tree = re.fullmatch(r"(\w+)\.(as_\w+|under_qualifiers)", text)
         self.text, self.tree, self.way = text, tree and tree.group(1), tree and tree.group(2)
     def spelled(self, n, says=False):
+        # the parameters of a lambda with parameters of its own are an encoding of their own
+        if self.way == "as_signature": return f"begun (λ here. (ways_of here {self.tree}).as_parameters)"
         if self.tree: return f"(ways_of {n} {self.tree}).{self.way}"
         return f"says {self.text[6:]}" if says and re.fullmatch(r'codes "\w+"', self.text) else f"text {braced(self.text)}"
     def size(self):
@@ -26,7 +28,7 @@ class Part:
         if self.tree:
             own = f"(size {self.tree})"
             return 0, [{"as_type": f"part_of {self.tree} {own}", "as_prefix": f"part_of {self.tree} {own}", "under_qualifiers": f"bare_of {self.tree} {own}",
-                        "as_parameters": f"with_void {self.tree} {own}"}.get(self.way, own[1:-1])]
+                        "as_parameters": f"with_void {self.tree} {own}", "as_signature": f"with_void {self.tree} {own}"}.get(self.way, own[1:-1])]
         sum_, others = 0, []
         for term in self.text.split(" ++ "):
             listed = re.fullmatch(r'codes "(\w+)"|(?:(?:\w+ ∷ )+\[\])|cond \w+ \(codes "(\w+)"\) (?:\[\]|\(.*\))', term)
@@ -79,8 +81,10 @@ def keeping(trees):
         if i + 1 == len(parts): return f"keeps {part.tree} {known} way.{part.way} {side(parts, i, of)}" if part.tree else f"text-keeps {known_of}"
         after = f"({law(parts, i + 1, n, known, of)})"
         if part.way == "as_encoding": return f"behind-and-keeps {known_of} ({rest}) (keeps {part.tree} {known} way.{part.way} {of}) {after}"
+        if part.way == "as_signature":
+            return f"behind-and-keeps {known_of} ({rest}) (signature-keeps {known} {part.tree} (λ here. keeps {part.tree} ⊥ here (OrOpen R)) {of}) {after}"
         if part.tree: return f"and-keeps {known_of} ({rest}) (keeps {part.tree} {known} way.{part.way} {side(parts, i, of)}) {after}"
-        if parts[i + 1].way != "as_encoding": return f"behind-text-keeps {known_of} ({rest}) {after}"
+        if parts[i + 1].way not in ("as_encoding", "as_signature"): return f"behind-text-keeps {known_of} ({rest}) {after}"
         return f"behind-bytes-keeps {known_of} ({rest}) {'(thunk-some kind)' if tree[0] == 'thunk' else '(omega arith)'} {after}"
     for tree, shape, sort, parts, nowhere in rows(trees):
         own, subtrees = f"open_ n R {shape}", [part for part in parts if part.tree]
@@ -101,7 +105,8 @@ def growing(trees):
     def law(parts, i, n):
         part = parts[i]
         if not part.tree: return f"text-grows {braced(part.text)}" if i + 1 == len(parts) else f"front {braced(part.text)} ({law(parts, i + 1, n)})"
-        fact = f"more-grows (ways-grow whole {part.tree} {side(parts, i, 'in_whole')} {n} way.{part.way}) (omega arith)"
+        if part.way == "as_signature": fact = f"begun-grows (λ here. more-grows (ways-grow whole {part.tree} in_whole here way.as_parameters) (omega arith))"
+        else: fact = f"more-grows (ways-grow whole {part.tree} {side(parts, i, 'in_whole')} {n} way.{part.way}) (omega arith)"
         if i + 1 == len(parts): return fact
         return f"back ({fact}) {braced(parts[i + 1].text)}" if i + 2 == len(parts) and not parts[i + 1].tree else f"and-grows ({fact}) ({law(parts, i + 1, n)})"
     for tree, shape, sort, parts, nowhere in rows(trees):
@@ -115,8 +120,9 @@ def short(trees):
     """That a spelling is no longer than its size."""
     def law(parts, i, n, bound):
         part, rest = parts[i], parts[i + 1:]
-        own, more = part.spelled(n), braced(spelled(rest, n))
+        own, more = braced(part.spelled(n)) if part.way == "as_signature" else part.spelled(n), braced(spelled(rest, n))
         fact = f"all-short {part.tree} {n} way.{part.way}" if part.tree else ""
+        if part.way == "as_signature": fact = f"begun-short {braced(total([part]))} _ (λ here. all-short {part.tree} here way.as_parameters)"
         if part.tree and part.way == "as_prefix": size = f"(front_of {part.tree} (size {part.tree}))"
         else: size = braced(total([part]))
         if not rest: return fact or f"bytes-short {bound} {braced(part.text)} {arithmetic(part)}"
@@ -178,7 +184,7 @@ def rejoined(trees, clause, wanted, rest, others, here="n"):
     """A tree's parts, one after the other, are what the tree is with what follows."""
     for tree, shape, sort, parts, nowhere in rows(trees):
         if not wanted(sort, parts): continue
-        joined = " ".join([["refl", "two", "three", "four"][len(parts) - 1], *(p.spelled(here) if p.tree else f"({p.spelled(here)})" for p in parts if len(parts) > 1), *([rest] if len(parts) > 1 else [])])
+        joined = " ".join([["refl", "two", "three", "four"][len(parts) - 1], *(p.spelled(here) if p.tree and p.way != "as_signature" else f"({p.spelled(here)})" for p in parts if len(parts) > 1), *([rest] if len(parts) > 1 else [])])
         if here == "here" and len(parts) > 1: joined = f"ap {{A = Spelling}} (λ (f : Spelling). f here cs) ({joined})"
         yield f"{clause.format(shape)} = {joined}"
     if others: yield f"{clause.format('_')} = {others}"

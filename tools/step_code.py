@@ -41,7 +41,7 @@ def made_step(made, listed, is_name, is_candidate):
     else:
         arguments = re.fullmatch(r"of new_instance \(the_name ∷ list_at (\w+) ∷ \[\]\)", made)[1]
         new = f"Node::Instance {{ template: self.prefix_node(symbol, kept), arguments: self.list_in(symbol, {arguments}) }}"
-    if is_name == "true" and listed == "false": return f"{named}({new})"
+    if is_name == "true" and listed == "false" and is_candidate == "false": return f"{named}({new})"
     return f"Step::Made {{ node: {new}, listed: {listed}, is_name: {is_name}, is_candidate: {is_candidate}, packs: self.packs }}"
 
 def code(step):

@@ -161,8 +161,8 @@ def by_each(function, lemma, before, others, called):
 PREFIXES = (("within", "prefix"), ("holder", "name"))
 
 def itself_as(tree, name):
-    """As what a subtree may be a component itself: lists and pieces are none."""
-    if dict(tree[1:])[name] == PIECE or name in ("entity", "arguments", "parameters", "elements", "rest"): return None
+    """As what a subtree may be a component itself: lists, pieces and names without their tags are none."""
+    if dict(tree[1:])[name] == PIECE or tree[0] == "tagged" or name in ("entity", "arguments", "parameters", "elements", "rest"): return None
     return "Prefix" if (tree[0], name) in PREFIXES else "Unqualified" if tree[0] == "qualified" else "Itself"
 
 def inside_shut():
@@ -187,7 +187,8 @@ def never_referred():
     """Where a tree has a template behind the letters of its name, so that no reference names it."""
     def below(first, *rest): return f"IsNeverReferred own {first}" + (f" ⊎ ({below(*rest)})" if len(rest) > 1 else f" ⊎ {below(*rest)}" if rest else "")
     special = {"function": f"\n    {BEHIND_LETTERS}\n    ⊎ ({below('name', 'returned', 'parameters')})", "object": f"{BEHIND_LETTERS} ⊎ {below('name')}",
-               "of_name": f"{BEHIND_LETTERS} ⊎ {below('name')}", "local": f"IsTemplateOf own entity ⊎ ({below('e', 'entity')})"}
+               "of_name": f"{BEHIND_LETTERS} ⊎ {below('name')}", "local": f"IsTemplateOf own entity ⊎ ({below('e', 'entity')})",
+               "tagged": f"IsTemplateOf own name ⊎ {below('name')}"}
     return fold("IsNeverReferred", ["own"], " ⊎ ".join, "⊥", special, trees=named(PRESSED))
 
 def inside():

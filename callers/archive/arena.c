@@ -57,9 +57,9 @@ size_t symdemangle_arena_most(void)
 
 /* The printer notes texts for speed, and goes on without notes where there is no room for them. So a block in which they have room
    may have none for what is needed after them, where a smaller block has it; and nothing tells the two sorts of memory apart.
-   A call that found no room is therefore made again as if the block were smaller by just as much that what reached furthest has no
-   room in it, until it answers or takes nothing. Between two such sizes each call would be the same, so a larger block never
-   refuses what a smaller one answers. */
+   A call that prints and found no room is therefore made again as if the block were smaller by just as much that what reached
+   furthest has no room in it, until it answers or takes nothing. Between two such sizes each call would be the same, so a larger
+   block never refuses what a smaller one answers. */
 void symdemangle_begin_of(struct symdemangle_tries *tries)
 {
     tries->size = here.size;

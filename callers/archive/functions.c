@@ -44,7 +44,8 @@ static int lends(const void *bytes, size_t length)
     return bytes || !length;
 }
 
-/* Makes a proved call, and over a lent block again while that may help. */
+/* Makes a proved call that prints, and over a lent block again while that may help. The others take only what they need, so for them it
+   never does. */
 #define MAKE(call, status)                                    \
     do {                                                      \
         struct symdemangle_tries tries;                       \
@@ -99,7 +100,7 @@ uint32_t symdemangle_count(const char *name, size_t name_length, uint32_t flags,
     char none = 0;
     if (!lends(name, name_length) || !counts || !result)
         return tell(SYMDEMANGLE_NULL, result);
-    MAKE(symdemangle_counts_of(SOME(name, none), name_length, flags, counts, result), result->status);
+    symdemangle_counts_of(SOME(name, none), name_length, flags, counts, result);
     return result->status;
 }
 
@@ -109,6 +110,6 @@ uint32_t symdemangle_press(const char *name, size_t name_length, uint32_t flags,
     char none = 0, nowhere = 0;
     if (!lends(name, name_length) || !lends(buffer, capacity) || !result)
         return tell(SYMDEMANGLE_NULL, result);
-    MAKE(symdemangle_press_of(SOME(name, none), name_length, flags, SOME(buffer, nowhere), capacity, result), result->status);
+    symdemangle_press_of(SOME(name, none), name_length, flags, SOME(buffer, nowhere), capacity, result);
     return result->status;
 }

@@ -4,9 +4,10 @@
 
    - Each thread lends its own block, with symdemangle_arena_set. Where none is lent, or what a call needs has no room in it, the
      call answers SYMDEMANGLE_MEMORY as it does where malloc refuses: nothing else happens, and the buffer stays as it is.
-   - A larger block never refuses a name or a text that a smaller one answers. Some memory is taken for speed alone, so before it
-     answers SYMDEMANGLE_MEMORY a call is made again with less and less of the block; such an answer takes up to three times as long as
-     one try. Of symdemangle_texts, which keeps what it took for earlier names, neither is so.
+   - A larger block never refuses a name or a text that a smaller one answers. Printing takes some memory for speed alone, so before they
+     answer SYMDEMANGLE_MEMORY symdemangle_text and symdemangle_filter try again with less and less of the block; such an answer takes
+     up to three times as long as one try, and over a hundred times for a text of thousands of words that were made so that each takes a
+     little more than the one before. Of symdemangle_texts, which keeps what it took for earlier names, neither is so.
    - A call gives back all that it takes, so the block is empty again after it and serves the next call. symdemangle_string and
      symdemangle_free, whose string would outlive the call, aren't in this library.
    - A handler that may interrupt a call of its thread swaps a block of its own in, and back at its end:

@@ -100,7 +100,7 @@ static const struct name {
     {"_RINvC3foo3barThhETBb_Bb_ETBf_Bf_EE", 142, 0},
     {"_RINvC3foo3barFG_RL0_hEuE", 99, 0},
 };
-enum { NAMES = sizeof names / sizeof *names, CALLS = NAMES + 5 };
+enum { NAMES = sizeof names / sizeof *names, CALLS = NAMES + 6 };
 
 static uint32_t one_call(int call, symdemangle_result *result)
 {
@@ -117,7 +117,8 @@ static uint32_t one_call(int call, symdemangle_result *result)
     case 0: return symdemangle_filter(log, sizeof log - 1, 99, 0, buffer, sizeof buffer, NULL, result);
     case 1: return symdemangle_filter(log, sizeof log - 1, 99, SYMDEMANGLE_BRIEF, buffer, sizeof buffer, NULL, result);
     case 2: return symdemangle_press(name->symbol, length, 0, buffer, sizeof buffer, result);
-    case 3: return symdemangle_count(name->symbol, length, 0, &counts, result);
+    case 3: return symdemangle_press(name->symbol, length, SYMDEMANGLE_WIDE, buffer, sizeof buffer, result);
+    case 4: return symdemangle_count(name->symbol, length, 0, &counts, result);
     default:
         result->length = 0;
         if (symdemangle_texts(both, sizeof both - 1, ends, 2, 99, 0, buffer, sizeof buffer, told))

@@ -28,7 +28,7 @@ use Rattle.cpp_direct.proofs.Kept.{kept-same, none-kept}
 use Rattle.cpp_direct.proofs.NamePlaces.{reads-then}
 use Rattle.cpp_direct.proofs.Moves.{stands-join, is_eaten, expects-empty}
 use Rattle.cpp_direct.proofs.MovesOfEncodings.{symbol-starts, encoding-opens, special-opens, thunk-opens, virtual-thunk-opens, clone-opens, guard-opens, name-nested}
-use Rattle.cpp_direct.proofs.PrintedSymbols.{thunk-filled, thunk-shows, clone-filled, clone-shows, guarded-shows, encoding-object}
+use Rattle.cpp_direct.proofs.PrintedSymbols.{never-explicit, thunk-filled, thunk-shows, clone-filled, clone-shows, guarded-shows, encoding-object}
 use Rattle.cpp_direct.proofs.Scopes.{none-scoped}
 use Rattle.cpp_direct.proofs.LettersTested.{codes_pass}
 use Rattle.cpp_direct.proofs.TypesRead.{code_in, letter-listed}
@@ -246,7 +246,7 @@ pub nest-awaited : (s : Symbol) (w : Direct) (kept : Kept s w) (purpose : Purpos
 unfolding in_name
 nest-awaited s w kept purpose encoding inner at first place own expects letter next is here serves =
     let letters = mark_letters (has_const place.mark) (called_on place.mark) in
-    let nest = name-nested s inner (in_name encoding) (has_const place.mark) (called_on place.mark) at kept.state expects
+    let nest = name-nested s inner (in_name encoding) (has_const place.mark) (called_on place.mark) at kept.state (never-explicit place.mark) expects
     (stands-join s.bytes at (78 ∷ []) letters letter (subst (λ k. StandsAt s.bytes k letters) next is.stands)) in
     record {
       kept = kept;

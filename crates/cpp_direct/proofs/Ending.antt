@@ -32,7 +32,7 @@ use Rattle.cpp_direct.proofs.PrintedLists.{PrintsItems, list-before, list-in, li
 use Rattle.cpp_direct.proofs.PrintedParts.{has-none, has-parameters}
 use Rattle.cpp_direct.proofs.PrintedLocals.{object-enclosing, function-encloses, name-shows, returned-enclosing, returned-shows}
 use Rattle.cpp_direct.proofs.Scopes.{entry-scoped, parameters-as, name-stays}
-use Rattle.cpp_direct.proofs.PrintedSymbols.{function-shows, object-encoded, encoding-plain, made-with, made-void, parameters-before, symbol-text, symbol-cost, suffix-text, suffix-cost, parameters-kept, encoding-returned, front-shows}
+use Rattle.cpp_direct.proofs.PrintedSymbols.{function-shows, mark-opens, object-encoded, encoding-plain, made-with, made-void, parameters-before, symbol-text, symbol-cost, suffix-text, suffix-cost, parameters-kept, encoding-returned, front-shows}
 use Rattle.cpp_direct.specs.declared.open.Mark.TheVariants as marks
 use Rattle.cpp_direct.specs.declared.open.Open.TheVariants as opens
 use Rattle.cpp_direct.specs.declared.open.Step.TheVariants as steps
@@ -515,7 +515,7 @@ items-ended s here mark start argument p shown e items written kept is printed b
       written = written;
       shows = λ whole. subst (λ t. Shows (detail_of s) t (p.name ++ codes "(" ++ shown ++ codes ")" ++ mark_text mark)) (sym is)
           (subst (λ x. Shows (detail_of s) made (p.name ++ codes "(" ++ shown ++ codes ")" ++ x)) (plain-text mark)
-          (function-shows (has-parameters s whole) f.own p.name f.prints items shown printed (qualifiers (has_const mark)) (called_on mark)));
+          (function-shows (has-parameters s whole) f.own p.name f.prints items shown printed (qualifiers (has_const mark)) (called_on mark) (mark-opens mark items)));
       behind = behind;
     }
 

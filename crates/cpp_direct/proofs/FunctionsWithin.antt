@@ -16,7 +16,7 @@ use Rattle.cpp_direct.proofs.PrintedLists.{element-in, type-in, list-in, list-wi
 use Rattle.cpp_direct.proofs.PrintedLocals.{object-enclosing, local-prints, address-prints, function-encloses, name-encloses, returned-enclosing}
 use Rattle.cpp_direct.proofs.PrintedNames.{as-name, source-prints}
 use Rattle.cpp_direct.proofs.PrintedParts.{has-none, has-parameters}
-use Rattle.cpp_direct.proofs.PrintedSymbols.{encoding-plain, encoding-returned, object-encoded, function-shows, parameters-kept, void-shows, made-void, made-with}
+use Rattle.cpp_direct.proofs.PrintedSymbols.{encoding-plain, encoding-returned, object-encoded, function-shows, mark-opens, parameters-kept, void-shows, made-void, made-with}
 use Rattle.cpp_direct.proofs.PrintedTypes.{as-in}
 use Rattle.cpp_direct.proofs.Scopes.{has-member, has-plain, arguments-named, entry-scoped}
 use Rattle.cpp_direct.proofs.TypesRead.{popped, builtin-listed, no-builtin}
@@ -292,7 +292,7 @@ function-shown {s = s} {extra = extra} {mark = mark} w shut last p whole_text le
     let plain = function p.own (qualifiers (has_const mark)) (called_on mark) absent (list_of p.ts) in
     let shows : Shows (detail_of s) plain bytes = subst (λ x. Shows (detail_of s) plain (b ++ codes "(" ++ p.texts ++ codes ")" ++ x)) (plain-text mark)
     (function-shows (has-parameters s whole) p.own b p.prints (list_of p.ts) p.texts (list-in (detail_of s) (types_of p.own) extra p.ts p.texts few p.elements)
-    (qualifiers (has_const mark)) (called_on mark)) in
+    (qualifiers (has_const mark)) (called_on mark) (mark-opens mark (list_of p.ts))) in
     function-read last mark w.at (kept-written s shut last (codes ")") one (kept-same s w shut text candidates scope_same p.kept)) (p.make (list_of p.ts)) p.front bytes leads
     (ap (λ x. x ++ q) (one.text ∙ ap (λ v. v.list.items ++ codes ")") text ∙ ap (λ x. x ++ codes ")") p.written)
     ∙ simp append_assoc)

@@ -1,5 +1,5 @@
 -- Lambdas: types in functions, and components of nested names.
-use Rattle.std.proofs.Common.{◌≡◌, ◌≢◌, refl, ap, sym, ◌∙◌, subst, inl, inr, ℕ, ◌+◌, List, [], ◌∷◌, ◌++◌, length, reverse, true, false, Option, None, Some, arith, codes, append-nil, append_assoc}
+use Rattle.std.proofs.Common.{◌≡◌, ◌≢◌, refl, ap, sym, ◌∙◌, subst, inl, inr, ℕ, ◌+◌, List, [], ◌∷◌, ◌++◌, length, reverse, Bool, true, false, Option, None, Some, arith, codes, append-nil, append_assoc}
 use Rattle.std.specs.Prelude.{decimal}
 use Rattle.std.proofs.lemmas.Bool.{false≢true}
 use Rattle.std.proofs.lemmas.Fmt.{decimal_digit}
@@ -68,13 +68,13 @@ lambda-bracket f b l = simp append_assoc
 
 -- the first one comes next
 begun : (s : Symbol) (old new : Direct) (from : ℕ) (nested : Option Purpose) (kept : Kept s old) (h : IsLed (detail_of s) nested from)
-    → old.text.list.items ≡ h.front ++ h.bytes → (kind : Kind) → IsPieceKind kind → (os : List Opened) (around : Around)
-    → Expects s kind (after h.e true around) os old.at kept.state
+    → old.text.list.items ≡ h.front ++ h.bytes → (kind : Kind) → IsPieceKind kind → (os : List Opened) (around : Around) (listed : Bool)
+    → Expects s kind (after h.e listed around) os old.at kept.state
     → ((items : Term) (at : ℕ) (st : State) → LambdaEnds s os h.e items at st
     → LambdaWithin s nested (below s kept.scope (reverse old.waiting.list.items)) h.front h.e items at st)
     → IsLambdaOpened s.bytes old new from nested → IsWriting s new steps.Type
-begun s old new from nested kept h written kind is os around expects becomes entry =
-    let first = lambda-opens s kind os around h.e old.at kept.state is entry.short expects entry.stands in
+begun s old new from nested kept h written kind is os around listed expects becomes entry =
+    let first = lambda-opens s kind os around h.e listed old.at kept.state is entry.short expects entry.stands in
     let rest = reverse old.waiting.list.items in
     let waits = ap reverse entry.waiting ∙ reverse-last old.waiting.list.items (opens.Lambda from nested) in
     let told : new.text.list.items ≡ h.front ++ (h.bytes ++ lambda_front) ++ [] =
@@ -109,7 +109,7 @@ begun-in-function s old new from a entry =
     let entity = w.2 a.letter in
     begun s old new from None (kept-same s (record old { at = a.before }) old refl refl refl r.kept)
     (record { e = r.e; front = r.front; from_is = r.leads; bytes = r.bytes; leads = r.encloses })
-    (sym (append-nil old.text.list.items) ∙ r.written) Kind.TypeEntity tt entity.inner entity.around
+    (sym (append-nil old.text.list.items) ∙ r.written) Kind.TypeEntity tt entity.inner entity.around true
     (subst (λ k. Expects s Kind.TypeEntity (after r.e true entity.around) entity.inner k r.state) (sym a.at_is) entity.awaits)
     (λ items at st ends number end is ending ends_. (
       w.0,
@@ -127,7 +127,7 @@ begun-in-name s old new p closed_ entry =
     let a = p.is_before.2 in
     begun s old new old.nest.from (Some old.nest.purpose) p.kept
     (record { e = t; front = n.front; from_is = n.is_nest.from_is; bytes = n.bytes; leads = closed-prints p.scope.names closed_ n.is_nest.prints })
-    n.written Kind.Component tt a.inner n.around a.awaits
+    n.written Kind.Component tt a.inner n.around a.listed a.awaits
     (λ items at st ends number end is ending ends_. (
       n.outer,
       n.around,

@@ -1,6 +1,6 @@
 -- The moves in encodings and in whole symbols: a symbol begins and ends, with a suffix or without, an encoding has a name and items,
 -- and names are nested or not.
-use Rattle.std.proofs.Common.{◌≡◌, ℕ, ◌+◌, ◌<◌, length, List, [], ◌∷◌, take, ◌++◌, Bool, true, false, nat_le, ◌||◌, ◌&&◌, cond, None, Some, Ok, refl, ap, sym, subst, ◌∙◌, arith, codes, length-append}
+use Rattle.std.proofs.Common.{◌≡◌, ◌≢◌, ℕ, ◌+◌, ◌<◌, length, List, [], ◌∷◌, take, ◌++◌, Bool, true, false, nat_le, ◌||◌, ◌&&◌, cond, None, Some, Ok, refl, ap, sym, subst, ◌∙◌, arith, codes, length-append}
 use Rattle.std.specs.List.{AllByRecursion}
 use Rattle.std.proofs.Math.Nat.{zero-add}
 use Rattle.std.proofs.Math.Seq.{take-append_seam}
@@ -15,7 +15,7 @@ use Rattle.cpp_grammar.specs.declared.production.Production.{Production}
 use Rattle.cpp_grammar.specs.KindNumbers.{SYMBOL}
 use Rattle.cpp_grammar.specs.Grammar.{in_ranges, among, is_in, pick, alternatives, number_of_kind, choose, may_be_empty, parts_of, is_chain}
 use Rattle.cpp_grammar.specs.Table.{rule_of}
-use Rattle.cpp_grammar.specs.Term.{RefQualifier, any_value, lvalue_only, rvalue_only, non_virtual, by_table, adjusting, Term, symbol, thunk, clone, alone, in_std, operator, source}
+use Rattle.cpp_grammar.specs.Term.{RefQualifier, any_value, lvalue_only, rvalue_only, explicit_object, non_virtual, by_table, adjusting, Term, symbol, thunk, clone, alone, in_std, operator, source}
 use Rattle.cpp_grammar.specs.Values.{State, outermost, Around, Value, nothing_there, letter, piece, text, tree, tree_of, text_of, qualifiers_of, ref_of, signed_of, signed_digits, is_there, mark_of, letter_of, part, piece_of}
 use Rattle.cpp_grammar.specs.Between.{in_name, applied, named_so_far, between, extended}
 use Rattle.cpp_grammar.specs.Unfolding.{first_around, first_state, first_tree, unfold_cpp, byte_of, close, opening}
@@ -152,12 +152,12 @@ unfolding is_there
 quality-is true = refl
 quality-is false = refl
 
--- a nested name begins with an N, and its qualifiers after it
+-- a nested name begins with an N, and its qualifiers after it; the H of a function with an explicit object is none of them
 pub name-nested : (s : Symbol) (os : List Opened) (around : Around) (const : Bool) (on : RefQualifier) (at : ℕ) (st : State)
-    → Expects s Kind.CompleteName around os at st → StandsAt s.bytes at (nest_marks const on)
+    → on ≢ explicit_object → Expects s Kind.CompleteName around os at st → StandsAt s.bytes at (nest_marks const on)
     → NestOpened s os around const on (at + length (nest_marks const on)) st
 unfolding is_eaten number_of_kind parts_of between close unfolding_.behind meaning part byte_of tree_of text_of piece_of letter_of is_there mark_of may_be_empty
-name-nested s os around const on at st expects stands = go on stands
+name-nested s os around const on at st other expects stands = go on other stands
   where
     part_of : Kind → Sym
     part_of k = OfKind (number_of_kind k)
@@ -191,13 +191,14 @@ name-nested s os around const on at st expects stands = go on stands
         (nest-goes s os around (quality const) (letter byte) at st (at + length front + 1) st
         (byte-fills (eats s Kind.MaybeRef Production.Mark byte taken) (ref-awaited const places.0) places.1 refl refl)))
 
-    go : (ref : RefQualifier) → StandsAt s.bytes at (nest_marks const ref) → NestOpened s os around const ref (at + length (nest_marks const ref)) st
-    go any_value there =
+    go : (ref : RefQualifier) → ref ≢ explicit_object → StandsAt s.bytes at (nest_marks const ref) → NestOpened s os around const ref (at + length (nest_marks const ref)) st
+    go any_value other there =
         subst (λ c. NestOpened s os around c any_value (at + length (78 ∷ const_letter const)) st) (quality-is const)
         (nest-goes s os around (quality const) nothing_there at st (at + length (78 ∷ const_letter const)) st
         (none-fills Kind.MaybeRef (ref-awaited const there) refl))
-    go lvalue_only there = referred 82 refl there
-    go rvalue_only there = referred 79 refl there
+    go lvalue_only other there = referred 82 refl there
+    go rvalue_only other there = referred 79 refl there
+    go explicit_object other there = absurd (other refl)
 
 -- a source name, with or without arguments after it
 pub name-source : (s : Symbol) (os : List Opened) (around : Around) (at : ℕ) (name : List ℕ) (end : ℕ) (st : State)

@@ -245,13 +245,13 @@ piece-taken Kind.Component is = refl
 piece-taken _ is = absurd is
 
 -- a lambda begins in a symbol without long numbers
-pub lambda-opens : (s : Symbol) (kind : Kind) (os : List Opened) (around : Around) (e : Term) (at : ℕ) (st : State) → IsPieceKind kind
-    → short_numbers 0 s.bytes ≡ true → Expects s kind (after e true around) os at st → StandsAt s.bytes at (85 ∷ 108 ∷ []) → LambdaOpened s os e (at + 2) st
+pub lambda-opens : (s : Symbol) (kind : Kind) (os : List Opened) (around : Around) (e : Term) (listed : Bool) (at : ℕ) (st : State) → IsPieceKind kind
+    → short_numbers 0 s.bytes ≡ true → Expects s kind (after e listed around) os at st → StandsAt s.bytes at (85 ∷ 108 ∷ []) → LambdaOpened s os e (at + 2) st
 unfolding is_eaten number_of_kind parts_of may_be_empty between opening close unfolding_.behind meaning part byte_of tree_of text_of piece_of letter_of is_there named_so_far extended applied after in_signature
-lambda-opens s kind os around e at st is_piece short expects stands =
+lambda-opens s kind os around e listed at st is_piece short expects stands =
     let p = Production.LocalTypeName in
     let q = Production.Lambda in
-    let here : Around = after e true around in
+    let here : Around = after e listed around in
     let c = in_signature here in
     let item = OfKind (number_of_kind Kind.Item) in
     let todo = OfKind (number_of_kind Kind.Items) ∷ Byte 69 ∷ Number Decimal ∷ [] in

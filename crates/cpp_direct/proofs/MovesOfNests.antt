@@ -130,6 +130,13 @@ unfolding with_prefix appended after prefix_tree prefix_listed
 prefix-appended around t true st = refl
 prefix-appended around t false st = refl
 
+-- a component is expected after the name so far
+component-awaited : {s : Symbol} {os inner : List Opened} {around : Around} {t : Term} {at : ℕ} {st : State} (listed : Bool)
+    → Hole s (OfKind (number_of_kind Kind.Component)) (after t listed around) inner at st
+    → ((u : Term) (to : ℕ) (now : State) → Comes s inner (tree u false) to now → NestGoesOn s Kind.NestTail os around u false to now)
+    → AwaitsComponent s os around t at st
+component-awaited {inner = inner} listed h onward = record { listed = listed; inner = inner; awaits = h.expects; onward = onward }
+
 -- a component follows, and the name so far is a candidate before it
 pub component-awaits : (s : Symbol) (kind : Kind) (os : List Opened) (around : Around) (t : Term) (listed : Bool) (at : ℕ) (st : State)
     → IsRest kind → Expects s kind (after t listed around) os at st
@@ -137,11 +144,11 @@ pub component-awaits : (s : Symbol) (kind : Kind) (os : List Opened) (around : A
 unfolding is_eaten is_left number_of_kind parts_of between close unfolding_.behind meaning part byte_of tree_of text_of piece_of letter_of is_there after prefix_tree prefix_listed
 component-awaits s kind os around t listed at st is expects =
     let p = Production.NestNext in
-    let component : Hole s (OfKind (number_of_kind Kind.Component)) (after t true around)
+    let component : Hole s (OfKind (number_of_kind Kind.Component)) (after t listed around)
     (opened (standing (rule_of p) [] at (after t listed around) st) [] (OfKind (number_of_kind Kind.NestTail) ∷ []) ∷ os) at (unless_listed listed around t st) =
     chain-opens (leaves s kind p 48 (rest-left kind is)) (hole s kind (after t listed around) os at st expects) refl
     (rw (prefix-appended around t listed st) refl) in
-    awaited component
+    component-awaited listed component
     (λ u to later comes. goes-on (next-part p (fill component (tree u false) to later comes) refl) (λ v onto now f. closes p f refl))
 
 -- arguments of the name so far
@@ -159,7 +166,7 @@ first-arguments s os around t listed at st expects stands =
     (rw (prefix-appended around t listed st) refl) in
     awaited (fewer (lists-by s.is_wide) arguments) (λ l to later comes ended.
     let next = next-part p (fixed-fills (next-part p (fill arguments l to later comes) refl) ended) refl in
-    awaited next (λ w onto newer came. goes-on (next-part p (fill next (tree w false) onto newer came) refl) (λ v to now f. closes p f refl)))
+    component-awaited false next (λ w onto newer came. goes-on (next-part p (fill next (tree w false) onto newer came) refl) (λ v to now f. closes p f refl)))
 
 -- arguments of a substituted name, after which it may end in the wide grammar
 pub instance-arguments : (s : Symbol) (os : List Opened) (around : Around) (t : Term) (listed : Bool) (at : ℕ) (st : State)
@@ -179,9 +186,14 @@ instance-arguments s os around t listed at st expects stands =
 -- a component that is expected inside is expected outside
 pub component-outside : (s : Symbol) (inner outer : List Opened) (around : Around) (t : Term) (at : ℕ) (st : State)
     → SamePasses s inner outer → AwaitsComponent s inner around t at st → AwaitsComponent s outer around t at st
-component-outside s inner outer around t at st passes a = awaited {os = a.inner} (hole-of a) (λ u to later comes.
-    let g = a.onward u to later comes in
-    record { inner = g.inner; awaits = g.awaits; passes = λ v onto newer came. passes v onto newer (g.passes v onto newer came) })
+component-outside s inner outer around t at st passes a = record {
+  listed = a.listed;
+  inner = a.inner;
+  awaits = a.awaits;
+  onward = λ u to later comes.
+      let g = a.onward u to later comes in
+      record { inner = g.inner; awaits = g.awaits; passes = λ v onto newer came. passes v onto newer (g.passes v onto newer came) };
+}
 
 -- and after which a component follows
 known-arguments : (s : Symbol) (os : List Opened) (around : Around) (t : Term) (listed : Bool) (at : ℕ) (st : State)
@@ -232,23 +244,23 @@ named-by p {taken = taken} {around = around} {before = before} {u = u} h closed 
 }
 
 -- a name
-pub component-source : (s : Symbol) (os : List Opened) (around : Around) (t : Term) (at : ℕ) (st : State) (name : List ℕ) (end : ℕ)
-    → Expects s Kind.Component (after t true around) os at st → IsNameAt s.bytes at name end
+pub component-source : (s : Symbol) (os : List Opened) (around : Around) (t : Term) (listed : Bool) (at : ℕ) (st : State) (name : List ℕ) (end : ℕ)
+    → Expects s Kind.Component (after t listed around) os at st → IsNameAt s.bytes at name end
     → Named s os around (within t (source false name)) end st
 unfolding is_eaten is_left number_of_kind parts_of between close unfolding_.behind meaning part byte_of tree_of text_of piece_of letter_of is_there named_so_far extended after
-component-source s os around t at st name end expects is =
+component-source s os around t listed at st name end expects is =
     let p = Production.SourceName in
-    let own = chain-opens (leaves s Kind.Component p 48 refl) (hole s Kind.Component (after t true around) os at st expects) refl refl in
+    let own = chain-opens (leaves s Kind.Component p 48 refl) (hole s Kind.Component (after t listed around) os at st expects) refl refl in
     named-by p (next-part p (name-fills name end own is) refl) (λ byte now began later v. refl)
 
 -- a name of internal linkage
-pub component-internal : (s : Symbol) (os : List Opened) (around : Around) (t : Term) (at : ℕ) (st : State) (name : List ℕ) (end : ℕ)
-    → Expects s Kind.Component (after t true around) os at st → StandsAt s.bytes at (76 ∷ []) → IsNameAt s.bytes (at + 1) name end
+pub component-internal : (s : Symbol) (os : List Opened) (around : Around) (t : Term) (listed : Bool) (at : ℕ) (st : State) (name : List ℕ) (end : ℕ)
+    → Expects s Kind.Component (after t listed around) os at st → StandsAt s.bytes at (76 ∷ []) → IsNameAt s.bytes (at + 1) name end
     → Named s os around (within t (source true name)) end st
 unfolding is_eaten number_of_kind parts_of between close unfolding_.behind meaning part byte_of tree_of text_of piece_of letter_of is_there named_so_far extended after
-component-internal s os around t at st name end expects stands is =
+component-internal s os around t listed at st name end expects stands is =
     let p = Production.InternalName in
-    let own = byte-opens (eats s Kind.Component p 76 refl) (hole s Kind.Component (after t true around) os at st expects) stands refl refl in
+    let own = byte-opens (eats s Kind.Component p 76 refl) (hole s Kind.Component (after t listed around) os at st expects) stands refl refl in
     named-by p (next-part p (name-fills name end own is) refl) (λ byte now began later v. refl)
 
 -- the code of an operator
@@ -264,13 +276,13 @@ operator-fills {s = s} {around = around} {at = at} {st = st} kind {first = first
     filled-at (at + 2) (closes is.production (byte-fills marked rest two.1 refl refl) (is.takes.closes first second around at st st)) (omega arith)
 
 -- an operator that begins with no c
-other-operator : (s : Symbol) (os : List Opened) (around : Around) (t : Term) (at : ℕ) (st : State) (first second : ℕ) (is : IsOperator first second)
-    → choose Kind.OtherOperator first ≡ Some is.production → Expects s Kind.Component (after t true around) os at st → StandsAt s.bytes at (first ∷ second ∷ [])
+other-operator : (s : Symbol) (os : List Opened) (around : Around) (t : Term) (listed : Bool) (at : ℕ) (st : State) (first second : ℕ) (is : IsOperator first second)
+    → choose Kind.OtherOperator first ≡ Some is.production → Expects s Kind.Component (after t listed around) os at st → StandsAt s.bytes at (first ∷ second ∷ [])
     → Named s os around (within t (operator first second)) (at + 2) st
 unfolding is_eaten is_left number_of_kind parts_of between close unfolding_.behind meaning part byte_of tree_of text_of piece_of letter_of is_there named_so_far extended after
-other-operator s os around t at st first second is chosen expects stands =
+other-operator s os around t listed at st first second is chosen expects stands =
     let p = Production.OtherOperatorName in
-    let code = chain-opens (leaves s Kind.Component p 110 refl) (hole s Kind.Component (after t true around) os at st expects) refl refl in
+    let code = chain-opens (leaves s Kind.Component p 110 refl) (hole s Kind.Component (after t listed around) os at st expects) refl refl in
     named-by p (next-part p (operator-fills Kind.OtherOperator is chosen code stands) refl) (λ byte now began later w. refl)
 
 -- what is named inside is named outside
@@ -285,29 +297,29 @@ named-outside s inner outer around t at st passes n = record {
 }
 
 -- an operator that begins with a c
-operator-behind-c : (s : Symbol) (os : List Opened) (around : Around) (t : Term) (at : ℕ) (st : State) (second : ℕ)
+operator-behind-c : (s : Symbol) (os : List Opened) (around : Around) (t : Term) (listed : Bool) (at : ℕ) (st : State) (second : ℕ)
     → Taken s Kind.OperatorAfterC Production.Mark (second ∷ [])
-    → Expects s Kind.Component (after t true around) os at st → StandsAt s.bytes at (99 ∷ second ∷ [])
+    → Expects s Kind.Component (after t listed around) os at st → StandsAt s.bytes at (99 ∷ second ∷ [])
     → Named s os around (within t (operator 99 second)) (at + 2) st
 unfolding is_eaten is_left number_of_kind parts_of between close unfolding_.behind meaning part byte_of tree_of text_of piece_of letter_of is_there named_so_far extended after
-operator-behind-c s os around t at st second marked expects stands =
+operator-behind-c s os around t listed at st second marked expects stands =
     let p = Production.OperatorNameWithC in
     let q = Production.ComponentWithC in
     let two = stands-split s.bytes at (99 ∷ []) (second ∷ []) stands in
-    let rest = byte-opens (eats s Kind.Component q 99 refl) (hole s Kind.Component (after t true around) os at st expects) two.0 refl refl in
+    let rest = byte-opens (eats s Kind.Component q 99 refl) (hole s Kind.Component (after t listed around) os at st expects) two.0 refl refl in
     let code = byte-fills marked (chain-opens (leaves s Kind.ComponentAfterC p 109 refl) rest refl refl) two.1 refl refl in
     named-outside s (open_at rest) os around (within t (operator 99 second)) (at + 2) st (λ v to now comes. (closes q (fill rest v to now comes) refl).comes)
     (named-by p (next-part p (filled-at (at + 2) code (omega arith)) refl) (λ byte now began later w. refl))
 
 -- an operator
-pub component-operator : (s : Symbol) (os : List Opened) (around : Around) (t : Term) (at : ℕ) (st : State) (first second : ℕ)
-    → IsOperator first second → Expects s Kind.Component (after t true around) os at st → StandsAt s.bytes at (first ∷ second ∷ [])
+pub component-operator : (s : Symbol) (os : List Opened) (around : Around) (t : Term) (listed : Bool) (at : ℕ) (st : State) (first second : ℕ)
+    → IsOperator first second → Expects s Kind.Component (after t listed around) os at st → StandsAt s.bytes at (first ∷ second ∷ [])
     → Named s os around (within t (operator first second)) (at + 2) st
 unfolding is_eaten number_of_kind parts_of between opening close unfolding_.behind meaning part byte_of tree_of text_of piece_of letter_of is_there is_chain
-component-operator s os around t at st first second is expects stands = elim is.component [
+component-operator s os around t listed at st first second is expects stands = elim is.component [
   | inl c ↦ subst (λ f. Named s os around (within t (operator f second)) (at + 2) st) (sym c.0)
-      (operator-behind-c s os around t at st second (chosen-byte s Kind.OperatorAfterC Production.Mark second c.1 is.small_second refl (λ f at st. refl)) expects (subst (λ f. StandsAt s.bytes at (f ∷ second ∷ [])) c.0 stands))
-  | inr other ↦ other-operator s os around t at st first second is other expects stands
+      (operator-behind-c s os around t listed at st second (chosen-byte s Kind.OperatorAfterC Production.Mark second c.1 is.small_second refl (λ f at st. refl)) expects (subst (λ f. StandsAt s.bytes at (f ∷ second ∷ [])) c.0 stands))
+  | inr other ↦ other-operator s os around t listed at st first second is other expects stands
 ]
 
 -- the digit of a constructor
@@ -327,28 +339,28 @@ destructor-taken s digit (inr (wide, is)) =
     eats-widely s Kind.DestructorDigit Production.Mark digit wide (elim is [ inl four ↦ rw four refl | inr five ↦ rw five refl ])
 
 -- a constructor
-pub component-constructor : (s : Symbol) (os : List Opened) (around : Around) (t : Term) (at : ℕ) (st : State) (digit : ℕ)
-    → Expects s Kind.Component (after t true around) os at st → StandsAt s.bytes at (67 ∷ digit ∷ []) → IsConstructorDigit s.is_wide digit
+pub component-constructor : (s : Symbol) (os : List Opened) (around : Around) (t : Term) (listed : Bool) (at : ℕ) (st : State) (digit : ℕ)
+    → Expects s Kind.Component (after t listed around) os at st → StandsAt s.bytes at (67 ∷ digit ∷ []) → IsConstructorDigit s.is_wide digit
     → Named s os around (within t (constructor digit)) (at + 2) st
 unfolding is_eaten is_left number_of_kind parts_of between close unfolding_.behind meaning part byte_of tree_of text_of piece_of letter_of is_there named_so_far extended after
-component-constructor s os around t at st digit expects stands is =
+component-constructor s os around t listed at st digit expects stands is =
     let p = Production.Constructor in
     let q = Production.AnyConstructor in
     let two = stands-split s.bytes at (67 ∷ []) (digit ∷ []) stands in
-    let rest = byte-opens (eats s Kind.Component q 67 refl) (hole s Kind.Component (after t true around) os at st expects) two.0 refl refl in
+    let rest = byte-opens (eats s Kind.Component q 67 refl) (hole s Kind.Component (after t listed around) os at st expects) two.0 refl refl in
     let code = byte-fills (constructor-taken s digit is) (chain-opens (leaves s Kind.ConstructorAfterC p 49 refl) rest refl refl) two.1 refl refl in
     named-outside s (open_at rest) os around (within t (constructor digit)) (at + 2) st (λ v to now comes. (closes q (fill rest v to now comes) refl).comes)
     (named-by p (next-part p (filled-at (at + 2) code (omega arith)) refl) (λ byte now began later v. refl))
 
 -- a destructor
-pub component-destructor : (s : Symbol) (os : List Opened) (around : Around) (t : Term) (at : ℕ) (st : State) (digit : ℕ)
-    → Expects s Kind.Component (after t true around) os at st → StandsAt s.bytes at (68 ∷ digit ∷ []) → IsDestructorDigit s.is_wide digit
+pub component-destructor : (s : Symbol) (os : List Opened) (around : Around) (t : Term) (listed : Bool) (at : ℕ) (st : State) (digit : ℕ)
+    → Expects s Kind.Component (after t listed around) os at st → StandsAt s.bytes at (68 ∷ digit ∷ []) → IsDestructorDigit s.is_wide digit
     → Named s os around (within t (destructor digit)) (at + 2) st
 unfolding is_eaten number_of_kind parts_of between close unfolding_.behind meaning part byte_of tree_of text_of piece_of letter_of is_there named_so_far extended after
-component-destructor s os around t at st digit expects stands is =
+component-destructor s os around t listed at st digit expects stands is =
     let p = Production.Destructor in
     let two = stands-split s.bytes at (68 ∷ []) (digit ∷ []) stands in
-    let code = byte-opens (eats s Kind.Component p 68 refl) (hole s Kind.Component (after t true around) os at st expects) two.0 refl refl in
+    let code = byte-opens (eats s Kind.Component p 68 refl) (hole s Kind.Component (after t listed around) os at st expects) two.0 refl refl in
     named-by p (next-part p (filled-at (at + 2) (byte-fills (destructor-taken s digit is) code two.1 refl refl) (omega arith)) refl)
     (λ byte now began later v. refl)
 

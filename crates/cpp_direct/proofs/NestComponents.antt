@@ -128,7 +128,7 @@ constructor-awaits s old between new digit w m p letter next is has closed =
     class-awaits s old new p.kept t (within t (constructor digit)) (codes "::") n closed
     (goes-marked old between new 2 (codes "::") m w) (rw (w.nest, m.nest) refl)
     (component-named s n.outer n.around t (within t (constructor digit)) old.at p.state awaits (old.at + 2) new.at (w.at ∙ m.at)
-    (component-constructor s awaits.inner n.around t old.at p.state digit awaits.awaits (stands-join s.bytes old.at (67 ∷ []) (digit ∷ []) letter next) is))
+    (component-constructor s awaits.inner n.around t awaits.listed old.at p.state digit awaits.awaits (stands-join s.bytes old.at (67 ∷ []) (digit ∷ []) letter next) is))
     (constructor-prints t n.bytes n.is_nest.class (closed-prints p.scope.names closed n.is_nest.prints) (n.is_nest.names_class has closed) digit) refl refl
 
 -- likewise for a destructor
@@ -143,7 +143,7 @@ destructor-awaits s old between new digit w m p letter next is has closed =
     class-awaits s old new p.kept t (within t (destructor digit)) (codes "::~") n closed
     (goes-marked old between new 2 (codes "::~") m w) (rw (w.nest, m.nest) refl)
     (component-named s n.outer n.around t (within t (destructor digit)) old.at p.state awaits (old.at + 2) new.at (w.at ∙ m.at)
-    (component-destructor s awaits.inner n.around t old.at p.state digit awaits.awaits (stands-join s.bytes old.at (68 ∷ []) (digit ∷ []) letter next) is))
+    (component-destructor s awaits.inner n.around t awaits.listed old.at p.state digit awaits.awaits (stands-join s.bytes old.at (68 ∷ []) (digit ∷ []) letter next) is))
     (destructor-prints t n.bytes n.is_nest.class (closed-prints p.scope.names closed n.is_nest.prints) (n.is_nest.names_class has closed) digit) refl refl
 
 -- The class is written: the component is named.
@@ -287,10 +287,10 @@ source-read : (s : Symbol) (os : List Opened) (around : Around) (t : Term) (at :
     → from ≡ at + letters internal → end ≡ to → NestNamed s os around (within t (source internal name)) end st
 source-read s os around t at st a true name to from end letter is moved same =
     component-named s os around t (within t (source true name)) at st a to end same
-    (component-internal s a.inner around t at st name to a.awaits (letter refl) (subst (λ k. IsNameAt s.bytes k name to) moved is))
+    (component-internal s a.inner around t a.listed at st name to a.awaits (letter refl) (subst (λ k. IsNameAt s.bytes k name to) moved is))
 source-read s os around t at st a false name to from end letter is moved same =
     component-named s os around t (within t (source false name)) at st a to end same
-    (component-source s a.inner around t at st name to a.awaits (subst (λ k. IsNameAt s.bytes k name to) (none moved) is))
+    (component-source s a.inner around t a.listed at st name to a.awaits (subst (λ k. IsNameAt s.bytes k name to) (none moved) is))
   where
     none : from ≡ at + 0 → from ≡ at
     none e = omega (arith, e)
@@ -314,7 +314,7 @@ operator-read : (s : Symbol) (os : List Opened) (around : Around) (t : Term) (at
 operator-read s os around t at st a first second to end there same =
     let is : IsOperator first second = operator-listed first second there.known in
     component-named s os around t (within t (operator first second)) at st a (at + 2) end (same ∙ there.ends)
-    (component-operator s a.inner around t at st first second is a.awaits there.stands)
+    (component-operator s a.inner around t a.listed at st first second is a.awaits there.stands)
 
 -- An operator follows the name so far, and arguments may follow it.
 pub operator-follows : (s : Symbol) (old marked read : Direct) (from to first second : ℕ) → IsWriting s old steps.Component

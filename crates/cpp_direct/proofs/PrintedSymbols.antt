@@ -4,15 +4,16 @@ use Rattle.sym_print.specs.declared.detail.Detail.{Detail}
 use Rattle.sym_print.specs.Details.{has_arguments, has_parameters}
 use Rattle.sym_print.specs.Unfold.{text}
 use Rattle.sym_print.specs.Unshared.{text_of, cost_of}
-use Rattle.cpp_grammar.specs.Term.{Qualifiers, RefQualifier, non_virtual, by_table, Thunk, adjusting, covariant, Term, symbol, function, object, special, of_name, thunk, clone, builtin, nil, list, absent}
+use Rattle.cpp_grammar.specs.Term.{Qualifiers, RefQualifier, any_value, lvalue_only, rvalue_only, explicit_object, non_virtual, by_table, Thunk, adjusting, covariant, Term, symbol, function, object, special, of_name, thunk, clone, builtin, nil, list, absent}
 use Rattle.cpp_grammar.specs.Scope.{has_return_type}
 use Rattle.cpp_grammar.specs.Texts.{look_up, same_bytes, special_texts, named_special_texts}
 use Rattle.cpp_grammar.specs.Items.{root, full, left, right, first, Context, closed}
 use Rattle.cpp_grammar.specs.Values.{Value, tree_of, qualifiers_of, ref_of}
 use Rattle.cpp_grammar.specs.Meaning.{is_void, is_nil, parameters, encoding_of}
-use Rattle.cpp_grammar.specs.Parts.{as_item, says, text_part, list_part, types_of, encoding_text, function_bare, function_full, thunk_text, clone_text, full_parts, left_parts, root_parts, parts_in, not_empty}
+use Rattle.cpp_grammar.specs.Parts.{as_item, says, text_part, list_part, types_of, encoding_text, begins_parameters, function_bare, function_full, thunk_text, clone_text, full_parts, left_parts, root_parts, parts_in, not_empty}
 use Rattle.cpp_grammar.specs.Answer.{shown, root_item}
 use Rattle.cpp_direct.specs.declared.open.Mark.{Mark}
+use Rattle.cpp_direct.specs.declared.open.Mark.TheVariants as marks
 use Rattle.cpp_direct.specs.Marks.{has_const, called_on}
 use Rattle.cpp_direct.specs.Prints.{written_of, PrintsName, PrintsIn, IsElement, Shows, list_of, joined, PrintEachIn, PrintAllIn, IsUnmarked, written, written_in, unmarked_parts}
 use Rattle.cpp_direct.specs.WriterInvariant.{qualifiers, list_with, plain_encoding, IsNamedSo}
@@ -33,18 +34,49 @@ plain_parts : (detail : Detail) → has_parameters detail ≡ true → (name : T
 unfolding parts_in full_parts function_full
 plain_parts detail shown name q ref items = ap (λ b. function_full b name q ref absent items) shown
 
+-- where its object is no parameter, a parenthesis begins them
+opened_plainly : (name : Term) (q : Qualifiers) (ref : RefQualifier) (items : Term) → begins_parameters ref items ≡ codes "("
+    → function_bare true name q ref items ≡ (as_item left closed name ∷ says "(" ∷ list_part first (types_of name) items) ++ (says ")" ∷ text_part (encoding_text q ref))
+unfolding function_bare
+opened_plainly name q ref items opens = ap (λ o. (as_item left closed name ∷ text o ∷ list_part first (types_of name) items) ++ (says ")" ∷ text_part (encoding_text q ref))) opens
+
+pub nothing-opens : (ref : RefQualifier) → begins_parameters ref nil ≡ codes "("
+unfolding begins_parameters
+nothing-opens any_value = refl
+nothing-opens lvalue_only = refl
+nothing-opens rvalue_only = refl
+nothing-opens explicit_object = refl
+
+-- no mark is that of a function with an explicit object, so a parenthesis begins the parameters
+pub never-explicit : (mark : Mark) → called_on mark ≢ explicit_object
+never-explicit marks.Plain e = cc e
+never-explicit marks.Const e = cc e
+never-explicit marks.Lvalue e = cc e
+never-explicit marks.ConstLvalue e = cc e
+never-explicit marks.Rvalue e = cc e
+never-explicit marks.ConstRvalue e = cc e
+
+pub mark-opens : (mark : Mark) (items : Term) → begins_parameters (called_on mark) items ≡ codes "("
+unfolding begins_parameters
+mark-opens marks.Plain items = refl
+mark-opens marks.Const items = refl
+mark-opens marks.Lvalue items = refl
+mark-opens marks.ConstLvalue items = refl
+mark-opens marks.Rvalue items = refl
+mark-opens marks.ConstRvalue items = refl
+
 -- A function that has no return type prints its name, its parameters and its qualifiers.
 pub function-shows : {detail : Detail} → has_parameters detail ≡ true → (name : Term) (b : List ℕ) → PrintsName detail name b → (items : Term) (l : List ℕ)
     → PrintsItems detail (types_of name) items l
-    → (q : Qualifiers) (ref : RefQualifier)
+    → (q : Qualifiers) (ref : RefQualifier) → begins_parameters ref items ≡ codes "("
     → Shows detail (function name q ref absent items) (b ++ codes "(" ++ l ++ codes ")" ++ encoding_text q ref)
-unfolding parts_in full_parts function_full function_bare not_empty
-function-shows {detail} shown name b p items l all q ref =
+unfolding parts_in full_parts function_full not_empty
+function-shows {detail} shown name b p items l all q ref opens =
     let c = types_of name in
     let f = function name q ref absent items in
     let front = as_item left closed name ∷ says "(" ∷ list_part first c items in
     let behind = says ")" ∷ text_part (encoding_text q ref) in
-    let is = plain_parts detail shown name q ref items in
+    let is = plain_parts detail shown name q ref items ∙ opened_plainly name q ref items opens in
     record {
       shown_text = text_shown detail full closed f (front ++ behind) is refl ∙ text_append detail front behind
           ∙ signed_text (text_of (written_of detail left closed name)) (text_of (shown_by detail (list_part first c items)))
@@ -290,7 +322,7 @@ pub void-shows : {detail : Detail} → has_parameters detail ≡ true → (name 
     → Shows detail (function name q ref absent nil) (b ++ codes "()" ++ encoding_text q ref)
 void-shows {detail} shown name b p q ref =
     subst (λ l. Shows detail (function name q ref absent nil) l) (none_bracketed b (encoding_text q ref))
-    (function-shows shown name b p nil [] (list-in detail (types_of name) 6 [] [] (omega arith) (none-print-in detail (types_of name) 6)) q ref)
+    (function-shows shown name b p nil [] (list-in detail (types_of name) 6 [] [] (omega arith) (none-print-in detail (types_of name) 6)) q ref (nothing-opens ref))
 
 -- Without items it shows the name.
 pub object-encoded : {detail : Detail} (v : Value) (b : List ℕ) → PrintsName detail (tree_of v) b

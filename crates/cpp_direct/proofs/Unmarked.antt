@@ -10,7 +10,7 @@ pub use Rattle.sym_direct.proofs.Seen.{rest-unmarked, more-unmarked, unmarked-ap
 use Rattle.sym_direct.proofs.Seen.{first-unmarked, test-unmarked}
 use Rattle.cpp_grammar.specs.Texts.{Naming, look_up, same_bytes, builtin_texts, operator_texts, abbreviation_texts, special_texts, literal_endings}
 use Rattle.cpp_grammar.specs.Parts.{source_text, begins_with, thunk_text, encoding_text, qualifier_text, ref_text}
-use Rattle.cpp_grammar.specs.Term.{Thunk, adjusting, covariant, non_virtual, by_table, Qualifiers, RefQualifier, any_value, lvalue_only, rvalue_only}
+use Rattle.cpp_grammar.specs.Term.{Thunk, adjusting, covariant, non_virtual, by_table, Qualifiers, RefQualifier, any_value, lvalue_only, rvalue_only, explicit_object}
 use Rattle.cpp_direct.specs.AllHoles.{IsNameAt, IsSuffix}
 use Rattle.cpp_grammar.specs.Grammar.{among}
 use Rattle.cpp_direct.specs.ItemBytes.{is_suffix_byte}
@@ -124,6 +124,7 @@ unfolding ref_text
 ref-unmarked any_value = refl
 ref-unmarked lvalue_only = refl
 ref-unmarked rvalue_only = refl
+ref-unmarked explicit_object = refl
 
 pub qualifiers-unmarked : (q : Qualifiers) (ref : RefQualifier) → IsUnmarked (encoding_text q ref)
 unfolding encoding_text qualifier_text

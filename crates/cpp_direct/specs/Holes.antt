@@ -13,7 +13,7 @@ use Rattle.sym_direct.specs.Holes.{Language}
 use Rattle.cpp_grammar.specs.declared.kind.Kind.{Kind}
 use Rattle.cpp_grammar.specs.Grammar.{number_of_kind}
 use Rattle.cpp_grammar.specs.Term.{Term, any_value, instance, list}
-use Rattle.cpp_grammar.specs.Values.{Candidate, State, Around, Value, nothing_there, tree, named, unqualified}
+use Rattle.cpp_grammar.specs.Values.{by_all, Candidate, State, Around, Value, nothing_there, tree, named, unqualified}
 use Rattle.cpp_grammar.specs.References.{is_function_type}
 use Rattle.cpp_grammar.specs.Between.{after, no_items}
 use Rattle.cpp_grammar.specs.Unfolding.{cpp, first_around, first_state}
@@ -60,7 +60,7 @@ pub record Awaits (s : Symbol) (kind : Kind) (around : Around) (at : ℕ) (st : 
 
 -- a tree as a candidate that is made here
 abbrev pub candidate : Around → Term → Candidate
-candidate around t = record { tree = t; encoding = around.encoding; in_lambda = around.in_lambda; is_held = false }
+candidate around t = record { tree = t; encoding = around.encoding; in_lambda = around.in_lambda; counted = by_all }
 
 -- one more candidate, made here
 abbrev pub with_candidate : Around → Term → State → State
@@ -155,10 +155,12 @@ pub record NestGoesOn (s : Symbol) (kind : Kind) (outer : List Opened) (around :
   pub awaits : Expects s kind (after t listed around) inner at st
   pub passes : SamePasses s inner outer
 
--- A component of a nested name is expected next.
-abbrev pub AwaitsComponent : (s : Symbol) (outer : List Opened) (around : Around) (t : Term) (at : ℕ) (st : State) → Type 0
-AwaitsComponent s outer around t at st = Awaits s Kind.Component (after t true around) at st (λ inner.
-    (u : Term) (at : ℕ) (st : State) → Comes s inner (tree u false) at st → NestGoesOn s Kind.NestTail outer around u false at st)
+-- A component of a nested name is expected next. The name so far has become a candidate, unless it was one before.
+pub record AwaitsComponent (s : Symbol) (outer : List Opened) (around : Around) (t : Term) (at : ℕ) (st : State) : Type 0 where
+  pub listed : Bool
+  pub inner : List Opened
+  pub awaits : Expects s Kind.Component (after t listed around) inner at st
+  pub onward : (u : Term) (at : ℕ) (st : State) → Comes s inner (tree u false) at st → NestGoesOn s Kind.NestTail outer around u false at st
 
 -- A std name was read at the front of a nested one, or a component, with or without arguments after it, or tags.
 pub record NestNamed (s : Symbol) (outer : List Opened) (around : Around) (t : Term) (at : ℕ) (st : State) : Type 0 where

@@ -4,7 +4,7 @@ use Rattle.std.specs.List.{AllByRecursion}
 use Rattle.sym_core.specs.declared.NumberKind.TheVariants.{Digits}
 use Rattle.sym_demangle.specs.Mangled.{StandsFor}
 use Rattle.cpp_grammar.specs.declared.kind.Kind.{Kind}
-use Rattle.cpp_grammar.specs.Term.{RefQualifier, any_value, lvalue_only, rvalue_only, Term, symbol, special, integer, address_of, pack}
+use Rattle.cpp_grammar.specs.Term.{RefQualifier, any_value, lvalue_only, rvalue_only, explicit_object, Term, symbol, special, integer, address_of, pack}
 use Rattle.cpp_grammar.specs.Values.{State, Around, Value, tree, named, tree_of, signed_digits}
 use Rattle.cpp_grammar.specs.Between.{in_name, in_types, inside, no_items}
 use Rattle.cpp_grammar.specs.Meaning.{encoding_of}
@@ -105,6 +105,7 @@ abbrev pub mark_letters : (const : Bool) → RefQualifier → List ℕ
 mark_letters const any_value = const_letter const
 mark_letters const lvalue_only = const_letter const ++ 82 ∷ []
 mark_letters const rvalue_only = const_letter const ++ 79 ∷ []
+mark_letters const explicit_object = const_letter const ++ 72 ∷ []
 
 -- how a nested name with these qualifiers begins
 abbrev pub nest_marks : (const : Bool) → RefQualifier → List ℕ

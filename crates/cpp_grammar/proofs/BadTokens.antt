@@ -11,13 +11,13 @@ use Rattle.sym_demangle.specs.Mangled.{IsBadToken}
 use Rattle.cpp_grammar.specs.declared.production.Production.{Production}
 use Rattle.cpp_grammar.specs.Term.{Term, parameter}
 use Rattle.cpp_grammar.specs.Scope.{count, element, is_list, has_pack, length_if_pack, is_open, pack_length, Free, none_free, one_free, several_free, free_in}
-use Rattle.cpp_grammar.specs.Values.{Candidate, State, Around, prefix_tree, Value, tree, text_of, part, local_number}
+use Rattle.cpp_grammar.specs.Values.{Lists, both_lists, longer_list, shorter_list, no_list, Candidate, State, Around, prefix_tree, Value, tree, text_of, part, local_number}
 use Rattle.cpp_grammar.specs.References.{appended, with_packs, packs_in, substituted, parameter_named}
 use Rattle.cpp_grammar.specs.Between.{listed_so_far, parameter_so_far, index_of, between, next, argument_so_far}
 use Rattle.cpp_grammar.specs.Row.{Before, quiet, goes, becomes, tests, holds, unread, before_part}
 use Rattle.cpp_grammar.specs.Meant.{tested as tested_, done}
 use Rattle.cpp_grammar.specs.Rows.{row_of}
-use Rattle.cpp_grammar.specs.Rescoping.{generic_so_far, parameter_here, is_foreign, in_scope, under_scope, with_free, restated, substituted_wide, numbered, named_alike, is_instance, holder_so_far, between_wide, close_wide, cpp_wide, unfold_wide, argument_here}
+use Rattle.cpp_grammar.specs.Rescoping.{generic_so_far, parameter_here, is_foreign, in_scope, under_scope, with_free, restated, substituted_wide, numbered, place_in, named_in, left_at, with_lists, listed_by, opening_wide, is_instance, holder_so_far, between_wide, close_wide, cpp_wide, unfold_wide, argument_here}
 use Rattle.cpp_grammar.proofs.Chosen.{either, if_there}
 use Rattle.cpp_grammar.proofs.Ways.{Way, reading_by, abi_way, wide_way}
 use Rattle.cpp_grammar.specs.Unfolding.{last_token, number_tested, opening, close, production_at, byte_of, cpp, first_around, first_state, first_tree, unfold_cpp}
@@ -129,9 +129,25 @@ unfolding substituted_wide
 wide_substituted_bad around place None state = tt
 wide_substituted_bad around place (Some c) state = either IsBad (is_foreign around c) _ _ (λ h. restated_bad around place c.tree state) (λ h. substituted_bad around place (Some c) state)
 
+listed_bad : (lists : Lists) (around : Around) (place number : ℕ) (state : State) → IsBad (listed_by lists around place number state)
+unfolding listed_by
+listed_bad longer_list around place number state = wide_substituted_bad around place (named_in false state.candidates number) state
+listed_bad shorter_list around place number state = wide_substituted_bad around place (named_in true state.candidates number) state
+listed_bad both_lists around place number state = tt
+listed_bad no_list around place number state = tt
+
 numbered_bad : (around : Around) (place number : ℕ) (state : State) → IsBad (numbered around place number state)
 unfolding numbered
-numbered_bad around place number state = wide_substituted_bad around place (named_alike state.candidates number) state
+numbered_bad around place number state =
+    let lists = left_at place number state in
+    either IsBad (nat_eq (place_in false state.candidates number) (place_in true state.candidates number)) _ _ (λ h. wide_substituted_bad around place (named_in false state.candidates number) state)
+    (λ h. listed_bad lists around place number (with_lists lists state))
+
+wide_opening_bad : (p : Production) (parts : Forest) (place : ℕ) (state : State) → IsBad (opening_wide p parts place state)
+unfolding opening_wide
+wide_opening_bad Production.NestTemplate parts place state = tt
+wide_opening_bad Production.QualifiedPlain parts place state = tt
+wide_opening_bad p parts place state = opening_bad p parts place state
 
 holder_bad : (around : Around) (place : ℕ) (state : State) → IsBad (holder_so_far around place state)
 unfolding holder_so_far listed_so_far
@@ -142,7 +158,7 @@ unfolding between_wide
 wide_between_bad Production.NestParameter around place (v ∷ []) state = here_bad around place (index_of v) state
 wide_between_bad Production.Parameter around place (v ∷ []) state = here_bad around place (index_of v) state
 wide_between_bad Production.ParameterArgument around place (v ∷ []) state = here_bad around (place - 1) (index_of v) state
-wide_between_bad Production.ParameterExpression around place (v ∷ []) state = argument_here_bad around place (index_of v) state
+wide_between_bad Production.ParameterExpression around place (v ∷ []) state = argument_here_bad around (place - 1) (index_of v) state
 wide_between_bad Production.HeldArguments around place [] state = tt
 wide_between_bad Production.Holder around place (v ∷ []) state = holder_bad around place state
 wide_between_bad p around place vs state = between_bad p around place vs state
@@ -156,7 +172,8 @@ wide_close_bad p byte around place began vs state = close_bad p byte around plac
 
 -- ## Either reading
 
-module _ (w : Way) (between_is_bad : (p : Production) (around : Around) (place : ℕ) (vs : List Value) (state : State) → IsBad (w.between p around place vs state))
+module _ (w : Way) (opening_is_bad : (p : Production) (parts : Forest) (place : ℕ) (state : State) → IsBad (w.opening p parts place state))
+    (between_is_bad : (p : Production) (around : Around) (place : ℕ) (vs : List Value) (state : State) → IsBad (w.between p around place vs state))
     (close_is_bad : (p : Production) (byte : ℕ) (around : Around) (place : ℕ) (began : State) (vs : List Value) (state : State) → IsBad (w.close p byte around place began vs state)) where
   mutual
     unfolding reading_by
@@ -165,8 +182,8 @@ module _ (w : Way) (between_is_bad : (p : Production) (around : Around) (place :
     tree_bad (branch rule taken parts) around place state =
         let whole = standing rule taken place around state in
         let p = production_at rule.number in
-        bad_bind (opening p parts place state) (λ begun. unfold_forest (reading_by w) whole [] (place + length taken) parts begun >>= λ inner. w.close p (byte_of taken) around place state inner.value inner.state >>= alone)
-        (opening_bad p parts place state)
+        bad_bind (w.opening p parts place state) (λ begun. unfold_forest (reading_by w) whole [] (place + length taken) parts begun >>= λ inner. w.close p (byte_of taken) around place state inner.value inner.state >>= alone)
+        (opening_is_bad p parts place state)
         (λ begun. bad_bind (unfold_forest (reading_by w) whole [] (place + length taken) parts begun) (λ inner. w.close p (byte_of taken) around place state inner.value inner.state >>= alone)
         (forest_bad parts whole [] (place + length taken) begun)
         (λ inner. bad_bind (w.close p (byte_of taken) around place state inner.value inner.state) alone (close_is_bad p (byte_of taken) around place state inner.value inner.state) (λ one. tt)))
@@ -185,8 +202,8 @@ module _ (w : Way) (between_is_bad : (p : Production) (around : Around) (place :
 
 pub refused_for_a_token : (shape : Tree) → IfErr (unfold_cpp shape) IsBadToken
 unfolding unfold_cpp cpp reading_by abi_way
-refused_for_a_token shape = bad_bind (unfold_tree cpp first_around 0 shape first_state) (λ whole. Ok (first_tree whole.value)) (tree_bad abi_way between_bad close_bad shape first_around 0 first_state) (λ whole. tt)
+refused_for_a_token shape = bad_bind (unfold_tree cpp first_around 0 shape first_state) (λ whole. Ok (first_tree whole.value)) (tree_bad abi_way opening_bad between_bad close_bad shape first_around 0 first_state) (λ whole. tt)
 
 pub wide_refused_for_a_token : (shape : Tree) → IfErr (unfold_wide shape) IsBadToken
 unfolding unfold_wide cpp_wide reading_by wide_way
-wide_refused_for_a_token shape = bad_bind (unfold_tree cpp_wide first_around 0 shape first_state) (λ whole. Ok (first_tree whole.value)) (tree_bad wide_way wide_between_bad wide_close_bad shape first_around 0 first_state) (λ whole. tt)
+wide_refused_for_a_token shape = bad_bind (unfold_tree cpp_wide first_around 0 shape first_state) (λ whole. Ok (first_tree whole.value)) (tree_bad wide_way wide_opening_bad wide_between_bad wide_close_bad shape first_around 0 first_state) (λ whole. tt)

@@ -4,10 +4,10 @@ use Rattle.sym_core.specs.declared.refusal.Refusal.TheVariants.{BadReference}
 use Rattle.std.proofs.lemmas.Bool.{true≢false, false≢true}
 use Rattle.sym_link.specs.Reading.{Next, ◌>>=◌}
 use Rattle.cpp_grammar.specs.declared.production.Production.{Production}
-use Rattle.cpp_grammar.specs.Rescoping.{generic_number, generic_so_far, parameter_here, argument_here, with_holder, is_instance, holder_so_far, held_twice_unless, between_wide}
+use Rattle.cpp_grammar.specs.Rescoping.{generic_number, generic_so_far, parameter_here, argument_here, with_holder, is_instance, holder_so_far, counted_unless, between_wide}
 use Rattle.cpp_grammar.specs.Term.{Term, holder, parameter}
 use Rattle.cpp_grammar.specs.Scope.{is_open}
-use Rattle.cpp_grammar.specs.Values.{State, Around, prefix_tree, prefix_listed, Value, nothing_there, tree, tree_of, part}
+use Rattle.cpp_grammar.specs.Values.{by_some, State, Around, prefix_tree, prefix_listed, Value, nothing_there, tree, tree_of, part}
 use Rattle.cpp_grammar.specs.References.{appended, parameter_named}
 use Rattle.cpp_grammar.specs.Between.{in_signature, under_expansion, after, inside, Going, listed_so_far, parameter_so_far, argument_so_far, index_of, next, between}
 use Rattle.cpp_grammar.specs.Row.{Where, as_before, in_its_name, in_its_types, in_a_signature, under_it, nameless, after_part, after_the_name, Before, quiet, goes, becomes, tests, holds, unread, before_part}
@@ -17,7 +17,7 @@ use Rattle.cpp_grammar.proofs.Ways.{has_signature}
 use Rattle.cpp_grammar.proofs.Chosen.{either}
 use Rattle.cpp_grammar.proofs.Steps.{all_pass, step_passes, is_here, goes_here}
 use Rattle.cpp_grammar.proofs.ClosedValues.{all_where, Good, AllGood, GoodPrefix, held, good_nothing, good_part, good_prefix, made_tree_good}
-use Rattle.cpp_grammar.proofs.ClosedStates.{Bare, Within, Grows, grows_same, grows_one, grows_held, grows_packs, twice_grows, gained_grows, parameter_good, parameter_grows, ok_same, behind_bind}
+use Rattle.cpp_grammar.proofs.ClosedStates.{Bare, Within, Grows, grows_same, grows_one, grows_held, grows_packs, unless_grows, gained_grows, parameter_good, parameter_grows, ok_same, behind_bind}
 
 -- what surrounds a part, which is in the same encoding
 pub record Fits (own : Bool) (around inner : Around) : Type 0 where
@@ -214,11 +214,11 @@ holder_goes around place at state n pre e =
     (λ is h. named_goes around at state (with_holder around named state) named n good (grows_held true around at named state good) h) e
 
 base_goes : (around : Around) (at : ℕ) (state : State) (n : Next Value State Around) → GoodPrefix (Bare true around) around.prefix →
-    ◌≡◌ {A = Going} (next [] (inside around) (held_twice_unless (prefix_listed around.prefix) around (prefix_tree around.prefix) state)) (Ok n) → GoesOn true around at state n
+    ◌≡◌ {A = Going} (next [] (inside around) (counted_unless (prefix_listed around.prefix) by_some around (prefix_tree around.prefix) state)) (Ok n) → GoesOn true around at state n
 base_goes around at state n pre e =
     let listed = prefix_listed around.prefix in
     let t = prefix_tree around.prefix in
-    goes_to true around at state [] (inside around) (held_twice_unless listed around t state) n tt (twice_grows around at listed t state (good_prefix (Bare true around) around.prefix pre)) (fits_inside true around) e
+    goes_to true around at state [] (inside around) (counted_unless listed by_some around t state) n tt (unless_grows around at listed by_some t state (good_prefix (Bare true around) around.prefix pre)) (fits_inside true around) e
 
 pub wide_goes : (production : Production) (around : Around) (place : ℕ) (vs : List Value) (state : State) (n : Next Value State Around) (at : ℕ) → StaysInside production →
     GoodPrefix (Bare true around) around.prefix → AllGood (Within true production around) vs → between_wide production around place vs state ≡ Ok n → Goes true (Within true production around) around at state n
@@ -226,7 +226,7 @@ unfolding between_wide
 wide_goes Production.Parameter around place (v ∷ []) state n at stays pre all e = here_within Production.Parameter around place at state (index_of v) n pre e
 wide_goes Production.ParameterArgument around place (v ∷ []) state n at stays pre all e = here_within Production.ParameterArgument around (place - 1) at state (index_of v) n pre e
 wide_goes Production.ParameterExpression around place (v ∷ []) state n at stays pre all e =
-    within true Production.ParameterExpression around at state n (argument_here_goes around place at state (index_of v) n pre e)
+    within true Production.ParameterExpression around at state n (argument_here_goes around (place - 1) at state (index_of v) n pre e)
 wide_goes Production.HeldArguments around place [] state n at stays pre all e = within true Production.HeldArguments around at state n (base_goes around at state n pre e)
 wide_goes Production.Holder around place (v ∷ []) state n at stays pre all e = within true Production.Holder around at state n (holder_goes around place at state n pre e)
 wide_goes Production.NestParameter around place (v ∷ []) state n at stays pre all e = here_within Production.NestParameter around place at state (index_of v) n pre e

@@ -12,9 +12,9 @@ use Rattle.cpp_grammar.specs.Scope.{count, element, is_list, has_pack, length_if
 use Rattle.cpp_grammar.specs.Closed.{ScopesAreClosed}
 use Rattle.sym_core.specs.declared.NumberKind.TheVariants.{Seq36}
 use Rattle.sym_core.specs.Value.{counted_value}
-use Rattle.cpp_grammar.specs.Values.{Candidate, State, Around, prefix_tree, prefix_listed, Value, nothing_there, letter, tree, piece, pair, is_listed, text_of, local_number, part, tree_of}
-use Rattle.cpp_grammar.specs.References.{appended, is_function_type, with_type, with_unqualified, with_prefix, with_packs, packs_in, substituted, parameter_named}
-use Rattle.cpp_grammar.specs.Rescoping.{lambda_with, as_generic_lambda, with_holder, with_held, held_unless, held_twice_unless, counted_base, is_counted_alike, is_last_counted, named_alike, is_foreign, in_scope, under_scope, with_free, restated, substituted_wide, numbered, close_wide}
+use Rattle.cpp_grammar.specs.Values.{Counted, by_all, by_newer, by_gcc, Candidate, Lists, both_lists, longer_list, shorter_list, no_list, State, Around, prefix_tree, prefix_listed, Value, nothing_there, letter, tree, piece, pair, is_listed, text_of, local_number, part, tree_of}
+use Rattle.cpp_grammar.specs.References.{appended, appended_by, is_function_type, with_type, with_unqualified, with_prefix, with_packs, packs_in, substituted, parameter_named}
+use Rattle.cpp_grammar.specs.Rescoping.{lambda_with, as_generic_lambda, with_holder, counted_unless, counted_base, place_in, named_in, left_at, with_lists, listed_by, is_foreign, in_scope, under_scope, with_free, restated, substituted_wide, numbered, close_wide}
 use Rattle.cpp_grammar.specs.Meaning.{parameters, meaning}
 use Rattle.cpp_grammar.specs.Unfolding as unfolding_
 use Rattle.cpp_grammar.specs.Unfolding.{close}
@@ -85,21 +85,16 @@ new_append own around end (c ∷ cs) ds f g = (f.0, new_append own around end cs
 pub grows_same : (own : Bool) (around : Around) (end : ℕ) (old new : State) → new.candidates ≡ old.candidates → Grows own around end old new
 grows_same own around end old new same = record { more = []; is = same ∙ sym (append-nil old.candidates); each = tt }
 
-pub grows_one : (own : Bool) (around : Around) (end : ℕ) (t : Term) (state : State) → Good (Bare own around) t → Grows own around end state (appended around t state)
-unfolding appended
-grows_one own around end t state good = record {
-  more = record { tree = t; encoding = around.encoding; in_lambda = around.in_lambda; is_held = false } ∷ [];
+pub grows_by : (counted : Counted) (own : Bool) (around : Around) (end : ℕ) (t : Term) (state : State) → Good (Bare own around) t → Grows own around end state (appended_by counted around t state)
+grows_by counted own around end t state good = record {
+  more = record { tree = t; encoding = around.encoding; in_lambda = around.in_lambda; counted = counted } ∷ [];
   is = refl;
   each = (record { scopes = good.scopes tt; place = inl (refl, λ none outside. good.closed (none, outside)) }, tt);
 }
 
-pub grows_held : (own : Bool) (around : Around) (end : ℕ) (t : Term) (state : State) → Good (Bare own around) t → Grows own around end state (with_holder around t state)
-unfolding with_holder
-grows_held own around end t state good = record {
-  more = record { tree = t; encoding = around.encoding; in_lambda = around.in_lambda; is_held = true } ∷ [];
-  is = refl;
-  each = (record { scopes = good.scopes tt; place = inl (refl, λ none outside. good.closed (none, outside)) }, tt);
-}
+pub grows_one : (own : Bool) (around : Around) (end : ℕ) (t : Term) (state : State) → Good (Bare own around) t → Grows own around end state (appended around t state)
+unfolding appended
+grows_one own around end t state good = grows_by by_all own around end t state good
 
 pub grows_then : (own : Bool) (around : Around) (a b : ℕ) (x y z : State) → a ≤ b → Grows own around a x y → Grows own around b y z → Grows own around b x z
 grows_then own around a b x y z le f g = record {
@@ -107,6 +102,13 @@ grows_then own around a b x y z le f g = record {
   is = g.is ∙ ap (λ cs. cs ++ g.more) f.is ∙ append_assoc x.candidates f.more g.more;
   each = new_append own around b f.more g.more (new_later own around a b f.more le f.each) g.each;
 }
+
+pub grows_held : (own : Bool) (around : Around) (end : ℕ) (t : Term) (state : State) → Good (Bare own around) t → Grows own around end state (with_holder around t state)
+unfolding with_holder
+grows_held own around end t state good =
+    either (λ s. Grows own around end state (appended_by by_newer around t s)) (prefix_listed around.prefix) (appended around t state) state
+    (λ is. grows_then own around end end state (appended around t state) (appended_by by_newer around t (appended around t state)) (omega arith) (grows_one own around end t state good) (grows_by by_newer own around end t (appended around t state) good))
+    (λ is. grows_by by_newer own around end t state good)
 
 old_append : (own : Bool) (around : Around) (at : ℕ) (cs ds : List Candidate) → AllOld own around at cs → AllOld own around at ds → AllOld own around at (cs ++ ds)
 old_append own around at [] ds f g = g
@@ -358,16 +360,27 @@ unfolding substituted_wide
 wide_substituted_good around place at None state r old e = let clash : ◌≡◌ {A = Result (Found Value State) Refusal} (Err (BadReference place)) (Ok r) = e in absurd cc
 wide_substituted_good around place at (Some c) state r old e = wide_named_good around place at c state r (old c refl) e
 
--- what a number names is among the candidates
-alike_old : (own : Bool) (around : Around) (at : ℕ) (cs : List Candidate) (n : ℕ) (c : Candidate) → AllOld own around at cs → named_alike cs n ≡ Some c → IsOld own around at c
-unfolding named_alike
-alike_old own around at cs n c all e =
-    either (λ o. o ≡ Some c → IsOld own around at c) (is_counted_alike cs n) _ _ (λ is h. old_get own around at cs n c all h)
-    (λ is h. either (λ o. o ≡ Some c → IsOld own around at c) (is_last_counted cs n) _ _ (λ last more. old_get own around at cs (n + 1) c all more) (λ last more. absurd cc) h) e
+-- what a number names in a list is among the candidates
+named_in_good : (is_shorter : Bool) (around : Around) (place at n : ℕ) (state : State) (r : Found Value State) → AllOld true around at state.candidates →
+    substituted_wide around place (named_in is_shorter state.candidates n) state ≡ Ok r → IsNamed around state r
+unfolding named_in
+named_in_good is_shorter around place at n state r all e =
+    let m = place_in is_shorter state.candidates n in
+    wide_substituted_good around place at (slice_get state.candidates m) state r (λ c is. old_get true around at state.candidates m c all is) e
+
+listed_good : (lists : Lists) (around : Around) (place at n : ℕ) (state : State) (r : Found Value State) → AllOld true around at state.candidates → listed_by lists around place n state ≡ Ok r → IsNamed around state r
+unfolding listed_by
+listed_good longer_list around place at n state r all e = named_in_good false around place at n state r all e
+listed_good shorter_list around place at n state r all e = named_in_good true around place at n state r all e
+listed_good both_lists around place at n state r all e = absurd cc
+listed_good no_list around place at n state r all e = absurd cc
 
 numbered_good : (around : Around) (place at n : ℕ) (state : State) (r : Found Value State) → AllOld true around at state.candidates → numbered around place n state ≡ Ok r → IsNamed around state r
-unfolding numbered
-numbered_good around place at n state r all e = wide_substituted_good around place at (named_alike state.candidates n) state r (λ c is. alike_old true around at state.candidates n c all is) e
+unfolding numbered with_lists
+numbered_good around place at n state r all e =
+    let lists = left_at place n state in
+    either (λ x. x ≡ Ok r → IsNamed around state r) (nat_eq (place_in false state.candidates n) (place_in true state.candidates n)) _ _ (λ is h. named_in_good false around place at n state r all h)
+    (λ is h. listed_good lists around place at n (with_lists lists state) r all h) e
 
 -- a lambda has no free parameters: the case depends on whether its signature has some
 lambda_good : (s : Type 0) (t : Term) (number : ℕ) → ScopesAreClosed t → Good s (lambda_with t number)
@@ -391,28 +404,15 @@ lambda_comes byte around vs state r end pre all e =
     found_comes around state (piece (lambda_with t number)) r end (lambda_good (Bare true around) t number (good.scopes tt)) e
 
 -- a base class or a concept's name is counted
-held_grows : (around : Around) (end : ℕ) (t : Term) (state : State) → Good (Bare true around) t → Grows true around end state (with_held around t state)
-unfolding with_held
-held_grows around end t state good =
-    let once = appended around t state in
-    grows_then true around end end state once (with_holder around t once) (omega arith) (grows_one true around end t state good) (grows_held true around end t once good)
-
-unless_grows : (around : Around) (end : ℕ) (listed : Bool) (t : Term) (state : State) → Good (Bare true around) t → Grows true around end state (held_unless listed around t state)
-unfolding held_unless
-unless_grows around end true t state good = grows_same true around end state state refl
-unless_grows around end false t state good = held_grows around end t state good
-
-pub twice_grows : (around : Around) (end : ℕ) (listed : Bool) (t : Term) (state : State) → Good (Bare true around) t → Grows true around end state (held_twice_unless listed around t state)
-unfolding held_twice_unless
-twice_grows around end true t state good = grows_same true around end state state refl
-twice_grows around end false t state good =
-    let once = with_held around t state in
-    grows_then true around end end state once (with_holder around t once) (omega arith) (held_grows around end t state good) (grows_held true around end t once good)
+pub unless_grows : (around : Around) (end : ℕ) (listed : Bool) (counted : Counted) (t : Term) (state : State) → Good (Bare true around) t → Grows true around end state (counted_unless listed counted around t state)
+unfolding counted_unless
+unless_grows around end true counted t state good = grows_same true around end state state refl
+unless_grows around end false counted t state good = grows_by counted true around end t state good
 
 counted_grows : (around : Around) (end : ℕ) (base : Value) (state : State) → Good (Bare true around) (held base) → Grows true around end state (counted_base around base state)
 unfolding counted_base
 counted_grows around end (pair second own base) state good = grows_same true around end state state refl
-counted_grows around end base state good = unless_grows around end (is_listed base) (tree_of base) state (good_tree (Bare true around) base good)
+counted_grows around end base state good = unless_grows around end (is_listed base) by_gcc (tree_of base) state (good_tree (Bare true around) base good)
 
 pub wide_close_good : (production : Production) (byte : ℕ) (around : Around) (place : ℕ) (began : State) (vs : List Value) (state : State) (r : Found Value State) (end : ℕ) →
     AllOld true around end state.candidates → GoodPrefix (Bare true around) around.prefix → AllGood (Within true production around) vs → HasClosedName production vs →

@@ -23,7 +23,7 @@ use Rattle.cpp_grammar.specs.TableLaws.{wide_sound}
 use Rattle.cpp_grammar.specs.Term.{Term}
 use Rattle.cpp_grammar.specs.Scope.{is_open}
 use Rattle.cpp_grammar.specs.Closed.{ScopesAreClosed}
-use Rattle.cpp_grammar.specs.Values.{Candidate, State, Around, Value, nothing_there, text, tree_of, part, local_number}
+use Rattle.cpp_grammar.specs.Values.{by_all, Candidate, Expected, prefix_at, qualified_at, State, Around, Value, nothing_there, text, tree_of, part, local_number}
 use Rattle.cpp_grammar.specs.Between.{in_name, in_types, no_items, between}
 use Rattle.cpp_grammar.specs.Meaning.{meaning}
 use Rattle.cpp_grammar.specs.Unfolding as unfolding_
@@ -33,7 +33,8 @@ use Rattle.cpp_grammar.proofs.ClosedValues.{good_where, Good, AllGood, GoodPrefi
 use Rattle.cpp_grammar.proofs.ClosedStates.{Bare, Within, AllOld, AllNew, Grows, old_later, grows_same, grows_then, old_grows, ok_same, behind_bind, Comes, close_good, wide_close_good}
 use Rattle.cpp_grammar.proofs.ClosedParts.{Fits, Goes, StaysInside, goes_within, wide_goes}
 use Rattle.cpp_grammar.proofs.Ways.{Way, reading_by, abi_way, wide_way, differs, IsPlain, abi_plain, wide_plain}
-use Rattle.cpp_grammar.specs.Rescoping.{cpp_wide, unfold_wide}
+use Rattle.cpp_grammar.specs.Rescoping.{is_by_all, counted_so_far, expecting, opening_wide, cpp_wide, unfold_wide}
+use Rattle.cpp_grammar.proofs.Chosen.{either}
 
 -- ## Productions and their rules
 
@@ -124,6 +125,20 @@ opening_keeps Production.Lambda f place state new e = tested_keeps (nat_lt (loca
 opening_keeps Production.Unnamed f place state new e = tested_keeps (nat_lt (local_number (last_token f [])) (2 ^ 64)) (place - 1) state new e
 opening_keeps _ f place state new e = sym (ok_same state new e)
 
+pub expecting_keeps : (expected : Expected) (state : State) → (expecting expected state).candidates ≡ state.candidates
+unfolding expecting
+expecting_keeps expected state = either {A = State} (λ s. s.candidates ≡ state.candidates) (is_by_all (counted_so_far by_all state.candidates)) _ _ (λ is. refl) (λ is. refl)
+
+-- the candidates are the same once a production has begun
+pub begins_same : (p : Production) (f : Forest) (place : ℕ) (state new : State) → opening p f place state ≡ Ok new → new.candidates ≡ state.candidates
+begins_same p f place state new e = ap (λ s. s.candidates) (opening_keeps p f place state new e)
+
+pub wide_begins_same : (p : Production) (f : Forest) (place : ℕ) (state new : State) → opening_wide p f place state ≡ Ok new → new.candidates ≡ state.candidates
+unfolding opening_wide
+wide_begins_same Production.NestTemplate f place state new e = ap (λ s. s.candidates) (sym (ok_same (expecting (prefix_at (place - 1)) state) new e)) ∙ expecting_keeps (prefix_at (place - 1)) state
+wide_begins_same Production.QualifiedPlain f place state new e = ap (λ s. s.candidates) (sym (ok_same (expecting (qualified_at place) state) new e)) ∙ expecting_keeps (qualified_at place) state
+wide_begins_same p f place state new e = begins_same p f place state new e
+
 pub all_append : (s : Type 0) (vs ws : List Value) → AllGood s vs → AllGood s ws → AllGood s (vs ++ ws)
 all_append s [] ws f g = g
 all_append s (v ∷ vs) ws f g = (f.0, all_append s vs ws f.1 g)
@@ -210,6 +225,7 @@ grows_on own around a b old new le g = grows_then own around a b old new new le 
 -- what is closed stays closed between the parts of a production, and after them
 pub record KeepsClosed (w : Way) : Type 0 where
   pub plain : IsPlain w
+  pub begins : (production : Production) (f : Forest) (place : ℕ) (state new : State) → w.opening production f place state ≡ Ok new → new.candidates ≡ state.candidates
   pub goes : (production : Production) (around : Around) (place : ℕ) (vs : List Value) (state : State) (n : Next Value State Around) (at : ℕ) → StaysInside production →
       GoodPrefix (Bare w.own around) around.prefix → AllGood (Within w.own production around) vs → w.between production around place vs state ≡ Ok n →
       Goes w.own (Within w.own production around) around at state n
@@ -461,39 +477,41 @@ module _ (w : Way) (keeps : KeepsClosed w) where
   inner_comes Production.Mark o = absurd (false≢true o)
   inner_comes _ o = absurd (false≢true o)
 
-  pub plain_comes : (k : ℕ) (rule : Rule) (taken : List ℕ) (parts : Forest) → AllTreesGood w parts → (p : Production) → rule ≡ rule_of p → opens p ≡ false → (around : Around) (at : ℕ) (state : State)
+  pub plain_comes : (k : ℕ) (rule : Rule) (taken : List ℕ) (parts : Forest) → AllTreesGood w parts → (p : Production) → rule ≡ rule_of p → opens p ≡ false → (around : Around) (at : ℕ) (state begun : State)
       (inner : Found (List Value) State) (one : Found Value State) → k < wide.kinds → IsTree wide (OfKind k) (branch rule taken parts) → around.encoding ≤ at → GoodPrefix (Bare w.own around) around.prefix →
-      AllOld w.own around at state.candidates → unfold_forest (reading_by w) (Whole rule taken at around state) [] (at + length taken) parts state ≡ Ok inner →
+      AllOld w.own around at state.candidates → begun.candidates ≡ state.candidates → unfold_forest (reading_by w) (Whole rule taken at around state) [] (at + length taken) parts begun ≡ Ok inner →
       w.close (production_at rule.number) (byte_of taken) around at state inner.value inner.state ≡ Ok one → TreeComes w.own around (at + length (taken ++ spell_all parts)) state (found (one.value ∷ []) one.state)
-  plain_comes k rule taken parts all p is plain around at state inner one lt tree le pre old e f =
+  plain_comes k rule taken parts all p is plain around at state begun inner one lt tree le pre old begins e f =
       let number : production_at rule.number ≡ p = ap (λ x. production_at x.number) is ∙ at_number p in
       let inside_ : StaysInside (production_at rule.number) = subst (λ q. StaysInside q) (sym number) (stays p plain) in
       let from = at + length taken in
       let end = at + length (taken ++ spell_all parts) in
       let symbols = wide_sound.symbols k tree.0.byte rule lt tree.0.is_byte tree.0.found in
-      let forest = forest_good parts all (Whole rule taken at around state) (symbols_of rule) [] from state inner inside_ symbols tree.1 (omega (arith, le))
-      (λ has. omega (arith, le, takes_byte p rule k taken is tree.0 has)) pre tt (old_later w.own around at from state.candidates (omega arith) old) e in
-      let grown1 = grows_on w.own around (from + length (spell_all parts)) end state inner.state (omega (arith, length-append taken (spell_all parts))) forest.grows in
+      let forest = forest_good parts all (Whole rule taken at around state) (symbols_of rule) [] from begun inner inside_ symbols tree.1 (omega (arith, le))
+      (λ has. omega (arith, le, takes_byte p rule k taken is tree.0 has)) pre tt (old_later w.own around at from begun.candidates (omega arith) (subst (λ cs. AllOld w.own around at cs) (sym begins) old)) e in
+      let grown1 = grows_then w.own around end end state begun inner.state (omega arith) (grows_same w.own around end state begun begins)
+      (grows_on w.own around (from + length (spell_all parts)) end begun inner.state (omega (arith, length-append taken (spell_all parts))) forest.grows) in
       let comes = keeps.comes (production_at rule.number) (byte_of taken) around at state inner.value inner.state one end (old_grows w.own around at end state inner.state (omega arith) old grown1) pre forest.good
       (needs_no_name (production_at rule.number) inner.value inside_) f in
       record { value = one.value; is = refl; good = comes.good; grows = grows_then w.own around end end state inner.state one.state (omega arith) grown1 comes.grows }
 
-  pub encoded_comes : (k : ℕ) (rule : Rule) (taken : List ℕ) (parts : Forest) → AllTreesGood w parts → (p : Production) → rule ≡ rule_of p → opens p ≡ true → (around : Around) (at : ℕ) (state : State)
+  pub encoded_comes : (k : ℕ) (rule : Rule) (taken : List ℕ) (parts : Forest) → AllTreesGood w parts → (p : Production) → rule ≡ rule_of p → opens p ≡ true → (around : Around) (at : ℕ) (state begun : State)
       (inner : Found (List Value) State) (one : Found Value State) → k < wide.kinds → IsTree wide (OfKind k) (branch rule taken parts) → around.encoding < at →
-      AllOld w.own around at state.candidates → unfold_forest (reading_by w) (Whole rule taken at around state) [] (at + length taken) parts state ≡ Ok inner →
+      AllOld w.own around at state.candidates → begun.candidates ≡ state.candidates → unfold_forest (reading_by w) (Whole rule taken at around state) [] (at + length taken) parts begun ≡ Ok inner →
       w.close (production_at rule.number) (byte_of taken) around at state inner.value inner.state ≡ Ok one → TreeComes w.own around (at + length (taken ++ spell_all parts)) state (found (one.value ∷ []) one.state)
-  encoded_comes k rule taken parts all p is opening around at state inner one lt tree less old e f =
+  encoded_comes k rule taken parts all p is opening around at state begun inner one lt tree less old begins e f =
       let number : production_at rule.number ≡ p = ap (λ x. production_at x.number) is ∙ at_number p in
       let from = at + length taken in
       let end = at + length (taken ++ spell_all parts) in
       let full = filled (taken ++ spell_all parts) (wide_sound.filled k rule taken parts lt tree) in
       let trees = subst (λ xs. AreTrees wide xs parts) (ap symbols_of is ∙ its_symbols p) tree.1 in
-      let comes = inner_comes p opening parts all (Whole rule taken at around state) from state inner number trees less (omega arith)
-      (omega (arith, full, length-append taken (spell_all parts))) old e in
+      let comes = inner_comes p opening parts all (Whole rule taken at around state) from begun inner number trees less (omega arith)
+      (omega (arith, full, length-append taken (spell_all parts))) (subst (λ cs. AllOld w.own around at cs) (sym begins) old) e in
       let closed : close p (byte_of taken) around at state inner.value inner.state ≡ Ok one =
       sym (ap (λ q. w.close q (byte_of taken) around at state inner.value inner.state) number ∙ keeps.plain.close p (opens_apart p opening) (byte_of taken) around at state inner.value inner.state) ∙ f in
       let same = inner_closes p opening (byte_of taken) around at state inner.value inner.state one closed in
-      let grown1 = grows_on w.own around (from + length (spell_all parts)) end state inner.state (omega (arith, length-append taken (spell_all parts))) comes.grows in
+      let grown1 = grows_then w.own around end end state begun inner.state (omega arith) (grows_same w.own around end state begun begins)
+      (grows_on w.own around (from + length (spell_all parts)) end begun inner.state (omega (arith, length-append taken (spell_all parts))) comes.grows) in
       subst (λ x. TreeComes w.own around end state (found (x.value ∷ []) x.state)) same
       (record { value = meaning p (byte_of taken) around inner.value; is = refl; good = comes.means (byte_of taken); grows = grown1 })
 
@@ -503,18 +521,17 @@ module _ (w : Way) (keeps : KeepsClosed w) where
       let whole = Whole rule taken at around state in
       let t = taken_rule k rule taken lt is.0 in
       let from = at + length taken in
-      let begun = behind_bind (opening (production_at rule.number) parts at state)
+      let begun = behind_bind (w.opening (production_at rule.number) parts at state)
       (λ begun. unfold_forest (reading_by w) whole [] from parts begun >>= λ inner. w.close (production_at rule.number) (byte_of taken) around at state inner.value inner.state >>= alone) r e in
-      let kept = opening_keeps (production_at rule.number) parts at state begun.value begun.is in
-      let onward = subst (λ s. (unfold_forest (reading_by w) whole [] from parts s >>= λ inner. w.close (production_at rule.number) (byte_of taken) around at state inner.value inner.state >>= alone) ≡ Ok r) kept begun.next in
-      let inner = behind_bind (unfold_forest (reading_by w) whole [] from parts state) (λ inner. w.close (production_at rule.number) (byte_of taken) around at state inner.value inner.state >>= alone) r onward in
+      let kept = keeps.begins (production_at rule.number) parts at state begun.value begun.is in
+      let inner = behind_bind (unfold_forest (reading_by w) whole [] from parts begun.value) (λ inner. w.close (production_at rule.number) (byte_of taken) around at state inner.value inner.state >>= alone) r begun.next in
       let ended = behind_bind (w.close (production_at rule.number) (byte_of taken) around at state inner.value.value inner.value.state) alone r inner.next in
       let one = ended.value in
       let same : found (one.value ∷ []) one.state ≡ r = ok_same (found (one.value ∷ []) one.state) r ended.next in
       let end = at + length (taken ++ spell_all parts) in
       subst (λ x. TreeComes w.own around end state x) same (elim (cases_Bool (opens t.production)) [
-        | inl opening ↦ encoded_comes k rule taken parts all t.production t.is opening around at state inner.value one lt is (inside (t.encoding opening)) old inner.is ended.is
-        | inr plain ↦ plain_comes k rule taken parts all t.production t.is plain around at state inner.value one lt is le pre old inner.is ended.is
+        | inl opening ↦ encoded_comes k rule taken parts all t.production t.is opening around at state begun.value inner.value one lt is (inside (t.encoding opening)) old kept inner.is ended.is
+        | inr plain ↦ plain_comes k rule taken parts all t.production t.is plain around at state begun.value inner.value one lt is le pre old kept inner.is ended.is
       ])
   branch_good rule taken parts all _ around at state r lt is le inside pre old e = absurd is
 
@@ -544,7 +561,7 @@ module _ (w : Way) (keeps : KeepsClosed w) where
 
 pub abi_keeps : KeepsClosed abi_way
 unfolding abi_way
-abi_keeps = record { plain = abi_plain; goes = goes_within false; comes = close_good }
+abi_keeps = record { plain = abi_plain; begins = begins_same; goes = goes_within false; comes = close_good }
 
 pub tree_good : (t : Tree) (x : Sym) (around : Around) (at : ℕ) (state : State) (r : Found (List Value) State) → IsSymbol wide x → IsTree wide x t → around.encoding ≤ at →
     (is_encoding x ≡ true → around.encoding < at) → GoodPrefix (Bare false around) around.prefix → AllOld false around at state.candidates → unfold_tree cpp around at t state ≡ Ok r →
@@ -559,7 +576,7 @@ scopes_are_closed shape t is e = scopes_are_closed_by abi_way abi_keeps shape t 
 
 pub wide_keeps : KeepsClosed wide_way
 unfolding wide_way
-wide_keeps = record { plain = wide_plain; goes = wide_goes; comes = wide_close_good }
+wide_keeps = record { plain = wide_plain; begins = wide_begins_same; goes = wide_goes; comes = wide_close_good }
 
 pub wide_scopes_are_closed : (shape : Tree) (t : Term) → IsTree wide (OfKind SYMBOL) shape → unfold_wide shape ≡ Ok t → ScopesAreClosed t
 unfolding unfold_wide cpp_wide reading_by wide_way

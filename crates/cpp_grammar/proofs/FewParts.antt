@@ -8,7 +8,7 @@ use Rattle.sym_print.specs.Details.{has_arguments, has_parameters}
 use Rattle.sym_print.specs.Unfold.{PartOf, text, sub}
 use Rattle.cpp_grammar.specs.Term.{Qualifiers, RefQualifier, Signed, Term, symbol, function, object, of_name, alone, in_std, within, instance, local, holder, tagged, abbreviation, parameter, source, constructor, destructor, inheriting, lambda, generic_lambda, sized_float, pointer, lvalue, rvalue, array, bounded, member_pointer, function_type, qualified, expansion, integer, operation, function_parameter, pack, nil, list, absent}
 use Rattle.cpp_grammar.specs.Items.{Form, root, full, bare, left, right, low, base, piece, first, more, expand, Context, Item, closed, signature_in, head, is_reference, is_funarr, packs_of, is_empty}
-use Rattle.cpp_grammar.specs.Parts.{as_item, says, text_part, list_part, piece_parts, within_parts, last_piece, opening_text, instance_parts, marked_parts, reference_parts, qualified_left, blank_last, qualifier_text, expansion_parts, sign_part, is_plain_integer, integer_parts, builtin_code, member_parts, array_left, float_parts, no_operation, precedence_of, operand_parts, operation_parts, printed, left_parts, low_parts, function_right, ref_text, closing_right, qualified_right, right_parts, base_within, base_tagged, base_parts, types_of, encoding_text, function_bare, function_full, full_parts, bare_parts, root_parts, first_parts, more_parts, at_index, is_below, comma_before, expand_rest, expand_parts, parts_in, not_empty, parts, own_piece, most_parts, most_of}
+use Rattle.cpp_grammar.specs.Parts.{as_item, begins_parameters, says, text_part, list_part, piece_parts, within_parts, last_piece, opening_text, instance_parts, marked_parts, reference_parts, qualified_left, blank_last, qualifier_text, expansion_parts, sign_part, is_plain_integer, integer_parts, builtin_code, member_parts, array_left, float_parts, no_operation, precedence_of, operand_parts, operation_parts, printed, left_parts, low_parts, function_right, ref_text, closing_right, qualified_right, right_parts, base_within, base_tagged, base_parts, types_of, encoding_text, function_bare, function_full, full_parts, bare_parts, root_parts, first_parts, more_parts, at_index, is_below, comma_before, expand_rest, expand_parts, parts_in, not_empty, parts, own_piece, most_parts, most_of}
 use Rattle.cpp_grammar.specs.Scope.{without_tags}
 use Rattle.std.proofs.lemmas.Bool.{leb-true}
 use Rattle.cpp_grammar.specs.declared.operand.Operand.{Operand}
@@ -227,7 +227,7 @@ bare_function_few : (all : Bool) (name : Term) (q : Qualifiers) (ref : RefQualif
 unfolding function_bare
 bare_function_few false name q ref parameters = omega arith
 bare_function_few true name q ref parameters =
-    append_few 3 2 (as_item left closed name ∷ says "(" ∷ list_part first (types_of name) parameters) (says ")" ∷ text_part (encoding_text q ref))
+    append_few 3 2 (as_item left closed name ∷ text (begins_parameters ref parameters) ∷ list_part first (types_of name) parameters) (says ")" ∷ text_part (encoding_text q ref))
     (omega (arith, list_few first (types_of name) parameters)) (omega (arith, text_few (encoding_text q ref)))
 
 full_function_few : (all : Bool) (name : Term) (q : Qualifiers) (ref : RefQualifier) (returned parameters : Term) → HasFew 8 (function_full all name q ref returned parameters)

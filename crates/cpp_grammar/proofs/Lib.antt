@@ -8,6 +8,7 @@ pub mod Arguments
 pub mod Rests
 pub mod Reader
 pub mod Row
+pub mod SortedRows
 pub mod ListedRows
 pub mod RescopedRows
 pub mod GeneratedRows

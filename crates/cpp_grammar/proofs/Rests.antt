@@ -53,14 +53,14 @@ instance_same around place a byte c t state =
     let inner = standing (rule_of Production.NestNext) [] on (after name false around) s in
     let inner_end : Read → Result Read Refusal = λ i. close Production.NestNext (byte_of []) (after name false around) on s i.value i.state >>= alone in
     let onward : Read → Result Read Refusal = λ part. unfold_forest cpp new ((tree name false ∷ nothing_there ∷ []) ++ part.value) (on + length (spell next)) nothing part.state in
-    let component : ℕ → Result Read Refusal = λ n. unfold_tree cpp (after name true around) n c (appended around name s) in
+    let component : ℕ → Result Read Refusal = λ n. unfold_tree cpp (after name false around) n c (appended around name s) in
     let behind : ℕ → Read → Result Read Refusal = λ n part. unfold_forest cpp inner ([] ++ part.value) (n + length (spell c)) (grown t nothing) part.state in
-    let plain : Read → Result Read Refusal = λ part. unfold_forest cpp old ((tree name true ∷ nothing_there ∷ []) ++ part.value) (on + length (spell c)) (grown t nothing) part.state in
+    let plain : Read → Result Read Refusal = λ part. unfold_forest cpp old ((tree name false ∷ nothing_there ∷ []) ++ part.value) (on + length (spell c)) (grown t nothing) part.state in
     subst (λ n. ((((component n >>= behind n) >>= inner_end) >>= onward) >>= new_end) ≡ ((component on >>= plain) >>= old_end)) (sym (add-zero on))
-    (deep_same (component on) (tree_one c (after name true around) on (appended around name s)) (behind on) inner_end onward new_end plain old_end
+    (deep_same (component on) (tree_one c (after name false around) on (appended around name s)) (behind on) inner_end onward new_end plain old_end
     (λ w s_. deep_same (unfold_tree cpp (after (tree_of w) false around) (on + length (spell c)) t s_) (tree_one t (after (tree_of w) false around) (on + length (spell c)) s_)
     (λ part. unfold_forest cpp inner ((w ∷ []) ++ part.value) (on + length (spell c) + length (spell t)) nothing part.state) inner_end onward new_end
-    (λ part. unfold_forest cpp old ((tree name true ∷ nothing_there ∷ w ∷ []) ++ part.value) (on + length (spell c) + length (spell t)) nothing part.state) old_end
+    (λ part. unfold_forest cpp old ((tree name false ∷ nothing_there ∷ w ∷ []) ++ part.value) (on + length (spell c) + length (spell t)) nothing part.state) old_end
     (λ x last. refl))))
 
 -- a tree of what follows a substituted name, in the place of this one

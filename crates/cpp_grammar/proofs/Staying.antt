@@ -1,7 +1,7 @@
 -- What the reading of the ABI's grammar doesn't refuse is the same in that of the wide grammar: what it reads in a lambda's
 -- signature has no free parameters.
 use Rattle.std.proofs.Common.{◌≡◌, refl, ap, sym, ◌∙◌, subst, ℕ, zero, suc, ◌+◌, ◌-◌, List, [], ◌∷◌, ◌++◌, length, Bool, true, false, not, ◌||◌, ◌&&◌, cond, nat_eq, nat_lt, ◌<◌, slice_get, Option, Some, None, Result, Ok, Err, lit≤}
-use Rattle.std.proofs.lemmas.Bool.{true≢false, false≢true}
+use Rattle.std.proofs.lemmas.Bool.{eq-eqb, true≢false, false≢true}
 use Rattle.std.specs.Result.{IfOk}
 use Rattle.sym_core.specs.declared.refusal.Refusal.{Refusal}
 use Rattle.sym_core.specs.declared.refusal.Refusal.TheVariants.{BadReference}
@@ -23,7 +23,7 @@ use Rattle.cpp_grammar.specs.Wide.{wide_alternatives}
 use Rattle.cpp_grammar.specs.Table.{wide}
 use Rattle.cpp_grammar.specs.Term.{Term, parameter, lambda, generic_lambda, list}
 use Rattle.cpp_grammar.specs.Scope.{count, element, is_open, length_if_pack}
-use Rattle.cpp_grammar.specs.Values.{Candidate, State, Around, prefix_tree, prefix_listed, Value, nothing_there, text, tree, piece, tree_of, is_listed, text_of, local_number, part}
+use Rattle.cpp_grammar.specs.Values.{by_all, Candidate, Expected, prefix_at, qualified_at, State, Around, prefix_tree, prefix_listed, Value, nothing_there, text, tree, piece, tree_of, is_listed, text_of, local_number, part}
 use Rattle.cpp_grammar.specs.References.{appended, is_function_type, with_type, with_unqualified, with_prefix, with_packs, packs_in, substituted, parameter_named}
 use Rattle.cpp_grammar.specs.Between.{in_name, in_types, in_signature, under_expansion, after, inside, no_items, Going, listed_so_far, parameter_so_far, index_of, between, next, argument_so_far}
 use Rattle.cpp_grammar.specs.Row.{Gain, nothing, the_prefix, type_of, unqualified_of, itself, Where, as_before, in_its_name, in_its_types, in_a_signature, under_it, nameless, after_part, after_the_name, Before, quiet, goes, becomes, tests, holds, unread, before_part}
@@ -32,7 +32,7 @@ use Rattle.cpp_grammar.specs.Rows.{row_of}
 use Rattle.cpp_grammar.specs.Meaning.{parameters, meaning}
 use Rattle.cpp_grammar.specs.Unfolding as unfolding_
 use Rattle.cpp_grammar.specs.Unfolding.{opening, close, production_at, byte_of, cpp, first_around, first_state, first_tree, unfold_cpp}
-use Rattle.cpp_grammar.specs.Rescoping.{generic_so_far, parameter_here, lambda_with, as_generic_lambda, has_held, is_counted_alike, named_alike, is_foreign, restated, substituted_wide, numbered, between_wide, close_wide, cpp_wide, unfold_wide, argument_here, generic_number}
+use Rattle.cpp_grammar.specs.Rescoping.{generic_so_far, parameter_here, lambda_with, as_generic_lambda, is_before_holder, is_by_newer, is_by_all, is_in_list, place_in, named_in, joined, counted_so_far, expecting, opening_wide, is_foreign, restated, substituted_wide, numbered, between_wide, close_wide, cpp_wide, unfold_wide, argument_here, generic_number}
 use Rattle.cpp_grammar.specs.TableLaws.{wide_sound}
 use Rattle.cpp_grammar.proofs.Choosing.{each_passes, chosen_rule, taken_passes, implied}
 use Rattle.cpp_grammar.proofs.Chosen.{either, if_there}
@@ -63,9 +63,9 @@ are_closed p around = has_closed_parts p || (not (opens p) && around.in_lambda)
 
 abbrev AllHaveNone : List Candidate → Type 0
 AllHaveNone [] = Unit {0}
-AllHaveNone (c ∷ cs) = (c.in_lambda ≡ true → HasNone c.tree) × (c.is_held ≡ false) × AllHaveNone cs
+AllHaveNone (c ∷ cs) = (c.in_lambda ≡ true → HasNone c.tree) × (c.counted ≡ by_all) × AllHaveNone cs
 
-one_more : (cs : List Candidate) (c : Candidate) → AllHaveNone cs → (c.in_lambda ≡ true → HasNone c.tree) → c.is_held ≡ false → AllHaveNone (cs ++ (c ∷ []))
+one_more : (cs : List Candidate) (c : Candidate) → AllHaveNone cs → (c.in_lambda ≡ true → HasNone c.tree) → c.counted ≡ by_all → AllHaveNone (cs ++ (c ∷ []))
 one_more [] c all one unheld = (one, unheld, tt)
 one_more (d ∷ cs) c all one unheld = (all.0, all.1, one_more cs c all.2 one unheld)
 
@@ -75,11 +75,41 @@ one_of (d ∷ cs) zero c all e = let same : d ≡ c = cc in subst (λ x. x.in_la
 one_of (d ∷ cs) (suc n) c all e = one_of cs n c all.2 e
 
 -- so all compilers count them alike
-none_held : (cs : List Candidate) (count : ℕ) → AllHaveNone cs → has_held cs count ≡ false
-unfolding has_held
-none_held [] count all = refl
-none_held (c ∷ cs) zero all = refl
-none_held (c ∷ cs) (suc count) all = ap (λ b. b || has_held cs count) all.1 ∙ none_held cs count all.2
+none_held : (cs : List Candidate) → AllHaveNone cs → is_before_holder cs ≡ false
+unfolding is_before_holder is_by_newer
+none_held [] all = refl
+none_held (c ∷ cs) all = ap is_by_newer all.1
+
+all_listed : (is_shorter : Bool) (c : Candidate) (cs : List Candidate) → c.counted ≡ by_all → AllHaveNone cs → is_in_list is_shorter c cs ≡ true
+unfolding is_in_list is_by_all
+all_listed is_shorter c cs counted all = ap (λ b. not b && (not is_shorter || is_by_all c.counted)) (none_held cs all) ∙ ap (λ k. not is_shorter || is_by_all k) counted ∙ either_way is_shorter
+  where
+    either_way : (b : Bool) → (not b || true) ≡ true
+    either_way true = refl
+    either_way false = refl
+
+place_stays : (is_shorter : Bool) (cs : List Candidate) (n : ℕ) → AllHaveNone cs → place_in is_shorter cs n ≡ n
+unfolding place_in
+place_stays is_shorter [] n all = refl
+place_stays is_shorter (c ∷ cs) zero all = ap (λ b. elim b [ false ↦ suc (place_in is_shorter cs zero) | true ↦ zero ]) (all_listed is_shorter c cs all.1 all.2)
+place_stays is_shorter (c ∷ cs) (suc n) all =
+    ap (λ b. elim b [ false ↦ suc (place_in is_shorter cs (suc n)) | true ↦ suc (place_in is_shorter cs n) ]) (all_listed is_shorter c cs all.1 all.2) ∙ ap suc (place_stays is_shorter cs n all.2)
+
+counted_stays : (cs : List Candidate) → AllHaveNone cs → counted_so_far by_all cs ≡ by_all
+unfolding counted_so_far joined
+counted_stays [] all = refl
+counted_stays (c ∷ cs) all = ap (λ k. counted_so_far (joined by_all k) cs) all.1 ∙ counted_stays cs all.2
+
+expecting_stays : (expected : Expected) (state : State) → AllHaveNone state.candidates → expecting expected state ≡ state
+unfolding expecting is_by_all
+expecting_stays expected state all =
+    either {A = State} (λ s. s ≡ state) (is_by_all (counted_so_far by_all state.candidates)) _ _ (λ is. refl) (λ is. absurd (true≢false (sym (ap is_by_all (counted_stays state.candidates all)) ∙ is)))
+
+opening_stays : (p : Production) (parts : Forest) (place : ℕ) (state new : State) → AllHaveNone state.candidates → opening p parts place state ≡ Ok new → opening_wide p parts place state ≡ Ok new
+unfolding opening opening_wide
+opening_stays Production.NestTemplate parts place state new all e = (let begun : State → Result State Refusal = λ s. Ok s in ap begun (expecting_stays (prefix_at (place - 1)) state all) ∙ e)
+opening_stays Production.QualifiedPlain parts place state new all e = (let begun : State → Result State Refusal = λ s. Ok s in ap begun (expecting_stays (qualified_at place) state all) ∙ e)
+opening_stays p parts place state new all e = e
 
 all_then : (vs ws : List Value) → AllNone vs → AllNone ws → AllNone (vs ++ ws)
 all_then [] ws f g = g
@@ -98,7 +128,7 @@ record NextHasNone (b special : Bool) (n : Next Value State Around) : Type 0 whe
 
 appended_none : (around : Around) (t : Term) (state : State) → (around.in_lambda ≡ true → HasNone t) → AllHaveNone state.candidates → AllHaveNone (appended around t state).candidates
 unfolding appended
-appended_none around t state g all = one_more state.candidates (record { tree = t; encoding = around.encoding; in_lambda = around.in_lambda; is_held = false }) all g refl
+appended_none around t state g all = one_more state.candidates (record { tree = t; encoding = around.encoding; in_lambda = around.in_lambda; counted = by_all }) all g refl
 
 prefixed_none : (around : Around) (state : State) → Settled around → AllHaveNone state.candidates → AllHaveNone (with_prefix around state).candidates
 unfolding with_prefix
@@ -286,7 +316,7 @@ unfolding between between_wide parameter_so_far parameter_named listed_so_far ar
 between_stays Production.Parameter around place (v ∷ []) state n settled e = here_stays around place (index_of v) state n settled e
 between_stays Production.NestParameter around place (v ∷ []) state n settled e = here_stays around place (index_of v) state n settled e
 between_stays Production.ParameterArgument around place (v ∷ []) state n settled e = here_stays around (place - 1) (index_of v) state n settled e
-between_stays Production.ParameterExpression around place (v ∷ []) state n settled e = argument_stays around place (index_of v) state n settled e
+between_stays Production.ParameterExpression around place (v ∷ []) state n settled e = argument_stays around (place - 1) (index_of v) state n settled e
 between_stays Production.HeldArguments around place [] state n settled e = let clash : ◌≡◌ {A = Going} (Err (BadReference place)) (Ok n) = e in absurd cc
 between_stays Production.Holder around place (v ∷ []) state n settled e = let clash : ◌≡◌ {A = Going} (Err (BadReference place)) (Ok n) = e in absurd cc
 between_stays _ around place vs state n settled e = e
@@ -340,16 +370,21 @@ record Closes (around : Around) (wide : Result (Found Value State) Refusal) (r :
   candidates : AllHaveNone r.state.candidates
 
 -- a number names the candidate of that number
-alike_stays : (cs : List Candidate) (n : ℕ) → AllHaveNone cs → named_alike cs n ≡ slice_get cs n
-unfolding named_alike is_counted_alike
-alike_stays cs n all =
-    either (λ o. o ≡ slice_get cs n) (not (has_held cs (n + 2))) _ _ (λ is. refl) (λ is. absurd (true≢false (sym (ap not (none_held cs (n + 2) all)) ∙ is)))
+numbered_stays : (around : Around) (place n : ℕ) (state : State) → AllHaveNone state.candidates → numbered around place n state ≡ substituted_wide around place (slice_get state.candidates n) state
+unfolding numbered named_in
+numbered_stays around place n state all =
+    let cs = state.candidates in
+    let longer = place_stays false cs n all in
+    let shorter = place_stays true cs n all in
+    either (λ x. x ≡ substituted_wide around place (slice_get cs n) state) (nat_eq (place_in false cs n) (place_in true cs n)) _ _
+    (λ is. ap (λ k. substituted_wide around place (slice_get cs k) state) longer)
+    (λ is. absurd (true≢false (sym (ap (λ k. nat_eq k (place_in true cs n)) longer ∙ ap (λ k. nat_eq n k) shorter ∙ eq-eqb n n refl) ∙ is)))
 
 substituted_stays : (around : Around) (place n : ℕ) (state : State) (r : Found Value State) → AllHaveNone state.candidates → substituted around place (slice_get state.candidates n) state ≡ Ok r →
     Closes around (numbered around place n state) r
-unfolding substituted substituted_wide numbered
+unfolding substituted substituted_wide
 substituted_stays around place n state r cs e =
-    subst (λ o. Closes around (substituted_wide around place o state) r) (sym (alike_stays state.candidates n cs)) (go (slice_get state.candidates n) refl e)
+    subst (λ x. Closes around x r) (sym (numbered_stays around place n state cs)) (go (slice_get state.candidates n) refl e)
   where
     go : (o : Option Candidate) → slice_get state.candidates n ≡ o → substituted around place o state ≡ Ok r → Closes around (substituted_wide around place o state) r
     go None is h = let clash : ◌≡◌ {A = Result (Found Value State) Refusal} (Err (BadReference place)) (Ok r) = h in absurd cc
@@ -402,6 +437,7 @@ unfoldable makes_special : Production → Bool
 makes_special Production.SpecialType = true
 makes_special Production.ParameterObject = true
 makes_special Production.SpecialName = true
+makes_special Production.Temporary = true
 makes_special Production.ConstructionVtable = true
 makes_special Production.NonVirtualThunk = true
 makes_special Production.VirtualThunk = true
@@ -442,6 +478,7 @@ unfolding makes_special close unfolding_.behind meaning held is_open
 special_closes Production.SpecialType byte around place began vs state one h e = subst (λ x. HasNone (held x.value)) (ok_same _ one e) refl
 special_closes Production.ParameterObject byte around place began vs state one h e = subst (λ x. HasNone (held x.value)) (ok_same _ one e) refl
 special_closes Production.SpecialName byte around place began vs state one h e = subst (λ x. HasNone (held x.value)) (ok_same _ one e) refl
+special_closes Production.Temporary byte around place began vs state one h e = subst (λ x. HasNone (held x.value)) (ok_same _ one e) refl
 special_closes Production.ConstructionVtable byte around place began vs state one h e = subst (λ x. HasNone (held x.value)) (ok_same _ one e) refl
 special_closes Production.NonVirtualThunk byte around place began vs state one h e = subst (λ x. HasNone (held x.value)) (ok_same _ one e) refl
 special_closes Production.VirtualThunk byte around place began vs state one h e = subst (λ x. HasNone (held x.value)) (ok_same _ one e) refl
@@ -488,7 +525,7 @@ mutual
       let closes = close_stays p (byte_of taken) around place state inner.value.value inner.value.state one settled forest.values forest.candidates ended.is in
       let same : found (one.value ∷ []) one.state ≡ r = ok_same (found (one.value ∷ []) one.state) r ended.next in
       record {
-        is = then_ok (opening p parts place state) (λ begun. unfold_forest cpp_wide whole [] from parts begun >>= λ inner. close_wide p (byte_of taken) around place state inner.value inner.state >>= alone) begun.value r begun.is
+        is = then_ok (opening_wide p parts place state) (λ begun. unfold_forest cpp_wide whole [] from parts begun >>= λ inner. close_wide p (byte_of taken) around place state inner.value inner.state >>= alone) begun.value r (opening_stays p parts place state begun.value cs begun.is)
             (then_ok (unfold_forest cpp_wide whole [] from parts begun.value) (λ inner. close_wide p (byte_of taken) around place state inner.value inner.state >>= alone) inner.value r forest.is
             (then_ok (close_wide p (byte_of taken) around place state inner.value.value inner.value.state) alone one r closes.is ended.next));
         values = λ l. subst (λ x. AllNone x.value) same (

@@ -1,18 +1,20 @@
--- The two readings of C++ as a single one, which takes what is done between the parts of a production and after them.
+-- The two readings of C++ as a single one, which takes what is done before the parts of a production, between them and after them.
 use Rattle.std.proofs.Common.{◌≡◌, refl, ℕ, List, [], ◌∷◌, Bool, true, false, Result, Ok}
 use Rattle.std.proofs.lemmas.Bool.{true≢false}
 use Rattle.sym_core.specs.declared.refusal.Refusal.{Refusal}
+use Rattle.sym_shape.specs.Tree.{Forest}
 use Rattle.sym_link.specs.Reading.{Found, Reading}
 use Rattle.sym_link.specs.Unfold.{found}
 use Rattle.cpp_grammar.specs.declared.production.Production.{Production}
 use Rattle.cpp_grammar.specs.Values.{State, Around, Value, nothing_there, text}
 use Rattle.cpp_grammar.specs.Between.{Going, between}
 use Rattle.cpp_grammar.specs.Unfolding.{opening, close, production_at, byte_of}
-use Rattle.cpp_grammar.specs.Rescoping.{between_wide, close_wide}
+use Rattle.cpp_grammar.specs.Rescoping.{opening_wide, between_wide, close_wide}
 
 -- `own` says whether the parameters in a lambda's signature are the lambda's own
 pub record Way : Type 0 where
   pub own : Bool
+  pub opening : Production → Forest → (place : ℕ) → State → Result State Refusal
   pub between : Production → Around → (place : ℕ) → List Value → State → Going
   pub close : Production → (byte : ℕ) → Around → (place : ℕ) → (began : State) → List Value → State → Result (Found Value State) Refusal
 
@@ -20,16 +22,16 @@ unfoldable pub reading_by : Way → Reading Value State Around
 reading_by w = record {
   rowless = nothing_there ∷ [];
   token = λ place t state. Ok (found (text t.own) state);
-  begin = λ rule parts. opening (production_at rule.rule.number) parts rule.place rule.before;
+  begin = λ rule parts. w.opening (production_at rule.rule.number) parts rule.place rule.before;
   between = λ rule known state. w.between (production_at rule.rule.number) rule.context rule.place known state;
   close = λ rule known state. w.close (production_at rule.rule.number) (byte_of rule.taken) rule.context rule.place rule.before known state;
 }
 
 unfoldable pub abi_way : Way
-abi_way = record { own = false; between = between; close = close }
+abi_way = record { own = false; opening = opening; between = between; close = close }
 
 unfoldable pub wide_way : Way
-wide_way = record { own = true; between = between_wide; close = close_wide }
+wide_way = record { own = true; opening = opening_wide; between = between_wide; close = close_wide }
 
 -- the only productions that differ: those of references, lambdas, and inherited constructors
 unfoldable pub differs : Production → Bool

@@ -17,6 +17,7 @@ pub mod Builders
 pub mod Own
 pub mod Meant
 pub mod Rows
+pub mod Sorts
 pub mod Between
 pub mod Meaning
 pub mod Unfolding

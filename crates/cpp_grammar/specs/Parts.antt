@@ -7,7 +7,7 @@ use Rattle.sym_print.specs.Unfold.{PartOf, text, sub}
 use Rattle.cpp_grammar.specs.Texts.{same_bytes, look_up, builtin_texts, operator_texts, abbreviation_texts, special_texts, named_special_texts, literal_endings}
 use Rattle.cpp_grammar.specs.declared.operand.Operand.{Operand}
 use Rattle.cpp_grammar.specs.Operations.{UNARY, PRIMARY, Operation, operations, operation_of_code}
-use Rattle.cpp_grammar.specs.Term.{Qualifiers, RefQualifier, any_value, lvalue_only, rvalue_only, Signed, non_virtual, by_table, Thunk, adjusting, covariant, Term, symbol, function, object, special, thunk, of_name, construction, clone, alone, in_std, within, instance, local, holder, tagged, of_default, abbreviation, parameter, source, operator, literal_operator, constructor, destructor, inheriting, lambda, generic_lambda, unnamed, string_literal, conversion, builtin, sized_float, constrained, vendor, pointer, lvalue, rvalue, array, bounded, member_pointer, function_type, qualified, vector, complex, decltype, expansion, integer, boolean, null_pointer, encoding_literal, address_of, operation, function_parameter, pack, nil, list, absent}
+use Rattle.cpp_grammar.specs.Term.{Qualifiers, RefQualifier, any_value, lvalue_only, rvalue_only, explicit_object, Signed, non_virtual, by_table, Thunk, adjusting, covariant, Term, symbol, function, object, special, thunk, of_name, construction, clone, alone, in_std, within, instance, local, holder, tagged, of_default, abbreviation, parameter, source, operator, literal_operator, constructor, destructor, inheriting, lambda, generic_lambda, unnamed, string_literal, conversion, builtin, sized_float, constrained, vendor, pointer, lvalue, rvalue, array, bounded, member_pointer, function_type, qualified, vector, complex, decltype, expansion, integer, boolean, null_pointer, encoding_literal, address_of, operation, function_parameter, pack, nil, list, absent}
 use Rattle.cpp_grammar.specs.Scope.{arguments_of, without_tags}
 use Rattle.cpp_grammar.specs.Items.{Form, root, full, bare, left, right, low, base, piece, first, more, expand, Context, Item, closed, signature_in, argument, head, is_reference, is_funarr, packs_of, is_empty}
 
@@ -34,6 +34,13 @@ unfoldable pub ref_text : RefQualifier → List ℕ
 ref_text any_value = []
 ref_text lvalue_only = codes " &"
 ref_text rvalue_only = codes " &&"
+ref_text explicit_object = []
+
+-- what begins the parameters: the first of them may be the object
+unfoldable pub begins_parameters : RefQualifier → Term → List ℕ
+begins_parameters explicit_object nil = codes "("
+begins_parameters explicit_object parameters = codes "(this "
+begins_parameters _ parameters = codes "("
 
 -- with the blank at the end; a qualified type has a qualifier
 unfoldable pub blank_last : List ℕ → List ℕ
@@ -330,7 +337,7 @@ encoding_text q ref = qualifier_text q ++ ref_text ref
 unfoldable pub function_bare : (parameters_shown : Bool) → Term → Qualifiers → RefQualifier → Term → List (PartOf Item)
 function_bare false name q ref parameters = as_item left closed name ∷ []
 function_bare true name q ref parameters =
-    (as_item left closed name ∷ says "(" ∷ list_part first (types_of name) parameters) ++ (says ")" ∷ text_part (encoding_text q ref))
+    (as_item left closed name ∷ text (begins_parameters ref parameters) ∷ list_part first (types_of name) parameters) ++ (says ")" ∷ text_part (encoding_text q ref))
 
 unfoldable pub function_full : (parameters_shown : Bool) → Term → Qualifiers → RefQualifier → Term → Term → List (PartOf Item)
 function_full false name q ref returned parameters = function_bare false name q ref parameters

@@ -6,12 +6,16 @@ use Rattle.sym_link.specs.Reading.{Found, ◌>>=◌}
 use Rattle.sym_link.specs.Unfold.{found}
 use Rattle.cpp_grammar.specs.Term.{Term, function_type, parameter}
 use Rattle.cpp_grammar.specs.Scope.{count, element, is_open, length_if_pack, pack_length}
-use Rattle.cpp_grammar.specs.Values.{Candidate, State, Around, prefix_tree, prefix_listed, Value, tree, tree_of, is_listed}
+use Rattle.cpp_grammar.specs.Values.{Counted, by_all, Candidate, State, Around, prefix_tree, prefix_listed, Value, tree, tree_of, is_listed}
 
 -- ## Candidates
 
+-- one candidate more, which is counted by these compilers
+abbrev pub appended_by : Counted → Around → Term → State → State
+appended_by counted around t state = record state { candidates = state.candidates ++ (record { tree = t; encoding = around.encoding; in_lambda = around.in_lambda; counted = counted } ∷ []) }
+
 unfoldable pub appended : Around → Term → State → State
-appended around t state = record state { candidates = state.candidates ++ (record { tree = t; encoding = around.encoding; in_lambda = around.in_lambda; is_held = false } ∷ []) }
+appended around t state = appended_by by_all around t state
 
 unfoldable pub is_function_type : Term → Bool
 is_function_type (function_type c_linkage noexcept ref returned parameters) = true

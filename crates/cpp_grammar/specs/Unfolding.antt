@@ -12,7 +12,7 @@ use Rattle.sym_link.specs.Unfold.{found, unfold_tree}
 use Rattle.cpp_grammar.specs.declared.production.Production.{Production}
 use Rattle.cpp_grammar.specs.Grammar.{productions}
 use Rattle.cpp_grammar.specs.Term.{Term, absent}
-use Rattle.cpp_grammar.specs.Values.{State, outermost, Around, Value, nothing_there, text, tree_of, text_of, local_number, part}
+use Rattle.cpp_grammar.specs.Values.{nothing_counted, State, outermost, Around, Value, nothing_there, text, tree_of, text_of, local_number, part}
 use Rattle.cpp_grammar.specs.References.{substituted}
 use Rattle.cpp_grammar.specs.Between.{between}
 use Rattle.cpp_grammar.specs.Meant.{gained, state_after}
@@ -27,14 +27,13 @@ last_token nothing digits = digits
 last_token (grown (token t) rest) digits = last_token rest t.own
 last_token (grown part rest) digits = last_token rest digits
 
--- The number of a lambda or an unnamed type has 64 bits. It is tested at its U, before what is between.
+-- The number of a lambda or an unnamed type has 64 bits. It is tested at its U, before what is between: its row says so.
 unfoldable pub number_tested : ℕ → List ℕ → State → Result State Refusal
 number_tested place digits state = elim (nat_lt (local_number digits) (2 ^ 64)) [ true ↦ Ok state | false ↦ Err (BadValue place) ]
 
 unfoldable pub opening : Production → Forest → (place : ℕ) → State → Result State Refusal
-opening Production.Lambda parts place state = number_tested (place - 1) (last_token parts []) state
-opening Production.Unnamed parts place state = number_tested (place - 1) (last_token parts []) state
-opening _ parts place state = Ok state
+unfolding row_of
+opening p parts place state = elim (row_of p).tests_number [ true ↦ number_tested (place - 1) (last_token parts []) state | false ↦ Ok state ]
 
 -- ## After the parts of a production
 
@@ -78,7 +77,7 @@ unfoldable pub first_around : Around
 first_around = record { scope = None; encoding = 0; in_lambda = false; in_expansion = false; prefix = outermost }
 
 unfoldable pub first_state : State
-first_state = record { candidates = []; packs = None }
+first_state = record { candidates = []; packs = None; counting = nothing_counted }
 
 unfoldable pub first_tree : List Value → Term
 first_tree [] = absent

@@ -2,21 +2,52 @@
 use Rattle.std.specs.Prelude.{ℕ, zero, suc, ◌+◌, List, [], ◌∷◌, Bool, true, false, cond, not, ◌&&◌, nat_eq, Option}
 use Rattle.sym_core.specs.declared.NumberKind.TheVariants.{Decimal}
 use Rattle.sym_core.specs.Value.{counted_value}
-use Rattle.cpp_grammar.specs.Term.{Qualifiers, RefQualifier, any_value, lvalue_only, rvalue_only, Signed, Adjustment, non_virtual, Term, absent}
+use Rattle.cpp_grammar.specs.Term.{Qualifiers, RefQualifier, any_value, lvalue_only, rvalue_only, explicit_object, Signed, Adjustment, non_virtual, Term, absent}
+
+-- By which compilers a candidate is counted: by all, by those since GCC 13 and Clang 13, by GCC alone, or by some of which the
+-- reading doesn't know.
+pub data Counted : Type 0 where
+  by_all : Counted
+  by_newer : Counted
+  by_gcc : Counted
+  by_some : Counted
 
 -- a tree that a substitution may name, the place where the encoding begins in which it was made, whether it was made in a
--- lambda's signature of that encoding, or in what is declared of an argument, and whether it's a name with its M
+-- lambda's signature of that encoding, or in what is declared of an argument, and by which compilers it's counted
 pub record Candidate : Type 0 where
   pub tree : Term
   pub encoding : ℕ
   pub in_lambda : Bool
-  pub is_held : Bool
+  pub counted : Counted
 
--- The state that is threaded through the bytes: the candidates so far, and the length of the packs that the innermost expansion
--- has named so far.
+-- The lists that the compiler may have that made the symbol: the longer one has the candidates that some compiler counts, and the
+-- shorter one those that all compilers count.
+pub data Lists : Type 0 where
+  both_lists : Lists
+  longer_list : Lists
+  shorter_list : Lists
+  no_list : Lists
+
+-- the place of the last S of which the form says what it may name: what a nested name begins with, or a type under qualifiers
+pub data Expected : Type 0 where
+  anything : Expected
+  prefix_at : (place : ℕ) → Expected
+  qualified_at : (place : ℕ) → Expected
+
+-- which lists are left, and what is expected
+pub record Counting : Type 0 where
+  pub lists : Lists
+  pub expected : Expected
+
+abbrev pub nothing_counted : Counting
+nothing_counted = record { lists = both_lists; expected = anything }
+
+-- The state that is threaded through the bytes: the candidates so far, the length of the packs that the innermost expansion
+-- has named so far, and how the candidates are counted where compilers differ.
 pub record State : Type 0 where
   pub candidates : List Candidate
   pub packs : Option ℕ
+  pub counting : Counting
 
 -- the name so far, and whether it is a candidate already or never is one
 pub data Prefix : Type 0 where
@@ -98,9 +129,9 @@ unfoldable pub is_there : Value → Bool
 is_there nothing_there = false
 is_there _ = true
 
--- the mark R or O, or none
+-- the mark R, O or H, or none
 unfoldable pub mark_of : Value → RefQualifier
-mark_of (letter byte) = cond (nat_eq byte 82) lvalue_only rvalue_only
+mark_of (letter byte) = cond (nat_eq byte 82) lvalue_only (cond (nat_eq byte 72) explicit_object rvalue_only)
 mark_of _ = any_value
 
 unfoldable pub text_of : Value → List ℕ

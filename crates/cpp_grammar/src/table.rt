@@ -194,141 +194,149 @@ const SPECIAL_MARK: Sym = Sym::Kind(90);
 
 const SPECIAL_AFTER_G: Sym = Sym::Kind(91);
 
-const CLONE_LETTER: Sym = Sym::Kind(92);
+const TEMPORARY_NAME: Sym = Sym::Kind(92);
 
-const TYPE_IN_STD: Sym = Sym::Kind(93);
+const CLONE_LETTER: Sym = Sym::Kind(93);
 
-const MAYBE_TAGS: Sym = Sym::Kind(94);
+const TYPE_IN_STD: Sym = Sym::Kind(94);
 
-const ARGUMENT: Sym = Sym::Kind(95);
+const MAYBE_TAGS: Sym = Sym::Kind(95);
 
-const ARGUMENT_AFTER_T: Sym = Sym::Kind(96);
+const ARGUMENT: Sym = Sym::Kind(96);
 
-const LEVELED_PARAMETER: Sym = Sym::Kind(97);
+const ARGUMENT_AFTER_T: Sym = Sym::Kind(97);
 
-const ONE_ARGUMENT: Sym = Sym::Kind(98);
+const LEVELED_PARAMETER: Sym = Sym::Kind(98);
 
-const DECLARATION_AFTER_T: Sym = Sym::Kind(99);
+const ONE_ARGUMENT: Sym = Sym::Kind(99);
 
-const DECLARATIONS: Sym = Sym::Kind(100);
+const DECLARATION_AFTER_T: Sym = Sym::Kind(100);
 
-const CONCEPT: Sym = Sym::Kind(101);
+const DECLARATIONS: Sym = Sym::Kind(101);
 
-const SOLID_BUT_T: Sym = Sym::Kind(102);
+const CONCEPT: Sym = Sym::Kind(102);
 
-const EXPRESSION: Sym = Sym::Kind(103);
+const SOLID_BUT_T: Sym = Sym::Kind(103);
 
-const ADDRESSED_EXPRESSION: Sym = Sym::Kind(104);
+const EXPRESSION: Sym = Sym::Kind(104);
 
-const ADDRESSED_LITERAL: Sym = Sym::Kind(105);
+const EXPRESSION_PARAMETER: Sym = Sym::Kind(105);
 
-const EXPRESSION_AFTER_A: Sym = Sym::Kind(106);
+const UNLEVELED_EXPRESSION: Sym = Sym::Kind(106);
 
-const EXPRESSION_AFTER_C: Sym = Sym::Kind(107);
+const ADDRESSED_EXPRESSION: Sym = Sym::Kind(107);
 
-const EXPRESSION_AFTER_D: Sym = Sym::Kind(108);
+const ADDRESSED_LITERAL: Sym = Sym::Kind(108);
 
-const EXPRESSION_AFTER_E: Sym = Sym::Kind(109);
+const EXPRESSION_AFTER_A: Sym = Sym::Kind(109);
 
-const EXPRESSION_AFTER_F: Sym = Sym::Kind(110);
+const EXPRESSION_AFTER_C: Sym = Sym::Kind(110);
 
-const EXPRESSION_AFTER_G: Sym = Sym::Kind(111);
+const EXPRESSION_AFTER_D: Sym = Sym::Kind(111);
 
-const EXPRESSION_AFTER_I: Sym = Sym::Kind(112);
+const EXPRESSION_AFTER_E: Sym = Sym::Kind(112);
 
-const EXPRESSION_AFTER_L: Sym = Sym::Kind(113);
+const EXPRESSION_AFTER_F: Sym = Sym::Kind(113);
 
-const EXPRESSION_AFTER_M: Sym = Sym::Kind(114);
+const EXPRESSION_AFTER_G: Sym = Sym::Kind(114);
 
-const EXPRESSION_AFTER_N: Sym = Sym::Kind(115);
+const EXPRESSION_AFTER_I: Sym = Sym::Kind(115);
 
-const EXPRESSION_AFTER_O: Sym = Sym::Kind(116);
+const EXPRESSION_AFTER_L: Sym = Sym::Kind(116);
 
-const EXPRESSION_AFTER_P: Sym = Sym::Kind(117);
+const EXPRESSION_AFTER_M: Sym = Sym::Kind(117);
 
-const EXPRESSION_AFTER_Q: Sym = Sym::Kind(118);
+const EXPRESSION_AFTER_N: Sym = Sym::Kind(118);
 
-const EXPRESSION_AFTER_R: Sym = Sym::Kind(119);
+const EXPRESSION_AFTER_O: Sym = Sym::Kind(119);
 
-const EXPRESSION_AFTER_S: Sym = Sym::Kind(120);
+const EXPRESSION_AFTER_P: Sym = Sym::Kind(120);
 
-const EXPRESSION_AFTER_T: Sym = Sym::Kind(121);
+const EXPRESSION_AFTER_Q: Sym = Sym::Kind(121);
 
-const EXPRESSIONS: Sym = Sym::Kind(122);
+const EXPRESSION_AFTER_R: Sym = Sym::Kind(122);
 
-const MAYBE_BEFORE: Sym = Sym::Kind(123);
+const EXPRESSION_AFTER_S: Sym = Sym::Kind(123);
 
-const FOLD_OPERATOR: Sym = Sym::Kind(124);
+const EXPRESSION_AFTER_T: Sym = Sym::Kind(124);
 
-const FOLD_OPERATOR_AFTER_L: Sym = Sym::Kind(125);
+const EXPRESSIONS: Sym = Sym::Kind(125);
 
-const FOLD_OPERAND: Sym = Sym::Kind(126);
+const MAYBE_BEFORE: Sym = Sym::Kind(126);
 
-const FOLD_PACK: Sym = Sym::Kind(127);
+const FOLD_OPERATOR: Sym = Sym::Kind(127);
 
-const VALUE_PACK: Sym = Sym::Kind(128);
+const FOLD_OPERATOR_AFTER_L: Sym = Sym::Kind(128);
 
-const TYPE_PACK: Sym = Sym::Kind(129);
+const FOLD_OPERAND: Sym = Sym::Kind(129);
 
-const DESIGNATED_VALUE: Sym = Sym::Kind(130);
+const FOLD_PACK: Sym = Sym::Kind(130);
 
-const DESIGNATOR_AFTER_D: Sym = Sym::Kind(131);
+const VALUE_PACK: Sym = Sym::Kind(131);
 
-const PLAIN_VALUE: Sym = Sym::Kind(132);
+const TYPE_PACK: Sym = Sym::Kind(132);
 
-const FIELD_NAME: Sym = Sym::Kind(133);
+const DESIGNATED_VALUE: Sym = Sym::Kind(133);
 
-const PLACEMENT: Sym = Sym::Kind(134);
+const DESIGNATOR_AFTER_D: Sym = Sym::Kind(134);
 
-const SOME_EXPRESSIONS: Sym = Sym::Kind(135);
+const PLAIN_VALUE: Sym = Sym::Kind(135);
 
-const INITIALIZER: Sym = Sym::Kind(136);
+const FIELD_NAME: Sym = Sym::Kind(136);
 
-const INITIALIZER_AFTER_P: Sym = Sym::Kind(137);
+const PLACEMENT: Sym = Sym::Kind(137);
 
-const INITIALIZER_AFTER_I: Sym = Sym::Kind(138);
+const SOME_EXPRESSIONS: Sym = Sym::Kind(138);
 
-const OUTER_REST: Sym = Sym::Kind(139);
+const INITIALIZER: Sym = Sym::Kind(139);
 
-const PARAMETER_NUMBER: Sym = Sym::Kind(140);
+const INITIALIZER_AFTER_P: Sym = Sym::Kind(140);
 
-const CONVERTED_TYPE: Sym = Sym::Kind(141);
+const INITIALIZER_AFTER_I: Sym = Sym::Kind(141);
 
-const CONVERTED_SOLID: Sym = Sym::Kind(142);
+const OUTER_REST: Sym = Sym::Kind(142);
 
-const DECLTYPE_AFTER_D: Sym = Sym::Kind(143);
+const PARAMETER_NUMBER: Sym = Sym::Kind(143);
 
-const CONVERT_REST: Sym = Sym::Kind(144);
+const CONVERTED_TYPE: Sym = Sym::Kind(144);
 
-const UNRESOLVED: Sym = Sym::Kind(145);
+const CONVERTED_SOLID: Sym = Sym::Kind(145);
 
-const UNRESOLVED_TYPE: Sym = Sym::Kind(146);
+const PARAMETER_AFTER_T: Sym = Sym::Kind(146);
 
-const DESTRUCTOR_NAME: Sym = Sym::Kind(147);
+const DECLTYPE_AFTER_D: Sym = Sym::Kind(147);
 
-const REQUIREMENTS: Sym = Sym::Kind(148);
+const CONVERT_REST: Sym = Sym::Kind(148);
 
-const AFTER_EXPRESSION: Sym = Sym::Kind(149);
+const UNRESOLVED: Sym = Sym::Kind(149);
 
-const AFTER_NOEXCEPT: Sym = Sym::Kind(150);
+const UNRESOLVED_TYPE: Sym = Sym::Kind(150);
 
-const REQUIRED_TYPES: Sym = Sym::Kind(151);
+const DESTRUCTOR_NAME: Sym = Sym::Kind(151);
 
-const LEVEL: Sym = Sym::Kind(152);
+const REQUIREMENTS: Sym = Sym::Kind(152);
 
-const MORE_LEVELS: Sym = Sym::Kind(153);
+const AFTER_EXPRESSION: Sym = Sym::Kind(153);
 
-const UNRESOLVED_NAME: Sym = Sym::Kind(154);
+const AFTER_NOEXCEPT: Sym = Sym::Kind(154);
 
-const OPERATOR_NAME: Sym = Sym::Kind(155);
+const REQUIRED_TYPES: Sym = Sym::Kind(155);
 
-const ANY_ARRAY: Sym = Sym::Kind(156);
+const LEVEL: Sym = Sym::Kind(156);
 
-const ARRAY_REST: Sym = Sym::Kind(157);
+const MORE_LEVELS: Sym = Sym::Kind(157);
 
-const BOUND: Sym = Sym::Kind(158);
+const UNRESOLVED_NAME: Sym = Sym::Kind(158);
 
-const NEST_MORE_OR_END: Sym = Sym::Kind(159);
+const OPERATOR_NAME: Sym = Sym::Kind(159);
+
+const ANY_ARRAY: Sym = Sym::Kind(160);
+
+const ARRAY_REST: Sym = Sym::Kind(161);
+
+const BOUND: Sym = Sym::Kind(162);
+
+const NEST_MORE_OR_END: Sym = Sym::Kind(163);
 
 const NAME: Sym = Sym::Name;
 
@@ -338,11 +346,12 @@ const SEQ36: Sym = Sym::Number(NumberKind::Seq36);
 
 const DIGITS: Sym = Sym::Number(NumberKind::Digits);
 
-/// The letter of the production with number 0; the others have the letters after it, in the order of their numbers.
+/// The letter of the production with number 0; the others have the bytes after it, in the order of their numbers. After the
+/// byte 255 they go on at 0.
 pub const FIRST_LETTER: u8 = b'!';
 
 // For each kind a row: for each byte from `$` to `z` the letter of the production that the kind takes there.
-static LETTERS: [[u8; 87]; 160] = [
+static LETTERS: [[u8; 87]; 164] = [
     // $%&'()*+,-./0123456789:;<=>?@ABCDEFGHIJKLMNOPQRSTUVWXYZ[\]^_`abcdefghijklmnopqrstuvwxyz
     *b"                                                           *                           ", // Symbol
     *b"          +                                                                            ", // MaybeSuffix
@@ -436,73 +445,77 @@ static LETTERS: [[u8; 87]; 160] = [
     *b"            $$$$$$$$$$                  \" V      #                                     ", // PlainTypeEntity
     *b"                                   !                                                   ", // SpecialMark
     *b"                                                  4                                    ", // SpecialAfterG
+    *b"            $$$$$$$$$$                  \" )    ; #    \xb5                                ", // TemporaryName
     *b"                                                                          !     !      ", // CloneLetter
-    *b"                                                                                \xb4      ", // TypeInStd
+    *b"                                                                                \xb6      ", // TypeInStd
     *b"                                                                                       ", // MaybeTags
-    *b"            \xb8\xb8\xb8\xb8\xb8\xb8\xb8\xb8\xb8\xb8       \xb8 \xb8g \xb8    a \xb8\xb8b\xb8 b\xb8\xb7\xb8` \xb6 \xb8      \xb8\xb8\xb8\xb8\xb8\xb8\xb8\xb8\xb8\xb8 \xb8\xb8\xb8\xb8  _\xb8\xb8\xb8\xb8\xb8\xb8\xb8\xb8", // Argument
-    *b"            \xb9\xb9\xb9\xb9\xb9\xb9\xb9\xb9\xb9\xb9                                     \xb9                           ", // ArgumentAfterT
-    *b"            \xb9\xb9\xb9\xb9\xb9\xb9\xb9\xb9\xb9\xb9                                     \xb9                           ", // LeveledParameter
-    *b"            \xb8\xb8\xb8\xb8\xb8\xb8\xb8\xb8\xb8\xb8       \xb8 \xb8g \xb8   \xbda\xbc\xb8\xb8b\xb8 b\xb8\xb7\xb8` \xb6 \xb8      \xb8\xb8\xb8\xb8\xb8\xb8\xb8\xb8\xb8\xb8 \xb8\xb8\xb8\xb8  _\xb8\xb8\xb8\xb8\xb8\xb8\xb8\xb8", // OneArgument
-    *b"                                                                       \xc0  \xbf \xc2   \xc1    \xbe ", // DeclarationAfterT
-    *b"                                                \xc3                                      ", // Declarations
-    *b"            \xc4\xc4\xc4\xc4\xc4\xc4\xc4\xc4\xc4\xc4                    V    \xc4                                       ", // Concept
+    *b"            \xba\xba\xba\xba\xba\xba\xba\xba\xba\xba       \xba \xbag \xba    a \xba\xbab\xba b\xba\xb9\xba` \xb8 \xba      \xba\xba\xba\xba\xba\xba\xba\xba\xba\xba \xba\xba\xba\xba  _\xba\xba\xba\xba\xba\xba\xba\xba", // Argument
+    *b"            \xbb\xbb\xbb\xbb\xbb\xbb\xbb\xbb\xbb\xbb                                     \xbb                           ", // ArgumentAfterT
+    *b"            \xbb\xbb\xbb\xbb\xbb\xbb\xbb\xbb\xbb\xbb                                     \xbb                           ", // LeveledParameter
+    *b"            \xba\xba\xba\xba\xba\xba\xba\xba\xba\xba       \xba \xbag \xba   \xbfa\xbe\xba\xbab\xba b\xba\xb9\xba` \xb8 \xba      \xba\xba\xba\xba\xba\xba\xba\xba\xba\xba \xba\xba\xba\xba  _\xba\xba\xba\xba\xba\xba\xba\xba", // OneArgument
+    *b"                                                                       \xc2  \xc1 \xc4   \xc3    \xc0 ", // DeclarationAfterT
+    *b"                                                \xc5                                      ", // Declarations
+    *b"            \xc6\xc6\xc6\xc6\xc6\xc6\xc6\xc6\xc6\xc6                    V    \xc6                                       ", // Concept
     *b"            $$$$$$$$$$       y {  z      sV r  u #    v      wwwwwwwwww wwww   wwxwwwww", // SolidButT
-    *b"                                                             \xe1                         ", // Expression
-    *b"                                        \xf2                                              ", // AddressedExpression
+    *b"                                                             \xe3                         ", // Expression
+    *b"            \xf4\xf4\xf4\xf4\xf4\xf4\xf4\xf4\xf4\xf4                  \xf5                  \xf4                           ", // ExpressionParameter
+    *b"            \xf4\xf4\xf4\xf4\xf4\xf4\xf4\xf4\xf4\xf4                                     \xf4                           ", // UnleveledExpression
+    *b"                                        \xf6                                              ", // AddressedExpression
     *b"                                                           \x8f                           ", // AddressedLiteral
-    *b"                                                                \xc9                      ", // ExpressionAfterA
-    *b"                                                               \xc5        \xcd\xca \xcb\xcd     \xce    ", // ExpressionAfterC
-    *b"                                                  \xca          \xcb \xc5 \xcb   \xcf  \xcb \xd1    \xca\xca \xca \xd0  ", // ExpressionAfterD
-    *b"                                           \xca                               \xca \xca         ", // ExpressionAfterE
-    *b"                                        \xd2                               \xd3   \xc8 \xd4        ", // ExpressionAfterF
-    *b"                                                                 \xca             \xcb\xca      ", // ExpressionAfterG
-    *b"                                                                        \xd5           \xca  ", // ExpressionAfterI
-    *b"                                               \xca                 \xca             \xca\xca      ", // ExpressionAfterL
-    *b"                                     \xca  \xca                            \xca  \xca\xd6             ", // ExpressionAfterM
-    *b"                                                             \xd7   \xca \xcb            \xcb  \xd7\xcb  ", // ExpressionAfterN
-    *b"                                              \xca                           \xc6\xca  \xca        ", // ExpressionAfterO
-    *b"                                        \xca                               \xca\xca  \xd6  \xcb\xca      ", // ExpressionAfterP
-    *b"                                                                                 \xd8     ", // ExpressionAfterQ
-    *b"                                         \xca   \xda \xca               \xc5         \xca   \xd9 \xca       ", // ExpressionAfterR
-    *b"                                                      \xdc        \xc5            \xdb \xdd\xca\xcc    \xde\xcb", // ExpressionAfterS
-    *b"                                                                 \xcb   \xcc  \xdf     \xe0    \xcb   ", // ExpressionAfterT
-    *b"                                                             \xf3                         ", // Expressions
+    *b"                                                                \xcb                      ", // ExpressionAfterA
+    *b"                                                               \xc7        \xcf\xcc \xcd\xcf     \xd0    ", // ExpressionAfterC
+    *b"                                                  \xcc          \xcd \xc7 \xcd   \xd1  \xcd \xd3    \xcc\xcc \xcc \xd2  ", // ExpressionAfterD
+    *b"                                           \xcc                               \xcc \xcc         ", // ExpressionAfterE
+    *b"                                        \xd4                               \xd5   \xca \xd6        ", // ExpressionAfterF
+    *b"                                                                 \xcc             \xcd\xcc      ", // ExpressionAfterG
+    *b"                                                                        \xd7           \xcc  ", // ExpressionAfterI
+    *b"                                               \xcc                 \xcc             \xcc\xcc      ", // ExpressionAfterL
+    *b"                                     \xcc  \xcc                            \xcc  \xcc\xd8             ", // ExpressionAfterM
+    *b"                                                             \xd9   \xcc \xcd            \xcd  \xd9\xcd  ", // ExpressionAfterN
+    *b"                                              \xcc                           \xc8\xcc  \xcc        ", // ExpressionAfterO
+    *b"                                        \xcc                               \xcc\xcc  \xd8  \xcd\xcc      ", // ExpressionAfterP
+    *b"                                                                                 \xda     ", // ExpressionAfterQ
+    *b"                                         \xcc   \xdc \xcc               \xc7         \xcc   \xdb \xcc       ", // ExpressionAfterR
+    *b"                                                      \xde        \xc7            \xdd \xdf\xcc\xce    \xe0\xcd", // ExpressionAfterS
+    *b"                                                                 \xcd   \xce  \xe1     \xe2    \xcd   ", // ExpressionAfterT
+    *b"                                                             \xf7                         ", // Expressions
     *b"                                                           !                           ", // MaybeBefore
-    *b"                                                             \x9e \xa0\x9d\xa4 \xa8 \xa7  \xf4\xa1\x9c\xa3\x9f \xa2\xa6       ", // FoldOperator
+    *b"                                                             \x9e \xa0\x9d\xa4 \xa8 \xa7  \xf8\xa1\x9c\xa3\x9f \xa2\xa6       ", // FoldOperator
     *b"                                               !                 !             !!      ", // FoldOperatorAfterL
-    *b"                                                             \xf5                         ", // FoldOperand
-    *b"                                                             \xf6                         ", // FoldPack
-    *b"                                      \xbd                      \xf6                         ", // ValuePack
-    *b"            \xf7\xf7\xf7\xf7\xf7\xf7\xf7\xf7\xf7\xf7       \xf7 \xf7\xf7 \xf7   \xbd\xf7 \xf7\xf7\xf7\xf7 \xf7\xf7\xf7\xf7\xf7   \xf7      \xf7\xf7\xf7\xf7\xf7\xf7\xf7\xf7\xf7\xf7 \xf7\xf7\xf7\xf7  \xf7\xf7\xf7\xf7\xf7\xf7\xf7\xf7\xf7", // TypePack
-    *b"            \xf9\xf9\xf9\xf9\xf9\xf9\xf9\xf9\xf9\xf9                  \xf9       \xf9            \xf9 \xf9\xf8\xf9\xf9\xf9 \xf9  \xf9\xf9\xf9\xf9\xf9\xf9\xf9\xf9\xf9      ", // DesignatedValue
-    *b"                                                                     \xcf              \xd0  ", // DesignatorAfterD
-    *b"            \xc7\xc7\xc7\xc7\xc7\xc7\xc7\xc7\xc7\xc7                  \xbc       \xf1            \xe1 \xe2 \xe4\xe5\xe6 \xe7  \xe8\xe9\xea\xeb\xec\xed\xee\xef\xf0      ", // PlainValue
-    *b"            \xfa\xfa\xfa\xfa\xfa\xfa\xfa\xfa\xfa\xfa                                                                 ", // FieldName
-    *b"                                                           ! \xfb                         ", // Placement
-    *b"                                                             \xf3                         ", // SomeExpressions
-    *b"                                 \x83                                   \xfd      \xfc          ", // Initializer
-    *b"                                                                     \xd5                 ", // InitializerAfterP
-    *b"                                                                        \xd5              ", // InitializerAfterI
-    *b"                                                                            \xc8          ", // OuterRest
-    *b"            \xff\xff\xff\xff\xff\xff\xff\xff\xff\xff                          \xfe          \xff                           ", // ParameterNumber
-    *b"            \x04\x04\x04\x04\x04\x04\x04\x04\x04\x04          \x00 \x04    \x01  \x04\x03\x02 \x03\x04\x04\x04           \x04\x04\x04\x04\x04\x04\x04\x04\x04\x04 \x04\x04\x04\x04   \x04\x04 \x04\x04\x04\x04\x04", // ConvertedType
-    *b"            $$$$$$$$$$            z       V    ut#           wwwwwwwwww wwww   ww wwwww", // ConvertedSolid
+    *b"                                                             \xf9                         ", // FoldOperand
+    *b"                                                             \xfa                         ", // FoldPack
+    *b"                                      \xbf                      \xfa                         ", // ValuePack
+    *b"            \xfb\xfb\xfb\xfb\xfb\xfb\xfb\xfb\xfb\xfb       \xfb \xfb\xfb \xfb   \xbf\xfb \xfb\xfb\xfb\xfb \xfb\xfb\xfb\xfb\xfb   \xfb      \xfb\xfb\xfb\xfb\xfb\xfb\xfb\xfb\xfb\xfb \xfb\xfb\xfb\xfb  \xfb\xfb\xfb\xfb\xfb\xfb\xfb\xfb\xfb", // TypePack
+    *b"            \xfd\xfd\xfd\xfd\xfd\xfd\xfd\xfd\xfd\xfd                  \xfd       \xfd            \xfd \xfd\xfc\xfd\xfd\xfd \xfd  \xfd\xfd\xfd\xfd\xfd\xfd\xfd\xfd\xfd      ", // DesignatedValue
+    *b"                                                                     \xd1              \xd2  ", // DesignatorAfterD
+    *b"            \xc9\xc9\xc9\xc9\xc9\xc9\xc9\xc9\xc9\xc9                  \xbe       \xf3            \xe3 \xe4 \xe6\xe7\xe8 \xe9  \xea\xeb\xec\xed\xee\xef\xf0\xf1\xf2      ", // PlainValue
+    *b"            \xfe\xfe\xfe\xfe\xfe\xfe\xfe\xfe\xfe\xfe                                                                 ", // FieldName
+    *b"                                                           ! \xff                         ", // Placement
+    *b"                                                             \xf7                         ", // SomeExpressions
+    *b"                                 \x83                                   \x01      \x00          ", // Initializer
+    *b"                                                                     \xd7                 ", // InitializerAfterP
+    *b"                                                                        \xd7              ", // InitializerAfterI
+    *b"                                                                            \xca          ", // OuterRest
+    *b"            \x03\x03\x03\x03\x03\x03\x03\x03\x03\x03                          \x02          \x03                           ", // ParameterNumber
+    *b"            \x08\x08\x08\x08\x08\x08\x08\x08\x08\x08          \x04 \x08    \x05  \x08\x07\x06 \x07\x08\x08\x08           \x08\x08\x08\x08\x08\x08\x08\x08\x08\x08 \x08\x08\x08\x08   \x08\x08 \x08\x08\x08\x08\x08", // ConvertedType
+    *b"            $$$$$$$$$$            z       V    u\x09#           wwwwwwwwww wwww   ww wwwww", // ConvertedSolid
+    *b"            \xbb\xbb\xbb\xbb\xbb\xbb\xbb\xbb\xbb\xbb                  \xbd                  \xbb                           ", // ParameterAfterT
     *b"                                                p                               p      ", // DecltypeAfterD
-    *b"            \xc7\xc7\xc7\xc7\xc7\xc7\xc7\xc7\xc7\xc7                  \xbc       \xf1          \xd5 \xe1 \xe2\xe3\xe4\xe5\xe6 \xe7  \xe8\xe9\xea\xeb\xec\xed\xee\xef\xf0      ", // ConvertRest
-    *b"            \x06\x06\x06\x06\x06\x06\x06\x06\x06\x06          \x05         \x05    \x05\x05                                      ", // Unresolved
-    *b"                                \x00         V    ut                                      ", // UnresolvedType
-    *b"            \xc7\xc7\xc7\xc7\xc7\xc7\xc7\xc7\xc7\xc7          \x07         \x07    \x07\x07                                      ", // DestructorName
-    *b"                                             \x0a  \x09   \x08                                  ", // Requirements
-    *b"                                          \x0c  \x0a\x0b \x09   \x08                                  ", // AfterExpression
-    *b"                                             \x0a\x0b \x09   \x08                                  ", // AfterNoexcept
-    *b"            \x0d\x0d\x0d\x0d\x0d\x0d\x0d\x0d\x0d\x0d          \x0d \x0d    \x0d  \x0d\x0d\x0d \x0d\x0d\x0d\x0d         \xd9 \x0d\x0d\x0d\x0d\x0d\x0d\x0d\x0d\x0d\x0d \x0d\x0d\x0d\x0d   \x0d\x0d \x0d\x0d\x0d\x0d\x0d", // RequiredTypes
-    *b"            \xc7\xc7\xc7\xc7\xc7\xc7\xc7\xc7\xc7\xc7                                                                 ", // Level
-    *b"            \x06\x06\x06\x06\x06\x06\x06\x06\x06\x06           \x0e                                                     ", // MoreLevels
-    *b"            \xc7\xc7\xc7\xc7\xc7\xc7\xc7\xc7\xc7\xc7                                                     \x0f           ", // UnresolvedName
-    *b"                                                                          \xc6            ", // OperatorName
-    *b"                             \x10                                                         ", // AnyArray
-    *b"            \x12\x12\x12\x12\x12\x12\x12\x12\x12\x12                                     \x12                           ", // ArrayRest
-    *b"                                        \xbc       \xf1            \xe1 \xe2\xe3\xe4\xe5\xe6 \xe7  \xe8\xe9\xea\xeb\xec\xed\xee\xef\xf0      ", // Bound
+    *b"            \xc9\xc9\xc9\xc9\xc9\xc9\xc9\xc9\xc9\xc9                  \xbe       \xf3          \xd7 \xe3 \xe4\xe5\xe6\xe7\xe8 \xe9  \xea\xeb\xec\xed\xee\xef\xf0\xf1\xf2      ", // ConvertRest
+    *b"            \x0b\x0b\x0b\x0b\x0b\x0b\x0b\x0b\x0b\x0b          \x0a         \x0a    \x0a\x0a                                      ", // Unresolved
+    *b"                                \x04         V    u\x09                                      ", // UnresolvedType
+    *b"            \xc9\xc9\xc9\xc9\xc9\xc9\xc9\xc9\xc9\xc9          \x0c         \x0c    \x0c\x0c                                      ", // DestructorName
+    *b"                                             \x0f  \x0e   \x0d                                  ", // Requirements
+    *b"                                          \x11  \x0f\x10 \x0e   \x0d                                  ", // AfterExpression
+    *b"                                             \x0f\x10 \x0e   \x0d                                  ", // AfterNoexcept
+    *b"            \x12\x12\x12\x12\x12\x12\x12\x12\x12\x12          \x12 \x12    \x12  \x12\x12\x12 \x12\x12\x12\x12         \xdb \x12\x12\x12\x12\x12\x12\x12\x12\x12\x12 \x12\x12\x12\x12   \x12\x12 \x12\x12\x12\x12\x12", // RequiredTypes
+    *b"            \xc9\xc9\xc9\xc9\xc9\xc9\xc9\xc9\xc9\xc9                                                                 ", // Level
+    *b"            \x0b\x0b\x0b\x0b\x0b\x0b\x0b\x0b\x0b\x0b           \x13                                                     ", // MoreLevels
+    *b"            \xc9\xc9\xc9\xc9\xc9\xc9\xc9\xc9\xc9\xc9                                                     \x14           ", // UnresolvedName
+    *b"                                                                          \xc8            ", // OperatorName
+    *b"                             \x15                                                         ", // AnyArray
+    *b"            \x17\x17\x17\x17\x17\x17\x17\x17\x17\x17                                     \x17                           ", // ArrayRest
+    *b"                                        \xbe       \xf3            \xe3 \xe4\xe5\xe6\xe7\xe8 \xe9  \xea\xeb\xec\xed\xee\xef\xf0\xf1\xf2      ", // Bound
     *b"            IIIIIIIIII         II       I        I           I III I I  IIIII II       ", // NestMoreOrEnd
 ];
 
@@ -533,7 +546,7 @@ macro_rules! chains {
 }
 
 // The rules of the productions, in the order of their numbers.
-pub static HEADS: [Head; 242] = [
+pub static HEADS: [Head; 247] = [
     takes!(0), // ! Mark
     takes!(2), // \" InternalName
     takes!(2), // # LocalTypeName
@@ -680,106 +693,111 @@ pub static HEADS: [Head; 242] = [
     takes!(1), // \xb0 UnnestedWithS
     chains!(2), // \xb1 TaggedSource
     takes!(3), // \xb2 BaseArguments
-    takes!(2), // \xb3 Clone
-    takes!(2), // \xb4 TaggedStdType
-    takes!(2), // \xb5 TypeTag
-    takes!(2), // \xb6 Expression
-    takes!(1), // \xb7 ArgumentWithT
-    chains!(1), // \xb8 PlainArgument
-    chains!(2), // \xb9 ParameterArgument
-    chains!(2), // \xba DeclaredArgument
-    takes!(2), // \xbb LeveledParameter
-    takes!(2), // \xbc OneLiteral
-    takes!(2), // \xbd OnePack
-    takes!(0), // \xbe AnyType
-    takes!(1), // \xbf ValueOf
-    takes!(1), // \xc0 OfConcept
-    takes!(2), // \xc1 TemplateOf
-    takes!(2), // \xc2 PackOf
-    takes!(2), // \xc3 Declarations
-    chains!(2), // \xc4 NamedConcept
-    takes!(2), // \xc5 Cast
-    takes!(2), // \xc6 OperatorReference
-    chains!(2), // \xc7 SimpleId
-    takes!(4), // \xc8 FunctionParameter
-    takes!(1), // \xc9 AddressExpression
-    takes!(2), // \xca Binary
-    takes!(1), // \xcb Unary
-    takes!(1), // \xcc OfType
-    takes!(3), // \xcd Call
-    takes!(2), // \xce Convert
-    takes!(2), // \xcf Designated
-    takes!(2), // \xd0 DesignatedElement
-    takes!(1), // \xd1 DestructorName
-    takes!(2), // \xd2 OuterParameter
-    takes!(2), // \xd3 LeftFold
-    takes!(2), // \xd4 RightFold
-    takes!(2), // \xd5 Braces
-    takes!(2), // \xd6 Step
-    takes!(3), // \xd7 New
-    takes!(3), // \xd8 Conditional
-    takes!(2), // \xd9 Requires
-    takes!(1), // \xda RequiresOf
-    takes!(1), // \xdb ExpandExpression
-    takes!(1), // \xdc PackSize
-    takes!(1), // \xdd Unresolved
-    takes!(2), // \xde PackIndex
-    takes!(3), // \xdf TypedBraces
-    takes!(0), // \xe0 Rethrow
-    takes!(1), // \xe1 ExpressionA
-    takes!(1), // \xe2 ExpressionC
-    takes!(1), // \xe3 ExpressionD
-    takes!(1), // \xe4 ExpressionE
-    takes!(1), // \xe5 ExpressionF
-    takes!(1), // \xe6 ExpressionG
-    takes!(1), // \xe7 ExpressionI
-    takes!(1), // \xe8 ExpressionL
-    takes!(1), // \xe9 ExpressionM
-    takes!(1), // \xea ExpressionN
-    takes!(1), // \xeb ExpressionO
-    takes!(1), // \xec ExpressionP
-    takes!(1), // \xed ExpressionQ
-    takes!(1), // \xee ExpressionR
-    takes!(1), // \xef ExpressionS
-    takes!(1), // \xf0 ExpressionT
-    takes!(2), // \xf1 ParameterExpression
-    takes!(2), // \xf2 AddressedLiteral
-    chains!(2), // \xf3 Expressions
-    takes!(1), // \xf4 FoldOperatorL
-    chains!(1), // \xf5 FoldOperand
-    chains!(1), // \xf6 FoldPack
-    chains!(1), // \xf7 TypePack
-    takes!(1), // \xf8 Designators
-    chains!(1), // \xf9 DesignatedValue
-    chains!(1), // \xfa FieldName
-    chains!(2), // \xfb Placed
-    takes!(1), // \xfc Initializer
-    takes!(1), // \xfd BracedInitializer
-    takes!(0), // \xfe This
-    chains!(1), // \xff ParameterNumber
-    takes!(1), // \x00 ConvertedDecltype
-    takes!(1), // \x01 ConvertedConst
-    takes!(1), // \x02 ConvertedPointer
-    takes!(1), // \x03 ConvertedReference
-    chains!(1), // \x04 ConvertedType
-    chains!(2), // \x05 UnresolvedInType
-    chains!(2), // \x06 Levels
-    chains!(1), // \x07 DestroyedType
-    takes!(2), // \x08 ExpressionRequirement
-    takes!(2), // \x09 TypeRequirement
-    takes!(2), // \x0a NestedRequirement
-    takes!(2), // \x0b ResultRequirement
-    takes!(1), // \x0c NoexceptRequirement
-    chains!(2), // \x0d RequiredType
-    takes!(1), // \x0e LevelsEnd
-    takes!(1), // \x0f UnresolvedOperator
-    takes!(1), // \x10 AnyArray
-    chains!(3), // \x11 BoundedArray
-    chains!(2), // \x12 LengthArray
+    takes!(2), // \xb3 Temporary
+    takes!(2), // \xb4 Clone
+    takes!(3), // \xb5 LocalTemporary
+    takes!(2), // \xb6 TaggedStdType
+    takes!(2), // \xb7 TypeTag
+    takes!(2), // \xb8 Expression
+    takes!(1), // \xb9 ArgumentWithT
+    chains!(1), // \xba PlainArgument
+    chains!(2), // \xbb ParameterArgument
+    chains!(2), // \xbc DeclaredArgument
+    takes!(2), // \xbd LeveledParameter
+    takes!(2), // \xbe OneLiteral
+    takes!(2), // \xbf OnePack
+    takes!(0), // \xc0 AnyType
+    takes!(1), // \xc1 ValueOf
+    takes!(1), // \xc2 OfConcept
+    takes!(2), // \xc3 TemplateOf
+    takes!(2), // \xc4 PackOf
+    takes!(2), // \xc5 Declarations
+    chains!(2), // \xc6 NamedConcept
+    takes!(2), // \xc7 Cast
+    takes!(2), // \xc8 OperatorReference
+    chains!(2), // \xc9 SimpleId
+    takes!(4), // \xca FunctionParameter
+    takes!(1), // \xcb AddressExpression
+    takes!(2), // \xcc Binary
+    takes!(1), // \xcd Unary
+    takes!(1), // \xce OfType
+    takes!(3), // \xcf Call
+    takes!(2), // \xd0 Convert
+    takes!(2), // \xd1 Designated
+    takes!(2), // \xd2 DesignatedElement
+    takes!(1), // \xd3 DestructorName
+    takes!(2), // \xd4 OuterParameter
+    takes!(2), // \xd5 LeftFold
+    takes!(2), // \xd6 RightFold
+    takes!(2), // \xd7 Braces
+    takes!(2), // \xd8 Step
+    takes!(3), // \xd9 New
+    takes!(3), // \xda Conditional
+    takes!(2), // \xdb Requires
+    takes!(1), // \xdc RequiresOf
+    takes!(1), // \xdd ExpandExpression
+    takes!(1), // \xde PackSize
+    takes!(1), // \xdf Unresolved
+    takes!(2), // \xe0 PackIndex
+    takes!(3), // \xe1 TypedBraces
+    takes!(0), // \xe2 Rethrow
+    takes!(1), // \xe3 ExpressionA
+    takes!(1), // \xe4 ExpressionC
+    takes!(1), // \xe5 ExpressionD
+    takes!(1), // \xe6 ExpressionE
+    takes!(1), // \xe7 ExpressionF
+    takes!(1), // \xe8 ExpressionG
+    takes!(1), // \xe9 ExpressionI
+    takes!(1), // \xea ExpressionL
+    takes!(1), // \xeb ExpressionM
+    takes!(1), // \xec ExpressionN
+    takes!(1), // \xed ExpressionO
+    takes!(1), // \xee ExpressionP
+    takes!(1), // \xef ExpressionQ
+    takes!(1), // \xf0 ExpressionR
+    takes!(1), // \xf1 ExpressionS
+    takes!(1), // \xf2 ExpressionT
+    takes!(1), // \xf3 ExpressionWithT
+    chains!(2), // \xf4 ParameterExpression
+    takes!(2), // \xf5 LeveledExpression
+    takes!(2), // \xf6 AddressedLiteral
+    chains!(2), // \xf7 Expressions
+    takes!(1), // \xf8 FoldOperatorL
+    chains!(1), // \xf9 FoldOperand
+    chains!(1), // \xfa FoldPack
+    chains!(1), // \xfb TypePack
+    takes!(1), // \xfc Designators
+    chains!(1), // \xfd DesignatedValue
+    chains!(1), // \xfe FieldName
+    chains!(2), // \xff Placed
+    takes!(1), // \x00 Initializer
+    takes!(1), // \x01 BracedInitializer
+    takes!(0), // \x02 This
+    chains!(1), // \x03 ParameterNumber
+    takes!(1), // \x04 ConvertedDecltype
+    takes!(1), // \x05 ConvertedConst
+    takes!(1), // \x06 ConvertedPointer
+    takes!(1), // \x07 ConvertedReference
+    chains!(1), // \x08 ConvertedType
+    takes!(1), // \x09 ConvertedWithT
+    chains!(2), // \x0a UnresolvedInType
+    chains!(2), // \x0b Levels
+    chains!(1), // \x0c DestroyedType
+    takes!(2), // \x0d ExpressionRequirement
+    takes!(2), // \x0e TypeRequirement
+    takes!(2), // \x0f NestedRequirement
+    takes!(2), // \x10 ResultRequirement
+    takes!(1), // \x11 NoexceptRequirement
+    chains!(2), // \x12 RequiredType
+    takes!(1), // \x13 LevelsEnd
+    takes!(1), // \x14 UnresolvedOperator
+    takes!(1), // \x15 AnyArray
+    chains!(3), // \x16 BoundedArray
+    chains!(2), // \x17 LengthArray
 ];
 
 // The symbols of the rules, in the same order.
-pub static SYMBOLS: [Sym; 1458] = symbols_listed! {
+pub static SYMBOLS: [Sym; 1488] = symbols_listed! {
     [NONE, NONE, NONE, NONE, NONE], // ! Mark
     [NAME, MAYBE_ARGUMENTS, NONE, NONE, NONE], // \" InternalName
     [ANONYMOUS, MAYBE_ARGUMENTS, NONE, NONE, NONE], // # LocalTypeName
@@ -926,106 +944,111 @@ pub static SYMBOLS: [Sym; 1458] = symbols_listed! {
     [TYPE_AFTER_S, NONE, NONE, NONE, NONE], // \xb0 UnnestedWithS
     [NAME, MAYBE_TAGS, NONE, NONE, NONE], // \xb1 TaggedSource
     [ARGUMENTS_FIRST, Sym::Byte(b'E'), HELD_ARGUMENTS, NONE, NONE], // \xb2 BaseArguments
-    [CLONE_LETTER, ENCODING, NONE, NONE, NONE], // \xb3 Clone
-    [SOURCE_OR_LOCAL, MAYBE_TAGS, NONE, NONE, NONE], // \xb4 TaggedStdType
-    [NAME, MAYBE_TAGS, NONE, NONE, NONE], // \xb5 TypeTag
-    [EXPRESSION, Sym::Byte(b'E'), NONE, NONE, NONE], // \xb6 Expression
-    [ARGUMENT_AFTER_T, NONE, NONE, NONE, NONE], // \xb7 ArgumentWithT
-    [SOLID_BUT_T, NONE, NONE, NONE, NONE], // \xb8 PlainArgument
-    [DECIMAL, ARGUMENTS_ALONE, NONE, NONE, NONE], // \xb9 ParameterArgument
-    [DECLARATION_AFTER_T, ONE_ARGUMENT, NONE, NONE, NONE], // \xba DeclaredArgument
-    [DECIMAL, LEVELED_PARAMETER, NONE, NONE, NONE], // \xbb LeveledParameter
-    [LITERAL, Sym::Byte(b'E'), NONE, NONE, NONE], // \xbc OneLiteral
-    [PACK_LIST, Sym::Byte(b'E'), NONE, NONE, NONE], // \xbd OnePack
-    [NONE, NONE, NONE, NONE, NONE], // \xbe AnyType
-    [TYPE, NONE, NONE, NONE, NONE], // \xbf ValueOf
-    [CONCEPT, NONE, NONE, NONE, NONE], // \xc0 OfConcept
-    [DECLARATIONS, Sym::Byte(b'E'), NONE, NONE, NONE], // \xc1 TemplateOf
-    [Sym::Byte(b'T'), DECLARATION_AFTER_T, NONE, NONE, NONE], // \xc2 PackOf
-    [DECLARATION_AFTER_T, DECLARATIONS, NONE, NONE, NONE], // \xc3 Declarations
-    [UNNESTED_NAME, HELD_ARGUMENTS, NONE, NONE, NONE], // \xc4 NamedConcept
-    [TYPE, EXPRESSION, NONE, NONE, NONE], // \xc5 Cast
-    [OPERATOR, ARGUMENTS_ALONE, NONE, NONE, NONE], // \xc6 OperatorReference
-    [NAME, ARGUMENTS_ALONE, NONE, NONE, NONE], // \xc7 SimpleId
-    [MAYBE_RESTRICT, MAYBE_VOLATILE, MAYBE_CONST, PARAMETER_NUMBER, NONE], // \xc8 FunctionParameter
-    [ADDRESSED_EXPRESSION, NONE, NONE, NONE, NONE], // \xc9 AddressExpression
-    [EXPRESSION, EXPRESSION, NONE, NONE, NONE], // \xca Binary
-    [EXPRESSION, NONE, NONE, NONE, NONE], // \xcb Unary
-    [CONVERTED_TYPE, NONE, NONE, NONE, NONE], // \xcc OfType
-    [EXPRESSION, EXPRESSIONS, Sym::Byte(b'E'), NONE, NONE], // \xcd Call
-    [CONVERTED_TYPE, CONVERT_REST, NONE, NONE, NONE], // \xce Convert
-    [FIELD_NAME, DESIGNATED_VALUE, NONE, NONE, NONE], // \xcf Designated
-    [EXPRESSION, DESIGNATED_VALUE, NONE, NONE, NONE], // \xd0 DesignatedElement
-    [DESTRUCTOR_NAME, NONE, NONE, NONE, NONE], // \xd1 DestructorName
-    [DIGITS, OUTER_REST, NONE, NONE, NONE], // \xd2 OuterParameter
-    [FOLD_OPERATOR, FOLD_OPERAND, NONE, NONE, NONE], // \xd3 LeftFold
-    [FOLD_OPERATOR, FOLD_OPERAND, NONE, NONE, NONE], // \xd4 RightFold
-    [EXPRESSIONS, Sym::Byte(b'E'), NONE, NONE, NONE], // \xd5 Braces
-    [MAYBE_BEFORE, EXPRESSION, NONE, NONE, NONE], // \xd6 Step
-    [PLACEMENT, TYPE, INITIALIZER, NONE, NONE], // \xd7 New
-    [EXPRESSION, EXPRESSION, EXPRESSION, NONE, NONE], // \xd8 Conditional
-    [REQUIREMENTS, Sym::Byte(b'E'), NONE, NONE, NONE], // \xd9 Requires
-    [REQUIRED_TYPES, NONE, NONE, NONE, NONE], // \xda RequiresOf
-    [EXPRESSION, NONE, NONE, NONE, NONE], // \xdb ExpandExpression
-    [EXPRESSION, NONE, NONE, NONE, NONE], // \xdc PackSize
-    [UNRESOLVED, NONE, NONE, NONE, NONE], // \xdd Unresolved
-    [VALUE_PACK, EXPRESSION, NONE, NONE, NONE], // \xde PackIndex
-    [TYPE, EXPRESSIONS, Sym::Byte(b'E'), NONE, NONE], // \xdf TypedBraces
-    [NONE, NONE, NONE, NONE, NONE], // \xe0 Rethrow
-    [EXPRESSION_AFTER_A, NONE, NONE, NONE, NONE], // \xe1 ExpressionA
-    [EXPRESSION_AFTER_C, NONE, NONE, NONE, NONE], // \xe2 ExpressionC
-    [EXPRESSION_AFTER_D, NONE, NONE, NONE, NONE], // \xe3 ExpressionD
-    [EXPRESSION_AFTER_E, NONE, NONE, NONE, NONE], // \xe4 ExpressionE
-    [EXPRESSION_AFTER_F, NONE, NONE, NONE, NONE], // \xe5 ExpressionF
-    [EXPRESSION_AFTER_G, NONE, NONE, NONE, NONE], // \xe6 ExpressionG
-    [EXPRESSION_AFTER_I, NONE, NONE, NONE, NONE], // \xe7 ExpressionI
-    [EXPRESSION_AFTER_L, NONE, NONE, NONE, NONE], // \xe8 ExpressionL
-    [EXPRESSION_AFTER_M, NONE, NONE, NONE, NONE], // \xe9 ExpressionM
-    [EXPRESSION_AFTER_N, NONE, NONE, NONE, NONE], // \xea ExpressionN
-    [EXPRESSION_AFTER_O, NONE, NONE, NONE, NONE], // \xeb ExpressionO
-    [EXPRESSION_AFTER_P, NONE, NONE, NONE, NONE], // \xec ExpressionP
-    [EXPRESSION_AFTER_Q, NONE, NONE, NONE, NONE], // \xed ExpressionQ
-    [EXPRESSION_AFTER_R, NONE, NONE, NONE, NONE], // \xee ExpressionR
-    [EXPRESSION_AFTER_S, NONE, NONE, NONE, NONE], // \xef ExpressionS
-    [EXPRESSION_AFTER_T, NONE, NONE, NONE, NONE], // \xf0 ExpressionT
-    [DECIMAL, ARGUMENTS_ALONE, NONE, NONE, NONE], // \xf1 ParameterExpression
-    [ADDRESSED_LITERAL, Sym::Byte(b'E'), NONE, NONE, NONE], // \xf2 AddressedLiteral
-    [EXPRESSION, EXPRESSIONS, NONE, NONE, NONE], // \xf3 Expressions
-    [FOLD_OPERATOR_AFTER_L, NONE, NONE, NONE, NONE], // \xf4 FoldOperatorL
-    [FOLD_PACK, NONE, NONE, NONE, NONE], // \xf5 FoldOperand
-    [EXPRESSION, NONE, NONE, NONE, NONE], // \xf6 FoldPack
-    [TYPE, NONE, NONE, NONE, NONE], // \xf7 TypePack
-    [DESIGNATOR_AFTER_D, NONE, NONE, NONE, NONE], // \xf8 Designators
-    [PLAIN_VALUE, NONE, NONE, NONE, NONE], // \xf9 DesignatedValue
-    [NAME, NONE, NONE, NONE, NONE], // \xfa FieldName
-    [SOME_EXPRESSIONS, Sym::Byte(b'_'), NONE, NONE, NONE], // \xfb Placed
-    [INITIALIZER_AFTER_P, NONE, NONE, NONE, NONE], // \xfc Initializer
-    [INITIALIZER_AFTER_I, NONE, NONE, NONE, NONE], // \xfd BracedInitializer
-    [NONE, NONE, NONE, NONE, NONE], // \xfe This
-    [DECIMAL, NONE, NONE, NONE, NONE], // \xff ParameterNumber
-    [DECLTYPE_AFTER_D, NONE, NONE, NONE, NONE], // \x00 ConvertedDecltype
-    [CONVERTED_TYPE, NONE, NONE, NONE, NONE], // \x01 ConvertedConst
-    [CONVERTED_TYPE, NONE, NONE, NONE, NONE], // \x02 ConvertedPointer
-    [CONVERTED_TYPE, NONE, NONE, NONE, NONE], // \x03 ConvertedReference
-    [CONVERTED_SOLID, NONE, NONE, NONE, NONE], // \x04 ConvertedType
-    [UNRESOLVED_TYPE, UNRESOLVED_NAME, NONE, NONE, NONE], // \x05 UnresolvedInType
-    [LEVEL, MORE_LEVELS, NONE, NONE, NONE], // \x06 Levels
-    [UNRESOLVED_TYPE, NONE, NONE, NONE, NONE], // \x07 DestroyedType
-    [EXPRESSION, AFTER_EXPRESSION, NONE, NONE, NONE], // \x08 ExpressionRequirement
-    [TYPE, REQUIREMENTS, NONE, NONE, NONE], // \x09 TypeRequirement
-    [EXPRESSION, REQUIREMENTS, NONE, NONE, NONE], // \x0a NestedRequirement
-    [CONCEPT, REQUIREMENTS, NONE, NONE, NONE], // \x0b ResultRequirement
-    [AFTER_NOEXCEPT, NONE, NONE, NONE, NONE], // \x0c NoexceptRequirement
-    [CONVERTED_TYPE, REQUIRED_TYPES, NONE, NONE, NONE], // \x0d RequiredType
-    [UNRESOLVED_NAME, NONE, NONE, NONE, NONE], // \x0e LevelsEnd
-    [OPERATOR_NAME, NONE, NONE, NONE, NONE], // \x0f UnresolvedOperator
-    [ARRAY_REST, NONE, NONE, NONE, NONE], // \x10 AnyArray
-    [BOUND, Sym::Byte(b'_'), TYPE, NONE, NONE], // \x11 BoundedArray
-    [DECIMAL, TYPE, NONE, NONE, NONE], // \x12 LengthArray
+    [TEMPORARY_NAME, Sym::Byte(b'_'), NONE, NONE, NONE], // \xb3 Temporary
+    [CLONE_LETTER, ENCODING, NONE, NONE, NONE], // \xb4 Clone
+    [ENCODING, Sym::Byte(b'E'), ENTITY, NONE, NONE], // \xb5 LocalTemporary
+    [SOURCE_OR_LOCAL, MAYBE_TAGS, NONE, NONE, NONE], // \xb6 TaggedStdType
+    [NAME, MAYBE_TAGS, NONE, NONE, NONE], // \xb7 TypeTag
+    [EXPRESSION, Sym::Byte(b'E'), NONE, NONE, NONE], // \xb8 Expression
+    [ARGUMENT_AFTER_T, NONE, NONE, NONE, NONE], // \xb9 ArgumentWithT
+    [SOLID_BUT_T, NONE, NONE, NONE, NONE], // \xba PlainArgument
+    [DECIMAL, ARGUMENTS_ALONE, NONE, NONE, NONE], // \xbb ParameterArgument
+    [DECLARATION_AFTER_T, ONE_ARGUMENT, NONE, NONE, NONE], // \xbc DeclaredArgument
+    [DECIMAL, LEVELED_PARAMETER, NONE, NONE, NONE], // \xbd LeveledParameter
+    [LITERAL, Sym::Byte(b'E'), NONE, NONE, NONE], // \xbe OneLiteral
+    [PACK_LIST, Sym::Byte(b'E'), NONE, NONE, NONE], // \xbf OnePack
+    [NONE, NONE, NONE, NONE, NONE], // \xc0 AnyType
+    [TYPE, NONE, NONE, NONE, NONE], // \xc1 ValueOf
+    [CONCEPT, NONE, NONE, NONE, NONE], // \xc2 OfConcept
+    [DECLARATIONS, Sym::Byte(b'E'), NONE, NONE, NONE], // \xc3 TemplateOf
+    [Sym::Byte(b'T'), DECLARATION_AFTER_T, NONE, NONE, NONE], // \xc4 PackOf
+    [DECLARATION_AFTER_T, DECLARATIONS, NONE, NONE, NONE], // \xc5 Declarations
+    [UNNESTED_NAME, HELD_ARGUMENTS, NONE, NONE, NONE], // \xc6 NamedConcept
+    [TYPE, EXPRESSION, NONE, NONE, NONE], // \xc7 Cast
+    [OPERATOR, ARGUMENTS_ALONE, NONE, NONE, NONE], // \xc8 OperatorReference
+    [NAME, ARGUMENTS_ALONE, NONE, NONE, NONE], // \xc9 SimpleId
+    [MAYBE_RESTRICT, MAYBE_VOLATILE, MAYBE_CONST, PARAMETER_NUMBER, NONE], // \xca FunctionParameter
+    [ADDRESSED_EXPRESSION, NONE, NONE, NONE, NONE], // \xcb AddressExpression
+    [EXPRESSION, EXPRESSION, NONE, NONE, NONE], // \xcc Binary
+    [EXPRESSION, NONE, NONE, NONE, NONE], // \xcd Unary
+    [CONVERTED_TYPE, NONE, NONE, NONE, NONE], // \xce OfType
+    [EXPRESSION, EXPRESSIONS, Sym::Byte(b'E'), NONE, NONE], // \xcf Call
+    [CONVERTED_TYPE, CONVERT_REST, NONE, NONE, NONE], // \xd0 Convert
+    [FIELD_NAME, DESIGNATED_VALUE, NONE, NONE, NONE], // \xd1 Designated
+    [EXPRESSION, DESIGNATED_VALUE, NONE, NONE, NONE], // \xd2 DesignatedElement
+    [DESTRUCTOR_NAME, NONE, NONE, NONE, NONE], // \xd3 DestructorName
+    [DIGITS, OUTER_REST, NONE, NONE, NONE], // \xd4 OuterParameter
+    [FOLD_OPERATOR, FOLD_OPERAND, NONE, NONE, NONE], // \xd5 LeftFold
+    [FOLD_OPERATOR, FOLD_OPERAND, NONE, NONE, NONE], // \xd6 RightFold
+    [EXPRESSIONS, Sym::Byte(b'E'), NONE, NONE, NONE], // \xd7 Braces
+    [MAYBE_BEFORE, EXPRESSION, NONE, NONE, NONE], // \xd8 Step
+    [PLACEMENT, TYPE, INITIALIZER, NONE, NONE], // \xd9 New
+    [EXPRESSION, EXPRESSION, EXPRESSION, NONE, NONE], // \xda Conditional
+    [REQUIREMENTS, Sym::Byte(b'E'), NONE, NONE, NONE], // \xdb Requires
+    [REQUIRED_TYPES, NONE, NONE, NONE, NONE], // \xdc RequiresOf
+    [EXPRESSION, NONE, NONE, NONE, NONE], // \xdd ExpandExpression
+    [EXPRESSION, NONE, NONE, NONE, NONE], // \xde PackSize
+    [UNRESOLVED, NONE, NONE, NONE, NONE], // \xdf Unresolved
+    [VALUE_PACK, EXPRESSION, NONE, NONE, NONE], // \xe0 PackIndex
+    [TYPE, EXPRESSIONS, Sym::Byte(b'E'), NONE, NONE], // \xe1 TypedBraces
+    [NONE, NONE, NONE, NONE, NONE], // \xe2 Rethrow
+    [EXPRESSION_AFTER_A, NONE, NONE, NONE, NONE], // \xe3 ExpressionA
+    [EXPRESSION_AFTER_C, NONE, NONE, NONE, NONE], // \xe4 ExpressionC
+    [EXPRESSION_AFTER_D, NONE, NONE, NONE, NONE], // \xe5 ExpressionD
+    [EXPRESSION_AFTER_E, NONE, NONE, NONE, NONE], // \xe6 ExpressionE
+    [EXPRESSION_AFTER_F, NONE, NONE, NONE, NONE], // \xe7 ExpressionF
+    [EXPRESSION_AFTER_G, NONE, NONE, NONE, NONE], // \xe8 ExpressionG
+    [EXPRESSION_AFTER_I, NONE, NONE, NONE, NONE], // \xe9 ExpressionI
+    [EXPRESSION_AFTER_L, NONE, NONE, NONE, NONE], // \xea ExpressionL
+    [EXPRESSION_AFTER_M, NONE, NONE, NONE, NONE], // \xeb ExpressionM
+    [EXPRESSION_AFTER_N, NONE, NONE, NONE, NONE], // \xec ExpressionN
+    [EXPRESSION_AFTER_O, NONE, NONE, NONE, NONE], // \xed ExpressionO
+    [EXPRESSION_AFTER_P, NONE, NONE, NONE, NONE], // \xee ExpressionP
+    [EXPRESSION_AFTER_Q, NONE, NONE, NONE, NONE], // \xef ExpressionQ
+    [EXPRESSION_AFTER_R, NONE, NONE, NONE, NONE], // \xf0 ExpressionR
+    [EXPRESSION_AFTER_S, NONE, NONE, NONE, NONE], // \xf1 ExpressionS
+    [EXPRESSION_AFTER_T, NONE, NONE, NONE, NONE], // \xf2 ExpressionT
+    [EXPRESSION_PARAMETER, NONE, NONE, NONE, NONE], // \xf3 ExpressionWithT
+    [DECIMAL, ARGUMENTS_ALONE, NONE, NONE, NONE], // \xf4 ParameterExpression
+    [DECIMAL, UNLEVELED_EXPRESSION, NONE, NONE, NONE], // \xf5 LeveledExpression
+    [ADDRESSED_LITERAL, Sym::Byte(b'E'), NONE, NONE, NONE], // \xf6 AddressedLiteral
+    [EXPRESSION, EXPRESSIONS, NONE, NONE, NONE], // \xf7 Expressions
+    [FOLD_OPERATOR_AFTER_L, NONE, NONE, NONE, NONE], // \xf8 FoldOperatorL
+    [FOLD_PACK, NONE, NONE, NONE, NONE], // \xf9 FoldOperand
+    [EXPRESSION, NONE, NONE, NONE, NONE], // \xfa FoldPack
+    [TYPE, NONE, NONE, NONE, NONE], // \xfb TypePack
+    [DESIGNATOR_AFTER_D, NONE, NONE, NONE, NONE], // \xfc Designators
+    [PLAIN_VALUE, NONE, NONE, NONE, NONE], // \xfd DesignatedValue
+    [NAME, NONE, NONE, NONE, NONE], // \xfe FieldName
+    [SOME_EXPRESSIONS, Sym::Byte(b'_'), NONE, NONE, NONE], // \xff Placed
+    [INITIALIZER_AFTER_P, NONE, NONE, NONE, NONE], // \x00 Initializer
+    [INITIALIZER_AFTER_I, NONE, NONE, NONE, NONE], // \x01 BracedInitializer
+    [NONE, NONE, NONE, NONE, NONE], // \x02 This
+    [DECIMAL, NONE, NONE, NONE, NONE], // \x03 ParameterNumber
+    [DECLTYPE_AFTER_D, NONE, NONE, NONE, NONE], // \x04 ConvertedDecltype
+    [CONVERTED_TYPE, NONE, NONE, NONE, NONE], // \x05 ConvertedConst
+    [CONVERTED_TYPE, NONE, NONE, NONE, NONE], // \x06 ConvertedPointer
+    [CONVERTED_TYPE, NONE, NONE, NONE, NONE], // \x07 ConvertedReference
+    [CONVERTED_SOLID, NONE, NONE, NONE, NONE], // \x08 ConvertedType
+    [PARAMETER_AFTER_T, NONE, NONE, NONE, NONE], // \x09 ConvertedWithT
+    [UNRESOLVED_TYPE, UNRESOLVED_NAME, NONE, NONE, NONE], // \x0a UnresolvedInType
+    [LEVEL, MORE_LEVELS, NONE, NONE, NONE], // \x0b Levels
+    [UNRESOLVED_TYPE, NONE, NONE, NONE, NONE], // \x0c DestroyedType
+    [EXPRESSION, AFTER_EXPRESSION, NONE, NONE, NONE], // \x0d ExpressionRequirement
+    [TYPE, REQUIREMENTS, NONE, NONE, NONE], // \x0e TypeRequirement
+    [EXPRESSION, REQUIREMENTS, NONE, NONE, NONE], // \x0f NestedRequirement
+    [CONCEPT, REQUIREMENTS, NONE, NONE, NONE], // \x10 ResultRequirement
+    [AFTER_NOEXCEPT, NONE, NONE, NONE, NONE], // \x11 NoexceptRequirement
+    [CONVERTED_TYPE, REQUIRED_TYPES, NONE, NONE, NONE], // \x12 RequiredType
+    [UNRESOLVED_NAME, NONE, NONE, NONE, NONE], // \x13 LevelsEnd
+    [OPERATOR_NAME, NONE, NONE, NONE, NONE], // \x14 UnresolvedOperator
+    [ARRAY_REST, NONE, NONE, NONE, NONE], // \x15 AnyArray
+    [BOUND, Sym::Byte(b'_'), TYPE, NONE, NONE], // \x16 BoundedArray
+    [DECIMAL, TYPE, NONE, NONE, NONE], // \x17 LengthArray
 };
 
 // How many symbols follow each of them, up to an end.
-static AFTER: [u8; 1458] = [
+static AFTER: [u8; 1488] = [
     0, 0, 0, 0, 0, 0, 0, 0, 0, 0, 0, 2, 1, 0, 0, 0, 0, 2, 1, 0, 0, 0, 0, 2, 1, 0, 0, 0, 0, 2, 1, 0,
     0, 0, 0, 1, 0, 0, 0, 0, 0, 1, 0, 0, 0, 0, 0, 1, 0, 0, 0, 0, 0, 5, 4, 3, 2, 1, 0, 3, 2, 1, 0, 0,
     0, 1, 0, 0, 0, 0, 0, 1, 0, 0, 0, 0, 0, 1, 0, 0, 0, 0, 0, 2, 1, 0, 0, 0, 0, 2, 1, 0, 0, 0, 0, 1,
@@ -1053,32 +1076,33 @@ static AFTER: [u8; 1458] = [
     0, 0, 0, 0, 0, 1, 0, 0, 0, 0, 0, 1, 0, 0, 0, 0, 0, 1, 0, 0, 0, 0, 0, 1, 0, 0, 0, 0, 0, 1, 0, 0,
     0, 0, 0, 1, 0, 0, 0, 0, 0, 1, 0, 0, 0, 0, 0, 1, 0, 0, 0, 0, 0, 1, 0, 0, 0, 0, 0, 3, 2, 1, 0, 0,
     0, 1, 0, 0, 0, 0, 0, 2, 1, 0, 0, 0, 0, 2, 1, 0, 0, 0, 0, 2, 1, 0, 0, 0, 0, 2, 1, 0, 0, 0, 0, 1,
-    0, 0, 0, 0, 0, 2, 1, 0, 0, 0, 0, 3, 2, 1, 0, 0, 0, 2, 1, 0, 0, 0, 0, 2, 1, 0, 0, 0, 0, 2, 1, 0,
-    0, 0, 0, 2, 1, 0, 0, 0, 0, 1, 0, 0, 0, 0, 0, 1, 0, 0, 0, 0, 0, 2, 1, 0, 0, 0, 0, 2, 1, 0, 0, 0,
-    0, 2, 1, 0, 0, 0, 0, 2, 1, 0, 0, 0, 0, 2, 1, 0, 0, 0, 0, 0, 0, 0, 0, 0, 0, 1, 0, 0, 0, 0, 0, 1,
-    0, 0, 0, 0, 0, 2, 1, 0, 0, 0, 0, 2, 1, 0, 0, 0, 0, 2, 1, 0, 0, 0, 0, 2, 1, 0, 0, 0, 0, 2, 1, 0,
-    0, 0, 0, 2, 1, 0, 0, 0, 0, 2, 1, 0, 0, 0, 0, 4, 3, 2, 1, 0, 0, 1, 0, 0, 0, 0, 0, 2, 1, 0, 0, 0,
-    0, 1, 0, 0, 0, 0, 0, 1, 0, 0, 0, 0, 0, 3, 2, 1, 0, 0, 0, 2, 1, 0, 0, 0, 0, 2, 1, 0, 0, 0, 0, 2,
-    1, 0, 0, 0, 0, 1, 0, 0, 0, 0, 0, 2, 1, 0, 0, 0, 0, 2, 1, 0, 0, 0, 0, 2, 1, 0, 0, 0, 0, 2, 1, 0,
-    0, 0, 0, 2, 1, 0, 0, 0, 0, 3, 2, 1, 0, 0, 0, 3, 2, 1, 0, 0, 0, 2, 1, 0, 0, 0, 0, 1, 0, 0, 0, 0,
-    0, 1, 0, 0, 0, 0, 0, 1, 0, 0, 0, 0, 0, 1, 0, 0, 0, 0, 0, 2, 1, 0, 0, 0, 0, 3, 2, 1, 0, 0, 0, 0,
-    0, 0, 0, 0, 0, 1, 0, 0, 0, 0, 0, 1, 0, 0, 0, 0, 0, 1, 0, 0, 0, 0, 0, 1, 0, 0, 0, 0, 0, 1, 0, 0,
+    0, 0, 0, 0, 0, 2, 1, 0, 0, 0, 0, 3, 2, 1, 0, 0, 0, 2, 1, 0, 0, 0, 0, 2, 1, 0, 0, 0, 0, 3, 2, 1,
+    0, 0, 0, 2, 1, 0, 0, 0, 0, 2, 1, 0, 0, 0, 0, 2, 1, 0, 0, 0, 0, 1, 0, 0, 0, 0, 0, 1, 0, 0, 0, 0,
+    0, 2, 1, 0, 0, 0, 0, 2, 1, 0, 0, 0, 0, 2, 1, 0, 0, 0, 0, 2, 1, 0, 0, 0, 0, 2, 1, 0, 0, 0, 0, 0,
+    0, 0, 0, 0, 0, 1, 0, 0, 0, 0, 0, 1, 0, 0, 0, 0, 0, 2, 1, 0, 0, 0, 0, 2, 1, 0, 0, 0, 0, 2, 1, 0,
+    0, 0, 0, 2, 1, 0, 0, 0, 0, 2, 1, 0, 0, 0, 0, 2, 1, 0, 0, 0, 0, 2, 1, 0, 0, 0, 0, 4, 3, 2, 1, 0,
+    0, 1, 0, 0, 0, 0, 0, 2, 1, 0, 0, 0, 0, 1, 0, 0, 0, 0, 0, 1, 0, 0, 0, 0, 0, 3, 2, 1, 0, 0, 0, 2,
+    1, 0, 0, 0, 0, 2, 1, 0, 0, 0, 0, 2, 1, 0, 0, 0, 0, 1, 0, 0, 0, 0, 0, 2, 1, 0, 0, 0, 0, 2, 1, 0,
+    0, 0, 0, 2, 1, 0, 0, 0, 0, 2, 1, 0, 0, 0, 0, 2, 1, 0, 0, 0, 0, 3, 2, 1, 0, 0, 0, 3, 2, 1, 0, 0,
+    0, 2, 1, 0, 0, 0, 0, 1, 0, 0, 0, 0, 0, 1, 0, 0, 0, 0, 0, 1, 0, 0, 0, 0, 0, 1, 0, 0, 0, 0, 0, 2,
+    1, 0, 0, 0, 0, 3, 2, 1, 0, 0, 0, 0, 0, 0, 0, 0, 0, 1, 0, 0, 0, 0, 0, 1, 0, 0, 0, 0, 0, 1, 0, 0,
     0, 0, 0, 1, 0, 0, 0, 0, 0, 1, 0, 0, 0, 0, 0, 1, 0, 0, 0, 0, 0, 1, 0, 0, 0, 0, 0, 1, 0, 0, 0, 0,
     0, 1, 0, 0, 0, 0, 0, 1, 0, 0, 0, 0, 0, 1, 0, 0, 0, 0, 0, 1, 0, 0, 0, 0, 0, 1, 0, 0, 0, 0, 0, 1,
-    0, 0, 0, 0, 0, 2, 1, 0, 0, 0, 0, 2, 1, 0, 0, 0, 0, 2, 1, 0, 0, 0, 0, 1, 0, 0, 0, 0, 0, 1, 0, 0,
-    0, 0, 0, 1, 0, 0, 0, 0, 0, 1, 0, 0, 0, 0, 0, 1, 0, 0, 0, 0, 0, 1, 0, 0, 0, 0, 0, 1, 0, 0, 0, 0,
-    0, 2, 1, 0, 0, 0, 0, 1, 0, 0, 0, 0, 0, 1, 0, 0, 0, 0, 0, 0, 0, 0, 0, 0, 0, 1, 0, 0, 0, 0, 0, 1,
-    0, 0, 0, 0, 0, 1, 0, 0, 0, 0, 0, 1, 0, 0, 0, 0, 0, 1, 0, 0, 0, 0, 0, 1, 0, 0, 0, 0, 0, 2, 1, 0,
-    0, 0, 0, 2, 1, 0, 0, 0, 0, 1, 0, 0, 0, 0, 0, 2, 1, 0, 0, 0, 0, 2, 1, 0, 0, 0, 0, 2, 1, 0, 0, 0,
-    0, 2, 1, 0, 0, 0, 0, 1, 0, 0, 0, 0, 0, 2, 1, 0, 0, 0, 0, 1, 0, 0, 0, 0, 0, 1, 0, 0, 0, 0, 0, 1,
-    0, 0, 0, 0, 0, 3, 2, 1, 0, 0, 0, 2, 1, 0, 0, 0, 0, 0,
+    0, 0, 0, 0, 0, 1, 0, 0, 0, 0, 0, 1, 0, 0, 0, 0, 0, 1, 0, 0, 0, 0, 0, 2, 1, 0, 0, 0, 0, 2, 1, 0,
+    0, 0, 0, 2, 1, 0, 0, 0, 0, 2, 1, 0, 0, 0, 0, 1, 0, 0, 0, 0, 0, 1, 0, 0, 0, 0, 0, 1, 0, 0, 0, 0,
+    0, 1, 0, 0, 0, 0, 0, 1, 0, 0, 0, 0, 0, 1, 0, 0, 0, 0, 0, 1, 0, 0, 0, 0, 0, 2, 1, 0, 0, 0, 0, 1,
+    0, 0, 0, 0, 0, 1, 0, 0, 0, 0, 0, 0, 0, 0, 0, 0, 0, 1, 0, 0, 0, 0, 0, 1, 0, 0, 0, 0, 0, 1, 0, 0,
+    0, 0, 0, 1, 0, 0, 0, 0, 0, 1, 0, 0, 0, 0, 0, 1, 0, 0, 0, 0, 0, 1, 0, 0, 0, 0, 0, 2, 1, 0, 0, 0,
+    0, 2, 1, 0, 0, 0, 0, 1, 0, 0, 0, 0, 0, 2, 1, 0, 0, 0, 0, 2, 1, 0, 0, 0, 0, 2, 1, 0, 0, 0, 0, 2,
+    1, 0, 0, 0, 0, 1, 0, 0, 0, 0, 0, 2, 1, 0, 0, 0, 0, 1, 0, 0, 0, 0, 0, 1, 0, 0, 0, 0, 0, 1, 0, 0,
+    0, 0, 0, 3, 2, 1, 0, 0, 0, 2, 1, 0, 0, 0, 0, 0,
 ];
 
 /// The number of the rule that a kind takes at a byte, if it takes one.
 #[inline]
 fn number(kind: u16, byte: u8) -> Option<usize>
     requires { kind < abi.kinds }
-    ensures few { IfSome result (λ number. number < 242) }
+    ensures few { IfSome result (λ number. number < 247) }
     ensures rule { (head : Head) → MatchOption result (abi.rule kind byte ≡ None) (λ number. abi.rule kind byte ≡ Some (listed_rule head number)) }
 {
     match letter_in(&LETTERS[kind as usize], byte) {

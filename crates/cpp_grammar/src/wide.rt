@@ -8,11 +8,17 @@ use crate::{table, wide_table};
 use sym_core::NameClass;
 use sym_shape::{Grammar, Rule, Sym};
 
-/// The grammar of [`Abi`](crate::Abi), with what compilers write beside the symbols of the ABI's chapter: constructors and
-/// destructors with the digits 4 and 5, nested names that are a substitution and its arguments, conversions to types, what is
-/// in the initializer of a data member or in a default argument, first arguments that are packs and begin with an I,
-/// construction vtables, the routines of thread-local variables, transaction clones, ABI tags, and decimal, half and sized
-/// floats.
+/// The grammar of [`Abi`](crate::Abi), with what compilers write beside the symbols of the ABI's chapter.
+///
+/// - Names: constructors and destructors with the digits 4 and 5, inherited constructors, conversions to types, friends, ABI
+///   tags, functions with an explicit object, nested names that are a substitution and its arguments, what is in the
+///   initializer of a data member, in a default argument or in the type of an expression.
+/// - Special names: construction vtables, template parameter objects, the routines of thread-local variables, transaction
+///   clones.
+/// - Types: decimal, half and sized floats, integers of any width, elements of a pack, `auto` of which a concept is asked,
+///   types of expressions, arrays whose length is an expression.
+/// - Arguments: first ones that are packs and begin with an I, what is declared of them and asked of them, parameters of a
+///   level, expressions, literals of floating and of qualified types.
 pub struct Wide;
 
 /// Whether a kind may be empty.

@@ -8,7 +8,7 @@ use crate::table::{FIRST_LETTER, HEADS, SYMBOLS};
 use sym_shape::{Rule, letter_in, place_of, symbols_from};
 
 // For each kind a row: for each byte from `$` to `z` the letter of the production that the kind takes there.
-static WIDE_LETTERS: [[u8; 87]; 160] = [
+static WIDE_LETTERS: [[u8; 87]; 164] = [
     // $%&'()*+,-./0123456789:;<=>?@ABCDEFGHIJKLMNOPQRSTUVWXYZ[\]^_`abcdefghijklmnopqrstuvwxyz
     *b"                                                           *                           ", // Symbol
     *b"          +                                                                            ", // MaybeSuffix
@@ -22,7 +22,7 @@ static WIDE_LETTERS: [[u8; 87]; 160] = [
     *b"                                                                              !        ", // MaybeRestrict
     *b"                                                  !                                    ", // MaybeVolatile
     *b"                                       !                                               ", // MaybeConst
-    *b"                                           !  !                                        ", // MaybeRef
+    *b"                                    !      !  !                                        ", // MaybeRef
     *b"            >>>>>>>>>>       >>>>>>>>>>>>>>>>>>>>>>>>>>    > >> >    >     >   >=      ", // NameAfterS
     *b"            ((((((((((                  &        '           ? ??? ? ?  ????? ??       ", // Unqualified
     *b"            DDDDDDDDDD          E       B      @AC                                     ", // Nest
@@ -101,74 +101,78 @@ static WIDE_LETTERS: [[u8; 87]; 160] = [
     *b"            $$$$$$$$$$                  \" )      #                                     ", // PlainEntity
     *b"            $$$$$$$$$$                  \" V      #                                     ", // PlainTypeEntity
     *b"                                   !                                                   ", // SpecialMark
-    *b"                                                \xb3 4                                    ", // SpecialAfterG
+    *b"                                              \xb3 \xb4 4                                    ", // SpecialAfterG
+    *b"            $$$$$$$$$$                  \" )    ; #    \xb5                                ", // TemporaryName
     *b"                                                                          !     !      ", // CloneLetter
-    *b"                                                                                \xb4      ", // TypeInStd
-    *b"                              \xb5                                                        ", // MaybeTags
-    *b"            \xb8\xb8\xb8\xb8\xb8\xb8\xb8\xb8\xb8\xb8       \xb8 \xb8g \xb8    a \xb8\xb8b\xb8 b\xb8\xb7\xb8` \xb6 \xb8      \xb8\xb8\xb8\xb8\xb8\xb8\xb8\xb8\xb8\xb8 \xb8\xb8\xb8\xb8  _\xb8\xb8\xb8\xb8\xb8\xb8\xb8\xb8", // Argument
-    *b"            \xb9\xb9\xb9\xb9\xb9\xb9\xb9\xb9\xb9\xb9                  \xbb                  \xb9           \xba  \xba \xba   \xba    \xba ", // ArgumentAfterT
-    *b"            \xb9\xb9\xb9\xb9\xb9\xb9\xb9\xb9\xb9\xb9                                     \xb9                           ", // LeveledParameter
-    *b"            \xb8\xb8\xb8\xb8\xb8\xb8\xb8\xb8\xb8\xb8       \xb8 \xb8g \xb8   \xbda\xbc\xb8\xb8b\xb8 b\xb8\xb7\xb8` \xb6 \xb8      \xb8\xb8\xb8\xb8\xb8\xb8\xb8\xb8\xb8\xb8 \xb8\xb8\xb8\xb8  _\xb8\xb8\xb8\xb8\xb8\xb8\xb8\xb8", // OneArgument
-    *b"                                                                       \xc0  \xbf \xc2   \xc1    \xbe ", // DeclarationAfterT
-    *b"                                                \xc3                                      ", // Declarations
-    *b"            \xc4\xc4\xc4\xc4\xc4\xc4\xc4\xc4\xc4\xc4                    V    \xc4                                       ", // Concept
+    *b"                                                                                \xb6      ", // TypeInStd
+    *b"                              \xb7                                                        ", // MaybeTags
+    *b"            \xba\xba\xba\xba\xba\xba\xba\xba\xba\xba       \xba \xbag \xba    a \xba\xbab\xba b\xba\xb9\xba` \xb8 \xba      \xba\xba\xba\xba\xba\xba\xba\xba\xba\xba \xba\xba\xba\xba  _\xba\xba\xba\xba\xba\xba\xba\xba", // Argument
+    *b"            \xbb\xbb\xbb\xbb\xbb\xbb\xbb\xbb\xbb\xbb                  \xbd                  \xbb           \xbc  \xbc \xbc   \xbc    \xbc ", // ArgumentAfterT
+    *b"            \xbb\xbb\xbb\xbb\xbb\xbb\xbb\xbb\xbb\xbb                                     \xbb                           ", // LeveledParameter
+    *b"            \xba\xba\xba\xba\xba\xba\xba\xba\xba\xba       \xba \xbag \xba   \xbfa\xbe\xba\xbab\xba b\xba\xb9\xba` \xb8 \xba      \xba\xba\xba\xba\xba\xba\xba\xba\xba\xba \xba\xba\xba\xba  _\xba\xba\xba\xba\xba\xba\xba\xba", // OneArgument
+    *b"                                                                       \xc2  \xc1 \xc4   \xc3    \xc0 ", // DeclarationAfterT
+    *b"                                                \xc5                                      ", // Declarations
+    *b"            \xc6\xc6\xc6\xc6\xc6\xc6\xc6\xc6\xc6\xc6                    V    \xc6                                       ", // Concept
     *b"            $$$$$$$$$$       y {  z      sV r  u #    v      wwwwwwwwww wwww   wwxwwwww", // SolidButT
-    *b"            \xc7\xc7\xc7\xc7\xc7\xc7\xc7\xc7\xc7\xc7                  \xbc       \xf1            \xe1 \xe2\xe3\xe4\xe5\xe6 \xe7  \xe8\xe9\xea\xeb\xec\xed\xee\xef\xf0      ", // Expression
-    *b"            \xc7\xc7\xc7\xc7\xc7\xc7\xc7\xc7\xc7\xc7                  \xf2       \xf1            \xe1 \xe2\xe3\xe4\xe5\xe6 \xe7  \xe8\xe9\xea\xeb\xec\xed\xee\xef\xf0      ", // AddressedExpression
+    *b"            \xc9\xc9\xc9\xc9\xc9\xc9\xc9\xc9\xc9\xc9                  \xbe       \xf3            \xe3 \xe4\xe5\xe6\xe7\xe8 \xe9  \xea\xeb\xec\xed\xee\xef\xf0\xf1\xf2      ", // Expression
+    *b"            \xf4\xf4\xf4\xf4\xf4\xf4\xf4\xf4\xf4\xf4                  \xf5                  \xf4                           ", // ExpressionParameter
+    *b"            \xf4\xf4\xf4\xf4\xf4\xf4\xf4\xf4\xf4\xf4                                     \xf4                           ", // UnleveledExpression
+    *b"            \xc9\xc9\xc9\xc9\xc9\xc9\xc9\xc9\xc9\xc9                  \xf6       \xf3            \xe3 \xe4\xe5\xe6\xe7\xe8 \xe9  \xea\xeb\xec\xed\xee\xef\xf0\xf1\xf2      ", // AddressedExpression
     *b"            \x92\x92\x92\x92\x92\x92\x92\x92\x92\x92          \x91      \x92 \x92\x92 \x92  \x92\x92\x92\x92   \x92    \x8f \x92\x90\x92\x93\x93\x93\x93\x92\x92\x92 \x92\x92\x92\x92   \x92\x92  \x92\x92\x92 ", // AddressedLiteral
-    *b"                                          \xca    \xca             \xca  \xc9         \xca     \xcc  \xcb  \xcb", // ExpressionAfterA
-    *b"                                                               \xc5        \xcd\xca \xcb\xcd     \xce    ", // ExpressionAfterC
-    *b"                                                  \xca          \xcb \xc5 \xcb   \xcf  \xcb \xd1    \xca\xca \xca \xd0  ", // ExpressionAfterD
-    *b"                                           \xca                               \xca \xca         ", // ExpressionAfterE
-    *b"                                        \xd2                               \xd3   \xc8 \xd4        ", // ExpressionAfterF
-    *b"                                                                 \xca             \xcb\xca      ", // ExpressionAfterG
-    *b"                                                                        \xd5           \xca  ", // ExpressionAfterI
-    *b"                                               \xca                 \xca             \xca\xca      ", // ExpressionAfterL
-    *b"                                     \xca  \xca                            \xca  \xca\xd6             ", // ExpressionAfterM
-    *b"                                                             \xd7   \xca \xcb            \xcb  \xd7\xcb  ", // ExpressionAfterN
-    *b"                                              \xca                           \xc6\xca  \xca        ", // ExpressionAfterO
-    *b"                                        \xca                               \xca\xca  \xd6  \xcb\xca      ", // ExpressionAfterP
-    *b"                                                                                 \xd8     ", // ExpressionAfterQ
-    *b"                                         \xca   \xda \xca               \xc5         \xca   \xd9 \xca       ", // ExpressionAfterR
-    *b"                                                      \xdc        \xc5            \xdb \xdd\xca\xcc    \xde\xcb", // ExpressionAfterS
-    *b"                                                                 \xcb   \xcc  \xdf     \xe0    \xcb   ", // ExpressionAfterT
-    *b"            \xf3\xf3\xf3\xf3\xf3\xf3\xf3\xf3\xf3\xf3                  \xf3       \xf3            \xf3 \xf3\xf3\xf3\xf3\xf3 \xf3  \xf3\xf3\xf3\xf3\xf3\xf3\xf3\xf3\xf3      ", // Expressions
+    *b"                                          \xcc    \xcc             \xcc  \xcb         \xcc     \xce  \xcd  \xcd", // ExpressionAfterA
+    *b"                                                               \xc7        \xcf\xcc \xcd\xcf     \xd0    ", // ExpressionAfterC
+    *b"                                                  \xcc          \xcd \xc7 \xcd   \xd1  \xcd \xd3    \xcc\xcc \xcc \xd2  ", // ExpressionAfterD
+    *b"                                           \xcc                               \xcc \xcc         ", // ExpressionAfterE
+    *b"                                        \xd4                               \xd5   \xca \xd6        ", // ExpressionAfterF
+    *b"                                                                 \xcc             \xcd\xcc      ", // ExpressionAfterG
+    *b"                                                                        \xd7           \xcc  ", // ExpressionAfterI
+    *b"                                               \xcc                 \xcc             \xcc\xcc      ", // ExpressionAfterL
+    *b"                                     \xcc  \xcc                            \xcc  \xcc\xd8             ", // ExpressionAfterM
+    *b"                                                             \xd9   \xcc \xcd            \xcd  \xd9\xcd  ", // ExpressionAfterN
+    *b"                                              \xcc                           \xc8\xcc  \xcc        ", // ExpressionAfterO
+    *b"                                        \xcc                               \xcc\xcc  \xd8  \xcd\xcc      ", // ExpressionAfterP
+    *b"                                                                                 \xda     ", // ExpressionAfterQ
+    *b"                                         \xcc   \xdc \xcc               \xc7         \xcc   \xdb \xcc       ", // ExpressionAfterR
+    *b"                                                      \xde        \xc7            \xdd \xdf\xcc\xce    \xe0\xcd", // ExpressionAfterS
+    *b"                                                                 \xcd   \xce  \xe1     \xe2    \xcd   ", // ExpressionAfterT
+    *b"            \xf7\xf7\xf7\xf7\xf7\xf7\xf7\xf7\xf7\xf7                  \xf7       \xf7            \xf7 \xf7\xf7\xf7\xf7\xf7 \xf7  \xf7\xf7\xf7\xf7\xf7\xf7\xf7\xf7\xf7      ", // Expressions
     *b"                                                           !                           ", // MaybeBefore
-    *b"                                                             \x9e \xa0\x9d\xa4 \xa8 \xa7  \xf4\xa1\x9c\xa3\x9f \xa2\xa6       ", // FoldOperator
+    *b"                                                             \x9e \xa0\x9d\xa4 \xa8 \xa7  \xf8\xa1\x9c\xa3\x9f \xa2\xa6       ", // FoldOperator
     *b"                                               !                 !             !!      ", // FoldOperatorAfterL
-    *b"            \xf5\xf5\xf5\xf5\xf5\xf5\xf5\xf5\xf5\xf5                  \xf5       \xf5            \xf5 \xf5\xf5\xf5\xf5\xf5 \xf5  \xf5\xf5\xf5\xf5\xf5\xf5\xf5\xf5\xf5      ", // FoldOperand
-    *b"            \xf6\xf6\xf6\xf6\xf6\xf6\xf6\xf6\xf6\xf6                  \xf6       \xf6            \xf6 \xf6\xf6\xf6\xf6\xf6 \xf6  \xf6\xf6\xf6\xf6\xf6\xf6\xf6\xf6\xf6      ", // FoldPack
-    *b"            \xf6\xf6\xf6\xf6\xf6\xf6\xf6\xf6\xf6\xf6                \xbd \xf6       \xf6            \xf6 \xf6\xf6\xf6\xf6\xf6 \xf6  \xf6\xf6\xf6\xf6\xf6\xf6\xf6\xf6\xf6      ", // ValuePack
-    *b"            \xf7\xf7\xf7\xf7\xf7\xf7\xf7\xf7\xf7\xf7       \xf7 \xf7\xf7 \xf7   \xbd\xf7 \xf7\xf7\xf7\xf7 \xf7\xf7\xf7\xf7\xf7   \xf7      \xf7\xf7\xf7\xf7\xf7\xf7\xf7\xf7\xf7\xf7 \xf7\xf7\xf7\xf7  \xf7\xf7\xf7\xf7\xf7\xf7\xf7\xf7\xf7", // TypePack
-    *b"            \xf9\xf9\xf9\xf9\xf9\xf9\xf9\xf9\xf9\xf9                  \xf9       \xf9            \xf9 \xf9\xf8\xf9\xf9\xf9 \xf9  \xf9\xf9\xf9\xf9\xf9\xf9\xf9\xf9\xf9      ", // DesignatedValue
-    *b"                                                                     \xcf              \xd0  ", // DesignatorAfterD
-    *b"            \xc7\xc7\xc7\xc7\xc7\xc7\xc7\xc7\xc7\xc7                  \xbc       \xf1            \xe1 \xe2 \xe4\xe5\xe6 \xe7  \xe8\xe9\xea\xeb\xec\xed\xee\xef\xf0      ", // PlainValue
-    *b"            \xfa\xfa\xfa\xfa\xfa\xfa\xfa\xfa\xfa\xfa                                                                 ", // FieldName
-    *b"            \xfb\xfb\xfb\xfb\xfb\xfb\xfb\xfb\xfb\xfb                  \xfb       \xfb          ! \xfb \xfb\xfb\xfb\xfb\xfb \xfb  \xfb\xfb\xfb\xfb\xfb\xfb\xfb\xfb\xfb      ", // Placement
-    *b"            \xf3\xf3\xf3\xf3\xf3\xf3\xf3\xf3\xf3\xf3                  \xf3       \xf3            \xf3 \xf3\xf3\xf3\xf3\xf3 \xf3  \xf3\xf3\xf3\xf3\xf3\xf3\xf3\xf3\xf3      ", // SomeExpressions
-    *b"                                 \x83                                   \xfd      \xfc          ", // Initializer
-    *b"                                                                     \xd5                 ", // InitializerAfterP
-    *b"                                                                        \xd5              ", // InitializerAfterI
-    *b"                                                                            \xc8          ", // OuterRest
-    *b"            \xff\xff\xff\xff\xff\xff\xff\xff\xff\xff                          \xfe          \xff                           ", // ParameterNumber
-    *b"            \x04\x04\x04\x04\x04\x04\x04\x04\x04\x04          \x00 \x04    \x01  \x04\x03\x02 \x03\x04\x04\x04           \x04\x04\x04\x04\x04\x04\x04\x04\x04\x04 \x04\x04\x04\x04   \x04\x04 \x04\x04\x04\x04\x04", // ConvertedType
-    *b"            $$$$$$$$$$            z       V    ut#           wwwwwwwwww wwww   ww wwwww", // ConvertedSolid
+    *b"            \xf9\xf9\xf9\xf9\xf9\xf9\xf9\xf9\xf9\xf9                  \xf9       \xf9            \xf9 \xf9\xf9\xf9\xf9\xf9 \xf9  \xf9\xf9\xf9\xf9\xf9\xf9\xf9\xf9\xf9      ", // FoldOperand
+    *b"            \xfa\xfa\xfa\xfa\xfa\xfa\xfa\xfa\xfa\xfa                  \xfa       \xfa            \xfa \xfa\xfa\xfa\xfa\xfa \xfa  \xfa\xfa\xfa\xfa\xfa\xfa\xfa\xfa\xfa      ", // FoldPack
+    *b"            \xfa\xfa\xfa\xfa\xfa\xfa\xfa\xfa\xfa\xfa                \xbf \xfa       \xfa            \xfa \xfa\xfa\xfa\xfa\xfa \xfa  \xfa\xfa\xfa\xfa\xfa\xfa\xfa\xfa\xfa      ", // ValuePack
+    *b"            \xfb\xfb\xfb\xfb\xfb\xfb\xfb\xfb\xfb\xfb       \xfb \xfb\xfb \xfb   \xbf\xfb \xfb\xfb\xfb\xfb \xfb\xfb\xfb\xfb\xfb   \xfb      \xfb\xfb\xfb\xfb\xfb\xfb\xfb\xfb\xfb\xfb \xfb\xfb\xfb\xfb  \xfb\xfb\xfb\xfb\xfb\xfb\xfb\xfb\xfb", // TypePack
+    *b"            \xfd\xfd\xfd\xfd\xfd\xfd\xfd\xfd\xfd\xfd                  \xfd       \xfd            \xfd \xfd\xfc\xfd\xfd\xfd \xfd  \xfd\xfd\xfd\xfd\xfd\xfd\xfd\xfd\xfd      ", // DesignatedValue
+    *b"                                                                     \xd1              \xd2  ", // DesignatorAfterD
+    *b"            \xc9\xc9\xc9\xc9\xc9\xc9\xc9\xc9\xc9\xc9                  \xbe       \xf3            \xe3 \xe4 \xe6\xe7\xe8 \xe9  \xea\xeb\xec\xed\xee\xef\xf0\xf1\xf2      ", // PlainValue
+    *b"            \xfe\xfe\xfe\xfe\xfe\xfe\xfe\xfe\xfe\xfe                                                                 ", // FieldName
+    *b"            \xff\xff\xff\xff\xff\xff\xff\xff\xff\xff                  \xff       \xff          ! \xff \xff\xff\xff\xff\xff \xff  \xff\xff\xff\xff\xff\xff\xff\xff\xff      ", // Placement
+    *b"            \xf7\xf7\xf7\xf7\xf7\xf7\xf7\xf7\xf7\xf7                  \xf7       \xf7            \xf7 \xf7\xf7\xf7\xf7\xf7 \xf7  \xf7\xf7\xf7\xf7\xf7\xf7\xf7\xf7\xf7      ", // SomeExpressions
+    *b"                                 \x83                                   \x01      \x00          ", // Initializer
+    *b"                                                                     \xd7                 ", // InitializerAfterP
+    *b"                                                                        \xd7              ", // InitializerAfterI
+    *b"                                                                            \xca          ", // OuterRest
+    *b"            \x03\x03\x03\x03\x03\x03\x03\x03\x03\x03                          \x02          \x03                           ", // ParameterNumber
+    *b"            \x08\x08\x08\x08\x08\x08\x08\x08\x08\x08          \x04 \x08    \x05  \x08\x07\x06 \x07\x08\x08\x08           \x08\x08\x08\x08\x08\x08\x08\x08\x08\x08 \x08\x08\x08\x08   \x08\x08 \x08\x08\x08\x08\x08", // ConvertedType
+    *b"            $$$$$$$$$$            z       V    u\x09#           wwwwwwwwww wwww   ww wwwww", // ConvertedSolid
+    *b"            \xbb\xbb\xbb\xbb\xbb\xbb\xbb\xbb\xbb\xbb                  \xbd                  \xbb                           ", // ParameterAfterT
     *b"                                                p                               p      ", // DecltypeAfterD
-    *b"            \xc7\xc7\xc7\xc7\xc7\xc7\xc7\xc7\xc7\xc7                  \xbc       \xf1          \xd5 \xe1 \xe2\xe3\xe4\xe5\xe6 \xe7  \xe8\xe9\xea\xeb\xec\xed\xee\xef\xf0      ", // ConvertRest
-    *b"            \x06\x06\x06\x06\x06\x06\x06\x06\x06\x06          \x05         \x05    \x05\x05                                      ", // Unresolved
-    *b"                                \x00         V    ut                                      ", // UnresolvedType
-    *b"            \xc7\xc7\xc7\xc7\xc7\xc7\xc7\xc7\xc7\xc7          \x07         \x07    \x07\x07                                      ", // DestructorName
-    *b"                                             \x0a  \x09   \x08                                  ", // Requirements
-    *b"                                          \x0c  \x0a\x0b \x09   \x08                                  ", // AfterExpression
-    *b"                                             \x0a\x0b \x09   \x08                                  ", // AfterNoexcept
-    *b"            \x0d\x0d\x0d\x0d\x0d\x0d\x0d\x0d\x0d\x0d          \x0d \x0d    \x0d  \x0d\x0d\x0d \x0d\x0d\x0d\x0d         \xd9 \x0d\x0d\x0d\x0d\x0d\x0d\x0d\x0d\x0d\x0d \x0d\x0d\x0d\x0d   \x0d\x0d \x0d\x0d\x0d\x0d\x0d", // RequiredTypes
-    *b"            \xc7\xc7\xc7\xc7\xc7\xc7\xc7\xc7\xc7\xc7                                                                 ", // Level
-    *b"            \x06\x06\x06\x06\x06\x06\x06\x06\x06\x06           \x0e                                                     ", // MoreLevels
-    *b"            \xc7\xc7\xc7\xc7\xc7\xc7\xc7\xc7\xc7\xc7                                                     \x0f           ", // UnresolvedName
-    *b"                                                                          \xc6            ", // OperatorName
-    *b"                             \x10                                                         ", // AnyArray
-    *b"            \x12\x12\x12\x12\x12\x12\x12\x12\x12\x12                  \x11       \x11          \x12 \x11 \x11\x11\x11\x11\x11 \x11  \x11\x11\x11\x11\x11\x11\x11\x11\x11      ", // ArrayRest
-    *b"                                        \xbc       \xf1            \xe1 \xe2\xe3\xe4\xe5\xe6 \xe7  \xe8\xe9\xea\xeb\xec\xed\xee\xef\xf0      ", // Bound
+    *b"            \xc9\xc9\xc9\xc9\xc9\xc9\xc9\xc9\xc9\xc9                  \xbe       \xf3          \xd7 \xe3 \xe4\xe5\xe6\xe7\xe8 \xe9  \xea\xeb\xec\xed\xee\xef\xf0\xf1\xf2      ", // ConvertRest
+    *b"            \x0b\x0b\x0b\x0b\x0b\x0b\x0b\x0b\x0b\x0b          \x0a         \x0a    \x0a\x0a                                      ", // Unresolved
+    *b"                                \x04         V    u\x09                                      ", // UnresolvedType
+    *b"            \xc9\xc9\xc9\xc9\xc9\xc9\xc9\xc9\xc9\xc9          \x0c         \x0c    \x0c\x0c                                      ", // DestructorName
+    *b"                                             \x0f  \x0e   \x0d                                  ", // Requirements
+    *b"                                          \x11  \x0f\x10 \x0e   \x0d                                  ", // AfterExpression
+    *b"                                             \x0f\x10 \x0e   \x0d                                  ", // AfterNoexcept
+    *b"            \x12\x12\x12\x12\x12\x12\x12\x12\x12\x12          \x12 \x12    \x12  \x12\x12\x12 \x12\x12\x12\x12         \xdb \x12\x12\x12\x12\x12\x12\x12\x12\x12\x12 \x12\x12\x12\x12   \x12\x12 \x12\x12\x12\x12\x12", // RequiredTypes
+    *b"            \xc9\xc9\xc9\xc9\xc9\xc9\xc9\xc9\xc9\xc9                                                                 ", // Level
+    *b"            \x0b\x0b\x0b\x0b\x0b\x0b\x0b\x0b\x0b\x0b           \x13                                                     ", // MoreLevels
+    *b"            \xc9\xc9\xc9\xc9\xc9\xc9\xc9\xc9\xc9\xc9                                                     \x14           ", // UnresolvedName
+    *b"                                                                          \xc8            ", // OperatorName
+    *b"                             \x15                                                         ", // AnyArray
+    *b"            \x17\x17\x17\x17\x17\x17\x17\x17\x17\x17                  \x16       \x16          \x17 \x16 \x16\x16\x16\x16\x16 \x16  \x16\x16\x16\x16\x16\x16\x16\x16\x16      ", // ArrayRest
+    *b"                                        \xbe       \xf3            \xe3 \xe4\xe5\xe6\xe7\xe8 \xe9  \xea\xeb\xec\xed\xee\xef\xf0\xf1\xf2      ", // Bound
     *b"            IIIIIIIIII         IIKI     II       I           I III I I  IIIII II       ", // NestMoreOrEnd
 ];
 
@@ -176,7 +180,7 @@ static WIDE_LETTERS: [[u8; 87]; 160] = [
 #[inline]
 fn number(kind: u16, byte: u8) -> Option<usize>
     requires { kind < wide.kinds }
-    ensures few { IfSome result (λ number. number < 242) }
+    ensures few { IfSome result (λ number. number < 247) }
     ensures rule { (head : Head) → MatchOption result (wide.rule kind byte ≡ None) (λ number. wide.rule kind byte ≡ Some (listed_rule head number)) }
 {
     match letter_in(&WIDE_LETTERS[kind as usize], byte) {

@@ -14,7 +14,7 @@ abbrev pub special_letters : List ℕ
 special_letters = codes "VTISA"
 
 abbrev pub named_special_letters : List ℕ
-named_special_letters = codes "VHW"
+named_special_letters = codes "VHWR"
 
 abbrev pub ending_letters : List ℕ
 ending_letters = codes "jlmxy"

@@ -5,7 +5,7 @@ use Rattle.sym_print.specs.Unfold.{PartOf, text}
 use Rattle.cpp_grammar.specs.Items as heads
 use Rattle.cpp_term.specs.Items as items
 use Rattle.cpp_grammar.specs.Parts.{encoding_text, qualifier_text, is_below, clone_text}
-use Rattle.cpp_term.specs.Parts.{as_item, list_part, text_part, function_bare, function_full, root_parts, expand_parts, expand_rest, comma_before, at_index, types_of, function_right, qualified_right, expansion_parts}
+use Rattle.cpp_term.specs.Parts.{as_item, list_part, text_part, begins_parameters, function_bare, function_full, root_parts, expand_parts, expand_rest, comma_before, at_index, types_of, function_right, qualified_right, expansion_parts}
 use Rattle.cpp_term.specs.Term as term
 use Rattle.cpp_grammar.specs.Term as values
 use Rattle.cpp_term.specs.Term.{Term}
@@ -16,7 +16,7 @@ use Rattle.cpp_tree.specs.declared.node.Node.{Node}
 use Rattle.cpp_tree.specs.declared.node.Mark.{Mark}
 use Rattle.cpp_tree.specs.declared.node.Thunk.{Thunk}
 use Rattle.cpp_layout.specs.Texts.{fixed_text, suffix_of}
-use Rattle.cpp_layout.specs.declared.texts.TheConstants.{BLANK, BLANK_LEFT, CLONE, OTHER_CLONE, COMMA, DOTS, LEFT, RIGHT}
+use Rattle.cpp_layout.specs.declared.texts.TheConstants.{BLANK, BLANK_LEFT, CLONE, OTHER_CLONE, COMMA, DOTS, LEFT, LEFT_THIS, RIGHT}
 use Rattle.cpp_layout.specs.Layout.{text_if, clone_suffix}
 
 pub part-none : (b : List ℕ) (rest : List (PartOf items.Item)) → b ≡ [] → rest ≡ text_part b ++ rest
@@ -27,10 +27,24 @@ suffix-plain : (q : values.Qualifiers) (m : values.RefQualifier) → suffix_of q
 unfolding suffix_of
 suffix-plain q m = append-nil (encoding_text q m)
 
+-- what begins the parameters of a function with an explicit object: it has none, or the first one is its object
+pub opens-none : (m : values.RefQualifier) (parameters : Term) → m ≡ values.explicit_object → parameters ≡ term.nil → fixed_text LEFT ≡ begins_parameters m parameters
+unfolding begins_parameters
+opens-none m parameters explicit none = rw (explicit, none) refl
+
+opens-this : (parameters : Term) → (parameters ≡ term.nil → ⊥) → fixed_text LEFT_THIS ≡ begins_parameters values.explicit_object parameters
+unfolding begins_parameters
+opens-this term.nil some = absurd (some refl)
+opens-this _ some = refl
+
+pub opens-object : (m : values.RefQualifier) (parameters : Term) → m ≡ values.explicit_object → (parameters ≡ term.nil → ⊥) → fixed_text LEFT_THIS ≡ begins_parameters m parameters
+opens-object m parameters explicit some = opens-this parameters some ∙ ap (λ x. begins_parameters x parameters) (sym explicit)
+
 module _ (name : Term) (q : values.Qualifiers) (m : values.RefQualifier) (parameters : Term) where
-  pub bare-whole : (others : List (PartOf items.Item)) → as_item heads.left items.closed name ∷ text (fixed_text LEFT) ∷ (list_part heads.first items.closed parameters ++ (text (fixed_text RIGHT) ∷ (text_part (suffix_of q m false) ++ others))) ≡ function_bare true name q m parameters ++ others
+  pub bare-whole : (opening : List ℕ) → opening ≡ begins_parameters m parameters → (others : List (PartOf items.Item)) → as_item heads.left items.closed name ∷ text opening ∷ (list_part heads.first items.closed parameters ++ (text (fixed_text RIGHT) ∷ (text_part (suffix_of q m false) ++ others))) ≡ function_bare true name q m parameters ++ others
   unfolding function_bare types_of
-  bare-whole others = ap (λ l. as_item heads.left items.closed name ∷ text (fixed_text LEFT) ∷ l)
+  bare-whole opening opens others = ap (λ o. as_item heads.left items.closed name ∷ text o ∷ (list_part heads.first items.closed parameters ++ (text (fixed_text RIGHT) ∷ (text_part (suffix_of q m false) ++ others)))) opens
+      ∙ ap (λ l. as_item heads.left items.closed name ∷ text (begins_parameters m parameters) ∷ l)
       (ap (λ s. list_part heads.first items.closed parameters ++ (text (fixed_text RIGHT) ∷ (text_part s ++ others))) (suffix-plain q m)
       ∙ sym (append_assoc (list_part heads.first items.closed parameters) (text (fixed_text RIGHT) ∷ text_part (encoding_text q m)) others))
 

@@ -53,7 +53,8 @@ plain_texts =
     codes " auto" ∷
     codes " decltype(auto)" ∷
     codes "decltype(" ∷
-    codes "fp" ∷ []
+    codes "fp" ∷
+    codes "(this " ∷ []
 
 -- what follows a function's parameters
 abbrev pub suffix_texts : List (List ℕ)

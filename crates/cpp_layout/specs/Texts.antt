@@ -1,7 +1,7 @@
 -- The fixed texts by their numbers.
 use Rattle.std.specs.Prelude.{ℕ, List, [], ◌∷◌, ◌++◌, codes, drop, get_or, slice_get, Some, None}
 use Rattle.std.specs.Prelude.{Bool, ◌+◌, ◌*◌, cond}
-use Rattle.cpp_grammar.specs.Term.{Qualifiers, RefQualifier}
+use Rattle.cpp_grammar.specs.Term.{Qualifiers, RefQualifier, any_value, explicit_object}
 use Rattle.cpp_grammar.specs.Texts.{Naming, builtin_texts, operator_texts, abbreviation_texts, special_texts, named_special_texts, literal_endings}
 use Rattle.cpp_grammar.specs.Parts.{encoding_text}
 use Rattle.cpp_layout.specs.TextLists.{plain_texts, suffix_texts, blanked_texts, operation_texts}
@@ -24,6 +24,11 @@ abbrev pub fixed_text : ℕ → List ℕ
 fixed_text number = elim (slice_get texts number) [ Some text ↦ text | None ↦ [] ]
 
 -- ## What follows a function's parameters
+
+-- an explicit object is no mark there
+unfoldable pub shown_mark : RefQualifier → RefQualifier
+shown_mark explicit_object = any_value
+shown_mark m = m
 
 unfoldable pub suffix_of : Qualifiers → RefQualifier → (noexcept : Bool) → List ℕ
 suffix_of q m noexcept = encoding_text q m ++ cond noexcept (codes " noexcept") []

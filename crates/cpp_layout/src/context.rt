@@ -24,6 +24,14 @@ pub struct Place {
     pub ctx: Context,
 }
 
+/// 0, or the number after an index or a node.
+fn number_of(value: Option<u32>) -> u64 {
+    match value {
+        None => 0,
+        Some(number) => number as u64 + 1,
+    }
+}
+
 impl Context {
     /// The context of the parts of an encoding: it has no index, and its parameters have their own arguments.
     pub fn closed(detail: Detail) -> Context
@@ -46,6 +54,11 @@ impl Context {
             detail,
             argument: under_of(under),
         }
+    }
+
+    /// A number of the context: another one for each argument and each index below 65,535.
+    pub(crate) fn number(self) -> u64 {
+        number_of(self.index).wrapping_add(number_of(self.argument) << 16)
     }
 
     /// The same context, except that each parameter has its own argument.

@@ -10,9 +10,9 @@ ghost use Rattle.cpp_term.specs.Items as items;
 ghost use Rattle.cpp_term.specs.Term as term;
 ghost use Rattle.cpp_grammar.specs.Items as heads;
 ghost use Rattle.cpp_grammar.specs.Parts.{thunk_text};
-ghost use Rattle.cpp_term.specs.Parts.{as_item, function_bare, function_full, full_parts, bare_parts, root_parts, text_part};
+ghost use Rattle.cpp_term.specs.Parts.{as_item, begins_parameters, function_bare, function_full, full_parts, bare_parts, root_parts, text_part};
 ghost use Rattle.cpp_tree.specs.Nodes.{is_again, entry_at, tree_at, trees, under_kept, IsTable, IsThereBelow, IsWithin, bytes_at, thunk_of, qualifiers_of, mark_of};
-ghost use Rattle.cpp_layout.specs.Texts.{fixed_text, suffix_of};
+ghost use Rattle.cpp_layout.specs.Texts.{fixed_text, shown_mark, suffix_of};
 ghost use Rattle.cpp_layout.specs.declared.texts.TheConstants.{SUFFIX};
 ghost use Rattle.cpp_layout.specs.Layout.{table_of, tree_shown, type_shown, clone_suffix, Shows};
 
@@ -39,6 +39,19 @@ fn thunk_number(thunk: Option<Thunk>) -> u16
     }
 }
 
+/// The mark that is printed after a function's parameters.
+#[tactic(auto, unfolding(crate::specs::Texts::shown_mark))]
+fn shown_mark(mark: Mark) -> Mark
+    ensures { mark_of result ≡ shown_mark (mark_of mark) }
+{
+    match mark {
+        Mark::ExplicitObject => Mark::Any,
+        Mark::Any => mark,
+        Mark::Lvalue => mark,
+        Mark::Rvalue => mark,
+    }
+}
+
 /// The number of the text after a function's parameters.
 fn suffix_number(qualifiers: Qualifiers, mark: Mark, noexcept: bool) -> u16
     ensures text { fixed_text result ≡ suffix_of (qualifiers_of qualifiers) (mark_of mark) noexcept }
@@ -47,7 +60,7 @@ fn suffix_number(qualifiers: Qualifiers, mark: Mark, noexcept: bool) -> u16
 {
     texts::SUFFIX
         + qualifiers.number() as u16
-        + 8 * mark.number() as u16
+        + 8 * shown_mark(mark).number() as u16
         + 24 * bit(noexcept) as u16
 }
 
@@ -68,6 +81,30 @@ impl Symbol {
         let number = suffix_number(qualifiers, mark, noexcept);
         if number > texts::SUFFIX {
             self.push_text(parts, number);
+        }
+    }
+
+    /// The number of the text that begins a function's parameters: the first of them may be its object.
+    // <nested-name> ::= N H <prefix> <unqualified-name> E
+    #[tactic(auto, unfolding(cpp_term::specs::Parts::begins_parameters))]
+    fn opening_number(&self, mark: Mark, parameters: u32, under: u32, detail: Detail) -> u16
+        requires table { IsTable (table_of self.now) }
+        requires parameters { parameters < length self.now.table.nodes }
+        requires under { IsThereBelow (length self.now.table.nodes) (under_kept under) }
+        ensures text { fixed_text result ≡ begins_parameters (mark_of mark) (type_shown self.now under parameters) }
+        ensures some { 0 < length (fixed_text result) }
+    {
+        match mark {
+            Mark::ExplicitObject => {
+                let place = self.place(parameters, Context::of_types(detail, under));
+                match self.stored(place.node, place.ctx) {
+                    Node::Nil => texts::LEFT,
+                    _ => texts::LEFT_THIS,
+                }
+            }
+            Mark::Any => texts::LEFT,
+            Mark::Lvalue => texts::LEFT,
+            Mark::Rvalue => texts::LEFT,
         }
     }
 
@@ -94,7 +131,7 @@ impl Symbol {
         self.push_suffix(parts, qualifiers, mark, false);
         self.push_text(parts, texts::RIGHT);
         self.push_typed_list(parts, parameters, form::FIRST, under, detail);
-        self.push_text(parts, texts::LEFT);
+        self.push_text(parts, self.opening_number(mark, parameters, under, detail));
         self.push_closed(parts, name, form::LEFT, detail);
     }
 

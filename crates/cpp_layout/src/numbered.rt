@@ -121,6 +121,7 @@ pub(crate) fn named_special(letter: u8) -> u16
         b'V' => texts::NAMED_SPECIAL, // guard variable for
         b'H' => texts::NAMED_SPECIAL + 1, // thread-local initialization routine for
         b'W' => texts::NAMED_SPECIAL + 2, // thread-local wrapper routine for
+        b'R' => texts::NAMED_SPECIAL + 3, // reference temporary #0 for
         _ => texts::NONE,
     }
 }
@@ -148,6 +149,7 @@ pub fn special_front(letter: u8) -> u8
 {
     match letter {
         b'V' => b'G',
+        b'R' => b'G',
         _ => b'T',
     }
 }

@@ -179,6 +179,11 @@ impl Layout for Symbol {
     }
 
     #[inline(always)]
+    fn context_number(&self, ctx: Context) -> u64 {
+        ctx.number()
+    }
+
+    #[inline(always)]
     fn bytes<'a>(&'a self, part: &'a Part<Context>) -> &'a [u8] {
         match part {
             Part::Symbol(span) => self.bytes_of(*span),

@@ -37,6 +37,7 @@ module _ (s : List ℕ) (old new : Linked) (outcome : Outcome) where
     there : IfOk result (λ part. IsThere s (length new.nodes.nodes) part);
     candidates : new.candidates ≡ old.candidates;
     packs : new.packs ≡ old.packs;
+    counting : new.counting ≡ old.counting;
     memory : IfErr result (λ e. e ≡ Memory);
     keeps : KeepsRoom old new;
     full : OnErr result (LacksRoom old new);
@@ -68,6 +69,7 @@ module _ (s : List ℕ) (old new : Linked) (outcome : Outcome) where
           there = tt;
           candidates = adds.candidates;
           packs = adds.packs;
+          counting = adds.counting;
           memory = adds.memory;
           keeps = adds.keeps;
           full = adds.full;
@@ -87,6 +89,7 @@ module _ (s : List ℕ) (old new : Linked) (outcome : Outcome) where
         there = there;
         candidates = adds.candidates;
         packs = adds.packs;
+        counting = adds.counting;
         memory = tt;
         keeps = adds.keeps;
         full = tt;

@@ -9,10 +9,11 @@ use Rattle.sym_shape.specs.declared.rule.Sym.TheVariants.{Kind as OfKind}
 use Rattle.sym_link.specs.Reading.{Found, Next, ◌>>=◌}
 use Rattle.sym_link.specs.Unfold.{found}
 use Rattle.cpp_grammar.specs.declared.production.Production.{Production}
-use Rattle.cpp_grammar.specs.KindNumbers.{NEST, NEST_AFTER_S, NEST_REST, NEST_TAIL, NEST_REST_OR_END, NEST_REST_ALONE, NEST_MORE_OR_END, COMPONENT, CONSTRUCTOR_AFTER_C, HELD_COMPONENT, COMPONENT_AFTER_C, ABBREVIATION, ITEM_AFTER_D, AFTER_D, SOLID, SOLID_BUT_T, TYPE_AFTER_S, TYPE_IN_STD, UNNESTED_NAME, LITERAL_TYPE, LITERAL_SOLID, MAYBE_ARGUMENTS, ARGUMENTS, ARGUMENTS_ALONE, MAYBE_TAGS, ARGUMENT_AFTER_T, LEVELED_PARAMETER, ANY_ARRAY, ARRAY_REST, BASE_ARGUMENTS, CONVERTED_SOLID, DECLTYPE_AFTER_D, UNRESOLVED_TYPE}
+use Rattle.cpp_grammar.specs.KindNumbers.{PARAMETER_AFTER_T, NEST, NEST_AFTER_S, NEST_REST, NEST_TAIL, NEST_REST_OR_END, NEST_REST_ALONE, NEST_MORE_OR_END, COMPONENT, CONSTRUCTOR_AFTER_C, HELD_COMPONENT, COMPONENT_AFTER_C, ABBREVIATION, ITEM_AFTER_D, AFTER_D, SOLID, SOLID_BUT_T, TYPE_AFTER_S, TYPE_IN_STD, UNNESTED_NAME, LITERAL_TYPE, LITERAL_SOLID, MAYBE_ARGUMENTS, ARGUMENTS, ARGUMENTS_ALONE, MAYBE_TAGS, ARGUMENT_AFTER_T, LEVELED_PARAMETER, ANY_ARRAY, ARRAY_REST, BASE_ARGUMENTS, CONVERTED_SOLID, DECLTYPE_AFTER_D, UNRESOLVED_TYPE}
 use Rattle.cpp_grammar.specs.Row.{of, only, extending, tagging, applying, packing, Where, under_it, nothing, the_prefix, type_of, unqualified_of, itself, Before, quiet, goes, becomes, tests, holds, unread, Row, before_part}
 use Rattle.cpp_grammar.specs.Rows.{row_of}
 use Rattle.cpp_grammar.proofs.ClosedStates.{ok_same, behind_bind}
+use Rattle.cpp_grammar.specs.Values as plain
 use Rattle.cpp_term.specs.Term.{Term, parameter}
 use Rattle.cpp_term.specs.Scope.{count, element, is_open, length_if_pack, pack_length}
 use Rattle.cpp_term.specs.Values.{State, Around, Candidate, prefix_tree, prefix_listed, Value, nothing_there, tree, named, tree_of, is_listed, is_there, part}
@@ -44,7 +45,7 @@ becomes_candidate k =
     nat_eq k NEST || nat_eq k NEST_AFTER_S || nat_eq k NEST_REST || nat_eq k NEST_TAIL || nat_eq k NEST_REST_OR_END || nat_eq k NEST_REST_ALONE || nat_eq k NEST_MORE_OR_END
     || nat_eq k ABBREVIATION || nat_eq k ITEM_AFTER_D || nat_eq k AFTER_D || nat_eq k SOLID || nat_eq k SOLID_BUT_T || nat_eq k TYPE_AFTER_S || nat_eq k LITERAL_TYPE
     || nat_eq k ARGUMENT_AFTER_T || nat_eq k LEVELED_PARAMETER || nat_eq k UNNESTED_NAME || nat_eq k ANY_ARRAY || nat_eq k ARRAY_REST
-    || nat_eq k LITERAL_SOLID || nat_eq k CONVERTED_SOLID || nat_eq k DECLTYPE_AFTER_D || nat_eq k UNRESOLVED_TYPE
+    || nat_eq k LITERAL_SOLID || nat_eq k CONVERTED_SOLID || nat_eq k DECLTYPE_AFTER_D || nat_eq k UNRESOLVED_TYPE || nat_eq k PARAMETER_AFTER_T
 
 -- what continues with the name so far, and arguments after it
 unfoldable pub goes_on : ℕ → Bool
@@ -138,6 +139,7 @@ may_leave Production.ParameterArgument = true
 may_leave Production.DeclaredArgument = true
 may_leave Production.LeveledParameter = true
 may_leave Production.ConvertedDecltype = true
+may_leave Production.ConvertedWithT = true
 may_leave Production.AnyArray = true
 may_leave Production.BoundedArray = true
 may_leave Production.LengthArray = true
@@ -195,7 +197,7 @@ going vs around state = record { values = vs; context = around; state = state }
 
 pub appended-one : (around : Around) (t : Term) (state : State) → length (appended around t state).candidates ≡ length state.candidates + 1
 unfolding appended
-appended-one around t state = length-append state.candidates (record { tree = t; encoding = around.encoding; in_lambda = around.in_lambda; is_held = false } ∷ [])
+appended-one around t state = length-append state.candidates (record { tree = t; encoding = around.encoding; in_lambda = around.in_lambda; counted = plain.by_all } ∷ [])
 
 pub typed-one : (around : Around) (v : Value) (state : State) → length
     (with_type around v state).candidates ≤ length state.candidates + unlisted v

@@ -9,7 +9,7 @@ use Rattle.sym_shape.specs.declared.rule.Sym.{Sym}
 use Rattle.sym_shape.specs.declared.rule.Sym.TheVariants.{Kind as OfKind, Name, Number, Byte}
 use Rattle.sym_link.specs.Reading.{Found}
 use Rattle.cpp_grammar.specs.declared.production.Production.{Production}
-use Rattle.cpp_grammar.specs.KindNumbers.{INTEGER, ANONYMOUS, OPERATOR, OTHER_OPERATOR, OPERATOR_AFTER_C, CONSTRUCTOR_DIGIT, DESTRUCTOR_DIGIT, SOURCE_OR_LOCAL, NEST, NEST_AFTER_S, AFTER_D, ITEM_AFTER_D, SOLID, SOLID_BUT_T, ARGUMENT_AFTER_T, LEVELED_PARAMETER, ANY_ARRAY, ARRAY_REST, LITERAL_TYPE, CONVERTED_SOLID, DECLTYPE_AFTER_D, UNRESOLVED_TYPE, UNRESOLVED_NAME, UNQUALIFIED, NEST_REST, NEST_REST_OR_END, NEST_REST_ALONE, NEST_TAIL, NEST_MORE_OR_END, COMPONENT, COMPONENT_AFTER_C, CONSTRUCTOR_AFTER_C, HOLDER_MARK, HELD_COMPONENT, ABBREVIATION, TYPE_AFTER_S, TYPE_IN_STD, UNNESTED_NAME, MAYBE_ARGUMENTS, MAYBE_TAGS, ARGUMENTS, ARGUMENTS_ALONE, ARGUMENTS_FIRST, BASE_ARGUMENTS, HELD_ARGUMENTS, LITERAL_SOLID}
+use Rattle.cpp_grammar.specs.KindNumbers.{PARAMETER_AFTER_T, INTEGER, ANONYMOUS, OPERATOR, OTHER_OPERATOR, OPERATOR_AFTER_C, CONSTRUCTOR_DIGIT, DESTRUCTOR_DIGIT, SOURCE_OR_LOCAL, NEST, NEST_AFTER_S, AFTER_D, ITEM_AFTER_D, SOLID, SOLID_BUT_T, ARGUMENT_AFTER_T, LEVELED_PARAMETER, ANY_ARRAY, ARRAY_REST, LITERAL_TYPE, CONVERTED_SOLID, DECLTYPE_AFTER_D, UNRESOLVED_TYPE, UNRESOLVED_NAME, UNQUALIFIED, NEST_REST, NEST_REST_OR_END, NEST_REST_ALONE, NEST_TAIL, NEST_MORE_OR_END, COMPONENT, COMPONENT_AFTER_C, CONSTRUCTOR_AFTER_C, HOLDER_MARK, HELD_COMPONENT, ABBREVIATION, TYPE_AFTER_S, TYPE_IN_STD, UNNESTED_NAME, MAYBE_ARGUMENTS, MAYBE_TAGS, ARGUMENTS, ARGUMENTS_ALONE, ARGUMENTS_FIRST, BASE_ARGUMENTS, HELD_ARGUMENTS, LITERAL_SOLID}
 use Rattle.cpp_grammar.specs.Grammar.{parts_of, number_of_kind}
 use Rattle.cpp_grammar.specs.Row.{Made, unlisted, unless_there, Form, handed, finished, either, a_name, as_before, as_part, after_part, Gain, nothing, type_of, unqualified_of, itself, Before, quiet, goes, becomes, tests, Row, before_part}
 use Rattle.cpp_grammar.specs.Rows.{row_of}
@@ -141,7 +141,7 @@ expression-parameter around place = λ state next e. came (going [] around state
     begun v = λ state next e. (
         let k : ℕ = index_of v in
         let t : Term = parameter k (argument_at around k) in
-        let b = behind_bind (parameter_named around place k state) (λ s. tested false around t (v ∷ []) s state) next e in
+        let b = behind_bind (parameter_named around (place - 1) k state) (λ s. tested false around t (v ∷ []) s state) next e in
         came (going (tree t true ∷ []) around (record b.value { candidates = state.candidates })) next b.next (record {
           over = 1;
           few = omega arith;
@@ -290,7 +290,7 @@ nest-std around place = λ state next e. came (going [] around state) next e (no
 
 nest-next : (around : Around) (place : ℕ) → By Production.NestNext around place (OfKind COMPONENT ∷ OfKind NEST_TAIL ∷ []) [] (few_.unlisted_around around)
 unfolding pending pending_around goes_on is_arguments is_component becomes_candidate row_of before_part done around_part packs_within is_listing state_after gained meant nodes_before nodes_at_end leaves makes_name may_leave part
-nest-next around place = λ state next e. came (going [] (after (prefix_tree around.prefix) true around) (with_prefix around state)) next e (record {
+nest-next around place = λ state next e. came (going [] around (with_prefix around state)) next e (record {
   over = 0;
   few = omega (arith, prefix-one around state);
   later = λ v. record { now = 1; few = omega arith; goes = ends v };
@@ -325,10 +325,10 @@ nest-arguments around place = λ state next e. came (going [] (inside around) (w
     instanced : (v b : Value) → By Production.NestArguments around place (OfKind COMPONENT ∷ OfKind NEST_TAIL ∷ []) (v ∷ b ∷ []) 0
     instanced v b = λ state next e. (
         let t : Term = instance (prefix_tree around.prefix) (no_items v) in
-        came (going (tree t true ∷ b ∷ []) (after t true around) (appended around t state)) next e (record {
+        came (going (tree t false ∷ b ∷ []) (after t false around) (appended around t state)) next e (record {
           over = 0;
           few = omega (arith, appended-one around t state);
-          later = λ w. record { now = 1; few = omega arith; goes = ends (tree t true) b w };
+          later = λ w. record { now = 1; few = omega arith; goes = ends (tree t false) b w };
         }))
 
     ended-by : (v : Value) → By Production.NestArguments around place (Byte 69 ∷ OfKind COMPONENT ∷ OfKind NEST_TAIL ∷ []) (v ∷ []) 0
@@ -523,6 +523,7 @@ flows Production.UnnestedWithS around place = handed_on Production.UnnestedWithS
 flows Production.AbbreviatedType around place = handed_on Production.AbbreviatedType refl around place (OfKind ABBREVIATION) refl (λ a v. refl) (λ v. omega arith)
 flows Production.ArrayType around place = handed_on Production.ArrayType refl around place (OfKind ANY_ARRAY) refl (λ a v. refl) (λ v. omega arith)
 flows Production.AnyArray around place = handed_on Production.AnyArray refl around place (OfKind ARRAY_REST) refl (λ a v. refl) (λ v. omega arith)
+flows Production.ConvertedWithT around place = handed_on Production.ConvertedWithT refl around place (OfKind PARAMETER_AFTER_T) refl (λ a v. refl) (λ v. omega arith)
 flows Production.TypeInStd around place = handed_on Production.TypeInStd refl around place (OfKind TYPE_IN_STD) refl (λ a v. refl) (leaves-one Production.TypeInStd)
 flows Production.AnyConstructor around place = handed_on Production.AnyConstructor refl around place (OfKind CONSTRUCTOR_AFTER_C) refl (λ a v. refl) (leaves-one Production.AnyConstructor)
 flows Production.ComponentWithC around place = handed_on Production.ComponentWithC refl around place (OfKind COMPONENT_AFTER_C) refl (λ a v. refl) (leaves-one Production.ComponentWithC)

@@ -129,17 +129,19 @@ IsLocalName _ = ⊥
 pub local_name : (p : Production) → family_of p ≡ Family.LocalName
     → (p ≡ Production.LocalType → ⊥)
     → (p ≡ Production.LocalName → ⊥)
+    → (p ≡ Production.LocalTemporary → ⊥)
     → (p ≡ Production.DefaultEntity → ⊥)
     → (p ≡ Production.DefaultTypeEntity → ⊥)
     → (p ≡ Production.StringLiteral → ⊥)
     → ⊥
 unfolding family_of
-local_name Production.LocalType is n0 n1 n2 n3 n4 = n0 refl
-local_name Production.LocalName is n0 n1 n2 n3 n4 = n1 refl
-local_name Production.DefaultEntity is n0 n1 n2 n3 n4 = n2 refl
-local_name Production.DefaultTypeEntity is n0 n1 n2 n3 n4 = n3 refl
-local_name Production.StringLiteral is n0 n1 n2 n3 n4 = n4 refl
-local_name _ is n0 n1 n2 n3 n4 = subst IsLocalName (sym is) tt
+local_name Production.LocalType is n0 n1 n2 n3 n4 n5 = n0 refl
+local_name Production.LocalName is n0 n1 n2 n3 n4 n5 = n1 refl
+local_name Production.LocalTemporary is n0 n1 n2 n3 n4 n5 = n2 refl
+local_name Production.DefaultEntity is n0 n1 n2 n3 n4 n5 = n3 refl
+local_name Production.DefaultTypeEntity is n0 n1 n2 n3 n4 n5 = n4 refl
+local_name Production.StringLiteral is n0 n1 n2 n3 n4 n5 = n5 refl
+local_name _ is n0 n1 n2 n3 n4 n5 = subst IsLocalName (sym is) tt
 
 abbrev IsInherited : Family → Type 0
 IsInherited Family.Inherited = Unit {0}
@@ -174,18 +176,20 @@ pub special : (p : Production) → family_of p ≡ Family.Special
     → (p ≡ Production.SpecialType → ⊥)
     → (p ≡ Production.ParameterObject → ⊥)
     → (p ≡ Production.SpecialName → ⊥)
+    → (p ≡ Production.Temporary → ⊥)
     → (p ≡ Production.OtherSpecial → ⊥)
     → (p ≡ Production.Clone → ⊥)
     → (p ≡ Production.ConstructionVtable → ⊥)
     → ⊥
 unfolding family_of
-special Production.SpecialType is n0 n1 n2 n3 n4 n5 = n0 refl
-special Production.ParameterObject is n0 n1 n2 n3 n4 n5 = n1 refl
-special Production.SpecialName is n0 n1 n2 n3 n4 n5 = n2 refl
-special Production.OtherSpecial is n0 n1 n2 n3 n4 n5 = n3 refl
-special Production.Clone is n0 n1 n2 n3 n4 n5 = n4 refl
-special Production.ConstructionVtable is n0 n1 n2 n3 n4 n5 = n5 refl
-special _ is n0 n1 n2 n3 n4 n5 = subst IsSpecial (sym is) tt
+special Production.SpecialType is n0 n1 n2 n3 n4 n5 n6 = n0 refl
+special Production.ParameterObject is n0 n1 n2 n3 n4 n5 n6 = n1 refl
+special Production.SpecialName is n0 n1 n2 n3 n4 n5 n6 = n2 refl
+special Production.Temporary is n0 n1 n2 n3 n4 n5 n6 = n3 refl
+special Production.OtherSpecial is n0 n1 n2 n3 n4 n5 n6 = n4 refl
+special Production.Clone is n0 n1 n2 n3 n4 n5 n6 = n5 refl
+special Production.ConstructionVtable is n0 n1 n2 n3 n4 n5 n6 = n6 refl
+special _ is n0 n1 n2 n3 n4 n5 n6 = subst IsSpecial (sym is) tt
 
 abbrev IsThunk : Family → Type 0
 IsThunk Family.Thunk = Unit {0}
@@ -350,6 +354,7 @@ IsArgument _ = ⊥
 
 pub argument : (p : Production) → family_of p ≡ Family.Argument
     → (p ≡ Production.Parameter → ⊥)
+    → (p ≡ Production.ConvertedWithT → ⊥)
     → (p ≡ Production.ParameterArgument → ⊥)
     → (p ≡ Production.PackArgument → ⊥)
     → (p ≡ Production.LiteralArgument → ⊥)
@@ -361,17 +366,18 @@ pub argument : (p : Production) → family_of p ≡ Family.Argument
     → (p ≡ Production.OnePack → ⊥)
     → ⊥
 unfolding family_of
-argument Production.Parameter is n0 n1 n2 n3 n4 n5 n6 n7 n8 n9 = n0 refl
-argument Production.ParameterArgument is n0 n1 n2 n3 n4 n5 n6 n7 n8 n9 = n1 refl
-argument Production.PackArgument is n0 n1 n2 n3 n4 n5 n6 n7 n8 n9 = n2 refl
-argument Production.LiteralArgument is n0 n1 n2 n3 n4 n5 n6 n7 n8 n9 = n3 refl
-argument Production.LiteralElement is n0 n1 n2 n3 n4 n5 n6 n7 n8 n9 = n4 refl
-argument Production.AnyElement is n0 n1 n2 n3 n4 n5 n6 n7 n8 n9 = n5 refl
-argument Production.ArgumentWithT is n0 n1 n2 n3 n4 n5 n6 n7 n8 n9 = n6 refl
-argument Production.LeveledParameter is n0 n1 n2 n3 n4 n5 n6 n7 n8 n9 = n7 refl
-argument Production.OneLiteral is n0 n1 n2 n3 n4 n5 n6 n7 n8 n9 = n8 refl
-argument Production.OnePack is n0 n1 n2 n3 n4 n5 n6 n7 n8 n9 = n9 refl
-argument _ is n0 n1 n2 n3 n4 n5 n6 n7 n8 n9 = subst IsArgument (sym is) tt
+argument Production.Parameter is n0 n1 n2 n3 n4 n5 n6 n7 n8 n9 n10 = n0 refl
+argument Production.ConvertedWithT is n0 n1 n2 n3 n4 n5 n6 n7 n8 n9 n10 = n1 refl
+argument Production.ParameterArgument is n0 n1 n2 n3 n4 n5 n6 n7 n8 n9 n10 = n2 refl
+argument Production.PackArgument is n0 n1 n2 n3 n4 n5 n6 n7 n8 n9 n10 = n3 refl
+argument Production.LiteralArgument is n0 n1 n2 n3 n4 n5 n6 n7 n8 n9 n10 = n4 refl
+argument Production.LiteralElement is n0 n1 n2 n3 n4 n5 n6 n7 n8 n9 n10 = n5 refl
+argument Production.AnyElement is n0 n1 n2 n3 n4 n5 n6 n7 n8 n9 n10 = n6 refl
+argument Production.ArgumentWithT is n0 n1 n2 n3 n4 n5 n6 n7 n8 n9 n10 = n7 refl
+argument Production.LeveledParameter is n0 n1 n2 n3 n4 n5 n6 n7 n8 n9 n10 = n8 refl
+argument Production.OneLiteral is n0 n1 n2 n3 n4 n5 n6 n7 n8 n9 n10 = n9 refl
+argument Production.OnePack is n0 n1 n2 n3 n4 n5 n6 n7 n8 n9 n10 = n10 refl
+argument _ is n0 n1 n2 n3 n4 n5 n6 n7 n8 n9 n10 = subst IsArgument (sym is) tt
 
 abbrev IsDeclaration : Family → Type 0
 IsDeclaration Family.Declaration = Unit {0}
@@ -552,6 +558,8 @@ pub unresolved : (p : Production) → family_of p ≡ Family.Unresolved
     → (p ≡ Production.Levels → ⊥)
     → (p ≡ Production.LevelsEnd → ⊥)
     → (p ≡ Production.UnresolvedOperator → ⊥)
+    → (p ≡ Production.ExpressionWithT → ⊥)
+    → (p ≡ Production.LeveledExpression → ⊥)
     → (p ≡ Production.ParameterExpression → ⊥)
     → (p ≡ Production.SimpleId → ⊥)
     → (p ≡ Production.OperatorReference → ⊥)
@@ -561,19 +569,21 @@ pub unresolved : (p : Production) → family_of p ≡ Family.Unresolved
     → (p ≡ Production.ParameterNumber → ⊥)
     → ⊥
 unfolding family_of
-unresolved Production.Unresolved is n0 n1 n2 n3 n4 n5 n6 n7 n8 n9 n10 n11 = n0 refl
-unresolved Production.UnresolvedInType is n0 n1 n2 n3 n4 n5 n6 n7 n8 n9 n10 n11 = n1 refl
-unresolved Production.Levels is n0 n1 n2 n3 n4 n5 n6 n7 n8 n9 n10 n11 = n2 refl
-unresolved Production.LevelsEnd is n0 n1 n2 n3 n4 n5 n6 n7 n8 n9 n10 n11 = n3 refl
-unresolved Production.UnresolvedOperator is n0 n1 n2 n3 n4 n5 n6 n7 n8 n9 n10 n11 = n4 refl
-unresolved Production.ParameterExpression is n0 n1 n2 n3 n4 n5 n6 n7 n8 n9 n10 n11 = n5 refl
-unresolved Production.SimpleId is n0 n1 n2 n3 n4 n5 n6 n7 n8 n9 n10 n11 = n6 refl
-unresolved Production.OperatorReference is n0 n1 n2 n3 n4 n5 n6 n7 n8 n9 n10 n11 = n7 refl
-unresolved Production.FunctionParameter is n0 n1 n2 n3 n4 n5 n6 n7 n8 n9 n10 n11 = n8 refl
-unresolved Production.OuterParameter is n0 n1 n2 n3 n4 n5 n6 n7 n8 n9 n10 n11 = n9 refl
-unresolved Production.This is n0 n1 n2 n3 n4 n5 n6 n7 n8 n9 n10 n11 = n10 refl
-unresolved Production.ParameterNumber is n0 n1 n2 n3 n4 n5 n6 n7 n8 n9 n10 n11 = n11 refl
-unresolved _ is n0 n1 n2 n3 n4 n5 n6 n7 n8 n9 n10 n11 = subst IsUnresolved (sym is) tt
+unresolved Production.Unresolved is n0 n1 n2 n3 n4 n5 n6 n7 n8 n9 n10 n11 n12 n13 = n0 refl
+unresolved Production.UnresolvedInType is n0 n1 n2 n3 n4 n5 n6 n7 n8 n9 n10 n11 n12 n13 = n1 refl
+unresolved Production.Levels is n0 n1 n2 n3 n4 n5 n6 n7 n8 n9 n10 n11 n12 n13 = n2 refl
+unresolved Production.LevelsEnd is n0 n1 n2 n3 n4 n5 n6 n7 n8 n9 n10 n11 n12 n13 = n3 refl
+unresolved Production.UnresolvedOperator is n0 n1 n2 n3 n4 n5 n6 n7 n8 n9 n10 n11 n12 n13 = n4 refl
+unresolved Production.ExpressionWithT is n0 n1 n2 n3 n4 n5 n6 n7 n8 n9 n10 n11 n12 n13 = n5 refl
+unresolved Production.LeveledExpression is n0 n1 n2 n3 n4 n5 n6 n7 n8 n9 n10 n11 n12 n13 = n6 refl
+unresolved Production.ParameterExpression is n0 n1 n2 n3 n4 n5 n6 n7 n8 n9 n10 n11 n12 n13 = n7 refl
+unresolved Production.SimpleId is n0 n1 n2 n3 n4 n5 n6 n7 n8 n9 n10 n11 n12 n13 = n8 refl
+unresolved Production.OperatorReference is n0 n1 n2 n3 n4 n5 n6 n7 n8 n9 n10 n11 n12 n13 = n9 refl
+unresolved Production.FunctionParameter is n0 n1 n2 n3 n4 n5 n6 n7 n8 n9 n10 n11 n12 n13 = n10 refl
+unresolved Production.OuterParameter is n0 n1 n2 n3 n4 n5 n6 n7 n8 n9 n10 n11 n12 n13 = n11 refl
+unresolved Production.This is n0 n1 n2 n3 n4 n5 n6 n7 n8 n9 n10 n11 n12 n13 = n12 refl
+unresolved Production.ParameterNumber is n0 n1 n2 n3 n4 n5 n6 n7 n8 n9 n10 n11 n12 n13 = n13 refl
+unresolved _ is n0 n1 n2 n3 n4 n5 n6 n7 n8 n9 n10 n11 n12 n13 = subst IsUnresolved (sym is) tt
 
 abbrev IsLiteral : Family → Type 0
 IsLiteral Family.Literal = Unit {0}

@@ -1,5 +1,5 @@
 -- A rule closes as the reading says.
-use Rattle.std.proofs.Common.{◌≡◌, refl, sym, ◌∙◌, ap, subst, arith, ℕ, ◌+◌, ◌-◌, ◌<◌, ◌≤◌, ◌⊎◌, inl, inr, drop, take, length-drop, List, [], ◌∷◌, ◌++◌, length, Option, Result, Ok, Err}
+use Rattle.std.proofs.Common.{◌≡◌, refl, sym, ◌∙◌, ap, subst, arith, ℕ, ◌+◌, ◌-◌, ◌<◌, ◌≤◌, ◌⊎◌, inl, inr, drop, take, length-drop, List, [], ◌∷◌, ◌++◌, length, Result, Ok, Err}
 use Rattle.std.proofs.lemmas.Result.{err_from_is_err_and}
 use Rattle.std.specs.Prelude.{slice_index, Vec, vec_capacity, IfErr, IsErrAnd, OnOk, OnErr}
 use Rattle.std.specs.Global.{Global}
@@ -16,7 +16,6 @@ use Rattle.sym_link.specs.Threads.{IsAt, ClosesAll}
 use Rattle.cpp_grammar.specs.declared.production.Production.{Production}
 use Rattle.cpp_grammar.specs.Table.{wide}
 use Rattle.cpp_grammar.specs.Unfolding.{production_at}
-use Rattle.cpp_term.specs.Values as values
 use Rattle.cpp_term.specs.Values.{State, Value, Around}
 use Rattle.cpp_term.proofs.Notes.{both}
 use Rattle.cpp_link.specs.declared.linked.Linked.{Linked}
@@ -33,7 +32,7 @@ use Rattle.cpp_link.specs.Parts.{trees_in, value_in, values_in, packs_of, around
 use Rattle.cpp_link.specs.Room.{LacksRoom}
 use Rattle.cpp_link.specs.View.{IsWhole, cpp_view}
 use Rattle.cpp_link.proofs.Rooms.{roomy_ok, roomy_refused}
-use Rattle.cpp_link.proofs.Viewing.{parts_are}
+use Rattle.cpp_link.proofs.Viewing.{parts_are, held_state}
 
 -- What a rule closes to by this reading of the language, if it is of this production and these are its parts.
 module _ (reading : Reading Value State Around) (closing : Production → Around → (place : ℕ) → (began : State) → List Value → State → Result (Found Value State) Refusal) (s : List ℕ)
@@ -49,14 +48,14 @@ module _ (reading : Reading Value State Around) (closing : Production → Around
       → reading.close rule known state ≡ closing p around frame.place rule.before (values_in s old.nodes given) (state_of s old)
   given_is rule known state is =
       reads rule known state is.there
-      ∙ same_close frame.rule rule.rule.number frame.place rule.place around rule.context (values_in s old.nodes (drop frame.base parts)) known _ old.packs state
-      is.number is.place is.kept.surrounds.is (parts_are s old (drop frame.base parts) known is.parts).1 is.holds.candidates is.holds.packs
+      ∙ same_close frame.rule rule.rule.number frame.place rule.place around rule.context (values_in s old.nodes (drop frame.base parts)) known (state_of s old) state
+      is.number is.place is.kept.surrounds.is (parts_are s old (drop frame.base parts) known is.parts).1 (held_state s old state is.holds)
       ∙ both (λ q ps. closing q around frame.place rule.before (values_in s old.nodes ps) (state_of s old)) (sym numbered) (sym same)
     where
-      same_close : (m n i k : ℕ) (code context : Around) (us vs : List Value) (cs : List values.Candidate) (packs : Option ℕ) (state : State)
-          → m ≡ n → i ≡ k → code ≡ context → us ≡ vs → cs ≡ state.candidates → packs ≡ state.packs
-          → closing (production_at n) context k rule.before vs state ≡ closing (production_at m) code i rule.before us (record { candidates = cs; packs = packs })
-      same_close m n i k code context us vs cs packs state number place surrounded known candidates packed = rw (number, place, surrounded, known, candidates, packed) refl
+      same_close : (m n i k : ℕ) (code context : Around) (us vs : List Value) (held state : State)
+          → m ≡ n → i ≡ k → code ≡ context → us ≡ vs → held ≡ state
+          → closing (production_at n) context k rule.before vs state ≡ closing (production_at m) code i rule.before us held
+      same_close m n i k code context us vs held state number place surrounded known same = rw (number, place, surrounded, known, same) refl
 
   -- a part was put that denotes what the rule closes to
   put_right : (new : Linked) (new_parts : List Part) (made : Part) (done : Unit {0})
@@ -71,7 +70,7 @@ module _ (reading : Reading Value State Around) (closing : Production → Around
       state_of s new,
       given_is rule known state is ∙ closes rule.before (sym is.kept.packs),
       record { there = there; is = refl },
-      record { table = whole.table; there = whole.there; candidates = refl; packs = refl },
+      record { table = whole.table; there = whole.there; candidates = refl; packs = refl; counting = refl },
     ),
   )
 

@@ -1,5 +1,5 @@
 -- The linker continues to the next part of a rule as the reading says.
-use Rattle.std.proofs.Common.{subst, ◌≡◌, refl, sym, ◌∙◌, ap, arith, ℕ, suc, ◌+◌, ◌-◌, ◌<◌, ◌≤◌, inl, List, [], ◌∷◌, ◌++◌, length, take, drop, Option, Result, Ok, Err}
+use Rattle.std.proofs.Common.{subst, ◌≡◌, refl, sym, ◌∙◌, ap, arith, ℕ, suc, ◌+◌, ◌-◌, ◌<◌, ◌≤◌, inl, List, [], ◌∷◌, ◌++◌, length, take, drop, Result, Ok, Err}
 use Rattle.std.proofs.lemmas.List.{length-drop, take-append-drop}
 use Rattle.std.proofs.lemmas.Result.{err_from_is_err_and}
 use Rattle.std.specs.Prelude.{Vec, vec_capacity, IsErrAnd}
@@ -22,7 +22,7 @@ use Rattle.cpp_term.specs.Unfolding.{cpp}
 use Rattle.cpp_term.proofs.Notes.{both}
 use Rattle.cpp_link.specs.declared.linked.Linked.{Linked}
 use Rattle.cpp_references.specs.declared.around.Surroundings.{Surroundings}
-use Rattle.cpp_references.specs.declared.candidates.Candidate.{Candidate}
+use Rattle.cpp_link.specs.declared.candidates.Candidates.{Candidates}
 use Rattle.cpp_link.specs.declared.part.Part.{Part}
 use Rattle.cpp_link.specs.declared.part.Step.{Step}
 use Rattle.cpp_link.specs.Making.{state_of}
@@ -42,7 +42,7 @@ use Rattle.cpp_link.proofs.Stepping.{step_owed}
 use Rattle.cpp_link.proofs.Places.{values_length}
 use Rattle.cpp_link.proofs.RowNodes.{quiet_part}
 use Rattle.cpp_link.proofs.Rooms.{roomy_ok, roomy_refused}
-use Rattle.cpp_link.proofs.Viewing.{parts_are, parts_all}
+use Rattle.cpp_link.proofs.Viewing.{parts_are, parts_all, held_state}
 
 -- What is done before the next part of the frame's rule by this reading of the language, once the parts from its base on are
 -- these.
@@ -59,37 +59,37 @@ module _ (reading : Reading Value State Around) (before : Production → Around 
       → reading.between rule known state ≡ before production around frame.place (values_in s old.nodes own) (state_of s old)
   read_is rule known state is =
       reads rule known state
-      ∙ same_before frame.rule rule.rule.number frame.place rule.place around rule.context (values_in s old.nodes (drop frame.base parts)) known _ old.packs state
-      is.number is.place is.kept.surrounds.is (parts_are s old (drop frame.base parts) known is.parts).1 is.holds.candidates is.holds.packs
+      ∙ same_before frame.rule rule.rule.number frame.place rule.place around rule.context (values_in s old.nodes (drop frame.base parts)) known (state_of s old) state
+      is.number is.place is.kept.surrounds.is (parts_are s old (drop frame.base parts) known is.parts).1 (held_state s old state is.holds)
       ∙ both (λ p ps. before p around frame.place (values_in s old.nodes ps) (state_of s old)) (sym numbered) (sym same)
     where
-      same_before : (m n q p : ℕ) (code context : Around) (us vs : List Value) (cs : List values.Candidate) (packs : Option ℕ) (state : State)
-          → m ≡ n → q ≡ p → code ≡ context → us ≡ vs → cs ≡ state.candidates → packs ≡ state.packs
-          → before (production_at n) context p vs state ≡ before (production_at m) code q us (record { candidates = cs; packs = packs })
-      same_before m n q p code context us vs cs packs state number place surrounded known candidates packed = rw (number, place, surrounded, known, candidates, packed) refl
+      same_before : (m n q p : ℕ) (code context : Around) (us vs : List Value) (held state : State)
+          → m ≡ n → q ≡ p → code ≡ context → us ≡ vs → held ≡ state
+          → before (production_at n) context p vs state ≡ before (production_at m) code q us held
+      same_before m n q p code context us vs held state number place surrounded known same = rw (number, place, surrounded, known, same) refl
 
   -- what the rule continues with
   abbrev gone : (mid : Linked) (new_parts : List Part) (then : Surroundings) → State → Next Value State Around
   gone mid new_parts then state = record { values = values_in s mid.nodes (drop frame.base new_parts); context = around_of (trees_in s mid.nodes) then; state = state }
 
   -- the step that was taken, with what is marked then, is that of the reading, and these are the candidates after it
-  pub goes_right : (mid : Linked) (more : Vec Candidate Global) (new_parts : List Part) (step : Step) (then : Surroundings) (marking : Going → Going)
+  pub goes_right : (mid : Linked) (more : Candidates) (new_parts : List Part) (step : Step) (then : Surroundings) (marking : Going → Going)
       → ((n : Next Value State Around) → before production around frame.place (values_in s old.nodes own) (state_of s old) ≡ Ok n → IsClosed around → IsClosed n.context)
-      → ((cs : List values.Candidate) → before production around frame.place (values_in s old.nodes own) (record { candidates = cs; packs = old.packs })
-      ≡ marking (goes_on s old.nodes frame.kept (values_in s old.nodes own) cs old.packs step))
-      → Takes s old mid frame.kept frame.base parts new_parts step then → AreCandidatesThere (length mid.nodes.nodes) more.items
-      → marking (Ok (gone mid new_parts then (state_of s mid))) ≡ Ok (gone mid new_parts then (record { candidates = candidates_of (trees_in s mid.nodes) more.items; packs = mid.packs }))
+      → ((state : values.State) → before production around frame.place (values_in s old.nodes own) (record state { packs = old.packs })
+      ≡ marking (goes_on s old.nodes frame.kept (values_in s old.nodes own) state old.packs step))
+      → Takes s old mid frame.kept frame.base parts new_parts step then → AreCandidatesThere (length mid.nodes.nodes) more
+      → marking (Ok (gone mid new_parts then (state_of s mid))) ≡ Ok (gone mid new_parts then (record (state_of s mid) { candidates = candidates_of (trees_in s mid.nodes) more.list.items }))
       → GoesOn view s (Surrounds s) old (record mid { candidates = more }) frame parts new_parts (Ok then)
   goes_right mid more new_parts step then marking closed step_is takes there marked rule known state is =
-      let reached = step_is (state_of s old).candidates ∙ ap (λ ps. marking (goes_on s old.nodes frame.kept (values_in s old.nodes ps) (state_of s old).candidates old.packs step)) same ∙ ap marking takes.is ∙ marked in (
-        gone mid new_parts then (record { candidates = candidates_of (trees_in s mid.nodes) more.items; packs = mid.packs }),
+      let reached = step_is (state_of s old) ∙ ap (λ ps. marking (goes_on s old.nodes frame.kept (values_in s old.nodes ps) (state_of s old) old.packs step)) same ∙ ap marking takes.is ∙ marked in (
+        gone mid new_parts then (record (state_of s mid) { candidates = candidates_of (trees_in s mid.nodes) more.list.items }),
         read_is rule known state is ∙ reached,
         record {
           there = takes.around;
           is = refl;
           closed = closed _ reached (subst (λ a. IsClosed a) (sym is.kept.surrounds.is) is.kept.surrounds.closed);
         },
-        record { table = takes.grows.table; there = there; candidates = refl; packs = refl },
+        record { table = takes.grows.table; there = there; candidates = refl; packs = refl; counting = refl },
         drop frame.base new_parts,
         sym (take-append-drop frame.base new_parts) ∙ ap (λ ps. ps ++ drop frame.base new_parts) takes.lower,
         parts_all s (record mid { candidates = more }) (drop frame.base new_parts) takes.there,
@@ -97,9 +97,9 @@ module _ (reading : Reading Value State Around) (before : Production → Around 
 
   -- the refusal of a step is that of the reading
   pub refused_right : (new : Linked) (new_parts : List Part) (e : Refusal)
-      → ((cs : List values.Candidate) → Fails e (before production around frame.place (values_in s old.nodes own) (record { candidates = cs; packs = old.packs })))
+      → ((state : values.State) → Fails e (before production around frame.place (values_in s old.nodes own) (record state { packs = old.packs })))
       → GoesOn view s (Surrounds s) old new frame parts new_parts (Err e)
-  refused_right new new_parts e refused rule known state is = rw (read_is rule known state is) (refused (state_of s old).candidates)
+  refused_right new new_parts e refused rule known state is = rw (read_is rule known state is) (refused (state_of s old))
 
 pub plain_reads : (s : List ℕ) (rule : Open State Around) (known : List Value) (state : State) → (linked s).between rule known state ≡ between (production_at rule.rule.number) rule.context rule.place known state
 unfolding cpp
@@ -142,7 +142,7 @@ quiet_right s old frame parts held counted less rule known state is = (
       ∙ quiet_between (production_at frame.rule) (around_of (trees_in s old.nodes) frame.kept) frame.place (values_in s old.nodes (drop frame.base parts)) (state_of s old)
       (omega (arith, values_length s (trees_in s old.nodes) (drop frame.base parts), length-drop frame.base parts, counted, less)),
   record { there = is.kept.surrounds.there; is = refl; closed = subst (λ around. IsClosed around) (sym is.kept.surrounds.is) is.kept.surrounds.closed },
-  record { table = is.holds.table; there = is.holds.there; candidates = refl; packs = refl },
+  record { table = is.holds.table; there = is.holds.there; candidates = refl; packs = refl; counting = refl },
   drop frame.base parts,
   sym (take-append-drop frame.base parts),
   parts_all s old (drop frame.base parts) (parts_are s old (drop frame.base parts) known is.parts).0,
@@ -214,7 +214,7 @@ module _ (view : View Linked Part Surroundings Value State Around) (s : List ℕ
       refused_advances result e is (subst (λ x. GoesOn view s (Surrounds s) old new frame parts.items new_parts.items (Err x)) (sym memory) (λ rule known state at. tt)) few (λ same. lacks)
 
 -- a step was taken, and these are the candidates after it
-module _ (view : View Linked Part Surroundings Value State Around) (s : List ℕ) (old mid : Linked) (more : Vec Candidate Global) (frame : Frame Surroundings) (parts new_parts : Vec Part Global) where
+module _ (view : View Linked Part Surroundings Value State Around) (s : List ℕ) (old mid : Linked) (more : Candidates) (frame : Frame Surroundings) (parts new_parts : Vec Part Global) where
   abbrev new : Linked
   new = record mid { candidates = more }
 

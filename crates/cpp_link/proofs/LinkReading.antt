@@ -31,9 +31,9 @@ use Rattle.cpp_term.specs.Meaning.{parameters, meaning}
 use Rattle.cpp_term.specs.Unfolding.{number_tested, opening, behind, close, cpp, first_around, first_state}
 use Rattle.cpp_link.specs.Numbered.{is_numbered}
 use Rattle.cpp_grammar.proofs.Ways.{differs}
-use Rattle.cpp_term.specs.Rescoping.{as_generic_lambda, between_wide, close_wide, cpp_wide}
+use Rattle.cpp_term.specs.Rescoping.{as_generic_lambda, opening_wide, between_wide, close_wide, cpp_wide}
 use Rattle.cpp_term.proofs.NotedWays.{NotedWay, reading_noted_by, IsPlainNoted, abi_noted, wide_noted, abi_is_noted, wide_is_noted}
-use Rattle.cpp_link.specs.LinkRescoping.{link_close_wide, linked_wide}
+use Rattle.cpp_link.specs.LinkRescoping.{link_opening, link_close_wide, linked_wide}
 use Rattle.cpp_link.specs.LinkReading.{in_64_bits, link_meaning, link_close, link_begin, linked}
 use Rattle.cpp_link.proofs.Endings.{opens_plain, last_behind}
 use Rattle.cpp_link.proofs.SameReadings.{BeginsSame, ClosesSame, tree_same}
@@ -188,7 +188,11 @@ ClosesRule way s p =
 abbrev IsPlainLambda : NotedWay → Type 0
 IsPlainLambda way = (around : Around) (place : ℕ) (vs : List Value) (state : State) → way.between Production.Lambda around place vs state ≡ between Production.Lambda around place vs state
 
-module _ (way : NotedWay) (plain_way : IsPlainNoted way) (plain_lambda : IsPlainLambda way) where
+-- and where a rule begins whose value the linker says otherwise
+abbrev OpensPlain : NotedWay → Type 0
+OpensPlain way = (p : Production) → is_plain p ≡ false → (parts : Forest) (place : ℕ) (state : State) → way.opening p parts place state ≡ opening p parts place state
+
+module _ (way : NotedWay) (plain_way : IsPlainNoted way) (plain_lambda : IsPlainLambda way) (plain_opening : OpensPlain way) where
   -- before a part of a production that agrees with the ABI's grammar the same is done
   plain_step : (rule : Open State Around) (p : Production) → production_at rule.rule.number ≡ p
       → ((around : Around) (place : ℕ) (vs : List Value) (state : State) → way.between p around place vs state ≡ between p around place vs state) → (known : List Value) (at : ℕ) (first : Tree) (rest : Forest) (state : State)
@@ -209,10 +213,11 @@ module _ (way : NotedWay) (plain_way : IsPlainNoted way) (plain_lambda : IsPlain
 
   byte_read : (byte place : ℕ) (around : Around) (inner : Tree) (state : State) (v : Value) → unfold_tree (reading_noted_by way) around (place + 1) inner state ≡ Ok (found (v ∷ []) state)
       → unfold_tree (reading_noted_by way) around place (branch (rule_of Production.SuffixByte) (byte ∷ []) (grown inner nothing)) state ≡ Ok (found (text (byte ∷ text_of v) ∷ []) state)
-  unfolding differs cpp reading_noted_by opening between close behind meaning production_at productions rule_of number_of byte_of part text_of
+  unfolding is_plain differs cpp reading_noted_by opening between close behind meaning production_at productions rule_of number_of byte_of part text_of
   byte_read byte place around inner state v is =
       let closes : Found (List Value) State → Result (Found (List Value) State) Refusal = λ all. way.close Production.SuffixByte byte around place state all.value all.state >>= alone in
-      ap (λ m. m >>= closes) (plain_step (standing (rule_of Production.SuffixByte) (byte ∷ []) place around state) Production.SuffixByte refl (plain_way.between Production.SuffixByte refl) [] (place + 1) inner nothing state)
+      ap (λ m. m >>= λ b. unfold_forest (reading_noted_by way) (standing (rule_of Production.SuffixByte) (byte ∷ []) place around state) [] (place + 1) (grown inner nothing) b >>= closes) (plain_opening Production.SuffixByte refl (grown inner nothing) place state)
+      ∙ ap (λ m. m >>= closes) (plain_step (standing (rule_of Production.SuffixByte) (byte ∷ []) place around state) Production.SuffixByte refl (plain_way.between Production.SuffixByte refl) [] (place + 1) inner nothing state)
       ∙ ap (λ m. (m >>= λ one. Ok (found one.value one.state)) >>= closes) is
       ∙ ap (λ m. m >>= alone) (plain_way.close Production.SuffixByte refl byte around place state (v ∷ []) state)
 
@@ -276,10 +281,11 @@ module _ (way : NotedWay) (plain_way : IsPlainNoted way) (plain_lambda : IsPlain
 
   digit_read : (byte place : ℕ) (around : Around) (inner : Tree) (state : State) (v : Value) → unfold_tree (reading_noted_by way) around (place + 1) inner state ≡ Ok (found (v ∷ []) state)
       → unfold_tree (reading_noted_by way) around place (branch (rule_of Production.HexDigit) (byte ∷ []) (grown inner nothing)) state ≡ Ok (found (text (byte ∷ text_of v) ∷ []) state)
-  unfolding differs cpp reading_noted_by opening between close behind meaning production_at productions rule_of number_of byte_of part text_of
+  unfolding is_plain differs cpp reading_noted_by opening between close behind meaning production_at productions rule_of number_of byte_of part text_of
   digit_read byte place around inner state v is =
       let closes : Found (List Value) State → Result (Found (List Value) State) Refusal = λ all. way.close Production.HexDigit byte around place state all.value all.state >>= alone in
-      ap (λ m. m >>= closes) (plain_step (standing (rule_of Production.HexDigit) (byte ∷ []) place around state) Production.HexDigit refl (plain_way.between Production.HexDigit refl) [] (place + 1) inner nothing state)
+      ap (λ m. m >>= λ b. unfold_forest (reading_noted_by way) (standing (rule_of Production.HexDigit) (byte ∷ []) place around state) [] (place + 1) (grown inner nothing) b >>= closes) (plain_opening Production.HexDigit refl (grown inner nothing) place state)
+      ∙ ap (λ m. m >>= closes) (plain_step (standing (rule_of Production.HexDigit) (byte ∷ []) place around state) Production.HexDigit refl (plain_way.between Production.HexDigit refl) [] (place + 1) inner nothing state)
       ∙ ap (λ m. (m >>= λ one. Ok (found one.value one.state)) >>= closes) is
       ∙ ap (λ m. m >>= alone) (plain_way.close Production.HexDigit refl byte around place state (v ∷ []) state)
 
@@ -346,7 +352,7 @@ module _ (way : NotedWay) (plain_way : IsPlainNoted way) (plain_lambda : IsPlain
   one_value (token t) context place state one is = (text t.own, values_same (found (text t.own ∷ []) state) one is)
   one_value (branch rule taken parts) context place state one is =
       let o = standing rule taken place context state in
-      let begun = both_ok (cpp.begin o parts) (λ b. unfold_forest (reading_noted_by way) o [] (place + length taken) parts b >>= λ inner. (reading_noted_by way).close o inner.value inner.state >>= alone) one is in
+      let begun = both_ok ((reading_noted_by way).begin o parts) (λ b. unfold_forest (reading_noted_by way) o [] (place + length taken) parts b >>= λ inner. (reading_noted_by way).close o inner.value inner.state >>= alone) one is in
       let inner = both_ok (unfold_forest (reading_noted_by way) o [] (place + length taken) parts begun.0) (λ i. (reading_noted_by way).close o i.value i.state >>= alone) one begun.2 in
       let whole = both_ok ((reading_noted_by way).close o inner.0.value inner.0.state) alone one inner.2 in
       (whole.0.value, values_same (found (whole.0.value ∷ []) whole.0.state) one whole.2)
@@ -410,7 +416,7 @@ closes_same s kind rule taken parts place context before begun inner rest known 
     elim (cases_Bool (is_plain t.production)) [
       | inl plain ↦ plain_closes s (production_at rule.number) (byte_of taken) context place before inner.value inner.state (ap is_plain number ∙ plain)
       | inr other ↦ subst (λ r. Equal r) (sym t.is)
-          (numbered_plain abi_noted abi_is_noted.plain (λ around place vs state. refl) t.production other s kind taken parts place context before begun inner rest
+          (numbered_plain abi_noted abi_is_noted.plain (λ around place vs state. refl) (λ p other parts place state. refl) t.production other s kind taken parts place context before begun inner rest
           (subst (λ r. TakesRule wide kind r taken) t.is is.0) (subst (λ ss. AreTrees wide ss parts) (ap symbols_of t.is ∙ its_symbols t.production) is.1) at
           (subst (λ r. cpp.begin (standing r taken place context before) parts ≡ Ok begun) t.is is_begun)
           (subst (λ r. unfold_forest cpp (standing r taken place context before) [] (place + length taken) parts begun ≡ Ok inner) t.is is_inner))
@@ -441,6 +447,12 @@ wide_lambda : IsPlainLambda wide_noted
 unfolding wide_noted between_wide
 wide_lambda around place vs state = refl
 
+wide_opening : OpensPlain wide_noted
+unfolding is_plain wide_noted opening_wide
+wide_opening Production.NestTemplate other parts place state = absurd (true≢false other)
+wide_opening Production.QualifiedPlain other parts place state = absurd (true≢false other)
+wide_opening _ other parts place state = refl
+
 pub wide_closes_same : (s : List ℕ) → ClosesSame wide s cpp_wide (linked_wide s).close
 unfolding cpp cpp_wide reading_noted_by wide_noted
 wide_closes_same s kind rule taken parts place context before begun inner rest known is at is_begun is_inner =
@@ -450,9 +462,9 @@ wide_closes_same s kind rule taken parts place context before begun inner rest k
       | inl plain ↦ wide_plain_closes s (production_at rule.number) (byte_of taken) context place before inner.value inner.state (ap is_plain number ∙ plain)
       | inr other ↦ other_closes s (production_at rule.number) (ap is_plain number ∙ other) (byte_of taken) context place before inner.value inner.state
           (subst (λ r. Equal r) (sym t.is)
-          (numbered_plain wide_noted wide_is_noted.plain wide_lambda t.production other s kind taken parts place context before begun inner rest
+          (numbered_plain wide_noted wide_is_noted.plain wide_lambda wide_opening t.production other s kind taken parts place context before begun inner rest
           (subst (λ r. TakesRule wide kind r taken) t.is is.0) (subst (λ ss. AreTrees wide ss parts) (ap symbols_of t.is ∙ its_symbols t.production) is.1) at
-          (subst (λ r. cpp.begin (standing r taken place context before) parts ≡ Ok begun) t.is is_begun)
+          (subst (λ r. cpp.begin (standing r taken place context before) parts ≡ Ok begun) t.is (sym (wide_opening (production_at rule.number) (ap is_plain number ∙ other) parts place before) ∙ is_begun))
           (subst (λ r. unfold_forest cpp_wide (standing r taken place context before) [] (place + length taken) parts begun ≡ Ok inner) t.is is_inner)))
     ]
   where
@@ -529,9 +541,15 @@ begins_same s more begins kind rule taken parts place context before rest known 
         sym (opens_plain (production_at rule.number) parts place before
         (begins_first s more kind rule taken (spell_all parts ++ rest) begins known is.0 (ap (λ n. drop n s) (sym here) ∙ at)))
 
-wide_begins_same : (s more : List ℕ) → s ≡ 95 ∷ more → BeginsSame wide s cpp_wide link_begin
-unfolding cpp cpp_wide
-wide_begins_same s more begins = begins_same s more begins
+wide_begins_same : (s more : List ℕ) → s ≡ 95 ∷ more → BeginsSame wide s cpp_wide (linked_wide s).begin
+unfolding cpp cpp_wide link_opening opening_wide
+wide_begins_same s more begins kind rule taken parts place context before rest known is at = by (production_at rule.number) (begins_same s more begins kind rule taken parts place context before rest known is at)
+  where
+    by : (p : Production) → link_begin (standing rule taken place context before) parts ≡ opening p parts place before
+        → link_opening p (standing rule taken place context before) parts ≡ opening_wide p parts place before
+    by Production.NestTemplate same = refl
+    by Production.QualifiedPlain same = refl
+    by _ same = same
 
 -- ## A symbol
 
@@ -600,7 +618,7 @@ module _ (s : List ℕ) (shape : Tree) (is : IsTree wide (OfKind SYMBOL) shape) 
   wide_at_front = sym spelled ∙ sym (append-nil (spell shape))
 
   pub wide_meaning_same : unfold_tree (linked_wide s) first_around 0 shape first_state ≡ unfold_tree cpp_wide first_around 0 shape first_state
-  wide_meaning_same = tree_same wide wide_sound s cpp_wide link_begin (linked_wide s).close (wide_begins_same s wide_more wide_begins) (wide_closes_same s) (OfKind SYMBOL) first_around 0 shape first_state [] wide_sound.start is wide_at_front
+  wide_meaning_same = tree_same wide wide_sound s cpp_wide (linked_wide s).begin (linked_wide s).close (wide_begins_same s wide_more wide_begins) (wide_closes_same s) (OfKind SYMBOL) first_around 0 shape first_state [] wide_sound.start is wide_at_front
 
   module _ (makes : Makes Value State Around) where
     wide_counts_begin : BeginsSame wide s (tallied cpp_wide makes) (tallied (linked_wide s) makes).begin

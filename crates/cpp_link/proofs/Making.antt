@@ -1,5 +1,5 @@
 -- What follows a rule, in terms of the nodes that are there once its own is made.
-use Rattle.std.proofs.Common.{◌≡◌, refl, sym, ◌∙◌, ap, subst, ℕ, ◌-◌, ◌<◌, ◌≤◌, List, [], ◌∷◌, length, Option, Result, Ok, Err, false}
+use Rattle.std.proofs.Common.{◌≡◌, refl, sym, ◌∙◌, ap, subst, ℕ, ◌-◌, ◌<◌, ◌≤◌, List, [], ◌∷◌, length, Option, Result, Ok, Err}
 use Rattle.std.proofs.lemmas.Result.{IfOk-weaker, IfErr-weaker}
 use Rattle.std.specs.Prelude.{slice_get, IfOk, IfErr, OnOk}
 use Rattle.sym_core.specs.Value.{counted_value}
@@ -9,7 +9,6 @@ use Rattle.sym_link.specs.Reading.{Found}
 use Rattle.sym_link.specs.Unfold.{found}
 use Rattle.sym_link.specs.Driving.{Fails}
 use Rattle.cpp_grammar.specs.declared.production.Production.{Production}
-use Rattle.cpp_term.specs.Values as values
 use Rattle.cpp_term.specs.Values.{State, Value, Around, part, text_of}
 use Rattle.cpp_term.specs.Meaning.{meaning}
 use Rattle.cpp_term.specs.References.{substituted}
@@ -22,36 +21,35 @@ use Rattle.cpp_link.specs.Making.{state_of, IsRare, IsCommon}
 use Rattle.cpp_link.specs.Parts.{trees_in, values_in, around_of, candidates_of, AreThere, IsKeptThere, AreCandidatesThere}
 use Rattle.cpp_link.specs.LinkReading.{link_meaning, link_close}
 use Rattle.cpp_link.specs.Reads.{with_candidate}
+use Rattle.cpp_grammar.specs.Values.{by_all}
+use Rattle.cpp_link.specs.Counting.{counting_of}
+use Rattle.cpp_link.proofs.Viewing.{same_state}
 use Rattle.cpp_link.specs.Staying.{values_stay, around_stays, candidates_stay, there_more}
 
 pub parts_more : (s : List ℕ) (m n : ℕ) (ps : List Part) → m ≤ n → AreThere s m ps → AreThere s n ps
 parts_more s m n [] le there = tt
 parts_more s m n (p ∷ ps) le there = (there_more s m n p le there.0, parts_more s m n ps le there.1)
 
-same_behind : (p : Production) (byte : ℕ) (later around : Around) (began : State) (us vs : List Value) (ds cs : List values.Candidate) (then packs : Option ℕ)
-    → later ≡ around → us ≡ vs → ds ≡ cs → then ≡ packs
-    → behind p byte around began vs (record { candidates = cs; packs = packs }) ≡ behind p byte later began us (record { candidates = ds; packs = then })
-same_behind p byte later around began us vs ds cs then packs context known candidates same = rw (context, known, candidates, same) refl
+same_behind : (p : Production) (byte : ℕ) (later around : Around) (began : State) (us vs : List Value) (then state : State) → later ≡ around → us ≡ vs → then ≡ state
+    → behind p byte around began vs state ≡ behind p byte later began us then
+same_behind p byte later around began us vs then state context known same = rw (context, known, same) refl
 
 -- the state after a rule, once its node is made and what becomes a candidate is one
 pub state_behind : (s : List ℕ) (old mid last : Linked) (p : Production) (byte : ℕ) (kept : Surroundings) (parts : List Part) (candidate packs : Option ℕ) (began : State)
     → ((i : ℕ) → i < length old.nodes.nodes → tree_at (trees_in s mid.nodes) i ≡ tree_at (trees_in s old.nodes) i)
-    → IsKeptThere (length old.nodes.nodes) kept → AreThere s (length old.nodes.nodes) parts → AreCandidatesThere (length old.nodes.nodes) old.candidates.items
-    → mid.candidates ≡ old.candidates → mid.packs ≡ old.packs
-    → ((cs : List values.Candidate) → behind p byte (around_of (trees_in s mid.nodes) kept) began (values_in s mid.nodes parts) (record { candidates = cs; packs = mid.packs })
-    ≡ with_candidate false (around_of (trees_in s mid.nodes) kept) (trees_in s mid.nodes) candidate (record { candidates = cs; packs = packs }))
-    → with_candidate false (around_of (trees_in s mid.nodes) kept) (trees_in s mid.nodes) candidate (record { candidates = candidates_of (trees_in s mid.nodes) mid.candidates.items; packs = packs })
-    ≡ record { candidates = candidates_of (trees_in s mid.nodes) last.candidates.items; packs = packs }
-    → last.nodes ≡ mid.nodes → last.packs ≡ packs
+    → IsKeptThere (length old.nodes.nodes) kept → AreThere s (length old.nodes.nodes) parts → AreCandidatesThere (length old.nodes.nodes) old.candidates
+    → mid.candidates ≡ old.candidates → mid.packs ≡ old.packs → mid.counting ≡ old.counting
+    → ((state : State) → behind p byte (around_of (trees_in s mid.nodes) kept) began (values_in s mid.nodes parts) (record state { packs = mid.packs })
+    ≡ with_candidate by_all (around_of (trees_in s mid.nodes) kept) (trees_in s mid.nodes) candidate (record state { packs = packs }))
+    → with_candidate by_all (around_of (trees_in s mid.nodes) kept) (trees_in s mid.nodes) candidate (record (state_of s mid) { packs = packs }) ≡ state_of s last
     → behind p byte (around_of (trees_in s old.nodes) kept) began (values_in s old.nodes parts) (state_of s old) ≡ state_of s last
-state_behind s old mid last p byte kept parts candidate packs began stays kept_there there candidates_there candidates before comes appended nodes after =
-    let cs : candidates_of (trees_in s mid.nodes) mid.candidates.items ≡ candidates_of (trees_in s old.nodes) old.candidates.items =
-    ap (λ v. candidates_of (trees_in s mid.nodes) v.items) candidates ∙ candidates_stay s old.nodes mid.nodes stays old.candidates.items candidates_there in
+state_behind s old mid last p byte kept parts candidate packs began stays kept_there there candidates_there candidates before counted comes appended =
+    let cs : candidates_of (trees_in s mid.nodes) mid.candidates.list.items ≡ candidates_of (trees_in s old.nodes) old.candidates.list.items =
+    ap (λ v. candidates_of (trees_in s mid.nodes) v.list.items) candidates ∙ candidates_stay s old.nodes mid.nodes stays old.candidates candidates_there in
     same_behind p byte (around_of (trees_in s mid.nodes) kept) (around_of (trees_in s old.nodes) kept) began (values_in s mid.nodes parts) (values_in s old.nodes parts)
-    (candidates_of (trees_in s mid.nodes) mid.candidates.items) _ mid.packs old.packs
-    (around_stays s old.nodes mid.nodes stays kept kept_there) (values_stay s old.nodes mid.nodes stays parts there) cs before
-    ∙ comes (candidates_of (trees_in s mid.nodes) mid.candidates.items) ∙ appended
-    ∙ rw (nodes, after) refl
+    (state_of s mid) (state_of s old)
+    (around_stays s old.nodes mid.nodes stays kept kept_there) (values_stay s old.nodes mid.nodes stays parts there) (same_state _ _ _ _ _ _ cs before (ap counting_of counted))
+    ∙ comes (state_of s mid) ∙ appended
 
 -- Generated by tools/trees.py. A production that is none of those that are common
 pub record IsNoneOfThem (p : Production) : Type 0 where

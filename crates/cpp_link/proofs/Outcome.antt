@@ -1,12 +1,25 @@
 -- The value of a substitution for a tree whose parameter isn't meant here.
-use Rattle.std.proofs.Common.{◌≡◌, refl, ap, ℕ, true, false, Some, None, Result, Err}
+use Rattle.std.proofs.Common.{◌≡◌, refl, sym, ◌∙◌, ap, subst, ℕ, List, true, false, Option, Some, None, Result, Ok, Err}
+use Rattle.std.specs.Prelude.{OnOk}
 use Rattle.sym_core.specs.declared.refusal.Refusal.{Refusal}
 use Rattle.sym_core.specs.declared.refusal.Refusal.TheVariants.{BadReference}
 use Rattle.sym_link.specs.Reading.{Found}
 use Rattle.cpp_term.specs.Values.{Around, State, Candidate, Value}
 use Rattle.cpp_term.specs.References.{substituted}
-use Rattle.cpp_term.specs.Rescoping.{is_foreign, restated, substituted_wide}
-use Rattle.cpp_link.specs.LinkRescoping.{substituted_nodes}
+use Rattle.cpp_term.specs.Rescoping.{is_foreign, restated, with_lists, numbered, substituted_wide}
+use Rattle.cpp_term.proofs.Notes.{both}
+use Rattle.cpp_references.specs.declared.candidates.Candidate.{Candidate as Noted}
+use Rattle.cpp_link.specs.declared.counting.Lists.{Lists}
+use Rattle.cpp_link.specs.declared.linked.Linked.{Linked}
+use Rattle.cpp_link.specs.declared.part.Part.{Part}
+use Rattle.cpp_link.specs.LinkRescoping.{lists_after, substituted_nodes}
+use Rattle.cpp_link.specs.Making.{state_of}
+use Rattle.cpp_link.specs.Naming.{IsNamed}
+use Rattle.cpp_link.specs.Parts.{trees_in, candidate_of}
+use Rattle.cpp_link.specs.Progress.{MakesPart}
+use Rattle.cpp_link.specs.Reads.{maybe_candidate}
+use Rattle.cpp_link.specs.View.{GoesOn}
+use Rattle.cpp_link.proofs.Held.{numbered_is}
 
 abbrev Named : Type 0
 Named = Result (Found Value State) Refusal
@@ -31,3 +44,38 @@ module _ (around : Around) (place : ℕ) (c : Candidate) (state : State) where
   pub no_nodes : is_foreign around c ≡ false → substituted_nodes around (Some c) ≡ 0
   unfolding substituted_nodes
   no_nodes is = ap (λ b. elim b as (λ _. ℕ) [ true ↦ 1 | false ↦ 0 ]) is
+
+-- ## By two lists
+
+module _ (s : List ℕ) (l : Linked) (around : Around) (place number : ℕ) (lists : Lists) where
+  abbrev pub relisted : Linked
+  relisted = record l { counting = record l.counting { lists = lists } }
+
+  pub named_by_some : (c : Noted) (o : Option Noted) → IsNamed s l place number o lists → o ≡ Some c → numbered around place number (state_of s l) ≡ substituted_wide around place (Some (candidate_of (trees_in s l.nodes) c)) (state_of s relisted)
+  unfolding maybe_candidate with_lists
+  named_by_some c o named is =
+      let some = subst (λ x. IsNamed s l place number x lists) is named in
+      numbered_is around place number (state_of s l) ∙ both (λ x y. substituted_wide around place x (with_lists y (state_of s l))) (sym some.is) (sym some.lists)
+
+  pub named_by_none : (o : Option Noted) → IsNamed s l place number o lists → o ≡ None → numbered around place number (state_of s l) ≡ Err (BadReference place)
+  unfolding maybe_candidate
+  named_by_none o named is =
+      let none = subst (λ x. IsNamed s l place number x lists) is named in
+      numbered_is around place number (state_of s l) ∙ ap (λ x. substituted_wide around place x (with_lists (lists_after place number (state_of s l)) (state_of s l))) (sym none.is) ∙ named_nothing around place (with_lists (lists_after place number (state_of s l)) (state_of s l))
+
+  -- what was made after the lists were told apart
+  pub made_relisted : (new : Linked) (most count : ℕ) (result : Result Part Refusal) → MakesPart s relisted new most count result → MakesPart s l new most count result
+  made_relisted new most count result made = record {
+    there = made.there;
+    grows = go result made.grows;
+    few = made.few;
+    makes = made.makes;
+    paid = made.paid;
+    whole = made.whole;
+    keeps = record { nodes = made.keeps.nodes; thunks = made.keeps.thunks; candidates = made.keeps.candidates };
+    full = made.full;
+  }
+    where
+      go : (r : Result Part Refusal) → OnOk r (GoesOn s relisted new) → OnOk r (GoesOn s l new)
+      go (Ok x) g = record { least = g.least; stays = g.stays }
+      go (Err e) g = tt

@@ -21,7 +21,7 @@ module _ (s : List ℕ) (l : Linked) (place : ℕ) (kept : Surroundings) (v : va
   -- all that is ensured of a step after the first part
   abbrev IsBehindFirst : Production → Step → Type 0
   IsBehindFirst p step = record {
-    is : (cs : List values.Candidate) → between p (around_of (trees_in s l.nodes) kept) place (v ∷ []) (record { candidates = cs; packs = l.packs }) ≡ goes_on s l.nodes kept (v ∷ []) cs l.packs step;
+    is : (state : values.State) → between p (around_of (trees_in s l.nodes) kept) place (v ∷ []) (record state { packs = l.packs }) ≡ goes_on s l.nodes kept (v ∷ []) state l.packs step;
     there : IsStepThere s (length l.nodes.thunks) (length l.nodes.nodes) step;
     of : IsStepOf p 1 step;
     makes : nodes_of_step step ≡ makes_before p (v ∷ []);
@@ -42,7 +42,7 @@ module _ (s : List ℕ) (l : Linked) (place : ℕ) (kept : Surroundings) (v : va
       tree ∙ ap (λ x. extended (prefix_of ts x) (piece_of s ts made)) before ∙ ap (λ x. extended (prefix_of ts (name_of kept)) x) same in
       let behind : IsBehindFirst q (Step.Made node false true false l.packs) =
       record {
-        is = λ cs. let state : values.State = record { candidates = cs; packs = l.packs } in begins around state ∙ ap (λ t. named_so_far around t [] state) (sym extends);
+        is = λ state. begins around (record state { packs = l.packs }) ∙ ap (λ t. named_so_far around t [] (record state { packs = l.packs })) (sym extends);
         there = there;
         of = (lit< tt, owed);
         makes = makes;

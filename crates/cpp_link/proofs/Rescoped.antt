@@ -37,6 +37,8 @@ use Rattle.cpp_references.specs.declared.around.Surroundings.{Surroundings}
 use Rattle.cpp_link.specs.declared.part.Step.{Step}
 use Rattle.cpp_link.specs.LinkReading.{link_close, link_meaning}
 use Rattle.cpp_link.specs.LinkRescoping.{link_close_wide, linked_wide, wide_ends, is_parameter, is_parameter_argument, steps_apart, with_mark, going_marked, generic_read, wide_at_end, wide_view, wide_makes, wide_counted}
+use Rattle.cpp_link.specs.Counting.{counting_of}
+use Rattle.cpp_link.specs.Making.{state_of}
 use Rattle.cpp_link.specs.NodeCount.{makes_before, makes_at_end}
 use Rattle.cpp_link.specs.Parts.{trees_in, value_of, values_of, values_in, is_lambda, around_of, candidates_of, AreCandidatesThere}
 use Rattle.cpp_link.specs.Reads.{goes_on}
@@ -45,7 +47,7 @@ use Rattle.cpp_link.specs.View.{Surrounds, cpp_view}
 use Rattle.cpp_link.proofs.Bytes.{byte_serves}
 use Rattle.cpp_link.proofs.NodeCount.{before_read}
 use Rattle.cpp_link.proofs.Places.{values_length}
-use Rattle.cpp_link.proofs.Viewing.{parts_are}
+use Rattle.cpp_link.proofs.Viewing.{parts_are, same_state, held_state}
 use Rattle.cpp_link.proofs.Within.{at_plain, goes_within, closes_within}
 
 -- ## Before a part
@@ -70,7 +72,7 @@ apart_between Production.ParameterExpression around place (v ∷ []) state apart
     own : Going
     own = next (tree (term.parameter (generic_number (index_of v)) auto) true ∷ []) around state
 
-    go : (b : Bool) → (b && true) ≡ false → elim b [ true ↦ own | false ↦ argument_so_far around place (index_of v) state ] ≡ argument_so_far around place (index_of v) state
+    go : (b : Bool) → (b && true) ≡ false → elim b [ true ↦ own | false ↦ argument_so_far around (place - 1) (index_of v) state ] ≡ argument_so_far around (place - 1) (index_of v) state
     go true e = absurd (true≢false e)
     go false e = refl
 apart_between Production.Holder around place (v ∷ []) state apart = absurd (true≢false apart)
@@ -153,48 +155,47 @@ goes_counted s old new frame parts new_parts result begun made goes =
     (between_tallied (wide_view s) wide_makes s (Surrounds s) old.linked new frame parts new_parts result
     (λ rule known state is. before_read s old.linked new frame parts result begun made rule known state (at_plain s old.linked frame (drop frame.base parts) rule known state is)) goes)
 
-pub apart_end : (p : Production) (around : Around) (known : List Value) (state : State) → (p ≡ Production.Substitution → ⊥) → makes_at_end p known ≡ wide_at_end p around known state
+pub apart_end : (p : Production) (around : Around) (place : ℕ) (known : List Value) (state : State) → (p ≡ Production.Substitution → ⊥) → makes_at_end p known ≡ wide_at_end p around place known state
 unfolding wide_at_end
-apart_end Production.Substitution around known state apart = absurd (apart refl)
-apart_end _ around known state apart = refl
+apart_end Production.Substitution around place known state apart = absurd (apart refl)
+apart_end _ around place known state apart = refl
 
 -- what closes a rule by the wide reading, and makes n nodes, closes it where they are counted
 pub closes_counted : (s : List ℕ) (old : Rescoping) (new : Linked) (frame : Frame Surroundings) (parts new_parts : List Part) (result : Result (Unit {0}) Refusal) → 4 ≤ length old.linked.nodes.nodes
-    → OnOk result (length new.nodes.nodes ≡ length old.linked.nodes.nodes + wide_ends s old.linked frame.kept (production_at frame.rule) (values_in s old.linked.nodes (drop frame.base parts)))
+    → OnOk result (length new.nodes.nodes ≡ length old.linked.nodes.nodes + wide_ends s old.linked frame.place frame.kept (production_at frame.rule) (values_in s old.linked.nodes (drop frame.base parts)))
     → ClosesAll (wide_view s) s old.linked new frame parts new_parts result → ClosesAll (wide_counted s) s old (record { linked = new }) frame parts new_parts result
 closes_counted s old new frame parts new_parts result begun made closes =
     closes_within (tallied_view (wide_view s) wide_makes) s old (record { linked = new }) frame parts new_parts result
     (finish_tallied (wide_view s) wide_makes s old.linked new frame parts new_parts result (ended result made) closes)
   where
-    same : (m n : ℕ) (code around : Around) (us vs : List Value) (cs : List values.Candidate) (packs : Option ℕ) (state : State)
-        → m ≡ n → code ≡ around → us ≡ vs → cs ≡ state.candidates → packs ≡ state.packs
-        → wide_at_end (production_at n) around vs state ≡ wide_at_end (production_at m) code us (record { candidates = cs; packs = packs })
-    same m n code around us vs cs packs state number context known candidates packed = rw (number, context, known, candidates, packed) refl
+    same : (m n i k : ℕ) (code around : Around) (us vs : List Value) (held state : State) → m ≡ n → i ≡ k → code ≡ around → us ≡ vs → held ≡ state
+        → wide_at_end (production_at n) around k vs state ≡ wide_at_end (production_at m) code i us held
+    same m n i k code around us vs held state number place context known same_state = rw (number, place, context, known, same_state) refl
 
     ended : (r : Result (Unit {0}) Refusal)
-        → OnOk r (length new.nodes.nodes ≡ length old.linked.nodes.nodes + wide_ends s old.linked frame.kept (production_at frame.rule) (values_in s old.linked.nodes (drop frame.base parts)))
+        → OnOk r (length new.nodes.nodes ≡ length old.linked.nodes.nodes + wide_ends s old.linked frame.place frame.kept (production_at frame.rule) (values_in s old.linked.nodes (drop frame.base parts)))
         → (rule : Open State Around) (known : List Value) (state : State) → IsAt (wide_view s) s old.linked frame (drop frame.base parts) rule known state
-        → OnOk r (length new.nodes.nodes - 4 ≡ length old.linked.nodes.nodes - 4 + wide_at_end (production_at rule.rule.number) rule.context known state)
+        → OnOk r (length new.nodes.nodes - 4 ≡ length old.linked.nodes.nodes - 4 + wide_at_end (production_at rule.rule.number) rule.context rule.place known state)
     ended (Err e) more rule known state is = tt
     ended (Ok done) more rule known state is =
         omega (
           arith,
           begun,
           more,
-          same frame.rule rule.rule.number (around_of (trees_in s old.linked.nodes) frame.kept) rule.context (values_in s old.linked.nodes (drop frame.base parts)) known _ old.linked.packs state
-              is.number is.kept.surrounds.is (parts_are s old.linked (drop frame.base parts) known is.parts).1 is.holds.candidates is.holds.packs,
+          same frame.rule rule.rule.number frame.place rule.place (around_of (trees_in s old.linked.nodes) frame.kept) rule.context (values_in s old.linked.nodes (drop frame.base parts)) known (state_of s old.linked) state
+              is.number is.place is.kept.surrounds.is (parts_are s old.linked (drop frame.base parts) known is.parts).1 (held_state s old.linked state is.holds),
         )
 
 -- ## An alias
 
 -- the state in which its node was added
 pub kept_state : (s : List ℕ) (old new : Linked) (packs : Option ℕ) → ((i : ℕ) → i < length old.nodes.nodes → tree_at (trees_in s new.nodes) i ≡ tree_at (trees_in s old.nodes) i)
-    → AreCandidatesThere (length old.nodes.nodes) old.candidates.items → new.candidates ≡ old.candidates
-    → ◌≡◌ {A = State} (record { candidates = candidates_of (trees_in s old.nodes) old.candidates.items; packs = packs }) (record { candidates = candidates_of (trees_in s new.nodes) new.candidates.items; packs = packs })
-kept_state s old new packs stays there same =
-    let kept : candidates_of (trees_in s new.nodes) new.candidates.items ≡ candidates_of (trees_in s old.nodes) old.candidates.items =
-    ap (λ v. candidates_of (trees_in s new.nodes) v.items) same ∙ candidates_stay s old.nodes new.nodes stays old.candidates.items there in
-    rw kept refl
+    → AreCandidatesThere (length old.nodes.nodes) old.candidates → new.candidates ≡ old.candidates → new.counting ≡ old.counting
+    → ◌≡◌ {A = State} (record (state_of s old) { packs = packs }) (record (state_of s new) { packs = packs })
+kept_state s old new packs stays there same counted =
+    let kept : candidates_of (trees_in s new.nodes) new.candidates.list.items ≡ candidates_of (trees_in s old.nodes) old.candidates.list.items =
+    ap (λ v. candidates_of (trees_in s new.nodes) v.list.items) same ∙ candidates_stay s old.nodes new.nodes stays old.candidates there in
+    same_state _ _ _ _ _ _ (sym kept) refl (ap counting_of (sym counted))
 
 -- ## A parameter of a lambda
 
@@ -208,19 +209,19 @@ generic_between Production.NestParameter around place v state is lambda =
 generic_between Production.ParameterArgument around place v state is lambda =
     ap (λ b. elim b as (λ _. Going) [ true ↦ generic_so_far around (index_of v) [] state | false ↦ parameter_so_far around (place - 1) (index_of v) [] state ]) lambda
 generic_between Production.ParameterExpression around place v state is lambda =
-    ap (λ b. elim b as (λ _. Going) [ true ↦ next (tree (term.parameter (generic_number (index_of v)) auto) true ∷ []) around state | false ↦ argument_so_far around place (index_of v) state ]) lambda
+    ap (λ b. elim b as (λ _. Going) [ true ↦ next (tree (term.parameter (generic_number (index_of v)) auto) true ∷ []) around state | false ↦ argument_so_far around (place - 1) (index_of v) state ]) lambda
 generic_between _ around place v state is lambda = absurd (false≢true is)
 
-pub generic_is : (s : List ℕ) (y : Stored) (kept : Surroundings) (p : Production) (place : ℕ) (own : List Part) (digits : List ℕ) (cs : List values.Candidate) (packs : Option ℕ) (step : Step)
+pub generic_is : (s : List ℕ) (y : Stored) (kept : Surroundings) (p : Production) (place : ℕ) (own : List Part) (digits : List ℕ) (state : values.State) (packs : Option ℕ) (step : Step)
     → is_parameter p ≡ true → is_lambda kept.scope ≡ true → length own ≡ 1 → digits ≡ text_of (part (values_in s y own) 0)
-    → ((v : Value) → generic_read (is_parameter_argument p) (around_of (trees_in s y) kept) (counted_value Decimal digits) (record { candidates = cs; packs = packs }) ≡ goes_on s y kept (v ∷ []) cs packs step)
-    → between_wide p (around_of (trees_in s y) kept) place (values_in s y own) (record { candidates = cs; packs = packs }) ≡ goes_on s y kept (values_in s y own) cs packs step
+    → ((v : Value) → generic_read (is_parameter_argument p) (around_of (trees_in s y) kept) (counted_value Decimal digits) (record state { packs = packs }) ≡ goes_on s y kept (v ∷ []) state packs step)
+    → between_wide p (around_of (trees_in s y) kept) place (values_in s y own) (record state { packs = packs }) ≡ goes_on s y kept (values_in s y own) state packs step
 unfolding around_of values_of part index_of
-generic_is s y kept p place [] digits cs packs step is lambda one own_is goes = absurd (omega (arith, one))
-generic_is s y kept p place (x ∷ z ∷ own) digits cs packs step is lambda one own_is goes = absurd (omega (arith, one))
-generic_is s y kept p place (x ∷ []) digits cs packs step is lambda one own_is goes =
-    generic_between p (around_of (trees_in s y) kept) place (value_of s (trees_in s y) x) (record { candidates = cs; packs = packs }) is lambda
-    ∙ ap (λ ds. generic_read (is_parameter_argument p) (around_of (trees_in s y) kept) (counted_value Decimal ds) (record { candidates = cs; packs = packs })) (sym own_is)
+generic_is s y kept p place [] digits state packs step is lambda one own_is goes = absurd (omega (arith, one))
+generic_is s y kept p place (x ∷ z ∷ own) digits state packs step is lambda one own_is goes = absurd (omega (arith, one))
+generic_is s y kept p place (x ∷ []) digits state packs step is lambda one own_is goes =
+    generic_between p (around_of (trees_in s y) kept) place (value_of s (trees_in s y) x) (record state { packs = packs }) is lambda
+    ∙ ap (λ ds. generic_read (is_parameter_argument p) (around_of (trees_in s y) kept) (counted_value Decimal ds) (record state { packs = packs })) (sym own_is)
     ∙ goes (value_of s (trees_in s y) x)
 
 pub no_pack : (p : Production) (l : Bool) (before : ℕ) → steps_apart p l before ≡ true → p ≡ Production.PackArgument → ⊥

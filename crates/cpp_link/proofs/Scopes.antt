@@ -103,7 +103,7 @@ unfolding between_wide inside
 wide_goes_closed Production.Parameter around place (v ∷ []) state closed = here_closed around place (index_of v) state closed
 wide_goes_closed Production.NestParameter around place (v ∷ []) state closed = here_closed around place (index_of v) state closed
 wide_goes_closed Production.ParameterArgument around place (v ∷ []) state closed = here_closed around (place - 1) (index_of v) state closed
-wide_goes_closed Production.ParameterExpression around place (v ∷ []) state closed = argument_here_closed around place (index_of v) state closed
+wide_goes_closed Production.ParameterExpression around place (v ∷ []) state closed = argument_here_closed around (place - 1) (index_of v) state closed
 wide_goes_closed Production.HeldArguments around place [] state closed = closed
 wide_goes_closed Production.Holder around place (v ∷ []) state closed = holder_closed around place state closed
 wide_goes_closed p around place vs state closed = goes_closed p around place vs state closed

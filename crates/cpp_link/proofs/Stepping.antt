@@ -13,7 +13,8 @@ use Rattle.cpp_link.specs.declared.linked.Linked.{Linked}
 use Rattle.cpp_link.specs.declared.part.Part.{Part}
 use Rattle.cpp_references.specs.declared.around.Surroundings.{Surroundings}
 use Rattle.cpp_link.specs.declared.part.Step.{Step}
-use Rattle.cpp_references.specs.declared.candidates.Candidate.{Candidate}
+use Rattle.cpp_link.specs.declared.candidates.Candidates.{Candidates}
+use Rattle.cpp_grammar.specs.Values.{by_all}
 use Rattle.cpp_link.specs.Grows.{Grows}
 use Rattle.cpp_link.specs.Making.{state_of}
 use Rattle.cpp_link.specs.Owed.{made_before, owes_of}
@@ -86,9 +87,9 @@ grown s y z table same = rw same (record { table = table; stays = λ i less. ref
 
 -- nothing is made: a tree may become a candidate
 pub takes_go : (s : List ℕ) (old new : Linked) (kept : Surroundings) (base : ℕ) (parts : List Part) (candidate : Option ℕ) (then : Surroundings) (packs : Option ℕ)
-    → IsTable (over s old.nodes) → new.nodes ≡ old.nodes → AreCandidatesThere (length old.nodes.nodes) new.candidates.items
+    → IsTable (over s old.nodes) → new.nodes ≡ old.nodes → AreCandidatesThere (length old.nodes.nodes) new.candidates
     → IsKeptThere (length old.nodes.nodes) then → AreThere s (length old.nodes.nodes) (drop base parts)
-    → with_candidate false (around_of (trees_in s old.nodes) kept) (trees_in s old.nodes) candidate (record { candidates = candidates_of (trees_in s old.nodes) old.candidates.items; packs = packs }) ≡ state_of s new
+    → with_candidate by_all (around_of (trees_in s old.nodes) kept) (trees_in s old.nodes) candidate (record (state_of s old) { packs = packs }) ≡ state_of s new
     → Takes s old new kept base parts parts (Step.Go candidate then packs) then
 unfolding goes_on
 takes_go s old new kept base parts candidate then packs table same candidates around there is = record {
@@ -104,7 +105,7 @@ takes_go s old new kept base parts candidate then packs table same candidates ar
 
 -- the first part is an existing tree, and precedes the next one
 pub takes_named : (s : List ℕ) (l : Linked) (kept then : Surroundings) (base : ℕ) (parts new_parts : List Part) (node : ℕ) (listed is_name : Bool)
-    → IsTable (over s l.nodes) → AreCandidatesThere (length l.nodes.nodes) l.candidates.items
+    → IsTable (over s l.nodes) → AreCandidatesThere (length l.nodes.nodes) l.candidates
     → AreThere s (length l.nodes.nodes) (drop base parts) → node < length l.nodes.nodes
     → around_of (trees_in s l.nodes) then ≡ named_if is_name (around_of (trees_in s l.nodes) kept) (tree_at (trees_in s l.nodes) node) listed → IsKeptThere (length l.nodes.nodes) then
     → drop base new_parts ≡ Part.Tree node listed ∷ drop (base + 1) parts → take base new_parts ≡ take base parts → length new_parts ≡ length parts
@@ -123,13 +124,13 @@ takes_named s l kept then base parts new_parts node listed is_name table candida
 
 -- the first part is the tree of a node that has been made
 pub takes_made : (s : List ℕ) (old new : Linked) (kept then : Surroundings) (base : ℕ) (parts new_parts : List Part) (node : Node) (number : ℕ) (listed is_name is_candidate : Bool) (packs : Option ℕ)
-    → Grows s old.nodes new.nodes 1 → new.nodes.thunks ≡ old.nodes.thunks → AreCandidatesThere (length new.nodes.nodes) new.candidates.items
+    → Grows s old.nodes new.nodes 1 → new.nodes.thunks ≡ old.nodes.thunks → AreCandidatesThere (length new.nodes.nodes) new.candidates
     → IsKeptThere (length old.nodes.nodes) kept → AreThere s (length old.nodes.nodes) (drop base parts)
     → tree_at (trees_in s new.nodes) number ≡ tree_of_node s old.nodes node → number < length new.nodes.nodes
     → around_of (trees_in s new.nodes) then ≡ named_if is_name (around_of (trees_in s new.nodes) kept) (tree_at (trees_in s new.nodes) number) listed → IsKeptThere (length new.nodes.nodes) then
     → drop base new_parts ≡ Part.Tree number listed ∷ drop (base + 1) parts → take base new_parts ≡ take base parts → length new_parts ≡ length parts
     → appended_if is_candidate (around_of (trees_in s old.nodes) kept) (tree_of_node s old.nodes node)
-    (record { candidates = candidates_of (trees_in s old.nodes) old.candidates.items; packs = packs }) ≡ state_of s new
+    (record (state_of s old) { packs = packs }) ≡ state_of s new
     → Takes s old new kept base parts new_parts (Step.Made node listed is_name is_candidate packs) then
 unfolding goes_on
 takes_made s old new kept then base parts new_parts node number listed is_name is_candidate packs grows thunks candidates kept_there there tree less around around_there own lower count state = record {
@@ -154,25 +155,25 @@ taken_as s old new kept base parts new_parts step taken then left same is takes 
 
 -- ## A node that may become a candidate
 
-choice : (a : Around) (ts : List Term) (number : ℕ) (state : State) (b : Bool) → appended_if b a (tree_at ts number) state ≡ with_candidate false a ts (elim b [ true ↦ Some number | false ↦ None ]) state
+choice : (a : Around) (ts : List Term) (number : ℕ) (state : State) (b : Bool) → appended_if b a (tree_at ts number) state ≡ with_candidate by_all a ts (elim b [ true ↦ Some number | false ↦ None ]) state
 unfolding appended_if with_candidate
 choice a ts number state false = refl
 choice a ts number state true = refl
 
-pub noted_is : (s : List ℕ) (y z : Stored) (kept : Surroundings) (cs : List Candidate) (number : ℕ) (t : Term) (is_candidate : Bool) (candidate : Option ℕ) (packs : Option ℕ) (state : State)
+pub noted_is : (s : List ℕ) (y z : Stored) (kept : Surroundings) (cs : Candidates) (number : ℕ) (t : Term) (is_candidate : Bool) (candidate : Option ℕ) (before state : State)
     → ((i : ℕ) → i < length y.nodes → tree_at (trees_in s z) i ≡ tree_at (trees_in s y) i)
     → IsKeptThere (length y.nodes) kept → AreCandidatesThere (length y.nodes) cs → tree_at (trees_in s z) number ≡ t
     → candidate ≡ elim is_candidate [ true ↦ Some number | false ↦ None ]
-    → with_candidate false (around_of (trees_in s z) kept) (trees_in s z) candidate (record { candidates = candidates_of (trees_in s z) cs; packs = packs }) ≡ state
-    → appended_if is_candidate (around_of (trees_in s y) kept) t (record { candidates = candidates_of (trees_in s y) cs; packs = packs }) ≡ state
-noted_is s y z kept cs number t is_candidate candidate packs state stays there listed tree chosen is =
-    same is_candidate _ _ _ _ _ _ packs (sym (around_stays s y z stays kept there)) (sym tree) (sym (candidates_stay s y z stays cs listed))
-    ∙ choice (around_of (trees_in s z) kept) (trees_in s z) number (record { candidates = candidates_of (trees_in s z) cs; packs = packs }) is_candidate
-    ∙ ap (λ o. with_candidate false (around_of (trees_in s z) kept) (trees_in s z) o (record { candidates = candidates_of (trees_in s z) cs; packs = packs })) (sym chosen) ∙ is
+    → with_candidate by_all (around_of (trees_in s z) kept) (trees_in s z) candidate (record before { candidates = candidates_of (trees_in s z) cs.list.items }) ≡ state
+    → appended_if is_candidate (around_of (trees_in s y) kept) t (record before { candidates = candidates_of (trees_in s y) cs.list.items }) ≡ state
+noted_is s y z kept cs number t is_candidate candidate before state stays there listed tree chosen is =
+    same is_candidate _ _ _ _ _ _ (sym (around_stays s y z stays kept there)) (sym tree) (sym (candidates_stay s y z stays cs listed))
+    ∙ choice (around_of (trees_in s z) kept) (trees_in s z) number (record before { candidates = candidates_of (trees_in s z) cs.list.items }) is_candidate
+    ∙ ap (λ o. with_candidate by_all (around_of (trees_in s z) kept) (trees_in s z) o (record before { candidates = candidates_of (trees_in s z) cs.list.items })) (sym chosen) ∙ is
   where
-    same : (b : Bool) (a c : Around) (t u : Term) (cs ds : List values.Candidate) (packs : Option ℕ) → a ≡ c → t ≡ u → cs ≡ ds
-        → appended_if b a t (record { candidates = cs; packs = packs }) ≡ appended_if b c u (record { candidates = ds; packs = packs })
-    same b a c t u cs ds packs around tree candidates = rw (around, tree, candidates) refl
+    same : (b : Bool) (a c : Around) (t u : Term) (cs ds : List values.Candidate) → a ≡ c → t ≡ u → cs ≡ ds
+        → appended_if b a t (record before { candidates = cs }) ≡ appended_if b c u (record before { candidates = ds })
+    same b a c t u cs ds around tree candidates = rw (around, tree, candidates) refl
 
 -- ## How many nodes are made
 

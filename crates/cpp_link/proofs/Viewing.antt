@@ -1,15 +1,17 @@
 -- Parts that denote values exist, and denote the values that they have.
-use Rattle.std.proofs.Common.{◌≡◌, refl, sym, ◌∙◌, ap, subst, ℕ, ◌-◌, List, [], ◌∷◌, length, take, drop}
+use Rattle.std.proofs.Common.{◌≡◌, refl, sym, ◌∙◌, ap, subst, ℕ, ◌-◌, List, [], ◌∷◌, length, take, drop, Option}
 use Rattle.sym_link.proofs.Lists.{rest_all}
 use Rattle.sym_link.specs.declared.language.Frame.{Frame}
 use Rattle.sym_link.specs.Driving.{AreAll}
 use Rattle.sym_link.specs.Threads.{IsOpenAt}
-use Rattle.cpp_term.specs.Values.{Value, Around}
+use Rattle.cpp_grammar.specs.Values.{Counting}
+use Rattle.cpp_term.specs.Values.{Candidate, State, Value, Around}
 use Rattle.cpp_references.specs.declared.around.Surroundings.{Surroundings}
 use Rattle.cpp_link.specs.declared.part.Part.{Part}
 use Rattle.cpp_link.specs.declared.linked.Linked.{Linked}
 use Rattle.cpp_link.specs.Parts.{trees_in, values_of, values_in, around_of, IsClosed, AreThere, IsKeptThere}
-use Rattle.cpp_link.specs.View.{IsPart, IsWhole, Surrounds, cpp_view}
+use Rattle.cpp_link.specs.Making.{state_of}
+use Rattle.cpp_link.specs.View.{IsPart, IsWhole, Holds, Surrounds, cpp_view}
 
 pub parts_are : (s : List ℕ) (l : Linked) (own : List Part) (known : List Value) → AreAll (IsPart s l) own known
     → AreThere s (length l.nodes.nodes) own × (values_in s l.nodes own ≡ known)
@@ -18,6 +20,14 @@ parts_are s l [] [] are = (tt, refl)
 parts_are s l (p ∷ ps) (v ∷ vs) are = let rest = parts_are s l ps vs are.1 in ((are.0.there, rest.0), rw (are.0.is, rest.1) refl)
 parts_are s l [] (v ∷ vs) are = absurd are
 parts_are s l (p ∷ ps) [] are = absurd are
+
+-- the state is that in which the nodes are
+pub same_state : (cs ds : List Candidate) (p q : Option ℕ) (a b : Counting) → cs ≡ ds → p ≡ q → a ≡ b
+    → ◌≡◌ {A = State} (record { candidates = cs; packs = p; counting = a }) (record { candidates = ds; packs = q; counting = b })
+same_state cs ds p q a b candidates packs counting = rw (candidates, packs, counting) refl
+
+pub held_state : (s : List ℕ) (l : Linked) (state : State) → Holds s l state → state_of s l ≡ state
+held_state s l state holds = same_state _ state.candidates _ state.packs _ state.counting holds.candidates holds.packs holds.counting
 
 -- the parts of an open rule exist
 pub open_there : (s : List ℕ) (l : Linked) (frame : Frame Surroundings) (parts own : List Part) → IsOpenAt (cpp_view s) s l frame parts → own ≡ drop frame.base parts

@@ -1,21 +1,22 @@
 -- C++'s reading of the wide grammar as the linker follows it, and how many nodes it makes of a symbol.
-use Rattle.std.specs.Prelude.{◌≡◌, ℕ, ◌+◌, List, [], ◌∷◌, Option, Some, None, Bool, true, false, ◌&&◌, nat_eq, Result, Ok, Err}
+use Rattle.std.specs.Prelude.{◌≡◌, ℕ, ◌+◌, ◌-◌, List, [], ◌∷◌, Option, Some, None, Bool, true, false, ◌&&◌, nat_eq, Result, Ok, Err}
 use Rattle.sym_core.specs.declared.refusal.Refusal.{Refusal}
 use Rattle.sym_core.specs.declared.NumberKind.TheVariants.{Seq36}
 use Rattle.sym_core.specs.Value.{counted_value}
-use Rattle.sym_shape.specs.Tree.{Tree}
-use Rattle.sym_link.specs.Reading.{Found, Reading}
+use Rattle.sym_shape.specs.Tree.{Tree, Forest}
+use Rattle.sym_link.specs.Reading.{Found, Open, Reading}
 use Rattle.sym_link.specs.Unfold.{found, unfold_tree}
 use Rattle.sym_link.specs.Linking.{View}
 use Rattle.sym_link.specs.Tally.{Tally, tally, Makes, tallied, tallied_view}
 use Rattle.cpp_grammar.specs.declared.production.Production.{Production}
+use Rattle.cpp_grammar.specs.Values.{Counted, by_newer, by_some, Lists, longer_list, shorter_list, prefix_at, qualified_at}
 use Rattle.cpp_grammar.specs.Rescoping.{generic_number}
 use Rattle.cpp_grammar.specs.Unfolding.{production_at, byte_of}
-use Rattle.cpp_term.specs.Term.{Term, parameter}
+use Rattle.cpp_term.specs.Term.{parameter}
 use Rattle.cpp_term.specs.Items.{auto}
 use Rattle.cpp_term.specs.Values.{Candidate, State, Around, Value, tree, tree_of, prefix_tree, prefix_listed, text_of, part}
 use Rattle.cpp_term.specs.Unfolding.{first_around, first_state}
-use Rattle.cpp_term.specs.Rescoping.{generic_so_far, with_holder, is_foreign, as_generic_lambda, counted_base, named_alike, close_wide, cpp_wide}
+use Rattle.cpp_term.specs.Rescoping.{generic_so_far, with_holder, counted_unless, is_foreign, as_generic_lambda, counted_base, place_in, named_in, left_at, with_lists, expecting, close_wide, cpp_wide}
 use Rattle.cpp_term.specs.Between.{Going, next}
 use Rattle.cpp_link.specs.declared.linked.Linked.{Linked}
 use Rattle.cpp_link.specs.declared.rescoping.Rescoping.{Rescoping}
@@ -36,11 +37,17 @@ link_close_wide s Production.Lambda byte around place began vs state = Ok (found
 link_close_wide s Production.Inheriting byte around place began vs state = Ok (found (link_meaning s Production.Inheriting byte place around vs) (counted_base around (part vs 1) state))
 link_close_wide s production byte around place began vs state = link_close s production byte around place began vs state
 
+-- At an S of a nested name and at a type under qualifiers it's noted what may be named.
+unfoldable pub link_opening : Production → Open State Around → Forest → Result State Refusal
+link_opening Production.NestTemplate rule parts = Ok (expecting (prefix_at (rule.place - 1)) rule.before)
+link_opening Production.QualifiedPlain rule parts = Ok (expecting (qualified_at rule.place) rule.before)
+link_opening production rule parts = link_begin rule parts
+
 abbrev pub linked_wide : List ℕ → Reading Value State Around
 linked_wide s = record {
   rowless = cpp_wide.rowless;
   token = cpp_wide.token;
-  begin = link_begin;
+  begin = λ rule parts. link_opening (production_at rule.rule.number) rule parts;
   between = cpp_wide.between;
   close = λ rule known state.
       link_close_wide s (production_at rule.rule.number) (byte_of rule.taken) rule.context rule.place rule.before known state;
@@ -72,22 +79,23 @@ steps_apart Production.Holder in_lambda before = nat_eq before 1
 steps_apart Production.HeldArguments in_lambda before = nat_eq before 0
 steps_apart _ in_lambda before = false
 
-unfoldable pub marked_unless : (listed : Bool) → Around → Term → State → State
-marked_unless listed around t state = elim listed [ true ↦ state | false ↦ with_holder around t (with_holder around t state) ]
+-- by which compilers the tree is counted that becomes a candidate then
+unfoldable pub counted_before : Production → Counted
+counted_before Production.Holder = by_newer
+counted_before _ = by_some
 
--- whether two marks are put among the candidates
-unfoldable pub marks_twice : Production → Bool
-marks_twice Production.HeldArguments = true
-marks_twice _ = false
+-- whether it becomes one before that, which all count: the name before an M, unless it's one by now
+unfoldable pub counts_again : Production → (listed : Bool) → Bool
+counts_again Production.Holder listed = listed
+counts_again _ listed = false
 
--- What is marked among the candidates then, once the parts denote these values: a name with its M, a base class, or a concept's
--- name.
+-- What becomes a candidate then, once the parts denote these values: a name with its M, a base class, or a concept's name.
 unfoldable pub with_mark : Production → Around → List Value → State → State
 with_mark Production.Holder around vs state = with_holder around (tree_of (part vs 0)) state
-with_mark Production.HeldArguments around vs state = marked_unless (prefix_listed around.prefix) around (prefix_tree around.prefix) state
+with_mark Production.HeldArguments around vs state = counted_unless (prefix_listed around.prefix) by_some around (prefix_tree around.prefix) state
 with_mark _ around vs state = state
 
--- what is done, and the mark
+-- what is done, and what becomes a candidate then
 unfoldable pub going_marked : Production → Around → Going → Going
 going_marked production around (Ok next) = Ok (record next { state = with_mark production around next.values next.state })
 going_marked production around (Err e) = Err e
@@ -101,9 +109,32 @@ generic_read false around k state = generic_so_far around k [] state
 abbrev pub number_in : List Value → ℕ
 number_in known = counted_value Seq36 (text_of (part known 0))
 
--- the candidate that a substitution with these parts names
-abbrev pub named_by : State → List Value → Option Candidate
-named_by state known = named_alike state.candidates (number_in known)
+-- the lists that are left after an S at this place with this number
+unfoldable pub lists_after : (place number : ℕ) → State → Lists
+lists_after place number state = elim (nat_eq (place_in false state.candidates number) (place_in true state.candidates number)) [
+  | true ↦ state.counting.lists
+  | false ↦ left_at place number state
+]
+
+-- the candidate of a number in the list that is left
+unfoldable pub named_left : Lists → List Candidate → (number : ℕ) → Option Candidate
+named_left longer_list cs number = named_in false cs number
+named_left shorter_list cs number = named_in true cs number
+named_left _ cs number = None
+
+-- the candidate that such an S names
+unfoldable pub named_after : (place number : ℕ) → State → Option Candidate
+named_after place number state = elim (nat_eq (place_in false state.candidates number) (place_in true state.candidates number)) [
+  | true ↦ named_in false state.candidates number
+  | false ↦ named_left (left_at place number state) state.candidates number
+]
+
+-- the candidate that a substitution at this place with these parts names, and the state after it
+abbrev pub named_by : (place : ℕ) → State → List Value → Option Candidate
+named_by place state known = named_after (place - 1) (number_in known) state
+
+abbrev pub left_by : (place : ℕ) → State → List Value → State
+left_by place state known = with_lists (lists_after (place - 1) (number_in known) state) state
 
 -- ## What a symbol makes
 
@@ -112,18 +143,18 @@ unfoldable pub substituted_nodes : Around → Option Candidate → ℕ
 substituted_nodes around None = 0
 substituted_nodes around (Some c) = elim (is_foreign around c) [ true ↦ 1 | false ↦ 0 ]
 
-unfoldable pub wide_at_end : Production → Around → List Value → State → ℕ
-wide_at_end Production.Substitution around known state = substituted_nodes around (named_by state known)
-wide_at_end p around known state = makes_at_end p known
+unfoldable pub wide_at_end : Production → Around → (place : ℕ) → List Value → State → ℕ
+wide_at_end Production.Substitution around place known state = substituted_nodes around (named_by place state known)
+wide_at_end p around place known state = makes_at_end p known
 
 -- of a rule with these parts, which closes when this much is linked
-abbrev pub wide_ends : List ℕ → Linked → Surroundings → Production → List Value → ℕ
-wide_ends s l kept p known = wide_at_end p (around_of (trees_in s l.nodes) kept) known (state_of s l)
+abbrev pub wide_ends : List ℕ → Linked → (place : ℕ) → Surroundings → Production → List Value → ℕ
+wide_ends s l place kept p known = wide_at_end p (around_of (trees_in s l.nodes) kept) place known (state_of s l)
 
 abbrev pub wide_makes : Makes Value State Around
 wide_makes = record {
   before = λ rule known state. makes_before (production_at rule.rule.number) known;
-  at_end = λ rule known state. wide_at_end (production_at rule.rule.number) rule.context known state;
+  at_end = λ rule known state. wide_at_end (production_at rule.rule.number) rule.context rule.place known state;
 }
 
 -- the nodes of a symbol of this shape

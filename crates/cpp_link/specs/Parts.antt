@@ -1,5 +1,5 @@
 -- The values that parts denote: functions of the nodes.
-use Rattle.std.specs.Prelude.{◌≡◌, ℕ, ◌<◌, List, [], ◌∷◌, Bool, true, false, ◌||◌, ◌&&◌, Some, None}
+use Rattle.std.specs.Prelude.{ℕ, ◌<◌, List, [], ◌∷◌, true, false, Some, None}
 use Rattle.cpp_term.specs.Term as term
 use Rattle.cpp_term.specs.Term.{Term}
 use Rattle.cpp_term.specs.Values as values
@@ -10,7 +10,8 @@ use Rattle.cpp_tree.specs.Nodes.{Stored, tree_at, bytes_at, IsWithin, IsPieceBel
 use Rattle.cpp_link.specs.declared.part.Part.{Part}
 use Rattle.cpp_link.specs.declared.part.Outcome.{Outcome}
 use Rattle.cpp_link.specs.declared.part.Step.{Step}
-use Rattle.cpp_references.specs.declared.candidates.Candidate.{Candidate}
+use Rattle.cpp_link.specs.declared.candidates.Candidates.{Candidates}
+use Rattle.cpp_link.specs.Counting.{IsCounted}
 pub use Rattle.cpp_references.specs.Around.{trees_in, tree_of_node, scope_of, name_of, packs_of, IsClosed, candidate_of, candidates_of, IsPrefixThere, AreNodesThere, IsKeptThere}
 unfoldable pub use Rattle.cpp_references.specs.Around.{prefix_of, arguments_in, is_lambda, prefix_in, packs_in, around_of}
 
@@ -84,28 +85,9 @@ IsOutcomeThere s held n (Outcome.Enclosed first rest) = (first < n) × (rest < n
 IsOutcomeThere s held n (Outcome.Applied name arguments) = IsBelow s held n name × (arguments < n)
 IsOutcomeThere s held n (Outcome.Lambda first rest number) = (first < n) × (rest < n)
 
--- whether one of these candidates, or one before them, is a mark
-unfoldable pub is_apart_behind : (before : Bool) → List Candidate → Bool
-is_apart_behind before [] = before
-is_apart_behind before (c ∷ cs) = is_apart_behind (before || c.is_held) cs
-
--- whether two are
-unfoldable pub is_far_behind : (once twice : Bool) → List Candidate → Bool
-is_far_behind once twice [] = twice
-is_far_behind once twice (c ∷ cs) = is_far_behind (once || c.is_held) (twice || (once && c.is_held)) cs
-
--- each says whether one before it is
-abbrev pub AreCounted : (before : Bool) → List Candidate → Type 0
-AreCounted before [] = Unit {0}
-AreCounted before (c ∷ cs) = (c.is_apart ≡ before) × AreCounted (before || c.is_held) cs
-
--- and whether two are
-abbrev pub AreCountedTwice : (once twice : Bool) → List Candidate → Type 0
-AreCountedTwice once twice [] = Unit {0}
-AreCountedTwice once twice (c ∷ cs) = (c.is_far ≡ twice) × AreCountedTwice (once || c.is_held) (twice || (once && c.is_held)) cs
-
-abbrev pub AreCandidatesThere : ℕ → List Candidate → Type 0
-AreCandidatesThere n cs = AreNodesThere n cs × AreCounted false cs × AreCountedTwice false false cs
+-- the candidates are nodes, and their numbers in both lists are noted
+abbrev pub AreCandidatesThere : ℕ → Candidates → Type 0
+AreCandidatesThere n cs = AreNodesThere n cs.list.items × IsCounted cs
 
 abbrev pub IsStepThere : List ℕ → (held n : ℕ) → Step → Type 0
 IsStepThere s held n (Step.Go candidate then packs) = nodes.IsThereBelow n candidate × IsKeptThere n then

@@ -5,7 +5,8 @@ use Rattle.sym_core.specs.declared.refusal.Refusal.{Refusal}
 use Rattle.sym_core.specs.declared.refusal.Refusal.TheVariants.{Memory}
 use Rattle.sym_link.specs.declared.language.Frame.{Frame}
 use Rattle.sym_link.specs.Linking.{View, Adds, AddsFew, Pays, owed_behind, owed_next}
-use Rattle.sym_link.specs.Threads.{GoesOn, ClosesAll, AddsBefore}
+use Rattle.sym_shape.specs.declared.rule.Row.{Row}
+use Rattle.sym_link.specs.Threads.{GoesOn, BeginsIn, ClosesAll, AddsBefore}
 use Rattle.cpp_grammar.specs.declared.production.Production.{Production}
 use Rattle.cpp_grammar.specs.Unfolding.{production_at}
 use Rattle.cpp_term.specs.Values.{State, Value, Around}
@@ -19,13 +20,14 @@ use Rattle.cpp_link.specs.Room.{KeepsRoom, LacksRoom, IsRoomy}
 use Rattle.cpp_link.specs.View as view
 use Rattle.cpp_link.specs.View.{IsPaid, IsWhole, Surrounds, cpp_view}
 
--- At most n nodes were added, and the last of them is the answer. The candidates and the packs stay.
+-- At most n nodes were added, and the last of them is the answer. The candidates, how they are counted, and the packs stay.
 pub record AddsNodes (s : List ℕ) (old new : Linked) (count : ℕ) (result : Result ℕ Refusal) : Type 0 where
   pub grows : Grows s old.nodes new.nodes count
   pub more : OnOk result (length new.nodes.nodes ≡ length old.nodes.nodes + count)
   pub there : IfOk result (λ number. number < length new.nodes.nodes)
   pub candidates : new.candidates ≡ old.candidates
   pub packs : new.packs ≡ old.packs
+  pub counting : new.counting ≡ old.counting
   pub memory : IfErr result (λ e. e ≡ Memory)
   pub keeps : KeepsRoom old new
   pub full : OnErr result (LacksRoom old new)
@@ -61,3 +63,10 @@ pub record Finishes (view : View Linked Part Surroundings Value State Around) (m
   pub makes : OnOk result (length new.nodes.nodes ≡ length old.nodes.nodes + made (production_at frame.rule) (values_in s old.nodes (drop frame.base parts.items)))
   pub pays : OnOk result ((at : ℕ) → Pays (cpp_view s) old new at at)
   pub roomy : IsRoomy old new parts new_parts result
+
+-- The rule of a row begins as the view's reading says. The nodes and the candidates stay.
+pub record Begins (view : View Linked Part Surroundings Value State Around) (s : List ℕ) (rows : List Row) (old new : Linked) (context : Surroundings) (row : Row) (result : Result Surroundings Refusal) : Type 0 where
+  pub begins : BeginsIn view s (Surrounds s) rows old new context row result
+  pub nodes : new.nodes ≡ old.nodes
+  pub candidates : new.candidates ≡ old.candidates
+  pub refused : IfErr result (λ e. e ≡ Memory → ⊥)

@@ -1,12 +1,12 @@
 -- What is read from nodes and from references.
-use Rattle.std.specs.Prelude.{ℕ, ◌<◌, ◌+◌, List, [], ◌∷◌, slice_get, Bool, true, false, ◌||◌, ◌&&◌, nat_eq, Option, Some, None, Ok}
+use Rattle.std.specs.Prelude.{ℕ, ◌<◌, List, [], ◌∷◌, Bool, true, false, not, ◌||◌, ◌&&◌, nat_eq, Option, Some, None, Ok}
 use Rattle.cpp_grammar.specs.Standing.{is_code}
 use Rattle.cpp_term.specs.Term as term
 use Rattle.cpp_term.specs.Term.{Term, absent, nil}
 use Rattle.cpp_term.specs.Scope.{has_return_type}
 use Rattle.cpp_term.specs.Meaning.{is_void, is_nil, parameters}
-use Rattle.cpp_term.specs.References.{appended}
-use Rattle.cpp_term.specs.Rescoping.{with_holder}
+use Rattle.cpp_grammar.specs.Values.{Counted, by_all}
+use Rattle.cpp_term.specs.References.{appended, appended_by}
 use Rattle.cpp_term.specs.Values as values
 use Rattle.cpp_term.specs.Values.{State, Value, Around, tree_of, qualifiers_of, ref_of}
 use Rattle.cpp_tree.specs.Nodes.{Stored, tree_at, tree_if_there, IsThereBelow}
@@ -33,6 +33,13 @@ nil_node _ = false
 unfoldable pub instance_node : Node → Bool
 instance_node (Node.Instance template arguments) = true
 instance_node _ = false
+
+-- whether it fits as what an S names, before a nested name or under qualifiers
+unfoldable pub node_fits : Node → (is_prefix is_qualified : Bool) → Bool
+node_fits (Node.Holder name) is_prefix is_qualified = is_prefix
+node_fits (Node.Lvalue inner) is_prefix is_qualified = not is_qualified
+node_fits (Node.Rvalue inner) is_prefix is_qualified = not is_qualified
+node_fits _ is_prefix is_qualified = true
 
 -- an operation whose operator is a comma
 unfoldable pub comma_node : Node → Bool
@@ -68,22 +75,17 @@ encoding_by ts name (Some l) items = elim (has_return_type (tree_of name)) [
   | false ↦ term.function (tree_of name) (qualifiers_of name) (ref_of name) absent (parameters items)
 ]
 
--- a tree more or less among the candidates, possibly as a mark
-unfoldable pub with_candidate : (is_held : Bool) → Around → List Term → Option ℕ → State → State
-with_candidate false around ts None state = state
-with_candidate false around ts (Some n) state = appended around (tree_at ts n) state
-with_candidate true around ts None state = state
-with_candidate true around ts (Some n) state = with_holder around (tree_at ts n) state
+-- a tree more or less among the candidates, which is counted by these compilers
+unfoldable pub with_candidate : Counted → Around → List Term → Option ℕ → State → State
+with_candidate counted around ts None state = state
+with_candidate by_all around ts (Some n) state = appended around (tree_at ts n) state
+with_candidate counted around ts (Some n) state = appended_by counted around (tree_at ts n) state
 
--- the candidate after that of a number, or none
-unfoldable pub last_if : (is_last : Bool) → List values.Candidate → (number : ℕ) → Option values.Candidate
-last_if is_last cs number = elim is_last [ true ↦ slice_get cs (number + 1) | false ↦ None ]
-
--- a tree more or less as a mark, or as two marks
-unfoldable pub with_marks : (twice : Bool) → Around → List Term → Option ℕ → State → State
-with_marks twice around ts candidate state = elim twice [
-  | true ↦ with_candidate true around ts candidate (with_candidate true around ts candidate state)
-  | false ↦ with_candidate true around ts candidate state
+-- likewise, and before that as one that all compilers count
+unfoldable pub with_candidates : (again : Bool) → Counted → Around → List Term → Option ℕ → State → State
+with_candidates again counted around ts candidate state = elim again [
+  | true ↦ with_candidate counted around ts candidate (with_candidate by_all around ts candidate state)
+  | false ↦ with_candidate counted around ts candidate state
 ]
 
 -- ## Steps
@@ -102,14 +104,14 @@ appended_if false around t state = state
 appended_if true around t state = appended around t state
 
 -- the result of a step, before a part with these surroundings, after these values
-unfoldable pub goes_on : List ℕ → Stored → Surroundings → List Value → List values.Candidate → Option ℕ → Step → Going
-goes_on s y kept vs cs before (Step.Go candidate then packs) =
-    Ok (record { values = vs; context = around_of (trees_in s y) then; state = with_candidate false (around_of (trees_in s y) kept) (trees_in s y) candidate (record { candidates = cs; packs = packs }) })
-goes_on s y kept vs cs before (Step.Named node listed is_name) =
-    Ok (record { values = values.tree (tree_at (trees_in s y) node) listed ∷ behind_first vs; context = named_if is_name (around_of (trees_in s y) kept) (tree_at (trees_in s y) node) listed; state = record { candidates = cs; packs = before } })
-goes_on s y kept vs cs before (Step.Made node listed is_name is_candidate packs) =
+unfoldable pub goes_on : List ℕ → Stored → Surroundings → List Value → State → Option ℕ → Step → Going
+goes_on s y kept vs state before (Step.Go candidate then packs) =
+    Ok (record { values = vs; context = around_of (trees_in s y) then; state = with_candidate by_all (around_of (trees_in s y) kept) (trees_in s y) candidate (record state { packs = packs }) })
+goes_on s y kept vs state before (Step.Named node listed is_name) =
+    Ok (record { values = values.tree (tree_at (trees_in s y) node) listed ∷ behind_first vs; context = named_if is_name (around_of (trees_in s y) kept) (tree_at (trees_in s y) node) listed; state = record state { packs = before } })
+goes_on s y kept vs state before (Step.Made node listed is_name is_candidate packs) =
     Ok (record {
       values = values.tree (tree_of_node s y node) listed ∷ behind_first vs;
       context = named_if is_name (around_of (trees_in s y) kept) (tree_of_node s y node) listed;
-      state = appended_if is_candidate (around_of (trees_in s y) kept) (tree_of_node s y node) (record { candidates = cs; packs = packs });
+      state = appended_if is_candidate (around_of (trees_in s y) kept) (tree_of_node s y node) (record state { packs = packs });
     })

@@ -11,20 +11,20 @@ use Rattle.cpp_link.specs.declared.linked.Linked.{Linked}
 abbrev pub lists_of : Linked → List Listed
 lists_of l =
     record { room = l.nodes.node_room; held = length l.nodes.nodes; most = 1 }
-    ∷ record { room = l.nodes.thunk_room; held = length l.nodes.thunks; most = 1 } ∷ one_by_one l.candidates ∷ []
+    ∷ record { room = l.nodes.thunk_room; held = length l.nodes.thunks; most = 1 } ∷ one_by_one l.candidates.list ∷ []
 
 -- each list has as much room as before, or more
 pub record KeepsRoom (old new : Linked) : Type 0 where
   pub nodes : old.nodes.node_room ≤ new.nodes.node_room
   pub thunks : old.nodes.thunk_room ≤ new.nodes.thunk_room
-  pub candidates : vec_capacity old.candidates ≤ vec_capacity new.candidates
+  pub candidates : vec_capacity old.candidates.list ≤ vec_capacity new.candidates.list
 
 -- the nodes had no room for one more, or what thunks adjust, or the candidates
 abbrev pub LacksRoom : (old new : Linked) → Type 0
 LacksRoom old new =
     (old.nodes.node_room < length new.nodes.nodes + 1)
     ⊎ (old.nodes.thunk_room < length new.nodes.thunks + 1)
-    ⊎ (vec_capacity old.candidates < length new.candidates.items + 1)
+    ⊎ (vec_capacity old.candidates.list < length new.candidates.list.items + 1)
 
 -- A call on these parts has as much room after it as before, and answers `Memory` only where a list had no room.
 pub record IsRoomy {A : Type 0} (old new : Linked) (parts new_parts : Vec Part Global) (result : Result A Refusal) : Type 0 where

@@ -6,6 +6,7 @@ use Rattle.cpp_link.specs.declared.part.Part.{Part}
 use Rattle.cpp_references.specs.declared.around.Prefix.{Prefix}
 use Rattle.cpp_references.specs.declared.around.Surroundings.{Surroundings}
 use Rattle.cpp_references.specs.declared.candidates.Candidate.{Candidate}
+use Rattle.cpp_link.specs.declared.candidates.Candidates.{Candidates}
 use Rattle.cpp_link.specs.Parts.{trees_in, value_of, values_of, value_in, values_in, prefix_of, scope_of, name_of, around_of, candidates_of, IsThere, AreThere, IsPrefixThere, IsKeptThere, AreNodesThere, AreCandidatesThere}
 
 module _ (s : List ℕ) (old new : Stored) (stays : (i : ℕ) → i < length old.nodes → tree_at (trees_in s new) i ≡ tree_at (trees_in s old) i) where
@@ -53,8 +54,8 @@ module _ (s : List ℕ) (old new : Stored) (stays : (i : ℕ) → i < length old
   all_stay [] there = refl
   all_stay (c ∷ cs) there = rw (stays c.node there.0, all_stay cs there.1) refl
 
-  pub candidates_stay : (cs : List Candidate) → AreCandidatesThere (length old.nodes) cs → candidates_of (trees_in s new) cs ≡ candidates_of (trees_in s old) cs
-  candidates_stay cs there = all_stay cs there.0
+  pub candidates_stay : (cs : Candidates) → AreCandidatesThere (length old.nodes) cs → candidates_of (trees_in s new) cs.list.items ≡ candidates_of (trees_in s old) cs.list.items
+  candidates_stay cs there = all_stay cs.list.items there.0
 
 -- existing nodes survive additions
 pub there_more : (s : List ℕ) (m n : ℕ) (p : Part) → m ≤ n → IsThere s m p → IsThere s n p
@@ -81,8 +82,8 @@ nodes_more : (m n : ℕ) (cs : List Candidate) → m ≤ n → AreNodesThere m c
 nodes_more m n [] le there = tt
 nodes_more m n (c ∷ cs) le there = (omega (arith, le, there.0), nodes_more m n cs le there.1)
 
-pub candidates_more : (m n : ℕ) (cs : List Candidate) → m ≤ n → AreCandidatesThere m cs → AreCandidatesThere n cs
-candidates_more m n cs le there = (nodes_more m n cs le there.0, there.1, there.2)
+pub candidates_more : (m n : ℕ) (cs : Candidates) → m ≤ n → AreCandidatesThere m cs → AreCandidatesThere n cs
+candidates_more m n cs le there = (nodes_more m n cs.list.items le there.0, there.1)
 
 pub kept_more : (m n : ℕ) (kept : Surroundings) → m ≤ n → IsKeptThere m kept → IsKeptThere n kept
 kept_more m n kept le there = (arguments (scope_of kept) there.0, prefix (name_of kept) there.1)

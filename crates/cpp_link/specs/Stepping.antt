@@ -10,7 +10,7 @@ use Rattle.cpp_link.specs.Grows.{Grows}
 use Rattle.cpp_link.specs.Making.{state_of}
 use Rattle.cpp_link.specs.Owed.{made_before}
 use Rattle.cpp_link.specs.Closes.{closes_of}
-use Rattle.cpp_link.specs.Parts.{trees_in, values_in, around_of, candidates_of, AreThere, IsKeptThere, AreCandidatesThere}
+use Rattle.cpp_link.specs.Parts.{trees_in, values_in, around_of, AreThere, IsKeptThere, AreCandidatesThere}
 use Rattle.cpp_link.specs.Reads.{goes_on}
 
 -- how many nodes a step makes
@@ -35,10 +35,10 @@ CountsStep p old new own new_own (Err e) = length new.nodes.nodes ≤ length old
 pub record Takes (s : List ℕ) (old new : Linked) (kept : Surroundings) (base : ℕ) (parts new_parts : List Part) (step : Step) (then : Surroundings) : Type 0 where
   pub grows : Grows s old.nodes new.nodes (nodes_of_step step)
   pub thunks : new.nodes.thunks ≡ old.nodes.thunks
-  pub candidates : AreCandidatesThere (length new.nodes.nodes) new.candidates.items
+  pub candidates : AreCandidatesThere (length new.nodes.nodes) new.candidates
   pub around : IsKeptThere (length new.nodes.nodes) then
   pub there : AreThere s (length new.nodes.nodes) (drop base new_parts)
   pub lower : take base new_parts ≡ take base parts
   pub count : length new_parts ≡ length parts
-  pub is : goes_on s old.nodes kept (values_in s old.nodes (drop base parts)) (candidates_of (trees_in s old.nodes) old.candidates.items) old.packs step
+  pub is : goes_on s old.nodes kept (values_in s old.nodes (drop base parts)) (state_of s old) old.packs step
       ≡ Ok (record { values = values_in s new.nodes (drop base new_parts); context = around_of (trees_in s new.nodes) then; state = state_of s new })

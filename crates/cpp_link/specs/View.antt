@@ -13,6 +13,7 @@ use Rattle.cpp_link.specs.LinkReading.{linked}
 use Rattle.cpp_link.specs.Room.{lists_of}
 use Rattle.cpp_link.specs.Owed.{owes}
 use Rattle.cpp_link.specs.Closes.{closes}
+use Rattle.cpp_link.specs.Counting.{counting_of}
 use Rattle.cpp_link.specs.Parts.{trees_in, value_in, packs_of, around_of, candidates_of, IsClosed, IsThere, IsKeptThere, AreCandidatesThere}
 
 -- the part denotes the value
@@ -33,9 +34,10 @@ pub record IsKept (s : List ℕ) (l : Linked) (kept : Surroundings) (rule : Open
 -- the nodes are a table, and the candidates and the packs are those of the state
 pub record Holds (s : List ℕ) (l : Linked) (state : State) : Type 0 where
   pub table : IsTable (over s l.nodes)
-  pub there : AreCandidatesThere (length l.nodes.nodes) l.candidates.items
-  pub candidates : candidates_of (trees_in s l.nodes) l.candidates.items ≡ state.candidates
+  pub there : AreCandidatesThere (length l.nodes.nodes) l.candidates
+  pub candidates : candidates_of (trees_in s l.nodes) l.candidates.list.items ≡ state.candidates
   pub packs : l.packs ≡ state.packs
+  pub counting : counting_of l.counting ≡ state.counting
 
 -- the new table is the old one and more
 pub record GoesOn (s : List ℕ) (old new : Linked) : Type 0 where
@@ -45,7 +47,7 @@ pub record GoesOn (s : List ℕ) (old new : Linked) : Type 0 where
 -- the nodes are a table, and the candidates are nodes of it
 pub record IsWhole (s : List ℕ) (l : Linked) : Type 0 where
   pub table : IsTable (over s l.nodes)
-  pub there : AreCandidatesThere (length l.nodes.nodes) l.candidates.items
+  pub there : AreCandidatesThere (length l.nodes.nodes) l.candidates
 
 -- the table has its first four nodes, and a thunk is adjusted by a node
 pub record IsPaid (l : Linked) : Type 0 where

@@ -58,6 +58,7 @@ impl Linked {
     /// # Errors
     ///
     /// `BadValue` at a number that has more than 64 bits.
+    #[inline(always)]
     pub fn begin_rule(
         &self,
         symbol: &[u8],

@@ -6,6 +6,7 @@ ghost use Rattle.sym_link.specs.Linking.{HasRoom, Adds, Pays, owed_behind, owed_
 ghost use Rattle.sym_link.specs.Threads.{IsOpenAt, GoesOn, AddsBefore};
 ghost use Rattle.cpp_grammar.specs.declared.production.Production.TheVariants as productions;
 ghost use Rattle.cpp_link.specs.declared.part.Part.TheVariants as variants;
+ghost use Rattle.cpp_grammar.specs.Values.{by_all};
 ghost use Rattle.cpp_term.specs.Term.{Term};
 ghost use Rattle.cpp_grammar.specs.Unfolding.{production_at};
 ghost use Rattle.cpp_tree.specs.Nodes.{IsThereBelow, IsBelow, tree_at};
@@ -20,6 +21,7 @@ ghost use Rattle.cpp_link.specs.Tables.{quiet_parts};
 ghost use Rattle.cpp_link.specs.View.{Surrounds, cpp_view};
 ghost use Rattle.cpp_link.specs.Room.{KeepsRoom, LacksRoom, IsRoomy};
 
+use crate::counting::Counted;
 use crate::dispatch::production_of;
 use crate::linked::Linked;
 use crate::part::{Part, Step, Surroundings};
@@ -75,16 +77,16 @@ impl Linked {
         packs: Option<u32>,
     ) -> Result<(), Refusal>
         requires candidate { IsThereBelow (length self.old.nodes.nodes) candidate }
-        requires there { AreCandidatesThere (length self.old.nodes.nodes) self.old.candidates.items }
+        requires there { AreCandidatesThere (length self.old.nodes.nodes) self.old.candidates }
         ensures nodes { self.new.nodes ≡ self.old.nodes }
-        ensures there { OnOk result (AreCandidatesThere (length self.old.nodes.nodes) self.new.candidates.items) }
-        ensures is { OnOk result (with_candidate false (around_of (trees_in symbol.now self.old.nodes) kept) (trees_in symbol.now self.old.nodes) candidate
-            (record { candidates = candidates_of (trees_in symbol.now self.old.nodes) self.old.candidates.items; packs = packs }) ≡ state_of symbol.now self.new) }
+        ensures there { OnOk result (AreCandidatesThere (length self.old.nodes.nodes) self.new.candidates) }
+        ensures is { OnOk result (with_candidate by_all (around_of (trees_in symbol.now self.old.nodes) kept) (trees_in symbol.now self.old.nodes) candidate
+            (record (state_of symbol.now self.old) { packs = packs }) ≡ state_of symbol.now self.new) }
         ensures memory { IfErr result (λ e. e ≡ refusals.Memory) }
         ensures keeps { KeepsRoom self.old self.new }
         ensures full { OnErr result (LacksRoom self.old self.new) }
     {
-        self.append(symbol, kept, candidate, false)?;
+        self.append(symbol, kept, candidate, Counted::ByAll)?;
         self.packs = packs;
         Ok(())
     }
@@ -106,15 +108,15 @@ impl Linked {
         requires place { HasPlace symbol.now self.old.nodes 1 }
         requires below { IsBelow symbol.now (length self.old.nodes.thunks) (length self.old.nodes.nodes) node }
         requires kept { IsKeptThere (length self.old.nodes.nodes) kept }
-        requires there { AreCandidatesThere (length self.old.nodes.nodes) self.old.candidates.items }
+        requires there { AreCandidatesThere (length self.old.nodes.nodes) self.old.candidates }
         ensures grows { Grows symbol.now self.old.nodes self.new.nodes 1 }
         ensures more { OnOk result (length self.new.nodes.nodes ≡ length self.old.nodes.nodes + 1) }
         ensures thunks { self.new.nodes.thunks ≡ self.old.nodes.thunks }
         ensures tree { IfOk result (λ number. tree_at (trees_in symbol.now self.new.nodes) number ≡ tree_of_node symbol.now self.old.nodes node) }
         ensures below { IfOk result (λ number. number < length self.new.nodes.nodes) }
-        ensures there { OnOk result (AreCandidatesThere (length self.new.nodes.nodes) self.new.candidates.items) }
+        ensures there { OnOk result (AreCandidatesThere (length self.new.nodes.nodes) self.new.candidates) }
         ensures is { OnOk result (appended_if is_candidate (around_of (trees_in symbol.now self.old.nodes) kept) (tree_of_node symbol.now self.old.nodes node)
-            (record { candidates = candidates_of (trees_in symbol.now self.old.nodes) self.old.candidates.items; packs = packs }) ≡ state_of symbol.now self.new) }
+            (record (state_of symbol.now self.old) { packs = packs }) ≡ state_of symbol.now self.new) }
         ensures memory { IfErr result (λ e. e ≡ refusals.Memory) }
         ensures keeps { KeepsRoom self.old self.new }
         ensures full { OnErr result (LacksRoom self.old self.new) }
@@ -157,7 +159,7 @@ impl Linked {
         requires step { IsStepThere symbol.now (length self.old.nodes.thunks) (length self.old.nodes.nodes) step }
         requires of { (production : Production) × IsStepOf production (length (drop base parts.old.items)) step }
         requires kept { IsKeptThere (length self.old.nodes.nodes) kept }
-        requires there { AreCandidatesThere (length self.old.nodes.nodes) self.old.candidates.items }
+        requires there { AreCandidatesThere (length self.old.nodes.nodes) self.old.candidates }
         requires parts { AreThere symbol.now (length self.old.nodes.nodes) (drop base parts.old.items) }
         ensures takes { IfOk result (λ then. Takes symbol.now self.old self.new kept base parts.old.items parts.new.items step then) }
         ensures more { OnOk result (length self.new.nodes.nodes ≡ length self.old.nodes.nodes + nodes_of_step step) }

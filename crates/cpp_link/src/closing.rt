@@ -1,6 +1,7 @@
 // What follows a rule: types become candidates.
 
 ghost use Rattle.std.specs.Prelude.{◌≡◌, ℕ, List, length, false};
+ghost use Rattle.cpp_grammar.specs.Values.{by_all};
 ghost use Rattle.cpp_term.specs.Values as values;
 ghost use Rattle.cpp_term.specs.Values.{State};
 ghost use Rattle.cpp_term.specs.References.{with_unqualified};
@@ -21,7 +22,7 @@ impl Linked {
     fn unqualified_candidate(&self, symbol: &[u8], kept: Surroundings, part: Part) -> Option<u32>
         requires table { IsTable (over symbol.now self.now.nodes) }
         requires there { IsThere symbol.now (length self.now.nodes.nodes) part }
-        ensures is { (state : State) → with_unqualified (around_of (trees_in symbol.now self.now.nodes) kept) (value_in symbol.now self.now.nodes part) state ≡ with_candidate false (around_of (trees_in symbol.now self.now.nodes) kept) (trees_in symbol.now self.now.nodes) result state }
+        ensures is { (state : State) → with_unqualified (around_of (trees_in symbol.now self.now.nodes) kept) (value_in symbol.now self.now.nodes part) state ≡ with_candidate by_all (around_of (trees_in symbol.now self.now.nodes) kept) (trees_in symbol.now self.now.nodes) result state }
         ensures there { IsThereBelow (length self.now.nodes.nodes) result }
     {
         let node = self.node(symbol, part);
@@ -47,9 +48,9 @@ impl Linked {
         requires there { AreThere symbol.now (length self.now.nodes.nodes) parts.now }
         requires made { IsThere symbol.now (length self.now.nodes.nodes) made }
         requires value { (place : ℕ) × (value_in symbol.now self.now.nodes made ≡ link_meaning symbol.now production byte place (around_of (trees_in symbol.now self.now.nodes) kept) (values_in symbol.now self.now.nodes parts.now)) }
-        ensures is { (began : State) (cs : List values.Candidate) → began.packs ≡ packs_of kept
-            → unfolding_.behind production byte (around_of (trees_in symbol.now self.now.nodes) kept) began (values_in symbol.now self.now.nodes parts.now) (record { candidates = cs; packs = self.now.packs })
-            ≡ with_candidate false (around_of (trees_in symbol.now self.now.nodes) kept) (trees_in symbol.now self.now.nodes) result.candidate (record { candidates = cs; packs = result.packs }) }
+        ensures is { (began : State) (state : values.State) → began.packs ≡ packs_of kept
+            → unfolding_.behind production byte (around_of (trees_in symbol.now self.now.nodes) kept) began (values_in symbol.now self.now.nodes parts.now) (record state { packs = self.now.packs })
+            ≡ with_candidate by_all (around_of (trees_in symbol.now self.now.nodes) kept) (trees_in symbol.now self.now.nodes) result.candidate (record state { packs = result.packs }) }
         ensures there { IsThereBelow (length self.now.nodes.nodes) result.candidate }
     {
         match production {

@@ -45,23 +45,41 @@ impl Linked {
     {
         let byte = symbol[place as usize];
         match production {
+            // <expression> ::= a and the second letter of an operator, with its operands
             Production::ExpressionA => self.operation_by(symbol, byte, parts),
+            // <expression> ::= c and the second letter of an operator, with its operands
             Production::ExpressionC => self.operation_by(symbol, byte, parts),
+            // <expression> ::= d and the second letter of an operator, with its operands
             Production::ExpressionD => self.operation_by(symbol, byte, parts),
+            // <expression> ::= e and the second letter of an operator, with its operands
             Production::ExpressionE => self.operation_by(symbol, byte, parts),
+            // <expression> ::= f and the second letter of an operator, with its operands
             Production::ExpressionF => self.operation_by(symbol, byte, parts),
+            // <expression> ::= g and the second letter of an operator, with its operands
             Production::ExpressionG => self.operation_by(symbol, byte, parts),
+            // <expression> ::= i and the second letter of an operator, with its operands
             Production::ExpressionI => self.operation_by(symbol, byte, parts),
+            // <expression> ::= l and the second letter of an operator, with its operands
             Production::ExpressionL => self.operation_by(symbol, byte, parts),
+            // <expression> ::= m and the second letter of an operator, with its operands
             Production::ExpressionM => self.operation_by(symbol, byte, parts),
+            // <expression> ::= n and the second letter of an operator, with its operands
             Production::ExpressionN => self.operation_by(symbol, byte, parts),
+            // <expression> ::= o and the second letter of an operator, with its operands
             Production::ExpressionO => self.operation_by(symbol, byte, parts),
+            // <expression> ::= p and the second letter of an operator, with its operands
             Production::ExpressionP => self.operation_by(symbol, byte, parts),
+            // <expression> ::= q and the second letter of an operator, with its operands
             Production::ExpressionQ => self.operation_by(symbol, byte, parts),
+            // <expression> ::= r and the second letter of an operator, with its operands
             Production::ExpressionR => self.operation_by(symbol, byte, parts),
+            // <expression> ::= s and the second letter of an operator, with its operands
             Production::ExpressionS => self.operation_by(symbol, byte, parts),
+            // <expression> ::= t and the second letter of an operator, with its operands
             Production::ExpressionT => self.operation_by(symbol, byte, parts),
+            // <initializer> ::= pi <expression>* E
             Production::Initializer => self.operation_by(symbol, byte, parts),
+            // <initializer> ::= il <expression>* E
             Production::BracedInitializer => self.operation_by(symbol, byte, parts),
             _ => unreachable!(),
         }
@@ -191,7 +209,9 @@ impl Linked {
                 left: self.tree(symbol, parts, 0),
                 right: self.tree(symbol, parts, 1),
             }),
+            // <braced-expression> ::= di .. | dx .., after a designator
             Production::Designators => self.operation_by(symbol, byte, parts),
+            // <braced-expression> ::= <expression>, after a designator
             Production::DesignatedValue => made(
                 Node::Operation {
                     first: b'=',
@@ -201,6 +221,7 @@ impl Linked {
                 },
                 true,
             ),
+            // <field source-name>
             Production::FieldName => made(Node::Vendor(self.text(symbol, parts, 0)), true),
             // <expression> ::= nw <expression>* _ <type> <initializer> | na <expression>* _ <type> <initializer>
             Production::New => Outcome::MadeOperand {
@@ -262,6 +283,7 @@ impl Linked {
                     right: self.tree(symbol, parts, 1),
                 },
             },
+            // <fold-expr> ::= fr <operator-name> <expression>
             Production::RightFold => Outcome::MadeOperand {
                 letter: byte,
                 left: None,
@@ -272,6 +294,7 @@ impl Linked {
                     right: ABSENT,
                 },
             },
+            // <fold-expr>, the pack that it folds
             Production::FoldOperand => made(
                 Node::Operation {
                     first: b'(',
@@ -281,6 +304,7 @@ impl Linked {
                 },
                 true,
             ),
+            // <expression>, a pack by itself
             Production::FoldPack => made(Node::Expansion(self.tree(symbol, parts, 0)), true),
             // <expression> ::= sZ <template-param> | sZ <function-param>
             Production::PackSize => Outcome::MadeOperand {
@@ -338,11 +362,17 @@ impl Linked {
                 left: ABSENT,
                 right: ABSENT,
             }),
+            // <expression> ::= rQ <bare-function-type> _ <requirement>+ E, a type of it
             Production::RequiredType => Outcome::Given(self.given(symbol, parts, 1)),
+            // <requirement> ::= X <expression> [N] [R <type-constraint>]
             Production::ExpressionRequirement => Outcome::Given(Part::Letter(byte)),
+            // <requirement> ::= X <expression> N [R <type-constraint>], from the N on
             Production::NoexceptRequirement => Outcome::Given(Part::Letter(byte)),
+            // <requirement> ::= X <expression> [N] R <type-constraint>, from the R on
             Production::ResultRequirement => Outcome::Given(Part::Letter(byte)),
+            // <requirement> ::= T <type>
             Production::TypeRequirement => Outcome::Given(Part::Letter(byte)),
+            // <requirement> ::= Q <constraint-expression>
             Production::NestedRequirement => Outcome::Given(Part::Letter(byte)),
             _ => unreachable!(),
         }
@@ -393,9 +423,15 @@ impl Linked {
                 },
                 true,
             ),
+            // <unresolved-name> ::= sr <unresolved-qualifier-level>+ E <base-unresolved-name>, from the E on
             Production::LevelsEnd => Outcome::Given(self.given(symbol, parts, 0)),
+            // <base-unresolved-name> ::= on <operator-name> [<template-args>], after the o
             Production::UnresolvedOperator => Outcome::Given(self.given(symbol, parts, 0)),
             // <expression> ::= <template-param> [<template-args>]
+            Production::ExpressionWithT => Outcome::Given(self.given(symbol, parts, 0)),
+            // <template-param> ::= TL <level> _ _ | TL <level> _ <parameter number> _, after the T
+            Production::LeveledExpression => Outcome::Given(self.given(symbol, parts, 1)),
+            // <template-param> ::= T_ | T <parameter number> _, after the T
             Production::ParameterExpression => self.applied(symbol, parts, false),
             // <unresolved-name> ::= <source-name> [<template-args>]
             Production::SimpleId => self.applied(symbol, parts, false),
@@ -405,6 +441,7 @@ impl Linked {
             Production::FunctionParameter => Outcome::Given(self.given(symbol, parts, 3)),
             // <function-param> ::= fL <number> p [<CV-qualifiers>] [<number>] _
             Production::OuterParameter => Outcome::Given(self.given(symbol, parts, 1)),
+            // <function-param> ::= fpT
             Production::This => made(
                 Node::Operation {
                     first: b'f',
@@ -414,6 +451,7 @@ impl Linked {
                 },
                 true,
             ),
+            // <function-param> ::= fp [<number>] _, its number
             Production::ParameterNumber => made(
                 Node::FunctionParameter(normal(symbol, self.text(symbol, parts, 0))),
                 true,
@@ -448,6 +486,7 @@ impl Linked {
         match production {
             // <expr-primary> ::= L <type> <value number> E, whose type begins with D
             Production::LiteralWithD => Outcome::Given(self.given(symbol, parts, 0)),
+            // <expression> ::= <expr-primary>, whose address is taken
             Production::AddressedLiteral => Outcome::Given(self.given(symbol, parts, 0)),
             // <expr-primary> ::= L <mangled-name> E
             Production::EncodingLiteral => {
@@ -492,6 +531,7 @@ impl Linked {
                 },
                 true,
             ),
+            // <value float>, as digits of base 16
             Production::HexText => made(Node::Vendor(self.text(symbol, parts, 0)), true),
             _ => unreachable!(),
         }

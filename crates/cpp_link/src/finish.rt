@@ -26,26 +26,17 @@ ghost use Rattle.cpp_link.specs.Parts.{trees_in, value_in, values_in, packs_of, 
 ghost use Rattle.cpp_link.specs.Reads.{maybe_candidate};
 ghost use Rattle.cpp_link.specs.View.{IsPaid, IsWhole, cpp_view};
 
+use crate::counting::Counted;
 use crate::dispatch::production_of;
 use crate::linked::Linked;
-use crate::part::{Candidate, Outcome, Part, Surroundings};
+use crate::part::{Outcome, Part, Surroundings};
 use cpp_grammar::production::Production;
-use cpp_references::candidates::{named, substitution};
-use sym_core::{Refusal, Span};
+use cpp_references::candidates::substitution;
+use sym_core::Refusal;
 use sym_link::language::Frame;
 use sym_link::parts::put;
 
 impl Linked {
-    /// The candidate that these digits name: none are the first, and 0 is the next.
-    pub(crate) fn candidate(&self, symbol: &[u8], digits: Span) -> Option<Candidate>
-        requires digits { IsWithin digits symbol.now }
-        requires candidates { AreCandidatesThere (length self.now.nodes.nodes) self.now.candidates.items }
-        ensures is { maybe_candidate (trees_in symbol.now self.now.nodes) result ≡ slice_get (candidates_of (trees_in symbol.now self.now.nodes) self.now.candidates.items) (counted_value kinds.Seq36 (bytes_at symbol.now digits)) }
-        ensures there { IfSome result (λ c. c.node < length self.now.nodes.nodes) }
-    {
-        named(&self.candidates, symbol, digits)
-    }
-
     /// A substitution closes: its part is the candidate that it names.
     ///
     /// # Errors
@@ -73,7 +64,7 @@ impl Linked {
             symbol,
             kept,
             place,
-            &self.candidates,
+            &self.candidates.list,
             digits,
             self.packs,
         )?;
@@ -116,7 +107,7 @@ impl Linked {
         let byte = symbol[place as usize];
         let made = self.add_node(symbol, outcome)?;
         let after = self.after_rule(symbol, production, byte, kept, parts, made);
-        self.append(symbol, kept, after.candidate, false)?;
+        self.append(symbol, kept, after.candidate, Counted::ByAll)?;
         self.packs = after.packs;
         Ok(made)
     }

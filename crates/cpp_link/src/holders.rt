@@ -12,7 +12,8 @@ ghost use Rattle.sym_link.specs.Threads.{IsOpenAt};
 ghost use Rattle.sym_link.specs.Unfold.{found};
 ghost use Rattle.cpp_grammar.specs.declared.production.Production.TheVariants as productions;
 ghost use Rattle.cpp_grammar.specs.Unfolding.{production_at};
-ghost use Rattle.cpp_term.specs.Rescoping.{counted_base, is_counted_alike, is_instance, is_last_counted, named_alike};
+ghost use Rattle.cpp_grammar.specs.Values.{by_gcc};
+ghost use Rattle.cpp_term.specs.Rescoping.{counted_base, is_instance, can_be_named};
 ghost use Rattle.cpp_term.specs.Values.{State, Around, part};
 ghost use Rattle.cpp_tree.specs.Nodes.{over, tree_at, bytes_at, IsThereBelow, IsWithin, IsTable};
 ghost use Rattle.cpp_link.specs.Closes.{ends_of};
@@ -23,10 +24,13 @@ ghost use Rattle.cpp_link.specs.Making.{state_of};
 ghost use Rattle.cpp_link.specs.NodeCount.{makes_at_end};
 ghost use Rattle.cpp_link.specs.Parts.{trees_in, value_in, values_in, around_of, candidates_of, IsClosed, IsThere, AreThere, IsKeptThere, AreCandidatesThere};
 ghost use Rattle.cpp_link.specs.Progress.{Finishes, MakesPart};
-ghost use Rattle.cpp_link.specs.Reads.{instance_node, last_if, maybe_candidate, with_candidate};
+ghost use Rattle.cpp_link.specs.Counting.{expected_of, is_one_place};
+ghost use Rattle.cpp_link.specs.Naming.{IsNamed};
+ghost use Rattle.cpp_link.specs.Reads.{instance_node, node_fits, maybe_candidate, with_candidate};
 ghost use Rattle.cpp_link.specs.View.{IsPaid, IsWhole, cpp_view};
 
-use crate::linked::{Linked, has_holder, has_two_holders, is_apart};
+use crate::counting::{Counted, Lists, left};
+use crate::linked::Linked;
 use crate::part::{Candidate, Part, Surroundings};
 use crate::values::is_listed;
 use cpp_grammar::production::Production;
@@ -48,13 +52,30 @@ fn is_instance_node(node: Node) -> bool
     }
 }
 
-/// The number after this one, if it has 64 bits at most.
-fn next_number(counted: Option<u64>) -> Option<u64>
-    ensures { (k : ℕ) → MatchOption counted (2 ^ 64 ≤ k) (λ v. v ≡ k) → MatchOption result (2 ^ 64 ≤ k + 1) (λ v. v ≡ k + 1) }
+/// Whether a node fits as what an `S` names, before a nested name or under qualifiers.
+#[tactic(auto, unfolding(crate::specs::Reads::node_fits))]
+fn node_fits(node: Node, is_prefix: bool, is_qualified: bool) -> bool
+    ensures { result ≡ node_fits node is_prefix is_qualified }
 {
-    match counted {
-        Some(number) => number.checked_add(1),
-        None => None,
+    match node {
+        Node::Holder(_) => is_prefix,
+        Node::Lvalue(_) => !is_qualified,
+        Node::Rvalue(_) => !is_qualified,
+        _ => true,
+    }
+}
+
+/// Whether both lists have the same candidate.
+#[tactic(auto, unfolding(crate::specs::Counting::is_one_place))]
+fn is_one_place(longer: Option<usize>, shorter: Option<usize>) -> bool
+    ensures { result ≡ is_one_place longer shorter }
+{
+    match longer {
+        Some(at) => match shorter {
+            Some(other) => at == other,
+            None => false,
+        },
+        None => false,
     }
 }
 
@@ -68,50 +89,84 @@ impl Linked {
         is_instance_node(opened(&self.nodes, symbol, node).node)
     }
 
-    /// Whether all compilers count alike up to the candidate that these digits name.
-    fn is_counted_alike(&self, symbol: &[u8], digits: Span) -> bool
-        requires digits { IsWithin digits symbol.now }
-        requires candidates { AreCandidatesThere (length self.now.nodes.nodes) self.now.candidates.items }
-        ensures { result ≡ is_counted_alike (candidates_of (trees_in symbol.now self.now.nodes) self.now.candidates.items) (counted_value kinds.Seq36 (bytes_at symbol.now digits)) }
+    /// The candidate at a place, if there is one.
+    fn candidate_at(&self, place: Option<usize>) -> Option<Candidate>
+        ensures { (k : ℕ) → MatchOption place (length self.now.candidates.list.items ≤ k) (λ at. (at ≡ k) × (at < length self.now.candidates.list.items)) → result ≡ slice_get self.now.candidates.list.items k }
     {
-        let counted = value36(&symbol[digits.from as usize..digits.to as usize]);
-        match numbered(&self.candidates, next_number(counted)) {
-            Some(next) => !is_apart(next),
-            None => !has_holder(&self.candidates),
+        match place {
+            Some(at) => match self.candidates.list.get(at) {
+                Some(candidate) => Some(*candidate),
+                None => None,
+            },
+            None => None,
         }
     }
 
-    /// The last candidate, if these digits are its number in the longer list, and there is one mark.
-    fn last_counted(&self, symbol: &[u8], digits: Span) -> Option<Candidate>
-        requires digits { IsWithin digits symbol.now }
-        requires candidates { AreCandidatesThere (length self.now.nodes.nodes) self.now.candidates.items }
-        ensures is { maybe_candidate (trees_in symbol.now self.now.nodes) result ≡ last_if (is_last_counted (candidates_of (trees_in symbol.now self.now.nodes) self.now.candidates.items) (counted_value kinds.Seq36 (bytes_at symbol.now digits))) (candidates_of (trees_in symbol.now self.now.nodes) self.now.candidates.items) (counted_value kinds.Seq36 (bytes_at symbol.now digits)) }
-        ensures there { IfSome result (λ c. c.node < length self.now.nodes.nodes) }
+    /// Whether a list has a candidate for the `S` at this place, and its form fits there.
+    fn can_be_named(&self, symbol: &[u8], place: u32, candidate: Option<Candidate>) -> bool
+        requires table { IsTable (over symbol.now self.now.nodes) }
+        requires there { IfSome candidate (λ c. c.node < length self.now.nodes.nodes) }
+        ensures { result ≡ can_be_named (expected_of self.now.counting.expected) place (maybe_candidate (trees_in symbol.now self.now.nodes) candidate) }
     {
-        let counted = value36(&symbol[digits.from as usize..digits.to as usize]);
-        let next = next_number(counted);
-        let last = numbered(&self.candidates, next);
-        let past = numbered(&self.candidates, next_number(next));
-        if has_two_holders(&self.candidates) {
-            return None;
+        let Some(c) = candidate else {
+            return false;
+        };
+        let is_prefix = self.counting.expected.is_prefix_at(place);
+        let is_qualified = self.counting.expected.is_qualified_at(place);
+        node_fits(
+            opened(&self.nodes, symbol, c.node).node,
+            is_prefix,
+            is_qualified,
+        )
+    }
+
+    /// The candidate that this number names at this place, and the lists that are left then.
+    fn named_apart(&self, symbol: &[u8], place: u32, number: u64) -> (Option<Candidate>, Lists)
+        requires table { IsTable (over symbol.now self.now.nodes) }
+        requires candidates { AreCandidatesThere (length self.now.nodes.nodes) self.now.candidates }
+        ensures named { IsNamed symbol.now self.now place number result.0 result.1 }
+    {
+        let longer_at = self.candidates.longer_place(number);
+        let shorter_at = self.candidates.shorter_place(number);
+        let longer = self.candidate_at(longer_at);
+        if is_one_place(longer_at, shorter_at) {
+            return (longer, self.counting.lists);
         }
-        match past {
-            Some(_) => None,
-            None => last,
+        if self.candidates.by.is_by_some() {
+            return (None, Lists::Neither);
+        }
+        let shorter = self.candidate_at(shorter_at);
+        let longer_fits = self.can_be_named(symbol, place, longer);
+        let shorter_fits = self.can_be_named(symbol, place, shorter);
+        match left(self.counting.lists, longer_fits, shorter_fits) {
+            Lists::Longer => (longer, Lists::Longer),
+            Lists::Shorter => (shorter, Lists::Shorter),
+            Lists::Both => (None, Lists::Both),
+            Lists::Neither => (None, Lists::Neither),
         }
     }
 
-    /// The candidate that these digits name, whichever way of counting a compiler has.
-    pub(crate) fn named_alike(&self, symbol: &[u8], digits: Span) -> Option<Candidate>
+    /// The candidate that these digits name at this place, and the lists that are left then.
+    pub(crate) fn named_by_lists(
+        &self,
+        symbol: &[u8],
+        place: u32,
+        digits: Span,
+    ) -> (Option<Candidate>, Lists)
+        requires table { IsTable (over symbol.now self.now.nodes) }
         requires digits { IsWithin digits symbol.now }
-        requires candidates { AreCandidatesThere (length self.now.nodes.nodes) self.now.candidates.items }
-        ensures is { maybe_candidate (trees_in symbol.now self.now.nodes) result ≡ named_alike (candidates_of (trees_in symbol.now self.now.nodes) self.now.candidates.items) (counted_value kinds.Seq36 (bytes_at symbol.now digits)) }
-        ensures there { IfSome result (λ c. c.node < length self.now.nodes.nodes) }
+        requires candidates { AreCandidatesThere (length self.now.nodes.nodes) self.now.candidates }
+        ensures named { IsNamed symbol.now self.now place (counted_value kinds.Seq36 (bytes_at symbol.now digits)) result.0 result.1 }
     {
-        if self.is_counted_alike(symbol, digits) {
-            return self.candidate(symbol, digits);
+        let counted = value36(&symbol[digits.from as usize..digits.to as usize]);
+        let named = numbered(&self.candidates.list, counted);
+        if self.candidates.is_one_list() {
+            return (named, self.counting.lists);
         }
-        self.last_counted(symbol, digits)
+        match counted {
+            Some(number) => self.named_apart(symbol, place, number),
+            None => (named, self.counting.lists),
+        }
     }
 
     /// The base class of an inherited constructor, unless it was counted before the constructor's own arguments, or a number
@@ -120,7 +175,7 @@ impl Linked {
     fn base_to_count(&self, symbol: &[u8], base: Part) -> Option<u32>
         requires table { IsTable (over symbol.now self.now.nodes) }
         requires there { IsThere symbol.now (length self.now.nodes.nodes) base }
-        ensures is { (around : Around) (state : State) → counted_base around (value_in symbol.now self.now.nodes base) state ≡ with_candidate true around (trees_in symbol.now self.now.nodes) result (with_candidate false around (trees_in symbol.now self.now.nodes) result state) }
+        ensures is { (around : Around) (state : State) → counted_base around (value_in symbol.now self.now.nodes base) state ≡ with_candidate by_gcc around (trees_in symbol.now self.now.nodes) result state }
         ensures there { IsThereBelow (length self.now.nodes.nodes) result }
     {
         match base {
@@ -160,8 +215,7 @@ impl Linked {
     {
         let base = self.base_to_count(symbol, self.given(symbol, parts, 1));
         let made = self.make_rare(symbol, Production::Inheriting, place, kept, parts)?;
-        self.append(symbol, kept, base, false)?;
-        self.append(symbol, kept, base, true)?;
+        self.append(symbol, kept, base, Counted::ByGcc)?;
         Ok(made)
     }
 
@@ -182,7 +236,7 @@ impl Linked {
         requires open { IsOpenAt (cpp_view symbol.now) symbol.now self.old frame.now parts.old.items }
         requires base { frame.now.base ≤ length parts.old.items }
         requires place { frame.now.place < length symbol.now }
-        ensures { Finishes (wide_view symbol.now) (wide_ends symbol.now self.old frame.now.kept) symbol.now self.old self.new frame.now parts.old parts.new result }
+        ensures { Finishes (wide_view symbol.now) (wide_ends symbol.now self.old frame.now.place frame.now.kept) symbol.now self.old self.new frame.now parts.old parts.new result }
     {
         let made = self.close_inheriting(symbol, frame.place, frame.kept, &parts[frame.base..])?;
         put(parts, frame.base, made)

@@ -3,7 +3,9 @@
 
 pub mod begin;
 pub mod between;
+pub mod candidates;
 pub mod closing;
+pub mod counting;
 pub mod dispatch;
 pub mod expression_meaning;
 pub mod expressions;

@@ -6,64 +6,29 @@ ghost use Rattle.sym_link.specs.Threads.{IsTaken};
 ghost use Rattle.cpp_term.specs.Unfolding.{first_state};
 ghost use Rattle.cpp_term.specs.Term.{Term};
 ghost use Rattle.cpp_tree.specs.Nodes.{IsThereBelow, tree_at};
-ghost use Rattle.cpp_link.specs.Parts.{trees_in, is_lambda, around_of, candidates_of, is_apart_behind, is_far_behind, AreCounted, AreCountedTwice, AreCandidatesThere};
-ghost use Rattle.cpp_link.specs.Reads.{with_candidate, with_marks};
+ghost use Rattle.cpp_term.specs.Values.{State};
+ghost use Rattle.cpp_references.specs.Around.{counted_of};
+ghost use Rattle.cpp_link.specs.Counting.{candidate_by};
+ghost use Rattle.cpp_link.specs.Parts.{trees_in, around_of, candidates_of, AreCandidatesThere};
+ghost use Rattle.cpp_link.specs.Reads.{with_candidate, with_candidates};
 ghost use Rattle.cpp_link.specs.View.{Holds, IsPaid, cpp_view};
 ghost use Rattle.cpp_link.specs.Room.{KeepsRoom, LacksRoom};
 
-use crate::part::{Candidate, Part, Surroundings};
+use crate::candidates::Candidates;
+use crate::counting::{Counted, Counting, NOTHING_COUNTED};
+use crate::part::{Part, Surroundings};
 use cpp_tree::Nodes;
 use std::alloc::Global;
 use sym_core::{Refusal, Span};
-use sym_link::parts::push_part;
 use sym_shape::rule::Row;
 
 /// The nodes of a symbol, the trees that a substitution may name, and the length of the packs under the innermost expansion.
 #[derive(Drop)]
 pub struct Linked {
     pub nodes: Nodes,
-    pub candidates: Vec<Candidate>,
+    pub candidates: Candidates,
     pub packs: Option<u32>,
-}
-
-/// Whether a candidate, or one before it, is a mark.
-pub(crate) fn is_apart(candidate: Candidate) -> bool
-    ensures { result ≡ candidate.is_apart || candidate.is_held }
-{
-    candidate.is_apart || candidate.is_held
-}
-
-/// Whether two are: a candidate and one before it, or two before it.
-#[inline(always)]
-fn is_far(candidate: Candidate) -> bool
-    ensures { result ≡ candidate.is_far || (candidate.is_apart && candidate.is_held) }
-{
-    candidate.is_far || (candidate.is_apart && candidate.is_held)
-}
-
-/// Whether two of the candidates are marks.
-#[inline(always)]
-pub(crate) fn has_two_holders(candidates: &[Candidate]) -> bool
-    requires counted { AreCounted false candidates.now }
-    requires twice { AreCountedTwice false false candidates.now }
-    ensures { result ≡ is_far_behind false false candidates.now }
-{
-    match candidates.last() {
-        Some(last) => is_far(*last),
-        None => false,
-    }
-}
-
-/// Whether one of the candidates is a mark.
-#[inline(always)]
-pub(crate) fn has_holder(candidates: &[Candidate]) -> bool
-    requires counted { AreCounted false candidates.now }
-    ensures { result ≡ is_apart_behind false candidates.now }
-{
-    match candidates.last() {
-        Some(last) => is_apart(*last),
-        None => false,
-    }
+    pub counting: Counting,
 }
 
 impl Linked {
@@ -71,8 +36,9 @@ impl Linked {
     pub fn new(alloc: Global) -> Linked {
         Linked {
             nodes: Nodes::new(alloc),
-            candidates: Vec::new(alloc),
+            candidates: Candidates::new(alloc),
             packs: None,
+            counting: NOTHING_COUNTED,
         }
     }
 
@@ -90,11 +56,12 @@ impl Linked {
     {
         self.candidates.clear();
         self.packs = None;
+        self.counting = NOTHING_COUNTED;
         self.nodes.begin()?;
         Ok(())
     }
 
-    /// A tree becomes a candidate, possibly as a mark.
+    /// A tree becomes a candidate, which is counted by these compilers.
     ///
     /// # Errors
     ///
@@ -104,32 +71,24 @@ impl Linked {
         &mut self,
         kept: Surroundings,
         node: u32,
-        is_held: bool,
+        counted: Counted,
     ) -> Result<(), Refusal>
         requires below { node < length self.old.nodes.nodes }
-        requires there { AreCandidatesThere (length self.old.nodes.nodes) self.old.candidates.items }
+        requires there { AreCandidatesThere (length self.old.nodes.nodes) self.old.candidates }
         ensures nodes { self.new.nodes ≡ self.old.nodes }
         ensures packs { self.new.packs ≡ self.old.packs }
-        ensures there { OnOk result (AreCandidatesThere (length self.old.nodes.nodes) self.new.candidates.items) }
-        ensures is { OnOk result ((ts : List Term) → candidates_of ts self.new.candidates.items
-            ≡ candidates_of ts self.old.candidates.items ++ record { tree = tree_at ts node; encoding = kept.encoding; in_lambda = is_lambda kept.scope; is_held = is_held } ∷ []) }
+        ensures counting { self.new.counting ≡ self.old.counting }
+        ensures there { OnOk result (AreCandidatesThere (length self.old.nodes.nodes) self.new.candidates) }
+        ensures is { OnOk result ((ts : List Term) → candidates_of ts self.new.candidates.list.items ≡ candidates_of ts self.old.candidates.list.items ++ candidate_by ts kept node counted ∷ []) }
         ensures memory { IfErr result (λ e. e ≡ refusals.Memory) }
         ensures keeps { KeepsRoom self.old self.new }
         ensures full { OnErr result (LacksRoom self.old self.new) }
     {
-        let candidate = Candidate {
-            node,
-            encoding: kept.encoding,
-            in_lambda: kept.in_lambda(),
-            is_held,
-            is_apart: has_holder(&self.candidates),
-            is_far: has_two_holders(&self.candidates),
-        };
-        push_part(&mut self.candidates, candidate)?;
+        self.candidates.push(kept, node, counted)?;
         Ok(())
     }
 
-    /// A tree becomes a candidate, possibly as a mark, or none does.
+    /// A tree becomes a candidate, which is counted by these compilers, or none does.
     ///
     /// # Errors
     ///
@@ -140,16 +99,17 @@ impl Linked {
         symbol: &[u8],
         kept: Surroundings,
         candidate: Option<u32>,
-        is_held: bool,
+        counted: Counted,
     ) -> Result<(), Refusal>
         requires candidate { IsThereBelow (length self.old.nodes.nodes) candidate }
-        requires there { AreCandidatesThere (length self.old.nodes.nodes) self.old.candidates.items }
+        requires there { AreCandidatesThere (length self.old.nodes.nodes) self.old.candidates }
         ensures nodes { self.new.nodes ≡ self.old.nodes }
         ensures packs { self.new.packs ≡ self.old.packs }
-        ensures there { OnOk result (AreCandidatesThere (length self.old.nodes.nodes) self.new.candidates.items) }
-        ensures is { OnOk result ((packs : Option ℕ) → with_candidate is_held (around_of (trees_in symbol.now self.old.nodes) kept) (trees_in symbol.now self.old.nodes) candidate
-            (record { candidates = candidates_of (trees_in symbol.now self.old.nodes) self.old.candidates.items; packs = packs })
-            ≡ record { candidates = candidates_of (trees_in symbol.now self.old.nodes) self.new.candidates.items; packs = packs }) }
+        ensures counting { self.new.counting ≡ self.old.counting }
+        ensures there { OnOk result (AreCandidatesThere (length self.old.nodes.nodes) self.new.candidates) }
+        ensures is { OnOk result ((state : State) → with_candidate (counted_of counted) (around_of (trees_in symbol.now self.old.nodes) kept) (trees_in symbol.now self.old.nodes) candidate
+            (record state { candidates = candidates_of (trees_in symbol.now self.old.nodes) self.old.candidates.list.items })
+            ≡ record state { candidates = candidates_of (trees_in symbol.now self.old.nodes) self.new.candidates.list.items }) }
         ensures memory { IfErr result (λ e. e ≡ refusals.Memory) }
         ensures keeps { KeepsRoom self.old self.new }
         ensures full { OnErr result (LacksRoom self.old self.new) }
@@ -157,42 +117,45 @@ impl Linked {
         match candidate {
             None => Ok(()),
             Some(node) => {
-                self.push_candidate(kept, node, is_held)?;
+                self.push_candidate(kept, node, counted)?;
                 Ok(())
             }
         }
     }
 
-    /// A tree becomes a candidate as a mark, or as two marks, or none does.
+    /// A tree becomes a candidate, which is counted by these compilers, or none does. It may become one before that which all count.
     ///
     /// # Errors
     ///
     /// `Memory` where the candidates couldn't grow.
-    #[tactic(auto, unfolding(crate::specs::Reads::with_marks))]
-    pub(crate) fn append_marks(
+    #[tactic(auto, unfolding(crate::specs::Reads::with_candidates))]
+    pub(crate) fn append_again(
         &mut self,
         symbol: &[u8],
         kept: Surroundings,
         candidate: Option<u32>,
-        twice: bool,
+        again: bool,
+        counted: Counted,
     ) -> Result<(), Refusal>
         requires candidate { IsThereBelow (length self.old.nodes.nodes) candidate }
-        requires there { AreCandidatesThere (length self.old.nodes.nodes) self.old.candidates.items }
+        requires there { AreCandidatesThere (length self.old.nodes.nodes) self.old.candidates }
         ensures nodes { self.new.nodes ≡ self.old.nodes }
         ensures packs { self.new.packs ≡ self.old.packs }
-        ensures there { OnOk result (AreCandidatesThere (length self.old.nodes.nodes) self.new.candidates.items) }
-        ensures is { OnOk result ((packs : Option ℕ) → with_marks twice (around_of (trees_in symbol.now self.old.nodes) kept) (trees_in symbol.now self.old.nodes) candidate
-            (record { candidates = candidates_of (trees_in symbol.now self.old.nodes) self.old.candidates.items; packs = packs })
-            ≡ record { candidates = candidates_of (trees_in symbol.now self.old.nodes) self.new.candidates.items; packs = packs }) }
+        ensures counting { self.new.counting ≡ self.old.counting }
+        ensures there { OnOk result (AreCandidatesThere (length self.old.nodes.nodes) self.new.candidates) }
+        ensures is { OnOk result ((state : State) → with_candidates again (counted_of counted) (around_of (trees_in symbol.now self.old.nodes) kept) (trees_in symbol.now self.old.nodes) candidate
+            (record state { candidates = candidates_of (trees_in symbol.now self.old.nodes) self.old.candidates.list.items })
+            ≡ record state { candidates = candidates_of (trees_in symbol.now self.old.nodes) self.new.candidates.list.items }) }
         ensures memory { IfErr result (λ e. e ≡ refusals.Memory) }
         ensures keeps { KeepsRoom self.old self.new }
         ensures full { OnErr result (LacksRoom self.old self.new) }
     {
-        self.append(symbol, kept, candidate, true)?;
-        if !twice {
+        if !again {
+            self.append(symbol, kept, candidate, counted)?;
             return Ok(());
         }
-        self.append(symbol, kept, candidate, true)?;
+        self.append(symbol, kept, candidate, Counted::ByAll)?;
+        self.append(symbol, kept, candidate, counted)?;
         Ok(())
     }
 

@@ -155,22 +155,35 @@ impl Linked {
                 internal: true,
                 bytes: self.text(symbol, parts, 0),
             }),
+            // <operator-name> ::= n and a second letter
             Production::OperatorN => piece(Piece::Operator(byte, self.letter(symbol, parts, 0))),
+            // <operator-name> ::= d and a second letter
             Production::OperatorD => piece(Piece::Operator(byte, self.letter(symbol, parts, 0))),
+            // <operator-name> ::= a and a second letter
             Production::OperatorA => piece(Piece::Operator(byte, self.letter(symbol, parts, 0))),
+            // <operator-name> ::= p and a second letter
             Production::OperatorP => piece(Piece::Operator(byte, self.letter(symbol, parts, 0))),
+            // <operator-name> ::= c and a second letter
             Production::OperatorC => piece(Piece::Operator(byte, self.letter(symbol, parts, 0))),
+            // <operator-name> ::= m and a second letter
             Production::OperatorM => piece(Piece::Operator(byte, self.letter(symbol, parts, 0))),
+            // <operator-name> ::= r and a second letter
             Production::OperatorR => piece(Piece::Operator(byte, self.letter(symbol, parts, 0))),
+            // <operator-name> ::= o and a second letter
             Production::OperatorO => piece(Piece::Operator(byte, self.letter(symbol, parts, 0))),
+            // <operator-name> ::= e and a second letter
             Production::OperatorE => piece(Piece::Operator(byte, self.letter(symbol, parts, 0))),
+            // <operator-name> ::= s and a second letter
             Production::OperatorS => piece(Piece::Operator(byte, self.letter(symbol, parts, 0))),
+            // <operator-name> ::= i and a second letter
             Production::OperatorI => piece(Piece::Operator(byte, self.letter(symbol, parts, 0))),
+            // <operator-name> ::= g and a second letter
             Production::OperatorG => piece(Piece::Operator(byte, self.letter(symbol, parts, 0))),
             // an operator of two letters, between the elements of a pack
             Production::FoldOperatorL => {
                 piece(Piece::Operator(byte, self.letter(symbol, parts, 0)))
             }
+            // <operator-name> ::= l and a second letter
             Production::OperatorL => {
                 self.operator_or_literal(symbol, byte, self.given(symbol, parts, 0))
             }
@@ -241,8 +254,19 @@ impl Linked {
                 qualifiers: self.qualifiers(symbol, parts, 2),
                 mark: self.reference(symbol, parts, 2),
             },
+            // <local-name> ::= Z <function encoding> E <entity name>, before the number of a temporary
+            Production::LocalTemporary => Outcome::Entity {
+                node: Node::Local {
+                    encoding: self.tree(symbol, parts, 0),
+                    entity: self.tree(symbol, parts, 2),
+                    discriminator: self.discriminator(symbol, parts, 3),
+                },
+                qualifiers: self.qualifiers(symbol, parts, 2),
+                mark: self.reference(symbol, parts, 2),
+            },
             // <local-name> ::= Z <function encoding> E d [<parameter number>] _ <entity name>
             Production::DefaultEntity => self.default_entity(symbol, parts),
+            // <local-name> ::= Z <function encoding> E d [<parameter number>] _ <entity name>, as a type
             Production::DefaultTypeEntity => self.default_entity(symbol, parts),
             // <local-name> ::= Z <function encoding> E s [<discriminator>]
             Production::StringLiteral => made(
@@ -345,6 +369,16 @@ impl Linked {
             ),
             // <special-name> ::= TH <object name> | TW <object name>
             Production::SpecialName => made(
+                Node::OfName {
+                    letter: byte,
+                    name: self.tree(symbol, parts, 0),
+                    qualifiers: self.qualifiers(symbol, parts, 0),
+                    mark: self.reference(symbol, parts, 0),
+                },
+                true,
+            ),
+            // <special-name> ::= GR <object name> _, the first temporary whose life the object prolongs
+            Production::Temporary => made(
                 Node::OfName {
                     letter: byte,
                     name: self.tree(symbol, parts, 0),
@@ -462,6 +496,7 @@ impl Linked {
                 true,
                 self.text(symbol, parts, 0),
             ))),
+            // <number> ::= <decimal integer>
             Production::Positive => Outcome::Given(Part::Signed(signed_digits(
                 symbol,
                 false,
@@ -469,7 +504,9 @@ impl Linked {
             ))),
             // <discriminator> ::= _ <digit> | __ <number> _
             Production::Discriminator => Outcome::Given(self.given(symbol, parts, 0)),
+            // <discriminator> ::= _ <digit>, after its _
             Production::OneDigit => Outcome::Given(Part::Text(one_byte(symbol, place))),
+            // <discriminator> ::= __ <number> _, after its first _
             Production::ManyDigits => {
                 Outcome::Given(Part::Text(normal(symbol, self.text(symbol, parts, 0))))
             }
@@ -479,11 +516,13 @@ impl Linked {
                 place,
                 self.text(symbol, parts, 0),
             ))),
+            // <vendor-specific suffix>, byte by byte
             Production::SuffixByte => Outcome::Given(Part::Text(from_byte(
                 symbol,
                 place,
                 self.text(symbol, parts, 0),
             ))),
+            // <value float>, digit by digit
             Production::HexDigit => Outcome::Given(Part::Text(from_byte(
                 symbol,
                 place,

@@ -34,9 +34,9 @@ impl Linked {
         requires kept { IsKeptThere (length self.now.nodes.nodes) kept }
         requires closed { IsClosed (around_of (trees_in symbol.now self.now.nodes) kept) }
         requires digits { IsWithin digits symbol.now }
-        ensures is { IfOk result (λ step. (v : values.Value) (cs : List values.Candidate) → parameter_so_far (around_of (trees_in symbol.now self.now.nodes) kept) place (counted_value kinds.Decimal (bytes_at symbol.now digits)) [] (record { candidates = cs; packs = self.now.packs })
-            ≡ goes_on symbol.now self.now.nodes kept (v ∷ []) cs self.now.packs step) }
-        ensures refused { IfErr result (λ e. (cs : List values.Candidate) → Fails e (parameter_so_far (around_of (trees_in symbol.now self.now.nodes) kept) place (counted_value kinds.Decimal (bytes_at symbol.now digits)) [] (record { candidates = cs; packs = self.now.packs }))) }
+        ensures is { IfOk result (λ step. (v : values.Value) (state : values.State) → parameter_so_far (around_of (trees_in symbol.now self.now.nodes) kept) place (counted_value kinds.Decimal (bytes_at symbol.now digits)) [] (record state { packs = self.now.packs })
+            ≡ goes_on symbol.now self.now.nodes kept (v ∷ []) state self.now.packs step) }
+        ensures refused { IfErr result (λ e. (state : values.State) → Fails e (parameter_so_far (around_of (trees_in symbol.now self.now.nodes) kept) place (counted_value kinds.Decimal (bytes_at symbol.now digits)) [] (record state { packs = self.now.packs }))) }
         ensures there { IfOk result (λ step. IsStepThere symbol.now (length self.now.nodes.thunks) (length self.now.nodes.nodes) step) }
         ensures one { IfOk result (λ step. nodes_of_step step ≡ 1) }
         ensures bad { IfErr result (λ e. e ≡ refusals.Memory → ⊥) }
@@ -70,9 +70,9 @@ impl Linked {
         requires kept { IsKeptThere (length self.now.nodes.nodes) kept }
         requires closed { IsClosed (around_of (trees_in symbol.now self.now.nodes) kept) }
         requires digits { IsWithin digits symbol.now }
-        ensures is { IfOk result (λ step. (v : values.Value) (cs : List values.Candidate) → argument_so_far (around_of (trees_in symbol.now self.now.nodes) kept) place (counted_value kinds.Decimal (bytes_at symbol.now digits)) (record { candidates = cs; packs = self.now.packs })
-            ≡ goes_on symbol.now self.now.nodes kept (v ∷ []) cs self.now.packs step) }
-        ensures refused { IfErr result (λ e. (cs : List values.Candidate) → Fails e (argument_so_far (around_of (trees_in symbol.now self.now.nodes) kept) place (counted_value kinds.Decimal (bytes_at symbol.now digits)) (record { candidates = cs; packs = self.now.packs }))) }
+        ensures is { IfOk result (λ step. (v : values.Value) (state : values.State) → argument_so_far (around_of (trees_in symbol.now self.now.nodes) kept) place (counted_value kinds.Decimal (bytes_at symbol.now digits)) (record state { packs = self.now.packs })
+            ≡ goes_on symbol.now self.now.nodes kept (v ∷ []) state self.now.packs step) }
+        ensures refused { IfErr result (λ e. (state : values.State) → Fails e (argument_so_far (around_of (trees_in symbol.now self.now.nodes) kept) place (counted_value kinds.Decimal (bytes_at symbol.now digits)) (record state { packs = self.now.packs }))) }
         ensures there { IfOk result (λ step. IsStepThere symbol.now (length self.now.nodes.thunks) (length self.now.nodes.nodes) step) }
         ensures one { IfOk result (λ step. nodes_of_step step ≡ 1) }
         ensures bad { IfErr result (λ e. e ≡ refusals.Memory → ⊥) }

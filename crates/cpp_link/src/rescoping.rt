@@ -1,7 +1,7 @@
 // Linking a symbol by the wide grammar: in a lambda's signature parameters are the lambda's own, such a lambda is a piece of
 // its own, and a substitution denotes its tree with the arguments that are meant where it occurs.
 
-ghost use Rattle.std.specs.Prelude.{◌≡◌, ℕ, ◌-◌, ◌<◌, ◌≤◌, ◌^◌, ◌∷◌, [], MatchOption, ◌&&◌, ◌||◌, List, length, true, Ok, IfOk, IfErr};
+ghost use Rattle.std.specs.Prelude.{◌≡◌, ℕ, ◌-◌, ◌<◌, ◌≤◌, ◌^◌, ◌∷◌, [], MatchOption, ◌&&◌, ◌||◌, List, length, true, false, Ok, IfOk, IfErr};
 ghost use Rattle.sym_core.specs.Value.{counted_value};
 ghost use Rattle.sym_core.specs.declared.NumberKind.TheVariants as kinds;
 ghost use Rattle.sym_core.specs.declared.refusal.Refusal.TheVariants as refusals;
@@ -11,24 +11,28 @@ ghost use Rattle.sym_link.specs.Threads.{IsOpenAt};
 ghost use Rattle.sym_link.specs.Unfold.{found};
 ghost use Rattle.cpp_grammar.specs.declared.production.Production.TheVariants as productions;
 ghost use Rattle.cpp_grammar.specs.declared.production.Production.{Production as Production-type};
-ghost use Rattle.cpp_grammar.specs.Rescoping.{generic_number};
+ghost use Rattle.cpp_grammar.specs.Rescoping.{is_by_all, generic_number};
 ghost use Rattle.cpp_grammar.specs.Unfolding.{production_at};
 ghost use Rattle.cpp_term.specs.Values as values;
-ghost use Rattle.cpp_term.specs.Rescoping.{is_foreign, restated, substituted_wide, as_generic_lambda, between_wide};
+ghost use Rattle.cpp_term.specs.Rescoping.{is_foreign, restated, numbered, as_generic_lambda, between_wide};
 ghost use Rattle.cpp_tree.specs.Nodes.{over, tree_at, bytes_at, piece_of, IsThereBelow, IsPieceBelow, IsWithin, IsTable};
 ghost use Rattle.cpp_link.specs.Grows.{HasPlace};
-ghost use Rattle.cpp_link.specs.LinkRescoping.{is_parameter, is_parameter_argument, steps_apart, marks_twice, with_mark, going_marked, generic_read, named_by, substituted_nodes, wide_ends, wide_view};
+ghost use Rattle.cpp_link.specs.LinkRescoping.{is_parameter, is_parameter_argument, steps_apart, counted_before, counts_again, with_mark, going_marked, generic_read, number_in, named_by, substituted_nodes, wide_ends, wide_view};
 ghost use Rattle.cpp_link.specs.Making.{state_of};
 ghost use Rattle.cpp_link.specs.NodeCount.{makes_before};
 ghost use Rattle.cpp_link.specs.Parts.{trees_in, value_in, values_in, is_lambda, around_of, candidate_of, IsClosed, IsThere, AreThere, IsKeptThere, IsStepThere};
-ghost use Rattle.cpp_link.specs.Progress.{Advances, Finishes, MakesPart};
-ghost use Rattle.cpp_link.specs.Reads.{with_marks, goes_on};
+ghost use Rattle.cpp_link.specs.Progress.{Advances, Begins, Finishes, MakesPart};
+ghost use Rattle.cpp_references.specs.Around.{counted_of};
+ghost use Rattle.cpp_term.specs.Term.{Term};
+ghost use Rattle.cpp_term.specs.Values.{prefix_listed};
+ghost use Rattle.cpp_link.specs.Reads.{with_candidates, goes_on};
 ghost use Rattle.cpp_link.specs.Stepping.{IsStepOf, nodes_of_step};
 ghost use Rattle.cpp_link.specs.View.{IsPaid, IsWhole, cpp_view};
 
+use crate::counting::{Counted, Expected};
 use crate::dispatch::production_of;
 use crate::linked::Linked;
-use crate::part::{Candidate, Part, Step, Surroundings};
+use crate::part::{Candidate, Naming, Part, Step, Surroundings};
 use cpp_grammar::production::Production;
 use cpp_references::candidates::substituted;
 use cpp_references::elsewhere::argument_here;
@@ -38,6 +42,7 @@ use std::alloc::Global;
 use sym_core::{Refusal, Span, value10};
 use sym_link::language::Frame;
 use sym_link::parts::put;
+use sym_shape::rule::Row;
 
 /// What is linked of a symbol that the wide grammar reads.
 #[derive(Drop)]
@@ -54,13 +59,29 @@ impl Rescoping {
     }
 }
 
-/// Whether two marks are put among the candidates: before arguments that may be those of a constructor which is inherited.
-#[tactic(auto, unfolding(crate::specs::LinkRescoping::marks_twice))]
-fn marks_twice(production: Production) -> bool
-    ensures { result ≡ marks_twice production }
+/// By which compilers the tree is counted that becomes a candidate: a name with its `M`, or the name before arguments that may be
+/// those of an inherited constructor, or of a concept.
+#[tactic(auto, unfolding(crate::specs::LinkRescoping::counted_before, cpp_references::specs::Around::counted_of))]
+fn counted_before(production: Production) -> Counted
+    ensures { counted_of result ≡ counted_before production }
 {
     match production {
-        Production::HeldArguments => true,
+        Production::Holder => Counted::ByNewer,
+        _ => Counted::BySome,
+    }
+}
+
+/// Whether the tree becomes a candidate before that which all count: the name before an `M`, unless it has become one as a prefix.
+#[tactic(auto, unfolding(crate::specs::LinkRescoping::counts_again, crate::specs::Parts::around_of, crate::specs::Parts::prefix_in, crate::specs::Parts::prefix_of, cpp_term::specs::Values::prefix_listed))]
+fn counts_again(production: Production, kept: Surroundings) -> bool
+    ensures { (ts : List Term) → result ≡ counts_again production (prefix_listed (around_of ts kept).prefix) }
+{
+    match production {
+        Production::Holder => match kept.naming {
+            Naming::Outermost => true,
+            Naming::Unlisted => false,
+            Naming::Listed => true,
+        },
         _ => false,
     }
 }
@@ -93,13 +114,70 @@ fn generic_number(counted: Option<u64>) -> u32
 }
 
 impl Linked {
+    /// The rule of a row begins where not all compilers count alike: of the `S` of a nested name, and of a type under qualifiers,
+    /// the form says what it may name.
+    ///
+    /// # Errors
+    ///
+    /// Those of `begin_rule`.
+    #[inline(never)]
+    fn begin_apart(
+        &mut self,
+        symbol: &[u8],
+        rows: &[Row],
+        context: Surroundings,
+        row: Row,
+    ) -> Result<Surroundings, Refusal>
+        requires place { row.from < length symbol.now }
+        requires end { row.end ≤ length rows.now }
+        requires apart { is_by_all (counted_of self.old.candidates.by) ≡ false }
+        ensures { Begins (wide_view symbol.now) symbol.now rows.now self.old self.new context row result }
+    {
+        match production_of(row.rule) {
+            // <template-prefix> ::= <substitution>
+            Production::NestTemplate => {
+                self.counting.expected = Expected::PrefixAt(row.from.saturating_sub(1));
+                Ok(context.with_packs(self.packs))
+            }
+            // <type> ::= <CV-qualifiers> <type>
+            Production::QualifiedPlain => {
+                self.counting.expected = Expected::QualifiedAt(row.from);
+                Ok(context.with_packs(self.packs))
+            }
+            _ => self.begin_rule(symbol, rows, context, row),
+        }
+    }
+
+    /// The rule of a row begins, in these surroundings.
+    ///
+    /// # Errors
+    ///
+    /// Those of `begin_rule`.
+    #[inline(always)]
+    pub(crate) fn begin_wide(
+        &mut self,
+        symbol: &[u8],
+        rows: &[Row],
+        context: Surroundings,
+        row: Row,
+    ) -> Result<Surroundings, Refusal>
+        requires place { row.from < length symbol.now }
+        requires end { row.end ≤ length rows.now }
+        ensures { Begins (wide_view symbol.now) symbol.now rows.now self.old self.new context row result }
+    {
+        if self.candidates.is_one_list() {
+            return self.begin_rule(symbol, rows, context, row);
+        }
+        self.begin_apart(symbol, rows, context, row)
+    }
+
     /// A lambda's own parameter, in its signature, with these digits (ABI 5.1.8). It may be passed as an argument.
     #[tactic(auto, unfolding(crate::specs::LinkRescoping::generic_read, cpp_term::specs::Rescoping::generic_so_far, cpp_term::specs::Between::listed_so_far, crate::specs::Reads::goes_on, crate::specs::Reads::behind_first, crate::specs::Reads::named_if, crate::specs::Reads::appended_if, cpp_tree::specs::Nodes::tree_of))]
     fn generic(&self, symbol: &[u8], kept: Surroundings, digits: Span, is_argument: bool) -> Step
         requires table { IsTable (over symbol.now self.now.nodes) }
         requires digits { IsWithin digits symbol.now }
-        ensures is { (v : values.Value) (cs : List values.Candidate) → generic_read is_argument (around_of (trees_in symbol.now self.now.nodes) kept) (counted_value kinds.Decimal (bytes_at symbol.now digits)) (record { candidates = cs; packs = self.now.packs })
-            ≡ goes_on symbol.now self.now.nodes kept (v ∷ []) cs self.now.packs result }
+        ensures is { (v : values.Value) (state : values.State) → generic_read is_argument (around_of (trees_in symbol.now self.now.nodes) kept) (counted_value kinds.Decimal (bytes_at symbol.now digits)) (record state { packs = self.now.packs })
+            ≡ goes_on symbol.now self.now.nodes kept (v ∷ []) state self.now.packs result }
         ensures there { IsStepThere symbol.now (length self.now.nodes.thunks) (length self.now.nodes.nodes) result }
         ensures of { (production : Production-type) → is_parameter production ≡ true → IsStepOf production 1 result }
         ensures makes { (production : Production-type) (known : List values.Value) → is_parameter production ≡ true → length known ≡ 1 → nodes_of_step result ≡ makes_before production known }
@@ -146,9 +224,9 @@ impl Linked {
         requires kept { IsKeptThere (length self.now.nodes.nodes) kept }
         requires there { AreThere symbol.now (length self.now.nodes.nodes) parts.now }
         requires apart { steps_apart production (is_lambda kept.scope) (length parts.now) ≡ true }
-        ensures is { IfOk result (λ step. (cs : List values.Candidate) → between_wide production (around_of (trees_in symbol.now self.now.nodes) kept) place (values_in symbol.now self.now.nodes parts.now) (record { candidates = cs; packs = self.now.packs })
-            ≡ going_marked production (around_of (trees_in symbol.now self.now.nodes) kept) (goes_on symbol.now self.now.nodes kept (values_in symbol.now self.now.nodes parts.now) cs self.now.packs step)) }
-        ensures refused { IfErr result (λ e. (cs : List values.Candidate) → Fails e (between_wide production (around_of (trees_in symbol.now self.now.nodes) kept) place (values_in symbol.now self.now.nodes parts.now) (record { candidates = cs; packs = self.now.packs }))) }
+        ensures is { IfOk result (λ step. (state : values.State) → between_wide production (around_of (trees_in symbol.now self.now.nodes) kept) place (values_in symbol.now self.now.nodes parts.now) (record state { packs = self.now.packs })
+            ≡ going_marked production (around_of (trees_in symbol.now self.now.nodes) kept) (goes_on symbol.now self.now.nodes kept (values_in symbol.now self.now.nodes parts.now) state self.now.packs step)) }
+        ensures refused { IfErr result (λ e. (state : values.State) → Fails e (between_wide production (around_of (trees_in symbol.now self.now.nodes) kept) place (values_in symbol.now self.now.nodes parts.now) (record state { packs = self.now.packs }))) }
         ensures there { IfOk result (λ step. IsStepThere symbol.now (length self.now.nodes.thunks) (length self.now.nodes.nodes) step) }
         ensures of { IfOk result (λ step. IsStepOf production (length parts.now) step) }
         ensures makes { IfOk result (λ step. nodes_of_step step ≡ makes_before production (values_in symbol.now self.now.nodes parts.now)) }
@@ -165,7 +243,7 @@ impl Linked {
             }
             // <template-args> ::= I <template-arg>* E, of a constructor that is inherited, or of a concept
             Production::HeldArguments => Ok(Step::Go {
-                candidate: self.prefix_candidate(symbol, kept),
+                candidate: None,
                 then: self.inside(kept),
                 packs: self.packs,
             }),
@@ -190,7 +268,7 @@ impl Linked {
         requires table { IsTable (over symbol.now self.now.nodes) }
         requires kept { IsKeptThere (length self.now.nodes.nodes) kept }
         requires there { AreThere symbol.now (length self.now.nodes.nodes) parts.now }
-        ensures is { (state : values.State) → with_marks (marks_twice production) (around_of (trees_in symbol.now self.now.nodes) kept) (trees_in symbol.now self.now.nodes) result state
+        ensures is { (state : values.State) → with_candidates (counts_again production (prefix_listed (around_of (trees_in symbol.now self.now.nodes) kept).prefix)) (counted_before production) (around_of (trees_in symbol.now self.now.nodes) kept) (trees_in symbol.now self.now.nodes) result state
             ≡ with_mark production (around_of (trees_in symbol.now self.now.nodes) kept) (values_in symbol.now self.now.nodes parts.now) state }
         ensures there { IsThereBelow (length self.now.nodes.nodes) result }
     {
@@ -227,7 +305,9 @@ impl Linked {
         let step = self.step_apart(symbol, production, frame.place, frame.kept, own)?;
         let then = self.take_step(symbol, frame.kept, frame.base, step, parts)?;
         let mark = self.marked(symbol, production, frame.kept, &parts[frame.base..]);
-        self.append_marks(symbol, frame.kept, mark, marks_twice(production))?;
+        let again = counts_again(production, frame.kept);
+        let counted = counted_before(production);
+        self.append_again(symbol, frame.kept, mark, again, counted)?;
         Ok(then)
     }
 
@@ -298,12 +378,14 @@ impl Linked {
         requires kept { IsKeptThere (length self.old.nodes.nodes) kept }
         requires closed { IsClosed (around_of (trees_in symbol.now self.old.nodes) kept) }
         requires room { HasPlace symbol.now self.old.nodes 2 }
-        ensures is { IfOk result (λ made. substituted_wide (around_of (trees_in symbol.now self.old.nodes) kept) (place - 1) (named_by (state_of symbol.now self.old) (values_in symbol.now self.old.nodes parts.now)) (state_of symbol.now self.old) ≡ Ok (found (value_in symbol.now self.new.nodes made) (state_of symbol.now self.new))) }
-        ensures refused { IfErr result (λ e. Fails e (substituted_wide (around_of (trees_in symbol.now self.old.nodes) kept) (place - 1) (named_by (state_of symbol.now self.old) (values_in symbol.now self.old.nodes parts.now)) (state_of symbol.now self.old))) }
-        ensures made { MakesPart symbol.now self.old self.new 2 (substituted_nodes (around_of (trees_in symbol.now self.old.nodes) kept) (named_by (state_of symbol.now self.old) (values_in symbol.now self.old.nodes parts.now))) result }
+        ensures is { IfOk result (λ made. numbered (around_of (trees_in symbol.now self.old.nodes) kept) (place - 1) (number_in (values_in symbol.now self.old.nodes parts.now)) (state_of symbol.now self.old) ≡ Ok (found (value_in symbol.now self.new.nodes made) (state_of symbol.now self.new))) }
+        ensures refused { IfErr result (λ e. Fails e (numbered (around_of (trees_in symbol.now self.old.nodes) kept) (place - 1) (number_in (values_in symbol.now self.old.nodes parts.now)) (state_of symbol.now self.old))) }
+        ensures made { MakesPart symbol.now self.old self.new 2 (substituted_nodes (around_of (trees_in symbol.now self.old.nodes) kept) (named_by place (state_of symbol.now self.old) (values_in symbol.now self.old.nodes parts.now))) result }
     {
         let at = place.saturating_sub(1);
-        let Some(candidate) = self.named_alike(symbol, self.text(symbol, parts, 0)) else {
+        let (named, lists) = self.named_by_lists(symbol, at, self.text(symbol, parts, 0));
+        self.counting.lists = lists;
+        let Some(candidate) = named else {
             return Err(Refusal::BadReference { at });
         };
         if self.is_foreign(symbol, kept, candidate) {
@@ -334,7 +416,7 @@ impl Linked {
         requires room { HasRoom (cpp_view symbol.now) symbol.now self.old (owed_behind (cpp_view symbol.now) frame.now parts.old.items) }
         requires open { IsOpenAt (cpp_view symbol.now) symbol.now self.old frame.now parts.old.items }
         requires base { frame.now.base ≤ length parts.old.items }
-        ensures { Finishes (wide_view symbol.now) (wide_ends symbol.now self.old frame.now.kept) symbol.now self.old self.new frame.now parts.old parts.new result }
+        ensures { Finishes (wide_view symbol.now) (wide_ends symbol.now self.old frame.now.place frame.now.kept) symbol.now self.old self.new frame.now parts.old parts.new result }
     {
         let made = self.substitute_rescoped(symbol, frame.place, frame.kept, &parts[frame.base..])?;
         put(parts, frame.base, made)
@@ -391,7 +473,7 @@ impl Linked {
         requires open { IsOpenAt (cpp_view symbol.now) symbol.now self.old frame.now parts.old.items }
         requires base { frame.now.base ≤ length parts.old.items }
         requires place { frame.now.place < length symbol.now }
-        ensures { Finishes (wide_view symbol.now) (wide_ends symbol.now self.old frame.now.kept) symbol.now self.old self.new frame.now parts.old parts.new result }
+        ensures { Finishes (wide_view symbol.now) (wide_ends symbol.now self.old frame.now.place frame.now.kept) symbol.now self.old self.new frame.now parts.old parts.new result }
     {
         let made = self.make_rare(
             symbol,

@@ -34,7 +34,7 @@ impl Linked {
         requires table { IsTable (over symbol.now self.now.nodes) }
         requires kept { IsKeptThere (length self.now.nodes.nodes) kept }
         requires own { production ≡ productions.HeldArguments → ⊥ }
-        ensures is { (cs : List values.Candidate) → between production (around_of (trees_in symbol.now self.now.nodes) kept) place [] (record { candidates = cs; packs = self.now.packs }) ≡ goes_on symbol.now self.now.nodes kept [] cs self.now.packs result }
+        ensures is { (state : values.State) → between production (around_of (trees_in symbol.now self.now.nodes) kept) place [] (record state { packs = self.now.packs }) ≡ goes_on symbol.now self.now.nodes kept [] state self.now.packs result }
         ensures there { IsStepThere symbol.now (length self.now.nodes.thunks) (length self.now.nodes.nodes) result }
         ensures of { (held : ℕ) → IsStepOf production held result }
         ensures makes { nodes_of_step result ≡ makes_before production [] }
@@ -51,7 +51,7 @@ impl Linked {
             },
             Production::NestNext => Step::Go {
                 candidate: self.prefix_candidate(symbol, kept),
-                then: self.behind_name(kept, self.prefix_node(symbol, kept), true),
+                then: kept,
                 packs: self.packs,
             },
             Production::Lambda => self.go(self.in_signature(kept)),
@@ -141,6 +141,7 @@ impl Linked {
         requires integer_literal { production ≡ productions.IntegerLiteral → ⊥ }
         requires nested_base { production ≡ productions.NestedBase → ⊥ }
         requires unnested_base { production ≡ productions.UnnestedBase → ⊥ }
+        requires local_temporary { production ≡ productions.LocalTemporary → ⊥ }
         requires value_of { production ≡ productions.ValueOf → ⊥ }
         requires of_concept { production ≡ productions.OfConcept → ⊥ }
         requires named_concept { production ≡ productions.NamedConcept → ⊥ }
@@ -155,7 +156,7 @@ impl Linked {
         requires type_tag { production ≡ productions.TypeTag → ⊥ }
         requires operator_reference { production ≡ productions.OperatorReference → ⊥ }
         requires simple_id { production ≡ productions.SimpleId → ⊥ }
-        ensures is { (cs : List values.Candidate) → between production (around_of (trees_in symbol.now self.now.nodes) kept) place (value_in symbol.now self.now.nodes first ∷ []) (record { candidates = cs; packs = self.now.packs }) ≡ goes_on symbol.now self.now.nodes kept (value_in symbol.now self.now.nodes first ∷ []) cs self.now.packs result }
+        ensures is { (state : values.State) → between production (around_of (trees_in symbol.now self.now.nodes) kept) place (value_in symbol.now self.now.nodes first ∷ []) (record state { packs = self.now.packs }) ≡ goes_on symbol.now self.now.nodes kept (value_in symbol.now self.now.nodes first ∷ []) state self.now.packs result }
         ensures there { IsStepThere symbol.now (length self.now.nodes.thunks) (length self.now.nodes.nodes) result }
         ensures of { IsStepOf production 1 result }
         ensures makes { nodes_of_step result ≡ makes_before production (value_in symbol.now self.now.nodes first ∷ []) }
@@ -284,11 +285,12 @@ impl Linked {
         requires integer_literal { production ≡ productions.IntegerLiteral → ⊥ }
         requires nested_base { production ≡ productions.NestedBase → ⊥ }
         requires unnested_base { production ≡ productions.UnnestedBase → ⊥ }
+        requires local_temporary { production ≡ productions.LocalTemporary → ⊥ }
         requires value_of { production ≡ productions.ValueOf → ⊥ }
         requires of_concept { production ≡ productions.OfConcept → ⊥ }
         requires named_concept { production ≡ productions.NamedConcept → ⊥ }
         requires unresolved_in_type { production ≡ productions.UnresolvedInType → ⊥ }
-        ensures is { (cs : List values.Candidate) → between production (around_of (trees_in symbol.now self.now.nodes) kept) place (value_in symbol.now self.now.nodes first ∷ []) (record { candidates = cs; packs = self.now.packs }) ≡ goes_on symbol.now self.now.nodes kept (value_in symbol.now self.now.nodes first ∷ []) cs self.now.packs result }
+        ensures is { (state : values.State) → between production (around_of (trees_in symbol.now self.now.nodes) kept) place (value_in symbol.now self.now.nodes first ∷ []) (record state { packs = self.now.packs }) ≡ goes_on symbol.now self.now.nodes kept (value_in symbol.now self.now.nodes first ∷ []) state self.now.packs result }
         ensures there { IsStepThere symbol.now (length self.now.nodes.thunks) (length self.now.nodes.nodes) result }
         ensures of { IsStepOf production 1 result }
         ensures makes { nodes_of_step result ≡ makes_before production (value_in symbol.now self.now.nodes first ∷ []) }
@@ -352,7 +354,7 @@ impl Linked {
         requires pack_argument { production ≡ productions.PackArgument → ⊥ }
         requires parameter_argument { production ≡ productions.ParameterArgument → ⊥ }
         requires parameter_expression { production ≡ productions.ParameterExpression → ⊥ }
-        ensures is { (cs : List values.Candidate) → between production (around_of (trees_in symbol.now self.now.nodes) kept) place (value_in symbol.now self.now.nodes first ∷ []) (record { candidates = cs; packs = self.now.packs }) ≡ goes_on symbol.now self.now.nodes kept (value_in symbol.now self.now.nodes first ∷ []) cs self.now.packs result }
+        ensures is { (state : values.State) → between production (around_of (trees_in symbol.now self.now.nodes) kept) place (value_in symbol.now self.now.nodes first ∷ []) (record state { packs = self.now.packs }) ≡ goes_on symbol.now self.now.nodes kept (value_in symbol.now self.now.nodes first ∷ []) state self.now.packs result }
         ensures there { IsStepThere symbol.now (length self.now.nodes.thunks) (length self.now.nodes.nodes) result }
         ensures of { IsStepOf production 1 result }
         ensures makes { nodes_of_step result ≡ makes_before production (value_in symbol.now self.now.nodes first ∷ []) }
@@ -419,6 +421,9 @@ impl Linked {
                 self.node(symbol, first),
                 is_listed(first),
             )),
+            Production::LocalTemporary => {
+                self.go(self.behind_name(kept, self.node(symbol, first), true))
+            }
             Production::ValueOf => self.go(self.in_signature(kept)),
             Production::OfConcept => self.go(self.in_signature(kept)),
             Production::NamedConcept => self.go(self.behind_name(
@@ -450,7 +455,7 @@ impl Linked {
         requires kept { IsKeptThere (length self.now.nodes.nodes) kept }
         requires first { IsThere symbol.now (length self.now.nodes.nodes) first }
         requires second { IsThere symbol.now (length self.now.nodes.nodes) second }
-        ensures is { (cs : List values.Candidate) → between production (around_of (trees_in symbol.now self.now.nodes) kept) place (value_in symbol.now self.now.nodes first ∷ value_in symbol.now self.now.nodes second ∷ []) (record { candidates = cs; packs = self.now.packs }) ≡ goes_on symbol.now self.now.nodes kept (value_in symbol.now self.now.nodes first ∷ value_in symbol.now self.now.nodes second ∷ []) cs self.now.packs result }
+        ensures is { (state : values.State) → between production (around_of (trees_in symbol.now self.now.nodes) kept) place (value_in symbol.now self.now.nodes first ∷ value_in symbol.now self.now.nodes second ∷ []) (record state { packs = self.now.packs }) ≡ goes_on symbol.now self.now.nodes kept (value_in symbol.now self.now.nodes first ∷ value_in symbol.now self.now.nodes second ∷ []) state self.now.packs result }
         ensures there { IsStepThere symbol.now (length self.now.nodes.thunks) (length self.now.nodes.nodes) result }
         ensures of { IsStepOf production 2 result }
         ensures makes { nodes_of_step result ≡ makes_before production (value_in symbol.now self.now.nodes first ∷ value_in symbol.now self.now.nodes second ∷ []) }
@@ -472,7 +477,7 @@ impl Linked {
                     template: self.prefix_node(symbol, kept),
                     arguments: self.list_in(symbol, first),
                 },
-                listed: true,
+                listed: false,
                 is_name: true,
                 is_candidate: true,
                 packs: self.packs,
@@ -495,6 +500,9 @@ impl Linked {
                 template: self.prefix_node(symbol, kept),
                 arguments: self.list_in(symbol, first),
             }),
+            Production::LocalTemporary => {
+                self.go(self.behind_name(kept, self.node(symbol, first), true))
+            }
             Production::ValueOf => self.go(self.in_signature(kept)),
             Production::OfConcept => self.go(self.in_signature(kept)),
             _ => self.go(kept),
@@ -518,7 +526,7 @@ impl Linked {
         requires first { IsThere symbol.now (length self.now.nodes.nodes) first }
         requires second { IsThere symbol.now (length self.now.nodes.nodes) second }
         requires third { IsThere symbol.now (length self.now.nodes.nodes) third }
-        ensures is { (cs : List values.Candidate) → between production (around_of (trees_in symbol.now self.now.nodes) kept) place (value_in symbol.now self.now.nodes first ∷ value_in symbol.now self.now.nodes second ∷ value_in symbol.now self.now.nodes third ∷ []) (record { candidates = cs; packs = self.now.packs }) ≡ goes_on symbol.now self.now.nodes kept (value_in symbol.now self.now.nodes first ∷ value_in symbol.now self.now.nodes second ∷ value_in symbol.now self.now.nodes third ∷ []) cs self.now.packs result }
+        ensures is { (state : values.State) → between production (around_of (trees_in symbol.now self.now.nodes) kept) place (value_in symbol.now self.now.nodes first ∷ value_in symbol.now self.now.nodes second ∷ value_in symbol.now self.now.nodes third ∷ []) (record state { packs = self.now.packs }) ≡ goes_on symbol.now self.now.nodes kept (value_in symbol.now self.now.nodes first ∷ value_in symbol.now self.now.nodes second ∷ value_in symbol.now self.now.nodes third ∷ []) state self.now.packs result }
         ensures there { IsStepThere symbol.now (length self.now.nodes.thunks) (length self.now.nodes.nodes) result }
         ensures of { (held : ℕ) → IsStepOf production held result }
         ensures makes { nodes_of_step result ≡ makes_before production (value_in symbol.now self.now.nodes first ∷ value_in symbol.now self.now.nodes second ∷ value_in symbol.now self.now.nodes third ∷ []) }
@@ -547,6 +555,9 @@ impl Linked {
                 self.go(self.behind_name(kept, self.node(symbol, first), true))
             }
             Production::Constraint => self.go(self.in_signature(kept)),
+            Production::LocalTemporary => {
+                self.go(self.behind_name(kept, self.node(symbol, first), true))
+            }
             Production::ValueOf => self.go(self.in_signature(kept)),
             Production::OfConcept => self.go(self.in_signature(kept)),
             _ => self.go(kept),
@@ -566,7 +577,7 @@ impl Linked {
         requires table { IsTable (over symbol.now self.now.nodes) }
         requires kept { IsKeptThere (length self.now.nodes.nodes) kept }
         requires first { IsThere symbol.now (length self.now.nodes.nodes) first }
-        ensures is { (v w x : values.Value) (vs : List values.Value) (cs : List values.Candidate) → between production (around_of (trees_in symbol.now self.now.nodes) kept) place (value_in symbol.now self.now.nodes first ∷ v ∷ w ∷ x ∷ vs) (record { candidates = cs; packs = self.now.packs }) ≡ goes_on symbol.now self.now.nodes kept (value_in symbol.now self.now.nodes first ∷ v ∷ w ∷ x ∷ vs) cs self.now.packs result }
+        ensures is { (v w x : values.Value) (vs : List values.Value) (state : values.State) → between production (around_of (trees_in symbol.now self.now.nodes) kept) place (value_in symbol.now self.now.nodes first ∷ v ∷ w ∷ x ∷ vs) (record state { packs = self.now.packs }) ≡ goes_on symbol.now self.now.nodes kept (value_in symbol.now self.now.nodes first ∷ v ∷ w ∷ x ∷ vs) state self.now.packs result }
         ensures there { IsStepThere symbol.now (length self.now.nodes.thunks) (length self.now.nodes.nodes) result }
         ensures of { (held : ℕ) → IsStepOf production held result }
         ensures makes { (v w x : values.Value) (vs : List values.Value) → nodes_of_step result ≡ makes_before production (value_in symbol.now self.now.nodes first ∷ v ∷ w ∷ x ∷ vs) }
@@ -592,6 +603,9 @@ impl Linked {
                 self.go(self.behind_name(kept, self.node(symbol, first), true))
             }
             Production::Constraint => self.go(self.in_signature(kept)),
+            Production::LocalTemporary => {
+                self.go(self.behind_name(kept, self.node(symbol, first), true))
+            }
             Production::ValueOf => self.go(self.in_signature(kept)),
             Production::OfConcept => self.go(self.in_signature(kept)),
             _ => self.go(kept),

@@ -16,8 +16,9 @@ ghost use Rattle.cpp_references.specs.declared.around.Surroundings.{Surroundings
 ghost use Rattle.cpp_link.specs.declared.part.Part.TheVariants as variants;
 ghost use Rattle.cpp_link.specs.declared.part.Step.{Step};
 ghost use Rattle.cpp_link.specs.Parts.{trees_in, tree_of_node, value_in, values_in, prefix_of, name_of, around_of, IsClosed, IsThere, AreThere, IsPrefixThere, IsKeptThere, IsStepThere};
-ghost use Rattle.cpp_link.specs.LinkRescoping.{marked_unless};
-ghost use Rattle.cpp_link.specs.Reads.{with_candidate, with_marks, goes_on};
+ghost use Rattle.cpp_grammar.specs.Values.{by_all, by_some};
+ghost use Rattle.cpp_term.specs.Rescoping.{counted_unless};
+ghost use Rattle.cpp_link.specs.Reads.{with_candidate, goes_on};
 ghost use Rattle.cpp_link.specs.Stepping.{IsStepOf, nodes_of_step};
 ghost use Rattle.cpp_link.specs.Closes.{pack_makes};
 ghost use Rattle.cpp_link.specs.NodeCount.{makes_before, one_if_arguments};
@@ -32,10 +33,10 @@ use cpp_tree::nodes::{ABSENT, NO_ELEMENTS};
 use sym_core::{Refusal, Span};
 
 /// The candidate that the name so far becomes.
-#[tactic(auto, unfolding(crate::specs::Parts::around_of, crate::specs::Parts::prefix_in, crate::specs::Parts::prefix_of, crate::specs::Reads::with_candidate, crate::specs::Reads::with_marks, crate::specs::LinkRescoping::marked_unless, cpp_term::specs::References::with_prefix, cpp_term::specs::Values::prefix_tree, cpp_term::specs::Values::prefix_listed))]
+#[tactic(auto, unfolding(crate::specs::Parts::around_of, crate::specs::Parts::prefix_in, crate::specs::Parts::prefix_of, crate::specs::Reads::with_candidate, cpp_term::specs::Rescoping::counted_unless, cpp_term::specs::References::with_prefix, cpp_term::specs::Values::prefix_tree, cpp_term::specs::Values::prefix_listed))]
 fn prefix_candidate(kept: Surroundings) -> Option<u32>
-    ensures is { (ts : List term.Term) (state : State) → with_prefix (around_of ts kept) state ≡ with_candidate false (around_of ts kept) ts result state }
-    ensures held { (ts : List term.Term) (state : State) → marked_unless (prefix_listed (around_of ts kept).prefix) (around_of ts kept) (prefix_tree (around_of ts kept).prefix) state ≡ with_marks true (around_of ts kept) ts result state }
+    ensures is { (ts : List term.Term) (state : State) → with_prefix (around_of ts kept) state ≡ with_candidate by_all (around_of ts kept) ts result state }
+    ensures some { (ts : List term.Term) (state : State) → counted_unless (prefix_listed (around_of ts kept).prefix) by_some (around_of ts kept) (prefix_tree (around_of ts kept).prefix) state ≡ with_candidate by_some (around_of ts kept) ts result state }
     ensures there { (n : ℕ) → IsPrefixThere n (name_of kept) → IsThereBelow n result }
 {
     match kept.naming {
@@ -101,9 +102,9 @@ impl Linked {
     #[inline(always)]
     pub(crate) fn prefix_candidate(&self, symbol: &[u8], kept: Surroundings) -> Option<u32>
         requires kept { IsKeptThere (length self.now.nodes.nodes) kept }
-        ensures is { (state : State) → with_prefix (around_of (trees_in symbol.now self.now.nodes) kept) state ≡ with_candidate false (around_of (trees_in symbol.now self.now.nodes) kept) (trees_in symbol.now self.now.nodes) result state }
-        ensures held { (state : State) → marked_unless (prefix_listed (around_of (trees_in symbol.now self.now.nodes) kept).prefix) (around_of (trees_in symbol.now self.now.nodes) kept) (prefix_tree (around_of (trees_in symbol.now self.now.nodes) kept).prefix) state
-            ≡ with_marks true (around_of (trees_in symbol.now self.now.nodes) kept) (trees_in symbol.now self.now.nodes) result state }
+        ensures is { (state : State) → with_prefix (around_of (trees_in symbol.now self.now.nodes) kept) state ≡ with_candidate by_all (around_of (trees_in symbol.now self.now.nodes) kept) (trees_in symbol.now self.now.nodes) result state }
+        ensures some { (state : State) → counted_unless (prefix_listed (around_of (trees_in symbol.now self.now.nodes) kept).prefix) by_some (around_of (trees_in symbol.now self.now.nodes) kept) (prefix_tree (around_of (trees_in symbol.now self.now.nodes) kept).prefix) state
+            ≡ with_candidate by_some (around_of (trees_in symbol.now self.now.nodes) kept) (trees_in symbol.now self.now.nodes) result state }
         ensures there { IsThereBelow (length self.now.nodes.nodes) result }
     {
         prefix_candidate(kept)
@@ -114,7 +115,7 @@ impl Linked {
     pub fn type_candidate(&self, symbol: &[u8], kept: Surroundings, part: Part) -> Option<u32>
         requires table { IsTable (over symbol.now self.now.nodes) }
         requires there { IsThere symbol.now (length self.now.nodes.nodes) part }
-        ensures is { (state : State) → with_type (around_of (trees_in symbol.now self.now.nodes) kept) (value_in symbol.now self.now.nodes part) state ≡ with_candidate false (around_of (trees_in symbol.now self.now.nodes) kept) (trees_in symbol.now self.now.nodes) result state }
+        ensures is { (state : State) → with_type (around_of (trees_in symbol.now self.now.nodes) kept) (value_in symbol.now self.now.nodes part) state ≡ with_candidate by_all (around_of (trees_in symbol.now self.now.nodes) kept) (trees_in symbol.now self.now.nodes) result state }
         ensures there { IsThereBelow (length self.now.nodes.nodes) result }
     {
         if is_listed(part) {
@@ -185,8 +186,8 @@ impl Linked {
     fn pack(&self, symbol: &[u8], elements: Part) -> Step
         requires table { IsTable (over symbol.now self.now.nodes) }
         requires there { IsThere symbol.now (length self.now.nodes.nodes) elements }
-        ensures is { (kept : Surroundings) (v : values.Value) (cs : List values.Candidate) → goes_on symbol.now self.now.nodes kept (v ∷ []) cs self.now.packs result
-            ≡ Ok (record { values = values.tree (term.pack (no_items (value_in symbol.now self.now.nodes elements))) true ∷ []; context = around_of (trees_in symbol.now self.now.nodes) kept; state = record { candidates = cs; packs = self.now.packs } }) }
+        ensures is { (kept : Surroundings) (v : values.Value) (state : values.State) → goes_on symbol.now self.now.nodes kept (v ∷ []) state self.now.packs result
+            ≡ Ok (record { values = values.tree (term.pack (no_items (value_in symbol.now self.now.nodes elements))) true ∷ []; context = around_of (trees_in symbol.now self.now.nodes) kept; state = record state { packs = self.now.packs } }) }
         ensures there { IsStepThere symbol.now (length self.now.nodes.thunks) (length self.now.nodes.nodes) result }
         ensures made { nodes_of_step result ≡ pack_makes elements }
         ensures of { IsStepOf productions.PackArgument 1 result }
@@ -231,8 +232,8 @@ impl Linked {
         requires table { IsTable (over symbol.now self.now.nodes) }
         requires name { name < length self.now.nodes.nodes }
         requires behind { IsThere symbol.now (length self.now.nodes.nodes) behind }
-        ensures is { (kept : Surroundings) (v : values.Value) (cs : List values.Candidate) → named_so_far (around_of (trees_in symbol.now self.now.nodes) kept) (applied (tree_at (trees_in symbol.now self.now.nodes) name) (value_in symbol.now self.now.nodes behind)) (value_in symbol.now self.now.nodes behind ∷ []) (record { candidates = cs; packs = self.now.packs })
-            ≡ goes_on symbol.now self.now.nodes kept (v ∷ value_in symbol.now self.now.nodes behind ∷ []) cs self.now.packs result }
+        ensures is { (kept : Surroundings) (v : values.Value) (state : values.State) → named_so_far (around_of (trees_in symbol.now self.now.nodes) kept) (applied (tree_at (trees_in symbol.now self.now.nodes) name) (value_in symbol.now self.now.nodes behind)) (value_in symbol.now self.now.nodes behind ∷ []) (record state { packs = self.now.packs })
+            ≡ goes_on symbol.now self.now.nodes kept (v ∷ value_in symbol.now self.now.nodes behind ∷ []) state self.now.packs result }
         ensures there { IsStepThere symbol.now (length self.now.nodes.thunks) (length self.now.nodes.nodes) result }
         ensures of { IsStepOf productions.NestStd 2 result }
         ensures makes { nodes_of_step result ≡ one_if_arguments (value_in symbol.now self.now.nodes behind) }
@@ -271,8 +272,8 @@ impl Linked {
     ) -> Result<Step, Refusal>
         requires table { IsTable (over symbol.now self.now.nodes) }
         requires kept { IsKeptThere (length self.now.nodes.nodes) kept }
-        ensures is { IfOk result (λ step. (cs : List values.Candidate) → between production (around_of (trees_in symbol.now self.now.nodes) kept) place [] (record { candidates = cs; packs = self.now.packs }) ≡ goes_on symbol.now self.now.nodes kept [] cs self.now.packs step) }
-        ensures refused { IfErr result (λ e. (cs : List values.Candidate) → Fails e (between production (around_of (trees_in symbol.now self.now.nodes) kept) place [] (record { candidates = cs; packs = self.now.packs }))) }
+        ensures is { IfOk result (λ step. (state : values.State) → between production (around_of (trees_in symbol.now self.now.nodes) kept) place [] (record state { packs = self.now.packs }) ≡ goes_on symbol.now self.now.nodes kept [] state self.now.packs step) }
+        ensures refused { IfErr result (λ e. (state : values.State) → Fails e (between production (around_of (trees_in symbol.now self.now.nodes) kept) place [] (record state { packs = self.now.packs }))) }
         ensures there { IfOk result (λ step. IsStepThere symbol.now (length self.now.nodes.thunks) (length self.now.nodes.nodes) step) }
         ensures of { (held : ℕ) → IfOk result (λ step. IsStepOf production held step) }
         ensures makes { IfOk result (λ step. nodes_of_step step ≡ makes_before production []) }
@@ -303,9 +304,9 @@ impl Linked {
         requires kept { IsKeptThere (length self.now.nodes.nodes) kept }
         requires closed { IsClosed (around_of (trees_in symbol.now self.now.nodes) kept) }
         requires first { IsThere symbol.now (length self.now.nodes.nodes) first }
-        ensures is { IfOk result (λ step. (cs : List values.Candidate) → between production (around_of (trees_in symbol.now self.now.nodes) kept) place (value_in symbol.now self.now.nodes first ∷ []) (record { candidates = cs; packs = self.now.packs })
-            ≡ goes_on symbol.now self.now.nodes kept (value_in symbol.now self.now.nodes first ∷ []) cs self.now.packs step) }
-        ensures refused { IfErr result (λ e. (cs : List values.Candidate) → Fails e (between production (around_of (trees_in symbol.now self.now.nodes) kept) place (value_in symbol.now self.now.nodes first ∷ []) (record { candidates = cs; packs = self.now.packs }))) }
+        ensures is { IfOk result (λ step. (state : values.State) → between production (around_of (trees_in symbol.now self.now.nodes) kept) place (value_in symbol.now self.now.nodes first ∷ []) (record state { packs = self.now.packs })
+            ≡ goes_on symbol.now self.now.nodes kept (value_in symbol.now self.now.nodes first ∷ []) state self.now.packs step) }
+        ensures refused { IfErr result (λ e. (state : values.State) → Fails e (between production (around_of (trees_in symbol.now self.now.nodes) kept) place (value_in symbol.now self.now.nodes first ∷ []) (record state { packs = self.now.packs }))) }
         ensures there { IfOk result (λ step. IsStepThere symbol.now (length self.now.nodes.thunks) (length self.now.nodes.nodes) step) }
         ensures of { IfOk result (λ step. IsStepOf production 1 step) }
         ensures makes { IfOk result (λ step. nodes_of_step step ≡ makes_before production (value_in symbol.now self.now.nodes first ∷ [])) }
@@ -327,7 +328,7 @@ impl Linked {
             }
             Production::ParameterExpression => {
                 let digits = self.text_in(symbol, first);
-                self.parameter_argument(symbol, kept, place, digits)
+                self.parameter_argument(symbol, kept, place.saturating_sub(1), digits)
             }
             Production::PackArgument => Ok(self.pack(symbol, first)),
             Production::Holder => Err(Refusal::BadReference { at: place }),
@@ -353,9 +354,9 @@ impl Linked {
         requires kept { IsKeptThere (length self.now.nodes.nodes) kept }
         requires closed { IsClosed (around_of (trees_in symbol.now self.now.nodes) kept) }
         requires there { AreThere symbol.now (length self.now.nodes.nodes) parts.now }
-        ensures is { IfOk result (λ step. (cs : List values.Candidate) → between production (around_of (trees_in symbol.now self.now.nodes) kept) place (values_in symbol.now self.now.nodes parts.now) (record { candidates = cs; packs = self.now.packs })
-            ≡ goes_on symbol.now self.now.nodes kept (values_in symbol.now self.now.nodes parts.now) cs self.now.packs step) }
-        ensures refused { IfErr result (λ e. (cs : List values.Candidate) → Fails e (between production (around_of (trees_in symbol.now self.now.nodes) kept) place (values_in symbol.now self.now.nodes parts.now) (record { candidates = cs; packs = self.now.packs }))) }
+        ensures is { IfOk result (λ step. (state : values.State) → between production (around_of (trees_in symbol.now self.now.nodes) kept) place (values_in symbol.now self.now.nodes parts.now) (record state { packs = self.now.packs })
+            ≡ goes_on symbol.now self.now.nodes kept (values_in symbol.now self.now.nodes parts.now) state self.now.packs step) }
+        ensures refused { IfErr result (λ e. (state : values.State) → Fails e (between production (around_of (trees_in symbol.now self.now.nodes) kept) place (values_in symbol.now self.now.nodes parts.now) (record state { packs = self.now.packs }))) }
         ensures there { IfOk result (λ step. IsStepThere symbol.now (length self.now.nodes.thunks) (length self.now.nodes.nodes) step) }
         ensures of { IfOk result (λ step. IsStepOf production (length parts.now) step) }
         ensures makes { IfOk result (λ step. nodes_of_step step ≡ makes_before production (values_in symbol.now self.now.nodes parts.now)) }

@@ -3,7 +3,7 @@
 use cpp_grammar::production::Production;
 
 /// The productions.
-pub(crate) const PRODUCTIONS: [Production; 242] = [
+pub(crate) const PRODUCTIONS: [Production; 247] = [
     Production::Mark,
     Production::InternalName,
     Production::LocalTypeName,
@@ -150,7 +150,9 @@ pub(crate) const PRODUCTIONS: [Production; 242] = [
     Production::UnnestedWithS,
     Production::TaggedSource,
     Production::BaseArguments,
+    Production::Temporary,
     Production::Clone,
+    Production::LocalTemporary,
     Production::TaggedStdType,
     Production::TypeTag,
     Production::Expression,
@@ -212,7 +214,9 @@ pub(crate) const PRODUCTIONS: [Production; 242] = [
     Production::ExpressionR,
     Production::ExpressionS,
     Production::ExpressionT,
+    Production::ExpressionWithT,
     Production::ParameterExpression,
+    Production::LeveledExpression,
     Production::AddressedLiteral,
     Production::Expressions,
     Production::FoldOperatorL,
@@ -232,6 +236,7 @@ pub(crate) const PRODUCTIONS: [Production; 242] = [
     Production::ConvertedPointer,
     Production::ConvertedReference,
     Production::ConvertedType,
+    Production::ConvertedWithT,
     Production::UnresolvedInType,
     Production::Levels,
     Production::DestroyedType,
@@ -249,7 +254,7 @@ pub(crate) const PRODUCTIONS: [Production; 242] = [
 ];
 
 /// How many parts each has.
-pub(crate) const PART_COUNTS: [u8; 242] = [
+pub(crate) const PART_COUNTS: [u8; 247] = [
     0, // Mark
     2, // InternalName
     2, // LocalTypeName
@@ -396,7 +401,9 @@ pub(crate) const PART_COUNTS: [u8; 242] = [
     1, // UnnestedWithS
     2, // TaggedSource
     3, // BaseArguments
+    2, // Temporary
     2, // Clone
+    3, // LocalTemporary
     2, // TaggedStdType
     2, // TypeTag
     2, // Expression
@@ -458,7 +465,9 @@ pub(crate) const PART_COUNTS: [u8; 242] = [
     1, // ExpressionR
     1, // ExpressionS
     1, // ExpressionT
+    1, // ExpressionWithT
     2, // ParameterExpression
+    2, // LeveledExpression
     2, // AddressedLiteral
     2, // Expressions
     1, // FoldOperatorL
@@ -478,6 +487,7 @@ pub(crate) const PART_COUNTS: [u8; 242] = [
     1, // ConvertedPointer
     1, // ConvertedReference
     1, // ConvertedType
+    1, // ConvertedWithT
     2, // UnresolvedInType
     2, // Levels
     1, // DestroyedType
@@ -495,7 +505,7 @@ pub(crate) const PART_COUNTS: [u8; 242] = [
 ];
 
 /// Whether some part of each but the last may have no row: a fixed byte, or a kind that may be empty.
-pub(crate) const SKIPS_PARTS: [bool; 242] = [
+pub(crate) const SKIPS_PARTS: [bool; 247] = [
     false, // Mark
     false, // InternalName
     false, // LocalTypeName
@@ -642,7 +652,9 @@ pub(crate) const SKIPS_PARTS: [bool; 242] = [
     false, // UnnestedWithS
     false, // TaggedSource
     true, // BaseArguments
+    false, // Temporary
     false, // Clone
+    true, // LocalTemporary
     false, // TaggedStdType
     false, // TypeTag
     false, // Expression
@@ -704,7 +716,9 @@ pub(crate) const SKIPS_PARTS: [bool; 242] = [
     false, // ExpressionR
     false, // ExpressionS
     false, // ExpressionT
+    false, // ExpressionWithT
     false, // ParameterExpression
+    false, // LeveledExpression
     false, // AddressedLiteral
     false, // Expressions
     false, // FoldOperatorL
@@ -724,6 +738,7 @@ pub(crate) const SKIPS_PARTS: [bool; 242] = [
     false, // ConvertedPointer
     false, // ConvertedReference
     false, // ConvertedType
+    false, // ConvertedWithT
     false, // UnresolvedInType
     false, // Levels
     false, // DestroyedType
@@ -741,7 +756,7 @@ pub(crate) const SKIPS_PARTS: [bool; 242] = [
 ];
 
 /// Before how many of its parts nothing is done in each: before none, the first, or all, which are five at most.
-pub(crate) const QUIET_PARTS: [u8; 242] = [
+pub(crate) const QUIET_PARTS: [u8; 247] = [
     5, // Mark
     1, // InternalName
     1, // LocalTypeName
@@ -888,7 +903,9 @@ pub(crate) const QUIET_PARTS: [u8; 242] = [
     5, // UnnestedWithS
     1, // TaggedSource
     0, // BaseArguments
+    5, // Temporary
     5, // Clone
+    1, // LocalTemporary
     1, // TaggedStdType
     1, // TypeTag
     5, // Expression
@@ -950,7 +967,9 @@ pub(crate) const QUIET_PARTS: [u8; 242] = [
     5, // ExpressionR
     5, // ExpressionS
     5, // ExpressionT
+    5, // ExpressionWithT
     1, // ParameterExpression
+    5, // LeveledExpression
     5, // AddressedLiteral
     5, // Expressions
     5, // FoldOperatorL
@@ -970,6 +989,7 @@ pub(crate) const QUIET_PARTS: [u8; 242] = [
     5, // ConvertedPointer
     5, // ConvertedReference
     5, // ConvertedType
+    5, // ConvertedWithT
     1, // UnresolvedInType
     5, // Levels
     5, // DestroyedType

@@ -48,6 +48,7 @@ impl Linked {
             Production::TypeWithD => tree(self.tree(symbol, parts, 0), true),
             // <qualified-type> ::= <qualifiers> <type>
             Production::PlainWithD => tree(self.tree(symbol, parts, 0), true),
+            // <type> ::= D .., as an item of a signature or an argument
             Production::ItemWithD => tree(self.tree(symbol, parts, 0), true),
             // <template-arg> ::= <type>
             Production::ItemIsType => Outcome::Given(self.given(symbol, parts, 0)),
@@ -73,6 +74,7 @@ impl Linked {
                 },
                 true,
             ),
+            // <builtin-type> ::= DB <number> _ | DU <number> _, its number
             Production::BitWidth => made(
                 Node::Vendor(normal(symbol, self.text(symbol, parts, 0))),
                 true,
@@ -99,12 +101,15 @@ impl Linked {
                 },
                 false,
             ),
+            // <type>, a pack by itself
             Production::TypePack => made(Node::Expansion(self.tree(symbol, parts, 0)), true),
             // <type> ::= Dp <type>; an expansion has packs of its own, all of one length
             Production::Expansion => made(Node::Expansion(self.tree(symbol, parts, 0)), false),
+            // <type> ::= <decltype>
             Production::ConvertedDecltype => tree(self.tree(symbol, parts, 0), true),
             // <destructor-name> ::= <unresolved-type> | <simple-id>
             Production::DestroyedType => tree(self.tree(symbol, parts, 0), true),
+            // <type>
             Production::ConvertedType => tree(self.tree(symbol, parts, 0), true),
             _ => unreachable!(),
         }
@@ -143,6 +148,7 @@ impl Linked {
                 self.there(symbol, parts, 1),
                 self.tree(symbol, parts, 2),
             ),
+            // <CV-qualifiers> ::= V [K]
             Production::VolatileType => qualified(
                 false,
                 true,
@@ -156,7 +162,9 @@ impl Linked {
                 self.there(symbol, parts, 0),
                 self.tree(symbol, parts, 1),
             ),
+            // <type> ::= <CV-qualifiers> <type>, with K alone
             Production::ConstLiteral => qualified(false, false, true, self.tree(symbol, parts, 0)),
+            // <type>, after its qualifiers
             Production::QualifiedLiteral => tree(self.tree(symbol, parts, 0), true),
             // <pointer-to-member-type> ::= M <class type> <member type>
             Production::MemberPointer => made(
@@ -194,10 +202,13 @@ impl Linked {
                 },
                 false,
             ),
+            // <type> ::= K <type>
             Production::ConvertedConst => {
                 qualified(false, false, true, self.tree(symbol, parts, 0))
             }
+            // <type> ::= P <type>
             Production::ConvertedPointer => made(Node::Pointer(self.tree(symbol, parts, 0)), true),
+            // <type> ::= R <type> | O <type>
             Production::ConvertedReference => self.reference_meant(symbol, byte, parts),
             _ => unreachable!(),
         }
@@ -312,6 +323,9 @@ impl Linked {
         match production {
             // <template-param> ::= T_ | T <parameter number> _
             Production::Parameter => self.applied(symbol, parts, true),
+            // <type> ::= <template-param> [<template-args>]
+            Production::ConvertedWithT => Outcome::Given(self.given(symbol, parts, 0)),
+            // <template-param> ::= T_ | T <parameter number> _, after the T
             Production::ParameterArgument => self.applied(symbol, parts, true),
             // <template-arg> ::= J <template-arg>* E
             Production::PackArgument => made(
@@ -337,6 +351,7 @@ impl Linked {
                 },
                 true,
             ),
+            // <template-arg> ::= J <template-arg>* E, an item of it
             Production::AnyElement => made(
                 Node::Cell {
                     first: self.tree(symbol, parts, 0),
@@ -392,6 +407,7 @@ impl Linked {
             Production::TemplateOf => Outcome::Given(Part::Letter(byte)),
             // <template-param-decl> ::= Tp <non-pack template-param-decl>
             Production::PackOf => Outcome::Given(Part::Letter(byte)),
+            // <template-param-decl>*
             Production::Declarations => Outcome::Given(Part::Letter(byte)),
             _ => unreachable!(),
         }

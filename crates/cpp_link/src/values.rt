@@ -149,7 +149,7 @@ pub fn letter_of(part: Part) -> u8
     }
 }
 
-/// The mark R or O, or none.
+/// The mark R, O or H, or none.
 #[tactic(auto, unfolding(crate::specs::Parts::value_of, cpp_term::specs::Values::mark_of))]
 #[inline(always)]
 pub fn mark_of(part: Part) -> Mark
@@ -159,6 +159,9 @@ pub fn mark_of(part: Part) -> Mark
         Part::Letter(byte) => {
             if byte == b'R' {
                 return Mark::Lvalue;
+            }
+            if byte == b'H' {
+                return Mark::ExplicitObject;
             }
             Mark::Rvalue
         }

@@ -138,7 +138,7 @@ impl Threading for Rescoping {
         ensures keeps { KeepRoom ((wide_counted symbol.now).lists self.old) ((wide_counted symbol.now).lists self.new) }
         ensures full { OnlyForRoom ⊥ ((wide_counted symbol.now).lists self.old) ((wide_counted symbol.now).lists self.new) result }
     {
-        self.linked.begin_rule(symbol, rows, context, row)
+        self.linked.begin_wide(symbol, rows, context, row)
     }
 
     #[inline(always)]

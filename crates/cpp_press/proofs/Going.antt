@@ -12,7 +12,7 @@ use Rattle.cpp_press.specs.declared.components.Likeness.{Likeness}
 use Rattle.cpp_spelling.specs.declared.task.Task.{Task}
 use Rattle.cpp_spelling.specs.declared.task.Way.{Way}
 use Rattle.cpp_spelling.specs.Tasks.{◌onto◌, written, in_way, ending, plain_at, press_task, press_tasks, IsTask, AreTasks, task_weight, tasks_weight}
-use Rattle.cpp_press.specs.Places.{noted, likeness_of, ArePlaces, AreNumbers, AreOfNodes, behind, Goes}
+use Rattle.cpp_press.specs.Places.{noted, likeness_of, ArePlaces, AreFirst, AreOfNodes, behind, Goes}
 use Rattle.cpp_press.specs.OfRead.{HasFewComponents}
 use Rattle.cpp_spelling.proofs.Pushed.{tasks-push, weight-push, tasks-less}
 use Rattle.cpp_press.proofs.Placing.{places-go}
@@ -110,7 +110,7 @@ text-goes {y} {tasks = tasks} {older = older} {out = out} {after = after} bytes 
 
 pub ended-goes : {y : ReadSymbol} {ns : List ℕ} {whole : Term} {first new : Likeness
     → Option ℕ} {count after : ℕ} {tasks older : List Task} {out : List ℕ} (node e : ℕ)
-    → AreNumbers y ns → Goes y ns whole first count tasks out → IsLast tasks older (Task.Ended node e)
+    → AreFirst y ns → Goes y ns whole first count tasks out → IsLast tasks older (Task.Ended node e)
     → ((q : Likeness) → new q ≡ noted first (likeness_of y ns node e) count q) → after ≡ count + 1 → Goes y ns whole new after older out
 ended-goes {y} {ns} {first = first} {new = new} {count = count} {tasks = tasks} {older = older} {out = out} node e are g last news counts =
     let there = task-there g last in

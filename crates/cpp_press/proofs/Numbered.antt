@@ -8,7 +8,7 @@ use Rattle.std.proofs.lemmas.List.{length-take, length-map, get_or_append_left, 
 use Rattle.cpp_tree.specs.Fields.{fields_of}
 use Rattle.cpp_tree.specs.Views.{IsSlotBelow}
 use Rattle.cpp_press.proofs.Telling.{one_tree, three_parts}
-use Rattle.std.specs.BTreeMap.{BTreeMap, get}
+use Rattle.std.specs.BTreeMap.{get}
 use Rattle.std.specs.Ordering.{is_eq}
 use Rattle.sym_core.specs.declared.Span.{Span}
 use Rattle.cpp_grammar.specs.Term.{Term}
@@ -22,6 +22,9 @@ use Rattle.cpp_press.specs.Numbers.{ComeNext, IsKey, IsKeyOf, IsPartNumber, both
 use Rattle.sym_spell.specs.Numbers.{AreBelow, TellApart, number_at}
 use Rattle.sym_spell.proofs.Entering.{old-number}
 use Rattle.sym_spell.proofs.FirstOnes.{AreFirsts, AreKeys, IsLookUp, first-below, firsts-more, none-first}
+use Rattle.sym_spell.specs.declared.firsts.Firsts.{Firsts}
+use Rattle.sym_spell.proofs.Placed.{same-first}
+use Rattle.cpp_press.specs.Marks.{found_in, mark_of}
 use Rattle.sym_spell.proofs.Orders.{equal-is, first-tied, then-tied, number-tied, number-itself, list-tied, list-itself, same-look}
 
 -- ## Four texts and three parts
@@ -235,8 +238,20 @@ test-passed a b h =
 cmp-same : (a b : Key) → AreOne a b → (q : Key) → key_cmp a q ≡ key_cmp b q
 cmp-same a b h q = rw (h.production, h.own_numbers, h.first_text, h.second_text, h.third_text, h.fourth_text, h.first_part, h.second_part, h.third_part) refl
 
-pub looked-up : (m : BTreeMap Key ℕ) → IsLookUp AreOne test (get key_cmp m)
-looked-up m = record { told = test-one; passed = test-passed; respects = λ a b h. same-look key_cmp a b (cmp-same a b h) m }
+same-right : (a b : Key) → AreOne a b → (q : Key) → key_cmp q a ≡ key_cmp q b
+same-right a b h q = rw (h.production, h.own_numbers, h.first_text, h.second_text, h.third_text, h.fourth_text, h.first_part, h.second_part, h.third_part) refl
+
+mark-same : (a b : Key) → AreOne a b → mark_of a ≡ mark_of b
+mark-same a b h = rw (h.production, h.own_numbers, h.first_text, h.first_part, h.second_part, h.third_part) refl
+
+pub looked-up : (keys : Firsts Key) → IsLookUp AreOne test (found_in keys)
+looked-up keys = record {
+  told = test-one;
+  passed = test-passed;
+  respects = λ a b h.
+      same-first key_cmp mark_of keys.places.items keys.seen.items (get key_cmp keys.more) a b (same-right a b h) (mark-same a b h)
+      (same-look key_cmp a b (cmp-same a b h) keys.more);
+}
 
 -- ## Nodes of a symbol after others
 
@@ -279,16 +294,16 @@ after-below at firsts own first bound few are i low =
     )
 
 -- the first nodes after one more node of a symbol
-pub after-more : (y : ReadSymbol) (at : ℕ → Term) (firsts own : List ℕ) (before node n : ℕ) (start : Key → Option ℕ) (old : BTreeMap Key ℕ) (new : Key → Option ℕ) (key : Key)
+pub after-more : (y : ReadSymbol) (at : ℕ → Term) (firsts own : List ℕ) (before node n : ℕ) (start : Key → Option ℕ) (old : Firsts Key) (new : Key → Option ℕ) (key : Key)
     → ComeNext y at firsts before start → length own ≡ node → node < length y.table.nodes
     → IsKeyOf (plain_at y) own (plain_at y node) key
-    → ((m : ℕ) → get key_cmp old key ≡ Some m → (n ≡ m) × ((q : Key) → new q ≡ get key_cmp old q))
-    → (get key_cmp old key ≡ None → (n ≡ before + node) × ((q : Key) → new q ≡ cond (test key q) (Some (before + node)) (get key_cmp old q)))
-    → AreFirsts at (IsKey at) (firsts ++ own) (get key_cmp old)
+    → ((m : ℕ) → found_in old key ≡ Some m → (n ≡ m) × ((q : Key) → new q ≡ found_in old q))
+    → (found_in old key ≡ None → (n ≡ before + node) × ((q : Key) → new q ≡ cond (test key q) (Some (before + node)) (found_in old q)))
+    → AreFirsts at (IsKey at) (firsts ++ own) (found_in old)
     → AreFirsts at (IsKey at) (firsts ++ (own ++ n ∷ [])) new
 after-more y at firsts own before node n start old new key comes long room mine known fresh are =
     subst (λ l. AreFirsts at (IsKey at) l new) (append_assoc firsts own (n ∷ []))
-    (firsts-more AreOne test at (before + length y.table.nodes) (IsKey at) (firsts ++ own) (get key_cmp old) new key (before + node) n
+    (firsts-more AreOne test at (before + length y.table.nodes) (IsKey at) (firsts ++ own) (found_in old) new key (before + node) n
     (are-keys at (before + length y.table.nodes)) (looked-up old) are
     (omega (arith, comes.many, long, length-append firsts own)) (omega (arith, room)) here known fresh)
   where

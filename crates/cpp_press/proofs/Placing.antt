@@ -1,11 +1,7 @@
 -- One component more.
-use Rattle.std.proofs.Common.{◌≡◌, ℕ, ◌+◌, ◌<◌, length, List, [], ◌∷◌, ◌++◌, Bool, true, false, Option, Some, None, refl, ap, sym, arith, ◌∙◌, Equal}
+use Rattle.std.proofs.Common.{◌≡◌, ℕ, ◌+◌, ◌<◌, length, List, [], ◌∷◌, ◌++◌, Bool, true, false, Option, Some, None, refl, ap, sym, arith, ◌∙◌}
 use Rattle.std.specs.Prelude.{cond, ◌&&◌, ◌||◌, not, nat_eq, get_or, is_some}
-use Rattle.std.specs.BTreeMap.{is_at}
-use Rattle.std.specs.Ordering.{nat_cmp, is_eq}
 use Rattle.std.proofs.lemmas.Bool.{eqb-true, eq-eqb}
-use Rattle.sym_spell.proofs.Orders.{equal-is, first-tied, then-tied, number-tied, number-itself}
-use Rattle.sym_spell.proofs.Tests.{all}
 use Rattle.cpp_grammar.specs.Term.{Term}
 use Rattle.cpp_grammar.specs.Scope.{is_open}
 use Rattle.cpp_layout.specs.Layout.{ReadSymbol}
@@ -14,7 +10,7 @@ use Rattle.cpp_press_laws.specs.Components.{Component, is_same, first_equal}
 use Rattle.cpp_press_laws.proofs.Components.Sameness.{equal-tree, tree-itself}
 use Rattle.cpp_press.specs.declared.components.Likeness.{Likeness}
 use Rattle.cpp_spelling.specs.Tasks.{plain_at}
-use Rattle.cpp_press.specs.Places.{like, likeness_cmp, noted, likeness_of, ArePlaces, AreNumbers}
+use Rattle.cpp_press.specs.Places.{like, noted, likeness_of, ArePlaces, AreFirst}
 
 true-false : true ≡ false → ⊥
 true-false bad = cc
@@ -105,7 +101,7 @@ note-goes first one q count from old other b here there same long =
     ∙ chosen old other b from (λ so. sym here ∙ ap first (like-equal one q (sym same ∙ so)) ∙ there)
 
 pub places-go : (y : ReadSymbol) (ns : List ℕ) (first new : Likeness → Option ℕ) (cs : List Component) (count node e : ℕ)
-    → AreNumbers y ns → ArePlaces y ns first cs → node < length y.table.nodes → count ≡ length cs
+    → AreFirst y ns → ArePlaces y ns first cs → node < length y.table.nodes → count ≡ length cs
     → ((q : Likeness) → new q ≡ noted first (likeness_of y ns node e) count q)
     → ArePlaces y ns new (cs ++ record { tree = plain_at y node; encoding = e } ∷ [])
 places-go y ns first new cs count node e are places low long is j f there =
@@ -119,32 +115,10 @@ places-go y ns first new cs count node e are places low long is j f there =
     long
     ∙ sym (later-is f (plain_at y j) (record { tree = plain_at y node; encoding = e }) 0 cs)
 
--- ## The map of likenesses
-
--- it takes likenesses for one where they are alike
-like-at : (a b : Likeness) → is_eq (likeness_cmp a b) ≡ like a b
-like-at a b = by (is_eq (likeness_cmp a b)) (like a b) refl refl
-  where
-    tied : is_eq (likeness_cmp a b) ≡ true → like a b ≡ true
-    tied h =
-        let one : (nat_cmp a.number b.number ≡ Equal) × (is_eq (nat_cmp a.encoding b.encoding) ≡ true) = first-tied (nat_cmp a.number b.number) (nat_cmp a.encoding b.encoding) h in
-        all (eq-eqb a.number b.number (number-tied a.number b.number one.0))
-        (eq-eqb a.encoding b.encoding (number-tied a.encoding b.encoding (equal-is (nat_cmp a.encoding b.encoding) one.1)))
-
-    alike : like a b ≡ true → is_eq (likeness_cmp a b) ≡ true
-    alike h =
-        let one : a ≡ b = like-equal a b h in
-        then-tied (nat_cmp a.number b.number) (nat_cmp a.encoding b.encoding) (number-itself a.number b.number (ap (λ (l : Likeness). l.number) one))
-        (ap is_eq (number-itself a.encoding b.encoding (ap (λ (l : Likeness). l.encoding) one)))
-
-    by : (x y : Bool) → is_eq (likeness_cmp a b) ≡ x → like a b ≡ y → is_eq (likeness_cmp a b) ≡ like a b
-    by true y h k = h ∙ sym (tied h)
-    by false true h k = alike k ∙ sym k
-    by false false h k = h ∙ sym k
-
--- what is known after one component more, as the map has it
-pub noted-fresh : (old : Likeness → Option ℕ) (one q : Likeness) (count : ℕ) (o new : Option ℕ) → old one ≡ o → is_some o ≡ false → new ≡ cond (is_at (likeness_cmp one) q) (Some count) (old q) → new ≡ noted old one count q
-noted-fresh old one q count None new there none is = is ∙ ap (λ b. cond b (Some count) (old q)) (like-at one q) ∙ sym (ap (λ p. choose p (old q) (like one q) count) there)
+-- what is known after one component more
+pub noted-fresh : (old : Likeness → Option ℕ) (one q : Likeness) (count : ℕ) (o new : Option ℕ) → old one ≡ o → is_some o ≡ false
+    → new ≡ cond (like one q) (Some count) (old q) → new ≡ noted old one count q
+noted-fresh old one q count None new there none is = is ∙ sym (ap (λ p. choose p (old q) (like one q) count) there)
 noted-fresh old one q count (Some k) new there none is = absurd (true-false none)
 
 pub noted-known : (old : Likeness → Option ℕ) (one q : Likeness) (count : ℕ) (o : Option ℕ) → old one ≡ o → is_some o ≡ true → old q ≡ noted old one count q

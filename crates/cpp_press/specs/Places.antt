@@ -1,14 +1,16 @@
 -- The components so far, as the writer knows them.
-use Rattle.std.specs.Prelude.{◌≡◌, ℕ, ◌<◌, List, [], ◌∷◌, ◌++◌, length, Bool, cond, ◌&&◌, nat_eq, Option, Some, None, get_or}
+use Rattle.std.specs.Prelude.{◌≡◌, ℕ, ◌<◌, List, [], ◌∷◌, ◌++◌, length, Bool, cond, ◌&&◌, nat_eq, nat_lt, Option, Some, None, get_or}
+use Rattle.std.specs.BTreeMap.{get}
 use Rattle.std.specs.Ordering.{nat_cmp, ordering_then}
 use Rattle.std.specs.declared.cmp.Ordering.{Ordering}
-use Rattle.sym_spell.specs.Numbers.{AreNumbered}
+use Rattle.sym_spell.specs.Numbers.{AreNumbered, AreTold}
 use Rattle.sym_spell.specs.Pressing.{Pressed}
 use Rattle.cpp_grammar.specs.Term.{Term}
 use Rattle.cpp_grammar.specs.Scope.{is_open}
 use Rattle.cpp_layout.specs.Layout.{ReadSymbol}
 use Rattle.cpp_press_laws.specs.Components.{Component, first_equal}
 use Rattle.cpp_press_laws.specs.Pressing.{ways_of}
+use Rattle.cpp_press.specs.declared.components.Components.{Components}
 use Rattle.cpp_press.specs.declared.components.Likeness.{Likeness}
 use Rattle.cpp_spelling.specs.declared.task.Task.{Task}
 use Rattle.cpp_spelling.specs.Tasks.{plain_at, press_tasks, AreTasks}
@@ -19,6 +21,16 @@ like a b = nat_eq a.number b.number && nat_eq a.encoding b.encoding
 -- the order of likenesses that a map of them goes by
 abbrev pub likeness_cmp : Likeness → Likeness → Ordering
 likeness_cmp a b = ordering_then (nat_cmp a.number b.number) (nat_cmp a.encoding b.encoding)
+
+-- the number of the first component with a likeness: those of no encoding have it by their number, as far as there are places
+abbrev pub has_place : (closed : List (Option ℕ)) → Likeness → Bool
+has_place closed q = nat_eq q.encoding 0 && nat_lt q.number (length closed)
+
+abbrev pub first_of : (closed : List (Option ℕ)) → (Likeness → Option ℕ) → Likeness → Option ℕ
+first_of closed more q = cond (has_place closed q) (get_or closed q.number None) (more q)
+
+abbrev pub known_in : Components → Likeness → Option ℕ
+known_in components = first_of components.closed.items (get likeness_cmp components.first)
 
 -- what is known of first components after one more
 abbrev pub noted : (Likeness → Option ℕ) → (one : Likeness) → (count : ℕ) → Likeness → Option ℕ
@@ -36,6 +48,10 @@ ArePlaces y numbers first cs =
 -- Nodes with equal trees have one number, and others different ones. A tree that no node before has gets the next one.
 abbrev pub AreNumbers : ReadSymbol → List ℕ → Type 0
 AreNumbers y numbers = AreNumbered (plain_at y) (length y.table.nodes) numbers
+
+-- Nodes with equal trees have one first node, and others different ones.
+abbrev pub AreFirst : ReadSymbol → List ℕ → Type 0
+AreFirst y firsts = AreTold (plain_at y) (length y.table.nodes) firsts
 
 -- Each component is the tree of a node.
 abbrev pub AreOfNodes : ReadSymbol → List Component → Type 0

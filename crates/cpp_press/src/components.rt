@@ -1,10 +1,9 @@
 // The components so far.
 #![tactic(auto)]
 
-ghost use Rattle.std.specs.Prelude.{◌≡◌, ◌+◌, None, OnOk, IfErr};
+ghost use Rattle.std.specs.Prelude.{◌≡◌, ◌+◌, cond, None, Some, OnOk, IfOk, IfErr};
 ghost use Rattle.sym_core.specs.declared.Refusal.TheVariants.{Memory};
-ghost use Rattle.std.specs.BTreeMap.{get};
-ghost use Rattle.cpp_press.specs.Places.{likeness_cmp, noted};
+ghost use Rattle.cpp_press.specs.Places.{has_place, known_in, like, noted};
 ghost use Rattle.cpp_press.specs.declared.components.Likeness.{Likeness};
 
 use std::alloc::Global;
@@ -21,28 +20,48 @@ pub struct Likeness {
 /// How many components there are, and by likeness the number of the first.
 #[derive(Drop)]
 pub struct Components {
+    /// The first components of no encoding, by the numbers of their trees.
+    pub closed: Vec<Option<u64>>,
+    /// All others.
     pub first: BTreeMap<Likeness, u64>,
     pub count: u64,
 }
 
 impl Components {
-    /// No components.
-    pub fn new(alloc: Global) -> Components
-        ensures first { (q : Likeness) → get likeness_cmp result.first q ≡ None }
-        ensures count { result.count ≡ 0 }
+    /// No components, whose trees have numbers below this one.
+    ///
+    /// # Errors
+    ///
+    /// `Memory` alone.
+    pub fn new(alloc: Global, numbers: usize) -> Result<Components, Refusal>
+        ensures first { IfOk result (λ made. (q : Likeness) → known_in made q ≡ None) }
+        ensures count { IfOk result (λ made. made.count ≡ 0) }
+        ensures memory { IfErr result (λ e. e ≡ Memory) }
     {
-        Components {
+        let closed = vec![in alloc; None; numbers]?;
+        Ok(Components {
+            closed,
             first: BTreeMap::new(alloc),
             count: 0,
-        }
+        })
+    }
+
+    /// Whether components of a likeness have a place by the number of their tree.
+    fn has_place(&self, likeness: Likeness) -> bool
+        ensures { result ≡ has_place self.now.closed.items likeness }
+    {
+        likeness.encoding == 0 && (likeness.number as usize) < self.closed.len()
     }
 
     /// The number of the first component that is alike.
     pub fn first(&self, likeness: Likeness) -> Option<u64>
-        ensures { result ≡ get likeness_cmp self.now.first likeness }
+        ensures { result ≡ known_in self.now likeness }
     {
+        if self.has_place(likeness) {
+            return self.closed[likeness.number as usize];
+        }
         match self.first.get(&likeness) {
-            Some(number) => Some(*number),
+            Some(first) => Some(*first),
             None => None,
         }
     }
@@ -53,7 +72,7 @@ impl Components {
     ///
     /// `Memory` alone.
     pub fn push(&mut self, likeness: Likeness) -> Result<(), Refusal>
-        ensures first { OnOk result ((q : Likeness) → get likeness_cmp self.new.first q ≡ noted (get likeness_cmp self.old.first) likeness self.old.count q) }
+        ensures first { OnOk result ((q : Likeness) → known_in self.new q ≡ noted (known_in self.old) likeness self.old.count q) }
         ensures count { OnOk result (self.new.count ≡ self.old.count + 1) }
         ensures memory { IfErr result (λ e. e ≡ Memory) }
     {
@@ -61,9 +80,23 @@ impl Components {
             return Err(Refusal::Memory);
         };
         if self.first(likeness).is_none() {
-            self.first.insert(likeness, self.count)?;
+            self.note(likeness)?;
         }
         self.count = next;
+        Ok(())
+    }
+
+    /// The next component is the first of this likeness.
+    fn note(&mut self, likeness: Likeness) -> Result<(), Refusal>
+        ensures first { OnOk result ((q : Likeness) → known_in self.new q ≡ cond (like likeness q) (Some self.old.count) (known_in self.old q)) }
+        ensures count { OnOk result (self.new.count ≡ self.old.count) }
+        ensures memory { IfErr result (λ e. e ≡ Memory) }
+    {
+        if self.has_place(likeness) {
+            self.closed[likeness.number as usize] = Some(self.count);
+            return Ok(());
+        }
+        self.first.insert(likeness, self.count)?;
         Ok(())
     }
 }

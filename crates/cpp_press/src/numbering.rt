@@ -1,25 +1,24 @@
 // Nodes with equal trees have one number.
 #![tactic(auto)]
 
-ghost use Rattle.std.specs.Prelude.{◌≡◌, ◌+◌, ◌<◌, ◌≤◌, ◌++◌, ℕ, List, length, Some, None, IfOk, IfErr};
-ghost use Rattle.std.specs.BTreeMap.{get};
+ghost use Rattle.std.specs.Prelude.{◌≡◌, ◌+◌, ◌<◌, ◌≤◌, ◌++◌, ℕ, List, length, Some, None, OnOk, IfOk, IfErr};
 ghost use Rattle.sym_core.specs.declared.Refusal.TheVariants.{Memory};
 ghost use Rattle.cpp_grammar.specs.Term.{Term};
 ghost use Rattle.cpp_tree.specs.Views.{IsSlotBelow};
 ghost use Rattle.cpp_layout.specs.Layout.{whole_of};
 ghost use Rattle.cpp_press_laws.specs.Same.{same_tree};
 ghost use Rattle.cpp_spelling.specs.Tasks.{plain_at};
-ghost use Rattle.cpp_press.specs.Places.{AreNumbers};
-ghost use Rattle.cpp_press.specs.Numbers.{ComeNext, IsKey, IsKeyOf, key_cmp, part_number};
+ghost use Rattle.cpp_press.specs.Places.{AreFirst, AreNumbers};
+ghost use Rattle.cpp_press.specs.Marks.{IsFound, found_in};
+ghost use Rattle.cpp_press.specs.Numbers.{ComeNext, IsKey, IsKeyOf, part_number};
 ghost use Rattle.sym_spell.proofs.FirstOnes.{AreFirsts};
 ghost use Rattle.sym_spell.specs.Numbers.{AreBelow};
 
 use crate::details::details_of;
 use cpp_layout::Symbol;
 use std::alloc::Global;
-use std::collections::BTreeMap;
 use sym_core::Refusal;
-use sym_spell::{Numbers, first_with};
+use sym_spell::{Firsts, Marked, Numbers, text_mark};
 
 /// What nodes with equal trees have alike: what they say, and of each part one more than the first node that is equal, or 0
 /// for no part. Keys are ordered by their parts first, so that one more mostly goes near the end.
@@ -34,6 +33,23 @@ struct Key<'a> {
     second_text: &'a [u8],
     third_text: &'a [u8],
     fourth_text: &'a [u8],
+}
+
+/// What equal keys have alike, in few instructions.
+impl<'a> Marked for Key<'a> {
+    ghost use Rattle.cpp_press.specs.Marks.{mark_of, marked-alike};
+
+    ghost mark_of = { mark_of };
+
+    fn mark(&self) -> u64 {
+        let parts = self.first_part as u64 * 101
+            + self.second_part as u64 * 307
+            + self.third_part as u64 * 419;
+        let numbers = self.numbers[0] % 65536 * 17 + self.numbers[1] % 65536 * 229;
+        self.production as u64 * 59 + parts + numbers + text_mark(self.first_text)
+    }
+
+    ghost alike = { marked-alike };
 }
 
 /// A part of a node that has so many, if it has this one.
@@ -81,37 +97,54 @@ fn key_of<'a>(symbol: &'a Symbol, firsts: &[u32], node: u32) -> Key<'a>
     }
 }
 
-/// The first nodes that are equal to each node of a symbol, whose nodes come after so many others that the map has: an earlier one, or
-/// the node itself. The map has them from now on.
+/// The first nodes that are equal to each node of a symbol, whose nodes come after so many others that the table has: an earlier one, or
+/// the node itself. The table has them from now on.
 ///
 /// # Errors
 ///
 /// `Memory` alone.
 fn firsts_after<'a>(
     alloc: Global,
-    keys: &mut BTreeMap<Key<'a>, u32>,
+    keys: &mut Firsts<Key<'a>>,
     symbol: &'a Symbol,
     before: u32,
 ) -> Result<Vec<u32>, Refusal>
     requires few { before ≤ 2147483647 }
-    requires next { (at : ℕ → Term) × (firsts : List ℕ) × ComeNext symbol.now at firsts before (get key_cmp keys.old) }
+    requires index { IsFound keys.old }
+    requires next { (at : ℕ → Term) × (firsts : List ℕ) × ComeNext symbol.now at firsts before (found_in keys.old) }
+    ensures index { OnOk result (IsFound keys.new) }
     ensures long { IfOk result (λ own. length own.items ≡ length symbol.now.table.nodes) }
     ensures few { IfOk result (λ own. length own.items ≤ 4294967295) }
-    ensures firsts { IfOk result (λ own. (at : ℕ → Term) (firsts : List ℕ) → ComeNext symbol.now at firsts before (get key_cmp keys.old)
-        → AreFirsts at (IsKey at) (firsts ++ own.items) (get key_cmp keys.new)) }
+    ensures firsts { IfOk result (λ own. (at : ℕ → Term) (firsts : List ℕ) → ComeNext symbol.now at firsts before (found_in keys.old)
+        → AreFirsts at (IsKey at) (firsts ++ own.items) (found_in keys.new)) }
     ensures memory { IfErr result (λ e. e ≡ Memory) }
 {
     let count = symbol.counts().nodes;
     let mut own = Vec::with_capacity(alloc, count as usize)?;
     for node in 0..count {
-        let first = first_with(keys, key_of(symbol, &own, node), before + node)?;
+        let first = keys.first_with(key_of(symbol, &own, node), before + node)?;
         own.push(first)?;
     }
     Ok(own)
 }
 
+/// The first nodes that are equal to each node of a symbol: an earlier one, or the node itself.
+///
+/// # Errors
+///
+/// `Memory` alone.
+pub(crate) fn first_nodes(alloc: Global, symbol: &Symbol) -> Result<Vec<u32>, Refusal>
+    ensures firsts { IfOk result (λ firsts. AreFirst symbol.now firsts.items) }
+    ensures few { IfOk result (λ firsts. length firsts.items ≤ 4294967295) }
+    ensures memory { IfErr result (λ e. e ≡ Memory) }
+{
+    let mut keys = Firsts::new(alloc, symbol.counts().nodes as usize)?;
+    let firsts = firsts_after(alloc, &mut keys, symbol, 0)?;
+    Ok(firsts)
+}
+
 /// Numbers the nodes of a C++ symbol. A tree that no node before has gets the next number, counted from 0. Two look-ups are made for
-/// each node: one in an ordered map, by what the node has alike with those that equal it, and one of the first of these in a table.
+/// each node: one by what the node has alike with those that equal it, and one of the first of these in a table.
 ///
 /// # Errors
 ///
@@ -120,13 +153,12 @@ pub fn numbers(alloc: Global, symbol: &Symbol) -> Result<Numbers, Refusal>
     ensures numbers { IfOk result (AreNumbers symbol.now) }
     ensures memory { IfErr result (λ e. e ≡ Memory) }
 {
-    let mut keys = BTreeMap::new(alloc);
-    let firsts = firsts_after(alloc, &mut keys, symbol, 0)?;
+    let firsts = first_nodes(alloc, symbol)?;
     let numbers = Numbers::of_firsts(alloc, &firsts)?;
     Ok(numbers)
 }
 
-/// Whether two C++ symbols have one tree, by one map of keys for the nodes of both.
+/// Whether two C++ symbols have one tree, by one table of keys for the nodes of both.
 ///
 /// # Errors
 ///
@@ -135,7 +167,7 @@ pub fn have_one_tree(alloc: Global, one: &Symbol, other: &Symbol) -> Result<bool
     ensures same { IfOk result (λ same. same ≡ same_tree (whole_of one.now) (whole_of other.now)) }
     ensures memory { IfErr result (λ e. e ≡ Memory) }
 {
-    let mut keys = BTreeMap::new(alloc);
+    let mut keys = Firsts::new(alloc, one.counts().nodes as usize)?;
     let firsts = firsts_after(alloc, &mut keys, one, 0)?;
     let others = firsts_after(alloc, &mut keys, other, one.counts().nodes)?;
     let first = firsts[one.root_node() as usize];

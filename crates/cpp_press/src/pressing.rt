@@ -3,18 +3,18 @@
 
 ghost use Rattle.std.specs.Prelude.{◌≡◌, ◌<◌, length, IfOk, IfErr};
 ghost use Rattle.sym_core.specs.declared.Refusal.TheVariants.{Memory};
-ghost use Rattle.std.specs.BTreeMap.{get};
 ghost use Rattle.cpp_tree.specs.Nodes.{IsTable};
 ghost use Rattle.cpp_layout.specs.Layout.{table_of, whole_of};
 ghost use Rattle.cpp_press_laws.specs.Pressing.{pressed};
 ghost use Rattle.cpp_press_laws.specs.Short.{IsShort};
 ghost use Rattle.cpp_spelling.specs.Tasks.{plain_at};
-ghost use Rattle.cpp_press.specs.Places.{likeness_cmp, likeness_of, AreNumbers};
+ghost use Rattle.cpp_press.specs.Places.{known_in, likeness_of, AreFirst};
+ghost use Rattle.sym_spell.specs.Numbers.{number_at};
 ghost use Rattle.cpp_press.specs.OfRead.{HasFewComponents};
 ghost use Rattle.cpp_spelling.specs.Standings.{standing_of, template_standing_of};
 
 use crate::components::{Components, Likeness};
-use crate::numbering::numbers;
+use crate::numbering::first_nodes;
 use cpp_layout::Symbol;
 use cpp_spelling::names::is_name;
 use cpp_spelling::steps::{Standing, compared, step_template, step_tree};
@@ -24,17 +24,24 @@ use cpp_spelling::texts::push_text;
 use cpp_spelling::types::is_compared;
 use std::alloc::Global;
 use sym_core::Refusal;
-use sym_spell::Numbers;
+
+/// The first node that is equal to a node.
+fn first_node(firsts: &[u32], node: u32) -> u32
+    requires { node < length firsts.now }
+    ensures number { result ≡ number_at firsts.now node }
+{
+    firsts[node as usize]
+}
 
 /// What a node's tree is like as a component of an encoding: one with free parameters is compared with those of its encoding
 /// alone.
-fn likeness_of(symbol: &Symbol, numbering: &Numbers, node: u32, encoding: u64) -> Likeness
+fn likeness_of(symbol: &Symbol, firsts: &[u32], node: u32, encoding: u64) -> Likeness
     requires table { IsTable (table_of symbol.now) }
     requires node { node < length symbol.now.table.nodes }
-    requires number { node < length numbering.now }
-    ensures { result ≡ likeness_of symbol.now numbering.now node encoding }
+    requires number { node < length firsts.now }
+    ensures { result ≡ likeness_of symbol.now firsts.now node encoding }
 {
-    let number = numbering.number_of(node);
+    let number = first_node(firsts, node);
     if symbol.entry(node).is_open() {
         Likeness { number, encoding }
     } else {
@@ -48,7 +55,7 @@ fn likeness_of(symbol: &Symbol, numbering: &Numbers, node: u32, encoding: u64) -
 /// How a tree stands to the components before it.
 fn standing_of(
     symbol: &Symbol,
-    numbering: &Numbers,
+    firsts: &[u32],
     components: &Components,
     node: u32,
     way: Way,
@@ -56,11 +63,11 @@ fn standing_of(
 ) -> Standing
     requires table { IsTable (table_of symbol.now) }
     requires node { node < length symbol.now.table.nodes }
-    requires number { node < length numbering.now }
-    ensures { result ≡ standing_of way (plain_at symbol.now node) (get likeness_cmp components.now.first (likeness_of symbol.now numbering.now node encoding)) }
+    requires number { node < length firsts.now }
+    ensures { result ≡ standing_of way (plain_at symbol.now node) (known_in components.now (likeness_of symbol.now firsts.now node encoding)) }
 {
     if is_compared(way, stored(symbol, node)) {
-        compared(components.first(likeness_of(symbol, numbering, node, encoding)))
+        compared(components.first(likeness_of(symbol, firsts, node, encoding)))
     } else {
         Standing::Apart
     }
@@ -69,18 +76,18 @@ fn standing_of(
 /// How a template name stands to the components before it.
 fn template_standing_of(
     symbol: &Symbol,
-    numbering: &Numbers,
+    firsts: &[u32],
     components: &Components,
     name: u32,
     encoding: u64,
 ) -> Standing
     requires table { IsTable (table_of symbol.now) }
     requires node { name < length symbol.now.table.nodes }
-    requires number { name < length numbering.now }
-    ensures { result ≡ template_standing_of (plain_at symbol.now name) (get likeness_cmp components.now.first (likeness_of symbol.now numbering.now name encoding)) }
+    requires number { name < length firsts.now }
+    ensures { result ≡ template_standing_of (plain_at symbol.now name) (known_in components.now (likeness_of symbol.now firsts.now name encoding)) }
 {
     if is_name(stored(symbol, name)) {
-        compared(components.first(likeness_of(symbol, numbering, name, encoding)))
+        compared(components.first(likeness_of(symbol, firsts, name, encoding)))
     } else {
         Standing::Apart
     }
@@ -91,15 +98,15 @@ const COMMON_BYTES: usize = 128;
 
 const COMMON_TASKS: usize = 16;
 
-/// The pressed spelling of a C++ symbol, by the numbers of its nodes.
-fn press_tasks(alloc: Global, symbol: &Symbol, numbering: &Numbers) -> Result<Vec<u8>, Refusal>
-    requires numbers { AreNumbers symbol.now numbering.now }
+/// The pressed spelling of a C++ symbol, by the first nodes that equal its nodes.
+fn press_tasks(alloc: Global, symbol: &Symbol, firsts: &[u32]) -> Result<Vec<u8>, Refusal>
+    requires firsts { AreFirst symbol.now firsts.now }
     ensures pressed { IfOk result (λ out. out.items ≡ pressed (whole_of symbol.now)) }
     ensures components { IfOk result (λ _. HasFewComponents symbol.now) }
     ensures short { IfOk result (λ out. IsShort (whole_of symbol.now) out.items) }
     ensures memory { IfErr result (λ e. e ≡ Memory) }
 {
-    let mut components = Components::new(alloc);
+    let mut components = Components::new(alloc, firsts.len())?;
     let mut tasks = Vec::with_capacity(alloc, COMMON_TASKS)?;
     let mut out = Vec::with_capacity(alloc, COMMON_BYTES)?;
     then_tree(symbol, symbol.root_node(), Way::Encoding, 0, &mut tasks);
@@ -107,7 +114,7 @@ fn press_tasks(alloc: Global, symbol: &Symbol, numbering: &Numbers) -> Result<Ve
         match task {
             Task::Text(text) => push_text(symbol, text, &mut out)?,
             Task::Ended { node, encoding } => {
-                components.push(likeness_of(symbol, numbering, node, encoding))?;
+                components.push(likeness_of(symbol, firsts, node, encoding))?;
             }
             Task::Template {
                 name,
@@ -115,7 +122,7 @@ fn press_tasks(alloc: Global, symbol: &Symbol, numbering: &Numbers) -> Result<Ve
                 in_type,
                 encoding,
             } => {
-                let standing = template_standing_of(symbol, numbering, &components, name, encoding);
+                let standing = template_standing_of(symbol, firsts, &components, name, encoding);
                 step_template(
                     symbol, standing, name, arguments, in_type, encoding, &mut tasks,
                 )?;
@@ -126,7 +133,7 @@ fn press_tasks(alloc: Global, symbol: &Symbol, numbering: &Numbers) -> Result<Ve
                 encoding,
             } => {
                 let here = out.len() as u64;
-                let standing = standing_of(symbol, numbering, &components, node, way, encoding);
+                let standing = standing_of(symbol, firsts, &components, node, way, encoding);
                 step_tree(symbol, standing, node, way, encoding, here, &mut tasks)?;
             }
         }
@@ -150,6 +157,6 @@ pub fn press_cpp(alloc: Global, symbol: &Symbol) -> Result<Vec<u8>, Refusal>
     ensures short { IfOk result (λ out. IsShort (whole_of symbol.now) out.items) }
     ensures memory { IfErr result (λ e. e ≡ Memory) }
 {
-    let numbering = numbers(alloc, symbol)?;
-    press_tasks(alloc, symbol, &numbering)
+    let firsts = first_nodes(alloc, symbol)?;
+    press_tasks(alloc, symbol, &firsts)
 }

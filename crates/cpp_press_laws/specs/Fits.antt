@@ -6,7 +6,7 @@ use Rattle.sym_spell.specs.Pressing.{◌and◌, text}
 use Rattle.cpp_grammar.specs.declared.kind.Kind.{Kind}
 use Rattle.cpp_grammar.specs.declared.production.Production.{Production}
 use Rattle.cpp_grammar.specs.Grammar.{choose}
-use Rattle.cpp_grammar.specs.Term.{Qualifiers, RefQualifier, Adjustment, non_virtual, by_table, Thunk, adjusting, covariant, Term, symbol, function, object, special, thunk, of_name, construction, clone, alone, in_std, within, instance, local, holder, tagged, of_default, abbreviation, parameter, source, operator, literal_operator, constructor, destructor, inheriting, lambda, generic_lambda, unnamed, string_literal, conversion, builtin, sized_float, constrained, vendor, pointer, lvalue, rvalue, array, bounded, member_pointer, function_type, qualified, vector, complex, decltype, expansion, integer, boolean, null_pointer, encoding_literal, address_of, operation, function_parameter, pack, nil, list, absent}
+use Rattle.cpp_grammar.specs.Term.{Qualifiers, RefQualifier, explicit_object, Adjustment, non_virtual, by_table, Thunk, adjusting, covariant, Term, symbol, function, object, special, thunk, of_name, construction, clone, alone, in_std, within, instance, local, holder, tagged, of_default, abbreviation, parameter, source, operator, literal_operator, constructor, destructor, inheriting, lambda, generic_lambda, unnamed, string_literal, conversion, builtin, sized_float, constrained, vendor, pointer, lvalue, rvalue, array, bounded, member_pointer, function_type, qualified, vector, complex, decltype, expansion, integer, boolean, null_pointer, encoding_literal, address_of, operation, function_parameter, pack, nil, list, absent}
 use Rattle.cpp_grammar.specs.Scope.{count, element, length_if_pack, has_return_type, is_open}
 use Rattle.cpp_grammar.specs.References.{packs_in}
 use Rattle.cpp_grammar.specs.Values.{Prefix, outermost, behind, Around}
@@ -179,12 +179,22 @@ IsSpellableSuffix [] = Unit {0}
 IsSpellableSuffix (dot ∷ []) = ⊥
 IsSpellableSuffix (dot ∷ b ∷ bs) = (dot ≡ 46) × (b < 256) × (choose Kind.SuffixFirst b ≡ Some Production.SuffixByte) × AreSuffixBytes bs
 
+-- each mark but that of a function whose object is its first parameter, which the wide grammar alone reads
+abbrev pub IsAbiMark : RefQualifier → Type 0
+IsAbiMark explicit_object = ⊥
+IsAbiMark _ = Unit {0}
+
 -- ## The ways of a tree
 
 -- a local entity as a type, or in an encoding's own name with the encoding's letters
 pub data Role : Type 0 where
   in_type : Role
   in_name_with : Qualifiers → RefQualifier → Role
+
+-- the mark of the encoding is one of the ABI's
+abbrev pub IsAbiRole : Role → Type 0
+IsAbiRole in_type = Unit {0}
+IsAbiRole (in_name_with q ref) = IsAbiMark ref
 
 unfoldable pub letters_of : Role → List ℕ
 letters_of in_type = []
@@ -278,14 +288,15 @@ fits_of (function name q ref returned parameters) =
     × Behind ((ways_of here name).as_name (name_letters q ref)) (λ place ds. either (has_return_type name)
     ((fits_of returned).as_type item_type (in_types here name) allowed place ds) (returned ≡ absent)) here cs
     × Behind ((ways_of here name).as_name (name_letters q ref) and (ways_of here returned).as_type)
-    ((fits_of parameters).as_parameters item_type (in_types here name) allowed) here cs)
-fits_of (object name q ref) = encoding_fits (λ allowed here. (fits_of name).as_name q ref (in_name here) allowed here)
+    ((fits_of parameters).as_parameters item_type (in_types here name) allowed) here cs
+    × IsAbiMark ref)
+fits_of (object name q ref) = encoding_fits (λ allowed here cs. (fits_of name).as_name q ref (in_name here) allowed here cs × IsAbiMark ref)
 fits_of (special l type) =
     encoding_fits (λ allowed here cs.
     (l < 256) × (choose Kind.Special l ≡ Some Production.SpecialType) × (fits_of type).as_type any_type (in_name here) allowed (here + 2) cs)
 fits_of (thunk kind e) =
     encoding_fits (λ allowed here cs. IsSpellableThunk kind × Behind (text (thunk_text kind)) ((fits_of e).as_encoding allowed) here cs)
-fits_of (of_name l name q ref) = encoding_fits (λ allowed here cs. (l ≡ 86) × (fits_of name).as_name q ref (in_name here) allowed (here + 2) cs)
+fits_of (of_name l name q ref) = encoding_fits (λ allowed here cs. (l ≡ 86) × (fits_of name).as_name q ref (in_name here) allowed (here + 2) cs × IsAbiMark ref)
 -- a piece alone
 fits_of (alone p) = record fits_nowhere {
   as_type = λ slot. as_component (alone p) (one_piece outermost (names_type p) (fits_of p).as_piece);
@@ -418,7 +429,8 @@ fits_of (function_type c_linkage noexcept ref returned parameters) =
     let spelled : Fitting = λ around allowed place cs.
     (fits_of returned).as_type any_type around allowed (place + length marks) cs
     × Behind (text marks and (ways_of around.encoding returned).as_type)
-    ((fits_of parameters).as_parameters parameter_type around allowed) place cs in
+    ((fits_of parameters).as_parameters parameter_type around allowed) place cs
+    × IsAbiMark ref in
     let own : Term = function_type c_linkage noexcept ref returned parameters in
     let all_slots : Slot → Fitting = λ slot around allowed place cs. (takes_all slot ≡ true) × spelled around allowed place cs in
     record (type_fits own all_slots) {

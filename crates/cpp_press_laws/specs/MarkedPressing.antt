@@ -4,9 +4,10 @@ use Rattle.std.specs.Prelude.{ℕ, ◌-◌, List, [], ◌∷◌, ◌++◌, Bool,
 use Prim.Native.String.{String}
 use Rattle.sym_spell.specs.Pressing.{◌and◌, text, nothing}
 use Rattle.cpp_grammar.specs.Term.{RefQualifier, Term, symbol, function, object, special, thunk, of_name, construction, clone, alone, in_std, within, instance, local, holder, tagged, of_default, abbreviation, parameter, source, operator, literal_operator, constructor, destructor, inheriting, lambda, generic_lambda, unnamed, string_literal, conversion, builtin, sized_float, constrained, vendor, pointer, lvalue, rvalue, array, bounded, member_pointer, function_type, qualified, vector, complex, decltype, expansion, integer, boolean, null_pointer, encoding_literal, address_of, operation, function_parameter, pack, nil, list, absent}
+use Rattle.cpp_grammar.specs.Scope.{without_tags}
 use Rattle.cpp_press_laws.specs.Texts.{counted, ordinal, signed_text, qualifier_letters, mark_letter, name_letters, special_code, thunk_text, discriminator_text}
 use Rattle.cpp_press_laws.specs.MarkedComponents.{compared, not_compared, Spelling, referred, component}
-use Rattle.cpp_press_laws.specs.Pressing.{is_operator, is_one_piece}
+use Rattle.cpp_press_laws.specs.Pressing.{is_operator, is_nested, is_one_piece}
 
 -- How a tree is spelled depends on where it is. So each tree has these ways, of which those count that it can be in.
 pub record Ways : Type 0 where
@@ -144,6 +145,13 @@ ways_of n (instance template arguments) =
 ways_of n (local e entity discriminator) =
     let spelling = local_text (ways_of n e).as_encoding entity (ways_of n entity).between_N_and_E discriminator in
     record (type_ways (component n (local e entity discriminator) (spelling []))) { as_name = spelling }
+-- a tag comes after those before it and after its name, which is no component without it
+ways_of n (tagged of_structor name tag) =
+    let between = (ways_of n name).between_N_and_E and text (codes "B" ++ counted tag) in
+    let needs_N = is_nested (without_tags name) in
+    let spelling : Spelling = elim needs_N [ true ↦ in_N_and_E [] between | false ↦ between ] in
+    name_ways n (tagged of_structor name tag) spelling spelling between between
+    (λ in_type arguments. template_before n (tagged of_structor name tag) needs_N between arguments)
 ways_of n (function_type c_linkage noexcept ref returned parameters) =
     let spelling = function_text c_linkage noexcept ref (ways_of n returned).as_type (ways_of n parameters).as_parameters in
     record (type_ways (component n (function_type c_linkage noexcept ref returned parameters) spelling)) { under_qualifiers = spelling }
@@ -153,15 +161,13 @@ ways_of n (list first rest) =
     let r = ways_of n rest in
     let more = f.as_type and r.as_more_parameters in
     record no_ways { as_parameters = more; as_more_parameters = more; as_elements = f.as_argument and r.as_elements }
--- The others, each as its row of SPELLED. What the wide grammar alone reads isn't pressed: local entities of default
--- arguments, constructors that are inherited, lambdas with parameters of their own, arrays whose length is an expression, placeholders of which a
--- concept is asked, and expressions
+-- The others, each as its row of SPELLED. Of what the wide grammar alone reads these aren't pressed: local entities of
+-- default arguments, constructors that are inherited, arrays whose length is an expression, placeholders of which a concept is asked, and expressions
 ways_of n (special l type) = encoding_ways (λ here. text (codes "T" ++ l ∷ []) and (ways_of here type).as_type)
 ways_of n (thunk kind e) = encoding_ways (λ here. text (thunk_text kind) and (ways_of here e).as_encoding)
 ways_of n (construction derived digits parent) = encoding_ways (λ here. says "TC" and (ways_of here derived).as_type and text (digits ++ codes "_") and (ways_of here parent).as_type)
 ways_of n (clone letter e) = encoding_ways (λ here. says "GT" and text (letter ∷ []) and (ways_of here e).as_encoding)
 ways_of n (holder name) = record no_ways { as_prefix = (ways_of n name).as_prefix and says "M" }
-ways_of n (tagged of_structor name tag) = type_ways (component n (tagged of_structor name tag) ((ways_of n name).as_type and text (codes "B" ++ counted tag)))
 ways_of n (of_default digits entity) = no_ways
 ways_of n (abbreviation l) = type_ways (text (codes "S" ++ l ∷ []))
 ways_of n (parameter k) = type_ways (component n (parameter k) (text (codes "T" ++ ordinal k)))
@@ -172,7 +178,7 @@ ways_of n (constructor digit) = piece_ways (text (codes "C" ++ digit ∷ []))
 ways_of n (destructor digit) = piece_ways (text (codes "D" ++ digit ∷ []))
 ways_of n (inheriting digit class) = no_ways
 ways_of n (lambda parameters k) = piece_ways (says "Ul" and (ways_of n parameters).as_parameters and text (codes "E" ++ ordinal (k - 1)))
-ways_of n (generic_lambda parameters number) = no_ways
+ways_of n (generic_lambda parameters number) = piece_ways (says "Ul" and begun (λ here. (ways_of here parameters).as_parameters) and text (codes "E" ++ ordinal (number - 1)))
 ways_of n (unnamed k) = piece_ways (text (codes "Ut" ++ ordinal (k - 1)))
 ways_of n string_literal = piece_ways (says "s")
 ways_of n (conversion type) = piece_ways (says "cv" and (ways_of n type).as_type)

@@ -2,7 +2,7 @@
 use Rattle.std.specs.Prelude.{ℕ, zero, suc, List, [], ◌∷◌, ◌++◌, length, cond, codes, Option, Some, None}
 use Rattle.sym_spell.specs.Digits.{digits_in, decimal_digit}
 use Rattle.cpp_grammar.specs.Texts.{special_front}
-use Rattle.cpp_grammar.specs.Term.{Qualifiers, RefQualifier, any_value, lvalue_only, rvalue_only, Signed, Adjustment, non_virtual, by_table, Thunk, adjusting, covariant}
+use Rattle.cpp_grammar.specs.Term.{Qualifiers, RefQualifier, any_value, lvalue_only, rvalue_only, explicit_object, Signed, Adjustment, non_virtual, by_table, Thunk, adjusting, covariant}
 
 unfoldable pub decimal : ℕ → List ℕ
 decimal n = digits_in 10 decimal_digit 40 n
@@ -27,6 +27,7 @@ unfoldable pub mark_letter : RefQualifier → List ℕ
 mark_letter any_value = []
 mark_letter lvalue_only = codes "R"
 mark_letter rvalue_only = codes "O"
+mark_letter explicit_object = codes "H"
 
 -- what is said of a function after the N of its name (ABI 5.1, `<nested-name>`)
 unfoldable pub name_letters : Qualifiers → RefQualifier → List ℕ

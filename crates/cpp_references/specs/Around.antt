@@ -12,6 +12,8 @@ use Rattle.cpp_references.specs.declared.around.Scope.{Scope}
 use Rattle.cpp_references.specs.declared.around.Naming.{Naming}
 use Rattle.cpp_references.specs.declared.around.Surroundings.{Surroundings}
 use Rattle.cpp_references.specs.declared.candidates.Candidate.{Candidate}
+use Rattle.cpp_references.specs.declared.candidates.Counted.{Counted}
+use Rattle.cpp_grammar.specs.Values as plain
 
 -- the trees of the nodes, and that of a node which isn't made yet
 abbrev pub trees_in : List ℕ → Stored → List Term
@@ -64,8 +66,14 @@ IsClosed around = IfSome around.scope (λ a. is_open a ≡ false)
 
 -- ## Candidates
 
+unfoldable pub counted_of : Counted → plain.Counted
+counted_of Counted.ByAll = plain.by_all
+counted_of Counted.ByNewer = plain.by_newer
+counted_of Counted.ByGcc = plain.by_gcc
+counted_of Counted.BySome = plain.by_some
+
 abbrev pub candidate_of : List Term → Candidate → values.Candidate
-candidate_of ts c = record { tree = tree_at ts c.node; encoding = c.encoding; in_lambda = c.in_lambda; is_held = c.is_held }
+candidate_of ts c = record { tree = tree_at ts c.node; encoding = c.encoding; in_lambda = c.in_lambda; counted = counted_of c.counted }
 
 abbrev pub candidates_of : List Term → List Candidate → List values.Candidate
 candidates_of ts cs = map (candidate_of ts) cs

@@ -13,27 +13,27 @@ use Rattle.cpp_tree.specs.declared.node.Node.{Node}
 use Rattle.cpp_references.specs.declared.candidates.Candidate.{Candidate}
 use Rattle.cpp_references.specs.Around.{tree_of_node, candidate_of}
 
-unfoldable pub packs_read : List values.Candidate → Result (Option ℕ) Refusal → Result State Refusal
-packs_read cs (Ok packs) = Ok (record { candidates = cs; packs = packs })
-packs_read cs (Err e) = Err e
+unfoldable pub packs_read : State → Result (Option ℕ) Refusal → Result State Refusal
+packs_read state (Ok packs) = Ok (record state { packs = packs })
+packs_read state (Err e) = Err e
 
 unfoldable pub maybe_candidate : List Term → Option Candidate → Option values.Candidate
 maybe_candidate ts None = None
 maybe_candidate ts (Some c) = Some (candidate_of ts c)
 
-unfoldable pub node_read : List Term → List values.Candidate → Result (ℕ × Option ℕ) Refusal → Result (Found Value State) Refusal
-node_read ts cs (Ok r) = Ok (found (values.tree (tree_at ts r.0) true) (record { candidates = cs; packs = r.1 }))
-node_read ts cs (Err e) = Err e
+unfoldable pub node_read : List Term → State → Result (ℕ × Option ℕ) Refusal → Result (Found Value State) Refusal
+node_read ts state (Ok r) = Ok (found (values.tree (tree_at ts r.0) true) (record state { packs = r.1 }))
+node_read ts state (Err e) = Err e
 
 -- a parameter that became a candidate, by its node
-unfoldable pub parameter_read : Around → List ℕ → Stored → List values.Candidate → Result (Node × Option ℕ) Refusal → Result State Refusal
-parameter_read around s y cs (Ok r) = Ok (appended around (tree_of_node s y r.0) (record { candidates = cs; packs = r.1 }))
-parameter_read around s y cs (Err e) = Err e
+unfoldable pub parameter_read : Around → List ℕ → Stored → State → Result (Node × Option ℕ) Refusal → Result State Refusal
+parameter_read around s y state (Ok r) = Ok (appended around (tree_of_node s y r.0) (record state { packs = r.1 }))
+parameter_read around s y state (Err e) = Err e
 
 -- a tree with the argument that is meant here, or with those of a scope, where that is this node
-unfoldable pub argument_read : List Term → Term → List values.Candidate → Result (ℕ × Option ℕ) Refusal → Result (Found Value State) Refusal
-argument_read ts t cs (Ok r) = Ok (found (values.tree (reargued (Some (tree_at ts r.0)) t) true) (record { candidates = cs; packs = r.1 }))
-argument_read ts t cs (Err e) = Err e
+unfoldable pub argument_read : List Term → Term → State → Result (ℕ × Option ℕ) Refusal → Result (Found Value State) Refusal
+argument_read ts t state (Ok r) = Ok (found (values.tree (reargued (Some (tree_at ts r.0)) t) true) (record state { packs = r.1 }))
+argument_read ts t state (Err e) = Err e
 
 unfoldable pub function_node : Node → Bool
 function_node (Node.FunctionType c_linkage noexcept m returned parameters) = true

@@ -8,7 +8,8 @@ ghost use Rattle.cpp_term.specs.References.{substituted, is_function_type};
 ghost use Rattle.cpp_term.specs.Scope.{pack_length};
 ghost use Rattle.cpp_term.specs.Values as values;
 ghost use Rattle.cpp_tree.specs.Nodes.{over, tree_at, bytes_at, IsWithin, IsTable};
-ghost use Rattle.cpp_references.specs.Around.{trees_in, is_lambda, around_of, candidates_of, AreNodesThere};
+ghost use Rattle.cpp_grammar.specs.Rescoping.{is_by_all, is_by_newer, is_by_some, joined};
+ghost use Rattle.cpp_references.specs.Around.{counted_of, trees_in, is_lambda, around_of, candidates_of, AreNodesThere};
 ghost use Rattle.cpp_references.specs.References.{maybe_candidate, node_read, function_node};
 
 use crate::again::opened;
@@ -18,19 +19,96 @@ use cpp_tree::Nodes;
 use cpp_tree::node::Node;
 use sym_core::{Refusal, Span, value36};
 
+/// By which compilers a candidate is counted.
+#[derive(Clone, Copy)]
+pub enum Counted {
+    /// By all.
+    ByAll,
+    /// By those since GCC 13 and Clang 13.
+    ByNewer,
+    /// By GCC alone.
+    ByGcc,
+    /// By some of which the reading doesn't know.
+    BySome,
+}
+
 /// A tree that a substitution may name, the place where the encoding begins in which it was made, and whether it was made in the
 /// signature of a lambda.
 #[derive(Clone, Copy)]
 pub struct Candidate {
     pub node: u32,
     pub encoding: u32,
+    /// The place among all candidates of the one whose number in the longer list is the place of this one, if there is one.
+    pub longer: usize,
+    /// Likewise in the shorter list.
+    pub shorter: usize,
     pub in_lambda: bool,
-    /// Whether it's a mark: compilers differ in whether they count the candidate before it.
-    pub is_held: bool,
-    /// Whether an earlier candidate is a mark.
-    pub is_apart: bool,
-    /// Whether two earlier candidates are.
-    pub is_far: bool,
+    pub counted: Counted,
+}
+
+impl Counted {
+    /// Whether all compilers count it.
+    #[tactic(auto, unfolding(crate::specs::Around::counted_of, cpp_grammar::specs::Rescoping::is_by_all))]
+    #[inline(always)]
+    pub fn is_by_all(self) -> bool
+        ensures { result ≡ is_by_all (counted_of self) }
+    {
+        match self {
+            Counted::ByAll => true,
+            Counted::ByNewer => false,
+            Counted::ByGcc => false,
+            Counted::BySome => false,
+        }
+    }
+
+    /// Whether those since GCC 13 and Clang 13 count it.
+    #[tactic(auto, unfolding(crate::specs::Around::counted_of, cpp_grammar::specs::Rescoping::is_by_newer))]
+    pub fn is_by_newer(self) -> bool
+        ensures { result ≡ is_by_newer (counted_of self) }
+    {
+        match self {
+            Counted::ByAll => false,
+            Counted::ByNewer => true,
+            Counted::ByGcc => false,
+            Counted::BySome => false,
+        }
+    }
+
+    /// Whether it is counted by some of which the reading doesn't know.
+    #[tactic(auto, unfolding(crate::specs::Around::counted_of, cpp_grammar::specs::Rescoping::is_by_some))]
+    pub fn is_by_some(self) -> bool
+        ensures { result ≡ is_by_some (counted_of self) }
+    {
+        match self {
+            Counted::ByAll => false,
+            Counted::ByNewer => false,
+            Counted::ByGcc => false,
+            Counted::BySome => true,
+        }
+    }
+
+    /// By whom the longer list is counted, once it has a candidate more that is counted by others.
+    #[tactic(auto, unfolding(crate::specs::Around::counted_of, cpp_grammar::specs::Rescoping::joined))]
+    pub fn joined(self, other: Counted) -> Counted
+        ensures { counted_of result ≡ joined (counted_of self) (counted_of other) }
+    {
+        match self {
+            Counted::ByAll => other,
+            Counted::ByNewer => match other {
+                Counted::ByAll => Counted::ByNewer,
+                Counted::ByNewer => Counted::ByNewer,
+                Counted::ByGcc => Counted::BySome,
+                Counted::BySome => Counted::BySome,
+            },
+            Counted::ByGcc => match other {
+                Counted::ByAll => Counted::ByGcc,
+                Counted::ByNewer => Counted::BySome,
+                Counted::ByGcc => Counted::ByGcc,
+                Counted::BySome => Counted::BySome,
+            },
+            Counted::BySome => Counted::BySome,
+        }
+    }
 }
 
 /// The candidate of a number.
@@ -90,7 +168,7 @@ pub fn substituted(
 ) -> Result<(u32, Option<u32>), Refusal>
     requires table { IsTable (over symbol.now nodes.now) }
     requires there { IfSome candidate (λ c. c.node < length nodes.now.nodes) }
-    ensures is { (cs : List values.Candidate) → substituted (around_of (trees_in symbol.now nodes.now) kept) place (maybe_candidate (trees_in symbol.now nodes.now) candidate) (record { candidates = cs; packs = packs }) ≡ node_read (trees_in symbol.now nodes.now) cs result }
+    ensures is { (state : values.State) → substituted (around_of (trees_in symbol.now nodes.now) kept) place (maybe_candidate (trees_in symbol.now nodes.now) candidate) (record state { packs = packs }) ≡ node_read (trees_in symbol.now nodes.now) state result }
     ensures there { IfOk result (λ named. named.0 < length nodes.now.nodes) }
     ensures bad { IfErr result (λ e. e ≡ refusals.Memory → ⊥) }
 {
@@ -124,8 +202,8 @@ pub fn substitution(
     requires table { IsTable (over symbol.now nodes.now) }
     requires there { AreNodesThere (length nodes.now.nodes) candidates.now }
     requires digits { IsWithin digits symbol.now }
-    ensures is { (cs : List values.Candidate) → substituted (around_of (trees_in symbol.now nodes.now) kept) (place - 1) (slice_get (candidates_of (trees_in symbol.now nodes.now) candidates.now) (counted_value kinds.Seq36 (bytes_at symbol.now digits))) (record { candidates = cs; packs = packs })
-        ≡ node_read (trees_in symbol.now nodes.now) cs result }
+    ensures is { (state : values.State) → substituted (around_of (trees_in symbol.now nodes.now) kept) (place - 1) (slice_get (candidates_of (trees_in symbol.now nodes.now) candidates.now) (counted_value kinds.Seq36 (bytes_at symbol.now digits))) (record state { packs = packs })
+        ≡ node_read (trees_in symbol.now nodes.now) state result }
     ensures there { IfOk result (λ named. named.0 < length nodes.now.nodes) }
     ensures bad { IfErr result (λ e. e ≡ refusals.Memory → ⊥) }
 {

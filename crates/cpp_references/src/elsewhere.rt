@@ -56,8 +56,8 @@ fn argument_by(
     requires closed { IsClosed (around_of (trees_in symbol.now nodes.now) kept) }
     requires below { node < length nodes.now.nodes }
     requires room { length nodes.now.nodes + 1 < 2 ^ 32 }
-    ensures is { (cs : List values.Candidate) → in_scope (around_of (trees_in symbol.now nodes.now) kept) place (tree_at (trees_in symbol.now nodes.now) node) number (record { candidates = cs; packs = packs })
-        ≡ argument_read (trees_in symbol.now nodes.now) (tree_at (trees_in symbol.now nodes.now) node) cs result }
+    ensures is { (state : values.State) → in_scope (around_of (trees_in symbol.now nodes.now) kept) place (tree_at (trees_in symbol.now nodes.now) node) number (record state { packs = packs })
+        ≡ argument_read (trees_in symbol.now nodes.now) (tree_at (trees_in symbol.now nodes.now) node) state result }
     ensures there { IfOk result (λ r. r.0 < length nodes.now.nodes) }
     ensures bad { IfErr result (λ e. e ≡ refusals.Memory → ⊥) }
 {
@@ -94,8 +94,8 @@ fn scope_by(
 ) -> Result<(u32, Option<u32>), Refusal>
     requires table { IsTable (over symbol.now nodes.now) }
     requires kept { IsKeptThere (length nodes.now.nodes) kept }
-    ensures is { (t : Term) (cs : List values.Candidate) → under_scope (around_of (trees_in symbol.now nodes.now) kept) place t greatest (record { candidates = cs; packs = packs })
-        ≡ argument_read (trees_in symbol.now nodes.now) t cs result }
+    ensures is { (t : Term) (state : values.State) → under_scope (around_of (trees_in symbol.now nodes.now) kept) place t greatest (record state { packs = packs })
+        ≡ argument_read (trees_in symbol.now nodes.now) t state result }
     ensures there { IfOk result (λ r. r.0 < length nodes.now.nodes) }
     ensures bad { IfErr result (λ e. e ≡ refusals.Memory → ⊥) }
 {
@@ -132,8 +132,8 @@ pub fn argument_here(
     requires closed { IsClosed (around_of (trees_in symbol.now nodes.now) kept) }
     requires below { node < length nodes.now.nodes }
     requires room { length nodes.now.nodes + 1 < 2 ^ 32 }
-    ensures is { (cs : List values.Candidate) → restated (around_of (trees_in symbol.now nodes.now) kept) place (tree_at (trees_in symbol.now nodes.now) node) (record { candidates = cs; packs = packs })
-        ≡ argument_read (trees_in symbol.now nodes.now) (tree_at (trees_in symbol.now nodes.now) node) cs result }
+    ensures is { (state : values.State) → restated (around_of (trees_in symbol.now nodes.now) kept) place (tree_at (trees_in symbol.now nodes.now) node) (record state { packs = packs })
+        ≡ argument_read (trees_in symbol.now nodes.now) (tree_at (trees_in symbol.now nodes.now) node) state result }
     ensures there { IfOk result (λ r. r.0 < length nodes.now.nodes) }
     ensures bad { IfErr result (λ e. e ≡ refusals.Memory → ⊥) }
 {

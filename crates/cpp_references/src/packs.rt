@@ -20,7 +20,7 @@ pub fn with_packs(
     own: Option<u32>,
     packs: Option<u32>,
 ) -> Result<Option<u32>, Refusal>
-    ensures is { (cs : List values.Candidate) → with_packs place in_expansion own (record { candidates = cs; packs = packs }) ≡ packs_read cs result }
+    ensures is { (state : values.State) → with_packs place in_expansion own (record state { packs = packs }) ≡ packs_read state result }
     ensures refused { IfErr result (λ e. e ≡ refusals.Memory → ⊥) }
 {
     match own {

@@ -96,8 +96,8 @@ pub fn named_parameter(
     requires kept { IsKeptThere (length nodes.now.nodes) kept }
     requires closed { IsClosed (around_of (trees_in symbol.now nodes.now) kept) }
     requires digits { IsWithin digits symbol.now }
-    ensures is { (cs : List values.Candidate) → parameter_named (around_of (trees_in symbol.now nodes.now) kept) place (counted_value kinds.Decimal (bytes_at symbol.now digits)) (record { candidates = cs; packs = packs })
-        ≡ parameter_read (around_of (trees_in symbol.now nodes.now) kept) symbol.now nodes.now cs result }
+    ensures is { (state : values.State) → parameter_named (around_of (trees_in symbol.now nodes.now) kept) place (counted_value kinds.Decimal (bytes_at symbol.now digits)) (record state { packs = packs })
+        ≡ parameter_read (around_of (trees_in symbol.now nodes.now) kept) symbol.now nodes.now state result }
     ensures tree { IfOk result (λ named. tree_of_node symbol.now nodes.now named.0 ≡ term.parameter (counted_value kinds.Decimal (bytes_at symbol.now digits)) (argument_at (around_of (trees_in symbol.now nodes.now) kept) (counted_value kinds.Decimal (bytes_at symbol.now digits)))) }
     ensures there { IfOk result (λ named. IsBelow symbol.now (length nodes.now.thunks) (length nodes.now.nodes) named.0) }
     ensures bad { IfErr result (λ e. e ≡ refusals.Memory → ⊥) }

@@ -3,6 +3,7 @@ pub mod Entities
 pub mod Made
 pub mod Pushed
 pub mod Standing
+pub mod Tags
 pub mod Templates
 pub mod Ways
 pub mod Weighing

@@ -1,11 +1,13 @@
 -- Template names and their arguments, as the names stand to the components before them.
 use Rattle.std.proofs.Common.{◌≡◌, ℕ, List, [], Bool, true, false, Some, None, ap, sym, ◌∙◌}
-use Rattle.std.specs.Prelude.{codes, ◌&&◌}
+use Rattle.std.specs.Prelude.{codes, ◌&&◌, ◌++◌}
 use Rattle.sym_spell.specs.Pressing.{◌and◌, text, nothing}
 use Rattle.sym_spell.proofs.Spellings.{and-assoc, nothing-and}
-use Rattle.cpp_grammar.specs.Term.{Term, alone, in_std, within, instance}
+use Rattle.cpp_grammar.specs.Term.{Term, alone, in_std, within, instance, tagged}
+use Rattle.cpp_grammar.specs.Scope.{without_tags}
+use Rattle.cpp_press_laws.specs.Texts.{counted}
 use Rattle.cpp_press_laws.specs.Components.{Component, Spelling, first_equal, component, spelled_out, referred, reference, ended}
-use Rattle.cpp_press_laws.specs.Pressing.{ways_of, no_ways, type_ways, name_ways, piece_ways, argument_ways, encoding_ways, in_N_and_E, template_before, is_operator, is_name}
+use Rattle.cpp_press_laws.specs.Pressing.{ways_of, no_ways, type_ways, name_ways, piece_ways, argument_ways, encoding_ways, in_N_and_E, template_before, is_operator, is_nested, is_name}
 use Rattle.cpp_spelling.specs.Tasks.{◌onto◌, written, in_way, before, bracketed, ending}
 use Rattle.cpp_spelling.specs.Spelled.{arguments_onto}
 use Rattle.cpp_spelling.specs.Standings.{needs_N, is_instance, template_onto}
@@ -52,6 +54,7 @@ known-template n b (within x q) a r k p cs is some = named-known n (within x q) 
 known-template n b (instance t x) a r k p cs is some =
     part-known n (instance t x) (behind n a) r k p cs some
     ∙ ap {A = Spelling} (λ (f : Spelling). f p cs) (and-assoc (reference k) (behind n a) r ∙ under (reference k) (arguments-is n a r))
+known-template n b (tagged of_structor name tag) a r k p cs is some = named-known n (tagged of_structor name tag) a _ r k p cs some
 known-template n b _ a r k p cs is some = absurd (true-false (sym is))
 
 -- a name that is spelled out, and its end as a component
@@ -86,4 +89,8 @@ fresh-template n b (instance t x) a r p cs is none =
     ∙ ap {A = Spelling} (λ (f : Spelling). f p cs) (
     ap {A = Spelling} {B = Spelling} (λ (f : Spelling). (f and behind n a) and r) (nothing-and (ended n (instance t x)))
     ∙ and-assoc (ended n (instance t x)) (behind n a) r ∙ under (ended n (instance t x)) (arguments-is n a r))
+fresh-template n b (tagged of_structor name tag) a r p cs is none =
+    referred-fresh n (tagged of_structor name tag) (behind n a) _ r p cs none
+    ∙ ap {A = Spelling} (λ (f : Spelling). f p cs)
+    (std-whole n (tagged of_structor name tag) a ((ways_of n name).between_N_and_E and text (codes "B" ++ counted tag)) r (is_nested (without_tags name)))
 fresh-template n b _ a r p cs is none = absurd (true-false (sym is))

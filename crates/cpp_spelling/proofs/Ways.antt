@@ -3,15 +3,16 @@ use Rattle.std.proofs.Common.{◌≡◌, ℕ, ◌-◌, List, [], ◌∷◌, ◌+
 use Rattle.std.specs.Prelude.{codes, cond}
 use Rattle.sym_spell.specs.Pressing.{◌and◌, text, nothing}
 use Rattle.sym_spell.proofs.Spellings.{and-assoc, nothing-and}
-use Rattle.cpp_grammar.specs.Term.{Qualifiers, RefQualifier, any_value, lvalue_only, rvalue_only, Term, symbol, function, object, special, thunk, of_name, construction, clone, alone, in_std, within, instance, local, holder, tagged, parameter, source, operator, literal_operator, constructor, destructor, lambda, unnamed, string_literal, conversion, builtin, sized_float, vendor, pointer, lvalue, rvalue, array, member_pointer, function_type, qualified, vector, complex, expansion, integer, encoding_literal, address_of, pack, nil, list}
+use Rattle.cpp_grammar.specs.Term.{Qualifiers, RefQualifier, any_value, lvalue_only, rvalue_only, explicit_object, Term, symbol, function, object, special, thunk, of_name, construction, clone, alone, in_std, within, instance, local, holder, tagged, parameter, source, operator, literal_operator, constructor, destructor, lambda, unnamed, string_literal, conversion, builtin, sized_float, vendor, pointer, lvalue, rvalue, array, member_pointer, function_type, qualified, vector, complex, expansion, integer, encoding_literal, address_of, pack, nil, list, generic_lambda}
 use Rattle.cpp_tree.specs.Nodes.{qualifiers_of, mark_of}
 use Rattle.cpp_press_laws.specs.Texts.{counted, ordinal, signed_text, qualifier_letters, mark_letter, name_letters, special_code, thunk_text, discriminator_text}
 use Rattle.cpp_press_laws.specs.Components.{Component, Spelling, first_equal, component, spelled_out, reference, ended}
-use Rattle.cpp_press_laws.specs.Pressing.{ways_of, no_ways, type_ways, name_ways, piece_ways, argument_ways, encoding_ways, begun, function_text, in_N_and_E, with_letters, local_text, entity_text, is_operator, is_one_piece, is_name, is_component}
+use Rattle.cpp_press_laws.specs.Pressing.{ways_of, no_ways, type_ways, name_ways, piece_ways, argument_ways, encoding_ways, begun, function_text, in_N_and_E, with_letters, local_text, entity_text, is_operator, is_nested, is_one_piece, is_name, is_component}
 use Rattle.cpp_spelling.specs.declared.task.Way.{Way}
 use Rattle.cpp_spelling.specs.Tasks.{◌onto◌, written, in_way, in_name, before, bracketed, ending}
-use Rattle.cpp_spelling.specs.Spelled.{piece_onto, in_std_onto, within_onto, nested_onto, arguments_onto, between_onto, prefix_onto, plain_name_onto, lettered_onto, local_onto, has_letters, is_prefix, name_onto, compound_onto, class_onto, type_onto, argument_onto, more_parameters_onto, parameters_onto, elements_onto, encoding_onto, spelled_onto, is_compared}
+use Rattle.cpp_spelling.specs.Spelled.{piece_onto, in_std_onto, within_onto, nested_onto, arguments_onto, tag_onto, tagged_onto, between_onto, prefix_onto, plain_name_onto, lettered_onto, local_onto, has_letters, is_prefix, name_onto, compound_onto, class_onto, type_onto, argument_onto, more_parameters_onto, parameters_onto, elements_onto, encoding_onto, spelled_onto, is_compared}
 use Rattle.cpp_grammar.specs.References.{is_function_type}
+use Rattle.cpp_grammar.specs.Scope.{without_tags}
 
 pub under : (f : Spelling) {g h : Spelling} → ◌≡◌ {A = Spelling} g h → ◌≡◌ {A = Spelling} (f and g) (f and h)
 under f same = ap {A = Spelling} {B = Spelling} (λ (x : Spelling). f and x) same
@@ -42,6 +43,7 @@ piece-is n (literal_operator name) r = refl
 piece-is n (constructor digit) r = refl
 piece-is n (destructor digit) r = refl
 piece-is n (lambda parameters k) r = three (text (codes "Ul")) (ways_of n parameters).as_parameters (text (codes "E" ++ ordinal (k - 1))) r
+piece-is n (generic_lambda parameters number) r = three (text (codes "Ul")) (begun (λ here. (ways_of here parameters).as_parameters)) (text (codes "E" ++ ordinal (number - 1))) r
 piece-is n (unnamed k) r = refl
 piece-is n string_literal r = refl
 piece-is n (conversion type) r = two (text (codes "cv")) (ways_of n type).as_type r
@@ -65,6 +67,29 @@ pub arguments-is : (n : ℕ) (a : Term) (r : Spelling) → ◌≡◌ {A = Spelli
 unfolding ◌onto◌ written in_way
 arguments-is n a r = three (text (codes "I")) (ways_of n a).as_elements (text (codes "E")) r
 
+tag-is : (n : ℕ) (name : Term) (tag : List ℕ) (r : Spelling)
+    → ◌≡◌ {A = Spelling} (((ways_of n name).between_N_and_E and text (codes "B" ++ counted tag)) and r) (tag_onto n name tag r)
+unfolding ◌onto◌ written in_way
+tag-is n name tag r = two (ways_of n name).between_N_and_E (text (codes "B" ++ counted tag)) r
+
+abbrev tagged_spelling : (n : ℕ) → (name : Term) → (tag : List ℕ) → Spelling
+tagged_spelling n name tag = elim (is_nested (without_tags name)) as (λ _. Spelling) [
+  | true ↦ in_N_and_E [] ((ways_of n name).between_N_and_E and text (codes "B" ++ counted tag))
+  | false ↦ (ways_of n name).between_N_and_E and text (codes "B" ++ counted tag)
+]
+
+tagged-is : (n : ℕ) (name : Term) (tag : List ℕ) (r : Spelling) → ◌≡◌ {A = Spelling} (tagged_spelling n name tag and r) (tagged_onto n name tag r)
+unfolding tagged_onto in_N_and_E ◌onto◌ written
+tagged-is n name tag r = go (is_nested (without_tags name))
+  where
+    between : Spelling
+    between = (ways_of n name).between_N_and_E and text (codes "B" ++ counted tag)
+
+    go : (b : Bool) → ◌≡◌ {A = Spelling} ((elim b as (λ _. Spelling) [ true ↦ in_N_and_E [] between | false ↦ between ]) and r)
+        (elim b as (λ _. Spelling) [ true ↦ written (codes "N") onto tag_onto n name tag (written (codes "E") onto r) | false ↦ tag_onto n name tag r ])
+    go true = three (text (codes "N")) between (text (codes "E")) r ∙ under (text (codes "N")) (tag-is n name tag (text (codes "E") and r))
+    go false = tag-is n name tag r
+
 pub between-is : (n : ℕ) (t : Term) (r : Spelling) → ◌≡◌ {A = Spelling} ((ways_of n t).between_N_and_E and r) (between_onto n t r)
 unfolding ways_of no_ways type_ways name_ways piece_ways argument_ways encoding_ways between_onto ◌onto◌ in_way ending
 between-is n (alone p) r = piece-is n p r
@@ -73,6 +98,7 @@ between-is n (within prefix p) r = within-is n prefix p r
 between-is n (instance t a) r =
     three (ways_of n t).between_N_and_E (ended n t) (text (codes "I") and ((ways_of n a).as_elements and text (codes "E"))) r
     ∙ under (ways_of n t).between_N_and_E (under (ended n t) (arguments-is n a r))
+between-is n (tagged of_structor name tag) r = tag-is n name tag r
 between-is n _ r = nothing-and r
 
 lettered-is : (n : ℕ) (letters : List ℕ) (t : Term) (r : Spelling) → ◌≡◌ {A = Spelling} (in_N_and_E letters (ways_of n t).between_N_and_E and r) (lettered_onto n (codes "N" ++ letters) t r)
@@ -105,15 +131,19 @@ lettered-or q ref own between = go q.restrict q.volatile q.const ref
     go false false false any_value = refl
     go false false false lvalue_only = refl
     go false false false rvalue_only = refl
+    go false false false explicit_object = refl
     go false false true any_value = refl
     go false false true lvalue_only = refl
     go false false true rvalue_only = refl
+    go false false true explicit_object = refl
     go false true k any_value = refl
     go false true k lvalue_only = refl
     go false true k rvalue_only = refl
+    go false true k explicit_object = refl
     go true v k any_value = refl
     go true v k lvalue_only = refl
     go true v k rvalue_only = refl
+    go true v k explicit_object = refl
 
 own-name-is : (n : ℕ) (q : Qualifiers) (ref : RefQualifier) (t : Term) (own : Spelling) (r plain : Spelling) → ◌≡◌ {A = Spelling} (own and r) plain
     → ◌≡◌ {A = Spelling} (with_letters (name_letters q ref) own (ways_of n t).between_N_and_E and r)
@@ -132,6 +162,8 @@ name-is n q ref (alone p) r = own-name-is n q ref (alone p) (ways_of n p).as_pie
 name-is n q ref (in_std p) r = own-name-is n q ref (in_std p) (text (codes "St") and (ways_of n p).as_piece) r (in_std_onto n p r) (in-std-is n p r)
 name-is n q ref (within prefix p) r = own-name-is n q ref (within prefix p) (in_N_and_E [] ((ways_of n prefix).as_prefix and (ways_of n p).as_piece)) r (nested_onto n prefix p r) (nested-is n prefix p r)
 name-is n q ref (instance t a) r = own-name-is n q ref (instance t a) (before n false t a) r (before n false t a and r) refl
+name-is n q ref (tagged of_structor name tag) r =
+    own-name-is n q ref (tagged of_structor name tag) (tagged_spelling n name tag) r (tagged_onto n name tag r) (tagged-is n name tag r)
 name-is n q ref _ r = nothing-and r
 
 -- ## Encodings, lists, arguments
@@ -240,9 +272,9 @@ content n (in_std p) = elim (is_operator p) [ true ↦ in_N_and_E [] (text (code
 content n (within prefix p) = in_N_and_E [] ((ways_of n prefix).as_prefix and (ways_of n p).as_piece)
 content n (instance t a) = before n true t a
 content n (local around entity d) = local_text (ways_of n around).as_encoding entity (ways_of n entity).between_N_and_E d []
+content n (tagged of_structor name tag) = tagged_spelling n name tag
 content n (function_type y x ref t p) = function_text y x ref (ways_of n t).as_type (ways_of n p).as_parameters
 -- Generated by tools/trees.py. The others, by their spelling
-content n (tagged of_structor name tag) = (ways_of n name).as_type and text (codes "B" ++ counted tag)
 content n (parameter k) = text (codes "T" ++ ordinal k)
 content n (vendor name) = text (codes "u" ++ counted name)
 content n (pointer type) = text (codes "P") and (ways_of n type).as_type
@@ -263,9 +295,9 @@ content-is n (in_std p) e is = std-is n p e
 content-is n (within prefix p) e is = nested-is n prefix p e
 content-is n (instance t a) e is = refl
 content-is n (local around entity d) e is = local-is n around entity d [] e
+content-is n (tagged of_structor name tag) e is = tagged-is n name tag e
 content-is n (function_type y x ref t p) e is = four (text (cond x (codes "Do") [] ++ codes "F" ++ cond y (codes "Y") [])) (ways_of n t).as_type (ways_of n p).as_parameters (text (mark_letter ref ++ codes "E")) e
 -- Generated by tools/trees.py. The others, by their spelling
-content-is n (tagged of_structor name tag) e is = two (ways_of n name).as_type (text (codes "B" ++ counted tag)) e
 content-is n (parameter k) e is = refl
 content-is n (vendor name) e is = refl
 content-is n (pointer type) e is = two (text (codes "P")) (ways_of n type).as_type e
@@ -282,16 +314,19 @@ content-is n _ e is = absurd (true-false (sym is))
 typed-is : (n : ℕ) (t : Term) → is_component t ≡ true → ◌≡◌ {A = Spelling} (in_way n Way.Type t) (component n t (content n t))
 unfolding ways_of no_ways type_ways name_ways piece_ways argument_ways encoding_ways content is_component before bracketed ◌onto◌ written in_way
 typed-is n (alone p) is = refl
+typed-is n (tagged of_structor name tag) is = refl
 typed-is n _ is = cc
 
 argued-is : (n : ℕ) (t : Term) → is_component t ≡ true → ◌≡◌ {A = Spelling} (in_way n Way.Argument t) (component n t (content n t))
 unfolding ways_of no_ways type_ways name_ways piece_ways argument_ways encoding_ways content is_component before bracketed ◌onto◌ written in_way
 argued-is n (alone p) is = refl
+argued-is n (tagged of_structor name tag) is = refl
 argued-is n _ is = cc
 
 under-is : (n : ℕ) (t : Term) → cond (is_function_type t) false (is_component t) ≡ true → ◌≡◌ {A = Spelling} (in_way n Way.UnderQualifiers t) (component n t (content n t))
 unfolding ways_of no_ways type_ways name_ways piece_ways argument_ways encoding_ways content is_component is_function_type before bracketed ◌onto◌ written in_way
 under-is n (alone p) is = refl
+under-is n (tagged of_structor name tag) is = refl
 under-is n _ is = cc
 
 under-component : (t : Term) → cond (is_function_type t) false (is_component t) ≡ true → is_component t ≡ true
@@ -306,11 +341,13 @@ prefix_content : (n : ℕ) → Term → Spelling
 prefix_content n (in_std p) = text (codes "St") and (ways_of n p).as_piece
 prefix_content n (within prefix p) = (ways_of n prefix).as_prefix and (ways_of n p).as_piece
 prefix_content n (instance t a) = (ways_of n t).as_prefix and (text (codes "I") and ((ways_of n a).as_elements and text (codes "E")))
+prefix_content n (tagged of_structor name tag) = (ways_of n name).between_N_and_E and text (codes "B" ++ counted tag)
 prefix_content n t = content n t
 
 prefixed-is : (n : ℕ) (t : Term) → is_component t ≡ true → ◌≡◌ {A = Spelling} (in_way n Way.Prefix t) (component n t (prefix_content n t))
 unfolding ways_of no_ways type_ways name_ways piece_ways argument_ways encoding_ways content prefix_content is_component in_way
 prefixed-is n (alone p) is = refl
+prefixed-is n (tagged of_structor name tag) is = refl
 prefixed-is n _ is = cc
 
 argument-content-is : (n : ℕ) (t : Term) (e : Spelling) → is_component t ≡ true → ◌≡◌ {A = Spelling} (content n t and e) (argument_onto n t e)
@@ -326,6 +363,7 @@ prefix-content-is n (in_std p) e is = in-std-is n p e
 prefix-content-is n (within prefix p) e is = within-is n prefix p e
 prefix-content-is n (instance t a) e is =
     and-assoc (ways_of n t).as_prefix (text (codes "I") and ((ways_of n a).as_elements and text (codes "E"))) e ∙ under (ways_of n t).as_prefix (arguments-is n a e)
+prefix-content-is n (tagged of_structor name tag) e is = tag-is n name tag e
 prefix-content-is n t e is = first_of (cc, search (content-is n t e is))
 
 -- ## A tree as it stands to the components before it
@@ -360,7 +398,7 @@ known-tree n p k Way.Argument t r cs is some = known-way n t (in_way n Way.Argum
 known-tree n p k _ t r cs is some = absurd (true-false (sym is))
 
 pub apart-tree : (n p : ℕ) (way : Way) (t : Term) (r : Spelling) (cs : List Component) → is_compared way t ≡ false → (in_way n way t and r) p cs ≡ (spelled_onto n p way t r) p cs
-unfolding in_way
+unfolding in_way begun
 apart-tree n p Way.Type t r cs is = ap {A = Spelling} (λ (f : Spelling). f p cs) (type-rest n t r is)
 apart-tree n p Way.UnderQualifiers t r cs is = ap {A = Spelling} (λ (f : Spelling). f p cs) (qualified-rest n t r is)
 apart-tree n p Way.Prefix t r cs is = ap {A = Spelling} (λ (f : Spelling). f p cs) (prefix-rest n t r is)
@@ -368,6 +406,7 @@ apart-tree n p Way.Between t r cs is = ap {A = Spelling} (λ (f : Spelling). f p
 apart-tree n p Way.Encoding t r cs is = encoding-is n p t r cs
 apart-tree n p (Way.Name q m) t r cs is = ap {A = Spelling} (λ (f : Spelling). f p cs) (name-is n (qualifiers_of q) (mark_of m) t r)
 apart-tree n p Way.Argument t r cs is = ap {A = Spelling} (λ (f : Spelling). f p cs) (argument-rest n t r is)
+apart-tree n p Way.Signature t r cs is = ap {A = Spelling} (λ (f : Spelling). f p cs) (parameters-is p t r)
 apart-tree n p Way.Parameters t r cs is = ap {A = Spelling} (λ (f : Spelling). f p cs) (parameters-is n t r)
 apart-tree n p Way.MoreParameters t r cs is = ap {A = Spelling} (λ (f : Spelling). f p cs) (more-is n t r)
 apart-tree n p Way.Elements t r cs is = ap {A = Spelling} (λ (f : Spelling). f p cs) (elements-is n t r)

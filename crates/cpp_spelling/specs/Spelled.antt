@@ -1,11 +1,12 @@
 -- Trees that are spelled out, each onto what follows it.
 use Rattle.std.specs.Prelude.{ℕ, ◌-◌, List, [], ◌∷◌, ◌++◌, Bool, true, false, cond, ◌&&◌, ◌||◌, codes, Option}
 use Prim.Native.String.{String}
-use Rattle.cpp_grammar.specs.Term.{Qualifiers, RefQualifier, any_value, Term, symbol, function, object, special, thunk, of_name, construction, clone, alone, in_std, within, instance, local, holder, tagged, abbreviation, parameter, source, operator, literal_operator, constructor, destructor, lambda, unnamed, string_literal, conversion, builtin, sized_float, vendor, pointer, lvalue, rvalue, array, member_pointer, function_type, qualified, vector, complex, expansion, integer, boolean, null_pointer, encoding_literal, address_of, pack, nil, list}
+use Rattle.cpp_grammar.specs.Term.{Qualifiers, RefQualifier, any_value, Term, symbol, function, object, special, thunk, of_name, construction, clone, alone, in_std, within, instance, local, holder, tagged, abbreviation, parameter, source, operator, literal_operator, constructor, destructor, lambda, unnamed, string_literal, conversion, builtin, sized_float, vendor, pointer, lvalue, rvalue, array, member_pointer, function_type, qualified, vector, complex, expansion, integer, boolean, null_pointer, encoding_literal, address_of, pack, nil, list, generic_lambda}
 use Rattle.cpp_press_laws.specs.Texts.{counted, ordinal, signed_text, qualifier_letters, mark_letter, name_letters, special_code, thunk_text, discriminator_text}
 use Rattle.cpp_press_laws.specs.Components.{Spelling}
 use Rattle.cpp_grammar.specs.References.{is_function_type}
-use Rattle.cpp_press_laws.specs.Pressing.{is_operator, is_encoding, is_component, is_name, is_one_piece}
+use Rattle.cpp_grammar.specs.Scope.{without_tags}
+use Rattle.cpp_press_laws.specs.Pressing.{is_operator, is_component, is_name, is_nested, is_behind_encoding, is_one_piece}
 use Rattle.cpp_tree.specs.Nodes.{qualifiers_of, mark_of}
 use Rattle.cpp_spelling.specs.declared.task.Way.{Way}
 use Rattle.cpp_spelling.specs.Tasks.{◌onto◌, written, in_way, in_name, before, ending}
@@ -23,6 +24,7 @@ piece_onto n (literal_operator name) rest = written (codes "li" ++ counted name)
 piece_onto n (constructor digit) rest = written (codes "C" ++ digit ∷ []) onto rest
 piece_onto n (destructor digit) rest = written (codes "D" ++ digit ∷ []) onto rest
 piece_onto n (lambda parameters k) rest = fixed "Ul" onto in_way n Way.Parameters parameters onto written (codes "E" ++ ordinal (k - 1)) onto rest
+piece_onto n (generic_lambda parameters number) rest = fixed "Ul" onto in_way n Way.Signature parameters onto written (codes "E" ++ ordinal (number - 1)) onto rest
 piece_onto n (unnamed k) rest = written (codes "Ut" ++ ordinal (k - 1)) onto rest
 piece_onto n string_literal rest = fixed "s" onto rest
 piece_onto n (conversion type) rest = fixed "cv" onto in_way n Way.Type type onto rest
@@ -40,11 +42,20 @@ nested_onto n prefix p rest = fixed "N" onto within_onto n prefix p (fixed "E" o
 abbrev pub arguments_onto : (n : ℕ) → Term → Spelling → Spelling
 arguments_onto n arguments rest = fixed "I" onto in_way n Way.Elements arguments onto fixed "E" onto rest
 
+-- a name and one tag more, which comes after those before it
+abbrev pub tag_onto : (n : ℕ) → (name : Term) → (tag : List ℕ) → Spelling → Spelling
+tag_onto n name tag rest = in_way n Way.Between name onto written (codes "B" ++ counted tag) onto rest
+
+unfoldable pub tagged_onto : (n : ℕ) → (name : Term) → (tag : List ℕ) → Spelling → Spelling
+tagged_onto n name tag rest =
+    elim (is_nested (without_tags name)) [ true ↦ fixed "N" onto tag_onto n name tag (fixed "E" onto rest) | false ↦ tag_onto n name tag rest ]
+
 unfoldable pub between_onto : (n : ℕ) → Term → Spelling → Spelling
 between_onto n (alone p) rest = piece_onto n p rest
 between_onto n (in_std p) rest = in_std_onto n p rest
 between_onto n (within prefix p) rest = within_onto n prefix p rest
 between_onto n (instance template arguments) rest = in_way n Way.Between template onto ending n template onto arguments_onto n arguments rest
+between_onto n (tagged of_structor name tag) rest = tag_onto n name tag rest
 between_onto n _ rest = rest
 
 unfoldable pub prefix_onto : (n : ℕ) → Term → Spelling → Spelling
@@ -58,15 +69,15 @@ plain_name_onto n (alone p) rest = piece_onto n p rest
 plain_name_onto n (in_std p) rest = in_std_onto n p rest
 plain_name_onto n (within prefix p) rest = nested_onto n prefix p rest
 plain_name_onto n (instance template arguments) rest = before n false template arguments onto rest
+plain_name_onto n (tagged of_structor name tag) rest = tagged_onto n name tag rest
 plain_name_onto n _ rest = rest
 
 abbrev pub lettered_onto : (n : ℕ) → (letters : List ℕ) → (name : Term) → Spelling → Spelling
 lettered_onto n letters name rest = written letters onto in_way n Way.Between name onto fixed "E" onto rest
 
--- one piece after an encoding
+-- one piece after an encoding, with tags or without
 unfoldable pub is_piece_behind : Term → Bool
-is_piece_behind (within prefix p) = is_encoding prefix
-is_piece_behind _ = false
+is_piece_behind name = is_behind_encoding (without_tags name)
 
 unfoldable pub local_onto : (n : ℕ) → (around entity : Term) → Option (List ℕ) → (letters : List ℕ) → Spelling → Spelling
 local_onto n around entity discriminator letters rest =
@@ -98,7 +109,6 @@ compound_onto n (function_type c_linkage noexcept ref returned parameters) rest 
     written (cond noexcept (codes "Do") [] ++ codes "F" ++ cond c_linkage (codes "Y") []) onto in_way n Way.Type returned
     onto in_way n Way.Parameters parameters onto written (mark_letter ref ++ codes "E") onto rest
 -- Generated by tools/trees.py. The others, by their spelling
-compound_onto n (tagged of_structor name tag) rest = in_way n Way.Type name onto written (codes "B" ++ counted tag) onto rest
 compound_onto n (pointer type) rest = fixed "P" onto in_way n Way.Type type onto rest
 compound_onto n (lvalue type) rest = fixed "R" onto in_way n Way.Type type onto rest
 compound_onto n (rvalue type) rest = fixed "O" onto in_way n Way.Type type onto rest
@@ -116,6 +126,7 @@ class_onto n (in_std p) rest = elim (is_operator p) [ true ↦ fixed "N" onto in
 class_onto n (within prefix p) rest = nested_onto n prefix p rest
 class_onto n (instance template arguments) rest = before n true template arguments onto rest
 class_onto n (local around entity discriminator) rest = local_onto n around entity discriminator (codes "N") rest
+class_onto n (tagged of_structor name tag) rest = tagged_onto n name tag rest
 class_onto n t rest = compound_onto n t rest
 
 unfoldable pub type_onto : (n : ℕ) → Term → Spelling → Spelling
@@ -172,6 +183,7 @@ spelled_onto n here Way.Between t rest = between_onto n t rest
 spelled_onto n here Way.Encoding t rest = encoding_onto here t rest
 spelled_onto n here (Way.Name q m) t rest = name_onto n (qualifiers_of q) (mark_of m) t rest
 spelled_onto n here Way.Argument t rest = argument_onto n t rest
+spelled_onto n here Way.Signature t rest = parameters_onto here t rest
 spelled_onto n here Way.Parameters t rest = parameters_onto n t rest
 spelled_onto n here Way.MoreParameters t rest = more_parameters_onto n t rest
 spelled_onto n here Way.Elements t rest = elements_onto n t rest

@@ -1,8 +1,9 @@
 -- How trees stand to the components before them.
 use Rattle.std.specs.Prelude.{ℕ, Bool, true, false, ◌&&◌, codes, Option, Some, None}
-use Rattle.cpp_grammar.specs.Term.{Term, in_std, within, instance}
+use Rattle.cpp_grammar.specs.Term.{Term, in_std, within, instance, tagged}
 use Rattle.cpp_press_laws.specs.Components.{Spelling}
-use Rattle.cpp_press_laws.specs.Pressing.{is_operator, is_name}
+use Rattle.cpp_press_laws.specs.Pressing.{is_operator, is_name, is_nested}
+use Rattle.cpp_grammar.specs.Scope.{without_tags}
 use Rattle.cpp_spelling.specs.declared.steps.Standing.{Standing}
 use Rattle.cpp_spelling.specs.declared.task.Way.{Way}
 use Rattle.cpp_spelling.specs.Tasks.{◌onto◌, written, in_way, ending}
@@ -22,6 +23,7 @@ template_standing_of name first = elim (is_name name) [ true ↦ compared first 
 unfoldable pub needs_N : (in_type : Bool) → Term → Bool
 needs_N in_type (in_std p) = in_type && is_operator p
 needs_N in_type (within prefix p) = true
+needs_N in_type (tagged of_structor name tag) = is_nested (without_tags name)
 needs_N in_type _ = false
 
 unfoldable pub is_instance : Term → Bool

@@ -10,7 +10,7 @@ use Rattle.cpp_tree.specs.declared.node.Node.{Node}
 use Rattle.cpp_layout.specs.Layout.{ReadSymbol, table_of}
 use Rattle.cpp_press_laws.specs.Texts.{name_letters}
 use Rattle.cpp_press_laws.specs.Components.{Spelling, ended}
-use Rattle.cpp_press_laws.specs.Pressing.{ways_of}
+use Rattle.cpp_press_laws.specs.Pressing.{begun, ways_of}
 use Rattle.cpp_spelling.specs.declared.task.Way.{Way}
 use Rattle.cpp_spelling.specs.declared.task.Task.{Task}
 use Rattle.cpp_spelling.specs.Bytes.{text_bytes, IsThere}
@@ -55,6 +55,7 @@ in_way n Way.Between t = (ways_of n t).between_N_and_E
 in_way n Way.Encoding t = (ways_of n t).as_encoding
 in_way n (Way.Name q m) t = in_name n (qualifiers_of q) (mark_of m) t
 in_way n Way.Argument t = (ways_of n t).as_argument
+in_way n Way.Signature t = begun (λ here. (ways_of here t).as_parameters)
 in_way n Way.Parameters t = (ways_of n t).as_parameters
 in_way n Way.MoreParameters t = (ways_of n t).as_more_parameters
 in_way n Way.Elements t = (ways_of n t).as_elements

@@ -3,13 +3,14 @@
 
 ghost use Rattle.std.specs.Prelude.{◌≡◌, ◌≤◌, ◌<◌, ◌+◌, ◌-◌, ◌++◌, length, codes, false};
 ghost use Rattle.cpp_press_laws.specs.Texts.{ordinal};
-ghost use Rattle.cpp_press_laws.specs.Pressing.{is_operator, is_encoding, is_one_piece, is_name};
-ghost use Rattle.cpp_tree.specs.Nodes.{qualifiers_of, mark_of, discriminator_of, is_again, IsSpan, IsTable};
+ghost use Rattle.cpp_press_laws.specs.Pressing.{is_operator, is_encoding, is_one_piece, is_name, is_nested};
+ghost use Rattle.cpp_grammar.specs.Scope.{without_tags};
+ghost use Rattle.cpp_tree.specs.Nodes.{bytes_at, qualifiers_of, mark_of, discriminator_of, is_again, IsSpan, IsTable, IsWithin};
 ghost use Rattle.cpp_layout.specs.Layout.{ReadSymbol, table_of};
 ghost use Rattle.cpp_spelling.specs.Bytes.{text_bytes, IsThere};
 ghost use Rattle.cpp_spelling.specs.Weight.{weight};
-ghost use Rattle.cpp_spelling.specs.Tasks.{◌onto◌, written, in_way, plain_at, node_tree, piece_tree, IsMade, IsPieceMade, press_tasks, AreTasks, HasRoom, TakesRoom, tasks_weight};
-ghost use Rattle.cpp_spelling.specs.Spelled.{piece_onto, in_std_onto, within_onto, nested_onto, between_onto, prefix_onto, has_letters, plain_name_onto, lettered_onto, local_onto, is_prefix, name_onto, is_piece_behind};
+ghost use Rattle.cpp_spelling.specs.Tasks.{◌onto◌, written, in_way, plain_at, node_tree, piece_tree, IsMade, IsPieceMade, press_tasks, AreTasks, HasRoom, TakesRoom, way_weight, tasks_weight};
+ghost use Rattle.cpp_spelling.specs.Spelled.{piece_onto, in_std_onto, within_onto, nested_onto, tag_onto, tagged_onto, between_onto, prefix_onto, has_letters, plain_name_onto, lettered_onto, local_onto, is_prefix, name_onto, is_piece_behind};
 
 use crate::stored::stored;
 use crate::task::{
@@ -40,14 +41,41 @@ fn is_encoding(node: Node) -> bool
     node.is_encoding()
 }
 
-/// Whether a name is one piece after an encoding.
-#[tactic(auto, unfolding(crate::specs::Spelled::is_piece_behind, cpp_term::specs::Erased::erase, cpp_tree::specs::Nodes::tree_of, cpp_tree::specs::Nodes::is_again))]
+/// A name without its tags, as it is stored.
+fn without_tags(symbol: &Symbol, name: u32) -> Node
+    requires table { IsTable (table_of symbol.now) }
+    requires name { name < length symbol.now.table.nodes }
+    ensures tree { node_tree symbol.now result ≡ without_tags (plain_at symbol.now name) }
+    ensures own { is_again result ≡ false }
+    ensures below { IsMade symbol.now result }
+{
+    match symbol.entry(name).untagged {
+        Some(untagged) => stored(symbol, untagged.node),
+        None => stored(symbol, name),
+    }
+}
+
+/// Whether a name needs an N where it is no prefix, with tags or without.
+#[tactic(auto, unfolding(cpp_press_laws::specs::Pressing::is_nested, cpp_term::specs::Erased::erase, cpp_tree::specs::Nodes::tree_of, cpp_tree::specs::Nodes::is_again))]
+pub fn is_nested(symbol: &Symbol, name: u32) -> bool
+    requires table { IsTable (table_of symbol.now) }
+    requires name { name < length symbol.now.table.nodes }
+    ensures { result ≡ is_nested (without_tags (plain_at symbol.now name)) }
+{
+    match without_tags(symbol, name) {
+        Node::Within { .. } => true,
+        _ => false,
+    }
+}
+
+/// Whether a name is one piece after an encoding, with tags or without.
+#[tactic(auto, unfolding(crate::specs::Spelled::is_piece_behind, cpp_press_laws::specs::Pressing::is_behind_encoding, cpp_term::specs::Erased::erase, cpp_tree::specs::Nodes::tree_of, cpp_tree::specs::Nodes::is_again))]
 fn is_piece_behind(symbol: &Symbol, name: u32) -> bool
     requires table { IsTable (table_of symbol.now) }
     requires name { name < length symbol.now.table.nodes }
     ensures { result ≡ is_piece_behind (plain_at symbol.now name) }
 {
-    match stored(symbol, name) {
+    match without_tags(symbol, name) {
         Node::Within { prefix, .. } => is_encoding(stored(symbol, prefix)),
         _ => false,
     }
@@ -66,19 +94,26 @@ fn is_one_piece(symbol: &Symbol, entity: u32) -> bool
     }
 }
 
-/// A lambda (ABI 5.1.7, `<closure-type-name> ::= Ul <lambda-sig> E [ <number> ] _`).
+/// A lambda (ABI 5.1.7, `<closure-type-name> ::= Ul <lambda-sig> E [ <number> ] _`), whose parameters are spelled in a way.
 #[tactic(auto, unfolding(crate::specs::Bytes::text_bytes))]
-fn then_lambda(symbol: &Symbol, parameters: u32, number: u64, encoding: u64, tasks: &mut Vec<Task>)
+fn then_lambda(
+    symbol: &Symbol,
+    parameters: u32,
+    way: Way,
+    number: u64,
+    encoding: u64,
+    tasks: &mut Vec<Task>,
+)
     requires parameters { parameters < length symbol.now.table.nodes }
     requires tasks { AreTasks symbol.now tasks.old.items }
     requires room { HasRoom tasks.old 3 }
-    ensures presses { press_tasks symbol.now tasks.new.items ≡ written (codes "Ul") onto in_way encoding Way.Parameters (plain_at symbol.now parameters) onto written (codes "E" ++ ordinal (number - 1)) onto press_tasks symbol.now tasks.old.items }
-    ensures weight { tasks_weight symbol.now tasks.new.items ≡ 2 + weight (plain_at symbol.now parameters) + tasks_weight symbol.now tasks.old.items }
+    ensures presses { press_tasks symbol.now tasks.new.items ≡ written (codes "Ul") onto in_way encoding way (plain_at symbol.now parameters) onto written (codes "E" ++ ordinal (number - 1)) onto press_tasks symbol.now tasks.old.items }
+    ensures weight { tasks_weight symbol.now tasks.new.items ≡ 2 + way_weight way + weight (plain_at symbol.now parameters) + tasks_weight symbol.now tasks.old.items }
     ensures tasks { AreTasks symbol.now tasks.new.items }
     ensures room { TakesRoom tasks.old tasks.new 3 }
 {
     then_text(symbol, Text::Ordinal(b"E", number.saturating_sub(1)), tasks);
-    then_tree(symbol, parameters, Way::Parameters, encoding, tasks);
+    then_tree(symbol, parameters, way, encoding, tasks);
     then_fixed(symbol, b"Ul", tasks);
 }
 
@@ -108,11 +143,22 @@ pub fn then_piece(symbol: &Symbol, piece: Piece, encoding: u64, tasks: &mut Vec<
         // <ctor-dtor-name> ::= CI1 <base class type>: read by the ABI's grammar no symbol has one.
         Piece::Inheriting { .. } => {}
         Piece::Lambda { parameters, number } => then_lambda(
-            symbol, parameters, number, encoding, tasks,
+            symbol,
+            parameters,
+            Way::Parameters,
+            number,
+            encoding,
+            tasks,
         ),
-        // <closure-type-name> ::= Ul <lambda-sig> E [ <nonnegative number> ] _, with parameters of its own: read by the ABI's
-        // grammar no symbol has one.
-        Piece::GenericLambda { .. } => {}
+        // <closure-type-name> ::= Ul <lambda-sig> E [ <nonnegative number> ] _, with parameters of its own
+        Piece::GenericLambda { parameters, number } => then_lambda(
+            symbol,
+            parameters,
+            Way::Signature,
+            number,
+            encoding,
+            tasks,
+        ),
         Piece::Unnamed(number) => {
             then_text(
                 symbol,
@@ -175,6 +221,44 @@ pub fn then_nested(symbol: &Symbol, prefix: u32, piece: Piece, encoding: u64, ta
     then_fixed(symbol, b"N", tasks);
 }
 
+/// A name and one tag more (ABI 5.1.2, `<unqualified-name> ::= <unqualified-name> <abi-tags>`).
+#[tactic(auto, unfolding(crate::specs::Bytes::text_bytes))]
+fn then_tag(symbol: &Symbol, name: u32, tag: Span, encoding: u64, tasks: &mut Vec<Task>)
+    requires name { name < length symbol.now.table.nodes }
+    requires tag { IsWithin tag symbol.now.bytes }
+    requires tasks { AreTasks symbol.now tasks.old.items }
+    requires room { HasRoom tasks.old 2 }
+    ensures presses { press_tasks symbol.now tasks.new.items ≡ tag_onto encoding (plain_at symbol.now name) (bytes_at symbol.now.bytes tag) (press_tasks symbol.now tasks.old.items) }
+    ensures weight { tasks_weight symbol.now tasks.new.items ≡ 1 + weight (plain_at symbol.now name) + tasks_weight symbol.now tasks.old.items }
+    ensures tasks { AreTasks symbol.now tasks.new.items }
+    ensures room { TakesRoom tasks.old tasks.new 2 }
+{
+    then_text(symbol, Text::Counted(b"B", tag), tasks);
+    then_tree(symbol, name, Way::Between, encoding, tasks);
+}
+
+/// A name and one tag more, between N and E where it is in another name.
+#[tactic(auto, unfolding(crate::specs::Spelled::tagged_onto))]
+pub fn then_tagged(symbol: &Symbol, name: u32, tag: Span, encoding: u64, tasks: &mut Vec<Task>)
+    requires table { IsTable (table_of symbol.now) }
+    requires name { name < length symbol.now.table.nodes }
+    requires tag { IsWithin tag symbol.now.bytes }
+    requires tasks { AreTasks symbol.now tasks.old.items }
+    requires room { HasRoom tasks.old 4 }
+    ensures presses { press_tasks symbol.now tasks.new.items ≡ tagged_onto encoding (plain_at symbol.now name) (bytes_at symbol.now.bytes tag) (press_tasks symbol.now tasks.old.items) }
+    ensures weight { tasks_weight symbol.now tasks.new.items ≤ 3 + weight (plain_at symbol.now name) + tasks_weight symbol.now tasks.old.items }
+    ensures tasks { AreTasks symbol.now tasks.new.items }
+    ensures room { TakesRoom tasks.old tasks.new 4 }
+{
+    if is_nested(symbol, name) {
+        then_fixed(symbol, b"E", tasks);
+        then_tag(symbol, name, tag, encoding, tasks);
+        then_fixed(symbol, b"N", tasks);
+    } else {
+        then_tag(symbol, name, tag, encoding, tasks);
+    }
+}
+
 /// A name between N and E (ABI 5.1.3, `<nested-name>`).
 #[tactic(auto, unfolding(crate::specs::Spelled::between_onto, cpp_term::specs::Erased::erase, cpp_tree::specs::Nodes::tree_of, cpp_tree::specs::Nodes::is_again, crate::specs::Weight::weight))]
 pub fn then_between(symbol: &Symbol, node: Node, encoding: u64, tasks: &mut Vec<Task>)
@@ -199,6 +283,7 @@ pub fn then_between(symbol: &Symbol, node: Node, encoding: u64, tasks: &mut Vec<
             then_ended(symbol, template, encoding, tasks);
             then_tree(symbol, template, Way::Between, encoding, tasks);
         }
+        Node::Tagged { name, tag, .. } => then_tag(symbol, name, tag, encoding, tasks),
         _ => {}
     }
 }
@@ -244,12 +329,14 @@ fn has_letters(qualifiers: Qualifiers, mark: Mark) -> bool
         Mark::Any => false,
         Mark::Lvalue => true,
         Mark::Rvalue => true,
+        Mark::ExplicitObject => true,
     }
 }
 
 /// An encoding's own name without letters (ABI 5.1.2, `<name>`).
 #[tactic(auto, unfolding(crate::specs::Spelled::plain_name_onto, cpp_term::specs::Erased::erase, cpp_tree::specs::Nodes::tree_of, cpp_tree::specs::Nodes::is_again, crate::specs::Weight::weight))]
 fn then_plain_name(symbol: &Symbol, node: Node, encoding: u64, tasks: &mut Vec<Task>)
+    requires table { IsTable (table_of symbol.now) }
     requires own { is_again node ≡ false }
     requires node { IsMade symbol.now node }
     requires tasks { AreTasks symbol.now tasks.old.items }
@@ -269,6 +356,7 @@ fn then_plain_name(symbol: &Symbol, node: Node, encoding: u64, tasks: &mut Vec<T
         } => {
             then_template(symbol, template, arguments, false, encoding, tasks);
         }
+        Node::Tagged { name, tag, .. } => then_tagged(symbol, name, tag, encoding, tasks),
         _ => {}
     }
 }
@@ -334,6 +422,7 @@ pub fn is_name(node: Node) -> bool
         Node::InStd(_) => true,
         Node::Within { .. } => true,
         Node::Instance { .. } => true,
+        Node::Tagged { .. } => true,
         _ => false,
     }
 }

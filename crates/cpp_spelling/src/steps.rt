@@ -7,10 +7,10 @@ ghost use Rattle.cpp_tree.specs.Nodes.{is_again, IsTable};
 ghost use Rattle.cpp_layout.specs.Layout.{ReadSymbol, table_of};
 ghost use Rattle.cpp_press_laws.specs.Components.{Component, first_equal};
 ghost use Rattle.cpp_spelling.specs.Weight.{weight};
-ghost use Rattle.cpp_spelling.specs.Tasks.{◌onto◌, in_way, before, plain_at, node_tree, press_tasks, AreTasks, HasRoom, TakesRoom, way_weight, tasks_weight};
+ghost use Rattle.cpp_spelling.specs.Tasks.{◌onto◌, in_way, before, plain_at, node_tree, IsMade, press_tasks, AreTasks, HasRoom, TakesRoom, way_weight, tasks_weight};
 ghost use Rattle.cpp_spelling.specs.Standings.{compared, standing_of, template_standing_of, needs_N, is_instance, between_arguments_onto, template_onto};
 
-use crate::names::is_operator;
+use crate::names::{is_nested, is_operator};
 use crate::stored::stored;
 use crate::task::{
     Task, Way, make_room, then_arguments, then_ended, then_fixed, then_text, then_tree,
@@ -76,13 +76,16 @@ pub fn step_tree(
 
 /// Whether a template name that is spelled out needs an N.
 #[tactic(auto, unfolding(crate::specs::Standings::needs_N, cpp_term::specs::Erased::erase, cpp_tree::specs::Nodes::tree_of, cpp_tree::specs::Nodes::is_again))]
-fn needs_n(node: Node, in_type: bool) -> bool
+fn needs_n(symbol: &Symbol, node: Node, in_type: bool) -> bool
+    requires table { IsTable (table_of symbol.now) }
     requires own { is_again node ≡ false }
-    ensures { (y : ReadSymbol) → result ≡ needs_N in_type (node_tree y node) }
+    requires node { IsMade symbol.now node }
+    ensures { result ≡ needs_N in_type (node_tree symbol.now node) }
 {
     match node {
         Node::InStd(piece) => in_type && is_operator(piece),
         Node::Within { .. } => true,
+        Node::Tagged { name, .. } => is_nested(symbol, name),
         _ => false,
     }
 }
@@ -107,7 +110,7 @@ fn then_template_out(
     ensures tasks { AreTasks symbol.now tasks.new.items }
     ensures room { TakesRoom tasks.old tasks.new 7 }
 {
-    if needs_n(stored(symbol, name), in_type) {
+    if needs_n(symbol, stored(symbol, name), in_type) {
         then_fixed(symbol, b"E", tasks);
         then_between_arguments(symbol, name, arguments, encoding, tasks);
         then_fixed(symbol, b"N", tasks);

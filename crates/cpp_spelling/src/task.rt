@@ -25,6 +25,8 @@ pub enum Way {
     /// An encoding's own name, with what is said of its function.
     Name(Qualifiers, Mark),
     Argument,
+    /// The parameters of a lambda with parameters of its own: they are an encoding of their own.
+    Signature,
     Parameters,
     MoreParameters,
     Elements,

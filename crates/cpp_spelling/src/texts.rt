@@ -75,6 +75,7 @@ fn push_mark(mark: Mark, out: &mut Vec<u8>) -> Result<(), Refusal>
         Mark::Any => {}
         Mark::Lvalue => out.push(b'R')?,
         Mark::Rvalue => out.push(b'O')?,
+        Mark::ExplicitObject => out.push(b'H')?,
     }
     Ok(())
 }

@@ -14,7 +14,7 @@ ghost use Rattle.cpp_press_laws.specs.Pressing.{is_component};
 
 use crate::names::{
     is_operator, is_prefix, then_between, then_in_std, then_local, then_name, then_nested,
-    then_piece, then_prefix,
+    then_piece, then_prefix, then_tagged,
 };
 use crate::stored::stored;
 use crate::task::{Task, Way, then_fixed, then_template, then_text, then_tree};
@@ -143,10 +143,6 @@ fn then_compound(symbol: &Symbol, node: Node, encoding: u64, tasks: &mut Vec<Tas
             then_tree(symbol, element, Way::Type, encoding, tasks);
             then_text(symbol, Text::Digits(b"Dv", digits), tasks);
         }
-        Node::Tagged { name, tag, .. } => {
-            then_text(symbol, Text::Counted(b"B", tag), tasks);
-            then_tree(symbol, name, Way::Type, encoding, tasks);
-        }
         Node::MemberPointer { class, member } => {
             then_tree(symbol, member, Way::Type, encoding, tasks);
             then_behind(symbol, b"M", class, encoding, tasks);
@@ -203,6 +199,7 @@ fn then_class(symbol: &Symbol, node: Node, encoding: u64, tasks: &mut Vec<Task>)
         } => {
             then_template(symbol, template, arguments, true, encoding, tasks);
         }
+        Node::Tagged { name, tag, .. } => then_tagged(symbol, name, tag, encoding, tasks),
         Node::Local {
             encoding: around,
             entity,
@@ -461,6 +458,7 @@ pub fn then_spelled(
         Way::Encoding => then_encoding(symbol, is, here, tasks),
         Way::Name(qualifiers, mark) => then_name(symbol, node, qualifiers, mark, encoding, tasks),
         Way::Argument => then_argument(symbol, is, encoding, tasks),
+        Way::Signature => then_parameters(symbol, is, here, tasks),
         Way::Parameters => then_parameters(symbol, is, encoding, tasks),
         Way::MoreParameters => then_more_parameters(symbol, is, encoding, tasks),
         Way::Elements => then_elements(symbol, is, encoding, tasks),

@@ -8,11 +8,11 @@ use Rattle.sym_link.specs.Unfold.{found}
 use Rattle.sym_core.specs.declared.NumberKind.TheVariants.{Decimal, Seq36}
 use Rattle.sym_core.specs.Value.{counted_value}
 use Rattle.cpp_grammar.specs.declared.production.Production.{Production}
-use Rattle.cpp_grammar.specs.Rescoping.{generic_number, generic_so_far, parameter_here, argument_here, lambda_with, as_generic_lambda, with_holder, is_instance, holder_so_far, numbered, with_held, held_unless, held_twice_unless, counted_base, between_wide, close_wide}
+use Rattle.cpp_grammar.specs.Rescoping.{generic_number, generic_so_far, parameter_here, argument_here, lambda_with, as_generic_lambda, with_holder, is_instance, holder_so_far, numbered, counted_unless, counted_base, between_wide, close_wide}
 use Rattle.cpp_grammar.specs.Scope.{count, element, is_open, length_if_pack}
 use Rattle.cpp_grammar.specs.Term.{Term, list, holder, parameter}
 use Rattle.cpp_grammar.specs.Values as leaf_
-use Rattle.cpp_grammar.specs.Values.{Around, prefix_tree, prefix_listed, Value, State, Candidate, local_number, tree_of, text_of, is_listed, part}
+use Rattle.cpp_grammar.specs.Values.{Counted, by_gcc, by_some, Around, prefix_tree, prefix_listed, Value, State, Candidate, local_number, tree_of, text_of, is_listed, part}
 use Rattle.cpp_grammar.specs.References.{appended, with_type, with_unqualified, with_packs, substituted, parameter_named}
 use Rattle.cpp_grammar.specs.Between.{in_signature, under_expansion, after, inside, no_items, listed_so_far, next, parameter_so_far, argument_so_far, index_of, between}
 use Rattle.cpp_grammar.specs.Meaning.{parameters, meaning}
@@ -38,7 +38,7 @@ use Rattle.cpp_term.specs.Annotated.{Place, around_place, place_in, in_own, argu
 use Rattle.cpp_term.proofs.Notes.{both, choose, choose_cond, open_noted, closed_noted}
 use Rattle.cpp_term.proofs.SeenNoted.{is_instance_noted}
 use Rattle.cpp_term.proofs.MeaningNoted.{part_noted, tree_part, tree_noted, text_noted, text_part, prefix_tree_noted, prefix_listed_noted, Inside, lambda_noted, takes_encodings, is_of_none, made_inside, made_noted, listing_noted, listed_noted, meaning_noted}
-use Rattle.cpp_term.proofs.StatesNoted.{IsOutside, Settled, own_place, Alike, alike_bind, Same, Moves, moves_none, moves_then, one_moves, type_moves, unqualified_moves, prefix_moves, Comes, get_noted, substituted_noted, wide_numbered_noted, held_moves, parameter_noted}
+use Rattle.cpp_term.proofs.StatesNoted.{Alongside, IsOutside, Settled, own_place, Alike, alike_bind, Same, Moves, moves_none, moves_then, one_moves, type_moves, unqualified_moves, prefix_moves, Comes, get_noted, substituted_noted, wide_numbered_noted, held_moves, more_moves, parameter_noted}
 
 -- what is inside has the same scope, or none
 abbrev pub InScope : Around → Around → Type 0
@@ -66,7 +66,7 @@ named_goes : (own : Bool) (around : Around) (x new : State) (y other : value_.St
 unfolding noted_values noted_value after
 named_goes own around x new y other t u listed vs us e g m = record { values = both (λ w ws. value_.tree w listed ∷ ws) e g; context = after_noted own around t u listed e; moves = m; scope = inl (refl, refl); place = inl refl }
 
-same_goes : (own : Bool) (around : Around) (x : State) (y : value_.State) (vs : List Value) → y.packs ≡ x.packs →
+same_goes : (own : Bool) (around : Around) (x : State) (y : value_.State) (vs : List Value) → Alongside x y →
     Goes own (around_place own around) around x y (record { context = around; values = vs; state = x }) (record { context = noted_around own around; values = noted_values (around_place own around) vs; state = y })
 same_goes own around x y vs packs = record { values = refl; context = refl; moves = moves_none own around x x y y refl refl packs; scope = inl (refl, refl); place = inl refl }
 
@@ -92,7 +92,7 @@ index_noted s v = ap (counted_value Decimal) (text_noted s v)
 index_part : (s : Place) (vs : List Value) → between_.index_of (value_.part (noted_values s vs) 0) ≡ index_of (part vs 0)
 index_part s vs = ap between_.index_of (part_noted s vs 0) ∙ index_noted s (part vs 0)
 
-signature_goes : (own : Bool) (s : Place) (around : Around) (x : State) (y : value_.State) (vs : List Value) → (around_place own (in_signature around) ≡ s) ⊎ (((in_signature around).scope ≡ None) × (own ≡ false)) → y.packs ≡ x.packs →
+signature_goes : (own : Bool) (s : Place) (around : Around) (x : State) (y : value_.State) (vs : List Value) → (around_place own (in_signature around) ≡ s) ⊎ (((in_signature around).scope ≡ None) × (own ≡ false)) → Alongside x y →
     Goes own s around x y (record { context = in_signature around; values = vs; state = x }) (record { context = between_.in_signature (noted_around own around); values = noted_values s vs; state = y })
 unfolding in_signature between_.in_signature noted_around noted_prefix noted_scope
 signature_goes own s around x y vs there packs = record { values = refl; context = refl; moves = moves_none own around x x y y refl refl packs; scope = inr (refl, refl); place = there }
@@ -121,7 +121,7 @@ becomes_goes own around x new y other t u is_in true vs e m =
     record { values = replaced_noted (around_place own around) t u is_in vs e; context = after_noted own around t u is_in e; moves = m; scope = inl (refl, refl); place = inl refl }
 becomes_goes own around x new y other t u is_in false vs e m = record { values = replaced_noted (around_place own around) t u is_in vs e; context = refl; moves = m; scope = inl (refl, refl); place = inl refl }
 
-candidate_moves : (own : Bool) (around : Around) (x : State) (y : value_.State) (t : Term) (u : term_.Term) (is_candidate : Bool) → y.packs ≡ x.packs → u ≡ annotate (around_place own around) t →
+candidate_moves : (own : Bool) (around : Around) (x : State) (y : value_.State) (t : Term) (u : term_.Term) (is_candidate : Bool) → Alongside x y → u ≡ annotate (around_place own around) t →
     Moves own around x y (cond is_candidate (appended around t x) x) (cond is_candidate (reference_.appended (noted_around own around) u y) y)
 candidate_moves own around x y t u true packs e = one_moves own around t u x y packs e
 candidate_moves own around x y t u false packs e = moves_none own around x x y y refl refl packs
@@ -132,7 +132,7 @@ kept_moves : (own : Bool) (around : Around) (x a : State) (y b : value_.State) (
 kept_moves own around x a y b true m = m
 kept_moves own around x a y b false m = moves_none own around x (record a { candidates = x.candidates }) y (record b { candidates = y.candidates }) refl refl m.packs
 
-tests_goes : (own : Bool) (around : Around) (x : State) (y : value_.State) (place k : ℕ) (is_name : Bool) (vs : List Value) → y.packs ≡ x.packs →
+tests_goes : (own : Bool) (around : Around) (x : State) (y : value_.State) (place k : ℕ) (is_name : Bool) (vs : List Value) → Alongside x y →
     Alike (Goes own (around_place own around) around x y) (parameter_named around place k x >>= λ s. tested is_name around (parameter k) vs s x)
     (reference_.parameter_named (noted_around own around) place k y
     >>= λ s. meant_.tested is_name (noted_around own around) (term_.parameter k (between_.argument_at (noted_around own around) k)) (noted_values (around_place own around) vs) s y)
@@ -145,16 +145,16 @@ tests_goes own around x y place k is_name vs packs =
     (λ a b h m. becomes_goes own around x (cond is_name a (record a { candidates = x.candidates })) y (cond is_name b (record b { candidates = y.candidates })) (parameter k) u true is_name vs (named_argument own around place k x a h)
     (kept_moves own around x a y b is_name m))
 
-part_moves : (own : Bool) (around : Around) (vs : List Value) (k : ℕ) (x : State) (y : value_.State) → y.packs ≡ x.packs →
+part_moves : (own : Bool) (around : Around) (vs : List Value) (k : ℕ) (x : State) (y : value_.State) → Alongside x y →
     Moves own around x y (with_type around (part vs k) x) (reference_.with_type (noted_around own around) (value_.part (noted_values (around_place own around) vs) k) y)
 part_moves own around vs k x y packs = subst (λ v. Moves own around x y (with_type around (part vs k) x) (reference_.with_type (noted_around own around) v y)) (sym (part_noted (around_place own around) vs k)) (type_moves own around (part vs k) x y packs)
 
-plain_moves : (own : Bool) (around : Around) (vs : List Value) (k : ℕ) (x : State) (y : value_.State) → y.packs ≡ x.packs →
+plain_moves : (own : Bool) (around : Around) (vs : List Value) (k : ℕ) (x : State) (y : value_.State) → Alongside x y →
     Moves own around x y (with_unqualified around (part vs k) x) (reference_.with_unqualified (noted_around own around) (value_.part (noted_values (around_place own around) vs) k) y)
 plain_moves own around vs k x y packs =
     subst (λ v. Moves own around x y (with_unqualified around (part vs k) x) (reference_.with_unqualified (noted_around own around) v y)) (sym (part_noted (around_place own around) vs k)) (unqualified_moves own around (part vs k) x y packs)
 
-gained_moves : (own : Bool) (gain : Gain) (around : Around) (vs : List Value) (v : Value) (w : value_.Value) (x : State) (y : value_.State) → value_.tree_of w ≡ annotate (around_place own around) (tree_of v) → y.packs ≡ x.packs →
+gained_moves : (own : Bool) (gain : Gain) (around : Around) (vs : List Value) (v : Value) (w : value_.Value) (x : State) (y : value_.State) → value_.tree_of w ≡ annotate (around_place own around) (tree_of v) → Alongside x y →
     Moves own around x y (gained gain around vs v x) (meant_.gained gain (noted_around own around) (noted_values (around_place own around) vs) w y)
 unfolding gained meant_.gained
 gained_moves own nothing around vs v w x y e packs = moves_none own around x x y y refl refl packs
@@ -164,7 +164,7 @@ gained_moves own (unqualified_of k) around vs v w x y e packs = plain_moves own 
 gained_moves own itself around vs v w x y e packs = one_moves own around (tree_of v) (value_.tree_of w) x y packs e
 
 packs_move : (own : Bool) (around : Around) (x new : State) (y other : value_.State) (m n : Option ℕ) → n ≡ m → Moves own around x y new other → Moves own around x y (record new { packs = m }) (record other { packs = n })
-packs_move own around x new y other m n e moves = record { more = moves.more; others = moves.others; is = moves.is; so = moves.so; each = moves.each; packs = e }
+packs_move own around x new y other m n e moves = record { more = moves.more; others = moves.others; is = moves.is; so = moves.so; each = moves.each; packs = (e, moves.packs.1) }
 
 goes_noted : (own : Bool) (w : Where) (around : Around) (place : ℕ) (vs : List Value) (x new : State) (y other : value_.State) → is_here w ≡ true → Moves own around x y new other →
     Goes own (around_place own around) around x y (record { context = around_part around place vs w; values = vs; state = packs_within w new })
@@ -193,7 +193,7 @@ is_plain (goes gain w) = is_here w
 is_plain (becomes m is_in is_name is_candidate) = is_of_none m
 is_plain _ = true
 
-done_noted : (own : Bool) (b : Before) (around : Around) (place : ℕ) (vs : List Value) (x : State) (y : value_.State) → is_plain b ≡ true → y.packs ≡ x.packs →
+done_noted : (own : Bool) (b : Before) (around : Around) (place : ℕ) (vs : List Value) (x : State) (y : value_.State) → is_plain b ≡ true → Alongside x y →
     Alike (Goes own (around_place own around) around x y) (done b around place vs x) (meant_.done b (noted_around own around) place (noted_values (around_place own around) vs) y)
 unfolding is_plain done meant_.done tree_of value_.tree_of annotate
 done_noted own quiet around place vs x y plain packs = same_goes own around x y vs packs
@@ -213,7 +213,7 @@ done_noted own (tests after_t is_name) around place vs x y plain packs =
 done_noted own holds around place vs x y plain packs = refl
 done_noted own unread around place vs x y plain packs = refl
 
-row_noted : (own : Bool) (row : Row) (around : Around) (place : ℕ) (vs : List Value) (x : State) (y : value_.State) → all_pass is_plain row.before row.onward ≡ true → y.packs ≡ x.packs →
+row_noted : (own : Bool) (row : Row) (around : Around) (place : ℕ) (vs : List Value) (x : State) (y : value_.State) → all_pass is_plain row.before row.onward ≡ true → Alongside x y →
     Alike (Goes own (around_place own around) around x y) (done (before_part row (length vs)) around place vs x)
     (meant_.done (before_part row (length (noted_values (around_place own around) vs))) (noted_around own around) place (noted_values (around_place own around) vs) y)
 row_noted own row around place vs x y plain packs =
@@ -221,7 +221,7 @@ row_noted own row around place vs x y plain packs =
     (meant_.done (before_part row n) (noted_around own around) place (noted_values (around_place own around) vs) y)) (sym (values_noted (around_place own around) vs))
     (done_noted own (before_part row (length vs)) around place vs x y (step_passes is_plain row plain (length vs)) packs)
 
-pub between_noted : (own : Bool) (production : Production) (around : Around) (place : ℕ) (vs : List Value) (x : State) (y : value_.State) → StaysInside production → y.packs ≡ x.packs →
+pub between_noted : (own : Bool) (production : Production) (around : Around) (place : ℕ) (vs : List Value) (x : State) (y : value_.State) → StaysInside production → Alongside x y →
     Alike (Goes own (parts_place own production around) around x y) (between production around place vs x) (between_.between production (noted_around own around) place (noted_values (parts_place own production around) vs) y)
 unfolding parts_place has_signature between between_.between all_pass is_plain is_here is_of_none takes_encodings
 between_noted own Production.Encoding around place vs x y stays packs = absurd stays
@@ -236,7 +236,7 @@ between_noted own p around place vs x y stays packs = row_noted own (row_of p) a
 -- ## After a production
 
 behind_noted : (own : Bool) (production : Production) (byte : ℕ) (around : Around) (began : State) (first : value_.State) (vs : List Value) (x : State) (y : value_.State) → Inside production vs →
-    y.packs ≡ x.packs → first.packs ≡ began.packs →
+    Alongside x y → Alongside began first →
     Moves own around x y (unfolding_.behind production byte around began vs x) (unfolded_.behind production byte (noted_around own around) first (noted_values (around_place own around) vs) y)
 unfolding unfolding_.behind unfolded_.behind
 behind_noted own production byte around began first vs x y h packs e =
@@ -248,17 +248,17 @@ behind_noted own production byte around began first vs x y h packs e =
     let other = meant_.gained gain (noted_around own around) (noted_values s vs) w y in
     let moves_ : Moves own around x y new other = gained_moves own gain around vs v w x y (ap value_.tree_of (meaning_noted own production byte around vs h) ∙ tree_noted s v) packs in
     choose_cond (Moves own around x y) (row_of production).restores_packs (record new { packs = began.packs }) new (record other { packs = first.packs }) other
-    (packs_move own around x new y other began.packs first.packs e moves_) moves_
+    (packs_move own around x new y other began.packs first.packs e.0 moves_) moves_
 
 -- the value of a production, both ways
-made_close : (own : Bool) (production : Production) (byte : ℕ) (around : Around) (began : State) (first : value_.State) (vs : List Value) (x : State) (y : value_.State) → Inside production vs → Same own around x y → first.packs ≡ began.packs →
+made_close : (own : Bool) (production : Production) (byte : ℕ) (around : Around) (began : State) (first : value_.State) (vs : List Value) (x : State) (y : value_.State) → Inside production vs → Same own around x y → Alongside began first →
     Comes own around x y (found (meaning production byte around vs) (unfolding_.behind production byte around began vs x))
     (found (noted_.meaning production byte (noted_around own around) (noted_values (around_place own around) vs)) (unfolded_.behind production byte (noted_around own around) first (noted_values (around_place own around) vs) y))
 made_close own production byte around began first vs x y h same e =
     record { value = meaning_noted own production byte around vs h; moves = behind_noted own production byte around began first vs x y h same.packs e }
 
 pub close_noted : (production : Production) (byte : ℕ) (around : Around) (place : ℕ) (began : State) (first : value_.State) (vs : List Value) (x : State) (y : value_.State) → Inside production vs →
-    Settled around → Same false around x y → first.packs ≡ began.packs →
+    Settled around → Same false around x y → Alongside began first →
     Alike (Comes false around x y) (close production byte around place began vs x) (unfolded_.close production byte (noted_around false around) place first (noted_values (parts_place false production around) vs) y)
 unfolding close unfolded_.close parts_place has_signature
 close_noted Production.Substitution byte around place began first vs x y h settled same e =
@@ -275,7 +275,7 @@ close_noted production byte around place began first vs x y h settled same e = m
 
 -- ## The reading of the wide grammar
 
-generic_goes : (around : Around) (x : State) (y : value_.State) (k : ℕ) → around.in_lambda ≡ true → Settled around → y.packs ≡ x.packs →
+generic_goes : (around : Around) (x : State) (y : value_.State) (k : ℕ) → around.in_lambda ≡ true → Settled around → Alongside x y →
     Alike (Goes true (around_place true around) around x y) (generic_so_far around k [] x) (wide_.generic_so_far (noted_around true around) k [] y)
 unfolding generic_so_far wide_.generic_so_far listed_so_far between_.listed_so_far annotate argument_in noted_values
 generic_goes around x y k is settled packs =
@@ -284,7 +284,7 @@ generic_goes around x y k is settled packs =
     let same : u ≡ annotate (around_place true around) t = ap (λ s. annotate s t) (sym (own_place around (settled is) is)) in
     named_goes true around x (appended around t x) y (reference_.appended (noted_around true around) u y) t u true [] [] same refl (one_moves true around t u x y packs same)
 
-here_goes : (around : Around) (x : State) (y : value_.State) (place : ℕ) (v : Value) → Settled around → y.packs ≡ x.packs →
+here_goes : (around : Around) (x : State) (y : value_.State) (place : ℕ) (v : Value) → Settled around → Alongside x y →
     Alike (Goes true (around_place true around) around x y) (parameter_here around place (index_of v) [] x) (wide_.parameter_here (noted_around true around) place (between_.index_of (noted_value (around_place true around) v)) [] y)
 unfolding parameter_here wide_.parameter_here parameter_so_far between_.parameter_so_far listed_so_far between_.listed_so_far done meant_.done tested meant_.tested replaced meant_.replaced part value_.part noted_values is_plain noted_around
 here_goes around x y place v settled packs =
@@ -294,7 +294,7 @@ here_goes around x y place v settled packs =
     (generic_goes around x y (index_of v) is settled packs))
     (λ is. done_noted true (tests false true) around place (v ∷ []) x y refl packs)
 
-own_argument_goes : (around : Around) (x : State) (y : value_.State) (k : ℕ) → around.in_lambda ≡ true → Settled around → y.packs ≡ x.packs →
+own_argument_goes : (around : Around) (x : State) (y : value_.State) (k : ℕ) → around.in_lambda ≡ true → Settled around → Alongside x y →
     Alike (Goes true (around_place true around) around x y) (next (leaf_.tree (parameter (generic_number k)) true ∷ []) around x)
     (between_.next (value_.tree (term_.parameter (generic_number k) item_.auto) true ∷ []) (noted_around true around) y)
 unfolding annotate argument_in noted_values noted_value
@@ -304,7 +304,7 @@ own_argument_goes around x y k is settled packs =
     let same : u ≡ annotate (around_place true around) t = ap (λ s. annotate s t) (sym (own_place around (settled is) is)) in
     record { values = ap (λ w. value_.tree w true ∷ []) same; context = refl; moves = moves_none true around x x y y refl refl packs; scope = inl (refl, refl); place = inl refl }
 
-argument_here_goes : (around : Around) (x : State) (y : value_.State) (place : ℕ) (v : Value) → Settled around → y.packs ≡ x.packs →
+argument_here_goes : (around : Around) (x : State) (y : value_.State) (place : ℕ) (v : Value) → Settled around → Alongside x y →
     Alike (Goes true (around_place true around) around x y) (argument_here around place (index_of v) x) (wide_.argument_here (noted_around true around) place (between_.index_of (noted_value (around_place true around) v)) y)
 unfolding argument_here wide_.argument_here argument_so_far between_.argument_so_far done meant_.done tested meant_.tested replaced meant_.replaced part value_.part noted_values is_plain noted_around
 argument_here_goes around x y place v settled packs =
@@ -315,7 +315,7 @@ argument_here_goes around x y place v settled packs =
     (sym (index_noted s v)) (own_argument_goes around x y (index_of v) is settled packs))
     (λ is. done_noted true (tests false false) around place (v ∷ []) x y refl packs)
 
-holder_goes : (around : Around) (x : State) (y : value_.State) (place : ℕ) → y.packs ≡ x.packs →
+holder_goes : (around : Around) (x : State) (y : value_.State) (place : ℕ) → Alongside x y →
     Alike (Goes true (around_place true around) around x y) (holder_so_far around place x) (wide_.holder_so_far (noted_around true around) place y)
 unfolding holder_so_far wide_.holder_so_far listed_so_far between_.listed_so_far noted_around noted_values annotate
 holder_goes around x y place packs =
@@ -327,29 +327,15 @@ holder_goes around x y place packs =
     (ap wide_.is_instance (prefix_tree_noted s around.prefix) ∙ is_instance_noted s (prefix_tree around.prefix)) (λ h. refl)
     (λ h. named_goes true around x (with_holder around t x) y (wide_.with_holder (noted_around true around) u y) t u true [] [] same refl (held_moves true around t u x y packs same))
 
-held_once : (around : Around) (t : Term) (u : term_.Term) (x : State) (y : value_.State) → y.packs ≡ x.packs → u ≡ annotate (around_place true around) t → Moves true around x y (with_held around t x) (wide_.with_held (noted_around true around) u y)
-unfolding with_held wide_.with_held
-held_once around t u x y packs e =
-    let one = one_moves true around t u x y packs e in
-    moves_then true around x _ _ y _ _ one (held_moves true around t u _ _ one.packs e)
+unless_moves : (around : Around) (listed other : Bool) (counted : Counted) (t : Term) (u : term_.Term) (x : State) (y : value_.State) → Alongside x y → other ≡ listed → u ≡ annotate (around_place true around) t →
+    Moves true around x y (counted_unless listed counted around t x) (wide_.counted_unless other counted (noted_around true around) u y)
+unfolding counted_unless wide_.counted_unless
+unless_moves around listed other counted t u x y packs alike e =
+    choose (Moves true around x y) listed other _ _ _ _ alike (λ h. moves_none true around x x y y refl refl packs) (λ h. more_moves counted true around t u x y packs e)
 
-unless_moves : (around : Around) (listed other : Bool) (t : Term) (u : term_.Term) (x : State) (y : value_.State) → y.packs ≡ x.packs → other ≡ listed → u ≡ annotate (around_place true around) t →
-    Moves true around x y (held_unless listed around t x) (wide_.held_unless other (noted_around true around) u y)
-unfolding held_unless wide_.held_unless
-unless_moves around listed other t u x y packs alike e =
-    choose (Moves true around x y) listed other _ _ _ _ alike (λ h. moves_none true around x x y y refl refl packs) (λ h. held_once around t u x y packs e)
-
-twice_moves : (around : Around) (listed other : Bool) (t : Term) (u : term_.Term) (x : State) (y : value_.State) → y.packs ≡ x.packs → other ≡ listed → u ≡ annotate (around_place true around) t →
-    Moves true around x y (held_twice_unless listed around t x) (wide_.held_twice_unless other (noted_around true around) u y)
-unfolding held_twice_unless wide_.held_twice_unless
-twice_moves around listed other t u x y packs alike e =
-    let once = held_once around t u x y packs e in
-    choose (Moves true around x y) listed other _ _ _ _ alike (λ h. moves_none true around x x y y refl refl packs)
-    (λ h. moves_then true around x _ _ y _ _ once (held_moves true around t u _ _ once.packs e))
-
-base_goes : (around : Around) (x : State) (y : value_.State) → y.packs ≡ x.packs →
-    Alike {A = Next Value State Around} (Goes true (around_place true around) around x y) (next [] (inside around) (held_twice_unless (prefix_listed around.prefix) around (prefix_tree around.prefix) x))
-    (between_.next [] (between_.inside (noted_around true around)) (wide_.held_twice_unless (value_.prefix_listed (noted_prefix (around_place true around) around.prefix)) (noted_around true around)
+base_goes : (around : Around) (x : State) (y : value_.State) → Alongside x y →
+    Alike {A = Next Value State Around} (Goes true (around_place true around) around x y) (next [] (inside around) (counted_unless (prefix_listed around.prefix) by_some around (prefix_tree around.prefix) x))
+    (between_.next [] (between_.inside (noted_around true around)) (wide_.counted_unless (value_.prefix_listed (noted_prefix (around_place true around) around.prefix)) by_some (noted_around true around)
     (value_.prefix_tree (noted_prefix (around_place true around) around.prefix)) y))
 unfolding inside between_.inside noted_around noted_prefix noted_values
 base_goes around x y packs =
@@ -357,20 +343,20 @@ base_goes around x y packs =
     record {
       values = refl;
       context = refl;
-      moves = twice_moves around (prefix_listed around.prefix) (value_.prefix_listed (noted_prefix s around.prefix)) (prefix_tree around.prefix) (value_.prefix_tree (noted_prefix s around.prefix)) x y packs
+      moves = unless_moves around (prefix_listed around.prefix) (value_.prefix_listed (noted_prefix s around.prefix)) by_some (prefix_tree around.prefix) (value_.prefix_tree (noted_prefix s around.prefix)) x y packs
           (prefix_listed_noted s around.prefix) (prefix_tree_noted s around.prefix);
       scope = inl (refl, refl);
       place = inl refl;
     }
 
-pub wide_between_noted : (production : Production) (around : Around) (place : ℕ) (vs : List Value) (x : State) (y : value_.State) → StaysInside production → Settled around → y.packs ≡ x.packs →
+pub wide_between_noted : (production : Production) (around : Around) (place : ℕ) (vs : List Value) (x : State) (y : value_.State) → StaysInside production → Settled around → Alongside x y →
     Alike (Goes true (parts_place true production around) around x y) (between_wide production around place vs x)
     (wide_.between_wide production (noted_around true around) place (noted_values (parts_place true production around) vs) y)
 unfolding between_wide wide_.between_wide noted_values parts_place has_signature noted_around noted_prefix
 wide_between_noted Production.Parameter around place (v ∷ []) x y stays settled packs = here_goes around x y place v settled packs
 wide_between_noted Production.NestParameter around place (v ∷ []) x y stays settled packs = here_goes around x y place v settled packs
 wide_between_noted Production.ParameterArgument around place (v ∷ []) x y stays settled packs = here_goes around x y (place - 1) v settled packs
-wide_between_noted Production.ParameterExpression around place (v ∷ []) x y stays settled packs = argument_here_goes around x y place v settled packs
+wide_between_noted Production.ParameterExpression around place (v ∷ []) x y stays settled packs = argument_here_goes around x y (place - 1) v settled packs
 wide_between_noted Production.HeldArguments around place [] x y stays settled packs = base_goes around x y packs
 wide_between_noted Production.Holder around place (v ∷ []) x y stays settled packs = holder_goes around x y place packs
 wide_between_noted p around place vs x y stays settled packs = between_noted true p around place vs x y stays packs
@@ -389,15 +375,15 @@ own_lambda s byte around other vs =
     ap wide_.as_generic_lambda (lambda_noted in_own vs)
     ∙ ap value_.piece (lambda_with_noted s (parameters (list (tree_of (part vs 0)) (no_items (part vs 1)))) (local_number (text_of (part vs 3))))
 
-counted_moves : (around : Around) (v : Value) (x : State) (y : value_.State) → y.packs ≡ x.packs → Moves true around x y (counted_base around v x) (wide_.counted_base (noted_around true around) (noted_value (around_place true around) v) y)
+counted_moves : (around : Around) (v : Value) (x : State) (y : value_.State) → Alongside x y → Moves true around x y (counted_base around v x) (wide_.counted_base (noted_around true around) (noted_value (around_place true around) v) y)
 unfolding counted_base wide_.counted_base noted_value
 counted_moves around (leaf_.pair second own base) x y packs = moves_none true around x x y y refl refl packs
 counted_moves around v x y packs =
     let s = around_place true around in
-    unless_moves around (is_listed v) (value_.is_listed (noted_value s v)) (tree_of v) (value_.tree_of (noted_value s v)) x y packs (listed_noted s v) (tree_noted s v)
+    unless_moves around (is_listed v) (value_.is_listed (noted_value s v)) by_gcc (tree_of v) (value_.tree_of (noted_value s v)) x y packs (listed_noted s v) (tree_noted s v)
 
 pub wide_close_noted : (production : Production) (byte : ℕ) (around : Around) (place : ℕ) (began : State) (first : value_.State) (vs : List Value) (x : State) (y : value_.State) → Inside production vs →
-    Settled around → Same true around x y → first.packs ≡ began.packs →
+    Settled around → Same true around x y → Alongside began first →
     Alike (Comes true around x y) (close_wide production byte around place began vs x) (wide_.close_wide production byte (noted_around true around) place first (noted_values (parts_place true production around) vs) y)
 unfolding close unfolded_.close close_wide wide_.close_wide parts_place has_signature meaning noted_.meaning unfolding_.behind unfolded_.behind noted_value
 wide_close_noted Production.Substitution byte around place began first vs x y h settled same e =

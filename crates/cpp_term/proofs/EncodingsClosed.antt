@@ -67,6 +67,8 @@ plain_keeps Production.Clone h around place vs state n e = goes_on vs around sta
 plain_keeps Production.EncodingLiteral h around place vs state n e = goes_on vs around state n e
 plain_keeps Production.LocalName h around place [] state n e = goes_on [] around state n e
 plain_keeps Production.LocalName h around place (v ∷ vs) state n e = goes_on (v ∷ vs) _ state n e
+plain_keeps Production.LocalTemporary h around place [] state n e = goes_on [] around state n e
+plain_keeps Production.LocalTemporary h around place (v ∷ vs) state n e = goes_on (v ∷ vs) _ state n e
 plain_keeps Production.LocalType h around place [] state n e = goes_on [] around state n e
 plain_keeps Production.LocalType h around place (v ∷ vs) state n e = goes_on (v ∷ vs) _ state n e
 plain_keeps _ h around place vs state n e = absurd (false≢true h)
@@ -115,12 +117,14 @@ inside_values Production.NonVirtualThunk vs plain all special = encoding_at (par
 inside_values Production.VirtualThunk vs plain all special = encoding_at (parts_of Production.VirtualThunk) vs 4 refl (all refl)
 inside_values Production.CovariantThunk vs plain all special = encoding_at (parts_of Production.CovariantThunk) vs 2 refl (all refl)
 inside_values Production.LocalName vs plain all special = encoding_at (parts_of Production.LocalName) vs 0 refl (all refl)
+inside_values Production.LocalTemporary vs plain all special = encoding_at (parts_of Production.LocalTemporary) vs 0 refl (all refl)
 inside_values Production.LocalType vs plain all special = encoding_at (parts_of Production.LocalType) vs 0 refl (all refl)
 inside_values Production.EncodingLiteral vs plain all special = encoding_at (parts_of Production.EncodingLiteral) vs 1 refl (all refl)
 inside_values Production.Clone vs plain all special = encoding_at (parts_of Production.Clone) vs 1 refl (all refl)
 inside_values Production.SpecialType vs plain all special = special refl 0
 inside_values Production.ParameterObject vs plain all special = special refl 0
 inside_values Production.SpecialName vs plain all special = special refl 0
+inside_values Production.Temporary vs plain all special = special refl 0
 inside_values Production.ConstructionVtable vs plain all special = (special refl 0, special refl 3)
 inside_values _ vs plain all special = first_of (cc, search tt)
 
@@ -183,17 +187,16 @@ module _ (way : Way) (keeps : KeepsClosed way) where
       let opening_ = implied (nat_eq ENCODING 4) (opens p) (taken_passes (λ n q. not (nat_eq n 4) || opens q) encodings_open ENCODING rule c) refl in
       let byte = byte_of taken in
       let from = at + length taken in
-      let begun = behind_bind (opening (production_at rule.number) parts at state)
+      let begun = behind_bind (way.opening (production_at rule.number) parts at state)
       (λ begun. unfold_forest (reading_by way) whole [] from parts begun >>= λ inner. way.close (production_at rule.number) byte around at state inner.value inner.state >>= alone) r e in
-      let kept = opening_keeps (production_at rule.number) parts at state begun.value begun.is in
-      let onward = subst (λ s. (unfold_forest (reading_by way) whole [] from parts s >>= λ inner. way.close (production_at rule.number) byte around at state inner.value inner.state >>= alone) ≡ Ok r) kept begun.next in
-      let inner = behind_bind (unfold_forest (reading_by way) whole [] from parts state) (λ inner. way.close (production_at rule.number) byte around at state inner.value inner.state >>= alone) r onward in
+      let kept = keeps.begins (production_at rule.number) parts at state begun.value begun.is in
+      let inner = behind_bind (unfold_forest (reading_by way) whole [] from parts begun.value) (λ inner. way.close (production_at rule.number) byte around at state inner.value inner.state >>= alone) r begun.next in
       let ended = behind_bind (way.close (production_at rule.number) byte around at state inner.value.value inner.value.state) alone r inner.next in
       let one = ended.value in
       let same : found (one.value ∷ []) one.state ≡ r = ok_same (found (one.value ∷ []) one.state) r ended.next in
       let number : production_at rule.number ≡ p = ap (λ x. production_at x.number) c.is ∙ at_number p in
       let trees = subst (λ xs. AreTrees wide xs parts) (ap symbols_of c.is ∙ its_symbols p) tree.1 in
-      let closed = inner_closed p opening_ parts whole from state inner.value number trees less (omega arith) old inner.is byte around in
+      let closed = inner_closed p opening_ parts whole from begun.value inner.value number trees less (omega arith) (subst (λ cs. AllOld way.own around at cs) (sym kept) old) inner.is byte around in
       let ends : close p byte around at state inner.value.value inner.value.state ≡ Ok one = sym (ap (λ q. way.close q byte around at state inner.value.value inner.value.state) number ∙ keeps.plain.close p (opens_apart p opening_) byte around at state inner.value.value inner.value.state) ∙ ended.is in
       let means = inner_closes p opening_ byte around at state inner.value.value inner.value.state one ends in
       subst (λ x. is_open (tree_of (part x.value 0)) ≡ false) same (subst (λ x. is_open (tree_of x.value) ≡ false) means closed)
@@ -244,24 +247,24 @@ module _ (way : Way) (keeps : KeepsClosed way) where
       or_first a b h = ap (λ c. c || b) h
 
   -- Encodings among the parts of a production have no free parameters.
-  pub insides : (p : Production) (rule : Rule) (taken : List ℕ) (parts : Forest) (k : ℕ) (around : Around) (at : ℕ) (state : State) (inner : Found (List Value) State) → rule ≡ rule_of p → opens p ≡ false → k < wide.kinds →
-      IsTree wide (OfKind k) (branch rule taken parts) → around.encoding ≤ at → (is_special_kind k ≡ true → Bare way.own around) → GoodPrefix (Bare way.own around) around.prefix → AllOld way.own around at state.candidates →
-      unfold_forest (reading_by way) (Whole rule taken at around state) [] (at + length taken) parts state ≡ Ok inner → Inside p inner.value
-  insides p rule taken parts k around at state inner is plain lt tree le special pre old e =
+  pub insides : (p : Production) (rule : Rule) (taken : List ℕ) (parts : Forest) (k : ℕ) (around : Around) (at : ℕ) (state begun : State) (inner : Found (List Value) State) → rule ≡ rule_of p → opens p ≡ false → k < wide.kinds →
+      IsTree wide (OfKind k) (branch rule taken parts) → around.encoding ≤ at → (is_special_kind k ≡ true → Bare way.own around) → GoodPrefix (Bare way.own around) around.prefix → AllOld way.own around at begun.candidates →
+      unfold_forest (reading_by way) (Whole rule taken at around state) [] (at + length taken) parts begun ≡ Ok inner → Inside p inner.value
+  insides p rule taken parts k around at state begun inner is plain lt tree le special pre old e =
       let whole = Whole rule taken at around state in
       let number : production_at rule.number ≡ p = ap (λ x. production_at x.number) is ∙ at_number p in
       let inside_ : StaysInside (production_at rule.number) = subst (λ q. StaysInside q) (sym number) (stays p plain) in
       let from = at + length taken in
       let symbols = wide_sound.symbols k tree.0.byte rule lt tree.0.is_byte tree.0.found in
       let same : symbols_of rule ≡ parts_of p = ap symbols_of is ∙ its_symbols p in
-      let old0 = old_later way.own around at from state.candidates (omega arith) old in
+      let old0 = old_later way.own around at from begun.candidates (omega arith) old in
       inside_values p inner.value plain
       (λ has.
-      let reads = forest_closed parts whole (symbols_of rule) [] from state inner inside_ (subst (λ q. Keeps way q) (sym number) (keeps_values p has)) symbols tree.1 (omega (arith, le))
+      let reads = forest_closed parts whole (symbols_of rule) [] from begun inner inside_ (subst (λ q. Keeps way q) (sym number) (keeps_values p has)) symbols tree.1 (omega (arith, le))
       (λ any. omega (arith, le, takes_byte p rule k taken is tree.0 any)) pre tt old0 e in
       subst (λ us. Encodings (parts_of p) us) (sym reads.is) (subst (λ xs. Encodings xs reads.more) same reads.closed))
       (λ is_special part_number.
-      let all = forest_good way keeps parts (trees_good_by way keeps parts) whole (symbols_of rule) [] from state inner inside_ symbols tree.1 (omega (arith, le))
+      let all = forest_good way keeps parts (trees_good_by way keeps parts) whole (symbols_of rule) [] from begun inner inside_ symbols tree.1 (omega (arith, le))
       (λ any. omega (arith, le, takes_byte p rule k taken is tree.0 any)) pre tt old0 e in
       (good_part (Within way.own (production_at rule.number) around) inner.value part_number all.good).closed
       (special (special_kind p k rule taken is lt tree.0 is_special), λ own. ap has_signature number ∙ special_apart p is_special))

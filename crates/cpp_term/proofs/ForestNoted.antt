@@ -41,13 +41,13 @@ all_inner own around inner (c ∷ cs) (d ∷ ds) e i all = (one i, all_inner own
     one (inl same) = record {
       encoding = all.0.encoding;
       in_lambda = all.0.in_lambda;
-      is_held = all.0.is_held;
+      counted = all.0.counted;
       by = all.0.by;
       like = all.0.like;
       closed = all.0.closed;
       here = λ h f g. all.0.here (h ∙ e) (sym same.1 ∙ f) g ∙ both (λ o l. annotate (place_in o (own && l)) c.tree) (sym same.0) (sym same.1);
     }
-    one (inr bare) = record { encoding = all.0.encoding; in_lambda = all.0.in_lambda; is_held = all.0.is_held; by = all.0.by; like = all.0.like; closed = all.0.closed; here = λ h f g. absurd (true≢false (sym bare.1 ∙ f)) }
+    one (inr bare) = record { encoding = all.0.encoding; in_lambda = all.0.in_lambda; counted = all.0.counted; by = all.0.by; like = all.0.like; closed = all.0.closed; here = λ h f g. absurd (true≢false (sym bare.1 ∙ f)) }
 all_inner own around inner [] (d ∷ ds) e i all = absurd all
 all_inner own around inner (c ∷ cs) [] e i all = absurd all
 
@@ -65,7 +65,7 @@ all_outer own around inner end (c ∷ cs) (d ∷ ds) e i new all = (one i, all_o
     one (inl same) = record {
       encoding = all.0.encoding;
       in_lambda = all.0.in_lambda;
-      is_held = all.0.is_held;
+      counted = all.0.counted;
       by = all.0.by;
       like = all.0.like;
       closed = all.0.closed;
@@ -74,7 +74,7 @@ all_outer own around inner end (c ∷ cs) (d ∷ ds) e i new all = (one i, all_o
     one (inr bare) = record {
       encoding = all.0.encoding;
       in_lambda = all.0.in_lambda;
-      is_held = all.0.is_held;
+      counted = all.0.counted;
       by = all.0.by;
       like = all.0.like;
       closed = all.0.closed;

@@ -18,6 +18,7 @@ unfoldable pub in_special : Production → Bool
 in_special Production.SpecialType = true
 in_special Production.ParameterObject = true
 in_special Production.SpecialName = true
+in_special Production.Temporary = true
 in_special Production.ConstructionVtable = true
 in_special _ = false
 

@@ -1,24 +1,30 @@
 -- The two readings of C++ over trees with arguments, as one, and what makes one of them the annotated form of one without.
-use Rattle.std.proofs.Common.{◌≡◌, refl, ℕ, List, [], ◌∷◌, false, Result, Ok}
+use Rattle.std.proofs.Common.{◌≡◌, refl, ℕ, ◌-◌, ◌^◌, List, [], ◌∷◌, Bool, true, false, nat_lt, Result, Ok, Err}
 use Rattle.std.proofs.lemmas.Bool.{true≢false}
 use Rattle.sym_core.specs.declared.refusal.Refusal.{Refusal}
+use Rattle.sym_shape.specs.Tree.{Forest}
 use Rattle.sym_link.specs.Reading.{Found, Reading}
 use Rattle.sym_link.specs.Unfold.{found}
 use Rattle.cpp_grammar.specs.declared.production.Production.{Production}
 use Rattle.cpp_grammar.specs.Values as leaf_
-use Rattle.cpp_grammar.specs.Unfolding.{production_at, byte_of}
+use Rattle.cpp_grammar.specs.Unfolding as leaf_opening
+use Rattle.cpp_grammar.specs.Rescoping as leaf_wide
+use Rattle.cpp_grammar.specs.Unfolding.{last_token, production_at, byte_of}
+use Rattle.cpp_grammar.specs.Values.{local_number}
+use Rattle.sym_core.specs.declared.refusal.Refusal.TheVariants.{BadValue}
 use Rattle.cpp_grammar.proofs.ClosedParts.{StaysInside}
 use Rattle.cpp_grammar.proofs.Ways.{Way, abi_way, wide_way, differs}
 use Rattle.cpp_term.specs.Values.{State, Around, Value, nothing_there, text}
 use Rattle.cpp_term.specs.Between.{Going, between}
-use Rattle.cpp_term.specs.Unfolding.{opening, close}
-use Rattle.cpp_term.specs.Rescoping.{between_wide, close_wide}
+use Rattle.cpp_term.specs.Unfolding.{number_tested, opening, close}
+use Rattle.cpp_term.specs.Rescoping.{opening_wide, between_wide, close_wide}
 use Rattle.cpp_term.specs.Annotated.{noted_values, noted_around}
 use Rattle.cpp_term.proofs.MeaningNoted.{Inside}
-use Rattle.cpp_term.proofs.StatesNoted.{Settled, Alike, Same, Comes}
+use Rattle.cpp_term.proofs.StatesNoted.{Alongside, Settled, Alike, Same, Moves, moves_none, expecting_moves, Comes}
 use Rattle.cpp_term.proofs.BetweenNoted.{parts_place, Goes, between_noted, close_noted, wide_between_noted, wide_close_noted}
 
 pub record NotedWay : Type 0 where
+  pub opening : Production → Forest → (place : ℕ) → State → Result State Refusal
   pub between : Production → Around → (place : ℕ) → List Value → State → Going
   pub close : Production → (byte : ℕ) → Around → (place : ℕ) → (began : State) → List Value → State → Result (Found Value State) Refusal
 
@@ -26,16 +32,16 @@ unfoldable pub reading_noted_by : NotedWay → Reading Value State Around
 reading_noted_by v = record {
   rowless = nothing_there ∷ [];
   token = λ place t state. Ok (found (text t.own) state);
-  begin = λ rule parts. opening (production_at rule.rule.number) parts rule.place rule.before;
+  begin = λ rule parts. v.opening (production_at rule.rule.number) parts rule.place rule.before;
   between = λ rule known state. v.between (production_at rule.rule.number) rule.context rule.place known state;
   close = λ rule known state. v.close (production_at rule.rule.number) (byte_of rule.taken) rule.context rule.place rule.before known state;
 }
 
 unfoldable pub abi_noted : NotedWay
-abi_noted = record { between = between; close = close }
+abi_noted = record { opening = opening; between = between; close = close }
 
 unfoldable pub wide_noted : NotedWay
-wide_noted = record { between = between_wide; close = close_wide }
+wide_noted = record { opening = opening_wide; between = between_wide; close = close_wide }
 
 -- except for references it agrees with the reading of the ABI's grammar
 pub record IsPlainNoted (v : NotedWay) : Type 0 where
@@ -46,16 +52,39 @@ pub record IsPlainNoted (v : NotedWay) : Type 0 where
 -- within an encoding it agrees with the other, with arguments
 pub record IsNotedBy (w : Way) (v : NotedWay) : Type 0 where
   pub plain : IsPlainNoted v
-  pub goes : (production : Production) (around : leaf_.Around) (place : ℕ) (vs : List leaf_.Value) (x : leaf_.State) (y : State) → StaysInside production → Settled around → y.packs ≡ x.packs →
+  pub begins : (production : Production) (f : Forest) (place : ℕ) (around : leaf_.Around) (x : leaf_.State) (y : State) → Same w.own around x y → Alike (Moves w.own around x y) (w.opening production f place x) (v.opening production f place y)
+  pub goes : (production : Production) (around : leaf_.Around) (place : ℕ) (vs : List leaf_.Value) (x : leaf_.State) (y : State) → StaysInside production → Settled around → Alongside x y →
       Alike (Goes w.own (parts_place w.own production around) around x y) (w.between production around place vs x) (v.between production (noted_around w.own around) place (noted_values (parts_place w.own production around) vs) y)
   pub comes : (production : Production) (byte : ℕ) (around : leaf_.Around) (place : ℕ) (began : leaf_.State) (first : State) (vs : List leaf_.Value) (x : leaf_.State) (y : State) → Inside production vs →
-      Settled around → Same w.own around x y → first.packs ≡ began.packs →
+      Settled around → Same w.own around x y → Alongside began first →
       Alike (Comes w.own around x y) (w.close production byte around place began vs x) (v.close production byte (noted_around w.own around) place first (noted_values (parts_place w.own production around) vs) y)
+
+-- an opening tests a number, or notes what is expected
+opening_moves : (own : Bool) (p : Production) (f : Forest) (place : ℕ) (around : leaf_.Around) (x : leaf_.State) (y : State) → Alongside x y → Alike (Moves own around x y) (leaf_opening.opening p f place x) (opening p f place y)
+unfolding leaf_opening.opening opening leaf_opening.number_tested number_tested
+opening_moves own Production.Lambda f place around x y packs = tested (nat_lt (local_number (last_token f [])) (2 ^ 64))
+  where
+    tested : (b : Bool) → Alike (Moves own around x y) (elim b [ true ↦ Ok x | false ↦ Err (BadValue (place - 1)) ]) (elim b [ true ↦ Ok y | false ↦ Err (BadValue (place - 1)) ])
+    tested true = moves_none own around x x y y refl refl packs
+    tested false = refl
+opening_moves own Production.Unnamed f place around x y packs = tested (nat_lt (local_number (last_token f [])) (2 ^ 64))
+  where
+    tested : (b : Bool) → Alike (Moves own around x y) (elim b [ true ↦ Ok x | false ↦ Err (BadValue (place - 1)) ]) (elim b [ true ↦ Ok y | false ↦ Err (BadValue (place - 1)) ])
+    tested true = moves_none own around x x y y refl refl packs
+    tested false = refl
+opening_moves own _ f place around x y packs = moves_none own around x x y y refl refl packs
+
+wide_opening_moves : (p : Production) (f : Forest) (place : ℕ) (around : leaf_.Around) (x : leaf_.State) (y : State) → Same true around x y → Alike (Moves true around x y) (leaf_wide.opening_wide p f place x) (opening_wide p f place y)
+unfolding leaf_wide.opening_wide opening_wide
+wide_opening_moves Production.NestTemplate f place around x y same = expecting_moves true around (leaf_.prefix_at (place - 1)) x y same
+wide_opening_moves Production.QualifiedPlain f place around x y same = expecting_moves true around (leaf_.qualified_at place) x y same
+wide_opening_moves p f place around x y same = opening_moves true p f place around x y same.packs
 
 pub abi_is_noted : IsNotedBy abi_way abi_noted
 unfolding abi_way abi_noted
 abi_is_noted = record {
   plain = record { between = λ p apart around place vs state. refl; close = λ p apart byte around place began vs state. refl };
+  begins = λ production f place around x y same. opening_moves false production f place around x y same.packs;
   goes = λ production around place vs x y stays settled packs. between_noted false production around place vs x y stays packs;
   comes = close_noted;
 }
@@ -73,4 +102,4 @@ plain_close _ apart byte around place began vs state = cc
 
 pub wide_is_noted : IsNotedBy wide_way wide_noted
 unfolding wide_way wide_noted
-wide_is_noted = record { plain = record { between = plain_between; close = plain_close }; goes = wide_between_noted; comes = wide_close_noted }
+wide_is_noted = record { plain = record { between = plain_between; close = plain_close }; begins = wide_opening_moves; goes = wide_between_noted; comes = wide_close_noted }

@@ -4,7 +4,7 @@ use Prim.Native.String.{String}
 use Rattle.sym_print.specs.declared.detail.Detail.{Detail}
 use Rattle.sym_print.specs.Details.{has_arguments, has_parameters}
 use Rattle.sym_print.specs.Unfold.{PartOf, text, sub}
-use Rattle.cpp_grammar.specs.Term.{Qualifiers, RefQualifier, Signed, Term, symbol, function, object, of_name, alone, in_std, within, instance, local, holder, tagged, of_default, abbreviation, parameter, source, constructor, destructor, inheriting, lambda, generic_lambda, builtin, sized_float, pointer, lvalue, rvalue, array, bounded, member_pointer, function_type, qualified, expansion, integer, operation, function_parameter, pack, nil, list, absent}
+use Rattle.cpp_grammar.specs.Term.{Qualifiers, RefQualifier, any_value, lvalue_only, rvalue_only, explicit_object, Signed, Term, symbol, function, object, of_name, alone, in_std, within, instance, local, holder, tagged, of_default, abbreviation, parameter, source, constructor, destructor, inheriting, lambda, generic_lambda, builtin, sized_float, pointer, lvalue, rvalue, array, bounded, member_pointer, function_type, qualified, expansion, integer, operation, function_parameter, pack, nil, list, absent}
 use Rattle.cpp_grammar.specs.Scope.{arguments_of, without_tags}
 use Rattle.cpp_grammar.specs.Items.{Form, root, full, bare, left, right, low, base, piece, first, more, expand, Context, signature_in, Item, closed, argument, head, is_reference, is_funarr, packs_of, is_empty}
 use Rattle.cpp_grammar.specs.Parts as leaf_
@@ -278,14 +278,23 @@ base_noted d c t = left_noted d c t
 
 -- ## Encodings
 
+begins_noted : (s : Place) (ref : RefQualifier) (t : Term) → part_.begins_parameters ref (annotate s t) ≡ leaf_.begins_parameters ref t
+unfolding part_.begins_parameters leaf_.begins_parameters annotate
+begins_noted s explicit_object nil = refl
+begins_noted s explicit_object _ = refl
+begins_noted s any_value t = refl
+begins_noted s lvalue_only t = refl
+begins_noted s rvalue_only t = refl
+
 bare_noted : (all : Bool) (name : Term) (q : Qualifiers) (ref : RefQualifier) (parameters : Term) →
     part_.function_bare all (annotate nowhere name) q ref (annotate (place_in (arguments_of name) false) parameters) ≡ noted_parts (leaf_.function_bare all name q ref parameters)
 unfolding part_.function_bare leaf_.function_bare part_.types_of leaf_.types_of noted_parts noted_part noted_item noted_context noted_scope place_in place_of
 bare_noted false name q ref parameters = refl
 bare_noted true name q ref parameters =
-    joins (leaf_.as_item left closed name ∷ leaf_.says "(" ∷ leaf_.list_part first (leaf_.types_of name) parameters) (leaf_.says ")" ∷ leaf_.text_part (encoding_text q ref)) _
+    joins (leaf_.as_item left closed name ∷ text (leaf_.begins_parameters ref parameters) ∷ leaf_.list_part first (leaf_.types_of name) parameters) (leaf_.says ")" ∷ leaf_.text_part (encoding_text q ref)) _
     (part_.says ")" ∷ part_.text_part (encoding_text q ref))
-    (ap (λ ps. part_.as_item left item_.closed (annotate nowhere name) ∷ part_.says "(" ∷ ps) (list_noted first (leaf_.types_of name) parameters))
+    (both (λ o ps. part_.as_item left item_.closed (annotate nowhere name) ∷ text o ∷ ps) (begins_noted (place_in (arguments_of name) false) ref parameters)
+    (list_noted first (leaf_.types_of name) parameters))
     (ap (λ ps. part_.says ")" ∷ ps) (text_noted (encoding_text q ref)))
 
 whole_noted : (all : Bool) (name : Term) (q : Qualifiers) (ref : RefQualifier) (returned parameters : Term) →

@@ -7,12 +7,13 @@ use Rattle.sym_core.specs.declared.refusal.Refusal.{Refusal}
 use Rattle.sym_core.specs.declared.refusal.Refusal.TheVariants.{BadReference}
 use Rattle.sym_link.specs.Reading.{Found, ◌>>=◌}
 use Rattle.sym_link.specs.Unfold.{found}
-use Rattle.cpp_grammar.specs.Term.{Term, parameter, function_type}
+use Rattle.cpp_grammar.specs.Term.{Term, holder, parameter, function_type}
 use Rattle.cpp_grammar.specs.Scope.{count, element, is_list, has_pack, is_open, length_if_pack, pack_length, Free, none_free, one_free, several_free, free_in}
 use Rattle.cpp_grammar.specs.Values as leaf_
-use Rattle.cpp_grammar.specs.Values.{Around, prefix_tree, prefix_listed, Value, State, Candidate, tree_of, is_listed}
-use Rattle.cpp_grammar.specs.References.{appended, is_function_type, with_type, with_unqualified, with_prefix, with_packs, packs_in, substituted, parameter_named}
-use Rattle.cpp_grammar.specs.Rescoping.{with_holder, has_held, is_counted_alike, is_held_twice, is_last_counted, named_alike, is_foreign, in_scope, under_scope, with_free, restated, substituted_wide, numbered}
+use Rattle.cpp_grammar.specs.Values.{Counted, by_all, by_newer, Lists, longer_list, shorter_list, both_lists, no_list, Expected, Counting, prefix_at, qualified_at, Around, prefix_tree, prefix_listed, Value, State, Candidate, tree_of, is_listed}
+use Rattle.cpp_grammar.specs.References.{appended, appended_by, is_function_type, with_type, with_unqualified, with_prefix, with_packs, packs_in, substituted, parameter_named}
+use Rattle.cpp_grammar.specs.Rescoping as rescoping_
+use Rattle.cpp_grammar.specs.Rescoping.{with_holder, is_before_holder, is_by_newer, is_by_all, is_by_some, is_in_list, named_in, joined, counted_so_far, fits, can_be_named, is_prefix_at, is_qualified_at, left, left_at, with_lists, listed_by, expecting, is_foreign, in_scope, under_scope, with_free, restated, substituted_wide, numbered}
 use Rattle.cpp_term.specs.Term as term_
 use Rattle.cpp_term.specs.Scope as scope_
 use Rattle.cpp_term.specs.Values as value_
@@ -51,7 +52,7 @@ pub record IsNoted (own : Bool) (around : Around) (c : Candidate) (d : value_.Ca
   pub like : d.tree ≡ annotate by c.tree
   pub closed : is_open c.tree ≡ false → d.tree ≡ annotate nowhere c.tree
   pub in_lambda : d.in_lambda ≡ c.in_lambda
-  pub is_held : d.is_held ≡ c.is_held
+  pub counted : d.counted ≡ c.counted
   pub here : c.encoding ≡ around.encoding → around.in_lambda ≡ false → (own ≡ true → c.in_lambda ≡ false) → d.tree ≡ annotate (around_place own around) c.tree
 
 abbrev pub AllNoted : (own : Bool) → Around → List Candidate → List value_.Candidate → Type 0
@@ -59,9 +60,13 @@ AllNoted own around [] [] = Unit {0}
 AllNoted own around (c ∷ cs) (d ∷ ds) = IsNoted own around c d × AllNoted own around cs ds
 AllNoted own around _ _ = ⊥
 
+-- two states with packs of one length, whose candidates are counted alike
+abbrev pub Alongside : State → value_.State → Type 0
+Alongside x y = (y.packs ≡ x.packs) × (y.counting ≡ x.counting)
+
 -- two states that are alike
 pub record Same (own : Bool) (around : Around) (x : State) (y : value_.State) : Type 0 where
-  pub packs : y.packs ≡ x.packs
+  pub packs : Alongside x y
   pub all : AllNoted own around x.candidates y.candidates
 
 -- from two states to two others: candidates are appended
@@ -71,7 +76,7 @@ pub record Moves (own : Bool) (around : Around) (x : State) (y : value_.State) (
   pub is : later.candidates ≡ x.candidates ++ more
   pub so : noted.candidates ≡ y.candidates ++ others
   pub each : AllNoted own around more others
-  pub packs : noted.packs ≡ later.packs
+  pub packs : Alongside later noted
 
 pub all_append : (own : Bool) (around : Around) (cs es : List Candidate) (ds fs : List value_.Candidate) → AllNoted own around cs ds → AllNoted own around es fs → AllNoted own around (cs ++ es) (ds ++ fs)
 all_append own around [] es [] fs f g = g
@@ -85,7 +90,7 @@ same_moves own around x later y noted same m = record {
   all = subst (λ cs. AllNoted own around cs noted.candidates) (sym m.is) (subst (λ ds. AllNoted own around (x.candidates ++ m.more) ds) (sym m.so) (all_append own around x.candidates m.more y.candidates m.others same.all m.each));
 }
 
-pub moves_none : (own : Bool) (around : Around) (x later : State) (y noted : value_.State) → later.candidates ≡ x.candidates → noted.candidates ≡ y.candidates → noted.packs ≡ later.packs → Moves own around x y later noted
+pub moves_none : (own : Bool) (around : Around) (x later : State) (y noted : value_.State) → later.candidates ≡ x.candidates → noted.candidates ≡ y.candidates → Alongside later noted → Moves own around x y later noted
 moves_none own around x later y noted e g packs = record { more = []; others = []; is = e ∙ sym (append-nil x.candidates); so = g ∙ sym (append-nil y.candidates); each = tt; packs = packs }
 
 pub moves_then : (own : Bool) (around : Around) (x u w : State) (y v z : value_.State) → Moves own around x y u v → Moves own around u v w z → Moves own around x y w z
@@ -98,29 +103,32 @@ moves_then own around x u w y v z m n = record {
   packs = n.packs;
 }
 
-pub one_moves : (own : Bool) (around : Around) (t : Term) (u : term_.Term) (x : State) (y : value_.State) → y.packs ≡ x.packs → u ≡ annotate (around_place own around) t →
-    Moves own around x y (appended around t x) (noted_.appended (noted_around own around) u y)
-unfolding appended noted_.appended noted_around
-one_moves own around t u x y packs is = record {
-  more = record { tree = t; encoding = around.encoding; in_lambda = around.in_lambda; is_held = false } ∷ [];
-  others = record { tree = u; encoding = around.encoding; in_lambda = around.in_lambda; is_held = false } ∷ [];
+pub more_moves : (counted : Counted) (own : Bool) (around : Around) (t : Term) (u : term_.Term) (x : State) (y : value_.State) → Alongside x y → u ≡ annotate (around_place own around) t →
+    Moves own around x y (appended_by counted around t x) (noted_.appended_by counted (noted_around own around) u y)
+unfolding noted_around
+more_moves counted own around t u x y packs is = record {
+  more = record { tree = t; encoding = around.encoding; in_lambda = around.in_lambda; counted = counted } ∷ [];
+  others = record { tree = u; encoding = around.encoding; in_lambda = around.in_lambda; counted = counted } ∷ [];
   is = refl;
   so = refl;
-  each = (record { encoding = refl; by = around_place own around; like = is; closed = λ h. is ∙ closed_noted (around_place own around) nowhere t h; in_lambda = refl; is_held = refl; here = λ e f g. is }, tt);
+  each = (record { encoding = refl; by = around_place own around; like = is; closed = λ h. is ∙ closed_noted (around_place own around) nowhere t h; in_lambda = refl; counted = refl; here = λ e f g. is }, tt);
   packs = packs;
 }
 
-pub held_moves : (own : Bool) (around : Around) (t : Term) (u : term_.Term) (x : State) (y : value_.State) → y.packs ≡ x.packs → u ≡ annotate (around_place own around) t →
+pub one_moves : (own : Bool) (around : Around) (t : Term) (u : term_.Term) (x : State) (y : value_.State) → Alongside x y → u ≡ annotate (around_place own around) t →
+    Moves own around x y (appended around t x) (noted_.appended (noted_around own around) u y)
+unfolding appended noted_.appended
+one_moves own around t u x y packs is = more_moves by_all own around t u x y packs is
+
+pub held_moves : (own : Bool) (around : Around) (t : Term) (u : term_.Term) (x : State) (y : value_.State) → Alongside x y → u ≡ annotate (around_place own around) t →
     Moves own around x y (with_holder around t x) (wide_.with_holder (noted_around own around) u y)
 unfolding with_holder wide_.with_holder noted_around
-held_moves own around t u x y packs is = record {
-  more = record { tree = t; encoding = around.encoding; in_lambda = around.in_lambda; is_held = true } ∷ [];
-  others = record { tree = u; encoding = around.encoding; in_lambda = around.in_lambda; is_held = true } ∷ [];
-  is = refl;
-  so = refl;
-  each = (record { encoding = refl; by = around_place own around; like = is; closed = λ h. is ∙ closed_noted (around_place own around) nowhere t h; in_lambda = refl; is_held = refl; here = λ e f g. is }, tt);
-  packs = packs;
-}
+held_moves own around t u x y packs is =
+    let s = around_place own around in
+    let onward : (a : State) (b : value_.State) → Moves own around x y a b → Moves own around x y (appended_by by_newer around t a) (noted_.appended_by by_newer (noted_around own around) u b) =
+    λ a b m. moves_then own around x a (appended_by by_newer around t a) y b (noted_.appended_by by_newer (noted_around own around) u b) m (more_moves by_newer own around t u a b m.packs is) in
+    choose (λ a b. Moves own around x y (appended_by by_newer around t a) (noted_.appended_by by_newer (noted_around own around) u b)) (prefix_listed around.prefix) (value_.prefix_listed (noted_prefix s around.prefix)) _ _ _ _ (prefix_listed_noted s around.prefix)
+    (λ h. onward _ _ (one_moves own around t u x y packs is)) (λ h. onward x y (moves_none own around x x y y refl refl packs))
 
 -- ## Types and prefixes
 
@@ -129,7 +137,7 @@ unfolding noted_.is_function_type is_function_type annotate
 function_type_noted s (function_type c_linkage noexcept ref returned parameters) = refl
 function_type_noted s _ = refl
 
-pub type_moves : (own : Bool) (around : Around) (v : Value) (x : State) (y : value_.State) → y.packs ≡ x.packs →
+pub type_moves : (own : Bool) (around : Around) (v : Value) (x : State) (y : value_.State) → Alongside x y →
     Moves own around x y (with_type around v x) (noted_.with_type (noted_around own around) (noted_value (around_place own around) v) y)
 unfolding with_type noted_.with_type
 type_moves own around v x y packs =
@@ -137,7 +145,7 @@ type_moves own around v x y packs =
     choose (Moves own around x y) (is_listed v) (value_.is_listed (noted_value s v)) _ _ _ _ (listed_noted s v)
     (λ h. moves_none own around x x y y refl refl packs) (λ h. one_moves own around (tree_of v) (value_.tree_of (noted_value s v)) x y packs (tree_noted s v))
 
-pub unqualified_moves : (own : Bool) (around : Around) (v : Value) (x : State) (y : value_.State) → y.packs ≡ x.packs →
+pub unqualified_moves : (own : Bool) (around : Around) (v : Value) (x : State) (y : value_.State) → Alongside x y →
     Moves own around x y (with_unqualified around v x) (noted_.with_unqualified (noted_around own around) (noted_value (around_place own around) v) y)
 unfolding with_unqualified noted_.with_unqualified
 unqualified_moves own around v x y packs =
@@ -146,7 +154,7 @@ unqualified_moves own around v x y packs =
     (ap noted_.is_function_type (tree_noted s v) ∙ function_type_noted s (tree_of v))
     (λ h. moves_none own around x x y y refl refl packs) (λ h. type_moves own around v x y packs)
 
-pub prefix_moves : (own : Bool) (around : Around) (x : State) (y : value_.State) → y.packs ≡ x.packs → Moves own around x y (with_prefix around x) (noted_.with_prefix (noted_around own around) y)
+pub prefix_moves : (own : Bool) (around : Around) (x : State) (y : value_.State) → Alongside x y → Moves own around x y (with_prefix around x) (noted_.with_prefix (noted_around own around) y)
 unfolding with_prefix noted_.with_prefix noted_around
 prefix_moves own around x y packs =
     let s = around_place own around in
@@ -161,18 +169,18 @@ prefix_moves own around x y packs =
 pub record Kept (x : State) (y : value_.State) (a : State) (b : value_.State) : Type 0 where
   pub is : a.candidates ≡ x.candidates
   pub so : b.candidates ≡ y.candidates
-  pub packs : b.packs ≡ a.packs
+  pub packs : Alongside a b
 
-packs_kept : (place : ℕ) (inside : Bool) (o : Option ℕ) (x : State) (y : value_.State) → y.packs ≡ x.packs → Alike (Kept x y) (with_packs place inside o x) (noted_.with_packs place inside o y)
+packs_kept : (place : ℕ) (inside : Bool) (o : Option ℕ) (x : State) (y : value_.State) → Alongside x y → Alike (Kept x y) (with_packs place inside o x) (noted_.with_packs place inside o y)
 unfolding with_packs noted_.with_packs
 packs_kept place inside None x y e = record { is = refl; so = refl; packs = e }
 packs_kept place false (Some m) x y e = refl
-packs_kept place true (Some m) x y e = go y.packs x.packs e
+packs_kept place true (Some m) x y e = go y.packs x.packs e.0
   where
     go : (q p : Option ℕ) → q ≡ p → Alike (Kept x y)
         (elim p [ None ↦ Ok (record x { packs = Some m }) | Some n ↦ elim (nat_eq m n) [ true ↦ Ok x | false ↦ Err (BadReference place) ] ])
         (elim q [ None ↦ Ok (record y { packs = Some m }) | Some n ↦ elim (nat_eq m n) [ true ↦ Ok y | false ↦ Err (BadReference place) ] ])
-    go None None f = record { is = refl; so = refl; packs = refl }
+    go None None f = record { is = refl; so = refl; packs = (refl, e.1) }
     go (Some n) (Some k) f =
         let same : n ≡ k = cc in
         choose (Alike (Kept x y)) (nat_eq m k) (nat_eq m n) _ _ _ _ (ap (nat_eq m) same) (λ h. record { is = refl; so = refl; packs = e }) (λ h. refl)
@@ -214,7 +222,7 @@ noted_here own around c d n outside e = go (is_open c.tree) around.in_lambda (na
 
 -- a tree that is found, once its packs are as long as the others
 found_noted : (own : Bool) (around : Around) (place : ℕ) (t : Term) (u : term_.Term) (m n : Option ℕ) (x : State) (y : value_.State) → u ≡ annotate (around_place own around) t → n ≡ m →
-    y.packs ≡ x.packs → Alike (Comes own around x y)
+    Alongside x y → Alike (Comes own around x y)
     (with_packs place around.in_expansion m x >>= λ z. Ok (found (leaf_.tree t true) z)) (noted_.with_packs place around.in_expansion n y >>= λ z. Ok (found (value_.tree u true) z))
 unfolding noted_value
 found_noted own around place t u m n x y is e packs = subst (λ n. Alike (Comes own around x y)
@@ -231,7 +239,7 @@ unfolding noted_scope
 with_arguments R place None f g each = refl
 with_arguments R place (Some arguments) f g each = each arguments refl
 
-pub substituted_noted : (own : Bool) (around : Around) (place : ℕ) (o : Option Candidate) (p : Option value_.Candidate) (x : State) (y : value_.State) → y.packs ≡ x.packs → AreNoted own around o p → IsOutside own o →
+pub substituted_noted : (own : Bool) (around : Around) (place : ℕ) (o : Option Candidate) (p : Option value_.Candidate) (x : State) (y : value_.State) → Alongside x y → AreNoted own around o p → IsOutside own o →
     Alike (Comes own around x y) (substituted around place o x) (noted_.substituted (noted_around own around) place p y)
 unfolding substituted noted_.substituted noted_around noted_value
 substituted_noted own around place None None x y packs n outside = refl
@@ -251,7 +259,7 @@ unfolding annotate argument_in place_in
 named_here own around k arguments scope = ap (λ o. annotate (place_in o (own && around.in_lambda)) (parameter k)) (sym scope)
 
 -- a parameter that is named, as a candidate
-pub parameter_noted : (own : Bool) (around : Around) (place k : ℕ) (x : State) (y : value_.State) → y.packs ≡ x.packs →
+pub parameter_noted : (own : Bool) (around : Around) (place k : ℕ) (x : State) (y : value_.State) → Alongside x y →
     Alike (Moves own around x y) (parameter_named around place k x) (noted_.parameter_named (noted_around own around) place k y)
 unfolding parameter_named noted_.parameter_named noted_around noted_scope
 parameter_noted own around place k x y packs =
@@ -307,7 +315,7 @@ pub own_place : (around : Around) → around.scope ≡ None → around.in_lambda
 unfolding place_in
 own_place around none inside_ = both place_in none inside_
 
-in_scope_noted : (around : Around) (place : ℕ) (by : Place) (t : Term) (k : ℕ) (x : State) (y : value_.State) → free_in t ≡ one_free k → y.packs ≡ x.packs →
+in_scope_noted : (around : Around) (place : ℕ) (by : Place) (t : Term) (k : ℕ) (x : State) (y : value_.State) → free_in t ≡ one_free k → Alongside x y →
     Alike (Comes true around x y) (in_scope around place t k x) (wide_.in_scope (noted_around true around) place (annotate by t) k y)
 unfolding in_scope wide_.in_scope noted_around noted_scope noted_value packs_in
 in_scope_noted around place by t k x y one packs =
@@ -322,7 +330,7 @@ in_scope_noted around place by t k x y one packs =
     found_noted true around place t (reargued (Some a) (annotate by t)) (pack_length arguments t) (scope_.pack_length (reargued (Some a) (annotate by t))) x y
     (is ∙ ap (λ s. annotate s t) (scope_place around arguments scope)) (ap scope_.pack_length is ∙ packs_noted (Some arguments) false t) packs) (λ h. refl))
 
-under_scope_noted : (around : Around) (place : ℕ) (by : Place) (t : Term) (m : ℕ) (x : State) (y : value_.State) → free_in t ≡ several_free m → y.packs ≡ x.packs →
+under_scope_noted : (around : Around) (place : ℕ) (by : Place) (t : Term) (m : ℕ) (x : State) (y : value_.State) → free_in t ≡ several_free m → Alongside x y →
     Alike (Comes true around x y) (under_scope around place t m x) (wide_.under_scope (noted_around true around) place (annotate by t) m y)
 unfolding under_scope wide_.under_scope noted_around noted_scope noted_value
 under_scope_noted around place by t m x y several packs =
@@ -344,14 +352,14 @@ own_names none_free = tt
 own_names (one_free k) = refl
 own_names (several_free m) = λ k. refl
 
-free_noted_bad : (f : Free) (around : Around) (place : ℕ) (by : Place) (t : Term) (x : State) (y : value_.State) → free_in t ≡ f → y.packs ≡ x.packs →
+free_noted_bad : (f : Free) (around : Around) (place : ℕ) (by : Place) (t : Term) (x : State) (y : value_.State) → free_in t ≡ f → Alongside x y →
     Alike (Comes true around x y) (with_free f around place t x) (wide_.with_free f (noted_around true around) place (annotate by t) y)
 unfolding with_free wide_.with_free
 free_noted_bad none_free around place by t x y e packs = refl
 free_noted_bad (one_free k) around place by t x y e packs = in_scope_noted around place by t k x y e packs
 free_noted_bad (several_free m) around place by t x y e packs = under_scope_noted around place by t m x y e packs
 
-restated_noted : (around : Around) (place : ℕ) (by : Place) (t : Term) (x : State) (y : value_.State) → Settled around → y.packs ≡ x.packs →
+restated_noted : (around : Around) (place : ℕ) (by : Place) (t : Term) (x : State) (y : value_.State) → Settled around → Alongside x y →
     Alike (Comes true around x y) (restated around place t x) (wide_.restated (noted_around true around) place (annotate by t) y)
 unfolding restated wide_.restated noted_around noted_value
 restated_noted around place by t x y settled packs =
@@ -362,7 +370,7 @@ restated_noted around place by t x y settled packs =
     inside_ : around.in_lambda ≡ true → reargued (Some item_.auto) (annotate by t) ≡ annotate (around_place true around) t
     inside_ l = renoted in_own by item_.auto t (own_names (free_in t)) ∙ ap (λ s. annotate s t) (sym (own_place around (settled l) l))
 
-wide_substituted_noted : (around : Around) (place : ℕ) (o : Option Candidate) (p : Option value_.Candidate) (x : State) (y : value_.State) → Settled around → y.packs ≡ x.packs → AreNoted true around o p →
+wide_substituted_noted : (around : Around) (place : ℕ) (o : Option Candidate) (p : Option value_.Candidate) (x : State) (y : value_.State) → Settled around → Alongside x y → AreNoted true around o p →
     Alike (Comes true around x y) (substituted_wide around place o x) (wide_.substituted_wide (noted_around true around) place p y)
 unfolding substituted_wide wide_.substituted_wide is_foreign
 wide_substituted_noted around place None None x y settled packs n = refl
@@ -380,45 +388,105 @@ wide_substituted_noted around place (Some c) (Some d) x y settled packs n =
     outside true true m other h opens = absurd (true≢false h)
     outside false l m other h opens = absurd (false≢true opens)
 
-held_noted : (own : Bool) (around : Around) (cs : List Candidate) (ds : List value_.Candidate) (count : ℕ) → AllNoted own around cs ds → wide_.has_held ds count ≡ has_held cs count
-unfolding has_held wide_.has_held
-held_noted own around [] [] count all = refl
-held_noted own around (c ∷ cs) (d ∷ ds) zero all = refl
-held_noted own around (c ∷ cs) (d ∷ ds) (suc count) all = both (λ a b. a || b) all.0.is_held (held_noted own around cs ds count all.1)
-held_noted own around [] (d ∷ ds) count all = absurd all
-held_noted own around (c ∷ cs) [] count all = absurd all
+newer_noted : (own : Bool) (around : Around) (cs : List Candidate) (ds : List value_.Candidate) → AllNoted own around cs ds → wide_.is_before_holder ds ≡ is_before_holder cs
+unfolding is_before_holder wide_.is_before_holder
+newer_noted own around [] [] all = refl
+newer_noted own around (c ∷ cs) (d ∷ ds) all = ap is_by_newer all.0.counted
+newer_noted own around [] (d ∷ ds) all = absurd all
+newer_noted own around (c ∷ cs) [] all = absurd all
 
-twice_noted : (own : Bool) (around : Around) (once other : Bool) (cs : List Candidate) (ds : List value_.Candidate) → other ≡ once → AllNoted own around cs ds → wide_.is_held_twice other ds ≡ is_held_twice once cs
-unfolding is_held_twice wide_.is_held_twice
-twice_noted own around once other [] [] same all = refl
-twice_noted own around once other (c ∷ cs) (d ∷ ds) same all =
-    both (λ a b. a || b) (both (λ a b. a && b) same all.0.is_held) (twice_noted own around (once || c.is_held) (other || d.is_held) cs ds (both (λ a b. a || b) same all.0.is_held) all.1)
-twice_noted own around once other [] (d ∷ ds) same all = absurd all
-twice_noted own around once other (c ∷ cs) [] same all = absurd all
+listed_alike : (is_shorter own : Bool) (around : Around) (c : Candidate) (d : value_.Candidate) (cs : List Candidate) (ds : List value_.Candidate) → d.counted ≡ c.counted → AllNoted own around cs ds →
+    wide_.is_in_list is_shorter d ds ≡ is_in_list is_shorter c cs
+unfolding is_in_list wide_.is_in_list
+listed_alike is_shorter own around c d cs ds counted all = both (λ b k. not b && (not is_shorter || is_by_all k)) (newer_noted own around cs ds all) counted
 
-many_noted : (own : Bool) (around : Around) (cs : List Candidate) (ds : List value_.Candidate) → AllNoted own around cs ds → length ds ≡ length cs
-many_noted own around [] [] all = refl
-many_noted own around (c ∷ cs) (d ∷ ds) all = ap suc (many_noted own around cs ds all.1)
-many_noted own around [] (d ∷ ds) all = absurd all
-many_noted own around (c ∷ cs) [] all = absurd all
+place_noted : (is_shorter own : Bool) (around : Around) (cs : List Candidate) (ds : List value_.Candidate) (number : ℕ) → AllNoted own around cs ds → wide_.place_in is_shorter ds number ≡ rescoping_.place_in is_shorter cs number
+unfolding rescoping_.place_in wide_.place_in
+place_noted is_shorter own around [] [] number all = refl
+place_noted is_shorter own around (c ∷ cs) (d ∷ ds) zero all =
+    both (λ b k. elim b [ false ↦ suc k | true ↦ zero ]) (listed_alike is_shorter own around c d cs ds all.0.counted all.1) (place_noted is_shorter own around cs ds zero all.1)
+place_noted is_shorter own around (c ∷ cs) (d ∷ ds) (suc number) all =
+    three (λ b k n. elim b [ false ↦ suc k | true ↦ suc n ]) (listed_alike is_shorter own around c d cs ds all.0.counted all.1) (place_noted is_shorter own around cs ds (suc number) all.1) (place_noted is_shorter own around cs ds number all.1)
+place_noted is_shorter own around [] (d ∷ ds) number all = absurd all
+place_noted is_shorter own around (c ∷ cs) [] number all = absurd all
 
-last_noted : (own : Bool) (around : Around) (cs : List Candidate) (ds : List value_.Candidate) (number : ℕ) → AllNoted own around cs ds → wide_.is_last_counted ds number ≡ is_last_counted cs number
-unfolding is_last_counted wide_.is_last_counted
-last_noted own around cs ds number all =
-    both (λ n b. nat_eq (number + 2) n && not b) (many_noted own around cs ds all) (twice_noted own around false false cs ds refl all)
+named_in_noted : (is_shorter own : Bool) (around : Around) (cs : List Candidate) (ds : List value_.Candidate) (number : ℕ) → AllNoted own around cs ds → AreNoted own around (named_in is_shorter cs number) (wide_.named_in is_shorter ds number)
+unfolding named_in wide_.named_in
+named_in_noted is_shorter own around cs ds number all =
+    subst (λ n. AreNoted own around (slice_get cs (rescoping_.place_in is_shorter cs number)) (slice_get ds n)) (sym (place_noted is_shorter own around cs ds number all)) (get_noted own around cs ds (rescoping_.place_in is_shorter cs number) all)
 
--- a number names in one list what it names in the other
-alike_noted : (own : Bool) (around : Around) (cs : List Candidate) (ds : List value_.Candidate) (number : ℕ) → AllNoted own around cs ds → AreNoted own around (named_alike cs number) (wide_.named_alike ds number)
-unfolding named_alike wide_.named_alike is_counted_alike wide_.is_counted_alike
-alike_noted own around cs ds number all =
-    choose (AreNoted own around) (not (has_held cs (number + 2))) (not (wide_.has_held ds (number + 2))) _ _ _ _ (ap not (held_noted own around cs ds (number + 2) all))
-    (λ h. get_noted own around cs ds number all)
-    (λ h. choose (AreNoted own around) (is_last_counted cs number) (wide_.is_last_counted ds number) _ _ _ _ (last_noted own around cs ds number all)
-    (λ last. get_noted own around cs ds (number + 1) all) (λ last. tt))
+counted_noted : (own : Bool) (around : Around) (before : Counted) (cs : List Candidate) (ds : List value_.Candidate) → AllNoted own around cs ds → wide_.counted_so_far before ds ≡ counted_so_far before cs
+unfolding counted_so_far wide_.counted_so_far
+counted_noted own around before [] [] all = refl
+counted_noted own around before (c ∷ cs) (d ∷ ds) all =
+    ap (λ k. wide_.counted_so_far (joined before k) ds) all.0.counted ∙ counted_noted own around (joined before c.counted) cs ds all.1
+counted_noted own around before [] (d ∷ ds) all = absurd all
+counted_noted own around before (c ∷ cs) [] all = absurd all
+
+fits_noted : (is_prefix is_qualified : Bool) (s : Place) (t : Term) → wide_.fits is_prefix is_qualified (annotate s t) ≡ fits is_prefix is_qualified t
+unfolding fits wide_.fits annotate
+fits_noted is_prefix is_qualified s (holder name) = refl
+fits_noted is_prefix is_qualified s _ = refl
+
+can_noted : (own : Bool) (around : Around) (expected : Expected) (place : ℕ) (o : Option Candidate) (p : Option value_.Candidate) → AreNoted own around o p → wide_.can_be_named expected place p ≡ can_be_named expected place o
+unfolding can_be_named wide_.can_be_named
+can_noted own around expected place None None n = refl
+can_noted own around expected place (Some c) (Some d) n =
+    ap (wide_.fits (is_prefix_at place expected) (is_qualified_at place expected)) n.like ∙ fits_noted (is_prefix_at place expected) (is_qualified_at place expected) n.by c.tree
+can_noted own around expected place None (Some d) n = absurd n
+can_noted own around expected place (Some c) None n = absurd n
+
+left_noted : (own : Bool) (around : Around) (place number : ℕ) (x : State) (y : value_.State) → Same own around x y → wide_.left_at place number y ≡ left_at place number x
+unfolding left_at wide_.left_at
+left_noted own around place number x y same =
+    let can : (is_shorter : Bool) → wide_.can_be_named y.counting.expected place (wide_.named_in is_shorter y.candidates number) ≡ can_be_named x.counting.expected place (named_in is_shorter x.candidates number) =
+    λ is_shorter. ap (λ g. wide_.can_be_named g.expected place (wide_.named_in is_shorter y.candidates number)) same.packs.1
+    ∙ can_noted own around x.counting.expected place (named_in is_shorter x.candidates number) (wide_.named_in is_shorter y.candidates number) (named_in_noted is_shorter own around x.candidates y.candidates number same.all) in
+    both (λ k l. elim (is_by_some k) [ true ↦ no_list | false ↦ l ]) (counted_noted own around by_all x.candidates y.candidates same.all)
+    (three (λ g a b. left g.lists a b) same.packs.1 (can false) (can true))
+
+listed_by_noted : (lists : Lists) (around : Around) (place number : ℕ) (x : State) (y : value_.State) → Settled around → Same true around x y →
+    Alike (Comes true around x y) (listed_by lists around place number x) (wide_.listed_by lists (noted_around true around) place number y)
+unfolding listed_by wide_.listed_by
+listed_by_noted longer_list around place number x y settled same =
+    wide_substituted_noted around place (named_in false x.candidates number) (wide_.named_in false y.candidates number) x y settled same.packs (named_in_noted false true around x.candidates y.candidates number same.all)
+listed_by_noted shorter_list around place number x y settled same =
+    wide_substituted_noted around place (named_in true x.candidates number) (wide_.named_in true y.candidates number) x y settled same.packs (named_in_noted true true around x.candidates y.candidates number same.all)
+listed_by_noted both_lists around place number x y settled same = refl
+listed_by_noted no_list around place number x y settled same = refl
 
 -- compilers count one list as they count the other
 pub wide_numbered_noted : (around : Around) (place number : ℕ) (x : State) (y : value_.State) → Settled around → Same true around x y →
     Alike (Comes true around x y) (numbered around place number x) (wide_.numbered (noted_around true around) place number y)
-unfolding numbered wide_.numbered
+unfolding numbered wide_.numbered with_lists wide_.with_lists
 wide_numbered_noted around place number x y settled same =
-    wide_substituted_noted around place (named_alike x.candidates number) (wide_.named_alike y.candidates number) x y settled same.packs (alike_noted true around x.candidates y.candidates number same.all)
+    let cs = x.candidates in
+    let ds = y.candidates in
+    choose (Alike (Comes true around x y)) (nat_eq (rescoping_.place_in false cs number) (rescoping_.place_in true cs number)) (nat_eq (wide_.place_in false ds number) (wide_.place_in true ds number)) _ _ _ _
+    (both nat_eq (place_noted false true around cs ds number same.all) (place_noted true true around cs ds number same.all))
+    (λ h. wide_substituted_noted around place (named_in false cs number) (wide_.named_in false ds number) x y settled same.packs (named_in_noted false true around cs ds number same.all))
+    (λ h. apart (left_at place number x) (wide_.left_at place number y) (left_noted true around place number x y same))
+  where
+    narrowed : (lists : Lists) → Same true around (with_lists lists x) (wide_.with_lists lists y)
+    narrowed lists = record { packs = (same.packs.0, ap {A = Counting} (λ g. record g { lists = lists }) same.packs.1); all = same.all }
+
+    apart : (lists others : Lists) → others ≡ lists → Alike (Comes true around x y) (listed_by lists around place number (with_lists lists x)) (wide_.listed_by others (noted_around true around) place number (wide_.with_lists others y))
+    apart lists others is =
+        subst (λ l. Alike (Comes true around x y) (listed_by lists around place number (with_lists lists x)) (wide_.listed_by l (noted_around true around) place number (wide_.with_lists l y))) (sym is)
+        (same_comes (listed_by lists around place number (with_lists lists x)) (wide_.listed_by lists (noted_around true around) place number (wide_.with_lists lists y))
+        (listed_by_noted lists around place number (with_lists lists x) (wide_.with_lists lists y) settled (narrowed lists)))
+      where
+        -- the candidates are those of the states before
+        same_comes : (a : Result (Found Value State) Refusal) (b : Result (Found value_.Value value_.State) Refusal) → Alike (Comes true around (with_lists lists x) (wide_.with_lists lists y)) a b → Alike (Comes true around x y) a b
+        same_comes (Ok a) (Ok b) r = record { value = r.value; moves = record { more = r.moves.more; others = r.moves.others; is = r.moves.is; so = r.moves.so; each = r.moves.each; packs = r.moves.packs } }
+        same_comes (Err e) (Err f) r = r
+        same_comes (Ok a) (Err f) r = absurd r
+        same_comes (Err e) (Ok b) r = absurd r
+
+pub expecting_moves : (own : Bool) (around : Around) (expected : Expected) (x : State) (y : value_.State) → Same own around x y → Moves own around x y (expecting expected x) (wide_.expecting expected y)
+unfolding expecting wide_.expecting
+expecting_moves own around expected x y same =
+    choose (Moves own around x y) (is_by_all (counted_so_far by_all x.candidates)) (is_by_all (wide_.counted_so_far by_all y.candidates)) _ _ _ _ (ap is_by_all (counted_noted own around by_all x.candidates y.candidates same.all))
+    (λ h. moves_none own around x x y y refl refl same.packs)
+    (λ h. moves_none own around x (record x { counting = record x.counting { expected = expected } }) y (record y { counting = record y.counting { expected = expected } }) refl refl
+    (same.packs.0, ap {A = Counting} (λ g. record g { expected = expected }) same.packs.1))

@@ -51,22 +51,6 @@ use Rattle.cpp_term.proofs.NotedWays.{NotedWay, reading_noted_by, abi_noted, wid
 use Rattle.cpp_term.proofs.KindsNoted.{is_special_kind}
 use Rattle.cpp_term.proofs.ForestNoted.{is_special, has_special, Many, TreeNoted, AllTreesNoted, noted_open, forest_noted, cancel, value_closed}
 
--- an opening tests a number, and leaves the state
-opened : {A B : Type 0} (R : A → B → Type 0) (p : Production) (f : Forest) (place : ℕ) (x : State) (y : value_.State) (g : State → Result A Refusal) (h : value_.State → Result B Refusal) →
-    Alike R (g x) (h y) → Alike R (opening p f place x >>= g) (unfolded_.opening p f place y >>= h)
-unfolding opening unfolded_.opening number_tested unfolded_.number_tested
-opened R Production.Lambda f place x y g h r = tested (nat_lt (local_number (last_token f [])) (2 ^ 64))
-  where
-    tested : (b : Bool) → Alike R ((elim b [ true ↦ Ok x | false ↦ Err (BadValue (place - 1)) ]) >>= g) ((elim b [ true ↦ Ok y | false ↦ Err (BadValue (place - 1)) ]) >>= h)
-    tested true = r
-    tested false = refl
-opened R Production.Unnamed f place x y g h r = tested (nat_lt (local_number (last_token f [])) (2 ^ 64))
-  where
-    tested : (b : Bool) → Alike R ((elim b [ true ↦ Ok x | false ↦ Err (BadValue (place - 1)) ]) >>= g) ((elim b [ true ↦ Ok y | false ↦ Err (BadValue (place - 1)) ]) >>= h)
-    tested true = r
-    tested false = refl
-opened R _ f place x y g h r = r
-
 -- only the production of special names has a part of that kind
 plain_special : (p : Production) → opens p || not (has_special (parts_of p)) ≡ true
 unfolding opens has_special is_special is_special_kind parts_of number_of_kind
@@ -88,7 +72,7 @@ unfolding in_name
 all_name own around at [] [] lt old all = tt
 all_name own around at (c ∷ cs) (d ∷ ds) lt old all =
     let less : c.encoding < at = elim old.0.place [ inl same ↦ omega (arith, same, lt) | inr before ↦ before ] in
-    (record { encoding = all.0.encoding; in_lambda = all.0.in_lambda; is_held = all.0.is_held; by = all.0.by; like = all.0.like; closed = all.0.closed; here = λ h f g. absurd (omega (arith, h, less)) }, all_name own around at cs ds lt old.1 all.1)
+    (record { encoding = all.0.encoding; in_lambda = all.0.in_lambda; counted = all.0.counted; by = all.0.by; like = all.0.like; closed = all.0.closed; here = λ h f g. absurd (omega (arith, h, less)) }, all_name own around at cs ds lt old.1 all.1)
 all_name own around at [] (d ∷ ds) lt old all = absurd all
 all_name own around at (c ∷ cs) [] lt old all = absurd all
 
@@ -99,7 +83,7 @@ all_types own at b name (c ∷ cs) (d ∷ ds) old all = (
   record {
     encoding = all.0.encoding;
     in_lambda = all.0.in_lambda;
-    is_held = all.0.is_held;
+    counted = all.0.counted;
     by = all.0.by;
     like = all.0.like;
     closed = all.0.closed;
@@ -114,7 +98,7 @@ all_out : (own : Bool) (around inner : Around) (at end : ℕ) (cs : List Candida
 all_out own around inner at end [] [] is lt new all = tt
 all_out own around inner at end (c ∷ cs) (d ∷ ds) is lt new all =
     let more : around.encoding < c.encoding = elim new.0.place [ inl here ↦ omega (arith, here.0, is, lt) | inr deep ↦ omega (arith, deep.0, is, lt) ] in
-    (record { encoding = all.0.encoding; in_lambda = all.0.in_lambda; is_held = all.0.is_held; by = all.0.by; like = all.0.like; closed = all.0.closed; here = λ h f g. absurd (omega (arith, h, more)) }, all_out own around inner at end cs ds is lt new.1 all.1)
+    (record { encoding = all.0.encoding; in_lambda = all.0.in_lambda; counted = all.0.counted; by = all.0.by; like = all.0.like; closed = all.0.closed; here = λ h f g. absurd (omega (arith, h, more)) }, all_out own around inner at end cs ds is lt new.1 all.1)
 all_out own around inner at end [] (d ∷ ds) is lt new all = absurd all
 all_out own around inner at end (c ∷ cs) [] is lt new all = absurd all
 
@@ -241,22 +225,26 @@ module _ (way : Way) (keeps : KeepsClosed way) (noted_way : NotedWay) (ways : Is
       let inside_ : StaysInside (production_at rule.number) = subst (λ q. StaysInside q) (sym number) (stays p plain) in
       let symbols = wide_sound.symbols k tree.0.byte rule lt tree.0.is_byte tree.0.found in
       let none : has_special (symbols_of rule) ≡ false = ap has_special (ap symbols_of is ∙ its_symbols p) ∙ no_special p plain in
-      opened (Many way.own (around_place way.own around) around state other) (production_at rule.number) parts at state other
+      alike_bind (Moves way.own around state other) (Many way.own (around_place way.own around) around state other) (way.opening (production_at rule.number) parts at state) (noted_way.opening (production_at rule.number) parts at other)
       (λ begun. unfold_forest (reading_by way) whole [] from parts begun >>= λ inner. way.close (production_at rule.number) (byte_of taken) around at state inner.value inner.state >>= alone)
       (λ begun. unfold_forest (reading_noted_by noted_way) noted [] from parts begun >>= λ inner. noted_way.close (production_at rule.number) (byte_of taken) (noted_around way.own around) at other inner.value inner.state >>= alone)
-      (alike_bind (Many way.own s around state other) (Many way.own (around_place way.own around) around state other) (unfold_forest (reading_by way) whole [] from parts state) (unfold_forest (reading_noted_by noted_way) noted [] from parts other)
+      (ways.begins (production_at rule.number) parts at around state other same)
+      (λ x y x-is begun.
+      let old1 = subst (λ cs. AllOld way.own around at cs) (sym (keeps.begins (production_at rule.number) parts at state x x-is)) old in
+      let same1 = same_moves way.own around state x other y same begun in
+      alike_bind (Many way.own s around x y) (Many way.own (around_place way.own around) around state other) (unfold_forest (reading_by way) whole [] from parts x) (unfold_forest (reading_noted_by noted_way) noted [] from parts y)
       (λ inner. way.close (production_at rule.number) (byte_of taken) around at state inner.value inner.state >>= alone)
       (λ inner. noted_way.close (production_at rule.number) (byte_of taken) (noted_around way.own around) at other inner.value inner.state >>= alone)
-      (forest_noted way keeps noted_way ways parts all whole other (symbols_of rule) [] from state other inside_ symbols tree.1 (omega (arith, le)) (λ has. omega (arith, le, takes_byte p rule k taken is tree.0 has)) none settled pre tt
-      (old_later way.own around at from state.candidates (omega arith) old) same)
+      (forest_noted way keeps noted_way ways parts all whole other (symbols_of rule) [] from x y inside_ symbols tree.1 (omega (arith, le)) (λ has. omega (arith, le, takes_byte p rule k taken is tree.0 has)) none settled pre tt
+      (old_later way.own around at from x.candidates (omega arith) old1) same1)
       (λ a b a-is many.
-      let h = insides way keeps p rule taken parts k around at state a is plain lt tree le special pre old a-is in
+      let h = insides way keeps p rule taken parts k around at state x a is plain lt tree le special pre old1 a-is in
       alike_bind (Comes way.own around a.state b.state) (Many way.own (around_place way.own around) around state other) (way.close (production_at rule.number) (byte_of taken) around at state a.value a.state)
       (noted_way.close (production_at rule.number) (byte_of taken) (noted_around way.own around) at other b.value b.state) alone alone
       (subst (λ us. Alike (Comes way.own around a.state b.state) (way.close (production_at rule.number) (byte_of taken) around at state a.value a.state)
       (noted_way.close (production_at rule.number) (byte_of taken) (noted_around way.own around) at other us b.state)) (sym many.values)
-      (ways.comes (production_at rule.number) (byte_of taken) around at state other a.value a.state b.state (subst (λ q. Inside q a.value) (sym number) h) settled (same_moves way.own around state a.state other b.state same many.moves) same.packs))
-      (λ u v u-is comes. record { values = ap (λ w. w ∷ []) comes.value; moves = moves_then way.own around state a.state u.state other b.state v.state many.moves comes.moves })))
+      (ways.comes (production_at rule.number) (byte_of taken) around at state other a.value a.state b.state (subst (λ q. Inside q a.value) (sym number) h) settled (same_moves way.own around x a.state y b.state same1 many.moves) same.packs))
+      (λ u v u-is comes. record { values = ap (λ w. w ∷ []) comes.value; moves = moves_then way.own around state x u.state other y v.state begun (moves_then way.own around x a.state u.state y b.state v.state many.moves comes.moves) })))
 
   -- the next part of a rule, where its inputs are known
   step : (Q : Found (List Value) State → Found (List value_.Value) value_.State → Type 0) (rule : Open State Around) (first : value_.State) (vs : List Value) (us : List value_.Value) (at : ℕ) (x : State) (y : value_.State)
@@ -413,19 +401,23 @@ module _ (way : Way) (keeps : KeepsClosed way) (noted_way : NotedWay) (ways : Is
       let byte = byte_of taken in
       let number : production_at rule.number ≡ p = ap (λ x. production_at x.number) is ∙ at_number p in
       let trees = subst (λ xs. AreTrees wide xs parts) (ap symbols_of is ∙ its_symbols p) tree.1 in
-      opened (Many way.own (around_place way.own around) around state other) (production_at rule.number) parts at state other
+      alike_bind (Moves way.own around state other) (Many way.own (around_place way.own around) around state other) (way.opening (production_at rule.number) parts at state) (noted_way.opening (production_at rule.number) parts at other)
       (λ begun. unfold_forest (reading_by way) whole [] from parts begun >>= λ inner. way.close (production_at rule.number) byte around at state inner.value inner.state >>= alone)
       (λ begun. unfold_forest (reading_noted_by noted_way) noted [] from parts begun >>= λ inner. noted_way.close (production_at rule.number) byte (noted_around way.own around) at other inner.value inner.state >>= alone)
-      (alike_bind (Inner way.own p around state other) (Many way.own (around_place way.own around) around state other) (unfold_forest (reading_by way) whole [] from parts state) (unfold_forest (reading_noted_by noted_way) noted [] from parts other)
+      (ways.begins (production_at rule.number) parts at around state other same)
+      (λ x y x-is begun.
+      let old1 = subst (λ cs. AllOld way.own around at cs) (sym (keeps.begins (production_at rule.number) parts at state x x-is)) old in
+      let same1 = same_moves way.own around state x other y same begun in
+      alike_bind (Inner way.own p around x y) (Many way.own (around_place way.own around) around state other) (unfold_forest (reading_by way) whole [] from parts x) (unfold_forest (reading_noted_by noted_way) noted [] from parts y)
       (λ inner. way.close (production_at rule.number) byte around at state inner.value inner.state >>= alone)
       (λ inner. noted_way.close (production_at rule.number) byte (noted_around way.own around) at other inner.value inner.state >>= alone)
-      (inner_noted p opening_ parts all whole other from state other number trees less (omega arith) old same)
+      (inner_noted p opening_ parts all whole other from x y number trees less (omega arith) old1 same1)
       (λ a b a-is inner.
       let e = ap (λ q. way.close q byte around at state a.value a.state) number ∙ keeps.plain.close p (opens_apart p opening_) byte around at state a.value a.state ∙ inner_closes p opening_ byte around at state a.value a.state in
       let g = ap (λ q. noted_way.close q byte (noted_around way.own around) at other b.value b.state) number ∙ ways.plain.close p (opens_apart p opening_) byte (noted_around way.own around) at other b.value b.state ∙ noted_closes p opening_ byte (noted_around way.own around) at other b.value b.state in
       subst (λ r. Alike (Many way.own (around_place way.own around) around state other) (r >>= alone) (noted_way.close (production_at rule.number) byte (noted_around way.own around) at other b.value b.state >>= alone)) (sym e)
       (subst (λ r. Alike (Many way.own (around_place way.own around) around state other) (Ok (found (meaning p byte around a.value ∷ []) a.state)) (r >>= alone)) (sym g)
-      (record { values = ap (λ w. w ∷ []) (inner.means byte); moves = inner.moves }))))
+      (record { values = ap (λ w. w ∷ []) (inner.means byte); moves = moves_then way.own around state x a.state other y b.state begun inner.moves }))))
 
   branch_noted : (rule : Rule) (taken : List ℕ) (parts : Forest) → AllTreesNoted way noted_way parts → TreeNoted way noted_way (branch rule taken parts)
   unfolding is_encoding is_special
@@ -471,7 +463,7 @@ unfolding cpp unfolded_.cpp reading_by reading_noted_by abi_way abi_noted unfold
 unfold_noted shape is =
     result_noted false unfolding_.first_state unfolding_.first_state unfolded_.first_state (unfold_tree cpp unfolding_.first_around 0 shape unfolding_.first_state) (unfold_tree unfolded_.cpp unfolded_.first_around 0 shape unfolded_.first_state)
     (tree_noted_ abi_way abi_keeps abi_noted abi_is_noted shape (OfKind SYMBOL) unfolding_.first_around 0 unfolding_.first_state unfolded_.first_state (trees_.known 0 (lit≤ tt)) is (omega arith) (λ opening. absurd (false≢true opening)) (λ special. absurd (false≢true special)) (λ l. absurd (false≢true l)) tt tt
-    (record { packs = refl; all = tt }))
+    (record { packs = (refl, refl); all = tt }))
 
 -- And likewise in the wide grammar.
 pub wide_unfold_noted : (shape : Tree) → IsTree wide (OfKind SYMBOL) shape → wide_.unfold_wide shape ≡ noted_tree (unfold_wide shape)
@@ -479,7 +471,7 @@ unfolding cpp_wide wide_.cpp_wide reading_by reading_noted_by wide_way wide_note
 wide_unfold_noted shape is =
     result_noted true unfolding_.first_state unfolding_.first_state unfolded_.first_state (unfold_tree cpp_wide unfolding_.first_around 0 shape unfolding_.first_state) (unfold_tree wide_.cpp_wide unfolded_.first_around 0 shape unfolded_.first_state)
     (tree_noted_ wide_way wide_keeps wide_noted wide_is_noted shape (OfKind SYMBOL) unfolding_.first_around 0 unfolding_.first_state unfolded_.first_state (trees_.known 0 (lit≤ tt)) is (omega arith) (λ opening. absurd (false≢true opening)) (λ special. absurd (false≢true special)) (λ l. absurd (false≢true l)) tt tt
-    (record { packs = refl; all = tt }))
+    (record { packs = (refl, refl); all = tt }))
 
 -- So the answer may be read from either.
 pub same_answer : (d : Detail) (limit : ℕ) (shape : Tree) → IsTree wide (OfKind SYMBOL) shape → noted_answer d limit (unfolded_.unfold_cpp shape) ≡ answer_within d limit (unfolding_.unfold_cpp shape)
@@ -509,7 +501,7 @@ read_with_arguments shape read is e =
     go (unfold_tree unfolded_.cpp unfolded_.first_around 0 shape unfolded_.first_state) refl
     (subst (λ r. Alike (Many false nowhere unfolding_.first_around unfolding_.first_state unfolded_.first_state) r (unfold_tree unfolded_.cpp unfolded_.first_around 0 shape unfolded_.first_state)) e
     (tree_noted_ abi_way abi_keeps abi_noted abi_is_noted shape (OfKind SYMBOL) unfolding_.first_around 0 unfolding_.first_state unfolded_.first_state (trees_.known 0 (lit≤ tt)) is (omega arith) (λ opening. absurd (false≢true opening)) (λ special. absurd (false≢true special)) (λ l. absurd (false≢true l)) tt tt
-    (record { packs = refl; all = tt })))
+    (record { packs = (refl, refl); all = tt })))
   where
     go : (q : Result (Found (List value_.Value) value_.State) Refusal) → unfold_tree unfolded_.cpp unfolded_.first_around 0 shape unfolded_.first_state ≡ q
         → Alike (Many false nowhere unfolding_.first_around unfolding_.first_state unfolded_.first_state) (Ok read) q → ReadWithArguments shape read

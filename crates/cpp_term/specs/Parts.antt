@@ -8,7 +8,7 @@ use Rattle.cpp_grammar.specs.Texts.{same_bytes, look_up, builtin_texts, operator
 use Rattle.cpp_grammar.specs.declared.operand.Operand.{Operand}
 use Rattle.cpp_grammar.specs.Operations.{UNARY, PRIMARY, Operation}
 use Rattle.cpp_term.specs.Term.{Term, symbol, function, object, special, thunk, of_name, construction, clone, alone, in_std, within, instance, local, holder, tagged, of_default, abbreviation, parameter, source, operator, literal_operator, constructor, destructor, inheriting, lambda, generic_lambda, unnamed, string_literal, conversion, builtin, sized_float, constrained, vendor, pointer, lvalue, rvalue, array, bounded, member_pointer, function_type, qualified, vector, complex, decltype, expansion, integer, boolean, null_pointer, encoding_literal, address_of, operation, function_parameter, pack, nil, list, absent}
-use Rattle.cpp_grammar.specs.Term.{Qualifiers, RefQualifier, Signed}
+use Rattle.cpp_grammar.specs.Term.{Qualifiers, RefQualifier, explicit_object, Signed}
 use Rattle.cpp_term.specs.Scope.{without_tags}
 use Rattle.cpp_term.specs.Items.{Context, Item, closed, argument, head, packs_of, is_empty}
 use Rattle.cpp_grammar.specs.Items.{Form, root, full, bare, left, right, low, base, piece, first, more, expand, is_reference, is_funarr}
@@ -29,6 +29,12 @@ text_part (b ∷ bs) = text (b ∷ bs) ∷ []
 unfoldable pub list_part : Form → Context → Term → List (PartOf Item)
 list_part form context nil = []
 list_part form context t = as_item form context t ∷ []
+
+-- what begins the parameters: the first of them may be the object
+unfoldable pub begins_parameters : RefQualifier → Term → List ℕ
+begins_parameters explicit_object nil = codes "("
+begins_parameters explicit_object parameters = codes "(this "
+begins_parameters _ parameters = codes "("
 
 -- the parts of a piece of a name
 unfoldable pub piece_parts : Context → Term → List (PartOf Item)
@@ -289,7 +295,7 @@ types_of name = closed
 unfoldable pub function_bare : (parameters_shown : Bool) → Term → Qualifiers → RefQualifier → Term → List (PartOf Item)
 function_bare false name q ref parameters = as_item left closed name ∷ []
 function_bare true name q ref parameters =
-    (as_item left closed name ∷ says "(" ∷ list_part first (types_of name) parameters) ++ (says ")" ∷ text_part (encoding_text q ref))
+    (as_item left closed name ∷ text (begins_parameters ref parameters) ∷ list_part first (types_of name) parameters) ++ (says ")" ∷ text_part (encoding_text q ref))
 
 unfoldable pub function_full : (parameters_shown : Bool) → Term → Qualifiers → RefQualifier → Term → Term → List (PartOf Item)
 function_full false name q ref returned parameters = function_bare false name q ref parameters

@@ -2,27 +2,28 @@
 -- parameters of a lambda's signature are the lambda's own; a substitution may name a tree that was made where its parameters
 -- meant others than those meant where it is named; and there are names with an M, inherited constructors and concepts with
 -- arguments, which compilers count differently.
-use Rattle.std.specs.Prelude.{ℕ, zero, suc, ◌+◌, ◌-◌, List, [], ◌∷◌, ◌++◌, length, Bool, true, false, not, ◌||◌, ◌&&◌, nat_eq, nat_lt, slice_get, Option, Some, None, Result, Ok, Err}
+use Rattle.std.specs.Prelude.{ℕ, zero, suc, ◌+◌, ◌-◌, List, [], ◌∷◌, ◌++◌, Bool, true, false, not, ◌||◌, ◌&&◌, nat_eq, nat_lt, slice_get, Option, Some, None, Result, Ok, Err}
 use Rattle.sym_core.specs.declared.refusal.Refusal.{Refusal}
 use Rattle.sym_core.specs.declared.refusal.Refusal.TheVariants.{BadReference}
 use Rattle.sym_core.specs.declared.NumberKind.TheVariants.{Seq36}
 use Rattle.sym_core.specs.Value.{counted_value}
-use Rattle.sym_shape.specs.Tree.{Tree}
+use Rattle.sym_shape.specs.Tree.{Tree, Forest}
 use Rattle.sym_link.specs.Reading.{Found, Reading, ◌>>=◌}
 use Rattle.sym_link.specs.Unfold.{found, unfold_tree}
 use Rattle.cpp_grammar.specs.declared.production.Production.{Production}
-use Rattle.cpp_term.specs.Term.{Term, instance, holder, parameter, lambda, generic_lambda}
+use Rattle.cpp_term.specs.Term.{Term, instance, holder, lvalue, rvalue, parameter, lambda, generic_lambda}
 use Rattle.cpp_term.specs.Scope.{count, element, is_list, has_pack, is_open, free_in, pack_length}
 use Rattle.cpp_grammar.specs.Scope.{Free, none_free, one_free, several_free}
 use Rattle.cpp_term.specs.Values.{Candidate, State, Around, prefix_tree, prefix_listed, Value, nothing_there, tree, piece, pair, text, tree_of, is_listed, text_of, part}
-use Rattle.cpp_term.specs.References.{appended, with_packs, substituted}
+use Rattle.cpp_grammar.specs.Values.{Counted, by_all, by_newer, by_gcc, by_some, Lists, longer_list, shorter_list, no_list, Expected, prefix_at, qualified_at}
+use Rattle.cpp_term.specs.References.{appended, appended_by, with_packs, substituted}
 use Rattle.cpp_term.specs.Between.{Going, next, inside, listed_so_far, parameter_so_far, argument_so_far, index_of, between}
 use Rattle.cpp_term.specs.Meaning.{meaning}
 use Rattle.cpp_term.specs.Unfolding.{opening, close, first_around, first_state, first_tree}
 use Rattle.cpp_grammar.specs.Unfolding.{production_at, byte_of}
 use Rattle.cpp_term.specs.Items.{auto}
 use Rattle.cpp_term.specs.Reargued.{reargued}
-use Rattle.cpp_grammar.specs.Rescoping.{generic_number}
+use Rattle.cpp_grammar.specs.Rescoping.{generic_number, is_by_all, is_by_newer, joined, is_by_some, is_prefix_at, is_qualified_at, left}
 
 -- ## Parameters
 
@@ -54,41 +55,14 @@ as_generic_lambda v = v
 
 -- ## Names with an M
 
--- The initializer of a variable or of a data member has a prefix: that one's name, with an M after it. Some compilers count the
--- name among the candidates and some don't, and a symbol doesn't say which one made it. Here the name is a candidate, and
--- becomes one once more with its M, as a mark of that. So there are two lists: the longer one has all but the marks, and the
--- shorter one lacks the names before them, too.
+-- The initializer of a variable or of a data member has a prefix: that one's name, with an M after it. Compilers since GCC 13
+-- and Clang 13 count it, with its M, among the candidates, and earlier ones don't count it; a symbol doesn't say which one made
+-- it. So there are two lists: the longer one has what some compiler counts, and the shorter one what all of them count.
 
+-- The name before an M became a candidate as a prefix, unless a number names it or it's a parameter. With its M it takes the
+-- place of that candidate, which no compiler counts.
 unfoldable pub with_holder : Around → Term → State → State
-with_holder around t state = record state { candidates = state.candidates ++ (record { tree = t; encoding = around.encoding; in_lambda = around.in_lambda; is_held = true } ∷ []) }
-
--- whether there is a mark among the first n candidates
-unfoldable pub has_held : List Candidate → ℕ → Bool
-has_held [] count = false
-has_held (c ∷ cs) zero = false
-has_held (c ∷ cs) (suc count) = c.is_held || has_held cs count
-
--- Whether all compilers count alike up to the candidate of this number: neither it nor one before it is a mark, and the next
--- one isn't a mark of it.
-unfoldable pub is_counted_alike : List Candidate → (number : ℕ) → Bool
-is_counted_alike candidates number = not (has_held candidates (number + 2))
-
--- whether there are two marks, where one before the list counts as well
-unfoldable pub is_held_twice : (once : Bool) → List Candidate → Bool
-is_held_twice once [] = false
-is_held_twice once (c ∷ cs) = (once && c.is_held) || is_held_twice (once || c.is_held) cs
-
--- Whether this number is that of the last candidate in the longer list, where there is one mark.
-unfoldable pub is_last_counted : List Candidate → (number : ℕ) → Bool
-is_last_counted candidates number = nat_eq (number + 2) (length candidates) && not (is_held_twice false candidates)
-
--- The candidate that a number names by each of the two lists that has this number. Before the mark both have the same. After it
--- only the last number of the longer list is past the end of the shorter one, and so tells which of them the compiler has.
-unfoldable pub named_alike : List Candidate → (number : ℕ) → Option Candidate
-named_alike candidates number = elim (is_counted_alike candidates number) [
-  | true ↦ slice_get candidates number
-  | false ↦ elim (is_last_counted candidates number) [ true ↦ slice_get candidates (number + 1) | false ↦ None ]
-]
+with_holder around t state = appended_by by_newer around t (elim (prefix_listed around.prefix) [ true ↦ appended around t state | false ↦ state ])
 
 unfoldable pub is_instance : Term → Bool
 is_instance (instance template arguments) = true
@@ -104,24 +78,72 @@ holder_so_far around place state = elim (is_instance (prefix_tree around.prefix)
 
 -- ## Inherited constructors, and concepts
 
--- Compilers also differ in whether they count the base class after CI, or the name of a concept before its arguments: that class
--- or name is a candidate, unless a number names it, and becomes one once more as a mark of that.
+unfoldable pub counted_unless : (listed : Bool) → Counted → Around → Term → State → State
+counted_unless listed counted around t state = elim listed [ true ↦ state | false ↦ appended_by counted around t state ]
 
-unfoldable pub with_held : Around → Term → State → State
-with_held around t state = with_holder around t (appended around t state)
-
-unfoldable pub held_unless : (listed : Bool) → Around → Term → State → State
-held_unless listed around t state = elim listed [ true ↦ state | false ↦ with_held around t state ]
-
--- Some also count a constructor before its own arguments, with its base class. Before arguments that may be its own there are
--- two marks: from there on neither list is one that a compiler has.
-unfoldable pub held_twice_unless : (listed : Bool) → Around → Term → State → State
-held_twice_unless listed around t state = elim listed [ true ↦ state | false ↦ with_holder around t (with_held around t state) ]
-
--- The base class is counted before the constructor's own arguments, and otherwise once it's complete.
+-- GCC alone counts the base class after CI, unless a number names it. The base class is counted before the constructor's own
+-- arguments, and otherwise once it's complete.
 unfoldable pub counted_base : Around → (base : Value) → State → State
 counted_base around (pair letter own base) state = state
-counted_base around base state = held_unless (is_listed base) around (tree_of base) state
+counted_base around base state = counted_unless (is_listed base) by_gcc around (tree_of base) state
+
+-- Before arguments that may be the constructor's own some also count the constructor, and some count the name of a concept before
+-- its arguments. Which of these it is the reading doesn't know: the name before the arguments is counted by some.
+
+-- ## Two lists
+
+-- whether the next candidate is a name with its M
+unfoldable pub is_before_holder : List Candidate → Bool
+is_before_holder [] = false
+is_before_holder (c ∷ cs) = is_by_newer c.counted
+
+-- whether a candidate, with these after it, is in the longer or in the shorter list
+unfoldable pub is_in_list : (is_shorter : Bool) → Candidate → List Candidate → Bool
+is_in_list is_shorter c cs = not (is_before_holder cs) && (not is_shorter || is_by_all c.counted)
+
+-- the place among all candidates of the one that has this number in the longer or in the shorter list
+unfoldable pub place_in : (is_shorter : Bool) → List Candidate → (number : ℕ) → ℕ
+place_in is_shorter [] number = number
+place_in is_shorter (c ∷ cs) number = elim (is_in_list is_shorter c cs) [
+  | false ↦ suc (place_in is_shorter cs number)
+  | true ↦ elim number [ zero ↦ zero | suc k ↦ suc (place_in is_shorter cs k) ]
+]
+
+-- the candidate that has this number there
+unfoldable pub named_in : (is_shorter : Bool) → List Candidate → (number : ℕ) → Option Candidate
+named_in is_shorter cs number = slice_get cs (place_in is_shorter cs number)
+
+unfoldable pub counted_so_far : (before : Counted) → List Candidate → Counted
+counted_so_far before [] = before
+counted_so_far before (c ∷ cs) = counted_so_far (joined before c.counted) cs
+
+-- ## What may be named by its form
+
+-- A name with its M is no type. No compiler writes qualifiers before a reference.
+unfoldable pub fits : (is_prefix is_qualified : Bool) → Term → Bool
+fits is_prefix is_qualified (holder name) = is_prefix
+fits is_prefix is_qualified (lvalue t) = not is_qualified
+fits is_prefix is_qualified (rvalue t) = not is_qualified
+fits is_prefix is_qualified _ = true
+
+-- whether a list has a candidate for the S at this place, and its form fits there
+unfoldable pub can_be_named : Expected → (place : ℕ) → Option Candidate → Bool
+can_be_named expected place None = false
+can_be_named expected place (Some c) = fits (is_prefix_at place expected) (is_qualified_at place expected) c.tree
+
+-- ## The list that is left
+
+-- the lists that are left by the S at this place with this number, by which the lists name two candidates
+unfoldable pub left_at : (place number : ℕ) → State → Lists
+left_at place number state = elim (is_by_some (counted_so_far by_all state.candidates)) [
+  | true ↦ no_list
+  | false ↦
+      let fits_by : Bool → Bool = λ is_shorter. can_be_named state.counting.expected place (named_in is_shorter state.candidates number) in
+      left state.counting.lists (fits_by false) (fits_by true)
+]
+
+unfoldable pub with_lists : Lists → State → State
+with_lists lists state = record state { counting = record state.counting { lists = lists } }
 
 -- ## Substitutions
 
@@ -172,18 +194,40 @@ substituted_wide around place (Some c) state = elim (is_foreign around c) [
   | false ↦ substituted around place (Some c) state
 ]
 
--- a substitution names the candidate that its number names by each way of counting
+-- by the list that is left
+unfoldable pub listed_by : Lists → Around → (place number : ℕ) → State → Result (Found Value State) Refusal
+listed_by longer_list around place number state = substituted_wide around place (named_in false state.candidates number) state
+listed_by shorter_list around place number state = substituted_wide around place (named_in true state.candidates number) state
+listed_by _ around place number state = Err (BadReference place)
+
+-- A substitution names the candidate that its number names by both lists, or by the one that is left.
 unfoldable pub numbered : Around → (place : ℕ) → (number : ℕ) → State → Result (Found Value State) Refusal
-numbered around place number state = substituted_wide around place (named_alike state.candidates number) state
+numbered around place number state = elim (nat_eq (place_in false state.candidates number) (place_in true state.candidates number)) [
+  | true ↦ substituted_wide around place (named_in false state.candidates number) state
+  | false ↦ let lists = left_at place number state in listed_by lists around place number (with_lists lists state)
+]
 
 -- ## The unfolding
+
+-- Where all compilers count alike so far, nothing need be expected.
+unfoldable pub expecting : Expected → State → State
+expecting expected state = elim (is_by_all (counted_so_far by_all state.candidates)) [
+  | true ↦ state
+  | false ↦ record state { counting = record state.counting { expected = expected } }
+]
+
+-- Where a production begins: the S that a nested name begins with is the byte before, and a type under qualifiers begins here.
+unfoldable pub opening_wide : Production → Forest → (place : ℕ) → State → Result State Refusal
+opening_wide Production.NestTemplate parts place state = Ok (expecting (prefix_at (place - 1)) state)
+opening_wide Production.QualifiedPlain parts place state = Ok (expecting (qualified_at place) state)
+opening_wide production parts place state = opening production parts place state
 
 unfoldable pub between_wide : Production → Around → (place : ℕ) → List Value → State → Going
 between_wide Production.Parameter around place (v ∷ []) state = parameter_here around place (index_of v) [] state
 between_wide Production.NestParameter around place (v ∷ []) state = parameter_here around place (index_of v) [] state
 between_wide Production.ParameterArgument around place (v ∷ []) state = parameter_here around (place - 1) (index_of v) [] state
-between_wide Production.ParameterExpression around place (v ∷ []) state = argument_here around place (index_of v) state
-between_wide Production.HeldArguments around place [] state = next [] (inside around) (held_twice_unless (prefix_listed around.prefix) around (prefix_tree around.prefix) state)
+between_wide Production.ParameterExpression around place (v ∷ []) state = argument_here around (place - 1) (index_of v) state
+between_wide Production.HeldArguments around place [] state = next [] (inside around) (counted_unless (prefix_listed around.prefix) by_some around (prefix_tree around.prefix) state)
 between_wide Production.Holder around place (v ∷ []) state = holder_so_far around place state
 between_wide production around place vs state = between production around place vs state
 
@@ -199,7 +243,7 @@ unfoldable pub cpp_wide : Reading Value State Around
 cpp_wide = record {
   rowless = nothing_there ∷ [];
   token = λ place t state. Ok (found (text t.own) state);
-  begin = λ rule parts. opening (production_at rule.rule.number) parts rule.place rule.before;
+  begin = λ rule parts. opening_wide (production_at rule.rule.number) parts rule.place rule.before;
   between = λ rule known state. between_wide (production_at rule.rule.number) rule.context rule.place known state;
   close = λ rule known state. close_wide (production_at rule.rule.number) (byte_of rule.taken) rule.context rule.place rule.before known state;
 }

@@ -12,7 +12,7 @@ use Rattle.sym_link.specs.Unfold.{found, unfold_tree}
 use Rattle.cpp_grammar.specs.declared.production.Production.{Production}
 use Rattle.cpp_term.specs.Term.{Term, absent}
 use Rattle.cpp_term.specs.Values.{State, outermost, Around, Value, nothing_there, text, tree_of, text_of, part}
-use Rattle.cpp_grammar.specs.Values.{local_number}
+use Rattle.cpp_grammar.specs.Values.{nothing_counted, local_number}
 use Rattle.cpp_term.specs.References.{substituted}
 use Rattle.cpp_term.specs.Between.{between}
 use Rattle.cpp_term.specs.Meant.{gained, state_after}
@@ -22,14 +22,13 @@ use Rattle.cpp_grammar.specs.Unfolding.{last_token, production_at, byte_of}
 
 -- ## Before the parts of a production
 
--- The number of a lambda or an unnamed type has 64 bits. It is tested at its U, before what is between.
+-- The number of a lambda or an unnamed type has 64 bits. It is tested at its U, before what is between: its row says so.
 unfoldable pub number_tested : ℕ → List ℕ → State → Result State Refusal
 number_tested place digits state = elim (nat_lt (local_number digits) (2 ^ 64)) [ true ↦ Ok state | false ↦ Err (BadValue place) ]
 
 unfoldable pub opening : Production → Forest → (place : ℕ) → State → Result State Refusal
-opening Production.Lambda parts place state = number_tested (place - 1) (last_token parts []) state
-opening Production.Unnamed parts place state = number_tested (place - 1) (last_token parts []) state
-opening _ parts place state = Ok state
+unfolding row_of
+opening p parts place state = elim (row_of p).tests_number [ true ↦ number_tested (place - 1) (last_token parts []) state | false ↦ Ok state ]
 
 -- ## After the parts of a production
 
@@ -65,7 +64,7 @@ unfoldable pub first_around : Around
 first_around = record { scope = None; encoding = 0; in_lambda = false; in_expansion = false; prefix = outermost }
 
 unfoldable pub first_state : State
-first_state = record { candidates = []; packs = None }
+first_state = record { candidates = []; packs = None; counting = nothing_counted }
 
 unfoldable pub first_tree : List Value → Term
 first_tree [] = absent

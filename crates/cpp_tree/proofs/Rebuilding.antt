@@ -2,7 +2,7 @@
 use Rattle.std.proofs.Common.{◌≡◌, ℕ, suc, ◌+◌, ◌*◌, ◌<◌, List, [], ◌∷◌, length, slice_get, arith, Bool, true, false, Option, Some, None, refl, sym, ap, ◌∙◌}
 use Rattle.std.specs.Prelude.{◌==◌, if◌then◌else◌}
 use Rattle.std.proofs.lemmas.Bool.{eqb-true}
-use Rattle.cpp_grammar.specs.Term.{Qualifiers, RefQualifier, any_value, lvalue_only, rvalue_only, non_virtual, by_table, Thunk, adjusting, covariant, Term, function, object, thunk, of_name, alone, in_std, within, local, tagged, source, builtin, function_type, qualified, integer, boolean}
+use Rattle.cpp_grammar.specs.Term.{Qualifiers, RefQualifier, any_value, lvalue_only, rvalue_only, explicit_object, non_virtual, by_table, Thunk, adjusting, covariant, Term, function, object, thunk, of_name, alone, in_std, within, local, tagged, source, builtin, function_type, qualified, integer, boolean}
 use Rattle.cpp_tree.specs.declared.view.Node.{Node}
 use Rattle.cpp_tree.specs.declared.view.TheConstants.{ALONE, IN_STD, NESTED}
 use Rattle.cpp_tree.specs.declared.tree_production.TheConstants.{GUARD, OF_NAME, WIDE_THUNK, BUILTIN_WITH_D}
@@ -21,6 +21,7 @@ unfolding mark_number
 mark-back any_value = refl
 mark-back lvalue_only = refl
 mark-back rvalue_only = refl
+mark-back explicit_object = refl
 
 qualifiers-back : (q : Qualifiers) → qualifiers_in (qualifiers_number q) ≡ q
 unfolding bit
@@ -80,6 +81,14 @@ both-back q mark = by-each q.restrict q.volatile q.const mark
     by-each false true false rvalue_only = (refl, refl)
     by-each false false true rvalue_only = (refl, refl)
     by-each false false false rvalue_only = (refl, refl)
+    by-each true true true explicit_object = (refl, refl)
+    by-each true true false explicit_object = (refl, refl)
+    by-each true false true explicit_object = (refl, refl)
+    by-each true false false explicit_object = (refl, refl)
+    by-each false true true explicit_object = (refl, refl)
+    by-each false true false explicit_object = (refl, refl)
+    by-each false false true explicit_object = (refl, refl)
+    by-each false false false explicit_object = (refl, refl)
 
 -- ## What fields make
 

@@ -1,6 +1,6 @@
 -- What a tree has beside its production: numbers, texts and the trees of its parts. The productions are constants of the code.
 use Rattle.std.specs.Prelude.{ℕ, ◌+◌, ◌*◌, List, [], ◌∷◌, ◌-◌, ◌++◌, Bool, true, false, ◌==◌, ◌||◌, nat_lt, if◌then◌else◌, cond, get_or, Option, Some, None}
-use Rattle.cpp_grammar.specs.Term.{Qualifiers, RefQualifier, any_value, lvalue_only, rvalue_only, Signed, non_virtual, by_table, Thunk, adjusting, covariant, Term, symbol, function, object, special, thunk, of_name, construction, clone, alone, in_std, within, instance, local, holder, tagged, of_default, abbreviation, parameter, source, operator, literal_operator, constructor, destructor, inheriting, lambda, generic_lambda, unnamed, string_literal, conversion, builtin, sized_float, constrained, vendor, pointer, lvalue, rvalue, array, bounded, member_pointer, function_type, qualified, vector, complex, decltype, expansion, integer, boolean, null_pointer, encoding_literal, address_of, operation, function_parameter, pack, nil, list, absent}
+use Rattle.cpp_grammar.specs.Term.{Qualifiers, RefQualifier, any_value, lvalue_only, rvalue_only, explicit_object, Signed, non_virtual, by_table, Thunk, adjusting, covariant, Term, symbol, function, object, special, thunk, of_name, construction, clone, alone, in_std, within, instance, local, holder, tagged, of_default, abbreviation, parameter, source, operator, literal_operator, constructor, destructor, inheriting, lambda, generic_lambda, unnamed, string_literal, conversion, builtin, sized_float, constrained, vendor, pointer, lvalue, rvalue, array, bounded, member_pointer, function_type, qualified, vector, complex, decltype, expansion, integer, boolean, null_pointer, encoding_literal, address_of, operation, function_parameter, pack, nil, list, absent}
 use Rattle.cpp_tree.specs.declared.view.Names.{Names}
 use Rattle.cpp_tree.specs.declared.view.TheConstants.{ALONE, IN_STD, NESTED}
 use Rattle.cpp_tree.specs.declared.tree_production.TheConstants.{ABSENT, NIL, LIST, SYMBOL, FUNCTION, OBJECT, SPECIAL, GUARD, OF_NAME, CONSTRUCTION, CLONE, THUNK, TABLE_THUNK, COVARIANT_THUNK, WIDE_THUNK, INSTANCE, LOCAL, NUMBERED_LOCAL, HOLDER, TAGGED, OF_DEFAULT, ABBREVIATION, PARAMETER, BUILTIN, BUILTIN_WITH_D, SIZED_FLOAT, BOUNDED, CONSTRAINED, VENDOR, POINTER, LVALUE, RVALUE, ARRAY, MEMBER_POINTER, FUNCTION_TYPE, QUALIFIED, VECTOR, COMPLEX, DECLTYPE, EXPANSION, INTEGER, BOOLEAN, NULL_POINTER, ENCODING_LITERAL, ADDRESS_OF, OPERATION, FUNCTION_PARAMETER, PACK, NO_NODE}
@@ -24,6 +24,7 @@ unfoldable pub mark_number : RefQualifier → ℕ
 mark_number any_value = 0
 mark_number lvalue_only = 1
 mark_number rvalue_only = 2
+mark_number explicit_object = 3
 
 abbrev pub qualifiers_number : Qualifiers → ℕ
 qualifiers_number q = bit q.restrict + 2 * bit q.volatile + 4 * bit q.const
@@ -152,7 +153,7 @@ abbrev part_in : Fields → (k : ℕ) → Term
 part_in given k = get_or given.parts k absent
 
 abbrev pub mark_in : ℕ → RefQualifier
-mark_in n = get_or (any_value ∷ lvalue_only ∷ rvalue_only ∷ []) n any_value
+mark_in n = get_or (any_value ∷ lvalue_only ∷ rvalue_only ∷ explicit_object ∷ []) n any_value
 
 abbrev these : (restrict volatile const : Bool) → Qualifiers
 these restrict volatile const = record { restrict = restrict; volatile = volatile; const = const }
@@ -171,10 +172,10 @@ qualifiers_in n = get_or (
 
 -- qualifiers and mark of one number
 abbrev pub qualifiers_of_both : ℕ → Qualifiers
-qualifiers_of_both n = qualifiers_in (if nat_lt n 8 then n else if nat_lt n 16 then n - 8 else n - 16)
+qualifiers_of_both n = qualifiers_in (if nat_lt n 8 then n else if nat_lt n 16 then n - 8 else if nat_lt n 24 then n - 16 else n - 24)
 
 abbrev pub mark_of_both : ℕ → RefQualifier
-mark_of_both n = if nat_lt n 8 then any_value else if nat_lt n 16 then lvalue_only else rvalue_only
+mark_of_both n = if nat_lt n 8 then any_value else if nat_lt n 16 then lvalue_only else if nat_lt n 24 then rvalue_only else explicit_object
 
 abbrev pub c_linkage_in : ℕ → Bool
 c_linkage_in n = (n == 1) || (n == 3)

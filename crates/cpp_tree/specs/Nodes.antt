@@ -60,6 +60,7 @@ abbrev pub mark_of : Mark → values.RefQualifier
 mark_of Mark.Any = values.any_value
 mark_of Mark.Lvalue = values.lvalue_only
 mark_of Mark.Rvalue = values.rvalue_only
+mark_of Mark.ExplicitObject = values.explicit_object
 
 abbrev pub signed_of : List ℕ → Signed → values.Signed
 signed_of s n = record { negative = n.negative; digits = bytes_at s n.digits }

@@ -57,25 +57,27 @@ impl Qualifiers {
     }
 }
 
-/// The mark on a function for & or &&.
+/// The mark on a function for & or &&, or that its object is its first parameter.
 #[derive(Clone, Copy)]
 pub enum Mark {
     Any,
     Lvalue,
     Rvalue,
+    ExplicitObject,
 }
 
 impl Mark {
-    /// Its number: 0 for none, 1 for & and 2 for &&.
+    /// Its number: 0 for none, 1 for &, 2 for && and 3 for an explicit object.
     #[tactic(auto, unfolding(crate::specs::Fields::mark_number))]
     pub fn number(self) -> u8
         ensures is { result ≡ mark_number (mark_of self) }
-        ensures few { result ≤ 2 }
+        ensures few { result ≤ 3 }
     {
         match self {
             Mark::Any => 0,
             Mark::Lvalue => 1,
             Mark::Rvalue => 2,
+            Mark::ExplicitObject => 3,
         }
     }
 }

@@ -211,6 +211,11 @@ impl Layout for WideSymbol {
     }
 
     #[inline(always)]
+    fn context_number(&self, ctx: Context) -> u64 {
+        self.symbol.context_number(ctx)
+    }
+
+    #[inline(always)]
     fn bytes<'a>(&'a self, part: &'a Part<Context>) -> &'a [u8]
         requires may_come { MayBeAsked self.now part.now }
         requires is_text { IsText part.now }

@@ -34,7 +34,7 @@ one_name s kind outer around t at st name end rest goes is =
     let now = with_candidate around t st in
     let u = within t (source false name) in
     let next = component-awaits s kind goes.inner around t false at st rest goes.awaits in
-    let named = component-source s next.inner around t at now name end next.awaits is in
+    let named = component-source s next.inner around t next.listed at now name end next.awaits is in
     let tail = next.onward u end now (named.bare end now (expects-empty s Kind.MaybeArguments (after u false around) named.inner end now named.awaits refl)) in
     record { inner = tail.inner; awaits = tail.awaits; passes = λ v here then_ comes. goes.passes v here then_ (tail.passes v here then_ comes) }
 
@@ -197,7 +197,7 @@ names_read s first second depth later front are first_is second_is later_is suff
     let opened_ = symbol-starts s there.0 in
     let encoding = encoding-opens s opened_.inner first_around 2 first_state opened_.awaits in
     let around = in_name 2 in
-    let nest = name-nested s encoding.inner around false any_value 2 first_state encoding.awaits there.1 in
+    let nest = name-nested s encoding.inner around false any_value 2 first_state (λ e. cc e) encoding.awaits there.1 in
     let one = nest-source s nest.inner around 3 first_state first.bytes at refl nest.awaits (name_here s.bytes 3 first are first_is) in
     let t = alone (source false first.bytes) in
     let next = one_name s Kind.NestRestAlone nest.inner around t at first_state second.bytes to tt one (name_here s.bytes at second are (ap name_in (sym moved) ∙ second_is)) in

@@ -1,11 +1,10 @@
 -- Keys of nodes, and what a map of them is after one more.
-use Rattle.std.proofs.Common.{◌≡◌, ℕ, zero, suc, ◌<◌, ◌≤◌, length, List, [], ◌∷◌, ◌++◌, slice_get, get_or, Some, Bool, true, false, refl, ap, arith, sym, subst, ◌∙◌, length-append, Ordering}
+use Rattle.std.proofs.Common.{◌≡◌, ℕ, zero, suc, ◌<◌, ◌≤◌, length, List, [], ◌∷◌, ◌++◌, slice_get, get_or, Some, Bool, true, false, refl, ap, arith, sym, subst, ◌∙◌, length-append}
 use Rattle.std.proofs.lemmas.Option.{same_Some}
 use Rattle.rust_tree.proofs.Trees.{got-there}
 use Rattle.std.specs.Prelude.{map, nat_lt}
-use Rattle.std.specs.BTreeMap.{BTreeMap, get}
-use Rattle.std.specs.Cmp.Lexicographic.{slice_cmp}
-use Rattle.std.specs.Ordering.{nat_cmp, ordering_then, is_eq}
+use Rattle.std.specs.BTreeMap.{get}
+use Rattle.std.specs.Ordering.{is_eq}
 use Rattle.std.proofs.lemmas.Bool.{ltb-true, lt-ltb}
 use Rattle.sym_core.specs.declared.Span.{Span}
 use Rattle.rust_tree.specs.Tree.{Tree}
@@ -19,6 +18,9 @@ use Rattle.sym_spell.proofs.FirstOnes.{AreKeys, IsLookUp}
 use Rattle.sym_spell.proofs.Orders.{equal-is, first-tied, then-tied, number-tied, number-itself, list-tied, list-itself, same-look}
 use Rattle.rust_press.specs.declared.numbering.Key.{Key}
 use Rattle.rust_press.specs.Numbers.{IsKeyOf, IsPartNumber}
+use Rattle.rust_press.specs.Marks.{key_cmp, mark_of, found_in}
+use Rattle.sym_spell.specs.declared.firsts.Firsts.{Firsts}
+use Rattle.sym_spell.proofs.Placed.{same-first}
 
 -- ## Three parts
 
@@ -196,12 +198,6 @@ are-keys y = record {
 
 -- ## The order of keys that is derived
 
-abbrev pub key_cmp : Key → Key → Ordering
-key_cmp a b =
-    ordering_then (nat_cmp a.production b.production) (ordering_then (nat_cmp a.count b.count)
-    (ordering_then (slice_cmp nat_cmp a.parts b.parts) (ordering_then (slice_cmp nat_cmp a.numbers b.numbers)
-    (ordering_then (slice_cmp nat_cmp a.first_text.now b.first_text.now) (slice_cmp nat_cmp a.second_text.now b.second_text.now)))))
-
 abbrev pub test : Key → Key → Bool
 test a b = is_eq (key_cmp a b)
 
@@ -232,8 +228,20 @@ test-passed a b h =
 cmp-same : (a b : Key) → AreOne a b → (q : Key) → key_cmp a q ≡ key_cmp b q
 cmp-same a b h q = rw (h.production, h.count, h.parts, h.own_numbers, h.first, h.second) refl
 
-pub looked-up : (m : BTreeMap Key ℕ) → IsLookUp AreOne test (get key_cmp m)
-looked-up m = record { told = test-one; passed = test-passed; respects = λ a b h. same-look key_cmp a b (cmp-same a b h) m }
+same-right : (a b : Key) → AreOne a b → (q : Key) → key_cmp q a ≡ key_cmp q b
+same-right a b h q = rw (h.production, h.count, h.parts, h.own_numbers, h.first, h.second) refl
+
+mark-same : (a b : Key) → AreOne a b → mark_of a ≡ mark_of b
+mark-same a b h = rw (h.production, h.parts, h.own_numbers, h.first) refl
+
+pub looked-up : (keys : Firsts Key) → IsLookUp AreOne test (found_in keys)
+looked-up keys = record {
+  told = test-one;
+  passed = test-passed;
+  respects = λ a b h.
+      same-first key_cmp mark_of keys.places.items keys.seen.items (get key_cmp keys.more) a b (λ q. same-right a b h q) (mark-same a b h)
+      (same-look key_cmp a b (cmp-same a b h) keys.more);
+}
 
 pub at-node : (y : ReadSymbol) (ns ms : List ℕ) (k : ℕ) (key : Key) → ms ≡ ns → IsKeyOf (trees_of y) ms (fields_at y k) key → IsKey y ns k key
 at-node y ns ms k key same h = subst (λ l. IsKeyOf (trees_of y) l (fields_at y k) key) same h

@@ -5,7 +5,6 @@ use Rattle.std.specs.Prelude.{◌==◌, map, get_or, slice_index_or}
 use Rattle.sym_core.specs.declared.Span.{Span}
 use Rattle.rust_tree.specs.declared.view.Node.{Node}
 use Rattle.rust_tree.specs.Nodes.{bytes_at, symbol_in}
-use Rattle.sym_spell.proofs.Counting.{entries-front}
 use Rattle.rust_tree.proofs.Trees.{got-there, length-trees}
 use Rattle.std.specs.Option.{option_to_list}
 use Rattle.std.proofs.lemmas.Bool.{eqb-true, eq-eqb}
@@ -18,7 +17,7 @@ use Rattle.sym_spell.specs.Pressing.{◌and◌, text, letter}
 use Rattle.rust_press.specs.Pressing.{Component, Pressed, Pressing, number62, reference, component, spelled_out, first_place, pressed, press_path, press_other}
 use Rattle.rust_press.specs.Same.{same_tree}
 use Rattle.sym_spell.specs.Numbers.{number_at}
-use Rattle.rust_press.specs.Numbers.{AreNumbers}
+use Rattle.rust_press.specs.Numbers.{AreFirst}
 use Rattle.rust_press.specs.Spelled.{front, end, front_bytes, is_component, number_bytes, reference_bytes}
 use Rattle.rust_press.specs.Tasks.{press_tree, ending, press_root, AreOfNodes, parts_then, press_some, ending_some, press_task, press_tasks, IsTask, AreTasks, weight_of_tree, weight_of_some, task_weight, weight_of_tasks, ArePushed, ArePlaces, Goes, placed, IsSpelled, IsNodeStep}
 use Rattle.rust_press.specs.OfRead.{pressed_symbol}
@@ -341,7 +340,7 @@ place-goes places k j place t u None other here there numbers trees olds itself 
         true-false bad = cc
 
 places-go : (y : ReadSymbol) (numbers : List ℕ) (node : ℕ) (t : Tree) (place : ℕ) (places : List (Option ℕ)) (cs : List Component)
-    → AreNumbers (trees_of y) numbers → slice_get (trees_of y) node ≡ Some t → same_tree t t ≡ true → ArePlaces y numbers places cs
+    → AreFirst (trees_of y) numbers → slice_get (trees_of y) node ≡ Some t → same_tree t t ≡ true → ArePlaces y numbers places cs
     → ArePlaces y numbers (placed places (number_at numbers node) place) (record { place = place; own = t } ∷ cs)
 places-go y numbers node t place places cs are there itself known i u at =
     place-goes places (number_at numbers node) (number_at numbers i) place t u (first_place t cs) (first_place u cs) (known node t there) (known i u at)
@@ -361,7 +360,7 @@ ending-spells : (t : Tree) (place : ℕ) (old : Pressing) (p : ℕ) (cs : List C
 ending-spells t place old p cs = let none : p + 0 ≡ p = omega arith in ap (λ q. (old q (record { place = place; own = t } ∷ cs)).components) none
 
 pub end-goes : (y : ReadSymbol) (numbers : List ℕ) (whole : Pressed) (tasks older : List Task) (node place : ℕ) (places left : List (Option ℕ)) (out after : List ℕ)
-    → AreNumbers (trees_of y) numbers → Goes y numbers whole tasks places out → tasks ≡ older ++ Task.Ended node place ∷ []
+    → AreFirst (trees_of y) numbers → Goes y numbers whole tasks places out → tasks ≡ older ++ Task.Ended node place ∷ []
     → left ≡ placed places (number_at numbers node) place → after ≡ out ++ end (fields_at y node)
     → Goes y numbers whole older left after × (weight_of_tasks y older < weight_of_tasks y tasks)
 end-goes y numbers whole tasks older node place places left out after are g is set bytes =
@@ -413,11 +412,6 @@ pub components-last : (y : ReadSymbol) (numbers : List ℕ) (whole : Pressed) (t
 components-last y numbers whole tasks places out g is =
     subst (AreOfNodes (trees_of y)) (ap (λ l. (press_tasks y l (length out) g.components).components) (sym is) ∙ g.spelled) g.of_nodes
 
--- a node's number is below the number of nodes
-pub number-below : (y : ReadSymbol) (numbers : List ℕ) (i : ℕ) → AreNumbers (trees_of y) numbers → i < length (trees_of y) → number_at numbers i < length (trees_of y)
-number-below y numbers i are low =
-    omega (arith, are.long, low, are.next i (omega (arith, are.long, low)), entries-front numbers are.next i (omega (arith, are.long, low)))
-
 -- the suffix comes after all else
 pub whole-symbol : (symbol : tree.Symbol) → pressed symbol ≡ (press_tree (of_symbol symbol) 0 []).bytes ++ symbol.suffix
 whole-symbol symbol =
@@ -447,7 +441,7 @@ pub record IsThere (y : ReadSymbol) (numbers : List ℕ) (places : List (Option 
   pub place : number_at numbers k < length places
 
 is-there : (y : ReadSymbol) (numbers : List ℕ) (whole : Pressed) (tasks : List Task) (places : List (Option ℕ)) (out : List ℕ) (k : ℕ) → Goes y numbers whole tasks places out
-    → AreNumbers (trees_of y) numbers → k < length (trees_of y) → IsThere y numbers places k
+    → AreFirst (trees_of y) numbers → k < length (trees_of y) → IsThere y numbers places k
 is-there y numbers whole tasks places out k g are low =
     let own = got-there (trees_of y) k low in
     record {
@@ -457,11 +451,11 @@ is-there y numbers whole tasks places out k g are low =
     }
 
 pub node-there : (y : ReadSymbol) (numbers : List ℕ) (whole : Pressed) (tasks older : List Task) (places : List (Option ℕ)) (out : List ℕ) (k : ℕ) → Goes y numbers whole tasks places out
-    → AreNumbers (trees_of y) numbers → tasks ≡ older ++ Task.Node k ∷ [] → IsThere y numbers places k
+    → AreFirst (trees_of y) numbers → tasks ≡ older ++ Task.Node k ∷ [] → IsThere y numbers places k
 node-there y numbers whole tasks older places out k g are is =
     is-there y numbers whole tasks places out k g are (tasks-less y older (Task.Node k) (subst (AreTasks y) is g.nodes)).0
 
 pub end-there : (y : ReadSymbol) (numbers : List ℕ) (whole : Pressed) (tasks older : List Task) (places : List (Option ℕ)) (out : List ℕ) (k place : ℕ) → Goes y numbers whole tasks places out
-    → AreNumbers (trees_of y) numbers → tasks ≡ older ++ Task.Ended k place ∷ [] → IsThere y numbers places k
+    → AreFirst (trees_of y) numbers → tasks ≡ older ++ Task.Ended k place ∷ [] → IsThere y numbers places k
 end-there y numbers whole tasks older places out k place g are is =
     is-there y numbers whole tasks places out k g are (tasks-less y older (Task.Ended k place) (subst (AreTasks y) is g.nodes)).0.0

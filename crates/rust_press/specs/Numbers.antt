@@ -1,6 +1,6 @@
 -- The numbers of trees.
 use Rattle.std.specs.Prelude.{◌≡◌, ℕ, ◌<◌, ◌≤◌, List, [], ◌∷◌, length, slice_get}
-use Rattle.sym_spell.specs.Numbers.{number_at, AreNumbered}
+use Rattle.sym_spell.specs.Numbers.{number_at, AreNumbered, AreTold}
 use Rattle.rust_tree.specs.Tree.{Tree}
 use Rattle.rust_tree.specs.Fields.{Fields}
 use Rattle.rust_press.specs.declared.numbering.Key.{Key}
@@ -8,6 +8,10 @@ use Rattle.rust_press.specs.declared.numbering.Key.{Key}
 -- Nodes with equal trees have one number, and others different ones. A tree that no node before has gets the next one.
 abbrev pub AreNumbers : List Tree → List ℕ → Type 0
 AreNumbers all numbers = AreNumbered (slice_get all) (length all) numbers
+
+-- Nodes with equal trees have one first node, and others different ones.
+abbrev pub AreFirst : List Tree → List ℕ → Type 0
+AreFirst all firsts = AreTold (slice_get all) (length all) firsts
 
 -- the number of a part, by these numbers or any that tell trees apart
 abbrev pub IsPartNumber : List Tree → List ℕ → (parts : List Tree) → (k n : ℕ) → Type 0

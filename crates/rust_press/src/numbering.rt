@@ -5,13 +5,12 @@ ghost use Rattle.std.specs.Prelude.{◌≡◌, ◌<◌, ◌≤◌, length, IfOk,
 ghost use Rattle.sym_core.specs.declared.Refusal.TheVariants.{Memory};
 ghost use Rattle.rust_tree.specs.Layout.{trees_of};
 ghost use Rattle.rust_tree.specs.Views.{fields_at};
-ghost use Rattle.rust_press.specs.Numbers.{AreNumbers, IsKeyOf, IsPartNumber};
+ghost use Rattle.rust_press.specs.Numbers.{AreFirst, AreNumbers, IsKeyOf, IsPartNumber};
 
 use rust_v0::Symbol;
 use std::alloc::Global;
-use std::collections::BTreeMap;
 use sym_core::Refusal;
-use sym_spell::{Numbers, first_with};
+use sym_spell::{Firsts, Marked, Numbers, text_mark};
 
 /// What nodes with equal trees have alike. The parts are those of the first `count`, each by the first node that is equal.
 #[derive(Clone, Copy, PartialEq, Eq, PartialOrd, Ord)]
@@ -22,6 +21,23 @@ struct Key<'a> {
     numbers: [u64; 2],
     first_text: &'a [u8],
     second_text: &'a [u8],
+}
+
+/// What equal keys have alike, in few instructions.
+impl<'a> Marked for Key<'a> {
+    ghost use Rattle.rust_press.specs.Marks.{mark_of, marked-alike};
+
+    ghost mark_of = { mark_of };
+
+    fn mark(&self) -> u64 {
+        let parts = self.parts[0] as u64 * 101
+            + self.parts[1] as u64 * 307
+            + self.parts[2] as u64 * 419;
+        let numbers = self.numbers[0] % 65536 * 17 + self.numbers[1] % 65536 * 229;
+        self.production as u64 * 59 + parts + numbers + text_mark(self.first_text)
+    }
+
+    ghost alike = { marked-alike };
 }
 
 /// The first node that is equal to a node's part, or 0 where the node has no such part.
@@ -61,8 +77,28 @@ fn key_of<'a>(symbol: &'a Symbol, firsts: &[u32], node: u32) -> Key<'a>
     }
 }
 
+/// The first nodes that are equal to each node of a Rust symbol: an earlier one, or the node itself.
+///
+/// # Errors
+///
+/// `Memory` alone.
+pub(crate) fn first_nodes(alloc: Global, symbol: &Symbol) -> Result<Vec<u32>, Refusal>
+    ensures firsts { IfOk result (λ firsts. AreFirst (trees_of symbol.now) firsts.items) }
+    ensures few { IfOk result (λ firsts. length firsts.items ≤ 4294967295) }
+    ensures memory { IfErr result (λ e. e ≡ Memory) }
+{
+    let count = symbol.counts().nodes;
+    let mut keys = Firsts::new(alloc, count as usize)?;
+    let mut firsts = Vec::with_capacity(alloc, count as usize)?;
+    for node in 0..count {
+        let first = keys.first_with(key_of(symbol, &firsts, node), node)?;
+        firsts.push(first)?;
+    }
+    Ok(firsts)
+}
+
 /// Numbers the nodes of a Rust symbol. A tree that no node before has gets the next number, counted from 0. Two look-ups are made for
-/// each node: one in an ordered map, by what the node has alike with those that equal it, and one of the first of these in a table.
+/// each node: one by what the node has alike with those that equal it, and one of the first of these in a table.
 ///
 /// # Errors
 ///
@@ -71,13 +107,7 @@ pub fn numbers(alloc: Global, symbol: &Symbol) -> Result<Numbers, Refusal>
     ensures numbers { IfOk result (AreNumbers (trees_of symbol.now)) }
     ensures memory { IfErr result (λ e. e ≡ Memory) }
 {
-    let count = symbol.counts().nodes;
-    let mut keys = BTreeMap::new(alloc);
-    let mut firsts = Vec::with_capacity(alloc, count as usize)?;
-    for node in 0..count {
-        let first = first_with(&mut keys, key_of(symbol, &firsts, node), node)?;
-        firsts.push(first)?;
-    }
+    let firsts = first_nodes(alloc, symbol)?;
     let numbers = Numbers::of_firsts(alloc, &firsts)?;
     Ok(numbers)
 }

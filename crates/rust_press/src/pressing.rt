@@ -6,19 +6,18 @@ ghost use Rattle.sym_core.specs.declared.Refusal.TheVariants.{Memory};
 ghost use Rattle.rust_tree.specs.Layout.{trees_of};
 ghost use Rattle.rust_tree.specs.Views.{fields_at};
 ghost use Rattle.sym_spell.specs.Numbers.{number_at};
-ghost use Rattle.rust_press.specs.Numbers.{AreNumbers};
+ghost use Rattle.rust_press.specs.Numbers.{AreFirst};
 ghost use Rattle.rust_press.specs.Spelled.{end};
 ghost use Rattle.rust_press.specs.Tasks.{ArePushed, IsNodeStep, placed, pressed_root};
 ghost use Rattle.rust_press.specs.OfRead.{HasFewComponents, pressed_symbol};
 ghost use Rattle.rust_press.specs.Short.{IsShort};
 ghost use Rattle.rust_v0.specs.Whole.{whole_of};
 
-use crate::numbering::numbers;
+use crate::numbering::first_nodes;
 use crate::spelling::{is_component, push_end, push_front, push_reference};
 use rust_v0::Symbol;
 use std::alloc::Global;
 use sym_core::Refusal;
-use sym_spell::Numbers;
 
 /// What is still to be spelled.
 #[derive(Clone, Copy)]
@@ -44,24 +43,32 @@ fn push_parts(symbol: &Symbol, node: u32, count: u32, tasks: &mut Vec<Task>) -> 
     Ok(())
 }
 
+/// The first node that is equal to a node.
+fn first_of(firsts: &[u32], node: u32) -> u32
+    requires { node < length firsts.now }
+    ensures number { result ≡ number_at firsts.now node }
+{
+    firsts[node as usize]
+}
+
 /// A node is spelled up to its parts, or as a reference where one like it is spelled out already.
 fn press_node(
     symbol: &Symbol,
-    numbering: &Numbers,
+    firsts: &[u32],
     places: &[Option<u64>],
     node: u32,
     tasks: &mut Vec<Task>,
     out: &mut Vec<u8>,
 ) -> Result<(), Refusal>
     requires node { node < length symbol.now.table.nodes }
-    requires numbers { node < length numbering.now }
-    requires places { number_at numbering.now node < length places.now }
-    ensures step { OnOk result (IsNodeStep symbol.now node (number_at numbering.now node) places.now tasks.old.items out.old.items tasks.new.items out.new.items) }
+    requires numbers { node < length firsts.now }
+    requires places { number_at firsts.now node < length places.now }
+    ensures step { OnOk result (IsNodeStep symbol.now node (number_at firsts.now node) places.now tasks.old.items out.old.items tasks.new.items out.new.items) }
     ensures memory { IfErr result (λ e. e ≡ Memory) }
 {
     let view = symbol.node(node);
     if is_component(view.production) {
-        let number = numbering.number_of(node);
+        let number = first_of(firsts, node);
         if let Some(place) = places[number as usize] {
             push_reference(place, out)?;
             return Ok(());
@@ -99,7 +106,7 @@ fn end_component(
     Ok(())
 }
 
-/// As many places as there are numbers, none known.
+/// As many places as there are nodes, none known.
 fn no_places(alloc: Global, count: u32) -> Result<Vec<Option<u64>>, Refusal>
     ensures places { IfOk result (λ made. (k : ℕ) → k < count → slice_get made.items k ≡ Some None) }
     ensures long { IfOk result (λ made. length made.items ≡ count) }
@@ -108,24 +115,29 @@ fn no_places(alloc: Global, count: u32) -> Result<Vec<Option<u64>>, Refusal>
     Ok(vec![in alloc; None; count as usize]?)
 }
 
-/// The pressed spelling of a symbol without its suffix, by the numbers of its nodes.
-fn press_tasks(alloc: Global, symbol: &Symbol, numbering: &Numbers) -> Result<Vec<u8>, Refusal>
-    requires { AreNumbers (trees_of symbol.now) numbering.now }
+/// The spellings of most symbols have at most this many bytes, and at most this many tasks wait while they are spelled.
+const COMMON_BYTES: usize = 128;
+
+const COMMON_TASKS: usize = 16;
+
+/// The pressed spelling of a symbol without its suffix, by the first nodes that equal its nodes.
+fn press_tasks(alloc: Global, symbol: &Symbol, firsts: &[u32]) -> Result<Vec<u8>, Refusal>
+    requires { AreFirst (trees_of symbol.now) firsts.now }
     ensures pressed { IfOk result (λ out. out.items ≡ pressed_root symbol.now) }
     ensures components { IfOk result (λ _. HasFewComponents symbol.now) }
     ensures memory { IfErr result (λ e. e ≡ Memory) }
 {
-    let mut places = no_places(alloc, numbering.looks())?;
-    let mut tasks = Vec::new(alloc);
-    let mut out = Vec::new(alloc);
+    let mut places = no_places(alloc, symbol.counts().nodes)?;
+    let mut tasks = Vec::with_capacity(alloc, COMMON_TASKS)?;
+    let mut out = Vec::with_capacity(alloc, COMMON_BYTES)?;
     tasks.push(Task::Node(symbol.root_node()))?;
     'tasks: while let Some(task) = tasks.pop() {
         match task {
             Task::Node(node) => {
-                press_node(symbol, numbering, &places, node, &mut tasks, &mut out)?;
+                press_node(symbol, firsts, &places, node, &mut tasks, &mut out)?;
             }
             Task::Ended { node, place } => {
-                let number = numbering.number_of(node);
+                let number = first_of(firsts, node);
                 end_component(symbol, number, node, place, &mut places, &mut out)?;
             }
         }
@@ -149,8 +161,8 @@ pub fn press_rust(alloc: Global, symbol: &Symbol) -> Result<Vec<u8>, Refusal>
     ensures short { IfOk result (λ out. IsShort (whole_of symbol.now) out.items) }
     ensures memory { IfErr result (λ e. e ≡ Memory) }
 {
-    let numbering = numbers(alloc, symbol)?;
-    let mut out = press_tasks(alloc, symbol, &numbering)?;
+    let firsts = first_nodes(alloc, symbol)?;
+    let mut out = press_tasks(alloc, symbol, &firsts)?;
     let view = symbol.node(symbol.root_node());
     out.extend_from_slice(symbol.bytes_of(view.texts[0]))?;
     Ok(out)

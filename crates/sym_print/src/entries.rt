@@ -129,6 +129,7 @@ fn take_item<C: Copy>(stack: &mut Vec<Part<C>>, meter: &mut Meter) -> Result<(),
 }
 
 /// Puts the parts of the next entry, an item, in its place.
+#[inline(always)]
 pub(crate) fn open_item<Y: Layout>(
     y: &Y,
     item: Item<Y::Ctx>,
@@ -212,6 +213,7 @@ fn append_again(text: &mut Vec<u8>, from: usize, to: usize) -> Result<(), AllocE
 }
 
 /// Writes the text of the next entry, an item that is noted, again, and takes it from the stack.
+#[inline(always)]
 fn write_again<Y: Layout>(
     _y: &Y,
     note: &Note<Y::Ctx>,
@@ -247,6 +249,7 @@ fn write_again<Y: Layout>(
 }
 
 /// Notes the innermost item that is being written, which is whole.
+#[inline(always)]
 fn note_whole<Y: Layout>(
     y: &Y,
     _stack: &Vec<Part<Y::Ctx>>,
@@ -397,6 +400,36 @@ pub(crate) fn print_entries<Y: Layout>(
     Ok(())
 }
 
+/// Takes entries until none is left, as those of a dear text.
+// It is a function of its own, so that the loop over other texts tests nothing more for it.
+#[inline(never)]
+fn print_dear<Y: Layout>(
+    y: &Y,
+    stack: &mut Vec<Part<Y::Ctx>>,
+    text: &mut Vec<u8>,
+    notes: &mut Notes<Y::Ctx>,
+    meter: &mut Meter,
+) -> Result<(), Refusal>
+    requires may_come { All (Y.may_come y.now) stack.old.items }
+    requires paid { vec_len text.old ≤ meter.old.spent }
+    requires stack_paid { vec_len stack.old ≤ 7 * meter.old.spent + 1 }
+    ensures paid { vec_len text.new ≤ meter.new.spent }
+    ensures stack_paid { vec_len stack.new ≤ 7 * meter.new.spent + 1 }
+    ensures may_come { All (Y.may_come y.now) stack.new.items }
+    ensures text { text.new.items ++ text_of_stack (Y.unshared y.now) (Y.bytes_of y.now) stack.new.items ≡ text.old.items ++ text_of_stack (Y.unshared y.now) (Y.bytes_of y.now) stack.old.items }
+    ensures cost { meter.new.spent + cost_of_stack (Y.unshared y.now) (Y.bytes_of y.now) stack.new.items ≡ meter.old.spent + cost_of_stack (Y.unshared y.now) (Y.bytes_of y.now) stack.old.items }
+    ensures steps { meter.new.steps + steps_of_stack (Y.unshared y.now) (Y.bytes_of y.now) stack.new.items ≡ meter.old.steps + steps_of_stack (Y.unshared y.now) (Y.bytes_of y.now) stack.old.items }
+    ensures limit { meter.new.limit ≡ meter.old.limit }
+    ensures entry_room { vec_capacity stack.old ≤ vec_capacity stack.new }
+    ensures own { IfErr result (λ r. (r ≡ Refusal.TooLong) ⊎ (r ≡ Refusal.Memory)) }
+    ensures text_room { vec_capacity text.old ≤ vec_capacity text.new }
+    ensures done { OnOk result (stack.new.items ≡ []) }
+    ensures too_long { result ≡ Err Refusal.TooLong → meter.old.limit < meter.old.spent + cost_of_stack (Y.unshared y.now) (Y.bytes_of y.now) stack.old.items }
+    ensures memory { result ≡ Err Refusal.Memory → (vec_capacity stack.old < 8 * (meter.old.limit + 1)) ⊎ (vec_capacity text.old < meter.old.limit) }
+{
+    print_entries(y, stack, text, notes, meter, true)
+}
+
 /// What the text of a stack may cost before it is dear: some for each node, whose number is at most that of the last entry, the
 /// whole symbol's, where nothing was taken yet.
 fn cheap_cost<C: Copy>(stack: &[Part<C>]) -> u32 {
@@ -436,21 +469,14 @@ pub(crate) fn print_stack<Y: Layout>(
     ensures too_long { result ≡ Err Refusal.TooLong → meter.old.limit < meter.old.spent + cost_of_stack (Y.unshared y.now) (Y.bytes_of y.now) stack.old.items }
     ensures memory { result ≡ Err Refusal.Memory → (vec_capacity stack.old < 8 * (meter.old.limit + 1)) ⊎ (vec_capacity text.old < meter.old.limit) }
 {
-    let mut is_dear = false;
-    'parts: loop {
-        let mut part = if is_dear {
-            *meter
-        } else {
-            meter.for_at_most(cheap_cost(stack))
-        };
-        let outcome = print_entries(y, stack, text, notes, &mut part, is_dear);
-        meter.follow(&part);
-        if is_dear || part.limit == meter.limit {
-            return outcome;
-        }
-        match outcome {
-            Err(Refusal::TooLong) => is_dear = true,
-            _ => return outcome,
-        }
+    let mut cheap = meter.for_at_most(cheap_cost(stack));
+    let outcome = print_entries(y, stack, text, notes, &mut cheap, false);
+    meter.follow(&cheap);
+    if cheap.limit == meter.limit {
+        return outcome;
+    }
+    match outcome {
+        Err(Refusal::TooLong) => print_dear(y, stack, text, notes, meter),
+        _ => outcome,
     }
 }

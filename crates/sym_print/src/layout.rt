@@ -117,6 +117,15 @@ pub trait Layout {
         false
     }
 
+    /// A number of a context, by which the notes of a node in a dear text are found.
+    ///
+    /// Any number is right: which note is an item's is for `is_same` to say. Where contexts of one node have the same number,
+    /// only some of the items are noted.
+    #[inline(always)]
+    fn context_number(&self, _ctx: Self::Ctx) -> u64 {
+        0
+    }
+
     /// The parts of an item, in order.
     final fn parts(&self, item: Item<Self::Ctx>) -> ArrayVec<Part<Self::Ctx>, 8>
         requires { may_come self.now (Part.Sub item) }

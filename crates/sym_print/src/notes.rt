@@ -17,8 +17,14 @@ const PLACES: usize = 64;
 /// The least cost of an item that is noted in a dear text: the parts of one that costs less are as fast.
 const LEAST_NOTED: u32 = 12;
 
-/// How many notes are compared with an item at most: one for each bit of a key, and then those of other contexts.
-const MOST_COMPARED: u32 = 48;
+/// How many notes are compared with an item at most: one for each bit of a key.
+const MOST_COMPARED: u32 = 64;
+
+/// Where the number of a context begins in a key, after those of the form and the node.
+const CONTEXT_BIT: u32 = 29;
+
+/// What a key is multiplied by: 2 ^ 64 divided by the golden ratio, as in Fibonacci hashing.
+const SPREAD: u64 = 11400714819323198485;
 
 /// The number of no note.
 const NONE: u32 = 4294967295;
@@ -43,9 +49,10 @@ pub(crate) struct Begun<C> {
     pub(crate) steps: u64,
 }
 
-/// The two notes that come after one, by the next bit of their keys.
+/// A note's key, and the two notes that come after it, by the next bit of theirs.
 #[derive(Clone, Copy)]
 struct Fork {
+    key: u64,
     even: u32,
     odd: u32,
 }
@@ -71,9 +78,23 @@ pub(crate) struct Notes<C: Copy> {
     sharing: Sharing,
 }
 
-/// A number of an item, by which its note is found. Items of one node and form that differ in context have the same.
-fn key_of<C: Copy>(item: &Item<C>) -> u64 {
-    item.form as u64 % 32 + 32 * item.node as u64
+/// A number of an item, by which its note is found: another one for each item of a symbol whose numbers fit in their bits. Its
+/// first bits depend on all others, so that few items have the same.
+fn key_of<Y: Layout>(y: &Y, item: &Item<Y::Ctx>) -> u64 {
+    let node = item.form as u64 % 32 + 32 * item.node as u64;
+    let context = y.context_number(item.ctx) << CONTEXT_BIT;
+    node.wrapping_add(context).wrapping_mul(SPREAD)
+}
+
+/// The spot on one side of a note.
+#[inline(always)]
+fn spot_after(fork: &Fork, before: usize, is_odd: bool) -> Spot {
+    let number = if is_odd { fork.odd } else { fork.even };
+    Spot {
+        number: number as usize,
+        before,
+        is_odd,
+    }
 }
 
 /// The innermost of the items that are being written.
@@ -146,7 +167,7 @@ impl<C: Copy> Notes<C> {
         ensures known { IfSome result (λ note. Contains self.now.known.items note.now) }
     {
         let number = if is_dear {
-            self.spot_of(y, &item).number
+            self.spot_of(key_of(y, &item)).number
         } else {
             item.node as usize % PLACES
         };
@@ -158,37 +179,24 @@ impl<C: Copy> Notes<C> {
         }
     }
 
-    /// Where the note of an item of a dear text is, or would be.
-    fn spot_of<Y: Layout<Ctx = C>>(&self, y: &Y, item: &Item<C>) -> Spot {
+    /// Where the note with a key is, or would be, in a dear text.
+    fn spot_of(&self, key: u64) -> Spot {
         let mut spot = Spot {
             number: 0,
             before: 0,
             is_odd: false,
         };
-        let mut key = key_of(item);
+        let mut turned = key;
         for _ in 0..MOST_COMPARED {
-            match self.known.get(spot.number) {
-                Some(note) if !y.is_same(&note.item, item) => {
-                    spot = self.spot_after(spot.number, key % 2 == 1);
-                    key /= 2;
+            match self.forks.get(spot.number) {
+                Some(fork) if fork.key != key => {
+                    turned = turned.rotate_left(1);
+                    spot = spot_after(fork, spot.number, turned % 2 == 1);
                 }
                 _ => return spot,
             }
         }
         spot
-    }
-
-    /// The spot on one side of a note.
-    fn spot_after(&self, before: usize, is_odd: bool) -> Spot {
-        let number = match self.forks.get(before) {
-            Some(fork) => { if is_odd { fork.odd } else { fork.even } }
-            None => NONE,
-        };
-        Spot {
-            number: number as usize,
-            before,
-            is_odd,
-        }
     }
 
     /// Notes an item, in a dear text beside the others, else in place of another. Where there is no memory nothing is noted.
@@ -212,7 +220,7 @@ impl<C: Copy> Notes<C> {
         if place < self.known.len() {
             self.known[place] = note;
         } else {
-            let _ = self.known.resize(PLACES, note);
+            let _ = self.known.resize(place + 1, note);
         }
     }
 
@@ -224,7 +232,8 @@ impl<C: Copy> Notes<C> {
         if note.cost < LEAST_NOTED {
             return;
         }
-        let spot = self.spot_of(y, &note.item);
+        let key = key_of(y, &note.item);
+        let spot = self.spot_of(key);
         let Ok(number) = u32::try_from(self.known.len()) else {
             return;
         };
@@ -237,6 +246,7 @@ impl<C: Copy> Notes<C> {
         }
         self.lead(spot, number);
         let _ = self.forks.push(Fork {
+            key,
             even: NONE,
             odd: NONE,
         });

@@ -6,3 +6,4 @@ pub mod Tests
 pub mod Counting
 pub mod FirstOnes
 pub mod Orders
+pub mod Placed

@@ -1,3 +1,4 @@
 pub mod Pressing
 pub mod Digits
+pub mod Firsts
 pub mod Numbers

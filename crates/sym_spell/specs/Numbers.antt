@@ -18,6 +18,13 @@ pub record TellApart {A : Type 0} (thing : ℕ → A) (numbers : List ℕ) : Typ
   pub same : (i j : ℕ) → i < length numbers → j < length numbers → number_at numbers i ≡ number_at numbers j → thing i ≡ thing j
   pub equal : (i j : ℕ) → i < length numbers → j < length numbers → thing i ≡ thing j → number_at numbers i ≡ number_at numbers j
 
+-- There are n numbers, and two things have the same just where they are equal.
+pub record AreTold {A : Type 0} (thing : ℕ → A) (count : ℕ) (numbers : List ℕ) : Type 0 where
+  pub long : length numbers ≡ count
+  pub same : (i j : ℕ) → i < length numbers → j < length numbers → number_at numbers i ≡ number_at numbers j → thing i ≡ thing j
+  pub equal : (i j : ℕ) → i < length numbers → j < length numbers → thing i ≡ thing j → number_at numbers i ≡ number_at numbers j
+  pub below : AreBelow numbers count
+
 -- There are n numbers. Two things have the same number just where they are equal, and a thing that no earlier one equals has the
 -- next number.
 pub record AreNumbered {A : Type 0} (thing : ℕ → A) (count : ℕ) (numbers : List ℕ) : Type 0 where

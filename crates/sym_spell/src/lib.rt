@@ -7,5 +7,5 @@ mod firsts;
 mod numbers;
 
 pub use digits::push_digits;
-pub use firsts::first_with;
+pub use firsts::{Firsts, Marked, text_mark};
 pub use numbers::Numbers;

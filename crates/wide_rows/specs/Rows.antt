@@ -133,4 +133,8 @@ rows_2 =
     prints "_Z1fINDtLi1EE1xEEvv" "void f<decltype(1)::x>()" 36 ∷
     prints "_Z1fIXtl1Udi1aLi0EEEEvv" "void f<U{.a = 0}>()" 36 ∷
     prints "_Z1fIXtl1UdxLi2Edi1aLi0EEEEvv" "void f<U{[2].a = 0}>()" 41 ∷
+    prints "_Z1fIiEDTTL0__ET_" "decltype(int) f<int>(int)" 41 ∷
+    prints "_ZNH1H1fERS_i" "H::f(this H&, int)" 31 ∷
+    prints "_ZGR1a_" "reference temporary #0 for a" 31 ∷
+    prints "_ZGRZ1fvE1a_" "reference temporary #0 for f()::a" 40 ∷
     []

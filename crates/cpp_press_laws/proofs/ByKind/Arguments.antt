@@ -1,9 +1,9 @@
 -- Arguments of templates that were read, of each kind: lists of them, packs, literals and addresses.
-use Rattle.std.proofs.Common.{◌≡◌, ℕ, inl, inr, [], ◌∷◌, true, false, refl, ap, sym, subst, ◌∙◌}
+use Rattle.std.proofs.Common.{◌≡◌, ℕ, [], ◌∷◌, true, false, refl, ap, sym, subst, ◌∙◌}
 use Rattle.std.specs.Prelude.{nat_eq}
 use Rattle.cpp_grammar.specs.declared.kind.Kind.{Kind}
 use Rattle.cpp_grammar.specs.declared.production.Production.{Production}
-use Rattle.cpp_grammar.specs.Grammar.{alternatives, is_chain, number_of_kind, parts_of}
+use Rattle.cpp_grammar.specs.Grammar.{alternatives, is_chain, number_of_kind, parts_of, number_of}
 use Rattle.cpp_grammar.specs.Term.{absent}
 use Rattle.cpp_grammar.specs.Values.{State, outermost, Around, Value, pair, tree_of, letter_of, part}
 use Rattle.cpp_grammar.specs.Between.{between, no_items}
@@ -17,42 +17,51 @@ use Rattle.cpp_press_laws.proofs.Fits.Arguments.{arguments-fit, null-fits, boole
 use Rattle.cpp_press_laws.proofs.Fits.Typed as step
 use Rattle.cpp_press_laws.proofs.Fits.Places.{behind-bytes}
 use Rattle.cpp_press_laws.proofs.ByKind.LeafKinds.{own-byte, only-at}
-use Rattle.cpp_press_laws.proofs.ByKind.Known.{OpenedRead, opened-read, fits-by-parts, BranchRead}
+use Rattle.cpp_press_laws.proofs.ByKind.Known.{OpenedRead, opened-read, fits-by-parts, BranchRead, one-read}
+use Rattle.cpp_press_laws.proofs.ByKind.Rules.{IsAmong}
 
 -- ## Literals
 
 pub literal-after-d-branch : BranchRead Kind.LiteralAfterD
-unfolding alternatives is_chain unfolding_.behind number_of_kind parts_of between meaning tree_of part
-literal-after-d-branch rule taken parts all around at old v new front is e =
-    λ outer. elim (opened-read Kind.LiteralAfterD rule taken parts all around at old v new front is e) [
-      | inl o ↦ fits-by-parts Kind.LiteralAfterD Production.NullLiteral tt tt o (λ w s zero.
-          subst (KindFits Kind.LiteralAfterD around (Meant Production.NullLiteral (byte_of o.taken) around (w ∷ [])) old) (sym (zero Kind.MaybeZero refl))
-          (λ in_pack. null-fits around in_pack old))
-      | inr o ↦ fits-by-parts Kind.LiteralAfterD Production.CharLiteral tt tt o (λ w s one.
-          let number = one Kind.Integer refl in
-          subst (KindFits Kind.LiteralAfterD around (Meant Production.CharLiteral (byte_of o.taken) around (w ∷ [])) old) (sym number.0)
-          (step.char-literal around (byte_of o.taken) old w old
-          (subst (λ b. IsBuiltin literal_type (68 ∷ b ∷ [])) (sym (own-byte Production.CharLiteral o.taken o.byte o.takes refl)) (refl, o.small, o.chosen))
-          number.1))
-    ]
+unfolding alternatives is_chain unfolding_.behind number_of_kind parts_of between meaning tree_of part number_of
+literal-after-d-branch rule taken parts all around at old v new front is e outer =
+    let one = one-read Kind.LiteralAfterD rule taken parts all around at old v new front is e in
+    arm one.0 one.1 one.2
+  where
+    arm : (p : Production) → IsAmong (alternatives Kind.LiteralAfterD) p → OpenedRead Kind.LiteralAfterD around at old v new p
+        → KindFits Kind.LiteralAfterD around v old new
+    arm Production.NullLiteral here o = fits-by-parts Kind.LiteralAfterD Production.NullLiteral tt tt o (λ w s zero.
+        subst (KindFits Kind.LiteralAfterD around (Meant Production.NullLiteral (byte_of o.taken) around (w ∷ [])) old) (sym (zero Kind.MaybeZero refl))
+        (λ in_pack. null-fits around in_pack old))
+    arm Production.CharLiteral here o = fits-by-parts Kind.LiteralAfterD Production.CharLiteral tt tt o (λ w s one.
+        let number = one Kind.Integer refl in
+        subst (KindFits Kind.LiteralAfterD around (Meant Production.CharLiteral (byte_of o.taken) around (w ∷ [])) old) (sym number.0)
+        (step.char-literal around (byte_of o.taken) old w old
+        (subst (λ b. IsBuiltin literal_type (68 ∷ b ∷ [])) (sym (own-byte Production.CharLiteral o.taken o.byte o.takes refl)) (refl, o.small, o.chosen))
+        number.1))
+    arm p here o = absurd here
 
 pub literal-branch : BranchRead Kind.Literal
-unfolding alternatives unfolding_.behind number_of_kind parts_of between meaning tree_of part
-literal-branch rule taken parts all around at old v new front is e =
-    λ outer. elim (opened-read Kind.Literal rule taken parts all around at old v new front is e) [
-      | inl o ↦ fits-by-parts Kind.Literal Production.EncodingLiteral tt tt o (λ m s mark w t one.
-          λ in_pack. encoding-literal-fits around in_pack (tree_of w) old t (behind-bytes around (tree_of w) old t
-          (subst (λ q. WholeFits around (tree_of w) q t) mark.0 (one Kind.Encoding refl).fits)))
-      | inr (inl o) ↦ fits-by-parts Kind.Literal Production.BoolLiteral tt tt o (λ w s bit.
-          subst (KindFits Kind.Literal around (Meant Production.BoolLiteral (byte_of o.taken) around (w ∷ [])) old) (sym (bit Kind.Bit refl))
-          (λ in_pack. boolean-fits around in_pack (nat_eq (letter_of w) 49) old))
-      | inr (inr (inl o)) ↦ fits-by-parts Kind.Literal Production.LiteralWithD tt tt o
-          (λ w s one. one Kind.LiteralAfterD refl outer)
-      | inr (inr (inr o)) ↦ fits-by-parts Kind.Literal Production.IntegerLiteral tt tt o (λ w s one n t read.
-          let number = read Kind.Integer refl in
-          subst (KindFits Kind.Literal around (Meant Production.IntegerLiteral (byte_of o.taken) around (w ∷ n ∷ [])) old) (sym number.0)
-          (step.integer-literal around (byte_of o.taken) old w n old s (one Kind.LiteralType refl outer) number.1))
-    ]
+unfolding alternatives unfolding_.behind number_of_kind parts_of between meaning tree_of part number_of
+literal-branch rule taken parts all around at old v new front is e outer =
+    let one = one-read Kind.Literal rule taken parts all around at old v new front is e in
+    arm one.0 one.1 one.2
+  where
+    arm : (p : Production) → IsAmong (alternatives Kind.Literal) p → OpenedRead Kind.Literal around at old v new p
+        → KindFits Kind.Literal around v old new
+    arm Production.EncodingLiteral here o = fits-by-parts Kind.Literal Production.EncodingLiteral tt tt o (λ m s mark w t one.
+        λ in_pack. encoding-literal-fits around in_pack (tree_of w) old t (behind-bytes around (tree_of w) old t
+        (subst (λ q. WholeFits around (tree_of w) q t) mark.0 (one Kind.Encoding refl).fits)))
+    arm Production.BoolLiteral here o = fits-by-parts Kind.Literal Production.BoolLiteral tt tt o (λ w s bit.
+        subst (KindFits Kind.Literal around (Meant Production.BoolLiteral (byte_of o.taken) around (w ∷ [])) old) (sym (bit Kind.Bit refl))
+        (λ in_pack. boolean-fits around in_pack (nat_eq (letter_of w) 49) old))
+    arm Production.LiteralWithD here o = fits-by-parts Kind.Literal Production.LiteralWithD tt tt o
+        (λ w s one. one Kind.LiteralAfterD refl outer)
+    arm Production.IntegerLiteral here o = fits-by-parts Kind.Literal Production.IntegerLiteral tt tt o (λ w s one n t read.
+        let number = read Kind.Integer refl in
+        subst (KindFits Kind.Literal around (Meant Production.IntegerLiteral (byte_of o.taken) around (w ∷ n ∷ [])) old) (sym number.0)
+        (step.integer-literal around (byte_of o.taken) old w n old s (one Kind.LiteralType refl outer) number.1))
+    arm p here o = absurd here
 
 -- ## Addresses
 
@@ -120,30 +129,42 @@ any-argument kind around at old v new outer o =
     (λ w s one x t two. arguments-fit around false (tree_of w) (no_items x) old s t (one Kind.Argument refl outer false) (two Kind.ArgumentList refl outer))
 
 pub argument-list-branch : BranchRead Kind.ArgumentList
-unfolding alternatives
-argument-list-branch rule taken parts all around at old v new front is e =
-    λ outer. elim (opened-read Kind.ArgumentList rule taken parts all around at old v new front is e) [
-      | inl o ↦ pack-argument Kind.ArgumentList around at old v new outer o
-      | inr (inl o) ↦ literal-argument Kind.ArgumentList around at old v new outer o
-      | inr (inr o) ↦ any-argument Kind.ArgumentList around at old v new outer o
-    ]
+unfolding alternatives number_of
+argument-list-branch rule taken parts all around at old v new front is e outer =
+    let one = one-read Kind.ArgumentList rule taken parts all around at old v new front is e in
+    arm one.0 one.1 one.2
+  where
+    arm : (p : Production) → IsAmong (alternatives Kind.ArgumentList) p → OpenedRead Kind.ArgumentList around at old v new p
+        → KindFits Kind.ArgumentList around v old new
+    arm Production.PackArgument here o = pack-argument Kind.ArgumentList around at old v new outer o
+    arm Production.LiteralArgument here o = literal-argument Kind.ArgumentList around at old v new outer o
+    arm Production.AnyArgument here o = any-argument Kind.ArgumentList around at old v new outer o
+    arm p here o = absurd here
 
 pub arguments-first-branch : BranchRead Kind.ArgumentsFirst
-unfolding alternatives
-arguments-first-branch rule taken parts all around at old v new front is e =
-    λ outer. elim (opened-read Kind.ArgumentsFirst rule taken parts all around at old v new front is e) [
-      | inl o ↦ pack-argument Kind.ArgumentsFirst around at old v new outer o
-      | inr (inl o) ↦ literal-argument Kind.ArgumentsFirst around at old v new outer o
-      | inr (inr o) ↦ any-argument Kind.ArgumentsFirst around at old v new outer o
-    ]
+unfolding alternatives number_of
+arguments-first-branch rule taken parts all around at old v new front is e outer =
+    let one = one-read Kind.ArgumentsFirst rule taken parts all around at old v new front is e in
+    arm one.0 one.1 one.2
+  where
+    arm : (p : Production) → IsAmong (alternatives Kind.ArgumentsFirst) p → OpenedRead Kind.ArgumentsFirst around at old v new p
+        → KindFits Kind.ArgumentList around v old new
+    arm Production.PackArgument here o = pack-argument Kind.ArgumentsFirst around at old v new outer o
+    arm Production.LiteralArgument here o = literal-argument Kind.ArgumentsFirst around at old v new outer o
+    arm Production.AnyArgument here o = any-argument Kind.ArgumentsFirst around at old v new outer o
+    arm p here o = absurd here
 
 pub pack-list-branch : BranchRead Kind.PackList
-unfolding alternatives number_of_kind parts_of between meaning no_items tree_of part unfolding_.behind
-pack-list-branch rule taken parts all around at old v new front is e =
-    λ outer. elim (opened-read Kind.PackList rule taken parts all around at old v new front is e) [
-      | inl o ↦ fits-by-parts Kind.PackList Production.LiteralElement tt tt o (λ w s one m r end x t two.
-          arguments-fit around true (tree_of w) (no_items x) old s t (one Kind.Literal refl outer true)
-          (subst (λ q. KindFits Kind.PackList around x q t) end.0 (two Kind.PackList refl outer)))
-      | inr o ↦ fits-by-parts Kind.PackList Production.AnyElement tt tt o
-          (λ w s one x t two. arguments-fit around true (tree_of w) (no_items x) old s t (one Kind.Argument refl outer true) (two Kind.PackList refl outer))
-    ]
+unfolding alternatives number_of_kind parts_of between meaning no_items tree_of part unfolding_.behind number_of
+pack-list-branch rule taken parts all around at old v new front is e outer =
+    let one = one-read Kind.PackList rule taken parts all around at old v new front is e in
+    arm one.0 one.1 one.2
+  where
+    arm : (p : Production) → IsAmong (alternatives Kind.PackList) p → OpenedRead Kind.PackList around at old v new p
+        → KindFits Kind.PackList around v old new
+    arm Production.LiteralElement here o = fits-by-parts Kind.PackList Production.LiteralElement tt tt o (λ w s one m r end x t two.
+        arguments-fit around true (tree_of w) (no_items x) old s t (one Kind.Literal refl outer true)
+        (subst (λ q. KindFits Kind.PackList around x q t) end.0 (two Kind.PackList refl outer)))
+    arm Production.AnyElement here o = fits-by-parts Kind.PackList Production.AnyElement tt tt o
+        (λ w s one x t two. arguments-fit around true (tree_of w) (no_items x) old s t (one Kind.Argument refl outer true) (two Kind.PackList refl outer))
+    arm p here o = absurd here

@@ -5,7 +5,7 @@ use Rattle.sym_shape.specs.Tree.{empty}
 use Rattle.sym_link.specs.Unfold.{found}
 use Rattle.cpp_grammar.specs.declared.kind.Kind.{Kind}
 use Rattle.cpp_grammar.specs.Grammar.{number_of_kind, may_be_empty}
-use Rattle.cpp_grammar.specs.Values.{State, Around, nothing_there, text_of}
+use Rattle.cpp_grammar.specs.Values.{State, Around, nothing_there, text_of, mark_of}
 use Rattle.cpp_grammar.specs.Between.{no_items}
 use Rattle.cpp_grammar.specs.Meaning.{discriminator_of}
 use Rattle.cpp_grammar.specs.Unfolding.{cpp}
@@ -20,13 +20,13 @@ use Rattle.cpp_press_laws.proofs.ByKind.Known.{KindRead, ShapeRead}
 
 -- what nothing is read as
 nothing-read : (kind : Kind) → may_be_empty kind ≡ true → (around : Around) (state : State) → KindRead kind around nothing_there state state
-unfolding may_be_empty no_items discriminator_of text_of
+unfolding may_be_empty no_items discriminator_of text_of mark_of
 nothing-read Kind.MaybeSuffix may around state = (refl, tt)
 nothing-read Kind.SuffixMore may around state = (refl, tt)
 nothing-read Kind.MaybeRestrict may around state = refl
 nothing-read Kind.MaybeVolatile may around state = refl
 nothing-read Kind.MaybeConst may around state = refl
-nothing-read Kind.MaybeRef may around state = refl
+nothing-read Kind.MaybeRef may around state = (refl, tt)
 nothing-read Kind.MaybeDiscriminator may around state = (refl, tt)
 nothing-read Kind.MaybeCLinkage may around state = refl
 nothing-read Kind.Items may around state = λ outer. (tt, nil-fits around item_type state)

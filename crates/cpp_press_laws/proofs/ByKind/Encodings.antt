@@ -10,7 +10,7 @@ use Rattle.sym_link.specs.Unfold.{found, unfold_tree}
 use Rattle.cpp_grammar.specs.declared.kind.Kind.{Kind}
 use Rattle.cpp_grammar.specs.declared.production.Production.{Production}
 use Rattle.cpp_grammar.specs.KindNumbers.{ENCODING, SPECIAL, SPECIAL_MARK, SPECIAL_AFTER_G, COMPLETE_NAME, ITEMS}
-use Rattle.cpp_grammar.specs.Grammar.{alternatives, choose, is_chain, number_of_kind, parts_of}
+use Rattle.cpp_grammar.specs.Grammar.{alternatives, choose, is_chain, number_of_kind, parts_of, number_of}
 use Rattle.cpp_grammar.specs.Table.{abi}
 use Rattle.cpp_grammar.specs.Term.{Thunk, Term, adjusting, covariant, non_virtual, by_table, symbol, function, of_name, thunk, nil, list, absent}
 use Rattle.cpp_grammar.specs.Scope.{has_return_type}
@@ -26,7 +26,7 @@ use Rattle.cpp_press_laws.proofs.ByKind.AbiTrees.{known, tree_good}
 use Rattle.cpp_press_laws.specs.Pressing.{is_encoding}
 use Rattle.cpp_press_laws.proofs.Components.Complete.{AllBefore}
 use Rattle.cpp_press_laws.specs.Fits.{item_type, IsSpellableThunk}
-use Rattle.cpp_press_laws.proofs.ByKind.Rules.{Opened, opened}
+use Rattle.cpp_press_laws.proofs.ByKind.Rules.{Opened, opened, by-name, IsAmong}
 use Rattle.cpp_press_laws.proofs.Fits.Lists.{IsList, ListFits}
 use Rattle.cpp_press_laws.proofs.Fits.Nests.{OwnNameFits}
 use Rattle.cpp_press_laws.proofs.Fits.Encodings.{AllAfter, AllShut}
@@ -34,7 +34,7 @@ use Rattle.cpp_press_laws.proofs.Fits.Symbols.{StaysBehind, WholeFits, guard-fit
 use Rattle.cpp_press_laws.proofs.Fits.Sorts.{Meant, Later}
 use Rattle.cpp_press_laws.proofs.Fits.Places.{Ended, ended-as}
 use Rattle.cpp_press_laws.proofs.ByKind.LeafKinds.{own-byte, only-at}
-use Rattle.cpp_press_laws.proofs.ByKind.Known.{EncodingRead, SpecialRead, KindRead, BranchRead, InFront, ShapeRead, opened-read, by-parts}
+use Rattle.cpp_press_laws.proofs.ByKind.Known.{EncodingRead, SpecialRead, KindRead, BranchRead, InFront, ShapeRead, opened-read, by-parts, OwnNameRead, one-read, OpenedRead}
 
 -- ## Candidates around an encoding and in it
 
@@ -131,13 +131,13 @@ ended-read P p byte around old vs mid v new e one = subst (λ w. P w new) (sym e
 -- ## Functions and data
 
 items-read : (around : Around) (at : ℕ) (name : Value) (t : Term) (old mid new : State) → IsList t → StaysBehind around at old new
-    → AllShut at mid.candidates → OwnNameFits (in_name at) (tree_of name) (qualifiers_of name) (ref_of name) old mid
+    → AllShut at mid.candidates → OwnNameRead (in_name at) name old mid
     → ListFits (in_types at (tree_of name)) item_type t mid new → EncodingRead around (tree (encoding_of name t) true) old new
 unfolding encoding_of is_encoding tree_of
 items-read around at name nil old mid new is stays shut one other = record {
   is = refl;
   value = refl;
-  fits = object-fits around at (tree_of name) (qualifiers_of name) (ref_of name) old mid new stays shut one other;
+  fits = object-fits around at (tree_of name) (qualifiers_of name) (ref_of name) old mid new one.1 stays shut one.0 other;
 }
 items-read around at name (list first rest) old mid new is stays shut one other = go (has_return_type (tree_of name)) refl
   where
@@ -148,13 +148,13 @@ items-read around at name (list first rest) old mid new is stays shut one other 
     go true returns = record {
       is = refl;
       value = refl;
-      fits = returning-fits around at (tree_of name) first rest (qualifiers_of name) (ref_of name) old mid new returns stays shut one other;
+      fits = returning-fits around at (tree_of name) first rest (qualifiers_of name) (ref_of name) old mid new one.1 returns stays shut one.0 other;
     }
     go false none = record {
       is = refl;
       value = refl;
       fits =
-          plain-function-fits around at (tree_of name) (list first rest) (qualifiers_of name) (ref_of name) old mid new none stays shut one
+          plain-function-fits around at (tree_of name) (list first rest) (qualifiers_of name) (ref_of name) old mid new one.1 none stays shut one.0
           other;
     }
 items-read around at name (symbol e suffix) old mid new is stays shut one other = absurd is
@@ -212,10 +212,10 @@ guard-read around at old v new front o =
     let guard = h.holds Kind.SpecialAfterG (in_name at) later g.after h.value h.after f h.is h.unfolds refl in
     let name : Value = guard.0 in
     let c = part-came (OfKind SPECIAL_AFTER_G) (in_name at) later g.after h.shape h.value h.after (known SPECIAL_AFTER_G (lit≤ tt)) f h.is h.unfolds in
-    let whole = guard-fits around at (tree_of name) (qualifiers_of name) (ref_of name) old h.after
+    let whole = guard-fits around at (tree_of name) (qualifiers_of name) (ref_of name) old h.after guard.2.1
     (stays-behind around (in_name at) at (later + length (spell h.shape)) old h.after less refl front.placed.old
     (subst (λ s. Grows false (in_name at) (later + length (spell h.shape)) s h.after) b c.grows))
-    (subst (λ s. OwnNameFits (in_name at) (tree_of name) (qualifiers_of name) (ref_of name) s h.after) b guard.2) in
+    (subst (λ s. OwnNameFits (in_name at) (tree_of name) (qualifiers_of name) (ref_of name) s h.after) b guard.2.0) in
     ended-read (λ w t. EncodingRead around w old t) Production.OtherSpecial byte around old (g.value ∷ h.value ∷ []) h.after v new
     (ended-as Production.OtherSpecial byte around old o.inner o.one (g.value ∷ h.value ∷ []) h.after v new (ok_same _ o.one o.closes) h.onward
     o.comes)
@@ -250,13 +250,18 @@ special-read around at old v new front o =
 
 -- an encoding, where its parts were read so
 pub encoding-branch : BranchRead Kind.Encoding
-unfolding alternatives number_of_kind
+unfolding alternatives number_of_kind number_of
 encoding-branch rule taken parts all around at old v new front is e =
-    elim (opened ShapeRead Kind.Encoding rule taken parts all around at old (found (v ∷ []) new) is e) [
-      | inl o ↦ special-read around at old v new front o
-      | inr (inl o) ↦ guard-read around at old v new front o
-      | inr (inr o) ↦ function-read around at old v new front o
-    ]
+    let one = by-name (alternatives Kind.Encoding) (Opened ShapeRead Kind.Encoding around at old (found (v ∷ []) new))
+    (opened ShapeRead Kind.Encoding rule taken parts all around at old (found (v ∷ []) new) is e) in
+    arm one.0 one.1 one.2
+  where
+    arm : (p : Production) → IsAmong (alternatives Kind.Encoding) p → Opened ShapeRead Kind.Encoding around at old (found (v ∷ []) new) p
+        → KindRead Kind.Encoding around v old new
+    arm Production.Special here o = special-read around at old v new front o
+    arm Production.OtherSpecial here o = guard-read around at old v new front o
+    arm Production.Encoding here o = function-read around at old v new front o
+    arm p here o = absurd here
 
 -- ## What comes after a G
 
@@ -279,25 +284,29 @@ thunk-read around kind v old mid new good same one =
 
 -- a type's table and the like, and thunks, where their parts were read so
 pub special-branch : BranchRead Kind.Special
-unfolding alternatives parts_of between number_of_kind meaning part unfolding_.behind is_chain
+unfolding alternatives parts_of between number_of_kind meaning part unfolding_.behind is_chain number_of
 special-branch rule taken parts all around at old v new front is e =
-    elim (opened-read Kind.Special rule taken parts all around at old v new front is e) [
-      | inl o ↦
-          let same : byte_of o.taken ≡ o.byte = own-byte Production.SpecialType o.taken o.byte o.takes refl in
-          by-parts (λ w s. KindRead Kind.Special around w old s) Production.SpecialType tt tt o (λ w s type outer.
-          inl (byte_of o.taken, tree_of w, refl, omega (arith, same, o.small), ap (choose Kind.Special) same ∙ o.chosen, type Kind.Type refl outer))
-      | inr (inl o) ↦ by-parts (λ w s. KindRead Kind.Special around w old s) Production.NonVirtualThunk tt tt o (λ n s read b t mark w u one outer.
-          let offset = read Kind.Integer refl in
-          thunk-read around (adjusting (non_virtual (signed_of n))) w old t u offset.1 (mark.0 ∙ offset.0) (one Kind.Encoding refl))
-      | inr (inr (inl o)) ↦ by-parts (λ w s. KindRead Kind.Special around w old s) Production.VirtualThunk tt tt o
-          (λ n s read b t mark m u more c r end w q one outer.
-          let offset = read Kind.Integer refl in
-          let table = more Kind.Integer refl in
-          thunk-read around (adjusting (by_table (signed_of n) (signed_of m))) w old r q (offset.1, table.1)
-          (end.0 ∙ table.0 ∙ mark.0 ∙ offset.0) (one Kind.Encoding refl))
-      | inr (inr (inr o)) ↦ by-parts (λ w s. KindRead Kind.Special around w old s) Production.CovariantThunk tt tt o
-          (λ a s read b t more w u one outer.
-          let this = read Kind.CallOffset refl in
-          let result = more Kind.CallOffset refl in
-          thunk-read around (covariant (adjustment_of a) (adjustment_of b)) w old t u (this.1, result.1) (result.0 ∙ this.0) (one Kind.Encoding refl))
-    ]
+    let one = one-read Kind.Special rule taken parts all around at old v new front is e in
+    arm one.0 one.1 one.2
+  where
+    arm : (p : Production) → IsAmong (alternatives Kind.Special) p → OpenedRead Kind.Special around at old v new p
+        → KindRead Kind.Special around v old new
+    arm Production.SpecialType here o =
+        let same : byte_of o.taken ≡ o.byte = own-byte Production.SpecialType o.taken o.byte o.takes refl in
+        by-parts (λ w s. KindRead Kind.Special around w old s) Production.SpecialType tt tt o (λ w s type outer.
+        inl (byte_of o.taken, tree_of w, refl, omega (arith, same, o.small), ap (choose Kind.Special) same ∙ o.chosen, type Kind.Type refl outer))
+    arm Production.NonVirtualThunk here o = by-parts (λ w s. KindRead Kind.Special around w old s) Production.NonVirtualThunk tt tt o (λ n s read b t mark w u one outer.
+        let offset = read Kind.Integer refl in
+        thunk-read around (adjusting (non_virtual (signed_of n))) w old t u offset.1 (mark.0 ∙ offset.0) (one Kind.Encoding refl))
+    arm Production.VirtualThunk here o = by-parts (λ w s. KindRead Kind.Special around w old s) Production.VirtualThunk tt tt o
+        (λ n s read b t mark m u more c r end w q one outer.
+        let offset = read Kind.Integer refl in
+        let table = more Kind.Integer refl in
+        thunk-read around (adjusting (by_table (signed_of n) (signed_of m))) w old r q (offset.1, table.1)
+        (end.0 ∙ table.0 ∙ mark.0 ∙ offset.0) (one Kind.Encoding refl))
+    arm Production.CovariantThunk here o = by-parts (λ w s. KindRead Kind.Special around w old s) Production.CovariantThunk tt tt o
+        (λ a s read b t more w u one outer.
+        let this = read Kind.CallOffset refl in
+        let result = more Kind.CallOffset refl in
+        thunk-read around (covariant (adjustment_of a) (adjustment_of b)) w old t u (this.1, result.1) (result.0 ∙ this.0) (one Kind.Encoding refl))
+    arm p here o = absurd here

@@ -3,7 +3,7 @@ use Rattle.std.proofs.Common.{◌≡◌, inl, inr, ℕ, [], Bool, true, false, r
 use Rattle.sym_shape.specs.declared.rule.Sym.TheVariants.{Kind as OfKind}
 use Rattle.cpp_grammar.specs.declared.kind.Kind.{Kind}
 use Rattle.cpp_grammar.specs.declared.production.Production.{Production}
-use Rattle.cpp_grammar.specs.Grammar.{alternatives, number_of_kind, parts_of}
+use Rattle.cpp_grammar.specs.Grammar.{alternatives, number_of_kind, parts_of, number_of}
 use Rattle.cpp_grammar.specs.Term.{any_value, Term, local, within, string_literal}
 use Rattle.cpp_grammar.specs.Values.{State, outermost, behind, Around, Value, unqualified, tree, tree_of, qualifiers_of, ref_of, mark_of, is_there, is_listed, part}
 use Rattle.cpp_grammar.specs.References.{is_function_type, with_type, with_unqualified}
@@ -12,7 +12,7 @@ use Rattle.cpp_grammar.specs.Meaning.{discriminator_of, meaning}
 use Rattle.cpp_grammar.specs.Unfolding as unfolding_
 use Rattle.cpp_press_laws.specs.Texts.{qualifier_letters, mark_letter, name_letters}
 use Rattle.cpp_press_laws.specs.Pressing.{no_ways, type_ways, is_encoding, ways_of}
-use Rattle.cpp_press_laws.specs.Fits.{Slot, bare_type, Role, in_type, in_name_with, letters_of, begins_name, names_type, names_entity, names_in, IsSpellableDiscriminator}
+use Rattle.cpp_press_laws.specs.Fits.{Slot, bare_type, Role, in_type, in_name_with, letters_of, IsAbiMark, begins_name, names_type, names_entity, names_in, IsSpellableDiscriminator}
 use Rattle.cpp_press_laws.proofs.Fits.Types.{SolidFits}
 use Rattle.cpp_press_laws.proofs.Fits.Names.{PieceFits}
 use Rattle.cpp_press_laws.proofs.Fits.Nests.{OwnNameFits, EntityFits}
@@ -21,22 +21,25 @@ use Rattle.cpp_press_laws.proofs.Fits.Locals.{local-typed, local-own}
 use Rattle.cpp_press_laws.proofs.Fits.Sorts.{KindFits}
 use Rattle.cpp_press_laws.proofs.Fits.Own.{piece-entity}
 use Rattle.cpp_press_laws.proofs.ByKind.Pieces.{string-literal-fits, type-begins, begins-entity}
-use Rattle.cpp_press_laws.proofs.ByKind.Known.{EncodingRead, KindRead, BranchRead, InFront, OpenedRead, opened-read, by-parts}
+use Rattle.cpp_press_laws.proofs.ByKind.Known.{EncodingRead, KindRead, BranchRead, InFront, OpenedRead, by-parts, one-read}
 use Rattle.cpp_press_laws.proofs.ByKind.Pieced.{PieceRead, renamed, source-comes, internal-comes, local-type-comes}
+use Rattle.cpp_press_laws.proofs.ByKind.Rules.{IsAmong}
 
 -- ## Entities and their discriminators
 
 -- an entity after its encoding, with a discriminator or none, which leave the state as it is
 local-name : (around : Around) (e entity d : Value) (old mid from late new : State) → EncodingRead around e old mid → from ≡ mid
-    → EntityFits (after (tree_of e) true around) (tree_of entity) (in_name_with (qualifiers_of entity) (ref_of entity)) from late
+    → EntityFits (after (tree_of e) true around) (tree_of entity) (in_name_with (qualifiers_of entity) (ref_of entity)) from late × IsAbiMark (ref_of entity)
     → new ≡ late → IsSpellableDiscriminator (discriminator_of d)
-    → OwnNameFits around (local (tree_of e) (tree_of entity) (discriminator_of d)) (qualifiers_of entity) (ref_of entity) old new
+    → OwnNameFits around (local (tree_of e) (tree_of entity) (discriminator_of d)) (qualifiers_of entity) (ref_of entity) old new × IsAbiMark (ref_of entity)
 local-name around e entity d old mid from late new one same other still good =
     let E : Term = tree_of entity in
     let role : Role = in_name_with (qualifiers_of entity) (ref_of entity) in
-    let inner : Around = after (tree_of e) true around in
-    local-own around (tree_of e) E (discriminator_of d) (qualifiers_of entity) (ref_of entity) old mid new good one.fits
-    (subst (λ s. EntityFits inner E role mid s) (sym still) (subst (λ s. EntityFits inner E role s late) same other))
+    let inner : Around = after (tree_of e) true around in (
+      local-own around (tree_of e) E (discriminator_of d) (qualifiers_of entity) (ref_of entity) old mid new good one.fits
+          (subst (λ s. EntityFits inner E role mid s) (sym still) (subst (λ s. EntityFits inner E role s late) same other.0)),
+      other.1,
+    )
 
 local-solid : (takes : Slot → Bool) (around : Around) (e entity d : Value) (old mid from late new : State) → EncodingRead around e old mid
     → from ≡ mid → EntityFits (after (tree_of e) true around) (tree_of entity) in_type from late → new ≡ late
@@ -80,20 +83,24 @@ pub nested-name-read : (around : Around) (at : ℕ) (old : State) (v : Value) (n
     → OpenedRead Kind.CompleteName around at old v new Production.NestedName → KindRead Kind.CompleteName around v old new
 unfolding parts_of between number_of_kind meaning part unfolding_.behind tree_of qualifiers_of ref_of
 nested-name-read around at old v new o outer =
-    by-parts (λ v s. KindRead Kind.CompleteName around v old s) Production.NestedName tt tt o (λ r a restrict w b volatile c d const m e ref n s one out.
-    subst (λ q. OwnNameFits around (tree_of n) (record { restrict = is_there r; volatile = is_there w; const = is_there c }) (mark_of m) q s)
-    (ref Kind.MaybeRef refl ∙ const Kind.MaybeConst refl ∙ volatile Kind.MaybeVolatile refl ∙ restrict Kind.MaybeRestrict refl)
-    ((one Kind.Nest refl (inl out)).1.own (record { restrict = is_there r; volatile = is_there w; const = is_there c }) (mark_of m))) outer
+    by-parts (λ v s. KindRead Kind.CompleteName around v old s) Production.NestedName tt tt o (λ r a restrict w b volatile c d const m e ref n s one out. (
+      subst (λ q. OwnNameFits around (tree_of n) (record { restrict = is_there r; volatile = is_there w; const = is_there c }) (mark_of m) q s)
+          ((ref Kind.MaybeRef refl).0 ∙ const Kind.MaybeConst refl ∙ volatile Kind.MaybeVolatile refl ∙ restrict Kind.MaybeRestrict refl)
+          ((one Kind.Nest refl (inl out)).1.own (record { restrict = is_there r; volatile = is_there w; const = is_there c }) (mark_of m)),
+      (ref Kind.MaybeRef refl).1,
+    )) outer
 
 nested-entity-read : (around : Around) (at : ℕ) (old : State) (v : Value) (new : State)
     → OpenedRead Kind.Entity around at old v new Production.NestedName → KindRead Kind.Entity around v old new
 unfolding parts_of between number_of_kind meaning part unfolding_.behind tree_of qualifiers_of ref_of
 nested-entity-read around at old v new o e is scoped =
     by-parts (λ v s. KindRead Kind.Entity around v old s) Production.NestedName tt tt o (λ r a restrict w b volatile c d const m x ref n s one f own here.
-    let role : Role = in_name_with (record { restrict = is_there r; volatile = is_there w; const = is_there c }) (mark_of m) in
-    subst (λ q. EntityFits around (tree_of n) role q s)
-    (ref Kind.MaybeRef refl ∙ const Kind.MaybeConst refl ∙ volatile Kind.MaybeVolatile refl ∙ restrict Kind.MaybeRestrict refl)
-    ((one Kind.Nest refl (inr (f, own, here))).1.entity role)) e is scoped
+    let role : Role = in_name_with (record { restrict = is_there r; volatile = is_there w; const = is_there c }) (mark_of m) in (
+      subst (λ q. EntityFits around (tree_of n) role q s)
+          ((ref Kind.MaybeRef refl).0 ∙ const Kind.MaybeConst refl ∙ volatile Kind.MaybeVolatile refl ∙ restrict Kind.MaybeRestrict refl)
+          ((one Kind.Nest refl (inr (f, own, here))).1.entity role),
+      (ref Kind.MaybeRef refl).1,
+    )) e is scoped
 
 nested-type-read : (around : Around) (at : ℕ) (old : State) (v : Value) (new : State)
     → OpenedRead Kind.TypeEntity around at old v new Production.NestedType → KindRead Kind.TypeEntity around v old new
@@ -113,8 +120,11 @@ string-read : (around : Around) (at : ℕ) (old : State) (v : Value) (new : Stat
 unfolding parts_of meaning unfolding_.behind tree_of qualifiers_of ref_of extended letters_of name_letters qualifier_letters mark_letter names_in names_entity
 string-read around at old v new o e is scoped =
     by-parts (λ v s. KindRead Kind.Entity around v old s) Production.StringLiteral tt tt o
-    (λ f own here. subst (λ prefix. EntityFits around (extended prefix string_literal) plain_name old old) (sym here)
-    (local-entity around f string_literal plain_name old old own here refl refl (string-literal-fits around old))) e is scoped
+    (λ f own here. (
+      subst (λ prefix. EntityFits around (extended prefix string_literal) plain_name old old) (sym here)
+          (local-entity around f string_literal plain_name old old own here refl refl (string-literal-fits around old)),
+      tt,
+    )) e is scoped
 
 -- ## Entities of one piece
 
@@ -162,7 +172,7 @@ type-pieces = record { none = refl; takes = λ p begins. begins }
 
 name-reads : Reads Kind.Entity plain_name
 unfolding tree_of qualifiers_of ref_of
-name-reads around t old new one = one
+name-reads around t old new one e is scoped = (one e is scoped, tt)
 
 type-reads : Reads Kind.TypeEntity in_type
 unfolding tree_of
@@ -170,15 +180,10 @@ type-reads around t old new one = one
 
 -- an entity that a name ends in, where its parts were read so
 pub entity-branch : BranchRead Kind.Entity
-unfolding alternatives
+unfolding alternatives number_of
 entity-branch rule taken parts all around at old v new front is e =
-    elim (opened-read Kind.Entity rule taken parts all around at old v new front is e) [
-      | inl o ↦ string-read around at old v new o
-      | inr (inl o) ↦ nested-entity-read around at old v new o
-      | inr (inr (inl o)) ↦ piece (internal-comes Kind.Entity around at old v new o)
-      | inr (inr (inr (inl o))) ↦ typed (local-type-comes Kind.Entity around at old v new o)
-      | inr (inr (inr (inr o))) ↦ typed (source-comes Kind.Entity around at old v new o)
-    ]
+    let one = one-read Kind.Entity rule taken parts all around at old v new front is e in
+    arm one.0 one.1 one.2
   where
     piece : PieceRead begins_name around v old new → KindRead Kind.Entity around v old new
     piece o = entity-piece Kind.Entity plain_name name-pieces name-reads around v old new o
@@ -186,19 +191,32 @@ entity-branch rule taken parts all around at old v new front is e =
     typed : PieceRead names_type around v old new → KindRead Kind.Entity around v old new
     typed o = piece (renamed names_type begins_name around v old new type-begins o)
 
+    arm : (p : Production) → IsAmong (alternatives Kind.Entity) p → OpenedRead Kind.Entity around at old v new p
+        → KindRead Kind.Entity around v old new
+    arm Production.StringLiteral here o = string-read around at old v new o
+    arm Production.NestedName here o = nested-entity-read around at old v new o
+    arm Production.InternalName here o = piece (internal-comes Kind.Entity around at old v new o)
+    arm Production.LocalTypeName here o = typed (local-type-comes Kind.Entity around at old v new o)
+    arm Production.SourceName here o = typed (source-comes Kind.Entity around at old v new o)
+    arm p here o = absurd here
+
 -- a type in the scope of an encoding, where its parts were read so
 pub type-entity-branch : BranchRead Kind.TypeEntity
-unfolding alternatives
+unfolding alternatives number_of
 type-entity-branch rule taken parts all around at old v new front is e =
-    elim (opened-read Kind.TypeEntity rule taken parts all around at old v new front is e) [
-      | inl o ↦ nested-type-read around at old v new o
-      | inr (inl o) ↦ piece (internal-comes Kind.TypeEntity around at old v new o)
-      | inr (inr (inl o)) ↦ typed (local-type-comes Kind.TypeEntity around at old v new o)
-      | inr (inr (inr o)) ↦ typed (source-comes Kind.TypeEntity around at old v new o)
-    ]
+    let one = one-read Kind.TypeEntity rule taken parts all around at old v new front is e in
+    arm one.0 one.1 one.2
   where
     piece : PieceRead begins_name around v old new → KindRead Kind.TypeEntity around v old new
     piece o = entity-piece Kind.TypeEntity in_type type-pieces type-reads around v old new o
 
     typed : PieceRead names_type around v old new → KindRead Kind.TypeEntity around v old new
     typed o = piece (renamed names_type begins_name around v old new type-begins o)
+
+    arm : (p : Production) → IsAmong (alternatives Kind.TypeEntity) p → OpenedRead Kind.TypeEntity around at old v new p
+        → KindRead Kind.TypeEntity around v old new
+    arm Production.NestedType here o = nested-type-read around at old v new o
+    arm Production.InternalName here o = piece (internal-comes Kind.TypeEntity around at old v new o)
+    arm Production.LocalTypeName here o = typed (local-type-comes Kind.TypeEntity around at old v new o)
+    arm Production.SourceName here o = typed (source-comes Kind.TypeEntity around at old v new o)
+    arm p here o = absurd here

@@ -17,7 +17,7 @@ use Rattle.cpp_grammar.specs.KindNumbers.{KIND_COUNT}
 use Rattle.cpp_grammar.specs.Grammar.{Alternative, alternatives, choose, number_of_kind, parts_of, is_chain}
 use Rattle.cpp_grammar.specs.Table.{abi}
 use Rattle.cpp_grammar.specs.Term.{Term, Thunk, special, thunk, of_name, literal_operator}
-use Rattle.cpp_grammar.specs.Values.{State, outermost, behind, Around, Value, nothing_there, letter, text, tree, piece, tree_of, piece_of, qualifiers_of, ref_of, letter_of, text_of, signed_of, adjustment_of}
+use Rattle.cpp_grammar.specs.Values.{State, outermost, behind, Around, Value, nothing_there, letter, text, tree, piece, tree_of, piece_of, qualifiers_of, ref_of, letter_of, text_of, signed_of, adjustment_of, mark_of}
 use Rattle.cpp_grammar.specs.References.{with_prefix}
 use Rattle.cpp_grammar.specs.Between.{after, Going, between}
 use Rattle.cpp_grammar.specs.Meaning.{discriminator_of}
@@ -29,12 +29,12 @@ use Rattle.cpp_grammar.proofs.ClosedTrees.{is_encoding as holds_encoding, has_en
 use Rattle.cpp_grammar.proofs.Growing.{same_choice, each_below, below as below_, kept}
 use Rattle.cpp_press_laws.proofs.ByKind.AbiTrees.{known, tree_good}
 use Rattle.cpp_press_laws.specs.Pressing.{is_encoding}
-use Rattle.cpp_press_laws.specs.Fits.{in_type, in_name_with, any_type, names_type, begins_name, names_function, IsSpellableOffset, IsSpellableThunk, IsSpellableDiscriminator, IsSpellableSuffix}
+use Rattle.cpp_press_laws.specs.Fits.{in_type, in_name_with, any_type, names_type, begins_name, names_function, IsSpellableOffset, IsSpellableThunk, IsSpellableDiscriminator, IsSpellableSuffix, IsAbiMark}
 use Rattle.cpp_press_laws.specs.Spellable.{IsSpellableName, IsSpellableNumber, AreSuffixBytes}
 use Rattle.cpp_press_laws.proofs.ByKind.Leaves.{name-read}
 use Rattle.cpp_press_laws.proofs.ByKind.LeafKinds.{byte-read, number-read}
 use Rattle.cpp_press_laws.proofs.ByKind.Steps.{lambdas-go}
-use Rattle.cpp_press_laws.proofs.ByKind.Rules.{AllOf, OneOf, picked-one, Opened, opened, OnGoing, PartGoes, PartsGo}
+use Rattle.cpp_press_laws.proofs.ByKind.Rules.{AllOf, OneOf, OneAmong, by-name, picked-one, Opened, opened, OnGoing, PartGoes, PartsGo}
 use Rattle.cpp_press_laws.proofs.Fits.Read.{Wherever}
 use Rattle.cpp_press_laws.proofs.Fits.Types.{TypeFits}
 use Rattle.cpp_press_laws.proofs.Fits.Names.{PrefixFits, PieceFits}
@@ -74,7 +74,7 @@ SpecialRead around v old new =
 
 -- an encoding's own name
 abbrev pub OwnNameRead : Around → Value → (old new : State) → Type 0
-OwnNameRead around v old new = OwnNameFits around (tree_of v) (qualifiers_of v) (ref_of v) old new
+OwnNameRead around v old new = OwnNameFits around (tree_of v) (qualifiers_of v) (ref_of v) old new × IsAbiMark (ref_of v)
 
 -- a guard variable, but for the G
 abbrev pub GuardRead : Around → Value → (old new : State) → Type 0
@@ -99,7 +99,7 @@ KindRead Kind.NameAfterS around v old new = around.prefix ≡ outermost → OwnN
 KindRead Kind.MaybeRestrict around v old new = new ≡ old
 KindRead Kind.MaybeVolatile around v old new = new ≡ old
 KindRead Kind.MaybeConst around v old new = new ≡ old
-KindRead Kind.MaybeRef around v old new = new ≡ old
+KindRead Kind.MaybeRef around v old new = (new ≡ old) × IsAbiMark (mark_of v)
 KindRead Kind.Unqualified around v old new = (names_function (piece_of v) ≡ true) × PieceFits around (piece_of v) old new
 KindRead Kind.Nest around v old new = BeginsName around → NestRead around v old new
 KindRead Kind.NestAfterS around v old new = BeginsName around → NestRead around v old new
@@ -118,20 +118,20 @@ KindRead Kind.NestMoreOrEnd around v old new =
     (outer : Around) (t : Term) (start : State) → around ≡ after t false outer → Wherever outer start (is_encoding t ≡ false)
     → PrefixFits outer t start (with_prefix (after t false outer) old) → NestRead outer v start new
 KindRead Kind.Component around v old new =
-    (outer : Around) (t : Term) (start : State) → around ≡ after t true outer → Wherever outer start (is_encoding t ≡ false)
+    (outer : Around) (t : Term) (listed : Bool) (start : State) → around ≡ after t listed outer → Wherever outer start (is_encoding t ≡ false)
     → PrefixFits outer t start old → NestRead outer v start new
 KindRead Kind.ComponentAfterC around v old new =
-    (outer : Around) (t : Term) (start : State) → around ≡ after t true outer → Wherever outer start (is_encoding t ≡ false)
+    (outer : Around) (t : Term) (listed : Bool) (start : State) → around ≡ after t listed outer → Wherever outer start (is_encoding t ≡ false)
     → PrefixFits outer t start old → NestRead outer v start new
 KindRead Kind.ConstructorAfterC around v old new =
-    (outer : Around) (t : Term) (start : State) → around ≡ after t true outer → Wherever outer start (is_encoding t ≡ false)
+    (outer : Around) (t : Term) (listed : Bool) (start : State) → around ≡ after t listed outer → Wherever outer start (is_encoding t ≡ false)
     → PrefixFits outer t start old → NestRead outer v start new
 KindRead Kind.ConstructorDigit around v old new = MarkRead Kind.ConstructorDigit v old new
 KindRead Kind.DestructorDigit around v old new = MarkRead Kind.DestructorDigit v old new
 KindRead Kind.Abbreviation around v old new = KindFits Kind.Abbreviation around v old new
 KindRead Kind.Entity around v old new =
     (e : Term) → is_encoding e ≡ true → around.prefix ≡ behind e true
-    → EntityFits around (tree_of v) (in_name_with (qualifiers_of v) (ref_of v)) old new
+    → EntityFits around (tree_of v) (in_name_with (qualifiers_of v) (ref_of v)) old new × IsAbiMark (ref_of v)
 KindRead Kind.TypeEntity around v old new =
     (e : Term) → is_encoding e ≡ true → around.prefix ≡ behind e true → EntityFits around (tree_of v) in_type old new
 KindRead Kind.MaybeDiscriminator around v old new = (new ≡ old) × IsSpellableDiscriminator (discriminator_of v)
@@ -413,6 +413,18 @@ opened-read kind rule taken parts all around at old v new front is e =
     each (a ∷ []) o = opened-as kind around at old v new (OfKind (number_of_kind kind)) front a.production o
     each (a ∷ b ∷ rest) (inl o) = inl (opened-as kind around at old v new (OfKind (number_of_kind kind)) front a.production o)
     each (a ∷ b ∷ rest) (inr o) = inr (each (b ∷ rest) o)
+
+-- what one of a kind's productions was read as, by the production's name
+abbrev pub OneRead : Kind → Around → (at : ℕ) → (old : State) → Value → (new : State) → Type 0
+OneRead kind around at old v new = OneAmong (alternatives kind) (OpenedRead kind around at old v new)
+
+pub one-read : (kind : Kind) (rule : Rule) (taken : List ℕ) (parts : Forest) → AllOf ShapeRead parts
+    → (around : Around) (at : ℕ) (old : State)
+    (v : Value) (new : State) → InFront (OfKind (number_of_kind kind)) around at old
+    → IsTree abi (OfKind (number_of_kind kind)) (branch rule taken parts)
+    → unfold_tree cpp around at (branch rule taken parts) old ≡ Ok (found (v ∷ []) new) → OneRead kind around at old v new
+one-read kind rule taken parts all around at old v new front is e =
+    by-name (alternatives kind) (OpenedRead kind around at old v new) (opened-read kind rule taken parts all around at old v new front is e)
 
 -- what one kind takes at each byte another one does
 pub taken-as : (j k : Kind) → each_below 256 (λ b. same_choice (choose j b) (choose k b)) ≡ true

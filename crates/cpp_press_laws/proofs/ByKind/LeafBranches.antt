@@ -1,17 +1,21 @@
 -- Marks, letters, numbers, offsets, discriminators and suffixes that were read, as it is known of their kinds: nothing else changes.
-use Rattle.std.proofs.Common.{◌≡◌, ℕ, inl, inr, List, [], ◌∷◌, true, false, refl, ap, arith, sym, subst, ◌∙◌}
+use Rattle.std.proofs.Common.{◌≡◌, ℕ, inl, inr, List, [], ◌∷◌, true, false, refl, ap, arith, sym, subst, ◌∙◌, Option, None, Some}
 use Rattle.cpp_grammar.specs.declared.kind.Kind.{Kind}
 use Rattle.cpp_grammar.specs.declared.production.Production.{Production}
-use Rattle.cpp_grammar.specs.Grammar.{Alternative, alternatives, choose, is_chain, parts_of}
-use Rattle.cpp_grammar.specs.Values.{State, Around, Value, letter_of, text_of, signed_of, adjustment_of, normal, part}
+use Rattle.cpp_grammar.specs.Grammar.{Alternative, alternatives, choose, is_chain, parts_of, pick, is_in, in_ranges, among, number_of}
+use Rattle.cpp_grammar.specs.Values.{State, Around, Value, letter_of, text_of, signed_of, adjustment_of, normal, part, mark_of, letter}
 use Rattle.cpp_grammar.specs.Between.{between}
 use Rattle.cpp_grammar.specs.Meaning.{meaning, discriminator_of}
 use Rattle.cpp_grammar.specs.Unfolding as unfolding_
 use Rattle.cpp_grammar.specs.Unfolding.{byte_of}
-use Rattle.cpp_press_laws.specs.Fits.{IsSpellableSuffix}
-use Rattle.cpp_press_laws.proofs.ByKind.Rules.{OneOf}
+use Rattle.cpp_press_laws.specs.Fits.{IsSpellableSuffix, IsAbiMark}
+use Rattle.cpp_press_laws.proofs.ByKind.Rules.{OneOf, IsAmong}
 use Rattle.cpp_press_laws.proofs.ByKind.LeafKinds.{own-byte, only-at, signed-spellable, normal-digits, spellable-discriminator}
-use Rattle.cpp_press_laws.proofs.ByKind.Known.{KindRead, MarkRead, OpenedRead, opened-read, by-parts, BranchTo, BranchRead}
+use Rattle.cpp_press_laws.proofs.ByKind.Known.{KindRead, MarkRead, OpenedRead, opened-read, by-parts, BranchTo, BranchRead, one-read}
+use Rattle.std.specs.Prelude.{nat_eq, cond}
+use Rattle.std.proofs.lemmas.Bool.{eqb-true}
+use Rattle.cpp_grammar.specs.Term.{lvalue_only, rvalue_only, explicit_object}
+use Rattle.cpp_grammar.proofs.Chosen.{either_cond}
 
 -- ## Marks
 
@@ -44,39 +48,69 @@ pub mark-branch : (kind : Kind) → OnlyMarks (alternatives kind) → BranchTo k
 mark-branch kind only rule taken parts all around at old v new front is e =
     (letter-branch kind only rule taken parts all around at old v new front is e).0
 
+-- a letter of the kind isn't that of an explicit object
+abi-mark : (byte : ℕ) → choose Kind.MaybeRef byte ≡ Some Production.Mark → IsAbiMark (mark_of (letter byte))
+unfolding mark_of alternatives choose pick is_in in_ranges among
+abi-mark byte chosen =
+    either_cond IsAbiMark (nat_eq byte 82) lvalue_only (cond (nat_eq byte 72) explicit_object rvalue_only) (λ is. tt)
+    (λ other. either_cond IsAbiMark (nat_eq byte 72) explicit_object rvalue_only (λ is. never (subst (λ b. choose Kind.MaybeRef b ≡ Some Production.Mark)
+    (eqb-true byte 72 is) chosen)) (λ no. tt))
+  where
+    never : ◌≡◌ {A = Option Production} None (Some Production.Mark) → ⊥
+    never h = cc
+
+-- a reference mark
+pub ref-branch : BranchRead Kind.MaybeRef
+unfolding alternatives
+ref-branch rule taken parts all around at old v new front is e =
+    let one = letter-branch Kind.MaybeRef (refl, tt) rule taken parts all around at old v new front is e in
+    (one.0, subst (λ w. IsAbiMark (mark_of w)) (sym one.1) (abi-mark (letter_of v) one.3))
+
 -- after an l: a letter, or the name of a literal operator
 pub operator-after-l-branch : BranchRead Kind.OperatorAfterL
-unfolding alternatives parts_of between meaning part unfolding_.behind
+unfolding alternatives parts_of between meaning part unfolding_.behind number_of
 operator-after-l-branch rule taken parts all around at old v new front is e =
-    elim (opened-read Kind.OperatorAfterL rule taken parts all around at old v new front is e) [
-      | inl o ↦ inl (mark-taken Kind.OperatorAfterL o)
-      | inr o ↦ by-parts (λ w s. KindRead Kind.OperatorAfterL around w old s) Production.LiteralOperator tt tt o
-          (λ w s name. inr (text_of w, name.0, refl, name.2))
-    ]
+    let one = one-read Kind.OperatorAfterL rule taken parts all around at old v new front is e in
+    arm one.0 one.1 one.2
+  where
+    arm : (p : Production) → IsAmong (alternatives Kind.OperatorAfterL) p → OpenedRead Kind.OperatorAfterL around at old v new p
+        → KindRead Kind.OperatorAfterL around v old new
+    arm Production.Mark here o = inl (mark-taken Kind.OperatorAfterL o)
+    arm Production.LiteralOperator here o = by-parts (λ w s. KindRead Kind.OperatorAfterL around w old s) Production.LiteralOperator tt tt o
+        (λ w s name. inr (text_of w, name.0, refl, name.2))
+    arm p here o = absurd here
 
 -- ## Numbers and offsets
 
 pub integer-branch : BranchRead Kind.Integer
-unfolding alternatives parts_of between meaning part unfolding_.behind signed_of
+unfolding alternatives parts_of between meaning part unfolding_.behind signed_of number_of
 integer-branch rule taken parts all around at old v new front is e =
-    elim (opened-read Kind.Integer rule taken parts all around at old v new front is e) [
-      | inl o ↦ by-parts (λ w s. KindRead Kind.Integer around w old s) Production.Negative tt tt o
-          (λ w s number. (number.0, signed-spellable true (text_of w) number.2))
-      | inr o ↦ by-parts (λ w s. KindRead Kind.Integer around w old s) Production.Positive tt tt o
-          (λ w s number. (number.0, signed-spellable false (text_of w) number.2))
-    ]
+    let one = one-read Kind.Integer rule taken parts all around at old v new front is e in
+    arm one.0 one.1 one.2
+  where
+    arm : (p : Production) → IsAmong (alternatives Kind.Integer) p → OpenedRead Kind.Integer around at old v new p
+        → KindRead Kind.Integer around v old new
+    arm Production.Negative here o = by-parts (λ w s. KindRead Kind.Integer around w old s) Production.Negative tt tt o
+        (λ w s number. (number.0, signed-spellable true (text_of w) number.2))
+    arm Production.Positive here o = by-parts (λ w s. KindRead Kind.Integer around w old s) Production.Positive tt tt o
+        (λ w s number. (number.0, signed-spellable false (text_of w) number.2))
+    arm p here o = absurd here
 
 pub call-offset-branch : BranchRead Kind.CallOffset
-unfolding alternatives parts_of between meaning part unfolding_.behind adjustment_of
+unfolding alternatives parts_of between meaning part unfolding_.behind adjustment_of number_of
 call-offset-branch rule taken parts all around at old v new front is e =
-    elim (opened-read Kind.CallOffset rule taken parts all around at old v new front is e) [
-      | inl o ↦ by-parts (λ w s. KindRead Kind.CallOffset around w old s) Production.NonVirtualOffset tt tt o (λ w s read m t mark.
-          let one = read Kind.Integer refl in (mark.0 ∙ one.0, one.1))
-      | inr o ↦ by-parts (λ w s. KindRead Kind.CallOffset around w old s) Production.VirtualOffset tt tt o (λ w s read m t mark x u more b q end.
-          let one = read Kind.Integer refl in
-          let two = more Kind.Integer refl in
-          (end.0 ∙ two.0 ∙ mark.0 ∙ one.0, (one.1, two.1)))
-    ]
+    let one = one-read Kind.CallOffset rule taken parts all around at old v new front is e in
+    arm one.0 one.1 one.2
+  where
+    arm : (p : Production) → IsAmong (alternatives Kind.CallOffset) p → OpenedRead Kind.CallOffset around at old v new p
+        → KindRead Kind.CallOffset around v old new
+    arm Production.NonVirtualOffset here o = by-parts (λ w s. KindRead Kind.CallOffset around w old s) Production.NonVirtualOffset tt tt o (λ w s read m t mark.
+        let one = read Kind.Integer refl in (mark.0 ∙ one.0, one.1))
+    arm Production.VirtualOffset here o = by-parts (λ w s. KindRead Kind.CallOffset around w old s) Production.VirtualOffset tt tt o (λ w s read m t mark x u more b q end.
+        let one = read Kind.Integer refl in
+        let two = more Kind.Integer refl in
+        (end.0 ∙ two.0 ∙ mark.0 ∙ one.0, (one.1, two.1)))
+    arm p here o = absurd here
 
 -- ## Discriminators
 
@@ -87,16 +121,20 @@ discriminator-branch rule taken parts all around at old v new front is e =
     by-parts (λ w s. KindRead Kind.MaybeDiscriminator around w old s) Production.Discriminator tt tt o (λ w s rest. rest Kind.DiscriminatorRest refl)
 
 pub discriminator-rest-branch : BranchRead Kind.DiscriminatorRest
-unfolding alternatives parts_of between meaning part unfolding_.behind is_chain discriminator_of
+unfolding alternatives parts_of between meaning part unfolding_.behind is_chain discriminator_of number_of
 discriminator-rest-branch rule taken parts all around at old v new front is e =
-    elim (opened-read Kind.DiscriminatorRest rule taken parts all around at old v new front is e) [
-      | inl o ↦
-          let eaten : byte_of o.taken ≡ o.byte = own-byte Production.OneDigit o.taken o.byte o.takes refl in
-          by-parts (λ w s. KindRead Kind.DiscriminatorRest around w old s) Production.OneDigit tt tt o
-          (refl, (omega (arith, eaten, o.small), ap (choose Kind.DiscriminatorRest) eaten ∙ o.chosen))
-      | inr o ↦ by-parts (λ w s. KindRead Kind.DiscriminatorRest around w old s) Production.ManyDigits tt tt o (λ w s number m t mark.
-          (mark.0 ∙ number.0, spellable-discriminator (normal (text_of w)) (normal-digits (text_of w) number.2)))
-    ]
+    let one = one-read Kind.DiscriminatorRest rule taken parts all around at old v new front is e in
+    arm one.0 one.1 one.2
+  where
+    arm : (p : Production) → IsAmong (alternatives Kind.DiscriminatorRest) p → OpenedRead Kind.DiscriminatorRest around at old v new p
+        → KindRead Kind.DiscriminatorRest around v old new
+    arm Production.OneDigit here o =
+        let eaten : byte_of o.taken ≡ o.byte = own-byte Production.OneDigit o.taken o.byte o.takes refl in
+        by-parts (λ w s. KindRead Kind.DiscriminatorRest around w old s) Production.OneDigit tt tt o
+        (refl, (omega (arith, eaten, o.small), ap (choose Kind.DiscriminatorRest) eaten ∙ o.chosen))
+    arm Production.ManyDigits here o = by-parts (λ w s. KindRead Kind.DiscriminatorRest around w old s) Production.ManyDigits tt tt o (λ w s number m t mark.
+        (mark.0 ∙ number.0, spellable-discriminator (normal (text_of w)) (normal-digits (text_of w) number.2)))
+    arm p here o = absurd here
 
 -- ## Suffixes
 

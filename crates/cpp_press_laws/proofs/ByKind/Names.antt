@@ -3,7 +3,7 @@ use Rattle.std.proofs.Common.{◌≡◌, ℕ, ◌-◌, inl, inr, Bool, true, fal
 use Rattle.sym_shape.specs.declared.rule.Sym.TheVariants.{Kind as OfKind}
 use Rattle.cpp_grammar.specs.declared.kind.Kind.{Kind}
 use Rattle.cpp_grammar.specs.declared.production.Production.{Production}
-use Rattle.cpp_grammar.specs.Grammar.{alternatives, number_of_kind, parts_of}
+use Rattle.cpp_grammar.specs.Grammar.{alternatives, number_of_kind, parts_of, number_of}
 use Rattle.cpp_grammar.specs.Term.{Term, in_std, parameter}
 use Rattle.cpp_grammar.specs.Values.{State, outermost, Around, prefix_tree, prefix_listed, Value, tree, tree_of, piece_of, is_listed, is_there, qualifiers_of, ref_of, part}
 use Rattle.cpp_grammar.specs.References.{appended, with_prefix, parameter_named}
@@ -21,9 +21,10 @@ use Rattle.cpp_press_laws.proofs.Fits.Sorts.{NameRead, KindFits}
 use Rattle.cpp_press_laws.proofs.Fits.Typed.{abbreviated-type, name-type, parameter-name}
 use Rattle.cpp_press_laws.proofs.Fits.Own.{piece-solid, piece-own, nest-solid, std-own, named-own}
 use Rattle.cpp_press_laws.proofs.ByKind.Pieces.{type-begins, begins-function}
-use Rattle.cpp_press_laws.proofs.ByKind.Known.{OwnNameRead, InFront, OpenedRead, opened-read, by-parts, BranchRead}
+use Rattle.cpp_press_laws.proofs.ByKind.Known.{OwnNameRead, InFront, OpenedRead, opened-read, by-parts, BranchRead, one-read}
 use Rattle.cpp_press_laws.proofs.ByKind.Pieced.{PieceRead, renamed, source-comes, internal-comes, local-type-comes, operator-comes}
 use Rattle.cpp_press_laws.proofs.ByKind.Nests.{parameter-goes}
+use Rattle.cpp_press_laws.proofs.ByKind.Rules.{IsAmong}
 
 -- ## Arguments
 
@@ -86,13 +87,17 @@ maybe-tags-branch rule taken parts all around at old v new front is e =
     absurd (opened-read Kind.MaybeTags rule taken parts all around at old v new front is e)
 
 pub type-after-s-branch : BranchRead Kind.TypeAfterS
-unfolding alternatives parts_of number_of_kind between meaning part unfolding_.behind
+unfolding alternatives parts_of number_of_kind between meaning part unfolding_.behind number_of
 type-after-s-branch rule taken parts all around at old v new front is e outer =
-    elim (opened-read Kind.TypeAfterS rule taken parts all around at old v new front is e) [
-      | inl o ↦ by-parts (λ w s. NameRead around w old s) Production.TypeInStd tt tt o (λ w s one. one Kind.TypeInStd refl outer)
-      | inr o ↦ by-parts (λ w s. NameRead around w old s) Production.AbbreviatedType tt tt o
-          (λ w s one. abbreviated-type around (byte_of o.taken) old w old s (one Kind.Abbreviation refl))
-    ]
+    let one = one-read Kind.TypeAfterS rule taken parts all around at old v new front is e in
+    arm one.0 one.1 one.2
+  where
+    arm : (p : Production) → IsAmong (alternatives Kind.TypeAfterS) p → OpenedRead Kind.TypeAfterS around at old v new p
+        → KindFits Kind.TypeAfterS around v old new
+    arm Production.TypeInStd here o = by-parts (λ w s. NameRead around w old s) Production.TypeInStd tt tt o (λ w s one. one Kind.TypeInStd refl outer)
+    arm Production.AbbreviatedType here o = by-parts (λ w s. NameRead around w old s) Production.AbbreviatedType tt tt o
+        (λ w s one. abbreviated-type around (byte_of o.taken) old w old s (one Kind.Abbreviation refl))
+    arm p here o = absurd here
 
 -- ## Names as types
 
@@ -170,9 +175,11 @@ read-own : (around : Around) (v : Value) (old new : State) → around.prefix ≡
 unfolding extended tree_of qualifiers_of ref_of
 read-own around v old new outer o =
     subst (λ w. OwnNameRead around w old new) (sym o.value)
-    (subst (λ q. OwnNameRead around (tree (applied (extended q o.piece) o.arguments) false) old new) (sym outer)
-    (piece-own around o.piece o.arguments old o.mid new outer o.named o.fits
-    (subst (λ q. KindFits Kind.MaybeArguments (after (extended q o.piece) false around) o.arguments o.mid new) outer o.later)))
+    (subst (λ q. OwnNameRead around (tree (applied (extended q o.piece) o.arguments) false) old new) (sym outer) (
+      piece-own around o.piece o.arguments old o.mid new outer o.named o.fits
+          (subst (λ q. KindFits Kind.MaybeArguments (after (extended q o.piece) false around) o.arguments o.mid new) outer o.later),
+      tt,
+    ))
 
 type-function : (p : Term) → names_type p ≡ true → names_function p ≡ true
 type-function p names = begins-function p (type-begins p names)
@@ -206,14 +213,18 @@ with-s-own around at old v new outer o =
     by-parts (λ w s. OwnNameRead around w old s) Production.NameWithS tt tt o (λ w s one. one Kind.NameAfterS refl outer)
 
 pub name-after-s-branch : BranchRead Kind.NameAfterS
-unfolding alternatives parts_of number_of_kind between named_so_far listed_so_far applied is_there tree_of qualifiers_of ref_of meaning part unfolding_.behind
+unfolding alternatives parts_of number_of_kind between named_so_far listed_so_far applied is_there tree_of qualifiers_of ref_of meaning part unfolding_.behind number_of
 name-after-s-branch rule taken parts all around at old v new front is e outer =
-    elim (opened-read Kind.NameAfterS rule taken parts all around at old v new front is e) [
-      | inl o ↦ by-parts (λ w s. OwnNameRead around w old s) Production.StdName tt tt o (λ w s read b q more.
-          let one = read Kind.Unqualified refl in
-          std-own around (piece_of w) b old s q one.0 one.1 (more Kind.MaybeArguments refl))
-      | inr o ↦ by-parts (λ w s. OwnNameRead around w old s) Production.AbbreviatedName tt tt o (λ w s one b q more.
-          let behind_ = more Kind.Arguments refl in
-          subst (λ t. OwnNameRead around (tree t false) old q) (sym (ap (λ u. applied (tree_of w) u) behind_.0))
-          (named-own around w b old s q (one Kind.Abbreviation refl) behind_.1))
-    ]
+    let one = one-read Kind.NameAfterS rule taken parts all around at old v new front is e in
+    arm one.0 one.1 one.2
+  where
+    arm : (p : Production) → IsAmong (alternatives Kind.NameAfterS) p → OpenedRead Kind.NameAfterS around at old v new p
+        → OwnNameRead around v old new
+    arm Production.StdName here o = by-parts (λ w s. OwnNameRead around w old s) Production.StdName tt tt o (λ w s read b q more.
+        let one = read Kind.Unqualified refl in
+        (std-own around (piece_of w) b old s q one.0 one.1 (more Kind.MaybeArguments refl), tt))
+    arm Production.AbbreviatedName here o = by-parts (λ w s. OwnNameRead around w old s) Production.AbbreviatedName tt tt o (λ w s one b q more.
+        let behind_ = more Kind.Arguments refl in
+        subst (λ t. OwnNameRead around (tree t false) old q) (sym (ap (λ u. applied (tree_of w) u) behind_.0))
+        (named-own around w b old s q (one Kind.Abbreviation refl) behind_.1, tt))
+    arm p here o = absurd here

@@ -1,10 +1,10 @@
 -- Names between N and E that were read, part by part: what is read after the name so far makes a name that fits in each of its ways.
-use Rattle.std.proofs.Common.{◌≡◌, ℕ, inl, inr, [], ◌∷◌, Bool, true, false, Result, Ok, Err, refl, sym, subst}
+use Rattle.std.proofs.Common.{◌≡◌, ℕ, [], ◌∷◌, Bool, true, false, Result, Ok, Err, refl, sym, subst}
 use Rattle.sym_core.specs.declared.refusal.Refusal.{Refusal}
 use Rattle.sym_link.specs.Reading.{Next, ◌>>=◌}
 use Rattle.cpp_grammar.specs.declared.kind.Kind.{Kind}
 use Rattle.cpp_grammar.specs.declared.production.Production.{Production}
-use Rattle.cpp_grammar.specs.Grammar.{alternatives, number_of_kind, parts_of}
+use Rattle.cpp_grammar.specs.Grammar.{alternatives, number_of_kind, parts_of, number_of}
 use Rattle.cpp_grammar.specs.Term.{Term, in_std, instance, parameter, source}
 use Rattle.cpp_grammar.specs.Values.{State, Around, prefix_tree, prefix_listed, Value, tree, tree_of, piece_of, text_of, part}
 use Rattle.cpp_grammar.specs.References.{appended, with_prefix, parameter_named}
@@ -20,8 +20,8 @@ use Rattle.cpp_press_laws.proofs.Fits.Solids.{LambdasAreBare, ParameterNamed, pa
 use Rattle.cpp_press_laws.proofs.Fits.Rests.{NestRead, SoFarFits, component-read, std-read}
 use Rattle.cpp_press_laws.proofs.Fits.Firsts.{BeginsName, named-so-far, parameter-so-far, piece-so-far, arguments-so-far}
 use Rattle.cpp_press_laws.proofs.ByKind.Pieces.{type-begins, begins-function, function-member}
-use Rattle.cpp_press_laws.proofs.ByKind.Rules.{OneOf}
-use Rattle.cpp_press_laws.proofs.ByKind.Known.{KindRead, OpenedRead, opened-read, by-parts, BranchRead, Unless}
+use Rattle.cpp_press_laws.proofs.ByKind.Rules.{OneOf, IsAmong}
+use Rattle.cpp_press_laws.proofs.ByKind.Known.{KindRead, OpenedRead, opened-read, by-parts, BranchRead, Unless, one-read, OneRead}
 use Rattle.cpp_press_laws.proofs.ByKind.Pieced.{PieceRead, renamed, name-piece, source-comes, internal-comes, local-type-comes, other-operator-comes, operator-with-c-comes, constructor-comes, destructor-comes}
 
 -- ## After a name
@@ -40,7 +40,7 @@ nest-next : (kind : Kind) (outer : Around) (t : Term) (listed : Bool) (start : S
 unfolding parts_of number_of_kind between after prefix_tree meaning part unfolding_.behind
 nest-next kind outer t listed start at old v new apart prefix o =
     by-parts (λ w s. NestRead outer w start s) Production.NestNext tt tt o (λ w s one x q two.
-    two Kind.NestTail refl outer (tree_of w) start refl (one Kind.Component refl outer t start refl apart prefix).1)
+    two Kind.NestTail refl outer (tree_of w) start refl (one Kind.Component refl outer t listed start refl apart prefix).1)
 
 -- arguments, which end a prefix, and a further piece
 nest-arguments : (kind : Kind) (outer : Around) (t : Term) (listed : Bool) (start : State) (at : ℕ) (old : State) (v : Value) (new : State)
@@ -53,7 +53,7 @@ nest-arguments kind outer t listed start at old v new so_far o =
     let prefix : PrefixFits outer own start (appended (after t listed outer) own r) =
     subst (λ s. PrefixFits outer own start (appended (after t listed outer) own s)) (sym end.0)
     (arguments-so-far outer t listed a start old s so_far (given Kind.ArgumentsFirst refl refl)) in
-    two Kind.NestTail refl outer (tree_of c) start refl (one Kind.Component refl outer own start refl (λ n place cs front. refl) prefix).1)
+    two Kind.NestTail refl outer (tree_of c) start refl (one Kind.Component refl outer own false start refl (λ n place cs front. refl) prefix).1)
 
 -- arguments of a name that an S stands for, and a further piece
 nest-instance : (outer : Around) (t : Term) (listed : Bool) (start : State) (at : ℕ) (old : State) (v : Value) (new : State)
@@ -75,98 +75,117 @@ nest-more-or-end-branch rule taken parts all around at old v new front is e oute
     nest-next Kind.NestMoreOrEnd outer t false start at old v new apart prefix o
 
 pub nest-rest-or-end-branch : BranchRead Kind.NestRestOrEnd
-unfolding alternatives
+unfolding alternatives number_of
 nest-rest-or-end-branch rule taken parts all around at old v new front is e outer t listed start same so_far =
-    elim (subst (λ r. OneOf (alternatives Kind.NestRestOrEnd) (OpenedRead Kind.NestRestOrEnd r at old v new)) same
-    (opened-read Kind.NestRestOrEnd rule taken parts all around at old v new front is e)) [
-      | inl o ↦ nest-instance outer t listed start at old v new so_far o
-      | inr o ↦ nest-next Kind.NestRestOrEnd outer t listed start at old v new so_far.apart so_far.prefix o
-    ]
+    let one = subst (λ r. OneRead Kind.NestRestOrEnd r at old v new) same
+    (one-read Kind.NestRestOrEnd rule taken parts all around at old v new front is e) in
+    arm one.0 one.1 one.2
+  where
+    arm : (p : Production) → IsAmong (alternatives Kind.NestRestOrEnd) p → OpenedRead Kind.NestRestOrEnd (after t listed outer) at old v new p
+        → NestRead outer v start new
+    arm Production.NestInstance here o = nest-instance outer t listed start at old v new so_far o
+    arm Production.NestNext here o = nest-next Kind.NestRestOrEnd outer t listed start at old v new so_far.apart so_far.prefix o
+    arm p here o = absurd here
 
 pub nest-tail-branch : BranchRead Kind.NestTail
-unfolding alternatives with_prefix after prefix_tree prefix_listed appended
+unfolding alternatives with_prefix after prefix_tree prefix_listed appended number_of
 nest-tail-branch rule taken parts all around at old v new front is e outer t start same nest =
-    elim (subst (λ r. OneOf (alternatives Kind.NestTail) (OpenedRead Kind.NestTail r at old v new)) same
-    (opened-read Kind.NestTail rule taken parts all around at old v new front is e)) [
-      | inl o ↦ nest-end outer t start at old v new nest o
-      | inr o ↦ nest-next Kind.NestTail outer t false start at old v new (λ n place cs front. nest.apart) nest.prefix o
-    ]
+    let one = subst (λ r. OneRead Kind.NestTail r at old v new) same
+    (one-read Kind.NestTail rule taken parts all around at old v new front is e) in
+    arm one.0 one.1 one.2
+  where
+    arm : (p : Production) → IsAmong (alternatives Kind.NestTail) p → OpenedRead Kind.NestTail (after t false outer) at old v new p
+        → NestRead outer v start new
+    arm Production.NestEnd here o = nest-end outer t start at old v new nest o
+    arm Production.NestNext here o = nest-next Kind.NestTail outer t false start at old v new (λ n place cs front. nest.apart) nest.prefix o
+    arm p here o = absurd here
 
 pub nest-rest-branch : BranchRead Kind.NestRest
-unfolding alternatives
+unfolding alternatives number_of
 nest-rest-branch rule taken parts all around at old v new front is e outer t listed start same so_far =
-    elim (subst (λ r. OneOf (alternatives Kind.NestRest) (OpenedRead Kind.NestRest r at old v new)) same
-    (opened-read Kind.NestRest rule taken parts all around at old v new front is e)) [
-      | inl o ↦ nest-arguments Kind.NestRest outer t listed start at old v new so_far o
-      | inr o ↦ nest-next Kind.NestRest outer t listed start at old v new so_far.apart so_far.prefix o
-    ]
+    let one = subst (λ r. OneRead Kind.NestRest r at old v new) same
+    (one-read Kind.NestRest rule taken parts all around at old v new front is e) in
+    arm one.0 one.1 one.2
+  where
+    arm : (p : Production) → IsAmong (alternatives Kind.NestRest) p → OpenedRead Kind.NestRest (after t listed outer) at old v new p
+        → NestRead outer v start new
+    arm Production.NestArguments here o = nest-arguments Kind.NestRest outer t listed start at old v new so_far o
+    arm Production.NestNext here o = nest-next Kind.NestRest outer t listed start at old v new so_far.apart so_far.prefix o
+    arm p here o = absurd here
 
 pub nest-rest-alone-branch : BranchRead Kind.NestRestAlone
-unfolding alternatives
+unfolding alternatives number_of
 nest-rest-alone-branch rule taken parts all around at old v new front is e outer t listed start same so_far =
-    elim (subst (λ r. OneOf (alternatives Kind.NestRestAlone) (OpenedRead Kind.NestRestAlone r at old v new)) same
-    (opened-read Kind.NestRestAlone rule taken parts all around at old v new front is e)) [
-      | inl o ↦ nest-arguments Kind.NestRestAlone outer t listed start at old v new so_far o
-      | inr o ↦ nest-next Kind.NestRestAlone outer t listed start at old v new so_far.apart so_far.prefix o
-    ]
+    let one = subst (λ r. OneRead Kind.NestRestAlone r at old v new) same
+    (one-read Kind.NestRestAlone rule taken parts all around at old v new front is e) in
+    arm one.0 one.1 one.2
+  where
+    arm : (p : Production) → IsAmong (alternatives Kind.NestRestAlone) p → OpenedRead Kind.NestRestAlone (after t listed outer) at old v new p
+        → NestRead outer v start new
+    arm Production.NestArguments here o = nest-arguments Kind.NestRestAlone outer t listed start at old v new so_far o
+    arm Production.NestNext here o = nest-next Kind.NestRestAlone outer t listed start at old v new so_far.apart so_far.prefix o
+    arm p here o = absurd here
 
 -- ## A piece after a prefix
 
-component-piece : (outer : Around) (t : Term) (start old : State) (v : Value) (new : State) → Wherever outer start (is_encoding t ≡ false)
-    → PrefixFits outer t start old → PieceRead names_member (after t true outer) v old new → NestRead outer v start new
+component-piece : (outer : Around) (t : Term) (listed : Bool) (start old : State) (v : Value) (new : State) → Wherever outer start (is_encoding t ≡ false)
+    → PrefixFits outer t start old → PieceRead names_member (after t listed outer) v old new → NestRead outer v start new
 unfolding extended after
-component-piece outer t start old v new apart prefix o =
+component-piece outer t listed start old v new apart prefix o =
     subst (λ w. NestRead outer w start new) (sym o.value)
-    (component-read outer t o.piece o.arguments start old o.mid new apart o.named prefix o.fits o.later)
+    (component-read outer t o.piece listed o.arguments start old o.mid new apart o.named prefix o.fits o.later)
 
 pub component-after-c-branch : BranchRead Kind.ComponentAfterC
 unfolding alternatives
-component-after-c-branch rule taken parts all around at old v new front is e outer t start same apart prefix =
+component-after-c-branch rule taken parts all around at old v new front is e outer t listed start same apart prefix =
     let o = subst (λ r. OneOf (alternatives Kind.ComponentAfterC) (OpenedRead Kind.ComponentAfterC r at old v new)) same
     (opened-read Kind.ComponentAfterC rule taken parts all around at old v new front is e) in
-    component-piece outer t start old v new apart prefix
+    component-piece outer t listed start old v new apart prefix
     (renamed names_function names_member inner v old new function-member (operator-with-c-comes Kind.ComponentAfterC inner at old v new o))
   where
     inner : Around
-    inner = after t true outer
+    inner = after t listed outer
 
 pub constructor-after-c-branch : BranchRead Kind.ConstructorAfterC
 unfolding alternatives
-constructor-after-c-branch rule taken parts all around at old v new front is e outer t start same apart prefix =
+constructor-after-c-branch rule taken parts all around at old v new front is e outer t listed start same apart prefix =
     let o = subst (λ r. OneOf (alternatives Kind.ConstructorAfterC) (OpenedRead Kind.ConstructorAfterC r at old v new)) same
     (opened-read Kind.ConstructorAfterC rule taken parts all around at old v new front is e) in
-    component-piece outer t start old v new apart prefix (constructor-comes Kind.ConstructorAfterC inner at old v new o)
+    component-piece outer t listed start old v new apart prefix (constructor-comes Kind.ConstructorAfterC inner at old v new o)
   where
     inner : Around
-    inner = after t true outer
+    inner = after t listed outer
 
 pub component-branch : BranchRead Kind.Component
-unfolding alternatives parts_of number_of_kind between meaning part unfolding_.behind
-component-branch rule taken parts all around at old v new front is e outer t start same apart prefix =
-    elim (subst (λ r. OneOf (alternatives Kind.Component) (OpenedRead Kind.Component r at old v new)) same
-    (opened-read Kind.Component rule taken parts all around at old v new front is e)) [
-      | inl o ↦ by-parts (λ w s. NestRead outer w start s) Production.AnyConstructor tt tt o
-          (λ w s one. one Kind.ConstructorAfterC refl outer t start refl apart prefix)
-      | inr (inl o) ↦ piece (destructor-comes Kind.Component inner at old v new o)
-      | inr (inr (inl o)) ↦ piece (renamed begins_name names_member inner v old new begun (internal-comes Kind.Component inner at old v new o))
-      | inr (inr (inr (inl o))) ↦ typed (local-type-comes Kind.Component inner at old v new o)
-      | inr (inr (inr (inr (inl o)))) ↦ typed (source-comes Kind.Component inner at old v new o)
-      | inr (inr (inr (inr (inr (inl o))))) ↦ by-parts (λ w s. NestRead outer w start s) Production.ComponentWithC tt tt o
-          (λ w s one. one Kind.ComponentAfterC refl outer t start refl apart prefix)
-      | inr (inr (inr (inr (inr (inr o))))) ↦ piece (renamed names_function names_member inner v old new function-member (other-operator-comes Kind.Component inner at old v new o))
-    ]
+unfolding alternatives parts_of number_of_kind between meaning part unfolding_.behind number_of
+component-branch rule taken parts all around at old v new front is e outer t listed start same apart prefix =
+    let one = subst (λ r. OneRead Kind.Component r at old v new) same
+    (one-read Kind.Component rule taken parts all around at old v new front is e) in
+    arm one.0 one.1 one.2
   where
     inner : Around
-    inner = after t true outer
+    inner = after t listed outer
 
     piece : PieceRead names_member inner v old new → NestRead outer v start new
-    piece o = component-piece outer t start old v new apart prefix o
+    piece o = component-piece outer t listed start old v new apart prefix o
 
     begun : (p : Term) → begins_name p ≡ true → names_member p ≡ true
     begun p begins = function-member p (begins-function p begins)
 
     typed : PieceRead names_type inner v old new → NestRead outer v start new
     typed o = piece (renamed names_type names_member inner v old new (λ p names. begun p (type-begins p names)) o)
+
+    arm : (p : Production) → IsAmong (alternatives Kind.Component) p → OpenedRead Kind.Component inner at old v new p → NestRead outer v start new
+    arm Production.AnyConstructor here o = by-parts (λ w s. NestRead outer w start s) Production.AnyConstructor tt tt o
+        (λ w s one. one Kind.ConstructorAfterC refl outer t listed start refl apart prefix)
+    arm Production.Destructor here o = piece (destructor-comes Kind.Component inner at old v new o)
+    arm Production.InternalName here o = piece (renamed begins_name names_member inner v old new begun (internal-comes Kind.Component inner at old v new o))
+    arm Production.LocalTypeName here o = typed (local-type-comes Kind.Component inner at old v new o)
+    arm Production.SourceName here o = typed (source-comes Kind.Component inner at old v new o)
+    arm Production.ComponentWithC here o = by-parts (λ w s. NestRead outer w start s) Production.ComponentWithC tt tt o
+        (λ w s one. one Kind.ComponentAfterC refl outer t listed start refl apart prefix)
+    arm Production.OtherOperatorName here o = piece (renamed names_function names_member inner v old new function-member (other-operator-comes Kind.Component inner at old v new o))
+    arm p here o = absurd here
 
 -- ## The first part
 
@@ -199,29 +218,35 @@ nest-parameter around at old v new bare o =
     (parameter-so-far around (index_of w) old t (subst (λ u. ParameterNamed around (index_of w) u t) digits.0 named) bare)))
 
 pub nest-branch : BranchRead Kind.Nest
-unfolding alternatives parts_of number_of_kind between named_so_far begins_name meaning part unfolding_.behind
+unfolding alternatives parts_of number_of_kind between named_so_far begins_name meaning part unfolding_.behind number_of
 nest-branch rule taken parts all around at old v new front is e begins =
-    elim (opened-read Kind.Nest rule taken parts all around at old v new front is e) [
-      | inl o ↦ by-parts (λ w s. NestRead around w old s) Production.NestWithS tt tt o (λ w s one. one Kind.NestAfterS refl begins)
-      | inr (inl o) ↦ nest-parameter around at old v new front.placed.lambda o
-      | inr (inr (inl o)) ↦ by-parts (λ w s. NestRead around w old s) Production.NestInternal tt tt o (λ w s one x q more.
-          nest-piece around (source true (text_of w)) old s x q begins refl (name-piece around true w old s one) (more Kind.NestRest refl))
-      | inr (inr (inr (inl o))) ↦ by-parts (λ w s. NestRead around w old s) Production.NestLocalType tt tt o (λ w s read x q more.
-          let one = read Kind.Anonymous refl in nest-piece around (piece_of w) old s x q begins one.1 one.2 (more Kind.NestRest refl))
-      | inr (inr (inr (inr o))) ↦ by-parts (λ w s. NestRead around w old s) Production.NestSource tt tt o (λ w s one x q more.
-          nest-piece around (source false (text_of w)) old s x q begins refl (name-piece around false w old s one) (more Kind.NestRest refl))
-    ]
+    let one = one-read Kind.Nest rule taken parts all around at old v new front is e in
+    arm one.0 one.1 one.2
+  where
+    arm : (p : Production) → IsAmong (alternatives Kind.Nest) p → OpenedRead Kind.Nest around at old v new p → NestRead around v old new
+    arm Production.NestWithS here o = by-parts (λ w s. NestRead around w old s) Production.NestWithS tt tt o (λ w s one. one Kind.NestAfterS refl begins)
+    arm Production.NestParameter here o = nest-parameter around at old v new front.placed.lambda o
+    arm Production.NestInternal here o = by-parts (λ w s. NestRead around w old s) Production.NestInternal tt tt o (λ w s one x q more.
+        nest-piece around (source true (text_of w)) old s x q begins refl (name-piece around true w old s one) (more Kind.NestRest refl))
+    arm Production.NestLocalType here o = by-parts (λ w s. NestRead around w old s) Production.NestLocalType tt tt o (λ w s read x q more.
+        let one = read Kind.Anonymous refl in nest-piece around (piece_of w) old s x q begins one.1 one.2 (more Kind.NestRest refl))
+    arm Production.NestSource here o = by-parts (λ w s. NestRead around w old s) Production.NestSource tt tt o (λ w s one x q more.
+        nest-piece around (source false (text_of w)) old s x q begins refl (name-piece around false w old s one) (more Kind.NestRest refl))
+    arm p here o = absurd here
 
 -- ## After an S
 
 pub nest-after-s-branch : BranchRead Kind.NestAfterS
-unfolding alternatives parts_of number_of_kind between named_so_far listed_so_far tree_of meaning part unfolding_.behind
+unfolding alternatives parts_of number_of_kind between named_so_far listed_so_far tree_of meaning part unfolding_.behind number_of
 nest-after-s-branch rule taken parts all around at old v new front is e begins =
-    elim (opened-read Kind.NestAfterS rule taken parts all around at old v new front is e) [
-      | inl o ↦ by-parts (λ w s. NestRead around w old s) Production.NestStd tt tt o (λ w s read b q more c u rest.
-          let one = read Kind.Unqualified refl in
-          rest Kind.NestTail refl around (applied (in_std (piece_of w)) b) old refl
-          (std-read around (piece_of w) b old s q one.0 one.1 (more Kind.MaybeArguments refl)).1)
-      | inr o ↦ by-parts (λ w s. NestRead around w old s) Production.NestTemplate tt tt o (λ w s one b q more.
-          more Kind.NestRestOrEnd refl around (tree_of w) true old refl (named-so-far around w old s (one Kind.Abbreviation refl)))
-    ]
+    let one = one-read Kind.NestAfterS rule taken parts all around at old v new front is e in
+    arm one.0 one.1 one.2
+  where
+    arm : (p : Production) → IsAmong (alternatives Kind.NestAfterS) p → OpenedRead Kind.NestAfterS around at old v new p → NestRead around v old new
+    arm Production.NestStd here o = by-parts (λ w s. NestRead around w old s) Production.NestStd tt tt o (λ w s read b q more c u rest.
+        let one = read Kind.Unqualified refl in
+        rest Kind.NestTail refl around (applied (in_std (piece_of w)) b) old refl
+        (std-read around (piece_of w) b old s q one.0 one.1 (more Kind.MaybeArguments refl)).1)
+    arm Production.NestTemplate here o = by-parts (λ w s. NestRead around w old s) Production.NestTemplate tt tt o (λ w s one b q more.
+        more Kind.NestRestOrEnd refl around (tree_of w) true old refl (named-so-far around w old s (one Kind.Abbreviation refl)))
+    arm p here o = absurd here

@@ -26,13 +26,13 @@ use Rattle.cpp_press_laws.specs.Fits.{item_type, begins_name, names_type, names_
 use Rattle.cpp_press_laws.specs.Spellable.{IsOperator}
 use Rattle.cpp_press_laws.proofs.Fits.Lists.{list-fits, parameters-fit}
 use Rattle.cpp_press_laws.proofs.Fits.Names.{PieceFits}
-use Rattle.cpp_press_laws.proofs.ByKind.Rules.{OneOf, OnGoing}
+use Rattle.cpp_press_laws.proofs.ByKind.Rules.{OnGoing, by-name, IsAmong}
 use Rattle.cpp_press_laws.proofs.ByKind.Leaves.{leaf-same}
 use Rattle.cpp_press_laws.proofs.ByKind.Pieces.{source-fits, operator-fits, literal-operator-fits, unnamed-fits, ShutOrInside, lambda-fits, begins-function}
 use Rattle.cpp_press_laws.proofs.ByKind.LeafKinds.{own-byte, digits-behind}
 use Rattle.cpp_grammar.proofs.Growing.{same_choice, each_below}
 use Rattle.cpp_grammar.proofs.ClosedParts.{StaysInside}
-use Rattle.cpp_press_laws.proofs.ByKind.Known.{KindRead, MarkRead, PartRead, PartsRead, OpenedRead, opened-read, taken-among, comes-as, by-parts, BranchRead}
+use Rattle.cpp_press_laws.proofs.ByKind.Known.{KindRead, MarkRead, PartRead, PartsRead, OpenedRead, opened-read, taken-among, comes-as, by-parts, BranchRead, one-read}
 
 -- a piece of a name, of the sort that is there
 abbrev PieceAs : (names : Term → Bool) → Around → Value → (old new : State) → Type 0
@@ -62,27 +62,35 @@ local-type-piece kind around at old v new o =
     let read = one Kind.Anonymous refl in (read.1, read.2))
 
 pub source-or-local-branch : BranchRead Kind.SourceOrLocal
-unfolding alternatives
+unfolding alternatives number_of
 source-or-local-branch rule taken parts all around at old v new front is e =
-    elim (opened-read Kind.SourceOrLocal rule taken parts all around at old v new front is e) [
-      | inl o ↦ internal-piece Kind.SourceOrLocal around at old v new o
-      | inr (inl o) ↦ local-type-piece Kind.SourceOrLocal around at old v new o
-      | inr (inr o) ↦ source-piece Kind.SourceOrLocal around at old v new o
-    ]
+    let one = one-read Kind.SourceOrLocal rule taken parts all around at old v new front is e in
+    arm one.0 one.1 one.2
+  where
+    arm : (p : Production) → IsAmong (alternatives Kind.SourceOrLocal) p → OpenedRead Kind.SourceOrLocal around at old v new p
+        → KindRead Kind.SourceOrLocal around v old new
+    arm Production.InternalPiece here o = internal-piece Kind.SourceOrLocal around at old v new o
+    arm Production.LocalTypePiece here o = local-type-piece Kind.SourceOrLocal around at old v new o
+    arm Production.SourcePiece here o = source-piece Kind.SourceOrLocal around at old v new o
+    arm p here o = absurd here
 
 pub unqualified-branch : BranchRead Kind.Unqualified
-unfolding alternatives parts_of between meaning part unfolding_.behind
+unfolding alternatives parts_of between meaning part unfolding_.behind number_of
 unqualified-branch rule taken parts all around at old v new front is e =
-    elim (opened-read Kind.Unqualified rule taken parts all around at old v new front is e) [
-      | inl o ↦ named (internal-piece Kind.Unqualified around at old v new o)
-      | inr (inl o) ↦ named (local-type-piece Kind.Unqualified around at old v new o)
-      | inr (inr (inl o)) ↦ named (source-piece Kind.Unqualified around at old v new o)
-      | inr (inr (inr o)) ↦ by-parts (λ w s. PieceAs names_function around w old s) Production.OperatorPiece tt tt o
-          (λ w s one. one Kind.Operator refl)
-    ]
+    let one = one-read Kind.Unqualified rule taken parts all around at old v new front is e in
+    arm one.0 one.1 one.2
   where
     named : PieceAs begins_name around v old new → PieceAs names_function around v old new
     named one = (begins-function (piece_of v) one.0, one.1)
+
+    arm : (p : Production) → IsAmong (alternatives Kind.Unqualified) p → OpenedRead Kind.Unqualified around at old v new p
+        → KindRead Kind.Unqualified around v old new
+    arm Production.InternalPiece here o = named (internal-piece Kind.Unqualified around at old v new o)
+    arm Production.LocalTypePiece here o = named (local-type-piece Kind.Unqualified around at old v new o)
+    arm Production.SourcePiece here o = named (source-piece Kind.Unqualified around at old v new o)
+    arm Production.OperatorPiece here o = by-parts (λ w s. PieceAs names_function around w old s) Production.OperatorPiece tt tt o
+        (λ w s one. one Kind.Operator refl)
+    arm p here o = absurd here
 
 -- ## Operators
 
@@ -163,45 +171,49 @@ operator-l around at old v new o =
 
 -- an operator was read
 operator-read : (around : Around) (at : ℕ) (old : State) (v : Value) (new : State)
-    → OneOf (alternatives Kind.Operator) (OpenedRead Kind.Operator around at old v new) → PieceAs names_function around v old new
-unfolding alternatives kinds parts_of is_chain between opening close meaning part letter_of unfolding_.behind number_of_kind
-operator-read around at old v new (inl o) =
+    → (p : Production) → IsAmong (alternatives Kind.Operator) p → OpenedRead Kind.Operator around at old v new p
+    → PieceAs names_function around v old new
+unfolding alternatives kinds parts_of is_chain between opening close meaning part letter_of unfolding_.behind number_of_kind number_of
+operator-read around at old v new Production.OperatorN here o =
     letters-read Production.OperatorN Kind.OperatorAfterN tt (record { at = refl; parts = refl; own = refl; goes = λ a p s. refl; opens = λ p f s. refl; means = λ x y a p b s. refl }) (λ w s mark. mark) o
-operator-read around at old v new (inr (inl o)) =
+operator-read around at old v new Production.OperatorD here o =
     letters-read Production.OperatorD Kind.OperatorAfterD tt (record { at = refl; parts = refl; own = refl; goes = λ a p s. refl; opens = λ p f s. refl; means = λ x y a p b s. refl }) (λ w s mark. mark) o
-operator-read around at old v new (inr (inr (inl o))) =
+operator-read around at old v new Production.OperatorA here o =
     letters-read Production.OperatorA Kind.OperatorAfterA tt (record { at = refl; parts = refl; own = refl; goes = λ a p s. refl; opens = λ p f s. refl; means = λ x y a p b s. refl }) (λ w s mark. mark) o
-operator-read around at old v new (inr (inr (inr (inl o)))) =
+operator-read around at old v new Production.OperatorP here o =
     letters-read Production.OperatorP Kind.OperatorAfterP tt (record { at = refl; parts = refl; own = refl; goes = λ a p s. refl; opens = λ p f s. refl; means = λ x y a p b s. refl }) (λ w s mark. mark) o
-operator-read around at old v new (inr (inr (inr (inr (inl o))))) =
+operator-read around at old v new Production.OperatorC here o =
     letters-read Production.OperatorC Kind.OperatorAfterC tt (record { at = refl; parts = refl; own = refl; goes = λ a p s. refl; opens = λ p f s. refl; means = λ x y a p b s. refl }) (λ w s mark. mark) o
-operator-read around at old v new (inr (inr (inr (inr (inr (inl o)))))) =
+operator-read around at old v new Production.OperatorM here o =
     letters-read Production.OperatorM Kind.OperatorAfterM tt (record { at = refl; parts = refl; own = refl; goes = λ a p s. refl; opens = λ p f s. refl; means = λ x y a p b s. refl }) (λ w s mark. mark) o
-operator-read around at old v new (inr (inr (inr (inr (inr (inr (inl o))))))) =
+operator-read around at old v new Production.OperatorR here o =
     letters-read Production.OperatorR Kind.OperatorAfterR tt (record { at = refl; parts = refl; own = refl; goes = λ a p s. refl; opens = λ p f s. refl; means = λ x y a p b s. refl }) (λ w s mark. mark) o
-operator-read around at old v new (inr (inr (inr (inr (inr (inr (inr (inl o)))))))) =
+operator-read around at old v new Production.OperatorO here o =
     letters-read Production.OperatorO Kind.OperatorAfterO tt (record { at = refl; parts = refl; own = refl; goes = λ a p s. refl; opens = λ p f s. refl; means = λ x y a p b s. refl }) (λ w s mark. mark) o
-operator-read around at old v new (inr (inr (inr (inr (inr (inr (inr (inr (inl o))))))))) =
+operator-read around at old v new Production.OperatorE here o =
     letters-read Production.OperatorE Kind.OperatorAfterE tt (record { at = refl; parts = refl; own = refl; goes = λ a p s. refl; opens = λ p f s. refl; means = λ x y a p b s. refl }) (λ w s mark. mark) o
-operator-read around at old v new (inr (inr (inr (inr (inr (inr (inr (inr (inr (inl o)))))))))) = operator-l around at old v new o
-operator-read around at old v new (inr (inr (inr (inr (inr (inr (inr (inr (inr (inr (inl o))))))))))) =
+operator-read around at old v new Production.OperatorL here o = operator-l around at old v new o
+operator-read around at old v new Production.OperatorS here o =
     letters-read Production.OperatorS Kind.OperatorAfterS tt (record { at = refl; parts = refl; own = refl; goes = λ a p s. refl; opens = λ p f s. refl; means = λ x y a p b s. refl }) (λ w s mark. mark) o
-operator-read around at old v new (inr (inr (inr (inr (inr (inr (inr (inr (inr (inr (inr (inl o)))))))))))) =
+operator-read around at old v new Production.OperatorI here o =
     letters-read Production.OperatorI Kind.OperatorAfterI tt (record { at = refl; parts = refl; own = refl; goes = λ a p s. refl; opens = λ p f s. refl; means = λ x y a p b s. refl }) (λ w s mark. mark) o
-operator-read around at old v new (inr (inr (inr (inr (inr (inr (inr (inr (inr (inr (inr (inr o)))))))))))) =
+operator-read around at old v new Production.OperatorG here o =
     letters-read Production.OperatorG Kind.OperatorAfterG tt (record { at = refl; parts = refl; own = refl; goes = λ a p s. refl; opens = λ p f s. refl; means = λ x y a p b s. refl }) (λ w s mark. mark) o
+operator-read around at old v new p here o = absurd here
 
 pub operator-branch : BranchRead Kind.Operator
 operator-branch rule taken parts all around at old v new front is e =
-    operator-read around at old v new (opened-read Kind.Operator rule taken parts all around at old v new front is e)
+    let one = one-read Kind.Operator rule taken parts all around at old v new front is e in
+    operator-read around at old v new one.0 one.1 one.2
 
 -- one that begins with no c
 pub other-operator-branch : BranchRead Kind.OtherOperator
 unfolding alternatives choose pick is_in in_ranges among same_choice each_below number_of
 other-operator-branch rule taken parts all around at old v new front is e =
-    operator-read around at old v new
+    let one = by-name (alternatives Kind.Operator) (OpenedRead Kind.Operator around at old v new)
     (taken-among Kind.OtherOperator Kind.Operator refl around at old v new (alternatives Kind.OtherOperator)
-    (opened-read Kind.OtherOperator rule taken parts all around at old v new front is e))
+    (opened-read Kind.OtherOperator rule taken parts all around at old v new front is e)) in
+    operator-read around at old v new one.0 one.1 one.2
 
 -- two letters of which the first is a c
 pub c-operator-fits : (around : Around) (second : ℕ) (old : State) → second < 256 → choose Kind.OperatorAfterC second ≡ Some Production.Mark
@@ -326,9 +338,13 @@ lambda-type around at old v new o =
     (refl, refl, subst (PieceFits around (lambda (parameters (list a b)) k) old) ends fits)
 
 pub anonymous-branch : BranchRead Kind.Anonymous
-unfolding alternatives
+unfolding alternatives number_of
 anonymous-branch rule taken parts all around at old v new front is e =
-    elim (opened-read Kind.Anonymous rule taken parts all around at old v new front is e) [
-      | inl o ↦ lambda-type around at old v new o
-      | inr o ↦ unnamed-type around at old v new o
-    ]
+    let one = one-read Kind.Anonymous rule taken parts all around at old v new front is e in
+    arm one.0 one.1 one.2
+  where
+    arm : (p : Production) → IsAmong (alternatives Kind.Anonymous) p → OpenedRead Kind.Anonymous around at old v new p
+        → KindRead Kind.Anonymous around v old new
+    arm Production.Lambda here o = lambda-type around at old v new o
+    arm Production.Unnamed here o = unnamed-type around at old v new o
+    arm p here o = absurd here

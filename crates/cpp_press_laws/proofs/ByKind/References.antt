@@ -1,11 +1,11 @@
 -- What is read after an S: an abbreviation, or what a substitution names.
-use Rattle.std.proofs.Common.{ℕ, ◌-◌, inl, inr, [], refl, sym, subst}
+use Rattle.std.proofs.Common.{ℕ, ◌-◌, [], refl, sym, subst}
 use Rattle.sym_core.specs.declared.NumberKind.TheVariants.{Seq36}
 use Rattle.sym_core.specs.Value.{counted_value}
 use Rattle.sym_link.specs.Unfold.{found}
 use Rattle.cpp_grammar.specs.declared.kind.Kind.{Kind}
 use Rattle.cpp_grammar.specs.declared.production.Production.{Production}
-use Rattle.cpp_grammar.specs.Grammar.{alternatives, parts_of, is_chain}
+use Rattle.cpp_grammar.specs.Grammar.{alternatives, parts_of, is_chain, number_of}
 use Rattle.cpp_grammar.specs.Values.{State, Around, Value, text_of, part}
 use Rattle.cpp_grammar.specs.Between.{between}
 use Rattle.cpp_grammar.specs.Unfolding.{close, byte_of}
@@ -13,7 +13,8 @@ use Rattle.cpp_press_laws.proofs.Fits.References.{substitution-refers}
 use Rattle.cpp_press_laws.proofs.Fits.Sorts.{KindFits, Meant, Later}
 use Rattle.cpp_press_laws.proofs.Fits.Typed.{abbreviation-read, substitution-read}
 use Rattle.cpp_press_laws.proofs.ByKind.LeafKinds.{own-byte}
-use Rattle.cpp_press_laws.proofs.ByKind.Known.{OpenedRead, opened-read, comes-as, BranchRead}
+use Rattle.cpp_press_laws.proofs.ByKind.Known.{OpenedRead, comes-as, BranchRead, one-read, KindRead}
+use Rattle.cpp_press_laws.proofs.ByKind.Rules.{IsAmong}
 
 letter-arm : (around : Around) (at : ℕ) (old : State) (v : Value) (new : State)
     → OpenedRead Kind.Abbreviation around at old v new Production.Abbreviation → KindFits Kind.Abbreviation around v old new
@@ -36,9 +37,13 @@ reference-arm around at old v new o =
     (substitution-refers around (at - 1) (counted_value Seq36 (text_of a.value)) a.after (found v new) a.onward))
 
 pub abbreviation-branch : BranchRead Kind.Abbreviation
-unfolding alternatives
+unfolding alternatives number_of
 abbreviation-branch rule taken parts all around at old v new front is e =
-    elim (opened-read Kind.Abbreviation rule taken parts all around at old v new front is e) [
-      | inl o ↦ letter-arm around at old v new o
-      | inr o ↦ reference-arm around at old v new o
-    ]
+    let one = one-read Kind.Abbreviation rule taken parts all around at old v new front is e in
+    arm one.0 one.1 one.2
+  where
+    arm : (p : Production) → IsAmong (alternatives Kind.Abbreviation) p → OpenedRead Kind.Abbreviation around at old v new p
+        → KindRead Kind.Abbreviation around v old new
+    arm Production.Abbreviation here o = letter-arm around at old v new o
+    arm Production.Substitution here o = reference-arm around at old v new o
+    arm p here o = absurd here

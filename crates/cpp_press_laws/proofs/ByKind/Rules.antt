@@ -1,5 +1,7 @@
 -- What is known of a shape that was unfolded: the production that its byte chooses, and the parts of the production one by one.
 use Rattle.std.proofs.Common.{◌≡◌, ℕ, ◌+◌, ◌<◌, ◌⊎◌, inl, inr, length, List, [], ◌∷◌, ◌++◌, Bool, true, false, not, cond, slice_get, Option, Some, None, Result, Ok, Err, refl, ap, sym, subst, ◌∙◌}
+use Rattle.std.specs.Prelude.{nat_eq}
+use Rattle.std.proofs.lemmas.Bool.{eq-eqb}
 use Rattle.sym_core.specs.declared.refusal.Refusal.{Refusal}
 use Rattle.sym_shape.specs.declared.rule.Rule.{Rule}
 use Rattle.sym_shape.specs.declared.rule.Sym.{Sym}
@@ -10,7 +12,7 @@ use Rattle.sym_link.specs.Reading.{Found, Next, ◌>>=◌}
 use Rattle.sym_link.specs.Unfold.{found, alone, standing, unfold_tree, unfold_forest}
 use Rattle.cpp_grammar.specs.declared.kind.Kind.{Kind}
 use Rattle.cpp_grammar.specs.declared.production.Production.{Production}
-use Rattle.cpp_grammar.specs.Grammar.{Alternative, is_in, pick, alternatives, choose, kinds, number_of_kind, parts_of, is_chain}
+use Rattle.cpp_grammar.specs.Grammar.{Alternative, is_in, pick, alternatives, choose, kinds, number_of_kind, number_of, parts_of, is_chain}
 use Rattle.cpp_grammar.specs.Table.{abi, rule_of, rule_taken}
 use Rattle.cpp_grammar.specs.Values.{State, Around, Value}
 use Rattle.cpp_grammar.specs.Between.{Going, between}
@@ -167,6 +169,37 @@ picked-one (a ∷ rest) byte p F f e = go (is_in a byte) e (picked-one rest byte
     go : (b : Bool) → cond b (Some a.production) (pick rest byte) ≡ Some p → (pick rest byte ≡ Some p → OneOf rest F) → OneOf (a ∷ rest) F
     go true h more = let same : p ≡ a.production = cc in first rest (subst F same f)
     go false h more = later rest (more h)
+
+abbrev pub IsOr : Bool → (Later : Type 0) → Type 0
+IsOr true Later = Unit {0}
+IsOr false Later = Later
+
+-- a production is one of these
+abbrev pub IsAmong : List Alternative → Production → Type 0
+IsAmong [] p = ⊥
+IsAmong (a ∷ rest) p = IsOr (nat_eq (number_of a.production) (number_of p)) (IsAmong rest p)
+
+-- one of these productions, by its name: clauses go by that, and not by its place among them
+abbrev pub OneAmong : List Alternative → (F : Production → Type 0) → Type 0
+OneAmong all F = (p : Production) × IsAmong all p × F p
+
+is-first : (b : Bool) (Later : Type 0) → b ≡ true → IsOr b Later
+is-first true Later same = tt
+is-first false Later same = absurd cc
+
+is-later : (b : Bool) (Later : Type 0) → Later → IsOr b Later
+is-later true Later one = tt
+is-later false Later one = one
+
+pub by-name : (all : List Alternative) (F : Production → Type 0) → OneOf all F → OneAmong all F
+by-name [] F one = absurd one
+by-name (a ∷ []) F one =
+    (a.production, is-first (nat_eq (number_of a.production) (number_of a.production)) ⊥ (eq-eqb _ _ refl), one)
+by-name (a ∷ b ∷ rest) F (inl one) =
+    (a.production, is-first (nat_eq (number_of a.production) (number_of a.production)) (IsAmong (b ∷ rest) a.production) (eq-eqb _ _ refl), one)
+by-name (a ∷ b ∷ rest) F (inr one) =
+    let r = by-name (b ∷ rest) F one in
+    (r.0, is-later (nat_eq (number_of a.production) (number_of r.0)) (IsAmong (b ∷ rest) r.0) r.1, r.2)
 
 taken-as : (chains : Bool) (byte : ℕ) (taken : List ℕ) → taken ≡ cond (not chains) (byte ∷ []) [] → taken ≡ cond chains [] (byte ∷ [])
 taken-as true byte taken e = e

@@ -1,5 +1,5 @@
 -- What every shape of the grammar is read as fits, whatever kind it is read as.
-use Rattle.std.proofs.Common.{◌≡◌, ℕ, inl, inr, List, [], ◌∷◌, false, refl, sym, subst}
+use Rattle.std.proofs.Common.{◌≡◌, ℕ, List, [], ◌∷◌, false, refl, sym, subst}
 use Rattle.std.proofs.lemmas.Bool.{false≢true}
 use Rattle.sym_shape.specs.declared.rule.Rule.{Rule}
 use Rattle.sym_shape.specs.declared.rule.Sym.TheVariants.{Kind as OfKind}
@@ -22,9 +22,9 @@ use Rattle.cpp_press_laws.proofs.Fits.Sorts.{KindFits, Meant, Later, takes_liter
 use Rattle.cpp_press_laws.proofs.Fits.Types.{complex-fits}
 use Rattle.cpp_press_laws.proofs.Fits.Lists.{parameters-fit, function-fits}
 use Rattle.cpp_press_laws.proofs.Fits.Solids.{vendor-fits}
-use Rattle.cpp_press_laws.proofs.ByKind.Rules.{AllOf, OneOf, every-shape}
-use Rattle.cpp_press_laws.proofs.ByKind.LeafBranches.{letter-branch, mark-branch, operator-after-l-branch, integer-branch, call-offset-branch, discriminator-branch, discriminator-rest-branch, suffix-more-branch, suffix-first-branch, suffix-branch}
-use Rattle.cpp_press_laws.proofs.ByKind.Known.{InFront, ShapeRead, OpenedRead, opened-read, taken-among, BranchRead, fits-by-parts}
+use Rattle.cpp_press_laws.proofs.ByKind.Rules.{AllOf, every-shape, by-name, IsAmong}
+use Rattle.cpp_press_laws.proofs.ByKind.LeafBranches.{letter-branch, mark-branch, ref-branch, operator-after-l-branch, integer-branch, call-offset-branch, discriminator-branch, discriminator-rest-branch, suffix-more-branch, suffix-first-branch, suffix-branch}
+use Rattle.cpp_press_laws.proofs.ByKind.Known.{InFront, ShapeRead, OpenedRead, opened-read, taken-among, BranchRead, fits-by-parts, one-read, OwnNameRead}
 use Rattle.cpp_press_laws.proofs.ByKind.Types.{type-branch, plain-branch, item-branch, argument-branch, parameter-branch, item-d-branch, after-d-branch}
 use Rattle.cpp_press_laws.proofs.ByKind.Solids.{builtin-arm, literal-arm, array-rest-branch, any-array-branch, pointer-arm, member-arm, function-rest-branch, after-r-branch, after-o-branch, items-branch}
 use Rattle.cpp_press_laws.proofs.ByKind.References.{abbreviation-branch}
@@ -40,37 +40,41 @@ use Rattle.cpp_press_laws.proofs.ByKind.Entities.{entity-branch, type-entity-bra
 -- ## Types by their own letters, and names as types
 
 solid-read : (around : Around) (at : ℕ) (old : State) (v : Value) (new : State) → InFront (OfKind (number_of_kind Kind.Solid)) around at old
-    → around.prefix ≡ outermost → OneOf (alternatives Kind.Solid) (OpenedRead Kind.Solid around at old v new) → KindFits Kind.Solid around v old new
-unfolding alternatives meaning part unfolding_.behind parts_of between
-solid-read around at old v new front outer (inl o) = builtin-arm around at old v new o
-solid-read around at old v new front outer (inr (inl o)) =
+    → around.prefix ≡ outermost → (p : Production) → IsAmong (alternatives Kind.Solid) p → OpenedRead Kind.Solid around at old v new p
+    → KindFits Kind.Solid around v old new
+unfolding alternatives meaning part unfolding_.behind parts_of between number_of
+solid-read around at old v new front outer Production.Builtin here o = builtin-arm around at old v new o
+solid-read around at old v new front outer Production.Vendor here o =
     fits-by-parts Kind.Solid Production.Vendor tt tt o (λ w s name.
     subst (λ t. KindFits Kind.Solid around (Meant Production.Vendor (byte_of o.taken) around (w ∷ [])) old
     (Later Production.Vendor (byte_of o.taken) around old (w ∷ []) t)) (sym name.0) (vendor-fits around (text_of w) old name.2))
-solid-read around at old v new front outer (inr (inr (inl o))) =
+solid-read around at old v new front outer Production.ArrayType here o =
     fits-by-parts Kind.Solid Production.ArrayType tt tt o (λ w s one. one Kind.AnyArray refl outer)
-solid-read around at old v new front outer (inr (inr (inr (inl o)))) =
+solid-read around at old v new front outer Production.Function here o =
     fits-by-parts Kind.Solid Production.Function tt tt o (λ c s linkage w t one x u two.
-    function-fits around (is_there c) false (ref_of x) (tree_of w) (parameters (tree_of x)) old t u
+    let rest = two Kind.FunctionRest refl outer in
+    function-fits around (is_there c) false (ref_of x) rest.2 (tree_of w) (parameters (tree_of x)) old t u
     (subst (λ q. KindFits Kind.Type around w q t) (linkage Kind.MaybeCLinkage refl) (one Kind.Type refl outer))
-    (let rest = two Kind.FunctionRest refl outer in parameters-fit around parameter_type (tree_of x) t u rest.0 rest.1))
-solid-read around at old v new front outer (inr (inr (inr (inr (inl o))))) =
+    (parameters-fit around parameter_type (tree_of x) t u rest.0 rest.1))
+solid-read around at old v new front outer Production.Complex here o =
     fits-by-parts Kind.Solid Production.Complex tt tt o (λ w s one. complex-fits around (tree_of w) old s (one Kind.Type refl outer))
-solid-read around at old v new front outer (inr (inr (inr (inr (inr (inl o)))))) = pointer-arm takes_all Kind.Solid around at old v new outer o
-solid-read around at old v new front outer (inr (inr (inr (inr (inr (inr (inl o))))))) = member-arm takes_all Kind.Solid around at old v new outer o
-solid-read around at old v new front outer (inr (inr (inr (inr (inr (inr (inr (inl o)))))))) = parameter-solid takes_all Kind.Solid around at old v new front outer o
-solid-read around at old v new front outer (inr (inr (inr (inr (inr (inr (inr (inr (inl o))))))))) = with-s-solid takes_all Kind.Solid around at old v new front outer o
-solid-read around at old v new front outer (inr (inr (inr (inr (inr (inr (inr (inr (inr (inl o)))))))))) = nested-solid takes_all Kind.Solid around at old v new front outer o
-solid-read around at old v new front outer (inr (inr (inr (inr (inr (inr (inr (inr (inr (inr (inl o))))))))))) =
+solid-read around at old v new front outer Production.Pointer here o = pointer-arm takes_all Kind.Solid around at old v new outer o
+solid-read around at old v new front outer Production.MemberPointer here o = member-arm takes_all Kind.Solid around at old v new outer o
+solid-read around at old v new front outer Production.Parameter here o = parameter-solid takes_all Kind.Solid around at old v new front outer o
+solid-read around at old v new front outer Production.TypeWithS here o = with-s-solid takes_all Kind.Solid around at old v new front outer o
+solid-read around at old v new front outer Production.NestedType here o = nested-solid takes_all Kind.Solid around at old v new front outer o
+solid-read around at old v new front outer Production.LocalType here o =
     local-type-solid takes_all Kind.Solid around at old v new front outer o
-solid-read around at old v new front outer (inr (inr (inr (inr (inr (inr (inr (inr (inr (inr (inr (inl o)))))))))))) =
+solid-read around at old v new front outer Production.LocalTypeName here o =
     local-type-name-solid takes_all Kind.Solid around at old v new front outer o
-solid-read around at old v new front outer (inr (inr (inr (inr (inr (inr (inr (inr (inr (inr (inr (inr o)))))))))))) =
+solid-read around at old v new front outer Production.SourceName here o =
     source-solid takes_all Kind.Solid around at old v new front outer o
+solid-read around at old v new front outer p here o = absurd here
 
 solid-branch : BranchRead Kind.Solid
 solid-branch rule taken parts all around at old v new front is e outer =
-    solid-read around at old v new front outer (opened-read Kind.Solid rule taken parts all around at old v new front is e)
+    let one = one-read Kind.Solid rule taken parts all around at old v new front is e in
+    solid-read around at old v new front outer one.0 one.1 one.2
 
 -- and after no T
 solid-front : (around : Around) (at : ℕ) (old : State) → InFront (OfKind (number_of_kind Kind.SolidButT)) around at old
@@ -81,40 +85,49 @@ solid-front around at old front = record { placed = front.placed; opening = λ o
 solid-but-t-branch : BranchRead Kind.SolidButT
 unfolding alternatives choose pick is_in in_ranges among same_choice each_below number_of
 solid-but-t-branch rule taken parts all around at old v new front is e outer =
-    solid-read around at old v new (solid-front around at old front) outer
+    let one = by-name (alternatives Kind.Solid) (OpenedRead Kind.Solid around at old v new)
     (taken-among Kind.SolidButT Kind.Solid refl around at old v new (alternatives Kind.SolidButT)
-    (opened-read Kind.SolidButT rule taken parts all around at old v new front is e))
+    (opened-read Kind.SolidButT rule taken parts all around at old v new front is e)) in
+    solid-read around at old v new (solid-front around at old front) outer one.0 one.1 one.2
 
 -- the type of a literal
 literal-type-branch : BranchRead Kind.LiteralType
-unfolding alternatives
+unfolding alternatives number_of
 literal-type-branch rule taken parts all around at old v new front is e outer =
-    elim (opened-read Kind.LiteralType rule taken parts all around at old v new front is e) [
-      | inl o ↦ literal-arm around at old v new o
-      | inr (inl o) ↦ pointer-arm takes_literals Kind.LiteralType around at old v new outer o
-      | inr (inr (inl o)) ↦ member-arm takes_literals Kind.LiteralType around at old v new outer o
-      | inr (inr (inr (inl o))) ↦ parameter-solid takes_literals Kind.LiteralType around at old v new front outer o
-      | inr (inr (inr (inr (inl o)))) ↦ with-s-solid takes_literals Kind.LiteralType around at old v new front outer o
-      | inr (inr (inr (inr (inr (inl o))))) ↦ nested-solid takes_literals Kind.LiteralType around at old v new front outer o
-      | inr (inr (inr (inr (inr (inr (inl o)))))) ↦ local-type-solid takes_literals Kind.LiteralType around at old v new front outer o
-      | inr (inr (inr (inr (inr (inr (inr (inl o))))))) ↦ local-type-name-solid takes_literals Kind.LiteralType around at old v new front outer o
-      | inr (inr (inr (inr (inr (inr (inr (inr o))))))) ↦ source-solid takes_literals Kind.LiteralType around at old v new front outer o
-    ]
+    let one = one-read Kind.LiteralType rule taken parts all around at old v new front is e in
+    arm one.0 one.1 one.2
+  where
+    arm : (p : Production) → IsAmong (alternatives Kind.LiteralType) p → OpenedRead Kind.LiteralType around at old v new p
+        → KindFits Kind.LiteralType around v old new
+    arm Production.Builtin here o = literal-arm around at old v new o
+    arm Production.Pointer here o = pointer-arm takes_literals Kind.LiteralType around at old v new outer o
+    arm Production.MemberPointer here o = member-arm takes_literals Kind.LiteralType around at old v new outer o
+    arm Production.Parameter here o = parameter-solid takes_literals Kind.LiteralType around at old v new front outer o
+    arm Production.TypeWithS here o = with-s-solid takes_literals Kind.LiteralType around at old v new front outer o
+    arm Production.NestedType here o = nested-solid takes_literals Kind.LiteralType around at old v new front outer o
+    arm Production.LocalType here o = local-type-solid takes_literals Kind.LiteralType around at old v new front outer o
+    arm Production.LocalTypeName here o = local-type-name-solid takes_literals Kind.LiteralType around at old v new front outer o
+    arm Production.SourceName here o = source-solid takes_literals Kind.LiteralType around at old v new front outer o
+    arm p here o = absurd here
 
 -- ## Names of encodings
 
 complete-name-branch : BranchRead Kind.CompleteName
-unfolding alternatives
+unfolding alternatives number_of
 complete-name-branch rule taken parts all around at old v new front is e outer =
-    elim (opened-read Kind.CompleteName rule taken parts all around at old v new front is e) [
-      | inl o ↦ nested-name-read around at old v new o outer
-      | inr (inl o) ↦ with-s-own around at old v new outer o
-      | inr (inr (inl o)) ↦ local-name-read around at old v new o outer
-      | inr (inr (inr (inl o))) ↦ internal-own around at old v new outer o
-      | inr (inr (inr (inr (inl o)))) ↦ local-type-own around at old v new outer o
-      | inr (inr (inr (inr (inr (inl o))))) ↦ operator-own around at old v new outer o
-      | inr (inr (inr (inr (inr (inr o))))) ↦ source-own around at old v new outer o
-    ]
+    let one = one-read Kind.CompleteName rule taken parts all around at old v new front is e in
+    arm one.0 one.1 one.2
+  where
+    arm : (p : Production) → IsAmong (alternatives Kind.CompleteName) p → OpenedRead Kind.CompleteName around at old v new p
+        → OwnNameRead around v old new
+    arm Production.NestedName here o = nested-name-read around at old v new o outer
+    arm Production.NameWithS here o = with-s-own around at old v new outer o
+    arm Production.LocalName here o = local-name-read around at old v new o outer
+    arm Production.InternalName here o = internal-own around at old v new outer o
+    arm Production.LocalTypeName here o = local-type-own around at old v new outer o
+    arm Production.OperatorName here o = operator-own around at old v new outer o
+    arm Production.SourceName here o = source-own around at old v new outer o
+    arm p here o = absurd here
 
 -- ## All kinds
 
@@ -132,7 +145,7 @@ kind-branch Kind.CompleteName = complete-name-branch
 kind-branch Kind.MaybeRestrict = mark-branch Kind.MaybeRestrict (refl, tt)
 kind-branch Kind.MaybeVolatile = mark-branch Kind.MaybeVolatile (refl, tt)
 kind-branch Kind.MaybeConst = mark-branch Kind.MaybeConst (refl, tt)
-kind-branch Kind.MaybeRef = mark-branch Kind.MaybeRef (refl, tt)
+kind-branch Kind.MaybeRef = ref-branch
 kind-branch Kind.NameAfterS = name-after-s-branch
 kind-branch Kind.Unqualified = unqualified-branch
 kind-branch Kind.Nest = nest-branch

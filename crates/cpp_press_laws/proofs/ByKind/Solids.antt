@@ -1,10 +1,10 @@
 -- What is read of types by their own letters, and of lists of types: each production keeps to what is known of its kind.
-use Rattle.std.proofs.Common.{◌≡◌, ℕ, inl, inr, [], ◌∷◌, Bool, true, refl, sym, subst}
+use Rattle.std.proofs.Common.{◌≡◌, ℕ, [], ◌∷◌, Bool, true, refl, sym, subst}
 use Rattle.cpp_grammar.specs.declared.kind.Kind.{Kind}
 use Rattle.cpp_grammar.specs.declared.production.Production.{Production}
-use Rattle.cpp_grammar.specs.Grammar.{alternatives, parts_of, is_chain}
+use Rattle.cpp_grammar.specs.Grammar.{alternatives, parts_of, is_chain, number_of}
 use Rattle.cpp_grammar.specs.Term.{builtin}
-use Rattle.cpp_grammar.specs.Values.{State, outermost, Around, Value, tree, tree_of, text_of, normal, part}
+use Rattle.cpp_grammar.specs.Values.{State, outermost, Around, Value, tree, tree_of, text_of, normal, part, ref_of}
 use Rattle.cpp_grammar.specs.Between.{between, no_items}
 use Rattle.cpp_grammar.specs.Meaning.{signature_or, meaning, with_item}
 use Rattle.cpp_grammar.specs.Unfolding as unfolding_
@@ -16,7 +16,8 @@ use Rattle.cpp_press_laws.proofs.Fits.Solids.{builtin-solid}
 use Rattle.cpp_press_laws.proofs.Fits.Sorts.{KindFits}
 use Rattle.cpp_press_laws.proofs.Fits.Typed.{lvalue-item, rvalue-item, builtin-literal}
 use Rattle.cpp_press_laws.proofs.ByKind.LeafKinds.{own-byte, normal-decimal}
-use Rattle.cpp_press_laws.proofs.ByKind.Known.{OpenedRead, opened-read, comes-as, by-parts, fits-by-parts, BranchRead}
+use Rattle.cpp_press_laws.proofs.ByKind.Known.{OpenedRead, opened-read, comes-as, by-parts, fits-by-parts, BranchRead, one-read}
+use Rattle.cpp_press_laws.proofs.ByKind.Rules.{IsAmong}
 
 -- ## Letters
 
@@ -74,33 +75,46 @@ member-arm takes kind around at old v new outer o =
 -- ## Parameters
 
 pub function-rest-branch : BranchRead Kind.FunctionRest
-unfolding alternatives meaning with_item tree_of part unfolding_.behind parts_of between
+unfolding alternatives meaning with_item tree_of ref_of part unfolding_.behind parts_of between number_of
 function-rest-branch rule taken parts all around at old v new front is e outer =
-    elim (opened-read Kind.FunctionRest rule taken parts all around at old v new front is e) [
-      | inl o ↦ fits-by-parts Kind.FunctionRest Production.RestEnd tt tt o (tt, nil-fits around parameter_type old)
-      | inr (inl o) ↦ fits-by-parts Kind.FunctionRest Production.RestLvalue tt tt o (λ w s one. one Kind.AfterR refl outer)
-      | inr (inr (inl o)) ↦ fits-by-parts Kind.FunctionRest Production.RestRvalue tt tt o (λ w s one. one Kind.AfterO refl outer)
-      | inr (inr (inr o)) ↦ fits-by-parts Kind.FunctionRest Production.RestItem tt tt o
-          (λ w s one x t two. (tt, list-fits around parameter_type (tree_of w) (tree_of x) old s t (one Kind.ItemButRef refl outer) (two Kind.FunctionRest refl outer).1))
-    ]
+    let one = one-read Kind.FunctionRest rule taken parts all around at old v new front is e in
+    arm one.0 one.1 one.2
+  where
+    arm : (p : Production) → IsAmong (alternatives Kind.FunctionRest) p → OpenedRead Kind.FunctionRest around at old v new p
+        → KindFits Kind.FunctionRest around v old new
+    arm Production.RestEnd here o = fits-by-parts Kind.FunctionRest Production.RestEnd tt tt o (tt, nil-fits around parameter_type old, tt)
+    arm Production.RestLvalue here o = fits-by-parts Kind.FunctionRest Production.RestLvalue tt tt o (λ w s one. one Kind.AfterR refl outer)
+    arm Production.RestRvalue here o = fits-by-parts Kind.FunctionRest Production.RestRvalue tt tt o (λ w s one. one Kind.AfterO refl outer)
+    arm Production.RestItem here o = fits-by-parts Kind.FunctionRest Production.RestItem tt tt o
+        (λ w s one x t two. let rest = two Kind.FunctionRest refl outer in
+        (tt, list-fits around parameter_type (tree_of w) (tree_of x) old s t (one Kind.ItemButRef refl outer) rest.1, rest.2))
+    arm p here o = absurd here
 
 pub after-r-branch : BranchRead Kind.AfterR
-unfolding alternatives meaning signature_or tree_of unfolding_.behind parts_of between
+unfolding alternatives meaning signature_or tree_of ref_of unfolding_.behind parts_of between number_of
 after-r-branch rule taken parts all around at old v new front is e outer =
-    elim (opened-read Kind.AfterR rule taken parts all around at old v new front is e) [
-      | inl o ↦ fits-by-parts Kind.AfterR Production.RefEnd tt tt o (tt, nil-fits around parameter_type old)
-      | inr o ↦ fits-by-parts Kind.AfterR Production.LvalueItem tt tt o (λ w s one x t two.
-          lvalue-item around (byte_of o.taken) old (tree_of w) x old s t (one Kind.Type refl outer) (two Kind.FunctionRest refl outer))
-    ]
+    let one = one-read Kind.AfterR rule taken parts all around at old v new front is e in
+    arm one.0 one.1 one.2
+  where
+    arm : (p : Production) → IsAmong (alternatives Kind.AfterR) p → OpenedRead Kind.AfterR around at old v new p
+        → KindFits Kind.AfterR around v old new
+    arm Production.RefEnd here o = fits-by-parts Kind.AfterR Production.RefEnd tt tt o (tt, nil-fits around parameter_type old, tt)
+    arm Production.LvalueItem here o = fits-by-parts Kind.AfterR Production.LvalueItem tt tt o (λ w s one x t two.
+        lvalue-item around (byte_of o.taken) old (tree_of w) x old s t (one Kind.Type refl outer) (two Kind.FunctionRest refl outer))
+    arm p here o = absurd here
 
 pub after-o-branch : BranchRead Kind.AfterO
-unfolding alternatives meaning signature_or tree_of unfolding_.behind parts_of between
+unfolding alternatives meaning signature_or tree_of ref_of unfolding_.behind parts_of between number_of
 after-o-branch rule taken parts all around at old v new front is e outer =
-    elim (opened-read Kind.AfterO rule taken parts all around at old v new front is e) [
-      | inl o ↦ fits-by-parts Kind.AfterO Production.RefEnd tt tt o (tt, nil-fits around parameter_type old)
-      | inr o ↦ fits-by-parts Kind.AfterO Production.RvalueItem tt tt o (λ w s one x t two.
-          rvalue-item around (byte_of o.taken) old (tree_of w) x old s t (one Kind.Type refl outer) (two Kind.FunctionRest refl outer))
-    ]
+    let one = one-read Kind.AfterO rule taken parts all around at old v new front is e in
+    arm one.0 one.1 one.2
+  where
+    arm : (p : Production) → IsAmong (alternatives Kind.AfterO) p → OpenedRead Kind.AfterO around at old v new p
+        → KindFits Kind.AfterO around v old new
+    arm Production.RefEnd here o = fits-by-parts Kind.AfterO Production.RefEnd tt tt o (tt, nil-fits around parameter_type old, tt)
+    arm Production.RvalueItem here o = fits-by-parts Kind.AfterO Production.RvalueItem tt tt o (λ w s one x t two.
+        rvalue-item around (byte_of o.taken) old (tree_of w) x old s t (one Kind.Type refl outer) (two Kind.FunctionRest refl outer))
+    arm p here o = absurd here
 
 -- ## Items
 

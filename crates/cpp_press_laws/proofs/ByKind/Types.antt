@@ -1,8 +1,8 @@
 -- What is read of types: each production keeps to what is known of its kind.
-use Rattle.std.proofs.Common.{◌≡◌, ℕ, inl, inr, [], ◌∷◌, true, false, refl, sym, subst, ◌∙◌}
+use Rattle.std.proofs.Common.{◌≡◌, ℕ, [], ◌∷◌, true, false, refl, sym, subst, ◌∙◌}
 use Rattle.cpp_grammar.specs.declared.kind.Kind.{Kind}
 use Rattle.cpp_grammar.specs.declared.production.Production.{Production}
-use Rattle.cpp_grammar.specs.Grammar.{alternatives, number_of_kind, parts_of, is_chain}
+use Rattle.cpp_grammar.specs.Grammar.{alternatives, number_of_kind, parts_of, is_chain, number_of}
 use Rattle.cpp_grammar.specs.Term.{builtin}
 use Rattle.cpp_grammar.specs.Values.{State, outermost, Around, Value, tree, tree_of, is_there, is_listed, ref_of, text_of, normal, part}
 use Rattle.cpp_grammar.specs.Between.{under_expansion, between}
@@ -19,7 +19,8 @@ use Rattle.cpp_press_laws.proofs.Fits.Lists.{parameters-fit, function-fits}
 use Rattle.cpp_press_laws.proofs.Fits.Arguments.{expansion-fits}
 use Rattle.cpp_press_laws.proofs.Fits.Typed.{type-as-argument}
 use Rattle.cpp_press_laws.proofs.ByKind.LeafKinds.{own-byte, normal-digits}
-use Rattle.cpp_press_laws.proofs.ByKind.Known.{OpenedRead, opened-read, comes-as, by-parts, fits-by-parts, BranchRead}
+use Rattle.cpp_press_laws.proofs.ByKind.Known.{OpenedRead, comes-as, by-parts, fits-by-parts, BranchRead, one-read}
+use Rattle.cpp_press_laws.proofs.ByKind.Rules.{IsAmong}
 
 -- ## Types that become candidates
 
@@ -77,90 +78,111 @@ item-d-arm kind slot other take around at old v new outer o =
     (λ w s one. (one Kind.ItemAfterD refl outer).types slot other take)
 
 pub type-branch : BranchRead Kind.Type
-unfolding alternatives takes_qualified takes_all meaning listed_value tree_of part unfolding_.behind parts_of between
+unfolding alternatives takes_qualified takes_all meaning listed_value tree_of part unfolding_.behind parts_of between number_of
 type-branch rule taken parts all around at old v new front is e outer =
-    elim (opened-read Kind.Type rule taken parts all around at old v new front is e) [
-      | inl o ↦ restrict-arm Kind.Type any_type refl around at old v new outer o
-      | inr (inl o) ↦ volatile-arm Kind.Type any_type refl around at old v new outer o
-      | inr (inr (inl o)) ↦ const-arm Kind.Type any_type refl around at old v new outer o
-      | inr (inr (inr (inl o))) ↦ by-parts (In around any_type old) Production.TypeWithD tt tt o
-          (λ w s one. (one Kind.AfterD refl outer).types any_type tt refl)
-      | inr (inr (inr (inr (inl o)))) ↦ reference-arm Kind.Type any_type tt refl around at old v new outer o
-      | inr (inr (inr (inr (inr o)))) ↦ plain-arm Kind.Type any_type tt refl around at old v new outer o
-    ]
+    let one = one-read Kind.Type rule taken parts all around at old v new front is e in
+    arm one.0 one.1 one.2
+  where
+    arm : (p : Production) → IsAmong (alternatives Kind.Type) p → OpenedRead Kind.Type around at old v new p → KindFits Kind.Type around v old new
+    arm Production.RestrictType here o = restrict-arm Kind.Type any_type refl around at old v new outer o
+    arm Production.VolatileType here o = volatile-arm Kind.Type any_type refl around at old v new outer o
+    arm Production.ConstType here o = const-arm Kind.Type any_type refl around at old v new outer o
+    arm Production.TypeWithD here o = by-parts (In around any_type old) Production.TypeWithD tt tt o
+        (λ w s one. (one Kind.AfterD refl outer).types any_type tt refl)
+    arm Production.ReferenceType here o = reference-arm Kind.Type any_type tt refl around at old v new outer o
+    arm Production.PlainType here o = plain-arm Kind.Type any_type tt refl around at old v new outer o
+    arm p here o = absurd here
 
 pub item-branch : BranchRead Kind.Item
-unfolding alternatives takes_qualified takes_all takes_expansions
+unfolding alternatives takes_qualified takes_all takes_expansions number_of
 item-branch rule taken parts all around at old v new front is e outer =
-    elim (opened-read Kind.Item rule taken parts all around at old v new front is e) [
-      | inl o ↦ restrict-arm Kind.Item item_type refl around at old v new outer o
-      | inr (inl o) ↦ volatile-arm Kind.Item item_type refl around at old v new outer o
-      | inr (inr (inl o)) ↦ const-arm Kind.Item item_type refl around at old v new outer o
-      | inr (inr (inr (inl o))) ↦ item-d-arm Kind.Item item_type tt refl around at old v new outer o
-      | inr (inr (inr (inr (inl o)))) ↦ reference-arm Kind.Item item_type tt refl around at old v new outer o
-      | inr (inr (inr (inr (inr o)))) ↦ plain-arm Kind.Item item_type tt refl around at old v new outer o
-    ]
+    let one = one-read Kind.Item rule taken parts all around at old v new front is e in
+    arm one.0 one.1 one.2
+  where
+    arm : (p : Production) → IsAmong (alternatives Kind.Item) p → OpenedRead Kind.Item around at old v new p → KindFits Kind.Item around v old new
+    arm Production.RestrictType here o = restrict-arm Kind.Item item_type refl around at old v new outer o
+    arm Production.VolatileType here o = volatile-arm Kind.Item item_type refl around at old v new outer o
+    arm Production.ConstType here o = const-arm Kind.Item item_type refl around at old v new outer o
+    arm Production.ItemWithD here o = item-d-arm Kind.Item item_type tt refl around at old v new outer o
+    arm Production.ReferenceType here o = reference-arm Kind.Item item_type tt refl around at old v new outer o
+    arm Production.PlainType here o = plain-arm Kind.Item item_type tt refl around at old v new outer o
+    arm p here o = absurd here
 
 -- ## Arguments of templates
 
 pub argument-branch : BranchRead Kind.Argument
-unfolding alternatives takes_qualified takes_all takes_expansions meaning listed_value part unfolding_.behind number_of_kind enclosed_argument ends_arguments tree_of parts_of between
+unfolding alternatives takes_qualified takes_all takes_expansions meaning listed_value part unfolding_.behind number_of_kind enclosed_argument ends_arguments tree_of parts_of between number_of
 argument-branch rule taken parts all around at old v new front is e outer =
-    elim (opened-read Kind.Argument rule taken parts all around at old v new front is e) [
-      | inl o ↦ typed (restrict-arm Kind.Argument item_type refl around at old v new outer o)
-      | inr (inl o) ↦ typed (volatile-arm Kind.Argument item_type refl around at old v new outer o)
-      | inr (inr (inl o)) ↦ typed (const-arm Kind.Argument item_type refl around at old v new outer o)
-      | inr (inr (inr (inl o))) ↦ typed (item-d-arm Kind.Argument item_type tt refl around at old v new outer o)
-      | inr (inr (inr (inr (inl o)))) ↦ typed (reference-arm Kind.Argument item_type tt refl around at old v new outer o)
-      | inr (inr (inr (inr (inr (inl o))))) ↦ fits-by-parts Kind.Argument Production.Expression tt tt o (λ w s one x t end.
-          let address = one Kind.Expression refl outer in
-          subst (λ q. KindFits Kind.Argument around (enclosed_argument w) old q) (sym end.0)
-          (subst (λ u. KindFits Kind.Argument around (enclosed_argument u) old s) (sym address.1) address.2))
-      | inr (inr (inr (inr (inr (inr (inl o)))))) ↦ typed (by-parts (In around item_type old) Production.ArgumentWithT tt tt o
-          (λ w s one. (one Kind.ArgumentAfterT refl outer).types item_type tt refl))
-      | inr (inr (inr (inr (inr (inr (inr o)))))) ↦ typed (by-parts (In around item_type old) Production.PlainArgument tt tt o
-          (λ w s one. (one Kind.SolidButT refl outer).types item_type tt refl))
-    ]
+    let one = one-read Kind.Argument rule taken parts all around at old v new front is e in
+    arm one.0 one.1 one.2
   where
     typed : TypeFits around item_type (tree_of v) old new → KindFits Kind.Argument around v old new
     typed one = type-as-argument around v old new one
 
+    arm : (p : Production) → IsAmong (alternatives Kind.Argument) p → OpenedRead Kind.Argument around at old v new p
+        → KindFits Kind.Argument around v old new
+    arm Production.RestrictType here o = typed (restrict-arm Kind.Argument item_type refl around at old v new outer o)
+    arm Production.VolatileType here o = typed (volatile-arm Kind.Argument item_type refl around at old v new outer o)
+    arm Production.ConstType here o = typed (const-arm Kind.Argument item_type refl around at old v new outer o)
+    arm Production.ItemWithD here o = typed (item-d-arm Kind.Argument item_type tt refl around at old v new outer o)
+    arm Production.ReferenceType here o = typed (reference-arm Kind.Argument item_type tt refl around at old v new outer o)
+    arm Production.Expression here o = fits-by-parts Kind.Argument Production.Expression tt tt o (λ w s one x t end.
+        let address = one Kind.Expression refl outer in
+        subst (λ q. KindFits Kind.Argument around (enclosed_argument w) old q) (sym end.0)
+        (subst (λ u. KindFits Kind.Argument around (enclosed_argument u) old s) (sym address.1) address.2))
+    arm Production.ArgumentWithT here o = typed (by-parts (In around item_type old) Production.ArgumentWithT tt tt o
+        (λ w s one. (one Kind.ArgumentAfterT refl outer).types item_type tt refl))
+    arm Production.PlainArgument here o = typed (by-parts (In around item_type old) Production.PlainArgument tt tt o
+        (λ w s one. (one Kind.SolidButT refl outer).types item_type tt refl))
+    arm p here o = absurd here
+
 -- parameters of function types
 pub parameter-branch : BranchRead Kind.ItemButRef
-unfolding alternatives takes_qualified takes_all takes_expansions
+unfolding alternatives takes_qualified takes_all takes_expansions number_of
 parameter-branch rule taken parts all around at old v new front is e outer =
-    elim (opened-read Kind.ItemButRef rule taken parts all around at old v new front is e) [
-      | inl o ↦ restrict-arm Kind.ItemButRef parameter_type refl around at old v new outer o
-      | inr (inl o) ↦ volatile-arm Kind.ItemButRef parameter_type refl around at old v new outer o
-      | inr (inr (inl o)) ↦ const-arm Kind.ItemButRef parameter_type refl around at old v new outer o
-      | inr (inr (inr (inl o))) ↦ item-d-arm Kind.ItemButRef parameter_type tt refl around at old v new outer o
-      | inr (inr (inr (inr o))) ↦ plain-arm Kind.ItemButRef parameter_type tt refl around at old v new outer o
-    ]
+    let one = one-read Kind.ItemButRef rule taken parts all around at old v new front is e in
+    arm one.0 one.1 one.2
+  where
+    arm : (p : Production) → IsAmong (alternatives Kind.ItemButRef) p → OpenedRead Kind.ItemButRef around at old v new p
+        → KindFits Kind.ItemButRef around v old new
+    arm Production.RestrictType here o = restrict-arm Kind.ItemButRef parameter_type refl around at old v new outer o
+    arm Production.VolatileType here o = volatile-arm Kind.ItemButRef parameter_type refl around at old v new outer o
+    arm Production.ConstType here o = const-arm Kind.ItemButRef parameter_type refl around at old v new outer o
+    arm Production.ItemWithD here o = item-d-arm Kind.ItemButRef parameter_type tt refl around at old v new outer o
+    arm Production.PlainType here o = plain-arm Kind.ItemButRef parameter_type tt refl around at old v new outer o
+    arm p here o = absurd here
 
 -- ## Right under qualifiers
 
 pub plain-branch : BranchRead Kind.Plain
-unfolding alternatives meaning listed_value tree_of part unfolding_.behind takes_all parts_of between
+unfolding alternatives meaning listed_value tree_of part unfolding_.behind takes_all parts_of between number_of
 plain-branch rule taken parts all around at old v new front is e outer =
-    elim (opened-read Kind.Plain rule taken parts all around at old v new front is e) [
-      | inl o ↦ fits-by-parts Kind.Plain Production.PlainWithD tt tt o
-          (λ w s one. (one Kind.AfterD refl outer).bare refl)
-      | inr (inl o) ↦ fits-by-parts Kind.Plain Production.ReferenceType tt tt o
-          (λ w s one. reference-plain around (byte_of o.taken) old w old s (one Kind.Type refl outer))
-      | inr (inr o) ↦ fits-by-parts Kind.Plain Production.QualifiedPlain tt tt o
-          (λ w s one. (one Kind.Solid refl outer).bare refl)
-    ]
+    let one = one-read Kind.Plain rule taken parts all around at old v new front is e in
+    arm one.0 one.1 one.2
+  where
+    arm : (p : Production) → IsAmong (alternatives Kind.Plain) p → OpenedRead Kind.Plain around at old v new p → KindFits Kind.Plain around v old new
+    arm Production.PlainWithD here o = fits-by-parts Kind.Plain Production.PlainWithD tt tt o
+        (λ w s one. (one Kind.AfterD refl outer).bare refl)
+    arm Production.ReferenceType here o = fits-by-parts Kind.Plain Production.ReferenceType tt tt o
+        (λ w s one. reference-plain around (byte_of o.taken) old w old s (one Kind.Type refl outer))
+    arm Production.QualifiedPlain here o = fits-by-parts Kind.Plain Production.QualifiedPlain tt tt o
+        (λ w s one. (one Kind.Solid refl outer).bare refl)
+    arm p here o = absurd here
 
 -- ## After a D
 
 pub item-d-branch : BranchRead Kind.ItemAfterD
-unfolding alternatives parts_of between meaning part unfolding_.behind under_expansion
+unfolding alternatives parts_of between meaning part unfolding_.behind under_expansion number_of
 item-d-branch rule taken parts all around at old v new front is e outer =
-    elim (opened-read Kind.ItemAfterD rule taken parts all around at old v new front is e) [
-      | inl o ↦ fits-by-parts Kind.ItemAfterD Production.Expansion tt tt o (λ w s one. expansion-fits around (tree_of w) old s (one Kind.Type refl outer))
-      | inr o ↦ fits-by-parts Kind.ItemAfterD Production.ItemIsType tt tt o
-          (λ w s one. item-is-type around (byte_of o.taken) old w old s (one Kind.AfterD refl outer))
-    ]
+    let one = one-read Kind.ItemAfterD rule taken parts all around at old v new front is e in
+    arm one.0 one.1 one.2
+  where
+    arm : (p : Production) → IsAmong (alternatives Kind.ItemAfterD) p → OpenedRead Kind.ItemAfterD around at old v new p
+        → KindFits Kind.ItemAfterD around v old new
+    arm Production.Expansion here o = fits-by-parts Kind.ItemAfterD Production.Expansion tt tt o (λ w s one. expansion-fits around (tree_of w) old s (one Kind.Type refl outer))
+    arm Production.ItemIsType here o = fits-by-parts Kind.ItemAfterD Production.ItemIsType tt tt o
+        (λ w s one. item-is-type around (byte_of o.taken) old w old s (one Kind.AfterD refl outer))
+    arm p here o = absurd here
 
 builtin-d-arm : (around : Around) (at : ℕ) (old : State) (v : Value) (new : State)
     → OpenedRead Kind.AfterD around at old v new Production.BuiltinWithD → KindFits Kind.AfterD around v old new
@@ -173,15 +195,20 @@ builtin-d-arm around at old v new o =
     (builtin-with-d around o.byte old o.small o.chosen))
 
 pub after-d-branch : BranchRead Kind.AfterD
-unfolding alternatives meaning part unfolding_.behind parts_of between
+unfolding alternatives meaning part unfolding_.behind parts_of between number_of
 after-d-branch rule taken parts all around at old v new front is e outer =
-    elim (opened-read Kind.AfterD rule taken parts all around at old v new front is e) [
-      | inl o ↦ builtin-d-arm around at old v new o
-      | inr (inl o) ↦ fits-by-parts Kind.AfterD Production.Vector tt tt o (λ d s number x r mark w t one.
-          vector-fits around (normal (text_of d)) (tree_of w) old t (normal-digits (text_of d) number.2)
-          (subst (λ q. KindFits Kind.Type around w q t) (mark.0 ∙ number.0) (one Kind.Type refl outer)))
-      | inr (inr o) ↦ fits-by-parts Kind.AfterD Production.NoexceptFunction tt tt o (λ f s letter c r linkage w t one x u two.
-          function-fits around (is_there c) true (ref_of x) (tree_of w) (parameters (tree_of x)) old t u
-          (subst (λ q. KindFits Kind.Type around w q t) (linkage Kind.MaybeCLinkage refl ∙ letter.0) (one Kind.Type refl outer))
-          (let rest = two Kind.FunctionRest refl outer in parameters-fit around parameter_type (tree_of x) t u rest.0 rest.1))
-    ]
+    let one = one-read Kind.AfterD rule taken parts all around at old v new front is e in
+    arm one.0 one.1 one.2
+  where
+    arm : (p : Production) → IsAmong (alternatives Kind.AfterD) p → OpenedRead Kind.AfterD around at old v new p
+        → KindFits Kind.AfterD around v old new
+    arm Production.BuiltinWithD here o = builtin-d-arm around at old v new o
+    arm Production.Vector here o = fits-by-parts Kind.AfterD Production.Vector tt tt o (λ d s number x r mark w t one.
+        vector-fits around (normal (text_of d)) (tree_of w) old t (normal-digits (text_of d) number.2)
+        (subst (λ q. KindFits Kind.Type around w q t) (mark.0 ∙ number.0) (one Kind.Type refl outer)))
+    arm Production.NoexceptFunction here o = fits-by-parts Kind.AfterD Production.NoexceptFunction tt tt o (λ f s letter c r linkage w t one x u two.
+        let rest = two Kind.FunctionRest refl outer in
+        function-fits around (is_there c) true (ref_of x) rest.2 (tree_of w) (parameters (tree_of x)) old t u
+        (subst (λ q. KindFits Kind.Type around w q t) (linkage Kind.MaybeCLinkage refl ∙ letter.0) (one Kind.Type refl outer))
+        (parameters-fit around parameter_type (tree_of x) t u rest.0 rest.1))
+    arm p here o = absurd here

@@ -3,20 +3,20 @@ use Rattle.std.proofs.Common.{refl, ◌≡◌, ℕ, ◌+◌, ◌⊎◌, ◌≤�
 use Rattle.std.specs.Prelude.{◌&&◌, codes}
 use Rattle.std.proofs.lemmas.Bool.{true≢false, false≢true, true_from_ne_false}
 use Rattle.sym_spell.specs.Pressing.{◌and◌, text, nothing}
-use Rattle.cpp_grammar.specs.Term.{Term, symbol, alone, in_std, within, instance, local}
-use Rattle.cpp_grammar.specs.Scope.{count, arguments_of}
+use Rattle.cpp_grammar.specs.Term.{Term, symbol, alone, in_std, within, instance, local, tagged}
+use Rattle.cpp_grammar.specs.Scope.{count, arguments_of, without_tags}
 use Rattle.cpp_grammar.specs.Values.{outermost, behind, Around}
 use Rattle.cpp_grammar.specs.Between.{after, inside}
 use Rattle.cpp_press_laws.proofs.Components.Encodings.{encoding-prefix, no-encoding}
 use Rattle.cpp_press_laws.proofs.EveryWay.Instances.{not-one-piece, one-piece-is}
-use Rattle.cpp_press_laws.specs.Texts.{name_letters, discriminator_text}
+use Rattle.cpp_press_laws.specs.Texts.{counted, name_letters, discriminator_text}
 use Rattle.cpp_press_laws.specs.Components.{Component, Spelling, ended, component}
-use Rattle.cpp_press_laws.specs.Pressing.{no_ways, type_ways, in_N_and_E, with_letters, name_ways, template_before, is_operator, is_encoding, is_one_piece, entity_text, local_text, ways_of}
+use Rattle.cpp_press_laws.specs.Pressing.{no_ways, type_ways, in_N_and_E, with_letters, name_ways, template_before, is_operator, is_encoding, is_nested, is_one_piece, entity_text, local_text, ways_of}
 use Rattle.cpp_press_laws.specs.Subtrees.{Written}
 use Rattle.cpp_press_laws.proofs.Components.Parts.{PrefixOr, Inside, Whole, prefix-whole}
 use Rattle.cpp_press_laws.specs.Fits.{Standing, Fitting, Behind, as_component, as_template, behind_bytes, one_piece, Slot, names_type, names_function, begins_name, Role, in_type, in_name_with, letters_of, names_in, fits_nowhere, type_fits, fits_of, names_member, IsSpellableDiscriminator}
 use Rattle.cpp_press_laws.proofs.Fitting as fit
-use Rattle.cpp_press_laws.proofs.Components.AddedWays.{AddsParts, Adds, Either, both-added, fewer-added, after-bytes, before-bytes, nested-added, fewer-by, behind-and, at-once, and-adds, whole-adds, letters-add, no-letters-add, arguments_count, surplus, surplus-some, surplus-named, way_at, AtSlot, WaysAdd, AddsAt, nowhere-ways-add, in-component, reference-adds, found-and-adds, in-template, in-nested-template, component-at}
+use Rattle.cpp_press_laws.proofs.Components.AddedWays.{AddsParts, Adds, Either, both-added, fewer-added, after-bytes, before-bytes, nested-added, fewer-by, behind-and, at-once, and-adds, whole-adds, letters-add, no-letters-add, arguments_count, surplus, surplus-some, surplus-named, way_at, AtSlot, WaysAdd, AddsAt, nowhere-ways-add, in-component, reference-adds, found-and-adds, found-template-adds, in-template, in-nested-template, component-at}
 
 -- ## Names
 
@@ -344,6 +344,26 @@ instance-add template arguments a b = record {
         (spelling around.encoding) (befores false around allowed) (joins around allowed)
     each fit.as_argument = λ in_pack around allowed. whole around allowed
     each w = (nowhere-ways-add (instance template arguments) (λ n. ways_of n (instance template arguments))).at w
+
+-- a name with a tag is referred to alone
+pub tagged-add : (of_structor : Bool) (name : Term) (tag : List ℕ)
+    → WaysAdd (tagged of_structor name tag) (fits_of (tagged of_structor name tag)) (λ n. ways_of n (tagged of_structor name tag))
+unfolding ways_of name_ways no_ways fits_of type_fits fits_nowhere
+tagged-add of_structor name tag = record {
+  at = each;
+  before = λ typed m around allowed G arguments Q more. found-template-adds m around allowed own (λ n. text []) G (is_nested (without_tags name))
+      ((ways_of around.encoding name).between_N_and_E and text (codes "B" ++ counted tag)) arguments Q more;
+}
+  where
+    own : Term
+    own = tagged of_structor name tag
+
+    each : AddsAt own (fits_of own) (λ n. ways_of n own)
+    each fit.as_type = λ slot around allowed. component-at slot _ (λ x w. w) (reference-adds around allowed own _) (reference-adds around allowed own _)
+    each fit.as_prefix = λ around allowed. reference-adds around allowed own _
+    each fit.as_prefix_template = λ around allowed. reference-adds around allowed own _
+    each fit.as_argument = λ in_pack around allowed. reference-adds around allowed own _
+    each w = (nowhere-ways-add own (λ n. ways_of n own)).at w
 
 pub local-add : (e entity : Term) (discriminator : Option (List ℕ)) → WaysAdd e (fits_of e) (λ n. ways_of n e)
     → WaysAdd entity (fits_of entity) (λ n. ways_of n entity)

@@ -16,11 +16,11 @@ use Rattle.cpp_press_laws.proofs.Components.Keeping.{keeps}
 use Rattle.cpp_press_laws.proofs.EveryWay.Encodings.{CountsArguments}
 use Rattle.cpp_press_laws.proofs.Components.Parts.{IsComponent, Inside, Whole}
 use Rattle.cpp_press_laws.proofs.Components.KnownTrees.{In}
-use Rattle.cpp_press_laws.specs.Fits.{Standing, Fitting, Behind, as_component, either, Slot, any_type, bare_type, item_type, parameter_type, literal_type, nowhere, fits_nowhere, type_fits, piece_fits, fits_of, takes_all, NamesArgument, IsAbbreviation, IsBuiltin, SymbolFits}
+use Rattle.cpp_press_laws.specs.Fits.{Standing, Fitting, Behind, as_component, either, Slot, any_type, bare_type, item_type, parameter_type, literal_type, nowhere, fits_nowhere, type_fits, piece_fits, fits_of, takes_all, NamesArgument, IsAbbreviation, IsBuiltin, SymbolFits, IsAbiMark}
 use Rattle.cpp_press_laws.proofs.Slots.{each-slot}
 use Rattle.cpp_press_laws.proofs.Fitting as fit
 use Rattle.cpp_press_laws.proofs.Components.AddedWays.{AddsParts, Adds, Either, No, none-added, fewer-added, after-bytes, before-bytes, fewer-by, behind-and, and-adds, arguments_count, surplus, way_at, AtSlot, IsNotBare, WaysAdd, AddsAt, in-component, reference-adds, leaf-adds, no-whole, found-and-adds, component-at, type-ways-add, piece-ways-add, argument-ways-add, encoding-ways-add, nowhere-ways-add}
-use Rattle.cpp_press_laws.proofs.Components.AddedNames.{alone-add, in-std-add, within-add, instance-add, local-add}
+use Rattle.cpp_press_laws.proofs.Components.AddedNames.{alone-add, in-std-add, within-add, instance-add, local-add, tagged-add}
 
 -- ## Types
 
@@ -110,6 +110,7 @@ function-type-add c_linkage noexcept ref returned parameters a b = record {
         (fits_of returned).as_type any_type around allowed (place + length marks) cs
         × Behind (text marks and (ways_of around.encoding returned).as_type)
         ((fits_of parameters).as_parameters parameter_type around allowed) place cs
+        × IsAbiMark ref
 
     all_slots : Fitting
     all_slots around allowed place cs = (takes_all item_type ≡ true) × spelled around allowed place cs
@@ -238,7 +239,7 @@ adds (symbol e suffix) = nowhere-ways-add (symbol e suffix) _
 adds (function name q ref returned parameters) = function-add name q ref returned parameters (adds name) (adds returned) (adds parameters)
 adds (object name q ref) =
     encoding-ways-add (object name q ref) _ _ (Inside name) (λ x s. s)
-    (λ allowed here cs fits. fewer-by (arguments_count name) 0 (omega arith) ((adds name).at fit.as_name q ref (in_name here) allowed here cs fits))
+    (λ allowed here cs fits. fewer-by (arguments_count name) 0 (omega arith) ((adds name).at fit.as_name q ref (in_name here) allowed here cs fits.0))
 adds (special l type) =
     encoding-ways-add (special l type) _ _ (Whole type) (λ x s. s)
     (λ allowed here cs fits. after-bytes 1 0 (codes "T" ++ l ∷ []) (omega arith)
@@ -256,8 +257,7 @@ adds (in_std p) = in-std-add p (adds p)
 adds (within prefix p) = within-add prefix p (adds prefix) (adds p)
 adds (instance template arguments) = instance-add template arguments (adds template) (adds arguments)
 adds (local e entity discriminator) = local-add e entity discriminator (adds e) (adds entity)
-adds (tagged of_structor name tag) = type-ways-add (tagged of_structor name tag) _ _ (λ x w. w)
-    (λ slot around allowed place cs fits. absurd fits)
+adds (tagged of_structor name tag) = tagged-add of_structor name tag
 adds (abbreviation l) = abbreviation-add l
 adds (parameter k) = parameter-add k
 adds (source internal name) = piece-ways-add (source internal name) _ _ (λ around allowed place cs fits.

@@ -344,6 +344,15 @@ found-and-adds m around allowed own front G s arguments Q more place cs fits = g
         both-added 1 m m (omega arith) (tree-found number bytes is (omega arith)) (more (place + length bytes) cs (fits.1 number is))
     go None is = absurd (fits.2 is).0
 
+-- the same where the name would be spelled out between N and E, or not
+pub found-template-adds : (m : ℕ) (around : Around) (allowed : Option ℕ) (own : Term) (front : ℕ → Spelling) (G : Fitting) (needs_N : Bool)
+    (between arguments : Spelling) (Q : Term → Type 0) → Adds m around.encoding Q (G around allowed) arguments
+    → Adds m around.encoding (Either (Whole own) Q) (as_template own nowhere front G around allowed)
+    (template_before around.encoding own needs_N between arguments)
+unfolding template_before
+found-template-adds m around allowed own front G needs_N between arguments Q more place cs fits =
+    referred-adds m around.encoding own Q (G around allowed) arguments _ more place cs fits.1 (λ is. absurd (fits.2 is).0)
+
 pub in-template : (m : ℕ) (around : Around) (allowed : Option ℕ) (own : Term) (spelled : Fitting) (between : ℕ → Spelling) (G : Fitting)
     (arguments : Spelling) (Q : Term → Type 0) → Adds 2 around.encoding (Inside own) (spelled around allowed) (between around.encoding)
     → Adds m around.encoding Q (G around allowed) arguments

@@ -14,7 +14,7 @@ use Rattle.cpp_press_laws.proofs.Components.Parts.{IsComponent, Inside, Whole, H
 use Rattle.cpp_press_laws.specs.Components.{Component, first_equal}
 use Rattle.cpp_press_laws.proofs.Components.KnownTrees.{In}
 use Rattle.cpp_press_laws.proofs.Components.Complete.{Complete, complete-has}
-use Rattle.cpp_press_laws.specs.Fits.{Slot, any_type, bare_type, parameter_type, IsBuiltin, IsAbbreviation, type_fits, piece_fits, argument_fits, encoding_fits, fits_nowhere, fits_of, PacksFit, MayBeReferred}
+use Rattle.cpp_press_laws.specs.Fits.{Slot, any_type, bare_type, parameter_type, IsBuiltin, IsAbbreviation, type_fits, piece_fits, argument_fits, encoding_fits, fits_nowhere, fits_of, PacksFit, MayBeReferred, IsAbiMark}
 use Rattle.cpp_press_laws.proofs.Slots.{each-slot}
 use Rattle.cpp_press_laws.proofs.Fitting as fit
 use Rattle.cpp_press_laws.proofs.Components.AddedWays.{AddsParts, IsNotBare, way_at}
@@ -41,6 +41,7 @@ FunctionStands scope (function_type c_linkage noexcept ref returned parameters) 
     ItemStands any_type scope (packs_in scope (function_type c_linkage noexcept ref returned parameters)) returned
     × ItemsStand scope (packs_in scope (function_type c_linkage noexcept ref returned parameters)) parameters
     × IsNoVoid parameters
+    × IsAbiMark ref
 FunctionStands scope _ = Unit {0}
 
 -- ## Types that are there
@@ -144,4 +145,5 @@ function-again c_linkage noexcept ref returned parameters around allowed stands 
           (right-shut (is_open returned) (is_open parameters) around.in_lambda may.lambda) (place + length
           (marks ++ w.bytes)) w.components (a.complete complete)
           (λ x i. a.keeps n x (all x (inr (inr i)))),
+      stands.3,
     )

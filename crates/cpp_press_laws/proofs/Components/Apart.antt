@@ -3,9 +3,10 @@ use Rattle.std.proofs.Common.{◌≡◌, ℕ, suc, ◌+◌, ◌-◌, ◌<◌, in
 use Rattle.std.specs.Prelude.{cond, ◌&&◌, codes}
 use Rattle.sym_spell.specs.Pressing.{◌and◌, text}
 use Rattle.cpp_grammar.specs.Term.{RefQualifier, Term, symbol, function, object, special, thunk, of_name, construction, clone, alone, in_std, within, instance, local, holder, tagged, of_default, abbreviation, parameter, source, operator, literal_operator, constructor, destructor, inheriting, lambda, generic_lambda, unnamed, string_literal, conversion, builtin, sized_float, constrained, vendor, pointer, lvalue, rvalue, array, bounded, member_pointer, function_type, qualified, vector, complex, decltype, expansion, integer, boolean, null_pointer, encoding_literal, address_of, operation, function_parameter, pack, nil, list, absent}
+use Rattle.cpp_grammar.specs.Scope.{without_tags}
 use Rattle.cpp_press_laws.specs.Texts.{counted, ordinal, signed_text, qualifier_letters, mark_letter, name_letters, special_code, thunk_text, discriminator_text}
 use Rattle.cpp_press_laws.specs.Components.{Spelling, component}
-use Rattle.cpp_press_laws.specs.Pressing.{Ways, no_ways, type_ways, function_text, in_N_and_E, with_letters, name_ways, template_before, is_operator, is_one_piece, entity_text, local_text, begun, encoding_ways, piece_ways, argument_ways, ways_of, pressed}
+use Rattle.cpp_press_laws.specs.Pressing.{Ways, no_ways, type_ways, function_text, in_N_and_E, with_letters, name_ways, template_before, is_operator, is_nested, is_one_piece, entity_text, local_text, begun, encoding_ways, piece_ways, argument_ways, ways_of, pressed}
 use Rattle.cpp_press_laws.specs.MarkedComponents as marks
 use Rattle.cpp_press_laws.specs.MarkedPressing as marked
 use Rattle.cpp_press_laws.specs.Apart.{IsTemplateOf, IsTemplateBehindLetters, IsNeverReferred, ComponentsAreMarked, ComponentsAreApart, spelled_components, marked_components}
@@ -86,6 +87,12 @@ encoding-ways-grow : (whole t : Term) {spelling : (encoding : ℕ) → marks.Spe
 unfolding marked.encoding_ways marked.begun encoding_ways begun marked.no_ways no_ways
 encoding-ways-grow whole t one way.as_encoding = record { adds = λ place components. (one place).adds place components }
 encoding-ways-grow whole t one w = no-ways-grow whole t w
+
+-- a spelling that is given its own place
+begun-grows : {whole : Term} {m : ℕ} {spelling : (encoding : ℕ) → marks.Spelling} {plain : (encoding : ℕ) → Spelling}
+    → ((encoding : ℕ) → Grows whole m (spelling encoding) (plain encoding)) → Grows whole m (marked.begun spelling) (begun plain)
+unfolding marked.begun begun
+begun-grows one = record { adds = λ place components. (one place).adds place components }
 
 in-N-and-E-grows : {whole : Term} {m : ℕ} {spelling : marks.Spelling} {plain : Spelling} (letters : List ℕ) → Grows whole m spelling plain
     → Grows whole m (marked.in_N_and_E letters spelling) (in_N_and_E letters plain)
@@ -203,6 +210,21 @@ plain-name-ways-grow whole p t n sized needs_N one grown =
     name-ways-grow whole n t one (more-grows grown (omega arith)) grown (λ never. grown)
     (λ in_type arguments behind m low more. before-grows n t (in_type && needs_N) low grown more)
 
+-- a name with one tag more
+tagged-name-ways-grow : (whole name t : Term) (n : ℕ) → size t ≡ suc (size name) → (needs_N : Bool) {between : marks.Spelling} {plain : Spelling}
+    → Grows whole (size name) between plain
+    → WaysGrow whole t
+    (marked.name_ways n t (elim needs_N as (λ _. marks.Spelling) [ true ↦ marked.in_N_and_E [] between | false ↦ between ])
+    (elim needs_N as (λ _. marks.Spelling) [ true ↦ marked.in_N_and_E [] between | false ↦ between ]) between between
+    (λ in_type arguments. marked.template_before n t needs_N between arguments))
+    (name_ways n t (elim needs_N as (λ _. Spelling) [ true ↦ in_N_and_E [] plain | false ↦ plain ])
+    (elim needs_N as (λ _. Spelling) [ true ↦ in_N_and_E [] plain | false ↦ plain ]) plain plain
+    (λ in_type arguments. template_before n t needs_N plain arguments))
+tagged-name-ways-grow whole name t n sized needs_N one =
+    let grown = more-grows one (omega (arith, sized)) in
+    name-ways-grow whole n t (typed-std needs_N grown) (typed-std needs_N (more-grows one (omega (arith, sized)))) grown (λ never. grown)
+    (λ in_type arguments behind m low more. before-grows n t needs_N low grown more)
+
 pub ways-grow : (whole t : Term) → StandsIn t whole → (n : ℕ) → WaysGrow whole t (marked.ways_of n t) (ways_of n t)
 unfolding marked.ways_of ways_of size marked.no_ways no_ways
 ways-grow whole (symbol e suffix) in_whole n =
@@ -257,6 +279,9 @@ ways-grow whole (local e entity discriminator) in_whole n =
     let b = ways-grow whole entity (λ x is. in_whole x (inr (inr is))) n in
     local-ways-grow whole n (local e entity discriminator) _ _ (λ letters. local-grows entity discriminator letters
     (more-grows (a way.as_encoding) (omega arith)) (more-grows (b way.between_N_and_E (λ x is. in_whole x (inl is))) (omega arith)))
+ways-grow whole (tagged of_structor name tag) in_whole n =
+    tagged-name-ways-grow whole name (tagged of_structor name tag) n refl (is_nested (without_tags name))
+    (back (ways-grow whole name (λ x is. in_whole x (inr is)) n way.between_N_and_E (λ x is. in_whole x (inl is))) (codes "B" ++ counted tag))
 ways-grow whole (function_type c_linkage noexcept ref returned parameters) in_whole n =
     function-type-ways-grow whole n (function_type c_linkage noexcept ref returned parameters) (function-text-grows c_linkage noexcept ref
     (more-grows (ways-grow whole returned (λ x is. in_whole x (inl is)) n way.as_type) (omega arith))
@@ -276,7 +301,6 @@ ways-grow whole (thunk kind e) in_whole n = encoding-ways-grow whole (thunk kind
 ways-grow whole (construction derived digits parent) in_whole n = encoding-ways-grow whole (construction derived digits parent) (λ here. front (codes "TC") (and-grows (more-grows (ways-grow whole derived (λ x w. in_whole x (inl w)) here way.as_type) (omega arith)) (front (digits ++ codes "_") (more-grows (ways-grow whole parent (λ x w. in_whole x (inr w)) here way.as_type) (omega arith)))))
 ways-grow whole (clone letter e) in_whole n = encoding-ways-grow whole (clone letter e) (λ here. front (codes "GT") (front (letter ∷ []) (more-grows (ways-grow whole e in_whole here way.as_encoding) (omega arith))))
 ways-grow whole (holder name) in_whole n = prefix-ways-grow whole (holder name) (back (more-grows (ways-grow whole name in_whole n way.as_prefix) (omega arith)) (codes "M"))
-ways-grow whole (tagged of_structor name tag) in_whole n = typed whole n (tagged of_structor name tag) (back (more-grows (ways-grow whole name in_whole n way.as_type) (omega arith)) (codes "B" ++ counted tag))
 ways-grow whole (of_default digits entity) in_whole n = no-ways-grow whole (of_default digits entity)
 ways-grow whole (abbreviation l) in_whole n = type-ways-grow whole (abbreviation l) (text-grows (codes "S" ++ l ∷ []))
 ways-grow whole (parameter k) in_whole n = typed whole n (parameter k) (text-grows (codes "T" ++ ordinal k))
@@ -287,7 +311,7 @@ ways-grow whole (constructor digit) in_whole n = piece-ways-grow whole (construc
 ways-grow whole (destructor digit) in_whole n = piece-ways-grow whole (destructor digit) (text-grows (codes "D" ++ digit ∷ []))
 ways-grow whole (inheriting digit class) in_whole n = no-ways-grow whole (inheriting digit class)
 ways-grow whole (lambda parameters k) in_whole n = piece-ways-grow whole (lambda parameters k) (front (codes "Ul") (back (more-grows (ways-grow whole parameters in_whole n way.as_parameters) (omega arith)) (codes "E" ++ ordinal (k - 1))))
-ways-grow whole (generic_lambda parameters number) in_whole n = no-ways-grow whole (generic_lambda parameters number)
+ways-grow whole (generic_lambda parameters number) in_whole n = piece-ways-grow whole (generic_lambda parameters number) (front (codes "Ul") (back (begun-grows (λ here. more-grows (ways-grow whole parameters in_whole here way.as_parameters) (omega arith))) (codes "E" ++ ordinal (number - 1))))
 ways-grow whole (unnamed k) in_whole n = piece-ways-grow whole (unnamed k) (text-grows (codes "Ut" ++ ordinal (k - 1)))
 ways-grow whole string_literal in_whole n = piece-ways-grow whole string_literal (text-grows (codes "s"))
 ways-grow whole (conversion type) in_whole n = piece-ways-grow whole (conversion type) (front (codes "cv") (more-grows (ways-grow whole type in_whole n way.as_type) (omega arith)))

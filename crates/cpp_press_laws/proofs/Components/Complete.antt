@@ -4,7 +4,7 @@ use Rattle.std.specs.Prelude.{cond, ◌&&◌, ◌||◌, slice_get}
 use Rattle.std.proofs.lemmas.Bool.{true≢false, or_parts}
 use Rattle.cpp_grammar.specs.Term.{Term, symbol, alone, in_std, within, instance, local, holder, tagged, of_default, inheriting, lambda, conversion, pointer, lvalue, rvalue, array, constrained, bounded, member_pointer, function_type, qualified, vector, complex, decltype, expansion, integer, operation, pack, list}
 use Rattle.cpp_grammar.specs.Scope.{is_open}
-use Rattle.cpp_grammar.specs.Values.{Candidate}
+use Rattle.cpp_grammar.specs.Values.{Candidate, by_all}
 use Rattle.cpp_grammar.specs.References.{is_function_type}
 use Rattle.cpp_press_laws.specs.Fits.{has_letters}
 use Rattle.cpp_press_laws.specs.Components.{Component, Spelling, components_of, is_same, first_equal, reference, ended, spelled_out, component}
@@ -46,7 +46,7 @@ inside-shut (instance template arguments) x closed (inr i) =
 inside-shut (local e entity discriminator) x closed (inl s) = s.0
 inside-shut (local e entity discriminator) x closed (inr i) = inside-shut entity x closed i
 inside-shut (holder name) x closed i = prefix-shut name x (Inside name x) closed (inside-shut name x closed) i
-inside-shut (tagged of_structor name tag) x closed i = itself-shut name x (Inside name x) closed (inside-shut name x closed) i
+inside-shut (tagged of_structor name tag) x closed i = inside-shut name x closed i
 inside-shut (of_default digits entity) x closed i = inside-shut entity x closed i
 inside-shut (inheriting digit class) x closed i = itself-shut class x (Inside class x) closed (inside-shut class x closed) i
 inside-shut (lambda parameters k) x closed i = inside-shut parameters x closed i
@@ -222,10 +222,10 @@ worth-less read pressed t cs components among = omega arith
 
 -- one more on both sides
 pub among-ended : (read pressed : ℕ) (in_lambda : Bool) (t : Term) (cs : List Candidate) (components : List Component) → IsComponent t → StandAmong read pressed cs components
-    → StandAmong read pressed (cs ++ record { tree = t; encoding = read; in_lambda = in_lambda; is_held = false } ∷ []) (components ++ record { tree = t; encoding = pressed } ∷ [])
+    → StandAmong read pressed (cs ++ record { tree = t; encoding = read; in_lambda = in_lambda; counted = by_all } ∷ []) (components ++ record { tree = t; encoding = pressed } ∷ [])
 among-ended read pressed in_lambda t cs components is among =
     let own : List Component = record { tree = t; encoding = pressed } ∷ [] in
-    let named : List Candidate = record { tree = t; encoding = read; in_lambda = in_lambda; is_held = false } ∷ [] in (
+    let named : List Candidate = record { tree = t; encoding = read; in_lambda = in_lambda; counted = by_all } ∷ [] in (
       each-append read pressed cs named (components ++ own)
           (each-others read pressed cs components (components ++ own) (λ x c has. has-before pressed x components own has) among.0)
           ((is, λ may. has-itself pressed t components), tt),
@@ -234,7 +234,7 @@ among-ended read pressed in_lambda t cs components is among =
         omega (
           arith,
           among.1.1,
-          worths-named cs (record { tree = t; encoding = read; in_lambda = in_lambda; is_held = false }),
+          worths-named cs (record { tree = t; encoding = read; in_lambda = in_lambda; counted = by_all }),
           worths-one components (record { tree = t; encoding = pressed }),
           worth-less read pressed t cs components among.0,
         ),
@@ -243,13 +243,13 @@ among-ended read pressed in_lambda t cs components is among =
 
 -- one more candidate that is there already
 pub among-known : (read pressed : ℕ) (in_lambda : Bool) (t : Term) (cs : List Candidate) (components : List Component) → IsComponent t → Has pressed t components
-    → StandAmong read pressed cs components → StandAmong read pressed (cs ++ record { tree = t; encoding = read; in_lambda = in_lambda; is_held = false } ∷ []) components
+    → StandAmong read pressed cs components → StandAmong read pressed (cs ++ record { tree = t; encoding = read; in_lambda = in_lambda; counted = by_all } ∷ []) components
 among-known read pressed in_lambda t cs components is has among =
-    let named : List Candidate = record { tree = t; encoding = read; in_lambda = in_lambda; is_held = false } ∷ [] in (
+    let named : List Candidate = record { tree = t; encoding = read; in_lambda = in_lambda; counted = by_all } ∷ [] in (
       each-append read pressed cs named components among.0 ((is, λ may. has), tt),
       (
         omega (arith, among.1.0, length-append cs named),
-        omega (arith, among.1.1, worths-named cs (record { tree = t; encoding = read; in_lambda = in_lambda; is_held = false })),
+        omega (arith, among.1.1, worths-named cs (record { tree = t; encoding = read; in_lambda = in_lambda; counted = by_all })),
       ),
     )
 
@@ -281,12 +281,12 @@ among-inner read pressed inner own cs components before among = (each-inner read
 -- among those after the component that it is.
 pub component-among : (read n : ℕ) (in_lambda : Bool) (t : Term) (spelling : Spelling) → IsComponent t → KeepsTo Unit n (Whole t) spelling → (place : ℕ)
     (cs : List Component) (candidates : List Candidate) → n ≤ place → Complete cs → StandAmong read n candidates (spelling place cs).components
-    → StandAmong read n (candidates ++ record { tree = t; encoding = read; in_lambda = in_lambda; is_held = false } ∷ []) (component n t spelling place cs).components
+    → StandAmong read n (candidates ++ record { tree = t; encoding = read; in_lambda = in_lambda; counted = by_all } ∷ []) (component n t spelling place cs).components
 unfolding component reference spelled_out ended
 component-among read n in_lambda t spelling is keeps place cs candidates le complete among = go (first_equal n t 0 cs) refl
   where
     go : (o : Option ℕ) → first_equal n t 0 cs ≡ o
-        → StandAmong read n (candidates ++ record { tree = t; encoding = read; in_lambda = in_lambda; is_held = false } ∷ []) (spell.Pressed.components (elim o as
+        → StandAmong read n (candidates ++ record { tree = t; encoding = read; in_lambda = in_lambda; counted = by_all } ∷ []) (spell.Pressed.components (elim o as
         (λ _. spell.Pressed Component)
         [ Some number ↦ reference number place cs | None ↦ spelled_out n t spelling place cs ]))
     go (Some number) found =

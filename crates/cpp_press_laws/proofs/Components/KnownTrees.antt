@@ -4,10 +4,10 @@ use Rattle.std.proofs.Common.{◌≡◌, ℕ, ◌-◌, ◌<◌, ◌⊎◌, inl, 
 use Rattle.std.specs.Prelude.{◌&&◌, codes, cond}
 use Rattle.sym_spell.specs.Pressing.{◌and◌, text, nothing}
 use Rattle.cpp_grammar.specs.Term.{Term, symbol, function, object, special, thunk, of_name, construction, clone, alone, in_std, within, instance, local, holder, tagged, of_default, abbreviation, parameter, source, operator, literal_operator, constructor, destructor, inheriting, lambda, generic_lambda, unnamed, string_literal, conversion, builtin, sized_float, constrained, vendor, pointer, lvalue, rvalue, array, bounded, member_pointer, function_type, qualified, vector, complex, decltype, expansion, integer, boolean, null_pointer, encoding_literal, address_of, operation, function_parameter, pack, nil, list, absent, adjusting, covariant, Thunk}
-use Rattle.cpp_grammar.specs.Scope.{is_open}
+use Rattle.cpp_grammar.specs.Scope.{is_open, without_tags}
 use Rattle.cpp_press_laws.specs.Texts.{counted, ordinal, signed_text, qualifier_letters, mark_letter, name_letters, special_code, thunk_text, discriminator_text}
 use Rattle.cpp_press_laws.specs.Components.{Spelling, ended, component}
-use Rattle.cpp_press_laws.specs.Pressing.{Ways, no_ways, type_ways, function_text, in_N_and_E, with_letters, name_ways, template_before, is_operator, is_one_piece, entity_text, local_text, encoding_ways, piece_ways, argument_ways, ways_of}
+use Rattle.cpp_press_laws.specs.Pressing.{Ways, no_ways, type_ways, function_text, in_N_and_E, with_letters, name_ways, template_before, is_operator, is_nested, is_one_piece, entity_text, local_text, begun, encoding_ways, piece_ways, argument_ways, ways_of}
 use Rattle.cpp_press_laws.proofs.Ways as way
 use Rattle.cpp_press_laws.proofs.Ways.{Way}
 use Rattle.cpp_press_laws.proofs.Components.Parts.{IsComponent, Shut, Inside, Whole, Prefixing, Unqualified, prefix-whole}
@@ -226,6 +226,18 @@ local-keeps open_ n R around entity between discriminator letters one two =
     (between-texts-keep open_ n R (codes "E") name (discriminator_text discriminator)
     (entity-keeps open_ n R letters between (is_one_piece entity) two)))
 
+-- a name that needs an N, or doesn't
+named-keeps : (open_ : Type 0) (n : ℕ) (R : Term → Type 0) (needs_N : Bool) (between : Spelling) → KeepsTo open_ n R between
+    → KeepsTo open_ n R (elim needs_N as (λ _. Spelling) [ true ↦ in_N_and_E [] between | false ↦ between ])
+named-keeps open_ n R true between one = in-N-and-E-keeps open_ n R [] between one
+named-keeps open_ n R false between one = one
+
+-- the signature of a lambda with parameters of its own, which is an encoding of its own
+signature-keeps : (open_ : Type 0) (n : ℕ) (R : Term → Type 0) (t : Term) → ((here : ℕ) → WaysKeep ⊥ here (OrOpen R) t (ways_of here t))
+    → In (λ x. Shut (Inside t x) x) R → KeepsBehind open_ n R (begun (λ here. (ways_of here t).as_parameters))
+signature-keeps open_ n R t one h =
+    begun-keeps open_ n R (λ here. (ways_of here t).as_parameters) (λ here. (one here way.as_parameters) (shut-or-open R (Inside t) h))
+
 thunk-some : (kind : Thunk) → 0 < length (thunk_text kind)
 unfolding thunk_text
 thunk-some (adjusting a) = omega arith
@@ -268,14 +280,9 @@ keeps (in_std p) open_ n R =
     λ h. behind-text-keeps open_ n R (codes "St") (ways_of n p).as_piece ((keeps p open_ n R way.as_piece) h) in
     name-ways-keep open_ n R (in_std p) (elim (is_operator p) [ true ↦ in_N_and_E [] spelling | false ↦ spelling ]) spelling spelling spelling
     (λ in_type arguments. template_before n (in_std p) (in_type && is_operator p) spelling arguments) (λ x w. w) (λ x w. w)
-    (λ h. typed (is_operator p) spelling (one h)) one one one
+    (λ h. named-keeps open_ n R (is_operator p) spelling (one h)) one one one
     (λ h in_type arguments more. before-keeps open_ n R (in_std p) (in_type && is_operator p) spelling arguments (its open_ n R (in_std p) h)
     (one (insides R (in_std p) h)) more)
-  where
-    typed : (b : Bool) (spelling : Spelling) → KeepsTo open_ n R spelling
-        → KeepsTo open_ n R (elim b as (λ _. Spelling) [ true ↦ in_N_and_E [] spelling | false ↦ spelling ])
-    typed true spelling one = in-N-and-E-keeps open_ n R [] spelling one
-    typed false spelling one = one
 keeps (within prefix p) open_ n R =
     let between : Spelling = (ways_of n prefix).as_prefix and (ways_of n p).as_piece in
     let one : In (Inside (within prefix p)) R → KeepsTo open_ n R between =
@@ -287,6 +294,18 @@ keeps (within prefix p) open_ n R =
     (λ in_type arguments. template_before n (within prefix p) true between arguments) (λ x w. w) (λ x w. w) spelled spelled one one
     (λ h in_type arguments more. before-keeps open_ n R (within prefix p) true between arguments (its open_ n R (within prefix p) h)
     (one (insides R (within prefix p) h)) more)
+keeps (tagged of_structor name tag) open_ n R =
+    let own : Term = tagged of_structor name tag in
+    let bytes : List ℕ = codes "B" ++ counted tag in
+    let needs_N : Bool = is_nested (without_tags name) in
+    let between : Spelling = (ways_of n name).between_N_and_E and text bytes in
+    let spelled : Spelling = elim needs_N as (λ _. Spelling) [ true ↦ in_N_and_E [] between | false ↦ between ] in
+    let one : In (Inside own) R → KeepsTo open_ n R between =
+    λ h. before-text-keeps open_ n R (ways_of n name).between_N_and_E bytes ((keeps name open_ n R way.between_N_and_E) h) in
+    let two : In (Inside own) R → KeepsTo open_ n R spelled = λ h. named-keeps open_ n R needs_N between (one h) in
+    name-ways-keep open_ n R own spelled spelled between between (λ in_type arguments. template_before n own needs_N between arguments)
+    (λ x w. w) (λ x w. w) two two one one
+    (λ h in_type arguments more. before-keeps open_ n R own needs_N between arguments (its open_ n R own h) (one (insides R own h)) more)
 keeps (instance template arguments) open_ n R =
     let own : Term = instance template arguments in
     let a = keeps template open_ n R in
@@ -336,7 +355,6 @@ keeps (thunk kind e) open_ n R = encoding-ways-keep open_ n R (thunk kind e) _ (
 keeps (construction derived digits parent) open_ n R = encoding-ways-keep open_ n R (construction derived digits parent) _ (λ x. Whole derived x ⊎ Whole parent x) (λ x s. s) (λ here h. behind-text-keeps ⊥ here (OrOpen R) (codes "TC") ((ways_of here derived).as_type and text (digits ++ codes "_") and (ways_of here parent).as_type) (and-keeps ⊥ here (OrOpen R) ((ways_of here derived).as_type) (text (digits ++ codes "_") and (ways_of here parent).as_type) (keeps derived ⊥ here (OrOpen R) way.as_type (λ x w. h x (inl w))) (behind-text-keeps ⊥ here (OrOpen R) (digits ++ codes "_") ((ways_of here parent).as_type) (keeps parent ⊥ here (OrOpen R) way.as_type (λ x w. h x (inr w))))))
 keeps (clone letter e) open_ n R = encoding-ways-keep open_ n R (clone letter e) _ (λ x. Shut (Inside e x) x) (λ x s. s.1) (λ here h. behind-text-keeps ⊥ here (OrOpen R) (codes "GT") (text (letter ∷ []) and (ways_of here e).as_encoding) (behind-bytes-keeps ⊥ here (OrOpen R) (letter ∷ []) ((ways_of here e).as_encoding) (omega arith) (keeps e ⊥ here (OrOpen R) way.as_encoding h)))
 keeps (holder name) open_ n R = prefix-ways-keep open_ n R (holder name) _ (λ h. and-keeps open_ n R ((ways_of n name).as_prefix) (text (codes "M")) (keeps name open_ n R way.as_prefix (λ x w. h x (inr w))) (text-keeps open_ n R (codes "M")))
-keeps (tagged of_structor name tag) open_ n R = typed-keep open_ n R (tagged of_structor name tag) _ (λ x w. w) (λ x w. w) (λ h. and-keeps open_ n R ((ways_of n name).as_type) (text (codes "B" ++ counted tag)) (keeps name open_ n R way.as_type h) (text-keeps open_ n R (codes "B" ++ counted tag)))
 keeps (of_default digits entity) open_ n R = no-ways-keep open_ n R (of_default digits entity)
 keeps (abbreviation l) open_ n R = type-ways-keep open_ n R (abbreviation l) _ (λ x w. w) (λ x w. w) (λ h. text-keeps open_ n R (codes "S" ++ l ∷ []))
 keeps (parameter k) open_ n R = typed-keep open_ n R (parameter k) _ (λ x w. w) (λ x w. w) (λ h. text-keeps open_ n R (codes "T" ++ ordinal k))
@@ -347,7 +365,7 @@ keeps (constructor digit) open_ n R = piece-ways-keep open_ n R (constructor dig
 keeps (destructor digit) open_ n R = piece-ways-keep open_ n R (destructor digit) _ (λ h. text-keeps open_ n R (codes "D" ++ digit ∷ []))
 keeps (inheriting digit class) open_ n R = no-ways-keep open_ n R (inheriting digit class)
 keeps (lambda parameters k) open_ n R = piece-ways-keep open_ n R (lambda parameters k) _ (λ h. behind-text-keeps open_ n R (codes "Ul") ((ways_of n parameters).as_parameters and text (codes "E" ++ ordinal (k - 1))) (and-keeps open_ n R ((ways_of n parameters).as_parameters) (text (codes "E" ++ ordinal (k - 1))) (keeps parameters open_ n R way.as_parameters h) (text-keeps open_ n R (codes "E" ++ ordinal (k - 1)))))
-keeps (generic_lambda parameters number) open_ n R = no-ways-keep open_ n R (generic_lambda parameters number)
+keeps (generic_lambda parameters number) open_ n R = piece-ways-keep open_ n R (generic_lambda parameters number) _ (λ h. behind-bytes-keeps open_ n R (codes "Ul") (begun (λ here. (ways_of here parameters).as_parameters) and text (codes "E" ++ ordinal (number - 1))) (omega arith) (behind-and-keeps open_ n R (begun (λ here. (ways_of here parameters).as_parameters)) (text (codes "E" ++ ordinal (number - 1))) (signature-keeps open_ n R parameters (λ here. keeps parameters ⊥ here (OrOpen R)) h) (text-keeps open_ n R (codes "E" ++ ordinal (number - 1)))))
 keeps (unnamed k) open_ n R = piece-ways-keep open_ n R (unnamed k) _ (λ h. text-keeps open_ n R (codes "Ut" ++ ordinal (k - 1)))
 keeps string_literal open_ n R = piece-ways-keep open_ n R string_literal _ (λ h. text-keeps open_ n R (codes "s"))
 keeps (conversion type) open_ n R = piece-ways-keep open_ n R (conversion type) _ (λ h. behind-text-keeps open_ n R (codes "cv") ((ways_of n type).as_type) (keeps type open_ n R way.as_type h))

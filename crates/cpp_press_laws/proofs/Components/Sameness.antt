@@ -4,7 +4,7 @@ use Rattle.std.proofs.Common.{ap, sym}
 use Rattle.std.proofs.lemmas.Bool.{eqb-true, eq-eqb}
 use Rattle.sym_spell.proofs.Tests.{both, all}
 use Rattle.cpp_grammar.specs.Texts.{same_bytes}
-use Rattle.cpp_grammar.specs.Term.{Qualifiers, RefQualifier, any_value, lvalue_only, rvalue_only, Signed, Adjustment, non_virtual, by_table, Thunk, adjusting, covariant, Term, symbol, function, object, special, thunk, of_name, construction, clone, alone, in_std, within, instance, local, holder, tagged, of_default, abbreviation, parameter, source, operator, literal_operator, constructor, destructor, inheriting, lambda, generic_lambda, unnamed, string_literal, conversion, builtin, sized_float, constrained, vendor, pointer, lvalue, rvalue, array, bounded, member_pointer, function_type, qualified, vector, complex, decltype, expansion, integer, boolean, null_pointer, encoding_literal, address_of, operation, function_parameter, pack, nil, list, absent}
+use Rattle.cpp_grammar.specs.Term.{Qualifiers, RefQualifier, any_value, lvalue_only, rvalue_only, explicit_object, Signed, Adjustment, non_virtual, by_table, Thunk, adjusting, covariant, Term, symbol, function, object, special, thunk, of_name, construction, clone, alone, in_std, within, instance, local, holder, tagged, of_default, abbreviation, parameter, source, operator, literal_operator, constructor, destructor, inheriting, lambda, generic_lambda, unnamed, string_literal, conversion, builtin, sized_float, constrained, vendor, pointer, lvalue, rvalue, array, bounded, member_pointer, function_type, qualified, vector, complex, decltype, expansion, integer, boolean, null_pointer, encoding_literal, address_of, operation, function_parameter, pack, nil, list, absent}
 use Rattle.cpp_press_laws.specs.Same.{same_truth, same_qualifiers, same_mark, same_signed, same_adjustment, same_thunk, same_discriminator, same_tree}
 
 never : false ≡ true → ⊥
@@ -62,6 +62,7 @@ unfolding same_mark
 equal-mark any_value any_value h = refl
 equal-mark lvalue_only lvalue_only h = refl
 equal-mark rvalue_only rvalue_only h = refl
+equal-mark explicit_object explicit_object h = refl
 equal-mark _ _ h = cc
 
 mark-itself : (r : RefQualifier) → same_mark r r ≡ true
@@ -69,6 +70,7 @@ unfolding same_mark
 mark-itself any_value = refl
 mark-itself lvalue_only = refl
 mark-itself rvalue_only = refl
+mark-itself explicit_object = refl
 
 signeds-equal : (m n : Bool) (xs ys : List ℕ) → m ≡ n → xs ≡ ys
     → ◌≡◌ {A = Signed} (record { negative = m; digits = xs }) (record { negative = n; digits = ys })

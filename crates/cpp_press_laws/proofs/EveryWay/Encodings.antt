@@ -27,7 +27,7 @@ use Rattle.cpp_press_laws.proofs.ReadBack.Between.{ExtendsWith, extends-with-beh
 use Rattle.cpp_press_laws.proofs.ReadBack.Templates.{TypeRules, slot-rules}
 use Rattle.cpp_press_laws.proofs.EveryWay.Every.{NameReads, EntityReads, template-value, Leads, typed-argument, reads-encoding, referred-before, reads-nowhere}
 use Rattle.cpp_press_laws.proofs.EveryWay.Types.{Reading, ReadingAt}
-use Rattle.cpp_press_laws.specs.Fits.{either, Role, in_type, in_name_with, letters_of, IsSpellableDiscriminator, Slot, any_type, bare_type, item_type, parameter_type, literal_type, Fitting, as_component, nowhere, Behind, type_fits, fits_nowhere, fits_of}
+use Rattle.cpp_press_laws.specs.Fits.{either, Role, in_type, in_name_with, letters_of, IsSpellableDiscriminator, Slot, any_type, bare_type, item_type, parameter_type, literal_type, Fitting, as_component, nowhere, Behind, type_fits, fits_nowhere, fits_of, IsAbiRole, IsAbiMark}
 use Rattle.cpp_press_laws.proofs.Slots.{each-slot}
 use Rattle.cpp_press_laws.proofs.Spots as spot
 use Rattle.cpp_press_laws.proofs.ReadBack.Symbols.{local-type, local-name, encoding-reads, guard-reads, special-reads, special-type, discriminator-reads, thunk-reads}
@@ -56,7 +56,7 @@ keeps-entity n entity letters =
     (keeps entity n).between_N_and_E (keeps-N-and-E letters (ways_of n entity).between_N_and_E (keeps entity n).between_N_and_E)
 
 -- the encoding and the entity
-local-parts : (e entity : Term) (d : Option (List ℕ)) → Reading e → Reading entity → (role : Role) (around : Around) (allowed : Option ℕ)
+local-parts : (e entity : Term) (d : Option (List ℕ)) → Reading e → Reading entity → (role : Role) → IsAbiRole role → (around : Around) (allowed : Option ℕ)
     (place : ℕ) (cs : List Component) → IsSmall around → HasRoom (local_spelling around.encoding e entity d (letters_of role) place cs)
     → local_fits e entity d role around allowed place cs
     → (let first = (ways_of around.encoding e).as_encoding (place + 1) cs in
@@ -65,7 +65,7 @@ local-parts : (e entity : Term) (d : Option (List ℕ)) → Reading e → Readin
     × EntityReads role (after e true around) allowed entity at first.components
     (entity_spelling around.encoding entity (letters_of role) at first.components))
 unfolding local_text after
-local-parts e entity d re rn role around allowed place cs small room h =
+local-parts e entity d re rn role good around allowed place cs small room h =
     let n : ℕ = around.encoding in
     let spelled : Spelling = (ways_of n e).as_encoding in
     let name : Spelling = entity_spelling n entity (letters_of role) in
@@ -79,7 +79,7 @@ local-parts e entity d re rn role around allowed place cs small room h =
           (room-first spelled (text (codes "E") and name and end) (place + 1) cs
           (keeps-front (codes "E") (name and end) (keeps-behind name (discriminator_text d) (keeps-entity n entity
           (letters_of role)))) inner) h.0,
-      (rn.at spot.as_entity) role (after e true around) allowed at first.components small
+      (rn.at spot.as_entity) role good (after e true around) allowed at first.components small
           (room-first name end at first.components (keeps-text _) named_room)
           (subst (λ q. (fits_of entity).as_entity role (after e true around) allowed q first.components)
           (omega (arith, length-append first.bytes (69 ∷ []))) h.1),
@@ -94,22 +94,22 @@ local-typed e entity d re rn k rules around allowed place cs small room h =
     let n : ℕ = around.encoding in
     let first : Written = (ways_of n e).as_encoding (place + 1) cs in
     let second : Written = entity_spelling n entity [] (place + 1 + length first.bytes + 1) first.components in
-    let p = local-parts e entity d re rn in_type around allowed place cs small room h in
+    let p = local-parts e entity d re rn in_type tt around allowed place cs small room h in
     local-type k around allowed e entity false d place cs first second (written
     (discriminator_text d) second.components) rules.locals p.0 p.1
     (discriminator-reads (after e true around) allowed d _ second.components h.2)
 
-local-as-name : (e entity : Term) (d : Option (List ℕ)) → Reading e → Reading entity → (q : Qualifiers) (ref : RefQualifier) (around : Around)
+local-as-name : (e entity : Term) (d : Option (List ℕ)) → Reading e → Reading entity → (q : Qualifiers) (ref : RefQualifier) → IsAbiMark ref → (around : Around)
     (allowed : Option ℕ) (place : ℕ) (cs : List Component) → IsSmall around
     → HasRoom (local_spelling around.encoding e entity d (name_letters q ref) place cs)
     → local_fits e entity d (in_name_with q ref) around allowed place cs
     → NameReads around allowed COMPLETE_NAME (local e entity d) q ref place cs (local_spelling around.encoding e entity d (name_letters q ref) place cs)
 unfolding local_text letters_of tree_of qualifiers_of ref_of
-local-as-name e entity d re rn q ref around allowed place cs small room h =
+local-as-name e entity d re rn q ref good around allowed place cs small room h =
     let n : ℕ = around.encoding in
     let first : Written = (ways_of n e).as_encoding (place + 1) cs in
     let second : Written = entity_spelling n entity (name_letters q ref) (place + 1 + length first.bytes + 1) first.components in
-    let p = local-parts e entity d re rn (in_name_with q ref) around allowed place cs small room h in
+    let p = local-parts e entity d re rn (in_name_with q ref) good around allowed place cs small room h in
     record {
       value = named (local e (tree_of p.1.value) d) (qualifiers_of p.1.value) (ref_of p.1.value);
       tree_is = ap (λ x. local e x d) p.1.tree_is;
@@ -158,7 +158,7 @@ reads-local e entity d re rn = record {
         (local_spelling around.encoding e entity d []) nowhere
         (extends-with-behind-s around allowed (local e entity d)) (keeps-local-spelling around.encoding e entity d []) room h
         (λ fits enough. absurd fits)
-    each spot.as_name = λ q ref around allowed place cs small room h. local-as-name e entity d re rn q ref around allowed place cs small room h
+    each spot.as_name = λ q ref good around allowed place cs small room h. local-as-name e entity d re rn q ref good around allowed place cs small room h
     each spot.as_argument = λ in_pack around allowed place cs small room h.
         typed-argument in_pack around allowed (local e entity d) place cs _ (whole item_type around allowed place cs small room h)
     each w = (reads-nowhere (local e entity d) (λ n. ways_of n (local e entity d))).at w
@@ -315,7 +315,7 @@ reads-function counts name r ps q ref rn rr rp =
     let at : ℕ = here + length first.bytes in
     let named_room : HasRoom first = room-first a (b and c) here cs (keeps-and b c (keeps r here).as_type
     (keeps ps here).as_parameters) room in
-    let v = (rn.at spot.as_name) q ref (in_name here) allowed here cs (name-small here) named_room h.0 in
+    let v = (rn.at spot.as_name) q ref h.3 (in_name here) allowed here cs (name-small here) named_room h.0 in
     let i = function-items name r ps q ref rr rp (in_types here name) allowed v.value at first.components
     (types-small counts name q ref allowed here cs h.0 named_room) (room-rest a (b and c) here cs room) v.tree_is v.qualifiers_are v.ref_is
     (has_return_type name) refl h.1
@@ -333,7 +333,7 @@ unfolding ways_of fits_of encoding_ways begun no_ways in_name no_items kinds may
 reads-object name q ref rn =
     reads-encoding (object name q ref) _ _ (λ around allowed here cs small room h.
     let first : Written = (ways_of here name).as_name (name_letters q ref) here cs in
-    let v = (rn.at spot.as_name) q ref (in_name here) allowed here cs (name-small here) room h in
+    let v = (rn.at spot.as_name) q ref h.1 (in_name here) allowed here cs (name-small here) room h.0 in
     subst (λ x. ReadsAt around allowed (OfKind ENCODING) (Is (tree x true)) here cs first)
     (encoding-object v.value name q ref v.tree_is v.qualifiers_are v.ref_is)
     (same-written (append-nil first.bytes)
@@ -351,7 +351,7 @@ reads-of-name l name q ref rn =
     reads-encoding (of_name l name q ref) _ _ (λ around allowed here cs small room h.
     let a : Spelling = (ways_of here name).as_name (name_letters q ref) in
     let w : Written = a (here + 2) cs in
-    let v = (rn.at spot.as_name) q ref (in_name here) allowed (here + 2) cs (name-small here) (room-rest (text (special_code l)) a here cs room) h.1 in
+    let v = (rn.at spot.as_name) q ref h.2 (in_name here) allowed (here + 2) cs (name-small here) (room-rest (text (special_code l)) a here cs room) h.1 in
     subst (λ k. ReadsAt around allowed (OfKind ENCODING) (Is (tree (of_name k name q ref) true)) here cs
     (written (special_code k ++ w.bytes) w.components)) (sym h.0)
     (subst (λ x. ReadsAt around allowed (OfKind ENCODING) (Is (tree x true)) here cs (written (71 ∷ 86 ∷ w.bytes) w.components))

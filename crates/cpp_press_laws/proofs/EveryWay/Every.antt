@@ -21,7 +21,7 @@ use Rattle.cpp_press_laws.proofs.ReadBack.Slots.{few-before, ReadsAs, is_bare, i
 use Rattle.cpp_press_laws.proofs.ReadBack.Named.{PieceReads, ItemsRead}
 use Rattle.cpp_press_laws.proofs.ReadBack.Between.{Named, SoFarWith, ExtendsWith, extends-with-behind-s, prefix-behind-s}
 use Rattle.cpp_press_laws.proofs.ReadBack.Templates.{TemplateKind, InstancedAt, instanced-behind-s, of_elements, ReadElements, elements-room}
-use Rattle.cpp_press_laws.specs.Fits.{Slot, any_type, bare_type, item_type, parameter_type, literal_type, Standing, Fitting, as_component, as_template, Role, in_type, in_name_with, letters_of, Fits, nowhere, fits_nowhere, type_fits, piece_fits, argument_fits, encoding_fits}
+use Rattle.cpp_press_laws.specs.Fits.{Slot, any_type, bare_type, item_type, parameter_type, literal_type, Standing, Fitting, as_component, as_template, Role, in_type, in_name_with, letters_of, IsAbiMark, IsAbiRole, Fits, nowhere, fits_nowhere, type_fits, piece_fits, argument_fits, encoding_fits}
 use Rattle.cpp_press_laws.proofs.Slots.{each-slot}
 use Rattle.cpp_press_laws.proofs.Spots as spot
 use Rattle.cpp_press_laws.proofs.Spots.{Spot}
@@ -106,7 +106,7 @@ ReadAt spot.as_prefix_template t ways fits = Leads (λ n. (ways n).as_prefix) fi
 ReadAt spot.between t ways fits = Leads (λ n. (ways n).between_N_and_E) fits.between (λ around allowed. SoFar around allowed t false 18)
 ReadAt spot.between_template t ways fits = Leads (λ n. (ways n).between_N_and_E) fits.between_template (λ around allowed. SoFarWith around allowed t)
 ReadAt spot.as_entity t ways fits =
-    (role : Role) → Leads (λ n. entity_text t (letters_of role) (ways n).between_N_and_E) (fits.as_entity role)
+    (role : Role) → IsAbiRole role → Leads (λ n. entity_text t (letters_of role) (ways n).between_N_and_E) (fits.as_entity role)
     (λ around allowed. EntityReads role around allowed t)
 ReadAt spot.as_entity_template t ways fits = Leads (λ n. (ways n).between_N_and_E) fits.as_entity_template (λ around allowed. OnePiece around allowed t)
 ReadAt spot.as_piece t ways fits = Leads (λ n. (ways n).as_piece) fits.as_piece (λ around allowed. PieceReads around allowed t)
@@ -114,7 +114,7 @@ ReadAt spot.as_encoding t ways fits =
     Leads (λ n. (ways n).as_encoding) (λ around. fits.as_encoding)
     (λ around allowed. ReadsAt around allowed (OfKind ENCODING) (Is (tree t true)))
 ReadAt spot.as_name t ways fits =
-    (q : Qualifiers) (ref : RefQualifier) → Leads (λ n. (ways n).as_name (name_letters q ref)) (fits.as_name q ref)
+    (q : Qualifiers) (ref : RefQualifier) → IsAbiMark ref → Leads (λ n. (ways n).as_name (name_letters q ref)) (fits.as_name q ref)
     (λ around allowed. NameReads around allowed COMPLETE_NAME t q ref)
 ReadAt spot.as_argument t ways fits =
     (in_pack : Bool) → Leads (λ n. (ways n).as_argument) (fits.as_argument in_pack)
@@ -124,10 +124,10 @@ ReadAt spot.as_more_items t ways fits =
     Leads (λ n. (ways n).as_more_parameters) (fits.as_more_parameters item_type)
     (λ around allowed. ListReads ITEMS around allowed t)
 ReadAt spot.as_parameters t ways fits =
-    (ref : RefQualifier) → Leads (λ n. (ways n).as_parameters) (fits.as_parameters parameter_type)
+    (ref : RefQualifier) → IsAbiMark ref → Leads (λ n. (ways n).as_parameters) (fits.as_parameters parameter_type)
     (λ around allowed. ParametersRead ref around allowed t)
 ReadAt spot.as_more_parameters t ways fits =
-    (ref : RefQualifier) → Leads (λ n. (ways n).as_more_parameters) (fits.as_more_parameters parameter_type)
+    (ref : RefQualifier) → IsAbiMark ref → Leads (λ n. (ways n).as_more_parameters) (fits.as_more_parameters parameter_type)
     (λ around allowed place cs w. RestReads around allowed t ref place cs (with_end ref w))
 ReadAt spot.as_elements t ways fits =
     (in_pack : Bool) → Leads (λ n. (ways n).as_elements) (fits.as_elements in_pack)
@@ -159,16 +159,16 @@ reads-nowhere t ways = record {
     each spot.as_prefix_template = λ around allowed place cs small room h. absurd h
     each spot.between = λ around allowed place cs small room h. absurd h
     each spot.between_template = λ around allowed place cs small room h. absurd h
-    each spot.as_entity = λ role around allowed place cs small room h. absurd h
+    each spot.as_entity = λ role good around allowed place cs small room h. absurd h
     each spot.as_entity_template = λ around allowed place cs small room h. absurd h
     each spot.as_piece = λ around allowed place cs small room h. absurd h
     each spot.as_encoding = λ around allowed place cs small room h. absurd h
-    each spot.as_name = λ q ref around allowed place cs small room h. absurd h
+    each spot.as_name = λ q ref good around allowed place cs small room h. absurd h
     each spot.as_argument = λ in_pack around allowed place cs small room h. absurd h
     each spot.as_items = λ around allowed place cs small room h. absurd h
     each spot.as_more_items = λ around allowed place cs small room h. absurd h
-    each spot.as_parameters = λ ref around allowed place cs small room h. absurd h
-    each spot.as_more_parameters = λ ref around allowed place cs small room h. absurd h
+    each spot.as_parameters = λ ref good around allowed place cs small room h. absurd h
+    each spot.as_more_parameters = λ ref good around allowed place cs small room h. absurd h
     each spot.as_elements = λ in_pack around allowed place cs small room h. absurd h
 
 pub reads-piece : (t : Term) (ways : ℕ → Ways) (fitting : Fitting)

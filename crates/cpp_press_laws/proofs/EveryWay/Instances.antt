@@ -3,7 +3,7 @@ use Rattle.std.proofs.Common.{◌≡◌, ℕ, ◌+◌, length, List, [], ◌++�
 use Rattle.std.specs.Prelude.{codes}
 use Rattle.sym_spell.specs.Pressing.{◌and◌, text, nothing}
 use Rattle.cpp_grammar.specs.KindNumbers.{ENTITY}
-use Rattle.cpp_grammar.specs.Term.{nil, within, Term, instance}
+use Rattle.cpp_grammar.specs.Term.{nil, within, Term, instance, tagged}
 use Rattle.cpp_grammar.specs.Values.{Around, tree_of}
 use Rattle.cpp_grammar.specs.References.{is_function_type}
 use Rattle.cpp_grammar.specs.Between.{inside, no_items}
@@ -21,7 +21,7 @@ use Rattle.cpp_press_laws.proofs.EveryWay.Types.{Reading, ReadingAt}
 use Rattle.cpp_press_laws.proofs.Components.Encodings.{no-encoding}
 use Rattle.cpp_press_laws.proofs.EveryWay.Std.{entity-nested}
 use Rattle.cpp_press_laws.proofs.EveryWay.Names.{plain-name, no-letters, nested-room, name-by-letters, elements-behind}
-use Rattle.cpp_press_laws.specs.Fits.{nowhere, Slot, any_type, bare_type, item_type, parameter_type, literal_type, Fitting, as_component, behind_bytes, Behind, Role, in_type, in_name_with, letters_of, IsWithoutLetters, fits_nowhere, encoding_fits, piece_fits, argument_fits, type_fits, fits_of}
+use Rattle.cpp_press_laws.specs.Fits.{nowhere, Slot, any_type, bare_type, item_type, parameter_type, literal_type, Fitting, as_component, behind_bytes, Behind, Role, in_type, in_name_with, letters_of, IsWithoutLetters, fits_nowhere, encoding_fits, piece_fits, argument_fits, type_fits, fits_of, IsAbiRole}
 use Rattle.cpp_press_laws.proofs.Slots.{each-slot}
 use Rattle.cpp_press_laws.proofs.Spots as spot
 use Rattle.cpp_press_laws.proofs.ReadBack.Arguments.{items_value}
@@ -100,6 +100,7 @@ pub not-one-piece : (t a : Term) (around : Around) (allowed : Option ℕ) (place
     → (fits_of t).between_template around allowed place cs → is_one_piece (instance t a) ≡ false
 unfolding fits_of is_one_piece encoding_fits piece_fits argument_fits type_fits fits_nowhere
 not-one-piece (within x p) a around allowed place cs h = no-encoding x around allowed place cs h.0
+not-one-piece (tagged of_structor name tag) a around allowed place cs h = absurd h
 not-one-piece _ a around allowed place cs h = refl
 
 piece-entity : (t a : Term) → Reading t → Reading a → (role : Role) (around : Around) (allowed : Option ℕ) (place : ℕ) (cs : List Component)
@@ -126,7 +127,7 @@ unfolding fits_of is_one_piece encoding_fits piece_fits argument_fits type_fits 
 one-piece-is (within x p) a around allowed place cs h k = let e : true ≡ false = sym h.0 ∙ k in cc
 one-piece-is _ a around allowed place cs h k = h
 
-instance-entity : (t a : Term) → Reading t → Reading a → (role : Role) (around : Around) (allowed : Option ℕ) (place : ℕ)
+instance-entity : (t a : Term) → Reading t → Reading a → (role : Role) → IsAbiRole role → (around : Around) (allowed : Option ℕ) (place : ℕ)
     (cs : List Component)
     → IsSmall around → (b : Bool) → is_one_piece (instance t a) ≡ b
     → HasRoom (choice b (instance_between around.encoding t a) (in_N_and_E (letters_of role) (instance_between around.encoding t a)) place cs)
@@ -136,20 +137,20 @@ instance-entity : (t a : Term) → Reading t → Reading a → (role : Role) (ar
     ⊎ behind_bytes (codes "N" ++ letters_of role) (instance_joined t a) around allowed place cs
     → EntityReads role around allowed (instance t a) place cs
     (choice b (instance_between around.encoding t a) (in_N_and_E (letters_of role) (instance_between around.encoding t a)) place cs)
-instance-entity t a rt ra role around allowed place cs small true is room (inl h) =
+instance-entity t a rt ra role good around allowed place cs small true is room (inl h) =
     let n : ℕ = around.encoding in
     piece-entity t a rt ra role around allowed place cs small room h.0
     (rt.at spot.as_entity_template around allowed place cs small
     (room-first (ways_of n t).between_N_and_E (ended n t and spelled_arguments n a) place cs (keeps-rest n t a) room) h.1) h.2
-instance-entity t a rt ra role around allowed place cs small false is room (inl h) = absurd (never h.1)
+instance-entity t a rt ra role good around allowed place cs small false is room (inl h) = absurd (never h.1)
   where
     never : (fits_of t).as_entity_template around allowed place cs → ⊥
     never fits = one-piece-is t a around allowed place cs fits is
-instance-entity t a rt ra role around allowed place cs small true is room (inr h) =
+instance-entity t a rt ra role good around allowed place cs small true is room (inr h) =
     absurd (let e : true ≡ false = sym is ∙ not-one-piece t a around allowed (place + length (codes "N" ++ letters_of role)) cs h.0 in cc)
-instance-entity t a rt ra role around allowed place cs small false is room (inr h) =
+instance-entity t a rt ra role good around allowed place cs small false is room (inr h) =
     let at : ℕ = place + length (codes "N" ++ letters_of role) in
-    entity-nested role around allowed (instance t a) place cs (instance_between around.encoding t a)
+    entity-nested role good around allowed (instance t a) place cs (instance_between around.encoding t a)
     (instance-nested t a rt ra around allowed at cs small (nested-room (letters_of role)
     (instance_between around.encoding t a) place cs room) h)
 
@@ -211,11 +212,11 @@ reads-instance t a rt ra = record {
         (keeps-and (ways_of n t).as_prefix (spelled_arguments n a) (keeps t n).as_prefix (keeps-arguments n a)) room h
         (λ fits enough. absurd fits)
     each spot.between = λ around allowed place cs small room h. instance-nested t a rt ra around allowed place cs small room h
-    each spot.as_entity = λ role around allowed place cs small room h.
-        instance-entity t a rt ra role around allowed place cs small (is_one_piece (instance t a)) refl room h
-    each spot.as_name = λ q ref around allowed place cs small room h.
+    each spot.as_entity = λ role good around allowed place cs small room h.
+        instance-entity t a rt ra role good around allowed place cs small (is_one_piece (instance t a)) refl room h
+    each spot.as_name = λ q ref good around allowed place cs small room h.
         let n : ℕ = around.encoding in
-        name-by-letters around allowed (instance t a) q ref place cs ((ways_of n t).before false (spelled_arguments n a))
+        name-by-letters around allowed (instance t a) q ref good place cs ((ways_of n t).before false (spelled_arguments n a))
         (instance_between n t a)
         ((fits_of t).before false (elements_of a)) (instance_joined t a) room h
         (λ fits enough. instance-own t a rt ra false 8 refl around allowed place cs small enough fits)

@@ -28,7 +28,7 @@ use Rattle.cpp_press_laws.proofs.ReadBack.Between.{ExtendsWith, extends-with-beh
 use Rattle.cpp_press_laws.proofs.EveryWay.Every.{template-value, ListReads, with_end, Leads, slot_way, typed-argument, referred-before, reads-nowhere, ParametersRead}
 use Rattle.cpp_press_laws.proofs.EveryWay.Types.{Reading, ReadingAt, solid-in-all, with-d-in}
 use Rattle.cpp_press_laws.proofs.EveryWay.Instances.{items-kept}
-use Rattle.cpp_press_laws.specs.Fits.{takes_all, Slot, any_type, bare_type, item_type, parameter_type, literal_type, takes_all, Fitting, as_component, nowhere, Behind, type_fits, fits_nowhere, fits_of}
+use Rattle.cpp_press_laws.specs.Fits.{takes_all, Slot, any_type, bare_type, item_type, parameter_type, literal_type, takes_all, Fitting, as_component, nowhere, Behind, IsAbiMark, type_fits, fits_nowhere, fits_of}
 use Rattle.cpp_press_laws.proofs.Spots as spot
 
 -- ## Lists
@@ -46,14 +46,14 @@ empty-list : (k : ℕ) (kind : Kind) (around : Around) (allowed : Option ℕ) (p
 empty-list k kind around allowed place cs at may = (items-kept nil, empty-reads kind at may)
 
 -- no parameters of a function type
-none-read : (around : Around) (allowed : Option ℕ) (ref : RefQualifier) (place : ℕ) (cs : List Component)
+none-read : (around : Around) (allowed : Option ℕ) (ref : RefQualifier) → IsAbiMark ref → (place : ℕ) (cs : List Component)
     → RestReads around allowed (list (builtin (118 ∷ [])) nil) ref place cs (written (118 ∷ (mark_letter ref ++ codes "E")) cs)
 unfolding grammar ways_of type_ways
-none-read around allowed ref place cs =
+none-read around allowed ref good place cs =
     rest-item around allowed (builtin (118 ∷ [])) nil ref place cs (written (118 ∷ []) cs) (written (mark_letter ref ++ codes "E") cs)
     ((types-parameter around allowed (builtin (118 ∷ []))).solid.keeps (place + 0) cs (written (118 ∷ []) cs)
     (builtin-solid SOLID around allowed 118 (place + 0 + 0) cs (takes-byte SOLID Kind.Solid Production.Builtin 118 refl refl (omega arith) refl)))
-    (end-reads around allowed ref (place + 0 + 1) cs)
+    (end-reads around allowed ref good (place + 0 + 1) cs)
 
 pub reads-nil : Reading nil
 unfolding ways_of fits_of fits_nowhere no_ways parameters is_void is_nil no_items kinds may_be_empty
@@ -82,9 +82,9 @@ reads-nil = record {
       reads_rest = empty-reads Kind.Items refl refl;
     }
     each spot.as_more_items = λ around allowed place cs small room h. empty-list ITEMS Kind.Items around allowed place cs refl refl
-    each spot.as_parameters = λ ref around allowed place cs small room h.
-        (list (builtin (118 ∷ [])) nil, refl, none-read around allowed ref place cs)
-    each spot.as_more_parameters = λ ref around allowed place cs small room h. end-reads around allowed ref place cs
+    each spot.as_parameters = λ ref good around allowed place cs small room h.
+        (list (builtin (118 ∷ [])) nil, refl, none-read around allowed ref good place cs)
+    each spot.as_more_parameters = λ ref good around allowed place cs small room h. end-reads around allowed ref good place cs
     each spot.as_elements = λ in_pack around allowed place cs small room h. none in_pack around allowed place cs
     each w = (reads-nowhere nil (λ n. ways_of n nil)).at w
 
@@ -108,11 +108,11 @@ reads-list f r rf rr = record {
   before = (reads-nowhere (list f r) (λ n. ways_of n (list f r))).before;
 }
   where
-    rest-more : (ref : RefQualifier) → Leads (λ n. (ways_of n f).as_type and (ways_of n r).as_more_parameters)
+    rest-more : (ref : RefQualifier) → IsAbiMark ref → Leads (λ n. (ways_of n f).as_type and (ways_of n r).as_more_parameters)
         (λ around allowed place cs. (fits_of f).as_type parameter_type around allowed place cs
         × Behind (ways_of around.encoding f).as_type ((fits_of r).as_more_parameters parameter_type around allowed) place cs)
         (λ around allowed place cs w. RestReads around allowed (list f r) ref place cs (with_end ref w))
-    rest-more ref around allowed place cs small room h =
+    rest-more ref good around allowed place cs small room h =
         let n : ℕ = around.encoding in
         let one : Written = (ways_of n f).as_type place cs in
         let rest : Written = (ways_of n r).as_more_parameters (place + length one.bytes) one.components in
@@ -120,7 +120,7 @@ reads-list f r rf rr = record {
         (rf.at spot.as_type parameter_type around allowed place cs small
         (room-first (ways_of n f).as_type (ways_of n r).as_more_parameters place cs (keeps r n).as_more_parameters room) h.0 r ref
         (with_end ref rest)
-        (rr.at spot.as_more_parameters ref around allowed (place + length one.bytes) one.components small
+        (rr.at spot.as_more_parameters ref good around allowed (place + length one.bytes) one.components small
         (room-rest (ways_of n f).as_type (ways_of n r).as_more_parameters place cs room) h.1))
 
     each : ReadingAt (list f r)
@@ -156,8 +156,8 @@ reads-list f r rf rr = record {
               (room-first (ways_of n f).as_type (ways_of n r).as_more_parameters place cs (keeps r n).as_more_parameters room) h.0))
               (elsewhere (omega arith) m.1),
         )
-    each spot.as_parameters = λ ref around allowed place cs small room h.
-        (list f r, kept-parameters f r h.0, rest-more ref around allowed place cs small room h.1)
+    each spot.as_parameters = λ ref good around allowed place cs small room h.
+        (list f r, kept-parameters f r h.0, rest-more ref good around allowed place cs small room h.1)
     each spot.as_more_parameters = rest-more
     each spot.as_elements = λ in_pack around allowed place cs small room h.
         let n : ℕ = around.encoding in
@@ -181,11 +181,12 @@ abbrev function_spelling : ℕ → (c_linkage noexcept : Bool) → RefQualifier 
 function_spelling n c_linkage noexcept ref a ps =
     text (marks_of c_linkage noexcept) and (ways_of n a).as_type and (ways_of n ps).as_parameters and text (mark_letter ref ++ codes "E")
 
-abbrev function_fits : (c_linkage noexcept : Bool) → (a ps : Term) → Fitting
-function_fits c_linkage noexcept a ps around allowed place cs =
+abbrev function_fits : (c_linkage noexcept : Bool) → RefQualifier → (a ps : Term) → Fitting
+function_fits c_linkage noexcept ref a ps around allowed place cs =
     (fits_of a).as_type any_type around allowed (place + length (marks_of c_linkage noexcept)) cs
     × Behind (text (marks_of c_linkage noexcept) and (ways_of around.encoding a).as_type)
     ((fits_of ps).as_parameters parameter_type around allowed) place cs
+    × IsAbiMark ref
 
 keeps-function : (n : ℕ) (c_linkage noexcept : Bool) (ref : RefQualifier) (a ps : Term)
     → Keeps (function_spelling n c_linkage noexcept ref a ps)
@@ -198,7 +199,7 @@ keeps-function n c_linkage noexcept ref a ps =
 function-parts : (c_linkage noexcept : Bool) (ref : RefQualifier) (a ps : Term) → Reading a → Reading ps
     → (around : Around) (allowed : Option ℕ)
     (place : ℕ) (cs : List Component) → IsSmall around → HasRoom (function_spelling around.encoding c_linkage noexcept ref a ps place cs)
-    → function_fits c_linkage noexcept a ps around allowed place cs
+    → function_fits c_linkage noexcept ref a ps around allowed place cs
     → (let at = place + length (marks_of c_linkage noexcept) in
     let one = (ways_of around.encoding a).as_type at cs in
     ReadsAt around allowed (OfKind TYPE) (Is (tree a true)) at cs one
@@ -214,7 +215,7 @@ function-parts c_linkage noexcept ref a ps ra rp around allowed place cs small r
       (ra.at spot.as_type) any_type around allowed at cs small
           (room-first (ways_of n a).as_type ((ways_of n ps).as_parameters and end) at cs
           (keeps-behind (ways_of n ps).as_parameters (mark_letter ref ++ codes "E") (keeps ps n).as_parameters) inner) h.0,
-      (rp.at spot.as_parameters) ref around allowed (at + length one.bytes) one.components small
+      (rp.at spot.as_parameters) ref h.2 around allowed (at + length one.bytes) one.components small
           (room-first (ways_of n ps).as_parameters end (at + length one.bytes) one.components (keeps-text _)
           (room-rest (ways_of n a).as_type ((ways_of n ps).as_parameters and end) at cs inner))
           (subst (λ q. (fits_of ps).as_parameters parameter_type around allowed q one.components) (omega (arith, length-append front one.bytes)) h.1),
@@ -230,7 +231,7 @@ FunctionReads true around allowed t place cs w =
 function-reads : (c_linkage noexcept : Bool) (ref : RefQualifier) (a ps : Term) → Reading a → Reading ps
     → (around : Around) (allowed : Option ℕ)
     (place : ℕ) (cs : List Component) → IsSmall around → HasRoom (function_spelling around.encoding c_linkage noexcept ref a ps place cs)
-    → function_fits c_linkage noexcept a ps around allowed place cs
+    → function_fits c_linkage noexcept ref a ps around allowed place cs
     → FunctionReads noexcept around allowed (function_type c_linkage noexcept ref a ps) place cs
     (function_spelling around.encoding c_linkage noexcept ref a ps place cs)
 function-reads c_linkage false ref a ps ra rp around allowed place cs small room h =
@@ -291,14 +292,14 @@ reads-function-type c_linkage noexcept ref a ps ra rp = record {
   where
     whole : (slot : Slot) → takes_all slot ≡ true → is_bare slot ≡ false
         → Leads (λ n. component n (function_type c_linkage noexcept ref a ps) (function_spelling n c_linkage noexcept ref a ps))
-        (as_component (function_type c_linkage noexcept ref a ps) (function_fits c_linkage noexcept a ps))
+        (as_component (function_type c_linkage noexcept ref a ps) (function_fits c_linkage noexcept ref a ps))
         (λ around allowed. ReadsAs slot around allowed (function_type c_linkage noexcept ref a ps))
     whole slot all bare around allowed place cs small room h =
         let t : Term = function_type c_linkage noexcept ref a ps in
         let n : ℕ = around.encoding in
         let s = in-slot slot around allowed t bare in
         fitting-in around allowed t (ReadsAs slot around allowed t) place cs (function_spelling n c_linkage noexcept ref a ps)
-        (function_fits c_linkage noexcept a ps) s.behind_s (keeps-function n c_linkage noexcept ref a ps) room h
+        (function_fits c_linkage noexcept ref a ps) s.behind_s (keeps-function n c_linkage noexcept ref a ps) room h
         (λ fits enough. function-in noexcept slot around allowed t place cs
         (function_spelling n c_linkage noexcept ref a ps place cs) all bare
         (function-reads c_linkage noexcept ref a ps ra rp around allowed place cs small enough fits))

@@ -8,7 +8,7 @@ use Rattle.cpp_grammar.specs.declared.kind.Kind.{Kind}
 use Rattle.cpp_grammar.specs.declared.production.Production.{Production}
 use Rattle.cpp_grammar.specs.KindNumbers.{COMPLETE_NAME, ARGUMENT_LIST}
 use Rattle.cpp_grammar.specs.Table.{abi, rule_of}
-use Rattle.cpp_grammar.specs.Term.{Qualifiers, RefQualifier, any_value, lvalue_only, rvalue_only, Term, alone, instance}
+use Rattle.cpp_grammar.specs.Term.{Qualifiers, RefQualifier, any_value, lvalue_only, rvalue_only, explicit_object, Term, alone, instance}
 use Rattle.cpp_grammar.specs.Values.{outermost, Around, Value, tree, named, tree_of, qualifiers_of, ref_of, unqualified}
 use Rattle.cpp_grammar.specs.References.{is_function_type}
 use Rattle.cpp_grammar.specs.Between.{extended, inside}
@@ -27,7 +27,7 @@ use Rattle.cpp_press_laws.proofs.ReadBack.Between.{ElementsRead, named-piece, Ex
 use Rattle.cpp_press_laws.proofs.ReadBack.Templates.{slot-rules, TemplateKind, of_elements, ReadElements, elements-room, template-reads}
 use Rattle.cpp_press_laws.proofs.EveryWay.Every.{NameReads, TemplateReads, template-value, Leads, typed-argument, reads-nowhere}
 use Rattle.cpp_press_laws.proofs.EveryWay.Types.{Reading, ReadingAt}
-use Rattle.cpp_press_laws.specs.Fits.{Slot, any_type, bare_type, item_type, parameter_type, literal_type, Fitting, as_component, one_piece, names_type, names_function, begins_name, IsWithoutLetters, by_letters, fits_nowhere, fits_of}
+use Rattle.cpp_press_laws.specs.Fits.{Slot, any_type, bare_type, item_type, parameter_type, literal_type, Fitting, as_component, one_piece, names_type, names_function, begins_name, IsAbiMark, IsWithoutLetters, by_letters, fits_nowhere, fits_of}
 use Rattle.cpp_press_laws.proofs.Slots.{each-slot}
 use Rattle.cpp_press_laws.proofs.Spots as spot
 
@@ -38,12 +38,12 @@ letters-joined a b c d x =
     sym (append_assoc a b (c ++ (d ++ x))) ∙ sym (append_assoc (a ++ b) c (d ++ x)) ∙ sym (append_assoc ((a ++ b) ++ c) d x)
 
 -- a name between N and E, after the letters of its encoding
-pub letters-nested : (k : ℕ) (around : Around) (allowed : Option ℕ) (t : Term) (q : Qualifiers) (ref : RefQualifier) (place : ℕ)
+pub letters-nested : (k : ℕ) (around : Around) (allowed : Option ℕ) (t : Term) (q : Qualifiers) (ref : RefQualifier) → IsAbiMark ref → (place : ℕ)
     (cs : List Component) (w : Written) → TakesRule abi k (rule_of Production.NestedName) (78 ∷ [])
     → SoFar around allowed t false 18 (place + length (78 ∷ name_letters q ref)) cs w
     → NameReads around allowed k t q ref place cs (written ((78 ∷ name_letters q ref) ++ (w.bytes ++ (69 ∷ []))) w.components)
 unfolding tree_of qualifiers_of ref_of name_letters qualifier_letters
-letters-nested k around allowed t q ref place cs w takes so_far =
+letters-nested k around allowed t q ref good place cs w takes so_far =
     let r : List ℕ = mark_bytes q.restrict 114 in
     let v : List ℕ = mark_bytes q.volatile 86 in
     let c : List ℕ = mark_bytes q.const 75 in
@@ -55,7 +55,7 @@ letters-nested k around allowed t q ref place cs w takes so_far =
       qualifiers_are = refl;
       ref_is = refl;
       reads = same-written (ap (λ l. 78 ∷ l) (letters-joined r v c m whole.bytes))
-          (nested-name k around allowed t false q.restrict q.volatile q.const ref place cs whole takes
+          (nested-name k around allowed t false q.restrict q.volatile q.const ref good place cs whole takes
           (elsewhere (omega (arith, length-append ((r ++ v) ++ c) m, length-append (r ++ v) c, length-append r v))
           (nest-whole around allowed t (place + length (78 ∷ name_letters q ref)) cs w so_far)));
     }
@@ -71,6 +71,7 @@ without-letters q ref none = go q.restrict q.volatile q.const ref none
     go false false false any_value h = (refl, refl)
     go false false false lvalue_only h = cc
     go false false false rvalue_only h = cc
+    go false false false explicit_object h = cc
     go true v c m h = cc
     go false true c m h = cc
     go false false true m h = cc
@@ -117,7 +118,7 @@ nested-room letters name place cs room =
     (room-rest (text (codes "N" ++ letters)) (name and text (codes "E")) place cs room)
 
 -- an encoding's own name: without letters it is spelled out, and after letters between N and E
-pub name-by-letters : (around : Around) (allowed : Option ℕ) (t : Term) (q : Qualifiers) (ref : RefQualifier) (place : ℕ)
+pub name-by-letters : (around : Around) (allowed : Option ℕ) (t : Term) (q : Qualifiers) (ref : RefQualifier) → IsAbiMark ref → (place : ℕ)
     (cs : List Component)
     (own between : Spelling) (fit_own fit_between : Fitting) → HasRoom (with_letters (name_letters q ref) own between place cs)
     → by_letters (name_letters q ref) fit_own fit_between around allowed place cs
@@ -125,7 +126,7 @@ pub name-by-letters : (around : Around) (allowed : Option ℕ) (t : Term) (q : Q
     → ((at : ℕ) → fit_between around allowed at cs → HasRoom (between at cs) → SoFar around allowed t false 18 at cs (between at cs))
     → NameReads around allowed COMPLETE_NAME t q ref place cs (with_letters (name_letters q ref) own between place cs)
 unfolding with_letters by_letters in_N_and_E
-name-by-letters around allowed t q ref place cs own between fit_own fit_between room fits bare nested = go (name_letters q ref) refl room fits
+name-by-letters around allowed t q ref good place cs own between fit_own fit_between room fits bare nested = go (name_letters q ref) refl room fits
   where
     go : (ls : List ℕ) → name_letters q ref ≡ ls → HasRoom (with_letters ls own between place cs)
         → by_letters ls fit_own fit_between around allowed place cs
@@ -135,7 +136,7 @@ name-by-letters around allowed t q ref place cs own between fit_own fit_between 
         let at : ℕ = place + length (78 ∷ l ∷ ls) in
         let w : Written = between at cs in
         subst (λ x. NameReads around allowed COMPLETE_NAME t q ref place cs (written ((78 ∷ x) ++ (w.bytes ++ (69 ∷ []))) w.components)) are
-        (letters-nested 8 around allowed t q ref place cs w takes-nested-name
+        (letters-nested 8 around allowed t q ref good place cs w takes-nested-name
         (subst (λ x. SoFar around allowed t false 18 (place + length (78 ∷ x)) cs w) (sym are)
         (nested at h (nested-room (l ∷ ls) between place cs enough))))
 
@@ -221,7 +222,7 @@ reads-alone p r = record {
         (extends-with-behind-s around allowed (alone p)) (keeps p around.encoding).as_piece room h
         (λ fits enough. prefix-with-piece around allowed p (alone p) place cs ((ways_of around.encoding p).as_piece place cs)
         ((r.at spot.as_piece around allowed place cs small enough fits.2).begins fits.1) (outermost-alone around p fits.0))
-    each spot.as_name = λ q ref around allowed place cs small room h.
+    each spot.as_name = λ q ref good around allowed place cs small room h.
         let own : Spelling = (ways_of around.encoding p).as_piece in
         let none : name_letters q ref ≡ [] = no-letters (name_letters q ref) h.0 in
         subst (λ ls. NameReads around allowed COMPLETE_NAME (alone p) q ref place cs (with_letters ls own own place cs)) (sym none)

@@ -24,23 +24,23 @@ use Rattle.cpp_press_laws.proofs.ReadBack.Templates.{TypeRules, slot-rules, Temp
 use Rattle.cpp_press_laws.proofs.EveryWay.Every.{NameReads, TemplateReads, template-value, EntityReads, Leads, typed-argument, reads-nowhere}
 use Rattle.cpp_press_laws.proofs.EveryWay.Types.{Reading, ReadingAt}
 use Rattle.cpp_press_laws.proofs.EveryWay.Names.{letters-nested, nested-room, name-by-letters, elements-behind}
-use Rattle.cpp_press_laws.specs.Fits.{Slot, any_type, bare_type, item_type, parameter_type, literal_type, Fitting, as_component, behind_bytes, Behind, names_function, begins_name, Role, in_type, in_name_with, letters_of, fits_nowhere, fits_of}
+use Rattle.cpp_press_laws.specs.Fits.{Slot, any_type, bare_type, item_type, parameter_type, literal_type, Fitting, as_component, behind_bytes, Behind, names_function, begins_name, Role, in_type, in_name_with, letters_of, fits_nowhere, fits_of, IsAbiRole}
 use Rattle.cpp_press_laws.proofs.Slots.{each-slot}
 use Rattle.cpp_press_laws.proofs.Spots as spot
 
 -- ## Between N and E
 
 -- a whole name between N and E, as the entity of a local name
-pub entity-nested : (role : Role) (around : Around) (allowed : Option ℕ) (t : Term) (place : ℕ) (cs : List Component) (between : Spelling)
+pub entity-nested : (role : Role) → IsAbiRole role → (around : Around) (allowed : Option ℕ) (t : Term) (place : ℕ) (cs : List Component) (between : Spelling)
     → SoFar around allowed t false 18 (place + length (codes "N" ++ letters_of role)) cs (between (place + length
     (codes "N" ++ letters_of role)) cs)
     → EntityReads role around allowed t place cs (in_N_and_E (letters_of role) between place cs)
 unfolding letters_of in_N_and_E grammar
-entity-nested in_type around allowed t place cs between so_far =
+entity-nested in_type good around allowed t place cs between so_far =
     whole-nested TYPE_ENTITY around allowed t place cs (between (place + 1) cs)
     (takes-byte TYPE_ENTITY Kind.TypeEntity Production.NestedType 78 refl refl (omega arith) refl) so_far
-entity-nested (in_name_with q ref) around allowed t place cs between so_far =
-    letters-nested ENTITY around allowed t q ref place cs (between (place + length (codes "N" ++ name_letters q ref)) cs)
+entity-nested (in_name_with q ref) good around allowed t place cs between so_far =
+    letters-nested ENTITY around allowed t q ref good place cs (between (place + length (codes "N" ++ name_letters q ref)) cs)
     (takes-byte ENTITY Kind.Entity Production.NestedName 78 refl refl (omega arith) refl) so_far
 
 no-letters-at-all : name_letters unqualified any_value ≡ []
@@ -57,7 +57,7 @@ template-nested false k around allowed t eight place cs w so_far =
     subst (λ j. NameReads around allowed j t unqualified any_value place cs (written (78 ∷ (w.bytes ++ (69 ∷ []))) w.components)) (sym eight)
     (subst (λ ls. NameReads around allowed COMPLETE_NAME t unqualified any_value place cs (written ((78 ∷ ls) ++ (w.bytes ++ (69 ∷ []))) w.components))
     no-letters-at-all
-    (letters-nested 8 around allowed t unqualified any_value place cs w
+    (letters-nested 8 around allowed t unqualified any_value tt place cs w
     (takes-byte COMPLETE_NAME Kind.CompleteName Production.NestedName 78 refl refl (omega arith) refl)
     (subst (λ ls. SoFar around allowed t false 18 (place + length (78 ∷ ls)) cs w) (sym no-letters-at-all) so_far)))
 
@@ -231,12 +231,12 @@ reads-in-std p r = record {
         (std-nested p r around allowed place cs small enough fits).instanced)
     each spot.between = λ around allowed place cs small room h. (std-nested p r around allowed place cs small room h).bare
     each spot.between_template = λ around allowed place cs small room h. (std-nested p r around allowed place cs small room h).instanced
-    each spot.as_entity = λ role around allowed place cs small room h.
+    each spot.as_entity = λ role good around allowed place cs small room h.
         let at : ℕ = place + length (codes "N" ++ letters_of role) in
-        entity-nested role around allowed (in_std p) place cs (std_spelling around.encoding p)
+        entity-nested role good around allowed (in_std p) place cs (std_spelling around.encoding p)
         (std-nested p r around allowed at cs small (nested-room (letters_of role) (std_spelling around.encoding p) place cs room) h).bare
-    each spot.as_name = λ q ref around allowed place cs small room h.
-        name-by-letters around allowed (in_std p) q ref place cs (std_spelling around.encoding p) (std_spelling around.encoding p)
+    each spot.as_name = λ q ref good around allowed place cs small room h.
+        name-by-letters around allowed (in_std p) q ref good place cs (std_spelling around.encoding p) (std_spelling around.encoding p)
         (std_fits p) (std_fits p)
         room h
         (λ fits enough. template-value false around allowed COMPLETE_NAME (in_std p) place cs _

@@ -1,5 +1,5 @@
 -- Types are read in each of their ways.
-use Rattle.std.proofs.Common.{◌≡◌, ℕ, ◌+◌, length, List, [], ◌∷◌, ◌++◌, Option, Bool, true, false, refl, ap, arith, sym, subst, append_assoc, length-append, Some, ◌∙◌}
+use Rattle.std.proofs.Common.{◌≡◌, ℕ, ◌+◌, length, List, [], ◌∷◌, ◌++◌, Option, Bool, true, false, refl, ap, arith, sym, subst, append_assoc, length-append, None, Some, ◌∙◌}
 use Rattle.std.specs.Prelude.{codes, ◌&&◌, ◌||◌, slice_get}
 use Rattle.sym_shape.specs.declared.rule.Sym.TheVariants.{Kind as OfKind}
 use Rattle.sym_shape.specs.Tree.{TakesRule}
@@ -9,24 +9,25 @@ use Rattle.cpp_grammar.specs.declared.production.Production.{Production}
 use Rattle.cpp_grammar.specs.KindNumbers.{TYPE, PLAIN, ITEM, ITEM_BUT_REF, ITEM_AFTER_D, AFTER_D, SOLID}
 use Rattle.cpp_grammar.specs.Grammar.{choose, kinds, is_chain}
 use Rattle.cpp_grammar.specs.Table.{abi, rule_of}
-use Rattle.cpp_grammar.specs.Term.{Qualifiers, Term, tagged, vendor, pointer, lvalue, rvalue, array, member_pointer, qualified, vector, complex, expansion}
+use Rattle.cpp_grammar.specs.Term.{Qualifiers, Term, instance, tagged, vendor, pointer, lvalue, rvalue, array, member_pointer, qualified, vector, complex, expansion}
 use Rattle.cpp_grammar.specs.Values.{Around, tree}
 use Rattle.cpp_grammar.specs.References.{is_function_type}
 use Rattle.cpp_grammar.specs.Between.{under_expansion}
-use Rattle.cpp_press_laws.specs.Components.{Component}
+use Rattle.cpp_grammar.specs.Scope.{without_tags}
+use Rattle.cpp_press_laws.specs.Components.{Component, Spelling, first_equal, reference as numbered, ended, referred, spelled_out, component}
 use Rattle.cpp_press_laws.specs.Texts.{counted, qualifier_letters}
-use Rattle.cpp_press_laws.specs.Pressing.{ways_of}
+use Rattle.cpp_press_laws.specs.Pressing.{in_N_and_E, is_nested, name_ways, no_ways, template_before, type_ways, ways_of}
 use Rattle.cpp_press_laws.specs.Subtrees.{Written, written, ReadsAt, Is, HasRoom}
 use Rattle.cpp_press_laws.proofs.ReadBack.Reading.{takes-byte, elsewhere, grammar, more, same-written}
 use Rattle.cpp_press_laws.proofs.ReadBack.Types.{types-any, types-bare, types-item, types-parameter, item-with-d}
 use Rattle.cpp_press_laws.proofs.ReadBack.Solids.{vendor-solid, pointer-solid, complex-solid, member-pointer-solid, array-solid, reference, reference-reads, reference_letter}
 use Rattle.cpp_press_laws.proofs.ReadBack.Functions.{qualified_with, const-reads, volatile-reads, restrict-reads, vector-behind-d, rest-reference, mark_bytes}
 use Rattle.cpp_press_laws.proofs.ReadBack.Arguments.{expansion-reads}
-use Rattle.cpp_press_laws.proofs.Components.Keeping.{keeps-text, keeps-and, keeps-front, keeps}
+use Rattle.cpp_press_laws.proofs.Components.Keeping.{Keeps, keeps-text, keeps-and, keeps-N-and-E, keeps-choice, keeps-front, keeps}
 use Rattle.cpp_press_laws.proofs.ReadBack.Slots.{room-first, room-rest, ReadsAs, solid_kind, is_bare, in-rest, in-slot}
-use Rattle.cpp_press_laws.proofs.ReadBack.Templates.{slot-rules}
-use Rattle.cpp_press_laws.proofs.EveryWay.Every.{ReadsSpots, ReadsAll, reads-type}
-use Rattle.cpp_press_laws.specs.Fits.{Slot, any_type, bare_type, item_type, parameter_type, literal_type, takes_all, takes_qualified, takes_expansions, has_letters, fits_of}
+use Rattle.cpp_press_laws.proofs.ReadBack.Templates.{slot-rules, of_elements}
+use Rattle.cpp_press_laws.proofs.EveryWay.Every.{TemplateReads, template-value, ReadsSpots, ReadsAll, reads-nowhere, referred-before, reads-type}
+use Rattle.cpp_press_laws.specs.Fits.{Slot, any_type, bare_type, item_type, parameter_type, literal_type, takes_all, takes_qualified, takes_expansions, has_letters, fits_nowhere, fits_of, nowhere, type_fits}
 use Rattle.cpp_press_laws.proofs.Slots.{each-slot}
 use Rattle.cpp_press_laws.proofs.Spots as spot
 use Rattle.std.proofs.Math.Bool.{and-true}
@@ -169,13 +170,71 @@ reads-vendor name =
     solid-in-all slot around allowed (vendor name) place cs (written (117 ∷ counted name) cs) h.0 refl
     (vendor-solid around allowed name place cs h.1))
 
+-- before its arguments a name that comes before is a reference
+found-before : (n : ℕ) (own : Term) (needs_N : Bool) (between spelling arguments : Spelling) (place : ℕ) (cs : List Component)
+    → (first_equal n own 0 cs ≡ None → ⊥)
+    → template_before n own needs_N between arguments place cs ≡ (component n own spelling and arguments) place cs
+unfolding template_before referred numbered component
+found-before n own needs_N between spelling arguments place cs never = go (first_equal n own 0 cs) refl
+  where
+    go : (o : Option ℕ) → first_equal n own 0 cs ≡ o
+        → elim o as (λ _. Written) [
+          | Some number ↦ (numbered number and arguments) place cs
+          | None ↦ (elim needs_N as (λ _. Spelling) [
+            | true ↦ in_N_and_E [] (between and ended n own and arguments)
+            | false ↦ (between and ended n own and arguments)
+          ]) place cs
+        ] ≡ (let w = elim o as (λ _. Written) [ Some number ↦ numbered number place cs | None ↦ spelled_out n own spelling place cs ] in
+        let rest = arguments (place + length w.bytes) w.components in written (w.bytes ++ rest.bytes) rest.components)
+    go (Some number) is = refl
+    go None is = absurd (never is)
+
 -- a name with a tag is referred to alone
 pub reads-tagged : (of_structor : Bool) (name : Term) (tag : List ℕ) → Reading name → Reading (tagged of_structor name tag)
-unfolding ways_of fits_of is_function_type
-reads-tagged of_structor name tag r =
-    reads-type (tagged of_structor name tag) (λ n. (ways_of n name).as_type and text (codes "B" ++ counted tag)) _ refl
-    (λ n. keeps-and (ways_of n name).as_type (text (codes "B" ++ counted tag)) (keeps name n).as_type (keeps-text _))
-    (λ slot around allowed place cs small room h. absurd h)
+unfolding ways_of fits_of type_fits fits_nowhere name_ways type_ways no_ways is_function_type
+reads-tagged of_structor name tag r = record {
+  at = each;
+  before = λ typed k kind around allowed place cs arguments elements items last are read kept small room h.
+      let same = found-before around.encoding own needs_N (between around.encoding) (whole around.encoding) (of_elements elements) place cs
+      (λ none. (h.2 none).0) in
+      subst (λ w. TemplateReads typed around allowed k (instance own items) place cs w) (sym same)
+      (template-value typed around allowed k (instance own items) place cs _
+      (referred-before typed k around allowed own kind place cs (whole around.encoding) arguments elements items last are read
+      (keeps-whole around.encoding) kept (subst HasRoom same room) h));
+}
+  where
+    own : Term
+    own = tagged of_structor name tag
+
+    needs_N : Bool
+    needs_N = is_nested (without_tags name)
+
+    between : ℕ → Spelling
+    between n = (ways_of n name).between_N_and_E and text (codes "B" ++ counted tag)
+
+    keeps-between : (n : ℕ) → Keeps (between n)
+    keeps-between n = keeps-and (ways_of n name).between_N_and_E (text (codes "B" ++ counted tag)) (keeps name n).between_N_and_E (keeps-text _)
+
+    whole : ℕ → Spelling
+    whole n = elim needs_N as (λ _. Spelling) [ true ↦ in_N_and_E [] (between n) | false ↦ between n ]
+
+    keeps-whole : (n : ℕ) → Keeps (whole n)
+    keeps-whole n = keeps-choice needs_N (in_N_and_E [] (between n)) (between n) (keeps-N-and-E [] (between n) (keeps-between n)) (keeps-between n)
+
+    typed : ReadsAll own (λ n. type_ways (component n own (whole n))) (type_fits own (λ slot. nowhere))
+    typed = reads-type own whole (λ slot. nowhere) refl keeps-whole (λ slot around allowed place cs small room h. absurd h)
+
+    prefixed : ReadsAll own (λ n. type_ways (component n own (between n))) (type_fits own (λ slot. nowhere))
+    prefixed = reads-type own between (λ slot. nowhere) refl keeps-between (λ slot around allowed place cs small room h. absurd h)
+
+    each : ReadsSpots own (λ n. ways_of n own) (fits_of own)
+    each spot.as_type =
+        let types = typed.at spot.as_type in
+        each-slot _ (types any_type) (types bare_type) (types item_type) (types parameter_type) (types literal_type)
+    each spot.as_prefix = prefixed.at spot.as_prefix
+    each spot.as_prefix_template = prefixed.at spot.as_prefix_template
+    each spot.as_argument = typed.at spot.as_argument
+    each w = (reads-nowhere own (λ n. ways_of n own)).at w
 
 pub reads-pointer : (t : Term) → Reading t → Reading (pointer t)
 unfolding ways_of fits_of is_function_type

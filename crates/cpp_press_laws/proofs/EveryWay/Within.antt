@@ -5,10 +5,10 @@ use Rattle.sym_spell.specs.Pressing.{◌and◌, text}
 use Rattle.cpp_grammar.specs.declared.kind.Kind.{Kind}
 use Rattle.cpp_grammar.specs.declared.production.Production.{Production}
 use Rattle.cpp_grammar.specs.KindNumbers.{COMPLETE_NAME, ENTITY, TYPE_ENTITY}
-use Rattle.cpp_grammar.specs.Term.{Qualifiers, within, string_literal, RefQualifier, any_value, Term, instance}
-use Rattle.cpp_grammar.specs.Values.{behind, Around, tree, tree_of, qualifiers_of, ref_of, unqualified}
+use Rattle.cpp_grammar.specs.Term.{Qualifiers, within, string_literal, RefQualifier, any_value, Term, instance, lambda}
+use Rattle.cpp_grammar.specs.Values.{behind, Around, tree, tree_of, qualifiers_of, ref_of, unqualified, Prefix}
 use Rattle.cpp_grammar.specs.References.{is_function_type}
-use Rattle.cpp_grammar.specs.Between.{after, extended}
+use Rattle.cpp_grammar.specs.Between.{after, extended, in_signature}
 use Rattle.cpp_press_laws.proofs.Components.Encodings.{scope-first, no-encoding}
 use Rattle.cpp_press_laws.specs.Texts.{name_letters}
 use Rattle.cpp_press_laws.specs.Components.{Component, Spelling, ended, component}
@@ -25,7 +25,7 @@ use Rattle.cpp_press_laws.proofs.EveryWay.Every.{NameReads, TemplateReads, templ
 use Rattle.cpp_press_laws.proofs.EveryWay.Types.{Reading, ReadingAt}
 use Rattle.cpp_press_laws.proofs.EveryWay.Std.{entity-nested, template-nested}
 use Rattle.cpp_press_laws.proofs.EveryWay.Names.{letters-nested, no-qualifiers, no-letters, nested-room, elements-behind}
-use Rattle.cpp_press_laws.specs.Fits.{names_member, names_entity, names_in, Slot, any_type, bare_type, item_type, parameter_type, literal_type, Fitting, as_component, behind_bytes, one_piece, Behind, begins_name, Role, in_type, in_name_with, letters_of, IsWithoutLetters, fits_nowhere, fits_of}
+use Rattle.cpp_press_laws.specs.Fits.{names_member, names_entity, names_in, Slot, any_type, bare_type, item_type, parameter_type, literal_type, Fitting, as_component, behind_bytes, one_piece, Behind, begins_name, Role, in_type, in_name_with, letters_of, IsWithoutLetters, fits_nowhere, fits_of, IsAbiRole, IsAbiMark, type_fits, piece_fits, argument_fits, encoding_fits}
 use Rattle.cpp_press_laws.proofs.Slots.{each-slot}
 use Rattle.cpp_press_laws.proofs.Spots as spot
 use Rattle.cpp_press_laws.proofs.ReadBack.Symbols.{string-literal-reads}
@@ -50,6 +50,15 @@ joined_fits x p around allowed place cs =
 keeps-joined : (n : ℕ) (x p : Term) → Keeps (joined_spelling n x p)
 keeps-joined n x p = keeps-and (ways_of n x).as_prefix (ways_of n p).as_piece (keeps x n).as_prefix (keeps p n).as_piece
 
+-- a piece fits alike after each prefix
+pub piece-anywhere : (p : Term) (scope : Option Term) (encoding : ℕ) (in_lambda in_expansion : Bool) (one other : Prefix) (allowed : Option ℕ)
+    (place : ℕ) (cs : List Component)
+    → (fits_of p).as_piece (record { scope = scope; encoding = encoding; in_lambda = in_lambda; in_expansion = in_expansion; prefix = one }) allowed place cs
+    → (fits_of p).as_piece (record { scope = scope; encoding = encoding; in_lambda = in_lambda; in_expansion = in_expansion; prefix = other }) allowed place cs
+unfolding fits_of type_fits piece_fits argument_fits encoding_fits fits_nowhere in_signature
+piece-anywhere (lambda parameters k) scope encoding in_lambda in_expansion one other allowed place cs h = h
+piece-anywhere _ scope encoding in_lambda in_expansion one other allowed place cs h = h
+
 joined-nested : (x p : Term) → Reading x → Reading p → (around : Around) (allowed : Option ℕ) (place : ℕ) (cs : List Component)
     → IsSmall around
     → HasRoom (joined_spelling around.encoding x p place cs) → joined_fits x p around allowed place cs
@@ -62,9 +71,10 @@ joined-nested x p rx rp around allowed place cs small room h =
     nested-within around allowed x p place cs w one
     (rx.at spot.as_prefix around allowed place cs small (room-first (ways_of n x).as_prefix (ways_of n p).as_piece place cs
     (keeps p n).as_piece room) h.0)
-    (named-piece (after x true around) allowed 19 p (within x p) (place + length w.bytes) w.components one
-    (rp.at spot.as_piece (after x true around) allowed (place + length w.bytes) w.components small
-    (room-rest (ways_of n x).as_prefix (ways_of n p).as_piece place cs room) h.2)
+    (λ listed. named-piece (after x listed around) allowed 19 p (within x p) (place + length w.bytes) w.components one
+    (rp.at spot.as_piece (after x listed around) allowed (place + length w.bytes) w.components small
+    (room-rest (ways_of n x).as_prefix (ways_of n p).as_piece place cs room)
+    (piece-anywhere p around.scope n around.in_lambda around.in_expansion (behind x true) (behind x listed) allowed _ _ h.2))
     (member-rule p h.1) refl)
 
 -- ## In the scope of an encoding
@@ -156,7 +166,7 @@ begun-extends x p rx rp around allowed place cs small room (inr h) =
 
 -- ## As the entity of a local name
 
-within-entity : (x p : Term) → Reading x → Reading p → (role : Role) (around : Around) (allowed : Option ℕ) (place : ℕ) (cs : List Component)
+within-entity : (x p : Term) → Reading x → Reading p → (role : Role) → IsAbiRole role → (around : Around) (allowed : Option ℕ) (place : ℕ) (cs : List Component)
     → IsSmall around → (b : Bool) → is_encoding x ≡ b
     → HasRoom (choice b (joined_spelling around.encoding x p) (in_N_and_E (letters_of role) (joined_spelling around.encoding x p)) place cs)
     → (IsWithoutLetters (letters_of role) × local_fits x p (names_in role p) around allowed place cs)
@@ -164,32 +174,32 @@ within-entity : (x p : Term) → Reading x → Reading p → (role : Role) (arou
     → EntityReads role around allowed (within x p) place cs
     (choice b (joined_spelling around.encoding x p) (in_N_and_E (letters_of role) (joined_spelling around.encoding x p)) place cs)
 unfolding letters_of names_in
-within-entity x p rx rp in_type around allowed place cs small true is room (inl h) =
+within-entity x p rx rp in_type good around allowed place cs small true is room (inl h) =
     (local-named x p (begins_name p) rp TYPE_ENTITY (type-entity-rule p h.1.1.1) around allowed place cs small room h.1).bare
-within-entity x p rx rp (in_name_with q ref) around allowed place cs small true is room (inl h) =
+within-entity x p rx rp (in_name_with q ref) good around allowed place cs small true is room (inl h) =
     no-qualifiers ENTITY around allowed (within x p) q ref place cs (joined_spelling around.encoding x p place cs) (no-letters
     (name_letters q ref) h.0)
     (local-in-name x p rp around allowed place cs small room h.1)
-within-entity x p rx rp role around allowed place cs small false is room (inl h) = absurd (let e : false ≡ true = sym is ∙ h.1.0 in cc)
-within-entity x p rx rp role around allowed place cs small true is room (inr h) =
+within-entity x p rx rp role good around allowed place cs small false is room (inl h) = absurd (let e : false ≡ true = sym is ∙ h.1.0 in cc)
+within-entity x p rx rp role good around allowed place cs small true is room (inr h) =
     absurd (let e : true ≡ false = sym is ∙ no-encoding x around allowed (place + length (codes "N" ++ letters_of role)) cs h.0 in cc)
-within-entity x p rx rp role around allowed place cs small false is room (inr h) =
+within-entity x p rx rp role good around allowed place cs small false is room (inr h) =
     let at : ℕ = place + length (codes "N" ++ letters_of role) in
-    entity-nested role around allowed (within x p) place cs (joined_spelling around.encoding x p)
+    entity-nested role good around allowed (within x p) place cs (joined_spelling around.encoding x p)
     (joined-nested x p rx rp around allowed at cs small (nested-room (letters_of role)
     (joined_spelling around.encoding x p) place cs room) h).bare
 
 -- ## As a name
 
 -- between N and E, with letters or without
-name-nested : (around : Around) (allowed : Option ℕ) (t : Term) (q : Qualifiers) (ref : RefQualifier) (place : ℕ) (cs : List Component)
+name-nested : (around : Around) (allowed : Option ℕ) (t : Term) (q : Qualifiers) (ref : RefQualifier) → IsAbiMark ref → (place : ℕ) (cs : List Component)
     (between : Spelling)
     → ((at : ℕ) → at ≡ place + length (78 ∷ name_letters q ref) → HasRoom (between at cs)
     → SoFar around allowed t false 18 at cs (between at cs))
     → HasRoom (with_letters (name_letters q ref) (in_N_and_E [] between) between place cs)
     → NameReads around allowed COMPLETE_NAME t q ref place cs (with_letters (name_letters q ref) (in_N_and_E [] between) between place cs)
 unfolding with_letters in_N_and_E grammar
-name-nested around allowed t q ref place cs between so_far room = go (name_letters q ref) refl room
+name-nested around allowed t q ref good place cs between so_far room = go (name_letters q ref) refl room
   where
     nested : (ls : List ℕ) → name_letters q ref ≡ ls → HasRoom (between (place + length (78 ∷ ls)) cs)
         → (let w = between (place + length (78 ∷ ls)) cs in
@@ -197,7 +207,7 @@ name-nested around allowed t q ref place cs between so_far room = go (name_lette
     nested ls are enough =
         let w : Written = between (place + length (78 ∷ ls)) cs in
         subst (λ x. NameReads around allowed COMPLETE_NAME t q ref place cs (written ((78 ∷ x) ++ (w.bytes ++ (69 ∷ []))) w.components)) are
-        (letters-nested 8 around allowed t q ref place cs w
+        (letters-nested 8 around allowed t q ref good place cs w
         (takes-byte COMPLETE_NAME Kind.CompleteName Production.NestedName 78 refl refl (omega arith) refl)
         (subst (λ x. SoFar around allowed t false 18 (place + length (78 ∷ x)) cs w) (sym are)
         (so_far (place + length (78 ∷ ls)) (ap (λ x. place + length (78 ∷ x)) (sym are)) enough)))
@@ -258,15 +268,15 @@ reads-within x p rx rp = record {
         (λ fits enough. (begun-extends x p rx rp around allowed place cs small enough fits).1)
     each spot.between = λ around allowed place cs small room h. (joined-nested x p rx rp around allowed place cs small room h).bare
     each spot.between_template = λ around allowed place cs small room h. (joined-nested x p rx rp around allowed place cs small room h).instanced
-    each spot.as_entity = λ role around allowed place cs small room h.
-        within-entity x p rx rp role around allowed place cs small (is_encoding x) refl room h
+    each spot.as_entity = λ role good around allowed place cs small room h.
+        within-entity x p rx rp role good around allowed place cs small (is_encoding x) refl room h
     each spot.as_entity_template = λ around allowed place cs small room h. record {
       is = λ arguments. h.0;
       in_name = local-named x p (begins_name p) rp ENTITY (entity-rule p h.1.1) around allowed place cs small room h;
       in_a_type = local-named x p (begins_name p) rp TYPE_ENTITY (type-entity-rule p h.1.1) around allowed place cs small room h;
     }
-    each spot.as_name = λ q ref around allowed place cs small room h.
-        name-nested around allowed (within x p) q ref place cs (joined_spelling around.encoding x p)
+    each spot.as_name = λ q ref good around allowed place cs small room h.
+        name-nested around allowed (within x p) q ref good place cs (joined_spelling around.encoding x p)
         (λ at there enough. (joined-nested x p rx rp around allowed at cs small enough
         (subst (λ y. joined_fits x p around allowed y cs) (sym there) h)).bare) room
     each spot.as_argument = λ in_pack around allowed place cs small room h.

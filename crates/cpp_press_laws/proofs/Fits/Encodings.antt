@@ -66,6 +66,7 @@ stands-moved scope other (function_type c_linkage noexcept ref returned paramete
   item-moved any_type scope other _ _ returned (left-none other (is_open returned) (is_open parameters) none) stands.0,
   items-moved scope other _ _ parameters (right-none other (is_open returned) (is_open parameters) none) stands.1,
   stands.2,
+  stands.3,
 )
 stands-moved scope other (symbol e suffix) none stands = tt
 stands-moved scope other t none stands = tt

@@ -7,7 +7,7 @@ use Rattle.cpp_grammar.specs.Values.{Around}
 use Rattle.cpp_grammar.specs.References.{packs_in}
 use Rattle.cpp_press_laws.specs.Components.{Component}
 use Rattle.cpp_press_laws.specs.Pressing.{ways_of}
-use Rattle.cpp_press_laws.specs.Fits.{Slot, any_type, parameter_type, type_fits, piece_fits, argument_fits, encoding_fits, fits_nowhere, fits_of, PacksFit}
+use Rattle.cpp_press_laws.specs.Fits.{Slot, any_type, parameter_type, type_fits, piece_fits, argument_fits, encoding_fits, fits_nowhere, fits_of, PacksFit, IsAbiMark}
 use Rattle.cpp_press_laws.proofs.Slots.{each-slot}
 use Rattle.cpp_press_laws.proofs.Components.AddedWays.{IsNotBare}
 use Rattle.cpp_press_laws.proofs.Components.Again.{ItemStands, ItemsStand, IsNoVoid, FunctionStands}
@@ -131,9 +131,9 @@ more-parameters _ around allowed place cs fits = absurd fits
 -- A function type whose return type and parameters fit stands again.
 pub function-stands : (c_linkage noexcept : Bool) (ref : RefQualifier) (returned parameters : Term) (around : Around) (allowed : Option ℕ)
     (place later : ℕ) (cs ds : List Component) → (fits_of returned).as_type any_type around allowed place cs
-    → (fits_of parameters).as_parameters parameter_type around allowed later ds
+    → (fits_of parameters).as_parameters parameter_type around allowed later ds → IsAbiMark ref
     → FunctionStands around.scope (function_type c_linkage noexcept ref returned parameters)
-function-stands c_linkage noexcept ref returned parameters around allowed place later cs ds one two =
+function-stands c_linkage noexcept ref returned parameters around allowed place later cs ds one two good =
     let own : Option ℕ = packs_in around.scope (function_type c_linkage noexcept ref returned parameters) in
     let a : Option ℕ = packs_in around.scope returned in
     let b : Option ℕ = packs_in around.scope parameters in
@@ -144,4 +144,5 @@ function-stands c_linkage noexcept ref returned parameters around allowed place 
       item-stands returned any_type tt around allowed own place cs one (part-of own (first_of a b) a whole parts.0),
       items-stand parameters around allowed own later ds more.0 (part-of own (first_of a b) b whole parts.1),
       more.1,
+      good,
     )

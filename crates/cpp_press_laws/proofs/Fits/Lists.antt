@@ -17,7 +17,7 @@ use Rattle.cpp_press_laws.proofs.Components.Known.{KeepsTo, text-keeps, and-keep
 use Rattle.cpp_press_laws.proofs.Components.KnownTrees.{keeps}
 use Rattle.cpp_press_laws.proofs.Components.Complete.{StandAmong}
 use Rattle.cpp_press_laws.proofs.Fits.FunctionsStand.{function-stands}
-use Rattle.cpp_press_laws.specs.Fits.{Fitting, Behind, as_component, Slot, any_type, parameter_type, takes_all, type_fits, fits_nowhere, fits_of}
+use Rattle.cpp_press_laws.specs.Fits.{Fitting, Behind, as_component, Slot, any_type, parameter_type, takes_all, type_fits, fits_nowhere, fits_of, IsAbiMark}
 use Rattle.cpp_press_laws.proofs.Slots.{each-slot}
 use Rattle.cpp_press_laws.proofs.Fitting as fit
 use Rattle.cpp_press_laws.proofs.Ways as way
@@ -97,19 +97,20 @@ parameters-fit around slot _ old new is one = absurd is
 
 -- ## Function types
 
-abbrev FunctionSpelled : (c_linkage noexcept : Bool) → (returned parameters_ : Term) → Fitting
-FunctionSpelled c_linkage noexcept returned parameters_ around allowed place cs =
+abbrev FunctionSpelled : (c_linkage noexcept : Bool) → RefQualifier → (returned parameters_ : Term) → Fitting
+FunctionSpelled c_linkage noexcept ref returned parameters_ around allowed place cs =
     (fits_of returned).as_type any_type around allowed (place + length (cond noexcept (codes "Do") [] ++ codes "F" ++ cond c_linkage
     (codes "Y") [])) cs
     × Behind (text (cond noexcept (codes "Do") [] ++ codes "F" ++ cond c_linkage (codes "Y") []) and (ways_of around.encoding returned).as_type)
     ((fits_of parameters_).as_parameters parameter_type around allowed) place cs
+    × IsAbiMark ref
 
-function-spelled : (around : Around) (c_linkage noexcept : Bool) (ref : RefQualifier) (a b : Term) (old mid new : State)
+function-spelled : (around : Around) (c_linkage noexcept : Bool) (ref : RefQualifier) → IsAbiMark ref → (a b : Term) (old mid new : State)
     → TypeFits around any_type a old mid → ParametersFit around parameter_type b mid new
-    → Fitted around (FunctionSpelled c_linkage noexcept a b)
+    → Fitted around (FunctionSpelled c_linkage noexcept ref a b)
     (λ n. function_text c_linkage noexcept ref (ways_of n a).as_type (ways_of n b).as_parameters) (function_type c_linkage noexcept ref a b) old new
 unfolding function_text is_open pack_length
-function-spelled around c_linkage noexcept ref a b old mid new one other =
+function-spelled around c_linkage noexcept ref good a b old mid new one other =
     let t : Term = function_type c_linkage noexcept ref a b in
     let marks : List ℕ = cond noexcept (codes "Do") [] ++ codes "F" ++ cond c_linkage (codes "Y") [] in
     let end : List ℕ = mark_letter ref ++ codes "E" in
@@ -117,14 +118,14 @@ function-spelled around c_linkage noexcept ref a b old mid new one other =
     let s : ℕ → Spelling = λ n. (ways_of n a).as_type in
     refitted (bytes-fitted marks (and-fitted one (fitted-bytes end other)
     (λ n allowed. may-as-two (pressed_at n around) allowed a b t refl (λ arguments. refl))))
-    (λ n allowed place cs fits. (fits.0, behind-both (text marks) (s n) (B (pressed_at n around) allowed) place cs fits.1))
+    (λ n allowed place cs fits. (fits.0, behind-both (text marks) (s n) (B (pressed_at n around) allowed) place cs fits.1, good))
 
 -- a function type, which is no candidate right under qualifiers
-pub function-fits : (around : Around) (c_linkage noexcept : Bool) (ref : RefQualifier) (a b : Term) (old mid new : State)
+pub function-fits : (around : Around) (c_linkage noexcept : Bool) (ref : RefQualifier) → IsAbiMark ref → (a b : Term) (old mid new : State)
     → TypeFits around any_type a old mid → ParametersFit around parameter_type b mid new
     → SolidFits takes_all around (tree (function_type c_linkage noexcept ref a b) false) old new
 unfolding fits_of type_fits fits_nowhere ways_of type_ways no_ways with_type with_unqualified is_function_type tree_of is_listed takes_all way_at function_text
-function-fits around c_linkage noexcept ref a b old mid new one other = record {
+function-fits around c_linkage noexcept ref good a b old mid new one other = record {
   types = λ slot other_ take. go slot other_ take;
   bare = λ take. spelled;
 }
@@ -135,8 +136,8 @@ function-fits around c_linkage noexcept ref a b old mid new one other = record {
     s : ℕ → Spelling
     s = λ n. function_text c_linkage noexcept ref (ways_of n a).as_type (ways_of n b).as_parameters
 
-    spelled : Fitted around (FunctionSpelled c_linkage noexcept a b) s t old new
-    spelled = function-spelled around c_linkage noexcept ref a b old mid new one other
+    spelled : Fitted around (FunctionSpelled c_linkage noexcept ref a b) s t old new
+    spelled = function-spelled around c_linkage noexcept ref good a b old mid new one other
 
     marks : List ℕ
     marks = cond noexcept (codes "Do") [] ++ codes "F" ++ cond c_linkage (codes "Y") []
@@ -150,9 +151,9 @@ function-fits around c_linkage noexcept ref a b old mid new one other = record {
         (and-keeps Unit n (Whole t) (ways_of n b).as_parameters (text (mark_letter ref ++ codes "E"))
         ((keeps b Unit n (Whole t) way.as_parameters) (λ x i. inr (inr i))) (text-keeps Unit n (Whole t) (mark_letter ref ++ codes "E"))))
 
-    whole : Fitted around (as_component t (FunctionSpelled c_linkage noexcept a b)) (λ n. component n t (s n)) t old (appended around t new)
+    whole : Fitted around (as_component t (FunctionSpelled c_linkage noexcept ref a b)) (λ n. component n t (s n)) t old (appended around t new)
     whole = component-fitted spelled tt kept
-        (λ n allowed place cs fits. function-stands c_linkage noexcept ref a b (pressed_at n around) allowed _ _ _ _ fits.0 fits.1)
+        (λ n allowed place cs fits. function-stands c_linkage noexcept ref a b (pressed_at n around) allowed _ _ _ _ fits.0 fits.1 fits.2)
         (λ n allowed place cs fits. ((adds t).at fit.as_type any_type (pressed_at n around) allowed place cs fits).complete)
 
     go : (slot : Slot) → IsNotBare slot → takes_all slot ≡ true

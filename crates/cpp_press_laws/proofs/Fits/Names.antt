@@ -1,12 +1,12 @@
 -- Names that were read piece by piece fit: where what comes before a piece fits, and the piece after it, so does the longer name.
-use Rattle.std.proofs.Common.{◌≡◌, ℕ, ◌+◌, inl, inr, List, [], ◌∷◌, Option, true, false, refl, subst}
+use Rattle.std.proofs.Common.{◌≡◌, ℕ, ◌+◌, inl, inr, List, [], ◌∷◌, Option, true, false, refl, subst, Bool}
 use Rattle.std.specs.Prelude.{codes}
 use Rattle.sym_spell.specs.Pressing as spell
 use Rattle.sym_spell.specs.Pressing.{◌and◌, text}
 use Rattle.sym_spell.proofs.Spellings.{and-assoc-at}
 use Rattle.cpp_grammar.specs.Term.{Term, alone, in_std, within, instance}
 use Rattle.cpp_grammar.specs.Scope.{is_open, pack_length}
-use Rattle.cpp_grammar.specs.Values.{State, Prefix, outermost, behind, Around}
+use Rattle.cpp_grammar.specs.Values.{State, Prefix, outermost, behind, Around, by_all}
 use Rattle.cpp_grammar.specs.References.{appended}
 use Rattle.cpp_grammar.specs.Between.{after, inside}
 use Rattle.cpp_press_laws.specs.Components.{Component, Spelling, ended, component}
@@ -23,6 +23,7 @@ use Rattle.cpp_press_laws.proofs.Components.AddedWays.{AddsParts}
 use Rattle.cpp_press_laws.proofs.Components.AddedTrees.{adds}
 use Rattle.cpp_press_laws.proofs.Fits.Read.{pressed_at, functions-append, Fitted, refitted, and-fitted, bytes-fitted, fitted-bytes, component-fitted, fitted-as}
 use Rattle.cpp_press_laws.proofs.Fits.Types.{may-as, may-as-two}
+use Rattle.cpp_press_laws.proofs.EveryWay.Within.{piece-anywhere}
 
 -- ## Surroundings and spellings
 
@@ -89,7 +90,7 @@ ended-fitted {k} {around} {t} {F} {s} {old} {new} one is stands whole = record {
         may = p.may;
         complete = complete-ended n t (s n place cs).components p.complete ((whole n allowed place cs p.fits).has front.complete);
         among = among-ended around.encoding n around.in_lambda t new.candidates (s n place cs).components is p.among;
-        functions = functions-append around.scope around.encoding new.candidates (record { tree = t; encoding = around.encoding; in_lambda = around.in_lambda; is_held = false } ∷ [])
+        functions = functions-append around.scope around.encoding new.candidates (record { tree = t; encoding = around.encoding; in_lambda = around.in_lambda; counted = by_all } ∷ [])
             p.functions (λ may. stands, tt);
       });
 }
@@ -138,12 +139,16 @@ within-may around t p n allowed one other =
     may-as-two (pressed_at n around) allowed t p (within t p) refl (λ arguments. refl) one other
 
 -- a piece after a prefix
-pub within-joined : (around : Around) (t p : Term) (old mid now : State) → names_member p ≡ true → PrefixFits around t old mid
-    → PieceFits (after t true around) p mid now → BetweenFits around (within t p) old now
+pub within-joined : (around : Around) (t p : Term) (listed : Bool) (old mid now : State) → names_member p ≡ true → PrefixFits around t old mid
+    → PieceFits (after t listed around) p mid now → BetweenFits around (within t p) old now
 unfolding after fits_of ways_of name_ways no_ways
-within-joined around t p old mid now names one other =
-    refitted (and-fitted one (moved around (behind t true) other) (within-may around t p))
-    (λ n allowed place cs both. (both.0, names, both.1))
+within-joined around t p listed old mid now names one other =
+    refitted (and-fitted one (moved around (behind t listed) other) (within-may around t p))
+    (λ n allowed place cs both. (
+      both.0,
+      names,
+      piece-anywhere p around.scope n around.in_lambda around.in_expansion (behind t listed) (behind t true) allowed _ _ both.1,
+    ))
 
 -- A name between N and E that is a component as a prefix.
 pub prefix-component : {around : Around} {t : Term} {F G : Fitting} {old now : State}

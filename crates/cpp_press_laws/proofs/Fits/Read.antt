@@ -4,7 +4,7 @@ use Rattle.sym_spell.specs.Pressing as spell
 use Rattle.sym_spell.specs.Pressing.{◌and◌, text}
 use Rattle.cpp_grammar.specs.Term.{Term}
 use Rattle.cpp_grammar.specs.Scope.{is_open}
-use Rattle.cpp_grammar.specs.Values.{Candidate, State, Around}
+use Rattle.cpp_grammar.specs.Values.{Candidate, State, Around, by_all}
 use Rattle.cpp_grammar.specs.References.{appended}
 use Rattle.cpp_press_laws.specs.Components.{Component, Spelling, component}
 use Rattle.cpp_press_laws.proofs.Components.Parts.{IsComponent, Whole}
@@ -211,7 +211,7 @@ component-fitted {around} {t} {F} {s} {old} {new} one is keeps function whole = 
         may = p.may;
         complete = whole n allowed place cs (p.may, λ first. p.fits) front.complete;
         among = component-among around.encoding n around.in_lambda t (s n) is (keeps n) place cs new.candidates front.later front.complete p.among;
-        functions = functions-append around.scope around.encoding new.candidates (record { tree = t; encoding = around.encoding; in_lambda = around.in_lambda; is_held = false } ∷ [])
+        functions = functions-append around.scope around.encoding new.candidates (record { tree = t; encoding = around.encoding; in_lambda = around.in_lambda; counted = by_all } ∷ [])
             p.functions (λ may. function n allowed place cs p.fits, tt);
       });
 }

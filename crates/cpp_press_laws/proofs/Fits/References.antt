@@ -6,7 +6,7 @@ use Rattle.sym_core.specs.declared.refusal.Refusal.{Refusal}
 use Rattle.sym_core.specs.declared.refusal.Refusal.TheVariants.{BadReference}
 use Rattle.sym_link.specs.Reading.{Found, ◌>>=◌}
 use Rattle.sym_link.specs.Unfold.{found}
-use Rattle.cpp_grammar.specs.Term.{Term, symbol, abbreviation, builtin, function_type, alone, in_std, within, instance, parameter}
+use Rattle.cpp_grammar.specs.Term.{Term, symbol, abbreviation, builtin, function_type, alone, in_std, within, instance, parameter, tagged}
 use Rattle.cpp_grammar.specs.Scope.{is_open}
 use Rattle.cpp_grammar.specs.Values.{Candidate, State, Around, Value, tree, tree_of, is_listed}
 use Rattle.cpp_grammar.specs.References.{is_function_type, with_type, with_unqualified, with_packs, packs_in, substituted}
@@ -251,6 +251,7 @@ unfolding ways_of type_ways name_ways no_ways template_before
 before-spelled (alone p) c n number typed arguments place cs is = referred-found n number (alone p) arguments _ place cs is
 before-spelled (in_std p) c n number typed arguments place cs is = referred-found n number (in_std p) arguments _ place cs is
 before-spelled (within prefix p) c n number typed arguments place cs is = referred-found n number (within prefix p) arguments _ place cs is
+before-spelled (tagged of_structor name tag) c n number typed arguments place cs is = referred-found n number (tagged of_structor name tag) arguments _ place cs is
 before-spelled (symbol e suffix) c n number typed arguments place cs is = absurd c
 before-spelled _ c n number typed arguments place cs is = first_of (search c, search (component-found, is))
 

@@ -55,15 +55,15 @@ applied-nest outer around t v start mid new template nest here arguments = (
 -- ## Components and pieces after St
 
 -- a piece after a prefix, with or without arguments (kind Component)
-pub component-read : (outer : Around) (t p : Term) (v : Value) (start old mid new : State) → Wherever outer start (is_encoding t ≡ false)
+pub component-read : (outer : Around) (t p : Term) (listed : Bool) (v : Value) (start old mid new : State) → Wherever outer start (is_encoding t ≡ false)
     → names_member p ≡ true
-    → PrefixFits outer t start old → PieceFits (after t true outer) p old mid
-    → KindFits Kind.MaybeArguments (after (within t p) false (after t true outer)) v mid new
+    → PrefixFits outer t start old → PieceFits (after t listed outer) p old mid
+    → KindFits Kind.MaybeArguments (after (within t p) false (after t listed outer)) v mid new
     → NestRead outer (tree (applied (within t p) v) false) start new
 unfolding after inside with_prefix prefix_listed prefix_tree appended
-component-read outer t p v start old mid new apart names one piece arguments =
-    let between = within-joined outer t p start old mid names one piece in
-    applied-nest outer (after t true outer) (within t p) v start mid new (within-template outer t p start mid apart between)
+component-read outer t p listed v start old mid new apart names one piece arguments =
+    let between = within-joined outer t p listed start old mid names one piece in
+    applied-nest outer (after t listed outer) (within t p) v start mid new (within-template outer t p start mid apart between)
     (within-nest outer t p start mid apart between) (λ h. h) arguments
 
 -- a piece after St, with or without arguments (production NestStd)

@@ -4,13 +4,13 @@ use Rattle.std.specs.Prelude.{nat_eq}
 use Rattle.cpp_grammar.specs.declared.kind.Kind.{Kind}
 use Rattle.cpp_grammar.specs.declared.production.Production.{Production}
 use Rattle.cpp_grammar.specs.Term.{lvalue_only, rvalue_only, Term, abbreviation, lvalue, rvalue, encoding_literal, address_of, absent}
-use Rattle.cpp_grammar.specs.Values.{Candidate, State, Around, Value, nothing_there, tree, pair, tree_of, is_listed, part}
+use Rattle.cpp_grammar.specs.Values.{Candidate, State, Around, Value, nothing_there, tree, pair, tree_of, ref_of, is_listed, part}
 use Rattle.cpp_grammar.specs.References.{with_type, with_prefix, appended, is_function_type, with_unqualified}
 use Rattle.cpp_grammar.specs.Between.{after, no_items}
 use Rattle.cpp_grammar.specs.Meaning.{signature_or, meaning, listed_value, reference_to}
 use Rattle.cpp_grammar.specs.Unfolding as unfolding_
 use Rattle.cpp_grammar.proofs.Chosen.{either_cond}
-use Rattle.cpp_press_laws.specs.Fits.{Slot, any_type, item_type, parameter_type, literal_type, takes_all, takes_expansions, IsAbbreviation}
+use Rattle.cpp_press_laws.specs.Fits.{Slot, any_type, item_type, parameter_type, literal_type, takes_all, takes_expansions, IsAbbreviation, IsAbiMark}
 use Rattle.cpp_press_laws.proofs.Slots.{each-slot}
 use Rattle.cpp_press_laws.proofs.Fits.Types.{TypeFits, BareFits, SolidFits, lvalue-fits, rvalue-fits}
 use Rattle.cpp_press_laws.proofs.Fits.Lists.{ListFits, IsList}
@@ -62,11 +62,13 @@ KindFits Kind.LiteralType around v old new = SolidFits takes_literals around v o
 KindFits Kind.TypeAfterS around v old new = NameRead around v old new
 KindFits Kind.TypeInStd around v old new = NameRead around v old new
 KindFits Kind.Abbreviation around v old new = AbbreviationRead around v old new
-KindFits Kind.FunctionRest around v old new = IsList (tree_of v) × ListFits around parameter_type (tree_of v) old new
+KindFits Kind.FunctionRest around v old new = IsList (tree_of v) × ListFits around parameter_type (tree_of v) old new × IsAbiMark (ref_of v)
 KindFits Kind.AfterR around v old new =
     IsList (tree_of (signature_or lvalue_only v)) × ListFits around parameter_type (tree_of (signature_or lvalue_only v)) old new
+    × IsAbiMark (ref_of (signature_or lvalue_only v))
 KindFits Kind.AfterO around v old new =
     IsList (tree_of (signature_or rvalue_only v)) × ListFits around parameter_type (tree_of (signature_or rvalue_only v)) old new
+    × IsAbiMark (ref_of (signature_or rvalue_only v))
 KindFits Kind.Items around v old new = IsList (no_items v) × ListFits around item_type (no_items v) old new
 KindFits Kind.ArgumentList around v old new = ArgumentsFit around false (no_items v) old new
 KindFits Kind.PackList around v old new = ArgumentsFit around true (no_items v) old new

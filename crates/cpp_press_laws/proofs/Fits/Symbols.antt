@@ -18,7 +18,7 @@ use Rattle.cpp_press_laws.specs.Components.{Component, Spelling}
 use Rattle.cpp_press_laws.specs.Pressing.{no_ways, type_ways, name_ways, encoding_ways, piece_ways, argument_ways, begun, ways_of}
 use Rattle.cpp_press_laws.proofs.Components.AddedNames.{at-none}
 use Rattle.cpp_press_laws.proofs.Components.Complete.{AllBefore}
-use Rattle.cpp_press_laws.specs.Fits.{Fitting, Slot, any_type, item_type, Behind, either, type_fits, piece_fits, argument_fits, encoding_fits, fits_nowhere, IsSpellableThunk, fits_of}
+use Rattle.cpp_press_laws.specs.Fits.{Fitting, Slot, any_type, item_type, Behind, either, type_fits, piece_fits, argument_fits, encoding_fits, fits_nowhere, IsSpellableThunk, IsAbiMark, fits_of}
 use Rattle.cpp_press_laws.proofs.Fits.Read.{pressed_at, Fitted, behind-both, and-fitted, bytes-fitted, fitted-as}
 use Rattle.cpp_press_laws.proofs.Fits.Types.{TypeFits, may-closed}
 use Rattle.cpp_press_laws.proofs.Fits.Lists.{ListFits, void-adds-none}
@@ -40,14 +40,14 @@ WholeFits around e old new =
 
 -- ## Guards and special encodings
 
-pub guard-fits : (around : Around) (at : ℕ) (name : Term) (q : Qualifiers) (ref : RefQualifier) (old new : State) → StaysBehind around at old new
+pub guard-fits : (around : Around) (at : ℕ) (name : Term) (q : Qualifiers) (ref : RefQualifier) (old new : State) → IsAbiMark ref → StaysBehind around at old new
     → OwnNameFits (in_name at) name q ref old new → WholeFits around (of_name 86 name q ref) old new
 unfolding special_front fits_of encoding_fits fits_nowhere ways_of encoding_ways no_ways begun is_open in_name
-guard-fits around at name q ref old new stays one =
+guard-fits around at name q ref old new good stays one =
     let e : Term = of_name 86 name q ref in
     let F : Fitting = λ inner allowed place cs. (fits_of name).as_name q ref inner allowed (place + 2) cs in
     encoding-fitted around at e F (λ n. text (codes "GV") and (ways_of n name).as_name (name_letters q ref)) old new
-    stays.more refl stays.grows stays.before stays.later (λ allowed place cs fits. (refl, fits)) (λ n place cs. refl)
+    stays.more refl stays.grows stays.before stays.later (λ allowed place cs fits. (refl, fits, good)) (λ n place cs. refl)
     (fitted-as (bytes-fitted (codes "GV") one) (λ n allowed may. may-closed (pressed_at n (in_name at)) allowed e refl))
 
 -- a type's table and the like
@@ -118,10 +118,10 @@ items-behind at e name items q ref old mid new shut all one other =
 
 -- a function whose return type is spelled
 pub returning-fits : (around : Around) (at : ℕ) (name first rest : Term) (q : Qualifiers) (ref : RefQualifier) (old mid new : State)
-    → has_return_type name ≡ true → StaysBehind around at old new → AllShut at mid.candidates → OwnNameFits (in_name at) name q ref old mid
+    → IsAbiMark ref → has_return_type name ≡ true → StaysBehind around at old new → AllShut at mid.candidates → OwnNameFits (in_name at) name q ref old mid
     → ListFits (in_types at name) item_type (list first rest) mid new → WholeFits around (function name q ref first (parameters rest)) old new
 unfolding fits_of encoding_fits fits_nowhere ways_of encoding_ways no_ways begun is_open in_name in_types either
-returning-fits around at name first rest q ref old mid new returns stays all one other =
+returning-fits around at name first rest q ref old mid new good returns stays all one other =
     let e : Term = function name q ref first (parameters rest) in
     encoding-fitted around at e _ _ old new stays.more refl stays.grows stays.before stays.later
     (λ allowed place cs fits. (
@@ -131,16 +131,17 @@ returning-fits around at name first rest q ref old mid new returns stays all one
       behind-both ((ways_of place name).as_name (name_letters q ref)) (ways_of place first).as_type
           ((fits_of (parameters rest)).as_parameters item_type (in_types place name) allowed) place cs
           (parameters-standing item_type rest (in_types place name) allowed _ _ fits.1.1),
+      good,
     ))
     (λ n place cs. parameters-components rest place _ _)
     (items-behind at e name (list first rest) q ref old mid new refl all one other)
 
 -- a function whose return type isn't
 pub plain-function-fits : (around : Around) (at : ℕ) (name items : Term) (q : Qualifiers) (ref : RefQualifier) (old mid new : State)
-    → has_return_type name ≡ false → StaysBehind around at old new → AllShut at mid.candidates → OwnNameFits (in_name at) name q ref old mid
+    → IsAbiMark ref → has_return_type name ≡ false → StaysBehind around at old new → AllShut at mid.candidates → OwnNameFits (in_name at) name q ref old mid
     → ListFits (in_types at name) item_type items mid new → WholeFits around (function name q ref absent (parameters items)) old new
 unfolding fits_of encoding_fits fits_nowhere ways_of encoding_ways no_ways begun is_open in_name in_types either
-plain-function-fits around at name items q ref old mid new plain stays all one other =
+plain-function-fits around at name items q ref old mid new good plain stays all one other =
     let e : Term = function name q ref absent (parameters items) in
     encoding-fitted around at e _ _ old new stays.more refl stays.grows stays.before stays.later
     (λ allowed place cs fits. (
@@ -151,6 +152,7 @@ plain-function-fits around at name items q ref old mid new plain stays all one o
           ((fits_of (parameters items)).as_parameters item_type (in_types place name) allowed) place cs
           (at-none ((fits_of (parameters items)).as_parameters item_type (in_types place name) allowed) _ _
           (parameters-standing item_type items (in_types place name) allowed _ _ fits.1)),
+      good,
     ))
     (λ n place cs. (
     let w : spell.Pressed Component = (ways_of place name).as_name (name_letters q ref) place cs in
@@ -160,10 +162,10 @@ plain-function-fits around at name items q ref old mid new plain stays all one o
 
 -- data, which has no types
 pub object-fits : (around : Around) (at : ℕ) (name : Term) (q : Qualifiers) (ref : RefQualifier) (old mid new : State)
-    → StaysBehind around at old new → AllShut at mid.candidates → OwnNameFits (in_name at) name q ref old mid
+    → IsAbiMark ref → StaysBehind around at old new → AllShut at mid.candidates → OwnNameFits (in_name at) name q ref old mid
     → ListFits (in_types at name) item_type nil mid new → WholeFits around (object name q ref) old new
 unfolding fits_of encoding_fits fits_nowhere ways_of encoding_ways no_ways begun is_open in_name
-object-fits around at name q ref old mid new stays all one other =
+object-fits around at name q ref old mid new good stays all one other =
     encoding-fitted around at (object name q ref) _ _ old new stays.more refl stays.grows stays.before stays.later
-    (λ allowed place cs fits. fits.0) (λ n place cs. refl)
+    (λ allowed place cs fits. (fits.0, good)) (λ n place cs. refl)
     (items-behind at (object name q ref) name nil q ref old mid new refl all one other)

@@ -7,7 +7,7 @@ use Rattle.cpp_grammar.specs.declared.kind.Kind.{Kind}
 use Rattle.cpp_grammar.specs.Grammar.{choose}
 use Rattle.cpp_grammar.specs.declared.production.Production.{Production}
 use Rattle.cpp_grammar.specs.Term.{Term, abbreviation, parameter, instance, lvalue, rvalue, builtin, pack}
-use Rattle.cpp_grammar.specs.Values.{Candidate, State, Around, prefix_listed, Value, nothing_there, tree, tree_of, is_listed, is_there, signed_of, part}
+use Rattle.cpp_grammar.specs.Values.{Candidate, State, Around, prefix_listed, Value, nothing_there, tree, tree_of, is_listed, is_there, signed_of, part, ref_of}
 use Rattle.cpp_grammar.specs.References.{appended, with_type, with_unqualified, with_prefix}
 use Rattle.cpp_grammar.specs.Between.{after, applied, inside, no_items}
 use Rattle.cpp_grammar.specs.Meaning.{signature_or, meaning, with_item}
@@ -83,22 +83,24 @@ pub lvalue-item : (around : Around) (byte : ℕ) (began : State) (t : Term) (res
     → TypeFits around any_type t old mid → KindFits Kind.FunctionRest around rest (appended around (lvalue t) mid) new
     → KindFits Kind.AfterR around (Meant Production.LvalueItem byte around (tree (lvalue t) true ∷ rest ∷ [])) old
     (Later Production.LvalueItem byte around began (tree (lvalue t) true ∷ rest ∷ []) new)
-unfolding meaning signature_or with_item tree_of part unfolding_.behind with_type is_listed takes_all
+unfolding meaning signature_or with_item tree_of ref_of part unfolding_.behind with_type is_listed takes_all
 lvalue-item around byte began t rest old mid new one other = (
   tt,
   list-fits around parameter_type (lvalue t) (tree_of rest) old (appended around (lvalue t) mid) new
       ((lvalue-fits around t old mid one).types parameter_type tt refl) other.1,
+  other.2,
 )
 
 pub rvalue-item : (around : Around) (byte : ℕ) (began : State) (t : Term) (rest : Value) (old mid new : State)
     → TypeFits around any_type t old mid → KindFits Kind.FunctionRest around rest (appended around (rvalue t) mid) new
     → KindFits Kind.AfterO around (Meant Production.RvalueItem byte around (tree (rvalue t) true ∷ rest ∷ [])) old
     (Later Production.RvalueItem byte around began (tree (rvalue t) true ∷ rest ∷ []) new)
-unfolding meaning signature_or with_item tree_of part unfolding_.behind with_type is_listed takes_all
+unfolding meaning signature_or with_item tree_of ref_of part unfolding_.behind with_type is_listed takes_all
 rvalue-item around byte began t rest old mid new one other = (
   tt,
   list-fits around parameter_type (rvalue t) (tree_of rest) old (appended around (rvalue t) mid) new
       ((rvalue-fits around t old mid one).types parameter_type tt refl) other.1,
+  other.2,
 )
 
 -- ## Arguments

@@ -1,5 +1,5 @@
 -- Names are read from their pieces: alone and after St, as prefixes and between N and E, with arguments and without.
-use Rattle.std.proofs.Common.{◌≡◌, ℕ, ◌+◌, length, List, [], ◌∷◌, ◌++◌, Option, true, false, ap, arith, sym, subst, append-nil, append_assoc, length-append, refl}
+use Rattle.std.proofs.Common.{◌≡◌, ℕ, ◌+◌, length, List, [], ◌∷◌, ◌++◌, Option, true, false, ap, arith, sym, subst, append-nil, append_assoc, length-append, refl, Bool}
 use Rattle.sym_shape.specs.declared.rule.Sym.TheVariants.{Kind as OfKind}
 use Rattle.sym_shape.specs.Tree.{TakesRule}
 use Rattle.cpp_grammar.specs.declared.production.Production.{Production}
@@ -124,17 +124,17 @@ nested-std around allowed p place cs w one =
 -- a piece after a prefix
 pub nested-within : (around : Around) (allowed : Option ℕ) (x p : Term) (place : ℕ) (cs : List Component) (w one : Written)
     → Extends around allowed x place cs w
-    → Named (after x true around) allowed 19 (within x p) (place + length w.bytes) w.components one
+    → ((listed : Bool) → Named (after x listed around) allowed 19 (within x p) (place + length w.bytes) w.components one)
     → Nested around allowed (within x p) place cs (written (w.bytes ++ one.bytes) one.components)
 unfolding after inside
 nested-within around allowed x p place cs w one prefix name = record {
-  bare = so-far-within around allowed x (within x p) place cs w one prefix name.bare;
+  bare = so-far-within around allowed x (within x p) place cs w one prefix (λ listed. (name listed).bare);
   instanced = λ items last args are two.
       subst (λ l. SoFar around allowed (instance (within x p) items) false 18 place cs (written l args.components))
       (sym (append_assoc w.bytes one.bytes (in_I_and_E args.bytes)))
       (so-far-within around allowed x (instance (within x p) items) place cs w (written (one.bytes ++ in_I_and_E args.bytes) args.components)
       prefix
-      (name.instanced items last args are
+      (λ listed. (name listed).instanced items last args are
       (elsewhere (omega (arith, length-append w.bytes one.bytes)) two)));
 }
 

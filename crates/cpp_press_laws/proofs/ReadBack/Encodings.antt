@@ -7,7 +7,7 @@ use Rattle.cpp_grammar.specs.declared.kind.Kind.{Kind}
 use Rattle.cpp_grammar.specs.declared.production.Production.{Production}
 use Rattle.cpp_grammar.specs.KindNumbers.{COMPLETE_NAME, MAYBE_REF, NAME_AFTER_S, UNQUALIFIED, NEST, ABBREVIATION, TYPE_AFTER_S, TYPE_IN_STD, SOURCE_OR_LOCAL, MAYBE_ARGUMENTS, ARGUMENTS}
 use Rattle.cpp_grammar.specs.Table.{abi, rule_of}
-use Rattle.cpp_grammar.specs.Term.{RefQualifier, any_value, lvalue_only, rvalue_only, Term, in_std, instance}
+use Rattle.cpp_grammar.specs.Term.{RefQualifier, any_value, lvalue_only, rvalue_only, explicit_object, Term, in_std, instance}
 use Rattle.cpp_grammar.specs.Values.{State, Around, Value, nothing_there, letter, tree, piece, named, mark_of, is_listed, is_there}
 use Rattle.cpp_grammar.specs.Between.{after, applied, named_so_far, listed_so_far}
 use Rattle.cpp_grammar.specs.Unfolding.{close}
@@ -17,6 +17,7 @@ use Rattle.cpp_press_laws.proofs.ReadBack.Reading.{takes-byte, takes-none, empty
 use Rattle.cpp_press_laws.proofs.ReadBack.Functions.{mark_value, mark_bytes, mark-reads, maybe-mark-reads}
 use Rattle.cpp_press_laws.proofs.ReadBack.Names.{alone-arguments}
 use Rattle.cpp_press_laws.specs.Texts.{mark_letter}
+use Rattle.cpp_press_laws.specs.Fits.{IsAbiMark}
 
 -- ## Whole names
 
@@ -60,45 +61,48 @@ abbrev pub ref_value : RefQualifier → Value
 ref_value any_value = nothing_there
 ref_value lvalue_only = letter 82
 ref_value rvalue_only = letter 79
+ref_value explicit_object = nothing_there
 
-ref-reads : {around : Around} {allowed : Option ℕ} {place : ℕ} {cs : List Component} (ref : RefQualifier)
+ref-reads : {around : Around} {allowed : Option ℕ} {place : ℕ} {cs : List Component} (ref : RefQualifier) → IsAbiMark ref
     → ReadsAt around allowed (OfKind MAYBE_REF) (Is (ref_value ref)) place cs (written (mark_letter ref) cs)
 unfolding grammar mark_letter
-ref-reads any_value = empty-reads Kind.MaybeRef refl refl
-ref-reads lvalue_only = mark-reads Kind.MaybeRef refl refl (omega arith)
-ref-reads rvalue_only = mark-reads Kind.MaybeRef refl refl (omega arith)
+ref-reads any_value good = empty-reads Kind.MaybeRef refl refl
+ref-reads lvalue_only good = mark-reads Kind.MaybeRef refl refl (omega arith)
+ref-reads rvalue_only good = mark-reads Kind.MaybeRef refl refl (omega arith)
+ref-reads explicit_object good = absurd good
 
 -- a name between N and E, with the letters of its encoding
 pub nested-name : (k : ℕ) (around : Around) (allowed : Option ℕ) (t : Term) (listed restrict volatile const : Bool) (ref : RefQualifier)
-    (place : ℕ) (cs : List Component) (w : Written) → TakesRule abi k (rule_of Production.NestedName) (78 ∷ [])
+    → IsAbiMark ref → (place : ℕ) (cs : List Component) (w : Written) → TakesRule abi k (rule_of Production.NestedName) (78 ∷ [])
     → ReadsAt around allowed (OfKind NEST) (Is (tree t listed)) (place + 1 + length (mark_bytes restrict 114) + length (mark_bytes volatile 86) +
     length (mark_bytes const 75) + length (mark_letter ref)) cs w
     → ReadsAt around allowed (OfKind k) (Is (named t (record { restrict = restrict; volatile = volatile; const = const }) ref)) place cs
     (written (78 ∷ (mark_bytes restrict 114 ++ (mark_bytes volatile 86 ++ (mark_bytes const 75 ++ (mark_letter ref ++ w.bytes))))) w.components)
 unfolding grammar mark_of
-nested-name k around allowed t listed restrict volatile const ref place cs w takes one =
+nested-name k around allowed t listed restrict volatile const ref good place cs w takes one =
     read-by-parts Production.NestedName k (78 ∷ [])
     (mark_value restrict 114 ∷ mark_value volatile 86 ∷ mark_value const 75 ∷ ref_value ref ∷ tree t listed ∷ [])
     (written (mark_bytes restrict 114) cs ∷ written (mark_bytes volatile 86) cs ∷ written (mark_bytes const 75) cs ∷ written (mark_letter ref) cs ∷ w ∷ [])
     takes tt refl
     (λ s c q. maybe-mark-reads Kind.MaybeRestrict 114 refl refl (omega arith) refl restrict s c q before λ s c q.
     maybe-mark-reads Kind.MaybeVolatile 86 refl refl (omega arith) refl volatile s c q before λ s c q. maybe-mark-reads
-    Kind.MaybeConst 75 refl refl (omega arith) refl const s c q before λ s c q. ref-reads ref s c q before λ s c q. one
-    s c q before means restrict volatile const ref)
+    Kind.MaybeConst 75 refl refl (omega arith) refl const s c q before λ s c q. ref-reads ref good s c q before λ s c q. one
+    s c q before means restrict volatile const ref good)
   where
     there : (b : Bool) (byte : ℕ) → is_there (mark_value b byte) ≡ b
     there true byte = refl
     there false byte = refl
 
-    marks : (q : RefQualifier) → mark_of (ref_value q) ≡ q
-    marks any_value = refl
-    marks lvalue_only = refl
-    marks rvalue_only = refl
+    marks : (q : RefQualifier) → IsAbiMark q → mark_of (ref_value q) ≡ q
+    marks any_value abi = refl
+    marks lvalue_only abi = refl
+    marks rvalue_only abi = refl
+    marks explicit_object abi = absurd abi
 
-    means : (a b d : Bool) (q : RefQualifier) (began s : State) → close Production.NestedName 78 around place began
+    means : (a b d : Bool) (q : RefQualifier) → IsAbiMark q → (began s : State) → close Production.NestedName 78 around place began
         (mark_value a 114 ∷ mark_value b 86 ∷ mark_value d 75 ∷ ref_value q ∷ tree t listed ∷ []) s
         ≡ Ok (found (named t (record { restrict = a; volatile = b; const = d }) q) s)
-    means a b d q began s = rw (there a 114, there b 86, there d 75, marks q) refl
+    means a b d q abi began s = rw (there a 114, there b 86, there d 75, marks q abi) refl
 
 -- a name between N and E as a type
 pub nested-type : (k : ℕ) (around : Around) (allowed : Option ℕ) (t : Term) (listed : Bool) (place : ℕ) (cs : List Component) (w : Written)

@@ -11,7 +11,7 @@ use Rattle.cpp_grammar.specs.declared.production.Production.{Production}
 use Rattle.cpp_grammar.specs.KindNumbers.{TYPE, PLAIN, ITEM_BUT_REF, AFTER_D, SOLID, FUNCTION_REST, AFTER_R, AFTER_O, ARGUMENTS_ALONE}
 use Rattle.cpp_grammar.specs.Grammar.{choose, kinds, parts_of, is_chain, may_be_empty}
 use Rattle.cpp_grammar.specs.Table.{abi, rule_of}
-use Rattle.cpp_grammar.specs.Term.{RefQualifier, any_value, lvalue_only, rvalue_only, Term, parameter, lvalue, rvalue, vector, function_type, qualified, nil, list}
+use Rattle.cpp_grammar.specs.Term.{RefQualifier, any_value, lvalue_only, rvalue_only, Term, parameter, lvalue, rvalue, vector, function_type, qualified, nil, list, explicit_object}
 use Rattle.cpp_grammar.specs.Scope.{count, element, length_if_pack}
 use Rattle.cpp_grammar.specs.Values as value
 use Rattle.cpp_grammar.specs.Values.{State, Around, Value, nothing_there, letter, tree, signature, text_of}
@@ -22,7 +22,7 @@ use Rattle.cpp_grammar.specs.Unfolding as unfolding_
 use Rattle.cpp_grammar.specs.Unfolding.{close, byte_of}
 use Rattle.cpp_press_laws.specs.Components.{components_of, Component}
 use Rattle.cpp_press_laws.specs.Texts.{ordinal, mark_letter}
-use Rattle.cpp_press_laws.specs.Fits.{PacksFit}
+use Rattle.cpp_press_laws.specs.Fits.{PacksFit, IsAbiMark}
 use Rattle.cpp_press_laws.specs.Spellable.{AreSpellableDigits}
 use Rattle.cpp_press_laws.specs.Subtrees.{greatest, Written, written, ReadsAt, Is, IsAllowed, Reads}
 use Rattle.cpp_press_laws.proofs.ReadBack.Tokens.{ordinal_digits, ordinal_token, ordinal-spelled, ordinal-is-token, ordinal-value}
@@ -219,22 +219,23 @@ abbrev pub RestReads : Around → Option ℕ → (items : Term) → RefQualifier
 RestReads around allowed items ref place cs w = ReadsAt around allowed (OfKind FUNCTION_REST) (Is (signature items ref)) place cs w
 
 -- its end, and the mark before it
-pub end-reads : (around : Around) (allowed : Option ℕ) (ref : RefQualifier) (place : ℕ) (cs : List Component)
+pub end-reads : (around : Around) (allowed : Option ℕ) (ref : RefQualifier) → IsAbiMark ref → (place : ℕ) (cs : List Component)
     → RestReads around allowed nil ref place cs (written (mark_letter ref ++ codes "E") cs)
 unfolding mark_letter grammar signature_or
-end-reads around allowed any_value place cs =
+end-reads around allowed any_value good place cs =
     read-by-parts Production.RestEnd FUNCTION_REST (69 ∷ []) [] []
     (takes-byte FUNCTION_REST Kind.FunctionRest Production.RestEnd 69 refl refl (omega arith) refl) tt refl (λ began s. refl)
-end-reads around allowed lvalue_only place cs =
+end-reads around allowed lvalue_only good place cs =
     read-by-parts Production.RestLvalue FUNCTION_REST (82 ∷ []) (nothing_there ∷ []) (written (69 ∷ []) cs ∷ [])
     (takes-byte FUNCTION_REST Kind.FunctionRest Production.RestLvalue 82 refl refl (omega arith) refl) tt refl
     (λ s c q. read-by-parts Production.RefEnd AFTER_R (69 ∷ []) [] []
     (takes-byte AFTER_R Kind.AfterR Production.RefEnd 69 refl refl (omega arith) refl) tt refl (λ began s. refl) s c q before λ began s. refl)
-end-reads around allowed rvalue_only place cs =
+end-reads around allowed rvalue_only good place cs =
     read-by-parts Production.RestRvalue FUNCTION_REST (79 ∷ []) (nothing_there ∷ []) (written (69 ∷ []) cs ∷ [])
     (takes-byte FUNCTION_REST Kind.FunctionRest Production.RestRvalue 79 refl refl (omega arith) refl) tt refl
     (λ s c q. read-by-parts Production.RefEnd AFTER_O (69 ∷ []) [] []
     (takes-byte AFTER_O Kind.AfterO Production.RefEnd 69 refl refl (omega arith) refl) tt refl (λ began s. refl) s c q before λ began s. refl)
+end-reads around allowed explicit_object good place cs = absurd good
 
 -- one more parameter, which doesn't begin with an R or an O
 pub rest-item : (around : Around) (allowed : Option ℕ) (t items : Term) (ref : RefQualifier) (place : ℕ) (cs : List Component) (first rest : Written)

@@ -139,11 +139,12 @@ SoFar around allowed t listed k place cs w =
     (v : Value) (rest : Written) → ReadsAt (after t listed around) allowed (OfKind k) (Is v) (place + length w.bytes) w.components rest
     → ReadsAt around allowed (OfKind NEST) (Is v) place cs (written (w.bytes ++ rest.bytes) rest.components)
 
--- A prefix, which is a component: a piece is read after it as a longer name, and then what is left.
+-- A prefix, which is a component: a piece is read after it as a longer name, and then what is left. The piece is read alike whether
+-- the prefix is one that is a candidate already, or becomes one before the piece.
 abbrev pub Extends : Around → Option ℕ → (t : Term) → (place : ℕ) → List Component → Written → Type 0
 Extends around allowed t place cs w =
-    (u : Term) (v : Value) (one rest : Written) → ReadsAt (after t true around) allowed (OfKind COMPONENT) (Is (tree u false)) (place + length w.bytes)
-    w.components one
+    (u : Term) (v : Value) (one rest : Written)
+    → ((listed : Bool) → ReadsAt (after t listed around) allowed (OfKind COMPONENT) (Is (tree u false)) (place + length w.bytes) w.components one)
     → ReadsAt (after u false around) allowed (OfKind NEST_TAIL) (Is v) (place + length w.bytes + length one.bytes) one.components rest
     → ReadsAt around allowed (OfKind NEST) (Is v) place cs (written (w.bytes ++ (one.bytes ++ rest.bytes)) rest.components)
 
@@ -158,22 +159,22 @@ nest-ends around allowed t listed place cs =
 -- one more piece, before which the name so far becomes a component, or is one already or never is one
 nest-next : (listed : Bool) (k : ℕ) (around : Around) (allowed : Option ℕ) (t u : Term) (v : Value) (place : ℕ) (cs : List Component)
     (one rest : Written) → TakesRule abi k (rule_of Production.NestNext) []
-    → ReadsAt (after t true around) allowed (OfKind COMPONENT) (Is (tree u false)) (place + 0) (listed_now around listed cs t) one
+    → ((own : Bool) → ReadsAt (after t own around) allowed (OfKind COMPONENT) (Is (tree u false)) (place + 0) (listed_now around listed cs t) one)
     → ReadsAt (after u false around) allowed (OfKind NEST_TAIL) (Is v) (place + 0 + length one.bytes) one.components rest
     → ReadsAt (after t listed around) allowed (OfKind k) (Is v) place cs (written (one.bytes ++ rest.bytes) rest.components)
 unfolding grammar with_prefix appended after prefix_tree prefix_listed
 nest-next false k around allowed t u v place cs one rest takes first second =
     read-by-parts Production.NestNext k [] (tree u false ∷ v ∷ []) (one ∷ rest ∷ []) takes tt refl
-    (λ s c q. first (appended around t s) (appended-same around t s c) q before λ s c q. second s c q before λ began s.
+    (λ s c q. first false (appended around t s) (appended-same around t s c) q before λ s c q. second s c q before λ began s.
     refl)
 nest-next true k around allowed t u v place cs one rest takes first second =
     read-by-parts Production.NestNext k [] (tree u false ∷ v ∷ []) (one ∷ rest ∷ []) takes tt refl
-    (λ s c q. first s c q before λ s c q. second s c q before λ began s. refl)
+    (λ s c q. first true s c q before λ s c q. second s c q before λ began s. refl)
 
 -- a longer name so far, of a prefix and a piece
 pub so-far-within : (around : Around) (allowed : Option ℕ) (t u : Term) (place : ℕ) (cs : List Component) (w one : Written)
     → Extends around allowed t place cs w
-    → ReadsAt (after t true around) allowed (OfKind COMPONENT) (Is (tree u false)) (place + length w.bytes) w.components one
+    → ((listed : Bool) → ReadsAt (after t listed around) allowed (OfKind COMPONENT) (Is (tree u false)) (place + length w.bytes) w.components one)
     → SoFar around allowed u false 18 place cs (written (w.bytes ++ one.bytes) one.components)
 so-far-within around allowed t u place cs w one prefix first v rest second =
     same-written (sym (append_assoc w.bytes one.bytes rest.bytes))
@@ -185,7 +186,7 @@ pub extends : (listed : Bool) (k : ℕ) (around : Around) (allowed : Option ℕ)
     → SoFar around allowed t listed k place cs w → Extends around allowed t place cs (written w.bytes (listed_now around listed w.components t))
 extends listed k around allowed t place cs w takes so_far u v one rest first second =
     so_far v (written (one.bytes ++ rest.bytes) rest.components)
-    (nest-next listed k around allowed t u v (place + length w.bytes) w.components one rest takes (elsewhere (omega arith) first)
+    (nest-next listed k around allowed t u v (place + length w.bytes) w.components one rest takes (λ own. elsewhere (omega arith) (first own))
     (elsewhere (omega arith) second))
 
 -- a whole name between N and E

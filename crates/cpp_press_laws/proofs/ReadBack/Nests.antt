@@ -91,8 +91,8 @@ nest-std around allowed p last place cs first args one two v rest third =
 arguments-and-more : (listed : Bool) (around : Around) (allowed : Option ℕ) (t : Term) (last : Value) (at : ℕ) (cs : List Component)
     (args : Written) (u : Term) (v : Value) (comp rest : Written)
     → ReadsAt (inside around) allowed (OfKind ARGUMENT_LIST) (Is last) (at + 1) (listed_now around listed cs t) args
-    → ReadsAt (after (instance t (no_items last)) true around) allowed (OfKind COMPONENT) (Is (tree u false)) (at + 1 + length args.bytes + 1)
-    (more around args.components (instance t (no_items last))) comp
+    → ((own : Bool) → ReadsAt (after (instance t (no_items last)) own around) allowed (OfKind COMPONENT) (Is (tree u false)) (at + 1 + length args.bytes + 1)
+    (more around args.components (instance t (no_items last))) comp)
     → ReadsAt (after u false around) allowed (OfKind NEST_TAIL) (Is v) (at + 1 + length args.bytes + 1 + length comp.bytes) comp.components rest
     → ReadsAt (after t listed around) allowed (OfKind NEST_REST) (Is v) at cs
     (written (73 ∷ (args.bytes ++ (69 ∷ (comp.bytes ++ rest.bytes)))) rest.components)
@@ -102,7 +102,7 @@ arguments-and-more true around allowed t last at cs args u v comp rest one two t
     read-by-parts Production.NestArguments NEST_REST (73 ∷ []) (last ∷ nothing_there ∷ tree u false ∷ v ∷ [])
     (args ∷ written (69 ∷ []) args.components ∷ comp ∷ rest ∷ [])
     (takes-byte NEST_REST Kind.NestRest Production.NestArguments 73 refl refl (omega arith) refl) tt refl
-    (λ s c q. first-reads one s c q before λ s c q. fixed-reads s c q before λ s c q. two (appended around whole s)
+    (λ s c q. first-reads one s c q before λ s c q. fixed-reads s c q before λ s c q. two false (appended around whole s)
     (appended-same around whole s c) q before λ s c q. three s c q before λ began s. refl)
 arguments-and-more false around allowed t last at cs args u v comp rest one two three =
     let whole : Term = instance t (no_items last) in
@@ -110,7 +110,7 @@ arguments-and-more false around allowed t last at cs args u v comp rest one two 
     (args ∷ written (69 ∷ []) args.components ∷ comp ∷ rest ∷ [])
     (takes-byte NEST_REST Kind.NestRest Production.NestArguments 73 refl refl (omega arith) refl) tt refl
     (λ s c q. first-reads one (appended around t s) (appended-same around t s c) q before λ s c q. fixed-reads s c q
-    before λ s c q. two (appended around whole s) (appended-same around whole s c) q before λ s c q. three s c q
+    before λ s c q. two false (appended around whole s) (appended-same around whole s c) q before λ s c q. three s c q
     before λ began s. refl)
 
 -- arguments, before which the name so far becomes a component, and a piece after them, before which the instance does
@@ -126,7 +126,7 @@ nest-arguments around allowed t items listed last place cs w args are so_far one
     (λ u v comp rest third fourth. same-written (joined w.bytes args.bytes (comp.bytes ++ rest.bytes))
     (so_far v (written (73 ∷ (args.bytes ++ (69 ∷ (comp.bytes ++ rest.bytes)))) rest.components)
     (arguments-and-more listed around allowed t last (place + length w.bytes) w.components args u v comp rest one
-    (elsewhere (omega (arith, long)) third) (elsewhere (omega (arith, long)) fourth))))
+    (λ own. elsewhere (omega (arith, long)) (third own)) (elsewhere (omega (arith, long)) fourth))))
   where
     long : length (w.bytes ++ (73 ∷ (args.bytes ++ (69 ∷ [])))) ≡ length w.bytes + 1 + length args.bytes + 1
     long = omega (arith, length-append w.bytes (73 ∷ (args.bytes ++ (69 ∷ []))), length-append args.bytes (69 ∷ []))

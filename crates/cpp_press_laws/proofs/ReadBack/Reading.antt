@@ -14,7 +14,7 @@ use Rattle.cpp_grammar.specs.KindNumbers.{ARGUMENT_LIST, ARGUMENTS_FIRST}
 use Rattle.cpp_grammar.specs.Grammar.{in_ranges, among, is_in, pick, number_of_kind, alternatives, kinds, choose, parts_of, is_chain, may_be_empty}
 use Rattle.cpp_grammar.specs.Table.{abi, rule_of, rule_taken}
 use Rattle.cpp_grammar.specs.Term.{Term}
-use Rattle.cpp_grammar.specs.Values.{Candidate, State, Around, Value, nothing_there, text, tree, tree_of, text_of, piece_of, letter_of, ref_of, signed_of, adjustment_of, is_there, part}
+use Rattle.cpp_grammar.specs.Values.{Candidate, State, Around, Value, nothing_there, text, tree, tree_of, text_of, piece_of, letter_of, ref_of, signed_of, adjustment_of, is_there, part, by_all}
 use Rattle.cpp_grammar.specs.References.{appended}
 use Rattle.cpp_grammar.specs.Between.{Going, between}
 use Rattle.cpp_grammar.specs.Meaning.{meaning}
@@ -67,7 +67,7 @@ pub appended-same : {components : List Component} (around : Around) (t : Term) (
     → components_of (appended around t s).candidates ≡ more around components t
 unfolding appended components_of
 appended-same around t s same =
-    components-append s.candidates (record { tree = t; encoding = around.encoding; in_lambda = around.in_lambda; is_held = false } ∷ [])
+    components-append s.candidates (record { tree = t; encoding = around.encoding; in_lambda = around.in_lambda; counted = by_all } ∷ [])
     ∙ ap (λ l. l ++ record { tree = t; encoding = around.encoding } ∷ []) same
 
 -- ## Rows

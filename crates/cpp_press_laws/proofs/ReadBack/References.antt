@@ -59,7 +59,7 @@ packs-fit around allowed (Some m) place s (inr (under, same)) before = go s.pack
         let equal : m ≡ n = some-one (same ∙ sym other) in
         record {
           state = s;
-          goes = rw (under, is) (named-again (nat_eq m n) place (record { candidates = s.candidates; packs = Some n })
+          goes = rw (under, is) (named-again (nat_eq m n) place (record s { packs = Some n })
               (eq-eqb m n equal));
           candidates = refl;
           packs_are = subst (IsAllowed allowed) (sym is) (inr other);

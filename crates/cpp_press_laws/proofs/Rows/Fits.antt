@@ -37,6 +37,7 @@ row = (
     (tt, (refl, refl, name-fits)),
     refl,
     (refl, ((may, λ none. (omega arith, refl)), ((may, λ none. absurd (some-none none)), tt))),
+    tt,
   ),
   tt,
 )

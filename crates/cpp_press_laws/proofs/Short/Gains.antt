@@ -8,7 +8,7 @@ use Rattle.cpp_grammar.specs.declared.kind.Kind.{Kind}
 use Rattle.cpp_grammar.specs.Grammar.{number_of_kind}
 use Rattle.cpp_grammar.specs.Table.{abi}
 use Rattle.cpp_grammar.specs.Term.{Term, lvalue_only}
-use Rattle.cpp_grammar.specs.Values.{Candidate, State, Prefix, outermost, behind, Around, prefix_tree, prefix_listed, Value, nothing_there, letter, text, signed, tree, pair, tree_of, piece_of, is_listed, qualifiers_of, ref_of, is_there, adjustment_of}
+use Rattle.cpp_grammar.specs.Values.{Candidate, State, Prefix, outermost, behind, Around, prefix_tree, prefix_listed, Value, nothing_there, letter, text, signed, tree, pair, tree_of, piece_of, is_listed, qualifiers_of, ref_of, is_there, adjustment_of, by_all}
 use Rattle.cpp_grammar.specs.References.{is_function_type, appended, with_type, with_prefix}
 use Rattle.cpp_grammar.specs.Between.{no_items}
 use Rattle.cpp_grammar.specs.Meaning.{discriminator_of, signature_or}
@@ -50,6 +50,8 @@ pub data Class : Type 0 where
   items : Class
   arguments : Class
   given : Class
+  -- a further piece of a name, with those before it
+  further : Class
   -- the second letter of an operator and its operands
   operands : Class
   -- what may be a mark, or digits; a letter; an offset; a discriminator; the rest of a function type; the same after a mark; the second
@@ -81,9 +83,9 @@ class_of Kind.NestTail = name
 class_of Kind.NestRestOrEnd = name
 class_of Kind.NestRestAlone = name
 class_of Kind.NestMoreOrEnd = name
-class_of Kind.Component = name
-class_of Kind.ComponentAfterC = name
-class_of Kind.ConstructorAfterC = name
+class_of Kind.Component = further
+class_of Kind.ComponentAfterC = further
+class_of Kind.ConstructorAfterC = further
 class_of Kind.Entity = name
 class_of Kind.TypeEntity = name
 class_of Kind.Unqualified = unit
@@ -169,6 +171,7 @@ held _ = 0
 -- a type becomes a candidate, if it's none yet, and is referred to.
 unfoldable pub need : Class → Around → Value → State → ℕ
 need name around v s = size (tree_of v) + letters_in v + 9
+need further around v s = size (tree_of v) + letters_in v + 9
 need type around v s = typed v
 need bare around v s =
     cond (is_function_type (tree_of v)) (8 + cond (is_among around.encoding (tree_of v) (components_of s.candidates)) 0 (size (tree_of v))) (part (tree_of v))
@@ -193,6 +196,11 @@ lent outermost = 0
 lent (behind t true) = front t
 lent (behind t false) = size t + 9
 
+-- what is left for the name so far, once it is a candidate
+unfoldable pub fronted : Prefix → ℕ
+fronted outermost = 0
+fronted (behind t listed) = front t
+
 unfoldable pub owed : Prefix → ℕ
 owed outermost = 0
 owed (behind t true) = 0
@@ -200,6 +208,7 @@ owed (behind t false) = full t
 
 unfoldable pub loan : Class → Around → ℕ
 loan name around = lent around.prefix
+loan further around = fronted around.prefix
 loan arguments around = owed around.prefix
 loan given around = owed around.prefix
 loan _ around = 0
@@ -260,6 +269,7 @@ Ready kind prefix = ready_for (class_of kind) prefix
 -- a name or a type may be a reference, and a function type that is a candidate already is among these
 unfoldable pub IsKnown : Class → Around → Value → State → Type 0
 IsKnown name around v s = IsSmall (tree_of v) × (is_function_type (tree_of v) ≡ false)
+IsKnown further around v s = IsSmall (tree_of v) × (is_function_type (tree_of v) ≡ false)
 IsKnown type around v s =
     (is_encoding (tree_of v) ≡ false)
     × ((is_listed v ≡ false → part (tree_of v) ≤ 8)
@@ -299,7 +309,7 @@ ShapeGains t =
 pub appended-wealth : (around : Around) (t : Term) (s : State) → wealth (appended around t s) ≡ wealth s + worth (components_of s.candidates) around.encoding t
 unfolding appended
 appended-wealth around t s =
-    worths-named s.candidates (record { tree = t; encoding = around.encoding; in_lambda = around.in_lambda; is_held = false })
+    worths-named s.candidates (record { tree = t; encoding = around.encoding; in_lambda = around.in_lambda; counted = by_all })
 
 small-one : (cs : List Candidate) (c : Candidate) → AllSmall cs → IsSmall c.tree → AllSmall (cs ++ c ∷ [])
 unfolding AllSmall
@@ -315,7 +325,7 @@ pub appended-grown : (around : Around) (t : Term) (s : State) → AllSmall s.can
 unfolding appended
 appended-grown around t s all one = record {
   few = omega (arith, appended-wealth around t s, worth-full (components_of s.candidates) around.encoding t);
-  small = small-one s.candidates (record { tree = t; encoding = around.encoding; in_lambda = around.in_lambda; is_held = false }) all one;
+  small = small-one s.candidates (record { tree = t; encoding = around.encoding; in_lambda = around.in_lambda; counted = by_all }) all one;
 }
 
 pub typed-grown : (around : Around) (v : Value) (s : State) → AllSmall s.candidates → (is_listed v ≡ false → IsSmall (tree_of v))
@@ -344,6 +354,6 @@ pub appended-among : (around : Around) (t : Term) (s : State) → is_among aroun
 unfolding appended
 appended-among around t s =
     subst (λ cs. is_among around.encoding t cs ≡ true)
-    (sym (candidates-one s.candidates (record { tree = t; encoding = around.encoding; in_lambda = around.in_lambda; is_held = false })))
+    (sym (candidates-one s.candidates (record { tree = t; encoding = around.encoding; in_lambda = around.in_lambda; counted = by_all })))
     (has-among around.encoding t (components_of s.candidates ++ record { tree = t; encoding = around.encoding } ∷ [])
     (has-itself around.encoding t (components_of s.candidates)))

@@ -5,7 +5,7 @@ use Rattle.std.proofs.lemmas.Bool.{false≢true}
 use Rattle.cpp_grammar.specs.declared.kind.Kind.{Kind}
 use Rattle.cpp_grammar.specs.declared.production.Production.{Production}
 use Rattle.cpp_grammar.specs.Grammar.{kinds, number_of, number_of_kind, parts_of, is_chain}
-use Rattle.cpp_grammar.specs.Term.{Qualifiers, RefQualifier, any_value, lvalue_only, rvalue_only, Term, in_std, instance, local, parameter, string_literal}
+use Rattle.cpp_grammar.specs.Term.{Qualifiers, RefQualifier, any_value, lvalue_only, rvalue_only, explicit_object, Term, in_std, instance, local, parameter, string_literal}
 use Rattle.cpp_grammar.specs.Values as values
 use Rattle.cpp_grammar.specs.Values.{State, Prefix, outermost, Around, prefix_tree, prefix_listed, Value, nothing_there, tree, named, tree_of, piece_of, qualifiers_of, ref_of, letter_of, is_there, mark_of}
 use Rattle.cpp_grammar.specs.References.{is_function_type, parameter_named}
@@ -24,7 +24,7 @@ use Rattle.cpp_press_laws.specs.Components.{components_of}
 use Rattle.cpp_press_laws.specs.Pressing.{is_component, is_encoding}
 use Rattle.cpp_press_laws.proofs.Short.Size.{part_of, front_of, lettered, size, over, part, front-part, name-own, size-some}
 use Rattle.cpp_press_laws.proofs.Short.Worth.{full, full-most, worths}
-use Rattle.cpp_press_laws.proofs.Short.Gains.{wealth, IsSmall, AllSmall, front, name, arguments, class_of, typed, letters_in, need, lent, owed, loan, returned, grant, SmallPrefix, IsBehind, MayEnd, ready_for, Ready, IsKnown, IsKept, Gains, Gained, Grown, appended-grown, prefix-grown, KindGains}
+use Rattle.cpp_press_laws.proofs.Short.Gains.{wealth, IsSmall, AllSmall, front, name, arguments, class_of, typed, letters_in, need, lent, owed, loan, returned, grant, SmallPrefix, IsBehind, MayEnd, ready_for, Ready, IsKnown, IsKept, Gains, Gained, Grown, appended-grown, prefix-grown, KindGains, fronted, further}
 use Rattle.cpp_press_laws.proofs.Short.Paid.{Ended, comes-to}
 use Rattle.cpp_press_laws.proofs.Short.ByRow.{is_read, part_passes, parts_pass, cost_of, credit_of, Knows, all_quiet, refers, Pays, row_goes, is_listed_in, each_goes, one-goes, naming, closes-naming, named-first, by-row, may_read, may_be_part, Standing}
 use Rattle.cpp_press_laws.proofs.Short.Slots.{letters-short}
@@ -32,6 +32,7 @@ use Rattle.cpp_press_laws.proofs.Short.Types.{Free, listed}
 use Rattle.sym_core.specs.declared.refusal.Refusal.{Refusal}
 use Rattle.cpp_press_laws.proofs.ByKind.Rules.{OnGoing}
 use Rattle.cpp_press_laws.proofs.Fits.Solids.{parameter-names}
+use Rattle.cpp_grammar.proofs.Chosen.{either_cond}
 
 -- ## Names
 
@@ -74,11 +75,42 @@ applied-named around t w s mid old c b g eight scope other gw few = go gw.known
     go (inr some) = given-named around t w s mid old c b g some eight scope other gw few
 
 -- a name with one more piece
-extended-size : (prefix : Prefix) (p : Term) → SmallPrefix prefix → size (extended prefix p) ≤ 2 + lent prefix + size p
-unfolding extended size lent SmallPrefix
-extended-size outermost p small = omega arith
-extended-size (values.behind t true) p small = omega arith
-extended-size (values.behind t false) p small = omega (arith, front-part t (size t), small.0)
+extended-size : (prefix : Prefix) (p : Term) → size (extended prefix p) ≤ 2 + fronted prefix + size p
+unfolding extended size fronted
+extended-size outermost p = omega arith
+extended-size (values.behind t listed) p = omega arith
+
+part-most : (t : Term) → part t ≤ size t + 8
+unfolding part_of
+part-most t = either_cond (λ n. n ≤ size t + 8) (is_component t) 8 (size t) (λ h. omega arith) (λ h. omega arith)
+
+-- a name that is no candidate yet is left more
+fronted-lent : (prefix : Prefix) → fronted prefix ≤ lent prefix
+unfolding fronted lent
+fronted-lent outermost = omega arith
+fronted-lent (values.behind t true) = omega arith
+fronted-lent (values.behind t false) = omega (arith, front-part t (size t), part-most t)
+
+pub as-name : {p : Production} {granted : ℕ} → Free p further granted → Free p name granted
+unfolding need loan returned IsKnown IsKept
+as-name one around at old v new b ready small all o =
+    let g = one around at old v new b ready small all o in
+    record { few = omega (arith, g.few, fronted-lent around.prefix); known = g.known; kept = tt; small = g.small }
+
+-- where the name so far is a candidate
+abbrev listed_prefix : Prefix → Prefix
+listed_prefix outermost = outermost
+listed_prefix (values.behind t listed) = values.behind t true
+
+listed-lent : (prefix : Prefix) → lent (listed_prefix prefix) ≡ fronted prefix
+unfolding fronted lent
+listed-lent outermost = refl
+listed-lent (values.behind t listed) = refl
+
+as-further : (granted : ℕ) (around : Around) (v : Value) (old new : State) (b : ℕ)
+    → Gains name granted (record around { prefix = listed_prefix around.prefix }) v old new b → Gains further granted around v old new b
+unfolding need loan returned IsKnown IsKept
+as-further granted around v old new b g = record { few = omega (arith, g.few, listed-lent around.prefix); known = g.known; kept = tt; small = g.small }
 
 extended-part : (prefix : Prefix) (p : Term) → part (extended prefix p) ≡ 8
 unfolding extended part_of is_component
@@ -100,7 +132,7 @@ pub record NamePaid (p : Production) (granted : ℕ) (x : Sym) (around : Around)
   pub eight : part t ≡ 8
   pub scope : is_encoding t ≡ false
   pub other : is_function_type t ≡ false
-  pub few : size t + 9 + credit_of x around ≤ lent around.prefix + cost_of x around v s bytes + 8 * cond (is_chain p) 0 1 + granted
+  pub few : size t + 9 + credit_of x around ≤ fronted around.prefix + cost_of x around v s bytes + 8 * cond (is_chain p) 0 1 + granted
 
 abbrev NamePays : Production → (granted : ℕ) → Made → Sym → Type 0
 NamePays p granted m x =
@@ -112,7 +144,7 @@ named-by-row : (p : Production) (m : Made) (x : Sym) (second : Kind) (granted : 
     → parts_of p ≡ x ∷ OfKind (number_of_kind second) ∷ [] → part_passes (may_be_part true) x ≡ true → refers p ≡ false
     → ((prefix : Prefix) → Ready second prefix)
     → ((around : Around) (v : Value) (old new : State) (b : ℕ) → KindGains second around v old new b → Gains arguments 0 around v old new b)
-    → NamePays p granted m x → Free p name granted
+    → NamePays p granted m x → Free p further granted
 unfolding SmallPrefix after meant is_listing values.part tree_of
 named-by-row p m x second granted row parts is closed ready given_ pays around at old v new b here small all o =
     let n = named-first p m (a_name unlisted) x (OfKind (number_of_kind second)) row parts is around at o.inner old o.others small all o.paid in
@@ -121,10 +153,12 @@ named-by-row p m x second granted row parts is closed ready given_ pays around a
     let w = n.second in
     let g = given_ (after t false around) w.value n.after_it w.after w.own
     (w.gains second refl (ready (values.behind t false)) (omega (arith, paid.eight), paid.scope) n.first.small) in
-    comes-to (λ u s. Gains name granted around u old s b) o (tree t false ∷ w.value ∷ []) w.after (tree (applied t w.value) false) w.after w.onward.0
+    comes-to (λ u s. Gains further granted around u old s b) o (tree t false ∷ w.value ∷ []) w.after (tree (applied t w.value) false) w.after w.onward.0
     (closes-naming p m (a_name unlisted) row closed o.byte around at old (tree t false ∷ w.value ∷ []) w.after)
-    (applied-named around t w.value w.after n.after_it old w.own b granted paid.eight paid.scope paid.other g
-    (omega (arith, o.sum, n.sum, n.first.few, paid.few, w.sum, w.onward.1)))
+    (as-further granted around (tree (applied t w.value) false) old w.after b
+    (applied-named (record around { prefix = listed_prefix around.prefix }) t w.value w.after n.after_it old w.own b granted paid.eight paid.scope
+    paid.other g
+    (omega (arith, o.sum, n.sum, n.first.few, paid.few, w.sum, w.onward.1, listed-lent around.prefix))))
 
 -- a name that goes on
 going-by-row : (p : Production) (m : Made) (x : Sym) → row_of p ≡ naming m (handed 1)
@@ -139,7 +173,12 @@ going-by-row p m x row parts is closed pays around at old v new b here small all
     let g = w.gains Kind.NestRest refl paid.scope (omega (arith, paid.eight), paid.scope) n.first.small in
     comes-to (λ u s. Gains name 0 around u old s b) o (tree t false ∷ w.value ∷ []) w.after w.value w.after w.onward.0
     (closes-naming p m (handed 1) row closed o.byte around at old (tree t false ∷ w.value ∷ []) w.after)
-    (record { few = omega (arith, o.sum, n.sum, n.first.few, paid.few, g.few, w.sum, w.onward.1); known = g.known; kept = tt; small = g.small })
+    (record {
+      few = omega (arith, o.sum, n.sum, n.first.few, paid.few, g.few, w.sum, w.onward.1, fronted-lent around.prefix);
+      known = g.known;
+      kept = tt;
+      small = g.small;
+    })
 
 -- a piece after the name so far, or in std
 piece-paid : {p : Production} {granted : ℕ} {x : Sym} {around : Around} {v : Value} {s : State} {bytes : ℕ} (u : Term) → SmallPrefix around.prefix
@@ -149,52 +188,52 @@ piece-paid {around = around} u small few = record {
   eight = extended-part around.prefix u;
   scope = extended-scope around.prefix u;
   other = extended-other around.prefix u;
-  few = omega (arith, few, extended-size around.prefix u small);
+  few = omega (arith, few, extended-size around.prefix u);
 }
 
 in-std-paid : {p : Production} {granted : ℕ} {x : Sym} {around : Around} {v : Value} {s : State} {bytes : ℕ} (u : Term)
-    → 4 + size u + 9 + credit_of x around ≤ lent around.prefix + cost_of x around v s bytes + 8 * cond (is_chain p) 0 1 + granted
+    → 4 + size u + 9 + credit_of x around ≤ fronted around.prefix + cost_of x around v s bytes + 8 * cond (is_chain p) 0 1 + granted
     → NamePaid p granted x around v s bytes (in_std u)
 unfolding size part_of is_component is_encoding is_function_type
 in-std-paid u few = record { eight = refl; scope = refl; other = refl; few = omega (arith, few) }
 
-pub internal-name : Free Production.InternalName name 0
+pub internal-name : Free Production.InternalName further 0
 unfolding row_of kinds number_of_kind parts_of is_chain part_passes may_be_part may_read is_read class_of refers Ready ready_for grant Gained made built argument given truth_in bytes_in number_in tree_in all_given values.part cost_of credit_of Knows need loan returned letter_of size
 internal-name = named-by-row Production.InternalName _ _ Kind.MaybeArguments 0 refl refl refl refl (λ prefix. tt) (λ around v old new b g. g) (λ around v s n small k. piece-paid _ small (omega (arith, k.0, k.1, k.2)))
 
-pub source-name : Free Production.SourceName name 0
+pub source-name : Free Production.SourceName further 0
 unfolding row_of kinds number_of_kind parts_of is_chain part_passes may_be_part may_read is_read class_of refers Ready ready_for grant Gained made built argument given truth_in bytes_in number_in tree_in all_given values.part cost_of credit_of Knows need loan returned letter_of size
 source-name = named-by-row Production.SourceName _ _ Kind.MaybeArguments 0 refl refl refl refl (λ prefix. tt) (λ around v old new b g. g) (λ around v s n small k. piece-paid _ small (omega (arith, k.0, k.1, k.2)))
 
-pub local-type-name : Free Production.LocalTypeName name 0
+pub local-type-name : Free Production.LocalTypeName further 0
 unfolding row_of kinds number_of_kind parts_of is_chain part_passes may_be_part may_read is_read class_of refers Ready ready_for grant Gained made built argument given truth_in bytes_in number_in tree_in all_given values.part cost_of credit_of Knows need loan returned letter_of size
 local-type-name = named-by-row Production.LocalTypeName _ _ Kind.MaybeArguments 0 refl refl refl refl (λ prefix. tt) (λ around v old new b g. g) (λ around v s n small k. piece-paid _ small (omega (arith)))
 
-pub operator-name : Free Production.OperatorName name 0
+pub operator-name : Free Production.OperatorName further 0
 unfolding row_of kinds number_of_kind parts_of is_chain part_passes may_be_part may_read is_read class_of refers Ready ready_for grant Gained made built argument given truth_in bytes_in number_in tree_in all_given values.part cost_of credit_of Knows need loan returned letter_of size
 operator-name = named-by-row Production.OperatorName _ _ Kind.MaybeArguments 0 refl refl refl refl (λ prefix. tt) (λ around v old new b g. g) (λ around v s n small k. piece-paid _ small (omega (arith)))
 
-pub other-operator-name : Free Production.OtherOperatorName name 0
+pub other-operator-name : Free Production.OtherOperatorName further 0
 unfolding row_of kinds number_of_kind parts_of is_chain part_passes may_be_part may_read is_read class_of refers Ready ready_for grant Gained made built argument given truth_in bytes_in number_in tree_in all_given values.part cost_of credit_of Knows need loan returned letter_of size
 other-operator-name = named-by-row Production.OtherOperatorName _ _ Kind.MaybeArguments 0 refl refl refl refl (λ prefix. tt) (λ around v old new b g. g) (λ around v s n small k. piece-paid _ small (omega (arith)))
 
-pub operator-name-with-c : Free Production.OperatorNameWithC name 8
+pub operator-name-with-c : Free Production.OperatorNameWithC further 8
 unfolding row_of kinds number_of_kind parts_of is_chain part_passes may_be_part may_read is_read class_of refers Ready ready_for grant Gained made built argument given truth_in bytes_in number_in tree_in all_given values.part cost_of credit_of Knows need loan returned letter_of size
 operator-name-with-c = named-by-row Production.OperatorNameWithC _ _ Kind.MaybeArguments 8 refl refl refl refl (λ prefix. tt) (λ around v old new b g. g) (λ around v s n small k. piece-paid _ small (omega (arith)))
 
-pub constructor-name : Free Production.Constructor name 8
+pub constructor-name : Free Production.Constructor further 8
 unfolding row_of kinds number_of_kind parts_of is_chain part_passes may_be_part may_read is_read class_of refers Ready ready_for grant Gained made built argument given truth_in bytes_in number_in tree_in all_given values.part cost_of credit_of Knows need loan returned letter_of size
 constructor-name = named-by-row Production.Constructor _ _ Kind.MaybeArguments 8 refl refl refl refl (λ prefix. tt) (λ around v old new b g. g) (λ around v s n small k. piece-paid _ small (omega (arith)))
 
-pub destructor-name : Free Production.Destructor name 0
+pub destructor-name : Free Production.Destructor further 0
 unfolding row_of kinds number_of_kind parts_of is_chain part_passes may_be_part may_read is_read class_of refers Ready ready_for grant Gained made built argument given truth_in bytes_in number_in tree_in all_given values.part cost_of credit_of Knows need loan returned letter_of size
 destructor-name = named-by-row Production.Destructor _ _ Kind.MaybeArguments 0 refl refl refl refl (λ prefix. tt) (λ around v old new b g. g) (λ around v s n small k. piece-paid _ small (omega (arith)))
 
-pub std-name : Free Production.StdName name 0
+pub std-name : Free Production.StdName further 0
 unfolding row_of kinds number_of_kind parts_of is_chain part_passes may_be_part may_read is_read class_of refers Ready ready_for grant Gained made built argument given truth_in bytes_in number_in tree_in all_given values.part cost_of credit_of Knows need loan returned letter_of size
 std-name = named-by-row Production.StdName _ _ Kind.MaybeArguments 0 refl refl refl refl (λ prefix. tt) (λ around v old new b g. g) (λ around v s n small k. in-std-paid _ (omega (arith)))
 
-pub tagged-std-type : Free Production.TaggedStdType name 0
+pub tagged-std-type : Free Production.TaggedStdType further 0
 unfolding row_of kinds number_of_kind parts_of is_chain part_passes may_be_part may_read is_read class_of refers Ready ready_for grant Gained made built argument given truth_in bytes_in number_in tree_in all_given values.part cost_of credit_of Knows need loan returned letter_of size
 tagged-std-type = named-by-row Production.TaggedStdType _ _ Kind.MaybeTags 0 refl refl refl refl (λ prefix. tt) (λ around v old new b g. g) (λ around v s n small k. in-std-paid _ (omega (arith)))
 
@@ -273,24 +312,29 @@ Behind p =
     (around : Around) (at : ℕ) (old : State) (v : Value) (new : State) (b : ℕ) → IsBehind around.prefix → SmallPrefix around.prefix
     → AllSmall old.candidates → Ended p around at old v new b → Gains name 0 around v old new b
 
+fronted-tree : (p : Prefix) → IsBehind p → fronted p ≡ front (prefix_tree p)
+unfolding IsBehind fronted prefix_tree
+fronted-tree outermost behind = absurd behind
+fronted-tree (values.behind t listed) behind = refl
+
 pub nest-next : Behind Production.NestNext
 unfolding parts_of between is_chain close unfolding_.behind meaning values.part class_of grant Gained Ready ready_for need typed loan returned IsKnown IsKept tree_of named_so_far listed_so_far after SmallPrefix lent MayEnd
 nest-next around at old v new b behind small all o =
     let h = prefix-grown around old all small in
     let p0 = o.paid in
-    let g0 = p0.gains Kind.Component refl tt tt h.small in
+    let g0 = p0.gains Kind.Component refl tt small h.small in
     let p1 = p0.onward in
     let g1 = p1.gains Kind.NestTail refl g0.known.1 g0.known.0 g0.small in
     comes-to (λ w s. Gains name 0 around w old s b) o (p0.value ∷ p1.value ∷ []) p1.after p1.value p1.after p1.onward.0 refl
     (record {
-      few = omega (arith, o.sum, h.few, g0.few, p0.sum, g1.few, p1.sum, p1.onward.1, prefix-lent around.prefix behind small);
+      few = omega (arith, o.sum, h.few, g0.few, p0.sum, g1.few, p1.sum, p1.onward.1, prefix-lent around.prefix behind small, fronted-tree around.prefix behind);
       known = g1.known;
       kept = tt;
       small = g1.small;
     })
 
 pub nest-arguments : Behind Production.NestArguments
-unfolding parts_of between is_chain close unfolding_.behind meaning values.part class_of grant Gained Ready ready_for need typed loan returned IsKnown IsKept tree_of named_so_far listed_so_far after SmallPrefix lent MayEnd inside full over size part_of front_of is_component is_encoding is_function_type
+unfolding parts_of between is_chain close unfolding_.behind meaning values.part class_of grant Gained Ready ready_for need typed loan returned IsKnown IsKept tree_of named_so_far listed_so_far after SmallPrefix lent MayEnd inside full over size part_of front_of is_component is_encoding is_function_type fronted
 nest-arguments around at old v new b behind small all o =
     let h = prefix-grown around old all small in
     let p0 = o.paid in
@@ -300,10 +344,10 @@ nest-arguments around at old v new b behind small all o =
     let t : Term = instance (prefix_tree around.prefix) (no_items p0.value) in
     let j = appended-grown around t p1.after (subst (λ s. AllSmall s.candidates) (sym g1.0) g0.small) (omega arith, refl) in
     let p2 = p1.onward in
-    let g2 = p2.gains Kind.Component refl tt tt j.small in
+    let g2 = p2.gains Kind.Component refl tt (omega arith, refl) j.small in
     let p3 = p2.onward in
     let g3 = p3.gains Kind.NestTail refl g2.known.1 g2.known.0 g2.small in
-    comes-to (λ w s. Gains name 0 around w old s b) o (tree t true ∷ p1.value ∷ p2.value ∷ p3.value ∷ []) p3.after p3.value p3.after p3.onward.0 refl
+    comes-to (λ w s. Gains name 0 around w old s b) o (tree t false ∷ p1.value ∷ p2.value ∷ p3.value ∷ []) p3.after p3.value p3.after p3.onward.0 refl
     (record {
       few = omega (
         arith,
@@ -428,6 +472,7 @@ unfolding mark_letter
 ref-most any_value = omega arith
 ref-most lvalue_only = omega arith
 ref-most rvalue_only = omega arith
+ref-most explicit_object = omega arith
 
 lettered-most : (letters : List ℕ) → lettered letters ≤ length letters + 2
 unfolding lettered
@@ -441,15 +486,13 @@ letters-most q ref =
 
 -- Generated by tools/trees.py.
 unfoldable pub name_rows : List Production
-name_rows = Production.NestWithS ∷ Production.NestedType ∷ Production.NameWithS ∷ Production.AnyConstructor ∷ Production.ComponentWithC ∷ Production.NestedName ∷ []
+name_rows = Production.NestWithS ∷ Production.NestedType ∷ Production.NameWithS ∷ Production.NestedName ∷ []
 
 name-pays : (p : Production) → is_listed_in name_rows p ≡ true → Pays (Standing true) p name 0
 unfolding is_listed_in name_rows kinds number_of number_of_kind parts_of is_chain unfolding_.behind meaning values.part class_of grant cost_of credit_of Knows need loan returned IsKnown IsKept letters_in tree_of qualifiers_of ref_of
 name-pays Production.NestWithS is = λ byte around old idle small v s n k all b few. record { few = omega (arith, few); known = k; kept = tt; small = all }
 name-pays Production.NestedType is = λ byte around old idle small v s n k all b few. record { few = omega (arith, few); known = k; kept = tt; small = all }
 name-pays Production.NameWithS is = λ byte around old idle small v s n k all b few. record { few = omega (arith, few); known = k; kept = tt; small = all }
-name-pays Production.AnyConstructor is = λ byte around old idle small v s n k all b few. record { few = omega (arith, few); known = k; kept = tt; small = all }
-name-pays Production.ComponentWithC is = λ byte around old idle small v s n k all b few. record { few = omega (arith, few); known = k; kept = tt; small = all }
 name-pays Production.NestedName is = λ byte around old idle small r s0 n0 k0 w s1 n1 k1 c s2 n2 k2 m s3 n3 k3 v s n k all b few.
     record {
       few = omega (arith, few, letters-most (record { restrict = is_there r; volatile = is_there w; const = is_there c }) (mark_of m));
@@ -463,10 +506,24 @@ pub name-gains : (p : Production) → is_listed_in name_rows p ≡ true → Free
 unfolding is_listed_in each_goes row_goes all_quiet refers parts_pass part_passes is_read class_of kinds number_of number_of_kind parts_of row_of may_read may_be_part name_rows
 name-gains p is = by-row true p name 0 (one-goes (may_be_part true) name_rows p refl is) (name-pays p is)
 
+-- Generated by tools/trees.py.
+unfoldable pub further_rows : List Production
+further_rows = Production.AnyConstructor ∷ Production.ComponentWithC ∷ []
+
+further-pays : (p : Production) → is_listed_in further_rows p ≡ true → Pays (Standing true) p further 0
+unfolding is_listed_in further_rows kinds number_of number_of_kind parts_of is_chain unfolding_.behind meaning values.part class_of grant cost_of credit_of Knows need loan returned IsKnown IsKept letters_in tree_of qualifiers_of ref_of
+further-pays Production.AnyConstructor is = λ byte around old idle small v s n k all b few. record { few = omega (arith, few); known = k; kept = tt; small = all }
+further-pays Production.ComponentWithC is = λ byte around old idle small v s n k all b few. record { few = omega (arith, few); known = k; kept = tt; small = all }
+further-pays _ is = absurd (false≢true is)
+
+pub further-gains : (p : Production) → is_listed_in further_rows p ≡ true → Free p further 0
+unfolding is_listed_in each_goes row_goes all_quiet refers parts_pass part_passes is_read class_of kinds number_of number_of_kind parts_of row_of may_read may_be_part further_rows
+further-gains p is = by-row true p further 0 (one-goes (may_be_part true) further_rows p refl is) (further-pays p is)
+
 pub string-literal : Free Production.StringLiteral name 4
 unfolding kinds number_of_kind parts_of is_chain unfolding_.behind meaning row_of row_goes all_quiet refers parts_pass letters_in tree_of qualifiers_of ref_of name_letters qualifier_letters mark_letter lettered size need loan returned IsKnown IsKept
 string-literal = by-row true Production.StringLiteral name 4 refl (λ byte around old idle small all b few. record {
-  few = omega (arith, few, extended-size around.prefix string_literal small);
+  few = omega (arith, few, extended-size around.prefix string_literal, fronted-lent around.prefix);
   known = ((omega (arith, extended-part around.prefix string_literal), extended-scope around.prefix string_literal), extended-other around.prefix string_literal);
   kept = tt;
   small = all;

@@ -1,7 +1,7 @@
 -- How many bytes a tree takes where it is spelled out, if each component in it is a reference of eight bytes.
 use Rattle.std.proofs.Common.{ℕ, ◌+◌, ◌-◌, ◌≤◌, length, List, [], ◌∷◌, arith}
 use Rattle.std.specs.Prelude.{cond}
-use Rattle.cpp_grammar.specs.Term.{Term, symbol, function, object, special, thunk, of_name, construction, clone, alone, in_std, within, instance, local, holder, tagged, abbreviation, parameter, source, operator, literal_operator, constructor, destructor, lambda, unnamed, string_literal, conversion, builtin, sized_float, vendor, pointer, lvalue, rvalue, array, member_pointer, function_type, qualified, vector, complex, expansion, integer, boolean, null_pointer, encoding_literal, address_of, pack, list}
+use Rattle.cpp_grammar.specs.Term.{Term, symbol, function, object, special, thunk, of_name, construction, clone, alone, in_std, within, instance, local, holder, tagged, abbreviation, parameter, source, operator, literal_operator, constructor, destructor, lambda, unnamed, string_literal, conversion, builtin, sized_float, vendor, pointer, lvalue, rvalue, array, member_pointer, function_type, qualified, vector, complex, expansion, integer, boolean, null_pointer, encoding_literal, address_of, pack, list, generic_lambda}
 use Rattle.cpp_grammar.specs.References.{is_function_type}
 use Rattle.cpp_grammar.specs.Meaning.{is_nil}
 use Rattle.cpp_grammar.proofs.Chosen.{either_cond}
@@ -39,6 +39,7 @@ size (alone p) = size p
 size (in_std p) = 4 + size p
 size (within prefix p) = 2 + front_of prefix (size prefix) + size p
 size (instance template arguments) = 4 + part_of template (size template) + size arguments
+size (tagged of_structor name tag) = 3 + name_of name (size name) + length (counted tag)
 size (local e entity discriminator) = 4 + size e + name_of entity (size entity) + length (discriminator_text discriminator)
 size (function_type c_linkage noexcept ref returned parameters) = 6 + part_of returned (size returned) + with_void parameters (size parameters)
 size (list first rest) = part_of first (size first) + size rest
@@ -48,7 +49,6 @@ size (thunk kind e) = length (thunk_text kind) + size e
 size (construction derived digits parent) = 3 + part_of derived (size derived) + length digits + part_of parent (size parent)
 size (clone letter e) = 3 + size e
 size (holder name) = 1 + part_of name (size name)
-size (tagged of_structor name tag) = 1 + part_of name (size name) + length (counted tag)
 size (abbreviation l) = 2
 size (parameter k) = 1 + length (ordinal k)
 size (source internal name) = 1 + length (counted name)
@@ -57,6 +57,7 @@ size (literal_operator name) = 2 + length (counted name)
 size (constructor digit) = 2
 size (destructor digit) = 2
 size (lambda parameters k) = 3 + with_void parameters (size parameters) + length (ordinal (k - 1))
+size (generic_lambda parameters number) = 3 + with_void parameters (size parameters) + length (ordinal (number - 1))
 size (unnamed k) = 2 + length (ordinal (k - 1))
 size string_literal = 1
 size (conversion type) = 2 + part_of type (size type)

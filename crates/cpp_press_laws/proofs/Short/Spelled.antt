@@ -5,13 +5,14 @@ use Rattle.sym_spell.specs.Pressing as spell
 use Rattle.sym_spell.specs.Pressing.{◌and◌, text, nothing}
 use Rattle.sym_spell.specs.Digits.{digit36}
 use Rattle.sym_spell.proofs.DigitValues.{Divides, digits-count}
-use Rattle.cpp_grammar.specs.Term.{RefQualifier, any_value, lvalue_only, rvalue_only, Term, symbol, function, object, special, thunk, of_name, construction, clone, alone, in_std, within, instance, local, holder, tagged, of_default, abbreviation, parameter, source, operator, literal_operator, constructor, destructor, inheriting, lambda, generic_lambda, unnamed, string_literal, conversion, builtin, sized_float, constrained, vendor, pointer, lvalue, rvalue, array, bounded, member_pointer, function_type, qualified, vector, complex, decltype, expansion, integer, boolean, null_pointer, encoding_literal, address_of, operation, function_parameter, pack, nil, list, absent}
+use Rattle.cpp_grammar.specs.Term.{RefQualifier, any_value, lvalue_only, rvalue_only, explicit_object, Term, symbol, function, object, special, thunk, of_name, construction, clone, alone, in_std, within, instance, local, holder, tagged, of_default, abbreviation, parameter, source, operator, literal_operator, constructor, destructor, inheriting, lambda, generic_lambda, unnamed, string_literal, conversion, builtin, sized_float, constrained, vendor, pointer, lvalue, rvalue, array, bounded, member_pointer, function_type, qualified, vector, complex, decltype, expansion, integer, boolean, null_pointer, encoding_literal, address_of, operation, function_parameter, pack, nil, list, absent}
 use Rattle.cpp_grammar.specs.References.{is_function_type}
 use Rattle.cpp_grammar.specs.Meaning.{is_nil}
+use Rattle.cpp_grammar.specs.Scope.{without_tags}
 use Rattle.cpp_grammar.proofs.Chosen.{either}
 use Rattle.cpp_press_laws.specs.Texts.{counted, ordinal, signed_text, qualifier_letters, mark_letter, name_letters, special_code, thunk_text, discriminator_text}
 use Rattle.cpp_press_laws.specs.Components.{Component, first_equal, is_same, seq_id}
-use Rattle.cpp_press_laws.specs.Pressing.{is_component, is_name, is_operator, is_one_piece, is_encoding}
+use Rattle.cpp_press_laws.specs.Pressing.{is_component, is_name, is_operator, is_nested, is_one_piece, is_encoding}
 use Rattle.cpp_press_laws.specs.MarkedComponents.{Marked, unmarked, Spelling, ended, reference, referred, component}
 use Rattle.cpp_press_laws.specs.MarkedPressing.{Ways, no_ways, type_ways, function_text, in_N_and_E, with_letters, name_ways, template_before, entity_text, local_text, begun, encoding_ways, piece_ways, argument_ways, ways_of}
 use Rattle.cpp_press_laws.proofs.Ways as way
@@ -406,6 +407,23 @@ within-all n prefix p one two =
     (less (2 + k) (size (within prefix p)) b (omega arith) most) (less (2 + k) (size (within prefix p)) b (omega arith) most)
     (λ in_type arguments l third. template-short n l (within prefix p) true b arguments (less (2 + k) (size (within prefix p)) b (omega arith) most) third)
 
+tagged-all : (n : ℕ) (of_structor : Bool) (name : Term) (tag : List ℕ) → AllShort name (ways_of n name)
+    → AllShort (tagged of_structor name tag) (ways_of n (tagged of_structor name tag))
+unfolding ways_of size part_of bare_of front_of name_of is_component is_name is_function_type is_encoding
+tagged-all n of_structor name tag one =
+    let t : Term = tagged of_structor name tag in
+    let needs_N : Bool = is_nested (without_tags name) in
+    let bytes : List ℕ = codes "B" ++ counted tag in
+    let b : Spelling = (ways_of n name).between_N_and_E and text bytes in
+    let k : ℕ = name_of name (size name) + length bytes in
+    let between : Short k b = before-text (name_of name (size name)) k (ways_of n name).between_N_and_E bytes (omega arith) (one way.between_N_and_E) in
+    let most : Short (size t) b = less k (size t) b (omega arith) between in
+    let whole : Spelling = elim needs_N as (λ _. Spelling) [ true ↦ in_N_and_E [] b | false ↦ b ] in
+    let spelled : Short (size t) whole =
+    either (Short (size t)) needs_N (in_N_and_E [] b) b (λ h. nested-short k (size t) [] b (omega arith) between) (λ h. most) in
+    named-all n t whole whole b b (λ in_type arguments. template_before n t needs_N b arguments) refl refl refl refl spelled spelled most most
+    (λ in_type arguments l third. template-short n l t needs_N b arguments most third)
+
 -- ## Trees
 
 ref-short : (ref : RefQualifier) → length (mark_letter ref ++ codes "E") ≤ 2
@@ -413,6 +431,7 @@ unfolding mark_letter
 ref-short any_value = omega arith
 ref-short lvalue_only = omega arith
 ref-short rvalue_only = omega arith
+ref-short explicit_object = omega arith
 
 marks-short : (c_linkage noexcept : Bool) → length (cond noexcept (codes "Do") [] ++ codes "F" ++ cond c_linkage (codes "Y") []) ≤ 4
 marks-short true true = omega arith
@@ -458,6 +477,7 @@ all-short (in_std p) n = std-all n p (all-short p n)
 all-short (within prefix p) n = within-all n prefix p (all-short prefix n) (all-short p n)
 all-short (instance template arguments) n = instance-all n template arguments (all-short template n) (all-short arguments n)
 all-short (local e entity discriminator) n = local-all n e entity discriminator (all-short e) (all-short entity n)
+all-short (tagged of_structor name tag) n = tagged-all n of_structor name tag (all-short name n)
 all-short (function_type c_linkage noexcept ref returned parameters) n =
     function-type-all n (function_type c_linkage noexcept ref returned parameters) _ refl refl refl
     (function-short c_linkage noexcept ref (part returned) (with_void parameters (size parameters)) (ways_of n returned).as_type (ways_of n parameters).as_parameters
@@ -476,7 +496,6 @@ all-short (thunk kind e) n = encoding-all (thunk kind e) _ (λ here. behind-text
 all-short (construction derived digits parent) n = encoding-all (construction derived digits parent) _ (λ here. behind-text (1 + part_of derived (size derived) + length digits + part_of parent (size parent)) (size (construction derived digits parent)) (codes "TC") ((ways_of here derived).as_type and text (digits ++ codes "_") and (ways_of here parent).as_type) (omega arith) (and-within (part_of derived (size derived)) (1 + length digits + part_of parent (size parent)) (1 + part_of derived (size derived) + length digits + part_of parent (size parent)) (ways_of here derived).as_type (text (digits ++ codes "_") and (ways_of here parent).as_type) (omega arith) (all-short derived here way.as_type) (behind-text (part_of parent (size parent)) (1 + length digits + part_of parent (size parent)) (digits ++ codes "_") ((ways_of here parent).as_type) (omega (arith, length-append digits (codes "_"))) (all-short parent here way.as_type))))
 all-short (clone letter e) n = encoding-all (clone letter e) _ (λ here. behind-text (1 + size e) (size (clone letter e)) (codes "GT") (text (letter ∷ []) and (ways_of here e).as_encoding) (omega arith) (behind-text (size e) (1 + size e) (letter ∷ []) ((ways_of here e).as_encoding) (omega arith) (all-short e here way.as_encoding)))
 all-short (holder name) n = prefix-all (holder name) _ (before-text (front_of name (size name)) (size (holder name)) (ways_of n name).as_prefix (codes "M") (omega (arith, front-part name (size name))) (all-short name n way.as_prefix))
-all-short (tagged of_structor name tag) n = typed-all n (tagged of_structor name tag) _ refl refl refl (before-text (part_of name (size name)) (size (tagged of_structor name tag)) (ways_of n name).as_type (codes "B" ++ counted tag) (omega arith) (all-short name n way.as_type))
 all-short (of_default digits entity) n = none-all (of_default digits entity)
 all-short (abbreviation l) n = spelled-all (abbreviation l) (text (codes "S" ++ l ∷ [])) 2 (bytes-short 2 (codes "S" ++ l ∷ []) (omega arith)) (omega arith) (omega arith) (omega arith)
 all-short (parameter k) n = typed-all n (parameter k) _ refl refl refl (bytes-short (size (parameter k)) (codes "T" ++ ordinal k) (omega arith))
@@ -487,7 +506,7 @@ all-short (constructor digit) n = piece-all (constructor digit) _ (bytes-short (
 all-short (destructor digit) n = piece-all (destructor digit) _ (bytes-short (size (destructor digit)) (codes "D" ++ digit ∷ []) (omega arith))
 all-short (inheriting digit class) n = none-all (inheriting digit class)
 all-short (lambda parameters k) n = piece-all (lambda parameters k) _ (behind-text (1 + with_void parameters (size parameters) + length (ordinal (k - 1))) (size (lambda parameters k)) (codes "Ul") ((ways_of n parameters).as_parameters and text (codes "E" ++ ordinal (k - 1))) (omega arith) (before-text (with_void parameters (size parameters)) (1 + with_void parameters (size parameters) + length (ordinal (k - 1))) (ways_of n parameters).as_parameters (codes "E" ++ ordinal (k - 1)) (omega arith) (all-short parameters n way.as_parameters)))
-all-short (generic_lambda parameters number) n = none-all (generic_lambda parameters number)
+all-short (generic_lambda parameters number) n = piece-all (generic_lambda parameters number) _ (behind-text (1 + with_void parameters (size parameters) + length (ordinal (number - 1))) (size (generic_lambda parameters number)) (codes "Ul") (begun (λ here. (ways_of here parameters).as_parameters) and text (codes "E" ++ ordinal (number - 1))) (omega arith) (before-text (with_void parameters (size parameters)) (1 + with_void parameters (size parameters) + length (ordinal (number - 1))) (begun (λ here. (ways_of here parameters).as_parameters)) (codes "E" ++ ordinal (number - 1)) (omega arith) (begun-short (with_void parameters (size parameters)) _ (λ here. all-short parameters here way.as_parameters))))
 all-short (unnamed k) n = piece-all (unnamed k) _ (bytes-short (size (unnamed k)) (codes "Ut" ++ ordinal (k - 1)) (omega arith))
 all-short string_literal n = piece-all string_literal _ (bytes-short (size string_literal) (codes "s") (omega arith))
 all-short (conversion type) n = piece-all (conversion type) _ (behind-text (part_of type (size type)) (size (conversion type)) (codes "cv") ((ways_of n type).as_type) (omega arith) (all-short type n way.as_type))

@@ -19,11 +19,11 @@ likeness-is y ns node e number b same is =
 pub returns-then-is_open : goal.returns-then-is_open
 returns-then-is_open c =
     let y = c.args.symbol.now in
-    likeness-is y c.args.numbering.now c.args.node c.args.encoding c.number_of-number.result true c.number_of-number.ensures.number
+    likeness-is y c.args.firsts.now c.args.node c.args.encoding c.first_node-number.result true c.first_node-number.ensures.number
     (sym c.if-is_open.true ∙ c.is_open.ensures ∙ ap (λ e. has_free (free_is e.free)) c.entry.ensures ∙ node-open (table_of y) c.args.node c.requires.table c.requires.node ∙ open-erased (tree_at (trees (table_of y)) c.args.node))
 
 pub returns-else-is_open : goal.returns-else-is_open
 returns-else-is_open c =
     let y = c.args.symbol.now in
-    likeness-is y c.args.numbering.now c.args.node c.args.encoding c.number_of-number.result false c.number_of-number.ensures.number
+    likeness-is y c.args.firsts.now c.args.node c.args.encoding c.first_node-number.result false c.first_node-number.ensures.number
     (sym c.if-is_open.false ∙ c.is_open.ensures ∙ ap (λ e. has_free (free_is e.free)) c.entry.ensures ∙ node-open (table_of y) c.args.node c.requires.table c.requires.node ∙ open-erased (tree_at (trees (table_of y)) c.args.node))

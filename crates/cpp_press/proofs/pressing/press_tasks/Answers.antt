@@ -1,5 +1,4 @@
 use Rattle.std.proofs.Common.{◌≡◌, refl, rules, length, ap, arith, sym, subst, ◌∙◌}
-use Rattle.std.specs.BTreeMap.{get}
 use Rattle.cpp_spelling.specs.declared.task.Task.{Task}
 use Rattle.cpp_spelling.specs.declared.task.Way.{Way}
 use Rattle.cpp_spelling.specs.Bytes.{text_bytes}
@@ -7,7 +6,7 @@ use Rattle.cpp_spelling.specs.Tasks.{◌onto◌, in_way, press_task, press_tasks
 use Rattle.cpp_layout.specs.Layout.{whole_of}
 use Rattle.cpp_press_laws.specs.Short.{IsShort}
 use Rattle.cpp_press_laws.proofs.Short.Law.{pressed-short}
-use Rattle.cpp_press.specs.Places.{likeness_cmp, noted}
+use Rattle.cpp_press.specs.Places.{known_in, noted}
 use Rattle.cpp_spelling.specs.Standings.{standing_of, template_standing_of}
 use Rattle.cpp_press.proofs.Going.{popped, task-there, weight-there, changed-goes, text-goes, ended-goes, first-goes, last-goes, last-few}
 use Rattle.cpp_press.proofs.pressing.press_tasks.Goals as goal
@@ -74,47 +73,47 @@ then_tree-requires-clause-tasks c = subst (AreTasks c.args.symbol.now) (sym c.in
 pub tasks-init : goal.tasks-init
 tasks-init c =
     let y = c.args.symbol.now in (
-      first-goes c.new-components.ensures.first c.new-components.ensures.count c.then_tree.ensures.tasks
+      first-goes c.in_ok-components.ensures.first c.in_ok-components.ensures.count c.then_tree.ensures.tasks
           (c.then_tree.ensures.presses ∙ ap (λ n. in_way 0 Way.Encoding (plain_at y n) onto press_tasks y c.in_ok-tasks.tasks.items) c.root_node.ensures.root
           ∙ ap (λ l. in_way 0 Way.Encoding (plain_at y y.root) onto press_tasks y l) c.in_ok-tasks.ensures.items)
           c.in_ok-out.ensures.items,
-      c.requires.numbers,
+      c.requires.firsts,
     )
 
-pub tasks-smaller-in-Continue-branch-3 : goal.tasks-smaller-in-Continue-branch-3
-tasks-smaller-in-Continue-branch-3 c =
+pub tasks-smaller-in-Continue-branch-4 : goal.tasks-smaller-in-Continue-branch-4
+tasks-smaller-in-Continue-branch-4 c =
     omega (arith, weight-there c.args.symbol.now (popped c.pop.new.self.items c.pop.ensures.items c.in-Some.is c.in-Text.is))
 
-pub tasks-preserved-in-Continue-branch-3 : goal.tasks-preserved-in-Continue-branch-3
-tasks-preserved-in-Continue-branch-3 c = (
+pub tasks-preserved-in-Continue-branch-4 : goal.tasks-preserved-in-Continue-branch-4
+tasks-preserved-in-Continue-branch-4 c = (
   text-goes (text_bytes c.args.symbol.now c.in-Text.text) (Task.Text c.in-Text.text) c.tasks.invariant.0
       (popped c.pop.new.self.items c.pop.ensures.items c.in-Some.is c.in-Text.is) refl c.in_ok-push_text-in-Text.ensures.text,
   c.tasks.invariant.1,
 )
 
-pub tasks-smaller-in-Continue-branch-4 : goal.tasks-smaller-in-Continue-branch-4
-tasks-smaller-in-Continue-branch-4 c =
+pub tasks-smaller-in-Continue-branch-5 : goal.tasks-smaller-in-Continue-branch-5
+tasks-smaller-in-Continue-branch-5 c =
     omega (arith, weight-there c.args.symbol.now (popped c.pop.new.self.items c.pop.ensures.items c.in-Some.is c.in-Ended.is))
 
-pub tasks-preserved-in-Continue-branch-4 : goal.tasks-preserved-in-Continue-branch-4
-tasks-preserved-in-Continue-branch-4 c = (
+pub tasks-preserved-in-Continue-branch-5 : goal.tasks-preserved-in-Continue-branch-5
+tasks-preserved-in-Continue-branch-5 c = (
   ended-goes c.in-Ended.node c.in-Ended.encoding c.tasks.invariant.1 c.tasks.invariant.0
       (popped c.pop.new.self.items c.pop.ensures.items c.in-Some.is c.in-Ended.is)
-      (λ q. c.in_ok-push-in-Ended.ensures.first q ∙ ap (λ l. noted (get likeness_cmp c.tasks.components.first) l c.tasks.components.count q) c.likeness_of.ensures)
+      (λ q. c.in_ok-push-in-Ended.ensures.first q ∙ ap (λ l. noted (known_in c.tasks.components) l c.tasks.components.count q) c.likeness_of.ensures)
       c.in_ok-push-in-Ended.ensures.count,
   c.tasks.invariant.1,
 )
 
-pub tasks-smaller-in-Continue-branch-5 : goal.tasks-smaller-in-Continue-branch-5
-tasks-smaller-in-Continue-branch-5 c =
+pub tasks-smaller-in-Continue-branch-6 : goal.tasks-smaller-in-Continue-branch-6
+tasks-smaller-in-Continue-branch-6 c =
     omega (
       arith,
       weight-there c.args.symbol.now (popped c.pop.new.self.items c.pop.ensures.items c.in-Some.is c.in-Template.is),
       c.in_ok-step_template-in-Template.ensures.weight,
     )
 
-pub tasks-preserved-in-Continue-branch-5 : goal.tasks-preserved-in-Continue-branch-5
-tasks-preserved-in-Continue-branch-5 c =
+pub tasks-preserved-in-Continue-branch-6 : goal.tasks-preserved-in-Continue-branch-6
+tasks-preserved-in-Continue-branch-6 c =
     let top = popped c.pop.new.self.items c.pop.ensures.items c.in-Some.is c.in-Template.is in
     let there = task-there c.tasks.invariant.0 top in (
       changed-goes c.tasks.invariant.0 top c.in_ok-step_template-in-Template.ensures.tasks

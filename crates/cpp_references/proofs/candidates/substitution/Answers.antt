@@ -16,11 +16,11 @@ substituted-requires-clause-there c =
     subst (λ o. IfSome o (λ d. d.node < length c.args.nodes.now.nodes)) (sym c.named-candidate.ensures) (candidate_there _ c.args.candidates.now k c.requires.there)
 
 pub returns-clause-is : goal.returns-clause-is
-returns-clause-is c cs =
+returns-clause-is c state =
     let ts = trees_in c.args.symbol.now c.args.nodes.now in
     let around : Around = around_of ts c.args.kept in
-    let state : State = record { candidates = cs; packs = c.args.packs } in
+    let before : State = record state { packs = c.args.packs } in
     let k : ℕ = counted_value Seq36 (bytes_at c.args.symbol.now c.args.digits) in
-    ap (λ o. substituted around (c.args.place - 1) o state) (sym (ap (λ o. maybe_candidate ts o) c.named-candidate.ensures ∙ candidate_at ts c.args.candidates.now k))
-    ∙ ap (λ n. substituted around n (maybe_candidate ts c.named-candidate.result) state) (sym c.saturating_sub.ensures)
-    ∙ c.substituted.ensures.is cs
+    ap (λ o. substituted around (c.args.place - 1) o before) (sym (ap (λ o. maybe_candidate ts o) c.named-candidate.ensures ∙ candidate_at ts c.args.candidates.now k))
+    ∙ ap (λ n. substituted around n (maybe_candidate ts c.named-candidate.result) before) (sym c.saturating_sub.ensures)
+    ∙ c.substituted.ensures.is state

@@ -5,6 +5,7 @@ use Rattle.sym_core.specs.Value.{counted_value}
 use Rattle.sym_core.specs.declared.NumberKind.TheVariants.{Decimal}
 use Rattle.cpp_term.specs.Term.{Term, parameter}
 use Rattle.cpp_term.specs.Scope.{count, element, length_if_pack}
+use Rattle.cpp_grammar.specs.Values.{nothing_counted}
 use Rattle.cpp_term.specs.Values.{Around, State}
 use Rattle.cpp_term.specs.References.{appended, with_packs}
 use Rattle.cpp_tree.specs.Nodes.{tree_at, bytes_at, tree_if_there, tree_of}
@@ -16,13 +17,13 @@ use Rattle.cpp_references.proofs.parameters.named_parameter.Goals as goal
 
 pub returns-in_default-clause-is : goal.returns-in_default-clause-is
 unfolding around_of tree_if_there parameter_read
-returns-in_default-clause-is c cs =
+returns-in_default-clause-is c state =
     no_scope (around_of (trees_in c.args.symbol.now c.args.nodes.now) c.args.kept) c.args.place _ _
     (ap (λ o. tree_if_there (trees_in c.args.symbol.now c.args.nodes.now) o) (sym c.in_scope.ensures ∙ c.in_default.is))
 
 pub returns-in_default-below-clause-is : goal.returns-in_default-below-clause-is
 unfolding around_of tree_if_there parameter_read
-returns-in_default-below-clause-is c cs =
+returns-in_default-below-clause-is c state =
     let ts = trees_in c.args.symbol.now c.args.nodes.now in
     let k : ℕ = counted_value Decimal (bytes_at c.args.symbol.now c.args.digits) in
     let past : c.count-count.result ≤ k = subst (λ o. MatchOption o (c.count-count.result ≤ k) (λ n. (n ≡ k) × (n < c.count-count.result))) c.in_default-below.is (c.below.ensures k c.value10-counted.ensures) in
@@ -31,7 +32,7 @@ returns-in_default-below-clause-is c cs =
 
 pub returns-in-Ok-clause-is : goal.returns-in-Ok-clause-is
 unfolding around_of tree_if_there packs_read parameter_read tree_of
-returns-in-Ok-clause-is c cs =
+returns-in-Ok-clause-is c state =
     let ts = trees_in c.args.symbol.now c.args.nodes.now in
     let a : Term = tree_at ts c.in-Some.scope in
     let k : ℕ = counted_value Decimal (bytes_at c.args.symbol.now c.args.digits) in
@@ -40,12 +41,12 @@ returns-in-Ok-clause-is c cs =
     subst (λ o. MatchOption o (c.count-count.result ≤ k) (λ n. (n ≡ k) × (n < c.count-count.result))) c.in-Some-below.is (c.below.ensures k c.value10-counted.ensures) in
     let argument : tree_at ts c.argument-argument.result ≡ element a k = c.argument-argument.ensures.tree ∙ ap (λ n. element a n) found.0 in
     let own : c.length_if_pack-own.result ≡ length_if_pack (element a k) = c.length_if_pack-own.ensures ∙ ap length_if_pack argument in
-    let before : State = record { candidates = cs; packs = c.args.packs } in
-    let then : State = record { candidates = cs; packs = c.in-Ok.packs } in
+    let before : State = record state { packs = c.args.packs } in
+    let then : State = record state { packs = c.in-Ok.packs } in
     let same : parameter k (element a k) ≡ parameter c.in-Some-below.number (tree_at ts c.argument-argument.result) = rw (argument, found.0) refl in
     in_scope around c.args.place k before a (Ok then) (ap (λ o. tree_if_there ts o) (sym c.in_scope.ensures ∙ c.in-Some.is))
     (lt-ltb k (count a) (omega (arith, found.0, found.1, c.count-count.ensures)))
-    (ap (λ o. with_packs c.args.place around.in_expansion o before) (sym own) ∙ c.in-Ok.ensures.is cs)
+    (ap (λ o. with_packs c.args.place around.in_expansion o before) (sym own) ∙ c.in-Ok.ensures.is state)
     ∙ ap (λ t. Ok (appended around t then)) same
 
 pub returns-in-Ok-clause-tree : goal.returns-in-Ok-clause-tree
@@ -59,11 +60,11 @@ returns-in-Ok-clause-tree c =
     subst (λ o. MatchOption o (c.count-count.result ≤ k) (λ n. (n ≡ k) × (n < c.count-count.result))) c.in-Some-below.is (c.below.ensures k c.value10-counted.ensures) in
     let argument : tree_at ts c.argument-argument.result ≡ element a k = c.argument-argument.ensures.tree ∙ ap (λ n. element a n) found.0 in
     let same : parameter c.in-Some-below.number (tree_at ts c.argument-argument.result) ≡ parameter k (element a k) = rw (argument, found.0) refl in
-    same ∙ ap (parameter k) (sym (argument_in_scope around c.args.place k (record { candidates = []; packs = c.args.packs }) a (ap (λ o. tree_if_there ts o) (sym c.in_scope.ensures ∙ c.in-Some.is))))
+    same ∙ ap (parameter k) (sym (argument_in_scope around c.args.place k (record { candidates = []; packs = c.args.packs; counting = nothing_counted }) a (ap (λ o. tree_if_there ts o) (sym c.in_scope.ensures ∙ c.in-Some.is))))
 
 pub returns-in-Err-clause-is : goal.returns-in-Err-clause-is
 unfolding around_of tree_if_there packs_read parameter_read
-returns-in-Err-clause-is c cs =
+returns-in-Err-clause-is c state =
     let ts = trees_in c.args.symbol.now c.args.nodes.now in
     let a : Term = tree_at ts c.in-Some.scope in
     let k : ℕ = counted_value Decimal (bytes_at c.args.symbol.now c.args.digits) in
@@ -72,10 +73,10 @@ returns-in-Err-clause-is c cs =
     subst (λ o. MatchOption o (c.count-count.result ≤ k) (λ n. (n ≡ k) × (n < c.count-count.result))) c.in-Some-below.is (c.below.ensures k c.value10-counted.ensures) in
     let argument : tree_at ts c.argument-argument.result ≡ element a k = c.argument-argument.ensures.tree ∙ ap (λ n. element a n) found.0 in
     let own : c.length_if_pack-own.result ≡ length_if_pack (element a k) = c.length_if_pack-own.ensures ∙ ap length_if_pack argument in
-    let before : State = record { candidates = cs; packs = c.args.packs } in
+    let before : State = record state { packs = c.args.packs } in
     in_scope around c.args.place k before a (Err c.in-Err.e) (ap (λ o. tree_if_there ts o) (sym c.in_scope.ensures ∙ c.in-Some.is))
     (lt-ltb k (count a) (omega (arith, found.0, found.1, c.count-count.ensures)))
-    (ap (λ o. with_packs c.args.place around.in_expansion o before) (sym own) ∙ c.in-Err.ensures.is cs)
+    (ap (λ o. with_packs c.args.place around.in_expansion o before) (sym own) ∙ c.in-Err.ensures.is state)
 
 pub argument-argument-requires-clause-closed : goal.argument-argument-requires-clause-closed
 unfolding around_of tree_if_there

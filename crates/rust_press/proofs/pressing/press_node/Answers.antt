@@ -19,9 +19,9 @@ returns-clause-step c =
     let is : is_component (fields_at y c.args.node).production ≡ c.is_component.result = sym (ap is_component c.node-view.ensures.fields.production) ∙ sym c.is_component.ensures in
     elim c.if-is_component.branch [
       | then-is_component+in_default+in_ok-push w ↦
-          (let n = number_at c.args.numbering.now c.args.node in
+          (let n = number_at c.args.firsts.now c.args.node in
           let none : slice_get c.args.places.now n ≡ Some None =
-          none-there c.args.places.now n w.number_of-number.result w.number_of-number.ensures.number c.requires.places (get_or c.args.places.now w.number_of-number.result None) refl w.in_default.not-Some in
+          none-there c.args.places.now n w.first_of-number.result w.first_of-number.ensures.number c.requires.places (get_or c.args.places.now w.first_of-number.result None) refl w.in_default.not-Some in
           let moved = subst (λ v. IsSpelled y c.args.node v.items c.args.out.now.items c.push_parts.new.tasks.items c.push_front.new.out.items) w.tasks-is spelled in
           let pushed = subst (λ l. IsSpelled y c.args.node l c.args.out.now.items c.push_parts.new.tasks.items c.push_front.new.out.items) w.in_ok-push.ensures.items moved in
           inl (

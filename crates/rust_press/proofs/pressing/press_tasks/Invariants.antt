@@ -1,10 +1,10 @@
 use Rattle.rust_tree.specs.Layout.{trees_of}
-use Rattle.rust_press.specs.Numbers.{AreNumbers}
+use Rattle.rust_press.specs.Numbers.{AreFirst}
 use Rattle.rust_press.specs.Tasks.{Goes, weight_of_tasks, press_root}
 use Rattle.rust_press.proofs.pressing.press_tasks.Given as goal
 
 abbrev pub invariant-tasks : goal.invariant-tasks
-invariant-tasks l = Goes l.symbol l.numbering (press_root l.symbol) l.tasks.items l.places.items l.out.items × AreNumbers (trees_of l.symbol) l.numbering
+invariant-tasks l = Goes l.symbol l.firsts (press_root l.symbol) l.tasks.items l.places.items l.out.items × AreFirst (trees_of l.symbol) l.firsts
 
 abbrev pub decreases-tasks : goal.decreases-tasks
 decreases-tasks l = weight_of_tasks l.symbol l.tasks.items

@@ -1,6 +1,8 @@
-use Rattle.std.proofs.Common.{refl, sym, ◌∙◌, ap, subst, length}
+use Rattle.std.proofs.Common.{sym, ◌∙◌, ap, subst, length}
 use Rattle.std.specs.Prelude.{slice_index}
+use Rattle.cpp_references.specs.Around.{counted_of}
 use Rattle.cpp_link.specs.declared.linked.Linked.{Linked}
+use Rattle.cpp_link.specs.Making.{state_of}
 use Rattle.cpp_link.specs.LinkReading.{link_meaning}
 use Rattle.cpp_link.specs.Parts.{trees_in, values_in, around_of, AreCandidatesThere}
 use Rattle.cpp_link.specs.Staying.{around_stays, values_stay, candidates_more}
@@ -24,13 +26,16 @@ after_rule-after-requires-clause-value c =
 
 pub append-requires-clause-there : goal.append-requires-clause-there
 append-requires-clause-there c =
-    subst (λ v. AreCandidatesThere (length c.add_node.new.self.nodes.nodes) v.items) (sym c.in_ok-made.ensures.candidates)
-    (candidates_more _ _ c.args.self.now.candidates.items c.in_ok-made.ensures.grows.least c.requires.whole.there)
+    subst (λ v. AreCandidatesThere (length c.add_node.new.self.nodes.nodes) v) (sym c.in_ok-made.ensures.candidates)
+    (candidates_more _ _ c.args.self.now.candidates c.in_ok-made.ensures.grows.least c.requires.whole.there)
 
 pub returns-clause-state : goal.returns-clause-state
+unfolding counted_of
 returns-clause-state c began same =
-    let last : Linked = record { nodes = c.append.new.self.nodes; candidates = c.append.new.self.candidates; packs = c.after_rule-after.result.packs } in
-    state_behind c.args.symbol.now c.args.self.now c.add_node.new.self last c.args.production (slice_index c.args.symbol.now c.args.place) c.args.kept c.args.parts.now
+    let s = c.args.symbol.now in
+    let mid = c.add_node.new.self in
+    let last : Linked = record c.append.new.self { packs = c.after_rule-after.result.packs } in
+    state_behind s c.args.self.now mid last c.args.production (slice_index s c.args.place) c.args.kept c.args.parts.now
     c.after_rule-after.result.candidate c.after_rule-after.result.packs began c.in_ok-made.ensures.grows.stays c.requires.kept c.requires.there c.requires.whole.there
-    c.in_ok-made.ensures.candidates c.in_ok-made.ensures.packs (λ cs. c.after_rule-after.ensures.is began cs same) (c.in_ok-append.ensures.is c.after_rule-after.result.packs)
-    c.append.ensures.nodes refl
+    c.in_ok-made.ensures.candidates c.in_ok-made.ensures.packs c.in_ok-made.ensures.counting (λ state. c.after_rule-after.ensures.is began state same)
+    (rw (c.append.ensures.nodes, c.append.ensures.counting) (c.in_ok-append.ensures.is (record (state_of s mid) { packs = c.after_rule-after.result.packs })))

@@ -1,5 +1,6 @@
 use Rattle.std.proofs.Common.{sym, ◌∙◌, ap, true, false}
-use Rattle.cpp_term.specs.Rescoping.{with_held}
+use Rattle.cpp_grammar.specs.Values.{by_gcc}
+use Rattle.cpp_term.specs.References.{appended_by}
 use Rattle.cpp_term.specs.Values.{State, tree_of}
 use Rattle.cpp_link.specs.Parts.{trees_in, value_in}
 use Rattle.cpp_link.specs.Reads.{with_candidate}
@@ -12,13 +13,13 @@ returns-then-is_listed-clause-is c around state =
     let s = c.args.symbol.now in
     let y = c.args.self.now.nodes in
     counted_alone s (trees_in s y) around c.args.base state c.in_default.not-Pair
-    ∙ ap (λ b. elim b as (λ _. State) [ true ↦ state | false ↦ with_held around (tree_of (value_in s y c.args.base)) state ]) (sym (c.is_listed.ensures s (trees_in s y)) ∙ c.if-is_listed.true)
+    ∙ ap (λ b. elim b as (λ _. State) [ true ↦ state | false ↦ appended_by by_gcc around (tree_of (value_in s y c.args.base)) state ]) (sym (c.is_listed.ensures s (trees_in s y)) ∙ c.if-is_listed.true)
 
 pub returns-else-is_listed-clause-is : goal.returns-else-is_listed-clause-is
-unfolding with_candidate with_held
+unfolding with_candidate
 returns-else-is_listed-clause-is c around state =
     let s = c.args.symbol.now in
     let y = c.args.self.now.nodes in
     counted_alone s (trees_in s y) around c.args.base state c.in_default.not-Pair
-    ∙ ap (λ b. elim b as (λ _. State) [ true ↦ state | false ↦ with_held around (tree_of (value_in s y c.args.base)) state ]) (sym (c.is_listed.ensures s (trees_in s y)) ∙ c.if-is_listed.false)
-    ∙ ap (λ t. with_held around t state) (sym c.node.ensures.is)
+    ∙ ap (λ b. elim b as (λ _. State) [ true ↦ state | false ↦ appended_by by_gcc around (tree_of (value_in s y c.args.base)) state ]) (sym (c.is_listed.ensures s (trees_in s y)) ∙ c.if-is_listed.false)
+    ∙ ap (λ t. appended_by by_gcc around t state) (sym c.node.ensures.is)

@@ -1,4 +1,7 @@
+use Rattle.cpp_references.specs.Around.{counted_of}
+use Rattle.cpp_link.specs.Making.{state_of}
 use Rattle.cpp_link.proofs.linked.Linked.note.Goals as goal
 
 pub returns-clause-is : goal.returns-clause-is
-returns-clause-is c = rw c.append.ensures.nodes (c.in_ok-append.ensures.is c.args.packs)
+unfolding counted_of
+returns-clause-is c = rw (c.append.ensures.nodes, c.append.ensures.counting) (c.in_ok-append.ensures.is (record (state_of c.args.symbol.now c.args.self.now) { packs = c.args.packs }))

@@ -6,6 +6,7 @@ pub unreachable-requires : goal.unreachable-requires
 unreachable-requires c = local_name c.args.production c.requires.family
     c.in_default.not-LocalType
     c.in_default.not-LocalName
+    c.in_default.not-LocalTemporary
     c.in_default.not-DefaultEntity
     c.in_default.not-DefaultTypeEntity
     c.in_default.not-StringLiteral

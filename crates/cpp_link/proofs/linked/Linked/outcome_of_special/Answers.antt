@@ -7,6 +7,7 @@ unreachable-requires c = special c.args.production c.requires.family
     c.in_default.not-SpecialType
     c.in_default.not-ParameterObject
     c.in_default.not-SpecialName
+    c.in_default.not-Temporary
     c.in_default.not-OtherSpecial
     c.in_default.not-Clone
     c.in_default.not-ConstructionVtable

@@ -9,6 +9,8 @@ unreachable-requires c = unresolved c.args.production c.requires.family
     c.in_default.not-Levels
     c.in_default.not-LevelsEnd
     c.in_default.not-UnresolvedOperator
+    c.in_default.not-ExpressionWithT
+    c.in_default.not-LeveledExpression
     c.in_default.not-ParameterExpression
     c.in_default.not-SimpleId
     c.in_default.not-OperatorReference

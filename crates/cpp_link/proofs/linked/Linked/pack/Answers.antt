@@ -15,7 +15,7 @@ returns-in-Nothing-clause-made c = sym (ap pack_makes c.in-Nothing.is)
 pub returns-in_default : goal.returns-in_default
 unfolding goes_on behind_first named_if appended_if made_before nodes.tree_of
 returns-in_default c = record {
-  is = λ kept v cs. rw c.list_in.ensures.is refl;
+  is = λ kept v state. rw c.list_in.ensures.is refl;
   there = c.list_in.ensures.there;
   made = sym (pack_there c.args.elements c.in_default.not-Nothing);
   of = (omega arith, refl);

@@ -5,7 +5,7 @@ use Rattle.cpp_term.specs.Rescoping.{restated}
 use Rattle.cpp_tree.specs.Nodes.{tree_at, tree_of}
 use Rattle.cpp_references.specs.References.{argument_read}
 use Rattle.cpp_link.specs.Making.{state_of}
-use Rattle.cpp_link.specs.Parts.{trees_in, value_of, around_of, candidates_of, AreCandidatesThere}
+use Rattle.cpp_link.specs.Parts.{trees_in, value_of, around_of, AreCandidatesThere}
 use Rattle.cpp_link.specs.Staying.{candidates_more}
 use Rattle.cpp_references.proofs.Named.{fails_is}
 use Rattle.cpp_link.proofs.Rescoped.{kept_state}
@@ -19,10 +19,9 @@ returns-in_ok-node-in-Ok-clause-is c =
     let new = c.add.new.self in
     let ts = trees_in s old.nodes in
     let t = tree_at ts c.args.node in
-    let cs = candidates_of ts old.candidates.items in
-    let kept = kept_state s old new c.in-Ok.packs c.in_ok-node-in-Ok.ensures.adds.grows.stays c.requires.whole.there c.add.ensures.adds.candidates in
-    c.in-Ok.ensures.is cs
-    ∙ ap (λ x. Ok (found (tree x true) (record { candidates = cs; packs = c.in-Ok.packs }))) (sym c.in_ok-node-in-Ok.ensures.tree)
+    let kept = kept_state s old new c.in-Ok.packs c.in_ok-node-in-Ok.ensures.adds.grows.stays c.requires.whole.there c.add.ensures.adds.candidates c.add.ensures.adds.counting in
+    c.in-Ok.ensures.is (state_of s old)
+    ∙ ap (λ x. Ok (found (tree x true) (record (state_of s old) { packs = c.in-Ok.packs }))) (sym c.in_ok-node-in-Ok.ensures.tree)
     ∙ ap (λ (x : State). Ok (found (tree (tree_at (trees_in s new.nodes) c.in_ok-node-in-Ok.node) true) x)) kept
 
 pub returns-in_ok-node-in-Ok-clause-made : goal.returns-in_ok-node-in-Ok-clause-made
@@ -34,8 +33,8 @@ returns-in_ok-node-in-Ok-clause-made c = record {
   paid = search rules;
   whole = record {
     table = c.in_ok-node-in-Ok.ensures.adds.grows.table;
-    there = subst (λ v. AreCandidatesThere (length c.add.new.self.nodes.nodes) v.items) (sym c.add.ensures.adds.candidates)
-        (candidates_more _ _ c.args.self.now.candidates.items c.in_ok-node-in-Ok.ensures.adds.grows.least c.requires.whole.there);
+    there = subst (λ v. AreCandidatesThere (length c.add.new.self.nodes.nodes) v) (sym c.add.ensures.adds.candidates)
+        (candidates_more _ _ c.args.self.now.candidates c.in_ok-node-in-Ok.ensures.adds.grows.least c.requires.whole.there);
   };
   keeps = search rules;
   full = search rules;
@@ -48,4 +47,4 @@ returns-in-Err-clause-refused c =
     let old = c.args.self.now in
     let ts = trees_in s old.nodes in
     let around : Around = around_of ts c.args.kept in
-    fails_is c.in-Err.e (restated around c.args.place (tree_at ts c.args.node) (state_of s old)) (c.in-Err.ensures.is (candidates_of ts old.candidates.items))
+    fails_is c.in-Err.e (restated around c.args.place (tree_at ts c.args.node) (state_of s old)) (c.in-Err.ensures.is (state_of s old))

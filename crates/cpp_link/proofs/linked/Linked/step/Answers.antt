@@ -20,10 +20,10 @@ use Rattle.cpp_link.proofs.linked.Linked.step.Goals as goal
 
 abbrev Goes : List ℕ → Linked → Production → (place : ℕ) → Surroundings → List Value → Step → Type 0
 Goes s l p place kept vs step =
-    (cs : List values.Candidate) → between p (around_of (trees_in s l.nodes) kept) place vs (record { candidates = cs; packs = l.packs }) ≡ goes_on s l.nodes kept vs cs l.packs step
+    (state : values.State) → between p (around_of (trees_in s l.nodes) kept) place vs (record state { packs = l.packs }) ≡ goes_on s l.nodes kept vs state l.packs step
 
 abbrev Refuses : List ℕ → Linked → Production → (place : ℕ) → Surroundings → List Value → Refusal → Type 0
-Refuses s l p place kept vs e = (cs : List values.Candidate) → Fails e (between p (around_of (trees_in s l.nodes) kept) place vs (record { candidates = cs; packs = l.packs }))
+Refuses s l p place kept vs e = (state : values.State) → Fails e (between p (around_of (trees_in s l.nodes) kept) place vs (record state { packs = l.packs }))
 
 pub returns-then-is_empty : goal.returns-then-is_empty
 returns-then-is_empty c =

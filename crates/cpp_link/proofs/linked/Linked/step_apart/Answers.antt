@@ -16,20 +16,20 @@ use Rattle.cpp_link.proofs.linked.Linked.step_apart.Goals as goal
 
 pub returns-then-is_instance-clause-refused : goal.returns-then-is_instance-clause-refused
 unfolding around_of
-returns-then-is_instance-clause-refused c cs =
+returns-then-is_instance-clause-refused c state =
     let s = c.args.symbol.now in
     let y = c.args.self.now.nodes in
     let one = held_second c.args.production (is_lambda c.args.kept.scope) (length c.args.parts.now) c.in-Holder.is c.requires.apart in
-    ap (λ p. between_wide p (around_of (trees_in s y) c.args.kept) c.args.place (values_in s y c.args.parts.now) (record { candidates = cs; packs = c.args.self.now.packs })) c.in-Holder.is
-    ∙ held_refused (around_of (trees_in s y) c.args.kept) c.args.place (values_in s y c.args.parts.now) (record { candidates = cs; packs = c.args.self.now.packs })
+    ap (λ p. between_wide p (around_of (trees_in s y) c.args.kept) c.args.place (values_in s y c.args.parts.now) (record state { packs = c.args.self.now.packs })) c.in-Holder.is
+    ∙ held_refused (around_of (trees_in s y) c.args.kept) c.args.place (values_in s y c.args.parts.now) (record state { packs = c.args.self.now.packs })
     (values_length s (trees_in s y) c.args.parts.now ∙ one) (ap is_instance (sym c.prefix_node-name.ensures.is) ∙ sym c.is_instance.ensures ∙ c.if-is_instance.true)
 
 pub returns-else-is_instance-clause-is : goal.returns-else-is_instance-clause-is
-returns-else-is_instance-clause-is c cs =
+returns-else-is_instance-clause-is c state =
     let s = c.args.symbol.now in
     let y = c.args.self.now.nodes in
     let one = held_second c.args.production (is_lambda c.args.kept.scope) (length c.args.parts.now) c.in-Holder.is c.requires.apart in
-    rw (c.in-Holder.is, c.listed_name.ensures) (held_read s y c.args.kept c.args.place (values_in s y c.args.parts.now) cs c.args.self.now.packs c.prefix_node-name.result
+    rw (c.in-Holder.is, c.listed_name.ensures) (held_read s y c.args.kept c.args.place (values_in s y c.args.parts.now) state c.args.self.now.packs c.prefix_node-name.result
     (values_length s (trees_in s y) c.args.parts.now ∙ one) c.prefix_node-name.ensures.is (sym c.is_instance.ensures ∙ c.if-is_instance.false))
 
 pub returns-else-is_instance-clause-of : goal.returns-else-is_instance-clause-of
@@ -45,12 +45,12 @@ returns-else-is_instance-clause-makes c =
     rw (c.in-Holder.is, c.listed_name.ensures) (held_makes (values_in s y c.args.parts.now) (values_length s (trees_in s y) c.args.parts.now ∙ one))
 
 pub returns-in-HeldArguments-clause-is : goal.returns-in-HeldArguments-clause-is
-returns-in-HeldArguments-clause-is c cs =
+returns-in-HeldArguments-clause-is c state =
     let s = c.args.symbol.now in
     let y = c.args.self.now.nodes in
     let none = base_first c.args.production (is_lambda c.args.kept.scope) (length c.args.parts.now) c.in-HeldArguments.is c.requires.apart in
-    rw c.in-HeldArguments.is (base_read s y c.args.kept c.inside.result c.args.place (values_in s y c.args.parts.now) cs c.args.self.now.packs c.prefix_candidate.result
-    (values_length s (trees_in s y) c.args.parts.now ∙ none) c.prefix_candidate.ensures.is (c.inside.ensures.around (trees_in s y)))
+    rw c.in-HeldArguments.is (base_read s y c.args.kept c.inside.result c.args.place (values_in s y c.args.parts.now) state c.args.self.now.packs
+    (values_length s (trees_in s y) c.args.parts.now ∙ none) (c.inside.ensures.around (trees_in s y)))
 
 pub returns-in-HeldArguments-clause-makes : goal.returns-in-HeldArguments-clause-makes
 returns-in-HeldArguments-clause-makes c =
@@ -60,15 +60,15 @@ returns-in-HeldArguments-clause-makes c =
     rw c.in-HeldArguments.is (base_makes (values_in s y c.args.parts.now) (values_length s (trees_in s y) c.args.parts.now ∙ none))
 
 pub returns-in_default-clause-is : goal.returns-in_default-clause-is
-returns-in_default-clause-is c cs =
+returns-in_default-clause-is c state =
     let s = c.args.symbol.now in
     let y = c.args.self.now.nodes in
     let own = apart_generic c.args.production (is_lambda c.args.kept.scope) (length c.args.parts.now) c.requires.apart c.in_default.not-Holder c.in_default.not-HeldArguments in
     let Reads : Bool → Value → Type 0 = λ b v.
-    generic_read b (around_of (trees_in s y) c.args.kept) (counted_value Decimal (bytes_at s c.text-digits.result)) (record { candidates = cs; packs = c.args.self.now.packs })
-    ≡ goes_on s y c.args.kept (v ∷ []) cs c.args.self.now.packs c.generic.result in
-    generic_is s y c.args.kept c.args.production c.args.place c.args.parts.now (bytes_at s c.text-digits.result) cs c.args.self.now.packs c.generic.result
-    own.0 own.1.0 own.1.1 c.text-digits.ensures.is (λ v. subst (λ b. Reads b v) c.is_parameter_argument-is_argument.ensures (c.generic.ensures.is v cs))
+    generic_read b (around_of (trees_in s y) c.args.kept) (counted_value Decimal (bytes_at s c.text-digits.result)) (record state { packs = c.args.self.now.packs })
+    ≡ goes_on s y c.args.kept (v ∷ []) state c.args.self.now.packs c.generic.result in
+    generic_is s y c.args.kept c.args.production c.args.place c.args.parts.now (bytes_at s c.text-digits.result) state c.args.self.now.packs c.generic.result
+    own.0 own.1.0 own.1.1 c.text-digits.ensures.is (λ v. subst (λ b. Reads b v) c.is_parameter_argument-is_argument.ensures (c.generic.ensures.is v state))
     ∙ sym (going_unmarked c.args.production (around_of (trees_in s y) c.args.kept) _ c.in_default.not-Holder c.in_default.not-HeldArguments)
 
 pub returns-in_default-clause-of : goal.returns-in_default-clause-of

@@ -27,7 +27,7 @@ returns-in-ParameterExpression-clause-of c = first_steps c.args.production c.par
 
 pub returns-in-PackArgument-clause-is : goal.returns-in-PackArgument-clause-is
 unfolding between
-returns-in-PackArgument-clause-is c cs = rw c.in-PackArgument.is (sym (c.pack.ensures.is c.args.kept (value_in c.args.symbol.now c.args.self.now.nodes c.args.first) cs))
+returns-in-PackArgument-clause-is c state = rw c.in-PackArgument.is (sym (c.pack.ensures.is c.args.kept (value_in c.args.symbol.now c.args.self.now.nodes c.args.first) state))
 
 pub returns-in-PackArgument-clause-of : goal.returns-in-PackArgument-clause-of
 returns-in-PackArgument-clause-of c = subst (λ p. IsStepOf p 1 c.pack.result) (sym c.in-PackArgument.is) c.pack.ensures.of

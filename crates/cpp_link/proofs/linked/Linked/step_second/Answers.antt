@@ -29,6 +29,7 @@ step_second_of_name-requires c = record {
   integer_literal = c.in_default.not-IntegerLiteral;
   nested_base = c.in_default.not-NestedBase;
   unnested_base = c.in_default.not-UnnestedBase;
+  local_temporary = c.in_default.not-LocalTemporary;
   value_of = c.in_default.not-ValueOf;
   of_concept = c.in_default.not-OfConcept;
   named_concept = c.in_default.not-NamedConcept;

@@ -29,6 +29,7 @@ step_second_of_piece-requires c = record {
   integer_literal = c.requires.integer_literal;
   nested_base = c.requires.nested_base;
   unnested_base = c.requires.unnested_base;
+  local_temporary = c.requires.local_temporary;
   value_of = c.requires.value_of;
   of_concept = c.requires.of_concept;
   named_concept = c.requires.named_concept;

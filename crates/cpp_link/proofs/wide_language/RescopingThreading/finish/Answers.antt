@@ -41,6 +41,6 @@ returns-in_default-clause-closes c =
     let known = values_in s old.linked.nodes (drop frame.base parts) in
     closes_counted s old new frame parts c.finish_rule.new.parts.items c.finish_rule.result c.requires.room.paid.begun
     (subst (λ n. OnOk c.finish_rule.result (length new.nodes.nodes ≡ length old.linked.nodes.nodes + n))
-    (apart_end (production_at frame.rule) (around_of (trees_in s old.linked.nodes) frame.kept) known (state_of s old.linked) (λ e. c.in_default.not-Substitution (is ∙ e))) c.finish_rule.ensures.makes)
+    (apart_end (production_at frame.rule) (around_of (trees_in s old.linked.nodes) frame.kept) frame.place known (state_of s old.linked) (λ e. c.in_default.not-Substitution (is ∙ e))) c.finish_rule.ensures.makes)
     (apart_closes s old.linked new frame parts c.finish_rule.new.parts.items c.finish_rule.result (λ e. c.in_default.not-Substitution (is ∙ e)) (λ e. c.in_default.not-Lambda (is ∙ e))
     (λ e. c.in_default.not-Inheriting (is ∙ e)) c.finish_rule.ensures.closes)

@@ -1,0 +1,173 @@
+-- A rule begins as the wide reading says.
+use Rattle.std.proofs.Common.{◌≡◌, refl, sym, ◌∙◌, ap, subst, arith, ℕ, ◌-◌, ◌≤◌, List, [], length, Bool, true, false, Result, Ok, Err}
+use Rattle.std.specs.Prelude.{OnOk, OnErr, IfErr, nat_eq, vec_capacity, if◌then◌else◌}
+use Rattle.sym_core.specs.declared.refusal.Refusal.{Refusal}
+use Rattle.sym_core.specs.declared.refusal.Refusal.TheVariants.{Memory}
+use Rattle.sym_shape.specs.declared.rule.Row.{Row}
+use Rattle.sym_shape.specs.Tree.{Forest}
+use Rattle.sym_link.specs.Reading.{Open}
+use Rattle.sym_link.specs.Unfold.{standing}
+use Rattle.sym_link.specs.Linking.{Adds, Pays}
+use Rattle.sym_link.specs.Threads.{BeginsAs, BeginsIn}
+use Rattle.sym_link.specs.Room.{KeepRoom}
+use Rattle.cpp_grammar.specs.declared.production.Production.{Production}
+use Rattle.cpp_grammar.specs.Unfolding.{production_at}
+use Rattle.cpp_grammar.specs.Values as plain
+use Rattle.cpp_grammar.specs.Values.{by_all}
+use Rattle.cpp_grammar.specs.Rescoping.{is_by_all}
+use Rattle.cpp_term.specs.Term.{Term}
+use Rattle.cpp_term.specs.Values.{State, Around}
+use Rattle.cpp_term.specs.Unfolding.{opening, cpp}
+use Rattle.cpp_term.specs.Rescoping.{counted_so_far, expecting}
+use Rattle.cpp_tree.specs.Nodes.{tree_at}
+use Rattle.cpp_references.specs.declared.around.Surroundings.{Surroundings}
+use Rattle.cpp_references.specs.Around.{counted_of}
+use Rattle.cpp_link.specs.declared.counting.Expected.{Expected}
+use Rattle.cpp_link.specs.declared.linked.Linked.{Linked}
+use Rattle.cpp_link.specs.declared.rescoping.Rescoping.{Rescoping}
+use Rattle.cpp_link.specs.Counting.{expected_of}
+use Rattle.cpp_link.specs.LinkReading.{link_begin}
+use Rattle.cpp_link.specs.LinkRescoping.{link_opening, wide_view, wide_counted}
+use Rattle.cpp_link.specs.Numbered.{is_numbered}
+use Rattle.cpp_link.specs.Parts.{trees_in, packs_of, around_of, IsKeptThere}
+use Rattle.cpp_link.specs.Progress.{Begins}
+use Rattle.cpp_link.specs.Room.{lists_of as lists_in}
+use Rattle.cpp_link.specs.View.{IsKept, Surrounds, Holds, cpp_view}
+use Rattle.cpp_link.proofs.Endings.{first_begins, opens_plain, begins_kept}
+use Rattle.cpp_link.proofs.Listed.{so_far_same}
+
+-- ## What stays
+
+module _ (old : Rescoping) (new : Linked) (result : Result Surroundings Refusal) (same : new.nodes ≡ old.linked.nodes) where
+  pub none_more : OnOk result (length new.nodes.nodes - 4 ≡ length old.linked.nodes.nodes - 4)
+  none_more = go result
+    where
+      go : (r : Result Surroundings Refusal) → OnOk r (length new.nodes.nodes - 4 ≡ length old.linked.nodes.nodes - 4)
+      go (Ok kept) = ap (λ y. length y.nodes - 4) same
+      go (Err e) = tt
+
+  pub begun_adds : (s : List ℕ) → OnOk result (Adds (wide_counted s) old (record { linked = new }) 0 0)
+  begun_adds s = go result
+    where
+      go : (r : Result Surroundings Refusal) → OnOk r (Adds (wide_counted s) old (record { linked = new }) 0 0)
+      go (Ok kept) = (
+        record { least = omega (arith, ap (λ y. length y.nodes) same); stays = λ i less. ap (λ y. tree_at (trees_in s y) i) same },
+        omega (arith, ap (λ y. length y.nodes) same),
+      )
+      go (Err e) = tt
+
+  pub begun_few : OnErr result (length new.nodes.nodes - 4 ≤ length old.linked.nodes.nodes - 4)
+  begun_few = go result
+    where
+      go : (r : Result Surroundings Refusal) → OnErr r (length new.nodes.nodes - 4 ≤ length old.linked.nodes.nodes - 4)
+      go (Ok kept) = tt
+      go (Err e) = omega (arith, ap (λ y. length y.nodes) same)
+
+  pub begun_pays : (s : List ℕ) → OnOk result ((at : ℕ) → Pays (wide_counted s) old (record { linked = new }) at at)
+  begun_pays s = go result
+    where
+      go : (r : Result Surroundings Refusal) → OnOk r ((at : ℕ) → Pays (wide_counted s) old (record { linked = new }) at at)
+      go (Ok kept) = λ at was. record { begun = omega (arith, was.begun, ap (λ y. length y.nodes) same); thunks = omega (arith, was.thunks, ap (λ y. length y.nodes) same, ap (λ y. length y.thunks) same) }
+      go (Err e) = tt
+
+  pub begun_keeps : new.candidates ≡ old.linked.candidates → KeepRoom (lists_in old.linked) (lists_in new)
+  begun_keeps candidates =
+      (omega (arith, ap (λ y. y.node_room) same), (omega (arith, ap (λ y. y.thunk_room) same), (omega (arith, ap (λ v. vec_capacity v.list) candidates), tt)))
+
+-- ## Where all compilers count alike
+
+plain_begins : (o : Open State Around) (parts : Forest) → is_numbered (production_at o.rule.number) ≡ false → link_begin o parts ≡ Ok o.before
+unfolding link_begin cpp
+plain_begins o parts plain = go (nat_eq o.place 0)
+  where
+    go : (b : Bool) → (if b then Ok o.before else opening (production_at o.rule.number) parts o.place o.before) ≡ Ok o.before
+    go true = refl
+    go false = opens_plain (production_at o.rule.number) parts o.place o.before plain
+
+nothing_expected : (e : plain.Expected) (state : State) → is_by_all (counted_so_far by_all state.candidates) ≡ true → expecting e state ≡ state
+unfolding expecting
+nothing_expected e state alike = ap (λ b. elim b as (λ _. State) [ true ↦ state | false ↦ record state { counting = record state.counting { expected = e } } ]) alike
+
+opening_alike : (p : Production) (o : Open State Around) (parts : Forest) → production_at o.rule.number ≡ p → is_by_all (counted_so_far by_all o.before.candidates) ≡ true → link_opening p o parts ≡ link_begin o parts
+unfolding link_opening is_numbered
+opening_alike Production.NestTemplate o parts is alike = ap (λ s. Ok s) (nothing_expected _ o.before alike) ∙ sym (plain_begins o parts (ap is_numbered is))
+opening_alike Production.QualifiedPlain o parts is alike = ap (λ s. Ok s) (nothing_expected _ o.before alike) ∙ sym (plain_begins o parts (ap is_numbered is))
+opening_alike _ o parts is alike = refl
+
+-- nothing is expected where a symbol begins
+pub first_opens : (p : Production) (o : Open State Around) (parts : Forest) → o.place ≡ 0 → is_by_all (counted_so_far by_all o.before.candidates) ≡ true → link_opening p o parts ≡ Ok o.before
+unfolding link_opening
+first_opens Production.NestTemplate o parts first alike = ap (λ s. Ok s) (nothing_expected _ o.before alike)
+first_opens Production.QualifiedPlain o parts first alike = ap (λ s. Ok s) (nothing_expected _ o.before alike)
+first_opens _ o parts first alike = first_begins o parts first
+
+opening_other : (p : Production) (o : Open State Around) (parts : Forest) → (p ≡ Production.NestTemplate → ⊥) → (p ≡ Production.QualifiedPlain → ⊥) → link_opening p o parts ≡ link_begin o parts
+unfolding link_opening
+opening_other Production.NestTemplate o parts first second = absurd (first refl)
+opening_other Production.QualifiedPlain o parts first second = absurd (second refl)
+opening_other _ o parts first second = refl
+
+module _ (s : List ℕ) (rows : List Row) (old : Linked) (context : Surroundings) (row : Row) where
+  -- by whom the candidates of the state are counted
+  counted_is : (state : State) → Holds s old state → counted_so_far by_all state.candidates ≡ counted_of old.candidates.by
+  counted_is state holds = ap (λ cs. counted_so_far by_all cs) (sym holds.candidates) ∙ so_far_same (trees_in s old.nodes) [] by_all old.candidates.list.items ∙ sym holds.there.1.by
+
+  pub alike_begins : (result : Result Surroundings Refusal) → is_by_all (counted_of old.candidates.by) ≡ true → BeginsIn (cpp_view s) s (Surrounds s) rows old old context row result
+      → IfErr result (λ e. e ≡ Memory → ⊥) → Begins (wide_view s) s rows old old context row result
+  alike_begins result alike begins refused = record {
+    begins = λ around state rule taken inner place row_is kind known tree behind at surrounds holds.
+        subst (λ read. BeginsAs (cpp_view s) old (standing rule taken place around state) result read)
+        (sym (opening_alike (production_at rule.number) (standing rule taken place around state) inner refl (ap is_by_all (counted_is state holds) ∙ alike)))
+        (begins around state rule taken inner place row_is kind known tree behind at surrounds holds);
+    nodes = refl;
+    candidates = refl;
+    refused = refused;
+  }
+
+  pub other_begins : (result : Result Surroundings Refusal) → (production_at row.rule ≡ Production.NestTemplate → ⊥) → (production_at row.rule ≡ Production.QualifiedPlain → ⊥)
+      → BeginsIn (cpp_view s) s (Surrounds s) rows old old context row result → IfErr result (λ e. e ≡ Memory → ⊥) → Begins (wide_view s) s rows old old context row result
+  other_begins result first second begins refused = record {
+    begins = λ around state rule taken inner place row_is kind known tree behind at surrounds holds.
+        subst (λ read. BeginsAs (cpp_view s) old (standing rule taken place around state) result read)
+        (sym (opening_other (production_at rule.number) (standing rule taken place around state) inner (λ is. first (ap production_at row_is.rule_is ∙ is)) (λ is. second (ap production_at row_is.rule_is ∙ is))))
+        (begins around state rule taken inner place row_is kind known tree behind at surrounds holds);
+    nodes = refl;
+    candidates = refl;
+    refused = refused;
+  }
+
+  -- it's noted what may be named
+  pub noted_begins : (p : Production) (e : ℕ → plain.Expected) (noted : Expected) (kept : Surroundings) → ((o : Open State Around) (parts : Forest) → link_opening p o parts ≡ Ok (expecting (e o.place) o.before))
+      → production_at row.rule ≡ p → expected_of noted ≡ e row.from → is_by_all (counted_of old.candidates.by) ≡ false
+      → ((ts : List Term) → around_of ts kept ≡ around_of ts context) → ((n : ℕ) → IsKeptThere n context → IsKeptThere n kept) → packs_of kept ≡ old.packs
+      → Begins (wide_view s) s rows old (record old { counting = record old.counting { expected = noted } }) context row (Ok kept)
+  unfolding expecting
+  noted_begins p e noted kept opens is noted_is apart around_same there packs = record {
+    begins = λ around state rule taken inner place row_is kind known tree behind at surrounds holds. (
+      expecting (e place) state,
+      ap (λ q. link_opening q (standing rule taken place around state) inner) (ap production_at (sym row_is.rule_is) ∙ is) ∙ opens (standing rule taken place around state) inner,
+      kept_now (standing rule taken place around state) (begins_kept s old context kept around state rule taken place around_same there packs surrounds holds),
+      subst (λ x. Holds s new x) (sym (expected state place (ap is_by_all (counted_is state holds) ∙ apart))) (record {
+        table = holds.table;
+        there = holds.there;
+        candidates = holds.candidates;
+        packs = holds.packs;
+        counting = same_counting _ _ _ _ (ap (λ (c : plain.Counting). c.lists) holds.counting) (noted_is ∙ ap e row_is.from);
+      }),
+    );
+    nodes = refl;
+    candidates = refl;
+    refused = tt;
+  }
+    where
+      new : Linked
+      new = record old { counting = record old.counting { expected = noted } }
+
+      expected : (state : State) (place : ℕ) → is_by_all (counted_so_far by_all state.candidates) ≡ false → expecting (e place) state ≡ record state { counting = record state.counting { expected = e place } }
+      expected state place other = ap (λ b. elim b as (λ _. State) [ true ↦ state | false ↦ record state { counting = record state.counting { expected = e place } } ]) other
+
+      kept_now : (rule : Open State Around) → IsKept s old kept rule → IsKept s new kept rule
+      kept_now rule is = record { surrounds = record { there = is.surrounds.there; is = is.surrounds.is; closed = is.surrounds.closed }; packs = is.packs }
+
+      same_counting : (a b : plain.Lists) (x y : plain.Expected) → a ≡ b → x ≡ y → ◌≡◌ {A = plain.Counting} (record { lists = a; expected = x }) (record { lists = b; expected = y })
+      same_counting a b x y lists expects = rw (lists, expects) refl

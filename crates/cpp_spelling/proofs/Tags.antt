@@ -1,0 +1,31 @@
+-- A name without its tags, whose node is noted.
+use Rattle.std.proofs.Common.{◌≡◌, ◌<◌, ℕ, length, Some, None, refl, ap, subst, ◌∙◌}
+use Rattle.cpp_grammar.specs.Scope.{without_tags}
+use Rattle.cpp_term.specs.Term.{Term, tagged}
+use Rattle.cpp_term.specs.Scope as noted
+use Rattle.cpp_term.specs.Erased.{erase}
+use Rattle.cpp_tree.specs.Nodes.{Table, trees, tree_at, entry_at, placed_tree, untagged_is, IsTable}
+use Rattle.cpp_tree.specs.declared.node.Placed.{Placed}
+use Rattle.cpp_tree.proofs.Trees.{erased_place}
+
+untagged-erased : (t : Term) → erase (noted.without_tags t) ≡ without_tags (erase t)
+unfolding noted.without_tags without_tags erase
+untagged-erased (tagged of_structor name tag) = untagged-erased name
+untagged-erased _ = refl
+
+pub untagged-some : (y : Table) (name : ℕ) (p : Placed) → IsTable y → name < length y.nodes → (entry_at y.nodes name).untagged ≡ Some p
+    → erase (tree_at (trees y) p.node) ≡ without_tags (erase (tree_at (trees y) name))
+unfolding untagged_is
+untagged-some y name p table there is =
+    let t : Term = tree_at (trees y) name in
+    let noted_is : placed_tree (trees y) p ≡ noted.without_tags t =
+    subst (λ o. untagged_is (trees y) t o ≡ noted.without_tags t) is (table.each name there).untagged in
+    erased_place y p (noted.without_tags t) noted_is ∙ untagged-erased t
+
+pub untagged-none : (y : Table) (name : ℕ) → IsTable y → name < length y.nodes → (entry_at y.nodes name).untagged ≡ None
+    → erase (tree_at (trees y) name) ≡ without_tags (erase (tree_at (trees y) name))
+unfolding untagged_is
+untagged-none y name table there is =
+    let t : Term = tree_at (trees y) name in
+    let own : t ≡ noted.without_tags t = subst (λ o. untagged_is (trees y) t o ≡ noted.without_tags t) is (table.each name there).untagged in
+    ap erase own ∙ untagged-erased t
