@@ -14,7 +14,6 @@ libdir=${3:-lib}
 cd "$(dirname "$0")/.."
 proved=crates/symdemangle/out/libsymdemangle.a
 [ -f "$proved" ] || { echo "$0: no $proved: \`rt lib\` in crates/symdemangle proves and builds it" >&2; exit 1; }
-heap=$(dirname "$(rt doc)")/c/liblibc_c.a
 parts=$(mktemp -d)
 trap 'rm -rf "$parts"' EXIT
 
@@ -33,6 +32,7 @@ compile() { # compile NAME STANDARD : an object of a C file of callers/archive
 }
 compile functions c99
 compile strings c99
+compile heap c99
 compile arena c11
 
 # One object, in which calls from one part to another are bound, and whose only names are those of the header: the proved calls
@@ -45,7 +45,7 @@ one_object() { # one_object NAME PART..
     rm -f "$out/lib$name.a"
     ar rcsD "$out/lib$name.a" "$parts/$name.o"
 }
-one_object symdemangle "$parts/strings.o" "$heap"
+one_object symdemangle "$parts/strings.o" "$parts/heap.o"
 one_object symdemangle_arena "$parts/arena.o"
 
 shared=libsymdemangle.so.$version

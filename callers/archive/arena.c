@@ -1,5 +1,5 @@
-/* The allocator of libsymdemangle_arena.a. It defines the three functions that the library calls for memory, in the place of
-   the kit's over malloc, realloc and free: what they give out lies in the block that the thread lent (symdemangle_arena.h).
+/* The allocator of libsymdemangle_arena.a. It defines the three functions that the library calls for memory (heap.h) in the place
+   of those over malloc: what they give out lies in the block that the thread lent (symdemangle_arena.h).
 
    Blocks are one after the other, each after a head. One that is given back makes room as soon as all after it are given
    back; the library gives back everything by the end of a call, so between calls the block is empty. What is given out is
@@ -8,14 +8,9 @@
 #include <stdint.h>
 #include <string.h>
 
+#include "heap.h"
 #include "proved.h"
 #include "symdemangle_arena.h"
-
-/* What the library takes for an answer: whether there was room, and where; never null. */
-struct tried {
-    size_t ok;
-    void *at;
-};
 
 /* What is before each block: where the one before it has its head, and whether this one was given back. */
 struct head {
@@ -28,11 +23,6 @@ _Static_assert(HEAD % ALIGN == 0, "what follows a head is aligned");
 /* `used` is where the next head goes, a multiple of 16; `last` is where the last head is, if `used` isn't 0. */
 static _Thread_local symdemangle_arena here __attribute__((tls_model("initial-exec")));
 static _Alignas(16) unsigned char nothing[ALIGN];
-
-/* The library is one object in the archive, in which these are bound and hidden. */
-struct tried rattle_alloc(size_t size, size_t align);
-struct tried rattle_realloc(void *block, size_t kept, size_t size, size_t align);
-void rattle_dealloc(void *block);
 
 void symdemangle_arena_set(void *block, size_t size)
 {

@@ -10,23 +10,17 @@ import re
 import sys
 
 MEMORY = """
-#ifndef SYMDEMANGLE_MALLOC
-#include <stdlib.h>
-#define SYMDEMANGLE_MALLOC malloc
-#define SYMDEMANGLE_REALLOC realloc
-#define SYMDEMANGLE_FREE free
-#endif
-/* The proved part's answer to a request for memory: whether there was room, and where; never null. */
-static A16 u8 no_room[16];
-static s_64_64 tried(void *p) { s_64_64 t; t.f0 = p != 0; t.f1 = (u64)(uintptr_t)(p ? p : no_room); return t; }
-static s_64_64 port_rattle_alloc(u64 size, u64 align) { (void)align; return tried(SYMDEMANGLE_MALLOC(size)); }
-static s_64_64 port_rattle_realloc(u8 *at, u64 kept, u64 size, u64 align) { (void)kept; (void)align; return tried(SYMDEMANGLE_REALLOC(at, size)); }
-/* An empty list has the address 65536 and nothing to give back; without the test gcc warns of a way on which it would be. */
-static void port_rattle_dealloc(u8 *at) { if ((uintptr_t)at != 65536) SYMDEMANGLE_FREE(at); }
+/* The proved part's requests for memory. An empty list has the address 65536 and nothing to give back; without the test gcc warns of
+   a way on which it would be. */
+static s_64_64 answered(struct tried it) { s_64_64 t; t.f0 = it.ok; t.f1 = (u64)(uintptr_t)it.at; return t; }
+static s_64_64 port_rattle_alloc(u64 size, u64 align) { return answered(rattle_alloc(size, align)); }
+static s_64_64 port_rattle_realloc(u8 *at, u64 kept, u64 size, u64 align) { return answered(rattle_realloc(at, kept, size, align)); }
+static void port_rattle_dealloc(u8 *at) { if ((uintptr_t)at != 65536) rattle_dealloc(at); }
 
 #include "symdemangle.h"
 """
 PROTOTYPE = re.compile(r"^\w+ (symdemangle_\w+_of)\((.*?)\);\n", re.M | re.S)
+HEAP = re.compile(r"^(?=(struct tried|void) rattle_\w+\()", re.M)
 OWN = re.compile(r"^(?=\w+ (symdemangle_\w+_of|port_rattle_\w+)\()", re.M)
 
 
@@ -42,14 +36,14 @@ def main(module, archive, out):
         text = file.read()
     proved = set(re.findall(r"^\w+ (symdemangle_\w+_of)\(", text, re.M))
     parts = {}
-    for name in ("proved.h", "functions.c", "strings.c"):
+    for name in ("heap.h", "heap.c", "proved.h", "functions.c", "strings.c"):
         with open(f"{archive}/{name}") as file:
             parts[name] = re.sub(r'^#include ".*"\n', "", file.read(), flags=re.M)
     # the proved calls are declared where they are translated
     head = PROTOTYPE.sub(lambda it: lending(it[1], it[2]) if it[1] in proved else it[0], parts["proved.h"])
     strings = re.sub(r"\b(malloc|free)\(", lambda it: f"SYMDEMANGLE_{it[1].upper()}(", parts["strings.c"])
     with open(out, "w", errors="surrogateescape") as file:
-        file.write(OWN.sub("static ", text) + MEMORY)
+        file.write(OWN.sub("static ", text) + HEAP.sub("static ", parts["heap.h"] + parts["heap.c"]) + MEMORY)
         file.write("\n".join(OWN.sub("static ", part) for part in (head, parts["functions.c"], strings)))
 
 

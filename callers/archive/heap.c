@@ -1,0 +1,65 @@
+/* The library's memory, over malloc, realloc and free, or those that SYMDEMANGLE_MALLOC, _REALLOC and _FREE name.
+
+   The lists of a call begin small and grow some ten times, which would take a seventh of what pressing a symbol takes. So each block
+   has at least 512 bytes, in which a list grows where it is; and up to 1,024 it grows by a new block and a copy, which takes less
+   than half the instructions of glibc's realloc. A sanitizer sees blocks of just the size that was asked for. */
+#include <stddef.h>
+#include <string.h>
+
+#include "heap.h"
+
+#ifndef SYMDEMANGLE_MALLOC
+#include <stdlib.h>
+#define SYMDEMANGLE_MALLOC malloc
+#define SYMDEMANGLE_REALLOC realloc
+#define SYMDEMANGLE_FREE free
+#endif
+
+#if defined __has_feature
+#if __has_feature(address_sanitizer)
+#define SYMDEMANGLE_LEAST 1
+#endif
+#elif defined __SANITIZE_ADDRESS__
+#define SYMDEMANGLE_LEAST 1
+#endif
+#ifndef SYMDEMANGLE_LEAST
+#define SYMDEMANGLE_LEAST 512
+#endif
+
+enum { LEAST = SYMDEMANGLE_LEAST, SMALL = 1024 };
+
+static struct tried tried_at(void *block)
+{
+    static long double nothing; /* aligned as what malloc gives */
+    struct tried answer;
+    answer.ok = block != 0;
+    answer.at = block ? block : &nothing;
+    return answer;
+}
+
+struct tried rattle_alloc(size_t size, size_t align)
+{
+    (void)align;
+    return tried_at(SYMDEMANGLE_MALLOC(size < LEAST ? LEAST : size));
+}
+
+struct tried rattle_realloc(void *block, size_t kept, size_t size, size_t align)
+{
+    void *more;
+    (void)align;
+    if (size <= LEAST)
+        return tried_at(block);
+    if (kept > SMALL)
+        return tried_at(SYMDEMANGLE_REALLOC(block, size));
+    more = SYMDEMANGLE_MALLOC(size);
+    if (more) {
+        memcpy(more, block, kept < size ? kept : size);
+        SYMDEMANGLE_FREE(block);
+    }
+    return tried_at(more);
+}
+
+void rattle_dealloc(void *block)
+{
+    SYMDEMANGLE_FREE(block);
+}
