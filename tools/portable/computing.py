@@ -9,9 +9,9 @@ import struct as packed
 
 from expressions import (
     AND, BOTH, EITHER, EQUAL, OR, PLUS, POINTER, POSTFIX, REAL, SHIFT, SIGN, SIGNED, SMALL, TIMES, UNARY, WHOLE, XOR,
-    Expression, arithmetic, cast, choice, comparison, constant_of, cut, further, held_bits, joined, kind, negated, number, signed, widened,
+    MOST_ZEROED, Expression, arithmetic, cast, choice, comparison, constant_of, cut, further, held_bits, joined, kind, negated, number, signed, widened,
 )  # fmt: skip
-from operands import BITS_16, BITS_64, BYTES_16, BYTES_64, Address, Cast, Nothing, Number, Parts, Real, Splat, Struct, bits, stop
+from operands import BITS_16, BITS_64, BYTES_16, BYTES_64, NOTHING, Address, Cast, Nothing, Number, Parts, Real, Splat, Struct, bits, stop
 from values import After, Widened
 
 REAL_SIGNS = {"fadd": ("+", PLUS), "fsub": ("-", PLUS), "fdiv": ("/", TIMES)}
@@ -247,6 +247,11 @@ class Computing:
             return f"wd({address},{stored.text});"
         return f"{self.access(it.type, it.number, 'w', 'x')}({address},{stored.stored()});"
 
+    def is_zeroing(self, it):
+        """Whether a memset makes a known number of bytes 0, and so few that it isn't worth a call."""
+        byte, size = it.operands[1:3]
+        return byte in (Number(0), NOTHING) and isinstance(size, Number) and 0 < size.number <= MOST_ZEROED
+
     def call(self, it):
         """The statement of a call that may write, or the expression of one that only computes."""
         operands = [self.operand(*one) for one in zip(it.operands, it.types)]
@@ -256,6 +261,8 @@ class Computing:
         word = found[1] if found else it.word[len("@llvm.") :]
         texts = [operand.text for operand in operands]
         reads = any(operand.reads for operand in operands)
+        if word == "memset" and self.is_zeroing(it):
+            return self.structs.zeroing(texts[0], it.operands[2].number), None
         if word in ("memset", "memcpy", "memmove"):
             return f"{word}({','.join(texts[:3])})", None
         if word == "trap":

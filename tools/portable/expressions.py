@@ -6,6 +6,7 @@ All integers are unsigned. One of at most 16 bits is an `int` of C that isn't ne
 
 from operands import BITS_16, BITS_64, BYTES_16, BYTES_64, Number, Struct, bits, signed as as_signed, stop
 
+MOST_ZEROED = 128  # bytes that are made 0 without a call
 # How tightly C binds an expression.
 PRIMARY, POSTFIX, UNARY, TIMES, PLUS, SHIFT, ORDER, EQUAL, AND, XOR, OR, BOTH, EITHER, CHOICE = range(16, 2, -1)
 # The C type of an expression, beside 4, 8, 16 for an unsigned integer of so many bytes: SMALL is an int that isn't negative,
@@ -36,10 +37,10 @@ class Expression:
 
 
 class Structs:
-    """The names of struct types, and which optional parts of the prelude are used."""
+    """The names of struct types, which optional parts of the prelude are used, and how many bytes are made 0 at once."""
 
     def __init__(self):
-        self.names, self.used = {}, set()
+        self.names, self.used, self.zeroed = {}, set(), set()
 
     def c_type(self, type_):
         if type_ in ("ptr", "void", "double"):
@@ -59,11 +60,35 @@ class Structs:
             return "v16" if type_ == BYTES_16 else "v64"
         stop(f"type {type_}")
 
+    def zeroing(self, address, size):
+        """The text that makes some bytes at an address 0."""
+        self.zeroed.add(size)
+        return f"z{size}({address})"
+
+    def zeroings(self):
+        """The macros that such texts call."""
+        return "".join(f"#define z{size}(p) {zeroed(size)}\n" for size in sorted(self.zeroed))
+
     def zero(self, type_):
         """The value of a type whose bytes are all 0."""
         if type_ == BITS_16:
             return "0"
         return f"({self.c_type(type_)})" + ("{0}" if isinstance(type_, Struct) else "{{0}}")
+
+
+def zeroed(size):
+    """The text that makes as many bytes at p 0: for more than 16 some writes, of which the last may begin within the one before it, since
+    gcc writes single words in a loop instead where it believes that a memset is seldom reached."""
+    if size <= 16:
+        return f"memset(p,0,{size})"
+    at, writes = 0, []
+    while at < size:
+        width = next((width for width in (1, 2, 4, 8) if width >= size - at), 16)
+        at = min(at, size - width)
+        place = f"(p)+{at}" if at else "p"
+        writes.append(f"x{width}({place},0)" if width > 1 else f"*({place})=0")
+        at += width
+    return ",".join(writes)
 
 
 def held_bits(type_):

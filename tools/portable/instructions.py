@@ -15,7 +15,7 @@ SIZES = {"i8": 1, "i16": 2, "i32": 4, "i64": 8, "ptr": 8, "i128": 16, "i1": 1}
 @dataclass
 class Instruction:
     """A line of a function. `word` is the operation or the condition, `to` a second type, or `disjoint`, `number` an alignment, a place or a size,
-    `targets` where control goes on."""
+    `is_positive` says that a step leads further or that an operation on unsigned numbers loses no bits, `targets` where control goes on."""
 
     name: str
     kind: str
@@ -39,10 +39,11 @@ def instruction(name, word, line):
 
 
 def read_arithmetic(name, word, line):
+    is_positive = line.peek() == "nuw"
     line.skip("nuw", "nsw", "exact")
     how = line.take("disjoint")
     type_, both = line.pair()
-    return Instruction(name, "arithmetic", type_, both, word, how), type_
+    return Instruction(name, "arithmetic", type_, both, word, how, is_positive=is_positive), type_
 
 
 def read_real(name, word, line):

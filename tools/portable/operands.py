@@ -91,6 +91,15 @@ class Splat(NamedTuple):
 NOTHING = Nothing()
 
 
+def named(operand):
+    """The names of the values that an operand is made of."""
+    if isinstance(operand, Name):
+        return [operand.name]
+    if isinstance(operand, Parts):
+        return [name for part in operand.operands for name in named(part)]
+    return named(operand.operand) if isinstance(operand, (Cast, Splat)) else []
+
+
 class Line:
     """The tokens of a line, from the first to the last."""
 

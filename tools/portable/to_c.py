@@ -9,8 +9,8 @@ and cut to their width wherever C's operation is wider; memory is read and writt
 instruction, an intrinsic, a type or a table that it doesn't know.
 
 operands.py and instructions.py read lines, functions.py a function with its order of blocks; wide.py compares bytes together;
-values.py says which values get a variable, expressions.py and computing.py write what is computed, blocks.py where control
-goes, tables.py what is constant."""
+nearer.py moves what is computed to where it is used; values.py says which values get a variable, expressions.py and computing.py
+write what is computed, blocks.py where control goes, tables.py what is constant."""
 
 import hashlib
 import os
@@ -21,6 +21,7 @@ import threading
 from blocks import Blocks
 from expressions import Structs
 from functions import Function
+from nearer import bring_nearer
 from operands import Line
 from tables import NAME, Tables
 from wide import widen
@@ -157,6 +158,7 @@ def translate(head, source, target):
     for lines in module.functions:
         function = Function(lines)
         widen(function)
+        bring_nearer(function)
         written = Blocks(function, structs, tables).write()
         name = tables.names[written.function.name]
         definitions.append(Definition(written, structs, module, name, paths[name]))
@@ -165,7 +167,7 @@ def translate(head, source, target):
     with open(os.path.join(os.path.dirname(os.path.abspath(__file__)), "prelude.c")) as file:
         prelude = needed(file.read(), structs.used)
     with open(head) as file, open(target, "w", errors="surrogateescape") as to:
-        to.write(file.read() + prelude)
+        to.write(file.read() + prelude + structs.zeroings())
         for type_, name in structs.names.items():
             members = "".join(f"{structs.c_type(part)} f{place};" for place, part in enumerate(type_.parts))
             to.write(f"typedef struct{{{members}}}{name};\n")

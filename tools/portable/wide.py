@@ -8,7 +8,7 @@ from collections import Counter
 from typing import NamedTuple
 
 from instructions import Instruction
-from operands import Cast, Name, Number, Parts, Splat, bits, signed
+from operands import Name, Number, bits, named, signed
 
 WIDEST = 8
 COMPUTES = {"arithmetic", "comparison", "load", "step", "cast"}
@@ -187,12 +187,3 @@ def uses(function):
             for operand in phi.ways.values():
                 found.update(named(operand))
     return found
-
-
-def named(operand):
-    """The names in an operand."""
-    if isinstance(operand, Name):
-        return [operand.name]
-    if isinstance(operand, Parts):
-        return [name for part in operand.operands for name in named(part)]
-    return named(operand.operand) if isinstance(operand, (Cast, Splat)) else []
