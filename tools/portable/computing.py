@@ -11,7 +11,7 @@ from expressions import (
     AND, BOTH, EITHER, EQUAL, OR, PLUS, POINTER, POSTFIX, REAL, SHIFT, SIGN, SIGNED, SMALL, TIMES, UNARY, WHOLE, XOR,
     MOST_ZEROED, Expression, arithmetic, cast, choice, comparison, constant_of, cut, further, held_bits, joined, kind, negated, number, signed, widened,
 )  # fmt: skip
-from operands import BITS_16, BITS_64, BYTES_16, BYTES_64, NOTHING, Address, Cast, Nothing, Number, Parts, Real, Splat, Struct, bits, stop
+from operands import BITS_16, BITS_64, BYTES_16, BYTES_64, Address, Cast, Nothing, Number, Parts, Real, Splat, Struct, bits, stop
 from values import After, Widened
 
 REAL_SIGNS = {"fadd": ("+", PLUS), "fsub": ("-", PLUS), "fdiv": ("/", TIMES)}
@@ -250,7 +250,7 @@ class Computing:
     def is_zeroing(self, it):
         """Whether a memset makes a known number of bytes 0, and so few that it isn't worth a call."""
         byte, size = it.operands[1:3]
-        return byte in (Number(0), NOTHING) and isinstance(size, Number) and 0 < size.number <= MOST_ZEROED
+        return byte == Number(0) and isinstance(size, Number) and 0 < size.number <= MOST_ZEROED
 
     def call(self, it):
         """The statement of a call that may write, or the expression of one that only computes."""
