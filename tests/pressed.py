@@ -103,7 +103,7 @@ def main():
     program, *files = sys.argv[1:]
     failed = check_pairs(program, [])
     failed |= check_pairs(program, ["--wide"])
-    for name in files or FRESH_NAMES:
+    for name in [os.path.abspath(it) for it in files] or FRESH_NAMES:
         failed |= check_wide(program, list(dict.fromkeys(word for word in lines_of(name) if word.startswith("_Z"))))
     sys.exit(1 if failed else 0)
 
