@@ -287,7 +287,7 @@ static void pressed_spellings(void)
     is_unpressed("main", 0, SYMDEMANGLE_NO_SYMBOL, 0);
     presses_to("_Z1f1AIiENS_IcEE", SYMDEMANGLE_WIDE, "_Z1f1AIiES_IcE");
     is_unpressed("_ZN1AC6Ev", SYMDEMANGLE_WIDE, SYMDEMANGLE_MALFORMED, 6);
-    is_unpressed("_ZN1a1bB5cxx11Ev", SYMDEMANGLE_WIDE, SYMDEMANGLE_NO_SPELLING, 0);
+    is_unpressed("_Z1fIiEDTstT_ES0_", SYMDEMANGLE_WIDE, SYMDEMANGLE_NO_SPELLING, 0);
     is_unpressed("PKc", SYMDEMANGLE_TYPES, SYMDEMANGLE_NO_SYMBOL, 0);
     is_unpressed("_Z1fv", 256, SYMDEMANGLE_FLAGS, 0);
 }

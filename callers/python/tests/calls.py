@@ -270,7 +270,7 @@ class Calls(unittest.TestCase):
             symdemangle.press("_ZN1AC4Ev")
         self.assertEqual(symdemangle.press("_Z1f1AIiENS_IcEE", wide=True), "_Z1f1AIiES_IcE")
         with self.assertRaisesRegex(Refused, "^no spelling yet$"):
-            symdemangle.press("_ZN1a1bB5cxx11Ev", wide=True)
+            symdemangle.press("_Z1fIiEDTstT_ES0_", wide=True)
         self.assertEqual(symdemangle.counts("_RNvMC3fooINtB2_1AhE3baz"), Counts(18, 11, 56))
         with self.assertRaises(Refused):
             symdemangle.counts("_ZN1AC4Ev", wide=False)
