@@ -11,8 +11,8 @@ use sym_shape::{Grammar, Rule, Sym};
 /// The grammar of [`Abi`](crate::Abi), with what compilers write beside the symbols of the ABI's chapter.
 ///
 /// - Names: constructors and destructors with the digits 4 and 5, inherited constructors, conversions to types, friends, ABI
-///   tags, functions with an explicit object, nested names that are a substitution and its arguments, what is in the
-///   initializer of a data member, in a default argument or in the type of an expression.
+///   tags, structured bindings, functions with an explicit object, nested names that are a substitution and its arguments,
+///   what is in the initializer of a data member, in a default argument or in the type of an expression.
 /// - Special names: construction vtables, template parameter objects, the routines of thread-local variables, transaction
 ///   clones.
 /// - Types: decimal, half and sized floats, integers of any width, elements of a pack, `auto` of which a concept is asked,

@@ -8,70 +8,71 @@ use crate::table::{FIRST_LETTER, HEADS, SYMBOLS};
 use sym_shape::{Rule, letter_in, place_of, symbols_from};
 
 // For each kind a row: for each byte from `$` to `z` the letter of the production that the kind takes there.
-static WIDE_LETTERS: [[u8; 87]; 164] = [
+static WIDE_LETTERS: [[u8; 87]; 169] = [
     // $%&'()*+,-./0123456789:;<=>?@ABCDEFGHIJKLMNOPQRSTUVWXYZ[\]^_`abcdefghijklmnopqrstuvwxyz
-    *b"                                                           *                           ", // Symbol
-    *b"          +                                                                            ", // MaybeSuffix
-    *b",         , ,,,,,,,,,,       ,,,,,,,,,,,,,,,,,,,,,,,,,,    , ,,,,,,,,,,,,,,,,,,,,,,,,,,", // SuffixFirst
-    *b",         , ,,,,,,,,,,       ,,,,,,,,,,,,,,,,,,,,,,,,,,    , ,,,,,,,,,,,,,,,,,,,,,,,,,,", // SuffixMore
-    *b"            //////////             .    / /    /-/    /      / /// / /  ///// //       ", // Encoding
-    *b"                             5 6    40         00 04           3    1             2    ", // Special
-    *b"                                                                    7             8    ", // CallOffset
-    *b"            ::::::::::                                                    9            ", // Integer
-    *b"            $$$$$$$$$$                  \" )    ; #    <      % %%% % %  %%%%% %%       ", // CompleteName
+    *b"                                                           +                           ", // Symbol
+    *b"          ,                                                                            ", // MaybeSuffix
+    *b"-         - ----------       --------------------------    - --------------------------", // SuffixFirst
+    *b"-         - ----------       --------------------------    - --------------------------", // SuffixMore
+    *b"            0000000000          0  /    0 0    0.0    0      0 000 0 0  00000 00       ", // Encoding
+    *b"                             6 7    51         11 15           4    2             3    ", // Special
+    *b"                                                                    8             9    ", // CallOffset
+    *b"            ;;;;;;;;;;                                                    :            ", // Integer
+    *b"            $$$$$$$$$$          &       \" *    < #    =      % %%% % %  %%%%% %%       ", // CompleteName
     *b"                                                                              !        ", // MaybeRestrict
     *b"                                                  !                                    ", // MaybeVolatile
     *b"                                       !                                               ", // MaybeConst
     *b"                                    !      !  !                                        ", // MaybeRef
-    *b"            >>>>>>>>>>       >>>>>>>>>>>>>>>>>>>>>>>>>>    > >> >    >     >   >=      ", // NameAfterS
-    *b"            ((((((((((                  &        '           ? ??? ? ?  ????? ??       ", // Unqualified
-    *b"            DDDDDDDDDD          E       B      @AC                                     ", // Nest
-    *b"            GGGGGGGGGG       GGGGGGGGGGGGGGGGGGGGGGGGGG    G GG G    G     G   GF      ", // NestAfterS
-    *b"            IIIIIIIIII        JII I  H  II       I           I III I I  IIIII II       ", // NestRest
-    *b"            IIIIIIIIII         IIKI     II       I           I III I I  IIIII II       ", // NestTail
-    *b"            $$$$$$$$$$         LM Q     \"P       #           O NOO O O  OOOOO OO       ", // Component
-    *b"             SSSSS                   R                                                 ", // ConstructorAfterC
+    *b"            ??????????       ??????????????????????????    ? ?? ?    ?     ?   ?>      ", // NameAfterS
+    *b"            ))))))))))                  '        (           @ @@@ @ @  @@@@@ @@       ", // Unqualified
+    *b"            EEEEEEEEEE          F       C      ABD                                     ", // Nest
+    *b"            HHHHHHHHHH       HHHHHHHHHHHHHHHHHHHHHHHHHH    H HH H    H     H   HG      ", // NestAfterS
+    *b"            JJJJJJJJJJ        KJJ J  I  JJ       J           J JJJ J J  JJJJJ JJ       ", // NestRest
+    *b"            JJJJJJJJJJ         JJLJ     JJ       J           J JJJ J J  JJJJJ JJ       ", // NestTail
+    *b"            $$$$$$$$$$         MN R     \"Q       #           P OPP P P  PPPPP PP       ", // Component
+    *b"             TTTTT                   S                                                 ", // ConstructorAfterC
+    *b"            VVV VV             U                                                       ", // ComponentAfterD
     *b"             !!!!!                                                                     ", // ConstructorDigit
     *b"             !! !!                                                                     ", // InheritedDigit
     *b"            !!! !!                                                                     ", // DestructorDigit
-    *b"            UUUUUUUUUU       UUUUUUUUUUUUUUUUUUUUUUUUUU    U TT T    T     T   T       ", // Abbreviation
-    *b"            $$$$$$$$$$                  \" )      #              X              W       ", // Entity
-    *b"            $$$$$$$$$$                  \" V      #              Y                      ", // TypeEntity
-    *b"                                                           Z                           ", // MaybeDiscriminator
-    *b"            [[[[[[[[[[                                     \\                           ", // DiscriminatorRest
-    *b"                                                                        ]       ^      ", // Anonymous
-    *b"            cccccccccc       c cd c    a ccbc bccc`   c      cccccccccc cccc  _cccccccc", // Type
-    *b"            ffffffffff       f fe f      ffbf bfff    f      ffffffffff ffff   ffffffff", // Plain
-    *b"            cccccccccc       c cg c    a ccbc bccc`   c      cccccccccc cccc  _cccccccc", // Item
-    *b"            cccccccccc       c cg c    a cc c  ccc`   c      cccccccccc cccc  _cccccccc", // ItemButRef
-    *b"                              i   i    i        ii           i iiii ii i  iih  iiii  i ", // ItemAfterD
-    *b"                              o   m    n        po           j jjjj jj n  jl   jpjk  q ", // AfterD
-    *b"            $$$$$$$$$$       y {  z      sV r  ut#    v      wwwwwwwwww wwww   wwxwwwww", // Solid
+    *b"            XXXXXXXXXX       XXXXXXXXXXXXXXXXXXXXXXXXXX    X WW W    W     W   W       ", // Abbreviation
+    *b"            $$$$$$$$$$          &       \" *      #              [              Z       ", // Entity
+    *b"            $$$$$$$$$$                  \" Y      #              \\                      ", // TypeEntity
+    *b"                                                           ]                           ", // MaybeDiscriminator
+    *b"            ^^^^^^^^^^                                     _                           ", // DiscriminatorRest
+    *b"                                                                        `       a      ", // Anonymous
+    *b"            ffffffffff       f fg f    d ffef efffc   f      ffffffffff ffff  bffffffff", // Type
+    *b"            iiiiiiiiii       i ih i      iiei eiii    i      iiiiiiiiii iiii   iiiiiiii", // Plain
+    *b"            ffffffffff       f fj f    d ffef efffc   f      ffffffffff ffff  bffffffff", // Item
+    *b"            ffffffffff       f fj f    d ff f  fffc   f      ffffffffff ffff  bffffffff", // ItemButRef
+    *b"                              l   l    l        ll           l llll ll l  llk  llll  l ", // ItemAfterD
+    *b"                              r   p    q        sr           m mmmm mm q  mo   msmn  t ", // AfterD
+    *b"            $$$$$$$$$$       | ~  }      vY u  xw#    y      zzzzzzzzzz zzzz   zz{zzzzz", // Solid
     *b"                                                     !                                 ", // MaybeCLinkage
-    *b"            ||||||||||                                                                 ", // BitWidth
-    *b"            ~~~~~~~~~~       ~~~~~~~~~~~~~~~~~~~~~~~~~~    ~ ~~ ~    ~     ~   ~}      ", // TypeAfterS
-    *b"            ((((((((((                  &        '                                     ", // SourceOrLocal
-    *b"            \x82\x82\x82\x82\x82\x82\x82\x82\x82\x82       \x82 \x82\x82\x7f\x82    \x82 \x82\x82\x81\x82 \x80\x82\x82\x82\x82   \x82      \x82\x82\x82\x82\x82\x82\x82\x82\x82\x82 \x82\x82\x82\x82  \x82\x82\x82\x82\x82\x82\x82\x82\x82", // FunctionRest
-    *b"            \x84\x84\x84\x84\x84\x84\x84\x84\x84\x84       \x84 \x84\x84\x83\x84    \x84 \x84\x84\x84\x84 \x84\x84\x84\x84\x84   \x84      \x84\x84\x84\x84\x84\x84\x84\x84\x84\x84 \x84\x84\x84\x84  \x84\x84\x84\x84\x84\x84\x84\x84\x84", // AfterR
-    *b"            \x85\x85\x85\x85\x85\x85\x85\x85\x85\x85       \x85 \x85\x85\x83\x85    \x85 \x85\x85\x85\x85 \x85\x85\x85\x85\x85   \x85      \x85\x85\x85\x85\x85\x85\x85\x85\x85\x85 \x85\x85\x85\x85  \x85\x85\x85\x85\x85\x85\x85\x85\x85", // AfterO
-    *b"            \x87\x87\x87\x87\x87\x87\x87\x87\x87\x87       \x87 \x87\x87 \x87    \x87 \x87\x87\x87\x87\x86\x87\x87\x87\x87\x87   \x87      \x87\x87\x87\x87\x87\x87\x87\x87\x87\x87 \x87\x87\x87\x87  \x87\x87\x87\x87\x87\x87\x87\x87\x87", // Items
-    *b"                              \x89      \x88                                                 ", // MaybeArguments
-    *b"                                     \x88                                                 ", // Arguments
-    *b"            \x8c\x8c\x8c\x8c\x8c\x8c\x8c\x8c\x8c\x8c       \x8c \x8c\x8c \x8c   \x8a\x8c\x8b\x8c\x8c\x8c\x8c\x86\x8c\x8c\x8c\x8c\x8c \x8c \x8c      \x8c\x8c\x8c\x8c\x8c\x8c\x8c\x8c\x8c\x8c \x8c\x8c\x8c\x8c  \x8c\x8c\x8c\x8c\x8c\x8c\x8c\x8c\x8c", // ArgumentList
-    *b"            \x8e\x8e\x8e\x8e\x8e\x8e\x8e\x8e\x8e\x8e       \x8e \x8e\x8e \x8e    \x8e\x8d\x8e\x8e\x8e\x8e \x8e\x8e\x8e\x8e\x8e \x8e \x8e      \x8e\x8e\x8e\x8e\x8e\x8e\x8e\x8e\x8e\x8e \x8e\x8e\x8e\x8e  \x8e\x8e\x8e\x8e\x8e\x8e\x8e\x8e\x8e", // PackList
-    *b"            \x92\x92\x92\x92\x92\x92\x92\x92\x92\x92          \x91      \x92 \x92\x92 \x92  \x92\x92\x92\x92   \x92    \x8f \x92\x90\x92\x93\x93\x93\x93\x92\x92\x92 \x92\x92\x92\x92   \x92\x92  \x92\x92\x92 ", // Literal
+    *b"            \x7f\x7f\x7f\x7f\x7f\x7f\x7f\x7f\x7f\x7f                                                                 ", // BitWidth
+    *b"            \x81\x81\x81\x81\x81\x81\x81\x81\x81\x81       \x81\x81\x81\x81\x81\x81\x81\x81\x81\x81\x81\x81\x81\x81\x81\x81\x81\x81\x81\x81\x81\x81\x81\x81\x81\x81    \x81 \x81\x81 \x81    \x81     \x81   \x81\x80      ", // TypeAfterS
+    *b"            ))))))))))                  '        (                                     ", // SourceOrLocal
+    *b"            \x85\x85\x85\x85\x85\x85\x85\x85\x85\x85       \x85 \x85\x85\x82\x85    \x85 \x85\x85\x84\x85 \x83\x85\x85\x85\x85   \x85      \x85\x85\x85\x85\x85\x85\x85\x85\x85\x85 \x85\x85\x85\x85  \x85\x85\x85\x85\x85\x85\x85\x85\x85", // FunctionRest
+    *b"            \x87\x87\x87\x87\x87\x87\x87\x87\x87\x87       \x87 \x87\x87\x86\x87    \x87 \x87\x87\x87\x87 \x87\x87\x87\x87\x87   \x87      \x87\x87\x87\x87\x87\x87\x87\x87\x87\x87 \x87\x87\x87\x87  \x87\x87\x87\x87\x87\x87\x87\x87\x87", // AfterR
+    *b"            \x88\x88\x88\x88\x88\x88\x88\x88\x88\x88       \x88 \x88\x88\x86\x88    \x88 \x88\x88\x88\x88 \x88\x88\x88\x88\x88   \x88      \x88\x88\x88\x88\x88\x88\x88\x88\x88\x88 \x88\x88\x88\x88  \x88\x88\x88\x88\x88\x88\x88\x88\x88", // AfterO
+    *b"            \x8a\x8a\x8a\x8a\x8a\x8a\x8a\x8a\x8a\x8a       \x8a \x8a\x8a \x8a    \x8a \x8a\x8a\x8a\x8a\x89\x8a\x8a\x8a\x8a\x8a   \x8a      \x8a\x8a\x8a\x8a\x8a\x8a\x8a\x8a\x8a\x8a \x8a\x8a\x8a\x8a  \x8a\x8a\x8a\x8a\x8a\x8a\x8a\x8a\x8a", // Items
+    *b"                              \x8c      \x8b                                                 ", // MaybeArguments
+    *b"                                     \x8b                                                 ", // Arguments
+    *b"            \x8f\x8f\x8f\x8f\x8f\x8f\x8f\x8f\x8f\x8f       \x8f \x8f\x8f \x8f   \x8d\x8f\x8e\x8f\x8f\x8f\x8f\x89\x8f\x8f\x8f\x8f\x8f \x8f \x8f      \x8f\x8f\x8f\x8f\x8f\x8f\x8f\x8f\x8f\x8f \x8f\x8f\x8f\x8f  \x8f\x8f\x8f\x8f\x8f\x8f\x8f\x8f\x8f", // ArgumentList
+    *b"            \x91\x91\x91\x91\x91\x91\x91\x91\x91\x91       \x91 \x91\x91 \x91    \x91\x90\x91\x91\x91\x91 \x91\x91\x91\x91\x91 \x91 \x91      \x91\x91\x91\x91\x91\x91\x91\x91\x91\x91 \x91\x91\x91\x91  \x91\x91\x91\x91\x91\x91\x91\x91\x91", // PackList
+    *b"            \x95\x95\x95\x95\x95\x95\x95\x95\x95\x95          \x94      \x95 \x95\x95 \x95  \x95\x95\x95\x95   \x95    \x92 \x95\x93\x95\x96\x96\x96\x96\x95\x95\x95 \x95\x95\x95\x95   \x95\x95  \x95\x95\x95 ", // Literal
     *b"            !!                                                                         ", // Bit
-    *b"                                  \x96                                  \x95    \x94    \x95 \x95     ", // LiteralAfterD
-    *b"                                                                wwww                   ", // FloatType
-    *b"                                  m                                                    ", // SizedFloatType
-    *b"            \x97\x97\x97\x97\x97\x97\x97\x97\x97\x97                                       \x97\x97\x97\x97\x97\x97                    ", // HexText
-    *b"            \x98\x98\x98\x98\x98\x98\x98\x98\x98\x98                                       \x98\x98\x98\x98\x98\x98                    ", // HexDigits
-    *b"            \x98\x98\x98\x98\x98\x98\x98\x98\x98\x98                                       \x98\x98\x98\x98\x98\x98                    ", // HexMore
+    *b"                                  \x99                                  \x98    \x97    \x98 \x98     ", // LiteralAfterD
+    *b"                                                                zzzz                   ", // FloatType
+    *b"                                  p                                                    ", // SizedFloatType
+    *b"            \x9a\x9a\x9a\x9a\x9a\x9a\x9a\x9a\x9a\x9a                                       \x9a\x9a\x9a\x9a\x9a\x9a                    ", // HexText
+    *b"            \x9b\x9b\x9b\x9b\x9b\x9b\x9b\x9b\x9b\x9b                                       \x9b\x9b\x9b\x9b\x9b\x9b                    ", // HexDigits
+    *b"            \x9b\x9b\x9b\x9b\x9b\x9b\x9b\x9b\x9b\x9b                                       \x9b\x9b\x9b\x9b\x9b\x9b                    ", // HexMore
     *b"            !                                                                          ", // MaybeZero
-    *b"            $$$$$$$$$$                 \x9a sV r  ut#\x99   v      w w    www wwww   ww  www ", // LiteralType
-    *b"            \x9b\x9b\x9b\x9b\x9b\x9b\x9b\x9b\x9b\x9b                   \x9b\x9b \x9b  \x9b\x9b\x9b    \x9b      \x9b \x9b    \x9b\x9b\x9b \x9b\x9b\x9b\x9b   \x9b\x9b  \x9b\x9b\x9b ", // LiteralPlain
-    *b"            $$$$$$$$$$                   sV r  ut#    v      w w    www wwww   ww  www ", // LiteralSolid
-    *b"                                                             \x9e \xa0\x9d\xa4 \xa8 \xa7  \xa5\xa1\x9c\xa3\x9f \xa2\xa6       ", // Operator
+    *b"            $$$$$$$$$$                 \x9d vY u  xw#\x9c   y      z z    zzz zzzz   zz  zzz ", // LiteralType
+    *b"            \x9e\x9e\x9e\x9e\x9e\x9e\x9e\x9e\x9e\x9e                   \x9e\x9e \x9e  \x9e\x9e\x9e    \x9e      \x9e \x9e    \x9e\x9e\x9e \x9e\x9e\x9e\x9e   \x9e\x9e  \x9e\x9e\x9e ", // LiteralPlain
+    *b"            $$$$$$$$$$                   vY u  xw#    y      z z    zzz zzzz   zz  zzz ", // LiteralSolid
+    *b"                                                             \xa1 \xa3\xa0\xa7 \xab \xaa  \xa8\xa4\x9f\xa6\xa2 \xa5\xa9       ", // Operator
     *b"                                                             !   ! !            !  !   ", // OperatorAfterN
     *b"                                                  !          !   !      !         !    ", // OperatorAfterD
     *b"                                          !    !             !  !         !        !   ", // OperatorAfterA
@@ -81,106 +82,110 @@ static WIDE_LETTERS: [[u8; 87]; 164] = [
     *b"                                         !     !                         !     !       ", // OperatorAfterR
     *b"                                              !                            !  !        ", // OperatorAfterO
     *b"                                           !                               ! !         ", // OperatorAfterE
-    *b"                                               !                 !   \xa9         !!      ", // OperatorAfterL
+    *b"                                               !                 !   \xac         !!      ", // OperatorAfterL
     *b"                                                                               !       ", // OperatorAfterS
     *b"                                                                                    !  ", // OperatorAfterI
     *b"                                                                 !              !      ", // OperatorAfterG
-    *b"            IIIIIIIIII         II I  \xaa  II       I           I III I I  IIIII II       ", // NestRestOrEnd
-    *b"                                     \x88                                                 ", // ArgumentsAlone
-    *b"            IIIIIIIIII         II I  H  II       I           I III I I  IIIII II       ", // NestRestAlone
+    *b"            JJJJJJJJJJ         JJ J  \xad  JJ       J           J JJJ J J  JJJJJ JJ       ", // NestRestOrEnd
+    *b"                                     \x8b                                                 ", // ArgumentsAlone
+    *b"            JJJJJJJJJJ         JJ J  I  JJ       J           J JJJ J J  JJJJJ JJ       ", // NestRestAlone
     *b"                                         !                                             ", // HolderMark
-    *b"            $$$$$$$$$$         LM       \"        #           O NOO O O  OOOOO OO       ", // HeldComponent
+    *b"            $$$$$$$$$$         MN       \"        #           P OPP P P  PPPPP PP       ", // HeldComponent
+    *b"                               \xaf                                                       ", // BindingAfterD
+    *b"            \xb0\xb0\xb0\xb0\xb0\xb0\xb0\xb0\xb0\xb0                  \xb0                                              ", // BoundNames
+    *b"            \xb0\xb0\xb0\xb0\xb0\xb0\xb0\xb0\xb0\xb0                  \xb0                                              ", // MoreNames
+    *b"            \xae\xae\xae\xae\xae\xae\xae\xae\xae\xae                  \xb1                                              ", // BoundName
     *b"                                                           !  !                     !  ", // FloatEnd
-    *b"                                                                        \xac\xac \xac      \xab    ", // ComponentAfterC
-    *b"                                                             \x9e  \x9d\xa4 \xa8 \xa7  \xa5\xa1\x9c\xa3\x9f \xa2\xa6       ", // OtherOperator
-    *b"                                     \xad                                                 ", // HeldArguments
-    *b"            \xaf\xaf\xaf\xaf\xaf\xaf\xaf\xaf\xaf\xaf                    \xae    \xaf      v                                ", // BaseClass
-    *b"            \xb1\xb1\xb1\xb1\xb1\xb1\xb1\xb1\xb1\xb1                         \xb0                                       ", // UnnestedName
-    *b"                                     \xb2                                                 ", // BaseArguments
-    *b"            \x8c\x8c\x8c\x8c\x8c\x8c\x8c\x8c\x8c\x8c       \x8c \x8c\x8c \x8c  \x8a\x8a\x8c\x8b\x8c\x8c\x8c\x8c\x86\x8c\x8c\x8c\x8c\x8c \x8c \x8c      \x8c\x8c\x8c\x8c\x8c\x8c\x8c\x8c\x8c\x8c \x8c\x8c\x8c\x8c  \x8c\x8c\x8c\x8c\x8c\x8c\x8c\x8c\x8c", // ArgumentsFirst
-    *b"            $$$$$$$$$$                  \" )      #                                     ", // PlainEntity
-    *b"            $$$$$$$$$$                  \" V      #                                     ", // PlainTypeEntity
+    *b"                                                                        \xb3\xb3 \xb3      \xb2    ", // ComponentAfterC
+    *b"                                                             \xa1  \xa0\xa7 \xab \xaa  \xa8\xa4\x9f\xa6\xa2 \xa5\xa9       ", // OtherOperator
+    *b"                                     \xb4                                                 ", // HeldArguments
+    *b"            \xb6\xb6\xb6\xb6\xb6\xb6\xb6\xb6\xb6\xb6                    \xb5    \xb6      y                                ", // BaseClass
+    *b"            \xb8\xb8\xb8\xb8\xb8\xb8\xb8\xb8\xb8\xb8                         \xb7                                       ", // UnnestedName
+    *b"                                     \xb9                                                 ", // BaseArguments
+    *b"            \x8f\x8f\x8f\x8f\x8f\x8f\x8f\x8f\x8f\x8f       \x8f \x8f\x8f \x8f  \x8d\x8d\x8f\x8e\x8f\x8f\x8f\x8f\x89\x8f\x8f\x8f\x8f\x8f \x8f \x8f      \x8f\x8f\x8f\x8f\x8f\x8f\x8f\x8f\x8f\x8f \x8f\x8f\x8f\x8f  \x8f\x8f\x8f\x8f\x8f\x8f\x8f\x8f\x8f", // ArgumentsFirst
+    *b"            $$$$$$$$$$          &       \" *      #                                     ", // PlainEntity
+    *b"            $$$$$$$$$$                  \" Y      #                                     ", // PlainTypeEntity
     *b"                                   !                                                   ", // SpecialMark
-    *b"                                              \xb3 \xb4 4                                    ", // SpecialAfterG
-    *b"            $$$$$$$$$$                  \" )    ; #    \xb5                                ", // TemporaryName
+    *b"                                              \xba \xbb 5                                    ", // SpecialAfterG
+    *b"            $$$$$$$$$$          &       \" *    < #    \xbc                                ", // TemporaryName
     *b"                                                                          !     !      ", // CloneLetter
-    *b"                                                                                \xb6      ", // TypeInStd
-    *b"                              \xb7                                                        ", // MaybeTags
-    *b"            \xba\xba\xba\xba\xba\xba\xba\xba\xba\xba       \xba \xbag \xba    a \xba\xbab\xba b\xba\xb9\xba` \xb8 \xba      \xba\xba\xba\xba\xba\xba\xba\xba\xba\xba \xba\xba\xba\xba  _\xba\xba\xba\xba\xba\xba\xba\xba", // Argument
-    *b"            \xbb\xbb\xbb\xbb\xbb\xbb\xbb\xbb\xbb\xbb                  \xbd                  \xbb           \xbc  \xbc \xbc   \xbc    \xbc ", // ArgumentAfterT
-    *b"            \xbb\xbb\xbb\xbb\xbb\xbb\xbb\xbb\xbb\xbb                                     \xbb                           ", // LeveledParameter
-    *b"            \xba\xba\xba\xba\xba\xba\xba\xba\xba\xba       \xba \xbag \xba   \xbfa\xbe\xba\xbab\xba b\xba\xb9\xba` \xb8 \xba      \xba\xba\xba\xba\xba\xba\xba\xba\xba\xba \xba\xba\xba\xba  _\xba\xba\xba\xba\xba\xba\xba\xba", // OneArgument
-    *b"                                                                       \xc2  \xc1 \xc4   \xc3    \xc0 ", // DeclarationAfterT
-    *b"                                                \xc5                                      ", // Declarations
-    *b"            \xc6\xc6\xc6\xc6\xc6\xc6\xc6\xc6\xc6\xc6                    V    \xc6                                       ", // Concept
-    *b"            $$$$$$$$$$       y {  z      sV r  u #    v      wwwwwwwwww wwww   wwxwwwww", // SolidButT
-    *b"            \xc9\xc9\xc9\xc9\xc9\xc9\xc9\xc9\xc9\xc9                  \xbe       \xf3            \xe3 \xe4\xe5\xe6\xe7\xe8 \xe9  \xea\xeb\xec\xed\xee\xef\xf0\xf1\xf2      ", // Expression
-    *b"            \xf4\xf4\xf4\xf4\xf4\xf4\xf4\xf4\xf4\xf4                  \xf5                  \xf4                           ", // ExpressionParameter
-    *b"            \xf4\xf4\xf4\xf4\xf4\xf4\xf4\xf4\xf4\xf4                                     \xf4                           ", // UnleveledExpression
-    *b"            \xc9\xc9\xc9\xc9\xc9\xc9\xc9\xc9\xc9\xc9                  \xf6       \xf3            \xe3 \xe4\xe5\xe6\xe7\xe8 \xe9  \xea\xeb\xec\xed\xee\xef\xf0\xf1\xf2      ", // AddressedExpression
-    *b"            \x92\x92\x92\x92\x92\x92\x92\x92\x92\x92          \x91      \x92 \x92\x92 \x92  \x92\x92\x92\x92   \x92    \x8f \x92\x90\x92\x93\x93\x93\x93\x92\x92\x92 \x92\x92\x92\x92   \x92\x92  \x92\x92\x92 ", // AddressedLiteral
-    *b"                                          \xcc    \xcc             \xcc  \xcb         \xcc     \xce  \xcd  \xcd", // ExpressionAfterA
-    *b"                                                               \xc7        \xcf\xcc \xcd\xcf     \xd0    ", // ExpressionAfterC
-    *b"                                                  \xcc          \xcd \xc7 \xcd   \xd1  \xcd \xd3    \xcc\xcc \xcc \xd2  ", // ExpressionAfterD
-    *b"                                           \xcc                               \xcc \xcc         ", // ExpressionAfterE
-    *b"                                        \xd4                               \xd5   \xca \xd6        ", // ExpressionAfterF
-    *b"                                                                 \xcc             \xcd\xcc      ", // ExpressionAfterG
-    *b"                                                                        \xd7           \xcc  ", // ExpressionAfterI
-    *b"                                               \xcc                 \xcc             \xcc\xcc      ", // ExpressionAfterL
-    *b"                                     \xcc  \xcc                            \xcc  \xcc\xd8             ", // ExpressionAfterM
-    *b"                                                             \xd9   \xcc \xcd            \xcd  \xd9\xcd  ", // ExpressionAfterN
-    *b"                                              \xcc                           \xc8\xcc  \xcc        ", // ExpressionAfterO
-    *b"                                        \xcc                               \xcc\xcc  \xd8  \xcd\xcc      ", // ExpressionAfterP
-    *b"                                                                                 \xda     ", // ExpressionAfterQ
-    *b"                                         \xcc   \xdc \xcc               \xc7         \xcc   \xdb \xcc       ", // ExpressionAfterR
-    *b"                                                      \xde        \xc7            \xdd \xdf\xcc\xce    \xe0\xcd", // ExpressionAfterS
-    *b"                                                                 \xcd   \xce  \xe1     \xe2    \xcd   ", // ExpressionAfterT
-    *b"            \xf7\xf7\xf7\xf7\xf7\xf7\xf7\xf7\xf7\xf7                  \xf7       \xf7            \xf7 \xf7\xf7\xf7\xf7\xf7 \xf7  \xf7\xf7\xf7\xf7\xf7\xf7\xf7\xf7\xf7      ", // Expressions
+    *b"                                                                                \xbd      ", // TypeInStd
+    *b"                              \xbe                                                        ", // MaybeTags
+    *b"            \xc1\xc1\xc1\xc1\xc1\xc1\xc1\xc1\xc1\xc1       \xc1 \xc1j \xc1    d \xc1\xc1e\xc1 e\xc1\xc0\xc1c \xbf \xc1      \xc1\xc1\xc1\xc1\xc1\xc1\xc1\xc1\xc1\xc1 \xc1\xc1\xc1\xc1  b\xc1\xc1\xc1\xc1\xc1\xc1\xc1\xc1", // Argument
+    *b"            \xc2\xc2\xc2\xc2\xc2\xc2\xc2\xc2\xc2\xc2                  \xc4                  \xc2           \xc3  \xc3 \xc3   \xc3    \xc3 ", // ArgumentAfterT
+    *b"            \xc2\xc2\xc2\xc2\xc2\xc2\xc2\xc2\xc2\xc2                                     \xc2                           ", // LeveledParameter
+    *b"            \xc1\xc1\xc1\xc1\xc1\xc1\xc1\xc1\xc1\xc1       \xc1 \xc1j \xc1   \xc6d\xc5\xc1\xc1e\xc1 e\xc1\xc0\xc1c \xbf \xc1      \xc1\xc1\xc1\xc1\xc1\xc1\xc1\xc1\xc1\xc1 \xc1\xc1\xc1\xc1  b\xc1\xc1\xc1\xc1\xc1\xc1\xc1\xc1", // OneArgument
+    *b"                                                                       \xc9  \xc8 \xcb   \xca    \xc7 ", // DeclarationAfterT
+    *b"                                                \xcc                                      ", // Declarations
+    *b"            \xcd\xcd\xcd\xcd\xcd\xcd\xcd\xcd\xcd\xcd                    Y    \xcd                                       ", // Concept
+    *b"            $$$$$$$$$$       | ~  }      vY u  x #    y      zzzzzzzzzz zzzz   zz{zzzzz", // SolidButT
+    *b"            \xd0\xd0\xd0\xd0\xd0\xd0\xd0\xd0\xd0\xd0                  \xc5       \xfa            \xea \xeb\xec\xed\xee\xef \xf0  \xf1\xf2\xf3\xf4\xf5\xf6\xf7\xf8\xf9      ", // Expression
+    *b"            \xfb\xfb\xfb\xfb\xfb\xfb\xfb\xfb\xfb\xfb                  \xfc                  \xfb                           ", // ExpressionParameter
+    *b"            \xfb\xfb\xfb\xfb\xfb\xfb\xfb\xfb\xfb\xfb                                     \xfb                           ", // UnleveledExpression
+    *b"            \xd0\xd0\xd0\xd0\xd0\xd0\xd0\xd0\xd0\xd0                  \xfd       \xfa            \xea \xeb\xec\xed\xee\xef \xf0  \xf1\xf2\xf3\xf4\xf5\xf6\xf7\xf8\xf9      ", // AddressedExpression
+    *b"            \x95\x95\x95\x95\x95\x95\x95\x95\x95\x95          \x94      \x95 \x95\x95 \x95  \x95\x95\x95\x95   \x95    \x92 \x95\x93\x95\x96\x96\x96\x96\x95\x95\x95 \x95\x95\x95\x95   \x95\x95  \x95\x95\x95 ", // AddressedLiteral
+    *b"                                          \xd3    \xd3             \xd3  \xd2         \xd3     \xd5  \xd4  \xd4", // ExpressionAfterA
+    *b"                                                               \xce        \xd6\xd3 \xd4\xd6     \xd7    ", // ExpressionAfterC
+    *b"                                                  \xd3          \xd4 \xce \xd4   \xd8  \xd4 \xda    \xd3\xd3 \xd3 \xd9  ", // ExpressionAfterD
+    *b"                                           \xd3                               \xd3 \xd3         ", // ExpressionAfterE
+    *b"                                        \xdb                               \xdc   \xd1 \xdd        ", // ExpressionAfterF
+    *b"                                                                 \xd3             \xd4\xd3      ", // ExpressionAfterG
+    *b"                                                                        \xde           \xd3  ", // ExpressionAfterI
+    *b"                                               \xd3                 \xd3             \xd3\xd3      ", // ExpressionAfterL
+    *b"                                     \xd3  \xd3                            \xd3  \xd3\xdf             ", // ExpressionAfterM
+    *b"                                                             \xe0   \xd3 \xd4            \xd4  \xe0\xd4  ", // ExpressionAfterN
+    *b"                                              \xd3                           \xcf\xd3  \xd3        ", // ExpressionAfterO
+    *b"                                        \xd3                               \xd3\xd3  \xdf  \xd4\xd3      ", // ExpressionAfterP
+    *b"                                                                                 \xe1     ", // ExpressionAfterQ
+    *b"                                         \xd3   \xe3 \xd3               \xce         \xd3   \xe2 \xd3       ", // ExpressionAfterR
+    *b"                                                      \xe5        \xce            \xe4 \xe6\xd3\xd5    \xe7\xd4", // ExpressionAfterS
+    *b"                                                                 \xd4   \xd5  \xe8     \xe9    \xd4   ", // ExpressionAfterT
+    *b"            \xfe\xfe\xfe\xfe\xfe\xfe\xfe\xfe\xfe\xfe                  \xfe       \xfe            \xfe \xfe\xfe\xfe\xfe\xfe \xfe  \xfe\xfe\xfe\xfe\xfe\xfe\xfe\xfe\xfe      ", // Expressions
     *b"                                                           !                           ", // MaybeBefore
-    *b"                                                             \x9e \xa0\x9d\xa4 \xa8 \xa7  \xf8\xa1\x9c\xa3\x9f \xa2\xa6       ", // FoldOperator
+    *b"                                                             \xa1 \xa3\xa0\xa7 \xab \xaa  \xff\xa4\x9f\xa6\xa2 \xa5\xa9       ", // FoldOperator
     *b"                                               !                 !             !!      ", // FoldOperatorAfterL
-    *b"            \xf9\xf9\xf9\xf9\xf9\xf9\xf9\xf9\xf9\xf9                  \xf9       \xf9            \xf9 \xf9\xf9\xf9\xf9\xf9 \xf9  \xf9\xf9\xf9\xf9\xf9\xf9\xf9\xf9\xf9      ", // FoldOperand
-    *b"            \xfa\xfa\xfa\xfa\xfa\xfa\xfa\xfa\xfa\xfa                  \xfa       \xfa            \xfa \xfa\xfa\xfa\xfa\xfa \xfa  \xfa\xfa\xfa\xfa\xfa\xfa\xfa\xfa\xfa      ", // FoldPack
-    *b"            \xfa\xfa\xfa\xfa\xfa\xfa\xfa\xfa\xfa\xfa                \xbf \xfa       \xfa            \xfa \xfa\xfa\xfa\xfa\xfa \xfa  \xfa\xfa\xfa\xfa\xfa\xfa\xfa\xfa\xfa      ", // ValuePack
-    *b"            \xfb\xfb\xfb\xfb\xfb\xfb\xfb\xfb\xfb\xfb       \xfb \xfb\xfb \xfb   \xbf\xfb \xfb\xfb\xfb\xfb \xfb\xfb\xfb\xfb\xfb   \xfb      \xfb\xfb\xfb\xfb\xfb\xfb\xfb\xfb\xfb\xfb \xfb\xfb\xfb\xfb  \xfb\xfb\xfb\xfb\xfb\xfb\xfb\xfb\xfb", // TypePack
-    *b"            \xfd\xfd\xfd\xfd\xfd\xfd\xfd\xfd\xfd\xfd                  \xfd       \xfd            \xfd \xfd\xfc\xfd\xfd\xfd \xfd  \xfd\xfd\xfd\xfd\xfd\xfd\xfd\xfd\xfd      ", // DesignatedValue
-    *b"                                                                     \xd1              \xd2  ", // DesignatorAfterD
-    *b"            \xc9\xc9\xc9\xc9\xc9\xc9\xc9\xc9\xc9\xc9                  \xbe       \xf3            \xe3 \xe4 \xe6\xe7\xe8 \xe9  \xea\xeb\xec\xed\xee\xef\xf0\xf1\xf2      ", // PlainValue
-    *b"            \xfe\xfe\xfe\xfe\xfe\xfe\xfe\xfe\xfe\xfe                                                                 ", // FieldName
-    *b"            \xff\xff\xff\xff\xff\xff\xff\xff\xff\xff                  \xff       \xff          ! \xff \xff\xff\xff\xff\xff \xff  \xff\xff\xff\xff\xff\xff\xff\xff\xff      ", // Placement
-    *b"            \xf7\xf7\xf7\xf7\xf7\xf7\xf7\xf7\xf7\xf7                  \xf7       \xf7            \xf7 \xf7\xf7\xf7\xf7\xf7 \xf7  \xf7\xf7\xf7\xf7\xf7\xf7\xf7\xf7\xf7      ", // SomeExpressions
-    *b"                                 \x83                                   \x01      \x00          ", // Initializer
-    *b"                                                                     \xd7                 ", // InitializerAfterP
-    *b"                                                                        \xd7              ", // InitializerAfterI
-    *b"                                                                            \xca          ", // OuterRest
-    *b"            \x03\x03\x03\x03\x03\x03\x03\x03\x03\x03                          \x02          \x03                           ", // ParameterNumber
-    *b"            \x08\x08\x08\x08\x08\x08\x08\x08\x08\x08          \x04 \x08    \x05  \x08\x07\x06 \x07\x08\x08\x08           \x08\x08\x08\x08\x08\x08\x08\x08\x08\x08 \x08\x08\x08\x08   \x08\x08 \x08\x08\x08\x08\x08", // ConvertedType
-    *b"            $$$$$$$$$$            z       V    u\x09#           wwwwwwwwww wwww   ww wwwww", // ConvertedSolid
-    *b"            \xbb\xbb\xbb\xbb\xbb\xbb\xbb\xbb\xbb\xbb                  \xbd                  \xbb                           ", // ParameterAfterT
-    *b"                                                p                               p      ", // DecltypeAfterD
-    *b"            \xc9\xc9\xc9\xc9\xc9\xc9\xc9\xc9\xc9\xc9                  \xbe       \xf3          \xd7 \xe3 \xe4\xe5\xe6\xe7\xe8 \xe9  \xea\xeb\xec\xed\xee\xef\xf0\xf1\xf2      ", // ConvertRest
-    *b"            \x0b\x0b\x0b\x0b\x0b\x0b\x0b\x0b\x0b\x0b          \x0a         \x0a    \x0a\x0a                                      ", // Unresolved
-    *b"                                \x04         V    u\x09                                      ", // UnresolvedType
-    *b"            \xc9\xc9\xc9\xc9\xc9\xc9\xc9\xc9\xc9\xc9          \x0c         \x0c    \x0c\x0c                                      ", // DestructorName
-    *b"                                             \x0f  \x0e   \x0d                                  ", // Requirements
-    *b"                                          \x11  \x0f\x10 \x0e   \x0d                                  ", // AfterExpression
-    *b"                                             \x0f\x10 \x0e   \x0d                                  ", // AfterNoexcept
-    *b"            \x12\x12\x12\x12\x12\x12\x12\x12\x12\x12          \x12 \x12    \x12  \x12\x12\x12 \x12\x12\x12\x12         \xdb \x12\x12\x12\x12\x12\x12\x12\x12\x12\x12 \x12\x12\x12\x12   \x12\x12 \x12\x12\x12\x12\x12", // RequiredTypes
-    *b"            \xc9\xc9\xc9\xc9\xc9\xc9\xc9\xc9\xc9\xc9                                                                 ", // Level
-    *b"            \x0b\x0b\x0b\x0b\x0b\x0b\x0b\x0b\x0b\x0b           \x13                                                     ", // MoreLevels
-    *b"            \xc9\xc9\xc9\xc9\xc9\xc9\xc9\xc9\xc9\xc9                                                     \x14           ", // UnresolvedName
-    *b"                                                                          \xc8            ", // OperatorName
-    *b"                             \x15                                                         ", // AnyArray
-    *b"            \x17\x17\x17\x17\x17\x17\x17\x17\x17\x17                  \x16       \x16          \x17 \x16 \x16\x16\x16\x16\x16 \x16  \x16\x16\x16\x16\x16\x16\x16\x16\x16      ", // ArrayRest
-    *b"                                        \xbe       \xf3            \xe3 \xe4\xe5\xe6\xe7\xe8 \xe9  \xea\xeb\xec\xed\xee\xef\xf0\xf1\xf2      ", // Bound
-    *b"            IIIIIIIIII         IIKI     II       I           I III I I  IIIII II       ", // NestMoreOrEnd
+    *b"            \x00\x00\x00\x00\x00\x00\x00\x00\x00\x00                  \x00       \x00            \x00 \x00\x00\x00\x00\x00 \x00  \x00\x00\x00\x00\x00\x00\x00\x00\x00      ", // FoldOperand
+    *b"            \x01\x01\x01\x01\x01\x01\x01\x01\x01\x01                  \x01       \x01            \x01 \x01\x01\x01\x01\x01 \x01  \x01\x01\x01\x01\x01\x01\x01\x01\x01      ", // FoldPack
+    *b"            \x01\x01\x01\x01\x01\x01\x01\x01\x01\x01                \xc6 \x01       \x01            \x01 \x01\x01\x01\x01\x01 \x01  \x01\x01\x01\x01\x01\x01\x01\x01\x01      ", // ValuePack
+    *b"            \x02\x02\x02\x02\x02\x02\x02\x02\x02\x02       \x02 \x02\x02 \x02   \xc6\x02 \x02\x02\x02\x02 \x02\x02\x02\x02\x02   \x02      \x02\x02\x02\x02\x02\x02\x02\x02\x02\x02 \x02\x02\x02\x02  \x02\x02\x02\x02\x02\x02\x02\x02\x02", // TypePack
+    *b"            \x04\x04\x04\x04\x04\x04\x04\x04\x04\x04                  \x04       \x04            \x04 \x04\x03\x04\x04\x04 \x04  \x04\x04\x04\x04\x04\x04\x04\x04\x04      ", // DesignatedValue
+    *b"                                                                     \xd8              \xd9  ", // DesignatorAfterD
+    *b"            \xd0\xd0\xd0\xd0\xd0\xd0\xd0\xd0\xd0\xd0                  \xc5       \xfa            \xea \xeb \xed\xee\xef \xf0  \xf1\xf2\xf3\xf4\xf5\xf6\xf7\xf8\xf9      ", // PlainValue
+    *b"            \xae\xae\xae\xae\xae\xae\xae\xae\xae\xae                                                                 ", // FieldName
+    *b"            \x05\x05\x05\x05\x05\x05\x05\x05\x05\x05                  \x05       \x05          ! \x05 \x05\x05\x05\x05\x05 \x05  \x05\x05\x05\x05\x05\x05\x05\x05\x05      ", // Placement
+    *b"            \xfe\xfe\xfe\xfe\xfe\xfe\xfe\xfe\xfe\xfe                  \xfe       \xfe            \xfe \xfe\xfe\xfe\xfe\xfe \xfe  \xfe\xfe\xfe\xfe\xfe\xfe\xfe\xfe\xfe      ", // SomeExpressions
+    *b"                                 \x86                                   \x07      \x06          ", // Initializer
+    *b"                                                                     \xde                 ", // InitializerAfterP
+    *b"                                                                        \xde              ", // InitializerAfterI
+    *b"                                                                            \xd1          ", // OuterRest
+    *b"            \x09\x09\x09\x09\x09\x09\x09\x09\x09\x09                          \x08          \x09                           ", // ParameterNumber
+    *b"            \x0e\x0e\x0e\x0e\x0e\x0e\x0e\x0e\x0e\x0e          \x0a \x0e    \x0b  \x0e\x0d\x0c \x0d\x0e\x0e\x0e           \x0e\x0e\x0e\x0e\x0e\x0e\x0e\x0e\x0e\x0e \x0e\x0e\x0e\x0e   \x0e\x0e \x0e\x0e\x0e\x0e\x0e", // ConvertedType
+    *b"            $$$$$$$$$$            }       Y    x\x0f#           zzzzzzzzzz zzzz   zz zzzzz", // ConvertedSolid
+    *b"            \xc2\xc2\xc2\xc2\xc2\xc2\xc2\xc2\xc2\xc2                  \xc4                  \xc2                           ", // ParameterAfterT
+    *b"                                                s                               s      ", // DecltypeAfterD
+    *b"            \xd0\xd0\xd0\xd0\xd0\xd0\xd0\xd0\xd0\xd0                  \xc5       \xfa          \xde \xea \xeb\xec\xed\xee\xef \xf0  \xf1\xf2\xf3\xf4\xf5\xf6\xf7\xf8\xf9      ", // ConvertRest
+    *b"            \x11\x11\x11\x11\x11\x11\x11\x11\x11\x11          \x10         \x10    \x10\x10                                      ", // Unresolved
+    *b"                                \x0a         Y    x\x0f                                      ", // UnresolvedType
+    *b"            \xd0\xd0\xd0\xd0\xd0\xd0\xd0\xd0\xd0\xd0          \x12         \x12    \x12\x12                                      ", // DestructorName
+    *b"                                             \x15  \x14   \x13                                  ", // Requirements
+    *b"                                          \x17  \x15\x16 \x14   \x13                                  ", // AfterExpression
+    *b"                                             \x15\x16 \x14   \x13                                  ", // AfterNoexcept
+    *b"            \x18\x18\x18\x18\x18\x18\x18\x18\x18\x18          \x18 \x18    \x18  \x18\x18\x18 \x18\x18\x18\x18         \xe2 \x18\x18\x18\x18\x18\x18\x18\x18\x18\x18 \x18\x18\x18\x18   \x18\x18 \x18\x18\x18\x18\x18", // RequiredTypes
+    *b"            \xd0\xd0\xd0\xd0\xd0\xd0\xd0\xd0\xd0\xd0                                                                 ", // Level
+    *b"            \x11\x11\x11\x11\x11\x11\x11\x11\x11\x11           \x19                                                     ", // MoreLevels
+    *b"            \xd0\xd0\xd0\xd0\xd0\xd0\xd0\xd0\xd0\xd0                                                     \x1a           ", // UnresolvedName
+    *b"                                                                          \xcf            ", // OperatorName
+    *b"                             \x1b                                                         ", // AnyArray
+    *b"            \x1d\x1d\x1d\x1d\x1d\x1d\x1d\x1d\x1d\x1d                  \x1c       \x1c          \x1d \x1c \x1c\x1c\x1c\x1c\x1c \x1c  \x1c\x1c\x1c\x1c\x1c\x1c\x1c\x1c\x1c      ", // ArrayRest
+    *b"                                        \xc5       \xfa            \xea \xeb\xec\xed\xee\xef \xf0  \xf1\xf2\xf3\xf4\xf5\xf6\xf7\xf8\xf9      ", // Bound
+    *b"            JJJJJJJJJJ         JJLJ     JJ       J           J JJJ J J  JJJJJ JJ       ", // NestMoreOrEnd
 ];
 
 /// The number of the rule that a kind takes at a byte, if it takes one.
 #[inline]
 fn number(kind: u16, byte: u8) -> Option<usize>
     requires { kind < wide.kinds }
-    ensures few { IfSome result (λ number. number < 247) }
+    ensures few { IfSome result (λ number. number < 253) }
     ensures rule { (head : Head) → MatchOption result (wide.rule kind byte ≡ None) (λ number. wide.rule kind byte ≡ Some (listed_rule head number)) }
 {
     match letter_in(&WIDE_LETTERS[kind as usize], byte) {

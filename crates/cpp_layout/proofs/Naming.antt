@@ -19,7 +19,7 @@ use Rattle.cpp_term.proofs.Reargued.{reargued_none}
 use Rattle.std.proofs.lemmas.Bool.{true≢false}
 use Rattle.cpp_tree.specs.Nodes.{tree_at, tree_of, piece_of, is_again}
 use Rattle.cpp_layout.specs.Texts.{fixed_text}
-use Rattle.cpp_layout.specs.declared.texts.TheConstants.{ANONYMOUS, BLANK_LESS, BRACE, COLONS, CONVERSION, GREATER, LAMBDA, LESS, LITERAL, RIGHT_NUMBER, UNNAMED}
+use Rattle.cpp_layout.specs.declared.texts.TheConstants.{ANONYMOUS, BLANK_LESS, BRACE, COLONS, CONVERSION, GREATER, LAMBDA, LEFT_BRACKET, LESS, LITERAL, RIGHT_BRACKET, RIGHT_NUMBER, UNNAMED}
 use Rattle.cpp_layout.specs.Layout.{IsNoSource}
 
 pub begins : (xs ys : List ℕ) → begins_with xs ys ≡ starts_with nat_eq ys xs
@@ -103,6 +103,10 @@ unnamed-whole c number = refl
 pub conversion-whole : (c : items.Context) (t : Term) → text (fixed_text CONVERSION) ∷ as_item heads.left c t ∷ as_item heads.right c t ∷ [] ≡ piece_parts c (term.conversion t)
 unfolding piece_parts
 conversion-whole c t = refl
+
+pub bindings-whole : (c : items.Context) (names : Term) → text (fixed_text LEFT_BRACKET) ∷ (list_part heads.first c names ++ (text (fixed_text RIGHT_BRACKET) ∷ [])) ≡ piece_parts c (term.bindings names)
+unfolding piece_parts
+bindings-whole c names = refl
 
 pub literal-whole : (c : items.Context) (name : List ℕ) → text (fixed_text LITERAL) ∷ text name ∷ [] ≡ piece_parts c (term.literal_operator name)
 unfolding piece_parts

@@ -151,6 +151,7 @@ impl Symbol {
             Piece::Unnamed(number) => self.fill_unnamed(parts, number, ctx),
             Piece::StringLiteral => self.push_text(parts, texts::STRING),
             Piece::Conversion(ty) => self.fill_conversion(parts, ty, ctx),
+            Piece::Bindings(names) => self.fill_bindings(parts, names, ctx),
             _ => {}
         }
     }

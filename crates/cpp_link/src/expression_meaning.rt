@@ -221,8 +221,18 @@ impl Linked {
                 },
                 true,
             ),
-            // <field source-name>
+            // a <source-name> as it is
             Production::FieldName => made(Node::Vendor(self.text(symbol, parts, 0)), true),
+            // <source-name>+
+            Production::BoundNames => made(
+                Node::Cell {
+                    first: self.tree(symbol, parts, 0),
+                    rest: self.list(symbol, parts, 1),
+                },
+                true,
+            ),
+            // L <source-name>
+            Production::InternalBoundName => made(Node::Vendor(self.text(symbol, parts, 0)), true),
             // <expression> ::= nw <expression>* _ <type> <initializer> | na <expression>* _ <type> <initializer>
             Production::New => Outcome::MadeOperand {
                 letter: byte,

@@ -69,6 +69,8 @@ impl Linked {
             Production::Holder => Outcome::Given(self.given(symbol, parts, 1)),
             // of operators those that begin with c stand apart, since one of them is a type's
             Production::ComponentWithC => Outcome::Given(self.given(symbol, parts, 0)),
+            // <ctor-dtor-name> ::= D0 | D1 | D2, which begins with D
+            Production::ComponentWithD => Outcome::Given(self.given(symbol, parts, 0)),
             // <ctor-dtor-name> ::= C1 | C2 | .., which begins with C
             Production::AnyConstructor => Outcome::Given(self.given(symbol, parts, 0)),
             _ => unreachable!(),
@@ -116,12 +118,16 @@ impl Linked {
             Production::OperatorNameWithC => self.applied(symbol, parts, false),
             // <ctor-dtor-name> ::= C1 | C2 | C3, after the C
             Production::Constructor => self.applied(symbol, parts, false),
-            // <ctor-dtor-name> ::= D0 | D1 | D2
+            // <ctor-dtor-name> ::= D0 | D1 | D2, after the D
             Production::Destructor => self.applied(symbol, parts, false),
             // <unscoped-name> ::= St <unqualified-name>
             Production::StdName => self.applied(symbol, parts, false),
             // <unscoped-template-name> ::= <substitution>, with <template-args>
             Production::AbbreviatedName => self.applied(symbol, parts, false),
+            // <unqualified-name> ::= DC <source-name>+ E, a structured binding, perhaps with <template-args>
+            Production::BindingName => self.applied(symbol, parts, false),
+            // <unqualified-name> ::= DC <source-name>+ E, after the D, perhaps with <template-args>
+            Production::BindingComponent => self.applied(symbol, parts, false),
             _ => unreachable!(),
         }
     }
@@ -200,6 +206,8 @@ impl Linked {
                 ),
                 false,
             ),
+            // <unqualified-name> ::= DC <source-name>+ E, after the D
+            Production::Bindings => piece(Piece::Bindings(self.tree(symbol, parts, 0))),
             // <closure-type-name> ::= Ul <lambda-sig> E [ <nonnegative number> ] _
             Production::Lambda => self.lambda(symbol, parts),
             // <unnamed-type-name> ::= Ut [ <nonnegative number> ] _

@@ -189,6 +189,11 @@ impl Linked {
                 kept.prefix(),
                 self.piece_in(symbol, first),
             )),
+            Production::BindingName => self.named(self.extended(
+                symbol,
+                kept.prefix(),
+                self.piece_in(symbol, first),
+            )),
             Production::NestInternal => self.named(self.extended(
                 symbol,
                 kept.prefix(),
@@ -210,11 +215,6 @@ impl Linked {
                     bytes: self.text_in(symbol, first),
                 },
             )),
-            Production::Destructor => self.named(self.extended(
-                symbol,
-                kept.prefix(),
-                Piece::Destructor(letter_of(first)),
-            )),
             Production::OtherOperatorName => self.named(self.extended(
                 symbol,
                 kept.prefix(),
@@ -229,6 +229,16 @@ impl Linked {
                 symbol,
                 kept.prefix(),
                 Piece::Constructor(letter_of(first)),
+            )),
+            Production::BindingComponent => self.named(self.extended(
+                symbol,
+                kept.prefix(),
+                self.piece_in(symbol, first),
+            )),
+            Production::Destructor => self.named(self.extended(
+                symbol,
+                kept.prefix(),
+                Piece::Destructor(letter_of(first)),
             )),
             Production::OperatorNameWithC => self.named(self.extended(
                 symbol,

@@ -3,12 +3,13 @@
 use cpp_grammar::production::Production;
 
 /// The productions.
-pub(crate) const PRODUCTIONS: [Production; 247] = [
+pub(crate) const PRODUCTIONS: [Production; 253] = [
     Production::Mark,
     Production::InternalName,
     Production::LocalTypeName,
     Production::SourceName,
     Production::OperatorName,
+    Production::BindingName,
     Production::InternalPiece,
     Production::LocalTypePiece,
     Production::SourcePiece,
@@ -48,13 +49,15 @@ pub(crate) const PRODUCTIONS: [Production; 247] = [
     Production::NestTag,
     Production::NestEnd,
     Production::AnyConstructor,
-    Production::Destructor,
+    Production::ComponentWithD,
     Production::ComponentWithC,
     Production::OtherOperatorName,
     Production::Holder,
     Production::Friend,
     Production::Inheriting,
     Production::Constructor,
+    Production::BindingComponent,
+    Production::Destructor,
     Production::Abbreviation,
     Production::Substitution,
     Production::NestedType,
@@ -142,6 +145,10 @@ pub(crate) const PRODUCTIONS: [Production; 247] = [
     Production::OperatorG,
     Production::LiteralOperator,
     Production::NestInstance,
+    Production::FieldName,
+    Production::Bindings,
+    Production::BoundNames,
+    Production::InternalBoundName,
     Production::Conversion,
     Production::OperatorNameWithC,
     Production::HeldArguments,
@@ -225,7 +232,6 @@ pub(crate) const PRODUCTIONS: [Production; 247] = [
     Production::TypePack,
     Production::Designators,
     Production::DesignatedValue,
-    Production::FieldName,
     Production::Placed,
     Production::Initializer,
     Production::BracedInitializer,
@@ -254,12 +260,13 @@ pub(crate) const PRODUCTIONS: [Production; 247] = [
 ];
 
 /// How many parts each has.
-pub(crate) const PART_COUNTS: [u8; 247] = [
+pub(crate) const PART_COUNTS: [u8; 253] = [
     0, // Mark
     2, // InternalName
     2, // LocalTypeName
     2, // SourceName
     2, // OperatorName
+    2, // BindingName
     1, // InternalPiece
     1, // LocalTypePiece
     1, // SourcePiece
@@ -299,13 +306,15 @@ pub(crate) const PART_COUNTS: [u8; 247] = [
     2, // NestTag
     0, // NestEnd
     1, // AnyConstructor
-    2, // Destructor
+    1, // ComponentWithD
     1, // ComponentWithC
     2, // OtherOperatorName
     2, // Holder
     2, // Friend
     2, // Inheriting
     2, // Constructor
+    2, // BindingComponent
+    2, // Destructor
     0, // Abbreviation
     1, // Substitution
     1, // NestedType
@@ -393,6 +402,10 @@ pub(crate) const PART_COUNTS: [u8; 247] = [
     1, // OperatorG
     1, // LiteralOperator
     3, // NestInstance
+    1, // FieldName
+    2, // Bindings
+    2, // BoundNames
+    1, // InternalBoundName
     1, // Conversion
     2, // OperatorNameWithC
     2, // HeldArguments
@@ -476,7 +489,6 @@ pub(crate) const PART_COUNTS: [u8; 247] = [
     1, // TypePack
     1, // Designators
     1, // DesignatedValue
-    1, // FieldName
     2, // Placed
     1, // Initializer
     1, // BracedInitializer
@@ -505,12 +517,13 @@ pub(crate) const PART_COUNTS: [u8; 247] = [
 ];
 
 /// Whether some part of each but the last may have no row: a fixed byte, or a kind that may be empty.
-pub(crate) const SKIPS_PARTS: [bool; 247] = [
+pub(crate) const SKIPS_PARTS: [bool; 253] = [
     false, // Mark
     false, // InternalName
     false, // LocalTypeName
     false, // SourceName
     false, // OperatorName
+    false, // BindingName
     false, // InternalPiece
     false, // LocalTypePiece
     false, // SourcePiece
@@ -550,13 +563,15 @@ pub(crate) const SKIPS_PARTS: [bool; 247] = [
     false, // NestTag
     false, // NestEnd
     false, // AnyConstructor
-    false, // Destructor
+    false, // ComponentWithD
     false, // ComponentWithC
     false, // OtherOperatorName
     false, // Holder
     false, // Friend
     false, // Inheriting
     false, // Constructor
+    false, // BindingComponent
+    false, // Destructor
     false, // Abbreviation
     false, // Substitution
     false, // NestedType
@@ -644,6 +659,10 @@ pub(crate) const SKIPS_PARTS: [bool; 247] = [
     false, // OperatorG
     false, // LiteralOperator
     true, // NestInstance
+    false, // FieldName
+    false, // Bindings
+    false, // BoundNames
+    false, // InternalBoundName
     false, // Conversion
     false, // OperatorNameWithC
     true, // HeldArguments
@@ -727,7 +746,6 @@ pub(crate) const SKIPS_PARTS: [bool; 247] = [
     false, // TypePack
     false, // Designators
     false, // DesignatedValue
-    false, // FieldName
     false, // Placed
     false, // Initializer
     false, // BracedInitializer
@@ -756,12 +774,13 @@ pub(crate) const SKIPS_PARTS: [bool; 247] = [
 ];
 
 /// Before how many of its parts nothing is done in each: before none, the first, or all, which are five at most.
-pub(crate) const QUIET_PARTS: [u8; 247] = [
+pub(crate) const QUIET_PARTS: [u8; 253] = [
     5, // Mark
     1, // InternalName
     1, // LocalTypeName
     1, // SourceName
     1, // OperatorName
+    1, // BindingName
     5, // InternalPiece
     5, // LocalTypePiece
     5, // SourcePiece
@@ -801,13 +820,15 @@ pub(crate) const QUIET_PARTS: [u8; 247] = [
     1, // NestTag
     5, // NestEnd
     5, // AnyConstructor
-    1, // Destructor
+    5, // ComponentWithD
     5, // ComponentWithC
     1, // OtherOperatorName
     1, // Holder
     1, // Friend
     1, // Inheriting
     1, // Constructor
+    1, // BindingComponent
+    1, // Destructor
     5, // Abbreviation
     5, // Substitution
     5, // NestedType
@@ -895,6 +916,10 @@ pub(crate) const QUIET_PARTS: [u8; 247] = [
     5, // OperatorG
     5, // LiteralOperator
     0, // NestInstance
+    5, // FieldName
+    5, // Bindings
+    5, // BoundNames
+    5, // InternalBoundName
     0, // Conversion
     1, // OperatorNameWithC
     0, // HeldArguments
@@ -978,7 +1003,6 @@ pub(crate) const QUIET_PARTS: [u8; 247] = [
     0, // TypePack
     5, // Designators
     5, // DesignatedValue
-    5, // FieldName
     5, // Placed
     5, // Initializer
     5, // BracedInitializer

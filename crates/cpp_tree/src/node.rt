@@ -119,6 +119,8 @@ pub enum Piece {
     Unnamed(u64),
     StringLiteral,
     Conversion(u32),
+    /// The names that a structured binding declares.
+    Bindings(u32),
     Absent,
 }
 

@@ -274,3 +274,12 @@ pub const OPERATION: u16 = 83;
 
 /// A parameter of the function whose types it occurs in, as an expression. Texts: the digits of its number.
 pub const FUNCTION_PARAMETER: u16 = 84;
+
+/// A structured binding, in no scope. Parts: the list of its names. Only symbols of the wide grammar have it, and the next two.
+pub const BINDINGS: u16 = 85;
+
+/// As `BINDINGS`, in std.
+pub const STD_BINDINGS: u16 = 86;
+
+/// As `BINDINGS`, in a prefix: its names are the second part.
+pub const NESTED_BINDINGS: u16 = 87;

@@ -10,18 +10,19 @@ ghost use Rattle.cpp_tree.specs.Views.{plain_tree, prefix_trees, seen_of, seen_b
 
 use crate::node::{Adjustment, Mark, Piece, Qualifiers, Signed, Thunk, bit};
 use crate::tree_production::{
-    ABBREVIATION, ABSENT, ADDRESS_OF, ARRAY, BOOLEAN, BOUNDED, BUILTIN, BUILTIN_WITH_D, CLONE,
-    COMPLEX, CONSTRAINED, CONSTRUCTION, CONSTRUCTOR, CONVERSION, COVARIANT_THUNK, DECLTYPE,
+    ABBREVIATION, ABSENT, ADDRESS_OF, ARRAY, BINDINGS, BOOLEAN, BOUNDED, BUILTIN, BUILTIN_WITH_D,
+    CLONE, COMPLEX, CONSTRAINED, CONSTRUCTION, CONSTRUCTOR, CONVERSION, COVARIANT_THUNK, DECLTYPE,
     DESTRUCTOR, ENCODING_LITERAL, EXPANSION, FUNCTION, FUNCTION_PARAMETER, FUNCTION_TYPE,
     GENERIC_LAMBDA, GUARD, HOLDER, INHERITING, INSTANCE, INTEGER, LAMBDA, LIST, LITERAL_OPERATOR,
-    LOCAL, LVALUE, MEMBER_POINTER, NESTED_CONSTRUCTOR, NESTED_CONVERSION, NESTED_DESTRUCTOR,
-    NESTED_GENERIC_LAMBDA, NESTED_INHERITING, NESTED_LAMBDA, NESTED_LITERAL_OPERATOR,
-    NESTED_NO_PIECE, NESTED_OPERATOR, NESTED_SOURCE, NESTED_STRING_LITERAL, NESTED_UNNAMED, NIL,
-    NO_PIECE, NULL_POINTER, NUMBERED_LOCAL, OBJECT, OF_DEFAULT, OF_NAME, OPERATION, OPERATOR, PACK,
-    PARAMETER, POINTER, QUALIFIED, RVALUE, SIZED_FLOAT, SOURCE, SPECIAL, STD_CONSTRUCTOR,
-    STD_CONVERSION, STD_DESTRUCTOR, STD_GENERIC_LAMBDA, STD_INHERITING, STD_LAMBDA,
-    STD_LITERAL_OPERATOR, STD_NO_PIECE, STD_OPERATOR, STD_SOURCE, STD_STRING_LITERAL, STD_UNNAMED,
-    STRING_LITERAL, SYMBOL, TABLE_THUNK, TAGGED, THUNK, UNNAMED, VECTOR, VENDOR, WIDE_THUNK,
+    LOCAL, LVALUE, MEMBER_POINTER, NESTED_BINDINGS, NESTED_CONSTRUCTOR, NESTED_CONVERSION,
+    NESTED_DESTRUCTOR, NESTED_GENERIC_LAMBDA, NESTED_INHERITING, NESTED_LAMBDA,
+    NESTED_LITERAL_OPERATOR, NESTED_NO_PIECE, NESTED_OPERATOR, NESTED_SOURCE,
+    NESTED_STRING_LITERAL, NESTED_UNNAMED, NIL, NO_PIECE, NULL_POINTER, NUMBERED_LOCAL, OBJECT,
+    OF_DEFAULT, OF_NAME, OPERATION, OPERATOR, PACK, PARAMETER, POINTER, QUALIFIED, RVALUE,
+    SIZED_FLOAT, SOURCE, SPECIAL, STD_BINDINGS, STD_CONSTRUCTOR, STD_CONVERSION, STD_DESTRUCTOR,
+    STD_GENERIC_LAMBDA, STD_INHERITING, STD_LAMBDA, STD_LITERAL_OPERATOR, STD_NO_PIECE,
+    STD_OPERATOR, STD_SOURCE, STD_STRING_LITERAL, STD_UNNAMED, STRING_LITERAL, SYMBOL, TABLE_THUNK,
+    TAGGED, THUNK, UNNAMED, VECTOR, VENDOR, WIDE_THUNK,
 };
 use crate::{Nodes, node};
 use sym_core::Span;
@@ -54,6 +55,7 @@ struct Names {
     lambda: u16,
     generic_lambda: u16,
     conversion: u16,
+    bindings: u16,
     unnamed: u16,
     string_literal: u16,
     no_piece: u16,
@@ -70,6 +72,7 @@ const ALONE: Names = Names {
     lambda: LAMBDA,
     generic_lambda: GENERIC_LAMBDA,
     conversion: CONVERSION,
+    bindings: BINDINGS,
     unnamed: UNNAMED,
     string_literal: STRING_LITERAL,
     no_piece: NO_PIECE,
@@ -86,6 +89,7 @@ const IN_STD: Names = Names {
     lambda: STD_LAMBDA,
     generic_lambda: STD_GENERIC_LAMBDA,
     conversion: STD_CONVERSION,
+    bindings: STD_BINDINGS,
     unnamed: STD_UNNAMED,
     string_literal: STD_STRING_LITERAL,
     no_piece: STD_NO_PIECE,
@@ -102,6 +106,7 @@ const NESTED: Names = Names {
     lambda: NESTED_LAMBDA,
     generic_lambda: NESTED_GENERIC_LAMBDA,
     conversion: NESTED_CONVERSION,
+    bindings: NESTED_BINDINGS,
     unnamed: NESTED_UNNAMED,
     string_literal: NESTED_STRING_LITERAL,
     no_piece: NESTED_NO_PIECE,
@@ -218,6 +223,10 @@ fn view_of_name(
         Piece::Conversion(ty) => match prefix {
             None => one(names.conversion, [0; 2], NO_TEXT, ty),
             Some(prefix) => two(names.conversion, [0; 2], NO_TEXT, prefix, ty),
+        },
+        Piece::Bindings(list) => match prefix {
+            None => one(names.bindings, [0; 2], NO_TEXT, list),
+            Some(prefix) => two(names.bindings, [0; 2], NO_TEXT, prefix, list),
         },
         Piece::Unnamed(number) => named(names.unnamed, [number, 0], NO_TEXT, prefix),
         Piece::StringLiteral => named(names.string_literal, [0; 2], NO_TEXT, prefix),

@@ -17,4 +17,5 @@ unreachable-requires c = given_name c.args.production c.requires.family
     c.in_default.not-NestInstance
     c.in_default.not-Holder
     c.in_default.not-ComponentWithC
+    c.in_default.not-ComponentWithD
     c.in_default.not-AnyConstructor
