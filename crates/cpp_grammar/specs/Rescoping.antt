@@ -257,7 +257,6 @@ opening_wide Production.QualifiedPlain parts place state = Ok (expecting (qualif
 opening_wide production parts place state = opening production parts place state
 
 unfoldable pub between_wide : Production → Around → (place : ℕ) → List Value → State → Going
-between_wide Production.Parameter around place (v ∷ []) state = parameter_here around place (index_of v) [] state
 between_wide Production.NestParameter around place (v ∷ []) state = parameter_here around place (index_of v) [] state
 between_wide Production.ParameterArgument around place (v ∷ []) state = parameter_here around (place - 1) (index_of v) [] state
 between_wide Production.ParameterExpression around place (v ∷ []) state = argument_here around (place - 1) (index_of v) state

@@ -86,233 +86,233 @@ const AFTER_D: Sym = Sym::Kind(36);
 
 const SOLID: Sym = Sym::Kind(37);
 
-const MAYBE_C_LINKAGE: Sym = Sym::Kind(38);
+const PARAMETER_AFTER_T: Sym = Sym::Kind(38);
 
-const BIT_WIDTH: Sym = Sym::Kind(39);
+const MAYBE_C_LINKAGE: Sym = Sym::Kind(39);
 
-const TYPE_AFTER_S: Sym = Sym::Kind(40);
+const BIT_WIDTH: Sym = Sym::Kind(40);
 
-const SOURCE_OR_LOCAL: Sym = Sym::Kind(41);
+const TYPE_AFTER_S: Sym = Sym::Kind(41);
 
-const FUNCTION_REST: Sym = Sym::Kind(42);
+const SOURCE_OR_LOCAL: Sym = Sym::Kind(42);
 
-const AFTER_R: Sym = Sym::Kind(43);
+const FUNCTION_REST: Sym = Sym::Kind(43);
 
-const AFTER_O: Sym = Sym::Kind(44);
+const AFTER_R: Sym = Sym::Kind(44);
 
-const ITEMS: Sym = Sym::Kind(45);
+const AFTER_O: Sym = Sym::Kind(45);
 
-const MAYBE_ARGUMENTS: Sym = Sym::Kind(46);
+const ITEMS: Sym = Sym::Kind(46);
 
-const ARGUMENTS: Sym = Sym::Kind(47);
+const MAYBE_ARGUMENTS: Sym = Sym::Kind(47);
 
-const ARGUMENT_LIST: Sym = Sym::Kind(48);
+const ARGUMENTS: Sym = Sym::Kind(48);
 
-const PACK_LIST: Sym = Sym::Kind(49);
+const ARGUMENT_LIST: Sym = Sym::Kind(49);
 
-const LITERAL: Sym = Sym::Kind(50);
+const PACK_LIST: Sym = Sym::Kind(50);
 
-const BIT: Sym = Sym::Kind(51);
+const LITERAL: Sym = Sym::Kind(51);
 
-const LITERAL_AFTER_D: Sym = Sym::Kind(52);
+const BIT: Sym = Sym::Kind(52);
 
-const FLOAT_TYPE: Sym = Sym::Kind(53);
+const LITERAL_AFTER_D: Sym = Sym::Kind(53);
 
-const SIZED_FLOAT_TYPE: Sym = Sym::Kind(54);
+const FLOAT_TYPE: Sym = Sym::Kind(54);
 
-const HEX_TEXT: Sym = Sym::Kind(55);
+const SIZED_FLOAT_TYPE: Sym = Sym::Kind(55);
 
-const HEX_DIGITS: Sym = Sym::Kind(56);
+const HEX_TEXT: Sym = Sym::Kind(56);
 
-const HEX_MORE: Sym = Sym::Kind(57);
+const HEX_DIGITS: Sym = Sym::Kind(57);
 
-const MAYBE_ZERO: Sym = Sym::Kind(58);
+const HEX_MORE: Sym = Sym::Kind(58);
 
-const LITERAL_TYPE: Sym = Sym::Kind(59);
+const MAYBE_ZERO: Sym = Sym::Kind(59);
 
-const LITERAL_PLAIN: Sym = Sym::Kind(60);
+const LITERAL_TYPE: Sym = Sym::Kind(60);
 
-const LITERAL_SOLID: Sym = Sym::Kind(61);
+const LITERAL_PLAIN: Sym = Sym::Kind(61);
 
-const OPERATOR: Sym = Sym::Kind(62);
+const LITERAL_SOLID: Sym = Sym::Kind(62);
 
-const OPERATOR_AFTER_N: Sym = Sym::Kind(63);
+const OPERATOR: Sym = Sym::Kind(63);
 
-const OPERATOR_AFTER_D: Sym = Sym::Kind(64);
+const OPERATOR_AFTER_N: Sym = Sym::Kind(64);
 
-const OPERATOR_AFTER_A: Sym = Sym::Kind(65);
+const OPERATOR_AFTER_D: Sym = Sym::Kind(65);
 
-const OPERATOR_AFTER_P: Sym = Sym::Kind(66);
+const OPERATOR_AFTER_A: Sym = Sym::Kind(66);
 
-const OPERATOR_AFTER_C: Sym = Sym::Kind(67);
+const OPERATOR_AFTER_P: Sym = Sym::Kind(67);
 
-const OPERATOR_AFTER_M: Sym = Sym::Kind(68);
+const OPERATOR_AFTER_C: Sym = Sym::Kind(68);
 
-const OPERATOR_AFTER_R: Sym = Sym::Kind(69);
+const OPERATOR_AFTER_M: Sym = Sym::Kind(69);
 
-const OPERATOR_AFTER_O: Sym = Sym::Kind(70);
+const OPERATOR_AFTER_R: Sym = Sym::Kind(70);
 
-const OPERATOR_AFTER_E: Sym = Sym::Kind(71);
+const OPERATOR_AFTER_O: Sym = Sym::Kind(71);
 
-const OPERATOR_AFTER_L: Sym = Sym::Kind(72);
+const OPERATOR_AFTER_E: Sym = Sym::Kind(72);
 
-const OPERATOR_AFTER_S: Sym = Sym::Kind(73);
+const OPERATOR_AFTER_L: Sym = Sym::Kind(73);
 
-const OPERATOR_AFTER_I: Sym = Sym::Kind(74);
+const OPERATOR_AFTER_S: Sym = Sym::Kind(74);
 
-const OPERATOR_AFTER_G: Sym = Sym::Kind(75);
+const OPERATOR_AFTER_I: Sym = Sym::Kind(75);
 
-const NEST_REST_OR_END: Sym = Sym::Kind(76);
+const OPERATOR_AFTER_G: Sym = Sym::Kind(76);
 
-const ARGUMENTS_ALONE: Sym = Sym::Kind(77);
+const NEST_REST_OR_END: Sym = Sym::Kind(77);
 
-const NEST_REST_ALONE: Sym = Sym::Kind(78);
+const ARGUMENTS_ALONE: Sym = Sym::Kind(78);
 
-const HOLDER_MARK: Sym = Sym::Kind(79);
+const NEST_REST_ALONE: Sym = Sym::Kind(79);
 
-const HELD_COMPONENT: Sym = Sym::Kind(80);
+const HOLDER_MARK: Sym = Sym::Kind(80);
 
-const BINDING_AFTER_D: Sym = Sym::Kind(81);
+const HELD_COMPONENT: Sym = Sym::Kind(81);
 
-const BOUND_NAMES: Sym = Sym::Kind(82);
+const BINDING_AFTER_D: Sym = Sym::Kind(82);
 
-const MORE_NAMES: Sym = Sym::Kind(83);
+const BOUND_NAMES: Sym = Sym::Kind(83);
 
-const BOUND_NAME: Sym = Sym::Kind(84);
+const MORE_NAMES: Sym = Sym::Kind(84);
 
-const FLOAT_END: Sym = Sym::Kind(85);
+const BOUND_NAME: Sym = Sym::Kind(85);
 
-const COMPONENT_AFTER_C: Sym = Sym::Kind(86);
+const FLOAT_END: Sym = Sym::Kind(86);
 
-const OTHER_OPERATOR: Sym = Sym::Kind(87);
+const COMPONENT_AFTER_C: Sym = Sym::Kind(87);
 
-const HELD_ARGUMENTS: Sym = Sym::Kind(88);
+const OTHER_OPERATOR: Sym = Sym::Kind(88);
 
-const BASE_CLASS: Sym = Sym::Kind(89);
+const HELD_ARGUMENTS: Sym = Sym::Kind(89);
 
-const UNNESTED_NAME: Sym = Sym::Kind(90);
+const BASE_CLASS: Sym = Sym::Kind(90);
 
-const BASE_ARGUMENTS: Sym = Sym::Kind(91);
+const UNNESTED_NAME: Sym = Sym::Kind(91);
 
-const ARGUMENTS_FIRST: Sym = Sym::Kind(92);
+const BASE_ARGUMENTS: Sym = Sym::Kind(92);
 
-const PLAIN_ENTITY: Sym = Sym::Kind(93);
+const ARGUMENTS_FIRST: Sym = Sym::Kind(93);
 
-const PLAIN_TYPE_ENTITY: Sym = Sym::Kind(94);
+const PLAIN_ENTITY: Sym = Sym::Kind(94);
 
-const SPECIAL_MARK: Sym = Sym::Kind(95);
+const PLAIN_TYPE_ENTITY: Sym = Sym::Kind(95);
 
-const SPECIAL_AFTER_G: Sym = Sym::Kind(96);
+const SPECIAL_MARK: Sym = Sym::Kind(96);
 
-const TEMPORARY_NAME: Sym = Sym::Kind(97);
+const SPECIAL_AFTER_G: Sym = Sym::Kind(97);
 
-const CLONE_LETTER: Sym = Sym::Kind(98);
+const TEMPORARY_NAME: Sym = Sym::Kind(98);
 
-const TYPE_IN_STD: Sym = Sym::Kind(99);
+const CLONE_LETTER: Sym = Sym::Kind(99);
 
-const MAYBE_TAGS: Sym = Sym::Kind(100);
+const TYPE_IN_STD: Sym = Sym::Kind(100);
 
-const ARGUMENT: Sym = Sym::Kind(101);
+const MAYBE_TAGS: Sym = Sym::Kind(101);
 
-const ARGUMENT_AFTER_T: Sym = Sym::Kind(102);
+const ARGUMENT: Sym = Sym::Kind(102);
 
-const LEVELED_PARAMETER: Sym = Sym::Kind(103);
+const ARGUMENT_AFTER_T: Sym = Sym::Kind(103);
 
-const ONE_ARGUMENT: Sym = Sym::Kind(104);
+const LEVELED_PARAMETER: Sym = Sym::Kind(104);
 
-const DECLARATION_AFTER_T: Sym = Sym::Kind(105);
+const ONE_ARGUMENT: Sym = Sym::Kind(105);
 
-const DECLARATIONS: Sym = Sym::Kind(106);
+const DECLARATION_AFTER_T: Sym = Sym::Kind(106);
 
-const CONCEPT: Sym = Sym::Kind(107);
+const DECLARATIONS: Sym = Sym::Kind(107);
 
-const SOLID_BUT_T: Sym = Sym::Kind(108);
+const CONCEPT: Sym = Sym::Kind(108);
 
-const EXPRESSION: Sym = Sym::Kind(109);
+const SOLID_BUT_T: Sym = Sym::Kind(109);
 
-const EXPRESSION_PARAMETER: Sym = Sym::Kind(110);
+const EXPRESSION: Sym = Sym::Kind(110);
 
-const UNLEVELED_EXPRESSION: Sym = Sym::Kind(111);
+const EXPRESSION_PARAMETER: Sym = Sym::Kind(111);
 
-const ADDRESSED_EXPRESSION: Sym = Sym::Kind(112);
+const UNLEVELED_EXPRESSION: Sym = Sym::Kind(112);
 
-const ADDRESSED_LITERAL: Sym = Sym::Kind(113);
+const ADDRESSED_EXPRESSION: Sym = Sym::Kind(113);
 
-const EXPRESSION_AFTER_A: Sym = Sym::Kind(114);
+const ADDRESSED_LITERAL: Sym = Sym::Kind(114);
 
-const EXPRESSION_AFTER_C: Sym = Sym::Kind(115);
+const EXPRESSION_AFTER_A: Sym = Sym::Kind(115);
 
-const EXPRESSION_AFTER_D: Sym = Sym::Kind(116);
+const EXPRESSION_AFTER_C: Sym = Sym::Kind(116);
 
-const EXPRESSION_AFTER_E: Sym = Sym::Kind(117);
+const EXPRESSION_AFTER_D: Sym = Sym::Kind(117);
 
-const EXPRESSION_AFTER_F: Sym = Sym::Kind(118);
+const EXPRESSION_AFTER_E: Sym = Sym::Kind(118);
 
-const EXPRESSION_AFTER_G: Sym = Sym::Kind(119);
+const EXPRESSION_AFTER_F: Sym = Sym::Kind(119);
 
-const EXPRESSION_AFTER_I: Sym = Sym::Kind(120);
+const EXPRESSION_AFTER_G: Sym = Sym::Kind(120);
 
-const EXPRESSION_AFTER_L: Sym = Sym::Kind(121);
+const EXPRESSION_AFTER_I: Sym = Sym::Kind(121);
 
-const EXPRESSION_AFTER_M: Sym = Sym::Kind(122);
+const EXPRESSION_AFTER_L: Sym = Sym::Kind(122);
 
-const EXPRESSION_AFTER_N: Sym = Sym::Kind(123);
+const EXPRESSION_AFTER_M: Sym = Sym::Kind(123);
 
-const EXPRESSION_AFTER_O: Sym = Sym::Kind(124);
+const EXPRESSION_AFTER_N: Sym = Sym::Kind(124);
 
-const EXPRESSION_AFTER_P: Sym = Sym::Kind(125);
+const EXPRESSION_AFTER_O: Sym = Sym::Kind(125);
 
-const EXPRESSION_AFTER_Q: Sym = Sym::Kind(126);
+const EXPRESSION_AFTER_P: Sym = Sym::Kind(126);
 
-const EXPRESSION_AFTER_R: Sym = Sym::Kind(127);
+const EXPRESSION_AFTER_Q: Sym = Sym::Kind(127);
 
-const EXPRESSION_AFTER_S: Sym = Sym::Kind(128);
+const EXPRESSION_AFTER_R: Sym = Sym::Kind(128);
 
-const EXPRESSION_AFTER_T: Sym = Sym::Kind(129);
+const EXPRESSION_AFTER_S: Sym = Sym::Kind(129);
 
-const EXPRESSIONS: Sym = Sym::Kind(130);
+const EXPRESSION_AFTER_T: Sym = Sym::Kind(130);
 
-const MAYBE_BEFORE: Sym = Sym::Kind(131);
+const EXPRESSIONS: Sym = Sym::Kind(131);
 
-const FOLD_OPERATOR: Sym = Sym::Kind(132);
+const MAYBE_BEFORE: Sym = Sym::Kind(132);
 
-const FOLD_OPERATOR_AFTER_L: Sym = Sym::Kind(133);
+const FOLD_OPERATOR: Sym = Sym::Kind(133);
 
-const FOLD_OPERAND: Sym = Sym::Kind(134);
+const FOLD_OPERATOR_AFTER_L: Sym = Sym::Kind(134);
 
-const FOLD_PACK: Sym = Sym::Kind(135);
+const FOLD_OPERAND: Sym = Sym::Kind(135);
 
-const VALUE_PACK: Sym = Sym::Kind(136);
+const FOLD_PACK: Sym = Sym::Kind(136);
 
-const TYPE_PACK: Sym = Sym::Kind(137);
+const VALUE_PACK: Sym = Sym::Kind(137);
 
-const DESIGNATED_VALUE: Sym = Sym::Kind(138);
+const TYPE_PACK: Sym = Sym::Kind(138);
 
-const DESIGNATOR_AFTER_D: Sym = Sym::Kind(139);
+const DESIGNATED_VALUE: Sym = Sym::Kind(139);
 
-const PLAIN_VALUE: Sym = Sym::Kind(140);
+const DESIGNATOR_AFTER_D: Sym = Sym::Kind(140);
 
-const FIELD_NAME: Sym = Sym::Kind(141);
+const PLAIN_VALUE: Sym = Sym::Kind(141);
 
-const PLACEMENT: Sym = Sym::Kind(142);
+const FIELD_NAME: Sym = Sym::Kind(142);
 
-const SOME_EXPRESSIONS: Sym = Sym::Kind(143);
+const PLACEMENT: Sym = Sym::Kind(143);
 
-const INITIALIZER: Sym = Sym::Kind(144);
+const SOME_EXPRESSIONS: Sym = Sym::Kind(144);
 
-const INITIALIZER_AFTER_P: Sym = Sym::Kind(145);
+const INITIALIZER: Sym = Sym::Kind(145);
 
-const INITIALIZER_AFTER_I: Sym = Sym::Kind(146);
+const INITIALIZER_AFTER_P: Sym = Sym::Kind(146);
 
-const OUTER_REST: Sym = Sym::Kind(147);
+const INITIALIZER_AFTER_I: Sym = Sym::Kind(147);
 
-const PARAMETER_NUMBER: Sym = Sym::Kind(148);
+const OUTER_REST: Sym = Sym::Kind(148);
 
-const CONVERTED_TYPE: Sym = Sym::Kind(149);
+const PARAMETER_NUMBER: Sym = Sym::Kind(149);
 
-const CONVERTED_SOLID: Sym = Sym::Kind(150);
+const CONVERTED_TYPE: Sym = Sym::Kind(150);
 
-const PARAMETER_AFTER_T: Sym = Sym::Kind(151);
+const CONVERTED_SOLID: Sym = Sym::Kind(151);
 
 const DECLTYPE_AFTER_D: Sym = Sym::Kind(152);
 
@@ -401,31 +401,32 @@ static LETTERS: [[u8; 87]; 169] = [
     *b"                                                             l l     l    llk  l ll    ", // ItemAfterD
     *b"                                                             m m     m    mo   m mn    ", // AfterD
     *b"            $$$$$$$$$$       | ~  }      vY u  xw#    y      zzzzzzzzzz zzzz   zz{zzzzz", // Solid
+    *b"            \x7f\x7f\x7f\x7f\x7f\x7f\x7f\x7f\x7f\x7f                                     \x7f                           ", // ParameterAfterT
     *b"                                                     !                                 ", // MaybeCLinkage
-    *b"            \x7f\x7f\x7f\x7f\x7f\x7f\x7f\x7f\x7f\x7f                                                                 ", // BitWidth
-    *b"            \x81\x81\x81\x81\x81\x81\x81\x81\x81\x81       \x81\x81\x81\x81\x81\x81\x81\x81\x81\x81\x81\x81\x81\x81\x81\x81\x81\x81\x81\x81\x81\x81\x81\x81\x81\x81    \x81 \x81\x81 \x81    \x81     \x81   \x81\x80      ", // TypeAfterS
+    *b"            \x81\x81\x81\x81\x81\x81\x81\x81\x81\x81                                                                 ", // BitWidth
+    *b"            \x83\x83\x83\x83\x83\x83\x83\x83\x83\x83       \x83\x83\x83\x83\x83\x83\x83\x83\x83\x83\x83\x83\x83\x83\x83\x83\x83\x83\x83\x83\x83\x83\x83\x83\x83\x83    \x83 \x83\x83 \x83    \x83     \x83   \x83\x82      ", // TypeAfterS
     *b"            ))))))))))                  '        (                                     ", // SourceOrLocal
-    *b"            \x85\x85\x85\x85\x85\x85\x85\x85\x85\x85       \x85 \x85\x85\x82\x85    \x85 \x85\x85\x84\x85 \x83\x85\x85\x85\x85   \x85      \x85\x85\x85\x85\x85\x85\x85\x85\x85\x85 \x85\x85\x85\x85  \x85\x85\x85\x85\x85\x85\x85\x85\x85", // FunctionRest
-    *b"            \x87\x87\x87\x87\x87\x87\x87\x87\x87\x87       \x87 \x87\x87\x86\x87    \x87 \x87\x87\x87\x87 \x87\x87\x87\x87\x87   \x87      \x87\x87\x87\x87\x87\x87\x87\x87\x87\x87 \x87\x87\x87\x87  \x87\x87\x87\x87\x87\x87\x87\x87\x87", // AfterR
-    *b"            \x88\x88\x88\x88\x88\x88\x88\x88\x88\x88       \x88 \x88\x88\x86\x88    \x88 \x88\x88\x88\x88 \x88\x88\x88\x88\x88   \x88      \x88\x88\x88\x88\x88\x88\x88\x88\x88\x88 \x88\x88\x88\x88  \x88\x88\x88\x88\x88\x88\x88\x88\x88", // AfterO
-    *b"            \x8a\x8a\x8a\x8a\x8a\x8a\x8a\x8a\x8a\x8a       \x8a \x8a\x8a \x8a    \x8a \x8a\x8a\x8a\x8a \x8a\x8a\x8a\x8a\x8a   \x8a      \x8a\x8a\x8a\x8a\x8a\x8a\x8a\x8a\x8a\x8a \x8a\x8a\x8a\x8a  \x8a\x8a\x8a\x8a\x8a\x8a\x8a\x8a\x8a", // Items
-    *b"                                     \x8b                                                 ", // MaybeArguments
-    *b"                                     \x8b                                                 ", // Arguments
-    *b"            \x8f\x8f\x8f\x8f\x8f\x8f\x8f\x8f\x8f\x8f       \x8f \x8f\x8f \x8f   \x8d\x8f\x8e\x8f\x8f\x8f\x8f \x8f\x8f\x8f\x8f\x8f \x8f \x8f      \x8f\x8f\x8f\x8f\x8f\x8f\x8f\x8f\x8f\x8f \x8f\x8f\x8f\x8f  \x8f\x8f\x8f\x8f\x8f\x8f\x8f\x8f\x8f", // ArgumentList
-    *b"            \x91\x91\x91\x91\x91\x91\x91\x91\x91\x91       \x91 \x91\x91 \x91    \x91\x90\x91\x91\x91\x91 \x91\x91\x91\x91\x91 \x91 \x91      \x91\x91\x91\x91\x91\x91\x91\x91\x91\x91 \x91\x91\x91\x91  \x91\x91\x91\x91\x91\x91\x91\x91\x91", // PackList
-    *b"            \x95\x95\x95\x95\x95\x95\x95\x95\x95\x95          \x94        \x95\x95 \x95  \x95\x95\x95    \x95    \x92 \x95\x93\x95    \x95\x95\x95 \x95\x95\x95\x95   \x95\x95  \x95\x95\x95 ", // Literal
+    *b"            \x87\x87\x87\x87\x87\x87\x87\x87\x87\x87       \x87 \x87\x87\x84\x87    \x87 \x87\x87\x86\x87 \x85\x87\x87\x87\x87   \x87      \x87\x87\x87\x87\x87\x87\x87\x87\x87\x87 \x87\x87\x87\x87  \x87\x87\x87\x87\x87\x87\x87\x87\x87", // FunctionRest
+    *b"            \x89\x89\x89\x89\x89\x89\x89\x89\x89\x89       \x89 \x89\x89\x88\x89    \x89 \x89\x89\x89\x89 \x89\x89\x89\x89\x89   \x89      \x89\x89\x89\x89\x89\x89\x89\x89\x89\x89 \x89\x89\x89\x89  \x89\x89\x89\x89\x89\x89\x89\x89\x89", // AfterR
+    *b"            \x8a\x8a\x8a\x8a\x8a\x8a\x8a\x8a\x8a\x8a       \x8a \x8a\x8a\x88\x8a    \x8a \x8a\x8a\x8a\x8a \x8a\x8a\x8a\x8a\x8a   \x8a      \x8a\x8a\x8a\x8a\x8a\x8a\x8a\x8a\x8a\x8a \x8a\x8a\x8a\x8a  \x8a\x8a\x8a\x8a\x8a\x8a\x8a\x8a\x8a", // AfterO
+    *b"            \x8c\x8c\x8c\x8c\x8c\x8c\x8c\x8c\x8c\x8c       \x8c \x8c\x8c \x8c    \x8c \x8c\x8c\x8c\x8c \x8c\x8c\x8c\x8c\x8c   \x8c      \x8c\x8c\x8c\x8c\x8c\x8c\x8c\x8c\x8c\x8c \x8c\x8c\x8c\x8c  \x8c\x8c\x8c\x8c\x8c\x8c\x8c\x8c\x8c", // Items
+    *b"                                     \x8d                                                 ", // MaybeArguments
+    *b"                                     \x8d                                                 ", // Arguments
+    *b"            \x91\x91\x91\x91\x91\x91\x91\x91\x91\x91       \x91 \x91\x91 \x91   \x8f\x91\x90\x91\x91\x91\x91 \x91\x91\x91\x91\x91 \x91 \x91      \x91\x91\x91\x91\x91\x91\x91\x91\x91\x91 \x91\x91\x91\x91  \x91\x91\x91\x91\x91\x91\x91\x91\x91", // ArgumentList
+    *b"            \x93\x93\x93\x93\x93\x93\x93\x93\x93\x93       \x93 \x93\x93 \x93    \x93\x92\x93\x93\x93\x93 \x93\x93\x93\x93\x93 \x93 \x93      \x93\x93\x93\x93\x93\x93\x93\x93\x93\x93 \x93\x93\x93\x93  \x93\x93\x93\x93\x93\x93\x93\x93\x93", // PackList
+    *b"            \x97\x97\x97\x97\x97\x97\x97\x97\x97\x97          \x96        \x97\x97 \x97  \x97\x97\x97    \x97    \x94 \x97\x95\x97    \x97\x97\x97 \x97\x97\x97\x97   \x97\x97  \x97\x97\x97 ", // Literal
     *b"            !!                                                                         ", // Bit
-    *b"                                                                     \x98    \x97    \x98 \x98     ", // LiteralAfterD
+    *b"                                                                     \x9a    \x99    \x9a \x9a     ", // LiteralAfterD
     *b"                                                                zzzz                   ", // FloatType
     *b"                                  p                                                    ", // SizedFloatType
-    *b"            \x9a\x9a\x9a\x9a\x9a\x9a\x9a\x9a\x9a\x9a                                       \x9a\x9a\x9a\x9a\x9a\x9a                    ", // HexText
-    *b"            \x9b\x9b\x9b\x9b\x9b\x9b\x9b\x9b\x9b\x9b                                       \x9b\x9b\x9b\x9b\x9b\x9b                    ", // HexDigits
-    *b"            \x9b\x9b\x9b\x9b\x9b\x9b\x9b\x9b\x9b\x9b                                       \x9b\x9b\x9b\x9b\x9b\x9b                    ", // HexMore
+    *b"            \x9c\x9c\x9c\x9c\x9c\x9c\x9c\x9c\x9c\x9c                                       \x9c\x9c\x9c\x9c\x9c\x9c                    ", // HexText
+    *b"            \x9d\x9d\x9d\x9d\x9d\x9d\x9d\x9d\x9d\x9d                                       \x9d\x9d\x9d\x9d\x9d\x9d                    ", // HexDigits
+    *b"            \x9d\x9d\x9d\x9d\x9d\x9d\x9d\x9d\x9d\x9d                                       \x9d\x9d\x9d\x9d\x9d\x9d                    ", // HexMore
     *b"            !                                                                          ", // MaybeZero
     *b"            $$$$$$$$$$                   vY u  xw#    y      z z    zzz zzzz   zz  zzz ", // LiteralType
-    *b"            \x9e\x9e\x9e\x9e\x9e\x9e\x9e\x9e\x9e\x9e                   \x9e\x9e \x9e  \x9e\x9e\x9e    \x9e      \x9e \x9e    \x9e\x9e\x9e \x9e\x9e\x9e\x9e   \x9e\x9e  \x9e\x9e\x9e ", // LiteralPlain
+    *b"            \xa0\xa0\xa0\xa0\xa0\xa0\xa0\xa0\xa0\xa0                   \xa0\xa0 \xa0  \xa0\xa0\xa0    \xa0      \xa0 \xa0    \xa0\xa0\xa0 \xa0\xa0\xa0\xa0   \xa0\xa0  \xa0\xa0\xa0 ", // LiteralPlain
     *b"            $$$$$$$$$$                   vY u  xw#    y      z z    zzz zzzz   zz  zzz ", // LiteralSolid
-    *b"                                                             \xa1 \xa3\xa0\xa7 \xab \xaa  \xa8\xa4\x9f\xa6\xa2 \xa5\xa9       ", // Operator
+    *b"                                                             \xa3 \xa5\xa2\xa9 \xad \xac  \xaa\xa6\xa1\xa8\xa4 \xa7\xab       ", // Operator
     *b"                                                             !   ! !            !  !   ", // OperatorAfterN
     *b"                                                  !          !   !      !         !    ", // OperatorAfterD
     *b"                                          !    !             !  !         !        !   ", // OperatorAfterA
@@ -435,39 +436,39 @@ static LETTERS: [[u8; 87]; 169] = [
     *b"                                         !     !                         !     !       ", // OperatorAfterR
     *b"                                              !                            !  !        ", // OperatorAfterO
     *b"                                           !                               ! !         ", // OperatorAfterE
-    *b"                                               !                 !   \xac         !!      ", // OperatorAfterL
+    *b"                                               !                 !   \xae         !!      ", // OperatorAfterL
     *b"                                                                               !       ", // OperatorAfterS
     *b"                                                                                    !  ", // OperatorAfterI
     *b"                                                                 !              !      ", // OperatorAfterG
-    *b"            JJJJJJJJJJ         JJ    \xad  J        J           J JJJ J J  JJJJJ JJ       ", // NestRestOrEnd
-    *b"                                     \x8b                                                 ", // ArgumentsAlone
+    *b"            JJJJJJJJJJ         JJ    \xaf  J        J           J JJJ J J  JJJJJ JJ       ", // NestRestOrEnd
+    *b"                                     \x8d                                                 ", // ArgumentsAlone
     *b"            JJJJJJJJJJ         JJ    I  J        J           J JJJ J J  JJJJJ JJ       ", // NestRestAlone
     *b"                                         !                                             ", // HolderMark
     *b"            $$$$$$$$$$         MN       \"        #           P OPP P P  PPPPP PP       ", // HeldComponent
-    *b"                               \xaf                                                       ", // BindingAfterD
-    *b"            \xb0\xb0\xb0\xb0\xb0\xb0\xb0\xb0\xb0\xb0                  \xb0                                              ", // BoundNames
-    *b"            \xb0\xb0\xb0\xb0\xb0\xb0\xb0\xb0\xb0\xb0                  \xb0                                              ", // MoreNames
-    *b"            \xae\xae\xae\xae\xae\xae\xae\xae\xae\xae                  \xb1                                              ", // BoundName
+    *b"                               \xb1                                                       ", // BindingAfterD
+    *b"            \xb2\xb2\xb2\xb2\xb2\xb2\xb2\xb2\xb2\xb2                  \xb2                                              ", // BoundNames
+    *b"            \xb2\xb2\xb2\xb2\xb2\xb2\xb2\xb2\xb2\xb2                  \xb2                                              ", // MoreNames
+    *b"            \xb0\xb0\xb0\xb0\xb0\xb0\xb0\xb0\xb0\xb0                  \xb3                                              ", // BoundName
     *b"                                                           !  !                     !  ", // FloatEnd
-    *b"                                                                        \xb3\xb3 \xb3           ", // ComponentAfterC
-    *b"                                                             \xa1  \xa0\xa7 \xab \xaa  \xa8\xa4\x9f\xa6\xa2 \xa5\xa9       ", // OtherOperator
-    *b"                                     \xb4                                                 ", // HeldArguments
-    *b"            \xb6\xb6\xb6\xb6\xb6\xb6\xb6\xb6\xb6\xb6                    \xb5    \xb6      y                                ", // BaseClass
-    *b"            \xb8\xb8\xb8\xb8\xb8\xb8\xb8\xb8\xb8\xb8                         \xb7                                       ", // UnnestedName
-    *b"                                     \xb9                                                 ", // BaseArguments
-    *b"            \x8f\x8f\x8f\x8f\x8f\x8f\x8f\x8f\x8f\x8f       \x8f \x8f\x8f \x8f   \x8d\x8f\x8e\x8f\x8f\x8f\x8f \x8f\x8f\x8f\x8f\x8f \x8f \x8f      \x8f\x8f\x8f\x8f\x8f\x8f\x8f\x8f\x8f\x8f \x8f\x8f\x8f\x8f  \x8f\x8f\x8f\x8f\x8f\x8f\x8f\x8f\x8f", // ArgumentsFirst
+    *b"                                                                        \xb5\xb5 \xb5           ", // ComponentAfterC
+    *b"                                                             \xa3  \xa2\xa9 \xad \xac  \xaa\xa6\xa1\xa8\xa4 \xa7\xab       ", // OtherOperator
+    *b"                                     \xb6                                                 ", // HeldArguments
+    *b"            \xb8\xb8\xb8\xb8\xb8\xb8\xb8\xb8\xb8\xb8                    \xb7    \xb8      y                                ", // BaseClass
+    *b"            \xba\xba\xba\xba\xba\xba\xba\xba\xba\xba                         \xb9                                       ", // UnnestedName
+    *b"                                     \xbb                                                 ", // BaseArguments
+    *b"            \x91\x91\x91\x91\x91\x91\x91\x91\x91\x91       \x91 \x91\x91 \x91   \x8f\x91\x90\x91\x91\x91\x91 \x91\x91\x91\x91\x91 \x91 \x91      \x91\x91\x91\x91\x91\x91\x91\x91\x91\x91 \x91\x91\x91\x91  \x91\x91\x91\x91\x91\x91\x91\x91\x91", // ArgumentsFirst
     *b"            $$$$$$$$$$                  \" *      #                                     ", // PlainEntity
     *b"            $$$$$$$$$$                  \" Y      #                                     ", // PlainTypeEntity
     *b"                                   !                                                   ", // SpecialMark
     *b"                                                  5                                    ", // SpecialAfterG
-    *b"            $$$$$$$$$$          &       \" *    < #    \xbc                                ", // TemporaryName
+    *b"            $$$$$$$$$$          &       \" *    < #    \xbe                                ", // TemporaryName
     *b"                                                                          !     !      ", // CloneLetter
-    *b"                                                                                \xbd      ", // TypeInStd
+    *b"                                                                                \xbf      ", // TypeInStd
     *b"                                                                                       ", // MaybeTags
-    *b"            \xc1\xc1\xc1\xc1\xc1\xc1\xc1\xc1\xc1\xc1       \xc1 \xc1j \xc1    d \xc1\xc1e\xc1 e\xc1\xc0\xc1c \xbf \xc1      \xc1\xc1\xc1\xc1\xc1\xc1\xc1\xc1\xc1\xc1 \xc1\xc1\xc1\xc1  b\xc1\xc1\xc1\xc1\xc1\xc1\xc1\xc1", // Argument
-    *b"            \xc2\xc2\xc2\xc2\xc2\xc2\xc2\xc2\xc2\xc2                                     \xc2                           ", // ArgumentAfterT
-    *b"            \xc2\xc2\xc2\xc2\xc2\xc2\xc2\xc2\xc2\xc2                                     \xc2                           ", // LeveledParameter
-    *b"            \xc1\xc1\xc1\xc1\xc1\xc1\xc1\xc1\xc1\xc1       \xc1 \xc1j \xc1   \xc6d\xc5\xc1\xc1e\xc1 e\xc1\xc0\xc1c \xbf \xc1      \xc1\xc1\xc1\xc1\xc1\xc1\xc1\xc1\xc1\xc1 \xc1\xc1\xc1\xc1  b\xc1\xc1\xc1\xc1\xc1\xc1\xc1\xc1", // OneArgument
+    *b"            \xc3\xc3\xc3\xc3\xc3\xc3\xc3\xc3\xc3\xc3       \xc3 \xc3j \xc3    d \xc3\xc3e\xc3 e\xc3\xc2\xc3c \xc1 \xc3      \xc3\xc3\xc3\xc3\xc3\xc3\xc3\xc3\xc3\xc3 \xc3\xc3\xc3\xc3  b\xc3\xc3\xc3\xc3\xc3\xc3\xc3\xc3", // Argument
+    *b"            \x7f\x7f\x7f\x7f\x7f\x7f\x7f\x7f\x7f\x7f                                     \x7f                           ", // ArgumentAfterT
+    *b"            \x7f\x7f\x7f\x7f\x7f\x7f\x7f\x7f\x7f\x7f                                     \x7f                           ", // LeveledParameter
+    *b"            \xc3\xc3\xc3\xc3\xc3\xc3\xc3\xc3\xc3\xc3       \xc3 \xc3j \xc3   \xc6d\xc5\xc3\xc3e\xc3 e\xc3\xc2\xc3c \xc1 \xc3      \xc3\xc3\xc3\xc3\xc3\xc3\xc3\xc3\xc3\xc3 \xc3\xc3\xc3\xc3  b\xc3\xc3\xc3\xc3\xc3\xc3\xc3\xc3", // OneArgument
     *b"                                                                       \xc9  \xc8 \xcb   \xca    \xc7 ", // DeclarationAfterT
     *b"                                                \xcc                                      ", // Declarations
     *b"            \xcd\xcd\xcd\xcd\xcd\xcd\xcd\xcd\xcd\xcd                    Y    \xcd                                       ", // Concept
@@ -476,7 +477,7 @@ static LETTERS: [[u8; 87]; 169] = [
     *b"            \xfb\xfb\xfb\xfb\xfb\xfb\xfb\xfb\xfb\xfb                  \xfc                  \xfb                           ", // ExpressionParameter
     *b"            \xfb\xfb\xfb\xfb\xfb\xfb\xfb\xfb\xfb\xfb                                     \xfb                           ", // UnleveledExpression
     *b"                                        \xfd                                              ", // AddressedExpression
-    *b"                                                           \x92                           ", // AddressedLiteral
+    *b"                                                           \x94                           ", // AddressedLiteral
     *b"                                                                \xd2                      ", // ExpressionAfterA
     *b"                                                               \xce        \xd6\xd3 \xd4\xd6     \xd7    ", // ExpressionAfterC
     *b"                                                  \xd3          \xd4 \xce \xd4   \xd8  \xd4 \xda    \xd3\xd3 \xd3 \xd9  ", // ExpressionAfterD
@@ -495,7 +496,7 @@ static LETTERS: [[u8; 87]; 169] = [
     *b"                                                                 \xd4   \xd5  \xe8     \xe9    \xd4   ", // ExpressionAfterT
     *b"                                                             \xfe                         ", // Expressions
     *b"                                                           !                           ", // MaybeBefore
-    *b"                                                             \xa1 \xa3\xa0\xa7 \xab \xaa  \xff\xa4\x9f\xa6\xa2 \xa5\xa9       ", // FoldOperator
+    *b"                                                             \xa3 \xa5\xa2\xa9 \xad \xac  \xff\xa6\xa1\xa8\xa4 \xa7\xab       ", // FoldOperator
     *b"                                               !                 !             !!      ", // FoldOperatorAfterL
     *b"                                                             \x00                         ", // FoldOperand
     *b"                                                             \x01                         ", // FoldPack
@@ -504,32 +505,31 @@ static LETTERS: [[u8; 87]; 169] = [
     *b"            \x04\x04\x04\x04\x04\x04\x04\x04\x04\x04                  \x04       \x04            \x04 \x04\x03\x04\x04\x04 \x04  \x04\x04\x04\x04\x04\x04\x04\x04\x04      ", // DesignatedValue
     *b"                                                                     \xd8              \xd9  ", // DesignatorAfterD
     *b"            \xd0\xd0\xd0\xd0\xd0\xd0\xd0\xd0\xd0\xd0                  \xc5       \xfa            \xea \xeb \xed\xee\xef \xf0  \xf1\xf2\xf3\xf4\xf5\xf6\xf7\xf8\xf9      ", // PlainValue
-    *b"            \xae\xae\xae\xae\xae\xae\xae\xae\xae\xae                                                                 ", // FieldName
+    *b"            \xb0\xb0\xb0\xb0\xb0\xb0\xb0\xb0\xb0\xb0                                                                 ", // FieldName
     *b"                                                           ! \x05                         ", // Placement
     *b"                                                             \xfe                         ", // SomeExpressions
-    *b"                                 \x86                                   \x07      \x06          ", // Initializer
+    *b"                                 \x88                                   \x07      \x06          ", // Initializer
     *b"                                                                     \xde                 ", // InitializerAfterP
     *b"                                                                        \xde              ", // InitializerAfterI
     *b"                                                                            \xd1          ", // OuterRest
     *b"            \x09\x09\x09\x09\x09\x09\x09\x09\x09\x09                          \x08          \x09                           ", // ParameterNumber
     *b"            \x0e\x0e\x0e\x0e\x0e\x0e\x0e\x0e\x0e\x0e          \x0a \x0e    \x0b  \x0e\x0d\x0c \x0d\x0e\x0e\x0e           \x0e\x0e\x0e\x0e\x0e\x0e\x0e\x0e\x0e\x0e \x0e\x0e\x0e\x0e   \x0e\x0e \x0e\x0e\x0e\x0e\x0e", // ConvertedType
-    *b"            $$$$$$$$$$            }       Y    x\x0f#           zzzzzzzzzz zzzz   zz zzzzz", // ConvertedSolid
-    *b"            \xc2\xc2\xc2\xc2\xc2\xc2\xc2\xc2\xc2\xc2                  \xc4                  \xc2                           ", // ParameterAfterT
+    *b"            $$$$$$$$$$            }       Y    xw#           zzzzzzzzzz zzzz   zz zzzzz", // ConvertedSolid
     *b"                                                s                               s      ", // DecltypeAfterD
     *b"            \xd0\xd0\xd0\xd0\xd0\xd0\xd0\xd0\xd0\xd0                  \xc5       \xfa          \xde \xea \xeb\xec\xed\xee\xef \xf0  \xf1\xf2\xf3\xf4\xf5\xf6\xf7\xf8\xf9      ", // ConvertRest
-    *b"            \x11\x11\x11\x11\x11\x11\x11\x11\x11\x11          \x10         \x10    \x10\x10                                      ", // Unresolved
-    *b"                                \x0a         Y    x\x0f                                      ", // UnresolvedType
-    *b"            \xd0\xd0\xd0\xd0\xd0\xd0\xd0\xd0\xd0\xd0          \x12         \x12    \x12\x12                                      ", // DestructorName
-    *b"                                             \x15  \x14   \x13                                  ", // Requirements
-    *b"                                          \x17  \x15\x16 \x14   \x13                                  ", // AfterExpression
-    *b"                                             \x15\x16 \x14   \x13                                  ", // AfterNoexcept
-    *b"            \x18\x18\x18\x18\x18\x18\x18\x18\x18\x18          \x18 \x18    \x18  \x18\x18\x18 \x18\x18\x18\x18         \xe2 \x18\x18\x18\x18\x18\x18\x18\x18\x18\x18 \x18\x18\x18\x18   \x18\x18 \x18\x18\x18\x18\x18", // RequiredTypes
+    *b"            \x10\x10\x10\x10\x10\x10\x10\x10\x10\x10          \x0f         \x0f    \x0f\x0f                                      ", // Unresolved
+    *b"                                \x0a         Y    xw                                      ", // UnresolvedType
+    *b"            \xd0\xd0\xd0\xd0\xd0\xd0\xd0\xd0\xd0\xd0          \x11         \x11    \x11\x11                                      ", // DestructorName
+    *b"                                             \x14  \x13   \x12                                  ", // Requirements
+    *b"                                          \x16  \x14\x15 \x13   \x12                                  ", // AfterExpression
+    *b"                                             \x14\x15 \x13   \x12                                  ", // AfterNoexcept
+    *b"            \x17\x17\x17\x17\x17\x17\x17\x17\x17\x17          \x17 \x17    \x17  \x17\x17\x17 \x17\x17\x17\x17         \xe2 \x17\x17\x17\x17\x17\x17\x17\x17\x17\x17 \x17\x17\x17\x17   \x17\x17 \x17\x17\x17\x17\x17", // RequiredTypes
     *b"            \xd0\xd0\xd0\xd0\xd0\xd0\xd0\xd0\xd0\xd0                                                                 ", // Level
-    *b"            \x11\x11\x11\x11\x11\x11\x11\x11\x11\x11           \x19                                                     ", // MoreLevels
-    *b"            \xd0\xd0\xd0\xd0\xd0\xd0\xd0\xd0\xd0\xd0                                                     \x1a           ", // UnresolvedName
+    *b"            \x10\x10\x10\x10\x10\x10\x10\x10\x10\x10           \x18                                                     ", // MoreLevels
+    *b"            \xd0\xd0\xd0\xd0\xd0\xd0\xd0\xd0\xd0\xd0                                                     \x19           ", // UnresolvedName
     *b"                                                                          \xcf            ", // OperatorName
-    *b"                             \x1b                                                         ", // AnyArray
-    *b"            \x1d\x1d\x1d\x1d\x1d\x1d\x1d\x1d\x1d\x1d                                     \x1d                           ", // ArrayRest
+    *b"                             \x1a                                                         ", // AnyArray
+    *b"            \x1c\x1c\x1c\x1c\x1c\x1c\x1c\x1c\x1c\x1c                                     \x1c                           ", // ArrayRest
     *b"                                        \xc5       \xfa            \xea \xeb\xec\xed\xee\xef \xf0  \xf1\xf2\xf3\xf4\xf5\xf6\xf7\xf8\xf9      ", // Bound
     *b"            JJJJJJJJJJ         JJ       J        J           J JJJ J J  JJJJJ JJ       ", // NestMoreOrEnd
 ];
@@ -561,7 +561,7 @@ macro_rules! chains {
 }
 
 // The rules of the productions, in the order of their numbers.
-pub static HEADS: [Head; 253] = [
+pub static HEADS: [Head; 252] = [
     takes!(0), // ! Mark
     takes!(2), // \" InternalName
     takes!(2), // # LocalTypeName
@@ -648,7 +648,7 @@ pub static HEADS: [Head; 253] = [
     takes!(2), // t IndexedType
     takes!(1), // u Pointer
     takes!(2), // v MemberPointer
-    takes!(2), // w Parameter
+    takes!(1), // w TypeWithT
     takes!(2), // x TypeWithS
     takes!(4), // y LocalType
     takes!(0), // z Builtin
@@ -656,76 +656,76 @@ pub static HEADS: [Head; 253] = [
     chains!(1), // | ArrayType
     takes!(3), // } Function
     takes!(1), // ~ Complex
-    chains!(1), // \x7f BitWidth
-    chains!(1), // \x80 TypeInStd
-    chains!(1), // \x81 AbbreviatedType
-    takes!(0), // \x82 RestEnd
-    takes!(1), // \x83 RestLvalue
-    takes!(1), // \x84 RestRvalue
-    chains!(2), // \x85 RestItem
-    takes!(0), // \x86 RefEnd
-    chains!(2), // \x87 LvalueItem
-    chains!(2), // \x88 RvalueItem
-    takes!(1), // \x89 Constraint
-    chains!(2), // \x8a Items
-    takes!(2), // \x8b Arguments
-    takes!(2), // \x8c Tag
-    takes!(3), // \x8d PackArgument
-    takes!(3), // \x8e LiteralArgument
-    chains!(2), // \x8f AnyArgument
-    takes!(3), // \x90 LiteralElement
-    chains!(2), // \x91 AnyElement
-    takes!(2), // \x92 EncodingLiteral
-    takes!(1), // \x93 BoolLiteral
-    takes!(1), // \x94 LiteralWithD
-    chains!(2), // \x95 IntegerLiteral
-    chains!(2), // \x96 FloatLiteral
-    takes!(1), // \x97 NullLiteral
-    takes!(1), // \x98 CharLiteral
-    chains!(2), // \x99 SizedFloatLiteral
-    chains!(1), // \x9a HexText
-    takes!(1), // \x9b HexDigit
-    takes!(2), // \x9c VolatileLiteral
-    takes!(1), // \x9d ConstLiteral
-    chains!(1), // \x9e QualifiedLiteral
-    takes!(1), // \x9f OperatorN
-    takes!(1), // \xa0 OperatorD
-    takes!(1), // \xa1 OperatorA
-    takes!(1), // \xa2 OperatorP
-    takes!(1), // \xa3 OperatorC
-    takes!(1), // \xa4 OperatorM
-    takes!(1), // \xa5 OperatorR
-    takes!(1), // \xa6 OperatorO
-    takes!(1), // \xa7 OperatorE
-    takes!(1), // \xa8 OperatorL
-    takes!(1), // \xa9 OperatorS
-    takes!(1), // \xaa OperatorI
-    takes!(1), // \xab OperatorG
-    takes!(1), // \xac LiteralOperator
-    takes!(3), // \xad NestInstance
-    chains!(1), // \xae FieldName
-    takes!(2), // \xaf Bindings
-    chains!(2), // \xb0 BoundNames
-    takes!(1), // \xb1 InternalBoundName
-    takes!(1), // \xb2 Conversion
-    chains!(2), // \xb3 OperatorNameWithC
-    takes!(2), // \xb4 HeldArguments
-    takes!(2), // \xb5 NestedBase
-    chains!(2), // \xb6 UnnestedBase
-    takes!(1), // \xb7 UnnestedWithS
-    chains!(2), // \xb8 TaggedSource
-    takes!(3), // \xb9 BaseArguments
-    takes!(2), // \xba Temporary
-    takes!(2), // \xbb Clone
-    takes!(3), // \xbc LocalTemporary
-    takes!(2), // \xbd TaggedStdType
-    takes!(2), // \xbe TypeTag
-    takes!(2), // \xbf Expression
-    takes!(1), // \xc0 ArgumentWithT
-    chains!(1), // \xc1 PlainArgument
-    chains!(2), // \xc2 ParameterArgument
-    chains!(2), // \xc3 DeclaredArgument
-    takes!(2), // \xc4 LeveledParameter
+    chains!(2), // \x7f ParameterArgument
+    takes!(2), // \x80 LeveledParameter
+    chains!(1), // \x81 BitWidth
+    chains!(1), // \x82 TypeInStd
+    chains!(1), // \x83 AbbreviatedType
+    takes!(0), // \x84 RestEnd
+    takes!(1), // \x85 RestLvalue
+    takes!(1), // \x86 RestRvalue
+    chains!(2), // \x87 RestItem
+    takes!(0), // \x88 RefEnd
+    chains!(2), // \x89 LvalueItem
+    chains!(2), // \x8a RvalueItem
+    takes!(1), // \x8b Constraint
+    chains!(2), // \x8c Items
+    takes!(2), // \x8d Arguments
+    takes!(2), // \x8e Tag
+    takes!(3), // \x8f PackArgument
+    takes!(3), // \x90 LiteralArgument
+    chains!(2), // \x91 AnyArgument
+    takes!(3), // \x92 LiteralElement
+    chains!(2), // \x93 AnyElement
+    takes!(2), // \x94 EncodingLiteral
+    takes!(1), // \x95 BoolLiteral
+    takes!(1), // \x96 LiteralWithD
+    chains!(2), // \x97 IntegerLiteral
+    chains!(2), // \x98 FloatLiteral
+    takes!(1), // \x99 NullLiteral
+    takes!(1), // \x9a CharLiteral
+    chains!(2), // \x9b SizedFloatLiteral
+    chains!(1), // \x9c HexText
+    takes!(1), // \x9d HexDigit
+    takes!(2), // \x9e VolatileLiteral
+    takes!(1), // \x9f ConstLiteral
+    chains!(1), // \xa0 QualifiedLiteral
+    takes!(1), // \xa1 OperatorN
+    takes!(1), // \xa2 OperatorD
+    takes!(1), // \xa3 OperatorA
+    takes!(1), // \xa4 OperatorP
+    takes!(1), // \xa5 OperatorC
+    takes!(1), // \xa6 OperatorM
+    takes!(1), // \xa7 OperatorR
+    takes!(1), // \xa8 OperatorO
+    takes!(1), // \xa9 OperatorE
+    takes!(1), // \xaa OperatorL
+    takes!(1), // \xab OperatorS
+    takes!(1), // \xac OperatorI
+    takes!(1), // \xad OperatorG
+    takes!(1), // \xae LiteralOperator
+    takes!(3), // \xaf NestInstance
+    chains!(1), // \xb0 FieldName
+    takes!(2), // \xb1 Bindings
+    chains!(2), // \xb2 BoundNames
+    takes!(1), // \xb3 InternalBoundName
+    takes!(1), // \xb4 Conversion
+    chains!(2), // \xb5 OperatorNameWithC
+    takes!(2), // \xb6 HeldArguments
+    takes!(2), // \xb7 NestedBase
+    chains!(2), // \xb8 UnnestedBase
+    takes!(1), // \xb9 UnnestedWithS
+    chains!(2), // \xba TaggedSource
+    takes!(3), // \xbb BaseArguments
+    takes!(2), // \xbc Temporary
+    takes!(2), // \xbd Clone
+    takes!(3), // \xbe LocalTemporary
+    takes!(2), // \xbf TaggedStdType
+    takes!(2), // \xc0 TypeTag
+    takes!(2), // \xc1 Expression
+    takes!(1), // \xc2 ArgumentWithT
+    chains!(1), // \xc3 PlainArgument
+    chains!(2), // \xc4 DeclaredArgument
     takes!(2), // \xc5 OneLiteral
     takes!(2), // \xc6 OnePack
     takes!(0), // \xc7 AnyType
@@ -800,25 +800,24 @@ pub static HEADS: [Head; 253] = [
     takes!(1), // \x0c ConvertedPointer
     takes!(1), // \x0d ConvertedReference
     chains!(1), // \x0e ConvertedType
-    takes!(1), // \x0f ConvertedWithT
-    chains!(2), // \x10 UnresolvedInType
-    chains!(2), // \x11 Levels
-    chains!(1), // \x12 DestroyedType
-    takes!(2), // \x13 ExpressionRequirement
-    takes!(2), // \x14 TypeRequirement
-    takes!(2), // \x15 NestedRequirement
-    takes!(2), // \x16 ResultRequirement
-    takes!(1), // \x17 NoexceptRequirement
-    chains!(2), // \x18 RequiredType
-    takes!(1), // \x19 LevelsEnd
-    takes!(1), // \x1a UnresolvedOperator
-    takes!(1), // \x1b AnyArray
-    chains!(3), // \x1c BoundedArray
-    chains!(2), // \x1d LengthArray
+    chains!(2), // \x0f UnresolvedInType
+    chains!(2), // \x10 Levels
+    chains!(1), // \x11 DestroyedType
+    takes!(2), // \x12 ExpressionRequirement
+    takes!(2), // \x13 TypeRequirement
+    takes!(2), // \x14 NestedRequirement
+    takes!(2), // \x15 ResultRequirement
+    takes!(1), // \x16 NoexceptRequirement
+    chains!(2), // \x17 RequiredType
+    takes!(1), // \x18 LevelsEnd
+    takes!(1), // \x19 UnresolvedOperator
+    takes!(1), // \x1a AnyArray
+    chains!(3), // \x1b BoundedArray
+    chains!(2), // \x1c LengthArray
 ];
 
 // The symbols of the rules, in the same order.
-pub static SYMBOLS: [Sym; 1524] = symbols_listed! {
+pub static SYMBOLS: [Sym; 1518] = symbols_listed! {
     [NONE, NONE, NONE, NONE, NONE], // ! Mark
     [NAME, MAYBE_ARGUMENTS, NONE, NONE, NONE], // \" InternalName
     [ANONYMOUS, MAYBE_ARGUMENTS, NONE, NONE, NONE], // # LocalTypeName
@@ -905,7 +904,7 @@ pub static SYMBOLS: [Sym; 1524] = symbols_listed! {
     [TYPE_PACK, EXPRESSION, NONE, NONE, NONE], // t IndexedType
     [TYPE, NONE, NONE, NONE, NONE], // u Pointer
     [TYPE, TYPE, NONE, NONE, NONE], // v MemberPointer
-    [DECIMAL, ARGUMENTS_ALONE, NONE, NONE, NONE], // w Parameter
+    [PARAMETER_AFTER_T, NONE, NONE, NONE, NONE], // w TypeWithT
     [TYPE_AFTER_S, ARGUMENTS_ALONE, NONE, NONE, NONE], // x TypeWithS
     [ENCODING, Sym::Byte(b'E'), TYPE_ENTITY, MAYBE_DISCRIMINATOR, NONE], // y LocalType
     [NONE, NONE, NONE, NONE, NONE], // z Builtin
@@ -913,76 +912,76 @@ pub static SYMBOLS: [Sym; 1524] = symbols_listed! {
     [ANY_ARRAY, NONE, NONE, NONE, NONE], // | ArrayType
     [MAYBE_C_LINKAGE, TYPE, FUNCTION_REST, NONE, NONE], // } Function
     [TYPE, NONE, NONE, NONE, NONE], // ~ Complex
-    [DIGITS, NONE, NONE, NONE, NONE], // \x7f BitWidth
-    [TYPE_IN_STD, NONE, NONE, NONE, NONE], // \x80 TypeInStd
-    [ABBREVIATION, NONE, NONE, NONE, NONE], // \x81 AbbreviatedType
-    [NONE, NONE, NONE, NONE, NONE], // \x82 RestEnd
-    [AFTER_R, NONE, NONE, NONE, NONE], // \x83 RestLvalue
-    [AFTER_O, NONE, NONE, NONE, NONE], // \x84 RestRvalue
-    [ITEM_BUT_REF, FUNCTION_REST, NONE, NONE, NONE], // \x85 RestItem
-    [NONE, NONE, NONE, NONE, NONE], // \x86 RefEnd
-    [TYPE, FUNCTION_REST, NONE, NONE, NONE], // \x87 LvalueItem
-    [TYPE, FUNCTION_REST, NONE, NONE, NONE], // \x88 RvalueItem
-    [EXPRESSION, NONE, NONE, NONE, NONE], // \x89 Constraint
-    [ITEM, ITEMS, NONE, NONE, NONE], // \x8a Items
-    [ARGUMENTS_FIRST, Sym::Byte(b'E'), NONE, NONE, NONE], // \x8b Arguments
-    [NAME, MAYBE_ARGUMENTS, NONE, NONE, NONE], // \x8c Tag
-    [PACK_LIST, Sym::Byte(b'E'), ARGUMENT_LIST, NONE, NONE], // \x8d PackArgument
-    [LITERAL, Sym::Byte(b'E'), ARGUMENT_LIST, NONE, NONE], // \x8e LiteralArgument
-    [ARGUMENT, ARGUMENT_LIST, NONE, NONE, NONE], // \x8f AnyArgument
-    [LITERAL, Sym::Byte(b'E'), PACK_LIST, NONE, NONE], // \x90 LiteralElement
-    [ARGUMENT, PACK_LIST, NONE, NONE, NONE], // \x91 AnyElement
-    [Sym::Byte(b'Z'), ENCODING, NONE, NONE, NONE], // \x92 EncodingLiteral
-    [BIT, NONE, NONE, NONE, NONE], // \x93 BoolLiteral
-    [LITERAL_AFTER_D, NONE, NONE, NONE, NONE], // \x94 LiteralWithD
-    [LITERAL_TYPE, INTEGER, NONE, NONE, NONE], // \x95 IntegerLiteral
-    [FLOAT_TYPE, HEX_TEXT, NONE, NONE, NONE], // \x96 FloatLiteral
-    [MAYBE_ZERO, NONE, NONE, NONE, NONE], // \x97 NullLiteral
-    [INTEGER, NONE, NONE, NONE, NONE], // \x98 CharLiteral
-    [SIZED_FLOAT_TYPE, HEX_TEXT, NONE, NONE, NONE], // \x99 SizedFloatLiteral
-    [HEX_DIGITS, NONE, NONE, NONE, NONE], // \x9a HexText
-    [HEX_MORE, NONE, NONE, NONE, NONE], // \x9b HexDigit
-    [MAYBE_CONST, LITERAL_PLAIN, NONE, NONE, NONE], // \x9c VolatileLiteral
-    [LITERAL_PLAIN, NONE, NONE, NONE, NONE], // \x9d ConstLiteral
-    [LITERAL_SOLID, NONE, NONE, NONE, NONE], // \x9e QualifiedLiteral
-    [OPERATOR_AFTER_N, NONE, NONE, NONE, NONE], // \x9f OperatorN
-    [OPERATOR_AFTER_D, NONE, NONE, NONE, NONE], // \xa0 OperatorD
-    [OPERATOR_AFTER_A, NONE, NONE, NONE, NONE], // \xa1 OperatorA
-    [OPERATOR_AFTER_P, NONE, NONE, NONE, NONE], // \xa2 OperatorP
-    [OPERATOR_AFTER_C, NONE, NONE, NONE, NONE], // \xa3 OperatorC
-    [OPERATOR_AFTER_M, NONE, NONE, NONE, NONE], // \xa4 OperatorM
-    [OPERATOR_AFTER_R, NONE, NONE, NONE, NONE], // \xa5 OperatorR
-    [OPERATOR_AFTER_O, NONE, NONE, NONE, NONE], // \xa6 OperatorO
-    [OPERATOR_AFTER_E, NONE, NONE, NONE, NONE], // \xa7 OperatorE
-    [OPERATOR_AFTER_L, NONE, NONE, NONE, NONE], // \xa8 OperatorL
-    [OPERATOR_AFTER_S, NONE, NONE, NONE, NONE], // \xa9 OperatorS
-    [OPERATOR_AFTER_I, NONE, NONE, NONE, NONE], // \xaa OperatorI
-    [OPERATOR_AFTER_G, NONE, NONE, NONE, NONE], // \xab OperatorG
-    [NAME, NONE, NONE, NONE, NONE], // \xac LiteralOperator
-    [ARGUMENTS_FIRST, Sym::Byte(b'E'), NEST_MORE_OR_END, NONE, NONE], // \xad NestInstance
-    [NAME, NONE, NONE, NONE, NONE], // \xae FieldName
-    [BOUND_NAMES, Sym::Byte(b'E'), NONE, NONE, NONE], // \xaf Bindings
-    [BOUND_NAME, MORE_NAMES, NONE, NONE, NONE], // \xb0 BoundNames
-    [NAME, NONE, NONE, NONE, NONE], // \xb1 InternalBoundName
-    [TYPE, NONE, NONE, NONE, NONE], // \xb2 Conversion
-    [OPERATOR_AFTER_C, MAYBE_ARGUMENTS, NONE, NONE, NONE], // \xb3 OperatorNameWithC
-    [ARGUMENTS_FIRST, Sym::Byte(b'E'), NONE, NONE, NONE], // \xb4 HeldArguments
-    [NEST, HELD_ARGUMENTS, NONE, NONE, NONE], // \xb5 NestedBase
-    [UNNESTED_NAME, BASE_ARGUMENTS, NONE, NONE, NONE], // \xb6 UnnestedBase
-    [TYPE_AFTER_S, NONE, NONE, NONE, NONE], // \xb7 UnnestedWithS
-    [NAME, MAYBE_TAGS, NONE, NONE, NONE], // \xb8 TaggedSource
-    [ARGUMENTS_FIRST, Sym::Byte(b'E'), HELD_ARGUMENTS, NONE, NONE], // \xb9 BaseArguments
-    [TEMPORARY_NAME, Sym::Byte(b'_'), NONE, NONE, NONE], // \xba Temporary
-    [CLONE_LETTER, ENCODING, NONE, NONE, NONE], // \xbb Clone
-    [ENCODING, Sym::Byte(b'E'), ENTITY, NONE, NONE], // \xbc LocalTemporary
-    [SOURCE_OR_LOCAL, MAYBE_TAGS, NONE, NONE, NONE], // \xbd TaggedStdType
-    [NAME, MAYBE_TAGS, NONE, NONE, NONE], // \xbe TypeTag
-    [EXPRESSION, Sym::Byte(b'E'), NONE, NONE, NONE], // \xbf Expression
-    [ARGUMENT_AFTER_T, NONE, NONE, NONE, NONE], // \xc0 ArgumentWithT
-    [SOLID_BUT_T, NONE, NONE, NONE, NONE], // \xc1 PlainArgument
-    [DECIMAL, ARGUMENTS_ALONE, NONE, NONE, NONE], // \xc2 ParameterArgument
-    [DECLARATION_AFTER_T, ONE_ARGUMENT, NONE, NONE, NONE], // \xc3 DeclaredArgument
-    [DECIMAL, LEVELED_PARAMETER, NONE, NONE, NONE], // \xc4 LeveledParameter
+    [DECIMAL, ARGUMENTS_ALONE, NONE, NONE, NONE], // \x7f ParameterArgument
+    [DECIMAL, LEVELED_PARAMETER, NONE, NONE, NONE], // \x80 LeveledParameter
+    [DIGITS, NONE, NONE, NONE, NONE], // \x81 BitWidth
+    [TYPE_IN_STD, NONE, NONE, NONE, NONE], // \x82 TypeInStd
+    [ABBREVIATION, NONE, NONE, NONE, NONE], // \x83 AbbreviatedType
+    [NONE, NONE, NONE, NONE, NONE], // \x84 RestEnd
+    [AFTER_R, NONE, NONE, NONE, NONE], // \x85 RestLvalue
+    [AFTER_O, NONE, NONE, NONE, NONE], // \x86 RestRvalue
+    [ITEM_BUT_REF, FUNCTION_REST, NONE, NONE, NONE], // \x87 RestItem
+    [NONE, NONE, NONE, NONE, NONE], // \x88 RefEnd
+    [TYPE, FUNCTION_REST, NONE, NONE, NONE], // \x89 LvalueItem
+    [TYPE, FUNCTION_REST, NONE, NONE, NONE], // \x8a RvalueItem
+    [EXPRESSION, NONE, NONE, NONE, NONE], // \x8b Constraint
+    [ITEM, ITEMS, NONE, NONE, NONE], // \x8c Items
+    [ARGUMENTS_FIRST, Sym::Byte(b'E'), NONE, NONE, NONE], // \x8d Arguments
+    [NAME, MAYBE_ARGUMENTS, NONE, NONE, NONE], // \x8e Tag
+    [PACK_LIST, Sym::Byte(b'E'), ARGUMENT_LIST, NONE, NONE], // \x8f PackArgument
+    [LITERAL, Sym::Byte(b'E'), ARGUMENT_LIST, NONE, NONE], // \x90 LiteralArgument
+    [ARGUMENT, ARGUMENT_LIST, NONE, NONE, NONE], // \x91 AnyArgument
+    [LITERAL, Sym::Byte(b'E'), PACK_LIST, NONE, NONE], // \x92 LiteralElement
+    [ARGUMENT, PACK_LIST, NONE, NONE, NONE], // \x93 AnyElement
+    [Sym::Byte(b'Z'), ENCODING, NONE, NONE, NONE], // \x94 EncodingLiteral
+    [BIT, NONE, NONE, NONE, NONE], // \x95 BoolLiteral
+    [LITERAL_AFTER_D, NONE, NONE, NONE, NONE], // \x96 LiteralWithD
+    [LITERAL_TYPE, INTEGER, NONE, NONE, NONE], // \x97 IntegerLiteral
+    [FLOAT_TYPE, HEX_TEXT, NONE, NONE, NONE], // \x98 FloatLiteral
+    [MAYBE_ZERO, NONE, NONE, NONE, NONE], // \x99 NullLiteral
+    [INTEGER, NONE, NONE, NONE, NONE], // \x9a CharLiteral
+    [SIZED_FLOAT_TYPE, HEX_TEXT, NONE, NONE, NONE], // \x9b SizedFloatLiteral
+    [HEX_DIGITS, NONE, NONE, NONE, NONE], // \x9c HexText
+    [HEX_MORE, NONE, NONE, NONE, NONE], // \x9d HexDigit
+    [MAYBE_CONST, LITERAL_PLAIN, NONE, NONE, NONE], // \x9e VolatileLiteral
+    [LITERAL_PLAIN, NONE, NONE, NONE, NONE], // \x9f ConstLiteral
+    [LITERAL_SOLID, NONE, NONE, NONE, NONE], // \xa0 QualifiedLiteral
+    [OPERATOR_AFTER_N, NONE, NONE, NONE, NONE], // \xa1 OperatorN
+    [OPERATOR_AFTER_D, NONE, NONE, NONE, NONE], // \xa2 OperatorD
+    [OPERATOR_AFTER_A, NONE, NONE, NONE, NONE], // \xa3 OperatorA
+    [OPERATOR_AFTER_P, NONE, NONE, NONE, NONE], // \xa4 OperatorP
+    [OPERATOR_AFTER_C, NONE, NONE, NONE, NONE], // \xa5 OperatorC
+    [OPERATOR_AFTER_M, NONE, NONE, NONE, NONE], // \xa6 OperatorM
+    [OPERATOR_AFTER_R, NONE, NONE, NONE, NONE], // \xa7 OperatorR
+    [OPERATOR_AFTER_O, NONE, NONE, NONE, NONE], // \xa8 OperatorO
+    [OPERATOR_AFTER_E, NONE, NONE, NONE, NONE], // \xa9 OperatorE
+    [OPERATOR_AFTER_L, NONE, NONE, NONE, NONE], // \xaa OperatorL
+    [OPERATOR_AFTER_S, NONE, NONE, NONE, NONE], // \xab OperatorS
+    [OPERATOR_AFTER_I, NONE, NONE, NONE, NONE], // \xac OperatorI
+    [OPERATOR_AFTER_G, NONE, NONE, NONE, NONE], // \xad OperatorG
+    [NAME, NONE, NONE, NONE, NONE], // \xae LiteralOperator
+    [ARGUMENTS_FIRST, Sym::Byte(b'E'), NEST_MORE_OR_END, NONE, NONE], // \xaf NestInstance
+    [NAME, NONE, NONE, NONE, NONE], // \xb0 FieldName
+    [BOUND_NAMES, Sym::Byte(b'E'), NONE, NONE, NONE], // \xb1 Bindings
+    [BOUND_NAME, MORE_NAMES, NONE, NONE, NONE], // \xb2 BoundNames
+    [NAME, NONE, NONE, NONE, NONE], // \xb3 InternalBoundName
+    [TYPE, NONE, NONE, NONE, NONE], // \xb4 Conversion
+    [OPERATOR_AFTER_C, MAYBE_ARGUMENTS, NONE, NONE, NONE], // \xb5 OperatorNameWithC
+    [ARGUMENTS_FIRST, Sym::Byte(b'E'), NONE, NONE, NONE], // \xb6 HeldArguments
+    [NEST, HELD_ARGUMENTS, NONE, NONE, NONE], // \xb7 NestedBase
+    [UNNESTED_NAME, BASE_ARGUMENTS, NONE, NONE, NONE], // \xb8 UnnestedBase
+    [TYPE_AFTER_S, NONE, NONE, NONE, NONE], // \xb9 UnnestedWithS
+    [NAME, MAYBE_TAGS, NONE, NONE, NONE], // \xba TaggedSource
+    [ARGUMENTS_FIRST, Sym::Byte(b'E'), HELD_ARGUMENTS, NONE, NONE], // \xbb BaseArguments
+    [TEMPORARY_NAME, Sym::Byte(b'_'), NONE, NONE, NONE], // \xbc Temporary
+    [CLONE_LETTER, ENCODING, NONE, NONE, NONE], // \xbd Clone
+    [ENCODING, Sym::Byte(b'E'), ENTITY, NONE, NONE], // \xbe LocalTemporary
+    [SOURCE_OR_LOCAL, MAYBE_TAGS, NONE, NONE, NONE], // \xbf TaggedStdType
+    [NAME, MAYBE_TAGS, NONE, NONE, NONE], // \xc0 TypeTag
+    [EXPRESSION, Sym::Byte(b'E'), NONE, NONE, NONE], // \xc1 Expression
+    [ARGUMENT_AFTER_T, NONE, NONE, NONE, NONE], // \xc2 ArgumentWithT
+    [SOLID_BUT_T, NONE, NONE, NONE, NONE], // \xc3 PlainArgument
+    [DECLARATION_AFTER_T, ONE_ARGUMENT, NONE, NONE, NONE], // \xc4 DeclaredArgument
     [LITERAL, Sym::Byte(b'E'), NONE, NONE, NONE], // \xc5 OneLiteral
     [PACK_LIST, Sym::Byte(b'E'), NONE, NONE, NONE], // \xc6 OnePack
     [NONE, NONE, NONE, NONE, NONE], // \xc7 AnyType
@@ -1057,25 +1056,24 @@ pub static SYMBOLS: [Sym; 1524] = symbols_listed! {
     [CONVERTED_TYPE, NONE, NONE, NONE, NONE], // \x0c ConvertedPointer
     [CONVERTED_TYPE, NONE, NONE, NONE, NONE], // \x0d ConvertedReference
     [CONVERTED_SOLID, NONE, NONE, NONE, NONE], // \x0e ConvertedType
-    [PARAMETER_AFTER_T, NONE, NONE, NONE, NONE], // \x0f ConvertedWithT
-    [UNRESOLVED_TYPE, UNRESOLVED_NAME, NONE, NONE, NONE], // \x10 UnresolvedInType
-    [LEVEL, MORE_LEVELS, NONE, NONE, NONE], // \x11 Levels
-    [UNRESOLVED_TYPE, NONE, NONE, NONE, NONE], // \x12 DestroyedType
-    [EXPRESSION, AFTER_EXPRESSION, NONE, NONE, NONE], // \x13 ExpressionRequirement
-    [TYPE, REQUIREMENTS, NONE, NONE, NONE], // \x14 TypeRequirement
-    [EXPRESSION, REQUIREMENTS, NONE, NONE, NONE], // \x15 NestedRequirement
-    [CONCEPT, REQUIREMENTS, NONE, NONE, NONE], // \x16 ResultRequirement
-    [AFTER_NOEXCEPT, NONE, NONE, NONE, NONE], // \x17 NoexceptRequirement
-    [CONVERTED_TYPE, REQUIRED_TYPES, NONE, NONE, NONE], // \x18 RequiredType
-    [UNRESOLVED_NAME, NONE, NONE, NONE, NONE], // \x19 LevelsEnd
-    [OPERATOR_NAME, NONE, NONE, NONE, NONE], // \x1a UnresolvedOperator
-    [ARRAY_REST, NONE, NONE, NONE, NONE], // \x1b AnyArray
-    [BOUND, Sym::Byte(b'_'), TYPE, NONE, NONE], // \x1c BoundedArray
-    [DECIMAL, TYPE, NONE, NONE, NONE], // \x1d LengthArray
+    [UNRESOLVED_TYPE, UNRESOLVED_NAME, NONE, NONE, NONE], // \x0f UnresolvedInType
+    [LEVEL, MORE_LEVELS, NONE, NONE, NONE], // \x10 Levels
+    [UNRESOLVED_TYPE, NONE, NONE, NONE, NONE], // \x11 DestroyedType
+    [EXPRESSION, AFTER_EXPRESSION, NONE, NONE, NONE], // \x12 ExpressionRequirement
+    [TYPE, REQUIREMENTS, NONE, NONE, NONE], // \x13 TypeRequirement
+    [EXPRESSION, REQUIREMENTS, NONE, NONE, NONE], // \x14 NestedRequirement
+    [CONCEPT, REQUIREMENTS, NONE, NONE, NONE], // \x15 ResultRequirement
+    [AFTER_NOEXCEPT, NONE, NONE, NONE, NONE], // \x16 NoexceptRequirement
+    [CONVERTED_TYPE, REQUIRED_TYPES, NONE, NONE, NONE], // \x17 RequiredType
+    [UNRESOLVED_NAME, NONE, NONE, NONE, NONE], // \x18 LevelsEnd
+    [OPERATOR_NAME, NONE, NONE, NONE, NONE], // \x19 UnresolvedOperator
+    [ARRAY_REST, NONE, NONE, NONE, NONE], // \x1a AnyArray
+    [BOUND, Sym::Byte(b'_'), TYPE, NONE, NONE], // \x1b BoundedArray
+    [DECIMAL, TYPE, NONE, NONE, NONE], // \x1c LengthArray
 };
 
 // How many symbols follow each of them, up to an end.
-static AFTER: [u8; 1524] = [
+static AFTER: [u8; 1518] = [
     0, 0, 0, 0, 0, 0, 0, 0, 0, 0, 0, 2, 1, 0, 0, 0, 0, 2, 1, 0, 0, 0, 0, 2, 1, 0, 0, 0, 0, 2, 1, 0,
     0, 0, 0, 2, 1, 0, 0, 0, 0, 1, 0, 0, 0, 0, 0, 1, 0, 0, 0, 0, 0, 1, 0, 0, 0, 0, 0, 5, 4, 3, 2, 1,
     0, 3, 2, 1, 0, 0, 0, 1, 0, 0, 0, 0, 0, 1, 0, 0, 0, 0, 0, 1, 0, 0, 0, 0, 0, 2, 1, 0, 0, 0, 0, 2,
@@ -1092,21 +1090,21 @@ static AFTER: [u8; 1524] = [
     0, 0, 0, 1, 0, 0, 0, 0, 0, 1, 0, 0, 0, 0, 0, 1, 0, 0, 0, 0, 0, 1, 0, 0, 0, 0, 0, 1, 0, 0, 0, 0,
     0, 1, 0, 0, 0, 0, 0, 1, 0, 0, 0, 0, 0, 0, 0, 0, 0, 0, 0, 3, 2, 1, 0, 0, 0, 4, 3, 2, 1, 0, 0, 2,
     1, 0, 0, 0, 0, 1, 0, 0, 0, 0, 0, 2, 1, 0, 0, 0, 0, 2, 1, 0, 0, 0, 0, 2, 1, 0, 0, 0, 0, 1, 0, 0,
-    0, 0, 0, 2, 1, 0, 0, 0, 0, 2, 1, 0, 0, 0, 0, 2, 1, 0, 0, 0, 0, 4, 3, 2, 1, 0, 0, 0, 0, 0, 0, 0,
-    0, 1, 0, 0, 0, 0, 0, 1, 0, 0, 0, 0, 0, 3, 2, 1, 0, 0, 0, 1, 0, 0, 0, 0, 0, 1, 0, 0, 0, 0, 0, 1,
-    0, 0, 0, 0, 0, 1, 0, 0, 0, 0, 0, 0, 0, 0, 0, 0, 0, 1, 0, 0, 0, 0, 0, 1, 0, 0, 0, 0, 0, 2, 1, 0,
-    0, 0, 0, 0, 0, 0, 0, 0, 0, 2, 1, 0, 0, 0, 0, 2, 1, 0, 0, 0, 0, 1, 0, 0, 0, 0, 0, 2, 1, 0, 0, 0,
-    0, 2, 1, 0, 0, 0, 0, 2, 1, 0, 0, 0, 0, 3, 2, 1, 0, 0, 0, 3, 2, 1, 0, 0, 0, 2, 1, 0, 0, 0, 0, 3,
-    2, 1, 0, 0, 0, 2, 1, 0, 0, 0, 0, 2, 1, 0, 0, 0, 0, 1, 0, 0, 0, 0, 0, 1, 0, 0, 0, 0, 0, 2, 1, 0,
-    0, 0, 0, 2, 1, 0, 0, 0, 0, 1, 0, 0, 0, 0, 0, 1, 0, 0, 0, 0, 0, 2, 1, 0, 0, 0, 0, 1, 0, 0, 0, 0,
-    0, 1, 0, 0, 0, 0, 0, 2, 1, 0, 0, 0, 0, 1, 0, 0, 0, 0, 0, 1, 0, 0, 0, 0, 0, 1, 0, 0, 0, 0, 0, 1,
+    0, 0, 0, 2, 1, 0, 0, 0, 0, 1, 0, 0, 0, 0, 0, 2, 1, 0, 0, 0, 0, 4, 3, 2, 1, 0, 0, 0, 0, 0, 0, 0,
+    0, 1, 0, 0, 0, 0, 0, 1, 0, 0, 0, 0, 0, 3, 2, 1, 0, 0, 0, 1, 0, 0, 0, 0, 0, 2, 1, 0, 0, 0, 0, 2,
+    1, 0, 0, 0, 0, 1, 0, 0, 0, 0, 0, 1, 0, 0, 0, 0, 0, 1, 0, 0, 0, 0, 0, 0, 0, 0, 0, 0, 0, 1, 0, 0,
+    0, 0, 0, 1, 0, 0, 0, 0, 0, 2, 1, 0, 0, 0, 0, 0, 0, 0, 0, 0, 0, 2, 1, 0, 0, 0, 0, 2, 1, 0, 0, 0,
+    0, 1, 0, 0, 0, 0, 0, 2, 1, 0, 0, 0, 0, 2, 1, 0, 0, 0, 0, 2, 1, 0, 0, 0, 0, 3, 2, 1, 0, 0, 0, 3,
+    2, 1, 0, 0, 0, 2, 1, 0, 0, 0, 0, 3, 2, 1, 0, 0, 0, 2, 1, 0, 0, 0, 0, 2, 1, 0, 0, 0, 0, 1, 0, 0,
+    0, 0, 0, 1, 0, 0, 0, 0, 0, 2, 1, 0, 0, 0, 0, 2, 1, 0, 0, 0, 0, 1, 0, 0, 0, 0, 0, 1, 0, 0, 0, 0,
+    0, 2, 1, 0, 0, 0, 0, 1, 0, 0, 0, 0, 0, 1, 0, 0, 0, 0, 0, 2, 1, 0, 0, 0, 0, 1, 0, 0, 0, 0, 0, 1,
     0, 0, 0, 0, 0, 1, 0, 0, 0, 0, 0, 1, 0, 0, 0, 0, 0, 1, 0, 0, 0, 0, 0, 1, 0, 0, 0, 0, 0, 1, 0, 0,
     0, 0, 0, 1, 0, 0, 0, 0, 0, 1, 0, 0, 0, 0, 0, 1, 0, 0, 0, 0, 0, 1, 0, 0, 0, 0, 0, 1, 0, 0, 0, 0,
-    0, 1, 0, 0, 0, 0, 0, 1, 0, 0, 0, 0, 0, 3, 2, 1, 0, 0, 0, 1, 0, 0, 0, 0, 0, 2, 1, 0, 0, 0, 0, 2,
-    1, 0, 0, 0, 0, 1, 0, 0, 0, 0, 0, 1, 0, 0, 0, 0, 0, 2, 1, 0, 0, 0, 0, 2, 1, 0, 0, 0, 0, 2, 1, 0,
-    0, 0, 0, 2, 1, 0, 0, 0, 0, 1, 0, 0, 0, 0, 0, 2, 1, 0, 0, 0, 0, 3, 2, 1, 0, 0, 0, 2, 1, 0, 0, 0,
-    0, 2, 1, 0, 0, 0, 0, 3, 2, 1, 0, 0, 0, 2, 1, 0, 0, 0, 0, 2, 1, 0, 0, 0, 0, 2, 1, 0, 0, 0, 0, 1,
-    0, 0, 0, 0, 0, 1, 0, 0, 0, 0, 0, 2, 1, 0, 0, 0, 0, 2, 1, 0, 0, 0, 0, 2, 1, 0, 0, 0, 0, 2, 1, 0,
+    0, 1, 0, 0, 0, 0, 0, 1, 0, 0, 0, 0, 0, 1, 0, 0, 0, 0, 0, 1, 0, 0, 0, 0, 0, 3, 2, 1, 0, 0, 0, 1,
+    0, 0, 0, 0, 0, 2, 1, 0, 0, 0, 0, 2, 1, 0, 0, 0, 0, 1, 0, 0, 0, 0, 0, 1, 0, 0, 0, 0, 0, 2, 1, 0,
+    0, 0, 0, 2, 1, 0, 0, 0, 0, 2, 1, 0, 0, 0, 0, 2, 1, 0, 0, 0, 0, 1, 0, 0, 0, 0, 0, 2, 1, 0, 0, 0,
+    0, 3, 2, 1, 0, 0, 0, 2, 1, 0, 0, 0, 0, 2, 1, 0, 0, 0, 0, 3, 2, 1, 0, 0, 0, 2, 1, 0, 0, 0, 0, 2,
+    1, 0, 0, 0, 0, 2, 1, 0, 0, 0, 0, 1, 0, 0, 0, 0, 0, 1, 0, 0, 0, 0, 0, 2, 1, 0, 0, 0, 0, 2, 1, 0,
     0, 0, 0, 2, 1, 0, 0, 0, 0, 0, 0, 0, 0, 0, 0, 1, 0, 0, 0, 0, 0, 1, 0, 0, 0, 0, 0, 2, 1, 0, 0, 0,
     0, 2, 1, 0, 0, 0, 0, 2, 1, 0, 0, 0, 0, 2, 1, 0, 0, 0, 0, 2, 1, 0, 0, 0, 0, 2, 1, 0, 0, 0, 0, 2,
     1, 0, 0, 0, 0, 4, 3, 2, 1, 0, 0, 1, 0, 0, 0, 0, 0, 2, 1, 0, 0, 0, 0, 1, 0, 0, 0, 0, 0, 1, 0, 0,
@@ -1120,17 +1118,17 @@ static AFTER: [u8; 1524] = [
     0, 2, 1, 0, 0, 0, 0, 2, 1, 0, 0, 0, 0, 2, 1, 0, 0, 0, 0, 2, 1, 0, 0, 0, 0, 1, 0, 0, 0, 0, 0, 1,
     0, 0, 0, 0, 0, 1, 0, 0, 0, 0, 0, 1, 0, 0, 0, 0, 0, 1, 0, 0, 0, 0, 0, 1, 0, 0, 0, 0, 0, 2, 1, 0,
     0, 0, 0, 1, 0, 0, 0, 0, 0, 1, 0, 0, 0, 0, 0, 0, 0, 0, 0, 0, 0, 1, 0, 0, 0, 0, 0, 1, 0, 0, 0, 0,
-    0, 1, 0, 0, 0, 0, 0, 1, 0, 0, 0, 0, 0, 1, 0, 0, 0, 0, 0, 1, 0, 0, 0, 0, 0, 1, 0, 0, 0, 0, 0, 2,
-    1, 0, 0, 0, 0, 2, 1, 0, 0, 0, 0, 1, 0, 0, 0, 0, 0, 2, 1, 0, 0, 0, 0, 2, 1, 0, 0, 0, 0, 2, 1, 0,
-    0, 0, 0, 2, 1, 0, 0, 0, 0, 1, 0, 0, 0, 0, 0, 2, 1, 0, 0, 0, 0, 1, 0, 0, 0, 0, 0, 1, 0, 0, 0, 0,
-    0, 1, 0, 0, 0, 0, 0, 3, 2, 1, 0, 0, 0, 2, 1, 0, 0, 0, 0, 0,
+    0, 1, 0, 0, 0, 0, 0, 1, 0, 0, 0, 0, 0, 1, 0, 0, 0, 0, 0, 1, 0, 0, 0, 0, 0, 2, 1, 0, 0, 0, 0, 2,
+    1, 0, 0, 0, 0, 1, 0, 0, 0, 0, 0, 2, 1, 0, 0, 0, 0, 2, 1, 0, 0, 0, 0, 2, 1, 0, 0, 0, 0, 2, 1, 0,
+    0, 0, 0, 1, 0, 0, 0, 0, 0, 2, 1, 0, 0, 0, 0, 1, 0, 0, 0, 0, 0, 1, 0, 0, 0, 0, 0, 1, 0, 0, 0, 0,
+    0, 3, 2, 1, 0, 0, 0, 2, 1, 0, 0, 0, 0, 0,
 ];
 
 /// The number of the rule that a kind takes at a byte, if it takes one.
 #[inline]
 fn number(kind: u16, byte: u8) -> Option<usize>
     requires { kind < abi.kinds }
-    ensures few { IfSome result (λ number. number < 253) }
+    ensures few { IfSome result (λ number. number < 252) }
     ensures rule { (head : Head) → MatchOption result (abi.rule kind byte ≡ None) (λ number. abi.rule kind byte ≡ Some (listed_rule head number)) }
 {
     match letter_in(&LETTERS[kind as usize], byte) {

@@ -48,31 +48,32 @@ static WIDE_LETTERS: [[u8; 87]; 169] = [
     *b"                              l   l    l        ll           l llll ll l  llk  llll  l ", // ItemAfterD
     *b"                              r   p    q        sr           m mmmm mm q  mo   msmn  t ", // AfterD
     *b"            $$$$$$$$$$       | ~  }      vY u  xw#    y      zzzzzzzzzz zzzz   zz{zzzzz", // Solid
+    *b"            \x7f\x7f\x7f\x7f\x7f\x7f\x7f\x7f\x7f\x7f                  \x80                  \x7f                           ", // ParameterAfterT
     *b"                                                     !                                 ", // MaybeCLinkage
-    *b"            \x7f\x7f\x7f\x7f\x7f\x7f\x7f\x7f\x7f\x7f                                                                 ", // BitWidth
-    *b"            \x81\x81\x81\x81\x81\x81\x81\x81\x81\x81       \x81\x81\x81\x81\x81\x81\x81\x81\x81\x81\x81\x81\x81\x81\x81\x81\x81\x81\x81\x81\x81\x81\x81\x81\x81\x81    \x81 \x81\x81 \x81    \x81     \x81   \x81\x80      ", // TypeAfterS
+    *b"            \x81\x81\x81\x81\x81\x81\x81\x81\x81\x81                                                                 ", // BitWidth
+    *b"            \x83\x83\x83\x83\x83\x83\x83\x83\x83\x83       \x83\x83\x83\x83\x83\x83\x83\x83\x83\x83\x83\x83\x83\x83\x83\x83\x83\x83\x83\x83\x83\x83\x83\x83\x83\x83    \x83 \x83\x83 \x83    \x83     \x83   \x83\x82      ", // TypeAfterS
     *b"            ))))))))))                  '        (                                     ", // SourceOrLocal
-    *b"            \x85\x85\x85\x85\x85\x85\x85\x85\x85\x85       \x85 \x85\x85\x82\x85    \x85 \x85\x85\x84\x85 \x83\x85\x85\x85\x85   \x85      \x85\x85\x85\x85\x85\x85\x85\x85\x85\x85 \x85\x85\x85\x85  \x85\x85\x85\x85\x85\x85\x85\x85\x85", // FunctionRest
-    *b"            \x87\x87\x87\x87\x87\x87\x87\x87\x87\x87       \x87 \x87\x87\x86\x87    \x87 \x87\x87\x87\x87 \x87\x87\x87\x87\x87   \x87      \x87\x87\x87\x87\x87\x87\x87\x87\x87\x87 \x87\x87\x87\x87  \x87\x87\x87\x87\x87\x87\x87\x87\x87", // AfterR
-    *b"            \x88\x88\x88\x88\x88\x88\x88\x88\x88\x88       \x88 \x88\x88\x86\x88    \x88 \x88\x88\x88\x88 \x88\x88\x88\x88\x88   \x88      \x88\x88\x88\x88\x88\x88\x88\x88\x88\x88 \x88\x88\x88\x88  \x88\x88\x88\x88\x88\x88\x88\x88\x88", // AfterO
-    *b"            \x8a\x8a\x8a\x8a\x8a\x8a\x8a\x8a\x8a\x8a       \x8a \x8a\x8a \x8a    \x8a \x8a\x8a\x8a\x8a\x89\x8a\x8a\x8a\x8a\x8a   \x8a      \x8a\x8a\x8a\x8a\x8a\x8a\x8a\x8a\x8a\x8a \x8a\x8a\x8a\x8a  \x8a\x8a\x8a\x8a\x8a\x8a\x8a\x8a\x8a", // Items
-    *b"                              \x8c      \x8b                                                 ", // MaybeArguments
-    *b"                                     \x8b                                                 ", // Arguments
-    *b"            \x8f\x8f\x8f\x8f\x8f\x8f\x8f\x8f\x8f\x8f       \x8f \x8f\x8f \x8f   \x8d\x8f\x8e\x8f\x8f\x8f\x8f\x89\x8f\x8f\x8f\x8f\x8f \x8f \x8f      \x8f\x8f\x8f\x8f\x8f\x8f\x8f\x8f\x8f\x8f \x8f\x8f\x8f\x8f  \x8f\x8f\x8f\x8f\x8f\x8f\x8f\x8f\x8f", // ArgumentList
-    *b"            \x91\x91\x91\x91\x91\x91\x91\x91\x91\x91       \x91 \x91\x91 \x91    \x91\x90\x91\x91\x91\x91 \x91\x91\x91\x91\x91 \x91 \x91      \x91\x91\x91\x91\x91\x91\x91\x91\x91\x91 \x91\x91\x91\x91  \x91\x91\x91\x91\x91\x91\x91\x91\x91", // PackList
-    *b"            \x95\x95\x95\x95\x95\x95\x95\x95\x95\x95          \x94      \x95 \x95\x95 \x95  \x95\x95\x95\x95   \x95    \x92 \x95\x93\x95\x96\x96\x96\x96\x95\x95\x95 \x95\x95\x95\x95   \x95\x95  \x95\x95\x95 ", // Literal
+    *b"            \x87\x87\x87\x87\x87\x87\x87\x87\x87\x87       \x87 \x87\x87\x84\x87    \x87 \x87\x87\x86\x87 \x85\x87\x87\x87\x87   \x87      \x87\x87\x87\x87\x87\x87\x87\x87\x87\x87 \x87\x87\x87\x87  \x87\x87\x87\x87\x87\x87\x87\x87\x87", // FunctionRest
+    *b"            \x89\x89\x89\x89\x89\x89\x89\x89\x89\x89       \x89 \x89\x89\x88\x89    \x89 \x89\x89\x89\x89 \x89\x89\x89\x89\x89   \x89      \x89\x89\x89\x89\x89\x89\x89\x89\x89\x89 \x89\x89\x89\x89  \x89\x89\x89\x89\x89\x89\x89\x89\x89", // AfterR
+    *b"            \x8a\x8a\x8a\x8a\x8a\x8a\x8a\x8a\x8a\x8a       \x8a \x8a\x8a\x88\x8a    \x8a \x8a\x8a\x8a\x8a \x8a\x8a\x8a\x8a\x8a   \x8a      \x8a\x8a\x8a\x8a\x8a\x8a\x8a\x8a\x8a\x8a \x8a\x8a\x8a\x8a  \x8a\x8a\x8a\x8a\x8a\x8a\x8a\x8a\x8a", // AfterO
+    *b"            \x8c\x8c\x8c\x8c\x8c\x8c\x8c\x8c\x8c\x8c       \x8c \x8c\x8c \x8c    \x8c \x8c\x8c\x8c\x8c\x8b\x8c\x8c\x8c\x8c\x8c   \x8c      \x8c\x8c\x8c\x8c\x8c\x8c\x8c\x8c\x8c\x8c \x8c\x8c\x8c\x8c  \x8c\x8c\x8c\x8c\x8c\x8c\x8c\x8c\x8c", // Items
+    *b"                              \x8e      \x8d                                                 ", // MaybeArguments
+    *b"                                     \x8d                                                 ", // Arguments
+    *b"            \x91\x91\x91\x91\x91\x91\x91\x91\x91\x91       \x91 \x91\x91 \x91   \x8f\x91\x90\x91\x91\x91\x91\x8b\x91\x91\x91\x91\x91 \x91 \x91      \x91\x91\x91\x91\x91\x91\x91\x91\x91\x91 \x91\x91\x91\x91  \x91\x91\x91\x91\x91\x91\x91\x91\x91", // ArgumentList
+    *b"            \x93\x93\x93\x93\x93\x93\x93\x93\x93\x93       \x93 \x93\x93 \x93    \x93\x92\x93\x93\x93\x93 \x93\x93\x93\x93\x93 \x93 \x93      \x93\x93\x93\x93\x93\x93\x93\x93\x93\x93 \x93\x93\x93\x93  \x93\x93\x93\x93\x93\x93\x93\x93\x93", // PackList
+    *b"            \x97\x97\x97\x97\x97\x97\x97\x97\x97\x97          \x96      \x97 \x97\x97 \x97  \x97\x97\x97\x97   \x97    \x94 \x97\x95\x97\x98\x98\x98\x98\x97\x97\x97 \x97\x97\x97\x97   \x97\x97  \x97\x97\x97 ", // Literal
     *b"            !!                                                                         ", // Bit
-    *b"                                  \x99                                  \x98    \x97    \x98 \x98     ", // LiteralAfterD
+    *b"                                  \x9b                                  \x9a    \x99    \x9a \x9a     ", // LiteralAfterD
     *b"                                                                zzzz                   ", // FloatType
     *b"                                  p                                                    ", // SizedFloatType
-    *b"            \x9a\x9a\x9a\x9a\x9a\x9a\x9a\x9a\x9a\x9a                                       \x9a\x9a\x9a\x9a\x9a\x9a                    ", // HexText
-    *b"            \x9b\x9b\x9b\x9b\x9b\x9b\x9b\x9b\x9b\x9b                                       \x9b\x9b\x9b\x9b\x9b\x9b                    ", // HexDigits
-    *b"            \x9b\x9b\x9b\x9b\x9b\x9b\x9b\x9b\x9b\x9b                                       \x9b\x9b\x9b\x9b\x9b\x9b                    ", // HexMore
+    *b"            \x9c\x9c\x9c\x9c\x9c\x9c\x9c\x9c\x9c\x9c                                       \x9c\x9c\x9c\x9c\x9c\x9c                    ", // HexText
+    *b"            \x9d\x9d\x9d\x9d\x9d\x9d\x9d\x9d\x9d\x9d                                       \x9d\x9d\x9d\x9d\x9d\x9d                    ", // HexDigits
+    *b"            \x9d\x9d\x9d\x9d\x9d\x9d\x9d\x9d\x9d\x9d                                       \x9d\x9d\x9d\x9d\x9d\x9d                    ", // HexMore
     *b"            !                                                                          ", // MaybeZero
-    *b"            $$$$$$$$$$                 \x9d vY u  xw#\x9c   y      z z    zzz zzzz   zz  zzz ", // LiteralType
-    *b"            \x9e\x9e\x9e\x9e\x9e\x9e\x9e\x9e\x9e\x9e                   \x9e\x9e \x9e  \x9e\x9e\x9e    \x9e      \x9e \x9e    \x9e\x9e\x9e \x9e\x9e\x9e\x9e   \x9e\x9e  \x9e\x9e\x9e ", // LiteralPlain
+    *b"            $$$$$$$$$$                 \x9f vY u  xw#\x9e   y      z z    zzz zzzz   zz  zzz ", // LiteralType
+    *b"            \xa0\xa0\xa0\xa0\xa0\xa0\xa0\xa0\xa0\xa0                   \xa0\xa0 \xa0  \xa0\xa0\xa0    \xa0      \xa0 \xa0    \xa0\xa0\xa0 \xa0\xa0\xa0\xa0   \xa0\xa0  \xa0\xa0\xa0 ", // LiteralPlain
     *b"            $$$$$$$$$$                   vY u  xw#    y      z z    zzz zzzz   zz  zzz ", // LiteralSolid
-    *b"                                                             \xa1 \xa3\xa0\xa7 \xab \xaa  \xa8\xa4\x9f\xa6\xa2 \xa5\xa9       ", // Operator
+    *b"                                                             \xa3 \xa5\xa2\xa9 \xad \xac  \xaa\xa6\xa1\xa8\xa4 \xa7\xab       ", // Operator
     *b"                                                             !   ! !            !  !   ", // OperatorAfterN
     *b"                                                  !          !   !      !         !    ", // OperatorAfterD
     *b"                                          !    !             !  !         !        !   ", // OperatorAfterA
@@ -82,39 +83,39 @@ static WIDE_LETTERS: [[u8; 87]; 169] = [
     *b"                                         !     !                         !     !       ", // OperatorAfterR
     *b"                                              !                            !  !        ", // OperatorAfterO
     *b"                                           !                               ! !         ", // OperatorAfterE
-    *b"                                               !                 !   \xac         !!      ", // OperatorAfterL
+    *b"                                               !                 !   \xae         !!      ", // OperatorAfterL
     *b"                                                                               !       ", // OperatorAfterS
     *b"                                                                                    !  ", // OperatorAfterI
     *b"                                                                 !              !      ", // OperatorAfterG
-    *b"            JJJJJJJJJJ         JJ J  \xad  JJ       J           J JJJ J J  JJJJJ JJ       ", // NestRestOrEnd
-    *b"                                     \x8b                                                 ", // ArgumentsAlone
+    *b"            JJJJJJJJJJ         JJ J  \xaf  JJ       J           J JJJ J J  JJJJJ JJ       ", // NestRestOrEnd
+    *b"                                     \x8d                                                 ", // ArgumentsAlone
     *b"            JJJJJJJJJJ         JJ J  I  JJ       J           J JJJ J J  JJJJJ JJ       ", // NestRestAlone
     *b"                                         !                                             ", // HolderMark
     *b"            $$$$$$$$$$         MN       \"        #           P OPP P P  PPPPP PP       ", // HeldComponent
-    *b"                               \xaf                                                       ", // BindingAfterD
-    *b"            \xb0\xb0\xb0\xb0\xb0\xb0\xb0\xb0\xb0\xb0                  \xb0                                              ", // BoundNames
-    *b"            \xb0\xb0\xb0\xb0\xb0\xb0\xb0\xb0\xb0\xb0                  \xb0                                              ", // MoreNames
-    *b"            \xae\xae\xae\xae\xae\xae\xae\xae\xae\xae                  \xb1                                              ", // BoundName
+    *b"                               \xb1                                                       ", // BindingAfterD
+    *b"            \xb2\xb2\xb2\xb2\xb2\xb2\xb2\xb2\xb2\xb2                  \xb2                                              ", // BoundNames
+    *b"            \xb2\xb2\xb2\xb2\xb2\xb2\xb2\xb2\xb2\xb2                  \xb2                                              ", // MoreNames
+    *b"            \xb0\xb0\xb0\xb0\xb0\xb0\xb0\xb0\xb0\xb0                  \xb3                                              ", // BoundName
     *b"                                                           !  !                     !  ", // FloatEnd
-    *b"                                                                        \xb3\xb3 \xb3      \xb2    ", // ComponentAfterC
-    *b"                                                             \xa1  \xa0\xa7 \xab \xaa  \xa8\xa4\x9f\xa6\xa2 \xa5\xa9       ", // OtherOperator
-    *b"                                     \xb4                                                 ", // HeldArguments
-    *b"            \xb6\xb6\xb6\xb6\xb6\xb6\xb6\xb6\xb6\xb6                    \xb5    \xb6      y                                ", // BaseClass
-    *b"            \xb8\xb8\xb8\xb8\xb8\xb8\xb8\xb8\xb8\xb8                         \xb7                                       ", // UnnestedName
-    *b"                                     \xb9                                                 ", // BaseArguments
-    *b"            \x8f\x8f\x8f\x8f\x8f\x8f\x8f\x8f\x8f\x8f       \x8f \x8f\x8f \x8f  \x8d\x8d\x8f\x8e\x8f\x8f\x8f\x8f\x89\x8f\x8f\x8f\x8f\x8f \x8f \x8f      \x8f\x8f\x8f\x8f\x8f\x8f\x8f\x8f\x8f\x8f \x8f\x8f\x8f\x8f  \x8f\x8f\x8f\x8f\x8f\x8f\x8f\x8f\x8f", // ArgumentsFirst
+    *b"                                                                        \xb5\xb5 \xb5      \xb4    ", // ComponentAfterC
+    *b"                                                             \xa3  \xa2\xa9 \xad \xac  \xaa\xa6\xa1\xa8\xa4 \xa7\xab       ", // OtherOperator
+    *b"                                     \xb6                                                 ", // HeldArguments
+    *b"            \xb8\xb8\xb8\xb8\xb8\xb8\xb8\xb8\xb8\xb8                    \xb7    \xb8      y                                ", // BaseClass
+    *b"            \xba\xba\xba\xba\xba\xba\xba\xba\xba\xba                         \xb9                                       ", // UnnestedName
+    *b"                                     \xbb                                                 ", // BaseArguments
+    *b"            \x91\x91\x91\x91\x91\x91\x91\x91\x91\x91       \x91 \x91\x91 \x91  \x8f\x8f\x91\x90\x91\x91\x91\x91\x8b\x91\x91\x91\x91\x91 \x91 \x91      \x91\x91\x91\x91\x91\x91\x91\x91\x91\x91 \x91\x91\x91\x91  \x91\x91\x91\x91\x91\x91\x91\x91\x91", // ArgumentsFirst
     *b"            $$$$$$$$$$          &       \" *      #                                     ", // PlainEntity
     *b"            $$$$$$$$$$                  \" Y      #                                     ", // PlainTypeEntity
     *b"                                   !                                                   ", // SpecialMark
-    *b"                                              \xba \xbb 5                                    ", // SpecialAfterG
-    *b"            $$$$$$$$$$          &       \" *    < #    \xbc                                ", // TemporaryName
+    *b"                                              \xbc \xbd 5                                    ", // SpecialAfterG
+    *b"            $$$$$$$$$$          &       \" *    < #    \xbe                                ", // TemporaryName
     *b"                                                                          !     !      ", // CloneLetter
-    *b"                                                                                \xbd      ", // TypeInStd
-    *b"                              \xbe                                                        ", // MaybeTags
-    *b"            \xc1\xc1\xc1\xc1\xc1\xc1\xc1\xc1\xc1\xc1       \xc1 \xc1j \xc1    d \xc1\xc1e\xc1 e\xc1\xc0\xc1c \xbf \xc1      \xc1\xc1\xc1\xc1\xc1\xc1\xc1\xc1\xc1\xc1 \xc1\xc1\xc1\xc1  b\xc1\xc1\xc1\xc1\xc1\xc1\xc1\xc1", // Argument
-    *b"            \xc2\xc2\xc2\xc2\xc2\xc2\xc2\xc2\xc2\xc2                  \xc4                  \xc2           \xc3  \xc3 \xc3   \xc3    \xc3 ", // ArgumentAfterT
-    *b"            \xc2\xc2\xc2\xc2\xc2\xc2\xc2\xc2\xc2\xc2                                     \xc2                           ", // LeveledParameter
-    *b"            \xc1\xc1\xc1\xc1\xc1\xc1\xc1\xc1\xc1\xc1       \xc1 \xc1j \xc1   \xc6d\xc5\xc1\xc1e\xc1 e\xc1\xc0\xc1c \xbf \xc1      \xc1\xc1\xc1\xc1\xc1\xc1\xc1\xc1\xc1\xc1 \xc1\xc1\xc1\xc1  b\xc1\xc1\xc1\xc1\xc1\xc1\xc1\xc1", // OneArgument
+    *b"                                                                                \xbf      ", // TypeInStd
+    *b"                              \xc0                                                        ", // MaybeTags
+    *b"            \xc3\xc3\xc3\xc3\xc3\xc3\xc3\xc3\xc3\xc3       \xc3 \xc3j \xc3    d \xc3\xc3e\xc3 e\xc3\xc2\xc3c \xc1 \xc3      \xc3\xc3\xc3\xc3\xc3\xc3\xc3\xc3\xc3\xc3 \xc3\xc3\xc3\xc3  b\xc3\xc3\xc3\xc3\xc3\xc3\xc3\xc3", // Argument
+    *b"            \x7f\x7f\x7f\x7f\x7f\x7f\x7f\x7f\x7f\x7f                  \x80                  \x7f           \xc4  \xc4 \xc4   \xc4    \xc4 ", // ArgumentAfterT
+    *b"            \x7f\x7f\x7f\x7f\x7f\x7f\x7f\x7f\x7f\x7f                                     \x7f                           ", // LeveledParameter
+    *b"            \xc3\xc3\xc3\xc3\xc3\xc3\xc3\xc3\xc3\xc3       \xc3 \xc3j \xc3   \xc6d\xc5\xc3\xc3e\xc3 e\xc3\xc2\xc3c \xc1 \xc3      \xc3\xc3\xc3\xc3\xc3\xc3\xc3\xc3\xc3\xc3 \xc3\xc3\xc3\xc3  b\xc3\xc3\xc3\xc3\xc3\xc3\xc3\xc3", // OneArgument
     *b"                                                                       \xc9  \xc8 \xcb   \xca    \xc7 ", // DeclarationAfterT
     *b"                                                \xcc                                      ", // Declarations
     *b"            \xcd\xcd\xcd\xcd\xcd\xcd\xcd\xcd\xcd\xcd                    Y    \xcd                                       ", // Concept
@@ -123,7 +124,7 @@ static WIDE_LETTERS: [[u8; 87]; 169] = [
     *b"            \xfb\xfb\xfb\xfb\xfb\xfb\xfb\xfb\xfb\xfb                  \xfc                  \xfb                           ", // ExpressionParameter
     *b"            \xfb\xfb\xfb\xfb\xfb\xfb\xfb\xfb\xfb\xfb                                     \xfb                           ", // UnleveledExpression
     *b"            \xd0\xd0\xd0\xd0\xd0\xd0\xd0\xd0\xd0\xd0                  \xfd       \xfa            \xea \xeb\xec\xed\xee\xef \xf0  \xf1\xf2\xf3\xf4\xf5\xf6\xf7\xf8\xf9      ", // AddressedExpression
-    *b"            \x95\x95\x95\x95\x95\x95\x95\x95\x95\x95          \x94      \x95 \x95\x95 \x95  \x95\x95\x95\x95   \x95    \x92 \x95\x93\x95\x96\x96\x96\x96\x95\x95\x95 \x95\x95\x95\x95   \x95\x95  \x95\x95\x95 ", // AddressedLiteral
+    *b"            \x97\x97\x97\x97\x97\x97\x97\x97\x97\x97          \x96      \x97 \x97\x97 \x97  \x97\x97\x97\x97   \x97    \x94 \x97\x95\x97\x98\x98\x98\x98\x97\x97\x97 \x97\x97\x97\x97   \x97\x97  \x97\x97\x97 ", // AddressedLiteral
     *b"                                          \xd3    \xd3             \xd3  \xd2         \xd3     \xd5  \xd4  \xd4", // ExpressionAfterA
     *b"                                                               \xce        \xd6\xd3 \xd4\xd6     \xd7    ", // ExpressionAfterC
     *b"                                                  \xd3          \xd4 \xce \xd4   \xd8  \xd4 \xda    \xd3\xd3 \xd3 \xd9  ", // ExpressionAfterD
@@ -142,7 +143,7 @@ static WIDE_LETTERS: [[u8; 87]; 169] = [
     *b"                                                                 \xd4   \xd5  \xe8     \xe9    \xd4   ", // ExpressionAfterT
     *b"            \xfe\xfe\xfe\xfe\xfe\xfe\xfe\xfe\xfe\xfe                  \xfe       \xfe            \xfe \xfe\xfe\xfe\xfe\xfe \xfe  \xfe\xfe\xfe\xfe\xfe\xfe\xfe\xfe\xfe      ", // Expressions
     *b"                                                           !                           ", // MaybeBefore
-    *b"                                                             \xa1 \xa3\xa0\xa7 \xab \xaa  \xff\xa4\x9f\xa6\xa2 \xa5\xa9       ", // FoldOperator
+    *b"                                                             \xa3 \xa5\xa2\xa9 \xad \xac  \xff\xa6\xa1\xa8\xa4 \xa7\xab       ", // FoldOperator
     *b"                                               !                 !             !!      ", // FoldOperatorAfterL
     *b"            \x00\x00\x00\x00\x00\x00\x00\x00\x00\x00                  \x00       \x00            \x00 \x00\x00\x00\x00\x00 \x00  \x00\x00\x00\x00\x00\x00\x00\x00\x00      ", // FoldOperand
     *b"            \x01\x01\x01\x01\x01\x01\x01\x01\x01\x01                  \x01       \x01            \x01 \x01\x01\x01\x01\x01 \x01  \x01\x01\x01\x01\x01\x01\x01\x01\x01      ", // FoldPack
@@ -151,32 +152,31 @@ static WIDE_LETTERS: [[u8; 87]; 169] = [
     *b"            \x04\x04\x04\x04\x04\x04\x04\x04\x04\x04                  \x04       \x04            \x04 \x04\x03\x04\x04\x04 \x04  \x04\x04\x04\x04\x04\x04\x04\x04\x04      ", // DesignatedValue
     *b"                                                                     \xd8              \xd9  ", // DesignatorAfterD
     *b"            \xd0\xd0\xd0\xd0\xd0\xd0\xd0\xd0\xd0\xd0                  \xc5       \xfa            \xea \xeb \xed\xee\xef \xf0  \xf1\xf2\xf3\xf4\xf5\xf6\xf7\xf8\xf9      ", // PlainValue
-    *b"            \xae\xae\xae\xae\xae\xae\xae\xae\xae\xae                                                                 ", // FieldName
+    *b"            \xb0\xb0\xb0\xb0\xb0\xb0\xb0\xb0\xb0\xb0                                                                 ", // FieldName
     *b"            \x05\x05\x05\x05\x05\x05\x05\x05\x05\x05                  \x05       \x05          ! \x05 \x05\x05\x05\x05\x05 \x05  \x05\x05\x05\x05\x05\x05\x05\x05\x05      ", // Placement
     *b"            \xfe\xfe\xfe\xfe\xfe\xfe\xfe\xfe\xfe\xfe                  \xfe       \xfe            \xfe \xfe\xfe\xfe\xfe\xfe \xfe  \xfe\xfe\xfe\xfe\xfe\xfe\xfe\xfe\xfe      ", // SomeExpressions
-    *b"                                 \x86                                   \x07      \x06          ", // Initializer
+    *b"                                 \x88                                   \x07      \x06          ", // Initializer
     *b"                                                                     \xde                 ", // InitializerAfterP
     *b"                                                                        \xde              ", // InitializerAfterI
     *b"                                                                            \xd1          ", // OuterRest
     *b"            \x09\x09\x09\x09\x09\x09\x09\x09\x09\x09                          \x08          \x09                           ", // ParameterNumber
     *b"            \x0e\x0e\x0e\x0e\x0e\x0e\x0e\x0e\x0e\x0e          \x0a \x0e    \x0b  \x0e\x0d\x0c \x0d\x0e\x0e\x0e           \x0e\x0e\x0e\x0e\x0e\x0e\x0e\x0e\x0e\x0e \x0e\x0e\x0e\x0e   \x0e\x0e \x0e\x0e\x0e\x0e\x0e", // ConvertedType
-    *b"            $$$$$$$$$$            }       Y    x\x0f#           zzzzzzzzzz zzzz   zz zzzzz", // ConvertedSolid
-    *b"            \xc2\xc2\xc2\xc2\xc2\xc2\xc2\xc2\xc2\xc2                  \xc4                  \xc2                           ", // ParameterAfterT
+    *b"            $$$$$$$$$$            }       Y    xw#           zzzzzzzzzz zzzz   zz zzzzz", // ConvertedSolid
     *b"                                                s                               s      ", // DecltypeAfterD
     *b"            \xd0\xd0\xd0\xd0\xd0\xd0\xd0\xd0\xd0\xd0                  \xc5       \xfa          \xde \xea \xeb\xec\xed\xee\xef \xf0  \xf1\xf2\xf3\xf4\xf5\xf6\xf7\xf8\xf9      ", // ConvertRest
-    *b"            \x11\x11\x11\x11\x11\x11\x11\x11\x11\x11          \x10         \x10    \x10\x10                                      ", // Unresolved
-    *b"                                \x0a         Y    x\x0f                                      ", // UnresolvedType
-    *b"            \xd0\xd0\xd0\xd0\xd0\xd0\xd0\xd0\xd0\xd0          \x12         \x12    \x12\x12                                      ", // DestructorName
-    *b"                                             \x15  \x14   \x13                                  ", // Requirements
-    *b"                                          \x17  \x15\x16 \x14   \x13                                  ", // AfterExpression
-    *b"                                             \x15\x16 \x14   \x13                                  ", // AfterNoexcept
-    *b"            \x18\x18\x18\x18\x18\x18\x18\x18\x18\x18          \x18 \x18    \x18  \x18\x18\x18 \x18\x18\x18\x18         \xe2 \x18\x18\x18\x18\x18\x18\x18\x18\x18\x18 \x18\x18\x18\x18   \x18\x18 \x18\x18\x18\x18\x18", // RequiredTypes
+    *b"            \x10\x10\x10\x10\x10\x10\x10\x10\x10\x10          \x0f         \x0f    \x0f\x0f                                      ", // Unresolved
+    *b"                                \x0a         Y    xw                                      ", // UnresolvedType
+    *b"            \xd0\xd0\xd0\xd0\xd0\xd0\xd0\xd0\xd0\xd0          \x11         \x11    \x11\x11                                      ", // DestructorName
+    *b"                                             \x14  \x13   \x12                                  ", // Requirements
+    *b"                                          \x16  \x14\x15 \x13   \x12                                  ", // AfterExpression
+    *b"                                             \x14\x15 \x13   \x12                                  ", // AfterNoexcept
+    *b"            \x17\x17\x17\x17\x17\x17\x17\x17\x17\x17          \x17 \x17    \x17  \x17\x17\x17 \x17\x17\x17\x17         \xe2 \x17\x17\x17\x17\x17\x17\x17\x17\x17\x17 \x17\x17\x17\x17   \x17\x17 \x17\x17\x17\x17\x17", // RequiredTypes
     *b"            \xd0\xd0\xd0\xd0\xd0\xd0\xd0\xd0\xd0\xd0                                                                 ", // Level
-    *b"            \x11\x11\x11\x11\x11\x11\x11\x11\x11\x11           \x19                                                     ", // MoreLevels
-    *b"            \xd0\xd0\xd0\xd0\xd0\xd0\xd0\xd0\xd0\xd0                                                     \x1a           ", // UnresolvedName
+    *b"            \x10\x10\x10\x10\x10\x10\x10\x10\x10\x10           \x18                                                     ", // MoreLevels
+    *b"            \xd0\xd0\xd0\xd0\xd0\xd0\xd0\xd0\xd0\xd0                                                     \x19           ", // UnresolvedName
     *b"                                                                          \xcf            ", // OperatorName
-    *b"                             \x1b                                                         ", // AnyArray
-    *b"            \x1d\x1d\x1d\x1d\x1d\x1d\x1d\x1d\x1d\x1d                  \x1c       \x1c          \x1d \x1c \x1c\x1c\x1c\x1c\x1c \x1c  \x1c\x1c\x1c\x1c\x1c\x1c\x1c\x1c\x1c      ", // ArrayRest
+    *b"                             \x1a                                                         ", // AnyArray
+    *b"            \x1c\x1c\x1c\x1c\x1c\x1c\x1c\x1c\x1c\x1c                  \x1b       \x1b          \x1c \x1b \x1b\x1b\x1b\x1b\x1b \x1b  \x1b\x1b\x1b\x1b\x1b\x1b\x1b\x1b\x1b      ", // ArrayRest
     *b"                                        \xc5       \xfa            \xea \xeb\xec\xed\xee\xef \xf0  \xf1\xf2\xf3\xf4\xf5\xf6\xf7\xf8\xf9      ", // Bound
     *b"            JJJJJJJJJJ         JJLJ     JJ       J           J JJJ J J  JJJJJ JJ       ", // NestMoreOrEnd
 ];
@@ -185,7 +185,7 @@ static WIDE_LETTERS: [[u8; 87]; 169] = [
 #[inline]
 fn number(kind: u16, byte: u8) -> Option<usize>
     requires { kind < wide.kinds }
-    ensures few { IfSome result (λ number. number < 253) }
+    ensures few { IfSome result (λ number. number < 252) }
     ensures rule { (head : Head) → MatchOption result (wide.rule kind byte ≡ None) (λ number. wide.rule kind byte ≡ Some (listed_rule head number)) }
 {
     match letter_in(&WIDE_LETTERS[kind as usize], byte) {

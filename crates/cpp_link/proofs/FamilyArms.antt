@@ -361,8 +361,7 @@ IsArgument Family.Argument = Unit {0}
 IsArgument _ = ⊥
 
 pub argument : (p : Production) → family_of p ≡ Family.Argument
-    → (p ≡ Production.Parameter → ⊥)
-    → (p ≡ Production.ConvertedWithT → ⊥)
+    → (p ≡ Production.TypeWithT → ⊥)
     → (p ≡ Production.ParameterArgument → ⊥)
     → (p ≡ Production.PackArgument → ⊥)
     → (p ≡ Production.LiteralArgument → ⊥)
@@ -374,18 +373,17 @@ pub argument : (p : Production) → family_of p ≡ Family.Argument
     → (p ≡ Production.OnePack → ⊥)
     → ⊥
 unfolding family_of
-argument Production.Parameter is n0 n1 n2 n3 n4 n5 n6 n7 n8 n9 n10 = n0 refl
-argument Production.ConvertedWithT is n0 n1 n2 n3 n4 n5 n6 n7 n8 n9 n10 = n1 refl
-argument Production.ParameterArgument is n0 n1 n2 n3 n4 n5 n6 n7 n8 n9 n10 = n2 refl
-argument Production.PackArgument is n0 n1 n2 n3 n4 n5 n6 n7 n8 n9 n10 = n3 refl
-argument Production.LiteralArgument is n0 n1 n2 n3 n4 n5 n6 n7 n8 n9 n10 = n4 refl
-argument Production.LiteralElement is n0 n1 n2 n3 n4 n5 n6 n7 n8 n9 n10 = n5 refl
-argument Production.AnyElement is n0 n1 n2 n3 n4 n5 n6 n7 n8 n9 n10 = n6 refl
-argument Production.ArgumentWithT is n0 n1 n2 n3 n4 n5 n6 n7 n8 n9 n10 = n7 refl
-argument Production.LeveledParameter is n0 n1 n2 n3 n4 n5 n6 n7 n8 n9 n10 = n8 refl
-argument Production.OneLiteral is n0 n1 n2 n3 n4 n5 n6 n7 n8 n9 n10 = n9 refl
-argument Production.OnePack is n0 n1 n2 n3 n4 n5 n6 n7 n8 n9 n10 = n10 refl
-argument _ is n0 n1 n2 n3 n4 n5 n6 n7 n8 n9 n10 = subst IsArgument (sym is) tt
+argument Production.TypeWithT is n0 n1 n2 n3 n4 n5 n6 n7 n8 n9 = n0 refl
+argument Production.ParameterArgument is n0 n1 n2 n3 n4 n5 n6 n7 n8 n9 = n1 refl
+argument Production.PackArgument is n0 n1 n2 n3 n4 n5 n6 n7 n8 n9 = n2 refl
+argument Production.LiteralArgument is n0 n1 n2 n3 n4 n5 n6 n7 n8 n9 = n3 refl
+argument Production.LiteralElement is n0 n1 n2 n3 n4 n5 n6 n7 n8 n9 = n4 refl
+argument Production.AnyElement is n0 n1 n2 n3 n4 n5 n6 n7 n8 n9 = n5 refl
+argument Production.ArgumentWithT is n0 n1 n2 n3 n4 n5 n6 n7 n8 n9 = n6 refl
+argument Production.LeveledParameter is n0 n1 n2 n3 n4 n5 n6 n7 n8 n9 = n7 refl
+argument Production.OneLiteral is n0 n1 n2 n3 n4 n5 n6 n7 n8 n9 = n8 refl
+argument Production.OnePack is n0 n1 n2 n3 n4 n5 n6 n7 n8 n9 = n9 refl
+argument _ is n0 n1 n2 n3 n4 n5 n6 n7 n8 n9 = subst IsArgument (sym is) tt
 
 abbrev IsDeclaration : Family → Type 0
 IsDeclaration Family.Declaration = Unit {0}

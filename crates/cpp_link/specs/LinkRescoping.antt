@@ -56,7 +56,6 @@ linked_wide s = record {
 -- ## What is done
 
 unfoldable pub is_parameter : Production → Bool
-is_parameter Production.Parameter = true
 is_parameter Production.NestParameter = true
 is_parameter Production.ParameterArgument = true
 is_parameter Production.ParameterExpression = true
@@ -71,7 +70,6 @@ is_parameter_argument _ = false
 -- parameter is named, a name becomes a candidate with its M, or the base class of an inherited constructor or the name of a
 -- concept is counted.
 unfoldable pub steps_apart : Production → (in_lambda : Bool) → (before : ℕ) → Bool
-steps_apart Production.Parameter in_lambda before = in_lambda && nat_eq before 1
 steps_apart Production.NestParameter in_lambda before = in_lambda && nat_eq before 1
 steps_apart Production.ParameterArgument in_lambda before = in_lambda && nat_eq before 1
 steps_apart Production.ParameterExpression in_lambda before = in_lambda && nat_eq before 1

@@ -57,7 +57,6 @@ holder_counts around place state = go (is_instance (prefix_tree around.prefix))
 wide_between_counts : (p : Production) (around : Around) (place : ℕ) (vs : List Value) (state : State) → IfOk (between_wide p around place vs state) (λ next. length next.values ≡ length vs)
 unfolding between_wide
 wide_between_counts Production.NestParameter around place (v ∷ []) state = here_counts around place (index_of v) [] state
-wide_between_counts Production.Parameter around place (v ∷ []) state = here_counts around place (index_of v) [] state
 wide_between_counts Production.ParameterArgument around place (v ∷ []) state = here_counts around (place - 1) (index_of v) [] state
 wide_between_counts Production.ParameterExpression around place (v ∷ []) state = argument_here_counts around (place - 1) (index_of v) state
 wide_between_counts Production.HeldArguments around place [] state = refl

@@ -314,10 +314,6 @@ impl Linked {
         ensures bad { IfErr result (λ e. e ≡ refusals.Memory → ⊥) }
     {
         match production {
-            Production::Parameter => {
-                let digits = self.text_in(symbol, first);
-                self.parameter(symbol, kept, place, digits)
-            }
             Production::NestParameter => {
                 let digits = self.text_in(symbol, first);
                 self.parameter(symbol, kept, place, digits)

@@ -3,7 +3,7 @@
 use cpp_grammar::production::Production;
 
 /// The productions.
-pub(crate) const PRODUCTIONS: [Production; 253] = [
+pub(crate) const PRODUCTIONS: [Production; 252] = [
     Production::Mark,
     Production::InternalName,
     Production::LocalTypeName,
@@ -90,7 +90,7 @@ pub(crate) const PRODUCTIONS: [Production; 253] = [
     Production::IndexedType,
     Production::Pointer,
     Production::MemberPointer,
-    Production::Parameter,
+    Production::TypeWithT,
     Production::TypeWithS,
     Production::LocalType,
     Production::Builtin,
@@ -98,6 +98,8 @@ pub(crate) const PRODUCTIONS: [Production; 253] = [
     Production::ArrayType,
     Production::Function,
     Production::Complex,
+    Production::ParameterArgument,
+    Production::LeveledParameter,
     Production::BitWidth,
     Production::TypeInStd,
     Production::AbbreviatedType,
@@ -165,9 +167,7 @@ pub(crate) const PRODUCTIONS: [Production; 253] = [
     Production::Expression,
     Production::ArgumentWithT,
     Production::PlainArgument,
-    Production::ParameterArgument,
     Production::DeclaredArgument,
-    Production::LeveledParameter,
     Production::OneLiteral,
     Production::OnePack,
     Production::AnyType,
@@ -242,7 +242,6 @@ pub(crate) const PRODUCTIONS: [Production; 253] = [
     Production::ConvertedPointer,
     Production::ConvertedReference,
     Production::ConvertedType,
-    Production::ConvertedWithT,
     Production::UnresolvedInType,
     Production::Levels,
     Production::DestroyedType,
@@ -260,7 +259,7 @@ pub(crate) const PRODUCTIONS: [Production; 253] = [
 ];
 
 /// How many parts each has.
-pub(crate) const PART_COUNTS: [u8; 253] = [
+pub(crate) const PART_COUNTS: [u8; 252] = [
     0, // Mark
     2, // InternalName
     2, // LocalTypeName
@@ -347,7 +346,7 @@ pub(crate) const PART_COUNTS: [u8; 253] = [
     2, // IndexedType
     1, // Pointer
     2, // MemberPointer
-    2, // Parameter
+    1, // TypeWithT
     2, // TypeWithS
     4, // LocalType
     0, // Builtin
@@ -355,6 +354,8 @@ pub(crate) const PART_COUNTS: [u8; 253] = [
     1, // ArrayType
     3, // Function
     1, // Complex
+    2, // ParameterArgument
+    2, // LeveledParameter
     1, // BitWidth
     1, // TypeInStd
     1, // AbbreviatedType
@@ -422,9 +423,7 @@ pub(crate) const PART_COUNTS: [u8; 253] = [
     2, // Expression
     1, // ArgumentWithT
     1, // PlainArgument
-    2, // ParameterArgument
     2, // DeclaredArgument
-    2, // LeveledParameter
     2, // OneLiteral
     2, // OnePack
     0, // AnyType
@@ -499,7 +498,6 @@ pub(crate) const PART_COUNTS: [u8; 253] = [
     1, // ConvertedPointer
     1, // ConvertedReference
     1, // ConvertedType
-    1, // ConvertedWithT
     2, // UnresolvedInType
     2, // Levels
     1, // DestroyedType
@@ -517,7 +515,7 @@ pub(crate) const PART_COUNTS: [u8; 253] = [
 ];
 
 /// Whether some part of each but the last may have no row: a fixed byte, or a kind that may be empty.
-pub(crate) const SKIPS_PARTS: [bool; 253] = [
+pub(crate) const SKIPS_PARTS: [bool; 252] = [
     false, // Mark
     false, // InternalName
     false, // LocalTypeName
@@ -604,7 +602,7 @@ pub(crate) const SKIPS_PARTS: [bool; 253] = [
     false, // IndexedType
     false, // Pointer
     false, // MemberPointer
-    false, // Parameter
+    false, // TypeWithT
     false, // TypeWithS
     true, // LocalType
     false, // Builtin
@@ -612,6 +610,8 @@ pub(crate) const SKIPS_PARTS: [bool; 253] = [
     false, // ArrayType
     true, // Function
     false, // Complex
+    false, // ParameterArgument
+    false, // LeveledParameter
     false, // BitWidth
     false, // TypeInStd
     false, // AbbreviatedType
@@ -679,9 +679,7 @@ pub(crate) const SKIPS_PARTS: [bool; 253] = [
     false, // Expression
     false, // ArgumentWithT
     false, // PlainArgument
-    false, // ParameterArgument
     false, // DeclaredArgument
-    false, // LeveledParameter
     false, // OneLiteral
     true, // OnePack
     false, // AnyType
@@ -756,7 +754,6 @@ pub(crate) const SKIPS_PARTS: [bool; 253] = [
     false, // ConvertedPointer
     false, // ConvertedReference
     false, // ConvertedType
-    false, // ConvertedWithT
     false, // UnresolvedInType
     false, // Levels
     false, // DestroyedType
@@ -774,7 +771,7 @@ pub(crate) const SKIPS_PARTS: [bool; 253] = [
 ];
 
 /// Before how many of its parts nothing is done in each: before none, the first, or all, which are five at most.
-pub(crate) const QUIET_PARTS: [u8; 253] = [
+pub(crate) const QUIET_PARTS: [u8; 252] = [
     5, // Mark
     1, // InternalName
     1, // LocalTypeName
@@ -861,7 +858,7 @@ pub(crate) const QUIET_PARTS: [u8; 253] = [
     5, // IndexedType
     5, // Pointer
     5, // MemberPointer
-    1, // Parameter
+    5, // TypeWithT
     1, // TypeWithS
     1, // LocalType
     5, // Builtin
@@ -869,6 +866,8 @@ pub(crate) const QUIET_PARTS: [u8; 253] = [
     5, // ArrayType
     5, // Function
     5, // Complex
+    1, // ParameterArgument
+    5, // LeveledParameter
     5, // BitWidth
     5, // TypeInStd
     5, // AbbreviatedType
@@ -936,9 +935,7 @@ pub(crate) const QUIET_PARTS: [u8; 253] = [
     5, // Expression
     5, // ArgumentWithT
     5, // PlainArgument
-    1, // ParameterArgument
     5, // DeclaredArgument
-    5, // LeveledParameter
     5, // OneLiteral
     5, // OnePack
     5, // AnyType
@@ -1013,7 +1010,6 @@ pub(crate) const QUIET_PARTS: [u8; 253] = [
     5, // ConvertedPointer
     5, // ConvertedReference
     5, // ConvertedType
-    5, // ConvertedWithT
     1, // UnresolvedInType
     5, // Levels
     5, // DestroyedType

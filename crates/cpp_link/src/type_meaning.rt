@@ -321,10 +321,8 @@ impl Linked {
         ensures makes { nodes_of_outcome result ≡ makes_at_end production (values_in symbol.now self.now.nodes parts.now) }
     {
         match production {
-            // <template-param> ::= T_ | T <parameter number> _
-            Production::Parameter => self.applied(symbol, parts, true),
-            // <type> ::= <template-param> [<template-args>]
-            Production::ConvertedWithT => Outcome::Given(self.given(symbol, parts, 0)),
+            // <template-param> ::= T_ | T <parameter number> _ | TL <level> _ _ | TL <level> _ <parameter number> _, perhaps with <template-args>
+            Production::TypeWithT => Outcome::Given(self.given(symbol, parts, 0)),
             // <template-param> ::= T_ | T <parameter number> _, after the T
             Production::ParameterArgument => self.applied(symbol, parts, true),
             // <template-arg> ::= J <template-arg>* E

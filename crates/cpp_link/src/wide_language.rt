@@ -32,7 +32,6 @@ fn steps_apart(production: Production, kept: Surroundings, before: usize) -> boo
     ensures { result ≡ steps_apart production (is_lambda kept.scope) before }
 {
     match production {
-        Production::Parameter => kept.in_lambda() && before == 1,
         Production::NestParameter => kept.in_lambda() && before == 1,
         Production::ParameterArgument => kept.in_lambda() && before == 1,
         Production::ParameterExpression => kept.in_lambda() && before == 1,

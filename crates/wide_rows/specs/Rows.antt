@@ -137,6 +137,7 @@ rows_2 =
     prints "_ZNH1H1fERS_i" "H::f(this H&, int)" 31 ∷
     prints "_ZGR1a_" "reference temporary #0 for a" 31 ∷
     prints "_ZGRZ1fvE1a_" "reference temporary #0 for f()::a" 40 ∷
+    prints "_Z1gIiEvTL0__" "void g<int>(int)" 30 ∷
     prints "_ZDC1a1bE" "[a, b]" 15 ∷
     prints "_ZDCL1aL1bE" "[a, b]" 15 ∷
     prints "_ZN1nDC1a1bEE" "n::[a, b]" 20 ∷

@@ -4,8 +4,7 @@ use Rattle.cpp_link.proofs.linked.Linked.outcome_of_argument.Goals as goal
 
 pub unreachable-requires : goal.unreachable-requires
 unreachable-requires c = argument c.args.production c.requires.family
-    c.in_default.not-Parameter
-    c.in_default.not-ConvertedWithT
+    c.in_default.not-TypeWithT
     c.in_default.not-ParameterArgument
     c.in_default.not-PackArgument
     c.in_default.not-LiteralArgument
