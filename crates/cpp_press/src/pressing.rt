@@ -96,7 +96,7 @@ fn template_standing_of(
 /// So many bytes have the spellings of most symbols at most, and so many tasks wait while they are spelled.
 const COMMON_BYTES: usize = 128;
 
-const COMMON_TASKS: usize = 16;
+const COMMON_TASKS: usize = 24;
 
 /// The pressed spelling of a C++ symbol, by the first nodes that equal its nodes.
 fn press_tasks(alloc: Global, symbol: &Symbol, firsts: &[u32]) -> Result<Vec<u8>, Refusal>

@@ -1,5 +1,5 @@
 -- How a call ends, by what was answered.
-use Rattle.std.proofs.Common.{◌≡◌, ◌≢◌, ◌≤◌, inl, inr, ℕ, ◌-◌, Bool, true, false, cond, List, [], ◌++◌, length, take, drop, Option, Some, Result, Ok, Err, refl, sym, ap, subst, ◌∙◌, arith}
+use Rattle.std.proofs.Common.{◌≡◌, ◌≢◌, ◌≤◌, ◌⊎◌, inl, inr, ℕ, ◌-◌, Bool, true, false, cond, List, [], ◌++◌, length, take, drop, Option, Some, Result, Ok, Err, refl, sym, ap, subst, ◌∙◌, arith}
 use Rattle.std.specs.Prelude.{nat_le, IfSome, ◌==◌}
 use Rattle.std.proofs.lemmas.List.{length-drop, take_all}
 use Rattle.sym_core.specs.declared.refusal.Refusal.{Refusal}
@@ -11,8 +11,9 @@ use Rattle.sym_demangle.specs.Mangled.{Mangled, IsAnswer, answer}
 use Rattle.sym_demangle.proofs.Answering.{is_answer}
 use Rattle.sym_filter.specs.Demangled.{IsAppended}
 use Rattle.sym_filter.specs.declared.kinds.Kind.{Kind}
-use Rattle.sym_filter.specs.Kinds.{symbol_of}
-use Rattle.sym_languages.specs.Languages.{answer_of, answers_by, cpp_by, wide_answer_of, pressed_of, AreCountsOf, AreWideCountsOf}
+use Rattle.sym_filter.specs.Kinds.{symbol_of, underscore_of}
+use Rattle.sym_filter.specs.declared.kinds.Lang.{Lang}
+use Rattle.sym_languages.specs.Languages.{answer_of, answers_by, cpp_by, wide_answer_of, pressed_language, pressed_of, with_front, AreCountsOf, AreWideCountsOf}
 use Rattle.sym_languages.specs.WidePressed.{wide_pressed_of}
 use Rattle.sym_filter.specs.Runs.{Answering, filtered_at, tally_at}
 use Rattle.sym_calls.specs.declared.counting.SymbolCounts.{SymbolCounts}
@@ -101,6 +102,29 @@ pub name-ends : (answers : Answering) (asked : Asked) (name buffer : List ℕ) (
     → EndsAs (answered (answers kind (symbol_of kind name)) kind.skip buffer) buffer found → EndsAs (name_told answers asked name buffer) buffer found
 unfolding told_of
 name-ends answers asked name buffer kind found is ends = subst (λ r. EndsAs (told_of answers r name buffer) buffer found) (sym is) ends
+
+-- the answer for a symbol that no underscore precedes, where it is pressed by itself
+pressed-alone : (lang : Lang) (skip : ℕ) (symbol : List ℕ) (answer : Result (List ℕ) Refusal) → skip ≡ 0 → pressed_language lang symbol ≡ answer
+    → with_front (underscore_of skip) (pressed_language lang symbol) ≡ with_front [] answer
+pressed-alone lang skip symbol answer none is = ap (λ n. with_front (underscore_of n) (pressed_language lang symbol)) none ∙ ap (λ r. with_front [] r) is
+
+pub spelled-ends : (kind : Kind) (symbol spelling buffer : List ℕ) (found : Ending) → kind.skip ≡ 0 → pressed_language kind.lang symbol ≡ Ok spelling
+    → found ≡ written spelling buffer → EndsAs (answered (pressed_of kind symbol) kind.skip buffer) buffer found
+unfolding answered
+spelled-ends kind symbol spelling buffer found none is put =
+    inl (put ∙ sym (ap (λ r. answered r kind.skip buffer) (pressed-alone kind.lang kind.skip symbol (Ok spelling) none is)))
+
+-- one that isn't
+not-pressed : (kind : Kind) (symbol : List ℕ) (refusal : Refusal) → kind.skip ≡ 0 → (refusal ≡ Memory) ⊎ (pressed_language kind.lang symbol ≡ Err refusal)
+    → refusal ≢ Memory → pressed_of kind symbol ≡ Err refusal
+not-pressed kind symbol refusal none (inl memory) other = absurd (other memory)
+not-pressed kind symbol refusal none (inr is) other = pressed-alone kind.lang kind.skip symbol (Err refusal) none is
+
+pub not-spelled-ends : (kind : Kind) (symbol buffer : List ℕ) (refusal : Refusal) (found : Ending) → kind.skip ≡ 0
+    → (refusal ≡ Memory) ⊎ (pressed_language kind.lang symbol ≡ Err refusal) → found ≡ refused refusal kind.skip buffer
+    → EndsAs (answered (pressed_of kind symbol) kind.skip buffer) buffer found
+not-spelled-ends kind symbol buffer refusal found none is told =
+    refusal-ends refusal (pressed_of kind symbol) kind.skip buffer found (not-pressed kind symbol refusal none is) told
 
 -- a symbol for whose lists there is no memory
 pub no-symbol-lists : (answer : Result (List ℕ) Refusal) (skip : ℕ) (buffer : List ℕ) (found : Ending) → found ≡ status_alone 5 buffer → EndsAs (answered answer skip buffer) buffer found

@@ -6,7 +6,7 @@ ghost use Rattle.sym_print.specs.declared.detail.Detail.TheVariants.{Full, Brief
 ghost use Rattle.sym_demangle.specs.Mangled.{answer};
 ghost use Rattle.rust_grammar.specs.Mangled.{v0_mangled};
 ghost use Rattle.sym_filter.specs.declared.kinds.TheConstants.{LONGEST_WORD};
-ghost use Rattle.sym_languages.specs.Languages.{answers_by, language_answer_by};
+ghost use Rattle.sym_languages.specs.Languages.{answers_by, language_answer_by, pressed_of};
 ghost use Rattle.type_names.specs.Types.{type_answer};
 ghost use Rattle.sym_calls.specs.Calls.{EndsAs, IsTextWritten, PressEndsAs, answered, asked_of, ending_of, name_or_type_told, name_told, press_told, text_told};
 
@@ -19,7 +19,9 @@ use sym_core::Refusal;
 use sym_demangle::Mangling;
 use sym_filter::{Demangled, Demangler, Kind, Lang};
 use sym_languages::languages::Cpp;
-use sym_languages::{Abi, Languages, Legacy, Pressing, Wide, WidePressing, may_be_legacy};
+use sym_languages::{
+    Abi, Languages, Legacy, Pressing, Wide, WidePressing, may_be_legacy, press_once,
+};
 use sym_print::Detail;
 use type_names::append_type;
 
@@ -301,6 +303,25 @@ pub fn text_of(alloc: Global, name: &[u8], limit: u32, flags: u32, buffer: &mut 
     text_in(alloc, Abi, asked, limit, name, buffer)
 }
 
+/// Writes the pressed spelling of a name's symbol to the front of the buffer, with as few lists as it takes. An underscore before the
+/// symbol is rare.
+fn press_name(alloc: Global, asked: Asked, name: &[u8], buffer: &mut [u8]) -> Outcome
+    ensures { EndsAs (name_told pressed_of asked name.now buffer.old) buffer.old (ending_of result buffer.new) }
+{
+    let kind = match asked.named(name) {
+        Ok(kind) => kind,
+        Err(status) => return alone(status),
+    };
+    if kind.skip > 0 {
+        return name_by(alloc, &Pressing, asked, name, buffer);
+    }
+    let symbol = &name[kind.skip as usize..];
+    match press_once(alloc, kind.lang, symbol) {
+        Ok(pressed) => write(&pressed, buffer),
+        Err(refusal) => of_refusal(refusal, kind.skip, buffer),
+    }
+}
+
 /// Writes the pressed spelling of a name's symbol, where each repeated part is a reference, to the front of the buffer.
 /// Otherwise the outcome says why not, and the buffer stays as it is.
 #[tactic(auto, unfolding(crate::specs::Calls::press_told))]
@@ -314,5 +335,5 @@ pub fn press_of(alloc: Global, name: &[u8], flags: u32, buffer: &mut [u8]) -> Ou
         let outcome = name_by(alloc, &WidePressing, asked, name, buffer);
         return unspelled(outcome, buffer);
     }
-    name_by(alloc, &Pressing, asked, name, buffer)
+    press_name(alloc, asked, name, buffer)
 }

@@ -114,3 +114,10 @@ pub pressed_given : (front old new bytes spelling : List ℕ) (answer : Result (
 pressed_given front old new bytes spelling answer law is pushed =
     let answered : List ℕ → Result (List ℕ) Refusal = λ text. Ok text in
     (front ++ bytes, ap (with_front front) (law ∙ ap answered (sym is)), pushed)
+
+-- the answer for a symbol by itself that isn't read
+pub unread_alone : {W : Type 0} (m : Mangled W) (answer : List ℕ → Result (List ℕ) Refusal) (symbol : List ℕ) (refusal : Refusal)
+    → (IsReading m symbol (Err refusal) → answer symbol ≡ Err refusal) → (refusal ≡ Memory) ⊎ IsReading m symbol (Err refusal)
+    → (refusal ≡ Memory) ⊎ (answer symbol ≡ Err refusal)
+unread_alone m answer symbol refusal law (inl memory) = inl memory
+unread_alone m answer symbol refusal law (inr is) = inr (law is)

@@ -13,4 +13,4 @@ pub use itanium::{Abi, Wide};
 pub use languages::Languages;
 pub use laws::{pressed_is_short, reading_is_pressed};
 pub use legacy::{Legacy, may_be_legacy};
-pub use pressing::{Pressing, WidePressing};
+pub use pressing::{Pressing, WidePressing, press_once};

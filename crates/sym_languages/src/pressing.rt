@@ -1,5 +1,5 @@
 // Symbols of both manglings spelled again instead of printed.
-ghost use Rattle.std.specs.Prelude.{◌≡◌, ◌≤◌, ◌++◌, ℕ, List, Result, Ok, Err, OnOk, OnErr, IfOk, IfErr};
+ghost use Rattle.std.specs.Prelude.{◌≡◌, ◌≤◌, ◌++◌, ◌⊎◌, ℕ, List, Result, Ok, Err, OnOk, OnErr, IfOk, IfErr};
 ghost use Rattle.sym_core.specs.declared.refusal.Refusal.{Refusal};
 ghost use Rattle.sym_core.specs.declared.refusal.Refusal.TheVariants.{Memory};
 ghost use Rattle.sym_core.specs.Number.{FitsSymbol};
@@ -7,7 +7,7 @@ ghost use Rattle.sym_core.specs.declared.TheConstants.{MOST_BYTES};
 ghost use Rattle.sym_shape.specs.Decided.{AreBytes};
 ghost use Rattle.sym_demangle.specs.Mangled.{IsReading};
 ghost use Rattle.sym_filter.specs.Demangled.{IsDemangled};
-ghost use Rattle.sym_languages.specs.Languages.{AreCounts, AreCountsOf, AreWideCountsOf, wide_readings, with_front, pressed_of};
+ghost use Rattle.sym_languages.specs.Languages.{AreCounts, AreCountsOf, AreWideCountsOf, wide_readings, with_front, pressed_language, pressed_of};
 ghost use Rattle.sym_languages.specs.WidePressed.{most_pressed, wide_pressed_answer, wide_pressed_of};
 ghost use Rattle.sym_filter.specs.Kinds.{underscore_of};
 
@@ -17,7 +17,7 @@ use itanium::{Abi, Wide};
 use rust_v0::V0;
 use std::alloc::{AllocError, Global};
 use sym_core::{MOST_BYTES, Refusal};
-use sym_demangle::Workspace;
+use sym_demangle::{Workspace, read};
 use sym_filter::{Demangled, Demangler, Kind, Lang};
 use sym_press::{press_cpp, press_rust};
 use wide_press::press_wide;
@@ -156,6 +156,38 @@ fn press_into<M: Pressable>(
     match push_after_underscore(skip, &pressed, out) {
         Ok(()) => Demangled::Text(counts),
         Err(_) => Demangled::Refused(Refusal::Memory),
+    }
+}
+
+/// The pressed spelling of one symbol of a mangling, with only the lists that it takes.
+fn press_alone<M: Pressable>(alloc: Global, symbol: &[u8]) -> Result<Vec<u8>, Refusal>
+    requires { FitsSymbol symbol.now }
+    ensures pressed { IfOk result (λ out. M.answer symbol.now ≡ Ok out.items) }
+    ensures refused { IfErr result (λ e. (e ≡ Memory) ⊎ (M.answer symbol.now ≡ Err e)) }
+{
+    let whole = match read::<M>(alloc, symbol) {
+        Ok(whole) => whole,
+        Err(refusal) => return Err(refusal),
+    };
+    match M::press(alloc, &whole) {
+        Ok(pressed) => Ok(pressed),
+        Err(_) => Err(Refusal::Memory),
+    }
+}
+
+/// The pressed spelling of one symbol of a language, with only the lists that it takes. `Pressing` keeps lists for the next symbol.
+///
+/// # Errors
+///
+/// Why the symbol isn't read, or `Memory`.
+pub fn press_once(alloc: Global, lang: Lang, symbol: &[u8]) -> Result<Vec<u8>, Refusal>
+    requires { FitsSymbol symbol.now }
+    ensures pressed { IfOk result (λ out. pressed_language lang symbol.now ≡ Ok out.items) }
+    ensures refused { IfErr result (λ e. (e ≡ Memory) ⊎ (pressed_language lang symbol.now ≡ Err e)) }
+{
+    match lang {
+        Lang::Cpp => press_alone::<Abi>(alloc, symbol),
+        Lang::Rust => press_alone::<V0>(alloc, symbol),
     }
 }
 
