@@ -9,6 +9,9 @@ void *memset(void *, int, size_t);
 #else
 #include <string.h>
 #endif
+/* Makes many bytes 0 by a call: where gcc knows how many they are it writes them in a loop, word by word. */
+static void *(*volatile const by_call)(void *, int, size_t) = memset;
+#define zero_all(p, size) by_call(p, 0, size)
 #if defined(__BYTE_ORDER__) && __BYTE_ORDER__ != __ORDER_LITTLE_ENDIAN__
 #error "a little-endian machine is needed"
 #endif
@@ -2742,7 +2745,7 @@ else{
 G=y-1;
 if(!v){
 if(n){
-memset(f,0,4095);
+zero_all(f,4095);
 goto L5;}
 I=0;
 L6:if(*(b+I)==0){
@@ -3656,52 +3659,52 @@ u8 *yb,*Cb,*Gb,*Jb,*Mb,*Pb,*Sb,*Vb,*Zb,*dc,*hc,*kc,*nc,*qc,*tc,*wc,*Bc,*Fc,*Jc,*
 u64 zb,Ab,Db,Eb,Hb,Ib,Kb,Lb,Nb,Ob,Qb,Rb,Tb,Ub,Wb,Xb,ac,bc,ec,fc,ic,jc,lc,mc,oc,pc,rc,sc,uc,vc,xc,yc,Cc,Dc,Gc,Hc,Kc,Lc,Nc,Oc,Qc,Rc,Tc,Uc,Wc,Xc,Zc,ad,fd,gd,jd,kd,nd,od,qd,sd,ud,vd,yd,zd,Bd,Cd,Ed,Fd,Gd,Hd,Jd,Kd,Md,Nd,Pd,Qd,Sd,Td,Vd,Wd,Zd,ae,de,ee,ie,je,ke,ne,pe,qe,te,ue,xe,ye,Be,Ce,Ee,Fe,He,Ie,Ke,Le,Ne,Oe,Qe,Re,We,Ye,af,bf,ef,hf,kf,lf,mf,nf,of,qf,rf,uf,wf,xf,zf,Ff,Gf,Hf,If,Jf,Kf,Lf,Mf,Nf,Of,Qf,Rf,Sf,Tf,Uf,Vf,Wf,Xf,Yf,Zf,ag,cg,dg,eg,hg,lg,mg,og,qg,sg,tg,ug,vg,xg,Cg,Dg,Fg,Hg,Kg,Ng,Pg,Qg,Rg,Ug,Wg,Xg,Yg,Zg,bh,ch,dh,fh,gh,ih,lh,nh,oh,sh,th,vh,wh,Ah,Bh,Ch,Fh,Hh,Ih,Kh,Lh,Mh,Ph,Rh,Sh,Th,Vh,Xh,Yh,Zh,ci,ei,fi,hi,ii,ji,ki,li,mi,ni,oi,pi,ri,si,ti,wi,yi,zi,Bi,Ci,Di,Ei,Gi,Hi,Ii,Ji,Li,Mi,Ni,Qi,Si,Ti,Ui,Vi,Wi,Zi,bj,cj;
 u32 Cf;
 s_64_64 gg;
-memset(rb,0,679);
-memset(Ka,0,680);
-memset(La,0,679);
+zero_all(rb,679);
+zero_all(Ka,680);
+zero_all(La,679);
 z55(Ma);
 z7(Na);
 z7(Oa);
 z7(Pa);
-memset(Qa,0,216);
-memset(Ra,0,168);
+zero_all(Qa,216);
+zero_all(Ra,168);
 z24(Sa);
 z55(Ta);
 z7(Ua);
 z7(Va);
 z7(Wa);
-memset(Xa,0,216);
-memset(Ya,0,168);
+zero_all(Xa,216);
+zero_all(Ya,168);
 z24(Za);
 z55(ab);
 z7(bb);
 z7(cb);
 z7(db);
-memset(eb,0,216);
-memset(fb,0,168);
+zero_all(eb,216);
+zero_all(fb,168);
 z24(gb);
 z55(hb);
 z7(ib);
 z7(jb);
 z7(kb);
-memset(lb,0,216);
-memset(mb,0,168);
+zero_all(lb,216);
+zero_all(mb,168);
 z24(nb);
-memset(ob,0,679);
-memset(pb,0,672);
-memset(qb,0,608);
-memset(za,0,680);
-memset(Aa,0,680);
-memset(Da,0,679);
-memset(Ea,0,680);
-memset(Fa,0,680);
-memset(Ga,0,672);
-memset(Ha,0,608);
-memset(Ia,0,608);
-memset(Ja,0,608);
+zero_all(ob,679);
+zero_all(pb,672);
+zero_all(qb,608);
+zero_all(za,680);
+zero_all(Aa,680);
+zero_all(Da,679);
+zero_all(Ea,680);
+zero_all(Fa,680);
+zero_all(Ga,672);
+zero_all(Ha,608);
+zero_all(Ia,608);
+zero_all(Ja,608);
 wp(Ba,(u8*)t_2b65);
 w8(Ba+8,8);
-memset(Ba+16,0,152);
+zero_all(Ba+16,152);
 w8(Ba+168,1);
 wp(Ba+176,(u8*)t_9529);
 w8(Ba+184,78);
@@ -3719,7 +3722,7 @@ z16(Ba+368);
 wp(Ba+384,(u8*)65536);
 z16(Ba+392);
 wp(Ba+408,(u8*)65536);
-memset(Ba+416,0,160);
+zero_all(Ba+416,160);
 wp(Ba+576,(u8*)65536);
 z16(Ba+584);
 wp(Ba+600,(u8*)65536);
@@ -3777,7 +3780,7 @@ Ca[505]=2;
 z102(Ca+506);
 arg_1bd(Aa,Ba,Ca);
 if(*Aa==0){
-memset(xa,0,680);
+zero_all(xa,680);
 z32(ya+40);
 z16(ya+104);
 z16(ya+128);
@@ -3961,7 +3964,7 @@ wp(Ja+384,(u8*)65536);
 z24(Ja+392);
 wp(Ja+416,(u8*)t_fb2f);
 w8(Ja+424,5);
-memset(Ja+432,0,176);
+zero_all(Ja+432,176);
 arg_1bd(za,Ea+8,Ja);
 tb=*za;
 memcpy(La+7,za+8,672);
@@ -3970,13 +3973,13 @@ z55(oa);
 z7(pa);
 z7(qa);
 z7(ra);
-memset(sa,0,216);
-memset(ta,0,168);
+zero_all(sa,216);
+zero_all(ta,168);
 z24(ua);
 z7(va);
-memset(wa,0,679);
+zero_all(wa,679);
 memcpy(ma,La+7,672);
-memset(la,0,680);
+zero_all(la,680);
 z32(na+40);
 z16(na+104);
 z16(na+128);
@@ -4024,7 +4027,7 @@ arg_1bd(la,ma,na);
 ub=*la;
 memcpy(va+7,la+8,672);
 if(ub==0){
-memset(ia,0,680);
+zero_all(ia,680);
 memcpy(ja,va+7,672);
 z32(ka+40);
 z16(ka+104);
@@ -4073,7 +4076,7 @@ arg_1bd(ia,ja,ka);
 vb=*ia;
 memcpy(wa+7,ia+8,672);
 if(vb==0){
-memset(fa,0,680);
+zero_all(fa,680);
 memcpy(ga,wa+7,672);
 z32(ha+40);
 z16(ha+104);
@@ -4194,8 +4197,8 @@ z48(Ta+7);
 z7(Ua);
 z7(Va);
 z7(Wa);
-memset(Xa,0,216);
-memset(Ya,0,168);
+zero_all(Xa,216);
+zero_all(Ya,168);
 z24(Za);
 Yb=0;
 Zb=0;
@@ -4230,8 +4233,8 @@ z48(Ta+7);
 z7(Ua);
 z7(Va);
 z7(Wa);
-memset(Xa,0,216);
-memset(Ya,0,168);
+zero_all(Xa,216);
+zero_all(Ya,168);
 z24(Za);
 Yb=0;
 Zb=0;
@@ -4265,8 +4268,8 @@ z55(Y);
 z7(Z);
 z7(aa);
 z7(ba);
-memset(ca,0,216);
-memset(da,0,168);
+zero_all(ca,216);
+zero_all(da,168);
 z24(ea);
 if(zc){
 memcpy(Y+7,Ta+7,48);
@@ -4340,10 +4343,10 @@ memcpy(Ra,da,168);
 memcpy(Sa,ea,24);
 if(!zc)goto L1;
 memcpy(U,Ra,168);
-memset(T,0,680);
-memset(W,0,672);
-memset(X,0,608);
-memset(R,0,616);
+zero_all(T,680);
+zero_all(W,672);
+zero_all(X,608);
+zero_all(R,616);
 wp(S,(u8*)t_5ca4);
 w8(S+8,7);
 w8(S+16,1);
@@ -4528,8 +4531,8 @@ z48(hb+7);
 z7(ib);
 z7(jb);
 z7(kb);
-memset(lb,0,216);
-memset(mb,0,168);
+zero_all(lb,216);
+zero_all(mb,168);
 z24(nb);
 Gd=0;
 Hd=0;
@@ -4563,8 +4566,8 @@ z55(J);
 z7(K);
 z7(L);
 z7(M);
-memset(N,0,216);
-memset(O,0,168);
+zero_all(N,216);
+zero_all(O,168);
 z24(P);
 if(he){
 memcpy(J+7,hb+7,48);
@@ -4642,20 +4645,20 @@ memcpy(C,db,7);
 memcpy(D,eb,216);
 memcpy(E,fb,168);
 memcpy(F,gb,24);
-memset(A,0,680);
-memset(G,0,615);
-memset(H,0,672);
-memset(I,0,608);
-memset(p,0,616);
-memset(q,0,616);
-memset(r,0,616);
-memset(s,0,616);
-memset(t,0,616);
-memset(u,0,616);
-memset(v,0,616);
-memset(w,0,616);
-memset(x,0,616);
-memset(y,0,616);
+zero_all(A,680);
+zero_all(G,615);
+zero_all(H,672);
+zero_all(I,608);
+zero_all(p,616);
+zero_all(q,616);
+zero_all(r,616);
+zero_all(s,616);
+zero_all(t,616);
+zero_all(u,616);
+zero_all(v,616);
+zero_all(w,616);
+zero_all(x,616);
+zero_all(y,616);
 wp(z,(u8*)t_70a1);
 w8(z+8,19);
 z48(z+16);
@@ -5433,7 +5436,7 @@ if(r8(d+304)!=0)port_rattle_dealloc(rp(d+288));
 if(r8(d+328)!=0)port_rattle_dealloc(rp(d+312));
 if(r8(d+400)!=0)port_rattle_dealloc(rp(d+384));
 *a=1;
-memset(a+8,0,608);
+zero_all(a+8,608);
 goto L1;}
 g=r8(d+128);}
 else g=e;
@@ -5614,7 +5617,7 @@ if(r8(e+304)!=0)port_rattle_dealloc(rp(e+288));
 if(r8(e+328)!=0)port_rattle_dealloc(rp(e+312));
 if(r8(e+400)!=0)port_rattle_dealloc(rp(e+384));
 *a=1;
-memset(a+8,0,608);
+zero_all(a+8,608);
 goto L1;}
 h=r8(e+104);}
 else h=f;
@@ -5646,12 +5649,12 @@ I=c[592];
 J=c[593];
 z71(s);
 z7(t);
-memset(u,0,471);
+zero_all(u,471);
 z16(v);
 z14(w);
 z71(x);
 z7(y);
-memset(z,0,471);
+zero_all(z,471);
 z16(A);
 z14(B);
 memcpy(q,b,672);
@@ -5723,7 +5726,7 @@ memcpy(ia+594,o,14);
 w8(q+584,Y+1);
 z64(x+7);
 z7(y);
-memset(z,0,471);
+zero_all(z,471);
 z16(A);
 z14(B);
 Z=0;
@@ -5737,7 +5740,7 @@ ga=0;
 ha=1;
 L1:z71(g);
 z7(h);
-memset(i,0,471);
+zero_all(i,471);
 z16(j);
 z14(k);
 if(ha){
@@ -5835,7 +5838,7 @@ Ea=Ka;
 goto L7;}
 L6:if(Da!=0)port_rattle_dealloc(Ba);
 *a=1;
-memset(a+8,0,672);}
+zero_all(a+8,672);}
 return;
 }
 
@@ -6412,20 +6415,20 @@ w8(b+584,Ic+1);
 z16(ub);
 z16(vb);
 z16(wb);}
-L7:memset(rb,0,658);
+L7:zero_all(rb,658);
 if(!(b[655]&1)){
 Kc=b[653];
-memset(ob,0,680);
+zero_all(ob,680);
 z120(pb+240);
 z16(pb+368);
 z16(pb+392);
-memset(pb+416,0,160);
+zero_all(pb+416,160);
 z16(pb+584);
 z16(pb+608);
 z40(pb+632);
 wp(pb,(u8*)t_106a);
 w8(pb+8,4);
-memset(pb+16,0,200);
+zero_all(pb+16,200);
 w8(pb+216,1);
 wp(pb+224,(u8*)t_889d);
 w8(pb+232,57);
@@ -27272,7 +27275,7 @@ if(*K!=0){
 cd=r8(K+8);
 dd=r8(K+16);
 w8(L,Fb);
-memset(L+8,0,584);
+zero_all(L+8,584);
 w8(L+592,1);
 break_tie_638(L,0,0,Xc,cd,dd);}
 L33:Mc=Eb;}
@@ -27289,7 +27292,7 @@ if(*M!=0){
 id=r8(M+8);
 jd=r8(M+16);
 w8(N,Fb);
-memset(N+8,0,584);
+zero_all(N+8,584);
 w8(N+592,1);
 break_tie_638(N,0,ed,0,id,jd);}}
 Mc=Eb;}
@@ -28113,7 +28116,7 @@ goto L6;}
 M=j;}
 else M=J;
 K=M<j;
-L5:memset(g,0,600);
+L5:zero_all(g,600);
 if(H>=j)goto L7;
 N=0;
 L8:O=umin64(I-N,19);
@@ -28151,7 +28154,7 @@ N=da;
 goto L8;}
 L7:break_tie_638(g,K,0,F,D,E);}
 else{
-memset(h,0,600);
+zero_all(h,600);
 if(k)goto L11;
 ea=0;
 L12:fa=umin64(j-ea,19);
@@ -28241,7 +28244,7 @@ u64 i,j,k,l,p,q,r,s,t,u,v,w,A,B,C,D,E,F,G,H,J,K,L,M,N,O,P,T,U,V,W,X,Y,Z,aa,ba,ca
 u8 *m,*x,*I,*Q,*ea,*pa,*Aa,*Ja;
 u128 n,o,y,z,R,S,fa,ga,qa,ra,Ka,La;
 (void)b;
-memset(h,0,600);
+zero_all(h,600);
 memcpy(g,a,600);
 if(c>19){
 i=c;
@@ -28330,7 +28333,7 @@ if(S!=0){
 w8(g+(N<<3),T);
 w8(g+592,N+1);}}
 w8(h,(e<<1)|1);
-memset(h+8,0,584);
+zero_all(h+8,584);
 w8(h+592,1);
 if(d<=19){
 X=d;
@@ -35200,9 +35203,9 @@ Jh=Ih;
 Kh=Hh;
 L35:if(Kh==0){
 z24(C);
-memset(D,0,1928);
-memset(E,0,1928);
-memset(F,0,1928);
+zero_all(D,1928);
+zero_all(E,1928);
+zero_all(F,1928);
 lists_227(B);
 Lh=*B;
 z7(x);
@@ -35429,11 +35432,11 @@ dj=r8(q+8);
 ej=rp(q);
 *(ej+dj)=10;
 fj=r8(q+16);
-memset(l,0,1928);
-memset(m,0,1928);
-memset(n,0,1928);
-memset(o,0,1928);
-memset(p,0,1928);
+zero_all(l,1928);
+zero_all(m,1928);
+zero_all(n,1928);
+zero_all(o,1928);
+zero_all(p,1928);
 *f=2;
 z7(f+1);
 wp(f+8,(u8*)65536);
@@ -35452,7 +35455,7 @@ hj=port_rattle_alloc(16384,1);
 if((u8)(hj.f0&1)){
 ij=hj.f1;
 jj=(u8*)ij;
-memset(jj,0,16384);
+zero_all(jj,16384);
 kj=ej;
 lj=dj+1;
 mj=18446744073709551615u;
@@ -35582,11 +35585,11 @@ if(Hg){
 wp(se,Ie);
 wp(se+8,d);
 w8(se+16,1);
-memset(ne,0,1928);
-memset(oe,0,1928);
-memset(pe,0,1928);
-memset(qe,0,1928);
-memset(re,0,1928);
+zero_all(ne,1928);
+zero_all(oe,1928);
+zero_all(pe,1928);
+zero_all(qe,1928);
+zero_all(re,1928);
 *kc=2;
 z7(kc+1);
 wp(kc+8,(u8*)65536);
@@ -35801,7 +35804,7 @@ memcpy(mc+1912,ld,16);
 Kj=port_rattle_alloc(16384,1);
 if((u8)(Kj.f0&1)){
 Lj=(u8*)Kj.f1;
-memset(Lj,0,16384);
+zero_all(Lj,16384);
 Mj=read_ea1(b,Lj);
 if(Mj.f0==1){
 Nj=1;
@@ -36436,11 +36439,11 @@ An=ek;
 Bn=fk;
 Cn=gk;}
 else{
-memset(Sb,0,1928);
-memset(Tb,0,1928);
-memset(Ub,0,1928);
-memset(Vb,0,1928);
-memset(Wb,0,1928);
+zero_all(Sb,1928);
+zero_all(Tb,1928);
+zero_all(Ub,1928);
+zero_all(Vb,1928);
+zero_all(Wb,1928);
 *Q=2;
 z7(Q+1);
 wp(Q+8,(u8*)65536);
@@ -36656,7 +36659,7 @@ memcpy(T+1912,Sa,16);
 En=port_rattle_alloc(16384,1);
 if((u8)(En.f0&1)){
 Fn=(u8*)En.f1;
-memset(Fn,0,16384);
+zero_all(Fn,16384);
 L106:Gn=read_ea1(b,Fn);
 if(Gn.f0==1){
 Hn=Gn.f1;
@@ -103333,7 +103336,7 @@ M=I+64;
 N=rp(b+144);
 O=N+(i64)(I<<3);
 if((u64)O-(u64)(u8*)t_z512<512)copy_bits_596(O);
-else memset(O,0,512);
+else zero_all(O,512);
 wp(b+144,N);
 w8(b+152,M);
 w8(b+160,H);
@@ -104644,7 +104647,7 @@ L1:return c;
 /* core::ptr::copy_drop::copy_bits::<32'rust_references::targets::Target>::within */
 static COLD void copy_bits_596(u8* a)
 {
-memset(a,0,512);
+zero_all(a,512);
 return;
 }
 
@@ -113226,8 +113229,8 @@ if(*g==0){
 y=rp(g+8);
 z=r8(g+16);
 if(z==0){
-memset(f,0,256);
-memset(d,0,4095);
+zero_all(f,256);
+zero_all(d,4095);
 goto L7;}
 A=0;
 L8:if(*(y+A)==0){
@@ -113237,7 +113240,7 @@ B=A+1;
 if(B!=z){
 A=B;
 goto L8;}}
-memset(f,0,256);
+zero_all(f,256);
 if(z>4095){
 C=36;
 goto L9;}
@@ -113653,7 +113656,7 @@ memcpy(w,x+24,24);
 w4(x+24,32);
 z12(x+28);
 w8(x+40,18446744073709551615u);
-memset(v,0,256);
+zero_all(v,256);
 Y=L==0;
 if(Y){
 port___xpg_strerror_r(N,v,256);
@@ -115292,7 +115295,7 @@ wp(o+24,(u8*)t_4582);
 w8(o+32,2);
 wp(o+40,G);
 w4(p,2);
-memset(p+4,0,1132);
+zero_all(p+4,1132);
 w4(p+1136,32);
 z12(p+1140);
 w8(p+1152,18446744073709551615u);
@@ -115412,7 +115415,7 @@ wp(j+24,(u8*)t_4582);
 w8(j+32,2);
 wp(j+40,F);
 w4(k,2);
-memset(k+4,0,1132);
+zero_all(k+4,1132);
 w4(k+1136,32);
 z12(k+1140);
 w8(k+1152,18446744073709551615u);
@@ -115468,7 +115471,7 @@ if(tl!=0)goto L31;}
 w4(k+1136,32);
 z12(k+1140);
 w8(k+1152,18446744073709551615u);
-memset(g,0,256);
+zero_all(g,256);
 ul=*F;
 if(ul==0){
 port___xpg_strerror_r(r4(F+4),g,256);
@@ -116731,7 +116734,7 @@ wp(B,(u8*)t_e65e);
 w8(B+8,10);
 wp(B+16,E);
 w4(C,2);
-memset(C+4,0,1132);
+zero_all(C+4,1132);
 w4(C+1136,32);
 z12(C+1140);
 w8(C+1152,18446744073709551615u);
@@ -117459,7 +117462,7 @@ port___sysv_signal(13,1);
 z96(Q);
 z96(R);
 S=port_lseek(0,0,1);
-memset(K,0,8208);
+zero_all(K,8208);
 K[8208]=(i64)S>-1;
 T=(u64)(u8*)65536;
 z103(K+8209);
@@ -117481,7 +117484,7 @@ z24(J);
 U=port_rattle_alloc(4096,1);
 if((u8)(U.f0&1)){
 V=(u8*)U.f1;
-memset(V,0,4096);
+zero_all(V,4096);
 wp(E,V);
 w8(E+8,4096);
 w8(E+16,4096);

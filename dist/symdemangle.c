@@ -9,6 +9,9 @@ void *memset(void *, int, size_t);
 #else
 #include <string.h>
 #endif
+/* Makes many bytes 0 by a call: where gcc knows how many they are it writes them in a loop, word by word. */
+static void *(*volatile const by_call)(void *, int, size_t) = memset;
+#define zero_all(p, size) by_call(p, 0, size)
 #if defined(__BYTE_ORDER__) && __BYTE_ORDER__ != __ORDER_LITTLE_ENDIAN__
 #error "a little-endian machine is needed"
 #endif
@@ -28281,7 +28284,7 @@ M=I+64;
 N=rp(b+144);
 O=N+(i64)(I<<3);
 if((u64)O-(u64)(u8*)t_z512<512)copy_bits_596(O);
-else memset(O,0,512);
+else zero_all(O,512);
 wp(b+144,N);
 w8(b+152,M);
 w8(b+160,H);
@@ -29592,7 +29595,7 @@ L1:return c;
 /* core::ptr::copy_drop::copy_bits::<32'rust_references::targets::Target>::within */
 static COLD void copy_bits_596(u8* a)
 {
-memset(a,0,512);
+zero_all(a,512);
 return;
 }
 
@@ -38315,12 +38318,12 @@ if(qa){
 w4(I,d);
 I[4]=na;
 z3(I+5);
-memset(p+1440,0,464);
+zero_all(p+1440,464);
 z24(q);
 z40(r);
-memset(s,0,1904);
-memset(t,0,1904);
-memset(u,0,1904);
+zero_all(s,1904);
+zero_all(t,1904);
+zero_all(u,1904);
 *o=pa;
 z7(o+1);
 wp(o+8,(u8*)65536);
@@ -38880,12 +38883,12 @@ else{
 w4(H,d);
 H[4]=na;
 z3(H+5);
-memset(B+1336,0,520);
+zero_all(B+1336,520);
 z24(C);
 z40(D);
-memset(E,0,1904);
-memset(F,0,1904);
-memset(G,0,1904);
+zero_all(E,1904);
+zero_all(F,1904);
+zero_all(G,1904);
 *A=pa;
 z7(A+1);
 wp(A+8,(u8*)65536);
@@ -39425,12 +39428,12 @@ if(qa){
 w4(ja,d);
 ja[4]=na;
 z3(ja+5);
-memset(Q+1440,0,464);
+zero_all(Q+1440,464);
 z24(R);
 z40(S);
-memset(T,0,1904);
-memset(U,0,1904);
-memset(V,0,1904);
+zero_all(T,1904);
+zero_all(U,1904);
+zero_all(V,1904);
 *P=pa;
 z7(P+1);
 wp(P+8,(u8*)65536);
@@ -39990,12 +39993,12 @@ else{
 w4(ia,d);
 ia[4]=na;
 z3(ia+5);
-memset(ca+1336,0,520);
+zero_all(ca+1336,520);
 z24(da);
 z40(ea);
-memset(fa,0,1904);
-memset(ga,0,1904);
-memset(ha,0,1904);
+zero_all(fa,1904);
+zero_all(ga,1904);
+zero_all(ha,1904);
 *ba=pa;
 z7(ba+1);
 wp(ba+8,(u8*)65536);
@@ -98608,7 +98611,7 @@ if((u8)(C.f0&1)){
 D=B&4294967295u;
 E=C.f1;
 F=(u8*)E;
-memset(F,0,1018);
+zero_all(F,1018);
 G=umin64(D,509);
 if(D==0)H=(u8*)65536;
 else{
@@ -104796,7 +104799,7 @@ if((u8)(qa.f0&1)){
 ra=na&4294967295u;
 sa=qa.f1;
 ta=(u8*)sa;
-memset(ta,0,1018);
+zero_all(ta,1018);
 ua=umin64(ra,509);
 va=ra==0;
 if(va)wa=(u8*)65536;
@@ -107757,10 +107760,10 @@ goto L1;}
 t=d;
 u=e;
 L2:if(u==0){
-memset(m+1544,0,360);
+zero_all(m+1544,360);
 z24(n);
-memset(o,0,1904);
-memset(p,0,1904);
+zero_all(o,1904);
+zero_all(p,1904);
 y=(u64)(u8*)65536;
 wp(m,(u8*)65536);
 z24(m+8);
@@ -108194,10 +108197,10 @@ goto L1;}
 t=d;
 u=e;
 L2:if(u==0){
-memset(m+1544,0,360);
+zero_all(m+1544,360);
 z24(n);
-memset(o,0,1904);
-memset(p,0,1904);
+zero_all(o,1904);
+zero_all(p,1904);
 y=(u64)(u8*)65536;
 wp(m,(u8*)65536);
 z24(m+8);
@@ -108782,10 +108785,10 @@ goto L1;}
 t=d;
 u=e;
 L2:if(u==0){
-memset(m+1544,0,360);
+zero_all(m+1544,360);
 z24(n);
-memset(o,0,1904);
-memset(p,0,1904);
+zero_all(o,1904);
+zero_all(p,1904);
 y=(u64)(u8*)65536;
 wp(m,(u8*)65536);
 z24(m+8);
@@ -109138,10 +109141,10 @@ goto L1;}
 t=d;
 u=e;
 L2:if(u==0){
-memset(m+1544,0,360);
+zero_all(m+1544,360);
 z24(n);
-memset(o,0,1904);
-memset(p,0,1904);
+zero_all(o,1904);
+zero_all(p,1904);
 y=(u64)(u8*)65536;
 wp(m,(u8*)65536);
 z24(m+8);
@@ -109475,12 +109478,12 @@ D=v+(i64)y;
 E=(u64)(u8*)65536;
 if((w&4)==0){
 w8(l,0);
-memset(f+1504,0,400);
+zero_all(f+1504,400);
 z24(g);
 z16(h);
-memset(i,0,1904);
-memset(j,0,1904);
-memset(k,0,1904);
+zero_all(i,1904);
+zero_all(j,1904);
+zero_all(k,1904);
 wp(f,(u8*)65536);
 z24(f+8);
 wp(f+32,(u8*)65536);
@@ -109651,12 +109654,12 @@ t=I;
 u=J;}
 else{
 w8(s,0);
-memset(m+1504,0,400);
+zero_all(m+1504,400);
 z24(n);
 z16(o);
-memset(p,0,1904);
-memset(q,0,1904);
-memset(r,0,1904);
+zero_all(p,1904);
+zero_all(q,1904);
+zero_all(r,1904);
 wp(m,(u8*)65536);
 z24(m+8);
 wp(m+32,(u8*)65536);
@@ -109864,9 +109867,9 @@ Z=c;
 aa=Z>>4;
 ba=b<2;
 if((Z&4)==0){
-memset(r+1320,0,584);
+zero_all(r+1320,584);
 z24(s);
-memset(t,0,1904);
+zero_all(t,1904);
 if(ba){
 ca=0;
 da=0;
@@ -110433,9 +110436,9 @@ L1:U=ca;
 V=da;
 W=ea;}
 else{
-memset(R+1320,0,584);
+zero_all(R+1320,584);
 z24(S);
-memset(T,0,1904);
+zero_all(T,1904);
 if(ba)vc=11;
 else{
 wc=*X==95;
@@ -111098,7 +111101,7 @@ if((u8)(If.f0&1)){
 Jf=de&4294967295u;
 Kf=If.f1;
 Lf=(u8*)Kf;
-memset(Lf,0,1018);
+zero_all(Lf,1018);
 Mf=umin64(Jf,509);
 if(Jf==0)Nf=(u8*)65536;
 else{
@@ -111511,7 +111514,7 @@ Na=ma+(i64)Ia;
 Oa=may_be_legacy_350(Na,Ma);
 if(Oa){
 z16(Y);
-memset(Z+1440,0,464);
+zero_all(Z+1440,464);
 z24(aa);
 if(Da){
 switch(Ha){
@@ -111679,11 +111682,11 @@ Ba=r4(ca+16);
 Ca=r4(ca+20);}
 else{
 Xa=Ia;
-memset(T+1512,0,392);
+zero_all(T+1512,392);
 z24(U);
-memset(V,0,1904);
-memset(W,0,1904);
-memset(X,0,1904);
+zero_all(V,1904);
+zero_all(W,1904);
+zero_all(X,1904);
 Ya=(u64)(u8*)65536;
 wp(T,(u8*)65536);
 z24(T+8);
@@ -111980,12 +111983,12 @@ zb=r8(O+8);
 Ab=r4(O+16);
 Bb=r4(O+20);}
 else{
-memset(I+1504,0,400);
+zero_all(I+1504,400);
 z24(J);
 z16(K);
-memset(L,0,1904);
-memset(M,0,1904);
-memset(N,0,1904);
+zero_all(L,1904);
+zero_all(M,1904);
+zero_all(N,1904);
 Ib=(u64)(u8*)65536;
 wp(I,(u8*)65536);
 z24(I+8);
@@ -112273,7 +112276,7 @@ nc=ma+(i64)ic;
 oc=may_be_legacy_350(nc,mc);
 if(oc){
 z16(x);
-memset(y+1440,0,464);
+zero_all(y+1440,464);
 z24(z);
 if(dc){
 switch(hc){
@@ -112441,11 +112444,11 @@ bc=r4(B+16);
 cc=r4(B+20);}
 else{
 xc=ic;
-memset(s+1512,0,392);
+zero_all(s+1512,392);
 z24(t);
-memset(u,0,1904);
-memset(v,0,1904);
-memset(w,0,1904);
+zero_all(u,1904);
+zero_all(v,1904);
+zero_all(w,1904);
 yc=(u64)(u8*)65536;
 wp(s,(u8*)65536);
 z24(s+8);
@@ -112742,12 +112745,12 @@ Zc=r8(n+8);
 ad=r4(n+16);
 bd=r4(n+20);}
 else{
-memset(h+1504,0,400);
+zero_all(h+1504,400);
 z24(i);
 z16(j);
-memset(k,0,1904);
-memset(l,0,1904);
-memset(m,0,1904);
+zero_all(k,1904);
+zero_all(l,1904);
+zero_all(m,1904);
 id=(u64)(u8*)65536;
 wp(h,(u8*)65536);
 z24(h+8);
@@ -113970,6 +113973,9 @@ static void rattle_dealloc(void *block);
 
 enum { LEAST = SYMDEMANGLE_LEAST, SMALL = 1024 };
 
+/* A call, where gcc would copy in a loop, word by word, since it knows that there are few. */
+static void *(*volatile const copied)(void *, const void *, size_t) = memcpy;
+
 static struct tried tried_at(void *block)
 {
     static long double nothing; /* aligned as what malloc gives */
@@ -113995,7 +114001,7 @@ static struct tried rattle_realloc(void *block, size_t kept, size_t size, size_t
         return tried_at(SYMDEMANGLE_REALLOC(block, size));
     more = SYMDEMANGLE_MALLOC(size);
     if (more) {
-        memcpy(more, block, kept < size ? kept : size);
+        copied(more, block, kept < size ? kept : size);
         SYMDEMANGLE_FREE(block);
     }
     return tried_at(more);

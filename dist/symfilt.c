@@ -9,6 +9,9 @@ void *memset(void *, int, size_t);
 #else
 #include <string.h>
 #endif
+/* Makes many bytes 0 by a call: where gcc knows how many they are it writes them in a loop, word by word. */
+static void *(*volatile const by_call)(void *, int, size_t) = memset;
+#define zero_all(p, size) by_call(p, 0, size)
 #if defined(__BYTE_ORDER__) && __BYTE_ORDER__ != __ORDER_LITTLE_ENDIAN__
 #error "a little-endian machine is needed"
 #endif
@@ -3079,12 +3082,12 @@ I=c[592];
 J=c[593];
 z71(s);
 z7(t);
-memset(u,0,471);
+zero_all(u,471);
 z16(v);
 z14(w);
 z71(x);
 z7(y);
-memset(z,0,471);
+zero_all(z,471);
 z16(A);
 z14(B);
 memcpy(q,b,672);
@@ -3156,7 +3159,7 @@ memcpy(ia+594,o,14);
 w8(q+584,Y+1);
 z64(x+7);
 z7(y);
-memset(z,0,471);
+zero_all(z,471);
 z16(A);
 z14(B);
 Z=0;
@@ -3170,7 +3173,7 @@ ga=0;
 ha=1;
 L1:z71(g);
 z7(h);
-memset(i,0,471);
+zero_all(i,471);
 z16(j);
 z14(k);
 if(ha){
@@ -3268,7 +3271,7 @@ Ea=Ka;
 goto L7;}
 L6:if(Da!=0)port_rattle_dealloc(Ba);
 *a=1;
-memset(a+8,0,672);}
+zero_all(a+8,672);}
 return;
 }
 
@@ -3878,20 +3881,20 @@ w8(b+584,Ic+1);
 z16(ub);
 z16(vb);
 z16(wb);}
-L7:memset(rb,0,658);
+L7:zero_all(rb,658);
 if(!(b[655]&1)){
 Kc=b[653];
-memset(ob,0,680);
+zero_all(ob,680);
 z120(pb+240);
 z16(pb+368);
 z16(pb+392);
-memset(pb+416,0,160);
+zero_all(pb+416,160);
 z16(pb+584);
 z16(pb+608);
 z40(pb+632);
 wp(pb,(u8*)t_106a);
 w8(pb+8,4);
-memset(pb+16,0,200);
+zero_all(pb+16,200);
 w8(pb+216,1);
 wp(pb+224,(u8*)t_889d);
 w8(pb+232,57);
@@ -24956,7 +24959,7 @@ if(*K!=0){
 cd=r8(K+8);
 dd=r8(K+16);
 w8(L,Fb);
-memset(L+8,0,584);
+zero_all(L+8,584);
 w8(L+592,1);
 break_tie_638(L,0,0,Xc,cd,dd);}
 L33:Mc=Eb;}
@@ -24973,7 +24976,7 @@ if(*M!=0){
 id=r8(M+8);
 jd=r8(M+16);
 w8(N,Fb);
-memset(N+8,0,584);
+zero_all(N+8,584);
 w8(N+592,1);
 break_tie_638(N,0,ed,0,id,jd);}}
 Mc=Eb;}
@@ -25797,7 +25800,7 @@ goto L6;}
 M=j;}
 else M=J;
 K=M<j;
-L5:memset(g,0,600);
+L5:zero_all(g,600);
 if(H>=j)goto L7;
 N=0;
 L8:O=umin64(I-N,19);
@@ -25835,7 +25838,7 @@ N=da;
 goto L8;}
 L7:break_tie_638(g,K,0,F,D,E);}
 else{
-memset(h,0,600);
+zero_all(h,600);
 if(k)goto L11;
 ea=0;
 L12:fa=umin64(j-ea,19);
@@ -25925,7 +25928,7 @@ u64 i,j,k,l,p,q,r,s,t,u,v,w,A,B,C,D,E,F,G,H,J,K,L,M,N,O,P,T,U,V,W,X,Y,Z,aa,ba,ca
 u8 *m,*x,*I,*Q,*ea,*pa,*Aa,*Ja;
 u128 n,o,y,z,R,S,fa,ga,qa,ra,Ka,La;
 (void)b;
-memset(h,0,600);
+zero_all(h,600);
 memcpy(g,a,600);
 if(c>19){
 i=c;
@@ -26014,7 +26017,7 @@ if(S!=0){
 w8(g+(N<<3),T);
 w8(g+592,N+1);}}
 w8(h,(e<<1)|1);
-memset(h+8,0,584);
+zero_all(h+8,584);
 w8(h+592,1);
 if(d<=19){
 X=d;
@@ -32849,13 +32852,13 @@ w4(ua,bb);
 ua[4]=oc;
 if(hc&1){
 w8(va,r8(ua));
-memset(na+1400,0,456);
+zero_all(na+1400,456);
 z48(oa);
-memset(pa,0,1904);
-memset(qa,0,1904);
-memset(ra,0,1904);
-memset(sa,0,1904);
-memset(ta,0,1904);
+zero_all(pa,1904);
+zero_all(qa,1904);
+zero_all(ra,1904);
+zero_all(sa,1904);
+zero_all(ta,1904);
 vc=(u64)(u8*)65536;
 z40(na+1744);
 z32(na+1792);
@@ -33265,13 +33268,13 @@ drop_1f3(Vd);
 ie=Xd;
 je=Wd;}
 else{
-memset(Y+1472,0,432);
+zero_all(Y+1472,432);
 z48(Z);
-memset(aa,0,1904);
-memset(ba,0,1904);
-memset(ca,0,1904);
-memset(da,0,1904);
-memset(ea,0,1904);
+zero_all(aa,1904);
+zero_all(ba,1904);
+zero_all(ca,1904);
+zero_all(da,1904);
+zero_all(ea,1904);
 ke=(u64)(u8*)65536;
 wp(Y,(u8*)65536);
 z24(Y+8);
@@ -33557,13 +33560,13 @@ w4(U,bb);
 U[4]=oc;
 if(hc&1){
 w8(V,r8(U));
-memset(N+1400,0,456);
+zero_all(N+1400,456);
 z48(O);
-memset(P,0,1904);
-memset(Q,0,1904);
-memset(R,0,1904);
-memset(S,0,1904);
-memset(T,0,1904);
+zero_all(P,1904);
+zero_all(Q,1904);
+zero_all(R,1904);
+zero_all(S,1904);
+zero_all(T,1904);
 hf=(u64)(u8*)65536;
 z40(N+1744);
 z32(N+1792);
@@ -33973,13 +33976,13 @@ drop_1f3(Gg);
 Tg=Ig;
 Ug=Hg;}
 else{
-memset(y+1472,0,432);
+zero_all(y+1472,432);
 z48(z);
-memset(A,0,1904);
-memset(B,0,1904);
-memset(C,0,1904);
-memset(D,0,1904);
-memset(E,0,1904);
+zero_all(A,1904);
+zero_all(B,1904);
+zero_all(C,1904);
+zero_all(D,1904);
+zero_all(E,1904);
 Vg=(u64)(u8*)65536;
 wp(y,(u8*)65536);
 z24(y+8);
@@ -34258,13 +34261,13 @@ Ug=Dh;}
 ff=Tg;
 gf=Ug;
 break;
-case 2:memset(p+1472,0,432);
+case 2:zero_all(p+1472,432);
 z48(q);
-memset(r,0,1904);
-memset(s,0,1904);
-memset(t,0,1904);
-memset(u,0,1904);
-memset(v,0,1904);
+zero_all(r,1904);
+zero_all(s,1904);
+zero_all(t,1904);
+zero_all(u,1904);
+zero_all(v,1904);
 Ph=(u64)(u8*)65536;
 wp(p,(u8*)65536);
 z24(p+8);
@@ -34549,13 +34552,13 @@ drop_1f3(zi);
 ff=Bi;
 gf=Ai;
 break;
-case 3:memset(g+1472,0,432);
+case 3:zero_all(g+1472,432);
 z48(h);
-memset(i,0,1904);
-memset(j,0,1904);
-memset(k,0,1904);
-memset(l,0,1904);
-memset(m,0,1904);
+zero_all(i,1904);
+zero_all(j,1904);
+zero_all(k,1904);
+zero_all(l,1904);
+zero_all(m,1904);
 Mi=(u64)(u8*)65536;
 wp(g,(u8*)65536);
 z24(g+8);
@@ -59489,7 +59492,7 @@ M=I+64;
 N=rp(b+144);
 O=N+(i64)(I<<3);
 if((u64)O-(u64)(u8*)t_z512<512)copy_bits_596(O);
-else memset(O,0,512);
+else zero_all(O,512);
 wp(b+144,N);
 w8(b+152,M);
 w8(b+160,H);
@@ -60800,7 +60803,7 @@ L1:return c;
 /* core::ptr::copy_drop::copy_bits::<32'rust_references::targets::Target>::within */
 static COLD void copy_bits_596(u8* a)
 {
-memset(a,0,512);
+zero_all(a,512);
 return;
 }
 
@@ -126444,7 +126447,7 @@ if((u8)(C.f0&1)){
 D=B&4294967295u;
 E=C.f1;
 F=(u8*)E;
-memset(F,0,1018);
+zero_all(F,1018);
 G=umin64(D,509);
 if(D==0)H=(u8*)65536;
 else{
@@ -132417,7 +132420,7 @@ if((u8)(qa.f0&1)){
 ra=na&4294967295u;
 sa=qa.f1;
 ta=(u8*)sa;
-memset(ta,0,1018);
+zero_all(ta,1018);
 ua=umin64(ra,509);
 va=ra==0;
 if(va)wa=(u8*)65536;
@@ -135237,7 +135240,7 @@ if((u8)(Hc.f0&1)){
 Ic=bb&4294967295u;
 Jc=Hc.f1;
 Kc=(u8*)Jc;
-memset(Kc,0,1018);
+zero_all(Kc,1018);
 Lc=umin64(Ic,509);
 if(Ic==0)Mc=(u8*)65536;
 else{
@@ -135535,12 +135538,12 @@ if((u8)(Va&1)){
 w8(Pa,r8(Oa));
 z30(Ma);
 z30(Da);
-memset(Ga+1312,0,544);
-memset(Ha,0,1904);
-memset(Ia,0,1904);
-memset(Ja,0,1904);
-memset(Ka,0,1904);
-memset(La,0,1904);
+zero_all(Ga+1312,544);
+zero_all(Ha,1904);
+zero_all(Ia,1904);
+zero_all(Ja,1904);
+zero_all(Ka,1904);
+zero_all(La,1904);
 *Ea=Ua;
 z7(Ea+1);
 wp(Ea+8,(u8*)65536);
@@ -135652,7 +135655,7 @@ Xa=port_rattle_alloc(16384,1);
 if((u8)(Xa.f0&1)){
 Ya=Xa.f1;
 Za=(u8*)Ya;
-memset(Za,0,16384);
+zero_all(Za,16384);
 ab=r8(c+8224);
 if(ab!=0){
 bb=ab;
@@ -136174,12 +136177,12 @@ ee=Na+6;}
 else{
 z30(za);
 z30(qa);
-memset(ta+1392,0,512);
-memset(ua,0,1904);
-memset(va,0,1904);
-memset(wa,0,1904);
-memset(xa,0,1904);
-memset(ya,0,1904);
+zero_all(ta+1392,512);
+zero_all(ua,1904);
+zero_all(va,1904);
+zero_all(wa,1904);
+zero_all(xa,1904);
+zero_all(ya,1904);
 *ra=Ua;
 z7(ra+1);
 wp(ra+8,(u8*)65536);
@@ -136291,7 +136294,7 @@ ge=port_rattle_alloc(16384,1);
 if((u8)(ge.f0&1)){
 he=ge.f1;
 ie=(u8*)he;
-memset(ie,0,16384);
+zero_all(ie,16384);
 je=r8(c+8224);
 if(je!=0){
 ke=je;
@@ -136861,12 +136864,12 @@ if((u8)(Va&1)){
 w8(la,r8(ka));
 z30(ia);
 z30(Z);
-memset(ca+1312,0,544);
-memset(da,0,1904);
-memset(ea,0,1904);
-memset(fa,0,1904);
-memset(ga,0,1904);
-memset(ha,0,1904);
+zero_all(ca+1312,544);
+zero_all(da,1904);
+zero_all(ea,1904);
+zero_all(fa,1904);
+zero_all(ga,1904);
+zero_all(ha,1904);
 *aa=Ua;
 z7(aa+1);
 wp(aa+8,(u8*)65536);
@@ -136978,7 +136981,7 @@ yh=port_rattle_alloc(16384,1);
 if((u8)(yh.f0&1)){
 zh=yh.f1;
 Ah=(u8*)zh;
-memset(Ah,0,16384);
+zero_all(Ah,16384);
 Bh=r8(c+8224);
 if(Bh!=0){
 Ch=Bh;
@@ -137500,12 +137503,12 @@ Dk=ja+6;}
 else{
 z30(V);
 z30(M);
-memset(P+1392,0,512);
-memset(Q,0,1904);
-memset(R,0,1904);
-memset(S,0,1904);
-memset(T,0,1904);
-memset(U,0,1904);
+zero_all(P+1392,512);
+zero_all(Q,1904);
+zero_all(R,1904);
+zero_all(S,1904);
+zero_all(T,1904);
+zero_all(U,1904);
 *N=Ua;
 z7(N+1);
 wp(N+8,(u8*)65536);
@@ -137617,7 +137620,7 @@ Fk=port_rattle_alloc(16384,1);
 if((u8)(Fk.f0&1)){
 Gk=Fk.f1;
 Hk=(u8*)Gk;
-memset(Hk,0,16384);
+zero_all(Hk,16384);
 Ik=r8(c+8224);
 if(Ik!=0){
 Jk=Ik;
@@ -138180,12 +138183,12 @@ wh=Ck;
 break;
 case 2:z30(H);
 z30(y);
-memset(B+1392,0,512);
-memset(C,0,1904);
-memset(D,0,1904);
-memset(E,0,1904);
-memset(F,0,1904);
-memset(G,0,1904);
+zero_all(B+1392,512);
+zero_all(C,1904);
+zero_all(D,1904);
+zero_all(E,1904);
+zero_all(F,1904);
+zero_all(G,1904);
 *z=Ua;
 z7(z+1);
 wp(z+8,(u8*)65536);
@@ -138297,7 +138300,7 @@ Un=port_rattle_alloc(16384,1);
 if((u8)(Un.f0&1)){
 Vn=Un.f1;
 Wn=(u8*)Vn;
-memset(Wn,0,16384);
+zero_all(Wn,16384);
 Xn=r8(c+8224);
 if(Xn!=0){
 Yn=Xn;
@@ -138952,12 +138955,12 @@ wh=so;
 break;
 case 3:z30(s);
 z30(j);
-memset(m+1392,0,512);
-memset(n,0,1904);
-memset(o,0,1904);
-memset(p,0,1904);
-memset(q,0,1904);
-memset(r,0,1904);
+zero_all(m+1392,512);
+zero_all(n,1904);
+zero_all(o,1904);
+zero_all(p,1904);
+zero_all(q,1904);
+zero_all(r,1904);
 *k=Ua;
 z7(k+1);
 wp(k+8,(u8*)65536);
@@ -139069,7 +139072,7 @@ Or=port_rattle_alloc(16384,1);
 if((u8)(Or.f0&1)){
 Pr=Or.f1;
 Qr=(u8*)Pr;
-memset(Qr,0,16384);
+zero_all(Qr,16384);
 Rr=r8(c+8224);
 if(Rr!=0){
 Sr=Rr;
@@ -145057,7 +145060,7 @@ s_8_8 oi;
 port___sysv_signal(13,1);
 z24(sa);
 ta=port_lseek(0,0,1);
-memset(pa,0,8208);
+zero_all(pa,8208);
 pa[8208]=(i64)ta>-1;
 z15(pa+8209);
 w8(pa+8224,18446744073709551615u);
@@ -145346,26 +145349,26 @@ L22:w8(fa,0);
 z32(ga);
 z40(da);
 z16(ea);
-memset(ca,0,679);
-memset(W,0,680);
-memset(X,0,679);
-memset(Y,0,679);
-memset(Z,0,679);
-memset(aa,0,672);
-memset(ba,0,608);
+zero_all(ca,679);
+zero_all(W,680);
+zero_all(X,679);
+zero_all(Y,679);
+zero_all(Z,679);
+zero_all(aa,672);
+zero_all(ba,608);
 z16(T+368);
 z16(T+392);
-memset(T+416,0,160);
+zero_all(T+416,160);
 z16(T+584);
 z16(T+608);
 z40(T+632);
-memset(T+16,0,152);
+zero_all(T+16,152);
 z24(T+192);
 z24(T+336);
 z72(T+240);
-memset(R,0,679);
-memset(S,0,680);
-memset(V,0,679);
+zero_all(R,679);
+zero_all(S,680);
+zero_all(V,679);
 wp(T,(u8*)t_6908);
 w8(T+8,7);
 w8(T+168,1);
@@ -145430,7 +145433,7 @@ w8(U+536,4294967295u);
 z64(U+544);
 arg_1bd(S,T,U);
 if(*S==0){
-memset(P,0,680);
+zero_all(P,680);
 z32(Q+40);
 z16(Q+104);
 z16(Q+128);
@@ -145478,7 +145481,7 @@ arg_1bd(P,S+8,Q);
 Ac=*P;
 memcpy(V+7,P+8,672);
 if(Ac==0){
-memset(M,0,680);
+zero_all(M,680);
 memcpy(N,V+7,672);
 z32(O+40);
 z16(O+104);
@@ -145528,9 +145531,9 @@ Bc=*M;
 memcpy(R+7,M+8,672);
 memcpy(X+7,R+7,672);
 if(Bc!=0)goto L24;
-memset(K,0,679);
+zero_all(K,679);
 memcpy(I,X+7,672);
-memset(H,0,680);
+zero_all(H,680);
 z32(J+40);
 z16(J+104);
 z16(J+128);
@@ -145578,7 +145581,7 @@ arg_1bd(H,I,J);
 Cc=*H;
 memcpy(L+7,H+8,672);
 if(Cc!=0)goto L24;
-memset(E,0,680);
+zero_all(E,680);
 memcpy(F,L+7,672);
 z32(G+40);
 z16(G+104);
@@ -145628,11 +145631,11 @@ Dc=*E;
 memcpy(K+7,E+8,672);
 memcpy(Y+7,K+7,672);
 if(Dc!=0)goto L24;
-memset(B,0,679);
+zero_all(B,679);
 z7(C);
-memset(D,0,679);
+zero_all(D,679);
 memcpy(z,Y+7,672);
-memset(y,0,680);
+zero_all(y,680);
 z32(A+40);
 z16(A+104);
 z16(A+128);
@@ -145680,7 +145683,7 @@ arg_1bd(y,z,A);
 Ec=*y;
 memcpy(C+7,y+8,672);
 if(Ec==0){
-memset(v,0,680);
+zero_all(v,680);
 memcpy(w,C+7,672);
 z32(x+40);
 z16(x+104);
@@ -145729,7 +145732,7 @@ arg_1bd(v,w,x);
 Fc=*v;
 memcpy(D+7,v+8,672);
 if(Fc==0){
-memset(s,0,680);
+zero_all(s,680);
 memcpy(t,D+7,672);
 z32(u+40);
 z16(u+104);
@@ -146598,7 +146601,7 @@ z24(ia);
 Mh=port_rattle_alloc(131072,1);
 if((u8)(Mh.f0&1)){
 Nh=(u8*)Mh.f1;
-memset(Nh,0,131072);
+zero_all(Nh,131072);
 Oh=port_rattle_alloc(7,1);
 if((u8)(Oh.f0&1)){
 Ph=Oh.f1;
@@ -146714,7 +146717,7 @@ vi=Gh;
 goto L79;}
 yi=Gh;
 L80:w4(d,2);
-memset(d+4,0,1132);
+zero_all(d+4,1132);
 w4(d+1136,32);
 z12(d+1140);
 w8(d+1152,18446744073709551615u);

@@ -28,6 +28,9 @@
 
 enum { LEAST = SYMDEMANGLE_LEAST, SMALL = 1024 };
 
+/* A call, where gcc would copy in a loop, word by word, since it knows that there are few. */
+static void *(*volatile const copied)(void *, const void *, size_t) = memcpy;
+
 static struct tried tried_at(void *block)
 {
     static long double nothing; /* aligned as what malloc gives */
@@ -53,7 +56,7 @@ struct tried rattle_realloc(void *block, size_t kept, size_t size, size_t align)
         return tried_at(SYMDEMANGLE_REALLOC(block, size));
     more = SYMDEMANGLE_MALLOC(size);
     if (more) {
-        memcpy(more, block, kept < size ? kept : size);
+        copied(more, block, kept < size ? kept : size);
         SYMDEMANGLE_FREE(block);
     }
     return tried_at(more);

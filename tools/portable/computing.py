@@ -263,6 +263,8 @@ class Computing:
         reads = any(operand.reads for operand in operands)
         if word == "memset" and self.is_zeroing(it):
             return self.structs.zeroing(texts[0], it.operands[2].number), None
+        if word == "memset" and it.operands[1] == Number(0) and isinstance(it.operands[2], Number):
+            return f"zero_all({texts[0]},{texts[2]})", None
         if word in ("memset", "memcpy", "memmove"):
             return f"{word}({','.join(texts[:3])})", None
         if word == "trap":

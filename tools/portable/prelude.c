@@ -7,6 +7,9 @@ void *memset(void *, int, size_t);
 #else
 #include <string.h>
 #endif
+/* Makes many bytes 0 by a call: where gcc knows how many they are it writes them in a loop, word by word. */
+static void *(*volatile const by_call)(void *, int, size_t) = memset;
+#define zero_all(p, size) by_call(p, 0, size)
 #if defined(__BYTE_ORDER__) && __BYTE_ORDER__ != __ORDER_LITTLE_ENDIAN__
 #error "a little-endian machine is needed"
 #endif
