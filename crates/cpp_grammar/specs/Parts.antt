@@ -81,11 +81,28 @@ prefix_item context (clone letter e) = as_item bare closed (clone letter e)
 prefix_item context (holder name) = as_item left context name
 prefix_item context t = as_item left context t
 
+-- a prefix before a piece, and what is between them
+unfoldable pub before_piece : Context → Term → List (PartOf Item)
+before_piece context absent = []
+before_piece context prefix = prefix_item context prefix ∷ says "::" ∷ []
+
+-- a piece of a name that is attached to a module
+unfoldable pub attached_parts : Context → (prefix piece : Term) → (module_name : Term) → List (PartOf Item)
+attached_parts context prefix p module_name = before_piece context prefix ++ (as_item piece context p ∷ says "@" ∷ as_item left context module_name ∷ [])
+
+-- a prefix that is an operation by W is a module, by which what is attached to it is named, or what it is in besides
+unfoldable pub component_parts : Context → (prefix piece : Term) → List (PartOf Item)
+component_parts context (operation a b x y) p = elim (nat_eq a 87) [
+  | true ↦ elim (nat_eq b 64) [ true ↦ attached_parts context x p y | false ↦ attached_parts context absent p (operation a b x y) ]
+  | false ↦ prefix_item context (operation a b x y) ∷ says "::" ∷ as_item piece context p ∷ []
+]
+component_parts context prefix p = prefix_item context prefix ∷ says "::" ∷ as_item piece context p ∷ []
+
 unfoldable pub within_parts : Context → Term → Term → List (PartOf Item)
 within_parts context prefix (constructor digit) = as_item left context prefix ∷ says "::" ∷ as_item base context prefix ∷ []
 within_parts context prefix (inheriting digit class) = as_item left context prefix ∷ says "::" ∷ as_item base context prefix ∷ []
 within_parts context prefix (destructor digit) = as_item left context prefix ∷ says "::~" ∷ as_item base context prefix ∷ []
-within_parts context prefix p = prefix_item context prefix ∷ says "::" ∷ as_item piece context p ∷ []
+within_parts context prefix p = component_parts context prefix p
 
 -- The last piece of a template name. A parameter, an abbreviation or an instance has none.
 unfoldable pub last_piece : Term → Term

@@ -2,7 +2,7 @@
 use Rattle.std.specs.Prelude.{ℕ, List, [], ◌∷◌, true, false}
 use Rattle.cpp_grammar.specs.declared.production.Production.{Production}
 use Rattle.cpp_grammar.specs.Makers.{new_symbol, new_special, new_of_name, new_construction, new_clone, new_in_std, new_instance, new_local, new_abbreviation, new_source, new_operator, new_literal_operator, new_constructor, new_destructor, new_unnamed, new_string_literal, new_conversion, new_builtin, new_sized_float, new_constrained, new_vendor, new_pointer, new_lvalue, new_rvalue, new_array, new_bounded, new_member_pointer, new_function_type, new_qualified, new_vector, new_complex, new_decltype, new_expansion, new_integer, new_boolean, new_null_pointer, new_encoding_literal, new_operation, new_function_parameter, new_pack}
-use Rattle.cpp_grammar.specs.Row.{Source, tree_at, list_at, parameters_at, piece_at, the_name, no_tree, text_at, digits_at, code, taken, fixed, letter_at, letter_or_taken, operator_first_at, operator_second_at, number_at, yes, no, there_at, letter_is, qualifiers_at, qualified_by, ref_at, signed_at, discriminator_at, Made, of, only, extending, tagging, applying, packing, listed, unlisted, as_part, unless_there, as_part_alone, Form, handed, finished, either, the_byte, makes, a_piece, a_pair, cell, item, a_name, in_place, own, Where, as_before, in_its_name, in_its_types, in_a_signature, under_it, nameless, after_part, after_the_name, Gain, nothing, the_prefix, type_of, unqualified_of, itself, Before, quiet, goes, becomes, tests, holds, unread, Row, by_letters, character, closure, covariant_thunk, elements, enclosed, encoding, first_of_operator, in_default, inheriting, local_name, lvalue_signature, many_digits, negative, nest_end, nested_name, no_parameters, no_value, non_virtual_offset, non_virtual_thunk, one_digit, positive, reference, rvalue_signature, substitution, suffix, virtual_offset, virtual_thunk}
+use Rattle.cpp_grammar.specs.Row.{Source, tree_at, list_at, parameters_at, piece_at, the_name, no_tree, text_at, digits_at, code, taken, fixed, letter_at, letter_or_taken, letter_or, operator_first_at, operator_second_at, number_at, yes, no, there_at, letter_is, qualifiers_at, qualified_by, ref_at, signed_at, discriminator_at, Made, of, only, extending, tagging, applying, packing, listed, unlisted, as_part, unless_there, as_part_alone, Form, handed, finished, either, the_byte, makes, a_piece, a_pair, cell, item, a_name, in_place, own, Where, as_before, in_its_name, in_its_types, in_a_signature, under_it, nameless, after_part, after_the_name, Gain, nothing, the_prefix, type_of, unqualified_of, itself, Before, quiet, goes, becomes, tests, holds, unread, Row, by_letters, character, closure, covariant_thunk, elements, enclosed, encoding, first_of_operator, in_default, inheriting, local_name, lvalue_signature, many_digits, negative, nest_end, nested_name, no_parameters, no_value, non_virtual_offset, non_virtual_thunk, one_digit, positive, reference, rvalue_signature, substitution, suffix, virtual_offset, virtual_thunk}
 
 -- ## Rows
 
@@ -124,6 +124,8 @@ row_of Production.InternalPiece = plain (a_piece (of new_source (yes ∷ text_at
 row_of Production.LocalTypePiece = plain (handed 0)
 -- <unqualified-name> ::= <source-name>
 row_of Production.SourcePiece = plain (a_piece (of new_source (no ∷ text_at 0 ∷ [])))
+-- <unqualified-name> ::= <module-name> <source-name>, and the like: the name has the module as a prefix after the one that it has
+row_of Production.InModule = after_steps (enters nameless ∷ becomes_listed_name (of new_operation (fixed 87 ∷ fixed 64 ∷ the_name ∷ tree_at 0 ∷ [])) ∷ []) (handed 1)
 -- <nested-name> ::= N [<CV-qualifiers>] [<ref-qualifier>] <prefix> <unqualified-name> E
 row_of Production.NestedName = plain (own nested_name (nodes 0))
 -- <mangled-name> ::= _Z <encoding> [. <vendor-specific suffix>]
@@ -182,6 +184,8 @@ row_of Production.NestInternal = after_steps (quiet ∷ becomes_name (extending 
 row_of Production.NestLocalType = after_steps (quiet ∷ becomes_name (extending (only (piece_at 0))) ∷ []) (handed 1)
 -- <prefix> ::= <source-name>
 row_of Production.NestSource = after_steps (quiet ∷ becomes_name (extending (of new_source (no ∷ text_at 0 ∷ []))) ∷ []) (handed 1)
+-- <prefix> ::= <module-name> <unqualified-name>
+row_of Production.NestModule = after_steps (quiet ∷ enters (after_part 0 unlisted) ∷ []) (handed 1)
 -- <prefix> ::= <decltype>
 row_of Production.NestDecltype = after_steps (quiet ∷ enters (after_part 0 (as_part 0)) ∷ []) (handed 1)
 -- <prefix> ::= St <unqualified-name>
@@ -387,6 +391,10 @@ row_of Production.LiteralOperator = plain (a_piece (of new_literal_operator (tex
 -- <nested-name> ::= N [<CV-qualifiers>] [<ref-qualifier>] <template-prefix> <template-args> E, or <prefix> likewise. The name may end
 -- after these arguments, so it isn't a candidate yet
 row_of Production.NestInstance = after_steps (goes the_prefix nameless ∷ quiet ∷ becomes_name (of new_instance (the_name ∷ list_at 0 ∷ [])) ∷ []) (handed 2)
+-- <module-name> ::= W <source-name>, after the W
+row_of Production.FirstModule = after_steps (quiet ∷ becomes (of new_operation (fixed 87 ∷ fixed 49 ∷ tree_at 0 ∷ no_tree ∷ [])) true true true ∷ []) (either (preferred 1) (otherwise 0))
+-- <module-name> ::= <module-name> W [P] <source-name>
+row_of Production.MoreModule = after_steps (quiet ∷ quiet ∷ becomes (of new_operation (fixed 87 ∷ letter_or 0 87 ∷ the_name ∷ tree_at 1 ∷ [])) true true true ∷ []) (either (preferred 2) (otherwise 0))
 -- <operator-name> ::= cv <type>
 row_of Production.Conversion = after_steps (enters nameless ∷ []) (makes (extending (of new_conversion (tree_at 0 ∷ []))) unlisted)
 -- <unqualified-name> ::= <operator-name>, within a nested name, after a c
@@ -406,6 +414,8 @@ row_of Production.TaggedSource = after_steps (quiet ∷ becomes_name (extending 
 row_of Production.BaseArguments = after_steps (goes the_prefix nameless ∷ quiet ∷ becomes_name (of new_instance (the_name ∷ list_at 0 ∷ [])) ∷ []) (either (preferred 2) (otherwise 0))
 -- <special-name> ::= GR <object name> _, the first temporary whose life the object prolongs
 row_of Production.Temporary = plain (makes (of new_of_name (taken ∷ tree_at 0 ∷ qualifiers_at 0 ∷ ref_at 0 ∷ [])) listed)
+-- <special-name> ::= GI <module-name>
+row_of Production.ModuleInitializer = plain (makes (of new_special (fixed 77 ∷ tree_at 1 ∷ [])) listed)
 -- <special-name> ::= GTt <encoding> | GTn <encoding>, after the G
 row_of Production.Clone = plain (makes (of new_clone (letter_at 0 ∷ tree_at 1 ∷ [])) listed)
 -- <local-name> ::= Z <function encoding> E <entity name>, before the number of a temporary

@@ -166,177 +166,187 @@ const ARGUMENTS_ALONE: Sym = Sym::Kind(76);
 
 const NEST_REST_ALONE: Sym = Sym::Kind(77);
 
-const HOLDER_MARK: Sym = Sym::Kind(78);
+const FIRST_MODULE: Sym = Sym::Kind(78);
 
-const HELD_COMPONENT: Sym = Sym::Kind(79);
+const MORE_MODULE: Sym = Sym::Kind(79);
 
-const FLOAT_END: Sym = Sym::Kind(80);
+const MAYBE_PARTITION: Sym = Sym::Kind(80);
 
-const COMPONENT_AFTER_C: Sym = Sym::Kind(81);
+const NAME_AFTER_MODULE: Sym = Sym::Kind(81);
 
-const OTHER_OPERATOR: Sym = Sym::Kind(82);
+const NAME_IN_MODULE: Sym = Sym::Kind(82);
 
-const HELD_ARGUMENTS: Sym = Sym::Kind(83);
+const HOLDER_MARK: Sym = Sym::Kind(83);
 
-const BASE_CLASS: Sym = Sym::Kind(84);
+const HELD_COMPONENT: Sym = Sym::Kind(84);
 
-const UNNESTED_NAME: Sym = Sym::Kind(85);
+const FLOAT_END: Sym = Sym::Kind(85);
 
-const BASE_ARGUMENTS: Sym = Sym::Kind(86);
+const COMPONENT_AFTER_C: Sym = Sym::Kind(86);
 
-const ARGUMENTS_FIRST: Sym = Sym::Kind(87);
+const OTHER_OPERATOR: Sym = Sym::Kind(87);
 
-const PLAIN_ENTITY: Sym = Sym::Kind(88);
+const HELD_ARGUMENTS: Sym = Sym::Kind(88);
 
-const PLAIN_TYPE_ENTITY: Sym = Sym::Kind(89);
+const BASE_CLASS: Sym = Sym::Kind(89);
 
-const SPECIAL_MARK: Sym = Sym::Kind(90);
+const UNNESTED_NAME: Sym = Sym::Kind(90);
 
-const SPECIAL_AFTER_G: Sym = Sym::Kind(91);
+const BASE_ARGUMENTS: Sym = Sym::Kind(91);
 
-const TEMPORARY_NAME: Sym = Sym::Kind(92);
+const ARGUMENTS_FIRST: Sym = Sym::Kind(92);
 
-const CLONE_LETTER: Sym = Sym::Kind(93);
+const PLAIN_ENTITY: Sym = Sym::Kind(93);
 
-const TYPE_IN_STD: Sym = Sym::Kind(94);
+const PLAIN_TYPE_ENTITY: Sym = Sym::Kind(94);
 
-const MAYBE_TAGS: Sym = Sym::Kind(95);
+const SPECIAL_MARK: Sym = Sym::Kind(95);
 
-const ARGUMENT: Sym = Sym::Kind(96);
+const SPECIAL_AFTER_G: Sym = Sym::Kind(96);
 
-const ARGUMENT_AFTER_T: Sym = Sym::Kind(97);
+const TEMPORARY_NAME: Sym = Sym::Kind(97);
 
-const LEVELED_PARAMETER: Sym = Sym::Kind(98);
+const CLONE_LETTER: Sym = Sym::Kind(98);
 
-const ONE_ARGUMENT: Sym = Sym::Kind(99);
+const TYPE_IN_STD: Sym = Sym::Kind(99);
 
-const DECLARATION_AFTER_T: Sym = Sym::Kind(100);
+const MAYBE_TAGS: Sym = Sym::Kind(100);
 
-const DECLARATIONS: Sym = Sym::Kind(101);
+const ARGUMENT: Sym = Sym::Kind(101);
 
-const CONCEPT: Sym = Sym::Kind(102);
+const ARGUMENT_AFTER_T: Sym = Sym::Kind(102);
 
-const SOLID_BUT_T: Sym = Sym::Kind(103);
+const LEVELED_PARAMETER: Sym = Sym::Kind(103);
 
-const EXPRESSION: Sym = Sym::Kind(104);
+const ONE_ARGUMENT: Sym = Sym::Kind(104);
 
-const EXPRESSION_PARAMETER: Sym = Sym::Kind(105);
+const DECLARATION_AFTER_T: Sym = Sym::Kind(105);
 
-const UNLEVELED_EXPRESSION: Sym = Sym::Kind(106);
+const DECLARATIONS: Sym = Sym::Kind(106);
 
-const ADDRESSED_EXPRESSION: Sym = Sym::Kind(107);
+const CONCEPT: Sym = Sym::Kind(107);
 
-const ADDRESSED_LITERAL: Sym = Sym::Kind(108);
+const SOLID_BUT_T: Sym = Sym::Kind(108);
 
-const EXPRESSION_AFTER_A: Sym = Sym::Kind(109);
+const EXPRESSION: Sym = Sym::Kind(109);
 
-const EXPRESSION_AFTER_C: Sym = Sym::Kind(110);
+const EXPRESSION_PARAMETER: Sym = Sym::Kind(110);
 
-const EXPRESSION_AFTER_D: Sym = Sym::Kind(111);
+const UNLEVELED_EXPRESSION: Sym = Sym::Kind(111);
 
-const EXPRESSION_AFTER_E: Sym = Sym::Kind(112);
+const ADDRESSED_EXPRESSION: Sym = Sym::Kind(112);
 
-const EXPRESSION_AFTER_F: Sym = Sym::Kind(113);
+const ADDRESSED_LITERAL: Sym = Sym::Kind(113);
 
-const EXPRESSION_AFTER_G: Sym = Sym::Kind(114);
+const EXPRESSION_AFTER_A: Sym = Sym::Kind(114);
 
-const EXPRESSION_AFTER_I: Sym = Sym::Kind(115);
+const EXPRESSION_AFTER_C: Sym = Sym::Kind(115);
 
-const EXPRESSION_AFTER_L: Sym = Sym::Kind(116);
+const EXPRESSION_AFTER_D: Sym = Sym::Kind(116);
 
-const EXPRESSION_AFTER_M: Sym = Sym::Kind(117);
+const EXPRESSION_AFTER_E: Sym = Sym::Kind(117);
 
-const EXPRESSION_AFTER_N: Sym = Sym::Kind(118);
+const EXPRESSION_AFTER_F: Sym = Sym::Kind(118);
 
-const EXPRESSION_AFTER_O: Sym = Sym::Kind(119);
+const EXPRESSION_AFTER_G: Sym = Sym::Kind(119);
 
-const EXPRESSION_AFTER_P: Sym = Sym::Kind(120);
+const EXPRESSION_AFTER_I: Sym = Sym::Kind(120);
 
-const EXPRESSION_AFTER_Q: Sym = Sym::Kind(121);
+const EXPRESSION_AFTER_L: Sym = Sym::Kind(121);
 
-const EXPRESSION_AFTER_R: Sym = Sym::Kind(122);
+const EXPRESSION_AFTER_M: Sym = Sym::Kind(122);
 
-const EXPRESSION_AFTER_S: Sym = Sym::Kind(123);
+const EXPRESSION_AFTER_N: Sym = Sym::Kind(123);
 
-const EXPRESSION_AFTER_T: Sym = Sym::Kind(124);
+const EXPRESSION_AFTER_O: Sym = Sym::Kind(124);
 
-const EXPRESSIONS: Sym = Sym::Kind(125);
+const EXPRESSION_AFTER_P: Sym = Sym::Kind(125);
 
-const MAYBE_BEFORE: Sym = Sym::Kind(126);
+const EXPRESSION_AFTER_Q: Sym = Sym::Kind(126);
 
-const FOLD_OPERATOR: Sym = Sym::Kind(127);
+const EXPRESSION_AFTER_R: Sym = Sym::Kind(127);
 
-const FOLD_OPERATOR_AFTER_L: Sym = Sym::Kind(128);
+const EXPRESSION_AFTER_S: Sym = Sym::Kind(128);
 
-const FOLD_OPERAND: Sym = Sym::Kind(129);
+const EXPRESSION_AFTER_T: Sym = Sym::Kind(129);
 
-const FOLD_PACK: Sym = Sym::Kind(130);
+const EXPRESSIONS: Sym = Sym::Kind(130);
 
-const VALUE_PACK: Sym = Sym::Kind(131);
+const MAYBE_BEFORE: Sym = Sym::Kind(131);
 
-const TYPE_PACK: Sym = Sym::Kind(132);
+const FOLD_OPERATOR: Sym = Sym::Kind(132);
 
-const DESIGNATED_VALUE: Sym = Sym::Kind(133);
+const FOLD_OPERATOR_AFTER_L: Sym = Sym::Kind(133);
 
-const DESIGNATOR_AFTER_D: Sym = Sym::Kind(134);
+const FOLD_OPERAND: Sym = Sym::Kind(134);
 
-const PLAIN_VALUE: Sym = Sym::Kind(135);
+const FOLD_PACK: Sym = Sym::Kind(135);
 
-const FIELD_NAME: Sym = Sym::Kind(136);
+const VALUE_PACK: Sym = Sym::Kind(136);
 
-const PLACEMENT: Sym = Sym::Kind(137);
+const TYPE_PACK: Sym = Sym::Kind(137);
 
-const SOME_EXPRESSIONS: Sym = Sym::Kind(138);
+const DESIGNATED_VALUE: Sym = Sym::Kind(138);
 
-const INITIALIZER: Sym = Sym::Kind(139);
+const DESIGNATOR_AFTER_D: Sym = Sym::Kind(139);
 
-const INITIALIZER_AFTER_P: Sym = Sym::Kind(140);
+const PLAIN_VALUE: Sym = Sym::Kind(140);
 
-const INITIALIZER_AFTER_I: Sym = Sym::Kind(141);
+const FIELD_NAME: Sym = Sym::Kind(141);
 
-const OUTER_REST: Sym = Sym::Kind(142);
+const PLACEMENT: Sym = Sym::Kind(142);
 
-const PARAMETER_NUMBER: Sym = Sym::Kind(143);
+const SOME_EXPRESSIONS: Sym = Sym::Kind(143);
 
-const CONVERTED_TYPE: Sym = Sym::Kind(144);
+const INITIALIZER: Sym = Sym::Kind(144);
 
-const CONVERTED_SOLID: Sym = Sym::Kind(145);
+const INITIALIZER_AFTER_P: Sym = Sym::Kind(145);
 
-const PARAMETER_AFTER_T: Sym = Sym::Kind(146);
+const INITIALIZER_AFTER_I: Sym = Sym::Kind(146);
 
-const DECLTYPE_AFTER_D: Sym = Sym::Kind(147);
+const OUTER_REST: Sym = Sym::Kind(147);
 
-const CONVERT_REST: Sym = Sym::Kind(148);
+const PARAMETER_NUMBER: Sym = Sym::Kind(148);
 
-const UNRESOLVED: Sym = Sym::Kind(149);
+const CONVERTED_TYPE: Sym = Sym::Kind(149);
 
-const UNRESOLVED_TYPE: Sym = Sym::Kind(150);
+const CONVERTED_SOLID: Sym = Sym::Kind(150);
 
-const DESTRUCTOR_NAME: Sym = Sym::Kind(151);
+const PARAMETER_AFTER_T: Sym = Sym::Kind(151);
 
-const REQUIREMENTS: Sym = Sym::Kind(152);
+const DECLTYPE_AFTER_D: Sym = Sym::Kind(152);
 
-const AFTER_EXPRESSION: Sym = Sym::Kind(153);
+const CONVERT_REST: Sym = Sym::Kind(153);
 
-const AFTER_NOEXCEPT: Sym = Sym::Kind(154);
+const UNRESOLVED: Sym = Sym::Kind(154);
 
-const REQUIRED_TYPES: Sym = Sym::Kind(155);
+const UNRESOLVED_TYPE: Sym = Sym::Kind(155);
 
-const LEVEL: Sym = Sym::Kind(156);
+const DESTRUCTOR_NAME: Sym = Sym::Kind(156);
 
-const MORE_LEVELS: Sym = Sym::Kind(157);
+const REQUIREMENTS: Sym = Sym::Kind(157);
 
-const UNRESOLVED_NAME: Sym = Sym::Kind(158);
+const AFTER_EXPRESSION: Sym = Sym::Kind(158);
 
-const OPERATOR_NAME: Sym = Sym::Kind(159);
+const AFTER_NOEXCEPT: Sym = Sym::Kind(159);
 
-const ANY_ARRAY: Sym = Sym::Kind(160);
+const REQUIRED_TYPES: Sym = Sym::Kind(160);
 
-const ARRAY_REST: Sym = Sym::Kind(161);
+const LEVEL: Sym = Sym::Kind(161);
 
-const BOUND: Sym = Sym::Kind(162);
+const MORE_LEVELS: Sym = Sym::Kind(162);
 
-const NEST_MORE_OR_END: Sym = Sym::Kind(163);
+const UNRESOLVED_NAME: Sym = Sym::Kind(163);
+
+const OPERATOR_NAME: Sym = Sym::Kind(164);
+
+const ANY_ARRAY: Sym = Sym::Kind(165);
+
+const ARRAY_REST: Sym = Sym::Kind(166);
+
+const BOUND: Sym = Sym::Kind(167);
+
+const NEST_MORE_OR_END: Sym = Sym::Kind(168);
 
 const NAME: Sym = Sym::Name;
 
@@ -351,70 +361,70 @@ const DIGITS: Sym = Sym::Number(NumberKind::Digits);
 pub const FIRST_LETTER: u8 = b'!';
 
 // For each kind a row: for each byte from `$` to `z` the letter of the production that the kind takes there.
-static LETTERS: [[u8; 87]; 164] = [
+static LETTERS: [[u8; 87]; 169] = [
     // $%&'()*+,-./0123456789:;<=>?@ABCDEFGHIJKLMNOPQRSTUVWXYZ[\]^_`abcdefghijklmnopqrstuvwxyz
-    *b"                                                           *                           ", // Symbol
-    *b"          +                                                                            ", // MaybeSuffix
-    *b",         , ,,,,,,,,,,       ,,,,,,,,,,,,,,,,,,,,,,,,,,    , ,,,,,,,,,,,,,,,,,,,,,,,,,,", // SuffixFirst
-    *b",         , ,,,,,,,,,,       ,,,,,,,,,,,,,,,,,,,,,,,,,,    , ,,,,,,,,,,,,,,,,,,,,,,,,,,", // SuffixMore
-    *b"            //////////             .    / /    /-/    /      / /// / /  ///// //       ", // Encoding
-    *b"                                     0         00 0            3    1             2    ", // Special
-    *b"                                                                    7             8    ", // CallOffset
-    *b"            ::::::::::                                                    9            ", // Integer
-    *b"            $$$$$$$$$$                  \" )    ; #    <      % %%% % %  %%%%% %%       ", // CompleteName
+    *b"                                                           +                           ", // Symbol
+    *b"          ,                                                                            ", // MaybeSuffix
+    *b"-         - ----------       --------------------------    - --------------------------", // SuffixFirst
+    *b"-         - ----------       --------------------------    - --------------------------", // SuffixMore
+    *b"            0000000000             /    0 0    0.0    0      0 000 0 0  00000 00       ", // Encoding
+    *b"                                     1         11 1            4    2             3    ", // Special
+    *b"                                                                    8             9    ", // CallOffset
+    *b"            ;;;;;;;;;;                                                    :            ", // Integer
+    *b"            $$$$$$$$$$                  \" *    < #    =      % %%% % %  %%%%% %%       ", // CompleteName
     *b"                                                                              !        ", // MaybeRestrict
     *b"                                                  !                                    ", // MaybeVolatile
     *b"                                       !                                               ", // MaybeConst
     *b"                                           !  !                                        ", // MaybeRef
-    *b"            >>>>>>>>>>       >>>>>>>>>>>>>>>>>>>>>>>>>>    > >> >    >     >   >=      ", // NameAfterS
-    *b"            ((((((((((                  &        '           ? ??? ? ?  ????? ??       ", // Unqualified
-    *b"            DDDDDDDDDD                  B      @AC                                     ", // Nest
-    *b"            GGGGGGGGGG       GGGGGGGGGGGGGGGGGGGGGGGGGG    G GG G    G     G   GF      ", // NestAfterS
-    *b"            IIIIIIIIII         II    H  I        I           I III I I  IIIII II       ", // NestRest
-    *b"            IIIIIIIIII         IIK      I        I           I III I I  IIIII II       ", // NestTail
-    *b"            $$$$$$$$$$         LM       \"        #           O NOO O O  OOOOO OO       ", // Component
-    *b"             SSS                                                                       ", // ConstructorAfterC
+    *b"            ??????????       ??????????????????????????    ? ?? ?    ?     ?   ?>      ", // NameAfterS
+    *b"            ((((((((((                  &        '           @ @@@ @ @  @@@@@ @@       ", // Unqualified
+    *b"            EEEEEEEEEE                  C      ABD                                     ", // Nest
+    *b"            IIIIIIIIII       IIIIIIIIIIIIIIIIIIIIIIIIII    I II I    I     I   IH      ", // NestAfterS
+    *b"            KKKKKKKKKK         KK    J  K        K           K KKK K K  KKKKK KK       ", // NestRest
+    *b"            KKKKKKKKKK         KKM      K        K           K KKK K K  KKKKK KK       ", // NestTail
+    *b"            $$$$$$$$$$         NO       \"        #           Q PQQ Q Q  QQQQQ QQ       ", // Component
+    *b"             UUU                                                                       ", // ConstructorAfterC
     *b"             !!!                                                                       ", // ConstructorDigit
     *b"             !! !!                                                                     ", // InheritedDigit
     *b"            !!!                                                                        ", // DestructorDigit
-    *b"            UUUUUUUUUU       UUUUUUUUUUUUUUUUUUUUUUUUUU    U TT T    T     T   T       ", // Abbreviation
-    *b"            $$$$$$$$$$                  \" )      #                             W       ", // Entity
-    *b"            $$$$$$$$$$                  \" V      #                                     ", // TypeEntity
-    *b"                                                           Z                           ", // MaybeDiscriminator
-    *b"            [[[[[[[[[[                                     \\                           ", // DiscriminatorRest
-    *b"                                                                        ]       ^      ", // Anonymous
-    *b"            cccccccccc       c cd c    a ccbc bccc`   c      cccccccccc cccc  _cccccccc", // Type
-    *b"            ffffffffff       f fe f      ffbf bfff    f      ffffffffff ffff   ffffffff", // Plain
-    *b"            cccccccccc       c cg c    a ccbc bccc`   c      cccccccccc cccc  _cccccccc", // Item
-    *b"            cccccccccc       c cg c    a cc c  ccc`   c      cccccccccc cccc  _cccccccc", // ItemButRef
-    *b"                                                             i i     i    iih  i ii    ", // ItemAfterD
-    *b"                                                             j j     j    jl   j jk    ", // AfterD
-    *b"            $$$$$$$$$$       y {  z      sV r  ut#    v      wwwwwwwwww wwww   wwxwwwww", // Solid
+    *b"            WWWWWWWWWW       WWWWWWWWWWWWWWWWWWWWWWWWWW    W VV V    V     V   V       ", // Abbreviation
+    *b"            $$$$$$$$$$                  \" *      #                             Y       ", // Entity
+    *b"            $$$$$$$$$$                  \" X      #                                     ", // TypeEntity
+    *b"                                                           \\                           ", // MaybeDiscriminator
+    *b"            ]]]]]]]]]]                                     ^                           ", // DiscriminatorRest
+    *b"                                                                        _       `      ", // Anonymous
+    *b"            eeeeeeeeee       e ef e    c eede deeeb   e      eeeeeeeeee eeee  aeeeeeeee", // Type
+    *b"            hhhhhhhhhh       h hg h      hhdh dhhh    h      hhhhhhhhhh hhhh   hhhhhhhh", // Plain
+    *b"            eeeeeeeeee       e ei e    c eede deeeb   e      eeeeeeeeee eeee  aeeeeeeee", // Item
+    *b"            eeeeeeeeee       e ei e    c ee e  eeeb   e      eeeeeeeeee eeee  aeeeeeeee", // ItemButRef
+    *b"                                                             k k     k    kkj  k kk    ", // ItemAfterD
+    *b"                                                             l l     l    ln   l lm    ", // AfterD
+    *b"            $$$$$$$$$$       { }  |      uX t  wv#    x      yyyyyyyyyy yyyy   yyzyyyyy", // Solid
     *b"                                                     !                                 ", // MaybeCLinkage
-    *b"            ||||||||||                                                                 ", // BitWidth
-    *b"            ~~~~~~~~~~       ~~~~~~~~~~~~~~~~~~~~~~~~~~    ~ ~~ ~    ~     ~   ~}      ", // TypeAfterS
+    *b"            ~~~~~~~~~~                                                                 ", // BitWidth
+    *b"            \x80\x80\x80\x80\x80\x80\x80\x80\x80\x80       \x80\x80\x80\x80\x80\x80\x80\x80\x80\x80\x80\x80\x80\x80\x80\x80\x80\x80\x80\x80\x80\x80\x80\x80\x80\x80    \x80 \x80\x80 \x80    \x80     \x80   \x80\x7f      ", // TypeAfterS
     *b"            ((((((((((                  &        '                                     ", // SourceOrLocal
-    *b"            \x82\x82\x82\x82\x82\x82\x82\x82\x82\x82       \x82 \x82\x82\x7f\x82    \x82 \x82\x82\x81\x82 \x80\x82\x82\x82\x82   \x82      \x82\x82\x82\x82\x82\x82\x82\x82\x82\x82 \x82\x82\x82\x82  \x82\x82\x82\x82\x82\x82\x82\x82\x82", // FunctionRest
-    *b"            \x84\x84\x84\x84\x84\x84\x84\x84\x84\x84       \x84 \x84\x84\x83\x84    \x84 \x84\x84\x84\x84 \x84\x84\x84\x84\x84   \x84      \x84\x84\x84\x84\x84\x84\x84\x84\x84\x84 \x84\x84\x84\x84  \x84\x84\x84\x84\x84\x84\x84\x84\x84", // AfterR
-    *b"            \x85\x85\x85\x85\x85\x85\x85\x85\x85\x85       \x85 \x85\x85\x83\x85    \x85 \x85\x85\x85\x85 \x85\x85\x85\x85\x85   \x85      \x85\x85\x85\x85\x85\x85\x85\x85\x85\x85 \x85\x85\x85\x85  \x85\x85\x85\x85\x85\x85\x85\x85\x85", // AfterO
-    *b"            \x87\x87\x87\x87\x87\x87\x87\x87\x87\x87       \x87 \x87\x87 \x87    \x87 \x87\x87\x87\x87 \x87\x87\x87\x87\x87   \x87      \x87\x87\x87\x87\x87\x87\x87\x87\x87\x87 \x87\x87\x87\x87  \x87\x87\x87\x87\x87\x87\x87\x87\x87", // Items
-    *b"                                     \x88                                                 ", // MaybeArguments
-    *b"                                     \x88                                                 ", // Arguments
-    *b"            \x8c\x8c\x8c\x8c\x8c\x8c\x8c\x8c\x8c\x8c       \x8c \x8c\x8c \x8c   \x8a\x8c\x8b\x8c\x8c\x8c\x8c \x8c\x8c\x8c\x8c\x8c \x8c \x8c      \x8c\x8c\x8c\x8c\x8c\x8c\x8c\x8c\x8c\x8c \x8c\x8c\x8c\x8c  \x8c\x8c\x8c\x8c\x8c\x8c\x8c\x8c\x8c", // ArgumentList
-    *b"            \x8e\x8e\x8e\x8e\x8e\x8e\x8e\x8e\x8e\x8e       \x8e \x8e\x8e \x8e    \x8e\x8d\x8e\x8e\x8e\x8e \x8e\x8e\x8e\x8e\x8e \x8e \x8e      \x8e\x8e\x8e\x8e\x8e\x8e\x8e\x8e\x8e\x8e \x8e\x8e\x8e\x8e  \x8e\x8e\x8e\x8e\x8e\x8e\x8e\x8e\x8e", // PackList
-    *b"            \x92\x92\x92\x92\x92\x92\x92\x92\x92\x92          \x91        \x92\x92 \x92  \x92\x92\x92    \x92    \x8f \x92\x90\x92    \x92\x92\x92 \x92\x92\x92\x92   \x92\x92  \x92\x92\x92 ", // Literal
+    *b"            \x84\x84\x84\x84\x84\x84\x84\x84\x84\x84       \x84 \x84\x84\x81\x84    \x84 \x84\x84\x83\x84 \x82\x84\x84\x84\x84   \x84      \x84\x84\x84\x84\x84\x84\x84\x84\x84\x84 \x84\x84\x84\x84  \x84\x84\x84\x84\x84\x84\x84\x84\x84", // FunctionRest
+    *b"            \x86\x86\x86\x86\x86\x86\x86\x86\x86\x86       \x86 \x86\x86\x85\x86    \x86 \x86\x86\x86\x86 \x86\x86\x86\x86\x86   \x86      \x86\x86\x86\x86\x86\x86\x86\x86\x86\x86 \x86\x86\x86\x86  \x86\x86\x86\x86\x86\x86\x86\x86\x86", // AfterR
+    *b"            \x87\x87\x87\x87\x87\x87\x87\x87\x87\x87       \x87 \x87\x87\x85\x87    \x87 \x87\x87\x87\x87 \x87\x87\x87\x87\x87   \x87      \x87\x87\x87\x87\x87\x87\x87\x87\x87\x87 \x87\x87\x87\x87  \x87\x87\x87\x87\x87\x87\x87\x87\x87", // AfterO
+    *b"            \x89\x89\x89\x89\x89\x89\x89\x89\x89\x89       \x89 \x89\x89 \x89    \x89 \x89\x89\x89\x89 \x89\x89\x89\x89\x89   \x89      \x89\x89\x89\x89\x89\x89\x89\x89\x89\x89 \x89\x89\x89\x89  \x89\x89\x89\x89\x89\x89\x89\x89\x89", // Items
+    *b"                                     \x8a                                                 ", // MaybeArguments
+    *b"                                     \x8a                                                 ", // Arguments
+    *b"            \x8e\x8e\x8e\x8e\x8e\x8e\x8e\x8e\x8e\x8e       \x8e \x8e\x8e \x8e   \x8c\x8e\x8d\x8e\x8e\x8e\x8e \x8e\x8e\x8e\x8e\x8e \x8e \x8e      \x8e\x8e\x8e\x8e\x8e\x8e\x8e\x8e\x8e\x8e \x8e\x8e\x8e\x8e  \x8e\x8e\x8e\x8e\x8e\x8e\x8e\x8e\x8e", // ArgumentList
+    *b"            \x90\x90\x90\x90\x90\x90\x90\x90\x90\x90       \x90 \x90\x90 \x90    \x90\x8f\x90\x90\x90\x90 \x90\x90\x90\x90\x90 \x90 \x90      \x90\x90\x90\x90\x90\x90\x90\x90\x90\x90 \x90\x90\x90\x90  \x90\x90\x90\x90\x90\x90\x90\x90\x90", // PackList
+    *b"            \x94\x94\x94\x94\x94\x94\x94\x94\x94\x94          \x93        \x94\x94 \x94  \x94\x94\x94    \x94    \x91 \x94\x92\x94    \x94\x94\x94 \x94\x94\x94\x94   \x94\x94  \x94\x94\x94 ", // Literal
     *b"            !!                                                                         ", // Bit
-    *b"                                                                     \x95    \x94    \x95 \x95     ", // LiteralAfterD
-    *b"                                                                wwww                   ", // FloatType
-    *b"                                  m                                                    ", // SizedFloatType
-    *b"            \x97\x97\x97\x97\x97\x97\x97\x97\x97\x97                                       \x97\x97\x97\x97\x97\x97                    ", // HexText
-    *b"            \x98\x98\x98\x98\x98\x98\x98\x98\x98\x98                                       \x98\x98\x98\x98\x98\x98                    ", // HexDigits
-    *b"            \x98\x98\x98\x98\x98\x98\x98\x98\x98\x98                                       \x98\x98\x98\x98\x98\x98                    ", // HexMore
+    *b"                                                                     \x97    \x96    \x97 \x97     ", // LiteralAfterD
+    *b"                                                                yyyy                   ", // FloatType
+    *b"                                  o                                                    ", // SizedFloatType
+    *b"            \x99\x99\x99\x99\x99\x99\x99\x99\x99\x99                                       \x99\x99\x99\x99\x99\x99                    ", // HexText
+    *b"            \x9a\x9a\x9a\x9a\x9a\x9a\x9a\x9a\x9a\x9a                                       \x9a\x9a\x9a\x9a\x9a\x9a                    ", // HexDigits
+    *b"            \x9a\x9a\x9a\x9a\x9a\x9a\x9a\x9a\x9a\x9a                                       \x9a\x9a\x9a\x9a\x9a\x9a                    ", // HexMore
     *b"            !                                                                          ", // MaybeZero
-    *b"            $$$$$$$$$$                   sV r  ut#    v      w w    www wwww   ww  www ", // LiteralType
-    *b"            \x9b\x9b\x9b\x9b\x9b\x9b\x9b\x9b\x9b\x9b                   \x9b\x9b \x9b  \x9b\x9b\x9b    \x9b      \x9b \x9b    \x9b\x9b\x9b \x9b\x9b\x9b\x9b   \x9b\x9b  \x9b\x9b\x9b ", // LiteralPlain
-    *b"            $$$$$$$$$$                   sV r  ut#    v      w w    www wwww   ww  www ", // LiteralSolid
-    *b"                                                             \x9e \xa0\x9d\xa4 \xa8 \xa7  \xa5\xa1\x9c\xa3\x9f \xa2\xa6       ", // Operator
+    *b"            $$$$$$$$$$                   uX t  wv#    x      y y    yyy yyyy   yy  yyy ", // LiteralType
+    *b"            \x9d\x9d\x9d\x9d\x9d\x9d\x9d\x9d\x9d\x9d                   \x9d\x9d \x9d  \x9d\x9d\x9d    \x9d      \x9d \x9d    \x9d\x9d\x9d \x9d\x9d\x9d\x9d   \x9d\x9d  \x9d\x9d\x9d ", // LiteralPlain
+    *b"            $$$$$$$$$$                   uX t  wv#    x      y y    yyy yyyy   yy  yyy ", // LiteralSolid
+    *b"                                                             \xa0 \xa2\x9f\xa6 \xaa \xa9  \xa7\xa3\x9e\xa5\xa1 \xa4\xa8       ", // Operator
     *b"                                                             !   ! !            !  !   ", // OperatorAfterN
     *b"                                                  !          !   !      !         !    ", // OperatorAfterD
     *b"                                          !    !             !  !         !        !   ", // OperatorAfterA
@@ -424,99 +434,104 @@ static LETTERS: [[u8; 87]; 164] = [
     *b"                                         !     !                         !     !       ", // OperatorAfterR
     *b"                                              !                            !  !        ", // OperatorAfterO
     *b"                                           !                               ! !         ", // OperatorAfterE
-    *b"                                               !                 !   \xa9         !!      ", // OperatorAfterL
+    *b"                                               !                 !   \xab         !!      ", // OperatorAfterL
     *b"                                                                               !       ", // OperatorAfterS
     *b"                                                                                    !  ", // OperatorAfterI
     *b"                                                                 !              !      ", // OperatorAfterG
-    *b"            IIIIIIIIII         II    \xaa  I        I           I III I I  IIIII II       ", // NestRestOrEnd
-    *b"                                     \x88                                                 ", // ArgumentsAlone
-    *b"            IIIIIIIIII         II    H  I        I           I III I I  IIIII II       ", // NestRestAlone
+    *b"            KKKKKKKKKK         KK    \xac  K        K           K KKK K K  KKKKK KK       ", // NestRestOrEnd
+    *b"                                     \x8a                                                 ", // ArgumentsAlone
+    *b"            KKKKKKKKKK         KK    J  K        K           K KKK K K  KKKKK KK       ", // NestRestAlone
+    *b"            \xad\xad\xad\xad\xad\xad\xad\xad\xad\xad                                                                 ", // FirstModule
+    *b"                                                   \xae                                   ", // MoreModule
+    *b"                                            !                                          ", // MaybePartition
+    *b"            $$$$$$$$$$                  \"        #           % %%% % %  %%%%% %%       ", // NameAfterModule
+    *b"                                                   )                                   ", // NameInModule
     *b"                                         !                                             ", // HolderMark
-    *b"            $$$$$$$$$$         LM       \"        #           O NOO O O  OOOOO OO       ", // HeldComponent
+    *b"            $$$$$$$$$$         NO       \"        # )         Q PQQ Q Q  QQQQQ QQ       ", // HeldComponent
     *b"                                                           !  !                     !  ", // FloatEnd
-    *b"                                                                        \xac\xac \xac           ", // ComponentAfterC
-    *b"                                                             \x9e  \x9d\xa4 \xa8 \xa7  \xa5\xa1\x9c\xa3\x9f \xa2\xa6       ", // OtherOperator
-    *b"                                     \xad                                                 ", // HeldArguments
-    *b"            \xaf\xaf\xaf\xaf\xaf\xaf\xaf\xaf\xaf\xaf                    \xae    \xaf      v                                ", // BaseClass
-    *b"            \xb1\xb1\xb1\xb1\xb1\xb1\xb1\xb1\xb1\xb1                         \xb0                                       ", // UnnestedName
-    *b"                                     \xb2                                                 ", // BaseArguments
-    *b"            \x8c\x8c\x8c\x8c\x8c\x8c\x8c\x8c\x8c\x8c       \x8c \x8c\x8c \x8c   \x8a\x8c\x8b\x8c\x8c\x8c\x8c \x8c\x8c\x8c\x8c\x8c \x8c \x8c      \x8c\x8c\x8c\x8c\x8c\x8c\x8c\x8c\x8c\x8c \x8c\x8c\x8c\x8c  \x8c\x8c\x8c\x8c\x8c\x8c\x8c\x8c\x8c", // ArgumentsFirst
-    *b"            $$$$$$$$$$                  \" )      #                                     ", // PlainEntity
-    *b"            $$$$$$$$$$                  \" V      #                                     ", // PlainTypeEntity
+    *b"                                                                        \xb0\xb0 \xb0           ", // ComponentAfterC
+    *b"                                                             \xa0  \x9f\xa6 \xaa \xa9  \xa7\xa3\x9e\xa5\xa1 \xa4\xa8       ", // OtherOperator
+    *b"                                     \xb1                                                 ", // HeldArguments
+    *b"            \xb3\xb3\xb3\xb3\xb3\xb3\xb3\xb3\xb3\xb3                    \xb2    \xb3      x                                ", // BaseClass
+    *b"            \xb5\xb5\xb5\xb5\xb5\xb5\xb5\xb5\xb5\xb5                         \xb4                                       ", // UnnestedName
+    *b"                                     \xb6                                                 ", // BaseArguments
+    *b"            \x8e\x8e\x8e\x8e\x8e\x8e\x8e\x8e\x8e\x8e       \x8e \x8e\x8e \x8e   \x8c\x8e\x8d\x8e\x8e\x8e\x8e \x8e\x8e\x8e\x8e\x8e \x8e \x8e      \x8e\x8e\x8e\x8e\x8e\x8e\x8e\x8e\x8e\x8e \x8e\x8e\x8e\x8e  \x8e\x8e\x8e\x8e\x8e\x8e\x8e\x8e\x8e", // ArgumentsFirst
+    *b"            $$$$$$$$$$                  \" *      #                                     ", // PlainEntity
+    *b"            $$$$$$$$$$                  \" X      #                                     ", // PlainTypeEntity
     *b"                                   !                                                   ", // SpecialMark
-    *b"                                                  4                                    ", // SpecialAfterG
-    *b"            $$$$$$$$$$                  \" )    ; #    \xb5                                ", // TemporaryName
+    *b"                                                  5                                    ", // SpecialAfterG
+    *b"            $$$$$$$$$$                  \" *    < #    \xba                                ", // TemporaryName
     *b"                                                                          !     !      ", // CloneLetter
-    *b"                                                                                \xb6      ", // TypeInStd
+    *b"                                                                                \xbb      ", // TypeInStd
     *b"                                                                                       ", // MaybeTags
-    *b"            \xba\xba\xba\xba\xba\xba\xba\xba\xba\xba       \xba \xbag \xba    a \xba\xbab\xba b\xba\xb9\xba` \xb8 \xba      \xba\xba\xba\xba\xba\xba\xba\xba\xba\xba \xba\xba\xba\xba  _\xba\xba\xba\xba\xba\xba\xba\xba", // Argument
-    *b"            \xbb\xbb\xbb\xbb\xbb\xbb\xbb\xbb\xbb\xbb                                     \xbb                           ", // ArgumentAfterT
-    *b"            \xbb\xbb\xbb\xbb\xbb\xbb\xbb\xbb\xbb\xbb                                     \xbb                           ", // LeveledParameter
-    *b"            \xba\xba\xba\xba\xba\xba\xba\xba\xba\xba       \xba \xbag \xba   \xbfa\xbe\xba\xbab\xba b\xba\xb9\xba` \xb8 \xba      \xba\xba\xba\xba\xba\xba\xba\xba\xba\xba \xba\xba\xba\xba  _\xba\xba\xba\xba\xba\xba\xba\xba", // OneArgument
-    *b"                                                                       \xc2  \xc1 \xc4   \xc3    \xc0 ", // DeclarationAfterT
-    *b"                                                \xc5                                      ", // Declarations
-    *b"            \xc6\xc6\xc6\xc6\xc6\xc6\xc6\xc6\xc6\xc6                    V    \xc6                                       ", // Concept
-    *b"            $$$$$$$$$$       y {  z      sV r  u #    v      wwwwwwwwww wwww   wwxwwwww", // SolidButT
-    *b"                                                             \xe3                         ", // Expression
-    *b"            \xf4\xf4\xf4\xf4\xf4\xf4\xf4\xf4\xf4\xf4                  \xf5                  \xf4                           ", // ExpressionParameter
-    *b"            \xf4\xf4\xf4\xf4\xf4\xf4\xf4\xf4\xf4\xf4                                     \xf4                           ", // UnleveledExpression
-    *b"                                        \xf6                                              ", // AddressedExpression
-    *b"                                                           \x8f                           ", // AddressedLiteral
-    *b"                                                                \xcb                      ", // ExpressionAfterA
-    *b"                                                               \xc7        \xcf\xcc \xcd\xcf     \xd0    ", // ExpressionAfterC
-    *b"                                                  \xcc          \xcd \xc7 \xcd   \xd1  \xcd \xd3    \xcc\xcc \xcc \xd2  ", // ExpressionAfterD
-    *b"                                           \xcc                               \xcc \xcc         ", // ExpressionAfterE
-    *b"                                        \xd4                               \xd5   \xca \xd6        ", // ExpressionAfterF
-    *b"                                                                 \xcc             \xcd\xcc      ", // ExpressionAfterG
-    *b"                                                                        \xd7           \xcc  ", // ExpressionAfterI
-    *b"                                               \xcc                 \xcc             \xcc\xcc      ", // ExpressionAfterL
-    *b"                                     \xcc  \xcc                            \xcc  \xcc\xd8             ", // ExpressionAfterM
-    *b"                                                             \xd9   \xcc \xcd            \xcd  \xd9\xcd  ", // ExpressionAfterN
-    *b"                                              \xcc                           \xc8\xcc  \xcc        ", // ExpressionAfterO
-    *b"                                        \xcc                               \xcc\xcc  \xd8  \xcd\xcc      ", // ExpressionAfterP
-    *b"                                                                                 \xda     ", // ExpressionAfterQ
-    *b"                                         \xcc   \xdc \xcc               \xc7         \xcc   \xdb \xcc       ", // ExpressionAfterR
-    *b"                                                      \xde        \xc7            \xdd \xdf\xcc\xce    \xe0\xcd", // ExpressionAfterS
-    *b"                                                                 \xcd   \xce  \xe1     \xe2    \xcd   ", // ExpressionAfterT
-    *b"                                                             \xf7                         ", // Expressions
+    *b"            \xbf\xbf\xbf\xbf\xbf\xbf\xbf\xbf\xbf\xbf       \xbf \xbfi \xbf    c \xbf\xbfd\xbf d\xbf\xbe\xbfb \xbd \xbf      \xbf\xbf\xbf\xbf\xbf\xbf\xbf\xbf\xbf\xbf \xbf\xbf\xbf\xbf  a\xbf\xbf\xbf\xbf\xbf\xbf\xbf\xbf", // Argument
+    *b"            \xc0\xc0\xc0\xc0\xc0\xc0\xc0\xc0\xc0\xc0                                     \xc0                           ", // ArgumentAfterT
+    *b"            \xc0\xc0\xc0\xc0\xc0\xc0\xc0\xc0\xc0\xc0                                     \xc0                           ", // LeveledParameter
+    *b"            \xbf\xbf\xbf\xbf\xbf\xbf\xbf\xbf\xbf\xbf       \xbf \xbfi \xbf   \xc4c\xc3\xbf\xbfd\xbf d\xbf\xbe\xbfb \xbd \xbf      \xbf\xbf\xbf\xbf\xbf\xbf\xbf\xbf\xbf\xbf \xbf\xbf\xbf\xbf  a\xbf\xbf\xbf\xbf\xbf\xbf\xbf\xbf", // OneArgument
+    *b"                                                                       \xc7  \xc6 \xc9   \xc8    \xc5 ", // DeclarationAfterT
+    *b"                                                \xca                                      ", // Declarations
+    *b"            \xcb\xcb\xcb\xcb\xcb\xcb\xcb\xcb\xcb\xcb                    X    \xcb                                       ", // Concept
+    *b"            $$$$$$$$$$       { }  |      uX t  w #    x      yyyyyyyyyy yyyy   yyzyyyyy", // SolidButT
+    *b"                                                             \xe8                         ", // Expression
+    *b"            \xf9\xf9\xf9\xf9\xf9\xf9\xf9\xf9\xf9\xf9                  \xfa                  \xf9                           ", // ExpressionParameter
+    *b"            \xf9\xf9\xf9\xf9\xf9\xf9\xf9\xf9\xf9\xf9                                     \xf9                           ", // UnleveledExpression
+    *b"                                        \xfb                                              ", // AddressedExpression
+    *b"                                                           \x91                           ", // AddressedLiteral
+    *b"                                                                \xd0                      ", // ExpressionAfterA
+    *b"                                                               \xcc        \xd4\xd1 \xd2\xd4     \xd5    ", // ExpressionAfterC
+    *b"                                                  \xd1          \xd2 \xcc \xd2   \xd6  \xd2 \xd8    \xd1\xd1 \xd1 \xd7  ", // ExpressionAfterD
+    *b"                                           \xd1                               \xd1 \xd1         ", // ExpressionAfterE
+    *b"                                        \xd9                               \xda   \xcf \xdb        ", // ExpressionAfterF
+    *b"                                                                 \xd1             \xd2\xd1      ", // ExpressionAfterG
+    *b"                                                                        \xdc           \xd1  ", // ExpressionAfterI
+    *b"                                               \xd1                 \xd1             \xd1\xd1      ", // ExpressionAfterL
+    *b"                                     \xd1  \xd1                            \xd1  \xd1\xdd             ", // ExpressionAfterM
+    *b"                                                             \xde   \xd1 \xd2            \xd2  \xde\xd2  ", // ExpressionAfterN
+    *b"                                              \xd1                           \xcd\xd1  \xd1        ", // ExpressionAfterO
+    *b"                                        \xd1                               \xd1\xd1  \xdd  \xd2\xd1      ", // ExpressionAfterP
+    *b"                                                                                 \xdf     ", // ExpressionAfterQ
+    *b"                                         \xd1   \xe1 \xd1               \xcc         \xd1   \xe0 \xd1       ", // ExpressionAfterR
+    *b"                                                      \xe3        \xcc            \xe2 \xe4\xd1\xd3    \xe5\xd2", // ExpressionAfterS
+    *b"                                                                 \xd2   \xd3  \xe6     \xe7    \xd2   ", // ExpressionAfterT
+    *b"                                                             \xfc                         ", // Expressions
     *b"                                                           !                           ", // MaybeBefore
-    *b"                                                             \x9e \xa0\x9d\xa4 \xa8 \xa7  \xf8\xa1\x9c\xa3\x9f \xa2\xa6       ", // FoldOperator
+    *b"                                                             \xa0 \xa2\x9f\xa6 \xaa \xa9  \xfd\xa3\x9e\xa5\xa1 \xa4\xa8       ", // FoldOperator
     *b"                                               !                 !             !!      ", // FoldOperatorAfterL
-    *b"                                                             \xf9                         ", // FoldOperand
-    *b"                                                             \xfa                         ", // FoldPack
-    *b"                                      \xbf                      \xfa                         ", // ValuePack
-    *b"            \xfb\xfb\xfb\xfb\xfb\xfb\xfb\xfb\xfb\xfb       \xfb \xfb\xfb \xfb   \xbf\xfb \xfb\xfb\xfb\xfb \xfb\xfb\xfb\xfb\xfb   \xfb      \xfb\xfb\xfb\xfb\xfb\xfb\xfb\xfb\xfb\xfb \xfb\xfb\xfb\xfb  \xfb\xfb\xfb\xfb\xfb\xfb\xfb\xfb\xfb", // TypePack
-    *b"            \xfd\xfd\xfd\xfd\xfd\xfd\xfd\xfd\xfd\xfd                  \xfd       \xfd            \xfd \xfd\xfc\xfd\xfd\xfd \xfd  \xfd\xfd\xfd\xfd\xfd\xfd\xfd\xfd\xfd      ", // DesignatedValue
-    *b"                                                                     \xd1              \xd2  ", // DesignatorAfterD
-    *b"            \xc9\xc9\xc9\xc9\xc9\xc9\xc9\xc9\xc9\xc9                  \xbe       \xf3            \xe3 \xe4 \xe6\xe7\xe8 \xe9  \xea\xeb\xec\xed\xee\xef\xf0\xf1\xf2      ", // PlainValue
-    *b"            \xfe\xfe\xfe\xfe\xfe\xfe\xfe\xfe\xfe\xfe                                                                 ", // FieldName
-    *b"                                                           ! \xff                         ", // Placement
-    *b"                                                             \xf7                         ", // SomeExpressions
-    *b"                                 \x83                                   \x01      \x00          ", // Initializer
-    *b"                                                                     \xd7                 ", // InitializerAfterP
-    *b"                                                                        \xd7              ", // InitializerAfterI
-    *b"                                                                            \xca          ", // OuterRest
-    *b"            \x03\x03\x03\x03\x03\x03\x03\x03\x03\x03                          \x02          \x03                           ", // ParameterNumber
-    *b"            \x08\x08\x08\x08\x08\x08\x08\x08\x08\x08          \x04 \x08    \x05  \x08\x07\x06 \x07\x08\x08\x08           \x08\x08\x08\x08\x08\x08\x08\x08\x08\x08 \x08\x08\x08\x08   \x08\x08 \x08\x08\x08\x08\x08", // ConvertedType
-    *b"            $$$$$$$$$$            z       V    u\x09#           wwwwwwwwww wwww   ww wwwww", // ConvertedSolid
-    *b"            \xbb\xbb\xbb\xbb\xbb\xbb\xbb\xbb\xbb\xbb                  \xbd                  \xbb                           ", // ParameterAfterT
-    *b"                                                p                               p      ", // DecltypeAfterD
-    *b"            \xc9\xc9\xc9\xc9\xc9\xc9\xc9\xc9\xc9\xc9                  \xbe       \xf3          \xd7 \xe3 \xe4\xe5\xe6\xe7\xe8 \xe9  \xea\xeb\xec\xed\xee\xef\xf0\xf1\xf2      ", // ConvertRest
-    *b"            \x0b\x0b\x0b\x0b\x0b\x0b\x0b\x0b\x0b\x0b          \x0a         \x0a    \x0a\x0a                                      ", // Unresolved
-    *b"                                \x04         V    u\x09                                      ", // UnresolvedType
-    *b"            \xc9\xc9\xc9\xc9\xc9\xc9\xc9\xc9\xc9\xc9          \x0c         \x0c    \x0c\x0c                                      ", // DestructorName
-    *b"                                             \x0f  \x0e   \x0d                                  ", // Requirements
-    *b"                                          \x11  \x0f\x10 \x0e   \x0d                                  ", // AfterExpression
-    *b"                                             \x0f\x10 \x0e   \x0d                                  ", // AfterNoexcept
-    *b"            \x12\x12\x12\x12\x12\x12\x12\x12\x12\x12          \x12 \x12    \x12  \x12\x12\x12 \x12\x12\x12\x12         \xdb \x12\x12\x12\x12\x12\x12\x12\x12\x12\x12 \x12\x12\x12\x12   \x12\x12 \x12\x12\x12\x12\x12", // RequiredTypes
-    *b"            \xc9\xc9\xc9\xc9\xc9\xc9\xc9\xc9\xc9\xc9                                                                 ", // Level
-    *b"            \x0b\x0b\x0b\x0b\x0b\x0b\x0b\x0b\x0b\x0b           \x13                                                     ", // MoreLevels
-    *b"            \xc9\xc9\xc9\xc9\xc9\xc9\xc9\xc9\xc9\xc9                                                     \x14           ", // UnresolvedName
-    *b"                                                                          \xc8            ", // OperatorName
-    *b"                             \x15                                                         ", // AnyArray
-    *b"            \x17\x17\x17\x17\x17\x17\x17\x17\x17\x17                                     \x17                           ", // ArrayRest
-    *b"                                        \xbe       \xf3            \xe3 \xe4\xe5\xe6\xe7\xe8 \xe9  \xea\xeb\xec\xed\xee\xef\xf0\xf1\xf2      ", // Bound
-    *b"            IIIIIIIIII         II       I        I           I III I I  IIIII II       ", // NestMoreOrEnd
+    *b"                                                             \xfe                         ", // FoldOperand
+    *b"                                                             \xff                         ", // FoldPack
+    *b"                                      \xc4                      \xff                         ", // ValuePack
+    *b"            \x00\x00\x00\x00\x00\x00\x00\x00\x00\x00       \x00 \x00\x00 \x00   \xc4\x00 \x00\x00\x00\x00 \x00\x00\x00\x00\x00   \x00      \x00\x00\x00\x00\x00\x00\x00\x00\x00\x00 \x00\x00\x00\x00  \x00\x00\x00\x00\x00\x00\x00\x00\x00", // TypePack
+    *b"            \x02\x02\x02\x02\x02\x02\x02\x02\x02\x02                  \x02       \x02            \x02 \x02\x01\x02\x02\x02 \x02  \x02\x02\x02\x02\x02\x02\x02\x02\x02      ", // DesignatedValue
+    *b"                                                                     \xd6              \xd7  ", // DesignatorAfterD
+    *b"            \xce\xce\xce\xce\xce\xce\xce\xce\xce\xce                  \xc3       \xf8            \xe8 \xe9 \xeb\xec\xed \xee  \xef\xf0\xf1\xf2\xf3\xf4\xf5\xf6\xf7      ", // PlainValue
+    *b"            \x03\x03\x03\x03\x03\x03\x03\x03\x03\x03                                                                 ", // FieldName
+    *b"                                                           ! \x04                         ", // Placement
+    *b"                                                             \xfc                         ", // SomeExpressions
+    *b"                                 \x85                                   \x06      \x05          ", // Initializer
+    *b"                                                                     \xdc                 ", // InitializerAfterP
+    *b"                                                                        \xdc              ", // InitializerAfterI
+    *b"                                                                            \xcf          ", // OuterRest
+    *b"            \x08\x08\x08\x08\x08\x08\x08\x08\x08\x08                          \x07          \x08                           ", // ParameterNumber
+    *b"            \x0d\x0d\x0d\x0d\x0d\x0d\x0d\x0d\x0d\x0d          \x09 \x0d    \x0a  \x0d\x0c\x0b \x0c\x0d\x0d\x0d           \x0d\x0d\x0d\x0d\x0d\x0d\x0d\x0d\x0d\x0d \x0d\x0d\x0d\x0d   \x0d\x0d \x0d\x0d\x0d\x0d\x0d", // ConvertedType
+    *b"            $$$$$$$$$$            |       X    w\x0e#           yyyyyyyyyy yyyy   yy yyyyy", // ConvertedSolid
+    *b"            \xc0\xc0\xc0\xc0\xc0\xc0\xc0\xc0\xc0\xc0                  \xc2                  \xc0                           ", // ParameterAfterT
+    *b"                                                r                               r      ", // DecltypeAfterD
+    *b"            \xce\xce\xce\xce\xce\xce\xce\xce\xce\xce                  \xc3       \xf8          \xdc \xe8 \xe9\xea\xeb\xec\xed \xee  \xef\xf0\xf1\xf2\xf3\xf4\xf5\xf6\xf7      ", // ConvertRest
+    *b"            \x10\x10\x10\x10\x10\x10\x10\x10\x10\x10          \x0f         \x0f    \x0f\x0f                                      ", // Unresolved
+    *b"                                \x09         X    w\x0e                                      ", // UnresolvedType
+    *b"            \xce\xce\xce\xce\xce\xce\xce\xce\xce\xce          \x11         \x11    \x11\x11                                      ", // DestructorName
+    *b"                                             \x14  \x13   \x12                                  ", // Requirements
+    *b"                                          \x16  \x14\x15 \x13   \x12                                  ", // AfterExpression
+    *b"                                             \x14\x15 \x13   \x12                                  ", // AfterNoexcept
+    *b"            \x17\x17\x17\x17\x17\x17\x17\x17\x17\x17          \x17 \x17    \x17  \x17\x17\x17 \x17\x17\x17\x17         \xe0 \x17\x17\x17\x17\x17\x17\x17\x17\x17\x17 \x17\x17\x17\x17   \x17\x17 \x17\x17\x17\x17\x17", // RequiredTypes
+    *b"            \xce\xce\xce\xce\xce\xce\xce\xce\xce\xce                                                                 ", // Level
+    *b"            \x10\x10\x10\x10\x10\x10\x10\x10\x10\x10           \x18                                                     ", // MoreLevels
+    *b"            \xce\xce\xce\xce\xce\xce\xce\xce\xce\xce                                                     \x19           ", // UnresolvedName
+    *b"                                                                          \xcd            ", // OperatorName
+    *b"                             \x1a                                                         ", // AnyArray
+    *b"            \x1c\x1c\x1c\x1c\x1c\x1c\x1c\x1c\x1c\x1c                                     \x1c                           ", // ArrayRest
+    *b"                                        \xc3       \xf8            \xe8 \xe9\xea\xeb\xec\xed \xee  \xef\xf0\xf1\xf2\xf3\xf4\xf5\xf6\xf7      ", // Bound
+    *b"            KKKKKKKKKK         KK       K        K           K KKK K K  KKKKK KK       ", // NestMoreOrEnd
 ];
 
 /// A rule without its number and its symbols.
@@ -546,7 +561,7 @@ macro_rules! chains {
 }
 
 // The rules of the productions, in the order of their numbers.
-pub static HEADS: [Head; 247] = [
+pub static HEADS: [Head; 252] = [
     takes!(0), // ! Mark
     takes!(2), // \" InternalName
     takes!(2), // # LocalTypeName
@@ -555,249 +570,254 @@ pub static HEADS: [Head; 247] = [
     takes!(1), // & InternalPiece
     takes!(1), // ' LocalTypePiece
     chains!(1), // ( SourcePiece
-    takes!(5), // ) NestedName
-    takes!(3), // * Symbol
-    takes!(1), // + Suffix
-    takes!(1), // , SuffixByte
-    takes!(1), // - Special
-    chains!(2), // . OtherSpecial
-    chains!(2), // / Encoding
-    takes!(1), // 0 SpecialType
-    takes!(3), // 1 NonVirtualThunk
-    takes!(5), // 2 VirtualThunk
-    takes!(3), // 3 CovariantThunk
-    takes!(1), // 4 SpecialName
-    takes!(1), // 5 ParameterObject
-    takes!(4), // 6 ConstructionVtable
-    takes!(2), // 7 NonVirtualOffset
-    takes!(4), // 8 VirtualOffset
-    takes!(1), // 9 Negative
-    chains!(1), // : Positive
-    takes!(1), // ; NameWithS
-    takes!(4), // < LocalName
-    takes!(2), // = StdName
-    chains!(2), // > AbbreviatedName
-    chains!(1), // ? OperatorPiece
-    takes!(1), // @ NestWithS
-    takes!(2), // A NestParameter
-    takes!(2), // B NestInternal
-    takes!(2), // C NestLocalType
-    chains!(2), // D NestSource
-    takes!(2), // E NestDecltype
-    takes!(3), // F NestStd
-    chains!(2), // G NestTemplate
-    takes!(4), // H NestArguments
-    chains!(2), // I NestNext
-    takes!(2), // J NestTag
-    takes!(0), // K NestEnd
-    takes!(1), // L AnyConstructor
-    takes!(2), // M Destructor
-    takes!(1), // N ComponentWithC
-    chains!(2), // O OtherOperatorName
-    chains!(2), // P Holder
-    takes!(2), // Q Friend
-    takes!(2), // R Inheriting
-    chains!(2), // S Constructor
-    takes!(0), // T Abbreviation
-    chains!(1), // U Substitution
-    takes!(1), // V NestedType
-    takes!(0), // W StringLiteral
-    takes!(2), // X DefaultEntity
-    takes!(2), // Y DefaultTypeEntity
-    takes!(1), // Z Discriminator
-    takes!(0), // [ OneDigit
-    takes!(2), // \\ ManyDigits
-    takes!(4), // ] Lambda
-    takes!(1), // ^ Unnamed
-    takes!(3), // _ RestrictType
-    takes!(2), // ` VolatileType
-    takes!(1), // a ConstType
-    takes!(1), // b ReferenceType
-    chains!(1), // c PlainType
-    takes!(1), // d TypeWithD
-    takes!(1), // e PlainWithD
-    chains!(1), // f QualifiedPlain
-    takes!(1), // g ItemWithD
-    takes!(1), // h Expansion
-    chains!(1), // i ItemIsType
-    takes!(0), // j BuiltinWithD
-    takes!(3), // k Vector
-    takes!(4), // l NoexceptFunction
-    takes!(2), // m SizedFloat
-    takes!(1), // n ConstrainedAuto
-    takes!(2), // o BitInt
-    takes!(2), // p Decltype
-    takes!(2), // q IndexedType
-    takes!(1), // r Pointer
-    takes!(2), // s MemberPointer
-    takes!(2), // t Parameter
-    takes!(2), // u TypeWithS
-    takes!(4), // v LocalType
-    takes!(0), // w Builtin
-    takes!(1), // x Vendor
-    chains!(1), // y ArrayType
-    takes!(3), // z Function
-    takes!(1), // { Complex
-    chains!(1), // | BitWidth
-    chains!(1), // } TypeInStd
-    chains!(1), // ~ AbbreviatedType
-    takes!(0), // \x7f RestEnd
-    takes!(1), // \x80 RestLvalue
-    takes!(1), // \x81 RestRvalue
-    chains!(2), // \x82 RestItem
-    takes!(0), // \x83 RefEnd
-    chains!(2), // \x84 LvalueItem
-    chains!(2), // \x85 RvalueItem
-    takes!(1), // \x86 Constraint
-    chains!(2), // \x87 Items
-    takes!(2), // \x88 Arguments
-    takes!(2), // \x89 Tag
-    takes!(3), // \x8a PackArgument
-    takes!(3), // \x8b LiteralArgument
-    chains!(2), // \x8c AnyArgument
-    takes!(3), // \x8d LiteralElement
-    chains!(2), // \x8e AnyElement
-    takes!(2), // \x8f EncodingLiteral
-    takes!(1), // \x90 BoolLiteral
-    takes!(1), // \x91 LiteralWithD
-    chains!(2), // \x92 IntegerLiteral
-    chains!(2), // \x93 FloatLiteral
-    takes!(1), // \x94 NullLiteral
-    takes!(1), // \x95 CharLiteral
-    chains!(2), // \x96 SizedFloatLiteral
-    chains!(1), // \x97 HexText
-    takes!(1), // \x98 HexDigit
-    takes!(2), // \x99 VolatileLiteral
-    takes!(1), // \x9a ConstLiteral
-    chains!(1), // \x9b QualifiedLiteral
-    takes!(1), // \x9c OperatorN
-    takes!(1), // \x9d OperatorD
-    takes!(1), // \x9e OperatorA
-    takes!(1), // \x9f OperatorP
-    takes!(1), // \xa0 OperatorC
-    takes!(1), // \xa1 OperatorM
-    takes!(1), // \xa2 OperatorR
-    takes!(1), // \xa3 OperatorO
-    takes!(1), // \xa4 OperatorE
-    takes!(1), // \xa5 OperatorL
-    takes!(1), // \xa6 OperatorS
-    takes!(1), // \xa7 OperatorI
-    takes!(1), // \xa8 OperatorG
-    takes!(1), // \xa9 LiteralOperator
-    takes!(3), // \xaa NestInstance
-    takes!(1), // \xab Conversion
-    chains!(2), // \xac OperatorNameWithC
-    takes!(2), // \xad HeldArguments
-    takes!(2), // \xae NestedBase
-    chains!(2), // \xaf UnnestedBase
-    takes!(1), // \xb0 UnnestedWithS
-    chains!(2), // \xb1 TaggedSource
-    takes!(3), // \xb2 BaseArguments
-    takes!(2), // \xb3 Temporary
-    takes!(2), // \xb4 Clone
-    takes!(3), // \xb5 LocalTemporary
-    takes!(2), // \xb6 TaggedStdType
-    takes!(2), // \xb7 TypeTag
-    takes!(2), // \xb8 Expression
-    takes!(1), // \xb9 ArgumentWithT
-    chains!(1), // \xba PlainArgument
-    chains!(2), // \xbb ParameterArgument
-    chains!(2), // \xbc DeclaredArgument
-    takes!(2), // \xbd LeveledParameter
-    takes!(2), // \xbe OneLiteral
-    takes!(2), // \xbf OnePack
-    takes!(0), // \xc0 AnyType
-    takes!(1), // \xc1 ValueOf
-    takes!(1), // \xc2 OfConcept
-    takes!(2), // \xc3 TemplateOf
-    takes!(2), // \xc4 PackOf
-    takes!(2), // \xc5 Declarations
-    chains!(2), // \xc6 NamedConcept
-    takes!(2), // \xc7 Cast
-    takes!(2), // \xc8 OperatorReference
-    chains!(2), // \xc9 SimpleId
-    takes!(4), // \xca FunctionParameter
-    takes!(1), // \xcb AddressExpression
-    takes!(2), // \xcc Binary
-    takes!(1), // \xcd Unary
-    takes!(1), // \xce OfType
-    takes!(3), // \xcf Call
-    takes!(2), // \xd0 Convert
-    takes!(2), // \xd1 Designated
-    takes!(2), // \xd2 DesignatedElement
-    takes!(1), // \xd3 DestructorName
-    takes!(2), // \xd4 OuterParameter
-    takes!(2), // \xd5 LeftFold
-    takes!(2), // \xd6 RightFold
-    takes!(2), // \xd7 Braces
-    takes!(2), // \xd8 Step
-    takes!(3), // \xd9 New
-    takes!(3), // \xda Conditional
-    takes!(2), // \xdb Requires
-    takes!(1), // \xdc RequiresOf
-    takes!(1), // \xdd ExpandExpression
-    takes!(1), // \xde PackSize
-    takes!(1), // \xdf Unresolved
-    takes!(2), // \xe0 PackIndex
-    takes!(3), // \xe1 TypedBraces
-    takes!(0), // \xe2 Rethrow
-    takes!(1), // \xe3 ExpressionA
-    takes!(1), // \xe4 ExpressionC
-    takes!(1), // \xe5 ExpressionD
-    takes!(1), // \xe6 ExpressionE
-    takes!(1), // \xe7 ExpressionF
-    takes!(1), // \xe8 ExpressionG
-    takes!(1), // \xe9 ExpressionI
-    takes!(1), // \xea ExpressionL
-    takes!(1), // \xeb ExpressionM
-    takes!(1), // \xec ExpressionN
-    takes!(1), // \xed ExpressionO
-    takes!(1), // \xee ExpressionP
-    takes!(1), // \xef ExpressionQ
-    takes!(1), // \xf0 ExpressionR
-    takes!(1), // \xf1 ExpressionS
-    takes!(1), // \xf2 ExpressionT
-    takes!(1), // \xf3 ExpressionWithT
-    chains!(2), // \xf4 ParameterExpression
-    takes!(2), // \xf5 LeveledExpression
-    takes!(2), // \xf6 AddressedLiteral
-    chains!(2), // \xf7 Expressions
-    takes!(1), // \xf8 FoldOperatorL
-    chains!(1), // \xf9 FoldOperand
-    chains!(1), // \xfa FoldPack
-    chains!(1), // \xfb TypePack
-    takes!(1), // \xfc Designators
-    chains!(1), // \xfd DesignatedValue
-    chains!(1), // \xfe FieldName
-    chains!(2), // \xff Placed
-    takes!(1), // \x00 Initializer
-    takes!(1), // \x01 BracedInitializer
-    takes!(0), // \x02 This
-    chains!(1), // \x03 ParameterNumber
-    takes!(1), // \x04 ConvertedDecltype
-    takes!(1), // \x05 ConvertedConst
-    takes!(1), // \x06 ConvertedPointer
-    takes!(1), // \x07 ConvertedReference
-    chains!(1), // \x08 ConvertedType
-    takes!(1), // \x09 ConvertedWithT
-    chains!(2), // \x0a UnresolvedInType
-    chains!(2), // \x0b Levels
-    chains!(1), // \x0c DestroyedType
-    takes!(2), // \x0d ExpressionRequirement
-    takes!(2), // \x0e TypeRequirement
-    takes!(2), // \x0f NestedRequirement
-    takes!(2), // \x10 ResultRequirement
-    takes!(1), // \x11 NoexceptRequirement
-    chains!(2), // \x12 RequiredType
-    takes!(1), // \x13 LevelsEnd
-    takes!(1), // \x14 UnresolvedOperator
-    takes!(1), // \x15 AnyArray
-    chains!(3), // \x16 BoundedArray
-    chains!(2), // \x17 LengthArray
+    takes!(2), // ) InModule
+    takes!(5), // * NestedName
+    takes!(3), // + Symbol
+    takes!(1), // , Suffix
+    takes!(1), // - SuffixByte
+    takes!(1), // . Special
+    chains!(2), // / OtherSpecial
+    chains!(2), // 0 Encoding
+    takes!(1), // 1 SpecialType
+    takes!(3), // 2 NonVirtualThunk
+    takes!(5), // 3 VirtualThunk
+    takes!(3), // 4 CovariantThunk
+    takes!(1), // 5 SpecialName
+    takes!(1), // 6 ParameterObject
+    takes!(4), // 7 ConstructionVtable
+    takes!(2), // 8 NonVirtualOffset
+    takes!(4), // 9 VirtualOffset
+    takes!(1), // : Negative
+    chains!(1), // ; Positive
+    takes!(1), // < NameWithS
+    takes!(4), // = LocalName
+    takes!(2), // > StdName
+    chains!(2), // ? AbbreviatedName
+    chains!(1), // @ OperatorPiece
+    takes!(1), // A NestWithS
+    takes!(2), // B NestParameter
+    takes!(2), // C NestInternal
+    takes!(2), // D NestLocalType
+    chains!(2), // E NestSource
+    chains!(2), // F NestModule
+    takes!(2), // G NestDecltype
+    takes!(3), // H NestStd
+    chains!(2), // I NestTemplate
+    takes!(4), // J NestArguments
+    chains!(2), // K NestNext
+    takes!(2), // L NestTag
+    takes!(0), // M NestEnd
+    takes!(1), // N AnyConstructor
+    takes!(2), // O Destructor
+    takes!(1), // P ComponentWithC
+    chains!(2), // Q OtherOperatorName
+    chains!(2), // R Holder
+    takes!(2), // S Friend
+    takes!(2), // T Inheriting
+    chains!(2), // U Constructor
+    takes!(0), // V Abbreviation
+    chains!(1), // W Substitution
+    takes!(1), // X NestedType
+    takes!(0), // Y StringLiteral
+    takes!(2), // Z DefaultEntity
+    takes!(2), // [ DefaultTypeEntity
+    takes!(1), // \\ Discriminator
+    takes!(0), // ] OneDigit
+    takes!(2), // ^ ManyDigits
+    takes!(4), // _ Lambda
+    takes!(1), // ` Unnamed
+    takes!(3), // a RestrictType
+    takes!(2), // b VolatileType
+    takes!(1), // c ConstType
+    takes!(1), // d ReferenceType
+    chains!(1), // e PlainType
+    takes!(1), // f TypeWithD
+    takes!(1), // g PlainWithD
+    chains!(1), // h QualifiedPlain
+    takes!(1), // i ItemWithD
+    takes!(1), // j Expansion
+    chains!(1), // k ItemIsType
+    takes!(0), // l BuiltinWithD
+    takes!(3), // m Vector
+    takes!(4), // n NoexceptFunction
+    takes!(2), // o SizedFloat
+    takes!(1), // p ConstrainedAuto
+    takes!(2), // q BitInt
+    takes!(2), // r Decltype
+    takes!(2), // s IndexedType
+    takes!(1), // t Pointer
+    takes!(2), // u MemberPointer
+    takes!(2), // v Parameter
+    takes!(2), // w TypeWithS
+    takes!(4), // x LocalType
+    takes!(0), // y Builtin
+    takes!(1), // z Vendor
+    chains!(1), // { ArrayType
+    takes!(3), // | Function
+    takes!(1), // } Complex
+    chains!(1), // ~ BitWidth
+    chains!(1), // \x7f TypeInStd
+    chains!(1), // \x80 AbbreviatedType
+    takes!(0), // \x81 RestEnd
+    takes!(1), // \x82 RestLvalue
+    takes!(1), // \x83 RestRvalue
+    chains!(2), // \x84 RestItem
+    takes!(0), // \x85 RefEnd
+    chains!(2), // \x86 LvalueItem
+    chains!(2), // \x87 RvalueItem
+    takes!(1), // \x88 Constraint
+    chains!(2), // \x89 Items
+    takes!(2), // \x8a Arguments
+    takes!(2), // \x8b Tag
+    takes!(3), // \x8c PackArgument
+    takes!(3), // \x8d LiteralArgument
+    chains!(2), // \x8e AnyArgument
+    takes!(3), // \x8f LiteralElement
+    chains!(2), // \x90 AnyElement
+    takes!(2), // \x91 EncodingLiteral
+    takes!(1), // \x92 BoolLiteral
+    takes!(1), // \x93 LiteralWithD
+    chains!(2), // \x94 IntegerLiteral
+    chains!(2), // \x95 FloatLiteral
+    takes!(1), // \x96 NullLiteral
+    takes!(1), // \x97 CharLiteral
+    chains!(2), // \x98 SizedFloatLiteral
+    chains!(1), // \x99 HexText
+    takes!(1), // \x9a HexDigit
+    takes!(2), // \x9b VolatileLiteral
+    takes!(1), // \x9c ConstLiteral
+    chains!(1), // \x9d QualifiedLiteral
+    takes!(1), // \x9e OperatorN
+    takes!(1), // \x9f OperatorD
+    takes!(1), // \xa0 OperatorA
+    takes!(1), // \xa1 OperatorP
+    takes!(1), // \xa2 OperatorC
+    takes!(1), // \xa3 OperatorM
+    takes!(1), // \xa4 OperatorR
+    takes!(1), // \xa5 OperatorO
+    takes!(1), // \xa6 OperatorE
+    takes!(1), // \xa7 OperatorL
+    takes!(1), // \xa8 OperatorS
+    takes!(1), // \xa9 OperatorI
+    takes!(1), // \xaa OperatorG
+    takes!(1), // \xab LiteralOperator
+    takes!(3), // \xac NestInstance
+    chains!(2), // \xad FirstModule
+    takes!(3), // \xae MoreModule
+    takes!(1), // \xaf Conversion
+    chains!(2), // \xb0 OperatorNameWithC
+    takes!(2), // \xb1 HeldArguments
+    takes!(2), // \xb2 NestedBase
+    chains!(2), // \xb3 UnnestedBase
+    takes!(1), // \xb4 UnnestedWithS
+    chains!(2), // \xb5 TaggedSource
+    takes!(3), // \xb6 BaseArguments
+    takes!(2), // \xb7 Temporary
+    takes!(2), // \xb8 ModuleInitializer
+    takes!(2), // \xb9 Clone
+    takes!(3), // \xba LocalTemporary
+    takes!(2), // \xbb TaggedStdType
+    takes!(2), // \xbc TypeTag
+    takes!(2), // \xbd Expression
+    takes!(1), // \xbe ArgumentWithT
+    chains!(1), // \xbf PlainArgument
+    chains!(2), // \xc0 ParameterArgument
+    chains!(2), // \xc1 DeclaredArgument
+    takes!(2), // \xc2 LeveledParameter
+    takes!(2), // \xc3 OneLiteral
+    takes!(2), // \xc4 OnePack
+    takes!(0), // \xc5 AnyType
+    takes!(1), // \xc6 ValueOf
+    takes!(1), // \xc7 OfConcept
+    takes!(2), // \xc8 TemplateOf
+    takes!(2), // \xc9 PackOf
+    takes!(2), // \xca Declarations
+    chains!(2), // \xcb NamedConcept
+    takes!(2), // \xcc Cast
+    takes!(2), // \xcd OperatorReference
+    chains!(2), // \xce SimpleId
+    takes!(4), // \xcf FunctionParameter
+    takes!(1), // \xd0 AddressExpression
+    takes!(2), // \xd1 Binary
+    takes!(1), // \xd2 Unary
+    takes!(1), // \xd3 OfType
+    takes!(3), // \xd4 Call
+    takes!(2), // \xd5 Convert
+    takes!(2), // \xd6 Designated
+    takes!(2), // \xd7 DesignatedElement
+    takes!(1), // \xd8 DestructorName
+    takes!(2), // \xd9 OuterParameter
+    takes!(2), // \xda LeftFold
+    takes!(2), // \xdb RightFold
+    takes!(2), // \xdc Braces
+    takes!(2), // \xdd Step
+    takes!(3), // \xde New
+    takes!(3), // \xdf Conditional
+    takes!(2), // \xe0 Requires
+    takes!(1), // \xe1 RequiresOf
+    takes!(1), // \xe2 ExpandExpression
+    takes!(1), // \xe3 PackSize
+    takes!(1), // \xe4 Unresolved
+    takes!(2), // \xe5 PackIndex
+    takes!(3), // \xe6 TypedBraces
+    takes!(0), // \xe7 Rethrow
+    takes!(1), // \xe8 ExpressionA
+    takes!(1), // \xe9 ExpressionC
+    takes!(1), // \xea ExpressionD
+    takes!(1), // \xeb ExpressionE
+    takes!(1), // \xec ExpressionF
+    takes!(1), // \xed ExpressionG
+    takes!(1), // \xee ExpressionI
+    takes!(1), // \xef ExpressionL
+    takes!(1), // \xf0 ExpressionM
+    takes!(1), // \xf1 ExpressionN
+    takes!(1), // \xf2 ExpressionO
+    takes!(1), // \xf3 ExpressionP
+    takes!(1), // \xf4 ExpressionQ
+    takes!(1), // \xf5 ExpressionR
+    takes!(1), // \xf6 ExpressionS
+    takes!(1), // \xf7 ExpressionT
+    takes!(1), // \xf8 ExpressionWithT
+    chains!(2), // \xf9 ParameterExpression
+    takes!(2), // \xfa LeveledExpression
+    takes!(2), // \xfb AddressedLiteral
+    chains!(2), // \xfc Expressions
+    takes!(1), // \xfd FoldOperatorL
+    chains!(1), // \xfe FoldOperand
+    chains!(1), // \xff FoldPack
+    chains!(1), // \x00 TypePack
+    takes!(1), // \x01 Designators
+    chains!(1), // \x02 DesignatedValue
+    chains!(1), // \x03 FieldName
+    chains!(2), // \x04 Placed
+    takes!(1), // \x05 Initializer
+    takes!(1), // \x06 BracedInitializer
+    takes!(0), // \x07 This
+    chains!(1), // \x08 ParameterNumber
+    takes!(1), // \x09 ConvertedDecltype
+    takes!(1), // \x0a ConvertedConst
+    takes!(1), // \x0b ConvertedPointer
+    takes!(1), // \x0c ConvertedReference
+    chains!(1), // \x0d ConvertedType
+    takes!(1), // \x0e ConvertedWithT
+    chains!(2), // \x0f UnresolvedInType
+    chains!(2), // \x10 Levels
+    chains!(1), // \x11 DestroyedType
+    takes!(2), // \x12 ExpressionRequirement
+    takes!(2), // \x13 TypeRequirement
+    takes!(2), // \x14 NestedRequirement
+    takes!(2), // \x15 ResultRequirement
+    takes!(1), // \x16 NoexceptRequirement
+    chains!(2), // \x17 RequiredType
+    takes!(1), // \x18 LevelsEnd
+    takes!(1), // \x19 UnresolvedOperator
+    takes!(1), // \x1a AnyArray
+    chains!(3), // \x1b BoundedArray
+    chains!(2), // \x1c LengthArray
 ];
 
 // The symbols of the rules, in the same order.
-pub static SYMBOLS: [Sym; 1488] = symbols_listed! {
+pub static SYMBOLS: [Sym; 1518] = symbols_listed! {
     [NONE, NONE, NONE, NONE, NONE], // ! Mark
     [NAME, MAYBE_ARGUMENTS, NONE, NONE, NONE], // \" InternalName
     [ANONYMOUS, MAYBE_ARGUMENTS, NONE, NONE, NONE], // # LocalTypeName
@@ -806,303 +826,309 @@ pub static SYMBOLS: [Sym; 1488] = symbols_listed! {
     [NAME, NONE, NONE, NONE, NONE], // & InternalPiece
     [ANONYMOUS, NONE, NONE, NONE, NONE], // ' LocalTypePiece
     [NAME, NONE, NONE, NONE, NONE], // ( SourcePiece
-    [MAYBE_RESTRICT, MAYBE_VOLATILE, MAYBE_CONST, MAYBE_REF, NEST], // ) NestedName
-    [Sym::Byte(b'Z'), ENCODING, MAYBE_SUFFIX, NONE, NONE], // * Symbol
-    [SUFFIX_FIRST, NONE, NONE, NONE, NONE], // + Suffix
-    [SUFFIX_MORE, NONE, NONE, NONE, NONE], // , SuffixByte
-    [SPECIAL, NONE, NONE, NONE, NONE], // - Special
-    [SPECIAL_MARK, SPECIAL_AFTER_G, NONE, NONE, NONE], // . OtherSpecial
-    [COMPLETE_NAME, ITEMS, NONE, NONE, NONE], // / Encoding
-    [TYPE, NONE, NONE, NONE, NONE], // 0 SpecialType
-    [INTEGER, Sym::Byte(b'_'), ENCODING, NONE, NONE], // 1 NonVirtualThunk
-    [INTEGER, Sym::Byte(b'_'), INTEGER, Sym::Byte(b'_'), ENCODING], // 2 VirtualThunk
-    [CALL_OFFSET, CALL_OFFSET, ENCODING, NONE, NONE], // 3 CovariantThunk
-    [COMPLETE_NAME, NONE, NONE, NONE, NONE], // 4 SpecialName
-    [ONE_ARGUMENT, NONE, NONE, NONE, NONE], // 5 ParameterObject
-    [TYPE, DIGITS, Sym::Byte(b'_'), TYPE, NONE], // 6 ConstructionVtable
-    [INTEGER, Sym::Byte(b'_'), NONE, NONE, NONE], // 7 NonVirtualOffset
-    [INTEGER, Sym::Byte(b'_'), INTEGER, Sym::Byte(b'_'), NONE], // 8 VirtualOffset
-    [DIGITS, NONE, NONE, NONE, NONE], // 9 Negative
-    [DIGITS, NONE, NONE, NONE, NONE], // : Positive
-    [NAME_AFTER_S, NONE, NONE, NONE, NONE], // ; NameWithS
-    [ENCODING, Sym::Byte(b'E'), ENTITY, MAYBE_DISCRIMINATOR, NONE], // < LocalName
-    [UNQUALIFIED, MAYBE_ARGUMENTS, NONE, NONE, NONE], // = StdName
-    [ABBREVIATION, ARGUMENTS, NONE, NONE, NONE], // > AbbreviatedName
-    [OPERATOR, NONE, NONE, NONE, NONE], // ? OperatorPiece
-    [NEST_AFTER_S, NONE, NONE, NONE, NONE], // @ NestWithS
-    [DECIMAL, NEST_REST_ALONE, NONE, NONE, NONE], // A NestParameter
-    [NAME, NEST_REST, NONE, NONE, NONE], // B NestInternal
-    [ANONYMOUS, NEST_REST, NONE, NONE, NONE], // C NestLocalType
-    [NAME, NEST_REST, NONE, NONE, NONE], // D NestSource
-    [DECLTYPE_AFTER_D, NEST_REST_ALONE, NONE, NONE, NONE], // E NestDecltype
-    [UNQUALIFIED, MAYBE_ARGUMENTS, NEST_TAIL, NONE, NONE], // F NestStd
-    [ABBREVIATION, NEST_REST_OR_END, NONE, NONE, NONE], // G NestTemplate
-    [ARGUMENTS_FIRST, Sym::Byte(b'E'), COMPONENT, NEST_TAIL, NONE], // H NestArguments
-    [COMPONENT, NEST_TAIL, NONE, NONE, NONE], // I NestNext
-    [NAME, NEST_REST, NONE, NONE, NONE], // J NestTag
-    [NONE, NONE, NONE, NONE, NONE], // K NestEnd
-    [CONSTRUCTOR_AFTER_C, NONE, NONE, NONE, NONE], // L AnyConstructor
-    [DESTRUCTOR_DIGIT, MAYBE_ARGUMENTS, NONE, NONE, NONE], // M Destructor
-    [COMPONENT_AFTER_C, NONE, NONE, NONE, NONE], // N ComponentWithC
-    [OTHER_OPERATOR, MAYBE_ARGUMENTS, NONE, NONE, NONE], // O OtherOperatorName
-    [HOLDER_MARK, HELD_COMPONENT, NONE, NONE, NONE], // P Holder
-    [UNQUALIFIED, MAYBE_ARGUMENTS, NONE, NONE, NONE], // Q Friend
-    [INHERITED_DIGIT, BASE_CLASS, NONE, NONE, NONE], // R Inheriting
-    [CONSTRUCTOR_DIGIT, MAYBE_ARGUMENTS, NONE, NONE, NONE], // S Constructor
-    [NONE, NONE, NONE, NONE, NONE], // T Abbreviation
-    [SEQ36, NONE, NONE, NONE, NONE], // U Substitution
-    [NEST, NONE, NONE, NONE, NONE], // V NestedType
-    [NONE, NONE, NONE, NONE, NONE], // W StringLiteral
-    [DECIMAL, PLAIN_ENTITY, NONE, NONE, NONE], // X DefaultEntity
-    [DECIMAL, PLAIN_TYPE_ENTITY, NONE, NONE, NONE], // Y DefaultTypeEntity
-    [DISCRIMINATOR_REST, NONE, NONE, NONE, NONE], // Z Discriminator
-    [NONE, NONE, NONE, NONE, NONE], // [ OneDigit
-    [DIGITS, Sym::Byte(b'_'), NONE, NONE, NONE], // \\ ManyDigits
-    [ITEM, ITEMS, Sym::Byte(b'E'), DECIMAL, NONE], // ] Lambda
-    [DECIMAL, NONE, NONE, NONE, NONE], // ^ Unnamed
-    [MAYBE_VOLATILE, MAYBE_CONST, PLAIN, NONE, NONE], // _ RestrictType
-    [MAYBE_CONST, PLAIN, NONE, NONE, NONE], // ` VolatileType
-    [PLAIN, NONE, NONE, NONE, NONE], // a ConstType
-    [TYPE, NONE, NONE, NONE, NONE], // b ReferenceType
-    [SOLID, NONE, NONE, NONE, NONE], // c PlainType
-    [AFTER_D, NONE, NONE, NONE, NONE], // d TypeWithD
-    [AFTER_D, NONE, NONE, NONE, NONE], // e PlainWithD
-    [SOLID, NONE, NONE, NONE, NONE], // f QualifiedPlain
-    [ITEM_AFTER_D, NONE, NONE, NONE, NONE], // g ItemWithD
-    [TYPE, NONE, NONE, NONE, NONE], // h Expansion
-    [AFTER_D, NONE, NONE, NONE, NONE], // i ItemIsType
-    [NONE, NONE, NONE, NONE, NONE], // j BuiltinWithD
-    [DIGITS, Sym::Byte(b'_'), TYPE, NONE, NONE], // k Vector
-    [Sym::Byte(b'F'), MAYBE_C_LINKAGE, TYPE, FUNCTION_REST, NONE], // l NoexceptFunction
-    [DIGITS, FLOAT_END, NONE, NONE, NONE], // m SizedFloat
-    [CONCEPT, NONE, NONE, NONE, NONE], // n ConstrainedAuto
-    [BIT_WIDTH, Sym::Byte(b'_'), NONE, NONE, NONE], // o BitInt
-    [EXPRESSION, Sym::Byte(b'E'), NONE, NONE, NONE], // p Decltype
-    [TYPE_PACK, EXPRESSION, NONE, NONE, NONE], // q IndexedType
-    [TYPE, NONE, NONE, NONE, NONE], // r Pointer
-    [TYPE, TYPE, NONE, NONE, NONE], // s MemberPointer
-    [DECIMAL, ARGUMENTS_ALONE, NONE, NONE, NONE], // t Parameter
-    [TYPE_AFTER_S, ARGUMENTS_ALONE, NONE, NONE, NONE], // u TypeWithS
-    [ENCODING, Sym::Byte(b'E'), TYPE_ENTITY, MAYBE_DISCRIMINATOR, NONE], // v LocalType
-    [NONE, NONE, NONE, NONE, NONE], // w Builtin
-    [NAME, NONE, NONE, NONE, NONE], // x Vendor
-    [ANY_ARRAY, NONE, NONE, NONE, NONE], // y ArrayType
-    [MAYBE_C_LINKAGE, TYPE, FUNCTION_REST, NONE, NONE], // z Function
-    [TYPE, NONE, NONE, NONE, NONE], // { Complex
-    [DIGITS, NONE, NONE, NONE, NONE], // | BitWidth
-    [TYPE_IN_STD, NONE, NONE, NONE, NONE], // } TypeInStd
-    [ABBREVIATION, NONE, NONE, NONE, NONE], // ~ AbbreviatedType
-    [NONE, NONE, NONE, NONE, NONE], // \x7f RestEnd
-    [AFTER_R, NONE, NONE, NONE, NONE], // \x80 RestLvalue
-    [AFTER_O, NONE, NONE, NONE, NONE], // \x81 RestRvalue
-    [ITEM_BUT_REF, FUNCTION_REST, NONE, NONE, NONE], // \x82 RestItem
-    [NONE, NONE, NONE, NONE, NONE], // \x83 RefEnd
-    [TYPE, FUNCTION_REST, NONE, NONE, NONE], // \x84 LvalueItem
-    [TYPE, FUNCTION_REST, NONE, NONE, NONE], // \x85 RvalueItem
-    [EXPRESSION, NONE, NONE, NONE, NONE], // \x86 Constraint
-    [ITEM, ITEMS, NONE, NONE, NONE], // \x87 Items
-    [ARGUMENTS_FIRST, Sym::Byte(b'E'), NONE, NONE, NONE], // \x88 Arguments
-    [NAME, MAYBE_ARGUMENTS, NONE, NONE, NONE], // \x89 Tag
-    [PACK_LIST, Sym::Byte(b'E'), ARGUMENT_LIST, NONE, NONE], // \x8a PackArgument
-    [LITERAL, Sym::Byte(b'E'), ARGUMENT_LIST, NONE, NONE], // \x8b LiteralArgument
-    [ARGUMENT, ARGUMENT_LIST, NONE, NONE, NONE], // \x8c AnyArgument
-    [LITERAL, Sym::Byte(b'E'), PACK_LIST, NONE, NONE], // \x8d LiteralElement
-    [ARGUMENT, PACK_LIST, NONE, NONE, NONE], // \x8e AnyElement
-    [Sym::Byte(b'Z'), ENCODING, NONE, NONE, NONE], // \x8f EncodingLiteral
-    [BIT, NONE, NONE, NONE, NONE], // \x90 BoolLiteral
-    [LITERAL_AFTER_D, NONE, NONE, NONE, NONE], // \x91 LiteralWithD
-    [LITERAL_TYPE, INTEGER, NONE, NONE, NONE], // \x92 IntegerLiteral
-    [FLOAT_TYPE, HEX_TEXT, NONE, NONE, NONE], // \x93 FloatLiteral
-    [MAYBE_ZERO, NONE, NONE, NONE, NONE], // \x94 NullLiteral
-    [INTEGER, NONE, NONE, NONE, NONE], // \x95 CharLiteral
-    [SIZED_FLOAT_TYPE, HEX_TEXT, NONE, NONE, NONE], // \x96 SizedFloatLiteral
-    [HEX_DIGITS, NONE, NONE, NONE, NONE], // \x97 HexText
-    [HEX_MORE, NONE, NONE, NONE, NONE], // \x98 HexDigit
-    [MAYBE_CONST, LITERAL_PLAIN, NONE, NONE, NONE], // \x99 VolatileLiteral
-    [LITERAL_PLAIN, NONE, NONE, NONE, NONE], // \x9a ConstLiteral
-    [LITERAL_SOLID, NONE, NONE, NONE, NONE], // \x9b QualifiedLiteral
-    [OPERATOR_AFTER_N, NONE, NONE, NONE, NONE], // \x9c OperatorN
-    [OPERATOR_AFTER_D, NONE, NONE, NONE, NONE], // \x9d OperatorD
-    [OPERATOR_AFTER_A, NONE, NONE, NONE, NONE], // \x9e OperatorA
-    [OPERATOR_AFTER_P, NONE, NONE, NONE, NONE], // \x9f OperatorP
-    [OPERATOR_AFTER_C, NONE, NONE, NONE, NONE], // \xa0 OperatorC
-    [OPERATOR_AFTER_M, NONE, NONE, NONE, NONE], // \xa1 OperatorM
-    [OPERATOR_AFTER_R, NONE, NONE, NONE, NONE], // \xa2 OperatorR
-    [OPERATOR_AFTER_O, NONE, NONE, NONE, NONE], // \xa3 OperatorO
-    [OPERATOR_AFTER_E, NONE, NONE, NONE, NONE], // \xa4 OperatorE
-    [OPERATOR_AFTER_L, NONE, NONE, NONE, NONE], // \xa5 OperatorL
-    [OPERATOR_AFTER_S, NONE, NONE, NONE, NONE], // \xa6 OperatorS
-    [OPERATOR_AFTER_I, NONE, NONE, NONE, NONE], // \xa7 OperatorI
-    [OPERATOR_AFTER_G, NONE, NONE, NONE, NONE], // \xa8 OperatorG
-    [NAME, NONE, NONE, NONE, NONE], // \xa9 LiteralOperator
-    [ARGUMENTS_FIRST, Sym::Byte(b'E'), NEST_MORE_OR_END, NONE, NONE], // \xaa NestInstance
-    [TYPE, NONE, NONE, NONE, NONE], // \xab Conversion
-    [OPERATOR_AFTER_C, MAYBE_ARGUMENTS, NONE, NONE, NONE], // \xac OperatorNameWithC
-    [ARGUMENTS_FIRST, Sym::Byte(b'E'), NONE, NONE, NONE], // \xad HeldArguments
-    [NEST, HELD_ARGUMENTS, NONE, NONE, NONE], // \xae NestedBase
-    [UNNESTED_NAME, BASE_ARGUMENTS, NONE, NONE, NONE], // \xaf UnnestedBase
-    [TYPE_AFTER_S, NONE, NONE, NONE, NONE], // \xb0 UnnestedWithS
-    [NAME, MAYBE_TAGS, NONE, NONE, NONE], // \xb1 TaggedSource
-    [ARGUMENTS_FIRST, Sym::Byte(b'E'), HELD_ARGUMENTS, NONE, NONE], // \xb2 BaseArguments
-    [TEMPORARY_NAME, Sym::Byte(b'_'), NONE, NONE, NONE], // \xb3 Temporary
-    [CLONE_LETTER, ENCODING, NONE, NONE, NONE], // \xb4 Clone
-    [ENCODING, Sym::Byte(b'E'), ENTITY, NONE, NONE], // \xb5 LocalTemporary
-    [SOURCE_OR_LOCAL, MAYBE_TAGS, NONE, NONE, NONE], // \xb6 TaggedStdType
-    [NAME, MAYBE_TAGS, NONE, NONE, NONE], // \xb7 TypeTag
-    [EXPRESSION, Sym::Byte(b'E'), NONE, NONE, NONE], // \xb8 Expression
-    [ARGUMENT_AFTER_T, NONE, NONE, NONE, NONE], // \xb9 ArgumentWithT
-    [SOLID_BUT_T, NONE, NONE, NONE, NONE], // \xba PlainArgument
-    [DECIMAL, ARGUMENTS_ALONE, NONE, NONE, NONE], // \xbb ParameterArgument
-    [DECLARATION_AFTER_T, ONE_ARGUMENT, NONE, NONE, NONE], // \xbc DeclaredArgument
-    [DECIMAL, LEVELED_PARAMETER, NONE, NONE, NONE], // \xbd LeveledParameter
-    [LITERAL, Sym::Byte(b'E'), NONE, NONE, NONE], // \xbe OneLiteral
-    [PACK_LIST, Sym::Byte(b'E'), NONE, NONE, NONE], // \xbf OnePack
-    [NONE, NONE, NONE, NONE, NONE], // \xc0 AnyType
-    [TYPE, NONE, NONE, NONE, NONE], // \xc1 ValueOf
-    [CONCEPT, NONE, NONE, NONE, NONE], // \xc2 OfConcept
-    [DECLARATIONS, Sym::Byte(b'E'), NONE, NONE, NONE], // \xc3 TemplateOf
-    [Sym::Byte(b'T'), DECLARATION_AFTER_T, NONE, NONE, NONE], // \xc4 PackOf
-    [DECLARATION_AFTER_T, DECLARATIONS, NONE, NONE, NONE], // \xc5 Declarations
-    [UNNESTED_NAME, HELD_ARGUMENTS, NONE, NONE, NONE], // \xc6 NamedConcept
-    [TYPE, EXPRESSION, NONE, NONE, NONE], // \xc7 Cast
-    [OPERATOR, ARGUMENTS_ALONE, NONE, NONE, NONE], // \xc8 OperatorReference
-    [NAME, ARGUMENTS_ALONE, NONE, NONE, NONE], // \xc9 SimpleId
-    [MAYBE_RESTRICT, MAYBE_VOLATILE, MAYBE_CONST, PARAMETER_NUMBER, NONE], // \xca FunctionParameter
-    [ADDRESSED_EXPRESSION, NONE, NONE, NONE, NONE], // \xcb AddressExpression
-    [EXPRESSION, EXPRESSION, NONE, NONE, NONE], // \xcc Binary
-    [EXPRESSION, NONE, NONE, NONE, NONE], // \xcd Unary
-    [CONVERTED_TYPE, NONE, NONE, NONE, NONE], // \xce OfType
-    [EXPRESSION, EXPRESSIONS, Sym::Byte(b'E'), NONE, NONE], // \xcf Call
-    [CONVERTED_TYPE, CONVERT_REST, NONE, NONE, NONE], // \xd0 Convert
-    [FIELD_NAME, DESIGNATED_VALUE, NONE, NONE, NONE], // \xd1 Designated
-    [EXPRESSION, DESIGNATED_VALUE, NONE, NONE, NONE], // \xd2 DesignatedElement
-    [DESTRUCTOR_NAME, NONE, NONE, NONE, NONE], // \xd3 DestructorName
-    [DIGITS, OUTER_REST, NONE, NONE, NONE], // \xd4 OuterParameter
-    [FOLD_OPERATOR, FOLD_OPERAND, NONE, NONE, NONE], // \xd5 LeftFold
-    [FOLD_OPERATOR, FOLD_OPERAND, NONE, NONE, NONE], // \xd6 RightFold
-    [EXPRESSIONS, Sym::Byte(b'E'), NONE, NONE, NONE], // \xd7 Braces
-    [MAYBE_BEFORE, EXPRESSION, NONE, NONE, NONE], // \xd8 Step
-    [PLACEMENT, TYPE, INITIALIZER, NONE, NONE], // \xd9 New
-    [EXPRESSION, EXPRESSION, EXPRESSION, NONE, NONE], // \xda Conditional
-    [REQUIREMENTS, Sym::Byte(b'E'), NONE, NONE, NONE], // \xdb Requires
-    [REQUIRED_TYPES, NONE, NONE, NONE, NONE], // \xdc RequiresOf
-    [EXPRESSION, NONE, NONE, NONE, NONE], // \xdd ExpandExpression
-    [EXPRESSION, NONE, NONE, NONE, NONE], // \xde PackSize
-    [UNRESOLVED, NONE, NONE, NONE, NONE], // \xdf Unresolved
-    [VALUE_PACK, EXPRESSION, NONE, NONE, NONE], // \xe0 PackIndex
-    [TYPE, EXPRESSIONS, Sym::Byte(b'E'), NONE, NONE], // \xe1 TypedBraces
-    [NONE, NONE, NONE, NONE, NONE], // \xe2 Rethrow
-    [EXPRESSION_AFTER_A, NONE, NONE, NONE, NONE], // \xe3 ExpressionA
-    [EXPRESSION_AFTER_C, NONE, NONE, NONE, NONE], // \xe4 ExpressionC
-    [EXPRESSION_AFTER_D, NONE, NONE, NONE, NONE], // \xe5 ExpressionD
-    [EXPRESSION_AFTER_E, NONE, NONE, NONE, NONE], // \xe6 ExpressionE
-    [EXPRESSION_AFTER_F, NONE, NONE, NONE, NONE], // \xe7 ExpressionF
-    [EXPRESSION_AFTER_G, NONE, NONE, NONE, NONE], // \xe8 ExpressionG
-    [EXPRESSION_AFTER_I, NONE, NONE, NONE, NONE], // \xe9 ExpressionI
-    [EXPRESSION_AFTER_L, NONE, NONE, NONE, NONE], // \xea ExpressionL
-    [EXPRESSION_AFTER_M, NONE, NONE, NONE, NONE], // \xeb ExpressionM
-    [EXPRESSION_AFTER_N, NONE, NONE, NONE, NONE], // \xec ExpressionN
-    [EXPRESSION_AFTER_O, NONE, NONE, NONE, NONE], // \xed ExpressionO
-    [EXPRESSION_AFTER_P, NONE, NONE, NONE, NONE], // \xee ExpressionP
-    [EXPRESSION_AFTER_Q, NONE, NONE, NONE, NONE], // \xef ExpressionQ
-    [EXPRESSION_AFTER_R, NONE, NONE, NONE, NONE], // \xf0 ExpressionR
-    [EXPRESSION_AFTER_S, NONE, NONE, NONE, NONE], // \xf1 ExpressionS
-    [EXPRESSION_AFTER_T, NONE, NONE, NONE, NONE], // \xf2 ExpressionT
-    [EXPRESSION_PARAMETER, NONE, NONE, NONE, NONE], // \xf3 ExpressionWithT
-    [DECIMAL, ARGUMENTS_ALONE, NONE, NONE, NONE], // \xf4 ParameterExpression
-    [DECIMAL, UNLEVELED_EXPRESSION, NONE, NONE, NONE], // \xf5 LeveledExpression
-    [ADDRESSED_LITERAL, Sym::Byte(b'E'), NONE, NONE, NONE], // \xf6 AddressedLiteral
-    [EXPRESSION, EXPRESSIONS, NONE, NONE, NONE], // \xf7 Expressions
-    [FOLD_OPERATOR_AFTER_L, NONE, NONE, NONE, NONE], // \xf8 FoldOperatorL
-    [FOLD_PACK, NONE, NONE, NONE, NONE], // \xf9 FoldOperand
-    [EXPRESSION, NONE, NONE, NONE, NONE], // \xfa FoldPack
-    [TYPE, NONE, NONE, NONE, NONE], // \xfb TypePack
-    [DESIGNATOR_AFTER_D, NONE, NONE, NONE, NONE], // \xfc Designators
-    [PLAIN_VALUE, NONE, NONE, NONE, NONE], // \xfd DesignatedValue
-    [NAME, NONE, NONE, NONE, NONE], // \xfe FieldName
-    [SOME_EXPRESSIONS, Sym::Byte(b'_'), NONE, NONE, NONE], // \xff Placed
-    [INITIALIZER_AFTER_P, NONE, NONE, NONE, NONE], // \x00 Initializer
-    [INITIALIZER_AFTER_I, NONE, NONE, NONE, NONE], // \x01 BracedInitializer
-    [NONE, NONE, NONE, NONE, NONE], // \x02 This
-    [DECIMAL, NONE, NONE, NONE, NONE], // \x03 ParameterNumber
-    [DECLTYPE_AFTER_D, NONE, NONE, NONE, NONE], // \x04 ConvertedDecltype
-    [CONVERTED_TYPE, NONE, NONE, NONE, NONE], // \x05 ConvertedConst
-    [CONVERTED_TYPE, NONE, NONE, NONE, NONE], // \x06 ConvertedPointer
-    [CONVERTED_TYPE, NONE, NONE, NONE, NONE], // \x07 ConvertedReference
-    [CONVERTED_SOLID, NONE, NONE, NONE, NONE], // \x08 ConvertedType
-    [PARAMETER_AFTER_T, NONE, NONE, NONE, NONE], // \x09 ConvertedWithT
-    [UNRESOLVED_TYPE, UNRESOLVED_NAME, NONE, NONE, NONE], // \x0a UnresolvedInType
-    [LEVEL, MORE_LEVELS, NONE, NONE, NONE], // \x0b Levels
-    [UNRESOLVED_TYPE, NONE, NONE, NONE, NONE], // \x0c DestroyedType
-    [EXPRESSION, AFTER_EXPRESSION, NONE, NONE, NONE], // \x0d ExpressionRequirement
-    [TYPE, REQUIREMENTS, NONE, NONE, NONE], // \x0e TypeRequirement
-    [EXPRESSION, REQUIREMENTS, NONE, NONE, NONE], // \x0f NestedRequirement
-    [CONCEPT, REQUIREMENTS, NONE, NONE, NONE], // \x10 ResultRequirement
-    [AFTER_NOEXCEPT, NONE, NONE, NONE, NONE], // \x11 NoexceptRequirement
-    [CONVERTED_TYPE, REQUIRED_TYPES, NONE, NONE, NONE], // \x12 RequiredType
-    [UNRESOLVED_NAME, NONE, NONE, NONE, NONE], // \x13 LevelsEnd
-    [OPERATOR_NAME, NONE, NONE, NONE, NONE], // \x14 UnresolvedOperator
-    [ARRAY_REST, NONE, NONE, NONE, NONE], // \x15 AnyArray
-    [BOUND, Sym::Byte(b'_'), TYPE, NONE, NONE], // \x16 BoundedArray
-    [DECIMAL, TYPE, NONE, NONE, NONE], // \x17 LengthArray
+    [FIRST_MODULE, NAME_AFTER_MODULE, NONE, NONE, NONE], // ) InModule
+    [MAYBE_RESTRICT, MAYBE_VOLATILE, MAYBE_CONST, MAYBE_REF, NEST], // * NestedName
+    [Sym::Byte(b'Z'), ENCODING, MAYBE_SUFFIX, NONE, NONE], // + Symbol
+    [SUFFIX_FIRST, NONE, NONE, NONE, NONE], // , Suffix
+    [SUFFIX_MORE, NONE, NONE, NONE, NONE], // - SuffixByte
+    [SPECIAL, NONE, NONE, NONE, NONE], // . Special
+    [SPECIAL_MARK, SPECIAL_AFTER_G, NONE, NONE, NONE], // / OtherSpecial
+    [COMPLETE_NAME, ITEMS, NONE, NONE, NONE], // 0 Encoding
+    [TYPE, NONE, NONE, NONE, NONE], // 1 SpecialType
+    [INTEGER, Sym::Byte(b'_'), ENCODING, NONE, NONE], // 2 NonVirtualThunk
+    [INTEGER, Sym::Byte(b'_'), INTEGER, Sym::Byte(b'_'), ENCODING], // 3 VirtualThunk
+    [CALL_OFFSET, CALL_OFFSET, ENCODING, NONE, NONE], // 4 CovariantThunk
+    [COMPLETE_NAME, NONE, NONE, NONE, NONE], // 5 SpecialName
+    [ONE_ARGUMENT, NONE, NONE, NONE, NONE], // 6 ParameterObject
+    [TYPE, DIGITS, Sym::Byte(b'_'), TYPE, NONE], // 7 ConstructionVtable
+    [INTEGER, Sym::Byte(b'_'), NONE, NONE, NONE], // 8 NonVirtualOffset
+    [INTEGER, Sym::Byte(b'_'), INTEGER, Sym::Byte(b'_'), NONE], // 9 VirtualOffset
+    [DIGITS, NONE, NONE, NONE, NONE], // : Negative
+    [DIGITS, NONE, NONE, NONE, NONE], // ; Positive
+    [NAME_AFTER_S, NONE, NONE, NONE, NONE], // < NameWithS
+    [ENCODING, Sym::Byte(b'E'), ENTITY, MAYBE_DISCRIMINATOR, NONE], // = LocalName
+    [UNQUALIFIED, MAYBE_ARGUMENTS, NONE, NONE, NONE], // > StdName
+    [ABBREVIATION, ARGUMENTS, NONE, NONE, NONE], // ? AbbreviatedName
+    [OPERATOR, NONE, NONE, NONE, NONE], // @ OperatorPiece
+    [NEST_AFTER_S, NONE, NONE, NONE, NONE], // A NestWithS
+    [DECIMAL, NEST_REST_ALONE, NONE, NONE, NONE], // B NestParameter
+    [NAME, NEST_REST, NONE, NONE, NONE], // C NestInternal
+    [ANONYMOUS, NEST_REST, NONE, NONE, NONE], // D NestLocalType
+    [NAME, NEST_REST, NONE, NONE, NONE], // E NestSource
+    [NAME_IN_MODULE, NEST_TAIL, NONE, NONE, NONE], // F NestModule
+    [DECLTYPE_AFTER_D, NEST_REST_ALONE, NONE, NONE, NONE], // G NestDecltype
+    [UNQUALIFIED, MAYBE_ARGUMENTS, NEST_TAIL, NONE, NONE], // H NestStd
+    [ABBREVIATION, NEST_REST_OR_END, NONE, NONE, NONE], // I NestTemplate
+    [ARGUMENTS_FIRST, Sym::Byte(b'E'), COMPONENT, NEST_TAIL, NONE], // J NestArguments
+    [COMPONENT, NEST_TAIL, NONE, NONE, NONE], // K NestNext
+    [NAME, NEST_REST, NONE, NONE, NONE], // L NestTag
+    [NONE, NONE, NONE, NONE, NONE], // M NestEnd
+    [CONSTRUCTOR_AFTER_C, NONE, NONE, NONE, NONE], // N AnyConstructor
+    [DESTRUCTOR_DIGIT, MAYBE_ARGUMENTS, NONE, NONE, NONE], // O Destructor
+    [COMPONENT_AFTER_C, NONE, NONE, NONE, NONE], // P ComponentWithC
+    [OTHER_OPERATOR, MAYBE_ARGUMENTS, NONE, NONE, NONE], // Q OtherOperatorName
+    [HOLDER_MARK, HELD_COMPONENT, NONE, NONE, NONE], // R Holder
+    [UNQUALIFIED, MAYBE_ARGUMENTS, NONE, NONE, NONE], // S Friend
+    [INHERITED_DIGIT, BASE_CLASS, NONE, NONE, NONE], // T Inheriting
+    [CONSTRUCTOR_DIGIT, MAYBE_ARGUMENTS, NONE, NONE, NONE], // U Constructor
+    [NONE, NONE, NONE, NONE, NONE], // V Abbreviation
+    [SEQ36, NONE, NONE, NONE, NONE], // W Substitution
+    [NEST, NONE, NONE, NONE, NONE], // X NestedType
+    [NONE, NONE, NONE, NONE, NONE], // Y StringLiteral
+    [DECIMAL, PLAIN_ENTITY, NONE, NONE, NONE], // Z DefaultEntity
+    [DECIMAL, PLAIN_TYPE_ENTITY, NONE, NONE, NONE], // [ DefaultTypeEntity
+    [DISCRIMINATOR_REST, NONE, NONE, NONE, NONE], // \\ Discriminator
+    [NONE, NONE, NONE, NONE, NONE], // ] OneDigit
+    [DIGITS, Sym::Byte(b'_'), NONE, NONE, NONE], // ^ ManyDigits
+    [ITEM, ITEMS, Sym::Byte(b'E'), DECIMAL, NONE], // _ Lambda
+    [DECIMAL, NONE, NONE, NONE, NONE], // ` Unnamed
+    [MAYBE_VOLATILE, MAYBE_CONST, PLAIN, NONE, NONE], // a RestrictType
+    [MAYBE_CONST, PLAIN, NONE, NONE, NONE], // b VolatileType
+    [PLAIN, NONE, NONE, NONE, NONE], // c ConstType
+    [TYPE, NONE, NONE, NONE, NONE], // d ReferenceType
+    [SOLID, NONE, NONE, NONE, NONE], // e PlainType
+    [AFTER_D, NONE, NONE, NONE, NONE], // f TypeWithD
+    [AFTER_D, NONE, NONE, NONE, NONE], // g PlainWithD
+    [SOLID, NONE, NONE, NONE, NONE], // h QualifiedPlain
+    [ITEM_AFTER_D, NONE, NONE, NONE, NONE], // i ItemWithD
+    [TYPE, NONE, NONE, NONE, NONE], // j Expansion
+    [AFTER_D, NONE, NONE, NONE, NONE], // k ItemIsType
+    [NONE, NONE, NONE, NONE, NONE], // l BuiltinWithD
+    [DIGITS, Sym::Byte(b'_'), TYPE, NONE, NONE], // m Vector
+    [Sym::Byte(b'F'), MAYBE_C_LINKAGE, TYPE, FUNCTION_REST, NONE], // n NoexceptFunction
+    [DIGITS, FLOAT_END, NONE, NONE, NONE], // o SizedFloat
+    [CONCEPT, NONE, NONE, NONE, NONE], // p ConstrainedAuto
+    [BIT_WIDTH, Sym::Byte(b'_'), NONE, NONE, NONE], // q BitInt
+    [EXPRESSION, Sym::Byte(b'E'), NONE, NONE, NONE], // r Decltype
+    [TYPE_PACK, EXPRESSION, NONE, NONE, NONE], // s IndexedType
+    [TYPE, NONE, NONE, NONE, NONE], // t Pointer
+    [TYPE, TYPE, NONE, NONE, NONE], // u MemberPointer
+    [DECIMAL, ARGUMENTS_ALONE, NONE, NONE, NONE], // v Parameter
+    [TYPE_AFTER_S, ARGUMENTS_ALONE, NONE, NONE, NONE], // w TypeWithS
+    [ENCODING, Sym::Byte(b'E'), TYPE_ENTITY, MAYBE_DISCRIMINATOR, NONE], // x LocalType
+    [NONE, NONE, NONE, NONE, NONE], // y Builtin
+    [NAME, NONE, NONE, NONE, NONE], // z Vendor
+    [ANY_ARRAY, NONE, NONE, NONE, NONE], // { ArrayType
+    [MAYBE_C_LINKAGE, TYPE, FUNCTION_REST, NONE, NONE], // | Function
+    [TYPE, NONE, NONE, NONE, NONE], // } Complex
+    [DIGITS, NONE, NONE, NONE, NONE], // ~ BitWidth
+    [TYPE_IN_STD, NONE, NONE, NONE, NONE], // \x7f TypeInStd
+    [ABBREVIATION, NONE, NONE, NONE, NONE], // \x80 AbbreviatedType
+    [NONE, NONE, NONE, NONE, NONE], // \x81 RestEnd
+    [AFTER_R, NONE, NONE, NONE, NONE], // \x82 RestLvalue
+    [AFTER_O, NONE, NONE, NONE, NONE], // \x83 RestRvalue
+    [ITEM_BUT_REF, FUNCTION_REST, NONE, NONE, NONE], // \x84 RestItem
+    [NONE, NONE, NONE, NONE, NONE], // \x85 RefEnd
+    [TYPE, FUNCTION_REST, NONE, NONE, NONE], // \x86 LvalueItem
+    [TYPE, FUNCTION_REST, NONE, NONE, NONE], // \x87 RvalueItem
+    [EXPRESSION, NONE, NONE, NONE, NONE], // \x88 Constraint
+    [ITEM, ITEMS, NONE, NONE, NONE], // \x89 Items
+    [ARGUMENTS_FIRST, Sym::Byte(b'E'), NONE, NONE, NONE], // \x8a Arguments
+    [NAME, MAYBE_ARGUMENTS, NONE, NONE, NONE], // \x8b Tag
+    [PACK_LIST, Sym::Byte(b'E'), ARGUMENT_LIST, NONE, NONE], // \x8c PackArgument
+    [LITERAL, Sym::Byte(b'E'), ARGUMENT_LIST, NONE, NONE], // \x8d LiteralArgument
+    [ARGUMENT, ARGUMENT_LIST, NONE, NONE, NONE], // \x8e AnyArgument
+    [LITERAL, Sym::Byte(b'E'), PACK_LIST, NONE, NONE], // \x8f LiteralElement
+    [ARGUMENT, PACK_LIST, NONE, NONE, NONE], // \x90 AnyElement
+    [Sym::Byte(b'Z'), ENCODING, NONE, NONE, NONE], // \x91 EncodingLiteral
+    [BIT, NONE, NONE, NONE, NONE], // \x92 BoolLiteral
+    [LITERAL_AFTER_D, NONE, NONE, NONE, NONE], // \x93 LiteralWithD
+    [LITERAL_TYPE, INTEGER, NONE, NONE, NONE], // \x94 IntegerLiteral
+    [FLOAT_TYPE, HEX_TEXT, NONE, NONE, NONE], // \x95 FloatLiteral
+    [MAYBE_ZERO, NONE, NONE, NONE, NONE], // \x96 NullLiteral
+    [INTEGER, NONE, NONE, NONE, NONE], // \x97 CharLiteral
+    [SIZED_FLOAT_TYPE, HEX_TEXT, NONE, NONE, NONE], // \x98 SizedFloatLiteral
+    [HEX_DIGITS, NONE, NONE, NONE, NONE], // \x99 HexText
+    [HEX_MORE, NONE, NONE, NONE, NONE], // \x9a HexDigit
+    [MAYBE_CONST, LITERAL_PLAIN, NONE, NONE, NONE], // \x9b VolatileLiteral
+    [LITERAL_PLAIN, NONE, NONE, NONE, NONE], // \x9c ConstLiteral
+    [LITERAL_SOLID, NONE, NONE, NONE, NONE], // \x9d QualifiedLiteral
+    [OPERATOR_AFTER_N, NONE, NONE, NONE, NONE], // \x9e OperatorN
+    [OPERATOR_AFTER_D, NONE, NONE, NONE, NONE], // \x9f OperatorD
+    [OPERATOR_AFTER_A, NONE, NONE, NONE, NONE], // \xa0 OperatorA
+    [OPERATOR_AFTER_P, NONE, NONE, NONE, NONE], // \xa1 OperatorP
+    [OPERATOR_AFTER_C, NONE, NONE, NONE, NONE], // \xa2 OperatorC
+    [OPERATOR_AFTER_M, NONE, NONE, NONE, NONE], // \xa3 OperatorM
+    [OPERATOR_AFTER_R, NONE, NONE, NONE, NONE], // \xa4 OperatorR
+    [OPERATOR_AFTER_O, NONE, NONE, NONE, NONE], // \xa5 OperatorO
+    [OPERATOR_AFTER_E, NONE, NONE, NONE, NONE], // \xa6 OperatorE
+    [OPERATOR_AFTER_L, NONE, NONE, NONE, NONE], // \xa7 OperatorL
+    [OPERATOR_AFTER_S, NONE, NONE, NONE, NONE], // \xa8 OperatorS
+    [OPERATOR_AFTER_I, NONE, NONE, NONE, NONE], // \xa9 OperatorI
+    [OPERATOR_AFTER_G, NONE, NONE, NONE, NONE], // \xaa OperatorG
+    [NAME, NONE, NONE, NONE, NONE], // \xab LiteralOperator
+    [ARGUMENTS_FIRST, Sym::Byte(b'E'), NEST_MORE_OR_END, NONE, NONE], // \xac NestInstance
+    [FIELD_NAME, MORE_MODULE, NONE, NONE, NONE], // \xad FirstModule
+    [MAYBE_PARTITION, FIELD_NAME, MORE_MODULE, NONE, NONE], // \xae MoreModule
+    [TYPE, NONE, NONE, NONE, NONE], // \xaf Conversion
+    [OPERATOR_AFTER_C, MAYBE_ARGUMENTS, NONE, NONE, NONE], // \xb0 OperatorNameWithC
+    [ARGUMENTS_FIRST, Sym::Byte(b'E'), NONE, NONE, NONE], // \xb1 HeldArguments
+    [NEST, HELD_ARGUMENTS, NONE, NONE, NONE], // \xb2 NestedBase
+    [UNNESTED_NAME, BASE_ARGUMENTS, NONE, NONE, NONE], // \xb3 UnnestedBase
+    [TYPE_AFTER_S, NONE, NONE, NONE, NONE], // \xb4 UnnestedWithS
+    [NAME, MAYBE_TAGS, NONE, NONE, NONE], // \xb5 TaggedSource
+    [ARGUMENTS_FIRST, Sym::Byte(b'E'), HELD_ARGUMENTS, NONE, NONE], // \xb6 BaseArguments
+    [TEMPORARY_NAME, Sym::Byte(b'_'), NONE, NONE, NONE], // \xb7 Temporary
+    [Sym::Byte(b'W'), FIRST_MODULE, NONE, NONE, NONE], // \xb8 ModuleInitializer
+    [CLONE_LETTER, ENCODING, NONE, NONE, NONE], // \xb9 Clone
+    [ENCODING, Sym::Byte(b'E'), ENTITY, NONE, NONE], // \xba LocalTemporary
+    [SOURCE_OR_LOCAL, MAYBE_TAGS, NONE, NONE, NONE], // \xbb TaggedStdType
+    [NAME, MAYBE_TAGS, NONE, NONE, NONE], // \xbc TypeTag
+    [EXPRESSION, Sym::Byte(b'E'), NONE, NONE, NONE], // \xbd Expression
+    [ARGUMENT_AFTER_T, NONE, NONE, NONE, NONE], // \xbe ArgumentWithT
+    [SOLID_BUT_T, NONE, NONE, NONE, NONE], // \xbf PlainArgument
+    [DECIMAL, ARGUMENTS_ALONE, NONE, NONE, NONE], // \xc0 ParameterArgument
+    [DECLARATION_AFTER_T, ONE_ARGUMENT, NONE, NONE, NONE], // \xc1 DeclaredArgument
+    [DECIMAL, LEVELED_PARAMETER, NONE, NONE, NONE], // \xc2 LeveledParameter
+    [LITERAL, Sym::Byte(b'E'), NONE, NONE, NONE], // \xc3 OneLiteral
+    [PACK_LIST, Sym::Byte(b'E'), NONE, NONE, NONE], // \xc4 OnePack
+    [NONE, NONE, NONE, NONE, NONE], // \xc5 AnyType
+    [TYPE, NONE, NONE, NONE, NONE], // \xc6 ValueOf
+    [CONCEPT, NONE, NONE, NONE, NONE], // \xc7 OfConcept
+    [DECLARATIONS, Sym::Byte(b'E'), NONE, NONE, NONE], // \xc8 TemplateOf
+    [Sym::Byte(b'T'), DECLARATION_AFTER_T, NONE, NONE, NONE], // \xc9 PackOf
+    [DECLARATION_AFTER_T, DECLARATIONS, NONE, NONE, NONE], // \xca Declarations
+    [UNNESTED_NAME, HELD_ARGUMENTS, NONE, NONE, NONE], // \xcb NamedConcept
+    [TYPE, EXPRESSION, NONE, NONE, NONE], // \xcc Cast
+    [OPERATOR, ARGUMENTS_ALONE, NONE, NONE, NONE], // \xcd OperatorReference
+    [NAME, ARGUMENTS_ALONE, NONE, NONE, NONE], // \xce SimpleId
+    [MAYBE_RESTRICT, MAYBE_VOLATILE, MAYBE_CONST, PARAMETER_NUMBER, NONE], // \xcf FunctionParameter
+    [ADDRESSED_EXPRESSION, NONE, NONE, NONE, NONE], // \xd0 AddressExpression
+    [EXPRESSION, EXPRESSION, NONE, NONE, NONE], // \xd1 Binary
+    [EXPRESSION, NONE, NONE, NONE, NONE], // \xd2 Unary
+    [CONVERTED_TYPE, NONE, NONE, NONE, NONE], // \xd3 OfType
+    [EXPRESSION, EXPRESSIONS, Sym::Byte(b'E'), NONE, NONE], // \xd4 Call
+    [CONVERTED_TYPE, CONVERT_REST, NONE, NONE, NONE], // \xd5 Convert
+    [FIELD_NAME, DESIGNATED_VALUE, NONE, NONE, NONE], // \xd6 Designated
+    [EXPRESSION, DESIGNATED_VALUE, NONE, NONE, NONE], // \xd7 DesignatedElement
+    [DESTRUCTOR_NAME, NONE, NONE, NONE, NONE], // \xd8 DestructorName
+    [DIGITS, OUTER_REST, NONE, NONE, NONE], // \xd9 OuterParameter
+    [FOLD_OPERATOR, FOLD_OPERAND, NONE, NONE, NONE], // \xda LeftFold
+    [FOLD_OPERATOR, FOLD_OPERAND, NONE, NONE, NONE], // \xdb RightFold
+    [EXPRESSIONS, Sym::Byte(b'E'), NONE, NONE, NONE], // \xdc Braces
+    [MAYBE_BEFORE, EXPRESSION, NONE, NONE, NONE], // \xdd Step
+    [PLACEMENT, TYPE, INITIALIZER, NONE, NONE], // \xde New
+    [EXPRESSION, EXPRESSION, EXPRESSION, NONE, NONE], // \xdf Conditional
+    [REQUIREMENTS, Sym::Byte(b'E'), NONE, NONE, NONE], // \xe0 Requires
+    [REQUIRED_TYPES, NONE, NONE, NONE, NONE], // \xe1 RequiresOf
+    [EXPRESSION, NONE, NONE, NONE, NONE], // \xe2 ExpandExpression
+    [EXPRESSION, NONE, NONE, NONE, NONE], // \xe3 PackSize
+    [UNRESOLVED, NONE, NONE, NONE, NONE], // \xe4 Unresolved
+    [VALUE_PACK, EXPRESSION, NONE, NONE, NONE], // \xe5 PackIndex
+    [TYPE, EXPRESSIONS, Sym::Byte(b'E'), NONE, NONE], // \xe6 TypedBraces
+    [NONE, NONE, NONE, NONE, NONE], // \xe7 Rethrow
+    [EXPRESSION_AFTER_A, NONE, NONE, NONE, NONE], // \xe8 ExpressionA
+    [EXPRESSION_AFTER_C, NONE, NONE, NONE, NONE], // \xe9 ExpressionC
+    [EXPRESSION_AFTER_D, NONE, NONE, NONE, NONE], // \xea ExpressionD
+    [EXPRESSION_AFTER_E, NONE, NONE, NONE, NONE], // \xeb ExpressionE
+    [EXPRESSION_AFTER_F, NONE, NONE, NONE, NONE], // \xec ExpressionF
+    [EXPRESSION_AFTER_G, NONE, NONE, NONE, NONE], // \xed ExpressionG
+    [EXPRESSION_AFTER_I, NONE, NONE, NONE, NONE], // \xee ExpressionI
+    [EXPRESSION_AFTER_L, NONE, NONE, NONE, NONE], // \xef ExpressionL
+    [EXPRESSION_AFTER_M, NONE, NONE, NONE, NONE], // \xf0 ExpressionM
+    [EXPRESSION_AFTER_N, NONE, NONE, NONE, NONE], // \xf1 ExpressionN
+    [EXPRESSION_AFTER_O, NONE, NONE, NONE, NONE], // \xf2 ExpressionO
+    [EXPRESSION_AFTER_P, NONE, NONE, NONE, NONE], // \xf3 ExpressionP
+    [EXPRESSION_AFTER_Q, NONE, NONE, NONE, NONE], // \xf4 ExpressionQ
+    [EXPRESSION_AFTER_R, NONE, NONE, NONE, NONE], // \xf5 ExpressionR
+    [EXPRESSION_AFTER_S, NONE, NONE, NONE, NONE], // \xf6 ExpressionS
+    [EXPRESSION_AFTER_T, NONE, NONE, NONE, NONE], // \xf7 ExpressionT
+    [EXPRESSION_PARAMETER, NONE, NONE, NONE, NONE], // \xf8 ExpressionWithT
+    [DECIMAL, ARGUMENTS_ALONE, NONE, NONE, NONE], // \xf9 ParameterExpression
+    [DECIMAL, UNLEVELED_EXPRESSION, NONE, NONE, NONE], // \xfa LeveledExpression
+    [ADDRESSED_LITERAL, Sym::Byte(b'E'), NONE, NONE, NONE], // \xfb AddressedLiteral
+    [EXPRESSION, EXPRESSIONS, NONE, NONE, NONE], // \xfc Expressions
+    [FOLD_OPERATOR_AFTER_L, NONE, NONE, NONE, NONE], // \xfd FoldOperatorL
+    [FOLD_PACK, NONE, NONE, NONE, NONE], // \xfe FoldOperand
+    [EXPRESSION, NONE, NONE, NONE, NONE], // \xff FoldPack
+    [TYPE, NONE, NONE, NONE, NONE], // \x00 TypePack
+    [DESIGNATOR_AFTER_D, NONE, NONE, NONE, NONE], // \x01 Designators
+    [PLAIN_VALUE, NONE, NONE, NONE, NONE], // \x02 DesignatedValue
+    [NAME, NONE, NONE, NONE, NONE], // \x03 FieldName
+    [SOME_EXPRESSIONS, Sym::Byte(b'_'), NONE, NONE, NONE], // \x04 Placed
+    [INITIALIZER_AFTER_P, NONE, NONE, NONE, NONE], // \x05 Initializer
+    [INITIALIZER_AFTER_I, NONE, NONE, NONE, NONE], // \x06 BracedInitializer
+    [NONE, NONE, NONE, NONE, NONE], // \x07 This
+    [DECIMAL, NONE, NONE, NONE, NONE], // \x08 ParameterNumber
+    [DECLTYPE_AFTER_D, NONE, NONE, NONE, NONE], // \x09 ConvertedDecltype
+    [CONVERTED_TYPE, NONE, NONE, NONE, NONE], // \x0a ConvertedConst
+    [CONVERTED_TYPE, NONE, NONE, NONE, NONE], // \x0b ConvertedPointer
+    [CONVERTED_TYPE, NONE, NONE, NONE, NONE], // \x0c ConvertedReference
+    [CONVERTED_SOLID, NONE, NONE, NONE, NONE], // \x0d ConvertedType
+    [PARAMETER_AFTER_T, NONE, NONE, NONE, NONE], // \x0e ConvertedWithT
+    [UNRESOLVED_TYPE, UNRESOLVED_NAME, NONE, NONE, NONE], // \x0f UnresolvedInType
+    [LEVEL, MORE_LEVELS, NONE, NONE, NONE], // \x10 Levels
+    [UNRESOLVED_TYPE, NONE, NONE, NONE, NONE], // \x11 DestroyedType
+    [EXPRESSION, AFTER_EXPRESSION, NONE, NONE, NONE], // \x12 ExpressionRequirement
+    [TYPE, REQUIREMENTS, NONE, NONE, NONE], // \x13 TypeRequirement
+    [EXPRESSION, REQUIREMENTS, NONE, NONE, NONE], // \x14 NestedRequirement
+    [CONCEPT, REQUIREMENTS, NONE, NONE, NONE], // \x15 ResultRequirement
+    [AFTER_NOEXCEPT, NONE, NONE, NONE, NONE], // \x16 NoexceptRequirement
+    [CONVERTED_TYPE, REQUIRED_TYPES, NONE, NONE, NONE], // \x17 RequiredType
+    [UNRESOLVED_NAME, NONE, NONE, NONE, NONE], // \x18 LevelsEnd
+    [OPERATOR_NAME, NONE, NONE, NONE, NONE], // \x19 UnresolvedOperator
+    [ARRAY_REST, NONE, NONE, NONE, NONE], // \x1a AnyArray
+    [BOUND, Sym::Byte(b'_'), TYPE, NONE, NONE], // \x1b BoundedArray
+    [DECIMAL, TYPE, NONE, NONE, NONE], // \x1c LengthArray
 };
 
 // How many symbols follow each of them, up to an end.
-static AFTER: [u8; 1488] = [
+static AFTER: [u8; 1518] = [
     0, 0, 0, 0, 0, 0, 0, 0, 0, 0, 0, 2, 1, 0, 0, 0, 0, 2, 1, 0, 0, 0, 0, 2, 1, 0, 0, 0, 0, 2, 1, 0,
-    0, 0, 0, 1, 0, 0, 0, 0, 0, 1, 0, 0, 0, 0, 0, 1, 0, 0, 0, 0, 0, 5, 4, 3, 2, 1, 0, 3, 2, 1, 0, 0,
-    0, 1, 0, 0, 0, 0, 0, 1, 0, 0, 0, 0, 0, 1, 0, 0, 0, 0, 0, 2, 1, 0, 0, 0, 0, 2, 1, 0, 0, 0, 0, 1,
-    0, 0, 0, 0, 0, 3, 2, 1, 0, 0, 0, 5, 4, 3, 2, 1, 0, 3, 2, 1, 0, 0, 0, 1, 0, 0, 0, 0, 0, 1, 0, 0,
-    0, 0, 0, 4, 3, 2, 1, 0, 0, 2, 1, 0, 0, 0, 0, 4, 3, 2, 1, 0, 0, 1, 0, 0, 0, 0, 0, 1, 0, 0, 0, 0,
-    0, 1, 0, 0, 0, 0, 0, 4, 3, 2, 1, 0, 0, 2, 1, 0, 0, 0, 0, 2, 1, 0, 0, 0, 0, 1, 0, 0, 0, 0, 0, 1,
+    0, 0, 0, 1, 0, 0, 0, 0, 0, 1, 0, 0, 0, 0, 0, 1, 0, 0, 0, 0, 0, 2, 1, 0, 0, 0, 0, 5, 4, 3, 2, 1,
+    0, 3, 2, 1, 0, 0, 0, 1, 0, 0, 0, 0, 0, 1, 0, 0, 0, 0, 0, 1, 0, 0, 0, 0, 0, 2, 1, 0, 0, 0, 0, 2,
+    1, 0, 0, 0, 0, 1, 0, 0, 0, 0, 0, 3, 2, 1, 0, 0, 0, 5, 4, 3, 2, 1, 0, 3, 2, 1, 0, 0, 0, 1, 0, 0,
+    0, 0, 0, 1, 0, 0, 0, 0, 0, 4, 3, 2, 1, 0, 0, 2, 1, 0, 0, 0, 0, 4, 3, 2, 1, 0, 0, 1, 0, 0, 0, 0,
+    0, 1, 0, 0, 0, 0, 0, 1, 0, 0, 0, 0, 0, 4, 3, 2, 1, 0, 0, 2, 1, 0, 0, 0, 0, 2, 1, 0, 0, 0, 0, 1,
+    0, 0, 0, 0, 0, 1, 0, 0, 0, 0, 0, 2, 1, 0, 0, 0, 0, 2, 1, 0, 0, 0, 0, 2, 1, 0, 0, 0, 0, 2, 1, 0,
+    0, 0, 0, 2, 1, 0, 0, 0, 0, 2, 1, 0, 0, 0, 0, 3, 2, 1, 0, 0, 0, 2, 1, 0, 0, 0, 0, 4, 3, 2, 1, 0,
+    0, 2, 1, 0, 0, 0, 0, 2, 1, 0, 0, 0, 0, 0, 0, 0, 0, 0, 0, 1, 0, 0, 0, 0, 0, 2, 1, 0, 0, 0, 0, 1,
     0, 0, 0, 0, 0, 2, 1, 0, 0, 0, 0, 2, 1, 0, 0, 0, 0, 2, 1, 0, 0, 0, 0, 2, 1, 0, 0, 0, 0, 2, 1, 0,
-    0, 0, 0, 3, 2, 1, 0, 0, 0, 2, 1, 0, 0, 0, 0, 4, 3, 2, 1, 0, 0, 2, 1, 0, 0, 0, 0, 2, 1, 0, 0, 0,
-    0, 0, 0, 0, 0, 0, 0, 1, 0, 0, 0, 0, 0, 2, 1, 0, 0, 0, 0, 1, 0, 0, 0, 0, 0, 2, 1, 0, 0, 0, 0, 2,
-    1, 0, 0, 0, 0, 2, 1, 0, 0, 0, 0, 2, 1, 0, 0, 0, 0, 2, 1, 0, 0, 0, 0, 0, 0, 0, 0, 0, 0, 1, 0, 0,
-    0, 0, 0, 1, 0, 0, 0, 0, 0, 0, 0, 0, 0, 0, 0, 2, 1, 0, 0, 0, 0, 2, 1, 0, 0, 0, 0, 1, 0, 0, 0, 0,
-    0, 0, 0, 0, 0, 0, 0, 2, 1, 0, 0, 0, 0, 4, 3, 2, 1, 0, 0, 1, 0, 0, 0, 0, 0, 3, 2, 1, 0, 0, 0, 2,
-    1, 0, 0, 0, 0, 1, 0, 0, 0, 0, 0, 1, 0, 0, 0, 0, 0, 1, 0, 0, 0, 0, 0, 1, 0, 0, 0, 0, 0, 1, 0, 0,
-    0, 0, 0, 1, 0, 0, 0, 0, 0, 1, 0, 0, 0, 0, 0, 1, 0, 0, 0, 0, 0, 1, 0, 0, 0, 0, 0, 0, 0, 0, 0, 0,
-    0, 3, 2, 1, 0, 0, 0, 4, 3, 2, 1, 0, 0, 2, 1, 0, 0, 0, 0, 1, 0, 0, 0, 0, 0, 2, 1, 0, 0, 0, 0, 2,
-    1, 0, 0, 0, 0, 2, 1, 0, 0, 0, 0, 1, 0, 0, 0, 0, 0, 2, 1, 0, 0, 0, 0, 2, 1, 0, 0, 0, 0, 2, 1, 0,
-    0, 0, 0, 4, 3, 2, 1, 0, 0, 0, 0, 0, 0, 0, 0, 1, 0, 0, 0, 0, 0, 1, 0, 0, 0, 0, 0, 3, 2, 1, 0, 0,
-    0, 1, 0, 0, 0, 0, 0, 1, 0, 0, 0, 0, 0, 1, 0, 0, 0, 0, 0, 1, 0, 0, 0, 0, 0, 0, 0, 0, 0, 0, 0, 1,
-    0, 0, 0, 0, 0, 1, 0, 0, 0, 0, 0, 2, 1, 0, 0, 0, 0, 0, 0, 0, 0, 0, 0, 2, 1, 0, 0, 0, 0, 2, 1, 0,
-    0, 0, 0, 1, 0, 0, 0, 0, 0, 2, 1, 0, 0, 0, 0, 2, 1, 0, 0, 0, 0, 2, 1, 0, 0, 0, 0, 3, 2, 1, 0, 0,
-    0, 3, 2, 1, 0, 0, 0, 2, 1, 0, 0, 0, 0, 3, 2, 1, 0, 0, 0, 2, 1, 0, 0, 0, 0, 2, 1, 0, 0, 0, 0, 1,
-    0, 0, 0, 0, 0, 1, 0, 0, 0, 0, 0, 2, 1, 0, 0, 0, 0, 2, 1, 0, 0, 0, 0, 1, 0, 0, 0, 0, 0, 1, 0, 0,
-    0, 0, 0, 2, 1, 0, 0, 0, 0, 1, 0, 0, 0, 0, 0, 1, 0, 0, 0, 0, 0, 2, 1, 0, 0, 0, 0, 1, 0, 0, 0, 0,
+    0, 0, 0, 0, 0, 0, 0, 0, 0, 1, 0, 0, 0, 0, 0, 1, 0, 0, 0, 0, 0, 0, 0, 0, 0, 0, 0, 2, 1, 0, 0, 0,
+    0, 2, 1, 0, 0, 0, 0, 1, 0, 0, 0, 0, 0, 0, 0, 0, 0, 0, 0, 2, 1, 0, 0, 0, 0, 4, 3, 2, 1, 0, 0, 1,
+    0, 0, 0, 0, 0, 3, 2, 1, 0, 0, 0, 2, 1, 0, 0, 0, 0, 1, 0, 0, 0, 0, 0, 1, 0, 0, 0, 0, 0, 1, 0, 0,
+    0, 0, 0, 1, 0, 0, 0, 0, 0, 1, 0, 0, 0, 0, 0, 1, 0, 0, 0, 0, 0, 1, 0, 0, 0, 0, 0, 1, 0, 0, 0, 0,
+    0, 1, 0, 0, 0, 0, 0, 0, 0, 0, 0, 0, 0, 3, 2, 1, 0, 0, 0, 4, 3, 2, 1, 0, 0, 2, 1, 0, 0, 0, 0, 1,
+    0, 0, 0, 0, 0, 2, 1, 0, 0, 0, 0, 2, 1, 0, 0, 0, 0, 2, 1, 0, 0, 0, 0, 1, 0, 0, 0, 0, 0, 2, 1, 0,
+    0, 0, 0, 2, 1, 0, 0, 0, 0, 2, 1, 0, 0, 0, 0, 4, 3, 2, 1, 0, 0, 0, 0, 0, 0, 0, 0, 1, 0, 0, 0, 0,
+    0, 1, 0, 0, 0, 0, 0, 3, 2, 1, 0, 0, 0, 1, 0, 0, 0, 0, 0, 1, 0, 0, 0, 0, 0, 1, 0, 0, 0, 0, 0, 1,
+    0, 0, 0, 0, 0, 0, 0, 0, 0, 0, 0, 1, 0, 0, 0, 0, 0, 1, 0, 0, 0, 0, 0, 2, 1, 0, 0, 0, 0, 0, 0, 0,
+    0, 0, 0, 2, 1, 0, 0, 0, 0, 2, 1, 0, 0, 0, 0, 1, 0, 0, 0, 0, 0, 2, 1, 0, 0, 0, 0, 2, 1, 0, 0, 0,
+    0, 2, 1, 0, 0, 0, 0, 3, 2, 1, 0, 0, 0, 3, 2, 1, 0, 0, 0, 2, 1, 0, 0, 0, 0, 3, 2, 1, 0, 0, 0, 2,
+    1, 0, 0, 0, 0, 2, 1, 0, 0, 0, 0, 1, 0, 0, 0, 0, 0, 1, 0, 0, 0, 0, 0, 2, 1, 0, 0, 0, 0, 2, 1, 0,
+    0, 0, 0, 1, 0, 0, 0, 0, 0, 1, 0, 0, 0, 0, 0, 2, 1, 0, 0, 0, 0, 1, 0, 0, 0, 0, 0, 1, 0, 0, 0, 0,
+    0, 2, 1, 0, 0, 0, 0, 1, 0, 0, 0, 0, 0, 1, 0, 0, 0, 0, 0, 1, 0, 0, 0, 0, 0, 1, 0, 0, 0, 0, 0, 1,
+    0, 0, 0, 0, 0, 1, 0, 0, 0, 0, 0, 1, 0, 0, 0, 0, 0, 1, 0, 0, 0, 0, 0, 1, 0, 0, 0, 0, 0, 1, 0, 0,
+    0, 0, 0, 1, 0, 0, 0, 0, 0, 1, 0, 0, 0, 0, 0, 1, 0, 0, 0, 0, 0, 1, 0, 0, 0, 0, 0, 1, 0, 0, 0, 0,
+    0, 1, 0, 0, 0, 0, 0, 3, 2, 1, 0, 0, 0, 2, 1, 0, 0, 0, 0, 3, 2, 1, 0, 0, 0, 1, 0, 0, 0, 0, 0, 2,
+    1, 0, 0, 0, 0, 2, 1, 0, 0, 0, 0, 2, 1, 0, 0, 0, 0, 2, 1, 0, 0, 0, 0, 1, 0, 0, 0, 0, 0, 2, 1, 0,
+    0, 0, 0, 3, 2, 1, 0, 0, 0, 2, 1, 0, 0, 0, 0, 2, 1, 0, 0, 0, 0, 2, 1, 0, 0, 0, 0, 3, 2, 1, 0, 0,
+    0, 2, 1, 0, 0, 0, 0, 2, 1, 0, 0, 0, 0, 2, 1, 0, 0, 0, 0, 1, 0, 0, 0, 0, 0, 1, 0, 0, 0, 0, 0, 2,
+    1, 0, 0, 0, 0, 2, 1, 0, 0, 0, 0, 2, 1, 0, 0, 0, 0, 2, 1, 0, 0, 0, 0, 2, 1, 0, 0, 0, 0, 0, 0, 0,
+    0, 0, 0, 1, 0, 0, 0, 0, 0, 1, 0, 0, 0, 0, 0, 2, 1, 0, 0, 0, 0, 2, 1, 0, 0, 0, 0, 2, 1, 0, 0, 0,
+    0, 2, 1, 0, 0, 0, 0, 2, 1, 0, 0, 0, 0, 2, 1, 0, 0, 0, 0, 2, 1, 0, 0, 0, 0, 4, 3, 2, 1, 0, 0, 1,
+    0, 0, 0, 0, 0, 2, 1, 0, 0, 0, 0, 1, 0, 0, 0, 0, 0, 1, 0, 0, 0, 0, 0, 3, 2, 1, 0, 0, 0, 2, 1, 0,
+    0, 0, 0, 2, 1, 0, 0, 0, 0, 2, 1, 0, 0, 0, 0, 1, 0, 0, 0, 0, 0, 2, 1, 0, 0, 0, 0, 2, 1, 0, 0, 0,
+    0, 2, 1, 0, 0, 0, 0, 2, 1, 0, 0, 0, 0, 2, 1, 0, 0, 0, 0, 3, 2, 1, 0, 0, 0, 3, 2, 1, 0, 0, 0, 2,
+    1, 0, 0, 0, 0, 1, 0, 0, 0, 0, 0, 1, 0, 0, 0, 0, 0, 1, 0, 0, 0, 0, 0, 1, 0, 0, 0, 0, 0, 2, 1, 0,
+    0, 0, 0, 3, 2, 1, 0, 0, 0, 0, 0, 0, 0, 0, 0, 1, 0, 0, 0, 0, 0, 1, 0, 0, 0, 0, 0, 1, 0, 0, 0, 0,
     0, 1, 0, 0, 0, 0, 0, 1, 0, 0, 0, 0, 0, 1, 0, 0, 0, 0, 0, 1, 0, 0, 0, 0, 0, 1, 0, 0, 0, 0, 0, 1,
     0, 0, 0, 0, 0, 1, 0, 0, 0, 0, 0, 1, 0, 0, 0, 0, 0, 1, 0, 0, 0, 0, 0, 1, 0, 0, 0, 0, 0, 1, 0, 0,
-    0, 0, 0, 1, 0, 0, 0, 0, 0, 1, 0, 0, 0, 0, 0, 1, 0, 0, 0, 0, 0, 1, 0, 0, 0, 0, 0, 3, 2, 1, 0, 0,
-    0, 1, 0, 0, 0, 0, 0, 2, 1, 0, 0, 0, 0, 2, 1, 0, 0, 0, 0, 2, 1, 0, 0, 0, 0, 2, 1, 0, 0, 0, 0, 1,
-    0, 0, 0, 0, 0, 2, 1, 0, 0, 0, 0, 3, 2, 1, 0, 0, 0, 2, 1, 0, 0, 0, 0, 2, 1, 0, 0, 0, 0, 3, 2, 1,
-    0, 0, 0, 2, 1, 0, 0, 0, 0, 2, 1, 0, 0, 0, 0, 2, 1, 0, 0, 0, 0, 1, 0, 0, 0, 0, 0, 1, 0, 0, 0, 0,
-    0, 2, 1, 0, 0, 0, 0, 2, 1, 0, 0, 0, 0, 2, 1, 0, 0, 0, 0, 2, 1, 0, 0, 0, 0, 2, 1, 0, 0, 0, 0, 0,
-    0, 0, 0, 0, 0, 1, 0, 0, 0, 0, 0, 1, 0, 0, 0, 0, 0, 2, 1, 0, 0, 0, 0, 2, 1, 0, 0, 0, 0, 2, 1, 0,
-    0, 0, 0, 2, 1, 0, 0, 0, 0, 2, 1, 0, 0, 0, 0, 2, 1, 0, 0, 0, 0, 2, 1, 0, 0, 0, 0, 4, 3, 2, 1, 0,
-    0, 1, 0, 0, 0, 0, 0, 2, 1, 0, 0, 0, 0, 1, 0, 0, 0, 0, 0, 1, 0, 0, 0, 0, 0, 3, 2, 1, 0, 0, 0, 2,
-    1, 0, 0, 0, 0, 2, 1, 0, 0, 0, 0, 2, 1, 0, 0, 0, 0, 1, 0, 0, 0, 0, 0, 2, 1, 0, 0, 0, 0, 2, 1, 0,
-    0, 0, 0, 2, 1, 0, 0, 0, 0, 2, 1, 0, 0, 0, 0, 2, 1, 0, 0, 0, 0, 3, 2, 1, 0, 0, 0, 3, 2, 1, 0, 0,
-    0, 2, 1, 0, 0, 0, 0, 1, 0, 0, 0, 0, 0, 1, 0, 0, 0, 0, 0, 1, 0, 0, 0, 0, 0, 1, 0, 0, 0, 0, 0, 2,
-    1, 0, 0, 0, 0, 3, 2, 1, 0, 0, 0, 0, 0, 0, 0, 0, 0, 1, 0, 0, 0, 0, 0, 1, 0, 0, 0, 0, 0, 1, 0, 0,
-    0, 0, 0, 1, 0, 0, 0, 0, 0, 1, 0, 0, 0, 0, 0, 1, 0, 0, 0, 0, 0, 1, 0, 0, 0, 0, 0, 1, 0, 0, 0, 0,
-    0, 1, 0, 0, 0, 0, 0, 1, 0, 0, 0, 0, 0, 1, 0, 0, 0, 0, 0, 1, 0, 0, 0, 0, 0, 1, 0, 0, 0, 0, 0, 1,
-    0, 0, 0, 0, 0, 1, 0, 0, 0, 0, 0, 1, 0, 0, 0, 0, 0, 1, 0, 0, 0, 0, 0, 2, 1, 0, 0, 0, 0, 2, 1, 0,
-    0, 0, 0, 2, 1, 0, 0, 0, 0, 2, 1, 0, 0, 0, 0, 1, 0, 0, 0, 0, 0, 1, 0, 0, 0, 0, 0, 1, 0, 0, 0, 0,
-    0, 1, 0, 0, 0, 0, 0, 1, 0, 0, 0, 0, 0, 1, 0, 0, 0, 0, 0, 1, 0, 0, 0, 0, 0, 2, 1, 0, 0, 0, 0, 1,
-    0, 0, 0, 0, 0, 1, 0, 0, 0, 0, 0, 0, 0, 0, 0, 0, 0, 1, 0, 0, 0, 0, 0, 1, 0, 0, 0, 0, 0, 1, 0, 0,
-    0, 0, 0, 1, 0, 0, 0, 0, 0, 1, 0, 0, 0, 0, 0, 1, 0, 0, 0, 0, 0, 1, 0, 0, 0, 0, 0, 2, 1, 0, 0, 0,
-    0, 2, 1, 0, 0, 0, 0, 1, 0, 0, 0, 0, 0, 2, 1, 0, 0, 0, 0, 2, 1, 0, 0, 0, 0, 2, 1, 0, 0, 0, 0, 2,
-    1, 0, 0, 0, 0, 1, 0, 0, 0, 0, 0, 2, 1, 0, 0, 0, 0, 1, 0, 0, 0, 0, 0, 1, 0, 0, 0, 0, 0, 1, 0, 0,
-    0, 0, 0, 3, 2, 1, 0, 0, 0, 2, 1, 0, 0, 0, 0, 0,
+    0, 0, 0, 1, 0, 0, 0, 0, 0, 1, 0, 0, 0, 0, 0, 1, 0, 0, 0, 0, 0, 2, 1, 0, 0, 0, 0, 2, 1, 0, 0, 0,
+    0, 2, 1, 0, 0, 0, 0, 2, 1, 0, 0, 0, 0, 1, 0, 0, 0, 0, 0, 1, 0, 0, 0, 0, 0, 1, 0, 0, 0, 0, 0, 1,
+    0, 0, 0, 0, 0, 1, 0, 0, 0, 0, 0, 1, 0, 0, 0, 0, 0, 1, 0, 0, 0, 0, 0, 2, 1, 0, 0, 0, 0, 1, 0, 0,
+    0, 0, 0, 1, 0, 0, 0, 0, 0, 0, 0, 0, 0, 0, 0, 1, 0, 0, 0, 0, 0, 1, 0, 0, 0, 0, 0, 1, 0, 0, 0, 0,
+    0, 1, 0, 0, 0, 0, 0, 1, 0, 0, 0, 0, 0, 1, 0, 0, 0, 0, 0, 1, 0, 0, 0, 0, 0, 2, 1, 0, 0, 0, 0, 2,
+    1, 0, 0, 0, 0, 1, 0, 0, 0, 0, 0, 2, 1, 0, 0, 0, 0, 2, 1, 0, 0, 0, 0, 2, 1, 0, 0, 0, 0, 2, 1, 0,
+    0, 0, 0, 1, 0, 0, 0, 0, 0, 2, 1, 0, 0, 0, 0, 1, 0, 0, 0, 0, 0, 1, 0, 0, 0, 0, 0, 1, 0, 0, 0, 0,
+    0, 3, 2, 1, 0, 0, 0, 2, 1, 0, 0, 0, 0, 0,
 ];
 
 /// The number of the rule that a kind takes at a byte, if it takes one.
 #[inline]
 fn number(kind: u16, byte: u8) -> Option<usize>
     requires { kind < abi.kinds }
-    ensures few { IfSome result (λ number. number < 247) }
+    ensures few { IfSome result (λ number. number < 252) }
     ensures rule { (head : Head) → MatchOption result (abi.rule kind byte ≡ None) (λ number. abi.rule kind byte ≡ Some (listed_rule head number)) }
 {
     match letter_in(&LETTERS[kind as usize], byte) {

@@ -8,70 +8,70 @@ use crate::table::{FIRST_LETTER, HEADS, SYMBOLS};
 use sym_shape::{Rule, letter_in, place_of, symbols_from};
 
 // For each kind a row: for each byte from `$` to `z` the letter of the production that the kind takes there.
-static WIDE_LETTERS: [[u8; 87]; 164] = [
+static WIDE_LETTERS: [[u8; 87]; 169] = [
     // $%&'()*+,-./0123456789:;<=>?@ABCDEFGHIJKLMNOPQRSTUVWXYZ[\]^_`abcdefghijklmnopqrstuvwxyz
-    *b"                                                           *                           ", // Symbol
-    *b"          +                                                                            ", // MaybeSuffix
-    *b",         , ,,,,,,,,,,       ,,,,,,,,,,,,,,,,,,,,,,,,,,    , ,,,,,,,,,,,,,,,,,,,,,,,,,,", // SuffixFirst
-    *b",         , ,,,,,,,,,,       ,,,,,,,,,,,,,,,,,,,,,,,,,,    , ,,,,,,,,,,,,,,,,,,,,,,,,,,", // SuffixMore
-    *b"            //////////             .    / /    /-/    /      / /// / /  ///// //       ", // Encoding
-    *b"                             5 6    40         00 04           3    1             2    ", // Special
-    *b"                                                                    7             8    ", // CallOffset
-    *b"            ::::::::::                                                    9            ", // Integer
-    *b"            $$$$$$$$$$                  \" )    ; #    <      % %%% % %  %%%%% %%       ", // CompleteName
+    *b"                                                           +                           ", // Symbol
+    *b"          ,                                                                            ", // MaybeSuffix
+    *b"-         - ----------       --------------------------    - --------------------------", // SuffixFirst
+    *b"-         - ----------       --------------------------    - --------------------------", // SuffixMore
+    *b"            0000000000             /    0 0    0.0 0  0      0 000 0 0  00000 00       ", // Encoding
+    *b"                             6 7    51         11 15           4    2             3    ", // Special
+    *b"                                                                    8             9    ", // CallOffset
+    *b"            ;;;;;;;;;;                                                    :            ", // Integer
+    *b"            $$$$$$$$$$                  \" *    < # )  =      % %%% % %  %%%%% %%       ", // CompleteName
     *b"                                                                              !        ", // MaybeRestrict
     *b"                                                  !                                    ", // MaybeVolatile
     *b"                                       !                                               ", // MaybeConst
     *b"                                    !      !  !                                        ", // MaybeRef
-    *b"            >>>>>>>>>>       >>>>>>>>>>>>>>>>>>>>>>>>>>    > >> >    >     >   >=      ", // NameAfterS
-    *b"            ((((((((((                  &        '           ? ??? ? ?  ????? ??       ", // Unqualified
-    *b"            DDDDDDDDDD          E       B      @AC                                     ", // Nest
-    *b"            GGGGGGGGGG       GGGGGGGGGGGGGGGGGGGGGGGGGG    G GG G    G     G   GF      ", // NestAfterS
-    *b"            IIIIIIIIII        JII I  H  II       I           I III I I  IIIII II       ", // NestRest
-    *b"            IIIIIIIIII         IIKI     II       I           I III I I  IIIII II       ", // NestTail
-    *b"            $$$$$$$$$$         LM Q     \"P       #           O NOO O O  OOOOO OO       ", // Component
-    *b"             SSSSS                   R                                                 ", // ConstructorAfterC
+    *b"            ??????????       ??????????????????????????    ? ?? ?    ?     ?   ?>      ", // NameAfterS
+    *b"            ((((((((((                  &        '           @ @@@ @ @  @@@@@ @@       ", // Unqualified
+    *b"            EEEEEEEEEE          G       C      ABD F                                   ", // Nest
+    *b"            IIIIIIIIII       IIIIIIIIIIIIIIIIIIIIIIIIII    I II I    I     I   IH      ", // NestAfterS
+    *b"            KKKKKKKKKK        LKK K  J  KK       K K         K KKK K K  KKKKK KK       ", // NestRest
+    *b"            KKKKKKKKKK         KKMK     KK       K K         K KKK K K  KKKKK KK       ", // NestTail
+    *b"            $$$$$$$$$$         NO S     \"R       # )         Q PQQ Q Q  QQQQQ QQ       ", // Component
+    *b"             UUUUU                   T                                                 ", // ConstructorAfterC
     *b"             !!!!!                                                                     ", // ConstructorDigit
     *b"             !! !!                                                                     ", // InheritedDigit
     *b"            !!! !!                                                                     ", // DestructorDigit
-    *b"            UUUUUUUUUU       UUUUUUUUUUUUUUUUUUUUUUUUUU    U TT T    T     T   T       ", // Abbreviation
-    *b"            $$$$$$$$$$                  \" )      #              X              W       ", // Entity
-    *b"            $$$$$$$$$$                  \" V      #              Y                      ", // TypeEntity
-    *b"                                                           Z                           ", // MaybeDiscriminator
-    *b"            [[[[[[[[[[                                     \\                           ", // DiscriminatorRest
-    *b"                                                                        ]       ^      ", // Anonymous
-    *b"            cccccccccc       c cd c    a ccbc bccc`   c      cccccccccc cccc  _cccccccc", // Type
-    *b"            ffffffffff       f fe f      ffbf bfff    f      ffffffffff ffff   ffffffff", // Plain
-    *b"            cccccccccc       c cg c    a ccbc bccc`   c      cccccccccc cccc  _cccccccc", // Item
-    *b"            cccccccccc       c cg c    a cc c  ccc`   c      cccccccccc cccc  _cccccccc", // ItemButRef
-    *b"                              i   i    i        ii           i iiii ii i  iih  iiii  i ", // ItemAfterD
-    *b"                              o   m    n        po           j jjjj jj n  jl   jpjk  q ", // AfterD
-    *b"            $$$$$$$$$$       y {  z      sV r  ut#    v      wwwwwwwwww wwww   wwxwwwww", // Solid
+    *b"            WWWWWWWWWW       WWWWWWWWWWWWWWWWWWWWWWWWWW    W VV V    V     V   V       ", // Abbreviation
+    *b"            $$$$$$$$$$                  \" *      #              Z              Y       ", // Entity
+    *b"            $$$$$$$$$$                  \" X      #              [                      ", // TypeEntity
+    *b"                                                           \\                           ", // MaybeDiscriminator
+    *b"            ]]]]]]]]]]                                     ^                           ", // DiscriminatorRest
+    *b"                                                                        _       `      ", // Anonymous
+    *b"            eeeeeeeeee       e ef e    c eede deeebe  e      eeeeeeeeee eeee  aeeeeeeee", // Type
+    *b"            hhhhhhhhhh       h hg h      hhdh dhhh h  h      hhhhhhhhhh hhhh   hhhhhhhh", // Plain
+    *b"            eeeeeeeeee       e ei e    c eede deeebe  e      eeeeeeeeee eeee  aeeeeeeee", // Item
+    *b"            eeeeeeeeee       e ei e    c ee e  eeebe  e      eeeeeeeeee eeee  aeeeeeeee", // ItemButRef
+    *b"                              k   k    k        kk           k kkkk kk k  kkj  kkkk  k ", // ItemAfterD
+    *b"                              q   o    p        rq           l llll ll p  ln   lrlm  s ", // AfterD
+    *b"            $$$$$$$$$$       { }  |      uX t  wv# )  x      yyyyyyyyyy yyyy   yyzyyyyy", // Solid
     *b"                                                     !                                 ", // MaybeCLinkage
-    *b"            ||||||||||                                                                 ", // BitWidth
-    *b"            ~~~~~~~~~~       ~~~~~~~~~~~~~~~~~~~~~~~~~~    ~ ~~ ~    ~     ~   ~}      ", // TypeAfterS
+    *b"            ~~~~~~~~~~                                                                 ", // BitWidth
+    *b"            \x80\x80\x80\x80\x80\x80\x80\x80\x80\x80       \x80\x80\x80\x80\x80\x80\x80\x80\x80\x80\x80\x80\x80\x80\x80\x80\x80\x80\x80\x80\x80\x80\x80\x80\x80\x80    \x80 \x80\x80 \x80    \x80     \x80   \x80\x7f      ", // TypeAfterS
     *b"            ((((((((((                  &        '                                     ", // SourceOrLocal
-    *b"            \x82\x82\x82\x82\x82\x82\x82\x82\x82\x82       \x82 \x82\x82\x7f\x82    \x82 \x82\x82\x81\x82 \x80\x82\x82\x82\x82   \x82      \x82\x82\x82\x82\x82\x82\x82\x82\x82\x82 \x82\x82\x82\x82  \x82\x82\x82\x82\x82\x82\x82\x82\x82", // FunctionRest
-    *b"            \x84\x84\x84\x84\x84\x84\x84\x84\x84\x84       \x84 \x84\x84\x83\x84    \x84 \x84\x84\x84\x84 \x84\x84\x84\x84\x84   \x84      \x84\x84\x84\x84\x84\x84\x84\x84\x84\x84 \x84\x84\x84\x84  \x84\x84\x84\x84\x84\x84\x84\x84\x84", // AfterR
-    *b"            \x85\x85\x85\x85\x85\x85\x85\x85\x85\x85       \x85 \x85\x85\x83\x85    \x85 \x85\x85\x85\x85 \x85\x85\x85\x85\x85   \x85      \x85\x85\x85\x85\x85\x85\x85\x85\x85\x85 \x85\x85\x85\x85  \x85\x85\x85\x85\x85\x85\x85\x85\x85", // AfterO
-    *b"            \x87\x87\x87\x87\x87\x87\x87\x87\x87\x87       \x87 \x87\x87 \x87    \x87 \x87\x87\x87\x87\x86\x87\x87\x87\x87\x87   \x87      \x87\x87\x87\x87\x87\x87\x87\x87\x87\x87 \x87\x87\x87\x87  \x87\x87\x87\x87\x87\x87\x87\x87\x87", // Items
-    *b"                              \x89      \x88                                                 ", // MaybeArguments
-    *b"                                     \x88                                                 ", // Arguments
-    *b"            \x8c\x8c\x8c\x8c\x8c\x8c\x8c\x8c\x8c\x8c       \x8c \x8c\x8c \x8c   \x8a\x8c\x8b\x8c\x8c\x8c\x8c\x86\x8c\x8c\x8c\x8c\x8c \x8c \x8c      \x8c\x8c\x8c\x8c\x8c\x8c\x8c\x8c\x8c\x8c \x8c\x8c\x8c\x8c  \x8c\x8c\x8c\x8c\x8c\x8c\x8c\x8c\x8c", // ArgumentList
-    *b"            \x8e\x8e\x8e\x8e\x8e\x8e\x8e\x8e\x8e\x8e       \x8e \x8e\x8e \x8e    \x8e\x8d\x8e\x8e\x8e\x8e \x8e\x8e\x8e\x8e\x8e \x8e \x8e      \x8e\x8e\x8e\x8e\x8e\x8e\x8e\x8e\x8e\x8e \x8e\x8e\x8e\x8e  \x8e\x8e\x8e\x8e\x8e\x8e\x8e\x8e\x8e", // PackList
-    *b"            \x92\x92\x92\x92\x92\x92\x92\x92\x92\x92          \x91      \x92 \x92\x92 \x92  \x92\x92\x92\x92   \x92    \x8f \x92\x90\x92\x93\x93\x93\x93\x92\x92\x92 \x92\x92\x92\x92   \x92\x92  \x92\x92\x92 ", // Literal
+    *b"            \x84\x84\x84\x84\x84\x84\x84\x84\x84\x84       \x84 \x84\x84\x81\x84    \x84 \x84\x84\x83\x84 \x82\x84\x84\x84\x84\x84  \x84      \x84\x84\x84\x84\x84\x84\x84\x84\x84\x84 \x84\x84\x84\x84  \x84\x84\x84\x84\x84\x84\x84\x84\x84", // FunctionRest
+    *b"            \x86\x86\x86\x86\x86\x86\x86\x86\x86\x86       \x86 \x86\x86\x85\x86    \x86 \x86\x86\x86\x86 \x86\x86\x86\x86\x86\x86  \x86      \x86\x86\x86\x86\x86\x86\x86\x86\x86\x86 \x86\x86\x86\x86  \x86\x86\x86\x86\x86\x86\x86\x86\x86", // AfterR
+    *b"            \x87\x87\x87\x87\x87\x87\x87\x87\x87\x87       \x87 \x87\x87\x85\x87    \x87 \x87\x87\x87\x87 \x87\x87\x87\x87\x87\x87  \x87      \x87\x87\x87\x87\x87\x87\x87\x87\x87\x87 \x87\x87\x87\x87  \x87\x87\x87\x87\x87\x87\x87\x87\x87", // AfterO
+    *b"            \x89\x89\x89\x89\x89\x89\x89\x89\x89\x89       \x89 \x89\x89 \x89    \x89 \x89\x89\x89\x89\x88\x89\x89\x89\x89\x89\x89  \x89      \x89\x89\x89\x89\x89\x89\x89\x89\x89\x89 \x89\x89\x89\x89  \x89\x89\x89\x89\x89\x89\x89\x89\x89", // Items
+    *b"                              \x8b      \x8a                                                 ", // MaybeArguments
+    *b"                                     \x8a                                                 ", // Arguments
+    *b"            \x8e\x8e\x8e\x8e\x8e\x8e\x8e\x8e\x8e\x8e       \x8e \x8e\x8e \x8e   \x8c\x8e\x8d\x8e\x8e\x8e\x8e\x88\x8e\x8e\x8e\x8e\x8e\x8e\x8e \x8e      \x8e\x8e\x8e\x8e\x8e\x8e\x8e\x8e\x8e\x8e \x8e\x8e\x8e\x8e  \x8e\x8e\x8e\x8e\x8e\x8e\x8e\x8e\x8e", // ArgumentList
+    *b"            \x90\x90\x90\x90\x90\x90\x90\x90\x90\x90       \x90 \x90\x90 \x90    \x90\x8f\x90\x90\x90\x90 \x90\x90\x90\x90\x90\x90\x90 \x90      \x90\x90\x90\x90\x90\x90\x90\x90\x90\x90 \x90\x90\x90\x90  \x90\x90\x90\x90\x90\x90\x90\x90\x90", // PackList
+    *b"            \x94\x94\x94\x94\x94\x94\x94\x94\x94\x94          \x93      \x94 \x94\x94 \x94  \x94\x94\x94\x94\x94  \x94    \x91 \x94\x92\x94\x95\x95\x95\x95\x94\x94\x94 \x94\x94\x94\x94   \x94\x94  \x94\x94\x94 ", // Literal
     *b"            !!                                                                         ", // Bit
-    *b"                                  \x96                                  \x95    \x94    \x95 \x95     ", // LiteralAfterD
-    *b"                                                                wwww                   ", // FloatType
-    *b"                                  m                                                    ", // SizedFloatType
-    *b"            \x97\x97\x97\x97\x97\x97\x97\x97\x97\x97                                       \x97\x97\x97\x97\x97\x97                    ", // HexText
-    *b"            \x98\x98\x98\x98\x98\x98\x98\x98\x98\x98                                       \x98\x98\x98\x98\x98\x98                    ", // HexDigits
-    *b"            \x98\x98\x98\x98\x98\x98\x98\x98\x98\x98                                       \x98\x98\x98\x98\x98\x98                    ", // HexMore
+    *b"                                  \x98                                  \x97    \x96    \x97 \x97     ", // LiteralAfterD
+    *b"                                                                yyyy                   ", // FloatType
+    *b"                                  o                                                    ", // SizedFloatType
+    *b"            \x99\x99\x99\x99\x99\x99\x99\x99\x99\x99                                       \x99\x99\x99\x99\x99\x99                    ", // HexText
+    *b"            \x9a\x9a\x9a\x9a\x9a\x9a\x9a\x9a\x9a\x9a                                       \x9a\x9a\x9a\x9a\x9a\x9a                    ", // HexDigits
+    *b"            \x9a\x9a\x9a\x9a\x9a\x9a\x9a\x9a\x9a\x9a                                       \x9a\x9a\x9a\x9a\x9a\x9a                    ", // HexMore
     *b"            !                                                                          ", // MaybeZero
-    *b"            $$$$$$$$$$                 \x9a sV r  ut#\x99   v      w w    www wwww   ww  www ", // LiteralType
-    *b"            \x9b\x9b\x9b\x9b\x9b\x9b\x9b\x9b\x9b\x9b                   \x9b\x9b \x9b  \x9b\x9b\x9b    \x9b      \x9b \x9b    \x9b\x9b\x9b \x9b\x9b\x9b\x9b   \x9b\x9b  \x9b\x9b\x9b ", // LiteralPlain
-    *b"            $$$$$$$$$$                   sV r  ut#    v      w w    www wwww   ww  www ", // LiteralSolid
-    *b"                                                             \x9e \xa0\x9d\xa4 \xa8 \xa7  \xa5\xa1\x9c\xa3\x9f \xa2\xa6       ", // Operator
+    *b"            $$$$$$$$$$                 \x9c uX t  wv#\x9b)  x      y y    yyy yyyy   yy  yyy ", // LiteralType
+    *b"            \x9d\x9d\x9d\x9d\x9d\x9d\x9d\x9d\x9d\x9d                   \x9d\x9d \x9d  \x9d\x9d\x9d \x9d  \x9d      \x9d \x9d    \x9d\x9d\x9d \x9d\x9d\x9d\x9d   \x9d\x9d  \x9d\x9d\x9d ", // LiteralPlain
+    *b"            $$$$$$$$$$                   uX t  wv# )  x      y y    yyy yyyy   yy  yyy ", // LiteralSolid
+    *b"                                                             \xa0 \xa2\x9f\xa6 \xaa \xa9  \xa7\xa3\x9e\xa5\xa1 \xa4\xa8       ", // Operator
     *b"                                                             !   ! !            !  !   ", // OperatorAfterN
     *b"                                                  !          !   !      !         !    ", // OperatorAfterD
     *b"                                          !    !             !  !         !        !   ", // OperatorAfterA
@@ -81,106 +81,111 @@ static WIDE_LETTERS: [[u8; 87]; 164] = [
     *b"                                         !     !                         !     !       ", // OperatorAfterR
     *b"                                              !                            !  !        ", // OperatorAfterO
     *b"                                           !                               ! !         ", // OperatorAfterE
-    *b"                                               !                 !   \xa9         !!      ", // OperatorAfterL
+    *b"                                               !                 !   \xab         !!      ", // OperatorAfterL
     *b"                                                                               !       ", // OperatorAfterS
     *b"                                                                                    !  ", // OperatorAfterI
     *b"                                                                 !              !      ", // OperatorAfterG
-    *b"            IIIIIIIIII         II I  \xaa  II       I           I III I I  IIIII II       ", // NestRestOrEnd
-    *b"                                     \x88                                                 ", // ArgumentsAlone
-    *b"            IIIIIIIIII         II I  H  II       I           I III I I  IIIII II       ", // NestRestAlone
+    *b"            KKKKKKKKKK         KK K  \xac  KK       K K         K KKK K K  KKKKK KK       ", // NestRestOrEnd
+    *b"                                     \x8a                                                 ", // ArgumentsAlone
+    *b"            KKKKKKKKKK         KK K  J  KK       K K         K KKK K K  KKKKK KK       ", // NestRestAlone
+    *b"            \xad\xad\xad\xad\xad\xad\xad\xad\xad\xad                                                                 ", // FirstModule
+    *b"                                                   \xae                                   ", // MoreModule
+    *b"                                            !                                          ", // MaybePartition
+    *b"            $$$$$$$$$$                  \"        #           % %%% % %  %%%%% %%       ", // NameAfterModule
+    *b"                                                   )                                   ", // NameInModule
     *b"                                         !                                             ", // HolderMark
-    *b"            $$$$$$$$$$         LM       \"        #           O NOO O O  OOOOO OO       ", // HeldComponent
+    *b"            $$$$$$$$$$         NO       \"        # )         Q PQQ Q Q  QQQQQ QQ       ", // HeldComponent
     *b"                                                           !  !                     !  ", // FloatEnd
-    *b"                                                                        \xac\xac \xac      \xab    ", // ComponentAfterC
-    *b"                                                             \x9e  \x9d\xa4 \xa8 \xa7  \xa5\xa1\x9c\xa3\x9f \xa2\xa6       ", // OtherOperator
-    *b"                                     \xad                                                 ", // HeldArguments
-    *b"            \xaf\xaf\xaf\xaf\xaf\xaf\xaf\xaf\xaf\xaf                    \xae    \xaf      v                                ", // BaseClass
-    *b"            \xb1\xb1\xb1\xb1\xb1\xb1\xb1\xb1\xb1\xb1                         \xb0                                       ", // UnnestedName
-    *b"                                     \xb2                                                 ", // BaseArguments
-    *b"            \x8c\x8c\x8c\x8c\x8c\x8c\x8c\x8c\x8c\x8c       \x8c \x8c\x8c \x8c  \x8a\x8a\x8c\x8b\x8c\x8c\x8c\x8c\x86\x8c\x8c\x8c\x8c\x8c \x8c \x8c      \x8c\x8c\x8c\x8c\x8c\x8c\x8c\x8c\x8c\x8c \x8c\x8c\x8c\x8c  \x8c\x8c\x8c\x8c\x8c\x8c\x8c\x8c\x8c", // ArgumentsFirst
-    *b"            $$$$$$$$$$                  \" )      #                                     ", // PlainEntity
-    *b"            $$$$$$$$$$                  \" V      #                                     ", // PlainTypeEntity
+    *b"                                                                        \xb0\xb0 \xb0      \xaf    ", // ComponentAfterC
+    *b"                                                             \xa0  \x9f\xa6 \xaa \xa9  \xa7\xa3\x9e\xa5\xa1 \xa4\xa8       ", // OtherOperator
+    *b"                                     \xb1                                                 ", // HeldArguments
+    *b"            \xb3\xb3\xb3\xb3\xb3\xb3\xb3\xb3\xb3\xb3                    \xb2    \xb3      x                                ", // BaseClass
+    *b"            \xb5\xb5\xb5\xb5\xb5\xb5\xb5\xb5\xb5\xb5                         \xb4                                       ", // UnnestedName
+    *b"                                     \xb6                                                 ", // BaseArguments
+    *b"            \x8e\x8e\x8e\x8e\x8e\x8e\x8e\x8e\x8e\x8e       \x8e \x8e\x8e \x8e  \x8c\x8c\x8e\x8d\x8e\x8e\x8e\x8e\x88\x8e\x8e\x8e\x8e\x8e\x8e\x8e \x8e      \x8e\x8e\x8e\x8e\x8e\x8e\x8e\x8e\x8e\x8e \x8e\x8e\x8e\x8e  \x8e\x8e\x8e\x8e\x8e\x8e\x8e\x8e\x8e", // ArgumentsFirst
+    *b"            $$$$$$$$$$                  \" *      #                                     ", // PlainEntity
+    *b"            $$$$$$$$$$                  \" X      #                                     ", // PlainTypeEntity
     *b"                                   !                                                   ", // SpecialMark
-    *b"                                              \xb3 \xb4 4                                    ", // SpecialAfterG
-    *b"            $$$$$$$$$$                  \" )    ; #    \xb5                                ", // TemporaryName
+    *b"                                     \xb8        \xb7 \xb9 5                                    ", // SpecialAfterG
+    *b"            $$$$$$$$$$                  \" *    < #    \xba                                ", // TemporaryName
     *b"                                                                          !     !      ", // CloneLetter
-    *b"                                                                                \xb6      ", // TypeInStd
-    *b"                              \xb7                                                        ", // MaybeTags
-    *b"            \xba\xba\xba\xba\xba\xba\xba\xba\xba\xba       \xba \xbag \xba    a \xba\xbab\xba b\xba\xb9\xba` \xb8 \xba      \xba\xba\xba\xba\xba\xba\xba\xba\xba\xba \xba\xba\xba\xba  _\xba\xba\xba\xba\xba\xba\xba\xba", // Argument
-    *b"            \xbb\xbb\xbb\xbb\xbb\xbb\xbb\xbb\xbb\xbb                  \xbd                  \xbb           \xbc  \xbc \xbc   \xbc    \xbc ", // ArgumentAfterT
-    *b"            \xbb\xbb\xbb\xbb\xbb\xbb\xbb\xbb\xbb\xbb                                     \xbb                           ", // LeveledParameter
-    *b"            \xba\xba\xba\xba\xba\xba\xba\xba\xba\xba       \xba \xbag \xba   \xbfa\xbe\xba\xbab\xba b\xba\xb9\xba` \xb8 \xba      \xba\xba\xba\xba\xba\xba\xba\xba\xba\xba \xba\xba\xba\xba  _\xba\xba\xba\xba\xba\xba\xba\xba", // OneArgument
-    *b"                                                                       \xc2  \xc1 \xc4   \xc3    \xc0 ", // DeclarationAfterT
-    *b"                                                \xc5                                      ", // Declarations
-    *b"            \xc6\xc6\xc6\xc6\xc6\xc6\xc6\xc6\xc6\xc6                    V    \xc6                                       ", // Concept
-    *b"            $$$$$$$$$$       y {  z      sV r  u #    v      wwwwwwwwww wwww   wwxwwwww", // SolidButT
-    *b"            \xc9\xc9\xc9\xc9\xc9\xc9\xc9\xc9\xc9\xc9                  \xbe       \xf3            \xe3 \xe4\xe5\xe6\xe7\xe8 \xe9  \xea\xeb\xec\xed\xee\xef\xf0\xf1\xf2      ", // Expression
-    *b"            \xf4\xf4\xf4\xf4\xf4\xf4\xf4\xf4\xf4\xf4                  \xf5                  \xf4                           ", // ExpressionParameter
-    *b"            \xf4\xf4\xf4\xf4\xf4\xf4\xf4\xf4\xf4\xf4                                     \xf4                           ", // UnleveledExpression
-    *b"            \xc9\xc9\xc9\xc9\xc9\xc9\xc9\xc9\xc9\xc9                  \xf6       \xf3            \xe3 \xe4\xe5\xe6\xe7\xe8 \xe9  \xea\xeb\xec\xed\xee\xef\xf0\xf1\xf2      ", // AddressedExpression
-    *b"            \x92\x92\x92\x92\x92\x92\x92\x92\x92\x92          \x91      \x92 \x92\x92 \x92  \x92\x92\x92\x92   \x92    \x8f \x92\x90\x92\x93\x93\x93\x93\x92\x92\x92 \x92\x92\x92\x92   \x92\x92  \x92\x92\x92 ", // AddressedLiteral
-    *b"                                          \xcc    \xcc             \xcc  \xcb         \xcc     \xce  \xcd  \xcd", // ExpressionAfterA
-    *b"                                                               \xc7        \xcf\xcc \xcd\xcf     \xd0    ", // ExpressionAfterC
-    *b"                                                  \xcc          \xcd \xc7 \xcd   \xd1  \xcd \xd3    \xcc\xcc \xcc \xd2  ", // ExpressionAfterD
-    *b"                                           \xcc                               \xcc \xcc         ", // ExpressionAfterE
-    *b"                                        \xd4                               \xd5   \xca \xd6        ", // ExpressionAfterF
-    *b"                                                                 \xcc             \xcd\xcc      ", // ExpressionAfterG
-    *b"                                                                        \xd7           \xcc  ", // ExpressionAfterI
-    *b"                                               \xcc                 \xcc             \xcc\xcc      ", // ExpressionAfterL
-    *b"                                     \xcc  \xcc                            \xcc  \xcc\xd8             ", // ExpressionAfterM
-    *b"                                                             \xd9   \xcc \xcd            \xcd  \xd9\xcd  ", // ExpressionAfterN
-    *b"                                              \xcc                           \xc8\xcc  \xcc        ", // ExpressionAfterO
-    *b"                                        \xcc                               \xcc\xcc  \xd8  \xcd\xcc      ", // ExpressionAfterP
-    *b"                                                                                 \xda     ", // ExpressionAfterQ
-    *b"                                         \xcc   \xdc \xcc               \xc7         \xcc   \xdb \xcc       ", // ExpressionAfterR
-    *b"                                                      \xde        \xc7            \xdd \xdf\xcc\xce    \xe0\xcd", // ExpressionAfterS
-    *b"                                                                 \xcd   \xce  \xe1     \xe2    \xcd   ", // ExpressionAfterT
-    *b"            \xf7\xf7\xf7\xf7\xf7\xf7\xf7\xf7\xf7\xf7                  \xf7       \xf7            \xf7 \xf7\xf7\xf7\xf7\xf7 \xf7  \xf7\xf7\xf7\xf7\xf7\xf7\xf7\xf7\xf7      ", // Expressions
+    *b"                                                                                \xbb      ", // TypeInStd
+    *b"                              \xbc                                                        ", // MaybeTags
+    *b"            \xbf\xbf\xbf\xbf\xbf\xbf\xbf\xbf\xbf\xbf       \xbf \xbfi \xbf    c \xbf\xbfd\xbf d\xbf\xbe\xbfb\xbf\xbd \xbf      \xbf\xbf\xbf\xbf\xbf\xbf\xbf\xbf\xbf\xbf \xbf\xbf\xbf\xbf  a\xbf\xbf\xbf\xbf\xbf\xbf\xbf\xbf", // Argument
+    *b"            \xc0\xc0\xc0\xc0\xc0\xc0\xc0\xc0\xc0\xc0                  \xc2                  \xc0           \xc1  \xc1 \xc1   \xc1    \xc1 ", // ArgumentAfterT
+    *b"            \xc0\xc0\xc0\xc0\xc0\xc0\xc0\xc0\xc0\xc0                                     \xc0                           ", // LeveledParameter
+    *b"            \xbf\xbf\xbf\xbf\xbf\xbf\xbf\xbf\xbf\xbf       \xbf \xbfi \xbf   \xc4c\xc3\xbf\xbfd\xbf d\xbf\xbe\xbfb\xbf\xbd \xbf      \xbf\xbf\xbf\xbf\xbf\xbf\xbf\xbf\xbf\xbf \xbf\xbf\xbf\xbf  a\xbf\xbf\xbf\xbf\xbf\xbf\xbf\xbf", // OneArgument
+    *b"                                                                       \xc7  \xc6 \xc9   \xc8    \xc5 ", // DeclarationAfterT
+    *b"                                                \xca                                      ", // Declarations
+    *b"            \xcb\xcb\xcb\xcb\xcb\xcb\xcb\xcb\xcb\xcb                    X    \xcb                                       ", // Concept
+    *b"            $$$$$$$$$$       { }  |      uX t  w # )  x      yyyyyyyyyy yyyy   yyzyyyyy", // SolidButT
+    *b"            \xce\xce\xce\xce\xce\xce\xce\xce\xce\xce                  \xc3       \xf8            \xe8 \xe9\xea\xeb\xec\xed \xee  \xef\xf0\xf1\xf2\xf3\xf4\xf5\xf6\xf7      ", // Expression
+    *b"            \xf9\xf9\xf9\xf9\xf9\xf9\xf9\xf9\xf9\xf9                  \xfa                  \xf9                           ", // ExpressionParameter
+    *b"            \xf9\xf9\xf9\xf9\xf9\xf9\xf9\xf9\xf9\xf9                                     \xf9                           ", // UnleveledExpression
+    *b"            \xce\xce\xce\xce\xce\xce\xce\xce\xce\xce                  \xfb       \xf8            \xe8 \xe9\xea\xeb\xec\xed \xee  \xef\xf0\xf1\xf2\xf3\xf4\xf5\xf6\xf7      ", // AddressedExpression
+    *b"            \x94\x94\x94\x94\x94\x94\x94\x94\x94\x94          \x93      \x94 \x94\x94 \x94  \x94\x94\x94\x94\x94  \x94    \x91 \x94\x92\x94\x95\x95\x95\x95\x94\x94\x94 \x94\x94\x94\x94   \x94\x94  \x94\x94\x94 ", // AddressedLiteral
+    *b"                                          \xd1    \xd1             \xd1  \xd0         \xd1     \xd3  \xd2  \xd2", // ExpressionAfterA
+    *b"                                                               \xcc        \xd4\xd1 \xd2\xd4     \xd5    ", // ExpressionAfterC
+    *b"                                                  \xd1          \xd2 \xcc \xd2   \xd6  \xd2 \xd8    \xd1\xd1 \xd1 \xd7  ", // ExpressionAfterD
+    *b"                                           \xd1                               \xd1 \xd1         ", // ExpressionAfterE
+    *b"                                        \xd9                               \xda   \xcf \xdb        ", // ExpressionAfterF
+    *b"                                                                 \xd1             \xd2\xd1      ", // ExpressionAfterG
+    *b"                                                                        \xdc           \xd1  ", // ExpressionAfterI
+    *b"                                               \xd1                 \xd1             \xd1\xd1      ", // ExpressionAfterL
+    *b"                                     \xd1  \xd1                            \xd1  \xd1\xdd             ", // ExpressionAfterM
+    *b"                                                             \xde   \xd1 \xd2            \xd2  \xde\xd2  ", // ExpressionAfterN
+    *b"                                              \xd1                           \xcd\xd1  \xd1        ", // ExpressionAfterO
+    *b"                                        \xd1                               \xd1\xd1  \xdd  \xd2\xd1      ", // ExpressionAfterP
+    *b"                                                                                 \xdf     ", // ExpressionAfterQ
+    *b"                                         \xd1   \xe1 \xd1               \xcc         \xd1   \xe0 \xd1       ", // ExpressionAfterR
+    *b"                                                      \xe3        \xcc            \xe2 \xe4\xd1\xd3    \xe5\xd2", // ExpressionAfterS
+    *b"                                                                 \xd2   \xd3  \xe6     \xe7    \xd2   ", // ExpressionAfterT
+    *b"            \xfc\xfc\xfc\xfc\xfc\xfc\xfc\xfc\xfc\xfc                  \xfc       \xfc            \xfc \xfc\xfc\xfc\xfc\xfc \xfc  \xfc\xfc\xfc\xfc\xfc\xfc\xfc\xfc\xfc      ", // Expressions
     *b"                                                           !                           ", // MaybeBefore
-    *b"                                                             \x9e \xa0\x9d\xa4 \xa8 \xa7  \xf8\xa1\x9c\xa3\x9f \xa2\xa6       ", // FoldOperator
+    *b"                                                             \xa0 \xa2\x9f\xa6 \xaa \xa9  \xfd\xa3\x9e\xa5\xa1 \xa4\xa8       ", // FoldOperator
     *b"                                               !                 !             !!      ", // FoldOperatorAfterL
-    *b"            \xf9\xf9\xf9\xf9\xf9\xf9\xf9\xf9\xf9\xf9                  \xf9       \xf9            \xf9 \xf9\xf9\xf9\xf9\xf9 \xf9  \xf9\xf9\xf9\xf9\xf9\xf9\xf9\xf9\xf9      ", // FoldOperand
-    *b"            \xfa\xfa\xfa\xfa\xfa\xfa\xfa\xfa\xfa\xfa                  \xfa       \xfa            \xfa \xfa\xfa\xfa\xfa\xfa \xfa  \xfa\xfa\xfa\xfa\xfa\xfa\xfa\xfa\xfa      ", // FoldPack
-    *b"            \xfa\xfa\xfa\xfa\xfa\xfa\xfa\xfa\xfa\xfa                \xbf \xfa       \xfa            \xfa \xfa\xfa\xfa\xfa\xfa \xfa  \xfa\xfa\xfa\xfa\xfa\xfa\xfa\xfa\xfa      ", // ValuePack
-    *b"            \xfb\xfb\xfb\xfb\xfb\xfb\xfb\xfb\xfb\xfb       \xfb \xfb\xfb \xfb   \xbf\xfb \xfb\xfb\xfb\xfb \xfb\xfb\xfb\xfb\xfb   \xfb      \xfb\xfb\xfb\xfb\xfb\xfb\xfb\xfb\xfb\xfb \xfb\xfb\xfb\xfb  \xfb\xfb\xfb\xfb\xfb\xfb\xfb\xfb\xfb", // TypePack
-    *b"            \xfd\xfd\xfd\xfd\xfd\xfd\xfd\xfd\xfd\xfd                  \xfd       \xfd            \xfd \xfd\xfc\xfd\xfd\xfd \xfd  \xfd\xfd\xfd\xfd\xfd\xfd\xfd\xfd\xfd      ", // DesignatedValue
-    *b"                                                                     \xd1              \xd2  ", // DesignatorAfterD
-    *b"            \xc9\xc9\xc9\xc9\xc9\xc9\xc9\xc9\xc9\xc9                  \xbe       \xf3            \xe3 \xe4 \xe6\xe7\xe8 \xe9  \xea\xeb\xec\xed\xee\xef\xf0\xf1\xf2      ", // PlainValue
-    *b"            \xfe\xfe\xfe\xfe\xfe\xfe\xfe\xfe\xfe\xfe                                                                 ", // FieldName
-    *b"            \xff\xff\xff\xff\xff\xff\xff\xff\xff\xff                  \xff       \xff          ! \xff \xff\xff\xff\xff\xff \xff  \xff\xff\xff\xff\xff\xff\xff\xff\xff      ", // Placement
-    *b"            \xf7\xf7\xf7\xf7\xf7\xf7\xf7\xf7\xf7\xf7                  \xf7       \xf7            \xf7 \xf7\xf7\xf7\xf7\xf7 \xf7  \xf7\xf7\xf7\xf7\xf7\xf7\xf7\xf7\xf7      ", // SomeExpressions
-    *b"                                 \x83                                   \x01      \x00          ", // Initializer
-    *b"                                                                     \xd7                 ", // InitializerAfterP
-    *b"                                                                        \xd7              ", // InitializerAfterI
-    *b"                                                                            \xca          ", // OuterRest
-    *b"            \x03\x03\x03\x03\x03\x03\x03\x03\x03\x03                          \x02          \x03                           ", // ParameterNumber
-    *b"            \x08\x08\x08\x08\x08\x08\x08\x08\x08\x08          \x04 \x08    \x05  \x08\x07\x06 \x07\x08\x08\x08           \x08\x08\x08\x08\x08\x08\x08\x08\x08\x08 \x08\x08\x08\x08   \x08\x08 \x08\x08\x08\x08\x08", // ConvertedType
-    *b"            $$$$$$$$$$            z       V    u\x09#           wwwwwwwwww wwww   ww wwwww", // ConvertedSolid
-    *b"            \xbb\xbb\xbb\xbb\xbb\xbb\xbb\xbb\xbb\xbb                  \xbd                  \xbb                           ", // ParameterAfterT
-    *b"                                                p                               p      ", // DecltypeAfterD
-    *b"            \xc9\xc9\xc9\xc9\xc9\xc9\xc9\xc9\xc9\xc9                  \xbe       \xf3          \xd7 \xe3 \xe4\xe5\xe6\xe7\xe8 \xe9  \xea\xeb\xec\xed\xee\xef\xf0\xf1\xf2      ", // ConvertRest
-    *b"            \x0b\x0b\x0b\x0b\x0b\x0b\x0b\x0b\x0b\x0b          \x0a         \x0a    \x0a\x0a                                      ", // Unresolved
-    *b"                                \x04         V    u\x09                                      ", // UnresolvedType
-    *b"            \xc9\xc9\xc9\xc9\xc9\xc9\xc9\xc9\xc9\xc9          \x0c         \x0c    \x0c\x0c                                      ", // DestructorName
-    *b"                                             \x0f  \x0e   \x0d                                  ", // Requirements
-    *b"                                          \x11  \x0f\x10 \x0e   \x0d                                  ", // AfterExpression
-    *b"                                             \x0f\x10 \x0e   \x0d                                  ", // AfterNoexcept
-    *b"            \x12\x12\x12\x12\x12\x12\x12\x12\x12\x12          \x12 \x12    \x12  \x12\x12\x12 \x12\x12\x12\x12         \xdb \x12\x12\x12\x12\x12\x12\x12\x12\x12\x12 \x12\x12\x12\x12   \x12\x12 \x12\x12\x12\x12\x12", // RequiredTypes
-    *b"            \xc9\xc9\xc9\xc9\xc9\xc9\xc9\xc9\xc9\xc9                                                                 ", // Level
-    *b"            \x0b\x0b\x0b\x0b\x0b\x0b\x0b\x0b\x0b\x0b           \x13                                                     ", // MoreLevels
-    *b"            \xc9\xc9\xc9\xc9\xc9\xc9\xc9\xc9\xc9\xc9                                                     \x14           ", // UnresolvedName
-    *b"                                                                          \xc8            ", // OperatorName
-    *b"                             \x15                                                         ", // AnyArray
-    *b"            \x17\x17\x17\x17\x17\x17\x17\x17\x17\x17                  \x16       \x16          \x17 \x16 \x16\x16\x16\x16\x16 \x16  \x16\x16\x16\x16\x16\x16\x16\x16\x16      ", // ArrayRest
-    *b"                                        \xbe       \xf3            \xe3 \xe4\xe5\xe6\xe7\xe8 \xe9  \xea\xeb\xec\xed\xee\xef\xf0\xf1\xf2      ", // Bound
-    *b"            IIIIIIIIII         IIKI     II       I           I III I I  IIIII II       ", // NestMoreOrEnd
+    *b"            \xfe\xfe\xfe\xfe\xfe\xfe\xfe\xfe\xfe\xfe                  \xfe       \xfe            \xfe \xfe\xfe\xfe\xfe\xfe \xfe  \xfe\xfe\xfe\xfe\xfe\xfe\xfe\xfe\xfe      ", // FoldOperand
+    *b"            \xff\xff\xff\xff\xff\xff\xff\xff\xff\xff                  \xff       \xff            \xff \xff\xff\xff\xff\xff \xff  \xff\xff\xff\xff\xff\xff\xff\xff\xff      ", // FoldPack
+    *b"            \xff\xff\xff\xff\xff\xff\xff\xff\xff\xff                \xc4 \xff       \xff            \xff \xff\xff\xff\xff\xff \xff  \xff\xff\xff\xff\xff\xff\xff\xff\xff      ", // ValuePack
+    *b"            \x00\x00\x00\x00\x00\x00\x00\x00\x00\x00       \x00 \x00\x00 \x00   \xc4\x00 \x00\x00\x00\x00 \x00\x00\x00\x00\x00\x00  \x00      \x00\x00\x00\x00\x00\x00\x00\x00\x00\x00 \x00\x00\x00\x00  \x00\x00\x00\x00\x00\x00\x00\x00\x00", // TypePack
+    *b"            \x02\x02\x02\x02\x02\x02\x02\x02\x02\x02                  \x02       \x02            \x02 \x02\x01\x02\x02\x02 \x02  \x02\x02\x02\x02\x02\x02\x02\x02\x02      ", // DesignatedValue
+    *b"                                                                     \xd6              \xd7  ", // DesignatorAfterD
+    *b"            \xce\xce\xce\xce\xce\xce\xce\xce\xce\xce                  \xc3       \xf8            \xe8 \xe9 \xeb\xec\xed \xee  \xef\xf0\xf1\xf2\xf3\xf4\xf5\xf6\xf7      ", // PlainValue
+    *b"            \x03\x03\x03\x03\x03\x03\x03\x03\x03\x03                                                                 ", // FieldName
+    *b"            \x04\x04\x04\x04\x04\x04\x04\x04\x04\x04                  \x04       \x04          ! \x04 \x04\x04\x04\x04\x04 \x04  \x04\x04\x04\x04\x04\x04\x04\x04\x04      ", // Placement
+    *b"            \xfc\xfc\xfc\xfc\xfc\xfc\xfc\xfc\xfc\xfc                  \xfc       \xfc            \xfc \xfc\xfc\xfc\xfc\xfc \xfc  \xfc\xfc\xfc\xfc\xfc\xfc\xfc\xfc\xfc      ", // SomeExpressions
+    *b"                                 \x85                                   \x06      \x05          ", // Initializer
+    *b"                                                                     \xdc                 ", // InitializerAfterP
+    *b"                                                                        \xdc              ", // InitializerAfterI
+    *b"                                                                            \xcf          ", // OuterRest
+    *b"            \x08\x08\x08\x08\x08\x08\x08\x08\x08\x08                          \x07          \x08                           ", // ParameterNumber
+    *b"            \x0d\x0d\x0d\x0d\x0d\x0d\x0d\x0d\x0d\x0d          \x09 \x0d    \x0a  \x0d\x0c\x0b \x0c\x0d\x0d\x0d           \x0d\x0d\x0d\x0d\x0d\x0d\x0d\x0d\x0d\x0d \x0d\x0d\x0d\x0d   \x0d\x0d \x0d\x0d\x0d\x0d\x0d", // ConvertedType
+    *b"            $$$$$$$$$$            |       X    w\x0e#           yyyyyyyyyy yyyy   yy yyyyy", // ConvertedSolid
+    *b"            \xc0\xc0\xc0\xc0\xc0\xc0\xc0\xc0\xc0\xc0                  \xc2                  \xc0                           ", // ParameterAfterT
+    *b"                                                r                               r      ", // DecltypeAfterD
+    *b"            \xce\xce\xce\xce\xce\xce\xce\xce\xce\xce                  \xc3       \xf8          \xdc \xe8 \xe9\xea\xeb\xec\xed \xee  \xef\xf0\xf1\xf2\xf3\xf4\xf5\xf6\xf7      ", // ConvertRest
+    *b"            \x10\x10\x10\x10\x10\x10\x10\x10\x10\x10          \x0f         \x0f    \x0f\x0f                                      ", // Unresolved
+    *b"                                \x09         X    w\x0e                                      ", // UnresolvedType
+    *b"            \xce\xce\xce\xce\xce\xce\xce\xce\xce\xce          \x11         \x11    \x11\x11                                      ", // DestructorName
+    *b"                                             \x14  \x13   \x12                                  ", // Requirements
+    *b"                                          \x16  \x14\x15 \x13   \x12                                  ", // AfterExpression
+    *b"                                             \x14\x15 \x13   \x12                                  ", // AfterNoexcept
+    *b"            \x17\x17\x17\x17\x17\x17\x17\x17\x17\x17          \x17 \x17    \x17  \x17\x17\x17 \x17\x17\x17\x17         \xe0 \x17\x17\x17\x17\x17\x17\x17\x17\x17\x17 \x17\x17\x17\x17   \x17\x17 \x17\x17\x17\x17\x17", // RequiredTypes
+    *b"            \xce\xce\xce\xce\xce\xce\xce\xce\xce\xce                                                                 ", // Level
+    *b"            \x10\x10\x10\x10\x10\x10\x10\x10\x10\x10           \x18                                                     ", // MoreLevels
+    *b"            \xce\xce\xce\xce\xce\xce\xce\xce\xce\xce                                                     \x19           ", // UnresolvedName
+    *b"                                                                          \xcd            ", // OperatorName
+    *b"                             \x1a                                                         ", // AnyArray
+    *b"            \x1c\x1c\x1c\x1c\x1c\x1c\x1c\x1c\x1c\x1c                  \x1b       \x1b          \x1c \x1b \x1b\x1b\x1b\x1b\x1b \x1b  \x1b\x1b\x1b\x1b\x1b\x1b\x1b\x1b\x1b      ", // ArrayRest
+    *b"                                        \xc3       \xf8            \xe8 \xe9\xea\xeb\xec\xed \xee  \xef\xf0\xf1\xf2\xf3\xf4\xf5\xf6\xf7      ", // Bound
+    *b"            KKKKKKKKKK         KKMK     KK       K K         K KKK K K  KKKKK KK       ", // NestMoreOrEnd
 ];
 
 /// The number of the rule that a kind takes at a byte, if it takes one.
 #[inline]
 fn number(kind: u16, byte: u8) -> Option<usize>
     requires { kind < wide.kinds }
-    ensures few { IfSome result (λ number. number < 247) }
+    ensures few { IfSome result (λ number. number < 252) }
     ensures rule { (head : Head) → MatchOption result (wide.rule kind byte ≡ None) (λ number. wide.rule kind byte ≡ Some (listed_rule head number)) }
 {
     match letter_in(&WIDE_LETTERS[kind as usize], byte) {

@@ -54,7 +54,8 @@ plain_texts =
     codes " decltype(auto)" ∷
     codes "decltype(" ∷
     codes "fp" ∷
-    codes "(this " ∷ []
+    codes "(this " ∷
+    codes "@" ∷ []
 
 -- what follows a function's parameters
 abbrev pub suffix_texts : List (List ℕ)
@@ -200,4 +201,5 @@ operation_texts =
     codes "throw" ∷
     codes ")[" ∷
     codes "_BitInt(" ∷
-    codes "unsigned _BitInt(" ∷ []
+    codes "unsigned _BitInt(" ∷
+    codes ":" ∷ []

@@ -22,25 +22,33 @@ pub given_name : (p : Production) → family_of p ≡ Family.GivenName
     → (p ≡ Production.NestArguments → ⊥)
     → (p ≡ Production.NestInstance → ⊥)
     → (p ≡ Production.Holder → ⊥)
+    → (p ≡ Production.InModule → ⊥)
+    → (p ≡ Production.NestModule → ⊥)
+    → (p ≡ Production.FirstModule → ⊥)
+    → (p ≡ Production.MoreModule → ⊥)
     → (p ≡ Production.ComponentWithC → ⊥)
     → (p ≡ Production.AnyConstructor → ⊥)
     → ⊥
 unfolding family_of
-given_name Production.NameWithS is n0 n1 n2 n3 n4 n5 n6 n7 n8 n9 n10 n11 n12 n13 = n0 refl
-given_name Production.LocalTypePiece is n0 n1 n2 n3 n4 n5 n6 n7 n8 n9 n10 n11 n12 n13 = n1 refl
-given_name Production.OperatorPiece is n0 n1 n2 n3 n4 n5 n6 n7 n8 n9 n10 n11 n12 n13 = n2 refl
-given_name Production.NestParameter is n0 n1 n2 n3 n4 n5 n6 n7 n8 n9 n10 n11 n12 n13 = n3 refl
-given_name Production.NestDecltype is n0 n1 n2 n3 n4 n5 n6 n7 n8 n9 n10 n11 n12 n13 = n4 refl
-given_name Production.NestInternal is n0 n1 n2 n3 n4 n5 n6 n7 n8 n9 n10 n11 n12 n13 = n5 refl
-given_name Production.NestLocalType is n0 n1 n2 n3 n4 n5 n6 n7 n8 n9 n10 n11 n12 n13 = n6 refl
-given_name Production.NestTag is n0 n1 n2 n3 n4 n5 n6 n7 n8 n9 n10 n11 n12 n13 = n7 refl
-given_name Production.NestStd is n0 n1 n2 n3 n4 n5 n6 n7 n8 n9 n10 n11 n12 n13 = n8 refl
-given_name Production.NestArguments is n0 n1 n2 n3 n4 n5 n6 n7 n8 n9 n10 n11 n12 n13 = n9 refl
-given_name Production.NestInstance is n0 n1 n2 n3 n4 n5 n6 n7 n8 n9 n10 n11 n12 n13 = n10 refl
-given_name Production.Holder is n0 n1 n2 n3 n4 n5 n6 n7 n8 n9 n10 n11 n12 n13 = n11 refl
-given_name Production.ComponentWithC is n0 n1 n2 n3 n4 n5 n6 n7 n8 n9 n10 n11 n12 n13 = n12 refl
-given_name Production.AnyConstructor is n0 n1 n2 n3 n4 n5 n6 n7 n8 n9 n10 n11 n12 n13 = n13 refl
-given_name _ is n0 n1 n2 n3 n4 n5 n6 n7 n8 n9 n10 n11 n12 n13 = subst IsGivenName (sym is) tt
+given_name Production.NameWithS is n0 n1 n2 n3 n4 n5 n6 n7 n8 n9 n10 n11 n12 n13 n14 n15 n16 n17 = n0 refl
+given_name Production.LocalTypePiece is n0 n1 n2 n3 n4 n5 n6 n7 n8 n9 n10 n11 n12 n13 n14 n15 n16 n17 = n1 refl
+given_name Production.OperatorPiece is n0 n1 n2 n3 n4 n5 n6 n7 n8 n9 n10 n11 n12 n13 n14 n15 n16 n17 = n2 refl
+given_name Production.NestParameter is n0 n1 n2 n3 n4 n5 n6 n7 n8 n9 n10 n11 n12 n13 n14 n15 n16 n17 = n3 refl
+given_name Production.NestDecltype is n0 n1 n2 n3 n4 n5 n6 n7 n8 n9 n10 n11 n12 n13 n14 n15 n16 n17 = n4 refl
+given_name Production.NestInternal is n0 n1 n2 n3 n4 n5 n6 n7 n8 n9 n10 n11 n12 n13 n14 n15 n16 n17 = n5 refl
+given_name Production.NestLocalType is n0 n1 n2 n3 n4 n5 n6 n7 n8 n9 n10 n11 n12 n13 n14 n15 n16 n17 = n6 refl
+given_name Production.NestTag is n0 n1 n2 n3 n4 n5 n6 n7 n8 n9 n10 n11 n12 n13 n14 n15 n16 n17 = n7 refl
+given_name Production.NestStd is n0 n1 n2 n3 n4 n5 n6 n7 n8 n9 n10 n11 n12 n13 n14 n15 n16 n17 = n8 refl
+given_name Production.NestArguments is n0 n1 n2 n3 n4 n5 n6 n7 n8 n9 n10 n11 n12 n13 n14 n15 n16 n17 = n9 refl
+given_name Production.NestInstance is n0 n1 n2 n3 n4 n5 n6 n7 n8 n9 n10 n11 n12 n13 n14 n15 n16 n17 = n10 refl
+given_name Production.Holder is n0 n1 n2 n3 n4 n5 n6 n7 n8 n9 n10 n11 n12 n13 n14 n15 n16 n17 = n11 refl
+given_name Production.InModule is n0 n1 n2 n3 n4 n5 n6 n7 n8 n9 n10 n11 n12 n13 n14 n15 n16 n17 = n12 refl
+given_name Production.NestModule is n0 n1 n2 n3 n4 n5 n6 n7 n8 n9 n10 n11 n12 n13 n14 n15 n16 n17 = n13 refl
+given_name Production.FirstModule is n0 n1 n2 n3 n4 n5 n6 n7 n8 n9 n10 n11 n12 n13 n14 n15 n16 n17 = n14 refl
+given_name Production.MoreModule is n0 n1 n2 n3 n4 n5 n6 n7 n8 n9 n10 n11 n12 n13 n14 n15 n16 n17 = n15 refl
+given_name Production.ComponentWithC is n0 n1 n2 n3 n4 n5 n6 n7 n8 n9 n10 n11 n12 n13 n14 n15 n16 n17 = n16 refl
+given_name Production.AnyConstructor is n0 n1 n2 n3 n4 n5 n6 n7 n8 n9 n10 n11 n12 n13 n14 n15 n16 n17 = n17 refl
+given_name _ is n0 n1 n2 n3 n4 n5 n6 n7 n8 n9 n10 n11 n12 n13 n14 n15 n16 n17 = subst IsGivenName (sym is) tt
 
 abbrev IsAppliedName : Family → Type 0
 IsAppliedName Family.AppliedName = Unit {0}
@@ -179,17 +187,19 @@ pub special : (p : Production) → family_of p ≡ Family.Special
     → (p ≡ Production.Temporary → ⊥)
     → (p ≡ Production.OtherSpecial → ⊥)
     → (p ≡ Production.Clone → ⊥)
+    → (p ≡ Production.ModuleInitializer → ⊥)
     → (p ≡ Production.ConstructionVtable → ⊥)
     → ⊥
 unfolding family_of
-special Production.SpecialType is n0 n1 n2 n3 n4 n5 n6 = n0 refl
-special Production.ParameterObject is n0 n1 n2 n3 n4 n5 n6 = n1 refl
-special Production.SpecialName is n0 n1 n2 n3 n4 n5 n6 = n2 refl
-special Production.Temporary is n0 n1 n2 n3 n4 n5 n6 = n3 refl
-special Production.OtherSpecial is n0 n1 n2 n3 n4 n5 n6 = n4 refl
-special Production.Clone is n0 n1 n2 n3 n4 n5 n6 = n5 refl
-special Production.ConstructionVtable is n0 n1 n2 n3 n4 n5 n6 = n6 refl
-special _ is n0 n1 n2 n3 n4 n5 n6 = subst IsSpecial (sym is) tt
+special Production.SpecialType is n0 n1 n2 n3 n4 n5 n6 n7 = n0 refl
+special Production.ParameterObject is n0 n1 n2 n3 n4 n5 n6 n7 = n1 refl
+special Production.SpecialName is n0 n1 n2 n3 n4 n5 n6 n7 = n2 refl
+special Production.Temporary is n0 n1 n2 n3 n4 n5 n6 n7 = n3 refl
+special Production.OtherSpecial is n0 n1 n2 n3 n4 n5 n6 n7 = n4 refl
+special Production.Clone is n0 n1 n2 n3 n4 n5 n6 n7 = n5 refl
+special Production.ModuleInitializer is n0 n1 n2 n3 n4 n5 n6 n7 = n6 refl
+special Production.ConstructionVtable is n0 n1 n2 n3 n4 n5 n6 n7 = n7 refl
+special _ is n0 n1 n2 n3 n4 n5 n6 n7 = subst IsSpecial (sym is) tt
 
 abbrev IsThunk : Family → Type 0
 IsThunk Family.Thunk = Unit {0}

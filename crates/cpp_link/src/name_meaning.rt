@@ -67,6 +67,14 @@ impl Linked {
             Production::NestInstance => Outcome::Given(self.given(symbol, parts, 2)),
             // <prefix> ::= <data-member-prefix> <unqualified-name>, with <data-member-prefix> ::= <prefix> M
             Production::Holder => Outcome::Given(self.given(symbol, parts, 1)),
+            // <unqualified-name> ::= <module-name> <source-name>, and the like: the name has the module as a prefix after the one that it has
+            Production::InModule => Outcome::Given(self.given(symbol, parts, 1)),
+            // <prefix> ::= <module-name> <unqualified-name>
+            Production::NestModule => Outcome::Given(self.given(symbol, parts, 1)),
+            // <module-name> ::= W <source-name>, after the W
+            Production::FirstModule => Outcome::Given(self.either(symbol, parts, 1, 0)),
+            // <module-name> ::= <module-name> W [P] <source-name>
+            Production::MoreModule => Outcome::Given(self.either(symbol, parts, 2, 0)),
             // of operators those that begin with c stand apart, since one of them is a type's
             Production::ComponentWithC => Outcome::Given(self.given(symbol, parts, 0)),
             // <ctor-dtor-name> ::= C1 | C2 | .., which begins with C
@@ -394,6 +402,14 @@ impl Linked {
                 Node::CloneOf {
                     letter: self.letter(symbol, parts, 0),
                     encoding: self.tree(symbol, parts, 1),
+                },
+                true,
+            ),
+            // <special-name> ::= GI <module-name>
+            Production::ModuleInitializer => made(
+                Node::Special {
+                    letter: b'M',
+                    ty: self.tree(symbol, parts, 1),
                 },
                 true,
             ),

@@ -3,7 +3,7 @@
 use cpp_grammar::production::Production;
 
 /// The productions.
-pub(crate) const PRODUCTIONS: [Production; 247] = [
+pub(crate) const PRODUCTIONS: [Production; 252] = [
     Production::Mark,
     Production::InternalName,
     Production::LocalTypeName,
@@ -12,6 +12,7 @@ pub(crate) const PRODUCTIONS: [Production; 247] = [
     Production::InternalPiece,
     Production::LocalTypePiece,
     Production::SourcePiece,
+    Production::InModule,
     Production::NestedName,
     Production::Symbol,
     Production::Suffix,
@@ -40,6 +41,7 @@ pub(crate) const PRODUCTIONS: [Production; 247] = [
     Production::NestInternal,
     Production::NestLocalType,
     Production::NestSource,
+    Production::NestModule,
     Production::NestDecltype,
     Production::NestStd,
     Production::NestTemplate,
@@ -142,6 +144,8 @@ pub(crate) const PRODUCTIONS: [Production; 247] = [
     Production::OperatorG,
     Production::LiteralOperator,
     Production::NestInstance,
+    Production::FirstModule,
+    Production::MoreModule,
     Production::Conversion,
     Production::OperatorNameWithC,
     Production::HeldArguments,
@@ -151,6 +155,7 @@ pub(crate) const PRODUCTIONS: [Production; 247] = [
     Production::TaggedSource,
     Production::BaseArguments,
     Production::Temporary,
+    Production::ModuleInitializer,
     Production::Clone,
     Production::LocalTemporary,
     Production::TaggedStdType,
@@ -254,7 +259,7 @@ pub(crate) const PRODUCTIONS: [Production; 247] = [
 ];
 
 /// How many parts each has.
-pub(crate) const PART_COUNTS: [u8; 247] = [
+pub(crate) const PART_COUNTS: [u8; 252] = [
     0, // Mark
     2, // InternalName
     2, // LocalTypeName
@@ -263,6 +268,7 @@ pub(crate) const PART_COUNTS: [u8; 247] = [
     1, // InternalPiece
     1, // LocalTypePiece
     1, // SourcePiece
+    2, // InModule
     5, // NestedName
     3, // Symbol
     1, // Suffix
@@ -291,6 +297,7 @@ pub(crate) const PART_COUNTS: [u8; 247] = [
     2, // NestInternal
     2, // NestLocalType
     2, // NestSource
+    2, // NestModule
     2, // NestDecltype
     3, // NestStd
     2, // NestTemplate
@@ -393,6 +400,8 @@ pub(crate) const PART_COUNTS: [u8; 247] = [
     1, // OperatorG
     1, // LiteralOperator
     3, // NestInstance
+    2, // FirstModule
+    3, // MoreModule
     1, // Conversion
     2, // OperatorNameWithC
     2, // HeldArguments
@@ -402,6 +411,7 @@ pub(crate) const PART_COUNTS: [u8; 247] = [
     2, // TaggedSource
     3, // BaseArguments
     2, // Temporary
+    2, // ModuleInitializer
     2, // Clone
     3, // LocalTemporary
     2, // TaggedStdType
@@ -505,7 +515,7 @@ pub(crate) const PART_COUNTS: [u8; 247] = [
 ];
 
 /// Whether some part of each but the last may have no row: a fixed byte, or a kind that may be empty.
-pub(crate) const SKIPS_PARTS: [bool; 247] = [
+pub(crate) const SKIPS_PARTS: [bool; 252] = [
     false, // Mark
     false, // InternalName
     false, // LocalTypeName
@@ -514,6 +524,7 @@ pub(crate) const SKIPS_PARTS: [bool; 247] = [
     false, // InternalPiece
     false, // LocalTypePiece
     false, // SourcePiece
+    false, // InModule
     true, // NestedName
     true, // Symbol
     false, // Suffix
@@ -542,6 +553,7 @@ pub(crate) const SKIPS_PARTS: [bool; 247] = [
     false, // NestInternal
     false, // NestLocalType
     false, // NestSource
+    false, // NestModule
     false, // NestDecltype
     true, // NestStd
     false, // NestTemplate
@@ -644,6 +656,8 @@ pub(crate) const SKIPS_PARTS: [bool; 247] = [
     false, // OperatorG
     false, // LiteralOperator
     true, // NestInstance
+    false, // FirstModule
+    true, // MoreModule
     false, // Conversion
     false, // OperatorNameWithC
     true, // HeldArguments
@@ -653,6 +667,7 @@ pub(crate) const SKIPS_PARTS: [bool; 247] = [
     false, // TaggedSource
     true, // BaseArguments
     false, // Temporary
+    true, // ModuleInitializer
     false, // Clone
     true, // LocalTemporary
     false, // TaggedStdType
@@ -756,7 +771,7 @@ pub(crate) const SKIPS_PARTS: [bool; 247] = [
 ];
 
 /// Before how many of its parts nothing is done in each: before none, the first, or all, which are five at most.
-pub(crate) const QUIET_PARTS: [u8; 247] = [
+pub(crate) const QUIET_PARTS: [u8; 252] = [
     5, // Mark
     1, // InternalName
     1, // LocalTypeName
@@ -765,6 +780,7 @@ pub(crate) const QUIET_PARTS: [u8; 247] = [
     5, // InternalPiece
     5, // LocalTypePiece
     5, // SourcePiece
+    0, // InModule
     5, // NestedName
     5, // Symbol
     5, // Suffix
@@ -793,6 +809,7 @@ pub(crate) const QUIET_PARTS: [u8; 247] = [
     1, // NestInternal
     1, // NestLocalType
     1, // NestSource
+    1, // NestModule
     1, // NestDecltype
     1, // NestStd
     1, // NestTemplate
@@ -895,6 +912,8 @@ pub(crate) const QUIET_PARTS: [u8; 247] = [
     5, // OperatorG
     5, // LiteralOperator
     0, // NestInstance
+    1, // FirstModule
+    2, // MoreModule
     0, // Conversion
     1, // OperatorNameWithC
     0, // HeldArguments
@@ -904,6 +923,7 @@ pub(crate) const QUIET_PARTS: [u8; 247] = [
     1, // TaggedSource
     0, // BaseArguments
     5, // Temporary
+    5, // ModuleInitializer
     5, // Clone
     1, // LocalTemporary
     1, // TaggedStdType

@@ -149,6 +149,14 @@ pub fn letter_of(part: Part) -> u8
     }
 }
 
+/// The letter of a part, or this one, where the part has none.
+pub fn letter_or(part: Part, other: u8) -> u8
+    ensures { (s : List ℕ) (ts : List Term) → result ≡ cond (nat_eq (letter_of (value_of s ts part)) 0) other (letter_of (value_of s ts part)) }
+{
+    let letter = letter_of(part);
+    if letter == 0 { other } else { letter }
+}
+
 /// The mark R, O or H, or none.
 #[tactic(auto, unfolding(crate::specs::Parts::value_of, cpp_term::specs::Values::mark_of))]
 #[inline(always)]

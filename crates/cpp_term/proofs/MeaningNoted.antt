@@ -559,6 +559,7 @@ given_noted own byte around vs (row_.code front) = refl
 given_noted own byte around vs row_.taken = refl
 given_noted own byte around vs (row_.fixed n) = refl
 given_noted own byte around vs (row_.letter_at k) = ap builder_.a_number (letter_part (around_place own around) vs k)
+given_noted own byte around vs (row_.letter_or k other) = ap (λ x. builder_.a_number (cond (nat_eq x 0) other x)) (letter_part (around_place own around) vs k)
 given_noted own byte around vs (row_.letter_or_taken k) = ap (λ x. builder_.a_number (cond (nat_eq x 0) byte x)) (letter_part (around_place own around) vs k)
 given_noted own byte around vs (row_.operator_first_at k) =
     ap (λ p. builder_.a_number (noted_.first_letter p)) (piece_part (around_place own around) vs k) ∙ ap builder_.a_number (first_noted (around_place own around) (piece_of (part vs k)))

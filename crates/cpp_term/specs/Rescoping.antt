@@ -11,7 +11,7 @@ use Rattle.sym_shape.specs.Tree.{Tree, Forest}
 use Rattle.sym_link.specs.Reading.{Found, Reading, ◌>>=◌}
 use Rattle.sym_link.specs.Unfold.{found, unfold_tree}
 use Rattle.cpp_grammar.specs.declared.production.Production.{Production}
-use Rattle.cpp_term.specs.Term.{Term, instance, holder, lvalue, rvalue, parameter, lambda, generic_lambda}
+use Rattle.cpp_term.specs.Term.{Term, instance, holder, lvalue, rvalue, parameter, lambda, generic_lambda, operation}
 use Rattle.cpp_term.specs.Scope.{count, element, is_list, has_pack, is_open, free_in, pack_length}
 use Rattle.cpp_grammar.specs.Scope.{Free, none_free, one_free, several_free}
 use Rattle.cpp_term.specs.Values.{Candidate, State, Around, prefix_tree, prefix_listed, Value, nothing_there, tree, piece, pair, text, tree_of, is_listed, text_of, part}
@@ -186,12 +186,20 @@ restated around place t state = elim around.in_lambda [
   | false ↦ with_free (free_in t) around place t state
 ]
 
+-- A module's name is a candidate, which no substitution may name: what it is before would be needed.
+unfoldable pub is_module : Term → Bool
+is_module (operation a b x y) = nat_eq a 87
+is_module _ = false
+
 -- a substitution names a candidate
 unfoldable pub substituted_wide : Around → (place : ℕ) → Option Candidate → State → Result (Found Value State) Refusal
 substituted_wide around place None state = Err (BadReference place)
-substituted_wide around place (Some c) state = elim (is_foreign around c) [
-  | true ↦ restated around place c.tree state
-  | false ↦ substituted around place (Some c) state
+substituted_wide around place (Some c) state = elim (is_module c.tree) [
+  | true ↦ Err (BadReference place)
+  | false ↦ elim (is_foreign around c) [
+    | true ↦ restated around place c.tree state
+    | false ↦ substituted around place (Some c) state
+  ]
 ]
 
 -- by the list that is left

@@ -16,6 +16,7 @@ step_second_of_name-requires c = record {
   other_special = c.in_default.not-OtherSpecial;
   encoding = c.in_default.not-Encoding;
   local_name = c.in_default.not-LocalName;
+  nest_module = c.in_default.not-NestModule;
   nest_decltype = c.in_default.not-NestDecltype;
   nest_next = c.in_default.not-NestNext;
   inheriting = c.in_default.not-Inheriting;
