@@ -6,7 +6,7 @@ abbrev pub KIND_COUNT : ℕ
 KIND_COUNT = 169
 
 abbrev pub PRODUCTION_COUNT : ℕ
-PRODUCTION_COUNT = 252
+PRODUCTION_COUNT = 253
 
 abbrev pub SYMBOL : ℕ
 SYMBOL = 0

@@ -18,6 +18,7 @@ pub data Maker : Type 0 where
   new_unnamed : Maker
   new_string_literal : Maker
   new_conversion : Maker
+  new_enumeration : Maker
   new_builtin : Maker
   new_sized_float : Maker
   new_constrained : Maker

@@ -67,6 +67,7 @@ pub enum Production {
     ManyDigits,
     Lambda,
     Unnamed,
+    Enumeration,
     RestrictType,
     VolatileType,
     ConstType,

@@ -393,38 +393,38 @@ static LETTERS: [[u8; 87]; 169] = [
     *b"                                                           \\                           ", // MaybeDiscriminator
     *b"            ]]]]]]]]]]                                     ^                           ", // DiscriminatorRest
     *b"                                                                        _       `      ", // Anonymous
-    *b"            eeeeeeeeee       e ef e    c eede deeeb   e      eeeeeeeeee eeee  aeeeeeeee", // Type
-    *b"            hhhhhhhhhh       h hg h      hhdh dhhh    h      hhhhhhhhhh hhhh   hhhhhhhh", // Plain
-    *b"            eeeeeeeeee       e ei e    c eede deeeb   e      eeeeeeeeee eeee  aeeeeeeee", // Item
-    *b"            eeeeeeeeee       e ei e    c ee e  eeeb   e      eeeeeeeeee eeee  aeeeeeeee", // ItemButRef
-    *b"                                                             k k     k    kkj  k kk    ", // ItemAfterD
-    *b"                                                             l l     l    ln   l lm    ", // AfterD
-    *b"            $$$$$$$$$$       { }  |      uX t  wv#    x      yyyyyyyyyy yyyy   yyzyyyyy", // Solid
+    *b"            ffffffffff       f fg f    d ffef efffc   f      ffffffffff ffff  bffffffff", // Type
+    *b"            iiiiiiiiii       i ih i      iiei eiii    i      iiiiiiiiii iiii   iiiiiiii", // Plain
+    *b"            ffffffffff       f fj f    d ffef efffc   f      ffffffffff ffff  bffffffff", // Item
+    *b"            ffffffffff       f fj f    d ff f  fffc   f      ffffffffff ffff  bffffffff", // ItemButRef
+    *b"                                                             l l     l    llk  l ll    ", // ItemAfterD
+    *b"                                                             m m     m    mo   m mn    ", // AfterD
+    *b"            $$$$$$$$$$       | ~  }      vX u  xw#    y      zzzzzzzzzz zzzz   zz{zzzzz", // Solid
     *b"                                                     !                                 ", // MaybeCLinkage
-    *b"            ~~~~~~~~~~                                                                 ", // BitWidth
-    *b"            \x80\x80\x80\x80\x80\x80\x80\x80\x80\x80       \x80\x80\x80\x80\x80\x80\x80\x80\x80\x80\x80\x80\x80\x80\x80\x80\x80\x80\x80\x80\x80\x80\x80\x80\x80\x80    \x80 \x80\x80 \x80    \x80     \x80   \x80\x7f      ", // TypeAfterS
+    *b"            \x7f\x7f\x7f\x7f\x7f\x7f\x7f\x7f\x7f\x7f                                                                 ", // BitWidth
+    *b"            \x81\x81\x81\x81\x81\x81\x81\x81\x81\x81       \x81\x81\x81\x81\x81\x81\x81\x81\x81\x81\x81\x81\x81\x81\x81\x81\x81\x81\x81\x81\x81\x81\x81\x81\x81\x81    \x81 \x81\x81 \x81    \x81     \x81   \x81\x80      ", // TypeAfterS
     *b"            ((((((((((                  &        '                                     ", // SourceOrLocal
-    *b"            \x84\x84\x84\x84\x84\x84\x84\x84\x84\x84       \x84 \x84\x84\x81\x84    \x84 \x84\x84\x83\x84 \x82\x84\x84\x84\x84   \x84      \x84\x84\x84\x84\x84\x84\x84\x84\x84\x84 \x84\x84\x84\x84  \x84\x84\x84\x84\x84\x84\x84\x84\x84", // FunctionRest
-    *b"            \x86\x86\x86\x86\x86\x86\x86\x86\x86\x86       \x86 \x86\x86\x85\x86    \x86 \x86\x86\x86\x86 \x86\x86\x86\x86\x86   \x86      \x86\x86\x86\x86\x86\x86\x86\x86\x86\x86 \x86\x86\x86\x86  \x86\x86\x86\x86\x86\x86\x86\x86\x86", // AfterR
-    *b"            \x87\x87\x87\x87\x87\x87\x87\x87\x87\x87       \x87 \x87\x87\x85\x87    \x87 \x87\x87\x87\x87 \x87\x87\x87\x87\x87   \x87      \x87\x87\x87\x87\x87\x87\x87\x87\x87\x87 \x87\x87\x87\x87  \x87\x87\x87\x87\x87\x87\x87\x87\x87", // AfterO
-    *b"            \x89\x89\x89\x89\x89\x89\x89\x89\x89\x89       \x89 \x89\x89 \x89    \x89 \x89\x89\x89\x89 \x89\x89\x89\x89\x89   \x89      \x89\x89\x89\x89\x89\x89\x89\x89\x89\x89 \x89\x89\x89\x89  \x89\x89\x89\x89\x89\x89\x89\x89\x89", // Items
-    *b"                                     \x8a                                                 ", // MaybeArguments
-    *b"                                     \x8a                                                 ", // Arguments
-    *b"            \x8e\x8e\x8e\x8e\x8e\x8e\x8e\x8e\x8e\x8e       \x8e \x8e\x8e \x8e   \x8c\x8e\x8d\x8e\x8e\x8e\x8e \x8e\x8e\x8e\x8e\x8e \x8e \x8e      \x8e\x8e\x8e\x8e\x8e\x8e\x8e\x8e\x8e\x8e \x8e\x8e\x8e\x8e  \x8e\x8e\x8e\x8e\x8e\x8e\x8e\x8e\x8e", // ArgumentList
-    *b"            \x90\x90\x90\x90\x90\x90\x90\x90\x90\x90       \x90 \x90\x90 \x90    \x90\x8f\x90\x90\x90\x90 \x90\x90\x90\x90\x90 \x90 \x90      \x90\x90\x90\x90\x90\x90\x90\x90\x90\x90 \x90\x90\x90\x90  \x90\x90\x90\x90\x90\x90\x90\x90\x90", // PackList
-    *b"            \x94\x94\x94\x94\x94\x94\x94\x94\x94\x94          \x93        \x94\x94 \x94  \x94\x94\x94    \x94    \x91 \x94\x92\x94    \x94\x94\x94 \x94\x94\x94\x94   \x94\x94  \x94\x94\x94 ", // Literal
+    *b"            \x85\x85\x85\x85\x85\x85\x85\x85\x85\x85       \x85 \x85\x85\x82\x85    \x85 \x85\x85\x84\x85 \x83\x85\x85\x85\x85   \x85      \x85\x85\x85\x85\x85\x85\x85\x85\x85\x85 \x85\x85\x85\x85  \x85\x85\x85\x85\x85\x85\x85\x85\x85", // FunctionRest
+    *b"            \x87\x87\x87\x87\x87\x87\x87\x87\x87\x87       \x87 \x87\x87\x86\x87    \x87 \x87\x87\x87\x87 \x87\x87\x87\x87\x87   \x87      \x87\x87\x87\x87\x87\x87\x87\x87\x87\x87 \x87\x87\x87\x87  \x87\x87\x87\x87\x87\x87\x87\x87\x87", // AfterR
+    *b"            \x88\x88\x88\x88\x88\x88\x88\x88\x88\x88       \x88 \x88\x88\x86\x88    \x88 \x88\x88\x88\x88 \x88\x88\x88\x88\x88   \x88      \x88\x88\x88\x88\x88\x88\x88\x88\x88\x88 \x88\x88\x88\x88  \x88\x88\x88\x88\x88\x88\x88\x88\x88", // AfterO
+    *b"            \x8a\x8a\x8a\x8a\x8a\x8a\x8a\x8a\x8a\x8a       \x8a \x8a\x8a \x8a    \x8a \x8a\x8a\x8a\x8a \x8a\x8a\x8a\x8a\x8a   \x8a      \x8a\x8a\x8a\x8a\x8a\x8a\x8a\x8a\x8a\x8a \x8a\x8a\x8a\x8a  \x8a\x8a\x8a\x8a\x8a\x8a\x8a\x8a\x8a", // Items
+    *b"                                     \x8b                                                 ", // MaybeArguments
+    *b"                                     \x8b                                                 ", // Arguments
+    *b"            \x8f\x8f\x8f\x8f\x8f\x8f\x8f\x8f\x8f\x8f       \x8f \x8f\x8f \x8f   \x8d\x8f\x8e\x8f\x8f\x8f\x8f \x8f\x8f\x8f\x8f\x8f \x8f \x8f      \x8f\x8f\x8f\x8f\x8f\x8f\x8f\x8f\x8f\x8f \x8f\x8f\x8f\x8f  \x8f\x8f\x8f\x8f\x8f\x8f\x8f\x8f\x8f", // ArgumentList
+    *b"            \x91\x91\x91\x91\x91\x91\x91\x91\x91\x91       \x91 \x91\x91 \x91    \x91\x90\x91\x91\x91\x91 \x91\x91\x91\x91\x91 \x91 \x91      \x91\x91\x91\x91\x91\x91\x91\x91\x91\x91 \x91\x91\x91\x91  \x91\x91\x91\x91\x91\x91\x91\x91\x91", // PackList
+    *b"            \x95\x95\x95\x95\x95\x95\x95\x95\x95\x95          \x94        \x95\x95 \x95  \x95\x95\x95    \x95    \x92 \x95\x93\x95    \x95\x95\x95 \x95\x95\x95\x95   \x95\x95  \x95\x95\x95 ", // Literal
     *b"            !!                                                                         ", // Bit
-    *b"                                                                     \x97    \x96    \x97 \x97     ", // LiteralAfterD
-    *b"                                                                yyyy                   ", // FloatType
-    *b"                                  o                                                    ", // SizedFloatType
-    *b"            \x99\x99\x99\x99\x99\x99\x99\x99\x99\x99                                       \x99\x99\x99\x99\x99\x99                    ", // HexText
-    *b"            \x9a\x9a\x9a\x9a\x9a\x9a\x9a\x9a\x9a\x9a                                       \x9a\x9a\x9a\x9a\x9a\x9a                    ", // HexDigits
-    *b"            \x9a\x9a\x9a\x9a\x9a\x9a\x9a\x9a\x9a\x9a                                       \x9a\x9a\x9a\x9a\x9a\x9a                    ", // HexMore
+    *b"                                                                     \x98    \x97    \x98 \x98     ", // LiteralAfterD
+    *b"                                                                zzzz                   ", // FloatType
+    *b"                                  p                                                    ", // SizedFloatType
+    *b"            \x9a\x9a\x9a\x9a\x9a\x9a\x9a\x9a\x9a\x9a                                       \x9a\x9a\x9a\x9a\x9a\x9a                    ", // HexText
+    *b"            \x9b\x9b\x9b\x9b\x9b\x9b\x9b\x9b\x9b\x9b                                       \x9b\x9b\x9b\x9b\x9b\x9b                    ", // HexDigits
+    *b"            \x9b\x9b\x9b\x9b\x9b\x9b\x9b\x9b\x9b\x9b                                       \x9b\x9b\x9b\x9b\x9b\x9b                    ", // HexMore
     *b"            !                                                                          ", // MaybeZero
-    *b"            $$$$$$$$$$                   uX t  wv#    x      y y    yyy yyyy   yy  yyy ", // LiteralType
-    *b"            \x9d\x9d\x9d\x9d\x9d\x9d\x9d\x9d\x9d\x9d                   \x9d\x9d \x9d  \x9d\x9d\x9d    \x9d      \x9d \x9d    \x9d\x9d\x9d \x9d\x9d\x9d\x9d   \x9d\x9d  \x9d\x9d\x9d ", // LiteralPlain
-    *b"            $$$$$$$$$$                   uX t  wv#    x      y y    yyy yyyy   yy  yyy ", // LiteralSolid
-    *b"                                                             \xa0 \xa2\x9f\xa6 \xaa \xa9  \xa7\xa3\x9e\xa5\xa1 \xa4\xa8       ", // Operator
+    *b"            $$$$$$$$$$                   vX u  xw#    y      z z    zzz zzzz   zz  zzz ", // LiteralType
+    *b"            \x9e\x9e\x9e\x9e\x9e\x9e\x9e\x9e\x9e\x9e                   \x9e\x9e \x9e  \x9e\x9e\x9e    \x9e      \x9e \x9e    \x9e\x9e\x9e \x9e\x9e\x9e\x9e   \x9e\x9e  \x9e\x9e\x9e ", // LiteralPlain
+    *b"            $$$$$$$$$$                   vX u  xw#    y      z z    zzz zzzz   zz  zzz ", // LiteralSolid
+    *b"                                                             \xa1 \xa3\xa0\xa7 \xab \xaa  \xa8\xa4\x9f\xa6\xa2 \xa5\xa9       ", // Operator
     *b"                                                             !   ! !            !  !   ", // OperatorAfterN
     *b"                                                  !          !   !      !         !    ", // OperatorAfterD
     *b"                                          !    !             !  !         !        !   ", // OperatorAfterA
@@ -434,103 +434,103 @@ static LETTERS: [[u8; 87]; 169] = [
     *b"                                         !     !                         !     !       ", // OperatorAfterR
     *b"                                              !                            !  !        ", // OperatorAfterO
     *b"                                           !                               ! !         ", // OperatorAfterE
-    *b"                                               !                 !   \xab         !!      ", // OperatorAfterL
+    *b"                                               !                 !   \xac         !!      ", // OperatorAfterL
     *b"                                                                               !       ", // OperatorAfterS
     *b"                                                                                    !  ", // OperatorAfterI
     *b"                                                                 !              !      ", // OperatorAfterG
-    *b"            KKKKKKKKKK         KK    \xac  K        K           K KKK K K  KKKKK KK       ", // NestRestOrEnd
-    *b"                                     \x8a                                                 ", // ArgumentsAlone
+    *b"            KKKKKKKKKK         KK    \xad  K        K           K KKK K K  KKKKK KK       ", // NestRestOrEnd
+    *b"                                     \x8b                                                 ", // ArgumentsAlone
     *b"            KKKKKKKKKK         KK    J  K        K           K KKK K K  KKKKK KK       ", // NestRestAlone
-    *b"            \xad\xad\xad\xad\xad\xad\xad\xad\xad\xad                                                                 ", // FirstModule
-    *b"                                                   \xae                                   ", // MoreModule
+    *b"            \xae\xae\xae\xae\xae\xae\xae\xae\xae\xae                                                                 ", // FirstModule
+    *b"                                                   \xaf                                   ", // MoreModule
     *b"                                            !                                          ", // MaybePartition
     *b"            $$$$$$$$$$                  \"        #           % %%% % %  %%%%% %%       ", // NameAfterModule
     *b"                                                   )                                   ", // NameInModule
     *b"                                         !                                             ", // HolderMark
     *b"            $$$$$$$$$$         NO       \"        # )         Q PQQ Q Q  QQQQQ QQ       ", // HeldComponent
     *b"                                                           !  !                     !  ", // FloatEnd
-    *b"                                                                        \xb0\xb0 \xb0           ", // ComponentAfterC
-    *b"                                                             \xa0  \x9f\xa6 \xaa \xa9  \xa7\xa3\x9e\xa5\xa1 \xa4\xa8       ", // OtherOperator
-    *b"                                     \xb1                                                 ", // HeldArguments
-    *b"            \xb3\xb3\xb3\xb3\xb3\xb3\xb3\xb3\xb3\xb3                    \xb2    \xb3      x                                ", // BaseClass
-    *b"            \xb5\xb5\xb5\xb5\xb5\xb5\xb5\xb5\xb5\xb5                         \xb4                                       ", // UnnestedName
-    *b"                                     \xb6                                                 ", // BaseArguments
-    *b"            \x8e\x8e\x8e\x8e\x8e\x8e\x8e\x8e\x8e\x8e       \x8e \x8e\x8e \x8e   \x8c\x8e\x8d\x8e\x8e\x8e\x8e \x8e\x8e\x8e\x8e\x8e \x8e \x8e      \x8e\x8e\x8e\x8e\x8e\x8e\x8e\x8e\x8e\x8e \x8e\x8e\x8e\x8e  \x8e\x8e\x8e\x8e\x8e\x8e\x8e\x8e\x8e", // ArgumentsFirst
+    *b"                                                                        \xb1\xb1 \xb1           ", // ComponentAfterC
+    *b"                                                             \xa1  \xa0\xa7 \xab \xaa  \xa8\xa4\x9f\xa6\xa2 \xa5\xa9       ", // OtherOperator
+    *b"                                     \xb2                                                 ", // HeldArguments
+    *b"            \xb4\xb4\xb4\xb4\xb4\xb4\xb4\xb4\xb4\xb4                    \xb3    \xb4      y                                ", // BaseClass
+    *b"            \xb6\xb6\xb6\xb6\xb6\xb6\xb6\xb6\xb6\xb6                         \xb5                                       ", // UnnestedName
+    *b"                                     \xb7                                                 ", // BaseArguments
+    *b"            \x8f\x8f\x8f\x8f\x8f\x8f\x8f\x8f\x8f\x8f       \x8f \x8f\x8f \x8f   \x8d\x8f\x8e\x8f\x8f\x8f\x8f \x8f\x8f\x8f\x8f\x8f \x8f \x8f      \x8f\x8f\x8f\x8f\x8f\x8f\x8f\x8f\x8f\x8f \x8f\x8f\x8f\x8f  \x8f\x8f\x8f\x8f\x8f\x8f\x8f\x8f\x8f", // ArgumentsFirst
     *b"            $$$$$$$$$$                  \" *      #                                     ", // PlainEntity
     *b"            $$$$$$$$$$                  \" X      #                                     ", // PlainTypeEntity
     *b"                                   !                                                   ", // SpecialMark
     *b"                                                  5                                    ", // SpecialAfterG
-    *b"            $$$$$$$$$$                  \" *    < #    \xba                                ", // TemporaryName
+    *b"            $$$$$$$$$$                  \" *    < #    \xbb                                ", // TemporaryName
     *b"                                                                          !     !      ", // CloneLetter
-    *b"                                                                                \xbb      ", // TypeInStd
+    *b"                                                                                \xbc      ", // TypeInStd
     *b"                                                                                       ", // MaybeTags
-    *b"            \xbf\xbf\xbf\xbf\xbf\xbf\xbf\xbf\xbf\xbf       \xbf \xbfi \xbf    c \xbf\xbfd\xbf d\xbf\xbe\xbfb \xbd \xbf      \xbf\xbf\xbf\xbf\xbf\xbf\xbf\xbf\xbf\xbf \xbf\xbf\xbf\xbf  a\xbf\xbf\xbf\xbf\xbf\xbf\xbf\xbf", // Argument
-    *b"            \xc0\xc0\xc0\xc0\xc0\xc0\xc0\xc0\xc0\xc0                                     \xc0                           ", // ArgumentAfterT
-    *b"            \xc0\xc0\xc0\xc0\xc0\xc0\xc0\xc0\xc0\xc0                                     \xc0                           ", // LeveledParameter
-    *b"            \xbf\xbf\xbf\xbf\xbf\xbf\xbf\xbf\xbf\xbf       \xbf \xbfi \xbf   \xc4c\xc3\xbf\xbfd\xbf d\xbf\xbe\xbfb \xbd \xbf      \xbf\xbf\xbf\xbf\xbf\xbf\xbf\xbf\xbf\xbf \xbf\xbf\xbf\xbf  a\xbf\xbf\xbf\xbf\xbf\xbf\xbf\xbf", // OneArgument
-    *b"                                                                       \xc7  \xc6 \xc9   \xc8    \xc5 ", // DeclarationAfterT
-    *b"                                                \xca                                      ", // Declarations
-    *b"            \xcb\xcb\xcb\xcb\xcb\xcb\xcb\xcb\xcb\xcb                    X    \xcb                                       ", // Concept
-    *b"            $$$$$$$$$$       { }  |      uX t  w #    x      yyyyyyyyyy yyyy   yyzyyyyy", // SolidButT
-    *b"                                                             \xe8                         ", // Expression
-    *b"            \xf9\xf9\xf9\xf9\xf9\xf9\xf9\xf9\xf9\xf9                  \xfa                  \xf9                           ", // ExpressionParameter
-    *b"            \xf9\xf9\xf9\xf9\xf9\xf9\xf9\xf9\xf9\xf9                                     \xf9                           ", // UnleveledExpression
-    *b"                                        \xfb                                              ", // AddressedExpression
-    *b"                                                           \x91                           ", // AddressedLiteral
-    *b"                                                                \xd0                      ", // ExpressionAfterA
-    *b"                                                               \xcc        \xd4\xd1 \xd2\xd4     \xd5    ", // ExpressionAfterC
-    *b"                                                  \xd1          \xd2 \xcc \xd2   \xd6  \xd2 \xd8    \xd1\xd1 \xd1 \xd7  ", // ExpressionAfterD
-    *b"                                           \xd1                               \xd1 \xd1         ", // ExpressionAfterE
-    *b"                                        \xd9                               \xda   \xcf \xdb        ", // ExpressionAfterF
-    *b"                                                                 \xd1             \xd2\xd1      ", // ExpressionAfterG
-    *b"                                                                        \xdc           \xd1  ", // ExpressionAfterI
-    *b"                                               \xd1                 \xd1             \xd1\xd1      ", // ExpressionAfterL
-    *b"                                     \xd1  \xd1                            \xd1  \xd1\xdd             ", // ExpressionAfterM
-    *b"                                                             \xde   \xd1 \xd2            \xd2  \xde\xd2  ", // ExpressionAfterN
-    *b"                                              \xd1                           \xcd\xd1  \xd1        ", // ExpressionAfterO
-    *b"                                        \xd1                               \xd1\xd1  \xdd  \xd2\xd1      ", // ExpressionAfterP
-    *b"                                                                                 \xdf     ", // ExpressionAfterQ
-    *b"                                         \xd1   \xe1 \xd1               \xcc         \xd1   \xe0 \xd1       ", // ExpressionAfterR
-    *b"                                                      \xe3        \xcc            \xe2 \xe4\xd1\xd3    \xe5\xd2", // ExpressionAfterS
-    *b"                                                                 \xd2   \xd3  \xe6     \xe7    \xd2   ", // ExpressionAfterT
-    *b"                                                             \xfc                         ", // Expressions
+    *b"            \xc0\xc0\xc0\xc0\xc0\xc0\xc0\xc0\xc0\xc0       \xc0 \xc0j \xc0    d \xc0\xc0e\xc0 e\xc0\xbf\xc0c \xbe \xc0      \xc0\xc0\xc0\xc0\xc0\xc0\xc0\xc0\xc0\xc0 \xc0\xc0\xc0\xc0  b\xc0\xc0\xc0\xc0\xc0\xc0\xc0\xc0", // Argument
+    *b"            \xc1\xc1\xc1\xc1\xc1\xc1\xc1\xc1\xc1\xc1                                     \xc1                           ", // ArgumentAfterT
+    *b"            \xc1\xc1\xc1\xc1\xc1\xc1\xc1\xc1\xc1\xc1                                     \xc1                           ", // LeveledParameter
+    *b"            \xc0\xc0\xc0\xc0\xc0\xc0\xc0\xc0\xc0\xc0       \xc0 \xc0j \xc0   \xc5d\xc4\xc0\xc0e\xc0 e\xc0\xbf\xc0c \xbe \xc0      \xc0\xc0\xc0\xc0\xc0\xc0\xc0\xc0\xc0\xc0 \xc0\xc0\xc0\xc0  b\xc0\xc0\xc0\xc0\xc0\xc0\xc0\xc0", // OneArgument
+    *b"                                                                       \xc8  \xc7 \xca   \xc9    \xc6 ", // DeclarationAfterT
+    *b"                                                \xcb                                      ", // Declarations
+    *b"            \xcc\xcc\xcc\xcc\xcc\xcc\xcc\xcc\xcc\xcc                    X    \xcc                                       ", // Concept
+    *b"            $$$$$$$$$$       | ~  }      vX u  x #    y      zzzzzzzzzz zzzz   zz{zzzzz", // SolidButT
+    *b"                                                             \xe9                         ", // Expression
+    *b"            \xfa\xfa\xfa\xfa\xfa\xfa\xfa\xfa\xfa\xfa                  \xfb                  \xfa                           ", // ExpressionParameter
+    *b"            \xfa\xfa\xfa\xfa\xfa\xfa\xfa\xfa\xfa\xfa                                     \xfa                           ", // UnleveledExpression
+    *b"                                        \xfc                                              ", // AddressedExpression
+    *b"                                                           \x92                           ", // AddressedLiteral
+    *b"                                                                \xd1                      ", // ExpressionAfterA
+    *b"                                                               \xcd        \xd5\xd2 \xd3\xd5     \xd6    ", // ExpressionAfterC
+    *b"                                                  \xd2          \xd3 \xcd \xd3   \xd7  \xd3 \xd9    \xd2\xd2 \xd2 \xd8  ", // ExpressionAfterD
+    *b"                                           \xd2                               \xd2 \xd2         ", // ExpressionAfterE
+    *b"                                        \xda                               \xdb   \xd0 \xdc        ", // ExpressionAfterF
+    *b"                                                                 \xd2             \xd3\xd2      ", // ExpressionAfterG
+    *b"                                                                        \xdd           \xd2  ", // ExpressionAfterI
+    *b"                                               \xd2                 \xd2             \xd2\xd2      ", // ExpressionAfterL
+    *b"                                     \xd2  \xd2                            \xd2  \xd2\xde             ", // ExpressionAfterM
+    *b"                                                             \xdf   \xd2 \xd3            \xd3  \xdf\xd3  ", // ExpressionAfterN
+    *b"                                              \xd2                           \xce\xd2  \xd2        ", // ExpressionAfterO
+    *b"                                        \xd2                               \xd2\xd2  \xde  \xd3\xd2      ", // ExpressionAfterP
+    *b"                                                                                 \xe0     ", // ExpressionAfterQ
+    *b"                                         \xd2   \xe2 \xd2               \xcd         \xd2   \xe1 \xd2       ", // ExpressionAfterR
+    *b"                                                      \xe4        \xcd            \xe3 \xe5\xd2\xd4    \xe6\xd3", // ExpressionAfterS
+    *b"                                                                 \xd3   \xd4  \xe7     \xe8    \xd3   ", // ExpressionAfterT
+    *b"                                                             \xfd                         ", // Expressions
     *b"                                                           !                           ", // MaybeBefore
-    *b"                                                             \xa0 \xa2\x9f\xa6 \xaa \xa9  \xfd\xa3\x9e\xa5\xa1 \xa4\xa8       ", // FoldOperator
+    *b"                                                             \xa1 \xa3\xa0\xa7 \xab \xaa  \xfe\xa4\x9f\xa6\xa2 \xa5\xa9       ", // FoldOperator
     *b"                                               !                 !             !!      ", // FoldOperatorAfterL
-    *b"                                                             \xfe                         ", // FoldOperand
-    *b"                                                             \xff                         ", // FoldPack
-    *b"                                      \xc4                      \xff                         ", // ValuePack
-    *b"            \x00\x00\x00\x00\x00\x00\x00\x00\x00\x00       \x00 \x00\x00 \x00   \xc4\x00 \x00\x00\x00\x00 \x00\x00\x00\x00\x00   \x00      \x00\x00\x00\x00\x00\x00\x00\x00\x00\x00 \x00\x00\x00\x00  \x00\x00\x00\x00\x00\x00\x00\x00\x00", // TypePack
-    *b"            \x02\x02\x02\x02\x02\x02\x02\x02\x02\x02                  \x02       \x02            \x02 \x02\x01\x02\x02\x02 \x02  \x02\x02\x02\x02\x02\x02\x02\x02\x02      ", // DesignatedValue
-    *b"                                                                     \xd6              \xd7  ", // DesignatorAfterD
-    *b"            \xce\xce\xce\xce\xce\xce\xce\xce\xce\xce                  \xc3       \xf8            \xe8 \xe9 \xeb\xec\xed \xee  \xef\xf0\xf1\xf2\xf3\xf4\xf5\xf6\xf7      ", // PlainValue
-    *b"            \x03\x03\x03\x03\x03\x03\x03\x03\x03\x03                                                                 ", // FieldName
-    *b"                                                           ! \x04                         ", // Placement
-    *b"                                                             \xfc                         ", // SomeExpressions
-    *b"                                 \x85                                   \x06      \x05          ", // Initializer
-    *b"                                                                     \xdc                 ", // InitializerAfterP
-    *b"                                                                        \xdc              ", // InitializerAfterI
-    *b"                                                                            \xcf          ", // OuterRest
-    *b"            \x08\x08\x08\x08\x08\x08\x08\x08\x08\x08                          \x07          \x08                           ", // ParameterNumber
-    *b"            \x0d\x0d\x0d\x0d\x0d\x0d\x0d\x0d\x0d\x0d          \x09 \x0d    \x0a  \x0d\x0c\x0b \x0c\x0d\x0d\x0d           \x0d\x0d\x0d\x0d\x0d\x0d\x0d\x0d\x0d\x0d \x0d\x0d\x0d\x0d   \x0d\x0d \x0d\x0d\x0d\x0d\x0d", // ConvertedType
-    *b"            $$$$$$$$$$            |       X    w\x0e#           yyyyyyyyyy yyyy   yy yyyyy", // ConvertedSolid
-    *b"            \xc0\xc0\xc0\xc0\xc0\xc0\xc0\xc0\xc0\xc0                  \xc2                  \xc0                           ", // ParameterAfterT
-    *b"                                                r                               r      ", // DecltypeAfterD
-    *b"            \xce\xce\xce\xce\xce\xce\xce\xce\xce\xce                  \xc3       \xf8          \xdc \xe8 \xe9\xea\xeb\xec\xed \xee  \xef\xf0\xf1\xf2\xf3\xf4\xf5\xf6\xf7      ", // ConvertRest
-    *b"            \x10\x10\x10\x10\x10\x10\x10\x10\x10\x10          \x0f         \x0f    \x0f\x0f                                      ", // Unresolved
-    *b"                                \x09         X    w\x0e                                      ", // UnresolvedType
-    *b"            \xce\xce\xce\xce\xce\xce\xce\xce\xce\xce          \x11         \x11    \x11\x11                                      ", // DestructorName
-    *b"                                             \x14  \x13   \x12                                  ", // Requirements
-    *b"                                          \x16  \x14\x15 \x13   \x12                                  ", // AfterExpression
-    *b"                                             \x14\x15 \x13   \x12                                  ", // AfterNoexcept
-    *b"            \x17\x17\x17\x17\x17\x17\x17\x17\x17\x17          \x17 \x17    \x17  \x17\x17\x17 \x17\x17\x17\x17         \xe0 \x17\x17\x17\x17\x17\x17\x17\x17\x17\x17 \x17\x17\x17\x17   \x17\x17 \x17\x17\x17\x17\x17", // RequiredTypes
-    *b"            \xce\xce\xce\xce\xce\xce\xce\xce\xce\xce                                                                 ", // Level
-    *b"            \x10\x10\x10\x10\x10\x10\x10\x10\x10\x10           \x18                                                     ", // MoreLevels
-    *b"            \xce\xce\xce\xce\xce\xce\xce\xce\xce\xce                                                     \x19           ", // UnresolvedName
-    *b"                                                                          \xcd            ", // OperatorName
-    *b"                             \x1a                                                         ", // AnyArray
-    *b"            \x1c\x1c\x1c\x1c\x1c\x1c\x1c\x1c\x1c\x1c                                     \x1c                           ", // ArrayRest
-    *b"                                        \xc3       \xf8            \xe8 \xe9\xea\xeb\xec\xed \xee  \xef\xf0\xf1\xf2\xf3\xf4\xf5\xf6\xf7      ", // Bound
+    *b"                                                             \xff                         ", // FoldOperand
+    *b"                                                             \x00                         ", // FoldPack
+    *b"                                      \xc5                      \x00                         ", // ValuePack
+    *b"            \x01\x01\x01\x01\x01\x01\x01\x01\x01\x01       \x01 \x01\x01 \x01   \xc5\x01 \x01\x01\x01\x01 \x01\x01\x01\x01\x01   \x01      \x01\x01\x01\x01\x01\x01\x01\x01\x01\x01 \x01\x01\x01\x01  \x01\x01\x01\x01\x01\x01\x01\x01\x01", // TypePack
+    *b"            \x03\x03\x03\x03\x03\x03\x03\x03\x03\x03                  \x03       \x03            \x03 \x03\x02\x03\x03\x03 \x03  \x03\x03\x03\x03\x03\x03\x03\x03\x03      ", // DesignatedValue
+    *b"                                                                     \xd7              \xd8  ", // DesignatorAfterD
+    *b"            \xcf\xcf\xcf\xcf\xcf\xcf\xcf\xcf\xcf\xcf                  \xc4       \xf9            \xe9 \xea \xec\xed\xee \xef  \xf0\xf1\xf2\xf3\xf4\xf5\xf6\xf7\xf8      ", // PlainValue
+    *b"            \x04\x04\x04\x04\x04\x04\x04\x04\x04\x04                                                                 ", // FieldName
+    *b"                                                           ! \x05                         ", // Placement
+    *b"                                                             \xfd                         ", // SomeExpressions
+    *b"                                 \x86                                   \x07      \x06          ", // Initializer
+    *b"                                                                     \xdd                 ", // InitializerAfterP
+    *b"                                                                        \xdd              ", // InitializerAfterI
+    *b"                                                                            \xd0          ", // OuterRest
+    *b"            \x09\x09\x09\x09\x09\x09\x09\x09\x09\x09                          \x08          \x09                           ", // ParameterNumber
+    *b"            \x0e\x0e\x0e\x0e\x0e\x0e\x0e\x0e\x0e\x0e          \x0a \x0e    \x0b  \x0e\x0d\x0c \x0d\x0e\x0e\x0e           \x0e\x0e\x0e\x0e\x0e\x0e\x0e\x0e\x0e\x0e \x0e\x0e\x0e\x0e   \x0e\x0e \x0e\x0e\x0e\x0e\x0e", // ConvertedType
+    *b"            $$$$$$$$$$            }       X    x\x0f#           zzzzzzzzzz zzzz   zz zzzzz", // ConvertedSolid
+    *b"            \xc1\xc1\xc1\xc1\xc1\xc1\xc1\xc1\xc1\xc1                  \xc3                  \xc1                           ", // ParameterAfterT
+    *b"                                                s                               s      ", // DecltypeAfterD
+    *b"            \xcf\xcf\xcf\xcf\xcf\xcf\xcf\xcf\xcf\xcf                  \xc4       \xf9          \xdd \xe9 \xea\xeb\xec\xed\xee \xef  \xf0\xf1\xf2\xf3\xf4\xf5\xf6\xf7\xf8      ", // ConvertRest
+    *b"            \x11\x11\x11\x11\x11\x11\x11\x11\x11\x11          \x10         \x10    \x10\x10                                      ", // Unresolved
+    *b"                                \x0a         X    x\x0f                                      ", // UnresolvedType
+    *b"            \xcf\xcf\xcf\xcf\xcf\xcf\xcf\xcf\xcf\xcf          \x12         \x12    \x12\x12                                      ", // DestructorName
+    *b"                                             \x15  \x14   \x13                                  ", // Requirements
+    *b"                                          \x17  \x15\x16 \x14   \x13                                  ", // AfterExpression
+    *b"                                             \x15\x16 \x14   \x13                                  ", // AfterNoexcept
+    *b"            \x18\x18\x18\x18\x18\x18\x18\x18\x18\x18          \x18 \x18    \x18  \x18\x18\x18 \x18\x18\x18\x18         \xe1 \x18\x18\x18\x18\x18\x18\x18\x18\x18\x18 \x18\x18\x18\x18   \x18\x18 \x18\x18\x18\x18\x18", // RequiredTypes
+    *b"            \xcf\xcf\xcf\xcf\xcf\xcf\xcf\xcf\xcf\xcf                                                                 ", // Level
+    *b"            \x11\x11\x11\x11\x11\x11\x11\x11\x11\x11           \x19                                                     ", // MoreLevels
+    *b"            \xcf\xcf\xcf\xcf\xcf\xcf\xcf\xcf\xcf\xcf                                                     \x1a           ", // UnresolvedName
+    *b"                                                                          \xce            ", // OperatorName
+    *b"                             \x1b                                                         ", // AnyArray
+    *b"            \x1d\x1d\x1d\x1d\x1d\x1d\x1d\x1d\x1d\x1d                                     \x1d                           ", // ArrayRest
+    *b"                                        \xc4       \xf9            \xe9 \xea\xeb\xec\xed\xee \xef  \xf0\xf1\xf2\xf3\xf4\xf5\xf6\xf7\xf8      ", // Bound
     *b"            KKKKKKKKKK         KK       K        K           K KKK K K  KKKKK KK       ", // NestMoreOrEnd
 ];
 
@@ -561,7 +561,7 @@ macro_rules! chains {
 }
 
 // The rules of the productions, in the order of their numbers.
-pub static HEADS: [Head; 252] = [
+pub static HEADS: [Head; 253] = [
     takes!(0), // ! Mark
     takes!(2), // \" InternalName
     takes!(2), // # LocalTypeName
@@ -626,198 +626,199 @@ pub static HEADS: [Head; 252] = [
     takes!(2), // ^ ManyDigits
     takes!(4), // _ Lambda
     takes!(1), // ` Unnamed
-    takes!(3), // a RestrictType
-    takes!(2), // b VolatileType
-    takes!(1), // c ConstType
-    takes!(1), // d ReferenceType
-    chains!(1), // e PlainType
-    takes!(1), // f TypeWithD
-    takes!(1), // g PlainWithD
-    chains!(1), // h QualifiedPlain
-    takes!(1), // i ItemWithD
-    takes!(1), // j Expansion
-    chains!(1), // k ItemIsType
-    takes!(0), // l BuiltinWithD
-    takes!(3), // m Vector
-    takes!(4), // n NoexceptFunction
-    takes!(2), // o SizedFloat
-    takes!(1), // p ConstrainedAuto
-    takes!(2), // q BitInt
-    takes!(2), // r Decltype
-    takes!(2), // s IndexedType
-    takes!(1), // t Pointer
-    takes!(2), // u MemberPointer
-    takes!(2), // v Parameter
-    takes!(2), // w TypeWithS
-    takes!(4), // x LocalType
-    takes!(0), // y Builtin
-    takes!(1), // z Vendor
-    chains!(1), // { ArrayType
-    takes!(3), // | Function
-    takes!(1), // } Complex
-    chains!(1), // ~ BitWidth
-    chains!(1), // \x7f TypeInStd
-    chains!(1), // \x80 AbbreviatedType
-    takes!(0), // \x81 RestEnd
-    takes!(1), // \x82 RestLvalue
-    takes!(1), // \x83 RestRvalue
-    chains!(2), // \x84 RestItem
-    takes!(0), // \x85 RefEnd
-    chains!(2), // \x86 LvalueItem
-    chains!(2), // \x87 RvalueItem
-    takes!(1), // \x88 Constraint
-    chains!(2), // \x89 Items
-    takes!(2), // \x8a Arguments
-    takes!(2), // \x8b Tag
-    takes!(3), // \x8c PackArgument
-    takes!(3), // \x8d LiteralArgument
-    chains!(2), // \x8e AnyArgument
-    takes!(3), // \x8f LiteralElement
-    chains!(2), // \x90 AnyElement
-    takes!(2), // \x91 EncodingLiteral
-    takes!(1), // \x92 BoolLiteral
-    takes!(1), // \x93 LiteralWithD
-    chains!(2), // \x94 IntegerLiteral
-    chains!(2), // \x95 FloatLiteral
-    takes!(1), // \x96 NullLiteral
-    takes!(1), // \x97 CharLiteral
-    chains!(2), // \x98 SizedFloatLiteral
-    chains!(1), // \x99 HexText
-    takes!(1), // \x9a HexDigit
-    takes!(2), // \x9b VolatileLiteral
-    takes!(1), // \x9c ConstLiteral
-    chains!(1), // \x9d QualifiedLiteral
-    takes!(1), // \x9e OperatorN
-    takes!(1), // \x9f OperatorD
-    takes!(1), // \xa0 OperatorA
-    takes!(1), // \xa1 OperatorP
-    takes!(1), // \xa2 OperatorC
-    takes!(1), // \xa3 OperatorM
-    takes!(1), // \xa4 OperatorR
-    takes!(1), // \xa5 OperatorO
-    takes!(1), // \xa6 OperatorE
-    takes!(1), // \xa7 OperatorL
-    takes!(1), // \xa8 OperatorS
-    takes!(1), // \xa9 OperatorI
-    takes!(1), // \xaa OperatorG
-    takes!(1), // \xab LiteralOperator
-    takes!(3), // \xac NestInstance
-    chains!(2), // \xad FirstModule
-    takes!(3), // \xae MoreModule
-    takes!(1), // \xaf Conversion
-    chains!(2), // \xb0 OperatorNameWithC
-    takes!(2), // \xb1 HeldArguments
-    takes!(2), // \xb2 NestedBase
-    chains!(2), // \xb3 UnnestedBase
-    takes!(1), // \xb4 UnnestedWithS
-    chains!(2), // \xb5 TaggedSource
-    takes!(3), // \xb6 BaseArguments
-    takes!(2), // \xb7 Temporary
-    takes!(2), // \xb8 ModuleInitializer
-    takes!(2), // \xb9 Clone
-    takes!(3), // \xba LocalTemporary
-    takes!(2), // \xbb TaggedStdType
-    takes!(2), // \xbc TypeTag
-    takes!(2), // \xbd Expression
-    takes!(1), // \xbe ArgumentWithT
-    chains!(1), // \xbf PlainArgument
-    chains!(2), // \xc0 ParameterArgument
-    chains!(2), // \xc1 DeclaredArgument
-    takes!(2), // \xc2 LeveledParameter
-    takes!(2), // \xc3 OneLiteral
-    takes!(2), // \xc4 OnePack
-    takes!(0), // \xc5 AnyType
-    takes!(1), // \xc6 ValueOf
-    takes!(1), // \xc7 OfConcept
-    takes!(2), // \xc8 TemplateOf
-    takes!(2), // \xc9 PackOf
-    takes!(2), // \xca Declarations
-    chains!(2), // \xcb NamedConcept
-    takes!(2), // \xcc Cast
-    takes!(2), // \xcd OperatorReference
-    chains!(2), // \xce SimpleId
-    takes!(4), // \xcf FunctionParameter
-    takes!(1), // \xd0 AddressExpression
-    takes!(2), // \xd1 Binary
-    takes!(1), // \xd2 Unary
-    takes!(1), // \xd3 OfType
-    takes!(3), // \xd4 Call
-    takes!(2), // \xd5 Convert
-    takes!(2), // \xd6 Designated
-    takes!(2), // \xd7 DesignatedElement
-    takes!(1), // \xd8 DestructorName
-    takes!(2), // \xd9 OuterParameter
-    takes!(2), // \xda LeftFold
-    takes!(2), // \xdb RightFold
-    takes!(2), // \xdc Braces
-    takes!(2), // \xdd Step
-    takes!(3), // \xde New
-    takes!(3), // \xdf Conditional
-    takes!(2), // \xe0 Requires
-    takes!(1), // \xe1 RequiresOf
-    takes!(1), // \xe2 ExpandExpression
-    takes!(1), // \xe3 PackSize
-    takes!(1), // \xe4 Unresolved
-    takes!(2), // \xe5 PackIndex
-    takes!(3), // \xe6 TypedBraces
-    takes!(0), // \xe7 Rethrow
-    takes!(1), // \xe8 ExpressionA
-    takes!(1), // \xe9 ExpressionC
-    takes!(1), // \xea ExpressionD
-    takes!(1), // \xeb ExpressionE
-    takes!(1), // \xec ExpressionF
-    takes!(1), // \xed ExpressionG
-    takes!(1), // \xee ExpressionI
-    takes!(1), // \xef ExpressionL
-    takes!(1), // \xf0 ExpressionM
-    takes!(1), // \xf1 ExpressionN
-    takes!(1), // \xf2 ExpressionO
-    takes!(1), // \xf3 ExpressionP
-    takes!(1), // \xf4 ExpressionQ
-    takes!(1), // \xf5 ExpressionR
-    takes!(1), // \xf6 ExpressionS
-    takes!(1), // \xf7 ExpressionT
-    takes!(1), // \xf8 ExpressionWithT
-    chains!(2), // \xf9 ParameterExpression
-    takes!(2), // \xfa LeveledExpression
-    takes!(2), // \xfb AddressedLiteral
-    chains!(2), // \xfc Expressions
-    takes!(1), // \xfd FoldOperatorL
-    chains!(1), // \xfe FoldOperand
-    chains!(1), // \xff FoldPack
-    chains!(1), // \x00 TypePack
-    takes!(1), // \x01 Designators
-    chains!(1), // \x02 DesignatedValue
-    chains!(1), // \x03 FieldName
-    chains!(2), // \x04 Placed
-    takes!(1), // \x05 Initializer
-    takes!(1), // \x06 BracedInitializer
-    takes!(0), // \x07 This
-    chains!(1), // \x08 ParameterNumber
-    takes!(1), // \x09 ConvertedDecltype
-    takes!(1), // \x0a ConvertedConst
-    takes!(1), // \x0b ConvertedPointer
-    takes!(1), // \x0c ConvertedReference
-    chains!(1), // \x0d ConvertedType
-    takes!(1), // \x0e ConvertedWithT
-    chains!(2), // \x0f UnresolvedInType
-    chains!(2), // \x10 Levels
-    chains!(1), // \x11 DestroyedType
-    takes!(2), // \x12 ExpressionRequirement
-    takes!(2), // \x13 TypeRequirement
-    takes!(2), // \x14 NestedRequirement
-    takes!(2), // \x15 ResultRequirement
-    takes!(1), // \x16 NoexceptRequirement
-    chains!(2), // \x17 RequiredType
-    takes!(1), // \x18 LevelsEnd
-    takes!(1), // \x19 UnresolvedOperator
-    takes!(1), // \x1a AnyArray
-    chains!(3), // \x1b BoundedArray
-    chains!(2), // \x1c LengthArray
+    takes!(2), // a Enumeration
+    takes!(3), // b RestrictType
+    takes!(2), // c VolatileType
+    takes!(1), // d ConstType
+    takes!(1), // e ReferenceType
+    chains!(1), // f PlainType
+    takes!(1), // g TypeWithD
+    takes!(1), // h PlainWithD
+    chains!(1), // i QualifiedPlain
+    takes!(1), // j ItemWithD
+    takes!(1), // k Expansion
+    chains!(1), // l ItemIsType
+    takes!(0), // m BuiltinWithD
+    takes!(3), // n Vector
+    takes!(4), // o NoexceptFunction
+    takes!(2), // p SizedFloat
+    takes!(1), // q ConstrainedAuto
+    takes!(2), // r BitInt
+    takes!(2), // s Decltype
+    takes!(2), // t IndexedType
+    takes!(1), // u Pointer
+    takes!(2), // v MemberPointer
+    takes!(2), // w Parameter
+    takes!(2), // x TypeWithS
+    takes!(4), // y LocalType
+    takes!(0), // z Builtin
+    takes!(1), // { Vendor
+    chains!(1), // | ArrayType
+    takes!(3), // } Function
+    takes!(1), // ~ Complex
+    chains!(1), // \x7f BitWidth
+    chains!(1), // \x80 TypeInStd
+    chains!(1), // \x81 AbbreviatedType
+    takes!(0), // \x82 RestEnd
+    takes!(1), // \x83 RestLvalue
+    takes!(1), // \x84 RestRvalue
+    chains!(2), // \x85 RestItem
+    takes!(0), // \x86 RefEnd
+    chains!(2), // \x87 LvalueItem
+    chains!(2), // \x88 RvalueItem
+    takes!(1), // \x89 Constraint
+    chains!(2), // \x8a Items
+    takes!(2), // \x8b Arguments
+    takes!(2), // \x8c Tag
+    takes!(3), // \x8d PackArgument
+    takes!(3), // \x8e LiteralArgument
+    chains!(2), // \x8f AnyArgument
+    takes!(3), // \x90 LiteralElement
+    chains!(2), // \x91 AnyElement
+    takes!(2), // \x92 EncodingLiteral
+    takes!(1), // \x93 BoolLiteral
+    takes!(1), // \x94 LiteralWithD
+    chains!(2), // \x95 IntegerLiteral
+    chains!(2), // \x96 FloatLiteral
+    takes!(1), // \x97 NullLiteral
+    takes!(1), // \x98 CharLiteral
+    chains!(2), // \x99 SizedFloatLiteral
+    chains!(1), // \x9a HexText
+    takes!(1), // \x9b HexDigit
+    takes!(2), // \x9c VolatileLiteral
+    takes!(1), // \x9d ConstLiteral
+    chains!(1), // \x9e QualifiedLiteral
+    takes!(1), // \x9f OperatorN
+    takes!(1), // \xa0 OperatorD
+    takes!(1), // \xa1 OperatorA
+    takes!(1), // \xa2 OperatorP
+    takes!(1), // \xa3 OperatorC
+    takes!(1), // \xa4 OperatorM
+    takes!(1), // \xa5 OperatorR
+    takes!(1), // \xa6 OperatorO
+    takes!(1), // \xa7 OperatorE
+    takes!(1), // \xa8 OperatorL
+    takes!(1), // \xa9 OperatorS
+    takes!(1), // \xaa OperatorI
+    takes!(1), // \xab OperatorG
+    takes!(1), // \xac LiteralOperator
+    takes!(3), // \xad NestInstance
+    chains!(2), // \xae FirstModule
+    takes!(3), // \xaf MoreModule
+    takes!(1), // \xb0 Conversion
+    chains!(2), // \xb1 OperatorNameWithC
+    takes!(2), // \xb2 HeldArguments
+    takes!(2), // \xb3 NestedBase
+    chains!(2), // \xb4 UnnestedBase
+    takes!(1), // \xb5 UnnestedWithS
+    chains!(2), // \xb6 TaggedSource
+    takes!(3), // \xb7 BaseArguments
+    takes!(2), // \xb8 Temporary
+    takes!(2), // \xb9 ModuleInitializer
+    takes!(2), // \xba Clone
+    takes!(3), // \xbb LocalTemporary
+    takes!(2), // \xbc TaggedStdType
+    takes!(2), // \xbd TypeTag
+    takes!(2), // \xbe Expression
+    takes!(1), // \xbf ArgumentWithT
+    chains!(1), // \xc0 PlainArgument
+    chains!(2), // \xc1 ParameterArgument
+    chains!(2), // \xc2 DeclaredArgument
+    takes!(2), // \xc3 LeveledParameter
+    takes!(2), // \xc4 OneLiteral
+    takes!(2), // \xc5 OnePack
+    takes!(0), // \xc6 AnyType
+    takes!(1), // \xc7 ValueOf
+    takes!(1), // \xc8 OfConcept
+    takes!(2), // \xc9 TemplateOf
+    takes!(2), // \xca PackOf
+    takes!(2), // \xcb Declarations
+    chains!(2), // \xcc NamedConcept
+    takes!(2), // \xcd Cast
+    takes!(2), // \xce OperatorReference
+    chains!(2), // \xcf SimpleId
+    takes!(4), // \xd0 FunctionParameter
+    takes!(1), // \xd1 AddressExpression
+    takes!(2), // \xd2 Binary
+    takes!(1), // \xd3 Unary
+    takes!(1), // \xd4 OfType
+    takes!(3), // \xd5 Call
+    takes!(2), // \xd6 Convert
+    takes!(2), // \xd7 Designated
+    takes!(2), // \xd8 DesignatedElement
+    takes!(1), // \xd9 DestructorName
+    takes!(2), // \xda OuterParameter
+    takes!(2), // \xdb LeftFold
+    takes!(2), // \xdc RightFold
+    takes!(2), // \xdd Braces
+    takes!(2), // \xde Step
+    takes!(3), // \xdf New
+    takes!(3), // \xe0 Conditional
+    takes!(2), // \xe1 Requires
+    takes!(1), // \xe2 RequiresOf
+    takes!(1), // \xe3 ExpandExpression
+    takes!(1), // \xe4 PackSize
+    takes!(1), // \xe5 Unresolved
+    takes!(2), // \xe6 PackIndex
+    takes!(3), // \xe7 TypedBraces
+    takes!(0), // \xe8 Rethrow
+    takes!(1), // \xe9 ExpressionA
+    takes!(1), // \xea ExpressionC
+    takes!(1), // \xeb ExpressionD
+    takes!(1), // \xec ExpressionE
+    takes!(1), // \xed ExpressionF
+    takes!(1), // \xee ExpressionG
+    takes!(1), // \xef ExpressionI
+    takes!(1), // \xf0 ExpressionL
+    takes!(1), // \xf1 ExpressionM
+    takes!(1), // \xf2 ExpressionN
+    takes!(1), // \xf3 ExpressionO
+    takes!(1), // \xf4 ExpressionP
+    takes!(1), // \xf5 ExpressionQ
+    takes!(1), // \xf6 ExpressionR
+    takes!(1), // \xf7 ExpressionS
+    takes!(1), // \xf8 ExpressionT
+    takes!(1), // \xf9 ExpressionWithT
+    chains!(2), // \xfa ParameterExpression
+    takes!(2), // \xfb LeveledExpression
+    takes!(2), // \xfc AddressedLiteral
+    chains!(2), // \xfd Expressions
+    takes!(1), // \xfe FoldOperatorL
+    chains!(1), // \xff FoldOperand
+    chains!(1), // \x00 FoldPack
+    chains!(1), // \x01 TypePack
+    takes!(1), // \x02 Designators
+    chains!(1), // \x03 DesignatedValue
+    chains!(1), // \x04 FieldName
+    chains!(2), // \x05 Placed
+    takes!(1), // \x06 Initializer
+    takes!(1), // \x07 BracedInitializer
+    takes!(0), // \x08 This
+    chains!(1), // \x09 ParameterNumber
+    takes!(1), // \x0a ConvertedDecltype
+    takes!(1), // \x0b ConvertedConst
+    takes!(1), // \x0c ConvertedPointer
+    takes!(1), // \x0d ConvertedReference
+    chains!(1), // \x0e ConvertedType
+    takes!(1), // \x0f ConvertedWithT
+    chains!(2), // \x10 UnresolvedInType
+    chains!(2), // \x11 Levels
+    chains!(1), // \x12 DestroyedType
+    takes!(2), // \x13 ExpressionRequirement
+    takes!(2), // \x14 TypeRequirement
+    takes!(2), // \x15 NestedRequirement
+    takes!(2), // \x16 ResultRequirement
+    takes!(1), // \x17 NoexceptRequirement
+    chains!(2), // \x18 RequiredType
+    takes!(1), // \x19 LevelsEnd
+    takes!(1), // \x1a UnresolvedOperator
+    takes!(1), // \x1b AnyArray
+    chains!(3), // \x1c BoundedArray
+    chains!(2), // \x1d LengthArray
 ];
 
 // The symbols of the rules, in the same order.
-pub static SYMBOLS: [Sym; 1518] = symbols_listed! {
+pub static SYMBOLS: [Sym; 1524] = symbols_listed! {
     [NONE, NONE, NONE, NONE, NONE], // ! Mark
     [NAME, MAYBE_ARGUMENTS, NONE, NONE, NONE], // \" InternalName
     [ANONYMOUS, MAYBE_ARGUMENTS, NONE, NONE, NONE], // # LocalTypeName
@@ -882,198 +883,199 @@ pub static SYMBOLS: [Sym; 1518] = symbols_listed! {
     [DIGITS, Sym::Byte(b'_'), NONE, NONE, NONE], // ^ ManyDigits
     [ITEM, ITEMS, Sym::Byte(b'E'), DECIMAL, NONE], // _ Lambda
     [DECIMAL, NONE, NONE, NONE, NONE], // ` Unnamed
-    [MAYBE_VOLATILE, MAYBE_CONST, PLAIN, NONE, NONE], // a RestrictType
-    [MAYBE_CONST, PLAIN, NONE, NONE, NONE], // b VolatileType
-    [PLAIN, NONE, NONE, NONE, NONE], // c ConstType
-    [TYPE, NONE, NONE, NONE, NONE], // d ReferenceType
-    [SOLID, NONE, NONE, NONE, NONE], // e PlainType
-    [AFTER_D, NONE, NONE, NONE, NONE], // f TypeWithD
-    [AFTER_D, NONE, NONE, NONE, NONE], // g PlainWithD
-    [SOLID, NONE, NONE, NONE, NONE], // h QualifiedPlain
-    [ITEM_AFTER_D, NONE, NONE, NONE, NONE], // i ItemWithD
-    [TYPE, NONE, NONE, NONE, NONE], // j Expansion
-    [AFTER_D, NONE, NONE, NONE, NONE], // k ItemIsType
-    [NONE, NONE, NONE, NONE, NONE], // l BuiltinWithD
-    [DIGITS, Sym::Byte(b'_'), TYPE, NONE, NONE], // m Vector
-    [Sym::Byte(b'F'), MAYBE_C_LINKAGE, TYPE, FUNCTION_REST, NONE], // n NoexceptFunction
-    [DIGITS, FLOAT_END, NONE, NONE, NONE], // o SizedFloat
-    [CONCEPT, NONE, NONE, NONE, NONE], // p ConstrainedAuto
-    [BIT_WIDTH, Sym::Byte(b'_'), NONE, NONE, NONE], // q BitInt
-    [EXPRESSION, Sym::Byte(b'E'), NONE, NONE, NONE], // r Decltype
-    [TYPE_PACK, EXPRESSION, NONE, NONE, NONE], // s IndexedType
-    [TYPE, NONE, NONE, NONE, NONE], // t Pointer
-    [TYPE, TYPE, NONE, NONE, NONE], // u MemberPointer
-    [DECIMAL, ARGUMENTS_ALONE, NONE, NONE, NONE], // v Parameter
-    [TYPE_AFTER_S, ARGUMENTS_ALONE, NONE, NONE, NONE], // w TypeWithS
-    [ENCODING, Sym::Byte(b'E'), TYPE_ENTITY, MAYBE_DISCRIMINATOR, NONE], // x LocalType
-    [NONE, NONE, NONE, NONE, NONE], // y Builtin
-    [NAME, NONE, NONE, NONE, NONE], // z Vendor
-    [ANY_ARRAY, NONE, NONE, NONE, NONE], // { ArrayType
-    [MAYBE_C_LINKAGE, TYPE, FUNCTION_REST, NONE, NONE], // | Function
-    [TYPE, NONE, NONE, NONE, NONE], // } Complex
-    [DIGITS, NONE, NONE, NONE, NONE], // ~ BitWidth
-    [TYPE_IN_STD, NONE, NONE, NONE, NONE], // \x7f TypeInStd
-    [ABBREVIATION, NONE, NONE, NONE, NONE], // \x80 AbbreviatedType
-    [NONE, NONE, NONE, NONE, NONE], // \x81 RestEnd
-    [AFTER_R, NONE, NONE, NONE, NONE], // \x82 RestLvalue
-    [AFTER_O, NONE, NONE, NONE, NONE], // \x83 RestRvalue
-    [ITEM_BUT_REF, FUNCTION_REST, NONE, NONE, NONE], // \x84 RestItem
-    [NONE, NONE, NONE, NONE, NONE], // \x85 RefEnd
-    [TYPE, FUNCTION_REST, NONE, NONE, NONE], // \x86 LvalueItem
-    [TYPE, FUNCTION_REST, NONE, NONE, NONE], // \x87 RvalueItem
-    [EXPRESSION, NONE, NONE, NONE, NONE], // \x88 Constraint
-    [ITEM, ITEMS, NONE, NONE, NONE], // \x89 Items
-    [ARGUMENTS_FIRST, Sym::Byte(b'E'), NONE, NONE, NONE], // \x8a Arguments
-    [NAME, MAYBE_ARGUMENTS, NONE, NONE, NONE], // \x8b Tag
-    [PACK_LIST, Sym::Byte(b'E'), ARGUMENT_LIST, NONE, NONE], // \x8c PackArgument
-    [LITERAL, Sym::Byte(b'E'), ARGUMENT_LIST, NONE, NONE], // \x8d LiteralArgument
-    [ARGUMENT, ARGUMENT_LIST, NONE, NONE, NONE], // \x8e AnyArgument
-    [LITERAL, Sym::Byte(b'E'), PACK_LIST, NONE, NONE], // \x8f LiteralElement
-    [ARGUMENT, PACK_LIST, NONE, NONE, NONE], // \x90 AnyElement
-    [Sym::Byte(b'Z'), ENCODING, NONE, NONE, NONE], // \x91 EncodingLiteral
-    [BIT, NONE, NONE, NONE, NONE], // \x92 BoolLiteral
-    [LITERAL_AFTER_D, NONE, NONE, NONE, NONE], // \x93 LiteralWithD
-    [LITERAL_TYPE, INTEGER, NONE, NONE, NONE], // \x94 IntegerLiteral
-    [FLOAT_TYPE, HEX_TEXT, NONE, NONE, NONE], // \x95 FloatLiteral
-    [MAYBE_ZERO, NONE, NONE, NONE, NONE], // \x96 NullLiteral
-    [INTEGER, NONE, NONE, NONE, NONE], // \x97 CharLiteral
-    [SIZED_FLOAT_TYPE, HEX_TEXT, NONE, NONE, NONE], // \x98 SizedFloatLiteral
-    [HEX_DIGITS, NONE, NONE, NONE, NONE], // \x99 HexText
-    [HEX_MORE, NONE, NONE, NONE, NONE], // \x9a HexDigit
-    [MAYBE_CONST, LITERAL_PLAIN, NONE, NONE, NONE], // \x9b VolatileLiteral
-    [LITERAL_PLAIN, NONE, NONE, NONE, NONE], // \x9c ConstLiteral
-    [LITERAL_SOLID, NONE, NONE, NONE, NONE], // \x9d QualifiedLiteral
-    [OPERATOR_AFTER_N, NONE, NONE, NONE, NONE], // \x9e OperatorN
-    [OPERATOR_AFTER_D, NONE, NONE, NONE, NONE], // \x9f OperatorD
-    [OPERATOR_AFTER_A, NONE, NONE, NONE, NONE], // \xa0 OperatorA
-    [OPERATOR_AFTER_P, NONE, NONE, NONE, NONE], // \xa1 OperatorP
-    [OPERATOR_AFTER_C, NONE, NONE, NONE, NONE], // \xa2 OperatorC
-    [OPERATOR_AFTER_M, NONE, NONE, NONE, NONE], // \xa3 OperatorM
-    [OPERATOR_AFTER_R, NONE, NONE, NONE, NONE], // \xa4 OperatorR
-    [OPERATOR_AFTER_O, NONE, NONE, NONE, NONE], // \xa5 OperatorO
-    [OPERATOR_AFTER_E, NONE, NONE, NONE, NONE], // \xa6 OperatorE
-    [OPERATOR_AFTER_L, NONE, NONE, NONE, NONE], // \xa7 OperatorL
-    [OPERATOR_AFTER_S, NONE, NONE, NONE, NONE], // \xa8 OperatorS
-    [OPERATOR_AFTER_I, NONE, NONE, NONE, NONE], // \xa9 OperatorI
-    [OPERATOR_AFTER_G, NONE, NONE, NONE, NONE], // \xaa OperatorG
-    [NAME, NONE, NONE, NONE, NONE], // \xab LiteralOperator
-    [ARGUMENTS_FIRST, Sym::Byte(b'E'), NEST_MORE_OR_END, NONE, NONE], // \xac NestInstance
-    [FIELD_NAME, MORE_MODULE, NONE, NONE, NONE], // \xad FirstModule
-    [MAYBE_PARTITION, FIELD_NAME, MORE_MODULE, NONE, NONE], // \xae MoreModule
-    [TYPE, NONE, NONE, NONE, NONE], // \xaf Conversion
-    [OPERATOR_AFTER_C, MAYBE_ARGUMENTS, NONE, NONE, NONE], // \xb0 OperatorNameWithC
-    [ARGUMENTS_FIRST, Sym::Byte(b'E'), NONE, NONE, NONE], // \xb1 HeldArguments
-    [NEST, HELD_ARGUMENTS, NONE, NONE, NONE], // \xb2 NestedBase
-    [UNNESTED_NAME, BASE_ARGUMENTS, NONE, NONE, NONE], // \xb3 UnnestedBase
-    [TYPE_AFTER_S, NONE, NONE, NONE, NONE], // \xb4 UnnestedWithS
-    [NAME, MAYBE_TAGS, NONE, NONE, NONE], // \xb5 TaggedSource
-    [ARGUMENTS_FIRST, Sym::Byte(b'E'), HELD_ARGUMENTS, NONE, NONE], // \xb6 BaseArguments
-    [TEMPORARY_NAME, Sym::Byte(b'_'), NONE, NONE, NONE], // \xb7 Temporary
-    [Sym::Byte(b'W'), FIRST_MODULE, NONE, NONE, NONE], // \xb8 ModuleInitializer
-    [CLONE_LETTER, ENCODING, NONE, NONE, NONE], // \xb9 Clone
-    [ENCODING, Sym::Byte(b'E'), ENTITY, NONE, NONE], // \xba LocalTemporary
-    [SOURCE_OR_LOCAL, MAYBE_TAGS, NONE, NONE, NONE], // \xbb TaggedStdType
-    [NAME, MAYBE_TAGS, NONE, NONE, NONE], // \xbc TypeTag
-    [EXPRESSION, Sym::Byte(b'E'), NONE, NONE, NONE], // \xbd Expression
-    [ARGUMENT_AFTER_T, NONE, NONE, NONE, NONE], // \xbe ArgumentWithT
-    [SOLID_BUT_T, NONE, NONE, NONE, NONE], // \xbf PlainArgument
-    [DECIMAL, ARGUMENTS_ALONE, NONE, NONE, NONE], // \xc0 ParameterArgument
-    [DECLARATION_AFTER_T, ONE_ARGUMENT, NONE, NONE, NONE], // \xc1 DeclaredArgument
-    [DECIMAL, LEVELED_PARAMETER, NONE, NONE, NONE], // \xc2 LeveledParameter
-    [LITERAL, Sym::Byte(b'E'), NONE, NONE, NONE], // \xc3 OneLiteral
-    [PACK_LIST, Sym::Byte(b'E'), NONE, NONE, NONE], // \xc4 OnePack
-    [NONE, NONE, NONE, NONE, NONE], // \xc5 AnyType
-    [TYPE, NONE, NONE, NONE, NONE], // \xc6 ValueOf
-    [CONCEPT, NONE, NONE, NONE, NONE], // \xc7 OfConcept
-    [DECLARATIONS, Sym::Byte(b'E'), NONE, NONE, NONE], // \xc8 TemplateOf
-    [Sym::Byte(b'T'), DECLARATION_AFTER_T, NONE, NONE, NONE], // \xc9 PackOf
-    [DECLARATION_AFTER_T, DECLARATIONS, NONE, NONE, NONE], // \xca Declarations
-    [UNNESTED_NAME, HELD_ARGUMENTS, NONE, NONE, NONE], // \xcb NamedConcept
-    [TYPE, EXPRESSION, NONE, NONE, NONE], // \xcc Cast
-    [OPERATOR, ARGUMENTS_ALONE, NONE, NONE, NONE], // \xcd OperatorReference
-    [NAME, ARGUMENTS_ALONE, NONE, NONE, NONE], // \xce SimpleId
-    [MAYBE_RESTRICT, MAYBE_VOLATILE, MAYBE_CONST, PARAMETER_NUMBER, NONE], // \xcf FunctionParameter
-    [ADDRESSED_EXPRESSION, NONE, NONE, NONE, NONE], // \xd0 AddressExpression
-    [EXPRESSION, EXPRESSION, NONE, NONE, NONE], // \xd1 Binary
-    [EXPRESSION, NONE, NONE, NONE, NONE], // \xd2 Unary
-    [CONVERTED_TYPE, NONE, NONE, NONE, NONE], // \xd3 OfType
-    [EXPRESSION, EXPRESSIONS, Sym::Byte(b'E'), NONE, NONE], // \xd4 Call
-    [CONVERTED_TYPE, CONVERT_REST, NONE, NONE, NONE], // \xd5 Convert
-    [FIELD_NAME, DESIGNATED_VALUE, NONE, NONE, NONE], // \xd6 Designated
-    [EXPRESSION, DESIGNATED_VALUE, NONE, NONE, NONE], // \xd7 DesignatedElement
-    [DESTRUCTOR_NAME, NONE, NONE, NONE, NONE], // \xd8 DestructorName
-    [DIGITS, OUTER_REST, NONE, NONE, NONE], // \xd9 OuterParameter
-    [FOLD_OPERATOR, FOLD_OPERAND, NONE, NONE, NONE], // \xda LeftFold
-    [FOLD_OPERATOR, FOLD_OPERAND, NONE, NONE, NONE], // \xdb RightFold
-    [EXPRESSIONS, Sym::Byte(b'E'), NONE, NONE, NONE], // \xdc Braces
-    [MAYBE_BEFORE, EXPRESSION, NONE, NONE, NONE], // \xdd Step
-    [PLACEMENT, TYPE, INITIALIZER, NONE, NONE], // \xde New
-    [EXPRESSION, EXPRESSION, EXPRESSION, NONE, NONE], // \xdf Conditional
-    [REQUIREMENTS, Sym::Byte(b'E'), NONE, NONE, NONE], // \xe0 Requires
-    [REQUIRED_TYPES, NONE, NONE, NONE, NONE], // \xe1 RequiresOf
-    [EXPRESSION, NONE, NONE, NONE, NONE], // \xe2 ExpandExpression
-    [EXPRESSION, NONE, NONE, NONE, NONE], // \xe3 PackSize
-    [UNRESOLVED, NONE, NONE, NONE, NONE], // \xe4 Unresolved
-    [VALUE_PACK, EXPRESSION, NONE, NONE, NONE], // \xe5 PackIndex
-    [TYPE, EXPRESSIONS, Sym::Byte(b'E'), NONE, NONE], // \xe6 TypedBraces
-    [NONE, NONE, NONE, NONE, NONE], // \xe7 Rethrow
-    [EXPRESSION_AFTER_A, NONE, NONE, NONE, NONE], // \xe8 ExpressionA
-    [EXPRESSION_AFTER_C, NONE, NONE, NONE, NONE], // \xe9 ExpressionC
-    [EXPRESSION_AFTER_D, NONE, NONE, NONE, NONE], // \xea ExpressionD
-    [EXPRESSION_AFTER_E, NONE, NONE, NONE, NONE], // \xeb ExpressionE
-    [EXPRESSION_AFTER_F, NONE, NONE, NONE, NONE], // \xec ExpressionF
-    [EXPRESSION_AFTER_G, NONE, NONE, NONE, NONE], // \xed ExpressionG
-    [EXPRESSION_AFTER_I, NONE, NONE, NONE, NONE], // \xee ExpressionI
-    [EXPRESSION_AFTER_L, NONE, NONE, NONE, NONE], // \xef ExpressionL
-    [EXPRESSION_AFTER_M, NONE, NONE, NONE, NONE], // \xf0 ExpressionM
-    [EXPRESSION_AFTER_N, NONE, NONE, NONE, NONE], // \xf1 ExpressionN
-    [EXPRESSION_AFTER_O, NONE, NONE, NONE, NONE], // \xf2 ExpressionO
-    [EXPRESSION_AFTER_P, NONE, NONE, NONE, NONE], // \xf3 ExpressionP
-    [EXPRESSION_AFTER_Q, NONE, NONE, NONE, NONE], // \xf4 ExpressionQ
-    [EXPRESSION_AFTER_R, NONE, NONE, NONE, NONE], // \xf5 ExpressionR
-    [EXPRESSION_AFTER_S, NONE, NONE, NONE, NONE], // \xf6 ExpressionS
-    [EXPRESSION_AFTER_T, NONE, NONE, NONE, NONE], // \xf7 ExpressionT
-    [EXPRESSION_PARAMETER, NONE, NONE, NONE, NONE], // \xf8 ExpressionWithT
-    [DECIMAL, ARGUMENTS_ALONE, NONE, NONE, NONE], // \xf9 ParameterExpression
-    [DECIMAL, UNLEVELED_EXPRESSION, NONE, NONE, NONE], // \xfa LeveledExpression
-    [ADDRESSED_LITERAL, Sym::Byte(b'E'), NONE, NONE, NONE], // \xfb AddressedLiteral
-    [EXPRESSION, EXPRESSIONS, NONE, NONE, NONE], // \xfc Expressions
-    [FOLD_OPERATOR_AFTER_L, NONE, NONE, NONE, NONE], // \xfd FoldOperatorL
-    [FOLD_PACK, NONE, NONE, NONE, NONE], // \xfe FoldOperand
-    [EXPRESSION, NONE, NONE, NONE, NONE], // \xff FoldPack
-    [TYPE, NONE, NONE, NONE, NONE], // \x00 TypePack
-    [DESIGNATOR_AFTER_D, NONE, NONE, NONE, NONE], // \x01 Designators
-    [PLAIN_VALUE, NONE, NONE, NONE, NONE], // \x02 DesignatedValue
-    [NAME, NONE, NONE, NONE, NONE], // \x03 FieldName
-    [SOME_EXPRESSIONS, Sym::Byte(b'_'), NONE, NONE, NONE], // \x04 Placed
-    [INITIALIZER_AFTER_P, NONE, NONE, NONE, NONE], // \x05 Initializer
-    [INITIALIZER_AFTER_I, NONE, NONE, NONE, NONE], // \x06 BracedInitializer
-    [NONE, NONE, NONE, NONE, NONE], // \x07 This
-    [DECIMAL, NONE, NONE, NONE, NONE], // \x08 ParameterNumber
-    [DECLTYPE_AFTER_D, NONE, NONE, NONE, NONE], // \x09 ConvertedDecltype
-    [CONVERTED_TYPE, NONE, NONE, NONE, NONE], // \x0a ConvertedConst
-    [CONVERTED_TYPE, NONE, NONE, NONE, NONE], // \x0b ConvertedPointer
-    [CONVERTED_TYPE, NONE, NONE, NONE, NONE], // \x0c ConvertedReference
-    [CONVERTED_SOLID, NONE, NONE, NONE, NONE], // \x0d ConvertedType
-    [PARAMETER_AFTER_T, NONE, NONE, NONE, NONE], // \x0e ConvertedWithT
-    [UNRESOLVED_TYPE, UNRESOLVED_NAME, NONE, NONE, NONE], // \x0f UnresolvedInType
-    [LEVEL, MORE_LEVELS, NONE, NONE, NONE], // \x10 Levels
-    [UNRESOLVED_TYPE, NONE, NONE, NONE, NONE], // \x11 DestroyedType
-    [EXPRESSION, AFTER_EXPRESSION, NONE, NONE, NONE], // \x12 ExpressionRequirement
-    [TYPE, REQUIREMENTS, NONE, NONE, NONE], // \x13 TypeRequirement
-    [EXPRESSION, REQUIREMENTS, NONE, NONE, NONE], // \x14 NestedRequirement
-    [CONCEPT, REQUIREMENTS, NONE, NONE, NONE], // \x15 ResultRequirement
-    [AFTER_NOEXCEPT, NONE, NONE, NONE, NONE], // \x16 NoexceptRequirement
-    [CONVERTED_TYPE, REQUIRED_TYPES, NONE, NONE, NONE], // \x17 RequiredType
-    [UNRESOLVED_NAME, NONE, NONE, NONE, NONE], // \x18 LevelsEnd
-    [OPERATOR_NAME, NONE, NONE, NONE, NONE], // \x19 UnresolvedOperator
-    [ARRAY_REST, NONE, NONE, NONE, NONE], // \x1a AnyArray
-    [BOUND, Sym::Byte(b'_'), TYPE, NONE, NONE], // \x1b BoundedArray
-    [DECIMAL, TYPE, NONE, NONE, NONE], // \x1c LengthArray
+    [TYPE, NAME, NONE, NONE, NONE], // a Enumeration
+    [MAYBE_VOLATILE, MAYBE_CONST, PLAIN, NONE, NONE], // b RestrictType
+    [MAYBE_CONST, PLAIN, NONE, NONE, NONE], // c VolatileType
+    [PLAIN, NONE, NONE, NONE, NONE], // d ConstType
+    [TYPE, NONE, NONE, NONE, NONE], // e ReferenceType
+    [SOLID, NONE, NONE, NONE, NONE], // f PlainType
+    [AFTER_D, NONE, NONE, NONE, NONE], // g TypeWithD
+    [AFTER_D, NONE, NONE, NONE, NONE], // h PlainWithD
+    [SOLID, NONE, NONE, NONE, NONE], // i QualifiedPlain
+    [ITEM_AFTER_D, NONE, NONE, NONE, NONE], // j ItemWithD
+    [TYPE, NONE, NONE, NONE, NONE], // k Expansion
+    [AFTER_D, NONE, NONE, NONE, NONE], // l ItemIsType
+    [NONE, NONE, NONE, NONE, NONE], // m BuiltinWithD
+    [DIGITS, Sym::Byte(b'_'), TYPE, NONE, NONE], // n Vector
+    [Sym::Byte(b'F'), MAYBE_C_LINKAGE, TYPE, FUNCTION_REST, NONE], // o NoexceptFunction
+    [DIGITS, FLOAT_END, NONE, NONE, NONE], // p SizedFloat
+    [CONCEPT, NONE, NONE, NONE, NONE], // q ConstrainedAuto
+    [BIT_WIDTH, Sym::Byte(b'_'), NONE, NONE, NONE], // r BitInt
+    [EXPRESSION, Sym::Byte(b'E'), NONE, NONE, NONE], // s Decltype
+    [TYPE_PACK, EXPRESSION, NONE, NONE, NONE], // t IndexedType
+    [TYPE, NONE, NONE, NONE, NONE], // u Pointer
+    [TYPE, TYPE, NONE, NONE, NONE], // v MemberPointer
+    [DECIMAL, ARGUMENTS_ALONE, NONE, NONE, NONE], // w Parameter
+    [TYPE_AFTER_S, ARGUMENTS_ALONE, NONE, NONE, NONE], // x TypeWithS
+    [ENCODING, Sym::Byte(b'E'), TYPE_ENTITY, MAYBE_DISCRIMINATOR, NONE], // y LocalType
+    [NONE, NONE, NONE, NONE, NONE], // z Builtin
+    [NAME, NONE, NONE, NONE, NONE], // { Vendor
+    [ANY_ARRAY, NONE, NONE, NONE, NONE], // | ArrayType
+    [MAYBE_C_LINKAGE, TYPE, FUNCTION_REST, NONE, NONE], // } Function
+    [TYPE, NONE, NONE, NONE, NONE], // ~ Complex
+    [DIGITS, NONE, NONE, NONE, NONE], // \x7f BitWidth
+    [TYPE_IN_STD, NONE, NONE, NONE, NONE], // \x80 TypeInStd
+    [ABBREVIATION, NONE, NONE, NONE, NONE], // \x81 AbbreviatedType
+    [NONE, NONE, NONE, NONE, NONE], // \x82 RestEnd
+    [AFTER_R, NONE, NONE, NONE, NONE], // \x83 RestLvalue
+    [AFTER_O, NONE, NONE, NONE, NONE], // \x84 RestRvalue
+    [ITEM_BUT_REF, FUNCTION_REST, NONE, NONE, NONE], // \x85 RestItem
+    [NONE, NONE, NONE, NONE, NONE], // \x86 RefEnd
+    [TYPE, FUNCTION_REST, NONE, NONE, NONE], // \x87 LvalueItem
+    [TYPE, FUNCTION_REST, NONE, NONE, NONE], // \x88 RvalueItem
+    [EXPRESSION, NONE, NONE, NONE, NONE], // \x89 Constraint
+    [ITEM, ITEMS, NONE, NONE, NONE], // \x8a Items
+    [ARGUMENTS_FIRST, Sym::Byte(b'E'), NONE, NONE, NONE], // \x8b Arguments
+    [NAME, MAYBE_ARGUMENTS, NONE, NONE, NONE], // \x8c Tag
+    [PACK_LIST, Sym::Byte(b'E'), ARGUMENT_LIST, NONE, NONE], // \x8d PackArgument
+    [LITERAL, Sym::Byte(b'E'), ARGUMENT_LIST, NONE, NONE], // \x8e LiteralArgument
+    [ARGUMENT, ARGUMENT_LIST, NONE, NONE, NONE], // \x8f AnyArgument
+    [LITERAL, Sym::Byte(b'E'), PACK_LIST, NONE, NONE], // \x90 LiteralElement
+    [ARGUMENT, PACK_LIST, NONE, NONE, NONE], // \x91 AnyElement
+    [Sym::Byte(b'Z'), ENCODING, NONE, NONE, NONE], // \x92 EncodingLiteral
+    [BIT, NONE, NONE, NONE, NONE], // \x93 BoolLiteral
+    [LITERAL_AFTER_D, NONE, NONE, NONE, NONE], // \x94 LiteralWithD
+    [LITERAL_TYPE, INTEGER, NONE, NONE, NONE], // \x95 IntegerLiteral
+    [FLOAT_TYPE, HEX_TEXT, NONE, NONE, NONE], // \x96 FloatLiteral
+    [MAYBE_ZERO, NONE, NONE, NONE, NONE], // \x97 NullLiteral
+    [INTEGER, NONE, NONE, NONE, NONE], // \x98 CharLiteral
+    [SIZED_FLOAT_TYPE, HEX_TEXT, NONE, NONE, NONE], // \x99 SizedFloatLiteral
+    [HEX_DIGITS, NONE, NONE, NONE, NONE], // \x9a HexText
+    [HEX_MORE, NONE, NONE, NONE, NONE], // \x9b HexDigit
+    [MAYBE_CONST, LITERAL_PLAIN, NONE, NONE, NONE], // \x9c VolatileLiteral
+    [LITERAL_PLAIN, NONE, NONE, NONE, NONE], // \x9d ConstLiteral
+    [LITERAL_SOLID, NONE, NONE, NONE, NONE], // \x9e QualifiedLiteral
+    [OPERATOR_AFTER_N, NONE, NONE, NONE, NONE], // \x9f OperatorN
+    [OPERATOR_AFTER_D, NONE, NONE, NONE, NONE], // \xa0 OperatorD
+    [OPERATOR_AFTER_A, NONE, NONE, NONE, NONE], // \xa1 OperatorA
+    [OPERATOR_AFTER_P, NONE, NONE, NONE, NONE], // \xa2 OperatorP
+    [OPERATOR_AFTER_C, NONE, NONE, NONE, NONE], // \xa3 OperatorC
+    [OPERATOR_AFTER_M, NONE, NONE, NONE, NONE], // \xa4 OperatorM
+    [OPERATOR_AFTER_R, NONE, NONE, NONE, NONE], // \xa5 OperatorR
+    [OPERATOR_AFTER_O, NONE, NONE, NONE, NONE], // \xa6 OperatorO
+    [OPERATOR_AFTER_E, NONE, NONE, NONE, NONE], // \xa7 OperatorE
+    [OPERATOR_AFTER_L, NONE, NONE, NONE, NONE], // \xa8 OperatorL
+    [OPERATOR_AFTER_S, NONE, NONE, NONE, NONE], // \xa9 OperatorS
+    [OPERATOR_AFTER_I, NONE, NONE, NONE, NONE], // \xaa OperatorI
+    [OPERATOR_AFTER_G, NONE, NONE, NONE, NONE], // \xab OperatorG
+    [NAME, NONE, NONE, NONE, NONE], // \xac LiteralOperator
+    [ARGUMENTS_FIRST, Sym::Byte(b'E'), NEST_MORE_OR_END, NONE, NONE], // \xad NestInstance
+    [FIELD_NAME, MORE_MODULE, NONE, NONE, NONE], // \xae FirstModule
+    [MAYBE_PARTITION, FIELD_NAME, MORE_MODULE, NONE, NONE], // \xaf MoreModule
+    [TYPE, NONE, NONE, NONE, NONE], // \xb0 Conversion
+    [OPERATOR_AFTER_C, MAYBE_ARGUMENTS, NONE, NONE, NONE], // \xb1 OperatorNameWithC
+    [ARGUMENTS_FIRST, Sym::Byte(b'E'), NONE, NONE, NONE], // \xb2 HeldArguments
+    [NEST, HELD_ARGUMENTS, NONE, NONE, NONE], // \xb3 NestedBase
+    [UNNESTED_NAME, BASE_ARGUMENTS, NONE, NONE, NONE], // \xb4 UnnestedBase
+    [TYPE_AFTER_S, NONE, NONE, NONE, NONE], // \xb5 UnnestedWithS
+    [NAME, MAYBE_TAGS, NONE, NONE, NONE], // \xb6 TaggedSource
+    [ARGUMENTS_FIRST, Sym::Byte(b'E'), HELD_ARGUMENTS, NONE, NONE], // \xb7 BaseArguments
+    [TEMPORARY_NAME, Sym::Byte(b'_'), NONE, NONE, NONE], // \xb8 Temporary
+    [Sym::Byte(b'W'), FIRST_MODULE, NONE, NONE, NONE], // \xb9 ModuleInitializer
+    [CLONE_LETTER, ENCODING, NONE, NONE, NONE], // \xba Clone
+    [ENCODING, Sym::Byte(b'E'), ENTITY, NONE, NONE], // \xbb LocalTemporary
+    [SOURCE_OR_LOCAL, MAYBE_TAGS, NONE, NONE, NONE], // \xbc TaggedStdType
+    [NAME, MAYBE_TAGS, NONE, NONE, NONE], // \xbd TypeTag
+    [EXPRESSION, Sym::Byte(b'E'), NONE, NONE, NONE], // \xbe Expression
+    [ARGUMENT_AFTER_T, NONE, NONE, NONE, NONE], // \xbf ArgumentWithT
+    [SOLID_BUT_T, NONE, NONE, NONE, NONE], // \xc0 PlainArgument
+    [DECIMAL, ARGUMENTS_ALONE, NONE, NONE, NONE], // \xc1 ParameterArgument
+    [DECLARATION_AFTER_T, ONE_ARGUMENT, NONE, NONE, NONE], // \xc2 DeclaredArgument
+    [DECIMAL, LEVELED_PARAMETER, NONE, NONE, NONE], // \xc3 LeveledParameter
+    [LITERAL, Sym::Byte(b'E'), NONE, NONE, NONE], // \xc4 OneLiteral
+    [PACK_LIST, Sym::Byte(b'E'), NONE, NONE, NONE], // \xc5 OnePack
+    [NONE, NONE, NONE, NONE, NONE], // \xc6 AnyType
+    [TYPE, NONE, NONE, NONE, NONE], // \xc7 ValueOf
+    [CONCEPT, NONE, NONE, NONE, NONE], // \xc8 OfConcept
+    [DECLARATIONS, Sym::Byte(b'E'), NONE, NONE, NONE], // \xc9 TemplateOf
+    [Sym::Byte(b'T'), DECLARATION_AFTER_T, NONE, NONE, NONE], // \xca PackOf
+    [DECLARATION_AFTER_T, DECLARATIONS, NONE, NONE, NONE], // \xcb Declarations
+    [UNNESTED_NAME, HELD_ARGUMENTS, NONE, NONE, NONE], // \xcc NamedConcept
+    [TYPE, EXPRESSION, NONE, NONE, NONE], // \xcd Cast
+    [OPERATOR, ARGUMENTS_ALONE, NONE, NONE, NONE], // \xce OperatorReference
+    [NAME, ARGUMENTS_ALONE, NONE, NONE, NONE], // \xcf SimpleId
+    [MAYBE_RESTRICT, MAYBE_VOLATILE, MAYBE_CONST, PARAMETER_NUMBER, NONE], // \xd0 FunctionParameter
+    [ADDRESSED_EXPRESSION, NONE, NONE, NONE, NONE], // \xd1 AddressExpression
+    [EXPRESSION, EXPRESSION, NONE, NONE, NONE], // \xd2 Binary
+    [EXPRESSION, NONE, NONE, NONE, NONE], // \xd3 Unary
+    [CONVERTED_TYPE, NONE, NONE, NONE, NONE], // \xd4 OfType
+    [EXPRESSION, EXPRESSIONS, Sym::Byte(b'E'), NONE, NONE], // \xd5 Call
+    [CONVERTED_TYPE, CONVERT_REST, NONE, NONE, NONE], // \xd6 Convert
+    [FIELD_NAME, DESIGNATED_VALUE, NONE, NONE, NONE], // \xd7 Designated
+    [EXPRESSION, DESIGNATED_VALUE, NONE, NONE, NONE], // \xd8 DesignatedElement
+    [DESTRUCTOR_NAME, NONE, NONE, NONE, NONE], // \xd9 DestructorName
+    [DIGITS, OUTER_REST, NONE, NONE, NONE], // \xda OuterParameter
+    [FOLD_OPERATOR, FOLD_OPERAND, NONE, NONE, NONE], // \xdb LeftFold
+    [FOLD_OPERATOR, FOLD_OPERAND, NONE, NONE, NONE], // \xdc RightFold
+    [EXPRESSIONS, Sym::Byte(b'E'), NONE, NONE, NONE], // \xdd Braces
+    [MAYBE_BEFORE, EXPRESSION, NONE, NONE, NONE], // \xde Step
+    [PLACEMENT, TYPE, INITIALIZER, NONE, NONE], // \xdf New
+    [EXPRESSION, EXPRESSION, EXPRESSION, NONE, NONE], // \xe0 Conditional
+    [REQUIREMENTS, Sym::Byte(b'E'), NONE, NONE, NONE], // \xe1 Requires
+    [REQUIRED_TYPES, NONE, NONE, NONE, NONE], // \xe2 RequiresOf
+    [EXPRESSION, NONE, NONE, NONE, NONE], // \xe3 ExpandExpression
+    [EXPRESSION, NONE, NONE, NONE, NONE], // \xe4 PackSize
+    [UNRESOLVED, NONE, NONE, NONE, NONE], // \xe5 Unresolved
+    [VALUE_PACK, EXPRESSION, NONE, NONE, NONE], // \xe6 PackIndex
+    [TYPE, EXPRESSIONS, Sym::Byte(b'E'), NONE, NONE], // \xe7 TypedBraces
+    [NONE, NONE, NONE, NONE, NONE], // \xe8 Rethrow
+    [EXPRESSION_AFTER_A, NONE, NONE, NONE, NONE], // \xe9 ExpressionA
+    [EXPRESSION_AFTER_C, NONE, NONE, NONE, NONE], // \xea ExpressionC
+    [EXPRESSION_AFTER_D, NONE, NONE, NONE, NONE], // \xeb ExpressionD
+    [EXPRESSION_AFTER_E, NONE, NONE, NONE, NONE], // \xec ExpressionE
+    [EXPRESSION_AFTER_F, NONE, NONE, NONE, NONE], // \xed ExpressionF
+    [EXPRESSION_AFTER_G, NONE, NONE, NONE, NONE], // \xee ExpressionG
+    [EXPRESSION_AFTER_I, NONE, NONE, NONE, NONE], // \xef ExpressionI
+    [EXPRESSION_AFTER_L, NONE, NONE, NONE, NONE], // \xf0 ExpressionL
+    [EXPRESSION_AFTER_M, NONE, NONE, NONE, NONE], // \xf1 ExpressionM
+    [EXPRESSION_AFTER_N, NONE, NONE, NONE, NONE], // \xf2 ExpressionN
+    [EXPRESSION_AFTER_O, NONE, NONE, NONE, NONE], // \xf3 ExpressionO
+    [EXPRESSION_AFTER_P, NONE, NONE, NONE, NONE], // \xf4 ExpressionP
+    [EXPRESSION_AFTER_Q, NONE, NONE, NONE, NONE], // \xf5 ExpressionQ
+    [EXPRESSION_AFTER_R, NONE, NONE, NONE, NONE], // \xf6 ExpressionR
+    [EXPRESSION_AFTER_S, NONE, NONE, NONE, NONE], // \xf7 ExpressionS
+    [EXPRESSION_AFTER_T, NONE, NONE, NONE, NONE], // \xf8 ExpressionT
+    [EXPRESSION_PARAMETER, NONE, NONE, NONE, NONE], // \xf9 ExpressionWithT
+    [DECIMAL, ARGUMENTS_ALONE, NONE, NONE, NONE], // \xfa ParameterExpression
+    [DECIMAL, UNLEVELED_EXPRESSION, NONE, NONE, NONE], // \xfb LeveledExpression
+    [ADDRESSED_LITERAL, Sym::Byte(b'E'), NONE, NONE, NONE], // \xfc AddressedLiteral
+    [EXPRESSION, EXPRESSIONS, NONE, NONE, NONE], // \xfd Expressions
+    [FOLD_OPERATOR_AFTER_L, NONE, NONE, NONE, NONE], // \xfe FoldOperatorL
+    [FOLD_PACK, NONE, NONE, NONE, NONE], // \xff FoldOperand
+    [EXPRESSION, NONE, NONE, NONE, NONE], // \x00 FoldPack
+    [TYPE, NONE, NONE, NONE, NONE], // \x01 TypePack
+    [DESIGNATOR_AFTER_D, NONE, NONE, NONE, NONE], // \x02 Designators
+    [PLAIN_VALUE, NONE, NONE, NONE, NONE], // \x03 DesignatedValue
+    [NAME, NONE, NONE, NONE, NONE], // \x04 FieldName
+    [SOME_EXPRESSIONS, Sym::Byte(b'_'), NONE, NONE, NONE], // \x05 Placed
+    [INITIALIZER_AFTER_P, NONE, NONE, NONE, NONE], // \x06 Initializer
+    [INITIALIZER_AFTER_I, NONE, NONE, NONE, NONE], // \x07 BracedInitializer
+    [NONE, NONE, NONE, NONE, NONE], // \x08 This
+    [DECIMAL, NONE, NONE, NONE, NONE], // \x09 ParameterNumber
+    [DECLTYPE_AFTER_D, NONE, NONE, NONE, NONE], // \x0a ConvertedDecltype
+    [CONVERTED_TYPE, NONE, NONE, NONE, NONE], // \x0b ConvertedConst
+    [CONVERTED_TYPE, NONE, NONE, NONE, NONE], // \x0c ConvertedPointer
+    [CONVERTED_TYPE, NONE, NONE, NONE, NONE], // \x0d ConvertedReference
+    [CONVERTED_SOLID, NONE, NONE, NONE, NONE], // \x0e ConvertedType
+    [PARAMETER_AFTER_T, NONE, NONE, NONE, NONE], // \x0f ConvertedWithT
+    [UNRESOLVED_TYPE, UNRESOLVED_NAME, NONE, NONE, NONE], // \x10 UnresolvedInType
+    [LEVEL, MORE_LEVELS, NONE, NONE, NONE], // \x11 Levels
+    [UNRESOLVED_TYPE, NONE, NONE, NONE, NONE], // \x12 DestroyedType
+    [EXPRESSION, AFTER_EXPRESSION, NONE, NONE, NONE], // \x13 ExpressionRequirement
+    [TYPE, REQUIREMENTS, NONE, NONE, NONE], // \x14 TypeRequirement
+    [EXPRESSION, REQUIREMENTS, NONE, NONE, NONE], // \x15 NestedRequirement
+    [CONCEPT, REQUIREMENTS, NONE, NONE, NONE], // \x16 ResultRequirement
+    [AFTER_NOEXCEPT, NONE, NONE, NONE, NONE], // \x17 NoexceptRequirement
+    [CONVERTED_TYPE, REQUIRED_TYPES, NONE, NONE, NONE], // \x18 RequiredType
+    [UNRESOLVED_NAME, NONE, NONE, NONE, NONE], // \x19 LevelsEnd
+    [OPERATOR_NAME, NONE, NONE, NONE, NONE], // \x1a UnresolvedOperator
+    [ARRAY_REST, NONE, NONE, NONE, NONE], // \x1b AnyArray
+    [BOUND, Sym::Byte(b'_'), TYPE, NONE, NONE], // \x1c BoundedArray
+    [DECIMAL, TYPE, NONE, NONE, NONE], // \x1d LengthArray
 };
 
 // How many symbols follow each of them, up to an end.
-static AFTER: [u8; 1518] = [
+static AFTER: [u8; 1524] = [
     0, 0, 0, 0, 0, 0, 0, 0, 0, 0, 0, 2, 1, 0, 0, 0, 0, 2, 1, 0, 0, 0, 0, 2, 1, 0, 0, 0, 0, 2, 1, 0,
     0, 0, 0, 1, 0, 0, 0, 0, 0, 1, 0, 0, 0, 0, 0, 1, 0, 0, 0, 0, 0, 2, 1, 0, 0, 0, 0, 5, 4, 3, 2, 1,
     0, 3, 2, 1, 0, 0, 0, 1, 0, 0, 0, 0, 0, 1, 0, 0, 0, 0, 0, 1, 0, 0, 0, 0, 0, 2, 1, 0, 0, 0, 0, 2,
@@ -1086,49 +1088,49 @@ static AFTER: [u8; 1518] = [
     0, 0, 0, 0, 0, 2, 1, 0, 0, 0, 0, 2, 1, 0, 0, 0, 0, 2, 1, 0, 0, 0, 0, 2, 1, 0, 0, 0, 0, 2, 1, 0,
     0, 0, 0, 0, 0, 0, 0, 0, 0, 1, 0, 0, 0, 0, 0, 1, 0, 0, 0, 0, 0, 0, 0, 0, 0, 0, 0, 2, 1, 0, 0, 0,
     0, 2, 1, 0, 0, 0, 0, 1, 0, 0, 0, 0, 0, 0, 0, 0, 0, 0, 0, 2, 1, 0, 0, 0, 0, 4, 3, 2, 1, 0, 0, 1,
-    0, 0, 0, 0, 0, 3, 2, 1, 0, 0, 0, 2, 1, 0, 0, 0, 0, 1, 0, 0, 0, 0, 0, 1, 0, 0, 0, 0, 0, 1, 0, 0,
+    0, 0, 0, 0, 0, 2, 1, 0, 0, 0, 0, 3, 2, 1, 0, 0, 0, 2, 1, 0, 0, 0, 0, 1, 0, 0, 0, 0, 0, 1, 0, 0,
     0, 0, 0, 1, 0, 0, 0, 0, 0, 1, 0, 0, 0, 0, 0, 1, 0, 0, 0, 0, 0, 1, 0, 0, 0, 0, 0, 1, 0, 0, 0, 0,
-    0, 1, 0, 0, 0, 0, 0, 0, 0, 0, 0, 0, 0, 3, 2, 1, 0, 0, 0, 4, 3, 2, 1, 0, 0, 2, 1, 0, 0, 0, 0, 1,
-    0, 0, 0, 0, 0, 2, 1, 0, 0, 0, 0, 2, 1, 0, 0, 0, 0, 2, 1, 0, 0, 0, 0, 1, 0, 0, 0, 0, 0, 2, 1, 0,
-    0, 0, 0, 2, 1, 0, 0, 0, 0, 2, 1, 0, 0, 0, 0, 4, 3, 2, 1, 0, 0, 0, 0, 0, 0, 0, 0, 1, 0, 0, 0, 0,
-    0, 1, 0, 0, 0, 0, 0, 3, 2, 1, 0, 0, 0, 1, 0, 0, 0, 0, 0, 1, 0, 0, 0, 0, 0, 1, 0, 0, 0, 0, 0, 1,
-    0, 0, 0, 0, 0, 0, 0, 0, 0, 0, 0, 1, 0, 0, 0, 0, 0, 1, 0, 0, 0, 0, 0, 2, 1, 0, 0, 0, 0, 0, 0, 0,
-    0, 0, 0, 2, 1, 0, 0, 0, 0, 2, 1, 0, 0, 0, 0, 1, 0, 0, 0, 0, 0, 2, 1, 0, 0, 0, 0, 2, 1, 0, 0, 0,
-    0, 2, 1, 0, 0, 0, 0, 3, 2, 1, 0, 0, 0, 3, 2, 1, 0, 0, 0, 2, 1, 0, 0, 0, 0, 3, 2, 1, 0, 0, 0, 2,
-    1, 0, 0, 0, 0, 2, 1, 0, 0, 0, 0, 1, 0, 0, 0, 0, 0, 1, 0, 0, 0, 0, 0, 2, 1, 0, 0, 0, 0, 2, 1, 0,
-    0, 0, 0, 1, 0, 0, 0, 0, 0, 1, 0, 0, 0, 0, 0, 2, 1, 0, 0, 0, 0, 1, 0, 0, 0, 0, 0, 1, 0, 0, 0, 0,
-    0, 2, 1, 0, 0, 0, 0, 1, 0, 0, 0, 0, 0, 1, 0, 0, 0, 0, 0, 1, 0, 0, 0, 0, 0, 1, 0, 0, 0, 0, 0, 1,
+    0, 1, 0, 0, 0, 0, 0, 1, 0, 0, 0, 0, 0, 0, 0, 0, 0, 0, 0, 3, 2, 1, 0, 0, 0, 4, 3, 2, 1, 0, 0, 2,
+    1, 0, 0, 0, 0, 1, 0, 0, 0, 0, 0, 2, 1, 0, 0, 0, 0, 2, 1, 0, 0, 0, 0, 2, 1, 0, 0, 0, 0, 1, 0, 0,
+    0, 0, 0, 2, 1, 0, 0, 0, 0, 2, 1, 0, 0, 0, 0, 2, 1, 0, 0, 0, 0, 4, 3, 2, 1, 0, 0, 0, 0, 0, 0, 0,
+    0, 1, 0, 0, 0, 0, 0, 1, 0, 0, 0, 0, 0, 3, 2, 1, 0, 0, 0, 1, 0, 0, 0, 0, 0, 1, 0, 0, 0, 0, 0, 1,
+    0, 0, 0, 0, 0, 1, 0, 0, 0, 0, 0, 0, 0, 0, 0, 0, 0, 1, 0, 0, 0, 0, 0, 1, 0, 0, 0, 0, 0, 2, 1, 0,
+    0, 0, 0, 0, 0, 0, 0, 0, 0, 2, 1, 0, 0, 0, 0, 2, 1, 0, 0, 0, 0, 1, 0, 0, 0, 0, 0, 2, 1, 0, 0, 0,
+    0, 2, 1, 0, 0, 0, 0, 2, 1, 0, 0, 0, 0, 3, 2, 1, 0, 0, 0, 3, 2, 1, 0, 0, 0, 2, 1, 0, 0, 0, 0, 3,
+    2, 1, 0, 0, 0, 2, 1, 0, 0, 0, 0, 2, 1, 0, 0, 0, 0, 1, 0, 0, 0, 0, 0, 1, 0, 0, 0, 0, 0, 2, 1, 0,
+    0, 0, 0, 2, 1, 0, 0, 0, 0, 1, 0, 0, 0, 0, 0, 1, 0, 0, 0, 0, 0, 2, 1, 0, 0, 0, 0, 1, 0, 0, 0, 0,
+    0, 1, 0, 0, 0, 0, 0, 2, 1, 0, 0, 0, 0, 1, 0, 0, 0, 0, 0, 1, 0, 0, 0, 0, 0, 1, 0, 0, 0, 0, 0, 1,
     0, 0, 0, 0, 0, 1, 0, 0, 0, 0, 0, 1, 0, 0, 0, 0, 0, 1, 0, 0, 0, 0, 0, 1, 0, 0, 0, 0, 0, 1, 0, 0,
     0, 0, 0, 1, 0, 0, 0, 0, 0, 1, 0, 0, 0, 0, 0, 1, 0, 0, 0, 0, 0, 1, 0, 0, 0, 0, 0, 1, 0, 0, 0, 0,
-    0, 1, 0, 0, 0, 0, 0, 3, 2, 1, 0, 0, 0, 2, 1, 0, 0, 0, 0, 3, 2, 1, 0, 0, 0, 1, 0, 0, 0, 0, 0, 2,
-    1, 0, 0, 0, 0, 2, 1, 0, 0, 0, 0, 2, 1, 0, 0, 0, 0, 2, 1, 0, 0, 0, 0, 1, 0, 0, 0, 0, 0, 2, 1, 0,
-    0, 0, 0, 3, 2, 1, 0, 0, 0, 2, 1, 0, 0, 0, 0, 2, 1, 0, 0, 0, 0, 2, 1, 0, 0, 0, 0, 3, 2, 1, 0, 0,
-    0, 2, 1, 0, 0, 0, 0, 2, 1, 0, 0, 0, 0, 2, 1, 0, 0, 0, 0, 1, 0, 0, 0, 0, 0, 1, 0, 0, 0, 0, 0, 2,
-    1, 0, 0, 0, 0, 2, 1, 0, 0, 0, 0, 2, 1, 0, 0, 0, 0, 2, 1, 0, 0, 0, 0, 2, 1, 0, 0, 0, 0, 0, 0, 0,
-    0, 0, 0, 1, 0, 0, 0, 0, 0, 1, 0, 0, 0, 0, 0, 2, 1, 0, 0, 0, 0, 2, 1, 0, 0, 0, 0, 2, 1, 0, 0, 0,
-    0, 2, 1, 0, 0, 0, 0, 2, 1, 0, 0, 0, 0, 2, 1, 0, 0, 0, 0, 2, 1, 0, 0, 0, 0, 4, 3, 2, 1, 0, 0, 1,
-    0, 0, 0, 0, 0, 2, 1, 0, 0, 0, 0, 1, 0, 0, 0, 0, 0, 1, 0, 0, 0, 0, 0, 3, 2, 1, 0, 0, 0, 2, 1, 0,
-    0, 0, 0, 2, 1, 0, 0, 0, 0, 2, 1, 0, 0, 0, 0, 1, 0, 0, 0, 0, 0, 2, 1, 0, 0, 0, 0, 2, 1, 0, 0, 0,
-    0, 2, 1, 0, 0, 0, 0, 2, 1, 0, 0, 0, 0, 2, 1, 0, 0, 0, 0, 3, 2, 1, 0, 0, 0, 3, 2, 1, 0, 0, 0, 2,
-    1, 0, 0, 0, 0, 1, 0, 0, 0, 0, 0, 1, 0, 0, 0, 0, 0, 1, 0, 0, 0, 0, 0, 1, 0, 0, 0, 0, 0, 2, 1, 0,
-    0, 0, 0, 3, 2, 1, 0, 0, 0, 0, 0, 0, 0, 0, 0, 1, 0, 0, 0, 0, 0, 1, 0, 0, 0, 0, 0, 1, 0, 0, 0, 0,
+    0, 1, 0, 0, 0, 0, 0, 1, 0, 0, 0, 0, 0, 3, 2, 1, 0, 0, 0, 2, 1, 0, 0, 0, 0, 3, 2, 1, 0, 0, 0, 1,
+    0, 0, 0, 0, 0, 2, 1, 0, 0, 0, 0, 2, 1, 0, 0, 0, 0, 2, 1, 0, 0, 0, 0, 2, 1, 0, 0, 0, 0, 1, 0, 0,
+    0, 0, 0, 2, 1, 0, 0, 0, 0, 3, 2, 1, 0, 0, 0, 2, 1, 0, 0, 0, 0, 2, 1, 0, 0, 0, 0, 2, 1, 0, 0, 0,
+    0, 3, 2, 1, 0, 0, 0, 2, 1, 0, 0, 0, 0, 2, 1, 0, 0, 0, 0, 2, 1, 0, 0, 0, 0, 1, 0, 0, 0, 0, 0, 1,
+    0, 0, 0, 0, 0, 2, 1, 0, 0, 0, 0, 2, 1, 0, 0, 0, 0, 2, 1, 0, 0, 0, 0, 2, 1, 0, 0, 0, 0, 2, 1, 0,
+    0, 0, 0, 0, 0, 0, 0, 0, 0, 1, 0, 0, 0, 0, 0, 1, 0, 0, 0, 0, 0, 2, 1, 0, 0, 0, 0, 2, 1, 0, 0, 0,
+    0, 2, 1, 0, 0, 0, 0, 2, 1, 0, 0, 0, 0, 2, 1, 0, 0, 0, 0, 2, 1, 0, 0, 0, 0, 2, 1, 0, 0, 0, 0, 4,
+    3, 2, 1, 0, 0, 1, 0, 0, 0, 0, 0, 2, 1, 0, 0, 0, 0, 1, 0, 0, 0, 0, 0, 1, 0, 0, 0, 0, 0, 3, 2, 1,
+    0, 0, 0, 2, 1, 0, 0, 0, 0, 2, 1, 0, 0, 0, 0, 2, 1, 0, 0, 0, 0, 1, 0, 0, 0, 0, 0, 2, 1, 0, 0, 0,
+    0, 2, 1, 0, 0, 0, 0, 2, 1, 0, 0, 0, 0, 2, 1, 0, 0, 0, 0, 2, 1, 0, 0, 0, 0, 3, 2, 1, 0, 0, 0, 3,
+    2, 1, 0, 0, 0, 2, 1, 0, 0, 0, 0, 1, 0, 0, 0, 0, 0, 1, 0, 0, 0, 0, 0, 1, 0, 0, 0, 0, 0, 1, 0, 0,
+    0, 0, 0, 2, 1, 0, 0, 0, 0, 3, 2, 1, 0, 0, 0, 0, 0, 0, 0, 0, 0, 1, 0, 0, 0, 0, 0, 1, 0, 0, 0, 0,
     0, 1, 0, 0, 0, 0, 0, 1, 0, 0, 0, 0, 0, 1, 0, 0, 0, 0, 0, 1, 0, 0, 0, 0, 0, 1, 0, 0, 0, 0, 0, 1,
     0, 0, 0, 0, 0, 1, 0, 0, 0, 0, 0, 1, 0, 0, 0, 0, 0, 1, 0, 0, 0, 0, 0, 1, 0, 0, 0, 0, 0, 1, 0, 0,
-    0, 0, 0, 1, 0, 0, 0, 0, 0, 1, 0, 0, 0, 0, 0, 1, 0, 0, 0, 0, 0, 2, 1, 0, 0, 0, 0, 2, 1, 0, 0, 0,
-    0, 2, 1, 0, 0, 0, 0, 2, 1, 0, 0, 0, 0, 1, 0, 0, 0, 0, 0, 1, 0, 0, 0, 0, 0, 1, 0, 0, 0, 0, 0, 1,
-    0, 0, 0, 0, 0, 1, 0, 0, 0, 0, 0, 1, 0, 0, 0, 0, 0, 1, 0, 0, 0, 0, 0, 2, 1, 0, 0, 0, 0, 1, 0, 0,
-    0, 0, 0, 1, 0, 0, 0, 0, 0, 0, 0, 0, 0, 0, 0, 1, 0, 0, 0, 0, 0, 1, 0, 0, 0, 0, 0, 1, 0, 0, 0, 0,
-    0, 1, 0, 0, 0, 0, 0, 1, 0, 0, 0, 0, 0, 1, 0, 0, 0, 0, 0, 1, 0, 0, 0, 0, 0, 2, 1, 0, 0, 0, 0, 2,
-    1, 0, 0, 0, 0, 1, 0, 0, 0, 0, 0, 2, 1, 0, 0, 0, 0, 2, 1, 0, 0, 0, 0, 2, 1, 0, 0, 0, 0, 2, 1, 0,
-    0, 0, 0, 1, 0, 0, 0, 0, 0, 2, 1, 0, 0, 0, 0, 1, 0, 0, 0, 0, 0, 1, 0, 0, 0, 0, 0, 1, 0, 0, 0, 0,
-    0, 3, 2, 1, 0, 0, 0, 2, 1, 0, 0, 0, 0, 0,
+    0, 0, 0, 1, 0, 0, 0, 0, 0, 1, 0, 0, 0, 0, 0, 1, 0, 0, 0, 0, 0, 1, 0, 0, 0, 0, 0, 2, 1, 0, 0, 0,
+    0, 2, 1, 0, 0, 0, 0, 2, 1, 0, 0, 0, 0, 2, 1, 0, 0, 0, 0, 1, 0, 0, 0, 0, 0, 1, 0, 0, 0, 0, 0, 1,
+    0, 0, 0, 0, 0, 1, 0, 0, 0, 0, 0, 1, 0, 0, 0, 0, 0, 1, 0, 0, 0, 0, 0, 1, 0, 0, 0, 0, 0, 2, 1, 0,
+    0, 0, 0, 1, 0, 0, 0, 0, 0, 1, 0, 0, 0, 0, 0, 0, 0, 0, 0, 0, 0, 1, 0, 0, 0, 0, 0, 1, 0, 0, 0, 0,
+    0, 1, 0, 0, 0, 0, 0, 1, 0, 0, 0, 0, 0, 1, 0, 0, 0, 0, 0, 1, 0, 0, 0, 0, 0, 1, 0, 0, 0, 0, 0, 2,
+    1, 0, 0, 0, 0, 2, 1, 0, 0, 0, 0, 1, 0, 0, 0, 0, 0, 2, 1, 0, 0, 0, 0, 2, 1, 0, 0, 0, 0, 2, 1, 0,
+    0, 0, 0, 2, 1, 0, 0, 0, 0, 1, 0, 0, 0, 0, 0, 2, 1, 0, 0, 0, 0, 1, 0, 0, 0, 0, 0, 1, 0, 0, 0, 0,
+    0, 1, 0, 0, 0, 0, 0, 3, 2, 1, 0, 0, 0, 2, 1, 0, 0, 0, 0, 0,
 ];
 
 /// The number of the rule that a kind takes at a byte, if it takes one.
 #[inline]
 fn number(kind: u16, byte: u8) -> Option<usize>
     requires { kind < abi.kinds }
-    ensures few { IfSome result (λ number. number < 252) }
+    ensures few { IfSome result (λ number. number < 253) }
     ensures rule { (head : Head) → MatchOption result (abi.rule kind byte ≡ None) (λ number. abi.rule kind byte ≡ Some (listed_rule head number)) }
 {
     match letter_in(&LETTERS[kind as usize], byte) {

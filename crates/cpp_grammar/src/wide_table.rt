@@ -39,39 +39,39 @@ static WIDE_LETTERS: [[u8; 87]; 169] = [
     *b"            $$$$$$$$$$                  \" X      #              [                      ", // TypeEntity
     *b"                                                           \\                           ", // MaybeDiscriminator
     *b"            ]]]]]]]]]]                                     ^                           ", // DiscriminatorRest
-    *b"                                                                        _       `      ", // Anonymous
-    *b"            eeeeeeeeee       e ef e    c eede deeebe  e      eeeeeeeeee eeee  aeeeeeeee", // Type
-    *b"            hhhhhhhhhh       h hg h      hhdh dhhh h  h      hhhhhhhhhh hhhh   hhhhhhhh", // Plain
-    *b"            eeeeeeeeee       e ei e    c eede deeebe  e      eeeeeeeeee eeee  aeeeeeeee", // Item
-    *b"            eeeeeeeeee       e ei e    c ee e  eeebe  e      eeeeeeeeee eeee  aeeeeeeee", // ItemButRef
-    *b"                              k   k    k        kk           k kkkk kk k  kkj  kkkk  k ", // ItemAfterD
-    *b"                              q   o    p        rq           l llll ll p  ln   lrlm  s ", // AfterD
-    *b"            $$$$$$$$$$       { }  |      uX t  wv# )  x      yyyyyyyyyy yyyy   yyzyyyyy", // Solid
+    *b"                                                                 a      _       `      ", // Anonymous
+    *b"            ffffffffff       f fg f    d ffef efffcf  f      ffffffffff ffff  bffffffff", // Type
+    *b"            iiiiiiiiii       i ih i      iiei eiii i  i      iiiiiiiiii iiii   iiiiiiii", // Plain
+    *b"            ffffffffff       f fj f    d ffef efffcf  f      ffffffffff ffff  bffffffff", // Item
+    *b"            ffffffffff       f fj f    d ff f  fffcf  f      ffffffffff ffff  bffffffff", // ItemButRef
+    *b"                              l   l    l        ll           l llll ll l  llk  llll  l ", // ItemAfterD
+    *b"                              r   p    q        sr           m mmmm mm q  mo   msmn  t ", // AfterD
+    *b"            $$$$$$$$$$       | ~  }      vX u  xw# )  y      zzzzzzzzzz zzzz   zz{zzzzz", // Solid
     *b"                                                     !                                 ", // MaybeCLinkage
-    *b"            ~~~~~~~~~~                                                                 ", // BitWidth
-    *b"            \x80\x80\x80\x80\x80\x80\x80\x80\x80\x80       \x80\x80\x80\x80\x80\x80\x80\x80\x80\x80\x80\x80\x80\x80\x80\x80\x80\x80\x80\x80\x80\x80\x80\x80\x80\x80    \x80 \x80\x80 \x80    \x80     \x80   \x80\x7f      ", // TypeAfterS
+    *b"            \x7f\x7f\x7f\x7f\x7f\x7f\x7f\x7f\x7f\x7f                                                                 ", // BitWidth
+    *b"            \x81\x81\x81\x81\x81\x81\x81\x81\x81\x81       \x81\x81\x81\x81\x81\x81\x81\x81\x81\x81\x81\x81\x81\x81\x81\x81\x81\x81\x81\x81\x81\x81\x81\x81\x81\x81    \x81 \x81\x81 \x81    \x81     \x81   \x81\x80      ", // TypeAfterS
     *b"            ((((((((((                  &        '                                     ", // SourceOrLocal
-    *b"            \x84\x84\x84\x84\x84\x84\x84\x84\x84\x84       \x84 \x84\x84\x81\x84    \x84 \x84\x84\x83\x84 \x82\x84\x84\x84\x84\x84  \x84      \x84\x84\x84\x84\x84\x84\x84\x84\x84\x84 \x84\x84\x84\x84  \x84\x84\x84\x84\x84\x84\x84\x84\x84", // FunctionRest
-    *b"            \x86\x86\x86\x86\x86\x86\x86\x86\x86\x86       \x86 \x86\x86\x85\x86    \x86 \x86\x86\x86\x86 \x86\x86\x86\x86\x86\x86  \x86      \x86\x86\x86\x86\x86\x86\x86\x86\x86\x86 \x86\x86\x86\x86  \x86\x86\x86\x86\x86\x86\x86\x86\x86", // AfterR
-    *b"            \x87\x87\x87\x87\x87\x87\x87\x87\x87\x87       \x87 \x87\x87\x85\x87    \x87 \x87\x87\x87\x87 \x87\x87\x87\x87\x87\x87  \x87      \x87\x87\x87\x87\x87\x87\x87\x87\x87\x87 \x87\x87\x87\x87  \x87\x87\x87\x87\x87\x87\x87\x87\x87", // AfterO
-    *b"            \x89\x89\x89\x89\x89\x89\x89\x89\x89\x89       \x89 \x89\x89 \x89    \x89 \x89\x89\x89\x89\x88\x89\x89\x89\x89\x89\x89  \x89      \x89\x89\x89\x89\x89\x89\x89\x89\x89\x89 \x89\x89\x89\x89  \x89\x89\x89\x89\x89\x89\x89\x89\x89", // Items
-    *b"                              \x8b      \x8a                                                 ", // MaybeArguments
-    *b"                                     \x8a                                                 ", // Arguments
-    *b"            \x8e\x8e\x8e\x8e\x8e\x8e\x8e\x8e\x8e\x8e       \x8e \x8e\x8e \x8e   \x8c\x8e\x8d\x8e\x8e\x8e\x8e\x88\x8e\x8e\x8e\x8e\x8e\x8e\x8e \x8e      \x8e\x8e\x8e\x8e\x8e\x8e\x8e\x8e\x8e\x8e \x8e\x8e\x8e\x8e  \x8e\x8e\x8e\x8e\x8e\x8e\x8e\x8e\x8e", // ArgumentList
-    *b"            \x90\x90\x90\x90\x90\x90\x90\x90\x90\x90       \x90 \x90\x90 \x90    \x90\x8f\x90\x90\x90\x90 \x90\x90\x90\x90\x90\x90\x90 \x90      \x90\x90\x90\x90\x90\x90\x90\x90\x90\x90 \x90\x90\x90\x90  \x90\x90\x90\x90\x90\x90\x90\x90\x90", // PackList
-    *b"            \x94\x94\x94\x94\x94\x94\x94\x94\x94\x94          \x93      \x94 \x94\x94 \x94  \x94\x94\x94\x94\x94  \x94    \x91 \x94\x92\x94\x95\x95\x95\x95\x94\x94\x94 \x94\x94\x94\x94   \x94\x94  \x94\x94\x94 ", // Literal
+    *b"            \x85\x85\x85\x85\x85\x85\x85\x85\x85\x85       \x85 \x85\x85\x82\x85    \x85 \x85\x85\x84\x85 \x83\x85\x85\x85\x85\x85  \x85      \x85\x85\x85\x85\x85\x85\x85\x85\x85\x85 \x85\x85\x85\x85  \x85\x85\x85\x85\x85\x85\x85\x85\x85", // FunctionRest
+    *b"            \x87\x87\x87\x87\x87\x87\x87\x87\x87\x87       \x87 \x87\x87\x86\x87    \x87 \x87\x87\x87\x87 \x87\x87\x87\x87\x87\x87  \x87      \x87\x87\x87\x87\x87\x87\x87\x87\x87\x87 \x87\x87\x87\x87  \x87\x87\x87\x87\x87\x87\x87\x87\x87", // AfterR
+    *b"            \x88\x88\x88\x88\x88\x88\x88\x88\x88\x88       \x88 \x88\x88\x86\x88    \x88 \x88\x88\x88\x88 \x88\x88\x88\x88\x88\x88  \x88      \x88\x88\x88\x88\x88\x88\x88\x88\x88\x88 \x88\x88\x88\x88  \x88\x88\x88\x88\x88\x88\x88\x88\x88", // AfterO
+    *b"            \x8a\x8a\x8a\x8a\x8a\x8a\x8a\x8a\x8a\x8a       \x8a \x8a\x8a \x8a    \x8a \x8a\x8a\x8a\x8a\x89\x8a\x8a\x8a\x8a\x8a\x8a  \x8a      \x8a\x8a\x8a\x8a\x8a\x8a\x8a\x8a\x8a\x8a \x8a\x8a\x8a\x8a  \x8a\x8a\x8a\x8a\x8a\x8a\x8a\x8a\x8a", // Items
+    *b"                              \x8c      \x8b                                                 ", // MaybeArguments
+    *b"                                     \x8b                                                 ", // Arguments
+    *b"            \x8f\x8f\x8f\x8f\x8f\x8f\x8f\x8f\x8f\x8f       \x8f \x8f\x8f \x8f   \x8d\x8f\x8e\x8f\x8f\x8f\x8f\x89\x8f\x8f\x8f\x8f\x8f\x8f\x8f \x8f      \x8f\x8f\x8f\x8f\x8f\x8f\x8f\x8f\x8f\x8f \x8f\x8f\x8f\x8f  \x8f\x8f\x8f\x8f\x8f\x8f\x8f\x8f\x8f", // ArgumentList
+    *b"            \x91\x91\x91\x91\x91\x91\x91\x91\x91\x91       \x91 \x91\x91 \x91    \x91\x90\x91\x91\x91\x91 \x91\x91\x91\x91\x91\x91\x91 \x91      \x91\x91\x91\x91\x91\x91\x91\x91\x91\x91 \x91\x91\x91\x91  \x91\x91\x91\x91\x91\x91\x91\x91\x91", // PackList
+    *b"            \x95\x95\x95\x95\x95\x95\x95\x95\x95\x95          \x94      \x95 \x95\x95 \x95  \x95\x95\x95\x95\x95  \x95    \x92 \x95\x93\x95\x96\x96\x96\x96\x95\x95\x95 \x95\x95\x95\x95   \x95\x95  \x95\x95\x95 ", // Literal
     *b"            !!                                                                         ", // Bit
-    *b"                                  \x98                                  \x97    \x96    \x97 \x97     ", // LiteralAfterD
-    *b"                                                                yyyy                   ", // FloatType
-    *b"                                  o                                                    ", // SizedFloatType
-    *b"            \x99\x99\x99\x99\x99\x99\x99\x99\x99\x99                                       \x99\x99\x99\x99\x99\x99                    ", // HexText
-    *b"            \x9a\x9a\x9a\x9a\x9a\x9a\x9a\x9a\x9a\x9a                                       \x9a\x9a\x9a\x9a\x9a\x9a                    ", // HexDigits
-    *b"            \x9a\x9a\x9a\x9a\x9a\x9a\x9a\x9a\x9a\x9a                                       \x9a\x9a\x9a\x9a\x9a\x9a                    ", // HexMore
+    *b"                                  \x99                                  \x98    \x97    \x98 \x98     ", // LiteralAfterD
+    *b"                                                                zzzz                   ", // FloatType
+    *b"                                  p                                                    ", // SizedFloatType
+    *b"            \x9a\x9a\x9a\x9a\x9a\x9a\x9a\x9a\x9a\x9a                                       \x9a\x9a\x9a\x9a\x9a\x9a                    ", // HexText
+    *b"            \x9b\x9b\x9b\x9b\x9b\x9b\x9b\x9b\x9b\x9b                                       \x9b\x9b\x9b\x9b\x9b\x9b                    ", // HexDigits
+    *b"            \x9b\x9b\x9b\x9b\x9b\x9b\x9b\x9b\x9b\x9b                                       \x9b\x9b\x9b\x9b\x9b\x9b                    ", // HexMore
     *b"            !                                                                          ", // MaybeZero
-    *b"            $$$$$$$$$$                 \x9c uX t  wv#\x9b)  x      y y    yyy yyyy   yy  yyy ", // LiteralType
-    *b"            \x9d\x9d\x9d\x9d\x9d\x9d\x9d\x9d\x9d\x9d                   \x9d\x9d \x9d  \x9d\x9d\x9d \x9d  \x9d      \x9d \x9d    \x9d\x9d\x9d \x9d\x9d\x9d\x9d   \x9d\x9d  \x9d\x9d\x9d ", // LiteralPlain
-    *b"            $$$$$$$$$$                   uX t  wv# )  x      y y    yyy yyyy   yy  yyy ", // LiteralSolid
-    *b"                                                             \xa0 \xa2\x9f\xa6 \xaa \xa9  \xa7\xa3\x9e\xa5\xa1 \xa4\xa8       ", // Operator
+    *b"            $$$$$$$$$$                 \x9d vX u  xw#\x9c)  y      z z    zzz zzzz   zz  zzz ", // LiteralType
+    *b"            \x9e\x9e\x9e\x9e\x9e\x9e\x9e\x9e\x9e\x9e                   \x9e\x9e \x9e  \x9e\x9e\x9e \x9e  \x9e      \x9e \x9e    \x9e\x9e\x9e \x9e\x9e\x9e\x9e   \x9e\x9e  \x9e\x9e\x9e ", // LiteralPlain
+    *b"            $$$$$$$$$$                   vX u  xw# )  y      z z    zzz zzzz   zz  zzz ", // LiteralSolid
+    *b"                                                             \xa1 \xa3\xa0\xa7 \xab \xaa  \xa8\xa4\x9f\xa6\xa2 \xa5\xa9       ", // Operator
     *b"                                                             !   ! !            !  !   ", // OperatorAfterN
     *b"                                                  !          !   !      !         !    ", // OperatorAfterD
     *b"                                          !    !             !  !         !        !   ", // OperatorAfterA
@@ -81,103 +81,103 @@ static WIDE_LETTERS: [[u8; 87]; 169] = [
     *b"                                         !     !                         !     !       ", // OperatorAfterR
     *b"                                              !                            !  !        ", // OperatorAfterO
     *b"                                           !                               ! !         ", // OperatorAfterE
-    *b"                                               !                 !   \xab         !!      ", // OperatorAfterL
+    *b"                                               !                 !   \xac         !!      ", // OperatorAfterL
     *b"                                                                               !       ", // OperatorAfterS
     *b"                                                                                    !  ", // OperatorAfterI
     *b"                                                                 !              !      ", // OperatorAfterG
-    *b"            KKKKKKKKKK         KK K  \xac  KK       K K         K KKK K K  KKKKK KK       ", // NestRestOrEnd
-    *b"                                     \x8a                                                 ", // ArgumentsAlone
+    *b"            KKKKKKKKKK         KK K  \xad  KK       K K         K KKK K K  KKKKK KK       ", // NestRestOrEnd
+    *b"                                     \x8b                                                 ", // ArgumentsAlone
     *b"            KKKKKKKKKK         KK K  J  KK       K K         K KKK K K  KKKKK KK       ", // NestRestAlone
-    *b"            \xad\xad\xad\xad\xad\xad\xad\xad\xad\xad                                                                 ", // FirstModule
-    *b"                                                   \xae                                   ", // MoreModule
+    *b"            \xae\xae\xae\xae\xae\xae\xae\xae\xae\xae                                                                 ", // FirstModule
+    *b"                                                   \xaf                                   ", // MoreModule
     *b"                                            !                                          ", // MaybePartition
     *b"            $$$$$$$$$$                  \"        #           % %%% % %  %%%%% %%       ", // NameAfterModule
     *b"                                                   )                                   ", // NameInModule
     *b"                                         !                                             ", // HolderMark
     *b"            $$$$$$$$$$         NO       \"        # )         Q PQQ Q Q  QQQQQ QQ       ", // HeldComponent
     *b"                                                           !  !                     !  ", // FloatEnd
-    *b"                                                                        \xb0\xb0 \xb0      \xaf    ", // ComponentAfterC
-    *b"                                                             \xa0  \x9f\xa6 \xaa \xa9  \xa7\xa3\x9e\xa5\xa1 \xa4\xa8       ", // OtherOperator
-    *b"                                     \xb1                                                 ", // HeldArguments
-    *b"            \xb3\xb3\xb3\xb3\xb3\xb3\xb3\xb3\xb3\xb3                    \xb2    \xb3      x                                ", // BaseClass
-    *b"            \xb5\xb5\xb5\xb5\xb5\xb5\xb5\xb5\xb5\xb5                         \xb4                                       ", // UnnestedName
-    *b"                                     \xb6                                                 ", // BaseArguments
-    *b"            \x8e\x8e\x8e\x8e\x8e\x8e\x8e\x8e\x8e\x8e       \x8e \x8e\x8e \x8e  \x8c\x8c\x8e\x8d\x8e\x8e\x8e\x8e\x88\x8e\x8e\x8e\x8e\x8e\x8e\x8e \x8e      \x8e\x8e\x8e\x8e\x8e\x8e\x8e\x8e\x8e\x8e \x8e\x8e\x8e\x8e  \x8e\x8e\x8e\x8e\x8e\x8e\x8e\x8e\x8e", // ArgumentsFirst
+    *b"                                                                        \xb1\xb1 \xb1      \xb0    ", // ComponentAfterC
+    *b"                                                             \xa1  \xa0\xa7 \xab \xaa  \xa8\xa4\x9f\xa6\xa2 \xa5\xa9       ", // OtherOperator
+    *b"                                     \xb2                                                 ", // HeldArguments
+    *b"            \xb4\xb4\xb4\xb4\xb4\xb4\xb4\xb4\xb4\xb4                    \xb3    \xb4      y                                ", // BaseClass
+    *b"            \xb6\xb6\xb6\xb6\xb6\xb6\xb6\xb6\xb6\xb6                         \xb5                                       ", // UnnestedName
+    *b"                                     \xb7                                                 ", // BaseArguments
+    *b"            \x8f\x8f\x8f\x8f\x8f\x8f\x8f\x8f\x8f\x8f       \x8f \x8f\x8f \x8f  \x8d\x8d\x8f\x8e\x8f\x8f\x8f\x8f\x89\x8f\x8f\x8f\x8f\x8f\x8f\x8f \x8f      \x8f\x8f\x8f\x8f\x8f\x8f\x8f\x8f\x8f\x8f \x8f\x8f\x8f\x8f  \x8f\x8f\x8f\x8f\x8f\x8f\x8f\x8f\x8f", // ArgumentsFirst
     *b"            $$$$$$$$$$                  \" *      #                                     ", // PlainEntity
     *b"            $$$$$$$$$$                  \" X      #                                     ", // PlainTypeEntity
     *b"                                   !                                                   ", // SpecialMark
-    *b"                                     \xb8        \xb7 \xb9 5                                    ", // SpecialAfterG
-    *b"            $$$$$$$$$$                  \" *    < #    \xba                                ", // TemporaryName
+    *b"                                     \xb9        \xb8 \xba 5                                    ", // SpecialAfterG
+    *b"            $$$$$$$$$$                  \" *    < #    \xbb                                ", // TemporaryName
     *b"                                                                          !     !      ", // CloneLetter
-    *b"                                                                                \xbb      ", // TypeInStd
-    *b"                              \xbc                                                        ", // MaybeTags
-    *b"            \xbf\xbf\xbf\xbf\xbf\xbf\xbf\xbf\xbf\xbf       \xbf \xbfi \xbf    c \xbf\xbfd\xbf d\xbf\xbe\xbfb\xbf\xbd \xbf      \xbf\xbf\xbf\xbf\xbf\xbf\xbf\xbf\xbf\xbf \xbf\xbf\xbf\xbf  a\xbf\xbf\xbf\xbf\xbf\xbf\xbf\xbf", // Argument
-    *b"            \xc0\xc0\xc0\xc0\xc0\xc0\xc0\xc0\xc0\xc0                  \xc2                  \xc0           \xc1  \xc1 \xc1   \xc1    \xc1 ", // ArgumentAfterT
-    *b"            \xc0\xc0\xc0\xc0\xc0\xc0\xc0\xc0\xc0\xc0                                     \xc0                           ", // LeveledParameter
-    *b"            \xbf\xbf\xbf\xbf\xbf\xbf\xbf\xbf\xbf\xbf       \xbf \xbfi \xbf   \xc4c\xc3\xbf\xbfd\xbf d\xbf\xbe\xbfb\xbf\xbd \xbf      \xbf\xbf\xbf\xbf\xbf\xbf\xbf\xbf\xbf\xbf \xbf\xbf\xbf\xbf  a\xbf\xbf\xbf\xbf\xbf\xbf\xbf\xbf", // OneArgument
-    *b"                                                                       \xc7  \xc6 \xc9   \xc8    \xc5 ", // DeclarationAfterT
-    *b"                                                \xca                                      ", // Declarations
-    *b"            \xcb\xcb\xcb\xcb\xcb\xcb\xcb\xcb\xcb\xcb                    X    \xcb                                       ", // Concept
-    *b"            $$$$$$$$$$       { }  |      uX t  w # )  x      yyyyyyyyyy yyyy   yyzyyyyy", // SolidButT
-    *b"            \xce\xce\xce\xce\xce\xce\xce\xce\xce\xce                  \xc3       \xf8            \xe8 \xe9\xea\xeb\xec\xed \xee  \xef\xf0\xf1\xf2\xf3\xf4\xf5\xf6\xf7      ", // Expression
-    *b"            \xf9\xf9\xf9\xf9\xf9\xf9\xf9\xf9\xf9\xf9                  \xfa                  \xf9                           ", // ExpressionParameter
-    *b"            \xf9\xf9\xf9\xf9\xf9\xf9\xf9\xf9\xf9\xf9                                     \xf9                           ", // UnleveledExpression
-    *b"            \xce\xce\xce\xce\xce\xce\xce\xce\xce\xce                  \xfb       \xf8            \xe8 \xe9\xea\xeb\xec\xed \xee  \xef\xf0\xf1\xf2\xf3\xf4\xf5\xf6\xf7      ", // AddressedExpression
-    *b"            \x94\x94\x94\x94\x94\x94\x94\x94\x94\x94          \x93      \x94 \x94\x94 \x94  \x94\x94\x94\x94\x94  \x94    \x91 \x94\x92\x94\x95\x95\x95\x95\x94\x94\x94 \x94\x94\x94\x94   \x94\x94  \x94\x94\x94 ", // AddressedLiteral
-    *b"                                          \xd1    \xd1             \xd1  \xd0         \xd1     \xd3  \xd2  \xd2", // ExpressionAfterA
-    *b"                                                               \xcc        \xd4\xd1 \xd2\xd4     \xd5    ", // ExpressionAfterC
-    *b"                                                  \xd1          \xd2 \xcc \xd2   \xd6  \xd2 \xd8    \xd1\xd1 \xd1 \xd7  ", // ExpressionAfterD
-    *b"                                           \xd1                               \xd1 \xd1         ", // ExpressionAfterE
-    *b"                                        \xd9                               \xda   \xcf \xdb        ", // ExpressionAfterF
-    *b"                                                                 \xd1             \xd2\xd1      ", // ExpressionAfterG
-    *b"                                                                        \xdc           \xd1  ", // ExpressionAfterI
-    *b"                                               \xd1                 \xd1             \xd1\xd1      ", // ExpressionAfterL
-    *b"                                     \xd1  \xd1                            \xd1  \xd1\xdd             ", // ExpressionAfterM
-    *b"                                                             \xde   \xd1 \xd2            \xd2  \xde\xd2  ", // ExpressionAfterN
-    *b"                                              \xd1                           \xcd\xd1  \xd1        ", // ExpressionAfterO
-    *b"                                        \xd1                               \xd1\xd1  \xdd  \xd2\xd1      ", // ExpressionAfterP
-    *b"                                                                                 \xdf     ", // ExpressionAfterQ
-    *b"                                         \xd1   \xe1 \xd1               \xcc         \xd1   \xe0 \xd1       ", // ExpressionAfterR
-    *b"                                                      \xe3        \xcc            \xe2 \xe4\xd1\xd3    \xe5\xd2", // ExpressionAfterS
-    *b"                                                                 \xd2   \xd3  \xe6     \xe7    \xd2   ", // ExpressionAfterT
-    *b"            \xfc\xfc\xfc\xfc\xfc\xfc\xfc\xfc\xfc\xfc                  \xfc       \xfc            \xfc \xfc\xfc\xfc\xfc\xfc \xfc  \xfc\xfc\xfc\xfc\xfc\xfc\xfc\xfc\xfc      ", // Expressions
+    *b"                                                                                \xbc      ", // TypeInStd
+    *b"                              \xbd                                                        ", // MaybeTags
+    *b"            \xc0\xc0\xc0\xc0\xc0\xc0\xc0\xc0\xc0\xc0       \xc0 \xc0j \xc0    d \xc0\xc0e\xc0 e\xc0\xbf\xc0c\xc0\xbe \xc0      \xc0\xc0\xc0\xc0\xc0\xc0\xc0\xc0\xc0\xc0 \xc0\xc0\xc0\xc0  b\xc0\xc0\xc0\xc0\xc0\xc0\xc0\xc0", // Argument
+    *b"            \xc1\xc1\xc1\xc1\xc1\xc1\xc1\xc1\xc1\xc1                  \xc3                  \xc1           \xc2  \xc2 \xc2   \xc2    \xc2 ", // ArgumentAfterT
+    *b"            \xc1\xc1\xc1\xc1\xc1\xc1\xc1\xc1\xc1\xc1                                     \xc1                           ", // LeveledParameter
+    *b"            \xc0\xc0\xc0\xc0\xc0\xc0\xc0\xc0\xc0\xc0       \xc0 \xc0j \xc0   \xc5d\xc4\xc0\xc0e\xc0 e\xc0\xbf\xc0c\xc0\xbe \xc0      \xc0\xc0\xc0\xc0\xc0\xc0\xc0\xc0\xc0\xc0 \xc0\xc0\xc0\xc0  b\xc0\xc0\xc0\xc0\xc0\xc0\xc0\xc0", // OneArgument
+    *b"                                                                       \xc8  \xc7 \xca   \xc9    \xc6 ", // DeclarationAfterT
+    *b"                                                \xcb                                      ", // Declarations
+    *b"            \xcc\xcc\xcc\xcc\xcc\xcc\xcc\xcc\xcc\xcc                    X    \xcc                                       ", // Concept
+    *b"            $$$$$$$$$$       | ~  }      vX u  x # )  y      zzzzzzzzzz zzzz   zz{zzzzz", // SolidButT
+    *b"            \xcf\xcf\xcf\xcf\xcf\xcf\xcf\xcf\xcf\xcf                  \xc4       \xf9            \xe9 \xea\xeb\xec\xed\xee \xef  \xf0\xf1\xf2\xf3\xf4\xf5\xf6\xf7\xf8      ", // Expression
+    *b"            \xfa\xfa\xfa\xfa\xfa\xfa\xfa\xfa\xfa\xfa                  \xfb                  \xfa                           ", // ExpressionParameter
+    *b"            \xfa\xfa\xfa\xfa\xfa\xfa\xfa\xfa\xfa\xfa                                     \xfa                           ", // UnleveledExpression
+    *b"            \xcf\xcf\xcf\xcf\xcf\xcf\xcf\xcf\xcf\xcf                  \xfc       \xf9            \xe9 \xea\xeb\xec\xed\xee \xef  \xf0\xf1\xf2\xf3\xf4\xf5\xf6\xf7\xf8      ", // AddressedExpression
+    *b"            \x95\x95\x95\x95\x95\x95\x95\x95\x95\x95          \x94      \x95 \x95\x95 \x95  \x95\x95\x95\x95\x95  \x95    \x92 \x95\x93\x95\x96\x96\x96\x96\x95\x95\x95 \x95\x95\x95\x95   \x95\x95  \x95\x95\x95 ", // AddressedLiteral
+    *b"                                          \xd2    \xd2             \xd2  \xd1         \xd2     \xd4  \xd3  \xd3", // ExpressionAfterA
+    *b"                                                               \xcd        \xd5\xd2 \xd3\xd5     \xd6    ", // ExpressionAfterC
+    *b"                                                  \xd2          \xd3 \xcd \xd3   \xd7  \xd3 \xd9    \xd2\xd2 \xd2 \xd8  ", // ExpressionAfterD
+    *b"                                           \xd2                               \xd2 \xd2         ", // ExpressionAfterE
+    *b"                                        \xda                               \xdb   \xd0 \xdc        ", // ExpressionAfterF
+    *b"                                                                 \xd2             \xd3\xd2      ", // ExpressionAfterG
+    *b"                                                                        \xdd           \xd2  ", // ExpressionAfterI
+    *b"                                               \xd2                 \xd2             \xd2\xd2      ", // ExpressionAfterL
+    *b"                                     \xd2  \xd2                            \xd2  \xd2\xde             ", // ExpressionAfterM
+    *b"                                                             \xdf   \xd2 \xd3            \xd3  \xdf\xd3  ", // ExpressionAfterN
+    *b"                                              \xd2                           \xce\xd2  \xd2        ", // ExpressionAfterO
+    *b"                                        \xd2                               \xd2\xd2  \xde  \xd3\xd2      ", // ExpressionAfterP
+    *b"                                                                                 \xe0     ", // ExpressionAfterQ
+    *b"                                         \xd2   \xe2 \xd2               \xcd         \xd2   \xe1 \xd2       ", // ExpressionAfterR
+    *b"                                                      \xe4        \xcd            \xe3 \xe5\xd2\xd4    \xe6\xd3", // ExpressionAfterS
+    *b"                                                                 \xd3   \xd4  \xe7     \xe8    \xd3   ", // ExpressionAfterT
+    *b"            \xfd\xfd\xfd\xfd\xfd\xfd\xfd\xfd\xfd\xfd                  \xfd       \xfd            \xfd \xfd\xfd\xfd\xfd\xfd \xfd  \xfd\xfd\xfd\xfd\xfd\xfd\xfd\xfd\xfd      ", // Expressions
     *b"                                                           !                           ", // MaybeBefore
-    *b"                                                             \xa0 \xa2\x9f\xa6 \xaa \xa9  \xfd\xa3\x9e\xa5\xa1 \xa4\xa8       ", // FoldOperator
+    *b"                                                             \xa1 \xa3\xa0\xa7 \xab \xaa  \xfe\xa4\x9f\xa6\xa2 \xa5\xa9       ", // FoldOperator
     *b"                                               !                 !             !!      ", // FoldOperatorAfterL
-    *b"            \xfe\xfe\xfe\xfe\xfe\xfe\xfe\xfe\xfe\xfe                  \xfe       \xfe            \xfe \xfe\xfe\xfe\xfe\xfe \xfe  \xfe\xfe\xfe\xfe\xfe\xfe\xfe\xfe\xfe      ", // FoldOperand
-    *b"            \xff\xff\xff\xff\xff\xff\xff\xff\xff\xff                  \xff       \xff            \xff \xff\xff\xff\xff\xff \xff  \xff\xff\xff\xff\xff\xff\xff\xff\xff      ", // FoldPack
-    *b"            \xff\xff\xff\xff\xff\xff\xff\xff\xff\xff                \xc4 \xff       \xff            \xff \xff\xff\xff\xff\xff \xff  \xff\xff\xff\xff\xff\xff\xff\xff\xff      ", // ValuePack
-    *b"            \x00\x00\x00\x00\x00\x00\x00\x00\x00\x00       \x00 \x00\x00 \x00   \xc4\x00 \x00\x00\x00\x00 \x00\x00\x00\x00\x00\x00  \x00      \x00\x00\x00\x00\x00\x00\x00\x00\x00\x00 \x00\x00\x00\x00  \x00\x00\x00\x00\x00\x00\x00\x00\x00", // TypePack
-    *b"            \x02\x02\x02\x02\x02\x02\x02\x02\x02\x02                  \x02       \x02            \x02 \x02\x01\x02\x02\x02 \x02  \x02\x02\x02\x02\x02\x02\x02\x02\x02      ", // DesignatedValue
-    *b"                                                                     \xd6              \xd7  ", // DesignatorAfterD
-    *b"            \xce\xce\xce\xce\xce\xce\xce\xce\xce\xce                  \xc3       \xf8            \xe8 \xe9 \xeb\xec\xed \xee  \xef\xf0\xf1\xf2\xf3\xf4\xf5\xf6\xf7      ", // PlainValue
-    *b"            \x03\x03\x03\x03\x03\x03\x03\x03\x03\x03                                                                 ", // FieldName
-    *b"            \x04\x04\x04\x04\x04\x04\x04\x04\x04\x04                  \x04       \x04          ! \x04 \x04\x04\x04\x04\x04 \x04  \x04\x04\x04\x04\x04\x04\x04\x04\x04      ", // Placement
-    *b"            \xfc\xfc\xfc\xfc\xfc\xfc\xfc\xfc\xfc\xfc                  \xfc       \xfc            \xfc \xfc\xfc\xfc\xfc\xfc \xfc  \xfc\xfc\xfc\xfc\xfc\xfc\xfc\xfc\xfc      ", // SomeExpressions
-    *b"                                 \x85                                   \x06      \x05          ", // Initializer
-    *b"                                                                     \xdc                 ", // InitializerAfterP
-    *b"                                                                        \xdc              ", // InitializerAfterI
-    *b"                                                                            \xcf          ", // OuterRest
-    *b"            \x08\x08\x08\x08\x08\x08\x08\x08\x08\x08                          \x07          \x08                           ", // ParameterNumber
-    *b"            \x0d\x0d\x0d\x0d\x0d\x0d\x0d\x0d\x0d\x0d          \x09 \x0d    \x0a  \x0d\x0c\x0b \x0c\x0d\x0d\x0d           \x0d\x0d\x0d\x0d\x0d\x0d\x0d\x0d\x0d\x0d \x0d\x0d\x0d\x0d   \x0d\x0d \x0d\x0d\x0d\x0d\x0d", // ConvertedType
-    *b"            $$$$$$$$$$            |       X    w\x0e#           yyyyyyyyyy yyyy   yy yyyyy", // ConvertedSolid
-    *b"            \xc0\xc0\xc0\xc0\xc0\xc0\xc0\xc0\xc0\xc0                  \xc2                  \xc0                           ", // ParameterAfterT
-    *b"                                                r                               r      ", // DecltypeAfterD
-    *b"            \xce\xce\xce\xce\xce\xce\xce\xce\xce\xce                  \xc3       \xf8          \xdc \xe8 \xe9\xea\xeb\xec\xed \xee  \xef\xf0\xf1\xf2\xf3\xf4\xf5\xf6\xf7      ", // ConvertRest
-    *b"            \x10\x10\x10\x10\x10\x10\x10\x10\x10\x10          \x0f         \x0f    \x0f\x0f                                      ", // Unresolved
-    *b"                                \x09         X    w\x0e                                      ", // UnresolvedType
-    *b"            \xce\xce\xce\xce\xce\xce\xce\xce\xce\xce          \x11         \x11    \x11\x11                                      ", // DestructorName
-    *b"                                             \x14  \x13   \x12                                  ", // Requirements
-    *b"                                          \x16  \x14\x15 \x13   \x12                                  ", // AfterExpression
-    *b"                                             \x14\x15 \x13   \x12                                  ", // AfterNoexcept
-    *b"            \x17\x17\x17\x17\x17\x17\x17\x17\x17\x17          \x17 \x17    \x17  \x17\x17\x17 \x17\x17\x17\x17         \xe0 \x17\x17\x17\x17\x17\x17\x17\x17\x17\x17 \x17\x17\x17\x17   \x17\x17 \x17\x17\x17\x17\x17", // RequiredTypes
-    *b"            \xce\xce\xce\xce\xce\xce\xce\xce\xce\xce                                                                 ", // Level
-    *b"            \x10\x10\x10\x10\x10\x10\x10\x10\x10\x10           \x18                                                     ", // MoreLevels
-    *b"            \xce\xce\xce\xce\xce\xce\xce\xce\xce\xce                                                     \x19           ", // UnresolvedName
-    *b"                                                                          \xcd            ", // OperatorName
-    *b"                             \x1a                                                         ", // AnyArray
-    *b"            \x1c\x1c\x1c\x1c\x1c\x1c\x1c\x1c\x1c\x1c                  \x1b       \x1b          \x1c \x1b \x1b\x1b\x1b\x1b\x1b \x1b  \x1b\x1b\x1b\x1b\x1b\x1b\x1b\x1b\x1b      ", // ArrayRest
-    *b"                                        \xc3       \xf8            \xe8 \xe9\xea\xeb\xec\xed \xee  \xef\xf0\xf1\xf2\xf3\xf4\xf5\xf6\xf7      ", // Bound
+    *b"            \xff\xff\xff\xff\xff\xff\xff\xff\xff\xff                  \xff       \xff            \xff \xff\xff\xff\xff\xff \xff  \xff\xff\xff\xff\xff\xff\xff\xff\xff      ", // FoldOperand
+    *b"            \x00\x00\x00\x00\x00\x00\x00\x00\x00\x00                  \x00       \x00            \x00 \x00\x00\x00\x00\x00 \x00  \x00\x00\x00\x00\x00\x00\x00\x00\x00      ", // FoldPack
+    *b"            \x00\x00\x00\x00\x00\x00\x00\x00\x00\x00                \xc5 \x00       \x00            \x00 \x00\x00\x00\x00\x00 \x00  \x00\x00\x00\x00\x00\x00\x00\x00\x00      ", // ValuePack
+    *b"            \x01\x01\x01\x01\x01\x01\x01\x01\x01\x01       \x01 \x01\x01 \x01   \xc5\x01 \x01\x01\x01\x01 \x01\x01\x01\x01\x01\x01  \x01      \x01\x01\x01\x01\x01\x01\x01\x01\x01\x01 \x01\x01\x01\x01  \x01\x01\x01\x01\x01\x01\x01\x01\x01", // TypePack
+    *b"            \x03\x03\x03\x03\x03\x03\x03\x03\x03\x03                  \x03       \x03            \x03 \x03\x02\x03\x03\x03 \x03  \x03\x03\x03\x03\x03\x03\x03\x03\x03      ", // DesignatedValue
+    *b"                                                                     \xd7              \xd8  ", // DesignatorAfterD
+    *b"            \xcf\xcf\xcf\xcf\xcf\xcf\xcf\xcf\xcf\xcf                  \xc4       \xf9            \xe9 \xea \xec\xed\xee \xef  \xf0\xf1\xf2\xf3\xf4\xf5\xf6\xf7\xf8      ", // PlainValue
+    *b"            \x04\x04\x04\x04\x04\x04\x04\x04\x04\x04                                                                 ", // FieldName
+    *b"            \x05\x05\x05\x05\x05\x05\x05\x05\x05\x05                  \x05       \x05          ! \x05 \x05\x05\x05\x05\x05 \x05  \x05\x05\x05\x05\x05\x05\x05\x05\x05      ", // Placement
+    *b"            \xfd\xfd\xfd\xfd\xfd\xfd\xfd\xfd\xfd\xfd                  \xfd       \xfd            \xfd \xfd\xfd\xfd\xfd\xfd \xfd  \xfd\xfd\xfd\xfd\xfd\xfd\xfd\xfd\xfd      ", // SomeExpressions
+    *b"                                 \x86                                   \x07      \x06          ", // Initializer
+    *b"                                                                     \xdd                 ", // InitializerAfterP
+    *b"                                                                        \xdd              ", // InitializerAfterI
+    *b"                                                                            \xd0          ", // OuterRest
+    *b"            \x09\x09\x09\x09\x09\x09\x09\x09\x09\x09                          \x08          \x09                           ", // ParameterNumber
+    *b"            \x0e\x0e\x0e\x0e\x0e\x0e\x0e\x0e\x0e\x0e          \x0a \x0e    \x0b  \x0e\x0d\x0c \x0d\x0e\x0e\x0e           \x0e\x0e\x0e\x0e\x0e\x0e\x0e\x0e\x0e\x0e \x0e\x0e\x0e\x0e   \x0e\x0e \x0e\x0e\x0e\x0e\x0e", // ConvertedType
+    *b"            $$$$$$$$$$            }       X    x\x0f#           zzzzzzzzzz zzzz   zz zzzzz", // ConvertedSolid
+    *b"            \xc1\xc1\xc1\xc1\xc1\xc1\xc1\xc1\xc1\xc1                  \xc3                  \xc1                           ", // ParameterAfterT
+    *b"                                                s                               s      ", // DecltypeAfterD
+    *b"            \xcf\xcf\xcf\xcf\xcf\xcf\xcf\xcf\xcf\xcf                  \xc4       \xf9          \xdd \xe9 \xea\xeb\xec\xed\xee \xef  \xf0\xf1\xf2\xf3\xf4\xf5\xf6\xf7\xf8      ", // ConvertRest
+    *b"            \x11\x11\x11\x11\x11\x11\x11\x11\x11\x11          \x10         \x10    \x10\x10                                      ", // Unresolved
+    *b"                                \x0a         X    x\x0f                                      ", // UnresolvedType
+    *b"            \xcf\xcf\xcf\xcf\xcf\xcf\xcf\xcf\xcf\xcf          \x12         \x12    \x12\x12                                      ", // DestructorName
+    *b"                                             \x15  \x14   \x13                                  ", // Requirements
+    *b"                                          \x17  \x15\x16 \x14   \x13                                  ", // AfterExpression
+    *b"                                             \x15\x16 \x14   \x13                                  ", // AfterNoexcept
+    *b"            \x18\x18\x18\x18\x18\x18\x18\x18\x18\x18          \x18 \x18    \x18  \x18\x18\x18 \x18\x18\x18\x18         \xe1 \x18\x18\x18\x18\x18\x18\x18\x18\x18\x18 \x18\x18\x18\x18   \x18\x18 \x18\x18\x18\x18\x18", // RequiredTypes
+    *b"            \xcf\xcf\xcf\xcf\xcf\xcf\xcf\xcf\xcf\xcf                                                                 ", // Level
+    *b"            \x11\x11\x11\x11\x11\x11\x11\x11\x11\x11           \x19                                                     ", // MoreLevels
+    *b"            \xcf\xcf\xcf\xcf\xcf\xcf\xcf\xcf\xcf\xcf                                                     \x1a           ", // UnresolvedName
+    *b"                                                                          \xce            ", // OperatorName
+    *b"                             \x1b                                                         ", // AnyArray
+    *b"            \x1d\x1d\x1d\x1d\x1d\x1d\x1d\x1d\x1d\x1d                  \x1c       \x1c          \x1d \x1c \x1c\x1c\x1c\x1c\x1c \x1c  \x1c\x1c\x1c\x1c\x1c\x1c\x1c\x1c\x1c      ", // ArrayRest
+    *b"                                        \xc4       \xf9            \xe9 \xea\xeb\xec\xed\xee \xef  \xf0\xf1\xf2\xf3\xf4\xf5\xf6\xf7\xf8      ", // Bound
     *b"            KKKKKKKKKK         KKMK     KK       K K         K KKK K K  KKKKK KK       ", // NestMoreOrEnd
 ];
 
@@ -185,7 +185,7 @@ static WIDE_LETTERS: [[u8; 87]; 169] = [
 #[inline]
 fn number(kind: u16, byte: u8) -> Option<usize>
     requires { kind < wide.kinds }
-    ensures few { IfSome result (λ number. number < 252) }
+    ensures few { IfSome result (λ number. number < 253) }
     ensures rule { (head : Head) → MatchOption result (wide.rule kind byte ≡ None) (λ number. wide.rule kind byte ≡ Some (listed_rule head number)) }
 {
     match letter_in(&WIDE_LETTERS[kind as usize], byte) {

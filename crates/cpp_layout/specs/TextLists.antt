@@ -55,7 +55,10 @@ plain_texts =
     codes "decltype(" ∷
     codes "fp" ∷
     codes "(this " ∷
-    codes "@" ∷ []
+    codes "@" ∷
+    codes "{enum:" ∷
+    codes "{" ∷
+    codes "}}" ∷ []
 
 -- what follows a function's parameters
 abbrev pub suffix_texts : List (List ℕ)

@@ -152,6 +152,7 @@ impl Symbol {
             Piece::Unnamed(number) => self.fill_unnamed(parts, number, ctx),
             Piece::StringLiteral => self.push_text(parts, texts::STRING),
             Piece::Conversion(ty) => self.fill_conversion(parts, ty, ctx),
+            Piece::Enumeration { ty, name } => self.fill_enumeration(parts, ty, name, ctx),
             _ => {}
         }
     }

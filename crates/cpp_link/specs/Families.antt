@@ -50,6 +50,7 @@ family_of Production.FoldOperatorL = Family.Piece
 family_of Production.OperatorL = Family.Piece
 family_of Production.LiteralOperator = Family.Piece
 family_of Production.Conversion = Family.Piece
+family_of Production.Enumeration = Family.Piece
 family_of Production.Lambda = Family.Piece
 family_of Production.Unnamed = Family.Piece
 family_of Production.LocalType = Family.LocalName

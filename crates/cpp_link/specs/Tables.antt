@@ -33,6 +33,7 @@ quiet_parts Production.Friend = 1
 quiet_parts Production.Inheriting = 1
 quiet_parts Production.Constructor = 1
 quiet_parts Production.Lambda = 0
+quiet_parts Production.Enumeration = 0
 quiet_parts Production.Expansion = 0
 quiet_parts Production.Parameter = 1
 quiet_parts Production.TypeWithS = 1

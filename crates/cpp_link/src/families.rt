@@ -105,6 +105,7 @@ pub fn family_of(production: Production) -> Family
         Production::OperatorL => Family::Piece,
         Production::LiteralOperator => Family::Piece,
         Production::Conversion => Family::Piece,
+        Production::Enumeration => Family::Piece,
         Production::Lambda => Family::Piece,
         Production::Unnamed => Family::Piece,
         Production::LocalType => Family::LocalName,

@@ -208,6 +208,11 @@ impl Linked {
                 ),
                 false,
             ),
+            // <unnamed-type-name> ::= Ue <underlying type> <source-name of the first enumerator>
+            Production::Enumeration => piece(Piece::Enumeration {
+                ty: self.tree(symbol, parts, 0),
+                name: self.text(symbol, parts, 1),
+            }),
             // <closure-type-name> ::= Ul <lambda-sig> E [ <nonnegative number> ] _
             Production::Lambda => self.lambda(symbol, parts),
             // <unnamed-type-name> ::= Ut [ <nonnegative number> ] _

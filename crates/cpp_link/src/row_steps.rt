@@ -57,6 +57,7 @@ impl Linked {
                 packs: self.packs,
             },
             Production::Lambda => self.go(self.in_signature(kept)),
+            Production::Enumeration => self.go(self.inside(kept)),
             Production::Expansion => Step::Go {
                 candidate: None,
                 then: self.under_expansion(kept),

@@ -3,7 +3,7 @@
 use cpp_grammar::production::Production;
 
 /// The productions.
-pub(crate) const PRODUCTIONS: [Production; 252] = [
+pub(crate) const PRODUCTIONS: [Production; 253] = [
     Production::Mark,
     Production::InternalName,
     Production::LocalTypeName,
@@ -68,6 +68,7 @@ pub(crate) const PRODUCTIONS: [Production; 252] = [
     Production::ManyDigits,
     Production::Lambda,
     Production::Unnamed,
+    Production::Enumeration,
     Production::RestrictType,
     Production::VolatileType,
     Production::ConstType,
@@ -259,7 +260,7 @@ pub(crate) const PRODUCTIONS: [Production; 252] = [
 ];
 
 /// How many parts each has.
-pub(crate) const PART_COUNTS: [u8; 252] = [
+pub(crate) const PART_COUNTS: [u8; 253] = [
     0, // Mark
     2, // InternalName
     2, // LocalTypeName
@@ -324,6 +325,7 @@ pub(crate) const PART_COUNTS: [u8; 252] = [
     2, // ManyDigits
     4, // Lambda
     1, // Unnamed
+    2, // Enumeration
     3, // RestrictType
     2, // VolatileType
     1, // ConstType
@@ -515,7 +517,7 @@ pub(crate) const PART_COUNTS: [u8; 252] = [
 ];
 
 /// Whether some part of each but the last may have no row: a fixed byte, or a kind that may be empty.
-pub(crate) const SKIPS_PARTS: [bool; 252] = [
+pub(crate) const SKIPS_PARTS: [bool; 253] = [
     false, // Mark
     false, // InternalName
     false, // LocalTypeName
@@ -580,6 +582,7 @@ pub(crate) const SKIPS_PARTS: [bool; 252] = [
     false, // ManyDigits
     true, // Lambda
     false, // Unnamed
+    false, // Enumeration
     true, // RestrictType
     true, // VolatileType
     false, // ConstType
@@ -771,7 +774,7 @@ pub(crate) const SKIPS_PARTS: [bool; 252] = [
 ];
 
 /// Before how many of its parts nothing is done in each: before none, the first, or all, which are five at most.
-pub(crate) const QUIET_PARTS: [u8; 252] = [
+pub(crate) const QUIET_PARTS: [u8; 253] = [
     5, // Mark
     1, // InternalName
     1, // LocalTypeName
@@ -836,6 +839,7 @@ pub(crate) const QUIET_PARTS: [u8; 252] = [
     5, // ManyDigits
     0, // Lambda
     5, // Unnamed
+    0, // Enumeration
     5, // RestrictType
     5, // VolatileType
     5, // ConstType

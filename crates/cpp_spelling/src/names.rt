@@ -172,6 +172,12 @@ pub fn then_piece(symbol: &Symbol, piece: Piece, encoding: u64, tasks: &mut Vec<
             then_tree(symbol, ty, Way::Type, encoding, tasks);
             then_fixed(symbol, b"cv", tasks);
         }
+        // <unnamed-type-name> ::= Ue <underlying type> <source-name of the first enumerator>
+        Piece::Enumeration { ty, name } => {
+            then_text(symbol, Text::Counted(b"", name), tasks);
+            then_tree(symbol, ty, Way::Type, encoding, tasks);
+            then_fixed(symbol, b"Ue", tasks);
+        }
         Piece::Absent => {}
     }
 }

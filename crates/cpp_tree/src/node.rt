@@ -119,6 +119,8 @@ pub enum Piece {
     Unnamed(u64),
     StringLiteral,
     Conversion(u32),
+    /// An enumeration without a name: its type and its first enumerator.
+    Enumeration { ty: u32, name: Span },
     Absent,
 }
 
